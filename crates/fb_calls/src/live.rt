@@ -1,0 +1,55 @@
+// Which blocks of a segment are live.
+ghost use Rattle.std.specs.Prelude.{◌≡◌, ◌<◌, [], ◌∷◌, ◌++◌, length, OnOk, OnErr, slice_get};
+
+use fb_units::NoMemory;
+use std::alloc::Global;
+use std::marker::Model;
+
+/// For each block of a segment, in order, whether it is live.
+#[derive(Drop)]
+pub struct Live {
+    blocks: Vec<bool>,
+}
+
+impl Model for Live {
+    ghost use Rattle.std.specs.Prelude.{List, Bool};
+
+    ghost Value = { List Bool };
+
+    ghost view = { λ t. t.blocks.items };
+}
+
+impl Live {
+    /// An empty list.
+    pub fn new(alloc: Global) -> Self
+        ensures { result ≡ [] }
+    {
+        Live {
+            blocks: Vec::new(alloc),
+        }
+    }
+
+    /// Adds a block at the end. Where memory is wanting the list stays as it is.
+    pub fn push(&mut self, item: bool) -> Result<(), NoMemory>
+        ensures ok { OnOk result (self.new ≡ self.old ++ item ∷ []) }
+        ensures err { OnErr result (self.new ≡ self.old) }
+    {
+        self.blocks.push(item)?;
+        Ok(())
+    }
+
+    /// How many there are.
+    pub fn len(&self) -> usize
+        ensures { result ≡ length self.now }
+    {
+        self.blocks.len()
+    }
+
+    /// The one at a place from 0.
+    pub fn get(&self, i: usize) -> &bool
+        requires { i < length self.now }
+        ensures { slice_get self.now i ≡ Some result.now }
+    {
+        &self.blocks[i]
+    }
+}

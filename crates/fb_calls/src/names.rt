@@ -1,0 +1,55 @@
+// The names of tasks.
+ghost use Rattle.std.specs.Prelude.{◌≡◌, ◌<◌, [], ◌∷◌, ◌++◌, length, OnOk, OnErr, slice_get};
+
+use fb_units::{KeyText, NoMemory};
+use std::alloc::Global;
+use std::marker::Model;
+
+/// The tasks' names, in order of opening.
+#[derive(Drop)]
+pub struct Names {
+    names: Vec<KeyText>,
+}
+
+impl Model for Names {
+    ghost use Rattle.std.specs.Prelude.{List, ℕ};
+
+    ghost Value = { List (List ℕ) };
+
+    ghost view = { λ t. t.names.items };
+}
+
+impl Names {
+    /// An empty list.
+    pub fn new(alloc: Global) -> Self
+        ensures { result ≡ [] }
+    {
+        Names {
+            names: Vec::new(alloc),
+        }
+    }
+
+    /// Adds a name at the end. Where memory is wanting the list stays as it is.
+    pub fn push(&mut self, item: KeyText) -> Result<(), NoMemory>
+        ensures ok { OnOk result (self.new ≡ self.old ++ item ∷ []) }
+        ensures err { OnErr result (self.new ≡ self.old) }
+    {
+        self.names.push(item)?;
+        Ok(())
+    }
+
+    /// How many there are.
+    pub fn len(&self) -> usize
+        ensures { result ≡ length self.now }
+    {
+        self.names.len()
+    }
+
+    /// The one at a place from 0.
+    pub fn get(&self, i: usize) -> &KeyText
+        requires { i < length self.now }
+        ensures { slice_get self.now i ≡ Some result.now }
+    {
+        &self.names[i]
+    }
+}

@@ -1,0 +1,36 @@
+-- Reading a list that is made of parts of one length.
+use Rattle.std.proofs.Common.{◌≡◌, ℕ, zero, suc, ◌+◌, ◌*◌, ◌<◌, ◌≤◌, List, [], ◌∷◌, ◌++◌, length, refl, ap, sym, ◌∙◌, arith, Option, Some, None, add-suc}
+use Rattle.std.specs.Prelude.{slice_get}
+use Rattle.std.specs.List.{flat_map, range_with_len}
+use Rattle.std.proofs.lemmas.List.{length-append}
+
+pub get_left : {X : Type 0} (xs ys : List X) (i : ℕ) → i < length xs → slice_get (xs ++ ys) i ≡ slice_get xs i
+get_left [] ys i h = absurd (omega arith)
+get_left (x ∷ xs) ys zero h = refl
+get_left (x ∷ xs) ys (suc i) h = get_left xs ys i (omega arith)
+
+pub get_right : {X : Type 0} (xs ys : List X) (i j : ℕ) → j ≡ length xs + i → slice_get (xs ++ ys) j ≡ slice_get ys i
+get_right [] ys i j e = ap (slice_get ys) (omega arith)
+get_right (x ∷ xs) ys i zero e = absurd (omega arith)
+get_right (x ∷ xs) ys i (suc j) e = get_right xs ys i j (omega arith)
+
+pub length-parts : {X A : Type 0} (f : X → List A) (n : ℕ) → ((x : X) → length (f x) ≡ n) → (xs : List X) → length (flat_map f xs) ≡ length xs * n
+length-parts f n each [] = omega arith
+length-parts f n each (x ∷ xs) = length-append (f x) (flat_map f xs) ∙ grind (arith, each x, length-parts f n each xs)
+
+some_same : {X : Type 0} (y x : X) → Some y ≡ Some x → y ≡ x
+some_same y x e = cc
+
+-- the r-th element of the q-th part
+pub get_part : {X A : Type 0} (f : X → List A) (n : ℕ) → ((x : X) → length (f x) ≡ n) → (xs : List X) (q r i : ℕ) (x : X)
+    → slice_get xs q ≡ Some x → r < n → i ≡ q * n + r → slice_get (flat_map f xs) i ≡ slice_get (f x) r
+get_part f n each [] q r i x e h p = cc
+get_part f n each (y ∷ ys) zero r i x e h p =
+    get_left (f y) (flat_map f ys) i (omega (arith, each y)) ∙ ap (λ z. slice_get (f z) i) (some_same y x e) ∙ ap (slice_get (f x)) (omega arith)
+get_part f n each (y ∷ ys) (suc q) r i x e h p =
+    get_right (f y) (flat_map f ys) (q * n + r) i (omega (arith, each y)) ∙ get_part f n each ys q r (q * n + r) x e h refl
+
+pub get_range : (a n i : ℕ) → i < n → slice_get (range_with_len a n) i ≡ Some (a + i)
+get_range a zero i h = absurd (omega arith)
+get_range a (suc n) zero h = ap Some (omega arith)
+get_range a (suc n) (suc i) h = get_range (a + 1) n i (omega arith) ∙ ap Some (omega arith)

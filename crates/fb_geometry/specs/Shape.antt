@@ -1,0 +1,55 @@
+-- A disk's outline.
+use Rattle.std.specs.Prelude.{ℕ, ◌+◌, ◌-◌, ◌*◌, ◌%◌, ◌<◌, List, [], ◌∷◌, Bool, ◌&&◌, ◌==◌, nat_le, if◌then◌else◌}
+use Rattle.std.specs.List.{list_any}
+use Rattle.fb_units.specs.declared.types.Place.{Place}
+use Rattle.fb_units.specs.declared.types.Track.{Track}
+use Rattle.fb_units.specs.Tracks.{same_track}
+use Rattle.fb_geometry.specs.declared.layout.Layout.{Layout}
+use Rattle.fb_geometry.specs.declared.zone.Zone.{Zone}
+
+-- where spares stand, rotation in nanoseconds, heads, zones by cylinder, slots bad from the first, and slots that went bad later
+pub record Shape : Type 0 where
+  pub layout : Layout
+  pub rotation : ℕ
+  pub heads : ℕ
+  pub zones : List Zone
+  pub defects : List Place
+  pub grown : List Place
+
+-- the slots of each track of a cylinder
+abbrev pub slots_at : List Zone → ℕ → ℕ
+slots_at [] cylinder = 0
+slots_at (zone ∷ zones) cylinder = if nat_le cylinder zone.last then zone.sectors else slots_at zones cylinder
+
+-- one more than the last cylinder
+abbrev pub cylinders_of : List Zone → ℕ
+cylinders_of [] = 0
+cylinders_of (zone ∷ []) = zone.last + 1
+cylinders_of (zone ∷ other ∷ zones) = cylinders_of (other ∷ zones)
+
+-- the slot from which a track of the zone is counted
+abbrev pub offset_in : Zone → ℕ → Track → ℕ
+offset_in zone heads track = ((track.cylinder - zone.first) * (zone.cylinder_skew + (heads - 1) * zone.track_skew) + track.head * zone.track_skew) % zone.sectors
+
+-- the same for any track
+abbrev pub offset_at : List Zone → ℕ → Track → ℕ
+offset_at [] heads track = 0
+offset_at (zone ∷ zones) heads track = if nat_le track.cylinder zone.last then offset_in zone heads track else offset_at zones heads track
+
+-- how many slots after its track's offset a place comes by
+abbrev pub turn_position : Shape → Place → ℕ
+turn_position disk place =
+    let slots = slots_at disk.zones place.track.cylinder in
+    (place.slot + slots - offset_at disk.zones disk.heads place.track) % slots
+
+abbrev pub same_place : Place → Place → Bool
+same_place a b = same_track a.track b.track && (a.slot == b.slot)
+
+-- the place is one of these
+abbrev pub is_among : List Place → Place → Bool
+is_among places place = list_any (same_place place) places
+
+-- the track is one of the disk's
+pub record IsTrackOf (disk : Shape) (track : Track) : Type 0 where
+  pub cylinder : track.cylinder < cylinders_of disk.zones
+  pub head : track.head < disk.heads

@@ -1,0 +1,12 @@
+//! The outline of a disk: zones, skews, spares, defects and angles.
+#![tactic(auto)]
+
+mod fault;
+mod geometry;
+mod layout;
+mod zone;
+
+pub use fault::{GeometryError, GeometryFault};
+pub use geometry::Geometry;
+pub use layout::Layout;
+pub use zone::Zone;

@@ -1,0 +1,69 @@
+-- What a sector holds at an instant.
+use Rattle.std.specs.Prelude.{ℕ, List, [], ◌&&◌, ◌==◌, nat_le, Option, Some, None, filter, map, if◌then◌else◌}
+use Rattle.std.specs.List.{flat_map, list_any, range_with_len, last_or}
+use Rattle.fb_units.specs.declared.types.Name.{Name}
+use Rattle.fb_units.specs.declared.types.Name.TheVariants.{Traced, Promoted}
+use Rattle.fb_service.specs.declared.disk.Disk.{Disk}
+use Rattle.fb_service.specs.declared.passage.Passage.{Passage}
+use Rattle.fb_store.specs.declared.content.Content.{Content}
+use Rattle.fb_store.specs.declared.content.Content.TheVariants.{Filled, Unreadable}
+use Rattle.fb_store.specs.declared.content.ContentRun.{ContentRun}
+use Rattle.fb_store.specs.Runs.{runs_of, bad_of}
+use Rattle.fb_rows.specs.declared.fore.ForeRow.{ForeRow}
+use Rattle.fb_model.specs.PlainReplay.{Served, media, finish}
+use Rattle.fb_model.specs.Inputs.{Inputs, served}
+
+-- a passage by which a write leaves its number in a sector
+pub record Written : Type 0 where
+  pub writer : ℕ
+  pub passage : Passage
+
+-- the number of a request of the trace; promoted reads write nothing
+abbrev pub number_of : Name → ℕ
+number_of (Traced number) = number
+number_of (Promoted number) = 0
+
+abbrev pub writes_of : Served → List Written
+writes_of served = if served.request.write
+    then map (λ passage. record { writer = number_of served.request.name; passage = passage }) served.passages
+    else []
+
+-- the disk, its latent sectors, and all passages of the plain replay's writes, in order
+pub record Medium : Type 0 where
+  pub disk : Disk
+  pub latent : List ℕ
+  pub writes : List Written
+
+unfoldable pub medium_of : Inputs → Medium
+medium_of inputs = record { disk = inputs.disk; latent = inputs.latent; writes = flat_map writes_of (served inputs) }
+
+-- a sector that no write has passed
+abbrev pub unwritten : List ℕ → ℕ → Content
+unwritten latent lbn = if list_any (λ bad. bad == lbn) latent then Unreadable else Filled 0
+
+abbrev pub content_by : Option Written → Content → Content
+content_by None before = before
+content_by (Some write) before = Filled write.writer
+
+-- the write whose passage of the sector, among those that ended by t, ended last
+abbrev pub content : Medium → ℕ → ℕ → Content
+content medium lbn t = content_by
+    (last_or None (filter (λ write. (write.passage.lbn == lbn) && nat_le write.passage.end t) medium.writes))
+    (unwritten medium.latent lbn)
+
+-- n sectors from lbn on, each with its content at one instant
+abbrev pub contents_at : Medium → ℕ → ℕ → ℕ → List (ℕ × Content)
+contents_at medium lbn n t = map (λ sector. (sector, content medium sector t)) (range_with_len lbn n)
+
+-- what a read finds, each sector at the beginning of its passage; a write finds nothing
+abbrev pub found : Medium → Served → List ContentRun
+found medium served = if served.request.write then []
+    else runs_of (map (λ passage. (passage.lbn, content medium passage.lbn passage.begin)) served.passages)
+
+abbrev pub fore_row : Medium → Served → ForeRow
+fore_row medium served =
+    let runs = found medium served in
+    record { request = served.request; start = served.start; media = media served; finish = finish served; bad = bad_of runs; content = runs }
+
+unfoldable pub fore_rows : Inputs → List ForeRow
+fore_rows inputs = map (fore_row (medium_of inputs)) (served inputs)

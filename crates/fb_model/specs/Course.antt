@@ -1,0 +1,107 @@
+-- The history of a run, decision by decision, and the rows that it gives.
+use Rattle.std.specs.Prelude.{ℕ, List, [], ◌∷◌, ◌++◌, length, drop, Bool, true, false, nat_le, map}
+use Rattle.std.specs.List.{flat_map, fold, count_by, take_while, zip}
+use Rattle.fb_calls.specs.declared.call.Action.{Action}
+use Rattle.fb_calls.specs.declared.call.Action.TheVariants.{Want}
+use Rattle.fb_calls.specs.declared.call.Call.{Call}
+use Rattle.fb_geometry.specs.Shape.{Shape}
+use Rattle.fb_sectormap.specs.Cutting.{cutting}
+use Rattle.fb_service.specs.declared.disk.Disk.{Disk}
+use Rattle.fb_wanted.specs.declared.block.Block.{Block}
+use Rattle.fb_rows.specs.declared.gap.Plan.{Plan}
+use Rattle.fb_rows.specs.declared.back.DeliveryRow.{DeliveryRow}
+use Rattle.fb_rows.specs.declared.back.BackRow.{BackRow}
+use Rattle.fb_rows.specs.declared.back.BackRow.TheVariants.{Gap as GapLine, Idle as IdleLine, Got as GotLine, Task as TaskLine}
+use Rattle.fb_model.specs.Inputs.{Inputs}
+use Rattle.fb_model.specs.Decisions.{Decision, serves, idles, ends, instant_of, decisions}
+use Rattle.fb_model.specs.History.{Event, called, tested, delivered, finished, Past, task_numbers, terms_of, blocks_of, bare_state, is_delivered, is_aborted}
+use Rattle.fb_model.specs.Completion.{is_complete}
+use Rattle.fb_model.specs.Segments.{next_blocks, with_choices}
+use Rattle.fb_model.specs.Rides.{gap_of}
+
+-- a delivery, and the rows that follow it
+pub record Delivery : Type 0 where
+  pub got : DeliveryRow
+  pub after : List BackRow
+
+-- the background at one decision: the rows of its test, the plan (which only a served request has), the deliveries
+pub record Part : Type 0 where
+  pub settled : List BackRow
+  pub plan : Plan
+  pub deliveries : List Delivery
+
+-- the blocks that a call registers
+abbrev pub blocks_by : Shape → Past → ℕ → Action → List Block
+blocks_by disk past task (Want first count) = next_blocks past task (cutting disk (terms_of past task).block first count)
+blocks_by disk past task _ = []
+
+abbrev pub take_call : Shape → Past → Call → Past
+take_call disk past call = called call (blocks_by disk past call.task call.action) ∷ past
+
+abbrev pub is_call : Event → Bool
+is_call (called call blocks) = true
+is_call _ = false
+
+-- the calls that have not taken effect, up to an instant
+abbrev pub calls_due : List Call → Past → ℕ → List Call
+calls_due calls past now = take_while (λ call. nat_le call.instant now) (drop (count_by is_call past) calls)
+
+-- after the calls and choices of a decision
+unfoldable pub settled_past : Inputs → Past → Decision → Past
+settled_past inputs past decision = with_choices inputs.disk.map
+    (fold (take_call inputs.disk.map) past (calls_due inputs.calls past (instant_of decision)))
+
+abbrev pub with_delivery : Past → Delivery → Past
+with_delivery past delivery = tested delivery.after ∷ delivered delivery.got ∷ past
+
+abbrev pub with_finish : Past → Decision → Past
+with_finish past (serves served) = finished served.request ∷ past
+with_finish past _ = past
+
+-- after its test
+abbrev pub tested_past : Inputs → Past → Decision × Part → Past
+tested_past inputs past step = tested step.1.settled ∷ settled_past inputs past step.0
+
+-- after the whole decision
+unfoldable pub past_after : Inputs → Past → Decision × Part → Past
+past_after inputs past step = with_finish (fold with_delivery (tested_past inputs past step) step.1.deliveries) step.0
+
+-- each decision with its part
+abbrev pub steps : Inputs → List Part → List (Decision × Part)
+steps inputs parts = zip (decisions inputs) parts
+
+-- after all decisions
+abbrev pub history : Inputs → List (Decision × Part) → Past
+history inputs steps = fold (past_after inputs) [] steps
+
+-- each decision meets the condition, with what has happened before it
+abbrev pub AtEach : (Past → Decision × Part → Type 0) → Inputs → Past → List (Decision × Part) → Type 0
+AtEach P inputs past [] = Unit {0}
+AtEach P inputs past (step ∷ steps) = P past step × AtEach P inputs (past_after inputs past step) steps
+
+-- the gap row of the request that starts, or the idle row
+abbrev pub opening : Disk → Decision → Plan → List BackRow
+opening disk (serves served) plan = GapLine (record { name = served.request.name; gap = gap_of disk served; plan = plan }) ∷ []
+opening disk (idles dwell) plan = IdleLine dwell ∷ []
+opening disk (ends now) plan = []
+
+-- a decision's rows: those of its test, the gap or idle row, the deliveries with what follows each
+abbrev pub part_rows : Disk → Decision × Part → List BackRow
+part_rows disk step = step.1.settled ++ opening disk step.0 step.1.plan
+    ++ flat_map (λ delivery. GotLine delivery.got ∷ delivery.after) step.1.deliveries
+
+-- how a task stands
+abbrev pub task_row : Past → ℕ → BackRow
+task_row past task =
+    let blocks = blocks_of past task in
+    TaskLine (record {
+      task = task;
+      kind = (terms_of past task).kind;
+      registered = length blocks;
+      delivered = count_by (λ block. is_delivered (bare_state past block)) blocks;
+      aborted = count_by (λ block. is_aborted (bare_state past block)) blocks;
+      complete = is_complete past task;
+    })
+
+unfoldable pub task_rows : Past → List BackRow
+task_rows past = map (task_row past) (task_numbers past)

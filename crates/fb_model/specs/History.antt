@@ -1,0 +1,168 @@
+-- What has happened in a run, and what it says of tasks and blocks. The latest event comes first.
+use Rattle.std.specs.Prelude.{ℕ, ◌+◌, List, [], ◌∷◌, ◌++◌, length, Bool, true, false, ◌&&◌, not, ◌==◌, nat_lt, filter, if◌then◌else◌}
+use Rattle.std.specs.List.{list_any, flat_map, range_with_len, slice_index_or}
+use Rattle.fb_units.specs.declared.types.Request.{Request}
+use Rattle.fb_calls.specs.declared.call.Kind.{Kind}
+use Rattle.fb_calls.specs.declared.call.Kind.TheVariants.{Plain, Backup}
+use Rattle.fb_calls.specs.declared.call.Action.{Action}
+use Rattle.fb_calls.specs.declared.call.Action.TheVariants.{Open, Abort, Suspend, Resume, Close}
+use Rattle.fb_calls.specs.declared.call.Call.{Call}
+use Rattle.fb_wanted.specs.declared.block.Block.{Block}
+use Rattle.fb_wanted.specs.declared.block.State.{State}
+use Rattle.fb_wanted.specs.declared.block.State.TheVariants.{Wanted, Suspended, Delivered, Aborted}
+use Rattle.fb_rows.specs.declared.back.DeliveryRow.{DeliveryRow}
+use Rattle.fb_rows.specs.declared.back.BackRow.{BackRow}
+use Rattle.fb_rows.specs.declared.back.BackRow.TheVariants.{Seal as SealLine}
+
+-- a segment of a log, numbered from 1 in its task
+pub record LogSegment : Type 0 where
+  pub number : ℕ
+  pub first : ℕ
+  pub blocks : ℕ
+  pub age : ℕ
+  pub live : List Bool
+
+-- a call takes effect, a task chooses a segment (both with the blocks that this registers), a test of completion gives rows, a block is delivered, a served request finishes
+pub data Event : Type 0 where
+  called : Call → List Block → Event
+  chose : ℕ → LogSegment → List Block → Event
+  tested : List BackRow → Event
+  delivered : DeliveryRow → Event
+  finished : Request → Event
+
+abbrev pub Past : Type 0
+Past = List Event
+
+-- what a task was opened with
+pub record Terms : Type 0 where
+  pub kind : Kind
+  pub weight : ℕ
+  pub block : ℕ
+
+abbrev pub terms_in : Action → List Terms
+terms_in (Open kind weight block) = record { kind = kind; weight = weight; block = block } ∷ []
+terms_in _ = []
+
+abbrev pub opened_by : Event → List Terms
+opened_by (called call blocks) = terms_in call.action
+opened_by _ = []
+
+-- the tasks in order of opening
+abbrev pub tasks : Past → List Terms
+tasks [] = []
+tasks (event ∷ past) = tasks past ++ opened_by event
+
+abbrev pub task_numbers : Past → List ℕ
+task_numbers past = range_with_len 0 (length (tasks past))
+
+abbrev pub terms_of : Past → ℕ → Terms
+terms_of past task = slice_index_or (tasks past) task (record { kind = Plain; weight = 1; block = 1 })
+
+-- the blocks of all tasks in order of registration
+abbrev pub registered_by : Event → List Block
+registered_by (called call blocks) = blocks
+registered_by (chose task segment blocks) = blocks
+registered_by _ = []
+
+abbrev pub registered : Past → List Block
+registered [] = []
+registered (event ∷ past) = registered past ++ registered_by event
+
+abbrev pub blocks_of : Past → ℕ → List Block
+blocks_of past task = filter (λ block. block.task == task) (registered past)
+
+abbrev pub same_block : Block → Block → Bool
+same_block a b = (a.task == b.task) && (a.index == b.index)
+
+-- the block and n sectors from first on have a sector in common
+abbrev pub shares : Block → ℕ → ℕ → Bool
+shares block first n = nat_lt block.lbn (first + n) && nat_lt first (block.lbn + block.count)
+
+-- the events that concern a block
+abbrev pub registers : Event → Block → Bool
+registers event block = list_any (same_block block) (registered_by event)
+
+abbrev pub delivers : Event → Block → Bool
+delivers (delivered row) block = same_block row.block block
+delivers _ block = false
+
+abbrev pub ends_block : Action → Block → Bool
+ends_block (Abort first count) block = shares block first count
+ends_block Close block = true
+ends_block _ block = false
+
+abbrev pub aborts : Event → Block → Bool
+aborts (called call blocks) block = (call.task == block.task) && ends_block call.action block
+aborts _ block = false
+
+abbrev pub overwrites : Event → Block → Bool
+overwrites (finished request) block = request.write && shares block request.lbn request.count
+overwrites _ block = false
+
+-- a backup's seal row has been given
+abbrev pub is_seal_of : ℕ → BackRow → Bool
+is_seal_of task (SealLine row) = row.task == task
+is_seal_of task _ = false
+
+abbrev pub seals : ℕ → Event → Bool
+seals task (tested rows) = list_any (is_seal_of task) rows
+seals task _ = false
+
+abbrev pub is_sealed : Past → ℕ → Bool
+is_sealed past task = list_any (seals task) past
+
+abbrev pub is_backup : Kind → Bool
+is_backup Backup = true
+is_backup _ = false
+
+abbrev pub is_open_backup : Past → ℕ → Bool
+is_open_backup past task = is_backup (terms_of past task).kind && not (is_sealed past task)
+
+abbrev pub is_wanted : State → Bool
+is_wanted Wanted = true
+is_wanted _ = false
+
+abbrev pub is_delivered : State → Bool
+is_delivered Delivered = true
+is_delivered _ = false
+
+abbrev pub is_aborted : State → Bool
+is_aborted Aborted = true
+is_aborted _ = false
+
+-- what an event makes of a block that was in the state before
+abbrev pub state_after : Past → Event → Block → State → State
+state_after past event block before =
+    if registers event block then Wanted
+    else if delivers event block then Delivered
+    else if aborts event block && not (is_delivered before) then Aborted
+    else if overwrites event block && is_delivered before && is_open_backup past block.task then Wanted
+    else before
+
+-- the state of a registered block, suspended or not
+unfoldable pub bare_state : Past → Block → State
+bare_state [] block = Wanted
+bare_state (event ∷ past) block = state_after past event block (bare_state past block)
+
+-- what a call of the task makes of its suspension
+abbrev pub suspended_after : Action → Bool → Bool
+suspended_after Suspend before = true
+suspended_after Resume before = false
+suspended_after _ before = before
+
+abbrev pub suspension_after : Event → ℕ → Bool → Bool
+suspension_after (called call blocks) task before = if call.task == task then suspended_after call.action before else before
+suspension_after _ task before = before
+
+-- the task's last suspend or resume was a suspend
+abbrev pub is_suspended : Past → ℕ → Bool
+is_suspended [] task = false
+is_suspended (event ∷ past) task = suspension_after event task (is_suspended past task)
+
+-- the state of a registered block
+abbrev pub state : Past → Block → State
+state past block = if is_wanted (bare_state past block) && is_suspended past block.task then Suspended else bare_state past block
+
+-- the wanted blocks, by task and index
+unfoldable pub wanted : Past → List Block
+wanted past = filter (λ block. is_wanted (state past block)) (flat_map (blocks_of past) (task_numbers past))

@@ -1,0 +1,91 @@
+-- The rows that a delivery or a test of completion gives: findings, seals with their images, segments with their bytes, completions.
+use Rattle.std.specs.Prelude.{ℕ, List, [], ◌∷◌, ◌++◌, Bool, true, false, ◌&&◌, not, ◌==◌, filter, map, if◌then◌else◌}
+use Rattle.std.specs.List.{list_any, flat_map, range_with_len}
+use Rattle.fb_calls.specs.declared.call.Kind.{Kind}
+use Rattle.fb_calls.specs.declared.call.Kind.TheVariants.{Scrub}
+use Rattle.fb_store.specs.declared.content.Content.TheVariants.{Unreadable}
+use Rattle.fb_store.specs.declared.content.ContentRun.{ContentRun}
+use Rattle.fb_store.specs.Runs.{runs_of, same_content}
+use Rattle.fb_wanted.specs.declared.block.Block.{Block}
+use Rattle.fb_rows.specs.declared.back.DeliveryRow.{DeliveryRow}
+use Rattle.fb_rows.specs.declared.back.BackRow.{BackRow}
+use Rattle.fb_rows.specs.declared.back.BackRow.TheVariants.{Bad as BadLine, Seal as SealLine, Segment as SegmentLine, Complete as CompleteLine}
+use Rattle.fb_model.specs.Content.{Medium, contents_at}
+use Rattle.fb_model.specs.History.{Event, tested, delivered, Past, terms_of, task_numbers, blocks_of, same_block, is_open_backup, bare_state, is_delivered}
+use Rattle.fb_model.specs.Completion.{Choice, choices, is_cleaned, is_complete, was_complete}
+use Rattle.fb_model.specs.Segments.{live_count}
+
+-- the sectors that can't be read
+abbrev pub bad_sectors : List ContentRun → List ℕ
+bad_sectors runs = flat_map (λ run. if same_content run.content Unreadable then range_with_len run.first run.count else []) runs
+
+abbrev pub is_scrub : Kind → Bool
+is_scrub Scrub = true
+is_scrub _ = false
+
+-- the findings of a scrub's delivery
+abbrev pub findings : Past → DeliveryRow → List BackRow
+findings past row = if is_scrub (terms_of past row.block.task).kind
+    then map (λ lbn. BadLine (record { task = row.block.task; lbn = lbn })) (bad_sectors row.content)
+    else []
+
+-- when the last delivery of a block began
+abbrev pub begin_by : Event → Block → ℕ → ℕ
+begin_by (delivered row) block before = if same_block row.block block then row.begin else before
+begin_by _ block before = before
+
+abbrev pub delivery_begin : Past → Block → ℕ
+delivery_begin [] block = 0
+delivery_begin (event ∷ past) block = begin_by event block (delivery_begin past block)
+
+-- a segment's live blocks, each with its content when its delivery began
+abbrev pub packed : Medium → Past → Choice → List ContentRun
+packed medium past choice = runs_of (flat_map (λ block. contents_at medium block.lbn block.count (delivery_begin past block)) choice.blocks)
+
+abbrev pub is_segment_of : ℕ → ℕ → BackRow → Bool
+is_segment_of task number (SegmentLine row) = (row.task == task) && (row.segment == number)
+is_segment_of task number _ = false
+
+abbrev pub reports : ℕ → ℕ → Event → Bool
+reports task number (tested rows) = list_any (is_segment_of task number) rows
+reports task number _ = false
+
+-- cleaned, and without a row as yet
+abbrev pub is_newly_cleaned : Past → ℕ → Choice → Bool
+is_newly_cleaned past task choice = is_cleaned past choice && not (list_any (reports task choice.segment.number) past)
+
+-- where the contents of seal and segment rows come from
+pub record Sources : Type 0 where
+  pub image_at : Past → ℕ → ℕ → List ContentRun
+  pub packed_for : Past → Choice → List ContentRun
+
+abbrev pub segment_rows : Sources → Past → ℕ → ℕ → List BackRow
+segment_rows sources past now task = map
+    (λ choice. SegmentLine (record { task = task; segment = choice.segment.number; instant = now; live = live_count choice.segment; content = sources.packed_for past choice }))
+    (filter (is_newly_cleaned past task) (choices past task))
+
+-- the contents at one instant of the blocks that are delivered
+abbrev pub image : Medium → Past → ℕ → ℕ → List ContentRun
+image medium past task now = runs_of (flat_map (λ block. contents_at medium block.lbn block.count now)
+    (filter (λ block. is_delivered (bare_state past block)) (blocks_of past task)))
+
+-- a backup is sealed at the first test at which it is complete
+abbrev pub seal_rows : Sources → Past → ℕ → ℕ → List BackRow
+seal_rows sources past now task = if is_open_backup past task && is_complete past task
+    then SealLine (record { task = task; instant = now; content = sources.image_at past task now }) ∷ []
+    else []
+
+-- complete, and not at the test before
+abbrev pub complete_rows : Past → ℕ → ℕ → List BackRow
+complete_rows past now task = if is_complete past task && not (was_complete past task)
+    then CompleteLine (record { task = task; instant = now }) ∷ []
+    else []
+
+-- what a test of completion gives: the segments, and then task by task seal and completion
+unfoldable pub test_rows : Sources → Past → ℕ → List BackRow
+test_rows sources past now = flat_map (segment_rows sources past now) (task_numbers past)
+    ++ flat_map (λ task. seal_rows sources past now task ++ complete_rows past now task) (task_numbers past)
+
+-- the disk's own contents
+abbrev pub on_disk : Medium → Sources
+on_disk medium = record { image_at = image medium; packed_for = packed medium }

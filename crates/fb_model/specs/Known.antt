@@ -1,0 +1,63 @@
+-- What is known of a run by an instant.
+use Rattle.std.specs.Prelude.{◌≡◌, ℕ, ◌<◌, List, [], ◌∷◌, Bool, true, false, nat_le, filter}
+use Rattle.fb_rows.specs.declared.fore.ForeRow.{ForeRow}
+use Rattle.fb_rows.specs.declared.back.BackRow.{BackRow}
+use Rattle.fb_rows.specs.declared.back.BackRow.TheVariants.{Gap as GapLine, Idle as IdleLine, Got as GotLine, Bad as BadLine, Seal as SealLine, Segment as SegmentLine, Complete as CompleteLine, Task as TaskLine}
+use Rattle.fb_rows.specs.declared.run.Run.{Run}
+use Rattle.fb_model.specs.Inputs.{Inputs, requests}
+use Rattle.fb_model.specs.Accepted.{IsAccepted}
+use Rattle.fb_model.specs.FullRun.{IsFull}
+
+-- foreground rows that start by t
+abbrev pub fore_known : ℕ → List ForeRow → List ForeRow
+fore_known t rows = filter (λ row. nat_le row.start t) rows
+
+-- a row is known by t; a finding is if the delivery that it follows is
+abbrev pub is_known : ℕ → Bool → BackRow → Bool
+is_known t follows (GapLine row) = nat_le row.gap.now t
+is_known t follows (IdleLine row) = nat_le row.end t
+is_known t follows (GotLine row) = nat_le row.end t
+is_known t follows (BadLine row) = follows
+is_known t follows (SealLine row) = nat_le row.instant t
+is_known t follows (SegmentLine row) = nat_le row.instant t
+is_known t follows (CompleteLine row) = nat_le row.instant t
+is_known t follows (TaskLine row) = false
+
+-- the next row follows a delivery that is known by t, with nothing but findings between
+abbrev pub follows_known : ℕ → Bool → BackRow → Bool
+follows_known t follows (GotLine row) = nat_le row.end t
+follows_known t follows (BadLine row) = follows
+follows_known t follows _ = false
+
+abbrev pub only_if : Bool → BackRow → List BackRow → List BackRow
+only_if true row rows = row ∷ rows
+only_if false row rows = rows
+
+abbrev pub known_from : ℕ → Bool → List BackRow → List BackRow
+known_from t follows [] = []
+known_from t follows (row ∷ rows) = only_if (is_known t follows row) row (known_from t (follows_known t follows row) rows)
+
+abbrev pub back_known : ℕ → List BackRow → List BackRow
+back_known t rows = known_from t false rows
+
+-- the inputs agree up to t
+pub record AgreeUpTo (t : ℕ) (a b : Inputs) : Type 0 where
+  pub disk : a.disk ≡ b.disk
+  pub latent : a.latent ≡ b.latent
+  pub key : a.key ≡ b.key
+  pub requests : filter (λ request. nat_le request.arrival t) (requests a) ≡ filter (λ request. nat_le request.arrival t) (requests b)
+  pub calls : filter (λ call. nat_le call.instant t) a.calls ≡ filter (λ call. nat_le call.instant t) b.calls
+
+-- the parts known by t are equal
+pub record SameKnown (t : ℕ) (a b : Run) : Type 0 where
+  pub fore : fore_known t a.fore ≡ fore_known t b.fore
+  pub back : back_known t a.back ≡ back_known t b.back
+
+-- nothing before t depends on what comes after it
+abbrev pub NoLookAhead : Type 0
+NoLookAhead = (a b : Inputs) (run_a run_b : Run) (t : ℕ) → IsAccepted a → IsAccepted b → IsFull a run_a → IsFull b run_b
+    → t < run_a.end → t < run_b.end → AgreeUpTo t a b → SameKnown t run_a run_b
+
+-- accepted inputs have one full run at most
+abbrev pub OneFullRun : Type 0
+OneFullRun = (inputs : Inputs) (a b : Run) → IsAccepted inputs → IsFull inputs a → IsFull inputs b → a ≡ b

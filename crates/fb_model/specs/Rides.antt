@@ -1,0 +1,78 @@
+-- The deliveries that are due: what dwells catch and what foreground reads carry.
+use Rattle.std.specs.Prelude.{ℕ, ◌+◌, ◌-◌, List, [], ◌∷◌, ◌++◌, Bool, ◌&&◌, not, ◌==◌, nat_le, filter, find, map, if◌then◌else◌}
+use Rattle.std.specs.Option.{option_map_or}
+use Rattle.std.specs.List.{fold}
+use Rattle.fb_units.specs.declared.types.Request.{Request}
+use Rattle.fb_service.specs.declared.disk.Disk.{Disk}
+use Rattle.fb_service.specs.declared.passage.Passage.{Passage}
+use Rattle.fb_store.specs.Runs.{runs_of, bad_of}
+use Rattle.fb_wanted.specs.declared.block.Block.{Block}
+use Rattle.fb_rows.specs.declared.gap.Gap.{Gap}
+use Rattle.fb_rows.specs.declared.gap.Dwell.{Dwell}
+use Rattle.fb_rows.specs.declared.gap.How.{How}
+use Rattle.fb_rows.specs.declared.gap.How.TheVariants.{Gap as ByGap, Idle as ByIdle, Ride as ByRide}
+use Rattle.fb_rows.specs.declared.gap.Plan.{Plan}
+use Rattle.fb_rows.specs.declared.back.DeliveryRow.{DeliveryRow}
+use Rattle.fb_model.specs.PlainReplay.{Served, media, target}
+use Rattle.fb_model.specs.Content.{Medium, contents_at}
+use Rattle.fb_model.specs.Plans.{block_begin, block_end, catches, early_dwell, late_dwell}
+use Rattle.fb_model.specs.Decisions.{Decision, serves, idles, ends}
+
+-- the gap of a request
+abbrev pub gap_of : Disk → Served → Gap
+gap_of disk served = record { source = served.source; target = target disk served; now = served.start; deadline = media served; write = served.request.write }
+
+-- the delivery of a block, each sector with its content at the beginning
+abbrev pub delivery : Medium → How → Block → ℕ → ℕ → DeliveryRow
+delivery medium how block begin end =
+    let runs = runs_of (contents_at medium block.lbn block.count begin) in
+    record { block = block; begin = begin; end = end; how = how; bad = bad_of runs; content = runs }
+
+-- a row behind those that don't end after it
+abbrev pub by_end : List DeliveryRow → DeliveryRow → List DeliveryRow
+by_end [] row = row ∷ []
+by_end (first ∷ rows) row = if nat_le first.end row.end then first ∷ by_end rows row else row ∷ first ∷ rows
+
+-- by end; where two end together they keep their order, which is by task and index
+abbrev pub in_order : List DeliveryRow → List DeliveryRow
+in_order rows = fold by_end [] rows
+
+-- what a dwell catches of these blocks
+abbrev pub caught : Medium → How → Dwell → List Block → List DeliveryRow
+caught medium how dwell blocks = in_order (map
+    (λ block. delivery medium how block (block_begin medium.disk.map block dwell.begin) (block_end medium.disk.map block dwell.begin))
+    (filter (catches medium.disk dwell) blocks))
+
+abbrev pub missed : Disk → Dwell → List Block → List Block
+missed disk dwell blocks = filter (λ block. not (catches disk dwell block)) blocks
+
+-- all sectors of the block are the request's
+abbrev pub lies_in : Request → Block → Bool
+lies_in request block = nat_le request.lbn block.lbn && nat_le (block.lbn + block.count) (request.lbn + request.count)
+
+-- when a sector's passage begins, and when it ends
+abbrev pub begin_at : List Passage → ℕ → ℕ
+begin_at passages lbn = option_map_or (λ passage. passage.begin) (find (λ passage. passage.lbn == lbn) passages) 0
+
+abbrev pub end_at : List Passage → ℕ → ℕ
+end_at passages lbn = option_map_or (λ passage. passage.end) (find (λ passage. passage.lbn == lbn) passages) 0
+
+-- what a read carries of these blocks
+abbrev pub rides : Medium → Served → List Block → List DeliveryRow
+rides medium served blocks = if served.request.write then [] else in_order (map
+    (λ block. delivery medium ByRide block (begin_at served.passages block.lbn) (end_at served.passages (block.lbn + block.count - 1)))
+    (filter (lies_in served.request) blocks))
+
+-- the early dwell, then the late dwell, then the ride, each of what is left
+abbrev pub due_in_gap : Medium → Served → Gap → Plan → List Block → List DeliveryRow
+due_in_gap medium served gap plan wanted =
+    let early = early_dwell medium.disk gap plan in
+    let late = late_dwell medium.disk gap plan in
+    let left = missed medium.disk early wanted in
+    caught medium ByGap early wanted ++ caught medium ByGap late left ++ rides medium served (missed medium.disk late left)
+
+-- of the blocks that are wanted at a decision
+unfoldable pub due : Medium → Decision → Plan → List Block → List DeliveryRow
+due medium (serves served) plan wanted = due_in_gap medium served (gap_of medium.disk served) plan wanted
+due medium (idles dwell) plan wanted = caught medium ByIdle dwell wanted
+due medium (ends now) plan wanted = []

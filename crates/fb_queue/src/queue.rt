@@ -1,0 +1,40 @@
+// What every queue promises.
+ghost use Rattle.std.specs.Prelude.{◌≡◌, ◌==◌, ℕ, ◌+◌, ◌*◌, ◌<◌, ◌≤◌, ◌^◌, List, [], ◌∷◌, ◌++◌, length, OnOk, OnErr};
+ghost use Rattle.std.specs.List.{AllByRecursion};
+ghost use Rattle.fb_units.specs.declared.types.Request.{Request};
+ghost use Rattle.fb_geometry.specs.Shape.{IsTrackOf};
+ghost use Rattle.fb_model.specs.PlainReplay.{Key, first_least};
+ghost use Rattle.fb_model.specs.Accepted.{IsRequestOf};
+
+use fb_service::Disk;
+use fb_units::{NoMemory, Ns, Request, Track};
+
+/// The requests that have joined and are not served yet.
+pub trait Queue: Drop {
+    /// In order of joining.
+    ghost pending: { Self → List Request };
+
+    /// How many were added so far.
+    ghost joined: { Self → ℕ };
+
+    /// What decides: the first request of least key is taken.
+    ghost key: { Key };
+
+    fn add(&mut self, request: Request) -> Result<(), NoMemory>
+        requires { joined self.old < 2 ^ 32 }
+        ensures ok { OnOk result (pending self.new ≡ pending self.old ++ request ∷ []) }
+        ensures counted { OnOk result (joined self.new ≡ joined self.old + 1) }
+        ensures err { OnErr result (pending self.new ≡ pending self.old) }
+        ensures not_counted { OnErr result (joined self.new ≡ joined self.old) };
+
+    fn take(&mut self, disk: &Disk, head: Track, now: Ns) -> Request
+        requires some { 0 < length (pending self.old) }
+        requires on_disk { AllByRecursion (IsRequestOf disk.now.map) (pending self.old) }
+        requires head { IsTrackOf disk.now.map head }
+        requires now { now ≤ 9 * 10 ^ 18 }
+        ensures least { first_least (key disk.now head now) (pending self.old) ≡ Some (result, pending self.new) }
+        ensures counted { joined self.new ≡ joined self.old };
+
+    fn is_empty(&self) -> bool
+        ensures { result ≡ (length (pending self.now) == 0) };
+}

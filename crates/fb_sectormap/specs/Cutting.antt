@@ -1,0 +1,24 @@
+-- A range cut into blocks that each pass whole on one track.
+use Rattle.std.specs.Prelude.{ℕ, zero, suc, ◌+◌, ◌-◌, ◌%◌, List, [], ◌∷◌, Bool, ◌||◌, not, ◌==◌, nat_lt, if◌then◌else◌}
+use Rattle.fb_units.specs.Tracks.{same_track}
+use Rattle.fb_geometry.specs.Shape.{Shape, turn_position}
+use Rattle.fb_sectormap.specs.declared.cut.Cut.{Cut}
+use Rattle.fb_sectormap.specs.Lookup.{place_at, track_at}
+
+-- a block begins here: at a multiple of the block size, on another track, or not further on in the track's turn
+abbrev pub is_cut_before : Shape → ℕ → ℕ → Bool
+is_cut_before disk block lbn = (lbn % block == 0)
+    || not (same_track (track_at disk (lbn - 1)) (track_at disk lbn))
+    || not (nat_lt (turn_position disk (place_at disk (lbn - 1))) (turn_position disk (place_at disk lbn)))
+
+-- a sector before blocks that begin behind it
+abbrev pub with_sector : Shape → ℕ → ℕ → List Cut → List Cut
+with_sector disk block lbn [] = record { lbn = lbn; count = 1; track = track_at disk lbn } ∷ []
+with_sector disk block lbn (cut ∷ cuts) = if is_cut_before disk block (lbn + 1)
+    then record { lbn = lbn; count = 1; track = track_at disk lbn } ∷ cut ∷ cuts
+    else record { lbn = lbn; count = cut.count + 1; track = cut.track } ∷ cuts
+
+-- the blocks of n sectors from lbn on
+unfoldable pub cutting : Shape → ℕ → ℕ → ℕ → List Cut
+cutting disk block lbn zero = []
+cutting disk block lbn (suc n) = with_sector disk block lbn (cutting disk block (lbn + 1) n)

@@ -1,0 +1,14 @@
+-- The passages that extents stand for.
+use Rattle.std.specs.Prelude.{ℕ, ◌+◌, List, map}
+use Rattle.std.specs.List.{flat_map, range_with_len}
+use Rattle.fb_geometry.specs.Shape.{Shape}
+use Rattle.fb_service.specs.declared.passage.Passage.{Passage}
+use Rattle.fb_service.specs.declared.passage.Extent.{Extent}
+use Rattle.fb_service.specs.Service.{passage_from}
+
+-- the passages of an extent's sectors, each the first from the extent's beginning on
+abbrev pub passages_of : Shape → Extent → List Passage
+passages_of disk extent = map (λ i. passage_from disk (extent.first + i) extent.begin) (range_with_len 0 extent.count)
+
+abbrev pub all_passages_of : Shape → List Extent → List Passage
+all_passages_of disk extents = flat_map (passages_of disk) extents

@@ -1,0 +1,31 @@
+-- The contents of sectors as runs.
+use Rattle.std.specs.Prelude.{ℕ, ◌+◌, List, [], ◌∷◌, Bool, true, false, ◌&&◌, ◌==◌, if◌then◌else◌}
+use Rattle.std.specs.List.{sum_by}
+use Rattle.fb_store.specs.declared.content.Content.{Content}
+use Rattle.fb_store.specs.declared.content.Content.TheVariants.{Filled, Unreadable}
+use Rattle.fb_store.specs.declared.content.ContentRun.{ContentRun}
+
+abbrev pub same_content : Content → Content → Bool
+same_content (Filled a) (Filled b) = a == b
+same_content (Filled a) Unreadable = false
+same_content Unreadable (Filled b) = false
+same_content Unreadable Unreadable = true
+
+-- a sector before runs: it joins the first one if it can
+abbrev pub with_content : ℕ → Content → List ContentRun → List ContentRun
+with_content lbn content [] = record { first = lbn; count = 1; content = content } ∷ []
+with_content lbn content (run ∷ runs) = if (run.first == lbn + 1) && same_content content run.content
+    then record { first = lbn; count = run.count + 1; content = content } ∷ runs
+    else record { first = lbn; count = 1; content = content } ∷ run ∷ runs
+
+-- the fewest runs that give these sectors these contents
+abbrev pub runs_of : List (ℕ × Content) → List ContentRun
+runs_of [] = []
+runs_of (sector ∷ sectors) = with_content sector.0 sector.1 (runs_of sectors)
+
+-- how many sectors of a run can't be read
+abbrev pub bad_in : ContentRun → ℕ
+bad_in run = if same_content run.content Unreadable then run.count else 0
+
+abbrev pub bad_of : List ContentRun → ℕ
+bad_of runs = sum_by bad_in runs

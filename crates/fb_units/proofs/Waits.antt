@@ -1,0 +1,53 @@
+-- A wait of less than a rotation that reaches the angle is the least.
+use Rattle.std.proofs.Common.{◌≡◌, ℕ, ◌+◌, ◌-◌, ◌*◌, ◌/◌, ◌%◌, ◌<◌, ◌≤◌, ◌⊎◌, inl, inr, arith}
+use Rattle.std.proofs.lemmas.Nat.{div-add-mod', mul-le, mod-mul-add}
+use Rattle.std.proofs.lemmas.Bool.{cases_lt}
+use Rattle.fb_units.specs.Wait.{wait, IsLeastWait}
+
+-- two multiples of r, each with the same rest, do not differ by less than r
+same_multiple : (r p q a v w : ℕ) → v < w → w < v + r → p * r + a ≡ v → q * r + a ≡ w → ⊥
+same_multiple r p q a v w lt near e f = elim (cases_lt p q) [
+  | inl k ↦ omega (arith, mul-le (p + 1) r q r (omega arith) (omega arith))
+  | inr k ↦ omega (arith, mul-le q r p r (omega arith) (omega arith))
+]
+
+-- no shorter wait reaches the angle
+not_before : (r angle now w v : ℕ) → w < r → (now + w) % r ≡ angle → (now + v) % r ≡ angle → w ≤ v
+not_before r angle now w v short e f = elim (cases_lt v w) [
+  | inl k ↦ absurd (same_multiple r ((now + v) / r) ((now + w) / r) angle (now + v) (now + w) (omega arith) (omega arith)
+      (omega (arith, div-add-mod' (now + v) r)) (omega (arith, div-add-mod' (now + w) r)))
+  | inr k ↦ k
+]
+
+pub least_of : (r angle now w : ℕ) → w < r → (now + w) % r ≡ angle → IsLeastWait r angle now w
+least_of r angle now w short e = record {
+  reaches = e;
+  least = λ v f. not_before r angle now w v short e f;
+}
+
+below : (now r : ℕ) → 0 < r → now % r < r
+below now r h = omega arith
+
+-- a multiple and a rest below it
+pub rest_is : (r q a v : ℕ) → a < r → v ≡ q * r + a → v % r ≡ a
+rest_is r q a v h e = rw e (mod-mul-add q r a h)
+
+-- forward from the angle here to a later one, or over the turn
+pub reaches_ahead : (r now angle : ℕ) → angle < r → now % r ≤ angle → (now + (angle - now % r)) % r ≡ angle
+reaches_ahead r now angle h le = rest_is r (now / r) angle (now + (angle - now % r)) h (omega (arith, div-add-mod' now r))
+
+pub reaches_over : (r now angle : ℕ) → angle < r → angle < now % r → (now + (r - now % r + angle)) % r ≡ angle
+reaches_over r now angle h lt = rest_is r (now / r + 1) angle (now + (r - now % r + angle)) h (grind (arith, div-add-mod' now r, below now r (omega arith)))
+
+-- the wait by its definition is the least
+pub wait_least : (r angle now : ℕ) → angle < r → IsLeastWait r angle now (wait r angle now)
+wait_least r angle now h = elim (cases_lt angle (now % r)) [
+  | inl k ↦ let w : wait r angle now ≡ r - now % r + angle = rest_is r 0 (r - now % r + angle) (angle + (r - now % r)) (omega (arith, below now r (omega arith))) (omega (arith, below now r (omega arith))) in
+      rw w (least_of r angle now (r - now % r + angle) (omega (arith, below now r (omega arith))) (reaches_over r now angle h k))
+  | inr k ↦ let w : wait r angle now ≡ angle - now % r = rest_is r 1 (angle - now % r) (angle + (r - now % r)) (omega arith) (omega (arith, below now r (omega arith))) in
+      rw w (least_of r angle now (angle - now % r) (omega arith) (reaches_ahead r now angle h k))
+]
+
+-- two least waits are one
+pub least_unique : (r angle now v w : ℕ) → IsLeastWait r angle now v → IsLeastWait r angle now w → v ≡ w
+least_unique r angle now v w a b = omega (arith, a.least w b.reaches, b.least v a.reaches)

@@ -1,0 +1,39 @@
+-- Numbers and times as text.
+use Rattle.std.specs.Prelude.{◌≡◌, ℕ, ◌+◌, ◌-◌, ◌*◌, ◌^◌, List, [], ◌∷◌, Bool, ◌&&◌, Option, Some, None, nat_le, if◌then◌else◌, false, ◌++◌, take, replicate, length, ◌==◌}
+use Rattle.std.specs.Char.{is_ascii_digit}
+use Rattle.std.specs.List.{list_all, before_first, after_first, list_any}
+
+-- the greatest number that a text may say
+abbrev pub limit : ℕ
+limit = 10 ^ 15
+
+-- the number that decimal digits write after those of n
+abbrev pub digits_after : ℕ → List ℕ → ℕ
+digits_after n [] = n
+digits_after n (c ∷ cs) = digits_after (10 * n + (c - 48)) cs
+
+-- one or more decimal digits
+abbrev pub are_digits : List ℕ → Bool
+are_digits [] = false
+are_digits (c ∷ cs) = list_all is_ascii_digit (c ∷ cs)
+
+-- a number up to the limit
+abbrev pub within : ℕ → Option ℕ
+within n = if nat_le n limit then Some n else None
+
+-- one or more decimal digits, up to the limit
+abbrev pub number_of : List ℕ → Option ℕ
+number_of text = if are_digits text then within (digits_after 0 text) else None
+
+-- the first six digits, with zeros for those that are missing
+abbrev pub six_of : List ℕ → List ℕ
+six_of cs = take 6 (cs ++ replicate 6 48)
+
+-- milliseconds with a fraction, of which six digits count, in nanoseconds
+abbrev pub millis_of : List ℕ → Option ℕ
+millis_of text =
+    let whole = before_first (λ c. c == 46) text in
+    let fraction = after_first (λ c. c == 46) text in
+    if are_digits whole && list_all is_ascii_digit fraction
+    then within (10 ^ 6 * digits_after 0 whole + digits_after 0 (six_of fraction))
+    else None
