@@ -1,67 +1,58 @@
-// The mechanism of two points.
-ghost use Rattle.std.specs.Prelude.{◌≡◌, ◌+◌, ◌-◌, ◌*◌, ◌/◌, ◌<◌, ◌≤◌, ◌^◌, [], ◌∷◌};
+// The moving parts of a disk.
+ghost use Rattle.std.specs.Prelude.{◌≡◌, ◌+◌, ◌-◌, ◌*◌, ◌/◌, ◌<◌, ◌≤◌, ◌^◌};
 ghost use Rattle.fb_seek.specs.Mechanics.{Mechanics};
 ghost use Rattle.fb_seek.specs.Positioning.{seek, pos};
+ghost use Rattle.fb_seek.specs.Faults.{Judges};
 
-use crate::SeekPoint;
+use crate::table::{fault_of, next_point};
+use crate::{SeekFault, SeekPoint};
 use fb_units::{Ns, Track};
 use std::marker::Model;
 
-/// The moving parts of a disk.
+/// The moving parts of a disk: its seek table, the time of a head switch, and the time that a head
+/// needs to settle for a write.
 #[derive(Drop)]
 pub struct Mechanism {
-    near: SeekPoint,
-    far: SeekPoint,
+    points: Vec<SeekPoint>,
     cylinders: u32,
     head_switch: Ns,
     write_settle: Ns,
 }
 
 impl Model for Mechanism {
-    ghost use Rattle.std.specs.Prelude.{◌≡◌, ◌+◌, ◌<◌, ◌≤◌, ◌^◌, [], ◌∷◌};
     ghost use Rattle.fb_seek.specs.Mechanics.{Mechanics};
+    ghost use Rattle.fb_seek.specs.Table.{IsTable};
 
     ghost Value = { Mechanics };
 
-    ghost view = { λ m. record { points = m.near ∷ m.far ∷ []; cylinders = m.cylinders; head_switch = m.head_switch; write_settle = m.write_settle } };
+    ghost view = { λ m. record { points = m.points.items; cylinders = m.cylinders; head_switch = m.head_switch; write_settle = m.write_settle } };
 
-    ghost invariant = { λ m. (m.near.distance ≡ 1) × (1 < m.far.distance) × (m.near.time ≤ m.far.time) × (m.far.time ≤ 10 ^ 9) × (m.cylinders ≤ m.far.distance + 1) × (m.head_switch ≤ 10 ^ 9) × (m.write_settle ≤ 10 ^ 9) };
+    ghost invariant = { λ m. IsTable (record { points = m.points.items; cylinders = m.cylinders; head_switch = m.head_switch; write_settle = m.write_settle }) };
 }
 
 impl Mechanism {
-    /// The mechanism with the points (1, a) and (d, b).
-    pub fn two_points(
-        a: Ns,
-        d: u32,
-        b: Ns,
+    /// The mechanism with these points, kept as they are given, for so many cylinders; or the first fault.
+    /// Times are in nanoseconds.
+    pub fn new(
+        points: Vec<SeekPoint>,
         cylinders: u32,
         head_switch: Ns,
         write_settle: Ns,
-    ) -> Mechanism
-        requires rising { a ≤ b }
-        requires time { b ≤ 10 ^ 9 }
-        requires distance { 1 < d }
-        requires reach { cylinders ≤ d + 1 }
-        requires head_switch { head_switch ≤ 10 ^ 9 }
-        requires write_settle { write_settle ≤ 10 ^ 9 }
-        ensures { result ≡ record { points = record { distance = 1; time = a } ∷ record { distance = d; time = b } ∷ []; cylinders = cylinders; head_switch = head_switch; write_settle = write_settle } }
+    ) -> Result<Mechanism, SeekFault>
+        ensures { Judges (record { points = points.items; cylinders = cylinders; head_switch = head_switch; write_settle = write_settle }) result }
     {
-        Mechanism {
-            near: SeekPoint {
-                distance: 1,
-                time: a,
-            },
-            far: SeekPoint {
-                distance: d,
-                time: b,
-            },
-            cylinders,
-            head_switch,
-            write_settle,
+        match fault_of(points.as_slice(), cylinders, head_switch, write_settle) {
+            Some(fault) => Err(fault),
+            None => Ok(Mechanism {
+                points,
+                cylinders,
+                head_switch,
+                write_settle,
+            }),
         }
     }
 
-    /// The time of a seek over this many cylinders.
+    /// The time of a seek over this many cylinders, in nanoseconds.
     pub fn seek(&self, distance: u32) -> Ns
         requires { distance < self.now.cylinders }
         ensures value { result ≡ seek self.now distance }
@@ -70,10 +61,15 @@ impl Mechanism {
         if distance == 0 {
             return 0;
         }
-        interpolate(self.near, self.far, distance)
+        let points = self.points.as_slice();
+        let next = next_point(points, distance);
+        if next == 0 {
+            return points[0].time;
+        }
+        interpolate(points[next - 1], points[next], distance)
     }
 
-    /// The time from one track to another, settled there for a write.
+    /// The time, in nanoseconds, from one track to another, settled there if it is for a write.
     #[tactic(auto, unfolding(crate::specs::Positioning::pos))]
     pub fn pos(&self, source: Track, target: Track, write: bool) -> Ns
         requires source { source.cylinder < self.now.cylinders }
@@ -97,16 +93,16 @@ impl Mechanism {
 }
 
 // The time of a distance between two points.
-fn interpolate(from: SeekPoint, to: SeekPoint, distance: u32) -> Ns
-    requires above { from.distance ≤ distance }
-    requires below { distance ≤ to.distance }
-    requires rising { from.distance < to.distance }
-    requires time { from.time ≤ to.time }
-    requires bound { to.time ≤ 10 ^ 9 }
-    ensures value { result ≡ from.time + (distance - from.distance) * (to.time - from.time) / (to.distance - from.distance) }
-    ensures bound { result ≤ to.time }
+fn interpolate(before: SeekPoint, next: SeekPoint, distance: u32) -> Ns
+    requires above { before.distance ≤ distance }
+    requires below { distance ≤ next.distance }
+    requires rising { before.distance < next.distance }
+    requires time { before.time ≤ next.time }
+    requires bound { next.time ≤ 10 ^ 9 }
+    ensures value { result ≡ before.time + (distance - before.distance) * (next.time - before.time) / (next.distance - before.distance) }
+    ensures bound { result ≤ next.time }
 {
-    let run = (to.distance - from.distance) as u64;
-    let gone = (distance - from.distance) as u64;
-    from.time + gone * (to.time - from.time) / run
+    let run = (next.distance - before.distance) as u64;
+    let gone = (distance - before.distance) as u64;
+    before.time + gone * (next.time - before.time) / run
 }

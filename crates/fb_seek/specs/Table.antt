@@ -1,0 +1,17 @@
+-- A seek table that can be looked up.
+use Rattle.std.specs.Prelude.{◌≡◌, ℕ, ◌+◌, ◌^◌, ◌<◌, ◌≤◌, length}
+use Rattle.std.specs.List.{slice_index_or}
+use Rattle.fb_seek.specs.declared.point.SeekPoint.{SeekPoint}
+use Rattle.fb_seek.specs.Mechanics.{Mechanics}
+
+-- distances rise from 1 to as far as the arm goes, and times don't fall
+pub record IsTable (arm : Mechanics) : Type 0 where
+  pub some : 0 < length arm.points
+  pub from_one : (d : SeekPoint) → (slice_index_or arm.points 0 d).distance ≡ 1
+  pub rising : (k : ℕ) (d : SeekPoint) → k + 1 < length arm.points → (slice_index_or arm.points k d).distance < (slice_index_or arm.points (k + 1) d).distance
+  pub slower : (k : ℕ) (d : SeekPoint) → k + 1 < length arm.points → (slice_index_or arm.points k d).time ≤ (slice_index_or arm.points (k + 1) d).time
+  pub short : (k : ℕ) (d : SeekPoint) → k < length arm.points → (slice_index_or arm.points k d).time ≤ 10 ^ 9
+  pub far : (k : ℕ) (d : SeekPoint) → k + 1 ≡ length arm.points → arm.cylinders ≤ (slice_index_or arm.points k d).distance + 1
+  pub head_switch : arm.head_switch ≤ 10 ^ 9
+  pub write_settle : arm.write_settle ≤ 10 ^ 9
+  pub some_cylinders : 0 < arm.cylinders
