@@ -9,6 +9,7 @@ use Rattle.fb_store.specs.declared.content.Content.{Content}
 use Rattle.fb_store.specs.declared.content.Content.TheVariants.{Filled, Unreadable}
 use Rattle.fb_store.specs.declared.content.ContentRun.{ContentRun}
 use Rattle.fb_store.specs.Runs.{runs_of, bad_of}
+use Rattle.fb_store.specs.Writes.{unwritten}
 use Rattle.fb_rows.specs.declared.fore.ForeRow.{ForeRow}
 use Rattle.fb_model.specs.PlainReplay.{Served, media, finish}
 use Rattle.fb_model.specs.Inputs.{Inputs, served}
@@ -36,10 +37,6 @@ pub record Medium : Type 0 where
 
 unfoldable pub medium_of : Inputs → Medium
 medium_of inputs = record { disk = inputs.disk; latent = inputs.latent; writes = flat_map writes_of (served inputs) }
-
--- a sector that no write has passed
-abbrev pub unwritten : List ℕ → ℕ → Content
-unwritten latent lbn = if list_any (λ bad. bad == lbn) latent then Unreadable else Filled 0
 
 abbrev pub content_by : Option Written → Content → Content
 content_by None before = before

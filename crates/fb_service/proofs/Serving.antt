@@ -1,5 +1,5 @@
 -- A service, block after block.
-use Rattle.std.proofs.Common.{◌≡◌, ℕ, zero, suc, ◌+◌, ◌-◌, ◌<◌, ◌≤◌, List, [], ◌∷◌, ◌++◌, map, Bool, refl, ap, sym, ◌∙◌, arith, append_assoc, append-nil}
+use Rattle.std.proofs.Common.{◌≡◌, ℕ, zero, suc, ◌+◌, ◌-◌, ◌<◌, ◌≤◌, List, [], ◌∷◌, ◌++◌, map, Bool, refl, ap, sym, ◌∙◌, arith, append_assoc, append-nil, inl, inr, subst}
 use Rattle.std.specs.List.{range_with_len}
 use Rattle.std.proofs.lemmas.List.Concat.{flat_map-append}
 use Rattle.fb_units.specs.declared.types.Track.{Track}
@@ -8,7 +8,9 @@ use Rattle.fb_seek.specs.Positioning.{pos}
 use Rattle.fb_service.specs.declared.disk.Disk.{Disk}
 use Rattle.fb_service.specs.declared.passage.Passage.{Passage}
 use Rattle.fb_service.specs.declared.passage.Extent.{Extent}
-use Rattle.fb_service.specs.Passing.{begin_from, end_from, begin_angle, end_angle}
+use Rattle.fb_service.specs.Passing.{begin_from, end_from, begin_angle, end_angle, length_of}
+use Rattle.std.specs.List.{AllByRecursion}
+use Rattle.std.proofs.lemmas.Bool.{cases_lt}
 use Rattle.fb_sectormap.specs.Lookup.{place_at}
 use Rattle.fb_service.specs.Service.{passage_from, passages, finish_of, media_of}
 use Rattle.fb_service.specs.Extents.{passages_of, all_passages_of}
@@ -107,3 +109,21 @@ all_served shape extents extents' extent rest whole e none h =
 
 pub finish_all : (disk : Disk) (source : Track) (now : ℕ) (write : Bool) (lbn n whole : ℕ) → n ≡ 0 → finish_of now (passages disk source now write lbn n) ≡ whole → now ≡ whole
 finish_all disk source now write lbn n whole e h = ap (finish_of now) (sym (no_passages disk source now write lbn n e)) ∙ h
+
+-- one sector more that takes time
+pub each_more : (disk : Shape) (first lbn next : ℕ) → ((x : ℕ) → first ≤ x → x < lbn → 0 < length_of disk (place_at disk x)) → 0 < length_of disk (place_at disk lbn) → next ≡ lbn + 1
+    → (x : ℕ) → first ≤ x → x < next → 0 < length_of disk (place_at disk x)
+each_more disk first lbn next before this e x from below = elim (cases_lt x lbn) [
+  | inl less ↦ before x from less
+  | inr more ↦ subst (λ y. 0 < length_of disk (place_at disk y)) (let same : lbn ≡ x = omega arith in same) this
+]
+
+-- sectors that take time have passages that do
+pub all_take : (disk : Disk) (source : Track) (now : ℕ) (write : Bool) (lbn n : ℕ) → ((x : ℕ) → lbn ≤ x → x < lbn + n → 0 < length_of disk.map (place_at disk.map x))
+    → AllByRecursion (λ passage. passage.begin < passage.end) (passages disk source now write lbn n)
+unfolding passages
+all_take disk source now write lbn zero each = tt
+all_take disk source now write lbn (suc n) each = (
+  let long : 0 < length_of disk.map (place_at disk.map lbn) = each lbn (omega arith) (omega arith) in omega arith,
+  all_take disk (place_at disk.map lbn).track _ write (lbn + 1) n (λ x from below. each x (omega arith) (omega arith)),
+)

@@ -3,7 +3,8 @@ ghost use Rattle.std.specs.Prelude.{◌≡◌, ◌+◌, ◌-◌, ◌*◌, ◌<�
 ghost use Rattle.fb_geometry.specs.Shape.{IsTrackOf};
 ghost use Rattle.fb_geometry.specs.Places.{places};
 ghost use Rattle.fb_seek.specs.Positioning.{pos};
-ghost use Rattle.fb_service.specs.Passing.{begin_angle, begin_from, end_from};
+ghost use Rattle.fb_service.specs.Passing.{begin_angle, begin_from, end_from, length_of};
+ghost use Rattle.std.specs.List.{AllByRecursion};
 ghost use Rattle.fb_sectormap.specs.Lookup.{place_at};
 ghost use Rattle.fb_service.specs.Service.{passage_from, passages, media_of, finish_of};
 ghost use Rattle.fb_service.specs.Extents.{passages_of, all_passages_of};
@@ -79,6 +80,7 @@ fn single(disk: &Disk, source: Track, now: Ns, lbn: u64, write: bool) -> Extent
     ensures angle { begin_angle disk.now.map (place_at disk.now.map lbn) < disk.now.map.rotation }
     ensures after { now ≤ result.begin }
     ensures takes_time { result.begin < result.end }
+    ensures long { 0 < length_of disk.now.map (place_at disk.now.map lbn) }
     ensures soon { result.end ≤ now + 4 * 10 ^ 9 }
 {
     let track = disk.map.place(lbn).track;
@@ -151,6 +153,7 @@ pub fn serve(
     ensures on_disk { IfOk result (λ service. IsTrackOf disk.now.map service.last_track) }
     ensures after { IfOk result (λ service. now ≤ service.media) }
     ensures later { IfOk result (λ service. service.media < service.finish) }
+    ensures each { IfOk result (λ service. AllByRecursion (λ passage. passage.begin < passage.end) (passages disk.now source now write lbn count)) }
     ensures soon { IfOk result (λ service. service.finish ≤ now + count * (4 * 10 ^ 9)) }
 {
     let mut extents = SmallVec::new(alloc);

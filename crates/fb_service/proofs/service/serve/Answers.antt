@@ -3,7 +3,7 @@ use Rattle.fb_geometry.specs.Shape.{IsTrackOf}
 use Rattle.fb_sectormap.specs.Lookup.{place_at}
 use Rattle.fb_service.specs.Service.{passages, passage_from}
 use Rattle.fb_service.specs.Extents.{passages_of, all_passages_of}
-use Rattle.fb_service.proofs.Serving.{arrived, served_more, finish_more, first_media, stands_at, first_front, all_served, finish_all, no_passages}
+use Rattle.fb_service.proofs.Serving.{arrived, served_more, finish_more, first_media, stands_at, first_front, all_served, finish_all, no_passages, each_more, all_take}
 use Rattle.fb_service.proofs.service.serve.Goals as goal
 
 pub loop-next-init : goal.loop-next-init
@@ -21,6 +21,7 @@ loop-next-init c =
       next = omega arith;
       few = omega arith;
       forward = s.ensures.takes_time;
+      each = λ x from below. each_more disk.map c.args.lbn c.args.lbn (c.args.lbn + 1) (λ y up down. absurd (omega arith)) s.ensures.long (omega arith) x from below;
       later = s.ensures.takes_time;
       soon = omega arith;
     }
@@ -48,6 +49,7 @@ loop-next-preserved c =
       next = omega (arith, added.next, s.ensures.first);
       few = omega (arith, added.few);
       forward = added.forward;
+      each = each_more disk.map c.args.lbn lbn (c.args.lbn + (l.next + 1)) l.invariant.each s.ensures.long (omega arith);
       later = omega (arith, added.end);
       soon = omega (arith, added.end);
     }
@@ -66,3 +68,8 @@ pub returns-clause-finish : goal.returns-clause-finish
 returns-clause-finish c =
     let l = c.loop-next in
     finish_all c.args.disk.now l.last.track l.last.end c.args.write (c.args.lbn + l.next) (c.args.count - l.next) _ (omega arith) l.invariant.finish
+
+pub returns-clause-each : goal.returns-clause-each
+returns-clause-each c =
+    let l = c.loop-next in
+    all_take c.args.disk.now c.args.source c.args.now c.args.write c.args.lbn c.args.count (λ x from below. l.invariant.each x from (omega arith))

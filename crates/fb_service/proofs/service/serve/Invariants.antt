@@ -1,6 +1,7 @@
 use Rattle.std.proofs.Common.{◌≡◌, ℕ, ◌+◌, ◌-◌, ◌*◌, ◌<◌, ◌≤◌, ◌^◌, ◌++◌, length}
 use Rattle.fb_geometry.specs.Shape.{IsTrackOf}
 use Rattle.fb_sectormap.specs.Lookup.{place_at}
+use Rattle.fb_service.specs.Passing.{length_of}
 use Rattle.fb_service.specs.Service.{passages, finish_of, media_of}
 use Rattle.fb_service.specs.Extents.{passages_of, all_passages_of}
 use Rattle.fb_service.proofs.service.serve.Given as goal
@@ -15,6 +16,7 @@ invariant-loop-next l = record {
   next : l.last.first + l.last.count ≡ l.lbn + l.next;
   few : l.last.count ≤ l.next;
   forward : l.last.begin < l.last.end;
+  each : (x : ℕ) → l.lbn ≤ x → x < l.lbn + l.next → 0 < length_of l.disk.map (place_at l.disk.map x);
   later : l.media < l.last.end;
   soon : l.last.end ≤ l.now + l.next * (4 * 10 ^ 9);
 }

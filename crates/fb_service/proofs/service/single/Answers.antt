@@ -1,4 +1,4 @@
-use Rattle.std.proofs.Common.{ap, sym, ◌∙◌, ◌+◌}
+use Rattle.std.proofs.Common.{ap, sym, ◌∙◌, ◌+◌, arith}
 use Rattle.fb_units.specs.declared.types.Place.{Place}
 use Rattle.fb_service.specs.declared.passage.Passage.{Passage}
 use Rattle.fb_service.specs.Passing.{begin_from, end_from}
@@ -20,3 +20,7 @@ returns-clause-end c =
     ap (λ (p : Passage). p.end) c.passage-passed.ensures.value
     ∙ ap (end_from c.args.disk.now.map (place_at c.args.disk.now.map c.args.lbn))
     (way_is c.args.disk.now c.args.source c.args.now c.args.lbn c.args.write c.place.result c.pos.result c.place.ensures.at c.pos.ensures.value)
+
+pub returns-clause-long : goal.returns-clause-long
+returns-clause-long c =
+    omega (arith, c.passage-passed.ensures.takes_time, ap (λ (p : Passage). p.begin) c.passage-passed.ensures.value, ap (λ (p : Passage). p.end) c.passage-passed.ensures.value)

@@ -1,0 +1,130 @@
+-- What the services so far have left on the disk, and what the ones to come can't have left yet.
+use Rattle.std.proofs.Common.{◌≡◌, ℕ, zero, suc, ◌+◌, ◌<◌, ◌≤◌, List, [], ◌∷◌, ◌++◌, length, map, Bool, true, false, refl, ap, sym, ◌∙◌, arith, Option, Some, None, inl, inr, subst}
+use Rattle.std.specs.Prelude.{nat_le, nat_lt, ◌==◌, ◌&&◌, filter, if◌then◌else◌, unwrap_or}
+use Rattle.std.specs.Option.{option_map}
+use Rattle.std.specs.List.{list_any, AllByRecursion, last_or, range_with_len, flat_map}
+use Rattle.std.proofs.lemmas.Bool.{cases_Bool, cases_lt}
+use Rattle.std.proofs.lemmas.Bool.Decides.{nat_tests}
+use Rattle.std.proofs.lemmas.List.Elements.{filter-append}
+use Rattle.std.proofs.lemmas.List.Concat.{flat_map-append}
+use Rattle.fb_units.specs.declared.types.Track.{Track}
+use Rattle.fb_units.specs.declared.types.Request.{Request}
+use Rattle.fb_units.specs.Wait.{wait}
+use Rattle.fb_seek.specs.Positioning.{pos}
+use Rattle.fb_sectormap.specs.Lookup.{track_at}
+use Rattle.fb_service.specs.declared.disk.Disk.{Disk}
+use Rattle.fb_service.specs.declared.passage.Passage.{Passage}
+use Rattle.fb_service.specs.Passing.{begin_from}
+use Rattle.fb_service.specs.Service.{passages, finish_of, passage_from}
+use Rattle.fb_store.specs.declared.content.Content.{Content}
+use Rattle.fb_store.specs.declared.content.Content.TheVariants.{Filled}
+use Rattle.fb_store.specs.Writes.{is_within}
+use Rattle.fb_model.specs.PlainReplay.{Key, Served, plain, service, start_of, has_arrived, first_ready, last_track, finish}
+use Rattle.fb_model.specs.Content.{Written, writes_of, number_of, content_by}
+
+pub all_weaker : {X : Type 0} (P Q : X → Type 0) → ((x : X) → P x → Q x) → (xs : List X) → AllByRecursion P xs → AllByRecursion Q xs
+all_weaker P Q f [] all = tt
+all_weaker P Q f (x ∷ xs) all = (f x all.0, all_weaker P Q f xs all.1)
+
+pub all_both : {X : Type 0} (P Q : X → Type 0) (xs : List X) → AllByRecursion P xs → AllByRecursion Q xs → AllByRecursion (λ x. P x × Q x) xs
+all_both P Q [] a b = tt
+all_both P Q (x ∷ xs) a b = ((a.0, b.0), all_both P Q xs a.1 b.1)
+
+pub all_append : {X : Type 0} (P : X → Type 0) (xs ys : List X) → AllByRecursion P xs → AllByRecursion P ys → AllByRecursion P (xs ++ ys)
+all_append P [] ys a b = b
+all_append P (x ∷ xs) ys a b = (a.0, all_append P xs ys a.1 b)
+
+all_map : {X Y : Type 0} (P : Y → Type 0) (f : X → Y) (xs : List X) → AllByRecursion (λ x. P (f x)) xs → AllByRecursion P (map f xs)
+all_map P f [] all = tt
+all_map P f (x ∷ xs) all = (all.0, all_map P f xs all.1)
+
+-- a slot begins no earlier than it is waited for
+pub from_on : (disk : Disk) (lbn t : ℕ) → t ≤ (passage_from disk.map lbn t).begin
+unfolding begin_from
+from_on disk lbn t = omega arith
+
+-- every passage begins after the way to it and ends by the finish
+pub passed_between : (disk : Disk) (source : Track) (now : ℕ) (write : Bool) (lbn n : ℕ)
+    → (now ≤ finish_of now (passages disk source now write lbn n))
+    × AllByRecursion (λ (p : Passage). (now ≤ p.begin) × (p.begin ≤ p.end) × (p.end ≤ finish_of now (passages disk source now write lbn n))) (passages disk source now write lbn n)
+unfolding passages
+passed_between disk source now write lbn zero = (omega arith, tt)
+passed_between disk source now write lbn (suc n) =
+    let begins = from_on disk lbn (now + pos disk.mechanism source (track_at disk.map lbn) write) in
+    let rest = passed_between disk (track_at disk.map lbn) (passage_from disk.map lbn (now + pos disk.mechanism source (track_at disk.map lbn) write)).end write (lbn + 1) n in
+    (omega (arith, begins, rest.0), ((omega (arith, begins), omega arith, rest.0), all_weaker _ _ (λ p h. (omega (arith, begins, h.0), h.1, h.2)) _ rest.1))
+
+-- the passages by which a write leaves its number, and no others
+abbrev pub written_by : ℕ → Passage → Written
+written_by writer passage = record { writer = writer; passage = passage }
+
+not_come : (now : ℕ) (request : Request) (left : List Request) → list_any (has_arrived now) (request ∷ left) ≡ false → now ≤ request.arrival
+not_come now request left none = elim (cases_lt now request.arrival) [
+  | inl late ↦ omega arith
+  | inr come ↦ absurd (let has : has_arrived now request ≡ true = grind (arith, nat_tests) in let wrong : true ≡ false = rw has at none in cc)
+]
+
+all_ends : (disk : Disk) (source : Track) (now : ℕ) (write : Bool) (lbn n : ℕ)
+    → AllByRecursion (λ (p : Passage). (now ≤ p.end) × (p.end ≤ finish_of now (passages disk source now write lbn n))) (passages disk source now write lbn n)
+all_ends disk source now write lbn n = all_weaker _ _ (λ p h. (omega (arith, h.0, h.1), h.2)) _ (passed_between disk source now write lbn n).1
+
+-- a request starts no earlier than the one before it ended
+start_after : (now : ℕ) (left : List Request) → now ≤ start_of now left
+start_after now [] = omega arith
+start_after now (request ∷ left) = elim (cases_Bool (list_any (has_arrived now) (request ∷ left))) [
+  | inl come ↦ rw come (omega arith)
+  | inr none ↦ rw none (let late = not_come now request left none in omega arith)
+]
+
+-- what is written by a service ends between its start and its finish
+pub written_between : (disk : Disk) (head : Track) (start : ℕ) (request : Request)
+    → AllByRecursion (λ (w : Written). (start ≤ w.passage.end) × (w.passage.end ≤ finish (service disk head start request))) (writes_of (service disk head start request))
+written_between disk head start request = elim (cases_Bool request.write) [
+  | inl writes ↦ rw writes (all_map _ (written_by (number_of request.name)) (passages disk head start true request.lbn request.count)
+      (all_ends disk head start true request.lbn request.count))
+  | inr reads ↦ rw reads tt
+]
+
+after_pick : (n : ℕ) (disk : Disk) (key : Key) (head : Track) (now start : ℕ) → now ≤ start → (pick : Option (Request × List Request))
+    → ((head : Track) (now : ℕ) (left : List Request) → AllByRecursion (λ (w : Written). now ≤ w.passage.end) (flat_map writes_of (plain n disk key head now left)))
+    → AllByRecursion (λ (w : Written). now ≤ w.passage.end) (flat_map writes_of (unwrap_or (option_map (λ pick.
+    let served = service disk head start pick.0 in
+    served ∷ plain n disk key (last_track disk served) (finish served) pick.1) pick) []))
+after_pick n disk key head now start late None later = tt
+after_pick n disk key head now start late (Some pick) later =
+    let served = service disk head start pick.0 in
+    let own = written_between disk head start pick.0 in
+    let ends = passed_between disk head start pick.0.write pick.0.lbn pick.0.count in
+    all_append _ (writes_of served) (flat_map writes_of (plain n disk key (last_track disk served) (finish served) pick.1))
+    (all_weaker _ _ (λ w h. omega (arith, h.0)) (writes_of served) own)
+    (all_weaker _ _ (λ w h. omega (arith, ends.0)) _ (later (last_track disk served) (finish served) pick.1))
+
+-- what is served later is written later
+pub written_after : (n : ℕ) (disk : Disk) (key : Key) (head : Track) (now : ℕ) (left : List Request)
+    → AllByRecursion (λ (w : Written). now ≤ w.passage.end) (flat_map writes_of (plain n disk key head now left))
+unfolding plain
+written_after zero disk key head now left = tt
+written_after (suc n) disk key head now left = after_pick n disk key head now (start_of now left) (start_after now left) (first_ready (key disk head (start_of now left)) (start_of now left) left)
+    (written_after n disk key)
+
+-- the sector is not the one: the number that the write leaves elsewhere doesn't count
+pub last_joined : {X : Type 0} (o : Option X) (xs ys : List X) → last_or o (xs ++ ys) ≡ last_or (last_or o xs) ys
+last_joined o [] ys = refl
+last_joined o (x ∷ xs) ys = last_joined (Some x) xs ys
+
+-- of the passages of a range the last one of a sector is the only one
+pub own_writes : (disk : Disk) (source : Track) (now : ℕ) (write : Bool) (lbn n writer x : ℕ) (before : Option Written) (first : Content)
+    → content_by (last_or before (filter (λ w. w.passage.lbn == x) (map (written_by writer) (passages disk source now write lbn n)))) first
+    ≡ (if is_within lbn n x then Filled writer else content_by before first)
+unfolding passages
+own_writes disk source now write lbn zero writer x before first =
+    let none : is_within lbn 0 x ≡ false = grind (arith, nat_tests) in rw none refl
+own_writes disk source now write lbn (suc n) writer x before first = elim (cases_Bool (lbn == x)) [
+  | inl same ↦
+      let inside : is_within lbn (suc n) x ≡ true = grind (arith, nat_tests) in
+      let behind : is_within (lbn + 1) n x ≡ false = grind (arith, nat_tests) in
+      rw (same, inside) (own_writes disk (track_at disk.map lbn) (passage_from disk.map lbn (now + pos disk.mechanism source (track_at disk.map lbn) write)).end write (lbn + 1) n writer x _ first ∙ rw behind refl)
+  | inr other ↦
+      let again : is_within (lbn + 1) n x ≡ is_within lbn (suc n) x = grind (arith, nat_tests) in
+      rw other (own_writes disk (track_at disk.map lbn) (passage_from disk.map lbn (now + pos disk.mechanism source (track_at disk.map lbn) write)).end write (lbn + 1) n writer x before first ∙ ap (λ b. if b then Filled writer else content_by before first) again)
+]

@@ -1,0 +1,15 @@
+use Rattle.std.proofs.Common.{◌≡◌, ◌≤◌, ◌-◌, length}
+use Rattle.std.specs.List.{AllByRecursion}
+use Rattle.fb_engine.specs.Waiting.{left}
+use Rattle.fb_engine.proofs.joining.join_arrived.Given as goal
+
+abbrev pub invariant-loop-next : goal.invariant-loop-next
+invariant-loop-next g l = record {
+  within : l.next ≤ length l.requests;
+  counted : g.Q.Queue.joined l.queue ≡ l.next;
+  same : left l.requests l.next (g.Q.Queue.pending l.queue) ≡ left l.requests l.fn.next (g.Q.Queue.pending l.fn.queue);
+  arrived : AllByRecursion (λ r. r.arrival ≤ l.now) (g.Q.Queue.pending l.queue);
+}
+
+abbrev pub decreases-loop-next : goal.decreases-loop-next
+decreases-loop-next g l = length l.requests - l.next

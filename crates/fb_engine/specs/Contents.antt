@@ -1,0 +1,29 @@
+-- What a request finds on a disk, and what it leaves there.
+use Rattle.std.specs.Prelude.{◌≡◌, ℕ, List, [], Bool, map, if◌then◌else◌}
+use Rattle.std.specs.List.{range_with_len}
+use Rattle.fb_units.specs.declared.types.Request.{Request}
+use Rattle.fb_store.specs.declared.content.Content.{Content}
+use Rattle.fb_store.specs.declared.content.ContentRun.{ContentRun}
+use Rattle.fb_store.specs.Runs.{runs_of, bad_of}
+use Rattle.fb_store.specs.Writes.{Holding, content_in, after_write}
+use Rattle.fb_rows.specs.declared.fore.ForeRow.{ForeRow}
+use Rattle.fb_model.specs.PlainReplay.{Served, media, finish}
+use Rattle.fb_model.specs.Content.{number_of}
+
+-- what a read finds on the disk as it is; a write finds nothing
+abbrev pub found_in : Holding → Request → List ContentRun
+found_in holding request = if request.write then []
+    else runs_of (map (λ lbn. (lbn, content_in holding lbn)) (range_with_len request.lbn request.count))
+
+-- what a sector holds when the request is served
+abbrev pub left_by : Request → ℕ → Content → Content
+left_by request lbn before = if request.write then after_write request.lbn request.count (number_of request.name) lbn before else before
+
+-- the row of a service, and of what it found
+pub record IsRowOf (holding : Holding) (served : Served) (row : ForeRow) : Type 0 where
+  pub request : row.request ≡ served.request
+  pub start : row.start ≡ served.start
+  pub media : row.media ≡ media served
+  pub finish : row.finish ≡ finish served
+  pub bad : row.bad ≡ bad_of row.content
+  pub content : row.content ≡ found_in holding served.request

@@ -1,0 +1,28 @@
+-- The requests between two decisions.
+use Rattle.std.specs.Prelude.{◌≡◌, ℕ, ◌+◌, ◌≤◌, ◌<◌, ◌^◌, List, [], ◌∷◌, length, ◌++◌, drop}
+use Rattle.std.specs.List.{AllByRecursion}
+use Rattle.fb_units.specs.declared.types.Request.{Request}
+use Rattle.fb_service.specs.declared.disk.Disk.{Disk}
+use Rattle.fb_model.specs.Accepted.{IsRequestOf}
+
+-- which requests have not been served: those that joined, and those that have not
+abbrev pub left : List Request → ℕ → List Request → List Request
+left requests next pending = pending ++ drop next requests
+
+-- the requests that wait have arrived, and lie on the disk
+pub record IsWaiting (disk : Disk) (requests : List Request) (now next joined : ℕ) (pending : List Request) : Type 0 where
+  pub within : next ≤ length requests
+  pub counted : joined ≡ next
+  pub arrived : AllByRecursion (λ r. r.arrival ≤ now) pending
+  pub on_disk : AllByRecursion (IsRequestOf disk.map) (left requests next pending)
+
+-- requests in order of arrival
+abbrev pub IsInOrder : List Request → Type 0
+IsInOrder [] = Unit {0}
+IsInOrder (request ∷ requests) = AllByRecursion (λ other. request.arrival ≤ other.arrival) requests × IsInOrder requests
+
+-- requests that the disk can serve, by arrival
+pub record IsTraceOf (disk : Disk) (requests : List Request) : Type 0 where
+  pub order : IsInOrder requests
+  pub on_disk : AllByRecursion (IsRequestOf disk.map) requests
+  pub few : length requests ≤ 10 ^ 6

@@ -1,0 +1,7 @@
+use Rattle.std.proofs.Common.{◌≡◌, take}
+use Rattle.std.specs.List.{sum_by}
+use Rattle.fb_store.specs.Runs.{bad_in}
+use Rattle.fb_store.proofs.contents.Contents.bad.Given as goal
+
+abbrev pub invariant-loop-run : goal.invariant-loop-run
+invariant-loop-run l = l.bad ≡ sum_by bad_in (take l.run-index l.self)

@@ -1,0 +1,31 @@
+-- What a sector holds, and what a write leaves in it.
+use Rattle.std.specs.Prelude.{ℕ, ◌+◌, List, Bool, ◌&&◌, ◌==◌, nat_le, nat_lt, Option, Some, None, find, if◌then◌else◌}
+use Rattle.std.specs.List.{list_any}
+use Rattle.fb_store.specs.declared.content.Content.{Content}
+use Rattle.fb_store.specs.declared.content.Content.TheVariants.{Filled, Unreadable}
+use Rattle.fb_store.specs.declared.content.ContentRun.{ContentRun}
+
+-- a sector that no write has passed
+abbrev pub unwritten : List ℕ → ℕ → Content
+unwritten latent lbn = if list_any (λ bad. bad == lbn) latent then Unreadable else Filled 0
+
+-- the sector is one of n from the first on
+abbrev pub is_within : ℕ → ℕ → ℕ → Bool
+is_within first n lbn = nat_le first lbn && nat_lt lbn (first + n)
+
+-- what a sector holds after a write of n sectors from the first on
+abbrev pub after_write : ℕ → ℕ → ℕ → ℕ → Content → Content
+after_write first n writer lbn before = if is_within first n lbn then Filled writer else before
+
+-- the latent sectors of a disk, and the runs that were written on it
+pub record Holding : Type 0 where
+  pub latent : List ℕ
+  pub written : List ContentRun
+
+abbrev pub content_or : Option ContentRun → Content → Content
+content_or None content = content
+content_or (Some run) content = run.content
+
+-- what a sector holds: the content of the run that it lies in
+abbrev pub content_in : Holding → ℕ → Content
+content_in holding lbn = content_or (find (λ run. is_within run.first run.count lbn) holding.written) (unwritten holding.latent lbn)

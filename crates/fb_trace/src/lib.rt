@@ -1,0 +1,6 @@
+//! Traces of requests.
+#![tactic(auto)]
+
+mod trace;
+
+pub use trace::Trace;

@@ -1,0 +1,163 @@
+// Changes of the blocks of a task.
+ghost use Rattle.std.specs.Prelude.{◌≡◌, length, filter};
+ghost use Rattle.fb_wanted.specs.States.{shares, is_wanted, is_suspended, is_delivered, is_open, wanted_unless, state_after, after, is_abortable, entry_after, is_block};
+ghost use Rattle.fb_units.specs.Tracks.{same_track};
+
+use crate::{Block, Change, Entry, State};
+use fb_units::Track;
+
+// Whether the block shares a sector with the range.
+fn shares(block: Block, first: u64, count: u64) -> bool
+    ensures { result ≡ shares first count block }
+{
+    if count == 0 {
+        return false;
+    }
+    if block.count == 0 {
+        return false;
+    }
+    if first <= block.lbn {
+        block.lbn - first < count
+    } else {
+        first - block.lbn < block.count as u64
+    }
+}
+
+fn is_open(state: State) -> bool
+    ensures { result ≡ is_open state }
+{
+    match state {
+        State::Wanted => true,
+        State::Suspended => true,
+        State::Delivered => false,
+        State::Aborted => false,
+    }
+}
+
+fn wanted_unless(suspended: bool) -> State
+    ensures { result ≡ wanted_unless suspended }
+{
+    if suspended {
+        State::Suspended
+    } else {
+        State::Wanted
+    }
+}
+
+fn aborted(first: u64, count: u64, block: Block, state: State) -> State
+    ensures { result ≡ state_after (Change.Abort first count) block state }
+{
+    if !shares(block, first, count) {
+        return state;
+    }
+    if is_open(state) {
+        State::Aborted
+    } else {
+        state
+    }
+}
+
+fn rewanted(first: u64, count: u64, suspended: bool, block: Block, state: State) -> State
+    ensures { result ≡ state_after (Change.Rewant first count suspended) block state }
+{
+    if !shares(block, first, count) {
+        return state;
+    }
+    match state {
+        State::Delivered => wanted_unless(suspended),
+        _ => state,
+    }
+}
+
+// The state of a block of the task after the change.
+fn state_after(change: Change, block: Block, state: State) -> State
+    ensures { result ≡ state_after change block state }
+{
+    match change {
+        Change::Abort { first, count } => aborted(first, count, block, state),
+        Change::Deliver { index } => {
+            if block.index == index {
+                State::Delivered
+            } else {
+                state
+            }
+        }
+        Change::Rewant {
+            first,
+            count,
+            suspended,
+        } => rewanted(first, count, suspended, block, state),
+        Change::Suspend => match state {
+            State::Wanted => State::Suspended,
+            _ => state,
+        },
+        Change::Resume => match state {
+            State::Suspended => State::Wanted,
+            _ => state,
+        },
+    }
+}
+
+fn entry_after(task: u32, change: Change, entry: Entry) -> Entry
+    ensures { result ≡ entry_after task change entry }
+{
+    if entry.block.task == task {
+        Entry {
+            block: entry.block,
+            state: state_after(change, entry.block, entry.state),
+        }
+    } else {
+        entry
+    }
+}
+
+/// Changes the blocks of the task.
+pub fn change_all(entries: &mut [Entry], task: u32, change: Change)
+    ensures { entries.new ≡ after task change entries.old }
+{
+    for i in 0..entries.len() {
+        entries[i] = entry_after(task, change, entries[i]);
+    }
+}
+
+/// How many blocks of the task an abort of the range changes.
+pub fn count_abortable(entries: &[Entry], task: u32, first: u64, count: u64) -> u64
+    ensures { result ≡ length (filter (is_abortable task first count) entries.now) }
+{
+    let mut n = 0;
+    for entry in entries {
+        if is_abortable(*entry, task, first, count) {
+            n += 1;
+        }
+    }
+    n
+}
+
+fn is_abortable(entry: Entry, task: u32, first: u64, count: u64) -> bool
+    ensures { result ≡ is_abortable task first count entry }
+{
+    if entry.block.task != task {
+        return false;
+    }
+    if !shares(entry.block, first, count) {
+        return false;
+    }
+    is_open(entry.state)
+}
+
+/// Whether this is the task's block of that number.
+pub fn is_block(entry: Entry, task: u32, index: u32) -> bool
+    ensures { result ≡ is_block task index entry }
+{
+    if entry.block.task != task {
+        return false;
+    }
+    entry.block.index == index
+}
+
+/// Whether the entry's block lies on the track.
+pub fn is_on(entry: Entry, track: Track) -> bool
+    ensures { result ≡ same_track track entry.block.track }
+{
+    track == entry.block.track
+}
