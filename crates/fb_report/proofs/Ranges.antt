@@ -1,0 +1,51 @@
+-- Going over a list or a range part by part.
+use Rattle.std.proofs.Common.{◌≡◌, ℕ, zero, suc, ◌+◌, ◌-◌, ◌<◌, List, [], ◌∷◌, ◌++◌, length, refl, sym, ap, ◌∙◌, arith, append_assoc, append-nil, drop, take, Some}
+use Rattle.std.specs.Prelude.{slice_get}
+use Rattle.std.proofs.lemmas.List.{drop_more}
+use Rattle.std.proofs.lemmas.Option.{slice_get_within, get_or_from_slice_get}
+use Rattle.std.specs.List.{flat_map, range_with_len}
+use Rattle.std.proofs.lemmas.List.{take_more}
+use Rattle.std.proofs.lemmas.List.Concat.{flat_map-append}
+
+-- a part more was added
+pub part_more : {X : Type 0} (f : X → List ℕ) (now new part : List ℕ) (x : X) (rest rest' : List X) (whole : List ℕ) → now ++ flat_map f rest ≡ whole → rest ≡ x ∷ rest' → part ≡ f x → new ≡ now ++ part → new ++ flat_map f rest' ≡ whole
+part_more f now new part x rest rest' whole h e p n = ap (λ xs. xs ++ flat_map f rest') (n ∙ ap (λ y. now ++ y) p) ∙ append_assoc now (f x) (flat_map f rest') ∙ ap (λ r. now ++ flat_map f r) (sym e) ∙ h
+
+pub drop_got : {X : Type 0} (xs : List X) (i : ℕ) (x : X) → slice_get xs i ≡ Some x → drop i xs ≡ x ∷ drop (i + 1) xs
+drop_got xs i x e = drop_more xs i x (slice_get_within xs i x e) ∙ ap (λ y. y ∷ drop (i + 1) xs) (get_or_from_slice_get xs i x x e)
+
+pub get_left : {X : Type 0} (xs ys : List X) (i : ℕ) → i < length xs → slice_get (xs ++ ys) i ≡ slice_get xs i
+get_left [] ys i h = absurd (omega arith)
+get_left (x ∷ xs) ys zero h = refl
+get_left (x ∷ xs) ys (suc i) h = get_left xs ys i (omega arith)
+
+pub get_right : {X : Type 0} (xs ys : List X) (i j : ℕ) → j ≡ length xs + i → slice_get (xs ++ ys) j ≡ slice_get ys i
+get_right [] ys i j e = ap (slice_get ys) (omega arith)
+get_right (x ∷ xs) ys i zero e = absurd (omega arith)
+get_right (x ∷ xs) ys i (suc j) e = get_right xs ys i j (omega arith)
+
+range_push : (a n : ℕ) → range_with_len a (suc n) ≡ range_with_len a n ++ (a + n) ∷ []
+range_push a zero = ap (λ x. x ∷ []) (omega arith)
+range_push a (suc n) = ap (λ xs. a ∷ xs) (range_push (a + 1) n ∙ ap (λ x. range_with_len (a + 1) n ++ x ∷ []) (omega arith))
+
+next : (i : ℕ) → i + 1 ≡ suc i
+next i = omega arith
+
+from_zero : (i : ℕ) → 0 + i ≡ i
+from_zero i = omega arith
+
+joined : {X : Type 0} (f : X → List ℕ) (before part : List ℕ) (xs ys : List X) (x : X) → ys ≡ xs ++ x ∷ [] → part ≡ f x → (before ++ flat_map f xs) ++ part ≡ before ++ flat_map f ys
+joined f before part xs ys x more is =
+    append_assoc before (flat_map f xs) part
+    ∙ ap (λ p. before ++ (flat_map f xs ++ p)) (is ∙ sym (append-nil (f x)))
+    ∙ ap (λ p. before ++ p) (sym (ap (flat_map f) more ∙ flat_map-append f xs (x ∷ [])))
+
+-- the part of one number more
+pub counted : (f : ℕ → List ℕ) (before part : List ℕ) (i : ℕ) → part ≡ f i → (before ++ flat_map f (range_with_len 0 i)) ++ part ≡ before ++ flat_map f (range_with_len 0 (i + 1))
+counted f before part i is = joined f before part (range_with_len 0 i) (range_with_len 0 (i + 1)) i (ap (range_with_len 0) (next i) ∙ (range_push 0 i ∙ ap (λ x. range_with_len 0 i ++ x ∷ []) (from_zero i))) is
+
+-- the part of one element more
+pub taken : {X : Type 0} (f : X → List ℕ) (before part : List ℕ) (xs : List X) (i : ℕ) (x : X) → slice_get xs i ≡ Some x → part ≡ f x
+    → (before ++ flat_map f (take i xs)) ++ part ≡ before ++ flat_map f (take (i + 1) xs)
+taken f before part xs i x at is =
+    joined f before part (take i xs) (take (i + 1) xs) x (take_more xs i x (slice_get_within xs i x at) ∙ ap (λ y. take i xs ++ y ∷ []) (get_or_from_slice_get xs i x x at)) is

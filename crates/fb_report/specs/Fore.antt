@@ -1,0 +1,36 @@
+-- The foreground report.
+use Rattle.std.specs.Prelude.{ℕ, map, List, [], ◌∷◌, ◌++◌, Bool, length, decimal, codes, if◌then◌else◌}
+use Rattle.std.specs.List.{flat_map}
+use Rattle.fb_rows.specs.declared.fore.ForeRow.{ForeRow}
+use Rattle.fb_rows.specs.declared.run.Run.{Run}
+use Rattle.fb_report.specs.declared.bytes.Bytes.{Bytes}
+use Rattle.fb_report.specs.Lines.{line_of, name_text}
+use Rattle.fb_report.specs.Shown.{shown}
+
+-- W for a write, R for a read
+abbrev pub kind_text : Bool → List ℕ
+kind_text write = if write then codes "W" else codes "R"
+
+-- a write found nothing
+abbrev pub row_bytes : ℕ → Bytes → ForeRow → List ℕ
+row_bytes size bytes row = if row.request.write then codes "-" else shown bytes size row.content
+
+-- name, kind, first LBN, count, arrival, start, media, finish, bad sectors and bytes
+abbrev pub fore_line : ℕ → Bytes → ForeRow → List ℕ
+fore_line size bytes row = line_of (name_text row.request.name)
+    (kind_text row.request.write ∷ decimal row.request.lbn ∷ decimal row.request.count ∷ decimal row.request.arrival
+    ∷ decimal row.start ∷ decimal row.media ∷ decimal row.finish ∷ decimal row.bad ∷ row_bytes size bytes row ∷ [])
+
+abbrev pub first_line : List ℕ
+first_line = line_of (codes "freeblock") (codes "fore" ∷ codes "1" ∷ [])
+
+-- how many rows there are, and how many requests were passed over
+abbrev pub last_line : Run → List ℕ
+last_line run = line_of (codes "end") (decimal (length run.fore) ∷ decimal run.passed_over ∷ [])
+
+-- the first line, a line for each row in order of service, and the last
+unfoldable pub fore_lines : ℕ → Bytes → Run → List (List ℕ)
+fore_lines size bytes run = first_line ∷ (map (fore_line size bytes) run.fore ++ last_line run ∷ [])
+
+abbrev pub fore_text : ℕ → Bytes → Run → List ℕ
+fore_text size bytes run = flat_map (λ line. line) (fore_lines size bytes run)

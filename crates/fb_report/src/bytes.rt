@@ -1,0 +1,10 @@
+/// How the bytes that a read or a delivery found are shown.
+#[derive(Clone, Copy, Debug, PartialEq, Eq)]
+pub enum Bytes {
+    /// Not at all: a dash.
+    Nothing,
+    /// Their SHA-256, in lower-case hexadecimal digits.
+    Digest,
+    /// Themselves, in lower-case hexadecimal digits.
+    Dump,
+}

@@ -1,0 +1,176 @@
+// The foreground report.
+ghost use Rattle.std.specs.Prelude.{◌≡◌, ◌+◌, ◌%◌, ◌<◌, ◌≤◌, ◌^◌, length, Some, IfOk, slice_get};
+ghost use Rattle.std.specs.List.{AllByRecursion};
+ghost use Rattle.fb_report.specs.Shown.{shown};
+ghost use Rattle.fb_report.specs.Fore.{kind_text, row_bytes, fore_line, first_line, last_line, fore_lines, fore_text};
+ghost use Rattle.fb_rows.specs.Ranges.{HasRanges};
+
+use crate::Bytes;
+use crate::line::Line;
+use crate::sectors::pour;
+use crate::sink::{HexDump, push_hex};
+use fb_rows::{ForeRow, Run};
+use fb_store::Contents;
+use fb_units::NoMemory;
+use sha2::{Digest, Sha256};
+use std::alloc::Global;
+
+/// The number of lines of the foreground report: one for each row, the first and the last.
+pub fn fore_pieces(run: &Run) -> u64
+    ensures { result ≡ length run.now.fore + 2 }
+{
+    run.fore.len() as u64 + 2
+}
+
+/// The k-th line of the foreground report, from 0, with its line feed.
+///
+/// `sector_bytes` is the size of a sector, a multiple of 16.
+pub fn fore_piece(
+    alloc: Global,
+    run: &Run,
+    sector_bytes: u32,
+    bytes: Bytes,
+    k: u64,
+) -> Result<Vec<u8>, NoMemory>
+    requires whole { sector_bytes % 16 ≡ 0 }
+    requires ranges { AllByRecursion HasRanges run.now.fore }
+    requires piece { k < length run.now.fore + 2 }
+    ensures { IfOk result (λ line. slice_get (fore_lines sector_bytes bytes run.now) k ≡ Some line.items) }
+{
+    let rows = run.fore.len() as u64;
+    if k == 0 {
+        Ok(first_line(alloc)?)
+    } else if k <= rows {
+        let row = run.fore.get(k as usize - 1);
+        Ok(fore_line(alloc, row, sector_bytes, bytes)?)
+    } else {
+        Ok(last_line(alloc, run)?)
+    }
+}
+
+/// The whole foreground report.
+pub fn fore_text(
+    alloc: Global,
+    run: &Run,
+    sector_bytes: u32,
+    bytes: Bytes,
+) -> Result<Vec<u8>, NoMemory>
+    requires whole { sector_bytes % 16 ≡ 0 }
+    requires ranges { AllByRecursion HasRanges run.now.fore }
+    ensures { IfOk result (λ text. text.items ≡ fore_text sector_bytes bytes run.now) }
+{
+    let mut text = Vec::new(alloc);
+    for k in 0..fore_pieces(run) {
+        let line = fore_piece(alloc, run, sector_bytes, bytes, k)?;
+        text.extend_from_slice(line.as_slice())?;
+    }
+    Ok(text)
+}
+
+fn first_line(alloc: Global) -> Result<Vec<u8>, NoMemory>
+    ensures { IfOk result (λ line. line.items ≡ first_line) }
+{
+    let mut line = Line::new(alloc, b"freeblock")?;
+    line.word(b"fore")?;
+    line.word(b"1")?;
+    line.end()
+}
+
+fn last_line(alloc: Global, run: &Run) -> Result<Vec<u8>, NoMemory>
+    ensures { IfOk result (λ line. line.items ≡ last_line run.now) }
+{
+    let mut line = Line::new(alloc, b"end")?;
+    line.number(run.fore.len() as u64)?;
+    line.number(run.passed_over)?;
+    line.end()
+}
+
+// The line of a row.
+fn fore_line(
+    alloc: Global,
+    row: &ForeRow,
+    sector_bytes: u32,
+    bytes: Bytes,
+) -> Result<Vec<u8>, NoMemory>
+    requires whole { sector_bytes % 16 ≡ 0 }
+    requires ranges { HasRanges row.now }
+    ensures { IfOk result (λ line. line.items ≡ fore_line sector_bytes bytes row.now) }
+{
+    let found = row_bytes(alloc, row, sector_bytes, bytes)?;
+    let count = row.request.count;
+    let bad = row.bad;
+    let mut line = Line::named(alloc, row.request.name)?;
+    line.word(kind(row.request.write))?;
+    line.number(row.request.lbn)?;
+    line.number(count as u64)?;
+    line.number(row.request.arrival)?;
+    line.number(row.start)?;
+    line.number(row.media)?;
+    line.number(row.finish)?;
+    line.number(bad as u64)?;
+    line.word(found.as_slice())?;
+    line.end()
+}
+
+fn kind(write: bool) -> &'static [u8]
+    ensures { result.now ≡ kind_text write }
+{
+    if write { b"W" } else { b"R" }
+}
+
+// The bytes that a row found, as they are shown.
+fn row_bytes(
+    alloc: Global,
+    row: &ForeRow,
+    sector_bytes: u32,
+    bytes: Bytes,
+) -> Result<Vec<u8>, NoMemory>
+    requires whole { sector_bytes % 16 ≡ 0 }
+    requires ranges { HasRanges row.now }
+    ensures { IfOk result (λ field. field.items ≡ row_bytes sector_bytes bytes row.now) }
+{
+    if row.request.write {
+        return Ok(b"-".to_vec(alloc)?);
+    }
+    shown(alloc, &row.content, sector_bytes, bytes)
+}
+
+// The bytes of contents as they are shown.
+fn shown(
+    alloc: Global,
+    contents: &Contents,
+    sector_bytes: u32,
+    bytes: Bytes,
+) -> Result<Vec<u8>, NoMemory>
+    requires whole { sector_bytes % 16 ≡ 0 }
+    requires ranges { AllByRecursion (λ run. run.first + run.count ≤ 10 ^ 12) contents.now }
+    ensures { IfOk result (λ field. field.items ≡ shown bytes sector_bytes contents.now) }
+{
+    match bytes {
+        Bytes::Nothing => Ok(b"-".to_vec(alloc)?),
+        Bytes::Digest => digest(alloc, contents, sector_bytes),
+        Bytes::Dump => dump(alloc, contents, sector_bytes),
+    }
+}
+
+fn digest(alloc: Global, contents: &Contents, sector_bytes: u32) -> Result<Vec<u8>, NoMemory>
+    requires whole { sector_bytes % 16 ≡ 0 }
+    requires ranges { AllByRecursion (λ run. run.first + run.count ≤ 10 ^ 12) contents.now }
+    ensures { IfOk result (λ field. field.items ≡ shown Bytes.Digest sector_bytes contents.now) }
+{
+    let mut hasher = Sha256::new();
+    pour(alloc, &mut hasher, contents, sector_bytes)?;
+    let mut text = Vec::new(alloc);
+    push_hex(&mut text, &hasher.finalize())?;
+    Ok(text)
+}
+
+fn dump(alloc: Global, contents: &Contents, sector_bytes: u32) -> Result<Vec<u8>, NoMemory>
+    requires whole { sector_bytes % 16 ≡ 0 }
+    requires ranges { AllByRecursion (λ run. run.first + run.count ≤ 10 ^ 12) contents.now }
+    ensures { IfOk result (λ field. field.items ≡ shown Bytes.Dump sector_bytes contents.now) }
+{
+    let mut dump = HexDump::new(alloc);
+    pour(alloc, &mut dump, contents, sector_bytes)?;
+    Ok(dump.into_text())
+}

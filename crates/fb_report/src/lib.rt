@@ -1,0 +1,15 @@
+//! The texts of a run, line by line.
+//!
+//! A report is a list of lines, and each piece is one of them. The foreground text is a function of
+//! the foreground rows, the number of requests passed over, the sector size and the mode of bytes.
+//! Digests are made while the bytes go by, so that none are held.
+#![tactic(auto)]
+
+mod bytes;
+mod fore;
+mod line;
+mod sectors;
+mod sink;
+
+pub use bytes::Bytes;
+pub use fore::{fore_piece, fore_pieces, fore_text};
