@@ -1,6 +1,7 @@
 -- The inputs that a run is made from keep these rules.
 use Rattle.std.specs.Prelude.{◌≡◌, ℕ, ◌+◌, ◌*◌, ◌^◌, ◌<◌, ◌≤◌, List, [], ◌∷◌, length, Bool, true, false, ◌&&◌, ◌==◌, map}
 use Rattle.std.specs.List.{AllByRecursion, list_any, range_with_len}
+use Rattle.fb_units.specs.Rising.{IsRising}
 use Rattle.fb_units.specs.declared.types.Request.{Request}
 use Rattle.fb_units.specs.declared.types.Name.TheVariants.{Traced}
 use Rattle.fb_geometry.specs.Shape.{Shape}
@@ -65,11 +66,6 @@ AreAllowed disk past (call ∷ calls) = (call.instant ≤ 10 ^ 15) × MayAsk dis
 abbrev pub blocks_from : Shape → Past → List Call → ℕ
 blocks_from disk past [] = 0
 blocks_from disk past (call ∷ calls) = blocks_in disk past call.task call.action + blocks_from disk (called call [] ∷ past) calls
-
--- instants that don't fall
-abbrev pub IsRising : List ℕ → Type 0
-IsRising [] = Unit {0}
-IsRising (instant ∷ instants) = AllByRecursion (λ later. instant ≤ later) instants × IsRising instants
 
 pub record IsAccepted (inputs : Inputs) : Type 0 where
   pub latent : AllByRecursion (λ lbn. lbn < length (places inputs.disk.map)) inputs.latent

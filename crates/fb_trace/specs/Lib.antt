@@ -1,0 +1,7 @@
+pub mod Judging
+pub mod Entry
+pub mod Line
+pub mod Reading
+pub mod Verdict
+pub mod Servable
+pub mod Following

@@ -1,7 +1,7 @@
 -- Numbers and times as text.
-use Rattle.std.specs.Prelude.{◌≡◌, ℕ, ◌+◌, ◌-◌, ◌*◌, ◌^◌, List, [], ◌∷◌, Bool, ◌&&◌, Option, Some, None, nat_le, if◌then◌else◌, false, ◌++◌, take, replicate, length, ◌==◌}
-use Rattle.std.specs.Char.{is_ascii_digit}
-use Rattle.std.specs.List.{list_all, before_first, after_first, list_any}
+use Rattle.std.specs.Prelude.{ℕ, ◌+◌, ◌-◌, ◌*◌, ◌^◌, List, [], ◌∷◌, Bool, ◌&&◌, ◌||◌, Option, Some, None, nat_eq, nat_le, nat_lt, if◌then◌else◌, false, ◌++◌, take, drop, replicate, length, ◌==◌, codes}
+use Rattle.std.specs.Char.{digit_value, is_ascii_digit, is_digit}
+use Rattle.std.specs.List.{list_all, before_first, after_first, starts_with}
 
 -- the greatest number that a text may say
 abbrev pub limit : ℕ
@@ -37,3 +37,20 @@ millis_of text =
     if are_digits whole && list_all is_ascii_digit fraction
     then within (10 ^ 6 * digits_after 0 whole + digits_after 0 (six_of fraction))
     else None
+
+-- the number that hexadecimal digits write after those of n
+abbrev pub hex_digits_after : ℕ → List ℕ → ℕ
+hex_digits_after n [] = n
+hex_digits_after n (c ∷ cs) = hex_digits_after (16 * n + digit_value c) cs
+
+-- what stands behind the mark of a hexadecimal number, where it has one
+abbrev pub behind_mark : List ℕ → List ℕ
+behind_mark text = if starts_with nat_eq text (codes "0x") || starts_with nat_eq text (codes "0X") then drop 2 text else text
+
+-- 1 to 16 hexadecimal digits
+abbrev pub are_flag_digits : List ℕ → Bool
+are_flag_digits digits = nat_lt 0 (length digits) && nat_le (length digits) 16 && list_all (λ c. is_digit c 16) digits
+
+-- flags: a mark or none, and 1 to 16 hexadecimal digits
+abbrev pub flags_of : List ℕ → Option ℕ
+flags_of text = if are_flag_digits (behind_mark text) then Some (hex_digits_after 0 (behind_mark text)) else None

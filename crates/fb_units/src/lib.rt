@@ -4,12 +4,14 @@
 //! least wait until an angle comes by. Nothing here but `KeyText::push` takes memory.
 #![tactic(auto)]
 
+mod lines;
 mod numbers;
 mod text;
 mod times;
 mod types;
 
-pub use numbers::{LIMIT, read_millis, read_number};
+pub use lines::{next_field, next_line};
+pub use numbers::{LIMIT, read_flags, read_millis, read_number};
 pub use text::KeyText;
 pub use times::{Ns, wait_for};
 pub use types::{Name, NoMemory, Place, Request, Track};

@@ -1,0 +1,220 @@
+// A trace, line by line.
+ghost use Rattle.std.specs.Prelude.{◌≡◌, ◌+◌, ◌<◌, ◌≤◌, ◌^◌, length, IfOk, IfErr, OnOk};
+ghost use Rattle.fb_units.specs.Lines.{fields_of};
+ghost use Rattle.fb_trace.specs.declared.trace.TraceError.TheVariants.{NoMemory};
+ghost use Rattle.fb_trace.specs.Line.{request_of, of_device, added_by, line_of};
+ghost use Rattle.fb_trace.specs.Servable.{IsTraceOf};
+ghost use Rattle.fb_trace.specs.Reading.{trace_of, next_progress, with_line};
+ghost use Rattle.fb_trace.specs.Verdict.{Answers, accepted};
+ghost use Rattle.fb_trace.specs.Following.{IsNext, MayFollow, IsProgress, progress};
+
+use crate::entry::{Entry, read_entry};
+use crate::{Trace, TraceError, TraceFault, TraceReason};
+use fb_units::{Name, Ns, Request, next_field, next_line};
+use std::alloc::Global;
+
+const MOST_SECTORS: u64 = 2_048;
+
+const MOST_REQUESTS: u64 = 1_000_000;
+
+// What a line adds to the trace of a device.
+enum Line {
+    Blank,
+    // A request of another device, which arrives at this instant.
+    PassedOver(Ns),
+    Asked(Request),
+}
+
+// The lines so far.
+#[derive(Drop)]
+struct Reader {
+    device: u64,
+    sectors: u64,
+    // Of the last line that isn't blank.
+    instant: Ns,
+    trace: Trace,
+}
+
+/// The trace of a device, on a disk of so many sectors. An error names the first faulty line and
+/// its first fault.
+pub fn read_trace(
+    alloc: Global,
+    bytes: &[u8],
+    device: u64,
+    sectors: u64,
+) -> Result<Trace, TraceError>
+    ensures answer { Answers accepted result (trace_of device sectors bytes.now) }
+    ensures trace { IfOk result (λ trace. IsTraceOf sectors trace.requests.items) }
+{
+    let mut reader = Reader {
+        device,
+        sectors,
+        instant: 0,
+        trace: Trace {
+            requests: Vec::new(alloc),
+            passed_over: 0,
+        },
+    };
+    let mut rest = bytes;
+    let mut number = 0;
+    while let Some((line, others)) = next_line(rest) {
+        number += 1;
+        reader.read_line(number, line)?;
+        rest = others;
+    }
+    Ok(reader.trace)
+}
+
+impl Reader {
+    // Takes in the next line, of this number.
+    fn read_line(&mut self, number: u64, line: &[u8]) -> Result<(), TraceError>
+        requires few { self.old.trace.passed_over < number }
+        ensures answer { Answers (λ _. progress self.new) result (next_progress self.old.device self.old.sectors number (progress self.old) line.now) }
+        ensures device { self.new.device ≡ self.old.device }
+        ensures sectors { self.new.sectors ≡ self.old.sectors }
+        ensures few { OnOk result (self.new.trace.passed_over ≤ number) }
+        ensures keeps { OnOk result (IsProgress self.old.sectors (progress self.old) → IsProgress self.new.sectors (progress self.new)) }
+    {
+        match self.line(line) {
+            Ok(line) => self.add(line),
+            Err(reason) => Err(TraceError::Fault(TraceFault {
+                line: number,
+                reason,
+            })),
+        }
+    }
+
+    // Takes in what a line adds.
+    fn add(&mut self, line: Line) -> Result<(), TraceError>
+        requires few { self.old.trace.passed_over + 1 < 2 ^ 64 }
+        ensures line { OnOk result (progress self.new ≡ with_line (progress self.old) line) }
+        ensures memory { IfErr result (λ error. error ≡ NoMemory) }
+        ensures device { self.new.device ≡ self.old.device }
+        ensures sectors { self.new.sectors ≡ self.old.sectors }
+    {
+        match line {
+            Line::Blank => {}
+            Line::PassedOver(arrival) => {
+                self.instant = arrival;
+                self.trace.passed_over += 1;
+            }
+            Line::Asked(request) => {
+                self.trace.requests.push(request)?;
+                self.instant = request.arrival;
+            }
+        }
+        Ok(())
+    }
+
+    // What a line adds.
+    #[tactic(auto, unfolding(crate::specs::Line::line_of))]
+    fn line(&self, text: &[u8]) -> Result<Line, TraceReason>
+        ensures value { result ≡ line_of self.now.device self.now.sectors self.now.instant (length self.now.trace.requests.items + 1) (fields_of text.now) }
+        ensures next { IfOk result (MayFollow self.now.sectors (progress self.now)) }
+    {
+        if next_field(text).is_none() {
+            return Ok(Line::Blank);
+        }
+        self.added_by(read_entry(text)?)
+    }
+
+    // What an entry adds.
+    #[tactic(auto, unfolding(crate::specs::Line::added_by))]
+    fn added_by(&self, entry: Entry) -> Result<Line, TraceReason>
+        requires arrival { entry.arrival ≤ 10 ^ 15 }
+        requires first { entry.first ≤ 10 ^ 15 }
+        ensures value { result ≡ added_by self.now.device self.now.sectors self.now.instant (length self.now.trace.requests.items + 1) entry }
+        ensures next { IfOk result (MayFollow self.now.sectors (progress self.now)) }
+    {
+        if entry.arrival < self.instant {
+            return Err(TraceReason::OutOfOrder);
+        }
+        self.of_device(entry)
+    }
+
+    // A request of the device, or one that is passed over.
+    #[tactic(auto, unfolding(crate::specs::Line::of_device))]
+    fn of_device(&self, entry: Entry) -> Result<Line, TraceReason>
+        requires later { self.now.instant ≤ entry.arrival }
+        requires arrival { entry.arrival ≤ 10 ^ 15 }
+        requires first { entry.first ≤ 10 ^ 15 }
+        ensures value { result ≡ of_device self.now.device self.now.sectors (length self.now.trace.requests.items + 1) entry }
+        ensures next { IfOk result (MayFollow self.now.sectors (progress self.now)) }
+    {
+        if entry.device == self.device {
+            Ok(Line::Asked(self.request_of(entry)?))
+        } else {
+            Ok(Line::PassedOver(entry.arrival))
+        }
+    }
+
+    // The request that an entry asks for.
+    #[tactic(auto, unfolding(crate::specs::Line::request_of))]
+    fn request_of(&self, entry: Entry) -> Result<Request, TraceReason>
+        requires later { self.now.instant ≤ entry.arrival }
+        requires arrival { entry.arrival ≤ 10 ^ 15 }
+        requires first { entry.first ≤ 10 ^ 15 }
+        ensures value { result ≡ request_of self.now.sectors (length self.now.trace.requests.items + 1) entry }
+        ensures next { IfOk result (IsNext self.now.sectors (progress self.now)) }
+    {
+        if entry.size == 0 {
+            return Err(TraceReason::Empty);
+        }
+        if entry.size > MOST_SECTORS {
+            return Err(TraceReason::TooLarge);
+        }
+        if entry.first + entry.size > self.sectors {
+            return Err(TraceReason::BeyondDisk);
+        }
+        let number = self.trace.requests.len() as u64 + 1;
+        if number > MOST_REQUESTS {
+            return Err(TraceReason::TooMany);
+        }
+        Ok(Request {
+            name: Name::Traced(number),
+            arrival: entry.arrival,
+            lbn: entry.first,
+            count: entry.size as u32,
+            write: entry.flags % 2 == 0,
+        })
+    }
+}
+
+#[cfg(test)]
+mod tests {
+    use super::*;
+    use std::test::Fail;
+
+    #[test]
+    fn names_the_first_fault(rt: HostRuntime) {
+        let cases: [(&[u8], u64, TraceReason); 7] = [
+            (b"0 0 5", 1, TraceReason::TooFewFields),
+            (b"1e3 0 5 1 1", 1, TraceReason::BadTime),
+            (b"0 0 5 1 0xg", 1, TraceReason::BadNumber(5)),
+            (b"1 0 5 1 1\n0.5 0 5 1 1\n", 2, TraceReason::OutOfOrder),
+            (b"0 0 5 0 1", 1, TraceReason::Empty),
+            (b"0 0 0 2049 1", 1, TraceReason::TooLarge),
+            (b"0 0 96 1 1", 1, TraceReason::BeyondDisk),
+        ];
+        for (text, line, reason) in cases {
+            let fault = TraceFault { line, reason };
+            let answer = read_trace(rt.alloc(), text, 0, 96);
+            assert_eq!(rt; answer.err(), Some(TraceError::Fault(fault)));
+        }
+    }
+
+    #[test]
+    fn takes_in_one_device(rt: HostRuntime) -> Result<(), Fail> {
+        let trace = read_trace(rt.alloc(), b"0 1 96 0 1\r\n\n0.000501 0 5 1 0X1\t7", 0, 96)?;
+        let request = Request {
+            name: Name::Traced(1),
+            arrival: 501,
+            lbn: 5,
+            count: 1,
+            write: false,
+        };
+        assert_eq!(rt; trace.requests.as_slice(), [request].as_slice());
+        assert_eq!(rt; trace.passed_over, 1);
+        Ok(())
+    }
+}

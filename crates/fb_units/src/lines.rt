@@ -1,0 +1,96 @@
+// Texts of lines, and lines of fields.
+ghost use Rattle.std.specs.Prelude.{◌≡◌, ◌<◌, ◌≤◌, [], ◌∷◌, ◌==◌, length, drop, IfSome, MatchOption, slice_index};
+ghost use Rattle.std.specs.List.{before_first, after_first, position_or_len, prefix_len};
+ghost use Rattle.std.specs.Str.Lines.{strip_carriage_return};
+ghost use Rattle.fb_units.specs.Lines.{is_blank, lines_of, fields_of};
+
+/// The first line of a text, without a carriage return at its end, and the text after it. None
+/// where the text is at its end.
+pub fn next_line(text: &[u8]) -> Option<(&[u8], &[u8])>
+    ensures line { MatchOption result (lines_of text.now ≡ []) (λ found. lines_of text.now ≡ found.0.now ∷ lines_of found.1.now) }
+    ensures shorter { IfSome result (λ found. length found.1.now < length text.now) }
+{
+    if text.is_empty() {
+        return None;
+    }
+    let (line, rest) = around_first(text, b'\n');
+    Some((without_return(line), rest))
+}
+
+/// The first field of a line, and the line after it. None where no field is left.
+pub fn next_field(line: &[u8]) -> Option<(&[u8], &[u8])>
+    ensures field { MatchOption result (fields_of line.now ≡ []) (λ found. fields_of line.now ≡ found.0.now ∷ fields_of found.1.now) }
+{
+    let text = behind_blanks(line);
+    if text.is_empty() {
+        return None;
+    }
+    Some(text.split_at(first_blank(text)))
+}
+
+// What stands before the first byte like this, and what stands after it.
+pub fn around_first(text: &[u8], stop: u8) -> (&[u8], &[u8])
+    ensures front { result.0.now ≡ before_first (λ c. c == stop) text.now }
+    ensures back { result.1.now ≡ after_first (λ c. c == stop) text.now }
+{
+    let place = place_of(text, stop);
+    if place < text.len() {
+        (&text[..place], &text[place + 1..])
+    } else {
+        (text, &text[place..])
+    }
+}
+
+// The place of the first byte like this, or the length where there is none.
+fn place_of(text: &[u8], stop: u8) -> usize
+    ensures place { result ≡ position_or_len (λ c. c == stop) text.now }
+    ensures within { result ≤ length text.now }
+{
+    for (place, byte) in text.iter().enumerate() {
+        if *byte == stop {
+            return place;
+        }
+    }
+    text.len()
+}
+
+// A line without the carriage return at its end, where it has one.
+fn without_return(line: &[u8]) -> &[u8]
+    ensures { result.now ≡ strip_carriage_return line.now }
+{
+    match line {
+        [front @ .., b'\r'] => front,
+        _ => line,
+    }
+}
+
+fn is_blank(byte: u8) -> bool
+    ensures { result ≡ is_blank byte }
+{
+    byte == b' ' || byte == b'\t'
+}
+
+// A line without the spaces and tabs at its front.
+fn behind_blanks(line: &[u8]) -> &[u8]
+    ensures { result.now ≡ drop (prefix_len is_blank line.now) line.now }
+{
+    for (place, byte) in line.iter().enumerate() {
+        if !is_blank(*byte) {
+            return &line[place..];
+        }
+    }
+    &line[line.len()..]
+}
+
+// The place of the first space or tab, or the length where there is none.
+fn first_blank(text: &[u8]) -> usize
+    ensures place { result ≡ position_or_len is_blank text.now }
+    ensures within { result ≤ length text.now }
+{
+    for (place, byte) in text.iter().enumerate() {
+        if is_blank(*byte) {
+            return place;
+        }
+    }
+    text.len()
+}
