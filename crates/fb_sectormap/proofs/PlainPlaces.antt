@@ -16,7 +16,8 @@ use Rattle.fb_geometry.specs.Places.{places, zone_places, data_list, good_track,
 use Rattle.fb_geometry.specs.declared.layout.Layout.TheVariants.{PerTrack}
 use Rattle.fb_geometry.proofs.Grid.{get_part, get_range, length-parts}
 use Rattle.fb_sectormap.specs.Plain.{plain_zone, IsPlain}
-use Rattle.fb_sectormap.specs.Lookup.{IsAt}
+use Rattle.fb_sectormap.specs.Lookup.{IsAt, place_at}
+use Rattle.std.proofs.lemmas.Option.{get_or_from_slice_get}
 
 abbrev pub plain_disk : ℕ → ℕ → ℕ → ℕ → Shape
 plain_disk rotation heads last n = record { layout = PerTrack; rotation = rotation; heads = heads; zones = plain_zone last n ∷ []; defects = []; grown = [] }
@@ -141,3 +142,7 @@ on_cylinder cylinders heads sectors c k s i e h = elim (cases_lt c cylinders) [
 
 pub is_near : (cylinders heads sectors i : ℕ) → cylinders ≤ 10 ^ 6 → i < cylinders * (heads * sectors) → i < 10 ^ 6 * (heads * sectors)
 is_near cylinders heads sectors i h l = omega (arith, mul-le cylinders (heads * sectors) (10 ^ 6) (heads * sectors) h (omega arith))
+
+pub place_is : (disk : Shape) (lbn : ℕ) (place : Place) → IsAt disk lbn place → place_at disk lbn ≡ place
+unfolding place_at
+place_is disk lbn place h = get_or_from_slice_get (places disk) lbn place _ h

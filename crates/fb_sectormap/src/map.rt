@@ -3,7 +3,7 @@ ghost use Rattle.std.specs.Prelude.{◌≡◌, ℕ, ◌<◌, ◌≤◌, ◌^◌,
 ghost use Rattle.fb_geometry.specs.Shape.{slots_at, cylinders_of, IsTrackOf};
 ghost use Rattle.fb_geometry.specs.Places.{places};
 ghost use Rattle.fb_sectormap.specs.Plain.{IsPlain};
-ghost use Rattle.fb_sectormap.specs.Lookup.{IsAt};
+ghost use Rattle.fb_sectormap.specs.Lookup.{IsAt, place_at};
 
 use crate::arithmetic::place_of;
 use fb_geometry::Geometry;
@@ -61,6 +61,7 @@ impl SectorMap {
     pub fn place(&self, lbn: u64) -> Place
         requires { lbn < length (places self.now) }
         ensures at { IsAt self.now lbn result }
+        ensures value { result ≡ place_at self.now lbn }
         ensures track { IsTrackOf self.now result.track }
         ensures slot { result.slot < slots_at self.now.zones result.track.cylinder }
     {

@@ -1,0 +1,73 @@
+// The keys of the policies.
+ghost use Rattle.std.specs.Prelude.{◌≡◌, [], ◌≤◌, ◌^◌, ◌*◌};
+ghost use Rattle.fb_geometry.specs.Shape.{IsTrackOf};
+ghost use Rattle.fb_model.specs.Accepted.{IsRequestOf};
+ghost use Rattle.fb_model.specs.PlainReplay.{Key, sstf, clook, sptf};
+
+use crate::Keyed;
+use fb_service::{Disk, first_pass};
+use fb_units::{Ns, Request, Track};
+
+/// What decides which request is served next.
+pub trait Policy: Drop {
+    /// The key, of which the least is taken.
+    ghost key: { Key };
+
+    /// The key of a request when the head is on a track at a moment.
+    fn key_of(&self, disk: &Disk, head: Track, now: Ns, request: &Request) -> u64
+        requires request { IsRequestOf disk.now.map request.now }
+        requires head { IsTrackOf disk.now.map head }
+        requires now { now ≤ 9 * 10 ^ 18 }
+        ensures { result ≡ key disk.now head now request.now };
+}
+
+/// The nearest cylinder first.
+#[derive(Clone, Copy, Debug, Default, PartialEq, Eq)]
+pub struct Nearest;
+
+/// The next cylinder upwards first, and from the last one on the first.
+#[derive(Clone, Copy, Debug, Default, PartialEq, Eq)]
+pub struct Upwards;
+
+/// The soonest first passage first, as Worthington, Ganger and Patt study it (SIGMETRICS 1994).
+#[derive(Clone, Copy, Debug, Default, PartialEq, Eq)]
+pub struct Soonest;
+
+/// Shortest seek time first.
+pub type Sstf = Keyed<Nearest>;
+
+/// The circular elevator.
+pub type Clook = Keyed<Upwards>;
+
+/// Shortest positioning time first.
+pub type Sptf = Keyed<Soonest>;
+
+impl Policy for Nearest {
+    ghost key = { sstf };
+
+    fn key_of(&self, disk: &Disk, head: Track, _now: Ns, request: &Request) -> u64 {
+        disk.map
+            .place(request.lbn)
+            .track
+            .cylinder
+            .abs_diff(head.cylinder) as u64
+    }
+}
+
+impl Policy for Upwards {
+    ghost key = { clook };
+
+    fn key_of(&self, disk: &Disk, head: Track, _now: Ns, request: &Request) -> u64 {
+        let cylinders = disk.map.geometry().cylinders() as u64;
+        let cylinder = disk.map.place(request.lbn).track.cylinder as u64;
+        (cylinder + cylinders - head.cylinder as u64) % cylinders
+    }
+}
+
+impl Policy for Soonest {
+    ghost key = { sptf };
+
+    fn key_of(&self, disk: &Disk, head: Track, now: Ns, request: &Request) -> u64 {
+        first_pass(disk, head, now, request.lbn, request.write) - now
+    }
+}
