@@ -1,0 +1,81 @@
+-- Entries, and readings of them.
+use Rattle.std.proofs.Common.{◌≡◌, ◌≢◌, ℕ, ◌+◌, ◌<◌, ◌≤◌, List, [], ◌∷◌, ◌++◌, length, get_or, take, drop, refl, sym, ap, ◌∙◌, inl, inr, arith, Option, Some, None}
+use Rattle.std.specs.Prelude.{if◌then◌else◌, slice_get, option_and_then, IfSome, reverse, true, false, is_some, zero, suc}
+use Rattle.std.specs.Option.{option_map}
+use Rattle.std.specs.Str.{bytes_eq}
+use Rattle.std.specs.List.{find}
+use Rattle.std.proofs.lemmas.Bool.{cases_Bool}
+use Rattle.std.proofs.lemmas.List.{take_more, reverse-append, drop-drop, length-drop}
+use Rattle.std.proofs.lemmas.Option.{slice_get_read}
+use Rattle.std.proofs.lemmas.Slice.Eq.{bytes_eq-Decides}
+use Rattle.fb_desk.specs.NamedBytes.{NamedBytes}
+use Rattle.fb_desk.specs.Held.{held_under, bytes_at, left_of, IsWithin}
+use Rattle.fb_desk.specs.declared.reading.Reading.TheVariants.{Unopened, Empty, At}
+use Rattle.fb_desk.specs.declared.reading.Reading.{Reading}
+
+-- what is held with one entry more
+pub held_under-push : (entries : List NamedBytes) (e : NamedBytes) (name : List ℕ)
+    → held_under (entries ++ e ∷ []) name ≡ (if bytes_eq e.name name then Some e.bytes else held_under entries name)
+held_under-push entries e name =
+    ap (λ es. option_map (λ entry. entry.bytes) (find (λ entry. bytes_eq entry.name name) es)) (reverse-append entries (e ∷ []))
+    ∙ elim (cases_Bool (bytes_eq e.name name)) [ inl same ↦ rw same refl | inr other ↦ rw other refl ]
+
+-- the bytes of the last entry are held under its name
+pub held_under-here : (entries : List NamedBytes) (name bytes : List ℕ) → held_under (entries ++ record { name = name; bytes = bytes } ∷ []) name ≡ Some bytes
+held_under-here entries name bytes = held_under-push entries (record { name = name; bytes = bytes }) name ∙ rw ((bytes_eq-Decides name name).1 refl) refl
+
+-- under another name is held what was held before it
+pub held_under-elsewhere : (entries : List NamedBytes) (name bytes other : List ℕ) → other ≢ name → held_under (entries ++ record { name = name; bytes = bytes } ∷ []) other ≡ held_under entries other
+held_under-elsewhere entries name bytes other ne =
+    held_under-push entries (record { name = name; bytes = bytes }) other
+    ∙ elim (cases_Bool (bytes_eq name other)) [
+      | inl same ↦ absurd (ne (sym ((bytes_eq-Decides name other).0 same)))
+      | inr differ ↦ rw differ refl
+    ]
+
+-- what the first entries hold, with one of them more
+pub held_under-more : (entries : List NamedBytes) (name : List ℕ) (i : ℕ) (e : NamedBytes) → i < length entries → e ≡ get_or entries i e
+    → held_under (take (i + 1) entries) name ≡ (if bytes_eq e.name name then Some e.bytes else held_under (take i entries) name)
+held_under-more entries name i e within is =
+    ap (λ es. held_under es name) (take_more entries i e within ∙ ap (λ x. take i entries ++ x ∷ []) (sym is)) ∙ held_under-push (take i entries) e name
+
+-- the entry that was read at a place has the bytes there
+pub bytes_at-read : (entries : List NamedBytes) (place : ℕ) (e : NamedBytes) → place < length entries → e ≡ get_or entries place e → bytes_at entries place ≡ Some e.bytes
+bytes_at-read entries place e within is = ap (option_map (λ entry. entry.bytes)) (slice_get_read entries (length entries) place e refl within is)
+
+-- the last entry of the name is here
+pub last_here : (entries : List NamedBytes) (name : List ℕ) (place : ℕ) (e : NamedBytes) → place < length entries → e ≡ get_or entries place e → bytes_eq e.name name ≡ true
+    → bytes_at entries place ≡ held_under (take (place + 1) entries) name
+last_here entries name place e within is same = bytes_at-read entries place e within is ∙ sym (held_under-more entries name place e within is ∙ rw same refl)
+
+-- the last entry of the name was before
+pub last_before : (entries : List NamedBytes) (name : List ℕ) (place : ℕ) (e : NamedBytes) (found : Option ℕ) → place < length entries → e ≡ get_or entries place e → bytes_eq e.name name ≡ false
+    → option_and_then (bytes_at entries) found ≡ held_under (take place entries) name → option_and_then (bytes_at entries) found ≡ held_under (take (place + 1) entries) name
+last_before entries name place e found within is other so_far = so_far ∙ sym (held_under-more entries name place e within is ∙ rw other refl)
+
+-- an entry stands at each place among them
+pub is_some-bytes_at : (entries : List NamedBytes) (place : ℕ) → place < length entries → is_some (bytes_at entries place) ≡ true
+is_some-bytes_at [] place within = absurd (omega arith)
+is_some-bytes_at (e ∷ entries) zero within = refl
+is_some-bytes_at (e ∷ entries) (suc place) within = is_some-bytes_at entries place (omega arith)
+
+-- no bytes are read of it at first
+IfSome-zero : (bytes : Option (List ℕ)) → IfSome bytes (λ b. 0 ≤ length b)
+IfSome-zero None = tt
+IfSome-zero (Some b) = omega arith
+
+-- a reading may start at each entry
+pub IsWithin-start : (entries : List NamedBytes) (place : ℕ) → place < length entries → IsWithin entries (At place 0)
+IsWithin-start entries place within = (within, IfSome-zero (bytes_at entries place))
+
+-- the bytes of an earlier entry stay at its place
+bytes_at-push : (entries : List NamedBytes) (e : NamedBytes) (place : ℕ) → place < length entries → bytes_at (entries ++ e ∷ []) place ≡ bytes_at entries place
+bytes_at-push [] e place within = absurd (omega arith)
+bytes_at-push (x ∷ entries) e zero within = refl
+bytes_at-push (x ∷ entries) e (suc place) within = bytes_at-push entries e place (omega arith)
+
+-- a reading leaves what it left before an entry more
+pub left_of-push : (entries : List NamedBytes) (e : NamedBytes) (reading : Reading) → IsWithin entries reading → left_of (entries ++ e ∷ []) reading ≡ left_of entries reading
+left_of-push entries e Unopened within = refl
+left_of-push entries e Empty within = refl
+left_of-push entries e (At place done) within = ap (option_map (drop done)) (bytes_at-push entries e place within.0)
