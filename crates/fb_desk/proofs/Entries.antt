@@ -1,17 +1,16 @@
 -- Entries, and readings of them.
 use Rattle.std.proofs.Common.{◌≡◌, ◌≢◌, ℕ, ◌+◌, ◌<◌, ◌≤◌, List, [], ◌∷◌, ◌++◌, length, get_or, take, drop, refl, sym, ap, ◌∙◌, inl, inr, arith, Option, Some, None}
-use Rattle.std.specs.Prelude.{if◌then◌else◌, slice_get, option_and_then, IfSome, reverse, true, false, is_some, zero, suc}
+use Rattle.std.specs.Prelude.{if◌then◌else◌, option_and_then, IfSome, true, false, zero, suc}
 use Rattle.std.specs.Option.{option_map}
 use Rattle.std.specs.Str.{bytes_eq}
 use Rattle.std.specs.List.{find}
 use Rattle.std.proofs.lemmas.Bool.{cases_Bool}
-use Rattle.std.proofs.lemmas.List.{take_more, reverse-append, drop-drop, length-drop}
+use Rattle.std.proofs.lemmas.List.{take_more, reverse-append}
 use Rattle.std.proofs.lemmas.Option.{slice_get_read}
 use Rattle.std.proofs.lemmas.Slice.Eq.{bytes_eq-Decides}
-use Rattle.fb_desk.specs.NamedBytes.{NamedBytes}
-use Rattle.fb_desk.specs.Held.{held_under, bytes_at, left_of, IsWithin}
-use Rattle.fb_desk.specs.declared.reading.Reading.TheVariants.{Unopened, Empty, At}
-use Rattle.fb_desk.specs.declared.reading.Reading.{Reading}
+use Rattle.fb_desk.specs.Holdings.{NamedBytes, held_under, bytes_at, left_of, IsWithin}
+use Rattle.fb_desk.specs.declared.holdings.Reading.{Reading}
+use Rattle.fb_desk.specs.declared.holdings.Reading.TheVariants.{Unopened, Empty, At}
 
 -- what is held with one entry more
 pub held_under-push : (entries : List NamedBytes) (e : NamedBytes) (name : List ℕ)
@@ -52,12 +51,6 @@ last_here entries name place e within is same = bytes_at-read entries place e wi
 pub last_before : (entries : List NamedBytes) (name : List ℕ) (place : ℕ) (e : NamedBytes) (found : Option ℕ) → place < length entries → e ≡ get_or entries place e → bytes_eq e.name name ≡ false
     → option_and_then (bytes_at entries) found ≡ held_under (take place entries) name → option_and_then (bytes_at entries) found ≡ held_under (take (place + 1) entries) name
 last_before entries name place e found within is other so_far = so_far ∙ sym (held_under-more entries name place e within is ∙ rw other refl)
-
--- an entry stands at each place among them
-pub is_some-bytes_at : (entries : List NamedBytes) (place : ℕ) → place < length entries → is_some (bytes_at entries place) ≡ true
-is_some-bytes_at [] place within = absurd (omega arith)
-is_some-bytes_at (e ∷ entries) zero within = refl
-is_some-bytes_at (e ∷ entries) (suc place) within = is_some-bytes_at entries place (omega arith)
 
 -- no bytes are read of it at first
 IfSome-zero : (bytes : Option (List ℕ)) → IfSome bytes (λ b. 0 ≤ length b)

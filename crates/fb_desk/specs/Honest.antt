@@ -3,9 +3,9 @@ use Rattle.std.specs.Prelude.{ℕ, List, [], is_some, unwrap_or, Option, Some}
 use Rattle.fb_desk.specs.declared.desk.Input.{Input}
 use Rattle.fb_desk.specs.declared.desk.Output.{Output}
 use Rattle.fb_desk.specs.declared.honest.HonestDesk.{HonestDesk}
-use Rattle.fb_desk.specs.NamedBytes.{NamedBytes}
+use Rattle.fb_desk.specs.Holdings.{NamedBytes}
 use Rattle.fb_desk.specs.Each.{of_output}
-use Rattle.fb_desk.specs.Held.{held_under, left_in}
+use Rattle.fb_desk.specs.Holdings.{held_under, left_in}
 use Rattle.fb_desk.specs.Silent.{silent_output}
 use Rattle.fb_desk.specs.View.{InputView, OutputView, DeskView}
 

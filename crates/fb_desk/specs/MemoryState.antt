@@ -4,7 +4,7 @@ use Rattle.fb_desk.specs.declared.desk.Input.{Input}
 use Rattle.fb_desk.specs.declared.desk.Output.{Output}
 use Rattle.fb_desk.specs.View.{InputView, OutputView, DeskView, IsUnused, IsFaultless}
 use Rattle.fb_desk.specs.Calls.{one_more, FaultsInput, FaultsOutput}
-use Rattle.fb_desk.specs.Failing.{FailingNumbers, fails_next}
+use Rattle.fb_desk.specs.FailingCalls.{FailingNumbers, fails_next}
 
 -- the most that one read and one write move, and the room of each output for its bytes and for its name
 pub record MemoryLimits : Type 0 where

@@ -1,5 +1,5 @@
 -- What a desk shows that tells no contents.
-use Rattle.std.specs.Prelude.{ℕ, List, Bool, Option, None}
+use Rattle.std.specs.Prelude.{ℕ, Bool, None}
 use Rattle.fb_desk.specs.declared.desk.Input.{Input}
 use Rattle.fb_desk.specs.declared.desk.Output.{Output}
 use Rattle.fb_desk.specs.View.{InputView, OutputView, DeskView}

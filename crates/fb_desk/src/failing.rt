@@ -1,7 +1,7 @@
 // Calls that are to fail.
 ghost use Rattle.std.specs.Prelude.{◌≡◌, [], ◌∷◌, ◌++◌, OnOk, OnErr};
 ghost use Rattle.fb_desk.specs.Calls.{one_more};
-ghost use Rattle.fb_desk.specs.Failing.{FailingNumbers, fails_next};
+ghost use Rattle.fb_desk.specs.FailingCalls.{FailingNumbers, fails_next};
 
 use fb_units::NoMemory;
 use std::alloc::Global;
@@ -15,7 +15,7 @@ pub struct FailingCalls {
 }
 
 impl Model for FailingCalls {
-    ghost use Rattle.fb_desk.specs.Failing.{FailingNumbers};
+    ghost use Rattle.fb_desk.specs.FailingCalls.{FailingNumbers};
 
     ghost Value = { FailingNumbers };
 
@@ -47,6 +47,7 @@ impl FailingCalls {
         ensures fails { result ≡ fails_next self.old }
         ensures counted { self.new ≡ record self.old { made = one_more self.old.made } }
     {
+        // One that follows the calls made so far.
         let fails = self
             .numbers
             .iter()

@@ -1,13 +1,11 @@
 // Bytes under names, and inputs that are read from them.
 ghost use Rattle.std.specs.Prelude.{◌≡◌, ◌≢◌, ℕ, List, [], length, take, drop, min, ◌<◌, is_some, slice_get, option_and_then, Some, None, IfSome, IfOk, OnOk, OnErr};
 ghost use Rattle.std.specs.Option.{option_map};
-ghost use Rattle.fb_desk.specs.Held.{held_under, bytes_at, left_of, IsWithin};
-ghost use Rattle.fb_desk.specs.NamedBytes.{NamedBytes};
+ghost use Rattle.fb_desk.specs.Holdings.{NamedBytes, held_under, bytes_at, left_of, left_in, IsWithin};
 ghost use Rattle.fb_desk.specs.declared.desk.Input.{Input};
 
 use crate::Input;
 use crate::each::EachInput;
-use crate::reading::Reading;
 use fb_units::NoMemory;
 use std::alloc::Global;
 use std::marker::Model;
@@ -21,7 +19,7 @@ struct Entry {
 
 impl Model for Entry {
     ghost use Rattle.std.specs.String.{string_bytes};
-    ghost use Rattle.fb_desk.specs.NamedBytes.{NamedBytes};
+    ghost use Rattle.fb_desk.specs.Holdings.{NamedBytes};
 
     ghost Value = { NamedBytes };
 
@@ -40,6 +38,17 @@ impl Entry {
     }
 }
 
+/// How far an input was read.
+#[derive(Clone, Copy)]
+pub enum Reading {
+    /// It was not opened.
+    Unopened,
+    /// Nothing was held under its name.
+    Empty,
+    /// So many bytes were read of the entry at a place.
+    At { place: usize, done: usize },
+}
+
 /// Bytes under names, and how far each input was read.
 ///
 /// An entry stays behind a newer one of its name, since an input that was opened on it may still be
@@ -52,7 +61,7 @@ pub struct Holdings {
 }
 
 impl Model for Holdings {
-    ghost use Rattle.fb_desk.specs.Held.{Held, AreWithin};
+    ghost use Rattle.fb_desk.specs.Holdings.{Held, AreWithin};
 
     ghost Value = { Held };
 
@@ -106,8 +115,6 @@ fn read_on(entries: &[Entry], reading: &mut Reading, piece: usize, into: &mut [u
 }
 
 impl Holdings {
-    ghost use Rattle.fb_desk.specs.Held.{held_under, left_in};
-
     /// Nothing is held and nothing is opened.
     pub fn new(alloc: Global) -> Holdings
         ensures entries { result.entries ≡ [] }
@@ -124,7 +131,8 @@ impl Holdings {
         }
     }
 
-    /// Holds the bytes under the name.
+    /// Holds the bytes under the name, in place of what was held there. What is left of an input
+    /// stays.
     pub fn hold(&mut self, name: &str, bytes: &[u8]) -> Result<(), NoMemory>
         ensures here { OnOk result (held_under self.new.entries name.now ≡ Some bytes.now) }
         ensures elsewhere { OnOk result ((other : List ℕ) → other ≢ name.now → held_under self.new.entries other ≡ held_under self.old.entries other) }

@@ -1,6 +1,6 @@
 // An output in memory.
 ghost use Rattle.std.specs.Prelude.{◌≡◌, ◌-◌, ◌<◌, ◌≤◌, [], ◌++◌, length, take, min, nat_le, true, false, IfOk};
-ghost use Rattle.fb_desk.specs.Written.{Written};
+ghost use Rattle.fb_desk.specs.Writing.{Written};
 
 use fb_units::NoMemory;
 use std::alloc::Global;
@@ -21,7 +21,7 @@ impl Model for Writing {
     ghost use Rattle.std.specs.Prelude.{◌≤◌};
     ghost use Rattle.std.specs.String.{string_bytes, string_capacity};
     ghost use Rattle.std.specs.Vec.{vec_capacity};
-    ghost use Rattle.fb_desk.specs.Written.{Written, IsEmptyBefore};
+    ghost use Rattle.fb_desk.specs.Writing.{Written, IsEmptyBefore};
 
     ghost Value = { Written };
 

@@ -1,10 +1,10 @@
 use Rattle.std.proofs.Common.{◌≡◌, ◌<◌, take, length}
 use Rattle.std.specs.Prelude.{option_and_then, IfSome}
-use Rattle.fb_desk.specs.Held.{held_under, bytes_at}
+use Rattle.fb_desk.specs.Holdings.{held_under, bytes_at}
 use Rattle.fb_desk.proofs.holdings.place_of.Given as goal
 
 abbrev pub invariant-loop-place : goal.invariant-loop-place
 invariant-loop-place l = record {
-    value : option_and_then (bytes_at l.entries) l.found ≡ held_under (take l.place l.entries) l.name;
-    within : IfSome l.found (λ place. place < length l.entries);
+  value : option_and_then (bytes_at l.entries) l.found ≡ held_under (take l.place l.entries) l.name;
+  within : IfSome l.found (λ place. place < length l.entries);
 }

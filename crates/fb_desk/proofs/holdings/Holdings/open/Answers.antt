@@ -1,6 +1,6 @@
-use Rattle.fb_desk.specs.declared.reading.Reading.TheVariants.{At}
+use Rattle.fb_desk.specs.declared.holdings.Reading.TheVariants.{At}
 use Rattle.std.proofs.Common.{◌<◌, length, sym, subst}
-use Rattle.fb_desk.specs.Held.{Held, IsWithin}
+use Rattle.fb_desk.specs.Holdings.{Held, IsWithin}
 use Rattle.fb_desk.proofs.Entries.{IsWithin-start}
 use Rattle.fb_desk.proofs.Every.{every-with_input}
 use Rattle.fb_desk.proofs.holdings.Holdings.open.Goals as goal

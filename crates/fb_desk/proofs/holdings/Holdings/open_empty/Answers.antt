@@ -1,5 +1,5 @@
-use Rattle.fb_desk.specs.declared.reading.Reading.TheVariants.{Empty}
-use Rattle.fb_desk.specs.Held.{IsWithin}
+use Rattle.fb_desk.specs.declared.holdings.Reading.TheVariants.{Empty}
+use Rattle.fb_desk.specs.Holdings.{IsWithin}
 use Rattle.fb_desk.proofs.Every.{every-with_input}
 use Rattle.fb_desk.proofs.holdings.Holdings.open_empty.Goals as goal
 

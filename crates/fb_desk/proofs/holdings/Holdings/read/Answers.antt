@@ -1,5 +1,5 @@
 use Rattle.std.proofs.Common.{subst}
-use Rattle.fb_desk.specs.Held.{IsWithin}
+use Rattle.fb_desk.specs.Holdings.{IsWithin}
 use Rattle.fb_desk.proofs.Every.{every-with_input}
 use Rattle.fb_desk.proofs.holdings.Holdings.read.Goals as goal
 

@@ -1,14 +1,18 @@
 -- Bytes that are held under names, and inputs that are read from them.
-use Rattle.std.specs.Prelude.{◌≡◌, ℕ, ◌<◌, ◌≤◌, List, [], length, drop, reverse, Option, Some, None, IfSome, slice_get}
+use Rattle.std.specs.Prelude.{ℕ, ◌<◌, ◌≤◌, List, [], length, drop, reverse, Option, Some, None, IfSome, slice_get}
 use Rattle.std.specs.List.{find}
 use Rattle.std.specs.Option.{option_map}
 use Rattle.std.specs.Str.{bytes_eq}
 use Rattle.fb_desk.specs.declared.desk.Input.{Input}
 use Rattle.fb_desk.specs.declared.each.EachInput.{EachInput}
-use Rattle.fb_desk.specs.declared.reading.Reading.{Reading}
-use Rattle.fb_desk.specs.declared.reading.Reading.TheVariants.{Unopened, Empty, At}
-use Rattle.fb_desk.specs.NamedBytes.{NamedBytes}
+use Rattle.fb_desk.specs.declared.holdings.Reading.{Reading}
+use Rattle.fb_desk.specs.declared.holdings.Reading.TheVariants.{Unopened, Empty, At}
 use Rattle.fb_desk.specs.Each.{of_input}
+
+-- bytes and the name that they are held under
+pub record NamedBytes : Type 0 where
+  pub name : List ℕ
+  pub bytes : List ℕ
 
 -- what is held, in the order of holding, and how far each input was read
 pub record Held : Type 0 where

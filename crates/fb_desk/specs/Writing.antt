@@ -1,5 +1,5 @@
 -- An output in memory.
-use Rattle.std.specs.Prelude.{◌≡◌, ℕ, ◌≤◌, List, [], Bool, false}
+use Rattle.std.specs.Prelude.{◌≡◌, ℕ, List, [], Bool, false}
 
 -- whether an output is begun, under which name, what was written to it, and its room for each of these two
 pub record Written : Type 0 where
