@@ -1,0 +1,66 @@
+-- The searches of the code beside those of the definitions.
+use Rattle.std.proofs.Common.{◌≡◌, ℕ, ◌+◌, ◌<◌, Bool, true, false, cond, not, List, [], ◌∷◌, ◌++◌, length, get_or, drop, map, Option, Some, None, option_map, String, Global, string_bytes, refl, sym, ap, ◌∙◌, inl, inr}
+use Rattle.std.specs.List.{find, filter_map, cons_option, list_any}
+use Rattle.std.specs.Option.{option_or, option_and_then, option_copied}
+use Rattle.std.specs.Map.{keys_of}
+use Rattle.std.proofs.lemmas.Bool.{cases_Bool}
+use Rattle.std.proofs.lemmas.List.{drop_more}
+use Rattle.toml.specs.Data.{Data, Members, as_table, get_member}
+use Rattle.toml.specs.View.{view, members_view}
+use Rattle.toml.specs.declared.value.Value.{Value}
+use Rattle.fb_params.specs.Values.{names_of}
+use Rattle.fb_params.specs.Keys.{Key, key_of}
+use Rattle.fb_params.specs.declared.key.Key.{Key as DeclaredKey}
+use Rattle.fb_params.specs.declared.rule.Rule.{Rule}
+use Rattle.fb_params.specs.declared.rule.Rule.TheVariants.{Known, Present, OfKind, InRange}
+use Rattle.fb_params.specs.Rules.{breaks, is_name_of, first_in, first_some}
+
+pub find-map : {A B : Type 0} (f : A → B) (p : B → Bool) (xs : List A) → find p (map f xs) ≡ option_map f (find (λ x. p (f x)) xs)
+find-map f p [] = refl
+find-map f p (x ∷ xs) = elim (cases_Bool (p (f x))) [
+    | inl hit ↦ rw hit refl
+    | inr miss ↦ rw miss (find-map f p xs) ]
+
+option_map-map : (found : Option DeclaredKey) → option_map (λ key. key.name) (option_map key_of found) ≡ option_map (λ key. key.name.now) found
+option_map-map None = refl
+option_map-map (Some key) = refl
+
+pub list_any-map : {A B : Type 0} (f : A → B) (p : B → Bool) (xs : List A) → list_any p (map f xs) ≡ list_any (λ x. p (f x)) xs
+list_any-map f p [] = refl
+list_any-map f p (x ∷ xs) = rw (list_any-map f p xs) refl
+
+-- the names of a table are the keys of its map
+pub names_of-view : (entries : List (String Global × Value)) → names_of (members_view entries) ≡ map string_bytes (keys_of entries)
+names_of-view [] = refl
+names_of-view (entry ∷ entries) = ap (λ names. string_bytes entry.0 ∷ names) (names_of-view entries)
+
+-- the least unknown name of a table, and of its map
+pub unknown-view : (keys : List Key) (entries : List (String Global × Value)) (found : Option (String Global))
+    → found ≡ find (λ name. not (is_name_of keys (string_bytes name))) (keys_of entries) → option_map string_bytes found ≡ first_in Known keys (members_view entries)
+unknown-view keys entries found is =
+    ap (option_map string_bytes) is
+    ∙ (sym (find-map string_bytes (λ name. not (is_name_of keys name)) (keys_of entries)) ∙ ap (find (λ name. not (is_name_of keys name))) (sym (names_of-view entries)))
+
+broken-first_in : (rule : Rule) (keys : List Key) (table : Members) → (rule ≡ Known → ⊥)
+    → option_map (λ key. key.name) (find (λ key. breaks rule key (get_member key.name table)) keys) ≡ first_in rule keys table
+broken-first_in Known keys table other = absurd (other refl)
+broken-first_in Present keys table other = refl
+broken-first_in OfKind keys table other = refl
+broken-first_in InRange keys table other = refl
+
+-- the first key of the code's table that breaks a rule
+pub broken-key_of : (rule : Rule) (keys : List DeclaredKey) (table : Members) → (rule ≡ Known → ⊥)
+    → option_map (λ key. key.name.now) (find (λ key. breaks rule (key_of key) (get_member key.name.now table)) keys) ≡ first_in rule (map key_of keys) table
+broken-key_of rule keys table other =
+    sym (ap (option_map (λ key. key.name)) (find-map key_of (λ key. breaks rule key (get_member key.name table)) keys) ∙ option_map-map _)
+    ∙ broken-first_in rule (map key_of keys) table other
+
+first_some-cons_option : {A B : Type 0} (f : A → Option B) (o : Option A) (xs : List A) → first_some f (cons_option o xs) ≡ option_or (option_and_then f o) (first_some f xs)
+first_some-cons_option f None xs = refl
+first_some-cons_option f (Some x) xs = refl
+
+-- what the zones from the i-th value on give first
+pub first_some-drop : {B : Type 0} (f : Members → Option B) (values : List Value) (i : ℕ) (d : Value) → i < length values
+    → first_some f (filter_map as_table (map view (drop i values)))
+    ≡ option_or (option_and_then f (as_table (view (get_or values i d)))) (first_some f (filter_map as_table (map view (drop (i + 1) values))))
+first_some-drop f values i d inside = rw (drop_more values i d inside) (first_some-cons_option f (as_table (view (get_or values i d))) _)

@@ -1,0 +1,9 @@
+use Rattle.std.proofs.Common.{sym, map, ap, ◌∙◌}
+use Rattle.toml.specs.View.{view, array_view}
+use Rattle.fb_params.proofs.Views.{listed-items_of, elements-array}
+use Rattle.fb_params.proofs.values.elements.Goals as goal
+
+pub returns-in-Some : goal.returns-in-Some
+returns-in-Some c =
+    let items = c.in-Some.items.now in
+    ap (map view) c.as_slice.ensures.value ∙ (sym (listed-items_of (map view items.items)) ∙ elements-array (view c.args.value.now) (array_view items) c.in-Some.ensures)

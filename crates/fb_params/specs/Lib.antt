@@ -1,0 +1,4 @@
+pub mod Keys
+pub mod Values
+pub mod Names
+pub mod Rules

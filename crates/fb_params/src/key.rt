@@ -1,0 +1,133 @@
+// The keys of a parameter file and of its zones.
+ghost use Rattle.std.specs.Prelude.{◌≡◌, map};
+ghost use Rattle.fb_params.specs.Keys.{key_of, front_keys, back_keys, zone_keys};
+
+use fb_geometry::Layout;
+
+// What the value at a key has to be.
+#[derive(Clone, Copy)]
+pub enum Kind {
+    // An integer.
+    Number,
+    // An array of integers.
+    Numbers,
+    // An array of arrays of so many integers.
+    Rows(usize),
+    // An array of tables.
+    Tables,
+}
+
+// The numbers from `low` to `high` that are a multiple of `multiple`.
+#[derive(Clone, Copy)]
+pub struct Range {
+    pub low: u64,
+    pub high: u64,
+    pub multiple: u64,
+}
+
+// A key: its name, what its value has to be, the range of each number in it, and whether it has
+// to be there.
+#[derive(Clone, Copy)]
+pub struct Key {
+    pub name: &'static str,
+    pub kind: Kind,
+    pub range: Range,
+    pub required: bool,
+}
+
+macro_rules! must {
+    ($name:literal, $kind:expr, $low:literal, $high:literal, $multiple:literal) => {
+        Key {
+            name: $name,
+            kind: $kind,
+            range: Range {
+                low: $low,
+                high: $high,
+                multiple: $multiple,
+            },
+            required: true,
+        }
+    };
+}
+
+macro_rules! may {
+    ($name:literal, $kind:expr, $low:literal, $high:literal) => {
+        Key {
+            name: $name,
+            kind: $kind,
+            range: Range {
+                low: $low,
+                high: $high,
+                multiple: 1,
+            },
+            required: false,
+        }
+    };
+}
+
+static FRONT: [Key; 8] = [
+    must!("version", Kind::Number, 1, 2, 1),
+    must!("rotation_ns", Kind::Number, 1, 1_000_000_000, 1),
+    must!("sector_bytes", Kind::Number, 16, 4096, 16),
+    must!("heads", Kind::Number, 1, 64, 1),
+    must!("head_switch_ns", Kind::Number, 0, 1_000_000_000, 1),
+    must!("write_settle_ns", Kind::Number, 0, 1_000_000_000, 1),
+    must!("seek", Kind::Rows(2), 0, 1_000_000_000, 1),
+    must!("zone", Kind::Tables, 0, 0, 1),
+];
+
+static BACK: [Key; 2] = [
+    may!("defects", Kind::Rows(3), 0, 999_999),
+    may!("latent", Kind::Numbers, 0, 1_000_000_000_000),
+];
+
+static BACK_WITH_GROWN: [Key; 3] = [
+    may!("defects", Kind::Rows(3), 0, 999_999),
+    may!("grown", Kind::Rows(3), 0, 999_999),
+    may!("latent", Kind::Numbers, 0, 1_000_000_000_000),
+];
+
+static ZONE: [Key; 6] = [
+    must!("first", Kind::Number, 0, 999_999, 1),
+    must!("last", Kind::Number, 0, 999_999, 1),
+    must!("sectors", Kind::Number, 1, 10_000, 1),
+    may!("track_skew", Kind::Number, 0, 10_000),
+    may!("cylinder_skew", Kind::Number, 0, 10_000),
+    may!("spares", Kind::Number, 0, 10_000),
+];
+
+static ZONE_PER_CYLINDER: [Key; 6] = [
+    must!("first", Kind::Number, 0, 999_999, 1),
+    must!("last", Kind::Number, 0, 999_999, 1),
+    must!("sectors", Kind::Number, 1, 10_000, 1),
+    may!("track_skew", Kind::Number, 0, 10_000),
+    may!("cylinder_skew", Kind::Number, 0, 10_000),
+    may!("cylinder_spares", Kind::Number, 0, 640_000),
+];
+
+// The keys of the file up to `zone`.
+pub fn front_keys() -> &'static [Key]
+    ensures { map key_of result.now ≡ front_keys }
+{
+    &FRONT
+}
+
+// The keys of the file behind `zone`.
+pub fn back_keys(layout: Layout) -> &'static [Key]
+    ensures { map key_of result.now ≡ back_keys layout }
+{
+    match layout {
+        Layout::PerTrack => &BACK,
+        Layout::PerCylinder => &BACK_WITH_GROWN,
+    }
+}
+
+// The keys of a zone.
+pub fn zone_keys(layout: Layout) -> &'static [Key]
+    ensures { map key_of result.now ≡ zone_keys layout }
+{
+    match layout {
+        Layout::PerTrack => &ZONE,
+        Layout::PerCylinder => &ZONE_PER_CYLINDER,
+    }
+}

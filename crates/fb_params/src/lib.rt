@@ -1,0 +1,7 @@
+//! The parameter file.
+#![tactic(auto)]
+
+mod key;
+mod rule;
+mod search;
+mod values;

@@ -1,0 +1,66 @@
+// What stands at a key of a table.
+ghost use Rattle.std.specs.Prelude.{◌≡◌, map, option_map, codes, length};
+ghost use Rattle.toml.specs.Data.{get_member};
+ghost use Rattle.toml.specs.View.{view, table_view};
+ghost use Rattle.fb_params.specs.Values.{elements, elements_at, number_of, number_at, layout_of};
+
+use fb_geometry::Layout;
+use toml::{Table, Value};
+
+// The value at a key.
+pub fn member<'a>(table: &'a Table, name: &str) -> Option<&'a Value>
+    ensures { option_map (λ v. view v.now) result ≡ get_member name.now (table_view table.now) }
+{
+    table.get(name)
+}
+
+// The elements of an array, or none.
+pub fn elements(value: &Value) -> &[Value]
+    ensures { map view result.now ≡ elements (view value.now) }
+{
+    match value.as_array() {
+        Some(items) => items.as_slice(),
+        None => &[],
+    }
+}
+
+// The elements of the array at a key, or none.
+pub fn elements_at<'a>(table: &'a Table, name: &str) -> &'a [Value]
+    ensures { map view result.now ≡ elements_at name.now (table_view table.now) }
+{
+    match member(table, name) {
+        Some(value) => elements(value),
+        None => &[],
+    }
+}
+
+// The number that a value is, or 0.
+pub fn number(value: &Value) -> u64
+    ensures { result ≡ number_of (view value.now) }
+{
+    match value.as_integer() {
+        Some(z) => u64::try_from(z).unwrap_or(0),
+        None => 0,
+    }
+}
+
+// The number at a key, or 0.
+pub fn number_at(table: &Table, name: &str) -> u64
+    ensures { result ≡ number_at name.now (table_view table.now) }
+{
+    match member(table, name) {
+        Some(value) => number(value),
+        None => 0,
+    }
+}
+
+// Where the file's spares stand.
+pub fn layout_of(table: &Table) -> Layout
+    ensures { result ≡ layout_of (table_view table.now) }
+{
+    if number_at(table, "version") == 2 {
+        Layout::PerCylinder
+    } else {
+        Layout::PerTrack
+    }
+}
