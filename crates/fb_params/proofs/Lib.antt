@@ -1,2 +1,7 @@
 pub mod Views
 pub mod Searches
+pub mod Documents
+pub mod Kept
+pub mod Numbers
+pub mod Fields
+pub mod Fitting

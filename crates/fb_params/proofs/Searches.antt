@@ -1,7 +1,7 @@
 -- The searches of the code beside those of the definitions.
-use Rattle.std.proofs.Common.{◌≡◌, ℕ, ◌+◌, ◌<◌, Bool, true, false, cond, not, List, [], ◌∷◌, ◌++◌, length, get_or, drop, map, Option, Some, None, option_map, String, Global, string_bytes, refl, sym, ap, ◌∙◌, inl, inr}
+use Rattle.std.proofs.Common.{◌≡◌, ℕ, ◌+◌, ◌<◌, Bool, true, false, cond, not, List, [], ◌∷◌, ◌++◌, length, get_or, drop, map, Option, Some, None, option_map, String, Global, string_bytes, refl, sym, ap, append_assoc, ◌∙◌, inl, inr}
 use Rattle.std.specs.List.{find, filter_map, cons_option, list_any}
-use Rattle.std.specs.Option.{option_or, option_and_then, option_copied}
+use Rattle.std.specs.Option.{option_or, option_and_then, option_copied, option_to_list}
 use Rattle.std.specs.Map.{keys_of}
 use Rattle.std.proofs.lemmas.Bool.{cases_Bool}
 use Rattle.std.proofs.lemmas.List.{drop_more}
@@ -9,6 +9,7 @@ use Rattle.toml.specs.Data.{Data, Members, as_table, get_member}
 use Rattle.toml.specs.View.{view, members_view}
 use Rattle.toml.specs.declared.value.Value.{Value}
 use Rattle.fb_params.specs.Values.{names_of}
+use Rattle.fb_params.proofs.Kept.{none-option_or}
 use Rattle.fb_params.specs.Keys.{Key, key_of}
 use Rattle.fb_params.specs.declared.key.Key.{Key as DeclaredKey}
 use Rattle.fb_params.specs.declared.rule.Rule.{Rule}
@@ -64,3 +65,30 @@ pub first_some-drop : {B : Type 0} (f : Members → Option B) (values : List Val
     → first_some f (filter_map as_table (map view (drop i values)))
     ≡ option_or (option_and_then f (as_table (view (get_or values i d)))) (first_some f (filter_map as_table (map view (drop (i + 1) values))))
 first_some-drop f values i d inside = rw (drop_more values i d inside) (first_some-cons_option f (as_table (view (get_or values i d))) _)
+
+-- what a search of the zones that found nothing says of the i-th value and of those behind it
+pub first_some-none : {B : Type 0} (f : Members → Option B) (values : List Value) (i : ℕ) (value : Value) → i < length values → value ≡ get_or values i value
+    → first_some f (filter_map as_table (map view (drop i values))) ≡ None
+    → (option_and_then f (as_table (view value)) ≡ None) × (first_some f (filter_map as_table (map view (drop (i + 1) values))) ≡ None)
+first_some-none f values i value inside is none =
+    let parts = none-option_or _ _ (sym (first_some-drop f values i value inside) ∙ none) in
+    (ap (λ v. option_and_then f (as_table (view v))) is ∙ parts.0, parts.1)
+
+map-cons_option : {A B : Type 0} (f : A → B) (o : Option A) (xs : List A) → map f (cons_option o xs) ≡ option_to_list (option_map f o) ++ map f xs
+map-cons_option f None xs = refl
+map-cons_option f (Some x) xs = refl
+
+zones-drop : {B : Type 0} (f : Members → B) (values : List Value) (i : ℕ) (d : Value) → i < length values
+    → map f (filter_map as_table (map view (drop i values)))
+    ≡ option_to_list (option_map f (as_table (view (get_or values i d)))) ++ map f (filter_map as_table (map view (drop (i + 1) values)))
+zones-drop f values i d inside = rw (drop_more values i d inside) (map-cons_option f (as_table (view (get_or values i d))) _)
+
+-- the zones so far, and then those from the i-th value on
+pub zones-more : {B : Type 0} (f : Members → B) (whole done : List B) (values : List Value) (i : ℕ) (value : Value) → i < length values → value ≡ get_or values i value
+    → whole ≡ done ++ map f (filter_map as_table (map view (drop i values)))
+    → whole ≡ (done ++ option_to_list (option_map f (as_table (view value)))) ++ map f (filter_map as_table (map view (drop (i + 1) values)))
+zones-more f whole done values i value inside is so_far =
+    so_far
+    ∙ (ap (λ rest. done ++ rest) (zones-drop f values i value inside)
+    ∙ (sym (append_assoc done (option_to_list (option_map f (as_table (view (get_or values i value))))) _)
+    ∙ ap (λ v. (done ++ option_to_list (option_map f (as_table (view v)))) ++ map f (filter_map as_table (map view (drop (i + 1) values)))) (sym is)))

@@ -2,3 +2,5 @@ pub mod Keys
 pub mod Values
 pub mod Names
 pub mod Rules
+pub mod Contents
+pub mod Reading

@@ -1,7 +1,7 @@
 -- How faults name a key.
 use Rattle.std.specs.Prelude.{ℕ, List, ◌++◌, codes}
-use Rattle.fb_params.specs.declared.search.KeyName.{KeyName}
-use Rattle.fb_params.specs.declared.search.KeyName.TheVariants.{Plain, InZone}
+use Rattle.fb_params.specs.declared.name.KeyName.{KeyName}
+use Rattle.fb_params.specs.declared.name.KeyName.TheVariants.{Plain, InZone}
 
 -- a zone's key has `zone.` before it
 abbrev pub in_zone : List ℕ → List ℕ

@@ -1,7 +1,18 @@
 //! The parameter file.
 #![tactic(auto)]
 
+mod fault;
 mod key;
+mod latent;
+mod name;
+mod outline;
+mod parameters;
+mod read;
 mod rule;
 mod search;
+mod seek;
 mod values;
+
+pub use fault::{ParamsError, ParamsFault};
+pub use parameters::Parameters;
+pub use read::read_params;

@@ -11,19 +11,11 @@ ghost use Rattle.fb_params.specs.Values.{zones_of};
 ghost use Rattle.fb_params.specs.Rules.{breaks, is_name_of, first_in, first_some, first_in_zones, first_key};
 
 use crate::key::{Key, back_keys, front_keys, zone_keys};
+use crate::name::KeyName;
 use crate::rule::{Rule, breaks};
 use crate::values::{elements_at, member};
 use fb_geometry::Layout;
 use toml::{Table, Value};
-
-// A key as faults name it.
-#[derive(Clone, Copy)]
-pub enum KeyName<'a> {
-    // A key of the file.
-    Plain(&'a str),
-    // A key of one of its zones.
-    InZone(&'a str),
-}
 
 // The first key of the file that breaks the rule. Unknown and missing keys of the file come before
 // those of its zones. Else the zones come where `zone` stands.

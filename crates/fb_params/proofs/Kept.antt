@@ -1,0 +1,68 @@
+-- What follows from searches that found nothing.
+use Rattle.std.proofs.Common.{◌≡◌, ℕ, zero, suc, Bool, true, false, List, [], ◌∷◌, ◌++◌, length, get_or, drop, map, Option, Some, None, option_map, Result, Ok, Err, slice_get, refl, sym, ap, subst, ◌∙◌, inl, inr}
+use Rattle.std.specs.List.{find}
+use Rattle.std.specs.Option.{option_or}
+use Rattle.std.proofs.lemmas.Bool.{cases_Bool}
+use Rattle.std.proofs.lemmas.Option.{same_Some}
+use Rattle.toml.specs.Data.{Members, get_member}
+use Rattle.fb_geometry.specs.declared.layout.Layout.{Layout}
+use Rattle.fb_params.specs.declared.fault.ParamsFault.{ParamsFault}
+use Rattle.fb_params.specs.declared.rule.Rule.{Rule}
+use Rattle.fb_params.specs.declared.rule.Rule.TheVariants.{Known, Present, OfKind, InRange}
+use Rattle.fb_params.specs.Keys.{Key, front_keys, back_keys, zone_keys}
+use Rattle.fb_params.specs.Values.{zones_of}
+use Rattle.fb_params.specs.Rules.{breaks, first_in, first_some, first_key}
+use Rattle.fb_params.specs.Reading.{unless_fault, keeps}
+
+passed_over : {A : Type 0} (p : A → Bool) (y : A) (ys : List A) → find p (y ∷ ys) ≡ None → (p y ≡ false) × (find p ys ≡ None)
+passed_over p y ys none = elim (cases_Bool (p y)) [
+    | inl hit ↦ absurd (let found : Some y ≡ None = rw hit at none in cc)
+    | inr miss ↦ (miss, rw miss at none) ]
+
+none-find : {A : Type 0} (p : A → Bool) (xs : List A) → find p xs ≡ None → (i : ℕ) (x : A) → slice_get xs i ≡ Some x → p x ≡ false
+none-find p [] none i x at = absurd (cc)
+none-find p (y ∷ ys) none zero x at = subst (λ z. p z ≡ false) (same_Some _ _ at) (passed_over p y ys none).0
+none-find p (y ∷ ys) none (suc i) x at = none-find p ys (passed_over p y ys none).1 i x at
+
+none-option_map : {A B : Type 0} (f : A → B) (o : Option A) → option_map f o ≡ None → o ≡ None
+none-option_map f None none = refl
+none-option_map f (Some a) none = absurd (cc)
+
+pub none-option_or : {A : Type 0} (a b : Option A) → option_or a b ≡ None → (a ≡ None) × (b ≡ None)
+none-option_or None b none = (refl, none)
+none-option_or (Some a) b none = absurd (cc)
+
+none-unless_fault : {A B : Type 0} (a : A) (f : B → ParamsFault) (o : Option B) → unless_fault a (option_map f o) ≡ Ok a → o ≡ None
+none-unless_fault a f None ok = refl
+none-unless_fault a f (Some b) ok = absurd (cc)
+
+-- where no key breaks the rule, the i-th keeps it
+pub kept_at : (rule : Rule) (keys : List Key) (table : Members) → first_in rule keys table ≡ None → (i : ℕ) (key : Key) → slice_get keys i ≡ Some key → breaks rule key (get_member key.name table) ≡ false
+kept_at Known keys table none i key at = refl
+kept_at Present keys table none i key at = none-find _ keys (none-option_map _ _ none) i key at
+kept_at OfKind keys table none i key at = none-find _ keys (none-option_map _ _ none) i key at
+kept_at InRange keys table none i key at = none-find _ keys (none-option_map _ _ none) i key at
+
+-- what a file whose keys keep a rule says of its tables
+pub record IsKept (rule : Rule) (layout : Layout) (table : Members) : Type 0 where
+  pub front : first_in rule front_keys table ≡ None
+  pub zones : first_some (first_in rule (zone_keys layout)) (zones_of table) ≡ None
+  pub back : first_in rule (back_keys layout) table ≡ None
+
+pub present : (layout : Layout) (table : Members) → keeps Present layout table ≡ Ok tt → first_in Present (front_keys ++ back_keys layout) table ≡ None
+unfolding keeps
+present layout table ok = (none-option_or _ _ (none-unless_fault tt _ _ ok)).0
+
+pub of_kind : (layout : Layout) (table : Members) → keeps OfKind layout table ≡ Ok tt → IsKept OfKind layout table
+unfolding keeps
+of_kind layout table ok =
+    let first = none-option_or _ _ (none-unless_fault tt _ _ ok) in
+    let then_ = none-option_or _ _ first.1 in
+    record { front = first.0; zones = none-option_map _ _ then_.0; back = then_.1 }
+
+pub in_range : (layout : Layout) (table : Members) → keeps InRange layout table ≡ Ok tt → IsKept InRange layout table
+unfolding keeps
+in_range layout table ok =
+    let first = none-option_or _ _ (none-unless_fault tt _ _ ok) in
+    let then_ = none-option_or _ _ first.1 in
+    record { front = first.0; zones = none-option_map _ _ then_.0; back = then_.1 }

@@ -1,0 +1,22 @@
+use Rattle.std.proofs.Common.{map, arith}
+use Rattle.toml.specs.View.{view, table_view}
+use Rattle.toml.specs.Data.{as_table}
+use Rattle.std.specs.List.{filter_map}
+use Rattle.fb_params.proofs.Kept.{in_range}
+use Rattle.fb_params.proofs.Fitting.{fits_layout}
+use Rattle.fb_params.proofs.Fields.{heads-within, defects-within}
+use Rattle.fb_params.proofs.outline.geometry.Goals as goal
+
+pub small_number_at-heads-requires : goal.small_number_at-heads-requires
+small_number_at-heads-requires c = omega (arith, heads-within c.args.layout (table_view c.args.table.now) c.requires)
+
+pub zones-requires : goal.zones-requires
+zones-requires c = rw c.elements_at.ensures (in_range c.args.layout (table_view c.args.table.now) c.requires).zones
+
+pub places-requires : goal.places-requires
+places-requires c = rw c.elements_at-2.ensures (defects-within c.args.layout (table_view c.args.table.now) c.requires)
+
+pub new-requires : goal.new-requires
+new-requires c = record {
+  fits = fits_layout c.args.layout c.number_at-rotation.result c.small_number_at-heads.result c.in_ok-zones.zones.items c.in_ok-defects.defects.items c.in_ok-grown.grown.items
+      (filter_map as_table (map view c.elements_at.result.now)) (table_view c.args.table.now) c.in_ok-zones.ensures c.in_ok-grown.ensures }

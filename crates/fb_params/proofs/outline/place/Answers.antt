@@ -1,0 +1,14 @@
+use Rattle.std.proofs.Common.{arith}
+use Rattle.toml.specs.View.{view}
+use Rattle.fb_params.specs.Keys.{from_to}
+use Rattle.fb_params.proofs.Numbers.{nth-within}
+use Rattle.fb_params.proofs.outline.place.Goals as goal
+
+pub nth-requires : goal.nth-requires
+nth-requires c = omega (arith, nth-within (from_to 0 999999) (view c.args.row.now) c.requires 0)
+
+pub nth-requires-2 : goal.nth-requires-2
+nth-requires-2 c = omega (arith, nth-within (from_to 0 999999) (view c.args.row.now) c.requires 1)
+
+pub nth-requires-3 : goal.nth-requires-3
+nth-requires-3 c = omega (arith, nth-within (from_to 0 999999) (view c.args.row.now) c.requires 2)

@@ -1,0 +1,39 @@
+// How faults name a key.
+ghost use Rattle.std.specs.Prelude.{◌≡◌, ◌++◌, IfOk, OnOk};
+ghost use Rattle.fb_params.specs.Names.{spelled};
+
+use fb_units::{KeyText, NoMemory};
+use std::alloc::Global;
+
+// A key as faults name it.
+#[derive(Clone, Copy)]
+pub enum KeyName<'a> {
+    // A key of the file.
+    Plain(&'a str),
+    // A key of one of its zones.
+    InZone(&'a str),
+}
+
+// The text of a name.
+pub fn key_text(alloc: Global, name: KeyName<'_>) -> Result<KeyText, NoMemory>
+    ensures { IfOk result (λ text. text ≡ spelled name.entry) }
+{
+    let mut text = KeyText::new(alloc);
+    match name {
+        KeyName::Plain(key) => append(&mut text, key.as_bytes())?,
+        KeyName::InZone(key) => {
+            append(&mut text, b"zone.")?;
+            append(&mut text, key.as_bytes())?;
+        }
+    }
+    Ok(text)
+}
+
+fn append(text: &mut KeyText, bytes: &[u8]) -> Result<(), NoMemory>
+    ensures { OnOk result (text.new ≡ text.old ++ bytes.now) }
+{
+    for byte in bytes {
+        text.push(*byte)?;
+    }
+    Ok(())
+}

@@ -1,0 +1,112 @@
+// The parameter file, read.
+ghost use Rattle.std.specs.Prelude.{◌≡◌, ◌%◌, ◌≤◌, codes};
+ghost use Rattle.toml.specs.View.{table_view};
+ghost use Rattle.fb_params.specs.Values.{number_at};
+ghost use Rattle.fb_params.specs.Reading.{Answers, or_fault, document_of, keeps, contents_of, params_of, held, fault_of};
+
+use crate::name::key_text;
+use crate::rule::Rule;
+use crate::search::first_key;
+use crate::latent::latent;
+use crate::outline::geometry;
+use crate::seek::mechanism;
+use crate::values::{elements_at, layout_of, small_number_at};
+use crate::{Parameters, ParamsError, ParamsFault};
+use fb_geometry::Layout;
+use fb_sectormap::SectorMap;
+use fb_service::Disk;
+use fb_units::KeyText;
+use std::alloc::Global;
+use toml::Table;
+
+/// The disk and the latent sectors of a parameter file, or its first fault.
+#[tactic(auto, unfolding(crate::specs::Reading::params_of))]
+pub fn read_params(alloc: Global, bytes: &[u8]) -> Result<Parameters, ParamsError>
+    ensures { Answers held result (params_of bytes.now) }
+{
+    let table = read_table(alloc, bytes)?;
+    let layout = layout_of(&table);
+    keep(alloc, Rule::Known, layout, &table)?;
+    keep(alloc, Rule::Present, layout, &table)?;
+    keep(alloc, Rule::OfKind, layout, &table)?;
+    keep(alloc, Rule::InRange, layout, &table)?;
+    contents(alloc, layout, &table)
+}
+
+// The contents of a file whose keys keep all rules, or the first fault of what it spells.
+#[tactic(auto, unfolding(crate::specs::Reading::contents_of))]
+fn contents(alloc: Global, layout: Layout, table: &Table) -> Result<Parameters, ParamsError>
+    requires present { keeps Rule.Present layout (table_view table.now) ≡ Ok tt }
+    requires kind { keeps Rule.OfKind layout (table_view table.now) ≡ Ok tt }
+    requires range { keeps Rule.InRange layout (table_view table.now) ≡ Ok tt }
+    ensures { Answers held result (contents_of layout (table_view table.now)) }
+{
+    let geometry = geometry(alloc, layout, table)?;
+    let map = SectorMap::new(alloc, geometry)?;
+    let mechanism = mechanism(alloc, map.geometry().cylinders(), layout, table)?;
+    let latent = latent(alloc, map.count(), elements_at(table, "latent"))?;
+    let sector_bytes = sector_bytes(layout, table);
+    Ok(Parameters {
+        disk: Disk {
+            map,
+            mechanism,
+            sector_bytes,
+        },
+        latent,
+    })
+}
+
+// The size of a sector.
+fn sector_bytes(layout: Layout, table: &Table) -> u32
+    requires present { keeps Rule.Present layout (table_view table.now) ≡ Ok tt }
+    requires kind { keeps Rule.OfKind layout (table_view table.now) ≡ Ok tt }
+    requires range { keeps Rule.InRange layout (table_view table.now) ≡ Ok tt }
+    ensures value { result ≡ number_at (codes "sector_bytes") (table_view table.now) }
+    ensures whole { result % 16 ≡ 0 }
+    ensures some { 16 ≤ result }
+    ensures few { result ≤ 4096 }
+{
+    small_number_at(table, "sector_bytes")
+}
+
+// The table that the bytes spell.
+fn read_table(alloc: Global, bytes: &[u8]) -> Result<Table, ParamsError>
+    ensures { Answers table_view result (or_fault ParamsFault.NotToml (document_of bytes.now)) }
+{
+    match toml::table_from_slice(alloc, bytes) {
+        Ok(table) => Ok(table),
+        Err(error) => {
+            if error.is_memory() {
+                Err(ParamsError::NoMemory)
+            } else {
+                Err(ParamsError::Fault(ParamsFault::NotToml))
+            }
+        }
+    }
+}
+
+// All keys keep the rule, or the first that doesn't is named.
+#[tactic(auto, unfolding(crate::specs::Reading::keeps))]
+fn keep(alloc: Global, rule: Rule, layout: Layout, table: &Table) -> Result<(), ParamsError>
+    ensures { Answers (λ u. u) result (keeps rule layout (table_view table.now)) }
+{
+    match first_key(rule, layout, table) {
+        Some(name) => {
+            let text = key_text(alloc, name)?;
+            Err(ParamsError::Fault(fault_of(rule, text)))
+        }
+        None => Ok(()),
+    }
+}
+
+// The fault of a key that breaks a rule.
+fn fault_of(rule: Rule, name: KeyText) -> ParamsFault
+    ensures { result ≡ fault_of rule name }
+{
+    match rule {
+        Rule::Known => ParamsFault::UnknownKey(name),
+        Rule::Present => ParamsFault::MissingKey(name),
+        Rule::OfKind => ParamsFault::WrongKind(name),
+        Rule::InRange => ParamsFault::OutOfRange(name),
+    }
+}

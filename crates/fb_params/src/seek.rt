@@ -1,0 +1,58 @@
+// The arm that a file spells.
+ghost use Rattle.std.specs.Prelude.{◌≡◌, ◌^◌, true, map, IfOk};
+ghost use Rattle.std.specs.List.{list_all};
+ghost use Rattle.toml.specs.View.{view, table_view};
+ghost use Rattle.fb_params.specs.Keys.{from_to};
+ghost use Rattle.fb_params.specs.Rules.{is_row_within};
+ghost use Rattle.fb_params.specs.Contents.{point_of, mechanics_of};
+ghost use Rattle.fb_params.specs.Reading.{Answers, keeps, possible_arm};
+
+use crate::rule::Rule;
+use crate::values::{elements_at, nth, number_at};
+use crate::{ParamsError, ParamsFault};
+use fb_geometry::Layout;
+use fb_seek::{Mechanism, SeekPoint};
+use fb_units::NoMemory;
+use std::alloc::Global;
+use toml::{Table, Value};
+
+// The mechanism of the file's arm over so many cylinders, or its first fault.
+pub fn mechanism(
+    alloc: Global,
+    cylinders: u32,
+    layout: Layout,
+    table: &Table,
+) -> Result<Mechanism, ParamsError>
+    requires { keeps Rule.InRange layout (table_view table.now) ≡ Ok tt }
+    ensures { Answers (λ mechanism. mechanism) result (possible_arm (mechanics_of cylinders (table_view table.now))) }
+{
+    let points = points(alloc, elements_at(table, "seek"))?;
+    let head_switch = number_at(table, "head_switch_ns");
+    let write_settle = number_at(table, "write_settle_ns");
+    match Mechanism::new(points, cylinders, head_switch, write_settle) {
+        Ok(mechanism) => Ok(mechanism),
+        Err(fault) => Err(ParamsError::Fault(ParamsFault::Seek(fault))),
+    }
+}
+
+// The points that these rows spell.
+fn points(alloc: Global, rows: &[Value]) -> Result<Vec<SeekPoint>, NoMemory>
+    requires { list_all (is_row_within (from_to 0 (10 ^ 9))) (map view rows.now) ≡ true }
+    ensures { IfOk result (λ points. points.items ≡ map point_of (map view rows.now)) }
+{
+    let mut points = Vec::new(alloc);
+    for row in rows {
+        points.push(point(row))?;
+    }
+    Ok(points)
+}
+
+fn point(row: &Value) -> SeekPoint
+    requires { is_row_within (from_to 0 (10 ^ 9)) (view row.now) ≡ true }
+    ensures { result ≡ point_of (view row.now) }
+{
+    SeekPoint {
+        distance: nth(row, 0),
+        time: nth(row, 1) as u64,
+    }
+}
