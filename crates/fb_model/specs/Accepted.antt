@@ -1,7 +1,7 @@
 -- The inputs that a run is made from keep these rules.
 use Rattle.std.specs.Prelude.{◌≡◌, ℕ, ◌+◌, ◌*◌, ◌^◌, ◌<◌, ◌≤◌, List, [], ◌∷◌, length, Bool, true, false, ◌&&◌, ◌==◌, map}
 use Rattle.std.specs.List.{AllByRecursion, list_any, range_with_len}
-use Rattle.fb_units.specs.Rising.{IsRising}
+pub use Rattle.fb_units.specs.Rising.{IsRising}
 use Rattle.fb_units.specs.declared.types.Request.{Request}
 use Rattle.fb_units.specs.declared.types.Name.TheVariants.{Traced}
 use Rattle.fb_geometry.specs.Shape.{Shape}
