@@ -1,0 +1,158 @@
+-- The value of a plan is what the blocks of its two tracks add.
+use Rattle.std.proofs.Common.{◌≡◌, inl, inr, ℕ, ◌+◌, ◌*◌, ◌<◌, take, List, [], ◌∷◌, Bool, true, false, ◌&&◌, ◌||◌, Some, slice_get, zero, suc, get_or, filter, length, option_map, refl, arith, sym, ap, ◌∙◌, if◌then◌else◌, subst}
+use Rattle.std.specs.List.{sum_by}
+use Rattle.std.proofs.lemmas.Bool.{cases_Bool, true≢false}
+use Rattle.std.proofs.lemmas.Bool.Decides.{nat_tests}
+use Rattle.std.proofs.lemmas.List.Sums.{sum_by-cons, sum_by_more}
+use Rattle.std.proofs.lemmas.Option.{slice_get_within, slice_get-map, slice_get-get_or, get_or_from_slice_get}
+use Rattle.fb_units.specs.declared.types.Track.{Track}
+use Rattle.fb_units.specs.Tracks.{same_track}
+use Rattle.fb_service.specs.declared.disk.Disk.{Disk}
+use Rattle.fb_wanted.specs.declared.block.Block.{Block}
+use Rattle.fb_wanted.specs.declared.block.Entry.{Entry}
+use Rattle.fb_wanted.specs.declared.block.State.{State}
+use Rattle.fb_wanted.specs.declared.block.State.TheVariants.{Wanted}
+use Rattle.fb_wanted.specs.States.{is_wanted, is_block, on_track, wanted_of}
+use Rattle.fb_wanted.specs.Numbering.{blocks_of}
+use Rattle.fb_rows.specs.declared.gap.Gap.{Gap}
+use Rattle.fb_rows.specs.declared.gap.Plan.{Plan}
+use Rattle.fb_rows.specs.declared.gap.Plan.TheVariants.{Direct, Detour}
+use Rattle.fb_rows.specs.declared.gap.Dwell.{Dwell}
+use Rattle.fb_model.specs.Plans.{is_caught, value, catches, early_dwell, late_dwell}
+use Rattle.fb_plan.specs.Ways.{gain, track_of}
+
+some-one : {X : Type 0} (x y : X) → Some x ≡ Some y → x ≡ y
+some-one x y h = grind arith
+
+first_or : {X : Type 0} (p : X → Bool) (y : X) (ys : List X) (i : ℕ) (x : X) → p y ≡ true → slice_get (y ∷ filter p ys) i ≡ Some x
+    → ((k : ℕ) → slice_get (filter p ys) k ≡ Some x → (j : ℕ) × (slice_get ys j ≡ Some x) × (p x ≡ true)) → (j : ℕ) × (slice_get (y ∷ ys) j ≡ Some x) × (p x ≡ true)
+first_or p y ys zero x t h rest = (zero, h, ap p (sym (some-one y x h)) ∙ t)
+first_or p y ys (suc i) x t h rest = let r = rest i h in (suc r.0, r.1, r.2)
+
+-- what passes the test stands in the list
+pub in_filter : {X : Type 0} (p : X → Bool) (xs : List X) (i : ℕ) (x : X) → slice_get (filter p xs) i ≡ Some x → (j : ℕ) × (slice_get xs j ≡ Some x) × (p x ≡ true)
+in_filter p [] zero x h = absurd (grind arith)
+in_filter p [] (suc i) x h = absurd (grind arith)
+in_filter p (y ∷ ys) i x h = elim (cases_Bool (p y)) [
+  | inl t ↦ first_or p y ys i x t (rw t at h) (λ k. in_filter p ys k x)
+  | inr f ↦ let r = in_filter p ys i x (rw f at h) in (suc r.0, r.1, r.2)
+]
+
+pub entry_at : (track : Track) (es : List Entry) (i : ℕ) (b : Block) → slice_get (blocks_of (on_track track es)) i ≡ Some b → i < length (on_track track es)
+    → (e : Entry) × (j : ℕ) × (slice_get (on_track track es) i ≡ Some e) × (slice_get es j ≡ Some e) × (e.block ≡ b)
+entry_at track es i b h lt =
+    let e = get_or (on_track track es) i (record { block = b; state = Wanted }) in
+    let at = slice_get-get_or (on_track track es) i (record { block = b; state = Wanted }) lt in
+    let j = in_filter (λ x. same_track track x.block.track) es i e at in
+    (e, j.0, at, j.1, some-one e.block b (sym (slice_get-map (λ x. x.block) (on_track track es) i ∙ ap (option_map (λ x. x.block)) at) ∙ h))
+
+same_itself : (n m : ℕ) (e : Entry) → e.block.task ≡ n → e.block.index ≡ m → is_block n m e ≡ true
+same_itself n m e p q = grind (arith, nat_tests)
+
+pub own_block : (b : Block) (e : Entry) → e.block ≡ b → is_block b.task b.index e ≡ true
+own_block b e h = same_itself b.task b.index e (ap (λ x. x.task) h) (ap (λ x. x.index) h)
+
+pub whole : (e : Entry) (b : Block) (s : State) → e.block ≡ b → e.state ≡ s → e ≡ record { block = b; state = s }
+whole e b s p q = ap (λ x. let y : Entry = record { block = x; state = e.state } in y) p ∙ ap (λ x. let y : Entry = record { block = b; state = x } in y) q
+
+abbrev worth : Block → ℕ
+worth b = b.weight * b.count
+
+abbrev adds : (Block → Bool) → Entry → ℕ
+adds c e = if is_wanted e.state && c e.block then e.block.weight * e.block.count else 0
+
+sums : (c : Block → Bool) (es : List Entry) → sum_by worth (filter c (wanted_of es)) ≡ sum_by (adds c) es
+sums c [] = refl
+sums c (e ∷ es) = elim (cases_Bool (is_wanted e.state)) [
+  | inl w ↦ elim (cases_Bool (c e.block)) [
+    | inl y ↦
+        let left : sum_by worth (filter c (wanted_of (e ∷ es))) ≡ worth e.block + sum_by worth (filter c (wanted_of es)) = rw (w, y) (sum_by-cons worth e.block (filter c (wanted_of es))) in
+        let one : adds c e ≡ worth e.block = rw (w, y) refl in
+        omega (arith, left, sum_by-cons (adds c) e es, one, sums c es)
+    | inr n ↦
+        let left : sum_by worth (filter c (wanted_of (e ∷ es))) ≡ sum_by worth (filter c (wanted_of es)) = rw (w, n) refl in
+        let one : adds c e ≡ 0 = rw (w, n) refl in
+        omega (arith, left, sum_by-cons (adds c) e es, one, sums c es)
+  ]
+  | inr n ↦
+      let left : sum_by worth (filter c (wanted_of (e ∷ es))) ≡ sum_by worth (filter c (wanted_of es)) = rw n refl in
+      let one : adds c e ≡ 0 = rw n refl in
+      omega (arith, left, sum_by-cons (adds c) e es, one, sums c es)
+]
+
+pub value-gain : (disk : Disk) (gap : Gap) (plan : Plan) (es : List Entry) → value disk gap (wanted_of es) plan ≡ sum_by (gain disk gap plan) es
+unfolding value
+value-gain disk gap plan es = sums (is_caught disk gap plan) es
+
+one_part : (g : Entry → ℕ) (p : Entry → Bool) → ((e : Entry) → p e ≡ false → g e ≡ 0) → (es : List Entry) → sum_by g es ≡ sum_by g (filter p es)
+one_part g p none [] = refl
+one_part g p none (e ∷ es) = elim (cases_Bool (p e)) [
+  | inl y ↦ rw y (omega (arith, sum_by-cons g e es, sum_by-cons g e (filter p es), one_part g p none es))
+  | inr n ↦ rw n (omega (arith, sum_by-cons g e es, none e n, one_part g p none es))
+]
+
+two_parts : (g : Entry → ℕ) (p q : Entry → Bool) → ((e : Entry) → p e ≡ true → q e ≡ true → ⊥) → ((e : Entry) → p e ≡ false → q e ≡ false → g e ≡ 0) → (es : List Entry)
+    → sum_by g es ≡ sum_by g (filter p es) + sum_by g (filter q es)
+two_parts g p q apart none [] = refl
+two_parts g p q apart none (e ∷ es) = elim (cases_Bool (p e)) [
+  | inl y ↦ elim (cases_Bool (q e)) [
+    | inl z ↦ absurd (apart e y z)
+    | inr z ↦ rw (y, z) (omega (arith, sum_by-cons g e es, sum_by-cons g e (filter p es), two_parts g p q apart none es))
+  ]
+  | inr n ↦ elim (cases_Bool (q e)) [
+    | inl z ↦ rw (n, z) (omega (arith, sum_by-cons g e es, sum_by-cons g e (filter q es), two_parts g p q apart none es))
+    | inr z ↦ rw (n, z) (omega (arith, sum_by-cons g e es, none e n z, two_parts g p q apart none es))
+  ]
+]
+
+and_false : (b : Bool) → b && false ≡ false
+and_false true = refl
+and_false false = refl
+
+not_caught : (disk : Disk) (gap : Gap) (plan : Plan) (b : Block) → same_track (track_of gap plan) b.track ≡ false → same_track gap.target b.track ≡ false → is_caught disk gap plan b ≡ false
+not_caught disk gap (Direct u) b h k = rw (h, k) refl
+not_caught disk gap (Detour c u) b h k = rw (h, k) refl
+
+no_gain : (disk : Disk) (gap : Gap) (plan : Plan) (e : Entry) → same_track (track_of gap plan) e.block.track ≡ false → same_track gap.target e.block.track ≡ false → gain disk gap plan e ≡ 0
+no_gain disk gap plan e h k = rw (not_caught disk gap plan e.block h k, and_false (is_wanted e.state)) refl
+
+-- tracks are told apart by their numbers
+pub track_of_both : (a b x : Track) → same_track a x ≡ true → same_track b x ≡ true → same_track a b ≡ true
+track_of_both a b x h k = grind (arith, nat_tests)
+
+pub track_over : (a b x : Track) → same_track a b ≡ true → same_track a x ≡ false → same_track b x ≡ false
+track_over a b x h k = grind (arith, nat_tests)
+
+pub value-one : (disk : Disk) (gap : Gap) (plan : Plan) (es : List Entry) → same_track (track_of gap plan) gap.target ≡ true
+    → value disk gap (wanted_of es) plan ≡ sum_by (gain disk gap plan) (on_track (track_of gap plan) es)
+value-one disk gap plan es same = value-gain disk gap plan es
+    ∙ one_part (gain disk gap plan) (λ e. same_track (track_of gap plan) e.block.track) (λ e n. no_gain disk gap plan e n (track_over (track_of gap plan) gap.target e.block.track same n)) es
+
+pub value-two : (disk : Disk) (gap : Gap) (plan : Plan) (es : List Entry) → same_track (track_of gap plan) gap.target ≡ false
+    → value disk gap (wanted_of es) plan ≡ sum_by (gain disk gap plan) (on_track (track_of gap plan) es) + sum_by (gain disk gap plan) (on_track gap.target es)
+value-two disk gap plan es other = value-gain disk gap plan es
+    ∙ two_parts (gain disk gap plan) (λ e. same_track (track_of gap plan) e.block.track) (λ e. same_track gap.target e.block.track)
+    (λ e y z. true≢false (sym (track_of_both (track_of gap plan) gap.target e.block.track y z) ∙ other)) (λ e n z. no_gain disk gap plan e n z) es
+
+pub sum-one : (disk : Disk) (gap : Gap) (plan : Plan) (es : List Entry) (track : Track) (sum : ℕ) → track ≡ track_of gap plan → same_track track gap.target ≡ true
+    → sum ≡ sum_by (gain disk gap plan) (on_track track es) → sum ≡ value disk gap (wanted_of es) plan
+sum-one disk gap plan es track sum e same s =
+    s ∙ (ap (λ t. sum_by (gain disk gap plan) (on_track t es)) e ∙ sym (value-one disk gap plan es (subst (λ t. same_track t gap.target ≡ true) e same)))
+
+pub sum-two : (disk : Disk) (gap : Gap) (plan : Plan) (es : List Entry) (track : Track) (sum other : ℕ) → track ≡ track_of gap plan → same_track track gap.target ≡ false
+    → sum ≡ sum_by (gain disk gap plan) (on_track track es) → other ≡ sum_by (gain disk gap plan) (on_track gap.target es) → sum + other ≡ value disk gap (wanted_of es) plan
+sum-two disk gap plan es track sum other e apart s o =
+    let two = value-two disk gap plan es (subst (λ t. same_track t gap.target ≡ false) e apart) in
+    let first = s ∙ ap (λ t. sum_by (gain disk gap plan) (on_track t es)) e in
+    omega (arith, two, first, o)
+
+-- the sum so far and one more block
+pub sum-more : (disk : Disk) (gap : Gap) (plan : Plan) (xs : List Entry) (i sum more : ℕ) (early late : Dwell) (e : Entry) → early ≡ early_dwell disk gap plan → late ≡ late_dwell disk gap plan
+    → slice_get xs i ≡ Some e → more ≡ (if is_wanted e.state && (catches disk early e.block || catches disk late e.block) then e.block.weight * e.block.count else 0)
+    → sum ≡ sum_by (gain disk gap plan) (take i xs) → sum + more ≡ sum_by (gain disk gap plan) (take (i + 1) xs)
+sum-more disk gap plan xs i sum more early late e p q at m s =
+    let one : more ≡ gain disk gap plan e = m
+    ∙ (ap (λ d. if is_wanted e.state && (catches disk d e.block || catches disk late e.block) then e.block.weight * e.block.count else 0) p
+    ∙ ap (λ d. if is_wanted e.state && (catches disk (early_dwell disk gap plan) e.block || catches disk d e.block) then e.block.weight * e.block.count else 0) q) in
+    let here = ap (gain disk gap plan) (get_or_from_slice_get xs i e e at) in
+    omega (arith, sum_by_more (gain disk gap plan) xs i e (slice_get_within xs i e at), one, here, s)

@@ -1,0 +1,182 @@
+// The search over leaves, ways and tracks: the best so far is at least as good as each plan that was passed.
+ghost use Rattle.std.specs.Prelude.{◌≡◌, ◌+◌, ◌*◌, ◌≤◌, ◌<◌, ◌^◌, ℕ, true};
+ghost use Rattle.fb_geometry.specs.Shape.{IsTrackOf};
+ghost use Rattle.fb_model.specs.Plans.{IsPlan, block_end};
+ghost use Rattle.fb_wanted.specs.States.{is_wanted, wanted_of};
+ghost use Rattle.fb_plan.specs.Ways.{FitsDisk, AreOnDisk, IsGap, IsWay, IsScored, Beats, plan_by, early_track, arrival, move_on};
+
+use crate::choice::choose;
+use crate::passing::block_end;
+use crate::sums::{entry_on, is_same, is_wanted, plan_value};
+use crate::{Scored, Way};
+use fb_rows::{Gap, Plan};
+use fb_service::Disk;
+use fb_units::{Ns, Track};
+use fb_wanted::{Entry, Wanted};
+
+fn plan_by(way: Way, leave: Ns) -> Plan
+    ensures { result ≡ plan_by way leave }
+{
+    match way {
+        Way::Source => Plan::Direct { leave },
+        Way::Over(track) => Plan::Detour { track, leave },
+    }
+}
+
+fn early_track(gap: &Gap, way: Way) -> Track
+    ensures { result ≡ early_track gap.entry.now way }
+{
+    match way {
+        Way::Source => gap.source,
+        Way::Over(track) => track,
+    }
+}
+
+fn arrival(disk: &Disk, gap: &Gap, way: Way) -> Ns
+    requires gap { IsGap disk.now gap.now }
+    requires track { IsTrackOf disk.now.map (early_track gap.now way) }
+    ensures value { result ≡ arrival disk.now gap.entry.now way }
+    ensures soon { result ≤ 9 * 10 ^ 18 + 2 * 10 ^ 9 }
+{
+    match way {
+        Way::Source => gap.now,
+        Way::Over(track) => gap.now + disk.mechanism.pos(gap.source, track, false),
+    }
+}
+
+fn move_on(disk: &Disk, gap: &Gap, way: Way) -> Ns
+    requires gap { IsGap disk.now gap.now }
+    requires track { IsTrackOf disk.now.map (early_track gap.now way) }
+    ensures value { result ≡ move_on disk.now gap.entry.now way }
+    ensures soon { result ≤ 2 * 10 ^ 9 }
+{
+    disk.mechanism
+        .pos(early_track(gap, way), gap.target, gap.write)
+}
+
+pub fn scored(disk: &Disk, wanted: &Wanted, gap: &Gap, plan: Plan) -> Scored
+    requires plan { IsPlan disk.now gap.now plan }
+    requires gap { IsGap disk.now gap.now }
+    requires blocks { AreOnDisk disk.now wanted.now }
+    ensures scored { IsScored disk.now gap.entry.now (wanted_of wanted.now) result }
+    ensures plan { result.plan ≡ plan }
+{
+    Scored {
+        plan,
+        value: plan_value(disk, wanted, gap, plan),
+    }
+}
+
+// The better of the best so far and a plan.
+fn try_plan(disk: &Disk, wanted: &Wanted, gap: &Gap, plan: Plan, best: Scored) -> Scored
+    requires plan { IsPlan disk.now gap.now plan }
+    requires gap { IsGap disk.now gap.now }
+    requires blocks { AreOnDisk disk.now wanted.now }
+    requires best { IsScored disk.now gap.now (wanted_of wanted.now) best }
+    ensures scored { IsScored disk.now gap.entry.now (wanted_of wanted.now) result }
+    ensures keeps { Beats disk.now gap.entry.now (wanted_of wanted.now) result.plan best.plan }
+    ensures tried { Beats disk.now gap.entry.now (wanted_of wanted.now) result.plan plan }
+{
+    choose(best, scored(disk, wanted, gap, plan))
+}
+
+// Tries to leave when the passage of a wanted block ends.
+fn try_entry(
+    disk: &Disk,
+    wanted: &Wanted,
+    gap: &Gap,
+    way: Way,
+    arrive: Ns,
+    entry: Entry,
+    best: Scored,
+) -> Scored
+    requires way { IsWay disk.now gap.now way }
+    requires track { IsTrackOf disk.now.map (early_track gap.now way) }
+    requires arrive { arrive ≡ arrival disk.now gap.now way }
+    requires early { arrive ≤ 9 * 10 ^ 18 }
+    requires fits { FitsDisk disk.now entry.block }
+    requires gap { IsGap disk.now gap.now }
+    requires blocks { AreOnDisk disk.now wanted.now }
+    requires best { IsScored disk.now gap.now (wanted_of wanted.now) best }
+    ensures scored { IsScored disk.now gap.entry.now (wanted_of wanted.now) result }
+    ensures keeps { Beats disk.now gap.entry.now (wanted_of wanted.now) result.plan best.plan }
+    ensures tried { is_wanted entry.state ≡ true → block_end disk.now.map entry.block arrive + move_on disk.now gap.entry.now way ≤ gap.entry.now.deadline
+        → Beats disk.now gap.entry.now (wanted_of wanted.now) result.plan (plan_by way (block_end disk.now.map entry.block arrive)) }
+{
+    if !is_wanted(entry.state) {
+        return best;
+    }
+    let end = block_end(disk, entry.block, arrive);
+    if gap.deadline < end + move_on(disk, gap, way) {
+        return best;
+    }
+    try_plan(disk, wanted, gap, plan_by(way, end), best)
+}
+
+// Tries all plans of a way.
+pub fn try_way(disk: &Disk, wanted: &Wanted, gap: &Gap, way: Way, start: Scored) -> Scored
+    requires way { IsWay disk.now gap.now way }
+    requires track { IsTrackOf disk.now.map (early_track gap.now way) }
+    requires gap { IsGap disk.now gap.now }
+    requires blocks { AreOnDisk disk.now wanted.now }
+    requires best { IsScored disk.now gap.now (wanted_of wanted.now) start }
+    ensures scored { IsScored disk.now gap.entry.now (wanted_of wanted.now) result }
+    ensures keeps { Beats disk.now gap.entry.now (wanted_of wanted.now) result.plan start.plan }
+    ensures tried { (leave : ℕ) → IsPlan disk.now gap.entry.now (plan_by way leave) → Beats disk.now gap.entry.now (wanted_of wanted.now) result.plan (plan_by way leave) }
+{
+    let arrive = arrival(disk, gap, way);
+    if gap.deadline < arrive + move_on(disk, gap, way) {
+        return start;
+    }
+    let mut best = try_plan(disk, wanted, gap, plan_by(way, arrive), start);
+    let track = early_track(gap, way);
+    for i in 0..wanted.registered_on(track) {
+        best = try_entry(
+            disk,
+            wanted,
+            gap,
+            way,
+            arrive,
+            entry_on(wanted, track, i),
+            best,
+        );
+    }
+    best
+}
+
+// Tries all plans over a track.
+fn try_track(disk: &Disk, wanted: &Wanted, gap: &Gap, track: Track, start: Scored) -> Scored
+    requires track { IsTrackOf disk.now.map track }
+    requires gap { IsGap disk.now gap.now }
+    requires blocks { AreOnDisk disk.now wanted.now }
+    requires best { IsScored disk.now gap.now (wanted_of wanted.now) start }
+    ensures scored { IsScored disk.now gap.entry.now (wanted_of wanted.now) result }
+    ensures keeps { Beats disk.now gap.entry.now (wanted_of wanted.now) result.plan start.plan }
+    ensures tried { (leave : ℕ) → IsPlan disk.now gap.entry.now (Plan.Detour track leave) → Beats disk.now gap.entry.now (wanted_of wanted.now) result.plan (Plan.Detour track leave) }
+{
+    if is_same(track, gap.source) {
+        return start;
+    }
+    if is_same(track, gap.target) {
+        return start;
+    }
+    try_way(disk, wanted, gap, Way::Over(track), start)
+}
+
+// Tries all plans over the tracks of a cylinder.
+pub fn try_cylinder(disk: &Disk, wanted: &Wanted, gap: &Gap, cylinder: u32, start: Scored) -> Scored
+    requires cylinder { cylinder < disk.now.mechanism.cylinders }
+    requires gap { IsGap disk.now gap.now }
+    requires blocks { AreOnDisk disk.now wanted.now }
+    requires best { IsScored disk.now gap.now (wanted_of wanted.now) start }
+    ensures scored { IsScored disk.now gap.entry.now (wanted_of wanted.now) result }
+    ensures keeps { Beats disk.now gap.entry.now (wanted_of wanted.now) result.plan start.plan }
+    ensures tried { (head leave : ℕ) → IsPlan disk.now gap.entry.now (Plan.Detour (record { cylinder = cylinder; head = head }) leave)
+        → Beats disk.now gap.entry.now (wanted_of wanted.now) result.plan (Plan.Detour (record { cylinder = cylinder; head = head }) leave) }
+{
+    let mut best = start;
+    for head in 0..disk.map.geometry().heads() {
+        best = try_track(disk, wanted, gap, Track { cylinder, head }, best);
+    }
+    best
+}

@@ -1,0 +1,5 @@
+pub mod Streams
+pub mod Read
+pub mod Done
+pub mod Causes
+pub mod Status

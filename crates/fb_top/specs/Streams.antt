@@ -1,0 +1,20 @@
+-- Whole inputs and outputs.
+use Rattle.std.specs.Prelude.{◌≡◌, ℕ, ◌≤◌, ◌++◌, ◌<◌, List, take, length, Option, IfSome}
+use Rattle.fb_desk.specs.Calls.{behind}
+use Rattle.fb_desk.specs.View.{DeskView}
+
+-- these are the bytes held under a name, where the desk tells them
+abbrev pub IsHeld : DeskView → List ℕ → List ℕ → Type 0
+IsHeld desk name bytes = IfSome (desk.held name) (λ held. bytes ≡ held)
+
+-- more bytes than this are held under a name, where the desk tells them
+abbrev pub IsLonger : DeskView → List ℕ → ℕ → Type 0
+IsLonger desk name limit = IfSome (desk.held name) (λ held. limit < length held)
+
+-- the bytes are a front of the text
+abbrev pub IsFront : List ℕ → List ℕ → Type 0
+IsFront bytes text = (n : ℕ) × (n ≤ length text) × (bytes ≡ take n text)
+
+-- a front of the text was appended
+abbrev pub AppendsFront : Option (List ℕ) → Option (List ℕ) → List ℕ → Type 0
+AppendsFront old new text = (n : ℕ) × (n ≤ length text) × (new ≡ behind old (take n text))

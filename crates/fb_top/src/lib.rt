@@ -1,0 +1,15 @@
+//! The top call: it reads the words, then the inputs that they name, replays, and writes the report.
+//!
+//! `run_command` answers with an outcome, and each outcome has its cause among what was read and
+//! among the desk's counts of faults; what was written is the text of the very run that it answers.
+#![tactic(auto)]
+
+mod command;
+mod outcome;
+mod policy;
+mod reading;
+mod streams;
+mod writing;
+
+pub use command::run_command;
+pub use outcome::{Outcome, status};

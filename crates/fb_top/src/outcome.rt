@@ -1,0 +1,46 @@
+// How a command ended.
+ghost use Rattle.std.specs.Prelude.{◌≡◌};
+ghost use Rattle.fb_top.specs.Status.{status_of};
+
+use fb_desk::{Input, Output};
+use fb_params::ParamsFault;
+use fb_rows::Run;
+use fb_trace::TraceFault;
+use fb_words::UsageFault;
+
+/// How a command ended.
+#[derive(Drop)]
+pub enum Outcome {
+    /// The replay was made and its report written whole.
+    Done(Run),
+    /// The words are no command.
+    Usage(UsageFault),
+    /// The parameter file is refused.
+    Params(ParamsFault),
+    /// The trace is refused.
+    Trace(TraceFault),
+    /// The input has more bytes than it may have.
+    TooLong(Input),
+    /// A call that reads the input failed.
+    ReadFault(Input),
+    /// A call that writes the output failed.
+    WriteFault(Output),
+    /// Memory was wanting.
+    NoMemory,
+}
+
+/// The exit status of an outcome.
+pub fn status(outcome: &Outcome) -> u8
+    ensures { result ≡ status_of outcome.now }
+{
+    match outcome {
+        Outcome::Done(_) => 0,
+        Outcome::Usage(_) => 2,
+        Outcome::Params(_) => 3,
+        Outcome::Trace(_) => 4,
+        Outcome::ReadFault(_) => 6,
+        Outcome::WriteFault(_) => 7,
+        Outcome::NoMemory => 8,
+        Outcome::TooLong(_) => 9,
+    }
+}
