@@ -1,6 +1,7 @@
 // The foreground report.
-ghost use Rattle.std.specs.Prelude.{◌≡◌, ◌+◌, ◌%◌, ◌<◌, ◌≤◌, ◌^◌, length, Some, IfOk, slice_get};
+ghost use Rattle.std.specs.Prelude.{◌≡◌, ℕ, ◌+◌, ◌%◌, ◌<◌, ◌≤◌, ◌^◌, length, Some, IfOk, slice_get};
 ghost use Rattle.std.specs.List.{AllByRecursion};
+ghost use Rattle.fb_report.specs.declared.bytes.Bytes.{Bytes};
 ghost use Rattle.fb_report.specs.Shown.{shown};
 ghost use Rattle.fb_report.specs.Fore.{kind_text, row_bytes, fore_line, first_line, last_line, fore_lines, fore_text};
 ghost use Rattle.fb_rows.specs.Ranges.{HasRanges};
@@ -17,7 +18,8 @@ use std::alloc::Global;
 
 /// The number of lines of the foreground report: one for each row, the first and the last.
 pub fn fore_pieces(run: &Run) -> u64
-    ensures { result ≡ length run.now.fore + 2 }
+    ensures value { result ≡ length run.now.fore + 2 }
+    ensures lines { (size : ℕ) (bytes : Bytes) → result ≡ length (fore_lines size bytes run.now) }
 {
     run.fore.len() as u64 + 2
 }

@@ -50,7 +50,14 @@ key_of Sptf = sptf
 -- what a run is made from; there are no calls
 abbrev pub inputs_of : ReplayWords → Disk → List ℕ → Accepted → Inputs
 inputs_of words disk latent trace = record {
-  disk = disk; latent = latent; trace = trace.requests; passed_over = trace.passed_over; calls = []; key = key_of words.policy; until = words.until }
+  disk = disk;
+  latent = latent;
+  trace = trace.requests;
+  passed_over = trace.passed_over;
+  calls = [];
+  key = key_of words.policy;
+  until = words.until;
+}
 
 -- all inputs that the words name are accepted
 pub record Accepts (desk : DeskView) (words : ReplayWords) : Type 0 where

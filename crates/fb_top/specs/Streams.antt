@@ -11,9 +11,9 @@ IsHeld desk name bytes = IfSome (desk.held name) (λ held. bytes ≡ held)
 abbrev pub IsLonger : DeskView → List ℕ → ℕ → Type 0
 IsLonger desk name limit = IfSome (desk.held name) (λ held. limit < length held)
 
--- the bytes are a front of the text
+-- the text begins with the bytes
 abbrev pub IsFront : List ℕ → List ℕ → Type 0
-IsFront bytes text = (n : ℕ) × (n ≤ length text) × (bytes ≡ take n text)
+IsFront bytes text = (rest : List ℕ) × (bytes ++ rest ≡ text)
 
 -- a front of the text was appended
 abbrev pub AppendsFront : Option (List ℕ) → Option (List ℕ) → List ℕ → Type 0

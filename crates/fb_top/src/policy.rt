@@ -9,6 +9,7 @@ ghost use Rattle.fb_top.specs.Read.{key_of};
 use fb_calls::{Calls, Names};
 use fb_engine::replay;
 use fb_params::Parameters;
+use fb_plan::SlowPlanner;
 use fb_queue::{Clook, Fcfs, Queue, Sptf, Sstf};
 use fb_rows::Run;
 use fb_trace::Trace;
@@ -57,5 +58,14 @@ fn replay_in<Q: Queue>(
         calls: Vec::new(alloc),
     };
     let latent = params.latent.as_slice();
-    replay(alloc, &params.disk, latent, trace, &calls, queue, &NoPlans, until)
+    replay(
+        alloc,
+        &params.disk,
+        latent,
+        trace,
+        &calls,
+        queue,
+        &SlowPlanner,
+        until,
+    )
 }

@@ -3,4 +3,6 @@
 
 mod command;
 
-pub use command::{Command, MakeWords, Policy, ReplayWords, UsageFault, UsageReason, WordsError, read_words};
+pub use command::{
+    Command, MakeWords, Policy, ReplayWords, UsageFault, UsageReason, WordsError, read_words,
+};

@@ -1,0 +1,72 @@
+-- Texts written line by line.
+use Rattle.std.proofs.Common.{◌≡◌, ℕ, ◌+◌, ◌≤◌, List, [], ◌∷◌, ◌++◌, length, take, drop, refl, sym, ap, ◌∙◌, arith, append_assoc, append-nil, Option, Some, None, subst}
+use Rattle.std.specs.Prelude.{IfSome, slice_get, codes}
+use Rattle.std.specs.List.{flat_map}
+use Rattle.std.proofs.lemmas.List.{take_more, drop_more, take_all, take-append-drop}
+use Rattle.std.proofs.lemmas.List.Concat.{flat_map-append}
+use Rattle.std.proofs.lemmas.Option.{slice_get_within, get_or_from_slice_get}
+use Rattle.fb_desk.specs.Calls.{behind, Rose}
+use Rattle.fb_top.specs.Streams.{IsFront, AppendsFront}
+
+abbrev pub joined : List (List ℕ) → List ℕ
+joined lines = flat_map (λ line. line) lines
+
+-- the lines up to a place
+abbrev pub HoldsLines : Option (List ℕ) → List (List ℕ) → ℕ → Type 0
+HoldsLines written lines k = IfSome written (λ bytes. bytes ≡ joined (take k lines))
+
+parted : (lines : List (List ℕ)) (k : ℕ) → joined (take k lines) ++ joined (drop k lines) ≡ joined lines
+parted lines k = sym (flat_map-append (λ (line : List ℕ). line) (take k lines) (drop k lines)) ∙ ap joined (take-append-drop k lines)
+
+-- the lines so far are a front
+pub front_of : (written : Option (List ℕ)) (lines : List (List ℕ)) (k : ℕ) → HoldsLines written lines k → IfSome written (λ bytes. IsFront bytes (joined lines))
+front_of None lines k h = tt
+front_of (Some bytes) lines k h = (joined (drop k lines), ap (λ front. front ++ joined (drop k lines)) h ∙ parted lines k)
+
+next_line : (lines : List (List ℕ)) (k : ℕ) (line : List ℕ) → slice_get lines k ≡ Some line → drop k lines ≡ line ∷ drop (k + 1) lines
+next_line lines k line e = drop_more lines k line (slice_get_within lines k line e) ∙ ap (λ y. y ∷ drop (k + 1) lines) (get_or_from_slice_get lines k line line e)
+
+line_more : (lines : List (List ℕ)) (k : ℕ) (line : List ℕ) → slice_get lines k ≡ Some line → joined (take (k + 1) lines) ≡ joined (take k lines) ++ line
+line_more lines k line e =
+    ap joined (take_more lines k line (slice_get_within lines k line e) ∙ ap (λ y. take k lines ++ y ∷ []) (get_or_from_slice_get lines k line line e))
+    ∙ flat_map-append (λ (l : List ℕ). l) (take k lines) (line ∷ [])
+    ∙ ap (λ l. joined (take k lines) ++ l) (append-nil line)
+
+-- a line more
+pub holds_more : (old new : Option (List ℕ)) (lines : List (List ℕ)) (k : ℕ) (line : List ℕ) → HoldsLines old lines k → slice_get lines k ≡ Some line → new ≡ behind old line → HoldsLines new lines (k + 1)
+holds_more None new lines k line h e f = rw f tt
+holds_more (Some bytes) new lines k line h e f = rw f (ap (λ front. front ++ line) h ∙ sym (line_more lines k line e))
+
+seam : (front line rest whole : List ℕ) (n : ℕ) → front ++ (line ++ rest) ≡ whole → (front ++ take n line) ++ (drop n line ++ rest) ≡ whole
+seam front line rest whole n h =
+    append_assoc front (take n line) (drop n line ++ rest)
+    ∙ ap (λ xs. front ++ xs) (sym (append_assoc (take n line) (drop n line) rest) ∙ ap (λ xs. xs ++ rest) (take-append-drop n line))
+    ∙ h
+
+-- a line that was cut off
+pub front_more : (old new : Option (List ℕ)) (lines : List (List ℕ)) (k : ℕ) (line : List ℕ) → HoldsLines old lines k → slice_get lines k ≡ Some line → AppendsFront old new line
+    → IfSome new (λ bytes. IsFront bytes (joined lines))
+front_more None new lines k line h e f = rw f.2 tt
+front_more (Some bytes) new lines k line h e f =
+    rw f.2 (
+      drop f.0 line ++ joined (drop (k + 1) lines),
+      ap (λ front. (front ++ take f.0 line) ++ (drop f.0 line ++ joined (drop (k + 1) lines))) h
+          ∙ seam (joined (take k lines)) line (joined (drop (k + 1) lines)) (joined lines) f.0
+          (ap (λ rest. joined (take k lines) ++ joined rest) (sym (next_line lines k line e)) ∙ parted lines k),
+    )
+
+-- all lines
+pub holds_all : (written : Option (List ℕ)) (lines : List (List ℕ)) (k : ℕ) → HoldsLines written lines k → length lines ≤ k → IfSome written (λ bytes. bytes ≡ joined lines)
+holds_all None lines k h le = tt
+holds_all (Some bytes) lines k h le = h ∙ ap joined (take_all k lines le)
+
+pub holds_none : (written : Option (List ℕ)) (lines : List (List ℕ)) → IfSome written (λ bytes. bytes ≡ []) → HoldsLines written lines 0
+holds_none None lines h = tt
+holds_none (Some bytes) lines h = h
+
+-- a count that rose later has risen
+pub rose_later : (old now new : ℕ) → old ≤ now → Rose now new → Rose old new
+rose_later old now new le rose = omega arith
+
+pub same_name : (old new : Option (List ℕ)) → new ≡ old → IfSome old (λ name. name ≡ codes "-") → IfSome new (λ name. name ≡ codes "-")
+same_name old new e h = subst (λ (o : Option (List ℕ)). IfSome o (λ name. name ≡ codes "-")) (sym e) h

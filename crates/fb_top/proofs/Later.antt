@@ -1,0 +1,112 @@
+-- What stopped a later step, told of the desk at the start.
+use Rattle.std.proofs.Common.{◌≡◌, ◌≢◌, ℕ, ◌+◌, ◌<◌, ◌≤◌, ◌^◌, List, [], ◌∷◌, length, Option, subst, refl, sym, ap, ◌∙◌, inl, inr, arith, map, true}
+use Rattle.std.specs.Prelude.{IfSome}
+use Rattle.std.specs.String.{string_bytes}
+use Rattle.std.specs.List.{AllByRecursion}
+use Rattle.fb_units.specs.declared.types.Request.{Request}
+use Rattle.fb_geometry.specs.Places.{places}
+use Rattle.fb_service.specs.declared.disk.Disk.{Disk}
+use Rattle.fb_rows.specs.declared.run.Run.{Run}
+use Rattle.fb_trace.specs.Reading.{Accepted}
+use Rattle.fb_trace.specs.Servable.{IsServable, IsTraceOf}
+use Rattle.fb_model.specs.Accepted.{IsAccepted, IsRequestOf}
+use Rattle.fb_model.specs.PlainReplay.{Key}
+use Rattle.fb_model.specs.Content.{fore_rows}
+use Rattle.fb_report.specs.Fore.{fore_text}
+use Rattle.fb_desk.specs.Calls.{Rose, ChangesInput, ChangesOutput}
+use Rattle.fb_desk.specs.View.{DeskView, InputView, OutputView}
+use Rattle.fb_desk.specs.declared.desk.Input.{Input}
+use Rattle.fb_desk.specs.declared.desk.Input.TheVariants.{Params, Trace, Calls}
+use Rattle.fb_desk.specs.declared.desk.Output.{Output}
+use Rattle.fb_desk.specs.declared.desk.Output.TheVariants.{Fore, Back, Note, MadeTrace, MadeCalls}
+use Rattle.fb_words.specs.declared.command.ReplayWords.{ReplayWords}
+use Rattle.fb_top.specs.declared.outcome.Outcome.{Outcome}
+use Rattle.fb_top.specs.declared.outcome.Outcome.TheVariants as outcomes
+use Rattle.fb_top.specs.Streams.{IsHeld, IsLonger, IsFront}
+use Rattle.fb_top.specs.Read.{ReadsDisk, ReadsTrace, RefusesTrace, Accepts, inputs_of}
+use Rattle.fb_top.specs.Done.{IsPlainRun, IsRunOf, IsDone, IsCutOff}
+use Rattle.fb_top.specs.Causes.{HasCause, StopsTrace, StopsFore, KeepsReports, FaultsRose, RefusesInTurn, HoldsFront}
+use Rattle.fb_top.proofs.Fronts.{same_name}
+
+other_input : Trace ≢ Params
+other_input e = cc
+
+keeps : (old mid new : DeskView) → ChangesInput Params old mid → ChangesInput Trace mid new → KeepsReports old new
+keeps old mid new first second = λ output other. second.outputs output ∙ first.outputs output
+
+-- the trace is held before as it is held after the parameter file was read
+pub reads_before : (old mid : DeskView) (name : List ℕ) (device : ℕ) (disk : Disk) (trace : Accepted) → ChangesInput Params old mid → ReadsTrace mid name device disk trace → ReadsTrace old name device disk trace
+reads_before old mid name device disk trace only reads = record {
+  bytes = reads.bytes;
+  held = subst (λ (o : Option (List ℕ)). IfSome o (λ held. reads.bytes ≡ held)) (only.held name) reads.held;
+  spells = reads.spells;
+}
+
+-- why the trace was not read
+pub after_disk : (words : ReplayWords) (disk : Disk) (latent : List ℕ) (old mid new : DeskView) (outcome : Outcome) → ReadsDisk old (string_bytes words.params) disk latent
+    → ChangesInput Params old mid → ChangesInput Trace mid new → StopsTrace (string_bytes words.trace) words.device disk mid new outcome → HasCause words old new outcome
+after_disk words disk latent old mid new (outcomes.Done run) reads first second h = absurd h
+after_disk words disk latent old mid new (outcomes.Usage fault) reads first second h = absurd h
+after_disk words disk latent old mid new (outcomes.Params fault) reads first second h = absurd h
+after_disk words disk latent old mid new (outcomes.Trace fault) reads first second h = (
+  record {
+    disk = disk;
+    latent = latent;
+    reads_disk = reads;
+    refuses = record {
+      bytes = h.bytes;
+      held = subst (λ (o : Option (List ℕ)). IfSome o (λ held. h.bytes ≡ held)) (first.held (string_bytes words.trace)) h.held;
+      spells = h.spells;
+    };
+  },
+  keeps old mid new first second,
+)
+after_disk words disk latent old mid new (outcomes.TooLong Params) reads first second h = absurd h
+after_disk words disk latent old mid new (outcomes.TooLong Trace) reads first second h =
+    (tt, subst (λ (o : Option (List ℕ)). IfSome o (λ held. 2 ^ 28 < length held)) (first.held (string_bytes words.trace)) h, keeps old mid new first second)
+after_disk words disk latent old mid new (outcomes.TooLong Calls) reads first second h = absurd h
+after_disk words disk latent old mid new (outcomes.ReadFault Params) reads first second h = absurd h
+after_disk words disk latent old mid new (outcomes.ReadFault Trace) reads first second h =
+    (tt, subst (λ (v : InputView). Rose v.faults (new.inputs Trace).faults) (first.inputs Trace other_input) h, keeps old mid new first second)
+after_disk words disk latent old mid new (outcomes.ReadFault Calls) reads first second h = absurd h
+after_disk words disk latent old mid new (outcomes.WriteFault output) reads first second h = absurd h
+after_disk words disk latent old mid new outcomes.NoMemory reads first second h = inl (keeps old mid new first second)
+
+-- why the report was not written
+pub after_run : (words : ReplayWords) (run : Run) (old mid new : DeskView) (outcome : Outcome) (is_run : IsRunOf old words run) → mid.outputs Fore ≡ old.outputs Fore
+    → StopsFore (fore_text is_run.accepts.disk.sector_bytes words.bytes run) mid new outcome → HasCause words old new outcome
+after_run words run old mid new (outcomes.Done other) is_run same h = absurd h
+after_run words run old mid new (outcomes.Usage fault) is_run same h = absurd h
+after_run words run old mid new (outcomes.Params fault) is_run same h = absurd h
+after_run words run old mid new (outcomes.Trace fault) is_run same h = absurd h
+after_run words run old mid new (outcomes.TooLong input) is_run same h = absurd h
+after_run words run old mid new (outcomes.ReadFault input) is_run same h = absurd h
+after_run words run old mid new (outcomes.WriteFault Fore) is_run same h =
+    (refl, subst (λ (v : OutputView). Rose v.faults (new.outputs Fore).faults) same h.0, record { run = run; is_run = is_run; front = h.1 })
+after_run words run old mid new (outcomes.WriteFault Back) is_run same h = absurd h
+after_run words run old mid new (outcomes.WriteFault Note) is_run same h = absurd h
+after_run words run old mid new (outcomes.WriteFault MadeTrace) is_run same h = absurd h
+after_run words run old mid new (outcomes.WriteFault MadeCalls) is_run same h = absurd h
+after_run words run old mid new outcomes.NoMemory is_run same h = inr (record { run = run; is_run = is_run; front = h })
+
+all_requests : (disk : Disk) (requests : List Request) → AllByRecursion (IsServable (length (places disk.map))) requests → AllByRecursion (IsRequestOf disk.map) requests
+all_requests disk [] all = tt
+all_requests disk (request ∷ requests) all =
+    (record { range = record { some = all.0.some; inside = all.0.inside }; few = all.0.few; arrival = all.0.arrival }, all_requests disk requests all.1)
+
+-- what was read can be replayed
+pub is_accepted : (disk : Disk) (latent : List ℕ) (requests : List Request) (passed_over : ℕ) (key : Key) (until : ℕ) → AllByRecursion (λ lbn. lbn < length (places disk.map)) latent
+    → IsTraceOf (length (places disk.map)) requests → until ≤ 10 ^ 15
+    → IsAccepted (record { disk = disk; latent = latent; trace = requests; passed_over = passed_over; calls = []; key = key; until = until })
+is_accepted disk latent requests passed_over key until inside trace late = record {
+  latent = inside;
+  requests = all_requests disk requests trace.servable;
+  names = trace.names;
+  arrivals = trace.arrivals;
+  instants = tt;
+  calls = tt;
+  few_calls = omega arith;
+  few_blocks = omega arith;
+  few_requests = omega (arith, trace.few);
+  until = late;
+}

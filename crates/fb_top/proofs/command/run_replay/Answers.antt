@@ -1,0 +1,68 @@
+use Rattle.std.proofs.Common.{◌≡◌, ◌∙◌, List, ℕ, refl, sym, ap, subst, length}
+use Rattle.std.specs.String.{string_bytes}
+use Rattle.fb_desk.specs.declared.desk.Output.TheVariants.{Fore}
+use Rattle.fb_geometry.specs.Places.{places}
+use Rattle.fb_trace.specs.Verdict.{accepted}
+use Rattle.fb_top.specs.Read.{ReadsDisk, ReadsTrace}
+use Rattle.fb_top.specs.Causes.{StopsTrace}
+use Rattle.fb_top.specs.Done.{IsRunOf}
+use Rattle.fb_top.proofs.Later.{after_disk, after_run, reads_before, is_accepted}
+use Rattle.fb_top.proofs.command.run_replay.Goals as goal
+
+pub returns-in-Err-read_requests : goal.returns-in-Err-read_requests
+returns-in-Err-read_requests g c =
+    let old = g.D.Desk.seen c.args.desk.now in
+    let mid = g.D.Desk.seen c.read_disk.new.desk in
+    let new = g.D.Desk.seen c.read_requests.new.desk in
+    let words = c.args.words.now in
+    after_disk words c.in-Ok.params.disk c.in-Ok.params.latent.items old mid new c.in-Err-read_requests.outcome
+    (subst (λ (name : List ℕ). ReadsDisk old name c.in-Ok.params.disk c.in-Ok.params.latent.items) c.as_str.ensures.value c.in-Ok.ensures.disk)
+    c.in-Ok.ensures.only c.in-Err-read_requests.ensures.only
+    (subst (λ (name : List ℕ). StopsTrace name words.device c.in-Ok.params.disk mid new c.in-Err-read_requests.outcome) c.as_str-2.ensures.value c.in-Err-read_requests.ensures.stops)
+
+pub replay_by-requires : goal.replay_by-requires
+replay_by-requires g c = record {
+  accepted = is_accepted c.in-Ok.params.disk c.in-Ok.params.latent.items c.in-Ok-read_requests.trace.requests.items c.in-Ok-read_requests.trace.passed_over _ c.args.words.now.until
+      c.in-Ok.ensures.latent c.in-Ok-read_requests.ensures.servable c.requires.until;
+}
+
+pub returns-in-Ok-write_fore : goal.returns-in-Ok-write_fore
+returns-in-Ok-write_fore g c =
+    let old = g.D.Desk.seen c.args.desk.now in
+    let mid = g.D.Desk.seen c.read_disk.new.desk in
+    let words = c.args.words.now in
+    record {
+      is_run = record {
+        accepts = record {
+          disk = c.in-Ok.params.disk;
+          latent = c.in-Ok.params.latent.items;
+          trace = accepted c.in-Ok-read_requests.trace;
+          reads_disk = subst (λ (name : List ℕ). ReadsDisk old name c.in-Ok.params.disk c.in-Ok.params.latent.items) c.as_str.ensures.value c.in-Ok.ensures.disk;
+          reads_trace = reads_before old mid (string_bytes words.trace) words.device c.in-Ok.params.disk (accepted c.in-Ok-read_requests.trace) c.in-Ok.ensures.only
+              (subst (λ (name : List ℕ). ReadsTrace mid name words.device c.in-Ok.params.disk (accepted c.in-Ok-read_requests.trace)) c.as_str-2.ensures.value c.in-Ok-read_requests.ensures.trace);
+        };
+        plain = record { fore = c.in-Ok-replay_by.ensures.fore; passed_over = c.in-Ok-replay_by.ensures.passed_over };
+      };
+      name = c.in-Ok-write_fore.ensures.name;
+      written = c.in-Ok-write_fore.ensures.written;
+    }
+
+pub returns : goal.returns
+returns g c =
+    let old = g.D.Desk.seen c.args.desk.now in
+    let mid = g.D.Desk.seen c.read_disk.new.desk in
+    let late = g.D.Desk.seen c.read_requests.new.desk in
+    let new = g.D.Desk.seen c.write_fore.new.desk in
+    let words = c.args.words.now in
+    let is_run : IsRunOf old words c.in-Ok-replay_by.run' = record {
+      accepts = record {
+        disk = c.in-Ok.params.disk;
+        latent = c.in-Ok.params.latent.items;
+        trace = accepted c.in-Ok-read_requests.trace;
+        reads_disk = subst (λ (name : List ℕ). ReadsDisk old name c.in-Ok.params.disk c.in-Ok.params.latent.items) c.as_str.ensures.value c.in-Ok.ensures.disk;
+        reads_trace = reads_before old mid (string_bytes words.trace) words.device c.in-Ok.params.disk (accepted c.in-Ok-read_requests.trace) c.in-Ok.ensures.only
+            (subst (λ (name : List ℕ). ReadsTrace mid name words.device c.in-Ok.params.disk (accepted c.in-Ok-read_requests.trace)) c.as_str-2.ensures.value c.in-Ok-read_requests.ensures.trace);
+      };
+      plain = record { fore = c.in-Ok-replay_by.ensures.fore; passed_over = c.in-Ok-replay_by.ensures.passed_over };
+    } in
+    after_run words c.in-Ok-replay_by.run' old late new c.in-Err-write_fore.outcome is_run (c.in-Ok-read_requests.ensures.only.outputs Fore ∙ c.in-Ok.ensures.only.outputs Fore) c.in-Err-write_fore.ensures.stops
