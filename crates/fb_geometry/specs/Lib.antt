@@ -3,3 +3,7 @@ pub mod Angles
 pub mod Places
 pub mod Faults
 pub mod Sound
+pub mod Slips
+pub mod Marks
+pub mod Index
+pub mod Turns

@@ -38,11 +38,13 @@ pub record IsSound (disk : Shape) : Type 0 where
   pub few_zones : length disk.zones ≤ 64
   -- each zone begins where the one before it ends
   pub contiguous : first_apart 0 0 disk.zones ≡ None
+  pub some_cylinders : (i : ℕ) (zone : Zone) → slice_get disk.zones i ≡ Some zone → zone.first ≤ zone.last
   pub few_cylinders : cylinders_of disk.zones ≤ 10 ^ 6
   -- each cylinder of a zone holds the same number of sectors, and some
   pub equal : (i : ℕ) (zone : Zone) (cylinder : ℕ) → IsCylinderOf disk i zone cylinder → length (data_list disk zone cylinder) ≡ cylinder_size disk zone
   pub some_data : (i : ℕ) (zone : Zone) → slice_get disk.zones i ≡ Some zone → 0 < cylinder_size disk zone
   pub few_slots : (i : ℕ) (zone : Zone) → slice_get disk.zones i ≡ Some zone → zone.sectors ≤ 10000
+  pub short_slots : (i : ℕ) (zone : Zone) → slice_get disk.zones i ≡ Some zone → zone.sectors ≤ disk.rotation
   -- what a cylinder's list names are slots of that cylinder
   pub own : (i : ℕ) (zone : Zone) (cylinder j : ℕ) (place : Place) → IsCylinderOf disk i zone cylinder
       → slice_get (data_list disk zone cylinder) j ≡ Some place → LiesOn disk cylinder place

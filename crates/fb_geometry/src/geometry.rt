@@ -1,34 +1,41 @@
 // The geometry of a disk.
-ghost use Rattle.std.specs.Prelude.{◌≡◌, ℕ, ◌+◌, ◌-◌, ◌*◌, ◌/◌, ◌<◌, ◌≤◌, ◌^◌, [], ◌∷◌};
-ghost use Rattle.fb_geometry.specs.Shape.{Shape, slots_at, cylinders_of};
+ghost use Rattle.std.specs.Prelude.{◌≡◌, ℕ, ◌+◌, ◌-◌, ◌*◌, ◌/◌, ◌<◌, ◌≤◌, ◌^◌, [], ◌∷◌, length, slice_get, Some, None, MatchOption};
+ghost use Rattle.fb_geometry.specs.Shape.{Shape, slots_at, cylinders_of, offset_at};
 ghost use Rattle.fb_geometry.specs.Angles.{slot_begin};
+ghost use Rattle.fb_geometry.specs.Places.{data_list_at};
 ghost use Rattle.fb_geometry.specs.Faults.{Judges, FitsLayout};
-ghost use Rattle.fb_geometry.specs.declared.layout.Layout.TheVariants.{PerTrack};
+ghost use Rattle.fb_geometry.specs.Sound.{IsSound};
+ghost use Rattle.fb_geometry.specs.Turns.{IsZoneAt};
 
+use crate::marks::Marks;
+use crate::zone::zone_of;
 use crate::{GeometryError, Layout, Zone};
 use fb_units::{Ns, Place, Track};
 use std::alloc::Global;
 use std::marker::Model;
 
-/// The shape of a disk.
+/// The shape of a disk: which slots its tracks have, and which of them hold data.
 #[derive(Drop)]
 pub struct Geometry {
+    layout: Layout,
     rotation: Ns,
     heads: u32,
-    last: u32,
-    sectors: u32,
+    zones: Vec<Zone>,
+    defects: Vec<Place>,
+    grown: Vec<Place>,
+    defect_marks: Marks,
+    grown_marks: Marks,
 }
 
 impl Model for Geometry {
-    ghost use Rattle.std.specs.Prelude.{◌<◌, ◌≤◌, [], ◌∷◌, ◌^◌};
-    ghost use Rattle.fb_geometry.specs.declared.layout.Layout.TheVariants.{PerTrack};
     ghost use Rattle.fb_geometry.specs.Shape.{Shape};
+    ghost use Rattle.fb_geometry.specs.Index.{IsKept};
 
     ghost Value = { Shape };
 
-    ghost view = { λ g. record { layout = PerTrack; rotation = g.rotation; heads = g.heads; zones = record { first = 0; last = g.last; sectors = g.sectors; track_skew = 0; cylinder_skew = 0; spares = 0; cylinder_spares = 0 } ∷ []; defects = []; grown = [] } };
+    ghost view = { λ g. record { layout = g.layout; rotation = g.rotation; heads = g.heads; zones = g.zones.items; defects = g.defects.items; grown = g.grown.items } };
 
-    ghost invariant = { λ g. (0 < g.heads) × (g.heads ≤ 64) × (g.last < 10 ^ 6) × (0 < g.sectors) × (g.sectors ≤ 10000) × (g.sectors ≤ g.rotation) × (g.rotation ≤ 10 ^ 9) };
+    ghost invariant = { λ g. IsKept (record { layout = g.layout; rotation = g.rotation; heads = g.heads; zones = g.zones.items; defects = g.defects.items; grown = g.grown.items }) g.defect_marks g.grown_marks };
 }
 
 impl Geometry {
@@ -48,25 +55,22 @@ impl Geometry {
         Err(GeometryError::NoMemory)
     }
 
-    /// One zone without skews, spares and defects.
-    pub fn one_zone(rotation: Ns, heads: u32, last: u32, sectors: u32) -> Geometry
-        requires rotation { rotation ≤ 10 ^ 9 }
-        requires some_heads { 0 < heads }
-        requires heads { heads ≤ 64 }
-        requires last { last < 10 ^ 6 }
-        requires some_sectors { 0 < sectors }
-        requires sectors { sectors ≤ 10000 }
-        requires room { sectors ≤ rotation }
-        ensures { result ≡ record { layout = PerTrack; rotation = rotation; heads = heads; zones = record { first = 0; last = last; sectors = sectors; track_skew = 0; cylinder_skew = 0; spares = 0; cylinder_spares = 0 } ∷ []; defects = []; grown = [] } }
+    /// What every geometry keeps: its numbers lie in their ranges, its zones follow one another, and
+    /// each cylinder of a zone has the same number of sectors, on slots of its own.
+    pub fn sound(&self)
+        ensures { IsSound self.now }
     {
-        Geometry {
-            rotation,
-            heads,
-            last,
-            sectors,
-        }
+        let _layout = &self.layout;
     }
 
+    /// Where the spares stand.
+    pub fn layout(&self) -> Layout
+        ensures { result ≡ self.now.layout }
+    {
+        self.layout
+    }
+
+    /// The time of one rotation.
     pub fn rotation(&self) -> Ns
         ensures value { result ≡ self.now.rotation }
         ensures some { 0 < result }
@@ -75,27 +79,70 @@ impl Geometry {
         self.rotation
     }
 
+    /// The number of heads, which is that of the tracks of a cylinder.
     pub fn heads(&self) -> u32
         ensures value { result ≡ self.now.heads }
         ensures some { 0 < result }
+        ensures few { result ≤ 64 }
     {
         self.heads
     }
 
+    /// The number of cylinders.
     pub fn cylinders(&self) -> u32
         ensures value { result ≡ cylinders_of self.now.zones }
         ensures some { 0 < result }
+        ensures few { result ≤ 10 ^ 6 }
     {
-        self.last + 1
+        self.zones[self.zones.len() - 1].last + 1
+    }
+
+    /// The number of zones.
+    pub fn zones(&self) -> u32
+        ensures value { result ≡ length self.now.zones }
+        ensures some { 0 < result }
+        ensures few { result ≤ 64 }
+    {
+        self.zones.len() as u32
+    }
+
+    /// The zone at an index, by cylinder from 0.
+    pub fn zone(&self, i: u32) -> Zone
+        requires { i < length self.now.zones }
+        ensures { slice_get self.now.zones i ≡ Some result }
+    {
+        self.zones[i as usize]
+    }
+
+    // The zone of a cylinder.
+    fn zone_of(&self, cylinder: u32) -> Zone
+        requires { cylinder < cylinders_of self.now.zones }
+        ensures zone { IsZoneAt self.now cylinder result }
+        ensures slots { slots_at self.now.zones cylinder ≡ result.sectors }
+    {
+        zone_of(self.zones.as_slice(), cylinder)
     }
 
     /// The number of slots of a track.
     pub fn slots(&self, track: Track) -> u32
         requires { track.cylinder < cylinders_of self.now.zones }
-        ensures { result ≡ slots_at self.now.zones track.cylinder }
+        ensures value { result ≡ slots_at self.now.zones track.cylinder }
+        ensures some { 0 < result }
+        ensures few { result ≤ 10000 }
+        ensures room { result ≤ self.now.rotation }
     {
-        let _ = track;
-        self.sectors
+        let _ = &self.layout;
+        self.zone_of(track.cylinder).sectors
+    }
+
+    /// The slot from which a track is counted.
+    pub fn offset(&self, track: Track) -> u32
+        requires cylinder { track.cylinder < cylinders_of self.now.zones }
+        requires head { track.head < self.now.heads }
+        ensures value { result ≡ offset_at self.now.zones self.now.heads track }
+        ensures below { result < slots_at self.now.zones track.cylinder }
+    {
+        self.zone_of(track.cylinder).offset(self.heads, track)
     }
 
     /// The angle at which a slot begins.

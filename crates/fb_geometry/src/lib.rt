@@ -4,6 +4,7 @@
 mod fault;
 mod geometry;
 mod layout;
+mod marks;
 mod zone;
 
 pub use fault::{GeometryError, GeometryFault};

@@ -1,0 +1,293 @@
+-- What an outline without a fault keeps.
+use Rattle.std.proofs.Common.{◌≡◌, ◌≢◌, ℕ, zero, suc, ◌+◌, ◌-◌, ◌*◌, ◌^◌, ◌<◌, ◌≤◌, List, [], ◌∷◌, ◌++◌, length, refl, ap, sym, ◌∙◌, arith, Bool, true, false, not, cond, Option, Some, None, ◌⊎◌, inl, inr, map, subst, get_or}
+use Rattle.std.specs.Prelude.{filter, find, position, nat_lt, nat_le, ◌==◌, ◌&&◌, ◌||◌, slice_get}
+use Rattle.std.specs.List.{list_any, AllByRecursion, position_or_len}
+use Rattle.std.specs.List.Sorted.{IsPartitionPoint, IsNonDecreasingBy}
+use Rattle.std.proofs.lemmas.Bool.{cases_Bool, cases_lt, true≢false, and_parts, or_parts, not-false, lt-ltb, eqb-true, le-leb, lt-leb, leb-true, ltb-true, ltb-false}
+use Rattle.std.proofs.lemmas.Bool.Decides.{nat_tests}
+use Rattle.std.proofs.lemmas.Option.{same_Some, none-some, slice_get-get_or}
+use Rattle.fb_units.specs.declared.types.Place.{Place}
+use Rattle.fb_units.specs.declared.types.Track.{Track}
+use Rattle.fb_units.specs.Tracks.{same_track}
+use Rattle.fb_geometry.specs.declared.layout.Layout.{Layout}
+use Rattle.fb_geometry.specs.declared.layout.Layout.TheVariants.{PerTrack, PerCylinder}
+use Rattle.fb_geometry.specs.declared.zone.Zone.{Zone}
+use Rattle.fb_geometry.specs.declared.fault.GeometryFault.{GeometryFault}
+use Rattle.fb_geometry.specs.declared.fault.GeometryFault.TheVariants.{OutOfRange, ZonesNotContiguous, SkewTooLarge, DefectOutside, DefectTwice, TooManyDefects, GrownOutside, GrownTwice, TooManyInCylinder}
+use Rattle.fb_geometry.specs.Shape.{Shape, slots_at, cylinders_of, offset_at, offset_in, is_among}
+use Rattle.fb_geometry.specs.Faults.{first_fault, range_fault, spare_fault, or_else, fault_at, is_out_of_range, is_bad_zone, has_no_data, first_apart, is_too_skewed, is_outside, least, lesser, is_place_before, is_track_before, repeated, is_full_track, is_full_cylinder, spares_at, cylinder_spares_at}
+use Rattle.fb_geometry.specs.Places.{list_among, data_list}
+use Rattle.fb_geometry.specs.Sound.{IsCylinderOf}
+use Rattle.fb_geometry.specs.Index.{IsFaultless}
+use Rattle.fb_geometry.specs.Turns.{IsZone, IsZoneAt, zone_at}
+
+-- ---- chains
+
+pub or_else-none : (a b : Option GeometryFault) → or_else a b ≡ None → (a ≡ None) × (b ≡ None)
+or_else-none None b h = (refl, h)
+or_else-none (Some fault) b h = absurd (none-some fault (sym h))
+
+pub fault_at-none : {A : Type 0} (fault : A → GeometryFault) (o : Option A) → fault_at fault o ≡ None → o ≡ None
+fault_at-none fault None h = refl
+fault_at-none fault (Some a) h = absurd (none-some (fault a) (sym h))
+
+in_range-from : (b : Bool) → (cond b (Some OutOfRange) None) ≡ None → b ≡ false
+in_range-from true h = absurd (none-some OutOfRange (sym h))
+in_range-from false h = refl
+
+pub faultless : (disk : Shape) → first_fault disk ≡ None → IsFaultless disk
+unfolding first_fault
+faultless disk h =
+    let a = or_else-none (range_fault disk) (or_else (fault_at ZonesNotContiguous (first_apart 0 0 disk.zones)) (or_else (fault_at SkewTooLarge (position is_too_skewed disk.zones)) (or_else (fault_at DefectOutside (find (is_outside disk) disk.defects)) (or_else (fault_at DefectTwice (least is_place_before (repeated disk.defects))) (spare_fault disk.layout disk))))) h in
+    let b = or_else-none (fault_at ZonesNotContiguous (first_apart 0 0 disk.zones)) (or_else (fault_at SkewTooLarge (position is_too_skewed disk.zones)) (or_else (fault_at DefectOutside (find (is_outside disk) disk.defects)) (or_else (fault_at DefectTwice (least is_place_before (repeated disk.defects))) (spare_fault disk.layout disk)))) a.1 in
+    let c = or_else-none (fault_at SkewTooLarge (position is_too_skewed disk.zones)) (or_else (fault_at DefectOutside (find (is_outside disk) disk.defects)) (or_else (fault_at DefectTwice (least is_place_before (repeated disk.defects))) (spare_fault disk.layout disk))) b.1 in
+    let d = or_else-none (fault_at DefectOutside (find (is_outside disk) disk.defects)) (or_else (fault_at DefectTwice (least is_place_before (repeated disk.defects))) (spare_fault disk.layout disk)) c.1 in
+    let e = or_else-none (fault_at DefectTwice (least is_place_before (repeated disk.defects))) (spare_fault disk.layout disk) d.1 in
+    record {
+      in_range = in_range-from (is_out_of_range disk) a.0;
+      contiguous = fault_at-none ZonesNotContiguous (first_apart 0 0 disk.zones) b.0;
+      skews = fault_at-none SkewTooLarge (position is_too_skewed disk.zones) c.0;
+      defects_inside = fault_at-none DefectOutside (find (is_outside disk) disk.defects) d.0;
+      defects_once = fault_at-none DefectTwice (least is_place_before (repeated disk.defects)) e.0;
+      spares = e.1 }
+
+-- ---- searches that find nothing
+
+pub all_get : {X : Type 0} (P : X → Type 0) (xs : List X) (i : ℕ) (x : X) → AllByRecursion P xs → slice_get xs i ≡ Some x → P x
+all_get P [] i x all at = absurd (none-some x at)
+all_get P (y ∷ xs) zero x all at = subst P (same_Some y x at) all.0
+all_get P (y ∷ xs) (suc i) x all at = all_get P xs i x all.1 at
+
+pub find-none : {X : Type 0} (test : X → Bool) (xs : List X) → find test xs ≡ None → AllByRecursion (λ x. test x ≡ false) xs
+find-none test [] h = tt
+find-none test (x ∷ xs) h = elim (cases_Bool (test x)) [
+    | inl hit ↦ absurd (none-some x (sym (rw hit at h)))
+    | inr miss ↦ (miss, find-none test xs (rw miss at h)) ]
+
+pub list_any-none : {X : Type 0} (test : X → Bool) (xs : List X) → list_any test xs ≡ false → AllByRecursion (λ x. test x ≡ false) xs
+list_any-none test [] h = tt
+list_any-none test (x ∷ xs) h = let parts = or_parts (test x) (list_any test xs) h in (parts.0, list_any-none test xs parts.1)
+
+pub position-none : {X : Type 0} (test : X → Bool) (xs : List X) → position test xs ≡ None → AllByRecursion (λ x. test x ≡ false) xs
+position-none test xs h = missing test xs (not_below (position_or_len test xs) (length xs) h)
+    where
+      not_below : (a b : ℕ) → cond (nat_lt a b) (Some a) None ≡ None → b ≤ a
+      not_below a b h = elim (cases_lt a b) [
+          | inl less ↦ absurd (none-some a (sym (rw (lt-ltb a b less) at h)))
+          | inr more ↦ more ]
+      missing : {X : Type 0} (test : X → Bool) (xs : List X) → length xs ≤ position_or_len test xs → AllByRecursion (λ x. test x ≡ false) xs
+      missing test [] h = tt
+      missing test (x ∷ xs) h = elim (cases_Bool (test x)) [
+          | inl hit ↦ absurd (omega (arith, rw hit at h))
+          | inr miss ↦ (miss, missing test xs (omega (arith, rw miss at h))) ]
+
+pub least-none : {X : Type 0} (is_before : X → X → Bool) (xs : List X) → least is_before xs ≡ None → xs ≡ []
+least-none is_before [] h = refl
+least-none {X = X} is_before (x ∷ xs) h = absurd (lesser_some (least is_before xs) h)
+    where
+      lesser_some : (o : Option X) → lesser is_before x o ≡ None → ⊥
+      lesser_some None h = none-some x (sym h)
+      lesser_some (Some y) h = elim (cases_Bool (is_before y x)) [
+          | inl before ↦ none-some y (sym (rw before at h))
+          | inr not_before ↦ none-some x (sym (rw not_before at h)) ]
+
+pub filter-none : {X : Type 0} (test : X → Bool) (xs : List X) → filter test xs ≡ [] → AllByRecursion (λ x. test x ≡ false) xs
+filter-none test [] h = tt
+filter-none test (x ∷ xs) h = elim (cases_Bool (test x)) [
+    | inl hit ↦ absurd (omega (arith, ap length (rw hit at h)))
+    | inr miss ↦ (miss, filter-none test xs (rw miss at h)) ]
+
+-- ---- zones
+
+module _ (disk : Shape) (sound : IsFaultless disk) where
+  good_zones : AllByRecursion (λ zone. is_bad_zone disk zone ≡ false) disk.zones
+  good_zones = list_any-none (is_bad_zone disk) disk.zones (or_parts ((disk.rotation == 0) || nat_lt (10 ^ 9) disk.rotation || (disk.heads == 0) || nat_lt 64 disk.heads || (length disk.zones == 0) || nat_lt 64 (length disk.zones)) (list_any (is_bad_zone disk) disk.zones) sound.in_range).1
+
+  pub some_rotation : 0 < disk.rotation
+  some_rotation = grind (arith, nat_tests, sound.in_range)
+
+  pub short_rotation : disk.rotation ≤ 10 ^ 9
+  short_rotation = grind (arith, nat_tests, sound.in_range)
+
+  pub some_heads : 0 < disk.heads
+  some_heads = grind (arith, nat_tests, sound.in_range)
+
+  pub few_heads : disk.heads ≤ 64
+  few_heads = grind (arith, nat_tests, sound.in_range)
+
+  pub some_zones : 0 < length disk.zones
+  some_zones = grind (arith, nat_tests, sound.in_range)
+
+  pub few_zones : length disk.zones ≤ 64
+  few_zones = grind (arith, nat_tests, sound.in_range)
+
+  good_zone : (zone : Zone) → is_bad_zone disk zone ≡ false → is_too_skewed zone ≡ false → IsZone zone
+  good_zone zone h k = record {
+    some_sectors = grind (arith, nat_tests, h);
+    few_sectors = grind (arith, nat_tests, h);
+    some_cylinders = grind (arith, nat_tests, h);
+    few_cylinders = grind (arith, nat_tests, h);
+    track_skew = grind (arith, nat_tests, k);
+    cylinder_skew = grind (arith, nat_tests, k) }
+
+  -- each zone's numbers lie in their ranges
+  pub ranges_of : (i : ℕ) (zone : Zone) → slice_get disk.zones i ≡ Some zone → IsZone zone
+  ranges_of i zone at = good_zone zone (all_get (λ zone. is_bad_zone disk zone ≡ false) disk.zones i zone good_zones at)
+      (all_get (λ zone. is_too_skewed zone ≡ false) disk.zones i zone (position-none is_too_skewed disk.zones sound.skews) at)
+
+  pub short_slots : (i : ℕ) (zone : Zone) → slice_get disk.zones i ≡ Some zone → zone.sectors ≤ disk.rotation
+  short_slots i zone at = grind (arith, nat_tests, all_get (λ zone. is_bad_zone disk zone ≡ false) disk.zones i zone good_zones at)
+
+  pub data_of : (i : ℕ) (zone : Zone) → slice_get disk.zones i ≡ Some zone → has_no_data disk.layout disk zone ≡ false
+  data_of i zone at = (or_parts (nat_lt zone.last zone.first || nat_lt 999999 zone.last || (zone.sectors == 0) || nat_lt 10000 zone.sectors || nat_lt disk.rotation zone.sectors) (has_no_data disk.layout disk zone)
+      (all_get (λ zone. is_bad_zone disk zone ≡ false) disk.zones i zone good_zones at)).1
+
+-- ---- the zone of a cylinder
+
+abbrev Ascends : List Zone → Type 0
+Ascends zones = (i : ℕ) (zone : Zone) → slice_get zones i ≡ Some zone → zone.first ≤ zone.last
+
+next : (index begin : ℕ) (zone : Zone) (zones : List Zone) → first_apart index begin (zone ∷ zones) ≡ None → (zone.first ≡ begin) × (first_apart (index + 1) (zone.last + 1) zones ≡ None)
+next index begin zone zones h = elim (cases_Bool (zone.first == begin)) [
+    | inl here ↦ (eqb-true zone.first begin here, rw here at h)
+    | inr off ↦ absurd (none-some index (sym (rw off at h))) ]
+
+-- no zone begins before this one
+zones_from : (index begin i : ℕ) (zones : List Zone) (zone : Zone) → first_apart index begin zones ≡ None → Ascends zones → slice_get zones i ≡ Some zone → begin ≤ zone.first
+zones_from index begin i [] zone h up at = absurd (none-some zone at)
+zones_from index begin zero (other ∷ zones) zone h up at = let here = (next index begin other zones h).0 in omega (arith, ap (λ zone. zone.first) (same_Some other zone at))
+zones_from index begin (suc i) (other ∷ zones) zone h up at =
+    let parts = next index begin other zones h in
+    omega (arith, parts.0, up 0 other refl, zones_from (index + 1) (other.last + 1) i zones zone parts.1 (λ j zone. up (suc j) zone) at)
+
+-- the last cylinders rise from zone to zone
+pub lasts-rise : (index begin i j : ℕ) (zones : List Zone) (a b : Zone) → first_apart index begin zones ≡ None → Ascends zones → slice_get zones i ≡ Some a → slice_get zones j ≡ Some b → i ≤ j → a.last ≤ b.last
+lasts-rise index begin i j [] a b h up at_a at_b le = absurd (none-some a at_a)
+lasts-rise index begin zero zero (zone ∷ zones) a b h up at_a at_b le = omega (arith, ap (λ zone. zone.last) (same_Some zone a at_a), ap (λ zone. zone.last) (same_Some zone b at_b))
+lasts-rise index begin zero (suc j) (zone ∷ zones) a b h up at_a at_b le =
+    omega (arith, ap (λ zone. zone.last) (same_Some zone a at_a), up (suc j) b at_b, zones_from (index + 1) (zone.last + 1) j zones b (next index begin zone zones h).1 (λ j zone. up (suc j) zone) at_b)
+lasts-rise index begin (suc i) zero (zone ∷ zones) a b h up at_a at_b le = absurd (omega arith)
+lasts-rise index begin (suc i) (suc j) (zone ∷ zones) a b h up at_a at_b le =
+    lasts-rise (index + 1) (zone.last + 1) i j zones a b (next index begin zone zones h).1 (λ j zone. up (suc j) zone) at_a at_b (omega arith)
+
+-- a cylinder between the first and the last of a zone is that zone's
+zone_of : (index begin i cylinder : ℕ) (zones : List Zone) (zone : Zone) → first_apart index begin zones ≡ None → Ascends zones → slice_get zones i ≡ Some zone → zone.first ≤ cylinder → cylinder ≤ zone.last → zone_at zones cylinder ≡ Some zone
+zone_of index begin i cylinder [] zone h up at from upto = absurd (none-some zone at)
+zone_of index begin zero cylinder (other ∷ zones) zone h up at from upto = rw (le-leb cylinder other.last (omega (arith, ap (λ zone. zone.last) (same_Some other zone at)))) at
+zone_of index begin (suc i) cylinder (other ∷ zones) zone h up at from upto =
+    let rest = (next index begin other zones h).1 in
+    let after = zones_from (index + 1) (other.last + 1) i zones zone rest (λ j zone. up (suc j) zone) at in
+    rw (lt-leb cylinder other.last (omega arith)) (zone_of (index + 1) (other.last + 1) i cylinder zones zone rest (λ j zone. up (suc j) zone) at from upto)
+
+-- a zone that was found is one of them
+pub find-some : {X : Type 0} (test : X → Bool) (xs : List X) (x : X) → find test xs ≡ Some x → (i : ℕ) × (slice_get xs i ≡ Some x) × (test x ≡ true)
+find-some test [] x h = absurd (none-some x h)
+find-some test (y ∷ xs) x h = elim (cases_Bool (test y)) [
+    | inl hit ↦ let same : Some y ≡ Some x = rw hit at h in (0, same, subst (λ z. test z ≡ true) (same_Some y x same) hit)
+    | inr miss ↦ let rest = find-some test xs x (rw miss at h) in (suc rest.0, rest.1, rest.2) ]
+
+-- and doesn't begin behind the cylinder
+found_from : (index begin cylinder : ℕ) (zones : List Zone) (zone : Zone) → first_apart index begin zones ≡ None → begin ≤ cylinder → zone_at zones cylinder ≡ Some zone → zone.first ≤ cylinder
+found_from index begin cylinder [] zone h from at = absurd (none-some zone at)
+found_from index begin cylinder (other ∷ zones) zone h from at =
+    let parts = next index begin other zones h in
+    elim (cases_lt other.last cylinder) [
+      | inl behind ↦ found_from (index + 1) (other.last + 1) cylinder zones zone parts.1 (omega arith) (rw (lt-leb cylinder other.last behind) at at)
+      | inr here ↦ let same : Some other ≡ Some zone = rw (le-leb cylinder other.last here) at at in omega (arith, parts.0, ap (λ zone. zone.first) (same_Some other zone same)) ]
+
+-- what is said of a cylinder by its zone
+pub slots_at-zone : (zones : List Zone) (cylinder : ℕ) (zone : Zone) → zone_at zones cylinder ≡ Some zone → slots_at zones cylinder ≡ zone.sectors
+slots_at-zone [] cylinder zone h = absurd (none-some zone h)
+slots_at-zone (other ∷ zones) cylinder zone h = elim (cases_Bool (nat_le cylinder other.last)) [
+    | inl here ↦ rw here (ap (λ zone. zone.sectors) (same_Some other zone (rw here at h)))
+    | inr on ↦ rw on (slots_at-zone zones cylinder zone (rw on at h)) ]
+
+pub spares_at-zone : (zones : List Zone) (cylinder : ℕ) (zone : Zone) → zone_at zones cylinder ≡ Some zone → spares_at zones cylinder ≡ zone.spares
+spares_at-zone [] cylinder zone h = absurd (none-some zone h)
+spares_at-zone (other ∷ zones) cylinder zone h = elim (cases_Bool (nat_le cylinder other.last)) [
+    | inl here ↦ rw here (ap (λ zone. zone.spares) (same_Some other zone (rw here at h)))
+    | inr on ↦ rw on (spares_at-zone zones cylinder zone (rw on at h)) ]
+
+pub cylinder_spares_at-zone : (zones : List Zone) (cylinder : ℕ) (zone : Zone) → zone_at zones cylinder ≡ Some zone → cylinder_spares_at zones cylinder ≡ zone.cylinder_spares
+cylinder_spares_at-zone [] cylinder zone h = absurd (none-some zone h)
+cylinder_spares_at-zone (other ∷ zones) cylinder zone h = elim (cases_Bool (nat_le cylinder other.last)) [
+    | inl here ↦ rw here (ap (λ zone. zone.cylinder_spares) (same_Some other zone (rw here at h)))
+    | inr on ↦ rw on (cylinder_spares_at-zone zones cylinder zone (rw on at h)) ]
+
+pub offset_at-zone : (zones : List Zone) (heads : ℕ) (track : Track) (zone : Zone) → zone_at zones track.cylinder ≡ Some zone → offset_at zones heads track ≡ offset_in zone heads track
+offset_at-zone [] heads track zone h = absurd (none-some zone h)
+offset_at-zone (other ∷ zones) heads track zone h = elim (cases_Bool (nat_le track.cylinder other.last)) [
+    | inl here ↦ rw here (ap (λ zone. offset_in zone heads track) (same_Some other zone (rw here at h)))
+    | inr on ↦ rw on (offset_at-zone zones heads track zone (rw on at h)) ]
+
+pub list_among-zone : (disk : Shape) (zones : List Zone) (cylinder : ℕ) (zone : Zone) → zone_at zones cylinder ≡ Some zone → list_among disk zones cylinder ≡ data_list disk zone cylinder
+list_among-zone disk [] cylinder zone h = absurd (none-some zone h)
+list_among-zone disk (other ∷ zones) cylinder zone h = elim (cases_Bool (nat_le cylinder other.last)) [
+    | inl here ↦ rw here (ap (λ zone. data_list disk zone cylinder) (same_Some other zone (rw here at h)))
+    | inr on ↦ rw on (list_among-zone disk zones cylinder zone (rw on at h)) ]
+
+-- a cylinder of the disk has a zone
+some_zone : (index begin cylinder : ℕ) (zones : List Zone) → first_apart index begin zones ≡ None → begin ≤ cylinder → cylinder < cylinders_of zones → (zone : Zone) × (zone_at zones cylinder ≡ Some zone)
+some_zone index begin cylinder [] h from below = absurd (omega arith)
+some_zone index begin cylinder (zone ∷ []) h from below = (zone, rw (le-leb cylinder zone.last (omega arith)) refl)
+some_zone index begin cylinder (zone ∷ other ∷ zones) h from below = elim (cases_lt zone.last cylinder) [
+    | inl behind ↦ let rest = some_zone (index + 1) (zone.last + 1) cylinder (other ∷ zones) (next index begin zone (other ∷ zones) h).1 (omega arith) below in (rest.0, rw (lt-leb cylinder zone.last behind) rest.1)
+    | inr here ↦ (zone, rw (le-leb cylinder zone.last here) refl) ]
+
+cylinders-le : (n : ℕ) (zones : List Zone) → ((i : ℕ) (zone : Zone) → slice_get zones i ≡ Some zone → zone.last < n) → 0 < length zones → cylinders_of zones ≤ n
+cylinders-le n [] all some = absurd (omega arith)
+cylinders-le n (zone ∷ []) all some = omega (arith, all 0 zone refl)
+cylinders-le n (zone ∷ other ∷ zones) all some = cylinders-le n (other ∷ zones) (λ i. all (suc i)) (omega arith)
+
+module _ (disk : Shape) (sound : IsFaultless disk) where
+  ascends : Ascends disk.zones
+  ascends i zone at = (ranges_of disk sound i zone at).some_cylinders
+
+  pub few_cylinders : cylinders_of disk.zones ≤ 10 ^ 6
+  few_cylinders = cylinders-le (10 ^ 6) disk.zones (λ i zone at. (ranges_of disk sound i zone at).few_cylinders) (some_zones disk sound)
+
+  pub zones-rise : IsNonDecreasingBy (λ zone. zone.last) disk.zones
+  zones-rise i j d le h = lasts-rise 0 0 i j disk.zones (get_or disk.zones i d) (get_or disk.zones j d) sound.contiguous ascends (slice_get-get_or disk.zones i d (omega arith)) (slice_get-get_or disk.zones j d h) le
+
+  -- the zone that a cylinder has by its bounds
+  pub zone_by_bounds : (i : ℕ) (zone : Zone) (cylinder : ℕ) → IsCylinderOf disk i zone cylinder → IsZoneAt disk cylinder zone
+  zone_by_bounds i zone cylinder h = record {
+    found = zone_of 0 0 i cylinder disk.zones zone sound.contiguous ascends h.zone_is h.from h.upto;
+    ranges = ranges_of disk sound i zone h.zone_is;
+    from = h.from;
+    upto = h.upto;
+    short = short_slots disk sound i zone h.zone_is;
+    holds_data = data_of disk sound i zone h.zone_is }
+
+  -- the zone that is found for a cylinder
+  pub zone_by_search : (cylinder : ℕ) (zone : Zone) → zone_at disk.zones cylinder ≡ Some zone → IsZoneAt disk cylinder zone
+  zone_by_search cylinder zone at =
+      let found = find-some (λ zone. nat_le cylinder zone.last) disk.zones zone at in
+      record {
+        found = at;
+        ranges = ranges_of disk sound found.0 zone found.1;
+        from = found_from 0 0 cylinder disk.zones zone sound.contiguous (omega arith) at;
+        upto = leb-true cylinder zone.last found.2;
+        short = short_slots disk sound found.0 zone found.1;
+        holds_data = data_of disk sound found.0 zone found.1 }
+
+-- ---- a search by the last cylinders
+
+pub point-zone : (cylinder : ℕ) (zones : List Zone) (i : ℕ) (d : Zone) → IsPartitionPoint (λ zone. nat_lt zone.last cylinder ≡ true) (λ zone. nat_lt zone.last cylinder ≡ false) zones i
+    → i ≤ length zones → cylinder < cylinders_of zones → (i < length zones) × (zone_at zones cylinder ≡ Some (get_or zones i d))
+point-zone cylinder [] i d at h below = absurd (omega arith)
+point-zone cylinder (zone ∷ zones) zero d at h below = (omega arith, rw (le-leb cylinder zone.last (ltb-false zone.last cylinder (at.1 0 d (omega arith) (omega arith)))) refl)
+point-zone cylinder (zone ∷ []) (suc i) d at h below = absurd (omega (arith, ltb-true zone.last cylinder (at.0 0 d (omega arith) (omega arith))))
+point-zone cylinder (zone ∷ other ∷ zones) (suc i) d at h below =
+    let rest = point-zone cylinder (other ∷ zones) i d (λ k e l m. at.0 (suc k) e (omega arith) (omega arith), λ k e l m. at.1 (suc k) e (omega arith) (omega arith)) (omega arith) below in
+    (omega (arith, rest.0), rw (lt-leb cylinder zone.last (ltb-true zone.last cylinder (at.0 0 d (omega arith) (omega arith)))) rest.1)
+
+-- the last zone ends the disk
+pub last-cylinder : (zones : List Zone) (n : ℕ) (d : Zone) → n + 1 ≡ length zones → (get_or zones n d).last + 1 ≡ cylinders_of zones
+last-cylinder [] n d h = absurd (omega arith)
+last-cylinder (zone ∷ []) n d h = ap (λ k. (get_or (zone ∷ []) k d).last + 1) (only n h)
+    where
+      only : (n : ℕ) → n + 1 ≡ length (zone ∷ []) → n ≡ 0
+      only n h = omega arith
+last-cylinder (zone ∷ other ∷ zones) zero d h = absurd (omega arith)
+last-cylinder (zone ∷ other ∷ zones) (suc n) d h = last-cylinder (other ∷ zones) n d (omega arith)

@@ -1,0 +1,194 @@
+-- Marks in order: what binary searches find among them.
+use Rattle.std.proofs.Common.{◌≡◌, ◌≢◌, ℕ, zero, suc, ◌+◌, ◌-◌, ◌*◌, ◌<◌, ◌≤◌, List, [], ◌∷◌, ◌++◌, length, refl, ap, sym, ◌∙◌, arith, Bool, true, false, not, cond, take, drop, ◌⊎◌, inl, inr, map, get_or, Ok, Err, Result, subst}
+use Rattle.std.specs.Prelude.{filter, nat_lt, nat_le, ◌==◌, ◌&&◌, ◌||◌, MatchResult, is_ok}
+use Rattle.std.specs.List.{AllByRecursion, AllWithin, HoldsAt, list_any}
+use Rattle.std.specs.List.Sorted.{IsNonDecreasingBy, IsPartitionPoint, IsBinarySearchResult, IsSearchInRange}
+use Rattle.std.specs.Ordering.{nat_cmp, ordering_index}
+use Rattle.std.specs.declared.cmp.Ordering.TheVariants.{Less, Equal, Greater}
+use Rattle.std.proofs.lemmas.Bool.{cases_Bool, cases_lt, true≢false, lt-ltb, le-ltb, and_parts, or_cases, ltb-true, eqb-true, eq-eqb, ne_eqb, cases_eq, or_left, or_right, or_from}
+use Rattle.std.proofs.lemmas.Bool.Decides.{nat_tests}
+use Rattle.std.proofs.lemmas.List.Sorted.{IsNonDecreasingBy-drop}
+use Rattle.std.proofs.lemmas.List.{get_or-map, length-map}
+use Rattle.fb_geometry.specs.declared.marks.Mark.{Mark}
+use Rattle.fb_geometry.specs.Slips.{IsAscending, rank, slipped}
+use Rattle.fb_geometry.specs.Marks.{AreInOrder, is_mark_before, positions, marks_on}
+
+pub all_at : {X : Type 0} (P : X → Type 0) (xs : List X) (j : ℕ) (d : X) → AllByRecursion P xs → j < length xs → P (get_or xs j d)
+all_at P [] j d all h = absurd (omega arith)
+all_at P (x ∷ xs) zero d all h = all.0
+all_at P (x ∷ xs) (suc j) d all h = all_at P xs j d all.1 (omega arith)
+
+-- what a mark before another says
+before_cylinder : (a b : Mark) → is_mark_before a b ≡ true → a.cylinder ≤ b.cylinder
+before_cylinder a b h = elim (or_cases (nat_lt a.cylinder b.cylinder) ((a.cylinder == b.cylinder) && nat_lt a.position b.position) h) [
+    | inl less ↦ omega (arith, ltb-true a.cylinder b.cylinder less)
+    | inr same ↦ omega (arith, eqb-true a.cylinder b.cylinder (and_parts (a.cylinder == b.cylinder) (nat_lt a.position b.position) same).0) ]
+
+before_position : (a b : Mark) → is_mark_before a b ≡ true → (b.cylinder == a.cylinder) ≡ true → a.position < b.position
+before_position a b h e = elim (or_cases (nat_lt a.cylinder b.cylinder) ((a.cylinder == b.cylinder) && nat_lt a.position b.position) h) [
+    | inl less ↦ absurd (omega (arith, ltb-true a.cylinder b.cylinder less, eqb-true b.cylinder a.cylinder e))
+    | inr same ↦ ltb-true a.position b.position (and_parts (a.cylinder == b.cylinder) (nat_lt a.position b.position) same).1 ]
+
+-- cylinders don't fall
+pub cylinders-rise : (marks : List Mark) → AreInOrder marks → IsNonDecreasingBy (λ mark. mark.cylinder) marks
+cylinders-rise [] up i j d le h = absurd (omega arith)
+cylinders-rise (mark ∷ marks) up zero zero d le h = omega arith
+cylinders-rise (mark ∷ marks) up zero (suc j) d le h = before_cylinder mark (get_or marks j d) (all_at (λ later. is_mark_before mark later ≡ true) marks j d up.0 (omega arith))
+cylinders-rise (mark ∷ marks) up (suc i) zero d le h = absurd (omega arith)
+cylinders-rise (mark ∷ marks) up (suc i) (suc j) d le h = cylinders-rise marks up.1 i j d (omega arith) (omega arith)
+
+-- positions on a cylinder rise
+pub positions-rise : (marks : List Mark) → IsAscending (positions marks) → IsNonDecreasingBy (λ mark. mark.position) marks
+positions-rise [] up i j d le h = absurd (omega arith)
+positions-rise (mark ∷ marks) up zero zero d le h = omega arith
+positions-rise (mark ∷ marks) up zero (suc j) d le h = omega (arith, later marks j up.0 (omega arith))
+    where
+      later : (marks : List Mark) (j : ℕ) → AllByRecursion (λ later. mark.position < later) (positions marks) → j < length marks → mark.position < (get_or marks j d).position
+      later [] j all h = absurd (omega arith)
+      later (other ∷ marks) zero all h = all.0
+      later (other ∷ marks) (suc j) all h = later marks j all.1 (omega arith)
+positions-rise (mark ∷ marks) up (suc i) zero d le h = absurd (omega arith)
+positions-rise (mark ∷ marks) up (suc i) (suc j) d le h = positions-rise marks up.1 i j d (omega arith) (omega arith)
+
+-- ---- the marks of one cylinder
+
+kept_later : (b : Bool) (mark other : Mark) (rest : List Mark) → (b ≡ true → mark.position < other.position) → AllByRecursion (λ later. mark.position < later) (positions rest)
+    → AllByRecursion (λ later. mark.position < later) (positions (cond b (other ∷ rest) rest))
+kept_later true mark other rest one all = (one refl, all)
+kept_later false mark other rest one all = all
+
+later_on : (mark : Mark) (cylinder : ℕ) (marks : List Mark) → (mark.cylinder == cylinder) ≡ true → AllByRecursion (λ later. is_mark_before mark later ≡ true) marks
+    → AllByRecursion (λ later. mark.position < later) (positions (marks_on cylinder marks))
+later_on mark cylinder [] e all = tt
+later_on mark cylinder (other ∷ marks) e all = kept_later (other.cylinder == cylinder) mark other (marks_on cylinder marks)
+    (λ here. before_position mark other all.0 (grind (arith, nat_tests))) (later_on mark cylinder marks e all.1)
+
+ascends_step : (b : Bool) (mark : Mark) (rest : List Mark) → (b ≡ true → AllByRecursion (λ later. mark.position < later) (positions rest)) → IsAscending (positions rest)
+    → IsAscending (positions (cond b (mark ∷ rest) rest))
+ascends_step true mark rest all up = (all refl, up)
+ascends_step false mark rest all up = up
+
+pub marks_on-ascend : (cylinder : ℕ) (marks : List Mark) → AreInOrder marks → IsAscending (positions (marks_on cylinder marks))
+marks_on-ascend cylinder [] up = tt
+marks_on-ascend cylinder (mark ∷ marks) up = ascends_step (mark.cylinder == cylinder) mark (marks_on cylinder marks) (λ e. later_on mark cylinder marks e up.0) (marks_on-ascend cylinder marks up.1)
+
+-- ---- what searches find
+
+-- as many as pass come before the point
+pub point-is : {X : Type 0} (p : X → Bool) (xs : List X) (i : ℕ) → i ≤ length xs → IsPartitionPoint (λ y. p y ≡ true) (λ y. p y ≡ false) xs i → length (filter p xs) ≡ i
+point-is p [] i h at = omega arith
+point-is p (x ∷ xs) zero h at =
+    let out : p x ≡ false = at.1 0 x (omega arith) (omega arith) in
+    rw out (point-is p xs 0 (omega arith) (λ k d low high. absurd (omega arith), λ k d low high. at.1 (suc k) d (omega arith) (omega arith)))
+point-is p (x ∷ xs) (suc i) h at =
+    let in_ : p x ≡ true = at.0 0 x (omega arith) (omega arith) in
+    rw in_ (ap suc (point-is p xs i (omega arith) (λ k d low high. at.0 (suc k) d (omega arith) (omega arith), λ k d low high. at.1 (suc k) d (omega arith) (omega arith))))
+
+pub length-filter-map : {X Y : Type 0} (p : Y → Bool) (f : X → Y) (xs : List X) → length (filter p (map f xs)) ≡ length (filter (λ x. p (f x)) xs)
+length-filter-map p f [] = refl
+length-filter-map p f (x ∷ xs) = elim (cases_Bool (p (f x))) [
+    | inl in_ ↦ rw in_ (ap suc (length-filter-map p f xs))
+    | inr out ↦ rw out (length-filter-map p f xs) ]
+
+pub rank-is : (number : ℕ) (marks : List Mark) (i : ℕ) → i ≤ length marks → IsPartitionPoint (λ mark. nat_lt mark.position number ≡ true) (λ mark. nat_lt mark.position number ≡ false) marks i → i ≡ rank number (positions marks)
+rank-is number marks i h at = sym (length-filter-map (λ passed. nat_lt passed number) (λ mark. mark.position) marks ∙ point-is (λ mark. nat_lt mark.position number) marks i h at)
+
+-- the part of a cylinder, from the point before it to the point behind
+pub part-is : (cylinder : ℕ) (marks : List Mark) (from n : ℕ) → from ≤ length marks → n ≤ length (drop from marks)
+    → IsPartitionPoint (λ mark. nat_lt mark.cylinder cylinder ≡ true) (λ mark. nat_lt mark.cylinder cylinder ≡ false) marks from
+    → IsPartitionPoint (λ mark. nat_le mark.cylinder cylinder ≡ true) (λ mark. nat_le mark.cylinder cylinder ≡ false) (drop from marks) n
+    → take n (drop from marks) ≡ marks_on cylinder marks
+part-is cylinder [] zero zero h m low high = refl
+part-is cylinder [] (suc from) n h m low high = absurd (omega arith)
+part-is cylinder [] zero (suc n) h m low high = absurd (omega arith)
+part-is cylinder (mark ∷ marks) zero zero h m low high =
+    let off : (mark.cylinder == cylinder) ≡ false = grind (arith, nat_tests, high.1 0 mark (omega arith) (omega arith)) in
+    rw off (part-is cylinder marks zero zero (omega arith) (omega arith) (λ k d l m. absurd (omega arith), λ k d l m. low.1 (suc k) d (omega arith) (omega arith)) (λ k d l m. absurd (omega arith), λ k d l m. high.1 (suc k) d (omega arith) (omega arith)))
+part-is cylinder (mark ∷ marks) zero (suc n) h m low high =
+    let here : (mark.cylinder == cylinder) ≡ true = grind (arith, nat_tests, low.1 0 mark (omega arith) (omega arith), high.0 0 mark (omega arith) (omega arith)) in
+    rw here (ap (λ xs. mark ∷ xs) (part-is cylinder marks zero n (omega arith) (omega arith) (λ k d l m. absurd (omega arith), λ k d l m. low.1 (suc k) d (omega arith) (omega arith)) (λ k d l m. high.0 (suc k) d (omega arith) (omega arith), λ k d l m. high.1 (suc k) d (omega arith) (omega arith))))
+part-is cylinder (mark ∷ marks) (suc from) n h m low high =
+    let off : (mark.cylinder == cylinder) ≡ false = grind (arith, nat_tests, low.0 0 mark (omega arith) (omega arith)) in
+    rw off (part-is cylinder marks from n (omega arith) m (λ k d l m. low.0 (suc k) d (omega arith) (omega arith), λ k d l m. low.1 (suc k) d (omega arith) (omega arith)) high)
+
+-- the same, where the rest is known by an equation
+pub part-of : (cylinder : ℕ) (marks rest : List Mark) (from n : ℕ) → rest ≡ drop from marks → from ≤ length marks → n ≤ length rest
+    → IsPartitionPoint (λ mark. nat_lt mark.cylinder cylinder ≡ true) (λ mark. nat_lt mark.cylinder cylinder ≡ false) marks from
+    → IsPartitionPoint (λ mark. nat_le mark.cylinder cylinder ≡ true) (λ mark. nat_le mark.cylinder cylinder ≡ false) rest n
+    → take n rest ≡ marks_on cylinder marks
+part-of cylinder marks rest from n e h m low high = subst
+    (λ rest. n ≤ length rest → IsPartitionPoint (λ mark. nat_le mark.cylinder cylinder ≡ true) (λ mark. nat_le mark.cylinder cylinder ≡ false) rest n → take n rest ≡ marks_on cylinder marks)
+    (sym e) (λ m high. part-is cylinder marks from n h m low high) m high
+
+pub rest-rises : (marks rest : List Mark) (from : ℕ) → AreInOrder marks → rest ≡ drop from marks → IsNonDecreasingBy (λ mark. mark.cylinder) rest
+rest-rises marks rest from up e = subst (λ rest. IsNonDecreasingBy (λ mark. mark.cylinder) rest) (sym e) (IsNonDecreasingBy-drop (λ mark. mark.cylinder) from marks (cylinders-rise marks up))
+
+-- what a search for a position says
+pub found-is : (position : ℕ) (marks : List Mark) (r : Result ℕ ℕ) → IsNonDecreasingBy (λ mark. mark.position) marks → IsSearchInRange r (length marks)
+    → IsBinarySearchResult (λ mark. nat_cmp mark.position position) marks r → is_ok r ≡ list_any (λ other. other == position) (positions marks)
+found-is position marks (Ok i) rise range at = sym (found position marks i range at)
+    where
+      equal : (a b : ℕ) → nat_cmp a b ≡ Equal → (a == b) ≡ true
+      equal a b e = grind (arith, nat_tests)
+      found : (position : ℕ) (marks : List Mark) (i : ℕ) → i < length marks → HoldsAt (λ mark. nat_cmp mark.position position ≡ Equal) marks i → list_any (λ other. other == position) (positions marks) ≡ true
+      found position [] i range at = absurd (omega arith)
+      found position (mark ∷ marks) zero range at = or_left (mark.position == position) (list_any (λ other. other == position) (positions marks)) (equal mark.position position (at mark))
+      found position (mark ∷ marks) (suc i) range at = or_right (mark.position == position) (list_any (λ other. other == position) (positions marks)) (found position marks i (omega arith) at)
+found-is position marks (Err i) rise range at = sym (missing position marks (λ k d h. differs k d h))
+    where
+      less : (a b : ℕ) → nat_cmp a b ≡ Less → (a == b) ≡ false
+      less a b e = grind (arith, nat_tests)
+      greater : (a b : ℕ) → nat_cmp a b ≡ Greater → (a == b) ≡ false
+      greater a b e = grind (arith, nat_tests)
+      index_rises : (a b q : ℕ) → a ≤ b → ordering_index (nat_cmp a q) ≤ ordering_index (nat_cmp b q)
+      index_rises a b q h = elim (cases_lt a q) [
+          | inl low ↦ rw (lt-ltb a q low) (omega arith)
+          | inr from ↦ rw (le-ltb a q from, le-ltb b q (omega arith)) (same_index a b q h from) ]
+        where
+          same_index : (a b q : ℕ) → a ≤ b → q ≤ a → ordering_index (cond (a == q) Equal Greater) ≤ ordering_index (cond (b == q) Equal Greater)
+          same_index a b q h from = elim (cases_eq b q) [
+              | inl same ↦ rw (eq-eqb a q (omega arith), eq-eqb b q same) (omega arith)
+              | inr differs ↦ rw (ne_eqb b q differs) (below_two (a == q)) ]
+            where
+              below_two : (b : Bool) → ordering_index (cond b Equal Greater) ≤ 2
+              below_two true = omega arith
+              below_two false = omega arith
+      point : IsPartitionPoint (λ mark. nat_cmp mark.position position ≡ Less) (λ mark. nat_cmp mark.position position ≡ Greater) marks i
+      point = at (λ j k d le h. index_rises (get_or marks j d).position (get_or marks k d).position position (rise j k d le h))
+      differs : (k : ℕ) (d : Mark) → k < length marks → ((get_or marks k d).position == position) ≡ false
+      differs k d h = elim (cases_lt k i) [
+          | inl before ↦ less (get_or marks k d).position position (point.0 k d (omega arith) before)
+          | inr behind ↦ greater (get_or marks k d).position position (point.1 k d behind h) ]
+      missing : (position : ℕ) (marks : List Mark) → ((k : ℕ) (d : Mark) → k < length marks → ((get_or marks k d).position == position) ≡ false) → list_any (λ other. other == position) (positions marks) ≡ false
+      missing position [] all = refl
+      missing position (mark ∷ marks) all = or_from (mark.position == position) (list_any (λ other. other == position) (positions marks)) (all 0 mark (omega arith)) (missing position marks (λ k d h. all (suc k) d (omega arith)))
+
+-- ---- slipping
+
+pub gaps : (numbers : List ℕ) (i j : ℕ) → IsAscending numbers → i ≤ j → j < length numbers → get_or numbers i 0 + (j - i) ≤ get_or numbers j 0
+gaps [] i j up le h = absurd (omega arith)
+gaps (x ∷ numbers) zero zero up le h = omega arith
+gaps (x ∷ []) zero (suc j) up le h = absurd (omega arith)
+gaps (x ∷ y ∷ numbers) zero (suc j) up le h = omega (arith, gaps (y ∷ numbers) 0 j up.1 (omega arith) (omega arith), up.0.0)
+gaps (x ∷ numbers) (suc i) zero up le h = absurd (omega arith)
+gaps (x ∷ numbers) (suc i) (suc j) up le h = omega (arith, gaps numbers i j up.1 (omega arith) (omega arith))
+
+pub slipped-is : (number : ℕ) (numbers : List ℕ) (r : ℕ) → r ≤ length numbers → ((i : ℕ) → i < r → get_or numbers i 0 ≤ number + i) → ((i : ℕ) → r ≤ i → i < length numbers → number + i < get_or numbers i 0)
+    → slipped number numbers ≡ number + r
+slipped-is number [] r h low high = omega arith
+slipped-is number (x ∷ numbers) zero h low high = let here : number < x = omega (arith, high 0 (omega arith) (omega arith)) in rw (lt-ltb number x here) (omega arith)
+slipped-is number (x ∷ numbers) (suc r) h low high =
+    let on : x ≤ number = omega (arith, low 0 (omega arith)) in
+    rw (le-ltb number x on) (slipped-is (number + 1) numbers r (omega arith) (λ i l. omega (arith, low (suc i) (omega arith))) (λ i l m. omega (arith, high (suc i) (omega arith) (omega arith))) ∙ omega arith)
+
+pub position_at : (marks : List Mark) (i : ℕ) (d : Mark) → i < length marks → get_or (positions marks) i 0 ≡ (get_or marks i d).position
+position_at marks i d h = get_or-map (λ mark. mark.position) marks i d 0 h
+
+-- the steps of a search for where a number comes to stand
+pub slips_upto : (number middle : ℕ) (numbers : List ℕ) → IsAscending numbers → middle < length numbers → get_or numbers middle 0 ≤ number + middle
+    → (i : ℕ) → i < middle + 1 → get_or numbers i 0 ≤ number + i
+slips_upto number middle numbers up h here i l = omega (arith, gaps numbers i middle up (omega arith) h)
+
+pub slips_before : (number middle : ℕ) (numbers : List ℕ) → IsAscending numbers → number + middle < get_or numbers middle 0
+    → (i : ℕ) → middle ≤ i → i < length numbers → number + i < get_or numbers i 0
+slips_before number middle numbers up here i l h = omega (arith, gaps numbers middle i up l h)

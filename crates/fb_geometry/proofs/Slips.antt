@@ -1,0 +1,205 @@
+-- What is left of a list where those that pass a test are dropped.
+use Rattle.std.proofs.Common.{◌≡◌, ◌≢◌, ℕ, zero, suc, ◌+◌, ◌-◌, ◌<◌, ◌≤◌, List, [], ◌∷◌, ◌++◌, length, refl, ap, sym, ◌∙◌, arith, Bool, true, false, not, cond, Option, Some, None, take, ◌⊎◌, inl, inr}
+use Rattle.std.specs.Prelude.{filter, slice_get, ◌==◌, nat_lt, nat_le, ◌||◌, ⊤}
+use Rattle.std.specs.List.{list_any, AllByRecursion}
+use Rattle.std.proofs.lemmas.Bool.{cases_Bool, cases_lt, true≢false, lt-ltb, le-ltb}
+use Rattle.std.proofs.lemmas.Bool.Decides.{nat_tests}
+use Rattle.std.proofs.lemmas.Option.{same_Some, none-some}
+use Rattle.fb_geometry.specs.Slips.{IsAscending, slipped, rank, indexes, with_index}
+
+-- ---- ascending numbers
+
+all_over : (a b : ℕ) (numbers : List ℕ) → a ≤ b → AllByRecursion (λ later. b < later) numbers → AllByRecursion (λ later. a < later) numbers
+all_over a b [] h all = tt
+all_over a b (x ∷ numbers) h all = (omega (arith, all.0), all_over a b numbers h all.1)
+
+with_index-over : (b : Bool) (a index : ℕ) (numbers : List ℕ) → a < index → AllByRecursion (λ later. a < later) numbers → AllByRecursion (λ later. a < later) (with_index b index numbers)
+with_index-over true a index numbers h all = (h, all)
+with_index-over false a index numbers h all = all
+
+-- indexes from one on are behind all below it
+pub indexes-over : {A : Type 0} (test : A → Bool) (a index : ℕ) (xs : List A) → a < index → AllByRecursion (λ later. a < later) (indexes test index xs)
+indexes-over test a index [] h = tt
+indexes-over test a index (x ∷ xs) h = with_index-over (test x) a index (indexes test (index + 1) xs) h (indexes-over test a (index + 1) xs (omega arith))
+
+with_index-ascends : (b : Bool) (index : ℕ) (numbers : List ℕ) → AllByRecursion (λ later. index < later) numbers → IsAscending numbers → IsAscending (with_index b index numbers)
+with_index-ascends true index numbers all up = (all, up)
+with_index-ascends false index numbers all up = up
+
+pub indexes-ascend : {A : Type 0} (test : A → Bool) (index : ℕ) (xs : List A) → IsAscending (indexes test index xs)
+indexes-ascend test index [] = tt
+indexes-ascend test index (x ∷ xs) = with_index-ascends (test x) index (indexes test (index + 1) xs) (indexes-over test index (index + 1) xs (omega arith)) (indexes-ascend test (index + 1) xs)
+
+-- ---- slipping
+
+slip_here : (number : ℕ) (numbers : List ℕ) → AllByRecursion (λ later. number < later) numbers → slipped number numbers ≡ number
+slip_here number [] all = refl
+slip_here number (x ∷ numbers) all = rw (lt-ltb number x all.0) refl
+
+-- a number slips no further back
+pub slipped-le : (number : ℕ) (numbers : List ℕ) → number ≤ slipped number numbers
+slipped-le number [] = omega arith
+slipped-le number (x ∷ numbers) = elim (cases_lt number x) [
+    | inl h ↦ rw (lt-ltb number x h) (omega arith)
+    | inr h ↦ rw (le-ltb number x h) (omega (arith, slipped-le (number + 1) numbers)) ]
+
+-- one that is dropped
+dropped_first : {A : Type 0} (a : ℕ) (x : A) (xs kept : List A) (numbers : List ℕ) (k i : ℕ) → slipped (a + k) (a ∷ numbers) ≡ a + i
+    → ((j : ℕ) → slipped (a + 1 + k) numbers ≡ a + 1 + j → slice_get kept k ≡ slice_get xs j) → slice_get kept k ≡ slice_get (x ∷ xs) i
+dropped_first a x xs kept numbers k i e rest =
+    let here : nat_lt (a + k) a ≡ false = le-ltb (a + k) a (omega arith) in
+    let on : slipped (a + k + 1) numbers ≡ a + i = rw here at e in
+    let after : slipped (a + 1 + k) numbers ≡ a + i = ap (λ n. slipped n numbers) (omega arith) ∙ on in
+    behind i after
+    where
+      behind : (i : ℕ) → slipped (a + 1 + k) numbers ≡ a + i → slice_get kept k ≡ slice_get (x ∷ xs) i
+      behind zero e = absurd (omega (arith, slipped-le (a + 1 + k) numbers))
+      behind (suc j) e = rest j (e ∙ omega arith)
+
+-- one that is kept
+kept_first : {A : Type 0} (a : ℕ) (x : A) (xs kept : List A) (numbers : List ℕ) (k i : ℕ) → AllByRecursion (λ later. a < later) numbers → slipped (a + k) numbers ≡ a + i
+    → ((k j : ℕ) → slipped (a + 1 + k) numbers ≡ a + 1 + j → slice_get kept k ≡ slice_get xs j) → slice_get (x ∷ kept) k ≡ slice_get (x ∷ xs) i
+kept_first a x xs kept numbers zero zero all e rest = refl
+kept_first a x xs kept numbers zero (suc i) all e rest = absurd (omega (arith, slip_here a numbers all, ap (λ n. slipped n numbers) (a_zero a)))
+    where
+      a_zero : (a : ℕ) → a + 0 ≡ a
+      a_zero a = omega arith
+kept_first a x xs kept numbers (suc k) zero all e rest = absurd (omega (arith, slipped-le (a + suc k) numbers))
+kept_first a x xs kept numbers (suc k) (suc i) all e rest = rest k i (ap (λ n. slipped n numbers) (omega arith) ∙ e ∙ omega arith)
+
+-- the element that becomes the k-th where those that pass are dropped
+pub kept_at : {A : Type 0} (test : A → Bool) (a : ℕ) (xs : List A) (k i : ℕ) → slipped (a + k) (indexes test a xs) ≡ a + i
+    → slice_get (filter (λ x. not (test x)) xs) k ≡ slice_get xs i
+kept_at test a [] k i e = refl
+kept_at test a (x ∷ xs) k i e = elim (cases_Bool (test x)) [
+    | inl out ↦ rw out (dropped_first a x xs (filter (λ y. not (test y)) xs) (indexes test (a + 1) xs) k i (rw out at e) (λ j. kept_at test (a + 1) xs k j))
+    | inr stays ↦ rw stays (kept_first a x xs (filter (λ y. not (test y)) xs) (indexes test (a + 1) xs) k i (indexes-over test a (a + 1) xs (omega arith)) (rw stays at e) (λ k j. kept_at test (a + 1) xs k j)) ]
+
+-- ---- ranks
+
+rank_cons : (number x : ℕ) (numbers : List ℕ) → rank number (x ∷ numbers) ≡ cond (nat_lt x number) 1 0 + rank number numbers
+rank_cons number x numbers = elim (cases_lt x number) [
+    | inl h ↦ rw (lt-ltb x number h) (omega arith)
+    | inr h ↦ rw (le-ltb x number h) (omega arith) ]
+
+-- none stands before a number that all are behind
+pub rank_none : (number : ℕ) (numbers : List ℕ) → AllByRecursion (λ later. number ≤ later) numbers → rank number numbers ≡ 0
+rank_none number [] all = refl
+rank_none number (x ∷ numbers) all = rw (le-ltb x number all.0) (rank_none number numbers all.1)
+
+all_from : (a b : ℕ) (numbers : List ℕ) → a ≤ b → AllByRecursion (λ later. b < later) numbers → AllByRecursion (λ later. a ≤ later) numbers
+all_from a b [] h all = tt
+all_from a b (x ∷ numbers) h all = (omega (arith, all.0), all_from a b numbers h all.1)
+
+slipped_here : (number x : ℕ) (numbers : List ℕ) → number < x → slipped number (x ∷ numbers) ≡ number
+slipped_here number x numbers h = rw (lt-ltb number x h) refl
+
+slipped_on : (number x : ℕ) (numbers : List ℕ) → x ≤ number → slipped number (x ∷ numbers) ≡ slipped (number + 1) numbers
+slipped_on number x numbers h = rw (le-ltb number x h) refl
+
+-- a number that slipped has slipped on by those before where it stands
+pub rank-slipped : (number q : ℕ) (numbers : List ℕ) → IsAscending numbers → slipped number numbers ≡ q → rank q numbers + number ≡ q
+rank-slipped number q [] up e = omega arith
+rank-slipped number q (x ∷ numbers) up e = elim (cases_lt number x) [
+    | inl h ↦ let same : number ≡ q = sym (slipped_here number x numbers h) ∙ e in omega (arith, rank_none q (x ∷ numbers) (omega arith, all_from q x numbers (omega arith) up.0))
+    | inr h ↦ let after : slipped (number + 1) numbers ≡ q = sym (slipped_on number x numbers h) ∙ e in
+        let before : x < q = omega (arith, slipped-le (number + 1) numbers) in
+        omega (arith, rank_cons q x numbers, ap {B = ℕ} (λ b. cond b 1 0) (lt-ltb x q before), rank-slipped (number + 1) q numbers up.1 after) ]
+
+not_among_later : (number : ℕ) (numbers : List ℕ) → AllByRecursion (λ later. number < later) numbers → list_any (λ other. other == number) numbers ≡ false
+not_among_later number [] all = refl
+not_among_later number (x ∷ numbers) all = let off : (x == number) ≡ false = grind (arith, nat_tests, all.0) in rw off (not_among_later number numbers all.1)
+
+-- and it stands at none of them
+pub slipped-free : (number q : ℕ) (numbers : List ℕ) → IsAscending numbers → slipped number numbers ≡ q → list_any (λ other. other == q) numbers ≡ false
+slipped-free number q [] up e = refl
+slipped-free number q (x ∷ numbers) up e = elim (cases_lt number x) [
+    | inl h ↦ let same : number ≡ q = sym (slipped_here number x numbers h) ∙ e in not_among_later q (x ∷ numbers) (omega arith, all_over q x numbers (omega arith) up.0)
+    | inr h ↦ let after : slipped (number + 1) numbers ≡ q = sym (slipped_on number x numbers h) ∙ e in
+        let off : (x == q) ≡ false = grind (arith, nat_tests, slipped-le (number + 1) numbers) in rw off (slipped-free (number + 1) q numbers up.1 after) ]
+
+-- ---- where an element that is kept goes
+
+with_index-from : (b : Bool) (a index : ℕ) (numbers : List ℕ) → a ≤ index → AllByRecursion (λ later. a ≤ later) numbers → AllByRecursion (λ later. a ≤ later) (with_index b index numbers)
+with_index-from true a index numbers h all = (h, all)
+with_index-from false a index numbers h all = all
+
+pub indexes-from : {A : Type 0} (test : A → Bool) (a index : ℕ) (xs : List A) → a ≤ index → AllByRecursion (λ later. a ≤ later) (indexes test index xs)
+indexes-from test a index [] h = tt
+indexes-from test a index (x ∷ xs) h = with_index-from (test x) a index (indexes test (index + 1) xs) h (indexes-from test a (index + 1) xs (omega arith))
+
+rank-with_index : (b : Bool) (number index : ℕ) (numbers : List ℕ) → index < number → rank number (with_index b index numbers) ≡ cond b 1 0 + rank number numbers
+rank-with_index true number index numbers h = rw (lt-ltb index number h) (omega arith)
+rank-with_index false number index numbers h = omega arith
+
+rank_next : {A : Type 0} (test : A → Bool) (a i : ℕ) (x : A) (xs : List A) → rank (a + suc i) (indexes test a (x ∷ xs)) ≡ cond (test x) 1 0 + rank (a + 1 + i) (indexes test (a + 1) xs)
+rank_next test a i x xs = rank-with_index (test x) (a + suc i) a (indexes test (a + 1) xs) (omega arith)
+    ∙ ap (λ n. cond (test x) 1 0 + rank n (indexes test (a + 1) xs)) (omega arith)
+
+-- no more indexes stand before a place than there are places before it
+pub rank-le : {A : Type 0} (test : A → Bool) (a i : ℕ) (xs : List A) → rank (a + i) (indexes test a xs) ≤ i
+rank-le test a zero xs = omega (arith, rank_none (a + 0) (indexes test a xs) (indexes-from test (a + 0) a xs (omega arith)))
+rank-le test a (suc i) [] = omega arith
+rank-le test a (suc i) (x ∷ xs) = elim (cases_Bool (test x)) [
+    | inl out ↦ omega (arith, rank_next test a i x xs, ap {B = ℕ} (λ b. cond b 1 0) out, rank-le test (a + 1) i xs)
+    | inr stays ↦ omega (arith, rank_next test a i x xs, ap {B = ℕ} (λ b. cond b 1 0) stays, rank-le test (a + 1) i xs) ]
+
+-- an element that is kept goes back by one for each that is dropped before it
+pub kept_to : {A : Type 0} (test : A → Bool) (a : ℕ) (xs : List A) (i k : ℕ) (x : A) → slice_get xs i ≡ Some x → test x ≡ false → k + rank (a + i) (indexes test a xs) ≡ i
+    → slice_get (filter (λ y. not (test y)) xs) k ≡ Some x
+kept_to test a [] i k x at stays e = at
+kept_to test a (y ∷ xs) zero k x at stays e =
+    let same : y ≡ x = same_Some y x at in
+    rw (ap test same ∙ stays) (ap (slice_get (y ∷ filter (λ z. not (test z)) xs)) (k_zero k (rank (a + 0) (indexes test a (y ∷ xs))) e) ∙ at)
+    where
+      k_zero : (k r : ℕ) → k + r ≡ 0 → k ≡ 0
+      k_zero k r e = omega arith
+kept_to test a (y ∷ xs) (suc i) k x at stays e = elim (cases_Bool (test y)) [
+    | inl out ↦ rw out (kept_to test (a + 1) xs i k x at stays (omega (arith, rank_next test a i y xs, ap {B = ℕ} (λ b. cond b 1 0) out)))
+    | inr in_ ↦ rw in_ (on k (omega (arith, rank_next test a i y xs, ap {B = ℕ} (λ b. cond b 1 0) in_)) (λ k'. kept_to test (a + 1) xs i k' x at stays)) ]
+    where
+      on : (k : ℕ) → k + rank (a + 1 + i) (indexes test (a + 1) xs) ≡ suc i
+          → ((k' : ℕ) → k' + rank (a + 1 + i) (indexes test (a + 1) xs) ≡ i → slice_get (filter (λ z. not (test z)) xs) k' ≡ Some x)
+          → slice_get (y ∷ filter (λ z. not (test z)) xs) k ≡ Some x
+      on zero e rest = absurd (omega (arith, rank-le test (a + 1) i xs))
+      on (suc k) e rest = rest k (omega arith)
+
+marked_step : (b : Bool) (a q : ℕ) (numbers : List ℕ) → a < q → list_any (λ other. other == q) (with_index b a numbers) ≡ list_any (λ other. other == q) numbers
+marked_step true a q numbers h = let off : (a == q) ≡ false = grind (arith, nat_tests) in rw off refl
+marked_step false a q numbers h = refl
+
+marked_here : (b : Bool) (a : ℕ) (numbers : List ℕ) → AllByRecursion (λ later. a < later) numbers → list_any (λ other. other == a) (with_index b a numbers) ≡ b
+marked_here true a numbers all = let here : (a == a) ≡ true = grind (arith, nat_tests) in rw here refl
+marked_here false a numbers all = not_among_later a numbers all
+
+-- an index is among them just where its element passes
+pub marked : {A : Type 0} (test : A → Bool) (a : ℕ) (xs : List A) (i : ℕ) (x : A) → slice_get xs i ≡ Some x → list_any (λ other. other == a + i) (indexes test a xs) ≡ test x
+marked test a [] i x at = absurd (none-some x at)
+marked test a (y ∷ xs) zero x at = ap (λ n. list_any (λ other. other == n) (indexes test a (y ∷ xs))) (a_zero a)
+    ∙ marked_here (test y) a (indexes test (a + 1) xs) (indexes-over test a (a + 1) xs (omega arith)) ∙ ap test (same_Some y x at)
+    where
+      a_zero : (a : ℕ) → a + 0 ≡ a
+      a_zero a = omega arith
+marked test a (y ∷ xs) (suc i) x at = marked_step (test y) a (a + suc i) (indexes test (a + 1) xs) (omega arith)
+    ∙ ap (λ n. list_any (λ other. other == n) (indexes test (a + 1) xs)) (omega arith) ∙ marked test (a + 1) xs i x at
+
+-- what is kept, and what is dropped, is all
+length_step : {A : Type 0} (b : Bool) (x : A) (a : ℕ) (kept : List A) (numbers : List ℕ) (n : ℕ) → length kept + length numbers ≡ n
+    → length (cond (not b) (x ∷ kept) kept) + length (with_index b a numbers) ≡ suc n
+length_step true x a kept numbers n h = omega arith
+length_step false x a kept numbers n h = omega arith
+
+pub length-kept : {A : Type 0} (test : A → Bool) (a : ℕ) (xs : List A) → length (filter (λ x. not (test x)) xs) + length (indexes test a xs) ≡ length xs
+length-kept test a [] = refl
+length-kept test a (x ∷ xs) = length_step (test x) x a (filter (λ y. not (test y)) xs) (indexes test (a + 1) xs) (length xs) (length-kept test (a + 1) xs)
+
+-- and so before each place
+front_step : {A : Type 0} (b : Bool) (x : A) (kept : List A) (r n m : ℕ) → length kept + r ≡ n → m ≡ cond b 1 0 + r → length (cond (not b) (x ∷ kept) kept) + m ≡ suc n
+front_step true x kept r n m h e = omega arith
+front_step false x kept r n m h e = omega arith
+
+pub length-kept_front : {A : Type 0} (test : A → Bool) (a p : ℕ) (xs : List A) → p ≤ length xs → length (filter (λ x. not (test x)) (take p xs)) + rank (a + p) (indexes test a xs) ≡ p
+length-kept_front test a zero xs h = omega (arith, rank_none (a + 0) (indexes test a xs) (indexes-from test (a + 0) a xs (omega arith)))
+length-kept_front test a (suc p) [] h = absurd (omega arith)
+length-kept_front test a (suc p) (x ∷ xs) h = front_step (test x) x (filter (λ y. not (test y)) (take p xs)) (rank (a + 1 + p) (indexes test (a + 1) xs)) p
+    (rank (a + suc p) (indexes test a (x ∷ xs))) (length-kept_front test (a + 1) p xs (omega arith)) (rank_next test a p x xs)

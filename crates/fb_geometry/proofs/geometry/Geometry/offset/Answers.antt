@@ -1,0 +1,10 @@
+use Rattle.std.proofs.Common.{◌≡◌, sym, ap, ◌∙◌}
+use Rattle.fb_geometry.specs.Shape.{offset_in}
+use Rattle.fb_geometry.proofs.Faultless.{offset_at-zone}
+use Rattle.fb_geometry.proofs.geometry.Geometry.offset.Goals as goal
+
+pub returns-clause-value : goal.returns-clause-value
+returns-clause-value c =
+    let disk = c.args.self.now in
+    let zone = c.zone_of.result in
+    c.offset.ensures.value ∙ (ap (λ disk. offset_in zone disk.heads c.args.track) c.self.view_is ∙ sym (offset_at-zone disk.zones disk.heads c.args.track zone c.zone_of.ensures.zone.found))

@@ -1,0 +1,13 @@
+use Rattle.std.proofs.Common.{◌-◌, ◌+◌, ◌<◌, ◌≤◌, ℕ, length, get_or}
+use Rattle.fb_geometry.specs.Marks.{positions}
+use Rattle.fb_geometry.proofs.marks.slipped.Given as goal
+
+abbrev pub invariant-loop-low : goal.invariant-loop-low
+invariant-loop-low l = record {
+  order : l.low ≤ l.high;
+  upto : l.high ≤ length l.marks;
+  before : (i : ℕ) → i < l.low → get_or (positions l.marks) i 0 ≤ l.number + i;
+  behind : (i : ℕ) → l.high ≤ i → i < length l.marks → l.number + i < get_or (positions l.marks) i 0 }
+
+abbrev pub decreases-loop-low : goal.decreases-loop-low
+decreases-loop-low l = l.high - l.low

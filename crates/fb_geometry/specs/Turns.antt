@@ -1,0 +1,44 @@
+-- Positions on a cylinder: head by head, the slots of each track in the order of its turn.
+use Rattle.std.specs.Prelude.{ℕ, ◌+◌, ◌-◌, ◌*◌, ◌/◌, ◌%◌, ◌<◌, ◌≤◌, ◌^◌, ◌≡◌, List, map, find, nat_le, Option, Some, false}
+use Rattle.std.specs.List.{range_with_len}
+use Rattle.fb_units.specs.declared.types.Place.{Place}
+use Rattle.fb_units.specs.declared.types.Track.{Track}
+use Rattle.fb_geometry.specs.declared.zone.Zone.{Zone}
+use Rattle.fb_geometry.specs.Shape.{Shape, offset_in}
+use Rattle.fb_geometry.specs.Faults.{has_no_data}
+
+-- the numbers of a zone lie in their ranges
+pub record IsZone (zone : Zone) : Type 0 where
+  pub some_sectors : 0 < zone.sectors
+  pub few_sectors : zone.sectors ≤ 10000
+  pub some_cylinders : zone.first ≤ zone.last
+  pub few_cylinders : zone.last < 10 ^ 6
+  pub track_skew : zone.track_skew < zone.sectors
+  pub cylinder_skew : zone.cylinder_skew < zone.sectors
+
+-- the zone of a cylinder
+abbrev pub zone_at : List Zone → ℕ → Option Zone
+zone_at zones cylinder = find (λ zone. nat_le cylinder zone.last) zones
+
+-- the zone is a cylinder's, with numbers in their ranges, and has data sectors
+pub record IsZoneAt (disk : Shape) (cylinder : ℕ) (zone : Zone) : Type 0 where
+  pub found : zone_at disk.zones cylinder ≡ Some zone
+  pub ranges : IsZone zone
+  pub from : zone.first ≤ cylinder
+  pub upto : cylinder ≤ zone.last
+  pub short : zone.sectors ≤ disk.rotation
+  pub holds_data : has_no_data disk.layout disk zone ≡ false
+
+-- how many slots of the cylinder come before a place
+abbrev pub position_in : Zone → ℕ → Place → ℕ
+position_in zone heads place = place.track.head * zone.sectors + (place.slot + zone.sectors - offset_in zone heads place.track) % zone.sectors
+
+-- the place at a position of a cylinder
+abbrev pub slot_at : Zone → ℕ → ℕ → ℕ → Place
+slot_at zone heads cylinder position =
+    let track : Track = record { cylinder = cylinder; head = position / zone.sectors } in
+    record { track = track; slot = (offset_in zone heads track + position % zone.sectors) % zone.sectors }
+
+-- all slots of a cylinder, by their positions
+abbrev pub cylinder_slots : Zone → ℕ → ℕ → List Place
+cylinder_slots zone heads cylinder = map (slot_at zone heads cylinder) (range_with_len 0 (heads * zone.sectors))
