@@ -53,6 +53,21 @@ at_most_each same can xs (d ∷ ds) each = step (can d) d (filter can ds) (lengt
       step true d can one rest all h k e = omega arith
       step false d can one rest all h k e = omega arith
 
+-- fewer pass two tests than the one
+pub fewer : {A : Type 0} (p q : A → Bool) (xs : List A) → length (filter p (filter q xs)) ≤ length (filter p xs)
+fewer p q [] = omega arith
+fewer {A = A} p q (x ∷ xs) = step (q x) refl (fewer p q xs)
+    where
+      more : (b : Bool) (kept all : List A) → length kept ≤ length all → length kept ≤ length (cond b (x ∷ all) all)
+      more true kept all h = omega arith
+      more false kept all h = h
+      both : (b : Bool) (kept all : List A) → length kept ≤ length all → length (cond b (x ∷ kept) kept) ≤ length (cond b (x ∷ all) all)
+      both true kept all h = omega arith
+      both false kept all h = h
+      step : (b : Bool) → q x ≡ b → length (filter p (filter q xs)) ≤ length (filter p xs) → length (filter p (cond b (x ∷ filter q xs) (filter q xs))) ≤ length (filter p (x ∷ xs))
+      step true e h = both (p x) (filter p (filter q xs)) (filter p xs) h
+      step false e h = more (p x) (filter p (filter q xs)) (filter p xs) h
+
 none_in : (test : ℕ → Bool) (a n : ℕ) → ((i : ℕ) → i < n → test (a + i) ≡ false) → length (filter test (range_with_len a n)) ≡ 0
 none_in test a zero h = refl
 none_in test a (suc n) h = rw (ap test (add_zero a) ∙ h 0 (omega arith)) (none_in test (a + 1) n (λ i l. ap test (add_one a i) ∙ h (i + 1) (omega arith)))
@@ -122,7 +137,7 @@ module _ (zone : Zone) (some : 0 < zone.sectors) where
       omega (arith, all, kept_and_dropped (is_among disk.defects) slots, at_most_each same_place (λ place. same_track track place.track) slots disk.defects (once_on_track disk.heads track))
 
   -- one slot of a cylinder
-  once_on_cylinder : (heads cylinder : ℕ) (d : Place) → length (filter (λ place. same_place place d) (cylinder_slots zone heads cylinder)) ≤ cond (d.track.cylinder == cylinder) 1 0
+  pub once_on_cylinder : (heads cylinder : ℕ) (d : Place) → length (filter (λ place. same_place place d) (cylinder_slots zone heads cylinder)) ≤ cond (d.track.cylinder == cylinder) 1 0
   once_on_cylinder heads cylinder d =
       omega (arith, length-filter-map (λ place. same_place place d) (slot_at zone heads cylinder) (range_with_len 0 (heads * zone.sectors)),
         once_in (λ p. same_place (slot_at zone heads cylinder p) d) (d.track.cylinder == cylinder) (position_in zone heads d) 0 (heads * zone.sectors)

@@ -257,7 +257,8 @@ module _ (disk : Shape) (sound : IsFaultless disk) where
     from = h.from;
     upto = h.upto;
     short = short_slots disk sound i zone h.zone_is;
-    holds_data = data_of disk sound i zone h.zone_is }
+    holds_data = data_of disk sound i zone h.zone_is;
+    enough_spares = sound.spares }
 
   -- the zone that is found for a cylinder
   pub zone_by_search : (cylinder : ℕ) (zone : Zone) → zone_at disk.zones cylinder ≡ Some zone → IsZoneAt disk cylinder zone
@@ -269,7 +270,8 @@ module _ (disk : Shape) (sound : IsFaultless disk) where
         from = found_from 0 0 cylinder disk.zones zone sound.contiguous (omega arith) at;
         upto = leb-true cylinder zone.last found.2;
         short = short_slots disk sound found.0 zone found.1;
-        holds_data = data_of disk sound found.0 zone found.1 }
+        holds_data = data_of disk sound found.0 zone found.1;
+        enough_spares = sound.spares }
 
 -- ---- a search by the last cylinders
 

@@ -109,7 +109,7 @@ module _ (disk : Shape) (zone : Zone) (cylinder : ℕ) (at : IsZoneAt disk cylin
       let base = disk.heads * zone.sectors - zone.cylinder_spares in
       length-replaced disk (take base good) (filter (λ place. not (is_among disk.grown place)) (drop base good)) ∙ length-base h
 
-  length-data_list : (layout : Layout) → spare_fault layout disk ≡ None → length (data_list_by layout disk zone cylinder) ≡ cylinder_size_by layout disk zone
+  pub length-data_list : (layout : Layout) → spare_fault layout disk ≡ None → length (data_list_by layout disk zone cylinder) ≡ cylinder_size_by layout disk zone
   length-data_list PerTrack h = length-per_track h
   length-data_list PerCylinder h = length-per_cylinder (has_spares disk h)
 

@@ -5,3 +5,4 @@ pub mod Order
 pub mod Counting
 pub mod Faultless
 pub mod Laws
+pub mod Lookups

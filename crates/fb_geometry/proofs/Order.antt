@@ -1,13 +1,17 @@
 -- Marks in order: what binary searches find among them.
 use Rattle.std.proofs.Common.{◌≡◌, ◌≢◌, ℕ, zero, suc, ◌+◌, ◌-◌, ◌*◌, ◌<◌, ◌≤◌, List, [], ◌∷◌, ◌++◌, length, refl, ap, sym, ◌∙◌, arith, Bool, true, false, not, cond, take, drop, ◌⊎◌, inl, inr, map, get_or, Ok, Err, Result, subst}
-use Rattle.std.specs.Prelude.{filter, nat_lt, nat_le, ◌==◌, ◌&&◌, ◌||◌, MatchResult, is_ok}
+use denote.Ref.{Bor}
+use denote.Param.Members.{Mut}
+use Rattle.std.specs.Fn.{ComputesKey, Called}
+use Rattle.std.specs.Prelude.{filter, slice_get, option_map, Some, nat_lt, nat_le, ◌==◌, ◌&&◌, ◌||◌, MatchResult, is_ok}
 use Rattle.std.specs.List.{AllByRecursion, AllWithin, HoldsAt, list_any}
 use Rattle.std.specs.List.Sorted.{IsNonDecreasingBy, IsPartitionPoint, IsBinarySearchResult, IsSearchInRange}
 use Rattle.std.specs.Ordering.{nat_cmp, ordering_index}
 use Rattle.std.specs.declared.cmp.Ordering.TheVariants.{Less, Equal, Greater}
 use Rattle.std.proofs.lemmas.Bool.{cases_Bool, cases_lt, true≢false, lt-ltb, le-ltb, and_parts, or_cases, ltb-true, eqb-true, eq-eqb, ne_eqb, cases_eq, or_left, or_right, or_from}
 use Rattle.std.proofs.lemmas.Bool.Decides.{nat_tests}
-use Rattle.std.proofs.lemmas.List.Sorted.{IsNonDecreasingBy-drop}
+use Rattle.std.proofs.lemmas.List.Sorted.{IsNonDecreasingBy-drop, answers_always}
+use Rattle.std.proofs.lemmas.Option.{slice_get-map, slice_get-get_or}
 use Rattle.std.proofs.lemmas.List.{get_or-map, length-map}
 use Rattle.fb_geometry.specs.declared.marks.Mark.{Mark}
 use Rattle.fb_geometry.specs.Slips.{IsAscending, rank, slipped}
@@ -192,3 +196,14 @@ slips_upto number middle numbers up h here i l = omega (arith, gaps numbers i mi
 pub slips_before : (number middle : ℕ) (numbers : List ℕ) → IsAscending numbers → number + middle < get_or numbers middle 0
     → (i : ℕ) → middle ≤ i → i < length numbers → number + i < get_or numbers i 0
 slips_before number middle numbers up here i l h = omega (arith, gaps numbers middle i up l h)
+
+-- what a search by position says, where each call of the closure gives the position
+pub marked-is : {F : Type 0} {g : Mut F (Bor Mark × Unit {0}) ℕ} {f : F} (position : ℕ) (marks : List Mark) (r : Result ℕ ℕ) → IsAscending (positions marks) → IsSearchInRange r (length marks)
+    → ((key : Mark → ℕ) → ComputesKey g key f → IsBinarySearchResult (λ mark. nat_cmp (key mark) position) marks r)
+    → ((f : F) (a : Bor Mark × Unit {0}) (r : ℕ) (f' : F) → Called g f a r f' → r ≡ a.0.now.position) → is_ok r ≡ list_any (λ other. other == position) (positions marks)
+marked-is {g = g} {f = f} position marks r up range clause each =
+    found-is position marks r (positions-rise marks up) range (clause (λ mark. mark.position) (answers_always g (λ a r. r ≡ a.0.now.position) f each))
+
+-- the position at an index
+pub position_get : (marks : List Mark) (i : ℕ) (d : Mark) → i < length marks → slice_get (positions marks) i ≡ Some (get_or marks i d).position
+position_get marks i d h = slice_get-map (λ mark. mark.position) marks i ∙ ap (option_map (λ mark. mark.position)) (slice_get-get_or marks i d h)

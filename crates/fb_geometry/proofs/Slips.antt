@@ -2,7 +2,7 @@
 use Rattle.std.proofs.Common.{◌≡◌, ◌≢◌, ℕ, zero, suc, ◌+◌, ◌-◌, ◌<◌, ◌≤◌, List, [], ◌∷◌, ◌++◌, length, refl, ap, sym, ◌∙◌, arith, Bool, true, false, not, cond, Option, Some, None, take, ◌⊎◌, inl, inr}
 use Rattle.std.specs.Prelude.{filter, slice_get, ◌==◌, nat_lt, nat_le, ◌||◌, ⊤}
 use Rattle.std.specs.List.{list_any, AllByRecursion}
-use Rattle.std.proofs.lemmas.Bool.{cases_Bool, cases_lt, true≢false, lt-ltb, le-ltb}
+use Rattle.std.proofs.lemmas.Bool.{cases_Bool, cases_lt, true≢false, lt-ltb, le-ltb, cases_order, ne_eqb, eq-eqb, or_left, or_right}
 use Rattle.std.proofs.lemmas.Bool.Decides.{nat_tests}
 use Rattle.std.proofs.lemmas.Option.{same_Some, none-some}
 use Rattle.fb_geometry.specs.Slips.{IsAscending, slipped, rank, indexes, with_index}
@@ -90,6 +90,74 @@ rank_none number (x ∷ numbers) all = rw (le-ltb x number all.0) (rank_none num
 all_from : (a b : ℕ) (numbers : List ℕ) → a ≤ b → AllByRecursion (λ later. b < later) numbers → AllByRecursion (λ later. a ≤ later) numbers
 all_from a b [] h all = tt
 all_from a b (x ∷ numbers) h all = (omega (arith, all.0), all_from a b numbers h all.1)
+
+-- no more stand between two numbers than there are numbers between
+pub rank_between : (a b : ℕ) (numbers : List ℕ) → IsAscending numbers → AllByRecursion (λ later. a ≤ later) numbers → rank b numbers ≤ b - a
+rank_between a b [] up all = omega arith
+rank_between a b (x ∷ numbers) up all = elim (cases_lt x b) [
+    | inl before ↦ omega (arith, rank_cons b x numbers, ap {B = ℕ} (λ t. cond t 1 0) (lt-ltb x b before), rank_between (x + 1) b numbers up.1 (above x numbers up.0), all.0)
+    | inr behind ↦ omega (arith, rank_none b (x ∷ numbers) (behind, all_from b x numbers behind up.0)) ]
+    where
+      above : (x : ℕ) (numbers : List ℕ) → AllByRecursion (λ later. x < later) numbers → AllByRecursion (λ later. x + 1 ≤ later) numbers
+      above x [] all = tt
+      above x (y ∷ numbers) all = (omega (arith, all.0), above x numbers all.1)
+
+pub rank-step : (a b : ℕ) (numbers : List ℕ) → IsAscending numbers → a ≤ b → rank b numbers ≤ rank a numbers + (b - a)
+rank-step a b [] up h = omega arith
+rank-step a b (x ∷ numbers) up h = elim (cases_lt x a) [
+    | inl before ↦ omega (arith, rank_cons b x numbers, ap {B = ℕ} (λ t. cond t 1 0) (lt-ltb x b (omega arith)), rank_cons a x numbers, ap {B = ℕ} (λ t. cond t 1 0) (lt-ltb x a before), rank-step a b numbers up.1 h)
+    | inr behind ↦ omega (arith, rank_between a b (x ∷ numbers) up (behind, all_from a x numbers behind up.0)) ]
+
+pub rank-mono : (a b : ℕ) (numbers : List ℕ) → a ≤ b → rank a numbers ≤ rank b numbers
+rank-mono a b [] h = omega arith
+rank-mono a b (x ∷ numbers) h = elim (cases_lt x a) [
+    | inl before ↦ omega (arith, rank_cons b x numbers, ap {B = ℕ} (λ t. cond t 1 0) (lt-ltb x b (omega arith)), rank_cons a x numbers, ap {B = ℕ} (λ t. cond t 1 0) (lt-ltb x a before), rank-mono a b numbers h)
+    | inr behind ↦ omega (arith, rank_cons b x numbers, rank_cons a x numbers, ap {B = ℕ} (λ t. cond t 1 0) (le-ltb x a behind), rank-mono a b numbers h) ]
+
+pub rank-below : (number : ℕ) (numbers : List ℕ) → IsAscending numbers → rank number numbers ≤ number
+rank-below number numbers up = omega (arith, rank_between 0 number numbers up (all_any numbers))
+    where
+      all_any : (numbers : List ℕ) → AllByRecursion (λ later. 0 ≤ later) numbers
+      all_any [] = tt
+      all_any (x ∷ numbers) = (omega arith, all_any numbers)
+
+-- a number among them has as many before it as its index says
+pub rank-at : (i : ℕ) (numbers : List ℕ) (q : ℕ) → IsAscending numbers → slice_get numbers i ≡ Some q → rank q numbers ≡ i
+rank-at i [] q up at = absurd (none-some q at)
+rank-at zero (x ∷ numbers) q up at = let same : x ≡ q = same_Some x q at in omega (arith, rank_none q (x ∷ numbers) (omega arith, all_from q x numbers (omega arith) up.0))
+rank-at (suc i) (x ∷ numbers) q up at =
+    omega (arith, rank_cons q x numbers, ap {B = ℕ} (λ t. cond t 1 0) (lt-ltb x q (later numbers i up.0 at)), rank-at i numbers q up.1 at)
+    where
+      later : (numbers : List ℕ) (i : ℕ) → AllByRecursion (λ later. x < later) numbers → slice_get numbers i ≡ Some q → x < q
+      later [] i all at = absurd (none-some q at)
+      later (y ∷ numbers) zero all at = omega (arith, all.0, same_Some y q at)
+      later (y ∷ numbers) (suc i) all at = later numbers i all.1 at
+
+pub rank-le_length : (number : ℕ) (numbers : List ℕ) → rank number numbers ≤ length numbers
+rank-le_length number [] = omega arith
+rank-le_length number (x ∷ numbers) = elim (cases_lt x number) [
+    | inl before ↦ omega (arith, rank_cons number x numbers, ap {B = ℕ} (λ t. cond t 1 0) (lt-ltb x number before), rank-le_length number numbers)
+    | inr behind ↦ omega (arith, rank_cons number x numbers, ap {B = ℕ} (λ t. cond t 1 0) (le-ltb x number behind), rank-le_length number numbers) ]
+
+-- an entry is among them
+pub among_at : (i q : ℕ) (numbers : List ℕ) → slice_get numbers i ≡ Some q → list_any (λ other. other == q) numbers ≡ true
+among_at i q [] at = absurd (none-some q at)
+among_at zero q (x ∷ numbers) at = or_left (x == q) (list_any (λ other. other == q) numbers) (eq-eqb x q (same_Some x q at))
+among_at (suc i) q (x ∷ numbers) at = or_right (x == q) (list_any (λ other. other == q) numbers) (among_at i q numbers at)
+
+-- a number among them stands before one that is behind it
+pub rank_marked : (q b : ℕ) (numbers : List ℕ) → IsAscending numbers → list_any (λ other. other == q) numbers ≡ true → q < b → rank q numbers < rank b numbers
+rank_marked q b [] up among h = absurd (true≢false (sym among))
+rank_marked q b (x ∷ numbers) up among h = elim (cases_order x q) [
+    | inl here ↦ omega (arith, rank_none q (x ∷ numbers) (omega arith, all_from q x numbers (omega arith) up.0), rank_cons b x numbers, ap {B = ℕ} (λ t. cond t 1 0) (lt-ltb x b (omega arith)))
+    | inr apart ↦ elim apart [
+      | inl before ↦ omega (arith, rank_cons b x numbers, ap {B = ℕ} (λ t. cond t 1 0) (lt-ltb x b (omega arith)), rank_cons q x numbers, ap {B = ℕ} (λ t. cond t 1 0) (lt-ltb x q before),
+          rank_marked q b numbers up.1 (rw (ne_eqb x q (λ e. omega arith)) at among) h)
+      | inr behind ↦ absurd (true≢false (sym among ∙ later q (x ∷ numbers) (behind, all_over q x numbers (omega arith) up.0))) ] ]
+    where
+      later : (number : ℕ) (numbers : List ℕ) → AllByRecursion (λ later. number < later) numbers → list_any (λ other. other == number) numbers ≡ false
+      later number [] all = refl
+      later number (y ∷ numbers) all = rw (ne_eqb y number (λ e. omega (arith, all.0))) (later number numbers all.1)
 
 slipped_here : (number x : ℕ) (numbers : List ℕ) → number < x → slipped number (x ∷ numbers) ≡ number
 slipped_here number x numbers h = rw (lt-ltb number x h) refl

@@ -1,6 +1,6 @@
 -- Numbers that are passed over: a number slips on by one for each that stands at it or before it.
-use Rattle.std.specs.Prelude.{ℕ, ◌+◌, ◌<◌, List, [], ◌∷◌, Bool, true, false, nat_lt, if◌then◌else◌, length, filter}
-use Rattle.std.specs.List.{AllByRecursion}
+use Rattle.std.specs.Prelude.{◌≡◌, ℕ, ◌+◌, ◌-◌, ◌<◌, ◌≤◌, ◌==◌, ◌⊎◌, Some, slice_get, List, [], ◌∷◌, Bool, true, false, nat_lt, if◌then◌else◌, length, filter}
+use Rattle.std.specs.List.{AllByRecursion, list_any}
 
 -- each number is below all that follow
 abbrev pub IsAscending : List ℕ → Type 0
@@ -25,3 +25,18 @@ with_index false index indexes = indexes
 abbrev pub indexes : {A : Type 0} → (A → Bool) → ℕ → List A → List ℕ
 indexes passes index [] = []
 indexes passes index (x ∷ xs) = with_index (passes x) index (indexes passes (index + 1) xs)
+
+-- a list's first entries hold its sectors, but each that is marked has moved to the next one behind them that is not: where a sector is
+abbrev pub entry_of_sector : List ℕ → ℕ → ℕ → ℕ
+entry_of_sector marked sectors sector =
+    if list_any (λ other. other == sector) marked then slipped (sectors - rank sectors marked + rank sector marked) marked else sector
+
+-- an entry of such a list holds no sector: it is marked, or an unmarked one too far behind
+abbrev pub HoldsNone : List ℕ → ℕ → ℕ → Type 0
+HoldsNone marked sectors entry = (list_any (λ other. other == entry) marked ≡ true) ⊎ (sectors ≤ entry - rank entry marked)
+
+-- it holds its own sector, or that of the marked one in whose stead it is
+abbrev pub HoldsSector : List ℕ → ℕ → ℕ → ℕ → Type 0
+HoldsSector marked sectors entry sector = (list_any (λ other. other == entry) marked ≡ false)
+    × (((entry < sectors) × (sector ≡ entry))
+    ⊎ ((sectors ≤ entry) × (entry - rank entry marked < sectors) × (slice_get marked (entry - rank entry marked - (sectors - rank sectors marked)) ≡ Some sector)))

@@ -1,11 +1,11 @@
 -- Positions on a cylinder: head by head, the slots of each track in the order of its turn.
-use Rattle.std.specs.Prelude.{ℕ, ◌+◌, ◌-◌, ◌*◌, ◌/◌, ◌%◌, ◌<◌, ◌≤◌, ◌^◌, ◌≡◌, List, map, find, nat_le, Option, Some, false}
+use Rattle.std.specs.Prelude.{ℕ, ◌+◌, ◌-◌, ◌*◌, ◌/◌, ◌%◌, ◌<◌, ◌≤◌, ◌^◌, ◌≡◌, List, map, find, nat_le, Option, Some, None, false}
 use Rattle.std.specs.List.{range_with_len}
 use Rattle.fb_units.specs.declared.types.Place.{Place}
 use Rattle.fb_units.specs.declared.types.Track.{Track}
 use Rattle.fb_geometry.specs.declared.zone.Zone.{Zone}
 use Rattle.fb_geometry.specs.Shape.{Shape, offset_in}
-use Rattle.fb_geometry.specs.Faults.{has_no_data}
+use Rattle.fb_geometry.specs.Faults.{has_no_data, spare_fault}
 
 -- the numbers of a zone lie in their ranges
 pub record IsZone (zone : Zone) : Type 0 where
@@ -20,7 +20,7 @@ pub record IsZone (zone : Zone) : Type 0 where
 abbrev pub zone_at : List Zone → ℕ → Option Zone
 zone_at zones cylinder = find (λ zone. nat_le cylinder zone.last) zones
 
--- the zone is a cylinder's, with numbers in their ranges, and has data sectors
+-- the zone is a cylinder's, with numbers in their ranges, has data sectors, and the spares are enough
 pub record IsZoneAt (disk : Shape) (cylinder : ℕ) (zone : Zone) : Type 0 where
   pub found : zone_at disk.zones cylinder ≡ Some zone
   pub ranges : IsZone zone
@@ -28,6 +28,7 @@ pub record IsZoneAt (disk : Shape) (cylinder : ℕ) (zone : Zone) : Type 0 where
   pub upto : cylinder ≤ zone.last
   pub short : zone.sectors ≤ disk.rotation
   pub holds_data : has_no_data disk.layout disk zone ≡ false
+  pub enough_spares : spare_fault disk.layout disk ≡ None
 
 -- how many slots of the cylinder come before a place
 abbrev pub position_in : Zone → ℕ → Place → ℕ

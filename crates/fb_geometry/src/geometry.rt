@@ -1,13 +1,16 @@
 // The geometry of a disk.
 ghost use Rattle.std.specs.Prelude.{◌≡◌, ℕ, ◌+◌, ◌-◌, ◌*◌, ◌/◌, ◌<◌, ◌≤◌, ◌^◌, [], ◌∷◌, length, slice_get, Some, None, MatchOption};
-ghost use Rattle.fb_geometry.specs.Shape.{Shape, slots_at, cylinders_of, offset_at};
+ghost use Rattle.fb_geometry.specs.Shape.{Shape, slots_at, cylinders_of, offset_at, is_among};
 ghost use Rattle.fb_geometry.specs.Angles.{slot_begin};
-ghost use Rattle.fb_geometry.specs.Places.{data_list_at};
+ghost use Rattle.fb_geometry.specs.Places.{data_list, data_list_at, per_track, per_cylinder, by_head, good_track};
 ghost use Rattle.fb_geometry.specs.Faults.{Judges, FitsLayout};
-ghost use Rattle.fb_geometry.specs.Sound.{IsSound};
-ghost use Rattle.fb_geometry.specs.Turns.{IsZoneAt};
+ghost use Rattle.fb_geometry.specs.Sound.{IsSound, cylinder_size};
+ghost use Rattle.fb_geometry.specs.Turns.{IsZoneAt, cylinder_slots};
+ghost use Rattle.fb_geometry.specs.Slips.{IsAscending, indexes};
+ghost use Rattle.fb_geometry.specs.Marks.{positions};
+ghost use Rattle.fb_geometry.specs.declared.layout.Layout.TheVariants.{PerTrack, PerCylinder};
 
-use crate::marks::Marks;
+use crate::marks::{Mark, Marks, entry_of_sector, is_marked, sector_of_entry, slipped, unmarked_before};
 use crate::zone::zone_of;
 use crate::{GeometryError, Layout, Zone};
 use fb_units::{Ns, Place, Track};
@@ -119,6 +122,7 @@ impl Geometry {
         requires { cylinder < cylinders_of self.now.zones }
         ensures zone { IsZoneAt self.now cylinder result }
         ensures slots { slots_at self.now.zones cylinder ≡ result.sectors }
+        ensures list { data_list_at self.now cylinder ≡ data_list self.now result cylinder }
     {
         zone_of(self.zones.as_slice(), cylinder)
     }
@@ -164,5 +168,152 @@ impl Geometry {
         ensures bound { result ≤ self.now.rotation }
     {
         (slot as u64 + 1) * self.rotation / self.slots(track) as u64
+    }
+
+    /// The number of sectors of a cylinder.
+    pub fn cylinder_sectors(&self, cylinder: u32) -> u32
+        requires { cylinder < cylinders_of self.now.zones }
+        ensures value { result ≡ length (data_list_at self.now cylinder) }
+        ensures some { 0 < result }
+    {
+        self.sectors_of(self.zone_of(cylinder), cylinder)
+    }
+
+    // The number of sectors of a cylinder of a zone.
+    fn sectors_of(&self, zone: Zone, cylinder: u32) -> u32
+        requires { IsZoneAt self.now cylinder zone }
+        ensures value { result ≡ cylinder_size self.now zone }
+        ensures some { 0 < result }
+    {
+        match self.layout() {
+            Layout::PerTrack => self.heads() * (zone.sectors - zone.spares),
+            Layout::PerCylinder => self.heads() * zone.sectors - zone.cylinder_spares,
+        }
+    }
+
+    /// The place of a sector of a cylinder, from 0 in the order of their numbers.
+    pub fn sector_place(&self, cylinder: u32, j: u32) -> Place
+        requires cylinder { cylinder < cylinders_of self.now.zones }
+        requires sector { j < length (data_list_at self.now cylinder) }
+        ensures { slice_get (data_list_at self.now cylinder) j ≡ Some result }
+    {
+        let zone = self.zone_of(cylinder);
+        match self.layout() {
+            Layout::PerTrack => self.place_by_track(zone, cylinder, j),
+            Layout::PerCylinder => self.place_by_cylinder(zone, cylinder, j),
+        }
+    }
+
+    /// The index of a slot among the sectors of its cylinder. None where it holds no data: it is a spare
+    /// that no sector was moved to, a defect, or a grown defect.
+    pub fn sector_of_slot(&self, track: Track, slot: u32) -> Option<u32>
+        requires cylinder { track.cylinder < cylinders_of self.now.zones }
+        requires head { track.head < self.now.heads }
+        requires slot { slot < slots_at self.now.zones track.cylinder }
+        ensures { MatchOption result
+            ((j : ℕ) → slice_get (data_list_at self.now track.cylinder) j ≡ Some (record { track = track; slot = slot }) → ⊥)
+            (λ j. slice_get (data_list_at self.now track.cylinder) j ≡ Some (record { track = track; slot = slot })) }
+    {
+        let zone = self.zone_of(track.cylinder);
+        let place = Place { track, slot };
+        match self.layout() {
+            Layout::PerTrack => self.index_by_track(zone, place),
+            Layout::PerCylinder => self.index_by_cylinder(zone, place),
+        }
+    }
+
+    // The place of a sector, with spares at the end of each track.
+    fn place_by_track(&self, zone: Zone, cylinder: u32, j: u32) -> Place
+        requires zone { IsZoneAt self.now cylinder zone }
+        requires layout { self.now.layout ≡ PerTrack }
+        requires sector { j < length (per_track self.now zone cylinder) }
+        ensures { slice_get (per_track self.now zone cylinder) j ≡ Some result }
+    {
+        let heads = self.heads();
+        let defects = self.defects_on(zone, cylinder);
+        let sectors = zone.sectors - zone.spares;
+        let first = j / sectors * zone.sectors;
+        let good = unmarked_before(defects, first) + j % sectors;
+        zone.place_at(heads, cylinder, slipped(defects, good))
+    }
+
+    // The place of a sector, with spares at the end of the cylinder.
+    fn place_by_cylinder(&self, zone: Zone, cylinder: u32, j: u32) -> Place
+        requires zone { IsZoneAt self.now cylinder zone }
+        requires layout { self.now.layout ≡ PerCylinder }
+        requires sector { j < length (per_cylinder self.now zone cylinder) }
+        ensures { slice_get (per_cylinder self.now zone cylinder) j ≡ Some result }
+    {
+        let heads = self.heads();
+        let defects = self.defects_on(zone, cylinder);
+        let sectors = heads * zone.sectors - zone.cylinder_spares;
+        let good = entry_of_sector(self.grown_on(zone, cylinder), sectors, j);
+        zone.place_at(heads, cylinder, slipped(defects, good))
+    }
+
+    // The index of a place, with spares at the end of each track.
+    fn index_by_track(&self, zone: Zone, place: Place) -> Option<u32>
+        requires zone { IsZoneAt self.now place.track.cylinder zone }
+        requires layout { self.now.layout ≡ PerTrack }
+        requires head { place.track.head < self.now.heads }
+        requires slot { place.slot < zone.sectors }
+        ensures { MatchOption result
+            ((j : ℕ) → slice_get (per_track self.now zone place.track.cylinder) j ≡ Some place → ⊥)
+            (λ j. slice_get (per_track self.now zone place.track.cylinder) j ≡ Some place) }
+    {
+        let heads = self.heads();
+        let defects = self.defects_on(zone, place.track.cylinder);
+        let position = zone.position(heads, place);
+        if is_marked(defects, position) {
+            return None;
+        }
+        let first = place.track.head * zone.sectors;
+        let sector = unmarked_before(defects, position) - unmarked_before(defects, first);
+        let sectors = zone.sectors - zone.spares;
+        if sector >= sectors {
+            return None;
+        }
+        Some(place.track.head * sectors + sector)
+    }
+
+    // The index of a place, with spares at the end of the cylinder.
+    fn index_by_cylinder(&self, zone: Zone, place: Place) -> Option<u32>
+        requires zone { IsZoneAt self.now place.track.cylinder zone }
+        requires layout { self.now.layout ≡ PerCylinder }
+        requires head { place.track.head < self.now.heads }
+        requires slot { place.slot < zone.sectors }
+        ensures { MatchOption result
+            ((j : ℕ) → slice_get (per_cylinder self.now zone place.track.cylinder) j ≡ Some place → ⊥)
+            (λ j. slice_get (per_cylinder self.now zone place.track.cylinder) j ≡ Some place) }
+    {
+        let heads = self.heads();
+        let defects = self.defects_on(zone, place.track.cylinder);
+        let position = zone.position(heads, place);
+        if is_marked(defects, position) {
+            return None;
+        }
+        let sectors = heads * zone.sectors - zone.cylinder_spares;
+        let good = unmarked_before(defects, position);
+        sector_of_entry(self.grown_on(zone, place.track.cylinder), sectors, good)
+    }
+
+    // The defects of a cylinder, by their positions.
+    fn defects_on(&self, zone: Zone, cylinder: u32) -> &[Mark]
+        requires { IsZoneAt self.now cylinder zone }
+        ensures marks { positions result.now ≡ indexes (is_among self.now.defects) 0 (cylinder_slots zone self.now.heads cylinder) }
+        ensures ascending { IsAscending (positions result.now) }
+    {
+        let _ = zone;
+        self.defect_marks.on(cylinder)
+    }
+
+    // The grown defects of a cylinder, by their indexes among its good slots.
+    fn grown_on(&self, zone: Zone, cylinder: u32) -> &[Mark]
+        requires { IsZoneAt self.now cylinder zone }
+        ensures marks { positions result.now ≡ indexes (is_among self.now.grown) 0 (by_head self.now cylinder (good_track self.now zone)) }
+        ensures ascending { IsAscending (positions result.now) }
+    {
+        let _ = zone;
+        self.grown_marks.on(cylinder)
     }
 }

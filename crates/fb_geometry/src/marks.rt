@@ -1,7 +1,7 @@
 // Marked positions of cylinders: bad slots, counted in the order in which they come by.
-ghost use Rattle.std.specs.Prelude.{◌≡◌, ◌+◌, ◌<◌, ◌≤◌, ◌^◌, ◌==◌, [], length};
+ghost use Rattle.std.specs.Prelude.{◌≡◌, ◌+◌, ◌<◌, ◌≤◌, ◌^◌, ◌==◌, [], ◌-◌, IfNone, IfSome};
 ghost use Rattle.std.specs.List.{list_any};
-ghost use Rattle.fb_geometry.specs.Slips.{IsAscending, rank, slipped};
+ghost use Rattle.fb_geometry.specs.Slips.{IsAscending, rank, slipped, entry_of_sector, HoldsNone, HoldsSector};
 ghost use Rattle.fb_geometry.specs.Marks.{AreInOrder, positions, marks_on};
 
 use std::alloc::Global;
@@ -71,10 +71,18 @@ fn part(marks: &[Mark], cylinder: u32) -> &[Mark]
 // How many marks of a cylinder come before a position.
 pub fn rank(marks: &[Mark], position: u32) -> u32
     requires ascending { IsAscending (positions marks.now) }
-    requires few { length marks.now < 2 ^ 32 }
-    ensures { result ≡ rank position (positions marks.now) }
+    ensures value { result ≡ rank position (positions marks.now) }
+    ensures bound { result ≤ position }
 {
     marks.partition_point(|mark| mark.position < position) as u32
+}
+
+// How many positions before this one are not marked.
+pub fn unmarked_before(marks: &[Mark], position: u32) -> u32
+    requires ascending { IsAscending (positions marks.now) }
+    ensures { result ≡ position - rank position (positions marks.now) }
+{
+    position - rank(marks, position)
 }
 
 // Whether a position of the cylinder is marked.
@@ -90,7 +98,7 @@ pub fn is_marked(marks: &[Mark], position: u32) -> bool
 // What a number becomes where marked positions are passed over.
 pub fn slipped(marks: &[Mark], number: u32) -> u32
     requires ascending { IsAscending (positions marks.now) }
-    requires few { number + length marks.now < 2 ^ 32 }
+    requires fits { slipped number (positions marks.now) < 2 ^ 32 }
     ensures { result ≡ slipped number (positions marks.now) }
 {
     let mut low: usize = 0;
@@ -104,4 +112,38 @@ pub fn slipped(marks: &[Mark], number: u32) -> u32
         }
     }
     number + low as u32
+}
+
+// The entry that holds a sector, where each of the first `sectors` entries that is marked has moved to
+// the next one behind them that is not.
+pub fn entry_of_sector(marks: &[Mark], sectors: u32, sector: u32) -> u32
+    requires ascending { IsAscending (positions marks.now) }
+    requires fits { entry_of_sector (positions marks.now) sectors sector < 2 ^ 32 }
+    ensures { result ≡ entry_of_sector (positions marks.now) sectors sector }
+{
+    if is_marked(marks, sector) {
+        slipped(marks, unmarked_before(marks, sectors) + rank(marks, sector))
+    } else {
+        sector
+    }
+}
+
+// The sector that an entry of such a list holds.
+pub fn sector_of_entry(marks: &[Mark], sectors: u32, entry: u32) -> Option<u32>
+    requires ascending { IsAscending (positions marks.now) }
+    ensures none { IfNone result (HoldsNone (positions marks.now) sectors entry) }
+    ensures some { IfSome result (HoldsSector (positions marks.now) sectors entry) }
+{
+    if is_marked(marks, entry) {
+        return None;
+    }
+    if entry < sectors {
+        return Some(entry);
+    }
+    let unmarked = unmarked_before(marks, entry);
+    if unmarked >= sectors {
+        return None;
+    }
+    let spare = unmarked - unmarked_before(marks, sectors);
+    Some(marks[spare as usize].position)
 }

@@ -1,6 +1,7 @@
 use Rattle.std.proofs.Common.{◌≡◌, sym, arith, ◌+◌, ◌-◌, ◌/◌, ◌<◌, ◌≤◌, length}
 use Rattle.std.proofs.lemmas.List.{length-map}
 use Rattle.fb_geometry.specs.Marks.{positions}
+use Rattle.fb_geometry.specs.Slips.{slipped}
 use Rattle.fb_geometry.proofs.Order.{slipped-is, slips_upto, slips_before, position_at}
 use Rattle.fb_geometry.proofs.marks.slipped.Goals as goal
 
@@ -20,8 +21,17 @@ loop-low-preserved c =
     let many : length (positions marks) ≡ length marks = length-map marks (λ mark. mark.position) in
     record { order = omega arith; upto = omega arith; before = c.loop-low.invariant.before; behind = λ i l h. slips_before c.args.number middle (positions marks) c.requires.ascending (omega (arith, position_at marks middle (record { cylinder = 0; position = 0 }) inside)) i l (omega arith) }
 
-pub returns : goal.returns
-returns c =
+slipped_to : (c : goal.After-loop-low) → slipped c.args.number (positions c.args.marks.now) ≡ c.args.number + c.loop-low.low
+slipped_to c =
     let marks = c.args.marks.now in
     let many : length (positions marks) ≡ length marks = length-map marks (λ mark. mark.position) in
-    sym (slipped-is c.args.number (positions marks) c.loop-low.low (omega arith) c.loop-low.invariant.before (λ i l h. c.loop-low.invariant.behind i (omega arith) (omega arith)))
+    slipped-is c.args.number (positions marks) c.loop-low.low (omega arith) c.loop-low.invariant.before (λ i l h. c.loop-low.invariant.behind i (omega arith) (omega arith))
+
+pub returns : goal.returns
+returns c = sym (slipped_to c)
+
+pub overflow_cast-result : goal.overflow_cast-result
+overflow_cast-result c = omega (arith, slipped_to c)
+
+pub overflow_add-result : goal.overflow_add-result
+overflow_add-result c = omega (arith, slipped_to c)

@@ -1,0 +1,438 @@
+-- Where the sectors of a cylinder are.
+use Rattle.std.proofs.Common.{◌≡◌, ◌≢◌, ℕ, zero, suc, ◌+◌, ◌-◌, ◌*◌, ◌/◌, ◌%◌, ◌^◌, ◌<◌, ◌≤◌, List, [], ◌∷◌, ◌++◌, length, refl, ap, sym, ◌∙◌, arith, Bool, true, false, not, cond, Option, Some, None, ◌⊎◌, inl, inr, map, subst, take, drop, get_or}
+use Rattle.std.specs.Prelude.{filter, nat_lt, nat_le, ◌==◌, ◌&&◌, ◌||◌, slice_get}
+use Rattle.std.specs.List.{AllByRecursion, flat_map, range_with_len, list_any}
+use Rattle.std.proofs.Math.Nat.{mod-lt}
+use Rattle.std.proofs.lemmas.Nat.{mul-add-lt, div_below, mul-le, div-add-mod'}
+use Rattle.std.proofs.lemmas.Bool.{cases_Bool, cases_lt, and_parts, eqb-true, true≢false, not_from_true, not_from_false, not-true}
+use Rattle.std.proofs.lemmas.Bool.Decides.{nat_tests}
+use Rattle.std.proofs.lemmas.Option.{same_Some, none-some, slice_get-get_or, slice_get_within}
+use Rattle.std.proofs.lemmas.List.{length-take, length-take-le, length-append, map-append, take-append-drop, take-take}
+use Rattle.std.proofs.lemmas.List.Elements.{filter-append}
+use Rattle.std.proofs.lemmas.List.FromFn.{length-range_with_len, take-map-range_with_len}
+use Rattle.fb_units.specs.declared.types.Place.{Place}
+use Rattle.fb_units.specs.declared.types.Track.{Track}
+use Rattle.fb_geometry.specs.declared.layout.Layout.{Layout}
+use Rattle.fb_geometry.specs.declared.layout.Layout.TheVariants.{PerTrack, PerCylinder}
+use Rattle.fb_geometry.specs.declared.zone.Zone.{Zone}
+use Rattle.fb_geometry.specs.Shape.{Shape, same_place, is_among, offset_in}
+use Rattle.fb_geometry.specs.Places.{turn, per_track, per_cylinder, good_track, by_head, replaced, stand_in}
+use Rattle.fb_geometry.specs.Faults.{spare_fault, has_no_data}
+use Rattle.fb_geometry.specs.Turns.{IsZone, IsZoneAt, slot_at, cylinder_slots, position_in}
+use Rattle.fb_geometry.specs.Slips.{IsAscending, slipped, rank, indexes}
+use Rattle.fb_geometry.proofs.Grid.{get_left, get_right, get_part, get_range}
+use Rattle.fb_geometry.proofs.Slips.{kept_at, kept_to, marked, rank-le, rank-slipped, slipped-free, rank-below, rank-at, rank-mono, rank-step, rank_marked, rank-le_length, among_at, indexes-ascend, length-kept, length-kept_front}
+use Rattle.fb_geometry.proofs.Turns.{good_track-is, good_cylinder-is, range-append, length-cylinder_slots, get-cylinder_slots, position_in-slot_at, slot_at-position_in, position_below}
+use Rattle.fb_geometry.proofs.Faultless.{all_get}
+use Rattle.fb_geometry.proofs.Laws.{HasSpares, length-track, length-per_track, length-good, few_flaws, length-per_cylinder, all-filter}
+use Rattle.fb_geometry.proofs.Counting.{kept_and_dropped, at_most_each, fewer, once_on_cylinder}
+
+pub get_take : {X : Type 0} (n : ℕ) (xs : List X) (i : ℕ) → i < n → slice_get (take n xs) i ≡ slice_get xs i
+get_take zero xs i h = absurd (omega arith)
+get_take (suc n) [] i h = refl
+get_take (suc n) (x ∷ xs) zero h = refl
+get_take (suc n) (x ∷ xs) (suc i) h = get_take n xs i (omega arith)
+
+pub get_drop : {X : Type 0} (n : ℕ) (xs : List X) (i : ℕ) → slice_get (drop n xs) i ≡ slice_get xs (n + i)
+get_drop zero xs i = ap (slice_get xs) (omega arith)
+get_drop (suc n) [] i = refl
+get_drop (suc n) (x ∷ xs) i = get_drop n xs i ∙ ap (slice_get (x ∷ xs)) (next n i)
+    where
+      next : (n i : ℕ) → suc (n + i) ≡ suc n + i
+      next n i = omega arith
+
+within : {X : Type 0} (xs : List X) (i : ℕ) → i < length xs → (x : X) × (slice_get xs i ≡ Some x)
+within [] i h = absurd (omega arith)
+within (x ∷ xs) zero h = (x, refl)
+within (x ∷ xs) (suc i) h = within xs i (omega arith)
+
+-- ---- a list and what is left of it
+
+module _ {A : Type 0} (test : A → Bool) (xs : List A) (numbers : List ℕ) (are : numbers ≡ indexes test 0 xs) where
+  pub ascends : IsAscending numbers
+  ascends = subst IsAscending (sym are) (indexes-ascend test 0 xs)
+
+  pub few_numbers : length numbers ≤ length xs
+  few_numbers = omega (arith, ap length are, length-kept test 0 xs)
+
+  pub rank_le : (i : ℕ) → rank i numbers ≤ i
+  rank_le i = omega (arith, ap (rank i) are, ap (λ j. rank j (indexes test 0 xs)) (zero_add i), rank-le test 0 i xs)
+      where
+        zero_add : (i : ℕ) → 0 + i ≡ i
+        zero_add i = omega arith
+
+  -- the k-th that is left
+  pub kth : (k : ℕ) → k < length (filter (λ x. not (test x)) xs) → (slipped k numbers < length xs) × (slice_get (filter (λ x. not (test x)) xs) k ≡ slice_get xs (slipped k numbers))
+  kth k h =
+      let same = kept_at test 0 xs k (slipped k numbers) (ap (λ m. slipped m (indexes test 0 xs)) (zero_add k) ∙ (ap (slipped k) (sym are) ∙ sym (zero_add (slipped k numbers)))) in
+      let one = within (filter (λ x. not (test x)) xs) k h in
+      (slice_get_within xs (slipped k numbers) one.0 (sym same ∙ one.1), same)
+      where
+        zero_add : (i : ℕ) → 0 + i ≡ i
+        zero_add i = omega arith
+
+  -- where one that is left goes
+  pub goes : (i : ℕ) (x : A) → slice_get xs i ≡ Some x → test x ≡ false → slice_get (filter (λ x. not (test x)) xs) (i - rank i numbers) ≡ Some x
+  goes i x at stays = kept_to test 0 xs i (i - rank i numbers) x at stays (omega (arith, rank_le i, ap (rank i) are, ap (λ j. rank j (indexes test 0 xs)) (zero_add i)))
+      where
+        zero_add : (i : ℕ) → 0 + i ≡ i
+        zero_add i = omega arith
+
+  pub is_marked_at : (i : ℕ) (x : A) → slice_get xs i ≡ Some x → list_any (λ other. other == i) numbers ≡ test x
+  is_marked_at i x at = ap (list_any (λ other. other == i)) are ∙ (ap (λ j. list_any (λ other. other == j) (indexes test 0 xs)) (zero_add i) ∙ marked test 0 xs i x at)
+      where
+        zero_add : (i : ℕ) → i ≡ 0 + i
+        zero_add i = omega arith
+
+  -- what is left of the front
+  pub length_front : (i : ℕ) → i ≤ length xs → length (filter (λ x. not (test x)) (take i xs)) ≡ i - rank i numbers
+  length_front i h = omega (arith, length-kept_front test 0 i xs h, ap (rank i) are, ap (λ j. rank j (indexes test 0 xs)) (zero_add i))
+      where
+        zero_add : (i : ℕ) → 0 + i ≡ i
+        zero_add i = omega arith
+
+-- ---- spares at the end of each track
+
+all_good : {A : Type 0} (test : A → Bool) (xs : List A) → AllByRecursion (λ x. test x ≡ false) (filter (λ x. not (test x)) xs)
+all_good test [] = tt
+all_good test (x ∷ xs) = keep (test x) refl (all_good test xs)
+    where
+      keep : (b : Bool) → test x ≡ b → AllByRecursion (λ x. test x ≡ false) (filter (λ x. not (test x)) xs) → AllByRecursion (λ x. test x ≡ false) (cond (not b) (x ∷ filter (λ x. not (test x)) xs) (filter (λ x. not (test x)) xs))
+      keep true e all = all
+      keep false e all = (e, all)
+
+all_map : {A B : Type 0} (P : B → Type 0) (f : A → B) → ((x : A) → P (f x)) → (xs : List A) → AllByRecursion P (map f xs)
+all_map P f each [] = tt
+all_map P f each (x ∷ xs) = (each x, all_map P f each xs)
+
+module _ (disk : Shape) (zone : Zone) (cylinder : ℕ) (at : IsZoneAt disk cylinder zone) (numbers : List ℕ)
+    (are : numbers ≡ indexes (is_among disk.defects) 0 (cylinder_slots zone disk.heads cylinder)) where
+  abbrev good : List Place
+  good = filter (λ place. not (is_among disk.defects place)) (cylinder_slots zone disk.heads cylinder)
+
+  abbrev on_track : ℕ → List Place
+  on_track head = good_track disk zone (record { cylinder = cylinder; head = head })
+
+  some : 0 < zone.sectors
+  some = at.ranges.some_sectors
+
+  pub good_at : (k : ℕ) → k < length (filter (λ place. not (is_among disk.defects place)) (cylinder_slots zone disk.heads cylinder))
+      → (slipped k numbers < disk.heads * zone.sectors) × (slice_get (filter (λ place. not (is_among disk.defects place)) (cylinder_slots zone disk.heads cylinder)) k ≡ Some (slot_at zone disk.heads cylinder (slipped k numbers)))
+  good_at k h =
+      let one = kth (is_among disk.defects) (cylinder_slots zone disk.heads cylinder) numbers are k h in
+      let below : slipped k numbers < disk.heads * zone.sectors = omega (arith, one.0, length-cylinder_slots zone disk.heads some cylinder) in
+      (below, one.1 ∙ get-cylinder_slots zone disk.heads some cylinder (slipped k numbers) below)
+
+  -- the slot at the position of a place
+  pub slot_of : (place : Place) → place.track.cylinder ≡ cylinder → place.track.head < disk.heads → place.slot < zone.sectors → slice_get (cylinder_slots zone disk.heads cylinder) (position_in zone disk.heads place) ≡ Some place
+  slot_of place c h l =
+      get-cylinder_slots zone disk.heads some cylinder (position_in zone disk.heads place) (position_below zone disk.heads some place h)
+      ∙ ap Some (ap (λ c. slot_at zone disk.heads c (position_in zone disk.heads place)) (sym c) ∙ slot_at-position_in zone disk.heads some place l)
+
+  -- the index of a good slot, from its position
+  pub good_index : (k : ℕ) (place : Place) → slice_get (filter (λ place. not (is_among disk.defects place)) (cylinder_slots zone disk.heads cylinder)) k ≡ Some place
+      → k ≡ position_in zone disk.heads place - rank (position_in zone disk.heads place) numbers
+  good_index k place found =
+      let one = good_at k (slice_get_within good k place found) in
+      let same : slot_at zone disk.heads cylinder (slipped k numbers) ≡ place = same_Some (slot_at zone disk.heads cylinder (slipped k numbers)) place (sym one.1 ∙ found) in
+      let position : slipped k numbers ≡ position_in zone disk.heads place = sym (position_in-slot_at zone disk.heads some cylinder (slipped k numbers)) ∙ ap (position_in zone disk.heads) same in
+      omega (arith, rank-slipped k (position_in zone disk.heads place) numbers (ascends (is_among disk.defects) (cylinder_slots zone disk.heads cylinder) numbers are) position)
+
+  -- the slots of a track stand together
+  track_in_good : (head i : ℕ) → head < disk.heads → i < length (good_track disk zone (record { cylinder = cylinder; head = head }))
+      → slice_get (filter (λ place. not (is_among disk.defects place)) (cylinder_slots zone disk.heads cylinder)) (head * zone.sectors - rank (head * zone.sectors) numbers + i) ≡ slice_get (good_track disk zone (record { cylinder = cylinder; head = head })) i
+  track_in_good head i h l =
+      let n = zone.sectors in
+      let first = head * n in
+      let slot = slot_at zone disk.heads cylinder in
+      let is_good : Place → Bool = λ place. not (is_among disk.defects place) in
+      let front = map slot (range_with_len 0 first) in
+      let part = map slot (range_with_len first n) in
+      let fits : first + n ≤ disk.heads * n = omega (arith, mul-le (head + 1) n disk.heads n (omega arith) (omega arith)) in
+      let left = disk.heads * n - first - n in
+      let rest = map slot (range_with_len (first + n) left) in
+      let parts : cylinder_slots zone disk.heads cylinder ≡ front ++ (part ++ rest) =
+          ap (λ m. map slot (range_with_len 0 m)) (sum (disk.heads * n) first n fits) ∙ (ap (map slot) (range-append 0 first (n + left) ∙ ap (λ a. range_with_len 0 first ++ range_with_len a (n + left)) (zero_add first)
+          ∙ ap (λ xs. range_with_len 0 first ++ xs) (range-append first n left)) ∙ (map-append slot (range_with_len 0 first) (range_with_len first n ++ range_with_len (first + n) left)
+          ∙ ap (λ xs. front ++ xs) (map-append slot (range_with_len first n) (range_with_len (first + n) left)))) in
+      let cut : good ≡ filter is_good front ++ (filter is_good part ++ filter is_good rest) =
+          ap (filter is_good) parts ∙ (filter-append is_good front (part ++ rest) ∙ ap (λ xs. filter is_good front ++ xs) (filter-append is_good part rest)) in
+      let before : length (filter is_good front) ≡ first - rank first numbers =
+          ap (λ xs. length (filter is_good xs)) (sym (take-map-range_with_len slot 0 (disk.heads * n) first (omega arith)))
+          ∙ length_front (is_among disk.defects) (cylinder_slots zone disk.heads cylinder) numbers are first (omega (arith, length-cylinder_slots zone disk.heads some cylinder)) in
+      let own : filter is_good part ≡ on_track head = sym (good_track-is zone disk.heads some disk (record { cylinder = cylinder; head = head }) refl) in
+      ap (λ xs. slice_get xs (first - rank first numbers + i)) cut
+      ∙ (get_right (filter is_good front) (filter is_good part ++ filter is_good rest) i (first - rank first numbers + i) (omega (arith, before))
+      ∙ (get_left (filter is_good part) (filter is_good rest) i (omega (arith, ap length own)) ∙ ap (λ xs. slice_get xs i) own))
+      where
+        sum : (m a n : ℕ) → a + n ≤ m → m ≡ a + (n + (m - a - n))
+        sum m a n h = omega arith
+        zero_add : (a : ℕ) → 0 + a ≡ a
+        zero_add a = omega arith
+
+  module _ (few : spare_fault PerTrack disk ≡ None) where
+    sectors_on : (head : ℕ) → zone.sectors - zone.spares ≤ length (good_track disk zone (record { cylinder = cylinder; head = head }))
+    sectors_on head = omega (arith, length-track disk zone cylinder at head few, length-take (zone.sectors - zone.spares) (on_track head))
+
+    entry : (head i : ℕ) → head < disk.heads → i < zone.sectors - zone.spares → slice_get (per_track disk zone cylinder) (head * (zone.sectors - zone.spares) + i) ≡ slice_get (good_track disk zone (record { cylinder = cylinder; head = head })) i
+    entry head i h l =
+        get_part (λ head. take (zone.sectors - zone.spares) (good_track disk zone (record { cylinder = cylinder; head = head }))) (zone.sectors - zone.spares) (λ head. length-track disk zone cylinder at head few)
+          (range_with_len 0 disk.heads) head i (head * (zone.sectors - zone.spares) + i) head (get_range 0 disk.heads head h ∙ ap Some (zero_add head)) l refl
+        ∙ get_take (zone.sectors - zone.spares) (on_track head) i l
+        where
+          zero_add : (a : ℕ) → 0 + a ≡ a
+          zero_add a = omega arith
+
+    -- the place of the i-th sector of a track
+    pub place_by_track : (j head i k : ℕ) → head * (zone.sectors - zone.spares) + i ≡ j → head < disk.heads → i < zone.sectors - zone.spares → head * zone.sectors - rank (head * zone.sectors) numbers + i ≡ k
+        → (slipped k numbers < disk.heads * zone.sectors) × (slice_get (per_track disk zone cylinder) j ≡ Some (slot_at zone disk.heads cylinder (slipped k numbers)))
+    place_by_track j head i k e h l f =
+        let inside : i < length (on_track head) = omega (arith, sectors_on head) in
+        let at_entry = ap (slice_get (per_track disk zone cylinder)) (sym e) ∙ entry head i h l in
+        let in_good = ap (slice_get good) (sym f) ∙ track_in_good head i h inside in
+        let one = within (on_track head) i inside in
+        let found = good_at k (slice_get_within good k one.0 (in_good ∙ one.1)) in
+        (found.0, at_entry ∙ (sym in_good ∙ found.1))
+
+    -- the track of a sector, and its index there
+    pub split_by_track : (j : ℕ) → 0 < zone.sectors - zone.spares → j < length (per_track disk zone cylinder)
+        → (j / (zone.sectors - zone.spares) < disk.heads) × (j % (zone.sectors - zone.spares) < zone.sectors - zone.spares)
+          × (j / (zone.sectors - zone.spares) * (zone.sectors - zone.spares) + j % (zone.sectors - zone.spares) ≡ j)
+          × (j / (zone.sectors - zone.spares) * zone.sectors + zone.sectors ≤ disk.heads * zone.sectors)
+    split_by_track j some_data h =
+        let d = zone.sectors - zone.spares in
+        let below : j < disk.heads * d = omega (arith, length-per_track disk zone cylinder at few) in
+        let on : j / d < disk.heads = div_below j d disk.heads some_data below in
+        (on, mod-lt j some_data, div-add-mod' j d, omega (arith, mul-le (j / d + 1) zone.sectors disk.heads zone.sectors (omega arith) (omega arith)))
+
+    tracks_are : (head : ℕ) → AllByRecursion (λ place. place.track ≡ record { cylinder = cylinder; head = head }) (good_track disk zone (record { cylinder = cylinder; head = head }))
+    tracks_are head = all-filter (λ place. place.track ≡ record { cylinder = cylinder; head = head }) (λ place. not (is_among disk.defects place))
+        (map (λ slot. record { track = record { cylinder = cylinder; head = head }; slot = slot }) (turn zone.sectors (offset_in zone disk.heads (record { cylinder = cylinder; head = head }))))
+        (all_map (λ place. place.track ≡ record { cylinder = cylinder; head = head }) (λ slot. record { track = record { cylinder = cylinder; head = head }; slot = slot }) (λ slot. refl) (turn zone.sectors (offset_in zone disk.heads (record { cylinder = cylinder; head = head }))))
+
+    -- where an entry stands on its track, from its position
+    pub index_by_track : (j : ℕ) (place : Place) → 0 < zone.sectors - zone.spares → slice_get (per_track disk zone cylinder) j ≡ Some place
+        → (is_among disk.defects place ≡ false) × (i : ℕ) × (i < zone.sectors - zone.spares)
+          × (place.track.head * zone.sectors - rank (place.track.head * zone.sectors) numbers + i ≡ position_in zone disk.heads place - rank (position_in zone disk.heads place) numbers)
+    index_by_track j place some_data found =
+        let d = zone.sectors - zone.spares in
+        let below : j < disk.heads * d = omega (arith, slice_get_within (per_track disk zone cylinder) j place found, length-per_track disk zone cylinder at few) in
+        let head = j / d in
+        let i = j % d in
+        let on : head < disk.heads = div_below j d disk.heads some_data below in
+        let inside : i < d = mod-lt j some_data in
+        let whole : head * d + i ≡ j = div-add-mod' j d in
+        let here : slice_get (on_track head) i ≡ Some place = sym (entry head i on inside) ∙ (ap (slice_get (per_track disk zone cylinder)) whole ∙ found) in
+        let same : place.track.head ≡ head = ap (λ track. track.head) (all_get (λ place. place.track ≡ record { cylinder = cylinder; head = head }) (on_track head) i place (tracks_are head) here) in
+        let in_good : slice_get good (head * zone.sectors - rank (head * zone.sectors) numbers + i) ≡ Some place = track_in_good head i on (slice_get_within (on_track head) i place here) ∙ here in
+        (all_get (λ place. is_among disk.defects place ≡ false) good (head * zone.sectors - rank (head * zone.sectors) numbers + i) place (all_good (is_among disk.defects) (cylinder_slots zone disk.heads cylinder)) in_good,
+          i, inside, ap (λ k. k * zone.sectors - rank (k * zone.sectors) numbers + i) same ∙ good_index (head * zone.sectors - rank (head * zone.sectors) numbers + i) place in_good)
+
+    -- a good slot of a track that comes early enough holds data
+    pub holds_by_track : (place : Place) (i : ℕ) → place.track.cylinder ≡ cylinder → place.track.head < disk.heads → place.slot < zone.sectors → is_among disk.defects place ≡ false → i < zone.sectors - zone.spares
+        → place.track.head * zone.sectors - rank (place.track.head * zone.sectors) numbers + i ≡ position_in zone disk.heads place - rank (position_in zone disk.heads place) numbers
+        → slice_get (per_track disk zone cylinder) (place.track.head * (zone.sectors - zone.spares) + i) ≡ Some place
+    holds_by_track place i c h l stays inside e =
+        let position = position_in zone disk.heads place in
+        let slot : slice_get (cylinder_slots zone disk.heads cylinder) position ≡ Some place = slot_of place c h l in
+        entry place.track.head i h inside ∙ (sym (track_in_good place.track.head i h (omega (arith, sectors_on place.track.head)))
+          ∙ (ap (slice_get good) e ∙ goes (is_among disk.defects) (cylinder_slots zone disk.heads cylinder) numbers are position place slot stays))
+
+-- ---- spares at the end of the cylinder
+
+module _ (disk : Shape) where
+  -- one that stays
+  replaced-stays : (places spares : List Place) (j : ℕ) (place : Place) → slice_get places j ≡ Some place → is_among disk.grown place ≡ false → slice_get (replaced disk places spares) j ≡ Some place
+  replaced-stays [] spares j place at stays = at
+  replaced-stays (other ∷ places) spares zero place at stays = let same = same_Some other place at in
+      ap Some (ap (λ b. (stand_in b other spares).0) (ap (is_among disk.grown) same ∙ stays) ∙ same)
+  replaced-stays (other ∷ places) spares (suc j) place at stays = replaced-stays places (stand_in (is_among disk.grown other) other spares).1 j place at stays
+
+  -- the i-th that is grown has the i-th spare
+  replaced-moves : (places spares : List Place) (j : ℕ) (place spare : Place) → slice_get places j ≡ Some place → is_among disk.grown place ≡ true
+      → slice_get spares (length (filter (is_among disk.grown) (take j places))) ≡ Some spare → slice_get (replaced disk places spares) j ≡ Some spare
+  replaced-moves [] spares j place spare at moves stand = absurd (none-some place at)
+  replaced-moves (other ∷ places) [] j place spare at moves stand = absurd (none-some spare stand)
+  replaced-moves (other ∷ places) (first ∷ spares) zero place spare at moves stand =
+      ap (λ b. Some (stand_in b other (first ∷ spares)).0) (ap (is_among disk.grown) (same_Some other place at) ∙ moves) ∙ stand
+  replaced-moves (other ∷ places) (first ∷ spares) (suc j) place spare at moves stand = elim (cases_Bool (is_among disk.grown other)) [
+      | inl gone ↦ rw gone (replaced-moves places spares j place spare at moves (rw gone at stand))
+      | inr stays ↦ rw stays (replaced-moves places (first ∷ spares) j place spare at moves (rw stays at stand)) ]
+
+length-indexes : {A : Type 0} (test : A → Bool) (xs : List A) → length (indexes test 0 xs) ≡ length (filter test xs)
+length-indexes test xs = omega (arith, length-kept test 0 xs, kept_and_dropped test xs)
+
+pub get-append_length : {A : Type 0} (xs ys : List A) (i n : ℕ) → length xs ≡ n → slice_get (xs ++ ys) (n + i) ≡ slice_get ys i
+get-append_length xs ys i n e = get_right xs ys i (n + i) (omega arith)
+
+module _ (disk : Shape) (zone : Zone) (cylinder : ℕ) (at : IsZoneAt disk cylinder zone) (h : HasSpares disk) (numbers : List ℕ)
+    (are : numbers ≡ indexes (is_among disk.defects) 0 (cylinder_slots zone disk.heads cylinder)) (grown : List ℕ)
+    (those : grown ≡ indexes (is_among disk.grown) 0 (by_head disk cylinder (good_track disk zone))) where
+  abbrev whole : List Place
+  whole = by_head disk cylinder (good_track disk zone)
+
+  abbrev base : ℕ
+  base = disk.heads * zone.sectors - zone.cylinder_spares
+
+  abbrev clean : Place → Bool
+  clean place = not (is_among disk.grown place)
+
+  abbrev spares : List Place
+  spares = filter (λ place. not (is_among disk.grown place)) (drop (disk.heads * zone.sectors - zone.cylinder_spares) (by_head disk cylinder (good_track disk zone)))
+
+  some_slots : 0 < zone.sectors
+  some_slots = at.ranges.some_sectors
+
+  whole-is : whole ≡ filter (λ place. not (is_among disk.defects place)) (cylinder_slots zone disk.heads cylinder)
+  whole-is = good_cylinder-is zone disk.heads some_slots disk cylinder refl
+
+  grown_ascend : IsAscending grown
+  grown_ascend = ascends (is_among disk.grown) whole grown those
+
+  base_inside : base ≤ length whole
+  base_inside = omega (arith, length-good disk zone cylinder at h, few_flaws disk zone cylinder at h)
+
+  few_grown : length grown ≤ length (filter (λ place. place.track.cylinder == cylinder) disk.grown)
+  few_grown = omega (arith, ap length those, length-indexes (is_among disk.grown) whole,
+      at_most_each same_place (λ place. place.track.cylinder == cylinder) whole disk.grown
+        (λ d. omega (arith, ap (λ xs. length (filter (λ place. same_place place d) xs)) whole-is, fewer (λ place. same_place place d) (λ place. not (is_among disk.defects place)) (cylinder_slots zone disk.heads cylinder), once_on_cylinder zone some_slots disk.heads cylinder d)))
+
+  -- what is left of the base list, before the spares
+  clean_front : length (filter clean (take base whole)) ≡ base - rank base grown
+  clean_front = length_front (is_among disk.grown) whole grown those base base_inside
+
+  clean_parts : filter clean whole ≡ filter clean (take base whole) ++ spares
+  clean_parts = ap (filter clean) (sym (take-append-drop base whole)) ∙ filter-append clean (take base whole) (drop base whole)
+
+  -- there are as many spares as there are grown entries
+  enough : rank base grown ≤ length spares
+  enough = omega (arith, clean_front, ap length clean_parts, length-append (filter clean (take base whole)) spares, length-kept (is_among disk.grown) 0 whole, ap length those, few_grown, length-good disk zone cylinder at h, few_flaws disk zone cylinder at h, rank_le (is_among disk.grown) whole grown those base)
+
+  -- the spares among all that are not grown
+  spare_in_clean : (m : ℕ) → slice_get (filter clean whole) (base - rank base grown + m) ≡ slice_get spares m
+  spare_in_clean m = ap (λ xs. slice_get xs (base - rank base grown + m)) clean_parts ∙ get-append_length (filter clean (take base whole)) spares m (base - rank base grown) clean_front
+
+  -- how many grown entries come before one of the base list
+  grown_before : (j : ℕ) → j ≤ base → length (filter (is_among disk.grown) (take j (take base whole))) ≡ rank j grown
+  grown_before j l = ap (λ xs. length (filter (is_among disk.grown) xs)) (take-take j base whole l)
+      ∙ omega (arith, length_front (is_among disk.grown) whole grown those j (omega (arith, base_inside)), kept_and_dropped (is_among disk.grown) (take j whole), length-take-le j whole (omega (arith, base_inside)), rank_le (is_among disk.grown) whole grown those j)
+
+  -- the entry at an index of the base list
+  base_entry : (j : ℕ) → j < base → (place : Place) × (slice_get whole j ≡ Some place) × (slice_get (take base whole) j ≡ Some place)
+  base_entry j l = let one = within whole j (omega (arith, base_inside)) in (one.0, one.1, get_take base whole j l ∙ one.1)
+
+  moved : (j : ℕ) (place spare : Place) → j < base → slice_get whole j ≡ Some place → is_among disk.grown place ≡ true → slice_get spares (rank j grown) ≡ Some spare → slice_get (per_cylinder disk zone cylinder) j ≡ Some spare
+  moved j place spare l here moves stand = replaced-moves disk (take base whole) spares j place spare (get_take base whole j l ∙ here) moves (ap (slice_get spares) (grown_before j (omega arith)) ∙ stand)
+
+  stayed : (j : ℕ) (place : Place) → j < base → slice_get whole j ≡ Some place → is_among disk.grown place ≡ false → slice_get (per_cylinder disk zone cylinder) j ≡ Some place
+  stayed j place l here stays = replaced-stays disk (take base whole) spares j place (get_take base whole j l ∙ here) stays
+
+  at_whole : (k : ℕ) (place : Place) → slice_get whole k ≡ Some place → (slipped k numbers < disk.heads * zone.sectors) × (Some place ≡ Some (slot_at zone disk.heads cylinder (slipped k numbers)))
+  at_whole k place here =
+      let found = ap (λ xs. slice_get xs k) (sym whole-is) ∙ here in
+      let one = good_at disk zone cylinder at numbers are k (slice_get_within (filter (λ place. not (is_among disk.defects place)) (cylinder_slots zone disk.heads cylinder)) k place found) in
+      (one.0, sym found ∙ one.1)
+
+  -- the place of a sector that is not grown
+  pub place_staying : (j : ℕ) → j < base → list_any (λ other. other == j) grown ≡ false
+      → (slipped j numbers < disk.heads * zone.sectors) × (slice_get (per_cylinder disk zone cylinder) j ≡ Some (slot_at zone disk.heads cylinder (slipped j numbers)))
+  place_staying j l unmarked =
+      let one = base_entry j l in
+      let found = at_whole j one.0 one.1 in
+      (found.0, stayed j one.0 l one.1 (sym (is_marked_at (is_among disk.grown) whole grown those j one.0 one.1) ∙ unmarked) ∙ found.1)
+
+  -- and of one that is
+  pub place_moving : (j k : ℕ) → j < base → list_any (λ other. other == j) grown ≡ true → slipped (base - rank base grown + rank j grown) grown ≡ k
+      → (slipped k numbers < disk.heads * zone.sectors) × (slice_get (per_cylinder disk zone cylinder) j ≡ Some (slot_at zone disk.heads cylinder (slipped k numbers)))
+  place_moving j k l among e =
+      let one = base_entry j l in
+      let gone : is_among disk.grown one.0 ≡ true = sym (is_marked_at (is_among disk.grown) whole grown those j one.0 one.1) ∙ among in
+      let m = rank j grown in
+      let before : m < rank base grown = rank_marked j base grown grown_ascend among l in
+      let spare = within spares m (omega (arith, enough)) in
+      let in_clean : slice_get (filter clean whole) (base - rank base grown + m) ≡ Some spare.0 = spare_in_clean m ∙ spare.1 in
+      let in_whole = kth (is_among disk.grown) whole grown those (base - rank base grown + m) (slice_get_within (filter clean whole) (base - rank base grown + m) spare.0 in_clean) in
+      let here : slice_get whole k ≡ Some spare.0 = ap (slice_get whole) (sym e) ∙ (sym in_whole.1 ∙ in_clean) in
+      let found = at_whole k spare.0 here in
+      (found.0, moved j one.0 spare.0 l one.1 gone spare.1 ∙ found.1)
+
+  -- a sector's place is no defect, not grown, and comes early enough among those that are neither
+  pub index_by_cylinder : (j : ℕ) (place : Place) → slice_get (per_cylinder disk zone cylinder) j ≡ Some place
+      → (is_among disk.defects place ≡ false) × (is_among disk.grown place ≡ false)
+        × (slice_get whole (position_in zone disk.heads place - rank (position_in zone disk.heads place) numbers) ≡ Some place)
+        × (position_in zone disk.heads place - rank (position_in zone disk.heads place) numbers - rank (position_in zone disk.heads place - rank (position_in zone disk.heads place) numbers) grown < base)
+  index_by_cylinder j place found =
+      let below : j < base = omega (arith, slice_get_within (per_cylinder disk zone cylinder) j place found, length-per_cylinder disk zone cylinder at h) in
+      let one = base_entry j below in
+      elim (cases_Bool (is_among disk.grown one.0)) [
+        | inl gone ↦
+            let m = rank j grown in
+            let before : m < rank base grown = rank_marked j base grown grown_ascend (is_marked_at (is_among disk.grown) whole grown those j one.0 one.1 ∙ gone) below in
+            let spare = within spares m (omega (arith, enough)) in
+            let same : spare.0 ≡ place = same_Some spare.0 place (sym (moved j one.0 spare.0 below one.1 gone spare.1) ∙ found) in
+            let in_clean : slice_get (filter clean whole) (base - rank base grown + m) ≡ Some place = spare_in_clean m ∙ (spare.1 ∙ ap Some same) in
+            let k = slipped (base - rank base grown + m) grown in
+            let in_whole = kth (is_among disk.grown) whole grown those (base - rank base grown + m) (slice_get_within (filter clean whole) (base - rank base grown + m) place in_clean) in
+            let here : slice_get whole k ≡ Some place = sym in_whole.1 ∙ in_clean in
+            from_whole k place here (sym (is_marked_at (is_among disk.grown) whole grown those k place here) ∙ slipped-free (base - rank base grown + m) k grown grown_ascend refl)
+              (omega (arith, rank-slipped (base - rank base grown + m) k grown grown_ascend refl, rank_le (is_among disk.grown) whole grown those base))
+        | inr stays ↦
+            let same : one.0 ≡ place = same_Some one.0 place (sym (stayed j one.0 below one.1 stays) ∙ found) in
+            from_whole j place (one.1 ∙ ap Some same) (sym (ap (is_among disk.grown) same) ∙ stays) (omega arith) ]
+      where
+        from_whole : (k : ℕ) (place : Place) → slice_get whole k ≡ Some place → is_among disk.grown place ≡ false → k - rank k grown < base
+            → (is_among disk.defects place ≡ false) × (is_among disk.grown place ≡ false)
+              × (slice_get whole (position_in zone disk.heads place - rank (position_in zone disk.heads place) numbers) ≡ Some place)
+              × (position_in zone disk.heads place - rank (position_in zone disk.heads place) numbers - rank (position_in zone disk.heads place - rank (position_in zone disk.heads place) numbers) grown < base)
+        from_whole k place here stays early =
+            let in_good : slice_get (filter (λ place. not (is_among disk.defects place)) (cylinder_slots zone disk.heads cylinder)) k ≡ Some place = ap (λ xs. slice_get xs k) (sym whole-is) ∙ here in
+            let index = good_index disk zone cylinder at numbers are k place in_good in
+            (all_get (λ place. is_among disk.defects place ≡ false) (filter (λ place. not (is_among disk.defects place)) (cylinder_slots zone disk.heads cylinder)) k place (all_good (is_among disk.defects) (cylinder_slots zone disk.heads cylinder)) in_good,
+              stays, ap (slice_get whole) (sym index) ∙ here, subst (λ k. k - rank k grown < base) index early)
+
+  -- where a good slot stands in the good list
+  pub in_whole : (place : Place) → place.track.cylinder ≡ cylinder → place.track.head < disk.heads → place.slot < zone.sectors → is_among disk.defects place ≡ false
+      → slice_get whole (position_in zone disk.heads place - rank (position_in zone disk.heads place) numbers) ≡ Some place
+  in_whole place c hd l stays = ap (λ xs. slice_get xs (position_in zone disk.heads place - rank (position_in zone disk.heads place) numbers)) whole-is
+      ∙ goes (is_among disk.defects) (cylinder_slots zone disk.heads cylinder) numbers are (position_in zone disk.heads place) place (slot_of disk zone cylinder at numbers are place c hd l) stays
+
+  pub grown_at_index : (k : ℕ) (place : Place) → slice_get whole k ≡ Some place → list_any (λ other. other == k) grown ≡ is_among disk.grown place
+  grown_at_index k place here = is_marked_at (is_among disk.grown) whole grown those k place here
+
+  -- one of the base list that is not grown holds the sector of its index
+  pub holds_staying : (k : ℕ) (place : Place) → slice_get whole k ≡ Some place → is_among disk.grown place ≡ false → k < base → slice_get (per_cylinder disk zone cylinder) k ≡ Some place
+  holds_staying k place here stays l = stayed k place l here stays
+
+  -- a spare holds the sector of the grown one that it stands in for
+  pub holds_moving : (k g : ℕ) (place : Place) → slice_get whole k ≡ Some place → is_among disk.grown place ≡ false → base ≤ k → k - rank k grown < base
+      → slice_get grown (k - rank k grown - (base - rank base grown)) ≡ Some g → slice_get (per_cylinder disk zone cylinder) g ≡ Some place
+  holds_moving k g place here stays from early entry_ =
+      let s = k - rank k grown - (base - rank base grown) in
+      let step = rank-step base k grown grown_ascend from in
+      let low = rank_le (is_among disk.grown) whole grown those k in
+      let low_base = rank_le (is_among disk.grown) whole grown those base in
+      let free : base - rank base grown + s ≡ k - rank k grown = omega arith in
+      let index : rank g grown ≡ s = rank-at s grown g grown_ascend entry_ in
+      let few : s < rank base grown = omega arith in
+      let below : g < base = elim (cases_lt g base) [
+          | inl l ↦ l
+          | inr back ↦ absurd (omega (arith, rank-mono base g grown back)) ] in
+      let one = base_entry g below in
+      let gone : is_among disk.grown one.0 ≡ true = sym (is_marked_at (is_among disk.grown) whole grown those g one.0 one.1) ∙ among_at s g grown entry_ in
+      let left : slice_get (filter clean whole) (k - rank k grown) ≡ Some place = goes (is_among disk.grown) whole grown those k place here stays in
+      moved g one.0 place below one.1 gone (ap (slice_get spares) index ∙ (sym (spare_in_clean s) ∙ (ap (slice_get (filter clean whole)) free ∙ left)))
+
+  pub few_before : rank base grown ≤ length grown
+  few_before = rank-le_length base grown
+
+-- ---- by the layout
+
+-- no track has more slots than there are numbers
+pub few_slots : (disk : Shape) (zone : Zone) → disk.heads ≤ 64 → IsZone zone → disk.heads * zone.sectors ≤ 640000
+few_slots disk zone few ranges = mul-le disk.heads zone.sectors 64 10000 few ranges.few_sectors
+
+pub some_by_track : (disk : Shape) (zone : Zone) (cylinder : ℕ) → IsZoneAt disk cylinder zone → disk.layout ≡ PerTrack → 0 < zone.sectors - zone.spares
+some_by_track disk zone cylinder at layout = let kept : has_no_data PerTrack disk zone ≡ false = subst (λ layout. has_no_data layout disk zone ≡ false) layout at.holds_data in grind (arith, nat_tests)
+
+pub spares_by : (disk : Shape) (zone : Zone) (cylinder : ℕ) (layout : Layout) → IsZoneAt disk cylinder zone → disk.layout ≡ layout → spare_fault layout disk ≡ None
+spares_by disk zone cylinder layout at e = subst (λ layout. spare_fault layout disk ≡ None) e at.enough_spares
