@@ -1,9 +1,9 @@
 -- A desk in memory as contracts see it.
-use Rattle.std.specs.Prelude.{◌≡◌, ℕ, ◌-◌, List, [], Bool, is_some, length, Option, Some, None, OnOk, OnErr, Result}
+use Rattle.std.specs.Prelude.{◌≡◌, ℕ, ◌-◌, List, [], Bool, is_some, length, Option, Some, None}
 use Rattle.fb_desk.specs.declared.desk.Input.{Input}
 use Rattle.fb_desk.specs.declared.desk.Output.{Output}
 use Rattle.fb_desk.specs.View.{InputView, OutputView, DeskView, IsUnused, IsFaultless}
-use Rattle.fb_desk.specs.Calls.{one_more, FaultsInput, FaultsOutput}
+use Rattle.fb_desk.specs.Calls.{one_more}
 use Rattle.fb_desk.specs.FailingCalls.{FailingNumbers, fails_next}
 
 -- the most that one read and one write move, and the room of each output for its bytes and for its name
@@ -12,7 +12,8 @@ pub record MemoryLimits : Type 0 where
   pub write_piece : ℕ
   pub room : Output → ℕ
 
--- what is held under each name and left of each opened input, how each output was begun and what was written to it, the counts of faults, the calls that are to fail, and the limits
+-- what is held under each name and left of each opened input, how each output was begun and what was written to it,
+-- the counts of faults, the calls that are to fail, and the limits
 pub record MemoryState : Type 0 where
   pub held : List ℕ → Option (List ℕ)
   pub left : Input → Option (List ℕ)
@@ -52,18 +53,6 @@ pub record KeepsLimits (old new : MemoryState) : Type 0 where
 pub record CountsCall (old new : MemoryState) : Type 0 where
   pub made : new.failing ≡ record old.failing { made = one_more old.failing.made }
   pub limits : KeepsLimits old new
-
--- a call of an input was made, and counted as a fault just where it failed
-pub record CountsInputCall {T E : Type 0} (which : Input) (old new : MemoryState) (result : Result T E) : Type 0 where
-  pub call : CountsCall old new
-  pub fault : OnErr result (FaultsInput which (view_of old) (view_of new))
-  pub no_fault : OnOk result (new.read_faults which ≡ old.read_faults which)
-
--- a call of an output was made, and counted as a fault just where it failed
-pub record CountsOutputCall {T E : Type 0} (which : Output) (old new : MemoryState) (result : Result T E) : Type 0 where
-  pub call : CountsCall old new
-  pub fault : OnErr result (FaultsOutput which (view_of old) (view_of new))
-  pub no_fault : OnOk result (new.write_faults which ≡ old.write_faults which)
 
 -- nothing is held, opened, begun or written, no count has risen, and no call was made or is to fail
 pub record IsNewMemory (read_piece write_piece room : ℕ) (desk : MemoryState) : Type 0 where

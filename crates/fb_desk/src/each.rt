@@ -1,6 +1,8 @@
 // One thing for each input, and one for each output.
 ghost use Rattle.std.specs.Prelude.{◌≡◌};
 ghost use Rattle.std.specs.Borrow.{sem};
+ghost use Rattle.fb_desk.specs.declared.desk.Input.{Input};
+ghost use Rattle.fb_desk.specs.declared.desk.Output.{Output};
 ghost use Rattle.fb_desk.specs.Each.{of_input, lends_input, of_output, lends_output};
 
 use crate::{Input, Output};
@@ -11,6 +13,19 @@ pub struct EachInput<T> {
     pub params: T,
     pub trace: T,
     pub calls: T,
+}
+
+impl<T: Copy> EachInput<T> {
+    /// The same thing for each input.
+    pub fn all(thing: T) -> EachInput<T>
+        ensures { (which : Input) → of_input result which ≡ thing }
+    {
+        EachInput {
+            params: thing,
+            trace: thing,
+            calls: thing,
+        }
+    }
 }
 
 impl<T> EachInput<T> {
@@ -46,6 +61,21 @@ pub struct EachOutput<T> {
     pub note: T,
     pub made_trace: T,
     pub made_calls: T,
+}
+
+impl<T: Copy> EachOutput<T> {
+    /// The same thing for each output.
+    pub fn all(thing: T) -> EachOutput<T>
+        ensures { (which : Output) → of_output result which ≡ thing }
+    {
+        EachOutput {
+            fore: thing,
+            back: thing,
+            note: thing,
+            made_trace: thing,
+            made_calls: thing,
+        }
+    }
 }
 
 impl<T> EachOutput<T> {

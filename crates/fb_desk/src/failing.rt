@@ -35,7 +35,8 @@ impl FailingCalls {
 
     /// Adds the number of a call that is to fail.
     pub fn add(&mut self, number: u64) -> Result<(), NoMemory>
-        ensures ok { OnOk result (self.new ≡ record self.old { numbers = self.old.numbers ++ number ∷ [] }) }
+        ensures ok { OnOk result
+            (self.new ≡ record self.old { numbers = self.old.numbers ++ number ∷ [] }) }
         ensures err { OnErr result (self.new ≡ self.old) }
     {
         self.numbers.push(number)?;
@@ -47,7 +48,7 @@ impl FailingCalls {
         ensures fails { result ≡ fails_next self.old }
         ensures counted { self.new ≡ record self.old { made = one_more self.old.made } }
     {
-        // One that follows the calls made so far.
+        // One of them is one more than the number of calls made.
         let fails = self
             .numbers
             .iter()

@@ -8,7 +8,8 @@ ghost use Rattle.fb_desk.specs.declared.desk.Output.{Output};
 use crate::each::{EachInput, EachOutput};
 use crate::{Failed, Input, Output};
 
-/// How many calls of each input and of each output failed. A count stays at the last value of a u64.
+/// How many calls of each input and of each output failed. A count stays at the last value of a
+/// u64.
 #[derive(Drop)]
 pub struct Faults {
     pub inputs: EachInput<u64>,
@@ -22,26 +23,17 @@ impl Faults {
         ensures outputs { (which : Output) → of_output result.outputs which ≡ 0 }
     {
         Faults {
-            inputs: EachInput {
-                params: 0,
-                trace: 0,
-                calls: 0,
-            },
-            outputs: EachOutput {
-                fore: 0,
-                back: 0,
-                note: 0,
-                made_trace: 0,
-                made_calls: 0,
-            },
+            inputs: EachInput::all(0),
+            outputs: EachOutput::all(0),
         }
     }
 
     /// Counts a failed call of an input.
-    pub fn of_input(&mut self, which: Input) -> Failed
+    pub fn failed_input(&mut self, which: Input) -> Failed
         ensures here { of_input self.new.inputs which ≡ one_more (of_input self.old.inputs which) }
         ensures later { of_input self.old.inputs which ≤ of_input self.new.inputs which }
-        ensures others { (other : Input) → other ≢ which → of_input self.new.inputs other ≡ of_input self.old.inputs other }
+        ensures others { (other : Input) → other ≢ which
+            → of_input self.new.inputs other ≡ of_input self.old.inputs other }
         ensures outputs { self.new.outputs ≡ self.old.outputs }
     {
         let faults = self.inputs.of_mut(which);
@@ -50,10 +42,11 @@ impl Faults {
     }
 
     /// Counts a failed call of an output.
-    pub fn of_output(&mut self, which: Output) -> Failed
+    pub fn failed_output(&mut self, which: Output) -> Failed
         ensures here { of_output self.new.outputs which ≡ one_more (of_output self.old.outputs which) }
         ensures later { of_output self.old.outputs which ≤ of_output self.new.outputs which }
-        ensures others { (other : Output) → other ≢ which → of_output self.new.outputs other ≡ of_output self.old.outputs other }
+        ensures others { (other : Output) → other ≢ which
+            → of_output self.new.outputs other ≡ of_output self.old.outputs other }
         ensures inputs { self.new.inputs ≡ self.old.inputs }
     {
         let faults = self.outputs.of_mut(which);

@@ -97,9 +97,12 @@ fn copy_front(from: &[u8], piece: usize, into: &mut [u8]) -> usize
 // Reads the next bytes of what a reading leaves, a piece at most, and answers how many.
 fn read_on(entries: &[Entry], reading: &mut Reading, piece: usize, into: &mut [u8]) -> usize
     requires { IsWithin entries.now reading.old }
-    ensures count { IfSome (left_of entries.now reading.old) (λ left. result ≡ min piece (min (length left) (length into.old))) }
-    ensures bytes { IfSome (left_of entries.now reading.old) (λ left. take result into.new ≡ take result left) }
-    ensures left { left_of entries.now reading.new ≡ option_map (drop result) (left_of entries.now reading.old) }
+    ensures count { IfSome (left_of entries.now reading.old)
+        (λ left. result ≡ min piece (min (length left) (length into.old))) }
+    ensures bytes { IfSome (left_of entries.now reading.old)
+        (λ left. take result into.new ≡ take result left) }
+    ensures left { left_of entries.now reading.new
+        ≡ option_map (drop result) (left_of entries.now reading.old) }
     ensures within { IsWithin entries.now reading.new }
 {
     let Reading::At { place, done } = *reading else {
@@ -123,11 +126,7 @@ impl Holdings {
         Holdings {
             alloc,
             entries: Vec::new(alloc),
-            readings: EachInput {
-                params: Reading::Unopened,
-                trace: Reading::Unopened,
-                calls: Reading::Unopened,
-            },
+            readings: EachInput::all(Reading::Unopened),
         }
     }
 
@@ -135,7 +134,8 @@ impl Holdings {
     /// stays.
     pub fn hold(&mut self, name: &str, bytes: &[u8]) -> Result<(), NoMemory>
         ensures here { OnOk result (held_under self.new.entries name.now ≡ Some bytes.now) }
-        ensures elsewhere { OnOk result ((other : List ℕ) → other ≢ name.now → held_under self.new.entries other ≡ held_under self.old.entries other) }
+        ensures elsewhere { OnOk result ((other : List ℕ) → other ≢ name.now
+            → held_under self.new.entries other ≡ held_under self.old.entries other) }
         ensures err { OnErr result (self.new.entries ≡ self.old.entries) }
         ensures left { (which : Input) → left_in self.new which ≡ left_in self.old which }
     {
@@ -146,7 +146,8 @@ impl Holdings {
 
     /// The place of what is held under the name, if anything is.
     pub fn find(&self, name: &str) -> Option<usize>
-        ensures value { option_and_then (bytes_at self.now.entries) result ≡ held_under self.now.entries name.now }
+        ensures value { option_and_then (bytes_at self.now.entries) result
+            ≡ held_under self.now.entries name.now }
         ensures within { IfSome result (λ place. place < length self.now.entries) }
         ensures found { is_some result ≡ is_some (held_under self.now.entries name.now) }
     {
@@ -174,7 +175,8 @@ impl Holdings {
 
     /// Reads the next bytes of an input, a piece at most, and answers how many.
     pub fn read(&mut self, which: Input, piece: usize, into: &mut [u8]) -> usize
-        ensures count { IfSome (left_in self.old which) (λ left. result ≡ min piece (min (length left) (length into.old))) }
+        ensures count { IfSome (left_in self.old which)
+            (λ left. result ≡ min piece (min (length left) (length into.old))) }
         ensures bytes { IfSome (left_in self.old which) (λ left. take result into.new ≡ take result left) }
         ensures left { left_in self.new which ≡ option_map (drop result) (left_in self.old which) }
         ensures entries { self.new.entries ≡ self.old.entries }

@@ -28,20 +28,15 @@ impl HonestDesk {
     {
         HonestDesk {
             holdings: Holdings::new(alloc),
-            begun: EachOutput {
-                fore: false,
-                back: false,
-                note: false,
-                made_trace: false,
-                made_calls: false,
-            },
+            begun: EachOutput::all(false),
         }
     }
 
     /// Holds the bytes under the name, in place of what was held there. An input that was opened
     /// before goes on with what was held then.
     pub fn hold(&mut self, name: &str, bytes: &[u8]) -> Result<(), NoMemory>
-        ensures ok { OnOk result (HoldsBytes name.now bytes.now (honest_view self.old) (honest_view self.new)) }
+        ensures ok { OnOk result
+            (HoldsBytes name.now bytes.now (honest_view self.old) (honest_view self.new)) }
         ensures err { OnErr result (IsUnchanged (honest_view self.old) (honest_view self.new)) }
     {
         self.holdings.hold(name, bytes)
@@ -68,7 +63,8 @@ impl Desk for HonestDesk {
         requires room { 0 < length into.old }
         ensures reads { ReadsInput which into.new (honest_view self.old) (honest_view self.new) result }
         ensures never_fails { IsOk result }
-        ensures as_much { IfOk result (λ n. IfSome ((honest_view self.old).inputs which).left (λ left. n ≡ min (length left) (length into.old))) }
+        ensures as_much { IfOk result (λ n. IfSome ((honest_view self.old).inputs which).left
+            (λ left. n ≡ min (length left) (length into.old))) }
     {
         Ok(self.holdings.read(which, into.len(), into))
     }

@@ -25,9 +25,15 @@ impl Model for Writing {
 
     ghost Value = { Written };
 
-    ghost view = { λ w. record { begun = w.begun; name = string_bytes w.name; bytes = w.bytes.items; room = w.room } };
+    ghost view = { λ w. record {
+      begun = w.begun;
+      name = string_bytes w.name;
+      bytes = w.bytes.items;
+      room = w.room;
+    } };
 
-    ghost invariant = { λ w. (w.room ≤ string_capacity w.name) × (w.room ≤ vec_capacity w.bytes) × IsEmptyBefore w.begun (string_bytes w.name) w.bytes.items };
+    ghost invariant = { λ w. (w.room ≤ string_capacity w.name) × (w.room ≤ vec_capacity w.bytes)
+        × IsEmptyBefore w.begun (string_bytes w.name) w.bytes.items };
 }
 
 impl Writing {
