@@ -1,0 +1,2 @@
+pub mod SmallDisk
+pub mod Foreground
