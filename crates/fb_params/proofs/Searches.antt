@@ -1,6 +1,12 @@
 -- The searches of the code beside those of the definitions.
-use Rattle.std.proofs.Common.{◌≡◌, ℕ, ◌+◌, ◌<◌, Bool, true, false, cond, not, List, [], ◌∷◌, ◌++◌, length, get_or, drop, map, Option, Some, None, option_map, String, Global, string_bytes, refl, sym, ap, append_assoc, ◌∙◌, inl, inr}
-use Rattle.std.specs.List.{find, filter_map, cons_option, list_any}
+use Rattle.std.proofs.Common.{◌≡◌, ℕ, ◌+◌, ◌<◌, Bool, true, false, cond, not, List, [], ◌∷◌, ◌++◌, length, get_or, drop, map, Option, Some, None, Ordering, Less, Greater, option_map, String, Global, string_bytes, refl, sym, ap, append_assoc, ◌∙◌, inl, inr}
+use Rattle.std.specs.List.{find, filter, filter_map, cons_option, list_any, AllByRecursion}
+use Rattle.std.specs.List.Sorted.{IsStrictlySortedBy}
+use Rattle.std.specs.Ordering.{nat_cmp, ordering_reverse}
+use Rattle.std.specs.Cmp.Lexicographic.{slice_cmp}
+use Rattle.std.specs.String.{string_cmp}
+use Rattle.std.proofs.lemmas.Cmp.{nat_list_cmp_total}
+use Rattle.fb_geometry.specs.Faults.{least, lesser}
 use Rattle.std.specs.Option.{option_or, option_and_then, option_copied, option_to_list}
 use Rattle.std.specs.Map.{keys_of}
 use Rattle.std.proofs.lemmas.Bool.{cases_Bool}
@@ -14,7 +20,7 @@ use Rattle.fb_params.specs.Keys.{Key, key_of}
 use Rattle.fb_params.specs.declared.key.Key.{Key as DeclaredKey}
 use Rattle.fb_params.specs.declared.rule.Rule.{Rule}
 use Rattle.fb_params.specs.declared.rule.Rule.TheVariants.{Known, Present, OfKind, InRange}
-use Rattle.fb_params.specs.Rules.{breaks, is_name_of, first_in, first_some}
+use Rattle.fb_params.specs.Rules.{breaks, is_name_of, comes_before, first_in, first_some}
 
 pub find-map : {A B : Type 0} (f : A → B) (p : B → Bool) (xs : List A) → find p (map f xs) ≡ option_map f (find (λ x. p (f x)) xs)
 find-map f p [] = refl
@@ -35,12 +41,34 @@ pub names_of-view : (entries : List (String Global × Value)) → names_of (memb
 names_of-view [] = refl
 names_of-view (entry ∷ entries) = ap (λ names. string_bytes entry.0 ∷ names) (names_of-view entries)
 
--- the least unknown name of a table, and of its map
+-- a name before all those that a search goes through is before the one that it finds
+before_found : (p : List ℕ → Bool) (k : String Global) (ks : List (String Global)) → AllByRecursion (λ other. string_cmp k other ≡ Less) ks
+    → lesser comes_before (string_bytes k) (option_map string_bytes (find (λ other. p (string_bytes other)) ks)) ≡ Some (string_bytes k)
+before_found p k [] before = refl
+before_found p k (other ∷ ks) before = elim (cases_Bool (p (string_bytes other))) [
+    | inl hit ↦
+        let behind : slice_cmp nat_cmp (string_bytes other) (string_bytes k) ≡ Greater =
+            nat_list_cmp_total.antisymm (string_bytes other) (string_bytes k) ∙ ap ordering_reverse before.0 in
+        rw (hit, behind) refl
+    | inr miss ↦ rw miss (before_found p k ks before.1) ]
+
+-- in names that ascend the least that passes is the first
+least-find : (p : List ℕ → Bool) (ks : List (String Global)) → IsStrictlySortedBy string_cmp ks
+    → least comes_before (filter p (map string_bytes ks)) ≡ option_map string_bytes (find (λ k. p (string_bytes k)) ks)
+unfolding IsStrictlySortedBy
+least-find p [] sorted = refl
+least-find p (k ∷ ks) sorted = elim (cases_Bool (p (string_bytes k))) [
+    | inl hit ↦ rw (hit, least-find p ks sorted.1) (before_found p k ks sorted.0)
+    | inr miss ↦ rw miss (least-find p ks sorted.1) ]
+
+-- the least unknown name of a table, and the first of its map
 pub unknown-view : (keys : List Key) (entries : List (String Global × Value)) (found : Option (String Global))
-    → found ≡ find (λ name. not (is_name_of keys (string_bytes name))) (keys_of entries) → option_map string_bytes found ≡ first_in Known keys (members_view entries)
-unknown-view keys entries found is =
+    → found ≡ find (λ name. not (is_name_of keys (string_bytes name))) (keys_of entries) → IsStrictlySortedBy string_cmp (keys_of entries)
+    → option_map string_bytes found ≡ first_in Known keys (members_view entries)
+unknown-view keys entries found is sorted =
     ap (option_map string_bytes) is
-    ∙ (sym (find-map string_bytes (λ name. not (is_name_of keys name)) (keys_of entries)) ∙ ap (find (λ name. not (is_name_of keys name))) (sym (names_of-view entries)))
+    ∙ (sym (least-find (λ name. not (is_name_of keys name)) (keys_of entries) sorted)
+    ∙ ap (λ names. least comes_before (filter (λ name. not (is_name_of keys name)) names)) (sym (names_of-view entries)))
 
 broken-first_in : (rule : Rule) (keys : List Key) (table : Members) → (rule ≡ Known → ⊥)
     → option_map (λ key. key.name) (find (λ key. breaks rule key (get_member key.name table)) keys) ≡ first_in rule keys table

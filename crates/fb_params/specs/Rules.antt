@@ -1,10 +1,13 @@
 -- What each key of a file has to keep, and the first key that breaks a rule.
 use Rattle.std.specs.Prelude.{ℕ, ◌%◌, pos, negsuc, List, [], ◌∷◌, ◌++◌, length, Bool, true, false, ◌&&◌, not, ◌==◌, nat_le, Option, Some, None, is_some, option_map}
-use Rattle.std.specs.List.{list_any, list_all, find}
+use Rattle.std.specs.List.{list_any, list_all, filter, find}
 use Rattle.std.specs.Option.{option_or}
+use Rattle.std.specs.Ordering.{nat_cmp, is_lt}
+use Rattle.std.specs.Cmp.Lexicographic.{slice_cmp}
 use Rattle.std.specs.Str.{bytes_eq}
 use Rattle.toml.specs.Data.{Data, integer, Members, get_member, as_integer, as_array, as_table}
 use Rattle.fb_geometry.specs.declared.layout.Layout.{Layout}
+use Rattle.fb_geometry.specs.Faults.{least}
 use Rattle.fb_params.specs.declared.key.Kind.{Kind}
 use Rattle.fb_params.specs.declared.key.Kind.TheVariants.{Number, Numbers, Rows, Tables}
 use Rattle.fb_params.specs.declared.key.Range.{Range}
@@ -59,9 +62,13 @@ breaks _ _ _ = false
 abbrev pub is_name_of : List Key → List ℕ → Bool
 is_name_of keys name = list_any (λ key. bytes_eq key.name name) keys
 
--- the first of these keys that breaks the rule in the table; of unknown ones the least
+-- names come in the order of their bytes
+abbrev pub comes_before : List ℕ → List ℕ → Bool
+comes_before a b = is_lt (slice_cmp nat_cmp a b)
+
+-- the first of these keys that breaks the rule in the table; of the names that no key has, the least
 abbrev pub first_in : Rule → List Key → Members → Option (List ℕ)
-first_in Known keys table = find (λ name. not (is_name_of keys name)) (names_of table)
+first_in Known keys table = least comes_before (filter (λ name. not (is_name_of keys name)) (names_of table))
 first_in rule keys table = option_map (λ key. key.name) (find (λ key. breaks rule key (get_member key.name table)) keys)
 
 -- what f gives first

@@ -5,7 +5,7 @@ use Rattle.toml.specs.Data.{Data, integer, array, Items, no_items, item, Members
 use Rattle.fb_geometry.specs.declared.layout.Layout.{Layout}
 use Rattle.fb_geometry.specs.declared.layout.Layout.TheVariants.{PerTrack, PerCylinder}
 
--- the keys of a table; they ascend in byte order
+-- the keys of a table
 abbrev pub names_of : Members → List (List ℕ)
 names_of no_members = []
 names_of (member name value members) = name ∷ names_of members

@@ -11,7 +11,7 @@ use std::collections::BTreeSet;
 use toml::Value;
 
 // The listed sectors in ascending order, each once, or the first that isn't below the count.
-pub fn latent(alloc: Global, count: u64, listed: &[Value]) -> Result<Vec<u64>, ParamsError>
+pub fn latent_of(alloc: Global, count: u64, listed: &[Value]) -> Result<Vec<u64>, ParamsError>
     ensures { Answers (λ latent. latent.items) result (latent_on count (map number_of (map view listed.now))) }
 {
     let mut latent = BTreeSet::new(alloc);

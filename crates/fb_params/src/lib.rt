@@ -1,6 +1,7 @@
 //! The parameter file.
 #![tactic(auto)]
 
+mod contents;
 mod fault;
 mod key;
 mod latent;

@@ -17,7 +17,7 @@ use std::alloc::Global;
 use toml::{Table, Value};
 
 // The geometry of the file's outline, or its first fault.
-pub fn geometry(alloc: Global, layout: Layout, table: &Table) -> Result<Geometry, ParamsError>
+pub fn geometry_of(alloc: Global, layout: Layout, table: &Table) -> Result<Geometry, ParamsError>
     requires { keeps Rule.InRange layout (table_view table.now) ≡ Ok tt }
     ensures { Answers (λ geometry. geometry) result (possible_outline (outline_of layout (table_view table.now))) }
 {

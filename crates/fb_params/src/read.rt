@@ -1,20 +1,15 @@
 // The parameter file, read.
-ghost use Rattle.std.specs.Prelude.{◌≡◌, ◌%◌, ◌≤◌, codes};
+ghost use Rattle.std.specs.Prelude.{◌≡◌};
 ghost use Rattle.toml.specs.View.{table_view};
-ghost use Rattle.fb_params.specs.Values.{number_at};
-ghost use Rattle.fb_params.specs.Reading.{Answers, or_fault, document_of, keeps, contents_of, params_of, held, fault_of};
+ghost use Rattle.fb_params.specs.Reading.{Answers, or_fault, document_of, keeps, params_of, held, fault_of};
 
+use crate::contents::contents;
 use crate::name::key_text;
 use crate::rule::Rule;
 use crate::search::first_key;
-use crate::latent::latent;
-use crate::outline::geometry;
-use crate::seek::mechanism;
-use crate::values::{elements_at, layout_of, small_number_at};
+use crate::values::layout_of;
 use crate::{Parameters, ParamsError, ParamsFault};
 use fb_geometry::Layout;
-use fb_sectormap::SectorMap;
-use fb_service::Disk;
 use fb_units::KeyText;
 use std::alloc::Global;
 use toml::Table;
@@ -31,42 +26,6 @@ pub fn read_params(alloc: Global, bytes: &[u8]) -> Result<Parameters, ParamsErro
     keep(alloc, Rule::OfKind, layout, &table)?;
     keep(alloc, Rule::InRange, layout, &table)?;
     contents(alloc, layout, &table)
-}
-
-// The contents of a file whose keys keep all rules, or the first fault of what it spells.
-#[tactic(auto, unfolding(crate::specs::Reading::contents_of))]
-fn contents(alloc: Global, layout: Layout, table: &Table) -> Result<Parameters, ParamsError>
-    requires present { keeps Rule.Present layout (table_view table.now) ≡ Ok tt }
-    requires kind { keeps Rule.OfKind layout (table_view table.now) ≡ Ok tt }
-    requires range { keeps Rule.InRange layout (table_view table.now) ≡ Ok tt }
-    ensures { Answers held result (contents_of layout (table_view table.now)) }
-{
-    let geometry = geometry(alloc, layout, table)?;
-    let map = SectorMap::new(alloc, geometry)?;
-    let mechanism = mechanism(alloc, map.geometry().cylinders(), layout, table)?;
-    let latent = latent(alloc, map.count(), elements_at(table, "latent"))?;
-    let sector_bytes = sector_bytes(layout, table);
-    Ok(Parameters {
-        disk: Disk {
-            map,
-            mechanism,
-            sector_bytes,
-        },
-        latent,
-    })
-}
-
-// The size of a sector.
-fn sector_bytes(layout: Layout, table: &Table) -> u32
-    requires present { keeps Rule.Present layout (table_view table.now) ≡ Ok tt }
-    requires kind { keeps Rule.OfKind layout (table_view table.now) ≡ Ok tt }
-    requires range { keeps Rule.InRange layout (table_view table.now) ≡ Ok tt }
-    ensures value { result ≡ number_at (codes "sector_bytes") (table_view table.now) }
-    ensures whole { result % 16 ≡ 0 }
-    ensures some { 16 ≤ result }
-    ensures few { result ≤ 4096 }
-{
-    small_number_at(table, "sector_bytes")
 }
 
 // The table that the bytes spell.

@@ -2,6 +2,8 @@
 ghost use Rattle.std.specs.Prelude.{◌≡◌, map, not, codes, ◌++◌, option_map, option_copied, option_and_then, string_bytes};
 ghost use Rattle.std.specs.List.{find};
 ghost use Rattle.std.specs.Option.{option_or};
+ghost use Rattle.std.specs.List.Sorted.{IsStrictlySortedBy};
+ghost use Rattle.std.specs.String.{string_cmp};
 ghost use Rattle.std.specs.BTreeMap.{keys};
 ghost use Rattle.toml.specs.Data.{get_member, as_table};
 ghost use Rattle.toml.specs.View.{view, table_view};
@@ -90,7 +92,8 @@ fn unknown_in<'a>(front: &[Key], back: &[Key], table: &'a Table) -> Option<&'a s
 }
 
 fn unknown_name<'a>(front: &[Key], back: &[Key], table: &'a Table) -> Option<&'a String>
-    ensures { option_copied result ≡ find (λ name. not (is_name_of (map key_of front.now ++ map key_of back.now) (string_bytes name))) (keys table.now) }
+    ensures first { option_copied result ≡ find (λ name. not (is_name_of (map key_of front.now ++ map key_of back.now) (string_bytes name))) (keys table.now) }
+    ensures ordered { IsStrictlySortedBy string_cmp (keys table.now) }
 {
     table
         .keys()

@@ -1,29 +1,23 @@
 // The arm that a file spells.
-ghost use Rattle.std.specs.Prelude.{◌≡◌, ◌^◌, true, map, IfOk};
+ghost use Rattle.std.specs.Prelude.{◌≡◌, ◌^◌, true, codes, map, IfOk};
 ghost use Rattle.std.specs.List.{list_all};
 ghost use Rattle.toml.specs.View.{view, table_view};
 ghost use Rattle.fb_params.specs.Keys.{from_to};
+ghost use Rattle.fb_params.specs.Values.{elements_at};
 ghost use Rattle.fb_params.specs.Rules.{is_row_within};
 ghost use Rattle.fb_params.specs.Contents.{point_of, mechanics_of};
-ghost use Rattle.fb_params.specs.Reading.{Answers, keeps, possible_arm};
+ghost use Rattle.fb_params.specs.Reading.{Answers, possible_arm};
 
-use crate::rule::Rule;
 use crate::values::{elements_at, nth, number_at};
 use crate::{ParamsError, ParamsFault};
-use fb_geometry::Layout;
 use fb_seek::{Mechanism, SeekPoint};
 use fb_units::NoMemory;
 use std::alloc::Global;
 use toml::{Table, Value};
 
 // The mechanism of the file's arm over so many cylinders, or its first fault.
-pub fn mechanism(
-    alloc: Global,
-    cylinders: u32,
-    layout: Layout,
-    table: &Table,
-) -> Result<Mechanism, ParamsError>
-    requires { keeps Rule.InRange layout (table_view table.now) ≡ Ok tt }
+pub fn mechanism_of(alloc: Global, cylinders: u32, table: &Table) -> Result<Mechanism, ParamsError>
+    requires { list_all (is_row_within (from_to 0 (10 ^ 9))) (elements_at (codes "seek") (table_view table.now)) ≡ true }
     ensures { Answers (λ mechanism. mechanism) result (possible_arm (mechanics_of cylinders (table_view table.now))) }
 {
     let points = points(alloc, elements_at(table, "seek"))?;

@@ -5,7 +5,7 @@ use Rattle.std.specs.List.{filter_map}
 use Rattle.fb_params.proofs.Kept.{in_range}
 use Rattle.fb_params.proofs.Fitting.{fits_layout}
 use Rattle.fb_params.proofs.Fields.{heads-within, defects-within}
-use Rattle.fb_params.proofs.outline.geometry.Goals as goal
+use Rattle.fb_params.proofs.outline.geometry_of.Goals as goal
 
 pub small_number_at-heads-requires : goal.small_number_at-heads-requires
 small_number_at-heads-requires c = omega (arith, heads-within c.args.layout (table_view c.args.table.now) c.requires)

@@ -3,7 +3,7 @@ use Rattle.std.specs.List.{find}
 use Rattle.toml.specs.View.{view}
 use Rattle.fb_params.specs.Values.{number_of}
 use Rattle.fb_params.specs.Contents.{ascending}
-use Rattle.fb_params.proofs.latent.latent.Given as goal
+use Rattle.fb_params.proofs.latent.latent_of.Given as goal
 
 abbrev pub invariant-loop-value : goal.invariant-loop-value
 invariant-loop-value l = record {

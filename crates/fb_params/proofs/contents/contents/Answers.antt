@@ -1,0 +1,24 @@
+use Rattle.std.proofs.Common.{◌≡◌, ◌%◌, ap, arith, ◌∙◌}
+use Rattle.toml.specs.View.{table_view}
+use Rattle.fb_params.proofs.Fields.{seek-within, sector_bytes-number}
+use Rattle.fb_params.proofs.contents.contents.Goals as goal
+
+pub mechanism_of-requires : goal.mechanism_of-requires
+mechanism_of-requires c = seek-within c.args.layout (table_view c.args.table.now) c.requires.range
+
+pub small_number_at-sector_bytes-requires : goal.small_number_at-sector_bytes-requires
+small_number_at-sector_bytes-requires c =
+    let number = sector_bytes-number c.args.layout (table_view c.args.table.now) c.requires.present c.requires.kind c.requires.range in omega (arith, number.few)
+
+pub invariant_of-result-clause-whole_sectors : goal.invariant_of-result-clause-whole_sectors
+invariant_of-result-clause-whole_sectors c =
+    let number = sector_bytes-number c.args.layout (table_view c.args.table.now) c.requires.present c.requires.kind c.requires.range in
+    ap (λ n. n % 16) c.small_number_at-sector_bytes.ensures ∙ number.whole
+
+pub invariant_of-result-clause-some_bytes : goal.invariant_of-result-clause-some_bytes
+invariant_of-result-clause-some_bytes c =
+    let number = sector_bytes-number c.args.layout (table_view c.args.table.now) c.requires.present c.requires.kind c.requires.range in omega (arith, number.some, c.small_number_at-sector_bytes.ensures)
+
+pub invariant_of-result-clause-few_bytes : goal.invariant_of-result-clause-few_bytes
+invariant_of-result-clause-few_bytes c =
+    let number = sector_bytes-number c.args.layout (table_view c.args.table.now) c.requires.present c.requires.kind c.requires.range in omega (arith, number.few, c.small_number_at-sector_bytes.ensures)
