@@ -5,3 +5,4 @@ pub mod Kept
 pub mod Numbers
 pub mod Fields
 pub mod Fitting
+pub mod SmallFiles

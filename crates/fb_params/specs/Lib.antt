@@ -4,3 +4,4 @@ pub mod Names
 pub mod Rules
 pub mod Contents
 pub mod Reading
+pub mod SmallFiles

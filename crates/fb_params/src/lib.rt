@@ -9,9 +9,12 @@ mod name;
 mod outline;
 mod parameters;
 mod read;
+mod rows;
 mod rule;
 mod search;
 mod seek;
+#[cfg(test)]
+mod tests;
 mod values;
 
 pub use fault::{ParamsError, ParamsFault};
