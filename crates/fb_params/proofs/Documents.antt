@@ -15,5 +15,6 @@ document_of-read bytes table utf8 read = rw (is_utf8-from_IsUtf8 bytes utf8) rea
 pub document_of-refused : (bytes : List ℕ) → (IsUtf8 bytes → parse_document bytes ≡ None) → document_of bytes ≡ None
 unfolding document_of
 document_of-refused bytes refused = elim (cases_Bool (is_utf8 bytes)) [
-    | inl utf8 ↦ rw utf8 (refused (IsUtf8-from_is_utf8 bytes utf8))
-    | inr other ↦ rw other refl ]
+  | inl utf8 ↦ rw utf8 (refused (IsUtf8-from_is_utf8 bytes utf8))
+  | inr other ↦ rw other refl
+]

@@ -1,5 +1,5 @@
 -- What follows from searches that found nothing.
-use Rattle.std.proofs.Common.{◌≡◌, ℕ, zero, suc, Bool, true, false, List, [], ◌∷◌, ◌++◌, length, get_or, drop, map, Option, Some, None, option_map, Result, Ok, Err, slice_get, refl, sym, ap, subst, ◌∙◌, inl, inr}
+use Rattle.std.proofs.Common.{◌≡◌, ℕ, zero, suc, Bool, false, List, [], ◌∷◌, ◌++◌, Option, Some, None, option_map, Ok, slice_get, refl, subst, inl, inr}
 use Rattle.std.specs.List.{find}
 use Rattle.std.specs.Option.{option_or}
 use Rattle.std.proofs.lemmas.Bool.{cases_Bool}
@@ -10,14 +10,15 @@ use Rattle.fb_params.specs.declared.fault.ParamsFault.{ParamsFault}
 use Rattle.fb_params.specs.declared.rule.Rule.{Rule}
 use Rattle.fb_params.specs.declared.rule.Rule.TheVariants.{Known, Present, OfKind, InRange}
 use Rattle.fb_params.specs.Keys.{Key, front_keys, back_keys, zone_keys}
-use Rattle.fb_params.specs.Values.{zones_of}
-use Rattle.fb_params.specs.Rules.{breaks, first_in, first_some, first_key}
+use Rattle.fb_params.specs.Tables.{zones_of}
+use Rattle.fb_params.specs.Rules.{breaks, first_in, first_some}
 use Rattle.fb_params.specs.Reading.{unless_fault, keeps}
 
 passed_over : {A : Type 0} (p : A → Bool) (y : A) (ys : List A) → find p (y ∷ ys) ≡ None → (p y ≡ false) × (find p ys ≡ None)
 passed_over p y ys none = elim (cases_Bool (p y)) [
-    | inl hit ↦ absurd (let found : Some y ≡ None = rw hit at none in cc)
-    | inr miss ↦ (miss, rw miss at none) ]
+  | inl hit ↦ absurd (let found : Some y ≡ None = rw hit at none in cc)
+  | inr miss ↦ (miss, rw miss at none)
+]
 
 none-find : {A : Type 0} (p : A → Bool) (xs : List A) → find p xs ≡ None → (i : ℕ) (x : A) → slice_get xs i ≡ Some x → p x ≡ false
 none-find p [] none i x at = absurd (cc)

@@ -6,3 +6,4 @@ pub mod Numbers
 pub mod Fields
 pub mod Fitting
 pub mod SmallFiles
+pub mod LatentSets

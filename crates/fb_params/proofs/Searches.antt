@@ -1,5 +1,5 @@
 -- The searches of the code beside those of the definitions.
-use Rattle.std.proofs.Common.{◌≡◌, ℕ, ◌+◌, ◌<◌, Bool, true, false, cond, not, List, [], ◌∷◌, ◌++◌, length, get_or, drop, map, Option, Some, None, Ordering, Less, Greater, option_map, String, Global, string_bytes, refl, sym, ap, append_assoc, ◌∙◌, inl, inr}
+use Rattle.std.proofs.Common.{◌≡◌, ℕ, ◌+◌, ◌<◌, Bool, not, List, [], ◌∷◌, ◌++◌, length, get_or, drop, map, Option, Some, None, Less, Greater, option_map, String, Global, string_bytes, refl, sym, ap, append_assoc, ◌∙◌, inl, inr}
 use Rattle.std.specs.List.{find, filter, filter_map, cons_option, list_any, AllByRecursion}
 use Rattle.std.specs.List.Sorted.{IsStrictlySortedBy}
 use Rattle.std.specs.Ordering.{nat_cmp, ordering_reverse}
@@ -7,14 +7,14 @@ use Rattle.std.specs.Cmp.Lexicographic.{slice_cmp}
 use Rattle.std.specs.String.{string_cmp}
 use Rattle.std.proofs.lemmas.Cmp.{nat_list_cmp_total}
 use Rattle.fb_geometry.specs.Faults.{least, lesser}
-use Rattle.std.specs.Option.{option_or, option_and_then, option_copied, option_to_list}
+use Rattle.std.specs.Option.{option_or, option_and_then, option_to_list}
 use Rattle.std.specs.Map.{keys_of}
 use Rattle.std.proofs.lemmas.Bool.{cases_Bool}
 use Rattle.std.proofs.lemmas.List.{drop_more}
-use Rattle.toml.specs.Data.{Data, Members, as_table, get_member}
+use Rattle.toml.specs.Data.{Members, as_table, get_member}
 use Rattle.toml.specs.View.{view, members_view}
 use Rattle.toml.specs.declared.value.Value.{Value}
-use Rattle.fb_params.specs.Values.{names_of}
+use Rattle.fb_params.specs.Tables.{names_of}
 use Rattle.fb_params.proofs.Kept.{none-option_or}
 use Rattle.fb_params.specs.Keys.{Key, key_of}
 use Rattle.fb_params.specs.declared.key.Key.{Key as DeclaredKey}
@@ -25,8 +25,9 @@ use Rattle.fb_params.specs.Rules.{breaks, is_name_of, comes_before, first_in, fi
 pub find-map : {A B : Type 0} (f : A → B) (p : B → Bool) (xs : List A) → find p (map f xs) ≡ option_map f (find (λ x. p (f x)) xs)
 find-map f p [] = refl
 find-map f p (x ∷ xs) = elim (cases_Bool (p (f x))) [
-    | inl hit ↦ rw hit refl
-    | inr miss ↦ rw miss (find-map f p xs) ]
+  | inl hit ↦ rw hit refl
+  | inr miss ↦ rw miss (find-map f p xs)
+]
 
 option_map-map : (found : Option DeclaredKey) → option_map (λ key. key.name) (option_map key_of found) ≡ option_map (λ key. key.name.now) found
 option_map-map None = refl
@@ -46,11 +47,12 @@ before_found : (p : List ℕ → Bool) (k : String Global) (ks : List (String Gl
     → lesser comes_before (string_bytes k) (option_map string_bytes (find (λ other. p (string_bytes other)) ks)) ≡ Some (string_bytes k)
 before_found p k [] before = refl
 before_found p k (other ∷ ks) before = elim (cases_Bool (p (string_bytes other))) [
-    | inl hit ↦
-        let behind : slice_cmp nat_cmp (string_bytes other) (string_bytes k) ≡ Greater =
-            nat_list_cmp_total.antisymm (string_bytes other) (string_bytes k) ∙ ap ordering_reverse before.0 in
-        rw (hit, behind) refl
-    | inr miss ↦ rw miss (before_found p k ks before.1) ]
+  | inl hit ↦
+      let behind : slice_cmp nat_cmp (string_bytes other) (string_bytes k) ≡ Greater =
+      nat_list_cmp_total.antisymm (string_bytes other) (string_bytes k) ∙ ap ordering_reverse before.0 in
+      rw (hit, behind) refl
+  | inr miss ↦ rw miss (before_found p k ks before.1)
+]
 
 -- in names that ascend the least that passes is the first
 least-find : (p : List ℕ → Bool) (ks : List (String Global)) → IsStrictlySortedBy string_cmp ks
@@ -58,8 +60,9 @@ least-find : (p : List ℕ → Bool) (ks : List (String Global)) → IsStrictlyS
 unfolding IsStrictlySortedBy
 least-find p [] sorted = refl
 least-find p (k ∷ ks) sorted = elim (cases_Bool (p (string_bytes k))) [
-    | inl hit ↦ rw (hit, least-find p ks sorted.1) (before_found p k ks sorted.0)
-    | inr miss ↦ rw miss (least-find p ks sorted.1) ]
+  | inl hit ↦ rw (hit, least-find p ks sorted.1) (before_found p k ks sorted.0)
+  | inr miss ↦ rw miss (least-find p ks sorted.1)
+]
 
 -- the least unknown name of a table, and the first of its map
 pub unknown-view : (keys : List Key) (entries : List (String Global × Value)) (found : Option (String Global))

@@ -1,15 +1,15 @@
 -- The small files are read as they have to be, by computation.
-use Rattle.std.proofs.Common.{◌≡◌, refl}
+use Rattle.std.proofs.Common.{refl}
 use Rattle.std.specs.Str.{is_utf8, chars}
 use Rattle.toml.proofs.OnLiterals.{toml_on_literals}
 use Rattle.fb_geometry.specs.Places.{places}
 use Rattle.fb_geometry.specs.Faults.{first_fault}
 use Rattle.fb_seek.specs.Faults.{fault_from}
-use Rattle.fb_params.specs.Reading.{document_of, keeps, contents_of, params_of}
+use Rattle.fb_params.specs.Reading.{document_of, keeps, params_of_table, params_of}
 use Rattle.fb_params.specs.SmallFiles.{Refusals, Acceptances}
 
 pub refusals : Refusals
-unfolding toml_on_literals is_utf8 chars places first_fault fault_from document_of keeps contents_of params_of
+unfolding toml_on_literals is_utf8 chars places first_fault fault_from document_of keeps params_of_table params_of
 refusals = record {
   empty = refl;
   unknown_key = refl;
@@ -36,10 +36,12 @@ refusals = record {
   grown_twice = refl;
   grown_without_spare = refl;
   spares_of_version_one = refl;
-  grown_in_version_one = refl; }
+  grown_in_version_one = refl;
+}
 
 pub acceptances : Acceptances
-unfolding toml_on_literals is_utf8 chars places first_fault fault_from document_of keeps contents_of params_of
+unfolding toml_on_literals is_utf8 chars places first_fault fault_from document_of keeps params_of_table params_of
 acceptances = record {
   one = refl;
-  two = refl; }
+  two = refl;
+}

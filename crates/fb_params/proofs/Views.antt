@@ -1,13 +1,13 @@
 -- Lists of values beside the data that they stand for.
-use Rattle.std.proofs.Common.{◌≡◌, ℕ, zero, suc, ◌<◌, ◌≤◌, length, slice_index, get_or, true, arith, Bool, List, [], ◌∷◌, map, Option, Some, None, option_map, unwrap_or, Vec, Global, Bor, refl, sym, ap, subst, ◌∙◌}
+use Rattle.std.proofs.Common.{◌≡◌, ℕ, zero, suc, ◌<◌, length, slice_index, get_or, true, arith, Bool, List, [], ◌∷◌, map, Some, unwrap_or, refl, sym, ap, subst, ◌∙◌}
 use Rattle.std.specs.List.{list_all}
 use Rattle.std.proofs.lemmas.Bool.{and_parts}
 use Rattle.std.proofs.lemmas.List.Folds.{list_all-map}
 use Rattle.toml.specs.Data.{Data, string, integer, float, boolean, datetime, array, table, Items, as_array}
-use Rattle.toml.specs.View.{view, items_of, array_view}
+use Rattle.toml.specs.View.{view, items_of}
 use Rattle.toml.specs.declared.value.Value.{Value}
-use Rattle.fb_params.specs.Values.{listed, elements, number_of}
-use Rattle.fb_params.specs.Contents.{nth}
+use Rattle.fb_params.specs.Tables.{listed, elements, number_of}
+use Rattle.fb_params.specs.ParamsValue.{nth}
 
 pub listed-items_of : (values : List Data) → listed (items_of values) ≡ values
 listed-items_of [] = refl

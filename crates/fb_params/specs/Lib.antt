@@ -1,7 +1,7 @@
 pub mod Keys
-pub mod Values
+pub mod Tables
 pub mod Names
 pub mod Rules
-pub mod Contents
+pub mod ParamsValue
 pub mod Reading
 pub mod SmallFiles

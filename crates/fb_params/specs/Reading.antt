@@ -1,4 +1,4 @@
--- What the bytes of a parameter file are: an accepted file's contents, or the first fault.
+-- What the bytes of a parameter file are: the value of an accepted file, or the first fault.
 use Rattle.std.specs.Prelude.{◌≡◌, ℕ, List, length, codes, nat_le, if◌then◌else◌, Option, Some, None, option_map, Result, Ok, Err}
 use Rattle.std.specs.List.{find}
 use Rattle.std.specs.Str.{is_utf8}
@@ -17,9 +17,9 @@ use Rattle.fb_params.specs.declared.fault.ParamsFault.TheVariants.{NotToml, Unkn
 use Rattle.fb_params.specs.declared.fault.ParamsError.{ParamsError}
 use Rattle.fb_params.specs.declared.fault.ParamsError.TheVariants.{Fault, NoMemory}
 use Rattle.fb_params.specs.declared.parameters.Parameters.{Parameters}
-use Rattle.fb_params.specs.Values.{number_at, layout_of}
+use Rattle.fb_params.specs.Tables.{number_at, layout_of}
 use Rattle.fb_params.specs.Rules.{first_key}
-use Rattle.fb_params.specs.Contents.{Contents, outline_of, mechanics_of, listed_latent, ascending}
+use Rattle.fb_params.specs.ParamsValue.{ParamsValue, outline_of, mechanics_of, listed_latent, ascending}
 
 -- the document that toml reads from these bytes
 unfoldable pub document_of : List ℕ → Option Members
@@ -65,16 +65,16 @@ possible_arm arm = unless_fault arm (option_map Seek (first_seek_fault arm))
 abbrev pub latent_on : ℕ → List ℕ → Result (List ℕ) ParamsFault
 latent_on count listed = unless_fault (ascending listed) (option_map LatentOutside (find (λ lbn. nat_le count lbn) listed))
 
--- the contents of a file whose keys keep all rules
-unfoldable pub contents_of : Layout → Members → Result Contents ParamsFault
-contents_of layout table = do
+-- the value of a file whose keys keep all rules, or its first fault: of the outline, of the seek table, of the latent sectors
+unfoldable pub params_of_table : Layout → Members → Result ParamsValue ParamsFault
+params_of_table layout table = do
   outline ← possible_outline (outline_of layout table)
   arm ← possible_arm (mechanics_of (cylinders_of outline.zones) table)
   latent ← latent_on (length (places outline)) (listed_latent table)
   Ok (record { outline = outline; mechanics = arm; sector_bytes = number_at (codes "sector_bytes") table; latent = latent })
 
--- each fault is looked for in the whole file before the next
-unfoldable pub params_of : List ℕ → Result Contents ParamsFault
+-- the value of a file, or its first fault: each kind of fault is looked for in the whole file before the next
+unfoldable pub params_of : List ℕ → Result ParamsValue ParamsFault
 params_of bytes = do
   table ← or_fault NotToml (document_of bytes)
   let layout = layout_of table
@@ -82,10 +82,10 @@ params_of bytes = do
   keeps Present layout table
   keeps OfKind layout table
   keeps InRange layout table
-  contents_of layout table
+  params_of_table layout table
 
 -- what the answered parameters hold
-abbrev pub held : Parameters → Contents
+abbrev pub held : Parameters → ParamsValue
 held params = record { outline = params.disk.map; mechanics = params.disk.mechanism; sector_bytes = params.disk.sector_bytes; latent = params.latent.items }
 
 -- the answer, seen through f, is the verdict; memory may be wanting

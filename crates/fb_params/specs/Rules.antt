@@ -15,7 +15,7 @@ use Rattle.fb_params.specs.declared.rule.Rule.{Rule}
 use Rattle.fb_params.specs.declared.rule.Rule.TheVariants.{Known, Present, OfKind, InRange}
 use Rattle.fb_params.specs.Keys.{Key, front_keys, back_keys, zone_keys}
 use Rattle.fb_params.specs.Names.{in_zone}
-use Rattle.fb_params.specs.Values.{names_of, elements, zones_of}
+use Rattle.fb_params.specs.Tables.{names_of, elements, zones_of}
 
 abbrev pub is_integer : Data → Bool
 is_integer value = is_some (as_integer value)
@@ -29,7 +29,7 @@ is_array_of passes value = is_some (as_array value) && list_all passes (elements
 
 -- an array of so many integers
 abbrev pub is_row : ℕ → Data → Bool
-is_row width value = is_some (as_array value) && (length (elements value) == width) && list_all is_integer (elements value)
+is_row width value = is_array_of is_integer value && (length (elements value) == width)
 
 -- the value is what its key asks for, whatever its numbers
 abbrev pub is_of : Kind → Data → Bool
@@ -71,7 +71,7 @@ abbrev pub first_in : Rule → List Key → Members → Option (List ℕ)
 first_in Known keys table = least comes_before (filter (λ name. not (is_name_of keys name)) (names_of table))
 first_in rule keys table = option_map (λ key. key.name) (find (λ key. breaks rule key (get_member key.name table)) keys)
 
--- what f gives first
+-- the first thing that f gives of these
 abbrev pub first_some : {A B : Type 0} → (A → Option B) → List A → Option B
 first_some f [] = None
 first_some f (x ∷ xs) = option_or (f x) (first_some f xs)

@@ -59,14 +59,28 @@ pub record Refusals : Type 0 where
 -- what is read of files without a fault
 pub record Acceptances : Type 0 where
   pub one : params_of (top ++ (seek ++ zone)) ≡ Ok (record {
-      outline = record { layout = PerTrack; rotation = 1200; heads = 2; defects = []; grown = [];
-          zones = record { first = 0; last = 3; sectors = 12; track_skew = 0; cylinder_skew = 0; spares = 0; cylinder_spares = 0 } ∷ [] };
-      mechanics = record { points = record { distance = 1; time = 300 } ∷ record { distance = 3; time = 500 } ∷ []; cylinders = 4; head_switch = 200; write_settle = 50 };
-      sector_bytes = 16;
-      latent = [] })
+    outline = record {
+      layout = PerTrack;
+      rotation = 1200;
+      heads = 2;
+      defects = [];
+      grown = [];
+      zones = record { first = 0; last = 3; sectors = 12; track_skew = 0; cylinder_skew = 0; spares = 0; cylinder_spares = 0 } ∷ [];
+    };
+    mechanics = record { points = record { distance = 1; time = 300 } ∷ record { distance = 3; time = 500 } ∷ []; cylinders = 4; head_switch = 200; write_settle = 50 };
+    sector_bytes = 16;
+    latent = [];
+  })
   pub two : params_of (top_of_two ++ (seek ++ (codes "grown = [[0, 0, 3]]\nlatent = [9, 6, 9]\n" ++ zone_of_two))) ≡ Ok (record {
-      outline = record { layout = PerCylinder; rotation = 1200; heads = 2; defects = []; grown = place 0 0 3 ∷ [];
-          zones = record { first = 0; last = 3; sectors = 12; track_skew = 0; cylinder_skew = 0; spares = 0; cylinder_spares = 2 } ∷ [] };
-      mechanics = record { points = record { distance = 1; time = 300 } ∷ record { distance = 3; time = 500 } ∷ []; cylinders = 4; head_switch = 200; write_settle = 50 };
-      sector_bytes = 16;
-      latent = 6 ∷ 9 ∷ [] })
+    outline = record {
+      layout = PerCylinder;
+      rotation = 1200;
+      heads = 2;
+      defects = [];
+      grown = place 0 0 3 ∷ [];
+      zones = record { first = 0; last = 3; sectors = 12; track_skew = 0; cylinder_skew = 0; spares = 0; cylinder_spares = 2 } ∷ [];
+    };
+    mechanics = record { points = record { distance = 1; time = 300 } ∷ record { distance = 3; time = 500 } ∷ []; cylinders = 4; head_switch = 200; write_settle = 50 };
+    sector_bytes = 16;
+    latent = 6 ∷ 9 ∷ [];
+  })

@@ -35,8 +35,12 @@ pub struct Key {
     pub required: bool,
 }
 
+// A key that has to be there, with the range of its numbers and what they are a multiple of.
 macro_rules! must {
-    ($name:literal, $kind:expr, $low:literal, $high:literal, $multiple:literal) => {
+    ($name:literal, $kind:expr, $low:literal..=$high:literal) => {
+        must!($name, $kind, $low..=$high, 1)
+    };
+    ($name:literal, $kind:expr, $low:literal..=$high:literal, $multiple:literal) => {
         Key {
             name: $name,
             kind: $kind,
@@ -50,8 +54,9 @@ macro_rules! must {
     };
 }
 
+// A key that may be left out.
 macro_rules! may {
-    ($name:literal, $kind:expr, $low:literal, $high:literal) => {
+    ($name:literal, $kind:expr, $low:literal..=$high:literal) => {
         Key {
             name: $name,
             kind: $kind,
@@ -66,43 +71,43 @@ macro_rules! may {
 }
 
 static FRONT: [Key; 8] = [
-    must!("version", Kind::Number, 1, 2, 1),
-    must!("rotation_ns", Kind::Number, 1, 1_000_000_000, 1),
-    must!("sector_bytes", Kind::Number, 16, 4096, 16),
-    must!("heads", Kind::Number, 1, 64, 1),
-    must!("head_switch_ns", Kind::Number, 0, 1_000_000_000, 1),
-    must!("write_settle_ns", Kind::Number, 0, 1_000_000_000, 1),
-    must!("seek", Kind::Rows(2), 0, 1_000_000_000, 1),
-    must!("zone", Kind::Tables, 0, 0, 1),
+    must!("version", Kind::Number, 1..=2),
+    must!("rotation_ns", Kind::Number, 1..=1_000_000_000),
+    must!("sector_bytes", Kind::Number, 16..=4096, 16),
+    must!("heads", Kind::Number, 1..=64),
+    must!("head_switch_ns", Kind::Number, 0..=1_000_000_000),
+    must!("write_settle_ns", Kind::Number, 0..=1_000_000_000),
+    must!("seek", Kind::Rows(2), 0..=1_000_000_000),
+    must!("zone", Kind::Tables, 0..=0),
 ];
 
 static BACK: [Key; 2] = [
-    may!("defects", Kind::Rows(3), 0, 999_999),
-    may!("latent", Kind::Numbers, 0, 1_000_000_000_000),
+    may!("defects", Kind::Rows(3), 0..=999_999),
+    may!("latent", Kind::Numbers, 0..=1_000_000_000_000),
 ];
 
 static BACK_WITH_GROWN: [Key; 3] = [
-    may!("defects", Kind::Rows(3), 0, 999_999),
-    may!("grown", Kind::Rows(3), 0, 999_999),
-    may!("latent", Kind::Numbers, 0, 1_000_000_000_000),
+    may!("defects", Kind::Rows(3), 0..=999_999),
+    may!("grown", Kind::Rows(3), 0..=999_999),
+    may!("latent", Kind::Numbers, 0..=1_000_000_000_000),
 ];
 
 static ZONE: [Key; 6] = [
-    must!("first", Kind::Number, 0, 999_999, 1),
-    must!("last", Kind::Number, 0, 999_999, 1),
-    must!("sectors", Kind::Number, 1, 10_000, 1),
-    may!("track_skew", Kind::Number, 0, 10_000),
-    may!("cylinder_skew", Kind::Number, 0, 10_000),
-    may!("spares", Kind::Number, 0, 10_000),
+    must!("first", Kind::Number, 0..=999_999),
+    must!("last", Kind::Number, 0..=999_999),
+    must!("sectors", Kind::Number, 1..=10_000),
+    may!("track_skew", Kind::Number, 0..=10_000),
+    may!("cylinder_skew", Kind::Number, 0..=10_000),
+    may!("spares", Kind::Number, 0..=10_000),
 ];
 
-static ZONE_PER_CYLINDER: [Key; 6] = [
-    must!("first", Kind::Number, 0, 999_999, 1),
-    must!("last", Kind::Number, 0, 999_999, 1),
-    must!("sectors", Kind::Number, 1, 10_000, 1),
-    may!("track_skew", Kind::Number, 0, 10_000),
-    may!("cylinder_skew", Kind::Number, 0, 10_000),
-    may!("cylinder_spares", Kind::Number, 0, 640_000),
+static ZONE_WITH_CYLINDER_SPARES: [Key; 6] = [
+    must!("first", Kind::Number, 0..=999_999),
+    must!("last", Kind::Number, 0..=999_999),
+    must!("sectors", Kind::Number, 1..=10_000),
+    may!("track_skew", Kind::Number, 0..=10_000),
+    may!("cylinder_skew", Kind::Number, 0..=10_000),
+    may!("cylinder_spares", Kind::Number, 0..=640_000),
 ];
 
 // The keys of the file up to `zone`.
@@ -128,6 +133,6 @@ pub fn zone_keys(layout: Layout) -> &'static [Key]
 {
     match layout {
         Layout::PerTrack => &ZONE,
-        Layout::PerCylinder => &ZONE_PER_CYLINDER,
+        Layout::PerCylinder => &ZONE_WITH_CYLINDER_SPARES,
     }
 }

@@ -1,7 +1,13 @@
-//! The parameter file.
+//! The parameter file: the disk that it describes, and the sectors that cannot be read at first.
+//!
+//! What `read_params` answers is one function of the bytes, `params_of` in `specs/Reading.antt`: what
+//! an accepted file says, or the first fault. Faults are looked for one kind after another, each in
+//! the whole file: bytes that are no TOML, unknown keys, missing keys, values of a wrong kind,
+//! numbers out of range, the outline, the seek table, latent sectors beyond the disk. The keys with
+//! their kinds and ranges are the tables of `specs/Keys.antt`. A want of memory may be answered for
+//! any file, and says nothing of it.
 #![tactic(auto)]
 
-mod contents;
 mod fault;
 mod key;
 mod latent;
@@ -13,9 +19,9 @@ mod rows;
 mod rule;
 mod search;
 mod seek;
+mod table;
 #[cfg(test)]
 mod tests;
-mod values;
 
 pub use fault::{ParamsError, ParamsFault};
 pub use parameters::Parameters;

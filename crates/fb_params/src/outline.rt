@@ -5,11 +5,11 @@ ghost use Rattle.toml.specs.Data.{as_table};
 ghost use Rattle.toml.specs.View.{view, table_view};
 ghost use Rattle.fb_params.specs.Keys.{from_to, zone_keys};
 ghost use Rattle.fb_params.specs.Rules.{is_row_within, first_in, first_some};
-ghost use Rattle.fb_params.specs.Contents.{place_of, zone_of, grown_of, outline_of};
+ghost use Rattle.fb_params.specs.ParamsValue.{place_of, zone_of, grown_of, outline_of};
 ghost use Rattle.fb_params.specs.Reading.{Answers, keeps, possible_outline};
 
 use crate::rule::Rule;
-use crate::values::{elements_at, nth, number_at, small_number_at};
+use crate::table::{elements_at, nth, number_at, small_number_at};
 use crate::{ParamsError, ParamsFault};
 use fb_geometry::{Geometry, GeometryError, Layout, Zone};
 use fb_units::{NoMemory, Place, Track};

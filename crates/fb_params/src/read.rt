@@ -1,23 +1,31 @@
 // The parameter file, read.
-ghost use Rattle.std.specs.Prelude.{◌≡◌};
+ghost use Rattle.std.specs.Prelude.{◌≡◌, ◌<◌, length, IfOk};
+ghost use Rattle.std.specs.List.{AllByRecursion};
+ghost use Rattle.std.specs.List.Sorted.{IsStrictlyIncreasing};
 ghost use Rattle.toml.specs.View.{table_view};
+ghost use Rattle.fb_geometry.specs.Places.{places};
 ghost use Rattle.fb_params.specs.Reading.{Answers, or_fault, document_of, keeps, params_of, held, fault_of};
 
-use crate::contents::contents;
 use crate::name::key_text;
+use crate::parameters::params_of_table;
 use crate::rule::Rule;
 use crate::search::first_key;
-use crate::values::layout_of;
+use crate::table::layout_of;
 use crate::{Parameters, ParamsError, ParamsFault};
 use fb_geometry::Layout;
 use fb_units::KeyText;
 use std::alloc::Global;
 use toml::Table;
 
-/// The disk and the latent sectors of a parameter file, or its first fault.
+/// The disk and the latent sectors that the bytes of a parameter file describe, or its first fault.
+///
+/// Times in the file are whole nanoseconds. The file's zones, defects and points of the seek table
+/// keep their order. Latent sectors may be listed in any order, and more than once.
 #[tactic(auto, unfolding(crate::specs::Reading::params_of))]
 pub fn read_params(alloc: Global, bytes: &[u8]) -> Result<Parameters, ParamsError>
-    ensures { Answers held result (params_of bytes.now) }
+    ensures value { Answers held result (params_of bytes.now) }
+    ensures latent_rises { IfOk result (λ params. IsStrictlyIncreasing params.latent.items) }
+    ensures latent_on_disk { IfOk result (λ params. AllByRecursion (λ lbn. lbn < length (places params.disk.map)) params.latent.items) }
 {
     let table = read_table(alloc, bytes)?;
     let layout = layout_of(&table);
@@ -25,10 +33,10 @@ pub fn read_params(alloc: Global, bytes: &[u8]) -> Result<Parameters, ParamsErro
     keep(alloc, Rule::Present, layout, &table)?;
     keep(alloc, Rule::OfKind, layout, &table)?;
     keep(alloc, Rule::InRange, layout, &table)?;
-    contents(alloc, layout, &table)
+    params_of_table(alloc, layout, &table)
 }
 
-// The table that the bytes spell.
+// The table that the bytes are.
 fn read_table(alloc: Global, bytes: &[u8]) -> Result<Table, ParamsError>
     ensures { Answers table_view result (or_fault ParamsFault.NotToml (document_of bytes.now)) }
 {

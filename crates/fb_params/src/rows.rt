@@ -4,5 +4,4 @@ ghost use Rattle.fb_params.specs.SmallFiles.{Refusals, Acceptances};
 fn worked_rows()
     ensures refused { Refusals }
     ensures accepted { Acceptances }
-{
-}
+{}

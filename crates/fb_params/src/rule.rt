@@ -6,7 +6,7 @@ ghost use Rattle.fb_params.specs.Keys.{key_of};
 ghost use Rattle.fb_params.specs.Rules.{is_integer, is_table, is_row, is_of, is_within, is_row_within, are_all_within, breaks};
 
 use crate::key::{Key, Kind, Range};
-use crate::values::elements;
+use crate::table::elements;
 use toml::Value;
 
 // What each key has to keep, in the order in which faults are named.
@@ -69,7 +69,7 @@ fn is_row(width: usize, value: &Value) -> bool
     ensures { result ≡ is_row width (view value.now) }
 {
     let row = elements(value);
-    value.is_array() && row.len() == width && are_integers(row)
+    value.is_array() && are_integers(row) && row.len() == width
 }
 
 // Whether a value is a number of the range, or no number.

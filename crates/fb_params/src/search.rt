@@ -9,18 +9,18 @@ ghost use Rattle.toml.specs.Data.{get_member, as_table};
 ghost use Rattle.toml.specs.View.{view, table_view};
 ghost use Rattle.fb_params.specs.Keys.{key_of, front_keys, back_keys, zone_keys};
 ghost use Rattle.fb_params.specs.Names.{spelled};
-ghost use Rattle.fb_params.specs.Values.{zones_of};
+ghost use Rattle.fb_params.specs.Tables.{zones_of};
 ghost use Rattle.fb_params.specs.Rules.{breaks, is_name_of, first_in, first_some, first_in_zones, first_key};
 
 use crate::key::{Key, back_keys, front_keys, zone_keys};
 use crate::name::KeyName;
 use crate::rule::{Rule, breaks};
-use crate::values::{elements_at, member};
+use crate::table::{elements_at, member};
 use fb_geometry::Layout;
 use toml::{Table, Value};
 
-// The first key of the file that breaks the rule. Unknown and missing keys of the file come before
-// those of its zones. Else the zones come where `zone` stands.
+// The first key that breaks the rule. For unknown and for missing keys those of the zones come after
+// all keys of the file; for values they come where `zone` stands.
 pub fn first_key(rule: Rule, layout: Layout, table: &Table) -> Option<KeyName<'_>>
     ensures { option_map spelled result ≡ first_key rule layout (table_view table.now) }
 {

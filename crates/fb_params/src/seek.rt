@@ -3,12 +3,12 @@ ghost use Rattle.std.specs.Prelude.{◌≡◌, ◌^◌, true, codes, map, IfOk};
 ghost use Rattle.std.specs.List.{list_all};
 ghost use Rattle.toml.specs.View.{view, table_view};
 ghost use Rattle.fb_params.specs.Keys.{from_to};
-ghost use Rattle.fb_params.specs.Values.{elements_at};
+ghost use Rattle.fb_params.specs.Tables.{elements_at};
 ghost use Rattle.fb_params.specs.Rules.{is_row_within};
-ghost use Rattle.fb_params.specs.Contents.{point_of, mechanics_of};
+ghost use Rattle.fb_params.specs.ParamsValue.{point_of, mechanics_of};
 ghost use Rattle.fb_params.specs.Reading.{Answers, possible_arm};
 
-use crate::values::{elements_at, nth, number_at};
+use crate::table::{elements_at, nth, number_at};
 use crate::{ParamsError, ParamsFault};
 use fb_seek::{Mechanism, SeekPoint};
 use fb_units::NoMemory;

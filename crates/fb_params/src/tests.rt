@@ -4,12 +4,16 @@ use std::alloc::{AllocError, Global};
 use std::test::Fail;
 
 // A disk of 96 sectors: the keys up to its seek table, that table, and its zone.
-const TOP: &str = "version = 1\nrotation_ns = 1200\nsector_bytes = 16\nheads = 2\nhead_switch_ns = 200\nwrite_settle_ns = 50\n";
+const TOP: &str =
+    "version = 1\nrotation_ns = 1200\nsector_bytes = 16\nheads = 2\nhead_switch_ns = 200\nwrite_settle_ns = 50\n";
+
 const SEEK: &str = "seek = [[1, 300], [3, 500]]\n";
+
 const ZONE: &str = "[[zone]]\nfirst = 0\nlast = 3\nsectors = 12\n";
 
 // The first with two spares at the end of each cylinder.
-const TOP_OF_TWO: &str = "version = 2\nrotation_ns = 1200\nsector_bytes = 16\nheads = 2\nhead_switch_ns = 200\nwrite_settle_ns = 50\n";
+const TOP_OF_TWO: &str =
+    "version = 2\nrotation_ns = 1200\nsector_bytes = 16\nheads = 2\nhead_switch_ns = 200\nwrite_settle_ns = 50\n";
 
 #[test]
 fn first_faults(rt: HostRuntime) -> Result<(), Fail> {
@@ -38,7 +42,10 @@ fn first_faults(rt: HostRuntime) -> Result<(), Fail> {
             [TOP, SEEK, "[[zone]]\nfirst = 0\nlast = 3\n"],
             "MissingKey zone.sectors",
         ),
-        ([TOP, SEEK, "[[zone]]\nfirst = 0\nlast = 3\nsect"], "NotToml"),
+        (
+            [TOP, SEEK, "[[zone]]\nfirst = 0\nlast = 3\nsect"],
+            "NotToml",
+        ),
         (
             [
                 TOP_OF_TWO,

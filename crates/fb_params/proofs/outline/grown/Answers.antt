@@ -1,4 +1,3 @@
-use Rattle.std.proofs.Common.{◌≡◌, true}
 use Rattle.toml.specs.View.{table_view}
 use Rattle.fb_params.proofs.Fields.{grown-within}
 use Rattle.fb_params.proofs.outline.grown.Goals as goal

@@ -1,11 +1,11 @@
-use Rattle.std.proofs.Common.{◌≡◌, map}
+use Rattle.std.proofs.Common.{map}
 use Rattle.std.specs.List.{filter_map}
 use Rattle.toml.specs.Data.{as_table}
 use Rattle.toml.specs.View.{view}
 use Rattle.fb_params.specs.declared.rule.Rule.TheVariants.{InRange}
 use Rattle.fb_params.specs.Keys.{zone_keys}
 use Rattle.fb_params.specs.Rules.{first_in}
-use Rattle.fb_params.specs.Contents.{zone_of}
+use Rattle.fb_params.specs.ParamsValue.{zone_of}
 use Rattle.fb_params.proofs.Searches.{first_some-none, zones-more}
 use Rattle.fb_params.proofs.outline.zones.Goals as goal
 
@@ -19,4 +19,5 @@ loop-value-preserved c =
     let more = zones-more (zone_of c.args.layout) whole c.loop-value.zones.items c.args.values.now c.loop-value.value-index c.value-item.result c.loop-value-test.true c.value-item.is c.loop-value.invariant.found in
     record {
       found = rw c.in_ok-push_zone.ensures more;
-      in_range = (first_some-none (first_in InRange (zone_keys c.args.layout)) c.args.values.now c.loop-value.value-index c.value-item.result c.loop-value-test.true c.value-item.is c.loop-value.invariant.in_range).1 }
+      in_range = (first_some-none (first_in InRange (zone_keys c.args.layout)) c.args.values.now c.loop-value.value-index c.value-item.result c.loop-value-test.true c.value-item.is c.loop-value.invariant.in_range).1;
+    }

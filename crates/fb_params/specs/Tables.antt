@@ -1,5 +1,5 @@
 -- What stands at a key of a table.
-use Rattle.std.specs.Prelude.{ℕ, pos, List, [], ◌∷◌, ◌==◌, codes, Option, option_map, unwrap_or, if◌then◌else◌}
+use Rattle.std.specs.Prelude.{ℕ, pos, List, [], ◌∷◌, ◌==◌, codes, option_map, unwrap_or, if◌then◌else◌}
 use Rattle.std.specs.List.{filter_map}
 use Rattle.toml.specs.Data.{Data, integer, array, Items, no_items, item, Members, no_members, member, get_member, as_table}
 use Rattle.fb_geometry.specs.declared.layout.Layout.{Layout}

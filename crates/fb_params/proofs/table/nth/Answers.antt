@@ -1,8 +1,7 @@
-use Rattle.std.proofs.Common.{◌≡◌, ◌<◌, ◌^◌, sym, subst, arith, ◌∙◌}
+use Rattle.std.proofs.Common.{sym, arith, ◌∙◌}
 use Rattle.toml.specs.View.{view}
-use Rattle.fb_params.specs.Contents.{nth}
 use Rattle.fb_params.proofs.Views.{nth-at}
-use Rattle.fb_params.proofs.values.nth.Goals as goal
+use Rattle.fb_params.proofs.table.nth.Goals as goal
 
 pub overflow_cast-result : goal.overflow_cast-result
 overflow_cast-result c =

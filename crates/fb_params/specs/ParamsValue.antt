@@ -1,4 +1,4 @@
--- What the numbers of a file stand for.
+-- What a file says: its numbers, and what they stand for.
 use Rattle.std.specs.Prelude.{ℕ, List, [], map, codes, slice_index}
 use Rattle.std.specs.List.{fold}
 use Rattle.std.specs.Ordering.{nat_cmp}
@@ -11,7 +11,7 @@ use Rattle.fb_geometry.specs.declared.zone.Zone.{Zone}
 use Rattle.fb_geometry.specs.Shape.{Shape}
 use Rattle.fb_seek.specs.declared.point.SeekPoint.{SeekPoint}
 use Rattle.fb_seek.specs.Mechanics.{Mechanics}
-use Rattle.fb_params.specs.Values.{elements, number_of, number_at, elements_at, zones_of}
+use Rattle.fb_params.specs.Tables.{elements, number_of, number_at, elements_at, zones_of}
 
 -- the i-th number of a row, from 0
 abbrev pub nth : ℕ → Data → ℕ
@@ -28,13 +28,14 @@ point_of row = record { distance = nth 0 row; time = nth 1 row }
 -- a zone with so many spares on each track, and on each cylinder
 abbrev pub zone_with : ℕ → ℕ → Members → Zone
 zone_with spares cylinder_spares table = record {
-    first = number_at (codes "first") table;
-    last = number_at (codes "last") table;
-    sectors = number_at (codes "sectors") table;
-    track_skew = number_at (codes "track_skew") table;
-    cylinder_skew = number_at (codes "cylinder_skew") table;
-    spares = spares;
-    cylinder_spares = cylinder_spares }
+  first = number_at (codes "first") table;
+  last = number_at (codes "last") table;
+  sectors = number_at (codes "sectors") table;
+  track_skew = number_at (codes "track_skew") table;
+  cylinder_skew = number_at (codes "cylinder_skew") table;
+  spares = spares;
+  cylinder_spares = cylinder_spares;
+}
 
 abbrev pub zone_of : Layout → Members → Zone
 zone_of PerTrack table = zone_with (number_at (codes "spares") table) 0 table
@@ -47,20 +48,22 @@ grown_of PerCylinder table = map place_of (elements_at (codes "grown") table)
 -- the outline, with zones and places in the order of the file
 abbrev pub outline_of : Layout → Members → Shape
 outline_of layout table = record {
-    layout = layout;
-    rotation = number_at (codes "rotation_ns") table;
-    heads = number_at (codes "heads") table;
-    zones = map (zone_of layout) (zones_of table);
-    defects = map place_of (elements_at (codes "defects") table);
-    grown = grown_of layout table }
+  layout = layout;
+  rotation = number_at (codes "rotation_ns") table;
+  heads = number_at (codes "heads") table;
+  zones = map (zone_of layout) (zones_of table);
+  defects = map place_of (elements_at (codes "defects") table);
+  grown = grown_of layout table;
+}
 
 -- the arm, over so many cylinders
 abbrev pub mechanics_of : ℕ → Members → Mechanics
 mechanics_of cylinders table = record {
-    points = map point_of (elements_at (codes "seek") table);
-    cylinders = cylinders;
-    head_switch = number_at (codes "head_switch_ns") table;
-    write_settle = number_at (codes "write_settle_ns") table }
+  points = map point_of (elements_at (codes "seek") table);
+  cylinders = cylinders;
+  head_switch = number_at (codes "head_switch_ns") table;
+  write_settle = number_at (codes "write_settle_ns") table;
+}
 
 -- the latent sectors in the order of the file
 abbrev pub listed_latent : Members → List ℕ
@@ -70,8 +73,8 @@ listed_latent table = map number_of (elements_at (codes "latent") table)
 abbrev pub ascending : List ℕ → List ℕ
 ascending numbers = fold (insert_key nat_cmp) [] numbers
 
--- what a file spells
-pub record Contents : Type 0 where
+-- the outline and the arm of a disk, the bytes of its sectors, and the sectors that are latent
+pub record ParamsValue : Type 0 where
   pub outline : Shape
   pub mechanics : Mechanics
   pub sector_bytes : ℕ

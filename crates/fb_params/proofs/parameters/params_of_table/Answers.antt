@@ -1,7 +1,7 @@
-use Rattle.std.proofs.Common.{◌≡◌, ◌%◌, ap, arith, ◌∙◌}
+use Rattle.std.proofs.Common.{◌%◌, ap, arith, ◌∙◌}
 use Rattle.toml.specs.View.{table_view}
 use Rattle.fb_params.proofs.Fields.{seek-within, sector_bytes-number}
-use Rattle.fb_params.proofs.contents.contents.Goals as goal
+use Rattle.fb_params.proofs.parameters.params_of_table.Goals as goal
 
 pub mechanism_of-requires : goal.mechanism_of-requires
 mechanism_of-requires c = seek-within c.args.layout (table_view c.args.table.now) c.requires.range

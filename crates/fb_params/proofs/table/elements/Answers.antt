@@ -1,7 +1,7 @@
 use Rattle.std.proofs.Common.{sym, map, ap, ◌∙◌}
 use Rattle.toml.specs.View.{view, array_view}
 use Rattle.fb_params.proofs.Views.{listed-items_of, elements-array}
-use Rattle.fb_params.proofs.values.elements.Goals as goal
+use Rattle.fb_params.proofs.table.elements.Goals as goal
 
 pub returns-in-Some : goal.returns-in-Some
 returns-in-Some c =

@@ -2,8 +2,8 @@
 ghost use Rattle.std.specs.Prelude.{◌≡◌, ◌<◌, ◌^◌, map, option_map};
 ghost use Rattle.toml.specs.Data.{get_member};
 ghost use Rattle.toml.specs.View.{view, table_view};
-ghost use Rattle.fb_params.specs.Values.{elements, elements_at, number_of, number_at, layout_of};
-ghost use Rattle.fb_params.specs.Contents.{nth};
+ghost use Rattle.fb_params.specs.Tables.{elements, elements_at, number_of, number_at, layout_of};
+ghost use Rattle.fb_params.specs.ParamsValue.{nth};
 
 use fb_geometry::Layout;
 use toml::{Table, Value};

@@ -1,0 +1,13 @@
+use Rattle.std.proofs.Common.{◌≡◌, ◌<◌, map, nat_le, take, drop}
+use Rattle.std.specs.List.{find, AllByRecursion}
+use Rattle.toml.specs.View.{view}
+use Rattle.fb_params.specs.Tables.{number_of}
+use Rattle.fb_params.specs.ParamsValue.{ascending}
+use Rattle.fb_params.proofs.latent.latent_set.Given as goal
+
+abbrev pub invariant-loop-value : goal.invariant-loop-value
+invariant-loop-value l = record {
+  inside : find (λ lbn. nat_le l.count lbn) (map number_of (map view l.listed)) ≡ find (λ lbn. nat_le l.count lbn) (map number_of (map view (drop l.value-index l.listed)));
+  kept : l.latent.keys ≡ ascending (map number_of (map view (take l.value-index l.listed)));
+  below : AllByRecursion (λ lbn. lbn < l.count) l.latent.keys;
+}
