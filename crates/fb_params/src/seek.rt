@@ -18,7 +18,8 @@ use toml::{Table, Value};
 // The mechanism of the file's arm over so many cylinders, or its first fault.
 pub fn mechanism_of(alloc: Global, cylinders: u32, table: &Table) -> Result<Mechanism, ParamsError>
     requires { list_all (is_row_within (from_to 0 (10 ^ 9))) (elements_at (codes "seek") (table_view table.now)) ≡ true }
-    ensures { Answers (λ mechanism. mechanism) result (possible_arm (mechanics_of cylinders (table_view table.now))) }
+    ensures value { Answers (λ mechanism. mechanism) result (possible_arm (mechanics_of cylinders (table_view table.now))) }
+    ensures cylinders { IfOk result (λ mechanism. mechanism.cylinders ≡ cylinders) }
 {
     let points = points(alloc, elements_at(table, "seek"))?;
     let head_switch = number_at(table, "head_switch_ns");

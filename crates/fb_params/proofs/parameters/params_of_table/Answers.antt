@@ -1,5 +1,6 @@
 use Rattle.std.proofs.Common.{◌%◌, ap, arith, ◌∙◌}
 use Rattle.toml.specs.View.{table_view}
+use Rattle.fb_geometry.specs.Shape.{cylinders_of}
 use Rattle.fb_params.proofs.Fields.{seek-within, sector_bytes-number}
 use Rattle.fb_params.proofs.parameters.params_of_table.Goals as goal
 
@@ -22,3 +23,6 @@ invariant_of-result-clause-some_bytes c =
 pub invariant_of-result-clause-few_bytes : goal.invariant_of-result-clause-few_bytes
 invariant_of-result-clause-few_bytes c =
     let number = sector_bytes-number c.args.layout (table_view c.args.table.now) c.requires.present c.requires.kind c.requires.range in omega (arith, number.few, c.small_number_at-sector_bytes.ensures)
+
+pub invariant_of-result-clause-same_cylinders : goal.invariant_of-result-clause-same_cylinders
+invariant_of-result-clause-same_cylinders c = c.in_ok-mechanism.ensures.cylinders ∙ c.cylinders.ensures.value ∙ ap (λ map. cylinders_of map.zones) c.geometry-geometry.ensures
