@@ -1,5 +1,5 @@
 -- Entries, and readings of them.
-use Rattle.std.proofs.Common.{◌≡◌, ◌≢◌, ℕ, ◌+◌, ◌<◌, ◌≤◌, List, [], ◌∷◌, ◌++◌, length, get_or, take, drop, refl, sym, ap, ◌∙◌, inl, inr, arith, Option, Some, None}
+use Rattle.std.proofs.Common.{◌≡◌, ◌≢◌, ℕ, ◌+◌, ◌<◌, ◌≤◌, List, [], ◌∷◌, ◌++◌, length, get_or, take, drop, refl, sym, ap, ◌∙◌, inl, inr, subst, arith, length-append, Option, Some, None}
 use Rattle.std.specs.Prelude.{if◌then◌else◌, option_and_then, IfSome, true, false, zero, suc}
 use Rattle.std.specs.Option.{option_map}
 use Rattle.std.specs.Str.{bytes_eq}
@@ -72,3 +72,10 @@ pub left_of-push : (entries : List NamedBytes) (e : NamedBytes) (reading : Readi
 left_of-push entries e Unopened within = refl
 left_of-push entries e Empty within = refl
 left_of-push entries e (At place done) within = ap (option_map (drop done)) (bytes_at-push entries e place within.0)
+
+-- a reading stays within an entry more
+pub IsWithin-push : (entries : List NamedBytes) (e : NamedBytes) (reading : Reading) → IsWithin entries reading → IsWithin (entries ++ e ∷ []) reading
+IsWithin-push entries e Unopened within = tt
+IsWithin-push entries e Empty within = tt
+IsWithin-push entries e (At place done) within =
+    (omega (arith, length-append entries (e ∷ []), within.0), subst (λ bytes. IfSome bytes (λ b. done ≤ length b)) (sym (bytes_at-push entries e place within.0)) within.1)
