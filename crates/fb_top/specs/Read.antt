@@ -3,7 +3,6 @@ use Rattle.std.specs.Prelude.{◌≡◌, ℕ, List, [], length, Result, Ok, Err}
 use Rattle.std.specs.String.{string_bytes}
 use Rattle.fb_geometry.specs.Places.{places}
 use Rattle.fb_service.specs.declared.disk.Disk.{Disk}
-use Rattle.fb_params.specs.Contents.{Contents}
 use Rattle.fb_params.specs.Reading.{params_of}
 use Rattle.fb_params.specs.declared.fault.ParamsFault.{ParamsFault}
 use Rattle.fb_trace.specs.Reading.{Accepted, trace_of}
