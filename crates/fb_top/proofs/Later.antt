@@ -1,7 +1,6 @@
 -- What stopped a later step, told of the desk at the start.
 use Rattle.std.proofs.Common.{◌≡◌, ◌≢◌, ℕ, ◌+◌, ◌<◌, ◌≤◌, ◌^◌, List, [], ◌∷◌, length, Option, subst, refl, sym, ap, ◌∙◌, inl, inr, arith, map, true}
 use Rattle.std.specs.Prelude.{IfSome}
-use Rattle.std.specs.String.{string_bytes}
 use Rattle.std.specs.List.{AllByRecursion}
 use Rattle.fb_units.specs.declared.types.Request.{Request}
 use Rattle.fb_geometry.specs.Places.{places}
@@ -19,7 +18,7 @@ use Rattle.fb_desk.specs.declared.desk.Input.{Input}
 use Rattle.fb_desk.specs.declared.desk.Input.TheVariants.{Params, Trace, Calls}
 use Rattle.fb_desk.specs.declared.desk.Output.{Output}
 use Rattle.fb_desk.specs.declared.desk.Output.TheVariants.{Fore, Back, Note, MadeTrace, MadeCalls}
-use Rattle.fb_words.specs.declared.command.ReplayWords.{ReplayWords}
+use Rattle.fb_words.specs.Command.{ReplayTerms}
 use Rattle.fb_top.specs.declared.outcome.Outcome.{Outcome}
 use Rattle.fb_top.specs.declared.outcome.Outcome.TheVariants as outcomes
 use Rattle.fb_top.specs.Streams.{IsHeld, IsLonger, IsFront}
@@ -43,8 +42,8 @@ reads_before old mid name device disk trace only reads = record {
 }
 
 -- why the trace was not read
-pub after_disk : (words : ReplayWords) (disk : Disk) (latent : List ℕ) (old mid new : DeskView) (outcome : Outcome) → ReadsDisk old (string_bytes words.params) disk latent
-    → ChangesInput Params old mid → ChangesInput Trace mid new → StopsTrace (string_bytes words.trace) words.device disk mid new outcome → HasCause words old new outcome
+pub after_disk : (words : ReplayTerms) (disk : Disk) (latent : List ℕ) (old mid new : DeskView) (outcome : Outcome) → ReadsDisk old words.params disk latent
+    → ChangesInput Params old mid → ChangesInput Trace mid new → StopsTrace words.trace words.device disk mid new outcome → HasCause words old new outcome
 after_disk words disk latent old mid new (outcomes.Done run) reads first second h = absurd h
 after_disk words disk latent old mid new (outcomes.Usage fault) reads first second h = absurd h
 after_disk words disk latent old mid new (outcomes.Params fault) reads first second h = absurd h
@@ -55,7 +54,7 @@ after_disk words disk latent old mid new (outcomes.Trace fault) reads first seco
     reads_disk = reads;
     refuses = record {
       bytes = h.bytes;
-      held = subst (λ (o : Option (List ℕ)). IfSome o (λ held. h.bytes ≡ held)) (first.held (string_bytes words.trace)) h.held;
+      held = subst (λ (o : Option (List ℕ)). IfSome o (λ held. h.bytes ≡ held)) (first.held words.trace) h.held;
       spells = h.spells;
     };
   },
@@ -63,7 +62,7 @@ after_disk words disk latent old mid new (outcomes.Trace fault) reads first seco
 )
 after_disk words disk latent old mid new (outcomes.TooLong Params) reads first second h = absurd h
 after_disk words disk latent old mid new (outcomes.TooLong Trace) reads first second h =
-    (tt, subst (λ (o : Option (List ℕ)). IfSome o (λ held. 2 ^ 28 < length held)) (first.held (string_bytes words.trace)) h, keeps old mid new first second)
+    (tt, subst (λ (o : Option (List ℕ)). IfSome o (λ held. 2 ^ 28 < length held)) (first.held words.trace) h, keeps old mid new first second)
 after_disk words disk latent old mid new (outcomes.TooLong Calls) reads first second h = absurd h
 after_disk words disk latent old mid new (outcomes.ReadFault Params) reads first second h = absurd h
 after_disk words disk latent old mid new (outcomes.ReadFault Trace) reads first second h =
@@ -73,7 +72,7 @@ after_disk words disk latent old mid new (outcomes.WriteFault output) reads firs
 after_disk words disk latent old mid new outcomes.NoMemory reads first second h = inl (keeps old mid new first second)
 
 -- why the report was not written
-pub after_run : (words : ReplayWords) (run : Run) (old mid new : DeskView) (outcome : Outcome) (is_run : IsRunOf old words run) → mid.outputs Fore ≡ old.outputs Fore
+pub after_run : (words : ReplayTerms) (run : Run) (old mid new : DeskView) (outcome : Outcome) (is_run : IsRunOf old words run) → mid.outputs Fore ≡ old.outputs Fore
     → StopsFore (fore_text is_run.accepts.disk.sector_bytes words.bytes run) mid new outcome → HasCause words old new outcome
 after_run words run old mid new (outcomes.Done other) is_run same h = absurd h
 after_run words run old mid new (outcomes.Usage fault) is_run same h = absurd h

@@ -1,6 +1,5 @@
 -- Why a command has its answer.
-use Rattle.std.specs.Prelude.{◌≡◌, ◌≢◌, ◌⊎◌, ℕ, ◌^◌, List, [], true, IfSome}
-use Rattle.std.specs.String.{string_bytes}
+use Rattle.std.specs.Prelude.{◌≡◌, ◌≢◌, ◌⊎◌, ℕ, ◌^◌, List, [], true, IfSome, Result, Ok, Err}
 use Rattle.fb_service.specs.declared.disk.Disk.{Disk}
 use Rattle.fb_desk.specs.Calls.{Rose}
 use Rattle.fb_desk.specs.View.{DeskView}
@@ -8,7 +7,8 @@ use Rattle.fb_desk.specs.declared.desk.Input.{Input}
 use Rattle.fb_desk.specs.declared.desk.Input.TheVariants.{Params, Trace, Calls}
 use Rattle.fb_desk.specs.declared.desk.Output.{Output}
 use Rattle.fb_desk.specs.declared.desk.Output.TheVariants.{Fore, Note}
-use Rattle.fb_words.specs.declared.command.ReplayWords.{ReplayWords}
+use Rattle.fb_words.specs.Command.{Terms, ReplayTerms, replays, makes}
+use Rattle.fb_words.specs.declared.fault.UsageFault.{UsageFault}
 use Rattle.fb_top.specs.declared.outcome.Outcome.{Outcome}
 use Rattle.fb_top.specs.declared.outcome.Outcome.TheVariants as outcomes
 use Rattle.fb_top.specs.Read.{ReadsDisk, RefusesDisk, RefusesTrace}
@@ -17,10 +17,10 @@ use Rattle.fb_top.specs.Streams.{IsLonger, IsFront}
 use Rattle.fb_top.specs.Done.{IsDone, IsCutOff}
 
 -- the name under which the words give an input; the calls have none yet
-abbrev pub name_of : ReplayWords → Input → List ℕ
-name_of words Params = string_bytes words.params
-name_of words Trace = string_bytes words.trace
-name_of words Calls = []
+abbrev pub name_of : ReplayTerms → Input → List ℕ
+name_of terms Params = terms.params
+name_of terms Trace = terms.trace
+name_of terms Calls = []
 
 -- how many bytes an input may have
 abbrev pub limit_of : Input → ℕ
@@ -37,11 +37,11 @@ abbrev pub FaultsRose : DeskView → DeskView → Input → Type 0
 FaultsRose old new input = Rose (old.inputs input).faults (new.inputs input).faults
 
 -- an accepted disk, and a trace that is refused for it
-pub record RefusesInTurn (desk : DeskView) (words : ReplayWords) (fault : TraceFault) : Type 0 where
+pub record RefusesInTurn (desk : DeskView) (terms : ReplayTerms) (fault : TraceFault) : Type 0 where
   pub disk : Disk
   pub latent : List ℕ
-  pub reads_disk : ReadsDisk desk (string_bytes words.params) disk latent
-  pub refuses : RefusesTrace desk (string_bytes words.trace) words.device disk fault
+  pub reads_disk : ReadsDisk desk terms.params disk latent
+  pub refuses : RefusesTrace desk terms.trace terms.device disk fault
 
 -- the words give the input
 abbrev pub IsGiven : Input → Type 0
@@ -49,16 +49,22 @@ IsGiven Params = Unit {0}
 IsGiven Trace = Unit {0}
 IsGiven Calls = ⊥
 
--- the cause of each answer to the words of a replay
-abbrev pub HasCause : ReplayWords → DeskView → DeskView → Outcome → Type 0
-HasCause words old new (outcomes.Done run) = IsDone old new words run
-HasCause words old new (outcomes.Usage fault) = ⊥
-HasCause words old new (outcomes.Params fault) = RefusesDisk old (string_bytes words.params) fault × KeepsReports old new
-HasCause words old new (outcomes.Trace fault) = RefusesInTurn old words fault × KeepsReports old new
-HasCause words old new (outcomes.TooLong input) = IsGiven input × IsLonger old (name_of words input) (limit_of input) × KeepsReports old new
-HasCause words old new (outcomes.ReadFault input) = IsGiven input × FaultsRose old new input × KeepsReports old new
-HasCause words old new (outcomes.WriteFault output) = (output ≡ Fore) × Rose (old.outputs output).faults (new.outputs output).faults × IsCutOff old new words
-HasCause words old new outcomes.NoMemory = KeepsReports old new ⊎ IsCutOff old new words
+-- the cause of each answer to the terms of a replay
+abbrev pub HasCause : ReplayTerms → DeskView → DeskView → Outcome → Type 0
+HasCause terms old new (outcomes.Done run) = IsDone old new terms run
+HasCause terms old new (outcomes.Usage fault) = ⊥
+HasCause terms old new (outcomes.Params fault) = RefusesDisk old terms.params fault × KeepsReports old new
+HasCause terms old new (outcomes.Trace fault) = RefusesInTurn old terms fault × KeepsReports old new
+HasCause terms old new (outcomes.TooLong input) = IsGiven input × IsLonger old (name_of terms input) (limit_of input) × KeepsReports old new
+HasCause terms old new (outcomes.ReadFault input) = IsGiven input × FaultsRose old new input × KeepsReports old new
+HasCause terms old new (outcomes.WriteFault output) = (output ≡ Fore) × Rose (old.outputs output).faults (new.outputs output).faults × IsCutOff old new terms
+HasCause terms old new outcomes.NoMemory = KeepsReports old new ⊎ IsCutOff old new terms
+
+-- the answer to the words of a command line: refused words are a usage fault, unless memory is wanting
+abbrev pub AnswersWords : Result Terms UsageFault → DeskView → DeskView → Outcome → Type 0
+AnswersWords (Ok (replays terms)) old new outcome = HasCause terms old new outcome
+AnswersWords (Ok (makes terms)) old new outcome = ⊥
+AnswersWords (Err fault) old new outcome = ((outcome ≡ outcomes.Usage fault) ⊎ (outcome ≡ outcomes.NoMemory)) × KeepsReports old new
 
 -- why no disk was read
 abbrev pub StopsDisk : List ℕ → DeskView → DeskView → Outcome → Type 0

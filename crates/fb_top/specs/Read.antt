@@ -1,6 +1,5 @@
 -- What the accepted inputs of a replay mean.
 use Rattle.std.specs.Prelude.{◌≡◌, ℕ, List, [], length, Result, Ok, Err}
-use Rattle.std.specs.String.{string_bytes}
 use Rattle.fb_geometry.specs.Places.{places}
 use Rattle.fb_service.specs.declared.disk.Disk.{Disk}
 use Rattle.fb_params.specs.Reading.{params_of}
@@ -12,7 +11,7 @@ use Rattle.fb_model.specs.PlainReplay.{Key, fcfs, sstf, clook, sptf}
 use Rattle.fb_desk.specs.View.{DeskView}
 use Rattle.fb_words.specs.declared.command.Policy.{Policy}
 use Rattle.fb_words.specs.declared.command.Policy.TheVariants.{Fcfs, Sstf, Clook, Sptf}
-use Rattle.fb_words.specs.declared.command.ReplayWords.{ReplayWords}
+use Rattle.fb_words.specs.Command.{ReplayTerms}
 use Rattle.fb_top.specs.Streams.{IsHeld}
 
 -- the parameter file under a name is accepted, with this disk and these latent sectors
@@ -47,21 +46,21 @@ key_of Clook = clook
 key_of Sptf = sptf
 
 -- what a run is made from; there are no calls
-abbrev pub inputs_of : ReplayWords → Disk → List ℕ → Accepted → Inputs
-inputs_of words disk latent trace = record {
+abbrev pub inputs_of : ReplayTerms → Disk → List ℕ → Accepted → Inputs
+inputs_of terms disk latent trace = record {
   disk = disk;
   latent = latent;
   trace = trace.requests;
   passed_over = trace.passed_over;
   calls = [];
-  key = key_of words.policy;
-  until = words.until;
+  key = key_of terms.policy;
+  until = terms.until;
 }
 
 -- all inputs that the words name are accepted
-pub record Accepts (desk : DeskView) (words : ReplayWords) : Type 0 where
+pub record Accepts (desk : DeskView) (terms : ReplayTerms) : Type 0 where
   pub disk : Disk
   pub latent : List ℕ
   pub trace : Accepted
-  pub reads_disk : ReadsDisk desk (string_bytes words.params) disk latent
-  pub reads_trace : ReadsTrace desk (string_bytes words.trace) words.device disk trace
+  pub reads_disk : ReadsDisk desk terms.params disk latent
+  pub reads_trace : ReadsTrace desk terms.trace terms.device disk trace

@@ -1,8 +1,10 @@
 // The top call.
-ghost use Rattle.std.specs.Prelude.{◌≡◌, ℕ, ◌≤◌, ◌^◌, List, false, map};
+ghost use Rattle.std.specs.Prelude.{◌≤◌, ◌^◌, map};
 ghost use Rattle.std.specs.String.{string_bytes};
 ghost use Rattle.fb_desk.specs.View.{IsUnused};
-ghost use Rattle.fb_top.specs.Causes.{HasCause};
+ghost use Rattle.fb_words.specs.Command.{command_of, if_built};
+ghost use Rattle.fb_words.specs.Verdict.{replay_terms};
+ghost use Rattle.fb_top.specs.Causes.{AnswersWords, HasCause};
 
 use crate::Outcome;
 use crate::policy::replay_by;
@@ -10,14 +12,31 @@ use crate::reading::{read_disk, read_requests};
 use crate::writing::write_fore;
 use fb_desk::Desk;
 use fb_units::NoMemory;
-use fb_words::ReplayWords;
+use fb_words::{Command, ReplayWords, WordsError, read_words};
 use std::alloc::Global;
 
+/// Does what the words of a command line ask for; the first word is the program's name.
+///
+/// A replay reads the parameter file whole, then the trace, each once, and nothing is written
+/// before both are accepted. Then the foreground report goes to the output `Fore`, under the name
+/// `-`. The desk must be unused.
+pub fn run_command<D: Desk>(alloc: Global, desk: &mut D, words: &[String]) -> Outcome
+    requires { IsUnused (D.seen desk.old) }
+    ensures { AnswersWords (if_built (command_of (map string_bytes words.now))) (D.seen desk.old) (D.seen desk.new) result }
+{
+    match read_words(alloc, words) {
+        Ok(Command::Replay(words)) => run_replay(alloc, desk, &words),
+        Ok(Command::Make(_)) => unreachable!(),
+        Err(WordsError::Fault(fault)) => Outcome::Usage(fault),
+        Err(WordsError::NoMemory) => Outcome::NoMemory,
+    }
+}
+
 // Replays the trace of one file on the disk of another.
-pub fn run_replay<D: Desk>(alloc: Global, desk: &mut D, words: &ReplayWords) -> Outcome
+fn run_replay<D: Desk>(alloc: Global, desk: &mut D, words: &ReplayWords) -> Outcome
     requires unused { IsUnused (D.seen desk.old) }
     requires until { words.now.until ≤ 10 ^ 15 }
-    ensures { HasCause words.now (D.seen desk.old) (D.seen desk.new) result }
+    ensures { HasCause (replay_terms words.now) (D.seen desk.old) (D.seen desk.new) result }
 {
     let params = match read_disk(alloc, desk, words.params.as_str()) {
         Ok(params) => params,

@@ -11,5 +11,5 @@ mod reading;
 mod streams;
 mod writing;
 
-pub use command::run_replay;
+pub use command::run_command;
 pub use outcome::{Outcome, status};

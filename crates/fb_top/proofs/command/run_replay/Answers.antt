@@ -1,5 +1,5 @@
 use Rattle.std.proofs.Common.{◌≡◌, ◌∙◌, List, ℕ, refl, sym, ap, subst, length}
-use Rattle.std.specs.String.{string_bytes}
+use Rattle.fb_words.specs.Verdict.{replay_terms}
 use Rattle.fb_desk.specs.declared.desk.Output.TheVariants.{Fore}
 use Rattle.fb_geometry.specs.Places.{places}
 use Rattle.fb_trace.specs.Verdict.{accepted}
@@ -14,7 +14,7 @@ returns-in-Err-read_requests g c =
     let old = g.D.Desk.seen c.args.desk.now in
     let mid = g.D.Desk.seen c.read_disk.new.desk in
     let new = g.D.Desk.seen c.read_requests.new.desk in
-    let words = c.args.words.now in
+    let words = replay_terms c.args.words.now in
     after_disk words c.in-Ok.params.disk c.in-Ok.params.latent.items old mid new c.in-Err-read_requests.outcome
     (subst (λ (name : List ℕ). ReadsDisk old name c.in-Ok.params.disk c.in-Ok.params.latent.items) c.as_str.ensures.value c.in-Ok.ensures.disk)
     c.in-Ok.ensures.only c.in-Err-read_requests.ensures.only
@@ -30,7 +30,7 @@ pub returns-in-Ok-write_fore : goal.returns-in-Ok-write_fore
 returns-in-Ok-write_fore g c =
     let old = g.D.Desk.seen c.args.desk.now in
     let mid = g.D.Desk.seen c.read_disk.new.desk in
-    let words = c.args.words.now in
+    let words = replay_terms c.args.words.now in
     record {
       is_run = record {
         accepts = record {
@@ -38,7 +38,7 @@ returns-in-Ok-write_fore g c =
           latent = c.in-Ok.params.latent.items;
           trace = accepted c.in-Ok-read_requests.trace;
           reads_disk = subst (λ (name : List ℕ). ReadsDisk old name c.in-Ok.params.disk c.in-Ok.params.latent.items) c.as_str.ensures.value c.in-Ok.ensures.disk;
-          reads_trace = reads_before old mid (string_bytes words.trace) words.device c.in-Ok.params.disk (accepted c.in-Ok-read_requests.trace) c.in-Ok.ensures.only
+          reads_trace = reads_before old mid words.trace words.device c.in-Ok.params.disk (accepted c.in-Ok-read_requests.trace) c.in-Ok.ensures.only
               (subst (λ (name : List ℕ). ReadsTrace mid name words.device c.in-Ok.params.disk (accepted c.in-Ok-read_requests.trace)) c.as_str-2.ensures.value c.in-Ok-read_requests.ensures.trace);
         };
         plain = record { fore = c.in-Ok-replay_by.ensures.fore; passed_over = c.in-Ok-replay_by.ensures.passed_over };
@@ -53,14 +53,14 @@ returns g c =
     let mid = g.D.Desk.seen c.read_disk.new.desk in
     let late = g.D.Desk.seen c.read_requests.new.desk in
     let new = g.D.Desk.seen c.write_fore.new.desk in
-    let words = c.args.words.now in
+    let words = replay_terms c.args.words.now in
     let is_run : IsRunOf old words c.in-Ok-replay_by.run' = record {
       accepts = record {
         disk = c.in-Ok.params.disk;
         latent = c.in-Ok.params.latent.items;
         trace = accepted c.in-Ok-read_requests.trace;
         reads_disk = subst (λ (name : List ℕ). ReadsDisk old name c.in-Ok.params.disk c.in-Ok.params.latent.items) c.as_str.ensures.value c.in-Ok.ensures.disk;
-        reads_trace = reads_before old mid (string_bytes words.trace) words.device c.in-Ok.params.disk (accepted c.in-Ok-read_requests.trace) c.in-Ok.ensures.only
+        reads_trace = reads_before old mid words.trace words.device c.in-Ok.params.disk (accepted c.in-Ok-read_requests.trace) c.in-Ok.ensures.only
             (subst (λ (name : List ℕ). ReadsTrace mid name words.device c.in-Ok.params.disk (accepted c.in-Ok-read_requests.trace)) c.as_str-2.ensures.value c.in-Ok-read_requests.ensures.trace);
       };
       plain = record { fore = c.in-Ok-replay_by.ensures.fore; passed_over = c.in-Ok-replay_by.ensures.passed_over };
