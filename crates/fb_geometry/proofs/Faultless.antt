@@ -18,8 +18,8 @@ use Rattle.fb_geometry.specs.Shape.{Shape, slots_at, cylinders_of, offset_at, of
 use Rattle.fb_geometry.specs.Faults.{first_fault, range_fault, spare_fault, or_else, fault_at, is_out_of_range, is_bad_zone, has_no_data, first_apart, is_too_skewed, is_outside, least, lesser, is_place_before, is_track_before, repeated, is_full_track, is_full_cylinder, spares_at, cylinder_spares_at}
 use Rattle.fb_geometry.specs.Places.{list_among, data_list}
 use Rattle.fb_geometry.specs.Sound.{IsCylinderOf}
-use Rattle.fb_geometry.specs.Index.{IsFaultless}
-use Rattle.fb_geometry.specs.Turns.{IsZone, IsZoneAt, zone_at}
+use Rattle.fb_geometry.specs.Index.{IsFaultless, HasZones}
+use Rattle.fb_geometry.specs.Turns.{IsZone, IsZoneOf, IsZoneAt, zone_at}
 
 -- ---- chains
 
@@ -30,26 +30,6 @@ or_else-none (Some fault) b h = absurd (none-some fault (sym h))
 pub fault_at-none : {A : Type 0} (fault : A → GeometryFault) (o : Option A) → fault_at fault o ≡ None → o ≡ None
 fault_at-none fault None h = refl
 fault_at-none fault (Some a) h = absurd (none-some (fault a) (sym h))
-
-in_range-from : (b : Bool) → (cond b (Some OutOfRange) None) ≡ None → b ≡ false
-in_range-from true h = absurd (none-some OutOfRange (sym h))
-in_range-from false h = refl
-
-pub faultless : (disk : Shape) → first_fault disk ≡ None → IsFaultless disk
-unfolding first_fault
-faultless disk h =
-    let a = or_else-none (range_fault disk) (or_else (fault_at ZonesNotContiguous (first_apart 0 0 disk.zones)) (or_else (fault_at SkewTooLarge (position is_too_skewed disk.zones)) (or_else (fault_at DefectOutside (find (is_outside disk) disk.defects)) (or_else (fault_at DefectTwice (least is_place_before (repeated disk.defects))) (spare_fault disk.layout disk))))) h in
-    let b = or_else-none (fault_at ZonesNotContiguous (first_apart 0 0 disk.zones)) (or_else (fault_at SkewTooLarge (position is_too_skewed disk.zones)) (or_else (fault_at DefectOutside (find (is_outside disk) disk.defects)) (or_else (fault_at DefectTwice (least is_place_before (repeated disk.defects))) (spare_fault disk.layout disk)))) a.1 in
-    let c = or_else-none (fault_at SkewTooLarge (position is_too_skewed disk.zones)) (or_else (fault_at DefectOutside (find (is_outside disk) disk.defects)) (or_else (fault_at DefectTwice (least is_place_before (repeated disk.defects))) (spare_fault disk.layout disk))) b.1 in
-    let d = or_else-none (fault_at DefectOutside (find (is_outside disk) disk.defects)) (or_else (fault_at DefectTwice (least is_place_before (repeated disk.defects))) (spare_fault disk.layout disk)) c.1 in
-    let e = or_else-none (fault_at DefectTwice (least is_place_before (repeated disk.defects))) (spare_fault disk.layout disk) d.1 in
-    record {
-      in_range = in_range-from (is_out_of_range disk) a.0;
-      contiguous = fault_at-none ZonesNotContiguous (first_apart 0 0 disk.zones) b.0;
-      skews = fault_at-none SkewTooLarge (position is_too_skewed disk.zones) c.0;
-      defects_inside = fault_at-none DefectOutside (find (is_outside disk) disk.defects) d.0;
-      defects_once = fault_at-none DefectTwice (least is_place_before (repeated disk.defects)) e.0;
-      spares = e.1 }
 
 -- ---- searches that find nothing
 
@@ -99,7 +79,7 @@ filter-none test (x ∷ xs) h = elim (cases_Bool (test x)) [
 
 -- ---- zones
 
-module _ (disk : Shape) (sound : IsFaultless disk) where
+module _ (disk : Shape) (sound : HasZones disk) where
   good_zones : AllByRecursion (λ zone. is_bad_zone disk zone ≡ false) disk.zones
   good_zones = list_any-none (is_bad_zone disk) disk.zones (or_parts ((disk.rotation == 0) || nat_lt (10 ^ 9) disk.rotation || (disk.heads == 0) || nat_lt 64 disk.heads || (length disk.zones == 0) || nat_lt 64 (length disk.zones)) (list_any (is_bad_zone disk) disk.zones) sound.in_range).1
 
@@ -227,7 +207,7 @@ list_among-zone disk (other ∷ zones) cylinder zone h = elim (cases_Bool (nat_l
     | inr on ↦ rw on (list_among-zone disk zones cylinder zone (rw on at h)) ]
 
 -- a cylinder of the disk has a zone
-some_zone : (index begin cylinder : ℕ) (zones : List Zone) → first_apart index begin zones ≡ None → begin ≤ cylinder → cylinder < cylinders_of zones → (zone : Zone) × (zone_at zones cylinder ≡ Some zone)
+pub some_zone : (index begin cylinder : ℕ) (zones : List Zone) → first_apart index begin zones ≡ None → begin ≤ cylinder → cylinder < cylinders_of zones → (zone : Zone) × (zone_at zones cylinder ≡ Some zone)
 some_zone index begin cylinder [] h from below = absurd (omega arith)
 some_zone index begin cylinder (zone ∷ []) h from below = (zone, rw (le-leb cylinder zone.last (omega arith)) refl)
 some_zone index begin cylinder (zone ∷ other ∷ zones) h from below = elim (cases_lt zone.last cylinder) [
@@ -239,7 +219,7 @@ cylinders-le n [] all some = absurd (omega arith)
 cylinders-le n (zone ∷ []) all some = omega (arith, all 0 zone refl)
 cylinders-le n (zone ∷ other ∷ zones) all some = cylinders-le n (other ∷ zones) (λ i. all (suc i)) (omega arith)
 
-module _ (disk : Shape) (sound : IsFaultless disk) where
+module _ (disk : Shape) (sound : HasZones disk) where
   ascends : Ascends disk.zones
   ascends i zone at = (ranges_of disk sound i zone at).some_cylinders
 
@@ -250,28 +230,34 @@ module _ (disk : Shape) (sound : IsFaultless disk) where
   zones-rise i j d le h = lasts-rise 0 0 i j disk.zones (get_or disk.zones i d) (get_or disk.zones j d) sound.contiguous ascends (slice_get-get_or disk.zones i d (omega arith)) (slice_get-get_or disk.zones j d h) le
 
   -- the zone that a cylinder has by its bounds
-  pub zone_by_bounds : (i : ℕ) (zone : Zone) (cylinder : ℕ) → IsCylinderOf disk i zone cylinder → IsZoneAt disk cylinder zone
-  zone_by_bounds i zone cylinder h = record {
-    found = zone_of 0 0 i cylinder disk.zones zone sound.contiguous ascends h.zone_is h.from h.upto;
-    ranges = ranges_of disk sound i zone h.zone_is;
-    from = h.from;
-    upto = h.upto;
-    short = short_slots disk sound i zone h.zone_is;
-    holds_data = data_of disk sound i zone h.zone_is;
-    enough_spares = sound.spares }
+  by_bounds : (i : ℕ) (zone : Zone) (cylinder : ℕ) → IsCylinderOf disk i zone cylinder → zone_at disk.zones cylinder ≡ Some zone
+  by_bounds i zone cylinder h = zone_of 0 0 i cylinder disk.zones zone sound.contiguous ascends h.zone_is h.from h.upto
 
   -- the zone that is found for a cylinder
-  pub zone_by_search : (cylinder : ℕ) (zone : Zone) → zone_at disk.zones cylinder ≡ Some zone → IsZoneAt disk cylinder zone
-  zone_by_search cylinder zone at =
+  pub found_zone : (cylinder : ℕ) (zone : Zone) → zone_at disk.zones cylinder ≡ Some zone → IsZoneOf disk cylinder zone
+  found_zone cylinder zone at =
       let found = find-some (λ zone. nat_le cylinder zone.last) disk.zones zone at in
       record {
         found = at;
         ranges = ranges_of disk sound found.0 zone found.1;
         from = found_from 0 0 cylinder disk.zones zone sound.contiguous (omega arith) at;
-        upto = leb-true cylinder zone.last found.2;
-        short = short_slots disk sound found.0 zone found.1;
-        holds_data = data_of disk sound found.0 zone found.1;
-        enough_spares = sound.spares }
+        upto = leb-true cylinder zone.last found.2 }
+
+pub zone_by_search : (disk : Shape) → IsFaultless disk → (cylinder : ℕ) (zone : Zone) → zone_at disk.zones cylinder ≡ Some zone → IsZoneAt disk cylinder zone
+zone_by_search disk h cylinder zone at =
+    let found = find-some (λ zone. nat_le cylinder zone.last) disk.zones zone at in
+    let is = found_zone disk h.zones_hold cylinder zone at in
+    record {
+      found = at;
+      ranges = is.ranges;
+      from = is.from;
+      upto = is.upto;
+      short = short_slots disk h.zones_hold found.0 zone found.1;
+      holds_data = data_of disk h.zones_hold found.0 zone found.1;
+      enough_spares = h.spares }
+
+pub zone_by_bounds : (disk : Shape) → IsFaultless disk → (i : ℕ) (zone : Zone) (cylinder : ℕ) → IsCylinderOf disk i zone cylinder → IsZoneAt disk cylinder zone
+zone_by_bounds disk h i zone cylinder at = zone_by_search disk h cylinder zone (by_bounds disk h.zones_hold i zone cylinder at)
 
 -- ---- a search by the last cylinders
 

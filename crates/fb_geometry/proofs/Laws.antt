@@ -201,17 +201,17 @@ module _ (disk : Shape) (zone : Zone) (cylinder : ℕ) (at : IsZoneAt disk cylin
 
 pub sound : (disk : Shape) → IsFaultless disk → IsSound disk
 sound disk h = record {
-  some_rotation = some_rotation disk h;
-  short_rotation = short_rotation disk h;
-  some_heads = some_heads disk h;
-  few_heads = few_heads disk h;
-  some_zones = some_zones disk h;
-  few_zones = few_zones disk h;
-  contiguous = h.contiguous;
-  some_cylinders = λ i zone at. (ranges_of disk h i zone at).some_cylinders;
-  few_cylinders = few_cylinders disk h;
+  some_rotation = some_rotation disk h.zones_hold;
+  short_rotation = short_rotation disk h.zones_hold;
+  some_heads = some_heads disk h.zones_hold;
+  few_heads = few_heads disk h.zones_hold;
+  some_zones = some_zones disk h.zones_hold;
+  few_zones = few_zones disk h.zones_hold;
+  contiguous = h.zones_hold.contiguous;
+  some_cylinders = λ i zone at. (ranges_of disk h.zones_hold i zone at).some_cylinders;
+  few_cylinders = few_cylinders disk h.zones_hold;
   equal = λ i zone cylinder at. length-data_list disk zone cylinder (zone_by_bounds disk h i zone cylinder at) disk.layout h.spares;
-  some_data = λ i zone at. some_size disk.layout disk zone (some_heads disk h) (data_of disk h i zone at);
-  few_slots = λ i zone at. (ranges_of disk h i zone at).few_sectors;
-  short_slots = short_slots disk h;
+  some_data = λ i zone at. some_size disk.layout disk zone (some_heads disk h.zones_hold) (data_of disk h.zones_hold i zone at);
+  few_slots = λ i zone at. (ranges_of disk h.zones_hold i zone at).few_sectors;
+  short_slots = short_slots disk h.zones_hold;
   own = λ i zone cylinder j place at found. all_get (LiesOn disk cylinder) (data_list disk zone cylinder) j place (list_lies_on disk zone cylinder (zone_by_bounds disk h i zone cylinder at) disk.layout) found }

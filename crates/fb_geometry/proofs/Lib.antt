@@ -6,3 +6,9 @@ pub mod Counting
 pub mod Faultless
 pub mod Laws
 pub mod Lookups
+pub mod Marking
+pub mod Leasts
+pub mod Clashes
+pub mod Spares
+pub mod Indexing
+pub mod Judging

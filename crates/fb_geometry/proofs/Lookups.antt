@@ -41,7 +41,7 @@ get_drop (suc n) (x ∷ xs) i = get_drop n xs i ∙ ap (slice_get (x ∷ xs)) (n
       next : (n i : ℕ) → suc (n + i) ≡ suc n + i
       next n i = omega arith
 
-within : {X : Type 0} (xs : List X) (i : ℕ) → i < length xs → (x : X) × (slice_get xs i ≡ Some x)
+pub within : {X : Type 0} (xs : List X) (i : ℕ) → i < length xs → (x : X) × (slice_get xs i ≡ Some x)
 within [] i h = absurd (omega arith)
 within (x ∷ xs) zero h = (x, refl)
 within (x ∷ xs) (suc i) h = within xs i (omega arith)

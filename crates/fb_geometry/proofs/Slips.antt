@@ -2,7 +2,7 @@
 use Rattle.std.proofs.Common.{◌≡◌, ◌≢◌, ℕ, zero, suc, ◌+◌, ◌-◌, ◌<◌, ◌≤◌, List, [], ◌∷◌, ◌++◌, length, refl, ap, sym, ◌∙◌, arith, Bool, true, false, not, cond, Option, Some, None, take, ◌⊎◌, inl, inr}
 use Rattle.std.specs.Prelude.{filter, slice_get, ◌==◌, nat_lt, nat_le, ◌||◌, ⊤}
 use Rattle.std.specs.List.{list_any, AllByRecursion}
-use Rattle.std.proofs.lemmas.Bool.{cases_Bool, cases_lt, true≢false, lt-ltb, le-ltb, cases_order, ne_eqb, eq-eqb, or_left, or_right}
+use Rattle.std.proofs.lemmas.Bool.{cases_Bool, cases_lt, true≢false, lt-ltb, le-ltb, cases_order, ne_eqb, eq-eqb, eqb-false, or_left, or_right, or_parts}
 use Rattle.std.proofs.lemmas.Bool.Decides.{nat_tests}
 use Rattle.std.proofs.lemmas.Option.{same_Some, none-some}
 use Rattle.fb_geometry.specs.Slips.{IsAscending, slipped, rank, indexes, with_index}
@@ -113,6 +113,23 @@ rank-mono a b [] h = omega arith
 rank-mono a b (x ∷ numbers) h = elim (cases_lt x a) [
     | inl before ↦ omega (arith, rank_cons b x numbers, ap {B = ℕ} (λ t. cond t 1 0) (lt-ltb x b (omega arith)), rank_cons a x numbers, ap {B = ℕ} (λ t. cond t 1 0) (lt-ltb x a before), rank-mono a b numbers h)
     | inr behind ↦ omega (arith, rank_cons b x numbers, rank_cons a x numbers, ap {B = ℕ} (λ t. cond t 1 0) (le-ltb x a behind), rank-mono a b numbers h) ]
+
+-- one that isn't among them adds nothing
+pub rank_unmarked : (number : ℕ) (numbers : List ℕ) → list_any (λ other. other == number) numbers ≡ false → rank (number + 1) numbers ≡ rank number numbers
+rank_unmarked number [] h = refl
+rank_unmarked number (x ∷ numbers) h =
+    let parts = or_parts (x == number) (list_any (λ other. other == number) numbers) h in
+    let off = eqb-false x number parts.0 in
+    elim (cases_lt x number) [
+      | inl before ↦ omega (arith, rank_cons (number + 1) x numbers, ap {B = ℕ} (λ t. cond t 1 0) (lt-ltb x (number + 1) (omega arith)), rank_cons number x numbers, ap {B = ℕ} (λ t. cond t 1 0) (lt-ltb x number before), rank_unmarked number numbers parts.1)
+      | inr behind ↦ omega (arith, rank_cons (number + 1) x numbers, ap {B = ℕ} (λ t. cond t 1 0) (le-ltb x (number + 1) (above behind off)), rank_cons number x numbers, ap {B = ℕ} (λ t. cond t 1 0) (le-ltb x number behind), rank_unmarked number numbers parts.1) ]
+    where
+      above : number ≤ x → (x ≡ number → ⊥) → number + 1 ≤ x
+      above h k = elim (cases_order x number) [
+          | inl same ↦ absurd (k same)
+          | inr apart ↦ elim apart [
+            | inl less ↦ absurd (omega arith)
+            | inr more ↦ omega arith ] ]
 
 pub rank-below : (number : ℕ) (numbers : List ℕ) → IsAscending numbers → rank number numbers ≤ number
 rank-below number numbers up = omega (arith, rank_between 0 number numbers up (all_any numbers))

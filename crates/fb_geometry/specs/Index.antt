@@ -1,23 +1,62 @@
 -- What a geometry keeps: that its outline has no fault, and an index of its bad slots.
-use Rattle.std.specs.Prelude.{◌≡◌, ℕ, List, Option, None, false, find, position}
+use Rattle.std.specs.Prelude.{◌≡◌, ℕ, ◌<◌, List, ◌++◌, length, Option, Some, None, Result, Ok, Err, false, find, filter, position}
+use Rattle.fb_units.specs.declared.types.Place.{Place}
+use Rattle.fb_geometry.specs.declared.fault.GeometryFault.{GeometryFault}
+use Rattle.fb_geometry.specs.declared.fault.GeometryFault.TheVariants.{ZonesNotContiguous, SkewTooLarge, DefectOutside, DefectTwice, GrownOutside, GrownTwice}
+use Rattle.fb_geometry.specs.declared.fault.GeometryError.{GeometryError}
+use Rattle.fb_geometry.specs.declared.fault.GeometryError.TheVariants.{Fault, NoMemory}
 use Rattle.fb_geometry.specs.declared.zone.Zone.{Zone}
 use Rattle.fb_geometry.specs.declared.marks.Mark.{Mark}
 use Rattle.fb_geometry.specs.Shape.{Shape, is_among}
 use Rattle.fb_geometry.specs.Places.{by_head, good_track}
-use Rattle.fb_geometry.specs.Faults.{is_out_of_range, first_apart, is_too_skewed, is_outside, least, is_place_before, repeated, spare_fault}
+use Rattle.fb_geometry.specs.Faults.{or_else, fault_at, range_fault, is_out_of_range, first_apart, is_too_skewed, is_outside, least, is_place_before, repeated, spare_fault}
 use Rattle.fb_geometry.specs.Sound.{IsSound}
 use Rattle.fb_geometry.specs.Turns.{IsZoneAt, cylinder_slots}
 use Rattle.fb_geometry.specs.Slips.{indexes}
-use Rattle.fb_geometry.specs.Marks.{positions, marks_on}
+use Rattle.fb_geometry.specs.Marks.{AreInOrder, AreMarksOf, clash_at, positions, marks_on}
 
--- each fault is missing
-pub record IsFaultless (disk : Shape) : Type 0 where
+-- what may be wrong with the disk's numbers and its zones
+abbrev pub zone_fault : Shape → Option GeometryFault
+zone_fault disk = or_else (range_fault disk)
+    (or_else (fault_at ZonesNotContiguous (first_apart 0 0 disk.zones)) (fault_at SkewTooLarge (position is_too_skewed disk.zones)))
+
+-- what may be wrong with the defects
+abbrev pub defect_fault : Shape → Option GeometryFault
+defect_fault disk = or_else (fault_at DefectOutside (find (is_outside disk) disk.defects)) (fault_at DefectTwice (least is_place_before (repeated disk.defects)))
+
+-- what may be wrong with the grown defects
+abbrev pub grown_fault : Shape → Option GeometryFault
+grown_fault disk = or_else (fault_at GrownOutside (find (is_outside disk) disk.grown))
+    (fault_at GrownTwice (least is_place_before (repeated disk.grown ++ filter (is_among disk.defects) disk.grown)))
+
+-- the error is this fault, or memory is wanting
+abbrev pub Answers : Option GeometryFault → GeometryError → Type 0
+Answers fault (Fault first) = fault ≡ Some first
+Answers fault NoMemory = Unit {0}
+
+-- nothing is
+pub record HasZones (disk : Shape) : Type 0 where
   pub in_range : is_out_of_range disk ≡ false
   pub contiguous : first_apart 0 0 disk.zones ≡ None
   pub skews : position is_too_skewed disk.zones ≡ None
+
+-- each fault is missing
+pub record IsFaultless (disk : Shape) : Type 0 where
+  pub zones_hold : HasZones disk
   pub defects_inside : find (is_outside disk) disk.defects ≡ None
   pub defects_once : least is_place_before (repeated disk.defects) ≡ None
   pub spares : spare_fault disk.layout disk ≡ None
+
+-- there is no fault, and these are the places' marks, each once
+pub record AreJudged (disk : Shape) (places : List Place) (fault : Option GeometryFault) (marks : List Mark) : Type 0 where
+  pub faultless : fault ≡ None
+  pub inside : find (is_outside disk) places ≡ None
+  pub are : AreMarksOf disk places marks
+  pub ordered : AreInOrder marks
+
+-- no mark clashes with these
+abbrev pub AreClear : List Mark → List Mark → Type 0
+AreClear marks others = (k : ℕ) → k < length marks → clash_at marks others k ≡ false
 
 -- the marks of each cylinder are its defects, and those of its good list its grown defects
 pub record IsIndexed (disk : Shape) (defects grown : List Mark) : Type 0 where
@@ -30,3 +69,8 @@ pub record IsKept (disk : Shape) (defects grown : List Mark) : Type 0 where
   pub faultless : IsFaultless disk
   pub sound : IsSound disk
   pub indexed : IsIndexed disk defects grown
+
+-- the geometry has this outline, whose spares are enough, or the fault is the first of these; memory may be wanting
+abbrev pub JudgesSpares : Shape → Result Shape GeometryError → Type 0
+JudgesSpares disk (Ok geometry) = (geometry ≡ disk) × (spare_fault disk.layout disk ≡ None)
+JudgesSpares disk (Err error) = Answers (spare_fault disk.layout disk) error

@@ -20,6 +20,13 @@ pub record IsZone (zone : Zone) : Type 0 where
 abbrev pub zone_at : List Zone → ℕ → Option Zone
 zone_at zones cylinder = find (λ zone. nat_le cylinder zone.last) zones
 
+-- the zone is a cylinder's, with numbers in their ranges
+pub record IsZoneOf (disk : Shape) (cylinder : ℕ) (zone : Zone) : Type 0 where
+  pub found : zone_at disk.zones cylinder ≡ Some zone
+  pub ranges : IsZone zone
+  pub from : zone.first ≤ cylinder
+  pub upto : cylinder ≤ zone.last
+
 -- the zone is a cylinder's, with numbers in their ranges, has data sectors, and the spares are enough
 pub record IsZoneAt (disk : Shape) (cylinder : ℕ) (zone : Zone) : Type 0 where
   pub found : zone_at disk.zones cylinder ≡ Some zone

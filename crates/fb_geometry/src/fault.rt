@@ -1,4 +1,5 @@
-use fb_units::{Place, Track};
+// Why an outline is no disk.
+use fb_units::{NoMemory, Place, Track};
 
 /// Why an outline is no disk. Where several hold, the first of this order is answered.
 #[derive(Clone, Copy, Debug, PartialEq, Eq)]
@@ -28,4 +29,15 @@ pub enum GeometryFault {
 pub enum GeometryError {
     Fault(GeometryFault),
     NoMemory,
+}
+
+impl From<NoMemory> for GeometryError {
+    ghost use Rattle.std.specs.Prelude.{◌≡◌};
+    ghost use Rattle.fb_geometry.specs.declared.fault.GeometryError.TheVariants.{NoMemory};
+
+    ghost from_gives = { λ _ error. error ≡ NoMemory };
+
+    fn from(_: NoMemory) -> GeometryError {
+        GeometryError::NoMemory
+    }
 }

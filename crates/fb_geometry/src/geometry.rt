@@ -7,12 +7,13 @@ ghost use Rattle.fb_geometry.specs.Faults.{Judges, FitsLayout};
 ghost use Rattle.fb_geometry.specs.Sound.{IsSound, cylinder_size};
 ghost use Rattle.fb_geometry.specs.Turns.{IsZoneAt, cylinder_slots};
 ghost use Rattle.fb_geometry.specs.Slips.{IsAscending, indexes};
+ghost use Rattle.fb_geometry.specs.Index.{HasZones, AreJudged, defect_fault, JudgesSpares};
 ghost use Rattle.fb_geometry.specs.Marks.{positions};
 ghost use Rattle.fb_geometry.specs.declared.layout.Layout.TheVariants.{PerTrack, PerCylinder};
 
-use crate::marks::{Mark, Marks, entry_of_sector, is_marked, sector_of_entry, slipped, unmarked_before};
-use crate::zone::zone_of;
-use crate::{GeometryError, Layout, Zone};
+use crate::marks::{Mark, Marks, among_unmarked, entry_of_sector, is_marked, sector_of_entry, slipped, unmarked_before};
+use crate::outline::Outline;
+use crate::{GeometryError, GeometryFault, Layout, Zone};
 use fb_units::{Ns, Place, Track};
 use std::alloc::Global;
 use std::marker::Model;
@@ -20,12 +21,7 @@ use std::marker::Model;
 /// The shape of a disk: which slots its tracks have, and which of them hold data.
 #[derive(Drop)]
 pub struct Geometry {
-    layout: Layout,
-    rotation: Ns,
-    heads: u32,
-    zones: Vec<Zone>,
-    defects: Vec<Place>,
-    grown: Vec<Place>,
+    outline: Outline,
     defect_marks: Marks,
     grown_marks: Marks,
 }
@@ -36,15 +32,15 @@ impl Model for Geometry {
 
     ghost Value = { Shape };
 
-    ghost view = { λ g. record { layout = g.layout; rotation = g.rotation; heads = g.heads; zones = g.zones.items; defects = g.defects.items; grown = g.grown.items } };
+    ghost view = { λ g. g.outline };
 
-    ghost invariant = { λ g. IsKept (record { layout = g.layout; rotation = g.rotation; heads = g.heads; zones = g.zones.items; defects = g.defects.items; grown = g.grown.items }) g.defect_marks g.grown_marks };
+    ghost invariant = { λ g. IsKept g.outline g.defect_marks g.grown_marks };
 }
 
 impl Geometry {
     /// The geometry of an outline, or its first fault.
     pub fn new(
-        _alloc: Global,
+        alloc: Global,
         layout: Layout,
         rotation: Ns,
         heads: u32,
@@ -55,7 +51,67 @@ impl Geometry {
         requires fits { FitsLayout layout (record { layout = layout; rotation = rotation; heads = heads; zones = zones.items; defects = defects.items; grown = grown.items }) }
         ensures { Judges (record { layout = layout; rotation = rotation; heads = heads; zones = zones.items; defects = defects.items; grown = grown.items }) result }
     {
-        Err(GeometryError::NoMemory)
+        let outline = Outline {
+            layout,
+            rotation,
+            heads,
+            zones,
+            defects,
+            grown,
+        };
+        if let Some(fault) = outline.zone_fault() {
+            return Err(GeometryError::Fault(fault));
+        }
+        let defects = outline.judged_defects(alloc)?;
+        match layout {
+            Layout::PerTrack => Geometry::per_track(alloc, outline, defects),
+            Layout::PerCylinder => Geometry::per_cylinder(alloc, outline, defects),
+        }
+    }
+
+    // The geometry with spares at the end of each track, where they are enough.
+    fn per_track(
+        alloc: Global,
+        outline: Outline,
+        defects: Vec<Mark>,
+    ) -> Result<Geometry, GeometryError>
+        requires layout { outline.layout ≡ PerTrack }
+        requires grown { outline.grown ≡ [] }
+        requires zones { HasZones outline }
+        requires defects { AreJudged outline outline.defects (defect_fault outline) defects.items }
+        ensures { JudgesSpares outline result }
+    {
+        if let Some(track) = outline.first_full_track(&defects) {
+            return Err(GeometryError::Fault(GeometryFault::TooManyDefects(track)));
+        }
+        Ok(Geometry {
+            outline,
+            defect_marks: Marks::of(defects),
+            grown_marks: Marks::none(alloc),
+        })
+    }
+
+    // The geometry with spares at the end of each cylinder, where they are enough.
+    fn per_cylinder(
+        alloc: Global,
+        outline: Outline,
+        defects: Vec<Mark>,
+    ) -> Result<Geometry, GeometryError>
+        requires layout { outline.layout ≡ PerCylinder }
+        requires zones { HasZones outline }
+        requires defects { AreJudged outline outline.defects (defect_fault outline) defects.items }
+        ensures { JudgesSpares outline result }
+    {
+        let grown = outline.judged_grown(alloc, &defects)?;
+        if let Some(cylinder) = outline.first_full_cylinder(&defects, &grown) {
+            return Err(GeometryError::Fault(GeometryFault::TooManyInCylinder(cylinder)));
+        }
+        let grown = among_unmarked(alloc, &defects, &grown)?;
+        Ok(Geometry {
+            outline,
+            defect_marks: Marks::of(defects),
+            grown_marks: Marks::of(grown),
+        })
     }
 
     /// What every geometry keeps: its numbers lie in their ranges, its zones follow one another, and
@@ -63,14 +119,14 @@ impl Geometry {
     pub fn sound(&self)
         ensures { IsSound self.now }
     {
-        let _layout = &self.layout;
+        let _outline = &self.outline;
     }
 
     /// Where the spares stand.
     pub fn layout(&self) -> Layout
         ensures { result ≡ self.now.layout }
     {
-        self.layout
+        self.outline.layout
     }
 
     /// The time of one rotation.
@@ -79,7 +135,7 @@ impl Geometry {
         ensures some { 0 < result }
         ensures bound { result ≤ 10 ^ 9 }
     {
-        self.rotation
+        self.outline.rotation
     }
 
     /// The number of heads, which is that of the tracks of a cylinder.
@@ -88,7 +144,7 @@ impl Geometry {
         ensures some { 0 < result }
         ensures few { result ≤ 64 }
     {
-        self.heads
+        self.outline.heads
     }
 
     /// The number of cylinders.
@@ -97,7 +153,7 @@ impl Geometry {
         ensures some { 0 < result }
         ensures few { result ≤ 10 ^ 6 }
     {
-        self.zones[self.zones.len() - 1].last + 1
+        self.outline.cylinders()
     }
 
     /// The number of zones.
@@ -106,7 +162,7 @@ impl Geometry {
         ensures some { 0 < result }
         ensures few { result ≤ 64 }
     {
-        self.zones.len() as u32
+        self.outline.zones.len() as u32
     }
 
     /// The zone at an index, by cylinder from 0.
@@ -114,7 +170,7 @@ impl Geometry {
         requires { i < length self.now.zones }
         ensures { slice_get self.now.zones i ≡ Some result }
     {
-        self.zones[i as usize]
+        self.outline.zones[i as usize]
     }
 
     // The zone of a cylinder.
@@ -124,7 +180,7 @@ impl Geometry {
         ensures slots { slots_at self.now.zones cylinder ≡ result.sectors }
         ensures list { data_list_at self.now cylinder ≡ data_list self.now result cylinder }
     {
-        zone_of(self.zones.as_slice(), cylinder)
+        self.outline.zone_of(cylinder)
     }
 
     /// The number of slots of a track.
@@ -135,7 +191,7 @@ impl Geometry {
         ensures few { result ≤ 10000 }
         ensures room { result ≤ self.now.rotation }
     {
-        let _ = &self.layout;
+        let _outline = &self.outline;
         self.zone_of(track.cylinder).sectors
     }
 
@@ -146,7 +202,7 @@ impl Geometry {
         ensures value { result ≡ offset_at self.now.zones self.now.heads track }
         ensures below { result < slots_at self.now.zones track.cylinder }
     {
-        self.zone_of(track.cylinder).offset(self.heads, track)
+        self.zone_of(track.cylinder).offset(self.heads(), track)
     }
 
     /// The angle at which a slot begins.
@@ -156,7 +212,7 @@ impl Geometry {
         ensures value { result ≡ slot_begin self.now.rotation (slots_at self.now.zones track.cylinder) slot }
         ensures bound { result < self.now.rotation }
     {
-        slot as u64 * self.rotation / self.slots(track) as u64
+        slot as u64 * self.rotation() / self.slots(track) as u64
     }
 
     /// The angle at which a slot ends.
@@ -167,7 +223,7 @@ impl Geometry {
         ensures after { slot_begin self.now.rotation (slots_at self.now.zones track.cylinder) slot < result }
         ensures bound { result ≤ self.now.rotation }
     {
-        (slot as u64 + 1) * self.rotation / self.slots(track) as u64
+        (slot as u64 + 1) * self.rotation() / self.slots(track) as u64
     }
 
     /// The number of sectors of a cylinder.

@@ -5,6 +5,7 @@ mod fault;
 mod geometry;
 mod layout;
 mod marks;
+mod outline;
 mod zone;
 
 pub use fault::{GeometryError, GeometryFault};

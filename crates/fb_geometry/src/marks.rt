@@ -1,9 +1,10 @@
 // Marked positions of cylinders: bad slots, counted in the order in which they come by.
-ghost use Rattle.std.specs.Prelude.{◌≡◌, ◌+◌, ◌<◌, ◌≤◌, ◌^◌, ◌==◌, [], ◌-◌, IfNone, IfSome};
+ghost use Rattle.std.specs.Prelude.{◌≡◌, ◌+◌, ◌<◌, ◌≤◌, ◌^◌, ◌==◌, [], ◌-◌, IfNone, IfSome, IfOk, length, map};
 ghost use Rattle.std.specs.List.{list_any};
 ghost use Rattle.fb_geometry.specs.Slips.{IsAscending, rank, slipped, entry_of_sector, HoldsNone, HoldsSector};
-ghost use Rattle.fb_geometry.specs.Marks.{AreInOrder, positions, marks_on};
+ghost use Rattle.fb_geometry.specs.Marks.{AreInOrder, positions, marks_on, clash_at, among_unmarked};
 
+use fb_units::NoMemory;
 use std::alloc::Global;
 use std::marker::Model;
 
@@ -48,7 +49,7 @@ impl Marks {
         Marks { items }
     }
 
-    // The marks of one cylinder.
+    // The marks of a cylinder.
     pub fn on(&self, cylinder: u32) -> &[Mark]
         ensures value { result.now ≡ marks_on cylinder self.now }
         ensures ascending { IsAscending (positions result.now) }
@@ -58,7 +59,7 @@ impl Marks {
 }
 
 // The part of a cylinder among marks in order.
-fn part(marks: &[Mark], cylinder: u32) -> &[Mark]
+pub fn part(marks: &[Mark], cylinder: u32) -> &[Mark]
     requires { AreInOrder marks.now }
     ensures value { result.now ≡ marks_on cylinder marks.now }
     ensures ascending { IsAscending (positions result.now) }
@@ -146,4 +147,36 @@ pub fn sector_of_entry(marks: &[Mark], sectors: u32, entry: u32) -> Option<u32>
     }
     let spare = unmarked - unmarked_before(marks, sectors);
     Some(marks[spare as usize].position)
+}
+
+// Whether the i-th mark is the one ahead of it, or one of the others.
+pub fn is_clash(marks: &[Mark], i: usize, others: &[Mark]) -> bool
+    requires index { i < length marks.now }
+    requires others { AreInOrder others.now }
+    ensures { result ≡ clash_at marks.now others.now i }
+{
+    let mark = marks[i];
+    if i > 0 && marks[i - 1] == mark {
+        return true;
+    }
+    is_marked(part(others, mark.cylinder), mark.position)
+}
+
+// Unmarked positions, by how many before each are not marked.
+pub fn among_unmarked(
+    alloc: Global,
+    marked: &[Mark],
+    marks: &[Mark],
+) -> Result<Vec<Mark>, NoMemory>
+    requires { AreInOrder marked.now }
+    ensures { IfOk result (λ unmarked. unmarked.items ≡ map (among_unmarked marked.now) marks.now) }
+{
+    let mut unmarked = Vec::with_capacity(alloc, marks.len())?;
+    for mark in marks {
+        unmarked.push(Mark {
+            cylinder: mark.cylinder,
+            position: unmarked_before(part(marked, mark.cylinder), mark.position),
+        })?;
+    }
+    Ok(unmarked)
 }

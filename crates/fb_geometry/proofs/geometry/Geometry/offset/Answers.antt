@@ -7,4 +7,4 @@ pub returns-clause-value : goal.returns-clause-value
 returns-clause-value c =
     let disk = c.args.self.now in
     let zone = c.zone_of.result in
-    c.offset.ensures.value ∙ (ap (λ disk. offset_in zone disk.heads c.args.track) c.self.view_is ∙ sym (offset_at-zone disk.zones disk.heads c.args.track zone c.zone_of.ensures.zone.found))
+    c.offset.ensures.value ∙ (ap (λ heads. offset_in zone heads c.args.track) c.heads.ensures.value ∙ sym (offset_at-zone disk.zones disk.heads c.args.track zone c.zone_of.ensures.zone.found))

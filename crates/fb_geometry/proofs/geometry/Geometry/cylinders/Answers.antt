@@ -1,9 +1,0 @@
-use Rattle.std.proofs.Common.{◌≡◌, ◌-◌, ◌+◌, sym, ap, ◌∙◌, arith}
-use Rattle.fb_geometry.specs.Shape.{cylinders_of}
-use Rattle.fb_geometry.proofs.Faultless.{last-cylinder}
-use Rattle.fb_geometry.proofs.geometry.Geometry.cylinders.Goals as goal
-
-pub returns-clause-value : goal.returns-clause-value
-returns-clause-value c =
-    let zones = c.self.inside.zones.items in
-    ap (λ zone. zone.last + 1) c.index.ensures ∙ (last-cylinder zones (c.len.result - 1) c.index.result.now (omega arith) ∙ ap (λ disk. cylinders_of disk.zones) c.self.view_is)

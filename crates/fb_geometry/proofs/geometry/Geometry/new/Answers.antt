@@ -1,0 +1,40 @@
+use Rattle.std.proofs.Common.{◌≡◌, sym, ap, ◌∙◌, subst, Some, None, Result, Ok, Err, Option}
+use Rattle.std.proofs.lemmas.Result.{err_from_is_err_and}
+use Rattle.fb_geometry.specs.Shape.{Shape}
+use Rattle.fb_geometry.specs.Faults.{Judges, first_fault, spare_fault}
+use Rattle.fb_geometry.specs.declared.fault.GeometryError.{GeometryError}
+use Rattle.fb_geometry.specs.declared.fault.GeometryError.TheVariants.{Fault, NoMemory}
+use Rattle.fb_geometry.specs.Index.{HasZones, JudgesSpares, zone_fault, defect_fault, Answers}
+use Rattle.fb_geometry.proofs.Judging.{fault_of_zones, fault_of_defects, fault_of_spares, has_zones}
+use Rattle.fb_geometry.proofs.geometry.Geometry.new.Goals as goal
+
+-- what is said of the spares is so of the whole, once the zones and the defects are judged
+judged : (disk : Shape) (result : Result Shape GeometryError) → zone_fault disk ≡ None → defect_fault disk ≡ None → JudgesSpares disk result → Judges disk result
+judged disk (Ok geometry) e f h = (h.0, fault_of_spares disk e f ∙ h.1)
+judged disk (Err (Fault fault)) e f h = fault_of_spares disk e f ∙ h
+judged disk (Err NoMemory) e f h = tt
+
+refused : (disk : Shape) (error : GeometryError) → zone_fault disk ≡ None → Answers (defect_fault disk) error → Judges disk (Err error)
+refused disk (Fault fault) e h = fault_of_defects disk fault e h
+refused disk NoMemory e h = tt
+
+pub returns-in-Some : goal.returns-in-Some
+returns-in-Some c =
+    fault_of_zones (record { layout = c.args.layout; rotation = c.args.rotation; heads = c.args.heads; zones = c.args.zones.items; defects = c.args.defects.items; grown = c.args.grown.items }) c.in-Some.fault
+      (sym c.zone_fault.ensures ∙ c.in-Some.is)
+
+pub returns-in_err-defects : goal.returns-in_err-defects
+returns-in_err-defects c =
+    let disk : Shape = record { layout = c.args.layout; rotation = c.args.rotation; heads = c.args.heads; zones = c.args.zones.items; defects = c.args.defects.items; grown = c.args.grown.items } in
+    let p = err_from_is_err_and c.from_residual.result c.from_residual.ensures.1 in
+    rw (p.1, p.2) (refused disk c.in_err-defects.field-0.0 (sym c.zone_fault.ensures ∙ c.in_default.is) c.in_err-defects.ensures.fault)
+
+pub returns-in-PerTrack : goal.returns-in-PerTrack
+returns-in-PerTrack c =
+    let disk : Shape = record { layout = c.args.layout; rotation = c.args.rotation; heads = c.args.heads; zones = c.args.zones.items; defects = c.args.defects.items; grown = c.args.grown.items } in
+    judged disk c.per_track.result (sym c.zone_fault.ensures ∙ c.in_default.is) c.in_ok-defects.ensures.marks.faultless c.per_track.ensures
+
+pub returns-in-PerCylinder : goal.returns-in-PerCylinder
+returns-in-PerCylinder c =
+    let disk : Shape = record { layout = c.args.layout; rotation = c.args.rotation; heads = c.args.heads; zones = c.args.zones.items; defects = c.args.defects.items; grown = c.args.grown.items } in
+    judged disk c.per_cylinder.result (sym c.zone_fault.ensures ∙ c.in_default.is) c.in_ok-defects.ensures.marks.faultless c.per_cylinder.ensures

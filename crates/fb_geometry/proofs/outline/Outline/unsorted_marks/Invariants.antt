@@ -1,0 +1,6 @@
+use Rattle.std.proofs.Common.{◌≡◌, take, map}
+use Rattle.fb_geometry.specs.Marks.{mark_of}
+use Rattle.fb_geometry.proofs.outline.Outline.unsorted_marks.Given as goal
+
+abbrev pub invariant-loop-place : goal.invariant-loop-place
+invariant-loop-place l = l.marks.items ≡ map (mark_of l.self) (take l.place-index l.places)
