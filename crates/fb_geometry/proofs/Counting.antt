@@ -1,9 +1,8 @@
 -- How many slots are good.
-use Rattle.std.proofs.Common.{◌≡◌, ◌≢◌, ℕ, zero, suc, ◌+◌, ◌-◌, ◌*◌, ◌/◌, ◌%◌, ◌<◌, ◌≤◌, List, [], ◌∷◌, ◌++◌, length, refl, ap, sym, ◌∙◌, arith, Bool, true, false, not, cond, Option, Some, None, take, ◌⊎◌, inl, inr, map}
-use Rattle.std.specs.Prelude.{filter, nat_lt, ◌==◌, ◌&&◌, ◌||◌}
-use Rattle.std.specs.List.{list_any, range_with_len, AllByRecursion}
-use Rattle.std.proofs.lemmas.Bool.{cases_Bool, cases_lt, true≢false, and_parts, eqb-true, eq-eqb}
-use Rattle.std.proofs.lemmas.Bool.Decides.{nat_tests}
+use Rattle.std.proofs.Common.{◌≡◌, ℕ, zero, suc, ◌+◌, ◌-◌, ◌*◌, ◌%◌, ◌<◌, ◌≤◌, List, [], ◌∷◌, length, refl, ap, sym, ◌∙◌, arith, Bool, true, false, not, cond, inl, inr, map}
+use Rattle.std.specs.Prelude.{filter, ◌==◌, ◌||◌}
+use Rattle.std.specs.List.{list_any, range_with_len}
+use Rattle.std.proofs.lemmas.Bool.{cases_Bool, true≢false, and_parts, eqb-true, eq-eqb}
 use Rattle.std.proofs.lemmas.List.{length-map}
 use Rattle.std.proofs.lemmas.List.FromFn.{length-map-range_with_len}
 use Rattle.fb_units.specs.declared.types.Place.{Place}
@@ -20,22 +19,22 @@ use Rattle.fb_geometry.proofs.Order.{length-filter-map}
 pub kept_and_dropped : {A : Type 0} (bad : A → Bool) (xs : List A) → length (filter (λ x. not (bad x)) xs) + length (filter bad xs) ≡ length xs
 kept_and_dropped bad [] = refl
 kept_and_dropped bad (x ∷ xs) = step (bad x) x (filter (λ y. not (bad y)) xs) (filter bad xs) (length xs) (kept_and_dropped bad xs)
-    where
-      step : {A : Type 0} (b : Bool) (x : A) (kept dropped : List A) (n : ℕ) → length kept + length dropped ≡ n → length (cond (not b) (x ∷ kept) kept) + length (cond b (x ∷ dropped) dropped) ≡ suc n
-      step true x kept dropped n h = omega arith
-      step false x kept dropped n h = omega arith
+  where
+    step : {A : Type 0} (b : Bool) (x : A) (kept dropped : List A) (n : ℕ) → length kept + length dropped ≡ n → length (cond (not b) (x ∷ kept) kept) + length (cond b (x ∷ dropped) dropped) ≡ suc n
+    step true x kept dropped n h = omega arith
+    step false x kept dropped n h = omega arith
 
 -- one test or another
 either : {A : Type 0} (p q : A → Bool) (xs : List A) → length (filter (λ x. p x || q x) xs) ≤ length (filter p xs) + length (filter q xs)
 either p q [] = omega arith
 either p q (x ∷ xs) = step (p x) (q x) x (filter (λ y. p y || q y) xs) (filter p xs) (filter q xs) (either p q xs)
-    where
-      step : {A : Type 0} (a b : Bool) (x : A) (both left right : List A) → length both ≤ length left + length right
-          → length (cond (a || b) (x ∷ both) both) ≤ length (cond a (x ∷ left) left) + length (cond b (x ∷ right) right)
-      step true true x both left right h = omega arith
-      step true false x both left right h = omega arith
-      step false true x both left right h = omega arith
-      step false false x both left right h = omega arith
+  where
+    step : {A : Type 0} (a b : Bool) (x : A) (both left right : List A) → length both ≤ length left + length right
+        → length (cond (a || b) (x ∷ both) both) ≤ length (cond a (x ∷ left) left) + length (cond b (x ∷ right) right)
+    step true true x both left right h = omega arith
+    step true false x both left right h = omega arith
+    step false true x both left right h = omega arith
+    step false false x both left right h = omega arith
 
 nothing : {A : Type 0} (xs : List A) → length (filter (λ _. false) xs) ≡ 0
 nothing [] = refl
@@ -48,59 +47,66 @@ pub at_most_each : {A B : Type 0} (same : A → B → Bool) (can : B → Bool) (
 at_most_each same can xs [] each = omega (arith, nothing xs)
 at_most_each same can xs (d ∷ ds) each = step (can d) d (filter can ds) (length (filter (λ x. same x d) xs)) (length (filter (λ x. list_any (same x) ds) xs)) (length (filter (λ x. same x d || list_any (same x) ds) xs))
     (each d) (at_most_each same can xs ds each) (either (λ x. same x d) (λ x. list_any (same x) ds) xs)
-    where
-      step : {B : Type 0} (b : Bool) (d : B) (can : List B) (one rest all : ℕ) → one ≤ cond b 1 0 → rest ≤ length can → all ≤ one + rest → all ≤ length (cond b (d ∷ can) can)
-      step true d can one rest all h k e = omega arith
-      step false d can one rest all h k e = omega arith
+  where
+    step : {B : Type 0} (b : Bool) (d : B) (can : List B) (one rest all : ℕ) → one ≤ cond b 1 0 → rest ≤ length can → all ≤ one + rest → all ≤ length (cond b (d ∷ can) can)
+    step true d can one rest all h k e = omega arith
+    step false d can one rest all h k e = omega arith
 
 -- fewer pass two tests than the one
 pub fewer : {A : Type 0} (p q : A → Bool) (xs : List A) → length (filter p (filter q xs)) ≤ length (filter p xs)
 fewer p q [] = omega arith
 fewer {A = A} p q (x ∷ xs) = step (q x) refl (fewer p q xs)
-    where
-      more : (b : Bool) (kept all : List A) → length kept ≤ length all → length kept ≤ length (cond b (x ∷ all) all)
-      more true kept all h = omega arith
-      more false kept all h = h
-      both : (b : Bool) (kept all : List A) → length kept ≤ length all → length (cond b (x ∷ kept) kept) ≤ length (cond b (x ∷ all) all)
-      both true kept all h = omega arith
-      both false kept all h = h
-      step : (b : Bool) → q x ≡ b → length (filter p (filter q xs)) ≤ length (filter p xs) → length (filter p (cond b (x ∷ filter q xs) (filter q xs))) ≤ length (filter p (x ∷ xs))
-      step true e h = both (p x) (filter p (filter q xs)) (filter p xs) h
-      step false e h = more (p x) (filter p (filter q xs)) (filter p xs) h
+  where
+    more : (b : Bool) (kept all : List A) → length kept ≤ length all → length kept ≤ length (cond b (x ∷ all) all)
+    more true kept all h = omega arith
+    more false kept all h = h
+
+    both : (b : Bool) (kept all : List A) → length kept ≤ length all → length (cond b (x ∷ kept) kept) ≤ length (cond b (x ∷ all) all)
+    both true kept all h = omega arith
+    both false kept all h = h
+
+    step : (b : Bool) → q x ≡ b → length (filter p (filter q xs)) ≤ length (filter p xs) → length (filter p (cond b (x ∷ filter q xs) (filter q xs))) ≤ length (filter p (x ∷ xs))
+    step true e h = both (p x) (filter p (filter q xs)) (filter p xs) h
+    step false e h = more (p x) (filter p (filter q xs)) (filter p xs) h
 
 none_in : (test : ℕ → Bool) (a n : ℕ) → ((i : ℕ) → i < n → test (a + i) ≡ false) → length (filter test (range_with_len a n)) ≡ 0
 none_in test a zero h = refl
 none_in test a (suc n) h = rw (ap test (add_zero a) ∙ h 0 (omega arith)) (none_in test (a + 1) n (λ i l. ap test (add_one a i) ∙ h (i + 1) (omega arith)))
-    where
-      add_zero : (a : ℕ) → a ≡ a + 0
-      add_zero a = omega arith
-      add_one : (a i : ℕ) → a + 1 + i ≡ a + (i + 1)
-      add_one a i = omega arith
+  where
+    add_zero : (a : ℕ) → a ≡ a + 0
+    add_zero a = omega arith
+
+    add_one : (a i : ℕ) → a + 1 + i ≡ a + (i + 1)
+    add_one a i = omega arith
 
 -- a test that one number alone passes
 one_in : (test : ℕ → Bool) (q a n : ℕ) → ((i : ℕ) → i < n → test (a + i) ≡ true → a + i ≡ q) → length (filter test (range_with_len a n)) ≤ 1
 one_in test q a zero h = omega arith
 one_in test q a (suc n) h = elim (cases_Bool (test a)) [
-    | inl here ↦ rw here (omega (arith, none_in test (a + 1) n (λ i l. off i l here)))
-    | inr off_ ↦ rw off_ (one_in test q (a + 1) n (λ i l t. omega (arith, h (i + 1) (omega arith) (ap test (add_one a i) ∙ t)))) ]
-    where
-      add_zero : (a : ℕ) → a + 0 ≡ a
-      add_zero a = omega arith
-      add_one : (a i : ℕ) → a + (i + 1) ≡ a + 1 + i
-      add_one a i = omega arith
-      off : (i : ℕ) → i < n → test a ≡ true → test (a + 1 + i) ≡ false
-      off i l here = elim (cases_Bool (test (a + 1 + i))) [
-          | inl again ↦ absurd (omega (arith, h 0 (omega arith) (ap test (add_zero a) ∙ here), h (i + 1) (omega arith) (ap test (add_one a i) ∙ again)))
-          | inr out ↦ out ]
+  | inl here ↦ rw here (omega (arith, none_in test (a + 1) n (λ i l. off i l here)))
+  | inr off_ ↦ rw off_ (one_in test q (a + 1) n (λ i l t. omega (arith, h (i + 1) (omega arith) (ap test (add_one a i) ∙ t))))
+]
+  where
+    add_zero : (a : ℕ) → a + 0 ≡ a
+    add_zero a = omega arith
+
+    add_one : (a i : ℕ) → a + (i + 1) ≡ a + 1 + i
+    add_one a i = omega arith
+
+    off : (i : ℕ) → i < n → test a ≡ true → test (a + 1 + i) ≡ false
+    off i l here = elim (cases_Bool (test (a + 1 + i))) [
+      | inl again ↦ absurd (omega (arith, h 0 (omega arith) (ap test (add_zero a) ∙ here), h (i + 1) (omega arith) (ap test (add_one a i) ∙ again)))
+      | inr out ↦ out
+    ]
 
 -- a test that one number alone passes, or none where it can't be passed
 pub once_in : (test : ℕ → Bool) (can : Bool) (q a n : ℕ) → ((i : ℕ) → i < n → test (a + i) ≡ true → (can ≡ true) × (a + i ≡ q)) → length (filter test (range_with_len a n)) ≤ cond can 1 0
 once_in test true q a n h = one_in test q a n (λ i l t. (h i l t).1)
 once_in test false q a n h = omega (arith, none_in test a n (λ i l. not_so (test (a + i)) (λ t. true≢false (sym ((h i l t).0)))))
-    where
-      not_so : (b : Bool) → (b ≡ true → ⊥) → b ≡ false
-      not_so true never = absurd (never refl)
-      not_so false never = refl
+  where
+    not_so : (b : Bool) → (b ≡ true → ⊥) → b ≡ false
+    not_so true never = absurd (never refl)
+    not_so false never = refl
 
 same_slot : (a b : Place) → same_place a b ≡ true → (same_track a.track b.track ≡ true) × (a.slot ≡ b.slot)
 same_slot a b h = let parts = and_parts (same_track a.track b.track) (a.slot == b.slot) h in (parts.0, eqb-true a.slot b.slot parts.1)
@@ -125,27 +131,40 @@ module _ (zone : Zone) (some : 0 < zone.sectors) where
       let slots = length-filter-map (λ place. same_place place d) (λ slot. record { track = track; slot = slot }) (turn zone.sectors offset) in
       let turned = ap (λ slots. length (filter (λ slot. same_place (record { track = track; slot = slot }) d) slots)) round in
       let steps = length-filter-map (λ slot. same_place (record { track = track; slot = slot }) d) (λ i. (offset + i) % zone.sectors) (range_with_len 0 zone.sectors) in
-      omega (arith, slots, turned, steps, once_in (λ i. same_place (record { track = track; slot = (offset + i) % zone.sectors }) d) (same_track track d.track) ((d.slot + zone.sectors - offset) % zone.sectors) 0 zone.sectors
-        (λ i l t. let parts = same_slot (record { track = track; slot = (offset + (0 + i)) % zone.sectors }) d t in
-          (parts.0, sym (round-back offset (0 + i) zone.sectors (offset_below zone heads some track) (omega arith)) ∙ ap (λ s. (s + zone.sectors - offset) % zone.sectors) parts.1)))
+      omega (
+        arith,
+        slots,
+        turned,
+        steps,
+        once_in (λ i. same_place (record { track = track; slot = (offset + i) % zone.sectors }) d) (same_track track d.track) ((d.slot + zone.sectors - offset) % zone.sectors) 0 zone.sectors
+            (λ i l t. let parts = same_slot (record { track = track; slot = (offset + (0 + i)) % zone.sectors }) d t in
+            (parts.0, sym (round-back offset (0 + i) zone.sectors (offset_below zone heads some track) (omega arith)) ∙ ap (λ s. (s + zone.sectors - offset) % zone.sectors) parts.1)),
+      )
 
   pub length-good_track : (disk : Shape) (track : Track) → length (filter (λ place. same_track track place.track) disk.defects) ≤ zone.spares → zone.sectors - zone.spares ≤ length (good_track disk zone track)
   length-good_track disk track few =
       let slots : List Place = map (λ slot. record { track = track; slot = slot }) (turn zone.sectors (offset_in zone disk.heads track)) in
       let all : length slots ≡ zone.sectors = length-map {B = Place} (turn zone.sectors (offset_in zone disk.heads track)) (λ slot. record { track = track; slot = slot })
-          ∙ (ap length (turn-is zone.sectors (offset_in zone disk.heads track) (offset_below zone disk.heads some track)) ∙ length-map-range_with_len (λ i. (offset_in zone disk.heads track + i) % zone.sectors) 0 zone.sectors) in
+      ∙ (ap length (turn-is zone.sectors (offset_in zone disk.heads track) (offset_below zone disk.heads some track)) ∙ length-map-range_with_len (λ i. (offset_in zone disk.heads track + i) % zone.sectors) 0 zone.sectors) in
       omega (arith, all, kept_and_dropped (is_among disk.defects) slots, at_most_each same_place (λ place. same_track track place.track) slots disk.defects (once_on_track disk.heads track))
 
   -- one slot of a cylinder
   pub once_on_cylinder : (heads cylinder : ℕ) (d : Place) → length (filter (λ place. same_place place d) (cylinder_slots zone heads cylinder)) ≤ cond (d.track.cylinder == cylinder) 1 0
   once_on_cylinder heads cylinder d =
-      omega (arith, length-filter-map (λ place. same_place place d) (slot_at zone heads cylinder) (range_with_len 0 (heads * zone.sectors)),
+      omega (
+        arith,
+        length-filter-map (λ place. same_place place d) (slot_at zone heads cylinder) (range_with_len 0 (heads * zone.sectors)),
         once_in (λ p. same_place (slot_at zone heads cylinder p) d) (d.track.cylinder == cylinder) (position_in zone heads d) 0 (heads * zone.sectors)
-        (λ i l t. let same = same_places (slot_at zone heads cylinder (0 + i)) d t in
-          (eq-eqb d.track.cylinder cylinder (sym (ap (λ place. place.track.cylinder) same)), sym (position_in-slot_at zone heads some cylinder (0 + i)) ∙ ap (position_in zone heads) same)))
+            (λ i l t. let same = same_places (slot_at zone heads cylinder (0 + i)) d t in
+            (eq-eqb d.track.cylinder cylinder (sym (ap (λ place. place.track.cylinder) same)), sym (position_in-slot_at zone heads some cylinder (0 + i)) ∙ ap (position_in zone heads) same)),
+      )
 
   pub length-good_cylinder : (disk : Shape) (heads cylinder : ℕ)
       → heads * zone.sectors ≤ length (filter (λ place. not (is_among disk.defects place)) (cylinder_slots zone heads cylinder)) + length (filter (λ place. place.track.cylinder == cylinder) disk.defects)
   length-good_cylinder disk heads cylinder =
-      omega (arith, length-cylinder_slots zone heads some cylinder, kept_and_dropped (is_among disk.defects) (cylinder_slots zone heads cylinder),
-        at_most_each same_place (λ place. place.track.cylinder == cylinder) (cylinder_slots zone heads cylinder) disk.defects (once_on_cylinder heads cylinder))
+      omega (
+        arith,
+        length-cylinder_slots zone heads some cylinder,
+        kept_and_dropped (is_among disk.defects) (cylinder_slots zone heads cylinder),
+        at_most_each same_place (λ place. place.track.cylinder == cylinder) (cylinder_slots zone heads cylinder) disk.defects (once_on_cylinder heads cylinder),
+      )

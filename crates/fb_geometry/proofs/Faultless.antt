@@ -1,21 +1,16 @@
 -- What an outline without a fault keeps.
-use Rattle.std.proofs.Common.{◌≡◌, ◌≢◌, ℕ, zero, suc, ◌+◌, ◌-◌, ◌*◌, ◌^◌, ◌<◌, ◌≤◌, List, [], ◌∷◌, ◌++◌, length, refl, ap, sym, ◌∙◌, arith, Bool, true, false, not, cond, Option, Some, None, ◌⊎◌, inl, inr, map, subst, get_or}
-use Rattle.std.specs.Prelude.{filter, find, position, nat_lt, nat_le, ◌==◌, ◌&&◌, ◌||◌, slice_get}
+use Rattle.std.proofs.Common.{◌≡◌, ℕ, zero, suc, ◌+◌, ◌^◌, ◌<◌, ◌≤◌, List, [], ◌∷◌, length, refl, ap, sym, arith, Bool, true, false, cond, Option, Some, None, inl, inr, subst, get_or}
+use Rattle.std.specs.Prelude.{filter, find, position, nat_lt, nat_le, ◌==◌, ◌||◌, slice_get}
 use Rattle.std.specs.List.{list_any, AllByRecursion, position_or_len}
 use Rattle.std.specs.List.Sorted.{IsPartitionPoint, IsNonDecreasingBy}
-use Rattle.std.proofs.lemmas.Bool.{cases_Bool, cases_lt, true≢false, and_parts, or_parts, not-false, lt-ltb, eqb-true, le-leb, lt-leb, leb-true, ltb-true, ltb-false}
+use Rattle.std.proofs.lemmas.Bool.{cases_Bool, cases_lt, or_parts, lt-ltb, eqb-true, le-leb, lt-leb, leb-true, ltb-true, ltb-false}
 use Rattle.std.proofs.lemmas.Bool.Decides.{nat_tests}
 use Rattle.std.proofs.lemmas.Option.{same_Some, none-some, slice_get-get_or}
-use Rattle.fb_units.specs.declared.types.Place.{Place}
 use Rattle.fb_units.specs.declared.types.Track.{Track}
-use Rattle.fb_units.specs.Tracks.{same_track}
-use Rattle.fb_geometry.specs.declared.layout.Layout.{Layout}
-use Rattle.fb_geometry.specs.declared.layout.Layout.TheVariants.{PerTrack, PerCylinder}
 use Rattle.fb_geometry.specs.declared.zone.Zone.{Zone}
 use Rattle.fb_geometry.specs.declared.fault.GeometryFault.{GeometryFault}
-use Rattle.fb_geometry.specs.declared.fault.GeometryFault.TheVariants.{OutOfRange, ZonesNotContiguous, SkewTooLarge, DefectOutside, DefectTwice, TooManyDefects, GrownOutside, GrownTwice, TooManyInCylinder}
-use Rattle.fb_geometry.specs.Shape.{Shape, slots_at, cylinders_of, offset_at, offset_in, is_among}
-use Rattle.fb_geometry.specs.Faults.{first_fault, range_fault, spare_fault, or_else, fault_at, is_out_of_range, is_bad_zone, has_no_data, first_apart, is_too_skewed, is_outside, least, lesser, is_place_before, is_track_before, repeated, is_full_track, is_full_cylinder, spares_at, cylinder_spares_at}
+use Rattle.fb_geometry.specs.Shape.{Shape, slots_at, cylinders_of, offset_at, offset_in}
+use Rattle.fb_geometry.specs.Faults.{or_else, fault_at, is_bad_zone, has_no_data, first_apart, is_too_skewed, least, lesser, spares_at, cylinder_spares_at}
 use Rattle.fb_geometry.specs.Places.{list_among, data_list}
 use Rattle.fb_geometry.specs.Sound.{IsCylinderOf}
 use Rattle.fb_geometry.specs.Index.{IsFaultless, HasZones}
@@ -41,8 +36,9 @@ all_get P (y ∷ xs) (suc i) x all at = all_get P xs i x all.1 at
 pub find-none : {X : Type 0} (test : X → Bool) (xs : List X) → find test xs ≡ None → AllByRecursion (λ x. test x ≡ false) xs
 find-none test [] h = tt
 find-none test (x ∷ xs) h = elim (cases_Bool (test x)) [
-    | inl hit ↦ absurd (none-some x (sym (rw hit at h)))
-    | inr miss ↦ (miss, find-none test xs (rw miss at h)) ]
+  | inl hit ↦ absurd (none-some x (sym (rw hit at h)))
+  | inr miss ↦ (miss, find-none test xs (rw miss at h))
+]
 
 pub list_any-none : {X : Type 0} (test : X → Bool) (xs : List X) → list_any test xs ≡ false → AllByRecursion (λ x. test x ≡ false) xs
 list_any-none test [] h = tt
@@ -50,32 +46,37 @@ list_any-none test (x ∷ xs) h = let parts = or_parts (test x) (list_any test x
 
 pub position-none : {X : Type 0} (test : X → Bool) (xs : List X) → position test xs ≡ None → AllByRecursion (λ x. test x ≡ false) xs
 position-none test xs h = missing test xs (not_below (position_or_len test xs) (length xs) h)
-    where
-      not_below : (a b : ℕ) → cond (nat_lt a b) (Some a) None ≡ None → b ≤ a
-      not_below a b h = elim (cases_lt a b) [
-          | inl less ↦ absurd (none-some a (sym (rw (lt-ltb a b less) at h)))
-          | inr more ↦ more ]
-      missing : {X : Type 0} (test : X → Bool) (xs : List X) → length xs ≤ position_or_len test xs → AllByRecursion (λ x. test x ≡ false) xs
-      missing test [] h = tt
-      missing test (x ∷ xs) h = elim (cases_Bool (test x)) [
-          | inl hit ↦ absurd (omega (arith, rw hit at h))
-          | inr miss ↦ (miss, missing test xs (omega (arith, rw miss at h))) ]
+  where
+    not_below : (a b : ℕ) → cond (nat_lt a b) (Some a) None ≡ None → b ≤ a
+    not_below a b h = elim (cases_lt a b) [
+      | inl less ↦ absurd (none-some a (sym (rw (lt-ltb a b less) at h)))
+      | inr more ↦ more
+    ]
+
+    missing : {X : Type 0} (test : X → Bool) (xs : List X) → length xs ≤ position_or_len test xs → AllByRecursion (λ x. test x ≡ false) xs
+    missing test [] h = tt
+    missing test (x ∷ xs) h = elim (cases_Bool (test x)) [
+      | inl hit ↦ absurd (omega (arith, rw hit at h))
+      | inr miss ↦ (miss, missing test xs (omega (arith, rw miss at h)))
+    ]
 
 pub least-none : {X : Type 0} (is_before : X → X → Bool) (xs : List X) → least is_before xs ≡ None → xs ≡ []
 least-none is_before [] h = refl
 least-none {X = X} is_before (x ∷ xs) h = absurd (lesser_some (least is_before xs) h)
-    where
-      lesser_some : (o : Option X) → lesser is_before x o ≡ None → ⊥
-      lesser_some None h = none-some x (sym h)
-      lesser_some (Some y) h = elim (cases_Bool (is_before y x)) [
-          | inl before ↦ none-some y (sym (rw before at h))
-          | inr not_before ↦ none-some x (sym (rw not_before at h)) ]
+  where
+    lesser_some : (o : Option X) → lesser is_before x o ≡ None → ⊥
+    lesser_some None h = none-some x (sym h)
+    lesser_some (Some y) h = elim (cases_Bool (is_before y x)) [
+      | inl before ↦ none-some y (sym (rw before at h))
+      | inr not_before ↦ none-some x (sym (rw not_before at h))
+    ]
 
 pub filter-none : {X : Type 0} (test : X → Bool) (xs : List X) → filter test xs ≡ [] → AllByRecursion (λ x. test x ≡ false) xs
 filter-none test [] h = tt
 filter-none test (x ∷ xs) h = elim (cases_Bool (test x)) [
-    | inl hit ↦ absurd (omega (arith, ap length (rw hit at h)))
-    | inr miss ↦ (miss, filter-none test xs (rw miss at h)) ]
+  | inl hit ↦ absurd (omega (arith, ap length (rw hit at h)))
+  | inr miss ↦ (miss, filter-none test xs (rw miss at h))
+]
 
 -- ---- zones
 
@@ -108,7 +109,8 @@ module _ (disk : Shape) (sound : HasZones disk) where
     some_cylinders = grind (arith, nat_tests, h);
     few_cylinders = grind (arith, nat_tests, h);
     track_skew = grind (arith, nat_tests, k);
-    cylinder_skew = grind (arith, nat_tests, k) }
+    cylinder_skew = grind (arith, nat_tests, k);
+  }
 
   -- each zone's numbers lie in their ranges
   pub ranges_of : (i : ℕ) (zone : Zone) → slice_get disk.zones i ≡ Some zone → IsZone zone
@@ -129,8 +131,9 @@ Ascends zones = (i : ℕ) (zone : Zone) → slice_get zones i ≡ Some zone → 
 
 next : (index begin : ℕ) (zone : Zone) (zones : List Zone) → first_apart index begin (zone ∷ zones) ≡ None → (zone.first ≡ begin) × (first_apart (index + 1) (zone.last + 1) zones ≡ None)
 next index begin zone zones h = elim (cases_Bool (zone.first == begin)) [
-    | inl here ↦ (eqb-true zone.first begin here, rw here at h)
-    | inr off ↦ absurd (none-some index (sym (rw off at h))) ]
+  | inl here ↦ (eqb-true zone.first begin here, rw here at h)
+  | inr off ↦ absurd (none-some index (sym (rw off at h)))
+]
 
 -- no zone begins before this one
 zones_from : (index begin i : ℕ) (zones : List Zone) (zone : Zone) → first_apart index begin zones ≡ None → Ascends zones → slice_get zones i ≡ Some zone → begin ≤ zone.first
@@ -163,8 +166,9 @@ zone_of index begin (suc i) cylinder (other ∷ zones) zone h up at from upto =
 pub find-some : {X : Type 0} (test : X → Bool) (xs : List X) (x : X) → find test xs ≡ Some x → (i : ℕ) × (slice_get xs i ≡ Some x) × (test x ≡ true)
 find-some test [] x h = absurd (none-some x h)
 find-some test (y ∷ xs) x h = elim (cases_Bool (test y)) [
-    | inl hit ↦ let same : Some y ≡ Some x = rw hit at h in (0, same, subst (λ z. test z ≡ true) (same_Some y x same) hit)
-    | inr miss ↦ let rest = find-some test xs x (rw miss at h) in (suc rest.0, rest.1, rest.2) ]
+  | inl hit ↦ let same : Some y ≡ Some x = rw hit at h in (0, same, subst (λ z. test z ≡ true) (same_Some y x same) hit)
+  | inr miss ↦ let rest = find-some test xs x (rw miss at h) in (suc rest.0, rest.1, rest.2)
+]
 
 -- and doesn't begin behind the cylinder
 found_from : (index begin cylinder : ℕ) (zones : List Zone) (zone : Zone) → first_apart index begin zones ≡ None → begin ≤ cylinder → zone_at zones cylinder ≡ Some zone → zone.first ≤ cylinder
@@ -173,46 +177,53 @@ found_from index begin cylinder (other ∷ zones) zone h from at =
     let parts = next index begin other zones h in
     elim (cases_lt other.last cylinder) [
       | inl behind ↦ found_from (index + 1) (other.last + 1) cylinder zones zone parts.1 (omega arith) (rw (lt-leb cylinder other.last behind) at at)
-      | inr here ↦ let same : Some other ≡ Some zone = rw (le-leb cylinder other.last here) at at in omega (arith, parts.0, ap (λ zone. zone.first) (same_Some other zone same)) ]
+      | inr here ↦ let same : Some other ≡ Some zone = rw (le-leb cylinder other.last here) at at in omega (arith, parts.0, ap (λ zone. zone.first) (same_Some other zone same))
+    ]
 
 -- what is said of a cylinder by its zone
 pub slots_at-zone : (zones : List Zone) (cylinder : ℕ) (zone : Zone) → zone_at zones cylinder ≡ Some zone → slots_at zones cylinder ≡ zone.sectors
 slots_at-zone [] cylinder zone h = absurd (none-some zone h)
 slots_at-zone (other ∷ zones) cylinder zone h = elim (cases_Bool (nat_le cylinder other.last)) [
-    | inl here ↦ rw here (ap (λ zone. zone.sectors) (same_Some other zone (rw here at h)))
-    | inr on ↦ rw on (slots_at-zone zones cylinder zone (rw on at h)) ]
+  | inl here ↦ rw here (ap (λ zone. zone.sectors) (same_Some other zone (rw here at h)))
+  | inr on ↦ rw on (slots_at-zone zones cylinder zone (rw on at h))
+]
 
 pub spares_at-zone : (zones : List Zone) (cylinder : ℕ) (zone : Zone) → zone_at zones cylinder ≡ Some zone → spares_at zones cylinder ≡ zone.spares
 spares_at-zone [] cylinder zone h = absurd (none-some zone h)
 spares_at-zone (other ∷ zones) cylinder zone h = elim (cases_Bool (nat_le cylinder other.last)) [
-    | inl here ↦ rw here (ap (λ zone. zone.spares) (same_Some other zone (rw here at h)))
-    | inr on ↦ rw on (spares_at-zone zones cylinder zone (rw on at h)) ]
+  | inl here ↦ rw here (ap (λ zone. zone.spares) (same_Some other zone (rw here at h)))
+  | inr on ↦ rw on (spares_at-zone zones cylinder zone (rw on at h))
+]
 
 pub cylinder_spares_at-zone : (zones : List Zone) (cylinder : ℕ) (zone : Zone) → zone_at zones cylinder ≡ Some zone → cylinder_spares_at zones cylinder ≡ zone.cylinder_spares
 cylinder_spares_at-zone [] cylinder zone h = absurd (none-some zone h)
 cylinder_spares_at-zone (other ∷ zones) cylinder zone h = elim (cases_Bool (nat_le cylinder other.last)) [
-    | inl here ↦ rw here (ap (λ zone. zone.cylinder_spares) (same_Some other zone (rw here at h)))
-    | inr on ↦ rw on (cylinder_spares_at-zone zones cylinder zone (rw on at h)) ]
+  | inl here ↦ rw here (ap (λ zone. zone.cylinder_spares) (same_Some other zone (rw here at h)))
+  | inr on ↦ rw on (cylinder_spares_at-zone zones cylinder zone (rw on at h))
+]
 
 pub offset_at-zone : (zones : List Zone) (heads : ℕ) (track : Track) (zone : Zone) → zone_at zones track.cylinder ≡ Some zone → offset_at zones heads track ≡ offset_in zone heads track
 offset_at-zone [] heads track zone h = absurd (none-some zone h)
 offset_at-zone (other ∷ zones) heads track zone h = elim (cases_Bool (nat_le track.cylinder other.last)) [
-    | inl here ↦ rw here (ap (λ zone. offset_in zone heads track) (same_Some other zone (rw here at h)))
-    | inr on ↦ rw on (offset_at-zone zones heads track zone (rw on at h)) ]
+  | inl here ↦ rw here (ap (λ zone. offset_in zone heads track) (same_Some other zone (rw here at h)))
+  | inr on ↦ rw on (offset_at-zone zones heads track zone (rw on at h))
+]
 
 pub list_among-zone : (disk : Shape) (zones : List Zone) (cylinder : ℕ) (zone : Zone) → zone_at zones cylinder ≡ Some zone → list_among disk zones cylinder ≡ data_list disk zone cylinder
 list_among-zone disk [] cylinder zone h = absurd (none-some zone h)
 list_among-zone disk (other ∷ zones) cylinder zone h = elim (cases_Bool (nat_le cylinder other.last)) [
-    | inl here ↦ rw here (ap (λ zone. data_list disk zone cylinder) (same_Some other zone (rw here at h)))
-    | inr on ↦ rw on (list_among-zone disk zones cylinder zone (rw on at h)) ]
+  | inl here ↦ rw here (ap (λ zone. data_list disk zone cylinder) (same_Some other zone (rw here at h)))
+  | inr on ↦ rw on (list_among-zone disk zones cylinder zone (rw on at h))
+]
 
 -- a cylinder of the disk has a zone
 pub some_zone : (index begin cylinder : ℕ) (zones : List Zone) → first_apart index begin zones ≡ None → begin ≤ cylinder → cylinder < cylinders_of zones → (zone : Zone) × (zone_at zones cylinder ≡ Some zone)
 some_zone index begin cylinder [] h from below = absurd (omega arith)
 some_zone index begin cylinder (zone ∷ []) h from below = (zone, rw (le-leb cylinder zone.last (omega arith)) refl)
 some_zone index begin cylinder (zone ∷ other ∷ zones) h from below = elim (cases_lt zone.last cylinder) [
-    | inl behind ↦ let rest = some_zone (index + 1) (zone.last + 1) cylinder (other ∷ zones) (next index begin zone (other ∷ zones) h).1 (omega arith) below in (rest.0, rw (lt-leb cylinder zone.last behind) rest.1)
-    | inr here ↦ (zone, rw (le-leb cylinder zone.last here) refl) ]
+  | inl behind ↦ let rest = some_zone (index + 1) (zone.last + 1) cylinder (other ∷ zones) (next index begin zone (other ∷ zones) h).1 (omega arith) below in (rest.0, rw (lt-leb cylinder zone.last behind) rest.1)
+  | inr here ↦ (zone, rw (le-leb cylinder zone.last here) refl)
+]
 
 cylinders-le : (n : ℕ) (zones : List Zone) → ((i : ℕ) (zone : Zone) → slice_get zones i ≡ Some zone → zone.last < n) → 0 < length zones → cylinders_of zones ≤ n
 cylinders-le n [] all some = absurd (omega arith)
@@ -241,7 +252,8 @@ module _ (disk : Shape) (sound : HasZones disk) where
         found = at;
         ranges = ranges_of disk sound found.0 zone found.1;
         from = found_from 0 0 cylinder disk.zones zone sound.contiguous (omega arith) at;
-        upto = leb-true cylinder zone.last found.2 }
+        upto = leb-true cylinder zone.last found.2;
+      }
 
 pub zone_by_search : (disk : Shape) → IsFaultless disk → (cylinder : ℕ) (zone : Zone) → zone_at disk.zones cylinder ≡ Some zone → IsZoneAt disk cylinder zone
 zone_by_search disk h cylinder zone at =
@@ -254,7 +266,8 @@ zone_by_search disk h cylinder zone at =
       upto = is.upto;
       short = short_slots disk h.zones_hold found.0 zone found.1;
       holds_data = data_of disk h.zones_hold found.0 zone found.1;
-      enough_spares = h.spares }
+      enough_spares = h.spares;
+    }
 
 pub zone_by_bounds : (disk : Shape) → IsFaultless disk → (i : ℕ) (zone : Zone) (cylinder : ℕ) → IsCylinderOf disk i zone cylinder → IsZoneAt disk cylinder zone
 zone_by_bounds disk h i zone cylinder at = zone_by_search disk h cylinder zone (by_bounds disk h.zones_hold i zone cylinder at)
@@ -274,8 +287,8 @@ point-zone cylinder (zone ∷ other ∷ zones) (suc i) d at h below =
 pub last-cylinder : (zones : List Zone) (n : ℕ) (d : Zone) → n + 1 ≡ length zones → (get_or zones n d).last + 1 ≡ cylinders_of zones
 last-cylinder [] n d h = absurd (omega arith)
 last-cylinder (zone ∷ []) n d h = ap (λ k. (get_or (zone ∷ []) k d).last + 1) (only n h)
-    where
-      only : (n : ℕ) → n + 1 ≡ length (zone ∷ []) → n ≡ 0
-      only n h = omega arith
+  where
+    only : (n : ℕ) → n + 1 ≡ length (zone ∷ []) → n ≡ 0
+    only n h = omega arith
 last-cylinder (zone ∷ other ∷ zones) zero d h = absurd (omega arith)
 last-cylinder (zone ∷ other ∷ zones) (suc n) d h = last-cylinder (other ∷ zones) n d (omega arith)

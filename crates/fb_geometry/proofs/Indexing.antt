@@ -1,10 +1,10 @@
 -- The marks of an accepted outline are its index of bad slots.
-use Rattle.std.proofs.Common.{◌≡◌, ◌≢◌, ℕ, zero, suc, ◌+◌, ◌-◌, ◌*◌, ◌<◌, ◌≤◌, List, [], ◌∷◌, ◌++◌, length, refl, ap, sym, ◌∙◌, arith, Bool, true, false, not, cond, Option, Some, None, ◌⊎◌, inl, inr, map, subst}
+use Rattle.std.proofs.Common.{◌≡◌, ℕ, suc, ◌+◌, ◌-◌, ◌*◌, ◌<◌, ◌≤◌, List, [], ◌∷◌, length, refl, ap, sym, ◌∙◌, arith, Bool, true, false, not, Some, inl, inr, map, subst}
 use Rattle.std.specs.Prelude.{filter, nat_lt, ◌==◌, ◌&&◌, ◌||◌, slice_get}
 use Rattle.std.specs.List.{list_any, AllByRecursion}
-use Rattle.std.proofs.lemmas.Bool.{cases_Bool, cases_lt, cases_order, cases_eq, true≢false, eq-eqb, ne_eqb, eqb-true, ltb-true, lt-ltb, or_cases, or_left, or_right, or_parts, and_parts, and_from}
+use Rattle.std.proofs.lemmas.Bool.{cases_lt, cases_order, cases_eq, true≢false, eq-eqb, ne_eqb, eqb-true, ltb-true, lt-ltb, or_cases, or_left, or_right, or_parts, and_parts, and_from}
 use Rattle.std.proofs.lemmas.Bool.Decides.{nat_tests}
-use Rattle.std.proofs.lemmas.Option.{same_Some, none-some, slice_get-get_or, slice_get_within}
+use Rattle.std.proofs.lemmas.Option.{same_Some, slice_get_within}
 use Rattle.fb_units.specs.declared.types.Place.{Place}
 use Rattle.fb_geometry.specs.declared.zone.Zone.{Zone}
 use Rattle.fb_geometry.specs.declared.marks.Mark.{Mark}
@@ -16,7 +16,7 @@ use Rattle.fb_geometry.specs.Slips.{IsAscending, rank, slipped, indexes, with_in
 use Rattle.fb_geometry.specs.Marks.{mark_of, is_mark_before, same_mark, mark_at, clash_at, positions, marks_on, among_unmarked, AreMarksOf, AreInOrder}
 use Rattle.fb_geometry.specs.Index.{HasZones, IsIndexed}
 use Rattle.fb_geometry.proofs.Slips.{indexes-ascend, marked, rank-step, rank-below, rank_unmarked}
-use Rattle.fb_geometry.proofs.Order.{marks_on-ascend, all_at}
+use Rattle.fb_geometry.proofs.Order.{marks_on-ascend}
 use Rattle.fb_geometry.proofs.Turns.{get-cylinder_slots, length-cylinder_slots, good_cylinder-is}
 use Rattle.fb_geometry.proofs.Counting.{same_places}
 use Rattle.fb_geometry.proofs.Marking.{position_is, mark_of-slot_at, on_disk, among-on, same_marks, same_mark-refl}
@@ -48,17 +48,20 @@ ascending_same [] [] a b same = refl
 ascending_same [] (y ∷ ys) a b same = absurd (true≢false (sym (head_among y ys) ∙ sym (same y)))
 ascending_same (x ∷ xs) [] a b same = absurd (true≢false (sym (head_among x xs) ∙ same x))
 ascending_same (x ∷ xs) (y ∷ ys) a b same = elim (cases_order x y) [
-    | inl here ↦ ap (λ z. z ∷ xs) here ∙ ap (λ zs. y ∷ zs) (ascending_same xs ys a.1 b.1 (λ q. rest q here))
-    | inr apart ↦ elim apart [
-      | inl less ↦ absurd (true≢false (sym (head_among x xs) ∙ (same x ∙ not_later x (y ∷ ys) (less, later_all x y ys less b.0))))
-      | inr more ↦ absurd (true≢false (sym (head_among y ys) ∙ (sym (same y) ∙ not_later y (x ∷ xs) (more, later_all y x xs more a.0)))) ] ]
-    where
-      rest : (q : ℕ) → x ≡ y → list_any (λ other. other == q) xs ≡ list_any (λ other. other == q) ys
-      rest q here = elim (cases_eq x q) [
-          | inl at ↦ subst (λ q. list_any (λ other. other == q) xs ≡ list_any (λ other. other == q) ys) at (not_later x xs a.0 ∙ sym (subst (λ x. list_any (λ other. other == x) ys ≡ false) (sym here) (not_later y ys b.0)))
-          | inr off ↦
-              let off_y : y ≡ q → ⊥ = λ e. off (here ∙ e) in
-              sym (ap (λ b. b || list_any (λ other. other == q) xs) (ne_eqb x q off)) ∙ (same q ∙ ap (λ b. b || list_any (λ other. other == q) ys) (ne_eqb y q off_y)) ]
+  | inl here ↦ ap (λ z. z ∷ xs) here ∙ ap (λ zs. y ∷ zs) (ascending_same xs ys a.1 b.1 (λ q. rest q here))
+  | inr apart ↦ elim apart [
+    | inl less ↦ absurd (true≢false (sym (head_among x xs) ∙ (same x ∙ not_later x (y ∷ ys) (less, later_all x y ys less b.0))))
+    | inr more ↦ absurd (true≢false (sym (head_among y ys) ∙ (sym (same y) ∙ not_later y (x ∷ xs) (more, later_all y x xs more a.0))))
+  ]
+]
+  where
+    rest : (q : ℕ) → x ≡ y → list_any (λ other. other == q) xs ≡ list_any (λ other. other == q) ys
+    rest q here = elim (cases_eq x q) [
+      | inl at ↦ subst (λ q. list_any (λ other. other == q) xs ≡ list_any (λ other. other == q) ys) at (not_later x xs a.0 ∙ sym (subst (λ x. list_any (λ other. other == x) ys ≡ false) (sym here) (not_later y ys b.0)))
+      | inr off ↦
+          let off_y : y ≡ q → ⊥ = λ e. off (here ∙ e) in
+          sym (ap (λ b. b || list_any (λ other. other == q) xs) (ne_eqb x q off)) ∙ (same q ∙ ap (λ b. b || list_any (λ other. other == q) ys) (ne_eqb y q off_y))
+    ]
 
 -- ---- members
 
@@ -66,26 +69,27 @@ module _ {A : Type 0} (test : A → Bool) where
   beyond : (a q : ℕ) (xs : List A) → a + length xs ≤ q → list_any (λ other. other == q) (indexes test a xs) ≡ false
   beyond a q [] h = refl
   beyond a q (x ∷ xs) h = step (test x) (indexes test (a + 1) xs) (beyond (a + 1) q xs (omega arith))
-      where
-        step : (b : Bool) (numbers : List ℕ) → list_any (λ other. other == q) numbers ≡ false → list_any (λ other. other == q) (with_index b a numbers) ≡ false
-        step true numbers e = rw (ne_eqb a q (λ e. omega arith)) e
-        step false numbers e = e
+    where
+      step : (b : Bool) (numbers : List ℕ) → list_any (λ other. other == q) numbers ≡ false → list_any (λ other. other == q) (with_index b a numbers) ≡ false
+      step true numbers e = rw (ne_eqb a q (λ e. omega arith)) e
+      step false numbers e = e
 
   index_of : (xs : List A) (q : ℕ) → list_any (λ other. other == q) (indexes test 0 xs) ≡ true → (x : A) × (slice_get xs q ≡ Some x) × (test x ≡ true)
   index_of xs q h = elim (cases_lt q (length xs)) [
-      | inl inside ↦
-          let one = within xs q inside in
-          (one.0, one.1, sym (marked test 0 xs q one.0 one.1) ∙ (ap (λ n. list_any (λ other. other == n) (indexes test 0 xs)) (zero_add q) ∙ h))
-      | inr out ↦ absurd (true≢false (sym h ∙ beyond 0 q xs (omega arith))) ]
-      where
-        zero_add : (q : ℕ) → 0 + q ≡ q
-        zero_add q = omega arith
+    | inl inside ↦
+        let one = within xs q inside in
+        (one.0, one.1, sym (marked test 0 xs q one.0 one.1) ∙ (ap (λ n. list_any (λ other. other == n) (indexes test 0 xs)) (zero_add q) ∙ h))
+    | inr out ↦ absurd (true≢false (sym h ∙ beyond 0 q xs (omega arith)))
+  ]
+    where
+      zero_add : (q : ℕ) → 0 + q ≡ q
+      zero_add q = omega arith
 
   has_index : (xs : List A) (q : ℕ) (x : A) → slice_get xs q ≡ Some x → test x ≡ true → list_any (λ other. other == q) (indexes test 0 xs) ≡ true
   has_index xs q x at e = ap (λ n. list_any (λ other. other == n) (indexes test 0 xs)) (sym (zero_add q)) ∙ (marked test 0 xs q x at ∙ e)
-      where
-        zero_add : (q : ℕ) → 0 + q ≡ q
-        zero_add q = omega arith
+    where
+      zero_add : (q : ℕ) → 0 + q ≡ q
+      zero_add q = omega arith
 
 on_cylinder : (cylinder q : ℕ) (marks : List Mark) → list_any (λ other. other == q) (positions (marks_on cylinder marks)) ≡ true → Among marks (record { cylinder = cylinder; position = q })
 on_cylinder cylinder q marks h =
@@ -113,33 +117,36 @@ module _ (disk : Shape) (zones : HasZones disk) (defects : List Mark) (are : Are
   defects_indexed zone cylinder at = ascending_same (positions (marks_on cylinder defects)) (indexes (is_among disk.defects) 0 (cylinder_slots zone disk.heads cylinder))
       (marks_on-ascend cylinder defects up) (indexes-ascend (is_among disk.defects) 0 (cylinder_slots zone disk.heads cylinder))
       (λ q. iff_same (list_any (λ other. other == q) (positions (marks_on cylinder defects))) (list_any (λ other. other == q) (indexes (is_among disk.defects) 0 (cylinder_slots zone disk.heads cylinder))) (to q) (from q))
-      where
-        some : 0 < zone.sectors
-        some = at.ranges.some_sectors
-        of : IsZoneOf disk cylinder zone
-        of = record { found = at.found; ranges = at.ranges; from = at.from; upto = at.upto }
-        -- any numbers will do for the search of a slot
-        to : (q : ℕ) → list_any (λ other. other == q) (positions (marks_on cylinder defects)) ≡ true → list_any (λ other. other == q) (indexes (is_among disk.defects) 0 (cylinder_slots zone disk.heads cylinder)) ≡ true
-        to q h =
-            let one = place_among disk zones disk.defects disk.defects defects defects are are (record { cylinder = cylinder; position = q }) (on_cylinder cylinder q defects h) in
-            let place = one.0 in
-            let inside = inside_of disk zones disk.defects disk.defects defects defects are are place one.1 in
-            let c : place.track.cylinder ≡ cylinder = ap (λ mark. mark.cylinder) one.2 in
-            let slot = place_slot zone cylinder place at c inside in
-            let here = slot_of disk zone cylinder at (indexes (is_among disk.defects) 0 (cylinder_slots zone disk.heads cylinder)) refl place c slot.0 slot.1 in
-            let position : position_in zone disk.heads place ≡ q = sym slot.2 ∙ ap (λ mark. mark.position) one.2 in
-            has_index (is_among disk.defects) (cylinder_slots zone disk.heads cylinder) q place (ap (slice_get (cylinder_slots zone disk.heads cylinder)) (sym position) ∙ here)
-              (among-any (same_place place) disk.defects place one.1 (same_place-refl place))
-        from : (q : ℕ) → list_any (λ other. other == q) (indexes (is_among disk.defects) 0 (cylinder_slots zone disk.heads cylinder)) ≡ true → list_any (λ other. other == q) (positions (marks_on cylinder defects)) ≡ true
-        from q h =
-            let one = index_of (is_among disk.defects) (cylinder_slots zone disk.heads cylinder) q h in
-            let inside : q < disk.heads * zone.sectors = omega (arith, slice_get_within (cylinder_slots zone disk.heads cylinder) q one.0 one.1, length-cylinder_slots zone disk.heads some cylinder) in
-            let is : slot_at zone disk.heads cylinder q ≡ one.0 = same_Some (slot_at zone disk.heads cylinder q) one.0 (sym (get-cylinder_slots zone disk.heads some cylinder q inside) ∙ one.1) in
-            let defect = any-among (same_place one.0) disk.defects one.2 in
-            let same : one.0 ≡ defect.0 = same_places one.0 defect.0 defect.2 in
-            let found = mark_among disk zones disk.defects disk.defects defects defects are are defect.0 defect.1 in
-            let mark : mark_of disk defect.0 ≡ record { cylinder = cylinder; position = q } = ap (mark_of disk) (sym (is ∙ same)) ∙ mark_of-slot_at disk zone cylinder q of in
-            of_cylinder cylinder q defects (found.0, found.1 ∙ ap Some mark)
+    where
+      some : 0 < zone.sectors
+      some = at.ranges.some_sectors
+
+      of : IsZoneOf disk cylinder zone
+      of = record { found = at.found; ranges = at.ranges; from = at.from; upto = at.upto }
+
+      -- any numbers will do for the search of a slot
+      to : (q : ℕ) → list_any (λ other. other == q) (positions (marks_on cylinder defects)) ≡ true → list_any (λ other. other == q) (indexes (is_among disk.defects) 0 (cylinder_slots zone disk.heads cylinder)) ≡ true
+      to q h =
+          let one = place_among disk zones disk.defects disk.defects defects defects are are (record { cylinder = cylinder; position = q }) (on_cylinder cylinder q defects h) in
+          let place = one.0 in
+          let inside = inside_of disk zones disk.defects disk.defects defects defects are are place one.1 in
+          let c : place.track.cylinder ≡ cylinder = ap (λ mark. mark.cylinder) one.2 in
+          let slot = place_slot zone cylinder place at c inside in
+          let here = slot_of disk zone cylinder at (indexes (is_among disk.defects) 0 (cylinder_slots zone disk.heads cylinder)) refl place c slot.0 slot.1 in
+          let position : position_in zone disk.heads place ≡ q = sym slot.2 ∙ ap (λ mark. mark.position) one.2 in
+          has_index (is_among disk.defects) (cylinder_slots zone disk.heads cylinder) q place (ap (slice_get (cylinder_slots zone disk.heads cylinder)) (sym position) ∙ here)
+          (among-any (same_place place) disk.defects place one.1 (same_place-refl place))
+
+      from : (q : ℕ) → list_any (λ other. other == q) (indexes (is_among disk.defects) 0 (cylinder_slots zone disk.heads cylinder)) ≡ true → list_any (λ other. other == q) (positions (marks_on cylinder defects)) ≡ true
+      from q h =
+          let one = index_of (is_among disk.defects) (cylinder_slots zone disk.heads cylinder) q h in
+          let inside : q < disk.heads * zone.sectors = omega (arith, slice_get_within (cylinder_slots zone disk.heads cylinder) q one.0 one.1, length-cylinder_slots zone disk.heads some cylinder) in
+          let is : slot_at zone disk.heads cylinder q ≡ one.0 = same_Some (slot_at zone disk.heads cylinder q) one.0 (sym (get-cylinder_slots zone disk.heads some cylinder q inside) ∙ one.1) in
+          let defect = any-among (same_place one.0) disk.defects one.2 in
+          let same : one.0 ≡ defect.0 = same_places one.0 defect.0 defect.2 in
+          let found = mark_among disk zones disk.defects disk.defects defects defects are are defect.0 defect.1 in
+          let mark : mark_of disk defect.0 ≡ record { cylinder = cylinder; position = q } = ap (mark_of disk) (sym (is ∙ same)) ∙ mark_of-slot_at disk zone cylinder q of in
+          of_cylinder cylinder q defects (found.0, found.1 ∙ ap Some mark)
 
 -- ---- grown defects
 
@@ -161,28 +168,29 @@ module _ (disk : Shape) (zones : HasZones disk) (defects grown : List Mark) (are
   -- marks stay in order
   unmarked_before : (a b : Mark) → Among grown a → is_mark_before a b ≡ true → is_mark_before (among_unmarked defects a) (among_unmarked defects b) ≡ true
   unmarked_before a b one h = elim (or_cases (nat_lt a.cylinder b.cylinder) ((a.cylinder == b.cylinder) && nat_lt a.position b.position) h) [
-      | inl less ↦ or_left (nat_lt a.cylinder b.cylinder) ((a.cylinder == b.cylinder) && nat_lt (among_unmarked defects a).position (among_unmarked defects b).position) less
-      | inr same ↦
-          let parts = and_parts (a.cylinder == b.cylinder) (nat_lt a.position b.position) same in
-          let cylinder : a.cylinder ≡ b.cylinder = eqb-true a.cylinder b.cylinder parts.0 in
-          let numbers = positions (marks_on a.cylinder defects) in
-          let ascend = marks_on-ascend a.cylinder defects up in
-          let less : a.position < b.position = ltb-true a.position b.position parts.1 in
-          let free : list_any (λ other. other == a.position) numbers ≡ false = among-on a defects ∙ good_mark a one in
-          let here : rank (a.position + 1) numbers ≡ rank a.position numbers = rank_unmarked a.position numbers free in
-          let step = rank-step (a.position + 1) b.position numbers ascend (omega arith) in
-          let there : rank b.position (positions (marks_on b.cylinder defects)) ≡ rank b.position numbers = ap (λ c. rank b.position (positions (marks_on c defects))) (sym cylinder) in
-          or_right (nat_lt a.cylinder b.cylinder) ((a.cylinder == b.cylinder) && nat_lt (among_unmarked defects a).position (among_unmarked defects b).position)
-            (and_from (a.cylinder == b.cylinder) (nat_lt (among_unmarked defects a).position (among_unmarked defects b).position) parts.0
-              (lt-ltb (among_unmarked defects a).position (among_unmarked defects b).position (omega (arith, rank-below a.position numbers ascend, rank-below b.position numbers ascend)))) ]
+    | inl less ↦ or_left (nat_lt a.cylinder b.cylinder) ((a.cylinder == b.cylinder) && nat_lt (among_unmarked defects a).position (among_unmarked defects b).position) less
+    | inr same ↦
+        let parts = and_parts (a.cylinder == b.cylinder) (nat_lt a.position b.position) same in
+        let cylinder : a.cylinder ≡ b.cylinder = eqb-true a.cylinder b.cylinder parts.0 in
+        let numbers = positions (marks_on a.cylinder defects) in
+        let ascend = marks_on-ascend a.cylinder defects up in
+        let less : a.position < b.position = ltb-true a.position b.position parts.1 in
+        let free : list_any (λ other. other == a.position) numbers ≡ false = among-on a defects ∙ good_mark a one in
+        let here : rank (a.position + 1) numbers ≡ rank a.position numbers = rank_unmarked a.position numbers free in
+        let step = rank-step (a.position + 1) b.position numbers ascend (omega arith) in
+        let there : rank b.position (positions (marks_on b.cylinder defects)) ≡ rank b.position numbers = ap (λ c. rank b.position (positions (marks_on c defects))) (sym cylinder) in
+        or_right (nat_lt a.cylinder b.cylinder) ((a.cylinder == b.cylinder) && nat_lt (among_unmarked defects a).position (among_unmarked defects b).position)
+        (and_from (a.cylinder == b.cylinder) (nat_lt (among_unmarked defects a).position (among_unmarked defects b).position) parts.0
+        (lt-ltb (among_unmarked defects a).position (among_unmarked defects b).position (omega (arith, rank-below a.position numbers ascend, rank-below b.position numbers ascend))))
+  ]
 
   in_order_on : (marks : List Mark) → AreInOrder marks → ((mark : Mark) → Among marks mark → Among grown mark) → AreInOrder (map (among_unmarked defects) marks)
   in_order_on [] h within_ = tt
   in_order_on (mark ∷ marks) h within_ = (later marks h.0, in_order_on marks h.1 (λ other one. within_ other (suc one.0, one.1)))
-      where
-        later : (marks : List Mark) → AllByRecursion (λ later. is_mark_before mark later ≡ true) marks → AllByRecursion (λ later. is_mark_before (among_unmarked defects mark) later ≡ true) (map (among_unmarked defects) marks)
-        later [] all = tt
-        later (other ∷ marks) all = (unmarked_before mark other (within_ mark (0, refl)) all.0, later marks all.1)
+    where
+      later : (marks : List Mark) → AllByRecursion (λ later. is_mark_before mark later ≡ true) marks → AllByRecursion (λ later. is_mark_before (among_unmarked defects mark) later ≡ true) (map (among_unmarked defects) marks)
+      later [] all = tt
+      later (other ∷ marks) all = (unmarked_before mark other (within_ mark (0, refl)) all.0, later marks all.1)
 
   pub grown_in_order : AreInOrder (map (among_unmarked defects) grown)
   grown_in_order = in_order_on grown grown_up (λ mark one. one)
@@ -192,53 +200,59 @@ module _ (disk : Shape) (zones : HasZones disk) (defects grown : List Mark) (are
   grown_indexed zone cylinder at = ascending_same (positions (marks_on cylinder (map (among_unmarked defects) grown))) (indexes (is_among disk.grown) 0 (by_head disk cylinder (good_track disk zone)))
       (marks_on-ascend cylinder (map (among_unmarked defects) grown) grown_in_order) (indexes-ascend (is_among disk.grown) 0 (by_head disk cylinder (good_track disk zone)))
       (λ q. iff_same (list_any (λ other. other == q) (positions (marks_on cylinder (map (among_unmarked defects) grown)))) (list_any (λ other. other == q) (indexes (is_among disk.grown) 0 (by_head disk cylinder (good_track disk zone)))) (to q) (from q))
-      where
-        some : 0 < zone.sectors
-        some = at.ranges.some_sectors
-        numbers : List ℕ
-        numbers = positions (marks_on cylinder defects)
-        indexed : positions (marks_on cylinder defects) ≡ indexes (is_among disk.defects) 0 (cylinder_slots zone disk.heads cylinder)
-        indexed = defects_indexed disk zones defects are up zone cylinder at
-        whole-is : by_head disk cylinder (good_track disk zone) ≡ filter (λ place. not (is_among disk.defects place)) (cylinder_slots zone disk.heads cylinder)
-        whole-is = good_cylinder-is zone disk.heads some disk cylinder refl
-        -- the index of a good place, by its mark
-        index_is : (place : Place) → place.track.cylinder ≡ cylinder → (mark_of disk place).position ≡ position_in zone disk.heads place
-            → (among_unmarked defects (mark_of disk place)).position ≡ position_in zone disk.heads place - rank (position_in zone disk.heads place) (positions (marks_on cylinder defects))
-        index_is place c e = ap (λ c. (mark_of disk place).position - rank (mark_of disk place).position (positions (marks_on c defects))) c
-            ∙ ap (λ p. p - rank p (positions (marks_on cylinder defects))) e
-        to : (q : ℕ) → list_any (λ other. other == q) (positions (marks_on cylinder (map (among_unmarked defects) grown))) ≡ true → list_any (λ other. other == q) (indexes (is_among disk.grown) 0 (by_head disk cylinder (good_track disk zone))) ≡ true
-        to q h =
-            let found = among-mapped (among_unmarked defects) grown (record { cylinder = cylinder; position = q }) (on_cylinder cylinder q (map (among_unmarked defects) grown) h) in
-            let one = place_among disk zones disk.grown disk.grown grown grown those those found.0 found.1 in
-            let place = one.0 in
-            let inside = inside_of disk zones disk.grown disk.grown grown grown those those place one.1 in
-            let c : place.track.cylinder ≡ cylinder = ap (λ mark. mark.cylinder) one.2 ∙ ap (λ mark. mark.cylinder) found.2 in
-            let slot = place_slot disk zones defects are up zone cylinder place at c inside in
-            let index : position_in zone disk.heads place - rank (position_in zone disk.heads place) (positions (marks_on cylinder defects)) ≡ q =
-              sym (index_is place c slot.2) ∙ (ap (λ mark. (among_unmarked defects mark).position) one.2 ∙ ap (λ mark. mark.position) found.2) in
-            let here = goes (is_among disk.defects) (cylinder_slots zone disk.heads cylinder) (positions (marks_on cylinder defects)) indexed (position_in zone disk.heads place) place
-              (slot_of disk zone cylinder at (positions (marks_on cylinder defects)) indexed place c slot.0 slot.1) (good_place place one.1) in
-            has_index (is_among disk.grown) (by_head disk cylinder (good_track disk zone)) q place
-              (ap (slice_get (by_head disk cylinder (good_track disk zone))) (sym index) ∙ (ap (λ xs. slice_get xs (position_in zone disk.heads place - rank (position_in zone disk.heads place) (positions (marks_on cylinder defects)))) whole-is ∙ here))
-              (among-any (same_place place) disk.grown place one.1 (same_place-refl place))
-        from : (q : ℕ) → list_any (λ other. other == q) (indexes (is_among disk.grown) 0 (by_head disk cylinder (good_track disk zone))) ≡ true → list_any (λ other. other == q) (positions (marks_on cylinder (map (among_unmarked defects) grown))) ≡ true
-        from q h =
-            let one = index_of (is_among disk.grown) (by_head disk cylinder (good_track disk zone)) q h in
-            let place = one.0 in
-            let in_good : slice_get (filter (λ place. not (is_among disk.defects place)) (cylinder_slots zone disk.heads cylinder)) q ≡ Some place = ap (λ xs. slice_get xs q) (sym whole-is) ∙ one.1 in
-            let spot = good_at disk zone cylinder at (positions (marks_on cylinder defects)) indexed q (slice_get_within (filter (λ place. not (is_among disk.defects place)) (cylinder_slots zone disk.heads cylinder)) q place in_good) in
-            let is : slot_at zone disk.heads cylinder (slipped q (positions (marks_on cylinder defects))) ≡ place = same_Some (slot_at zone disk.heads cylinder (slipped q (positions (marks_on cylinder defects)))) place (sym spot.1 ∙ in_good) in
-            let c : place.track.cylinder ≡ cylinder = ap (λ place. place.track.cylinder) (sym is) in
-            let gone = any-among (same_place place) disk.grown one.2 in
-            let same : place ≡ gone.0 = same_places place gone.0 gone.2 in
-            let listed : Among disk.grown place = (gone.1.0, gone.1.1 ∙ ap Some (sym same)) in
-            let inside = inside_of disk zones disk.grown disk.grown grown grown those those place listed in
-            let slot = place_slot disk zones defects are up zone cylinder place at c inside in
-            let index : (among_unmarked defects (mark_of disk place)).position ≡ q = index_is place c slot.2 ∙ sym (good_index disk zone cylinder at (positions (marks_on cylinder defects)) indexed q place in_good) in
-            let mark : among_unmarked defects (mark_of disk place) ≡ record { cylinder = cylinder; position = q } =
-              ap (λ c. record { cylinder = c; position = (among_unmarked defects (mark_of disk place)).position }) c ∙ ap (λ p. record { cylinder = cylinder; position = p }) index in
-            let marked_ = among-map (among_unmarked defects) grown (mark_of disk place) (mark_among disk zones disk.grown disk.grown grown grown those those place listed) in
-            of_cylinder cylinder q (map (among_unmarked defects) grown) (marked_.0, marked_.1 ∙ ap Some mark)
+    where
+      some : 0 < zone.sectors
+      some = at.ranges.some_sectors
+
+      numbers : List ℕ
+      numbers = positions (marks_on cylinder defects)
+
+      indexed : positions (marks_on cylinder defects) ≡ indexes (is_among disk.defects) 0 (cylinder_slots zone disk.heads cylinder)
+      indexed = defects_indexed disk zones defects are up zone cylinder at
+
+      whole-is : by_head disk cylinder (good_track disk zone) ≡ filter (λ place. not (is_among disk.defects place)) (cylinder_slots zone disk.heads cylinder)
+      whole-is = good_cylinder-is zone disk.heads some disk cylinder refl
+
+      -- the index of a good place, by its mark
+      index_is : (place : Place) → place.track.cylinder ≡ cylinder → (mark_of disk place).position ≡ position_in zone disk.heads place
+          → (among_unmarked defects (mark_of disk place)).position ≡ position_in zone disk.heads place - rank (position_in zone disk.heads place) (positions (marks_on cylinder defects))
+      index_is place c e = ap (λ c. (mark_of disk place).position - rank (mark_of disk place).position (positions (marks_on c defects))) c
+          ∙ ap (λ p. p - rank p (positions (marks_on cylinder defects))) e
+
+      to : (q : ℕ) → list_any (λ other. other == q) (positions (marks_on cylinder (map (among_unmarked defects) grown))) ≡ true → list_any (λ other. other == q) (indexes (is_among disk.grown) 0 (by_head disk cylinder (good_track disk zone))) ≡ true
+      to q h =
+          let found = among-mapped (among_unmarked defects) grown (record { cylinder = cylinder; position = q }) (on_cylinder cylinder q (map (among_unmarked defects) grown) h) in
+          let one = place_among disk zones disk.grown disk.grown grown grown those those found.0 found.1 in
+          let place = one.0 in
+          let inside = inside_of disk zones disk.grown disk.grown grown grown those those place one.1 in
+          let c : place.track.cylinder ≡ cylinder = ap (λ mark. mark.cylinder) one.2 ∙ ap (λ mark. mark.cylinder) found.2 in
+          let slot = place_slot disk zones defects are up zone cylinder place at c inside in
+          let index : position_in zone disk.heads place - rank (position_in zone disk.heads place) (positions (marks_on cylinder defects)) ≡ q =
+          sym (index_is place c slot.2) ∙ (ap (λ mark. (among_unmarked defects mark).position) one.2 ∙ ap (λ mark. mark.position) found.2) in
+          let here = goes (is_among disk.defects) (cylinder_slots zone disk.heads cylinder) (positions (marks_on cylinder defects)) indexed (position_in zone disk.heads place) place
+          (slot_of disk zone cylinder at (positions (marks_on cylinder defects)) indexed place c slot.0 slot.1) (good_place place one.1) in
+          has_index (is_among disk.grown) (by_head disk cylinder (good_track disk zone)) q place
+          (ap (slice_get (by_head disk cylinder (good_track disk zone))) (sym index) ∙ (ap (λ xs. slice_get xs (position_in zone disk.heads place - rank (position_in zone disk.heads place) (positions (marks_on cylinder defects)))) whole-is ∙ here))
+          (among-any (same_place place) disk.grown place one.1 (same_place-refl place))
+
+      from : (q : ℕ) → list_any (λ other. other == q) (indexes (is_among disk.grown) 0 (by_head disk cylinder (good_track disk zone))) ≡ true → list_any (λ other. other == q) (positions (marks_on cylinder (map (among_unmarked defects) grown))) ≡ true
+      from q h =
+          let one = index_of (is_among disk.grown) (by_head disk cylinder (good_track disk zone)) q h in
+          let place = one.0 in
+          let in_good : slice_get (filter (λ place. not (is_among disk.defects place)) (cylinder_slots zone disk.heads cylinder)) q ≡ Some place = ap (λ xs. slice_get xs q) (sym whole-is) ∙ one.1 in
+          let spot = good_at disk zone cylinder at (positions (marks_on cylinder defects)) indexed q (slice_get_within (filter (λ place. not (is_among disk.defects place)) (cylinder_slots zone disk.heads cylinder)) q place in_good) in
+          let is : slot_at zone disk.heads cylinder (slipped q (positions (marks_on cylinder defects))) ≡ place = same_Some (slot_at zone disk.heads cylinder (slipped q (positions (marks_on cylinder defects)))) place (sym spot.1 ∙ in_good) in
+          let c : place.track.cylinder ≡ cylinder = ap (λ place. place.track.cylinder) (sym is) in
+          let gone = any-among (same_place place) disk.grown one.2 in
+          let same : place ≡ gone.0 = same_places place gone.0 gone.2 in
+          let listed : Among disk.grown place = (gone.1.0, gone.1.1 ∙ ap Some (sym same)) in
+          let inside = inside_of disk zones disk.grown disk.grown grown grown those those place listed in
+          let slot = place_slot disk zones defects are up zone cylinder place at c inside in
+          let index : (among_unmarked defects (mark_of disk place)).position ≡ q = index_is place c slot.2 ∙ sym (good_index disk zone cylinder at (positions (marks_on cylinder defects)) indexed q place in_good) in
+          let mark : among_unmarked defects (mark_of disk place) ≡ record { cylinder = cylinder; position = q } =
+          ap (λ c. record { cylinder = c; position = (among_unmarked defects (mark_of disk place)).position }) c ∙ ap (λ p. record { cylinder = cylinder; position = p }) index in
+          let marked_ = among-map (among_unmarked defects) grown (mark_of disk place) (mark_among disk zones disk.grown disk.grown grown grown those those place listed) in
+          of_cylinder cylinder q (map (among_unmarked defects) grown) (marked_.0, marked_.1 ∙ ap Some mark)
 
   pub indexed : IsIndexed disk defects (map (among_unmarked defects) grown)
   indexed = record { defects_at = defects_indexed disk zones defects are up; grown_at = grown_indexed }
@@ -246,9 +260,10 @@ module _ (disk : Shape) (zones : HasZones disk) (defects grown : List Mark) (are
 -- without grown defects
 pub indexed_alone : (disk : Shape) → HasZones disk → (defects : List Mark) → AreMarksOf disk disk.defects defects → AreInOrder defects → disk.grown ≡ [] → IsIndexed disk defects []
 indexed_alone disk zones defects are up none = record {
-    defects_at = defects_indexed disk zones defects are up;
-    grown_at = λ zone cylinder at. sym (ap (λ grown. indexes (is_among grown) 0 (by_head disk cylinder (good_track disk zone))) none ∙ nothing 0 (by_head disk cylinder (good_track disk zone))) }
-    where
-      nothing : (a : ℕ) (xs : List Place) → indexes (is_among []) a xs ≡ []
-      nothing a [] = refl
-      nothing a (x ∷ xs) = nothing (a + 1) xs
+  defects_at = defects_indexed disk zones defects are up;
+  grown_at = λ zone cylinder at. sym (ap (λ grown. indexes (is_among grown) 0 (by_head disk cylinder (good_track disk zone))) none ∙ nothing 0 (by_head disk cylinder (good_track disk zone)));
+}
+  where
+    nothing : (a : ℕ) (xs : List Place) → indexes (is_among []) a xs ≡ []
+    nothing a [] = refl
+    nothing a (x ∷ xs) = nothing (a + 1) xs

@@ -1,21 +1,17 @@
 -- What the parts of a judgement say of the whole.
-use Rattle.std.proofs.Common.{◌≡◌, ℕ, zero, suc, ◌+◌, ◌<◌, ◌≤◌, List, [], ◌∷◌, ◌++◌, length, refl, ap, sym, ◌∙◌, arith, Bool, true, false, not, cond, Option, Some, None, map, subst}
+use Rattle.std.proofs.Common.{◌≡◌, List, [], ◌∷◌, ◌++◌, length, refl, ap, sym, ◌∙◌, arith, Bool, true, false, Option, Some, None, map}
 use Rattle.std.specs.Prelude.{filter, find, position, nat_lt, if◌then◌else◌}
-use Rattle.std.specs.List.{AllByRecursion}
-use Rattle.std.specs.List.Sorted.{IsPermutation}
-use Rattle.std.proofs.lemmas.Bool.{cases_Bool}
 use Rattle.std.proofs.lemmas.Option.{none-some}
 use Rattle.std.proofs.lemmas.List.{append-nil}
 use Rattle.std.proofs.lemmas.List.Sorted.{IsPermutation-refl}
 use Rattle.fb_units.specs.declared.types.Place.{Place}
-use Rattle.fb_geometry.specs.declared.layout.Layout.{Layout}
-use Rattle.fb_geometry.specs.declared.layout.Layout.TheVariants.{PerTrack, PerCylinder}
+use Rattle.fb_geometry.specs.declared.layout.Layout.TheVariants.{PerCylinder}
 use Rattle.fb_geometry.specs.declared.marks.Mark.{Mark}
 use Rattle.fb_geometry.specs.declared.fault.GeometryFault.{GeometryFault}
 use Rattle.fb_geometry.specs.declared.fault.GeometryFault.TheVariants.{OutOfRange, ZonesNotContiguous, SkewTooLarge, DefectOutside, DefectTwice, GrownOutside, GrownTwice, TooManyInCylinder}
 use Rattle.fb_geometry.specs.Shape.{Shape, is_among}
 use Rattle.fb_geometry.specs.Faults.{first_fault, range_fault, spare_fault, or_else, fault_at, is_out_of_range, first_apart, is_too_skewed, is_outside, least, is_place_before, repeated, is_full_cylinder}
-use Rattle.fb_geometry.specs.Marks.{AreMarksOf, LeastClash, AreInOrder}
+use Rattle.fb_geometry.specs.Marks.{AreMarksOf, LeastClash}
 use Rattle.fb_geometry.specs.Index.{HasZones, IsFaultless, zone_fault, defect_fault, grown_fault, AreJudged}
 use Rattle.fb_geometry.proofs.Faultless.{or_else-none, fault_at-none}
 use Rattle.fb_geometry.proofs.Clashes.{least_of, in_order}
@@ -51,21 +47,23 @@ module _ (disk : Shape) (zones : HasZones disk) (marks : List Mark) where
     faultless = no_fault DefectOutside DefectTwice (find (is_outside disk) disk.defects) (least is_place_before (repeated disk.defects)) inside (least_repeated disk zones disk.defects marks None are found);
     inside = inside;
     are = are;
-    ordered = in_order marks [] are.sorted found }
+    ordered = in_order marks [] are.sorted found;
+  }
 
   module _ (defects : List Mark) (others : AreMarksOf disk disk.defects defects) where
     pub grown_twice : (place : Place) → find (is_outside disk) disk.grown ≡ None → AreMarksOf disk disk.grown marks → LeastClash disk marks defects (length marks) (Some place) → grown_fault disk ≡ Some (GrownTwice place)
     grown_twice place inside are found =
         second_fault GrownOutside GrownTwice (find (is_outside disk) disk.grown) (least is_place_before (repeated disk.grown ++ filter (is_among disk.defects) disk.grown)) place inside
-          (least_of disk zones disk.grown disk.defects marks defects are others (Some place) found)
+        (least_of disk zones disk.grown disk.defects marks defects are others (Some place) found)
 
     pub good_grown : find (is_outside disk) disk.grown ≡ None → AreMarksOf disk disk.grown marks → LeastClash disk marks defects (length marks) None → AreJudged disk disk.grown (grown_fault disk) marks
     good_grown inside are found = record {
       faultless = no_fault GrownOutside GrownTwice (find (is_outside disk) disk.grown) (least is_place_before (repeated disk.grown ++ filter (is_among disk.defects) disk.grown)) inside
-        (least_of disk zones disk.grown disk.defects marks defects are others None found);
+          (least_of disk zones disk.grown disk.defects marks defects are others None found);
       inside = inside;
       are = are;
-      ordered = in_order marks defects are.sorted found }
+      ordered = in_order marks defects are.sorted found;
+    }
 
 -- ---- the whole
 
@@ -106,7 +104,8 @@ has_zones disk h =
     record {
       in_range = in_range (is_out_of_range disk) a.0;
       contiguous = fault_at-none ZonesNotContiguous (first_apart 0 0 disk.zones) b.0;
-      skews = fault_at-none SkewTooLarge (position is_too_skewed disk.zones) b.1 }
+      skews = fault_at-none SkewTooLarge (position is_too_skewed disk.zones) b.1;
+    }
 
 pub faultless : (disk : Shape) → HasZones disk → defect_fault disk ≡ None → spare_fault disk.layout disk ≡ None → IsFaultless disk
 faultless disk zones h k =
@@ -115,7 +114,8 @@ faultless disk zones h k =
       zones_hold = zones;
       defects_inside = fault_at-none DefectOutside (find (is_outside disk) disk.defects) parts.0;
       defects_once = fault_at-none DefectTwice (least is_place_before (repeated disk.defects)) parts.1;
-      spares = k }
+      spares = k;
+    }
 
 -- the spares of a cylinder, once the grown defects are judged
 pub spares_per_cylinder : (disk : Shape) → grown_fault disk ≡ None → spare_fault PerCylinder disk ≡ fault_at TooManyInCylinder (least nat_lt (filter (is_full_cylinder disk) (map (λ place. place.track.cylinder) (disk.defects ++ disk.grown))))

@@ -1,10 +1,10 @@
 -- An outline without a fault is sound.
-use Rattle.std.proofs.Common.{◌≡◌, ◌≢◌, ℕ, zero, suc, ◌+◌, ◌-◌, ◌*◌, ◌/◌, ◌%◌, ◌^◌, ◌<◌, ◌≤◌, List, [], ◌∷◌, ◌++◌, length, refl, ap, sym, ◌∙◌, arith, Bool, true, false, not, cond, Option, Some, None, ◌⊎◌, inl, inr, map, subst, take, drop}
-use Rattle.std.specs.Prelude.{filter, find, nat_lt, nat_le, ◌==◌, ◌&&◌, ◌||◌, slice_get}
+use Rattle.std.proofs.Common.{◌≡◌, ℕ, zero, suc, ◌+◌, ◌-◌, ◌*◌, ◌/◌, ◌%◌, ◌<◌, ◌≤◌, List, [], ◌∷◌, ◌++◌, length, refl, ap, sym, ◌∙◌, arith, Bool, true, false, not, cond, None, ◌⊎◌, inl, inr, map, subst, take, drop}
+use Rattle.std.specs.Prelude.{filter, find, nat_lt, ◌==◌}
 use Rattle.std.specs.List.{AllByRecursion, flat_map, range_with_len}
-use Rattle.std.proofs.Math.Nat.{mod-lt, mul-le-mul_left}
+use Rattle.std.proofs.Math.Nat.{mod-lt}
 use Rattle.std.proofs.lemmas.Nat.{mul-add-lt, div_below, mul-le}
-use Rattle.std.proofs.lemmas.Bool.{cases_Bool, cases_lt, and_parts, eqb-true}
+use Rattle.std.proofs.lemmas.Bool.{cases_Bool, and_parts, eqb-true}
 use Rattle.std.proofs.lemmas.Bool.Decides.{nat_tests}
 use Rattle.std.proofs.lemmas.List.{length-take-le, length-append}
 use Rattle.std.proofs.lemmas.List.Elements.{filter-append}
@@ -16,11 +16,11 @@ use Rattle.fb_geometry.specs.declared.layout.Layout.{Layout}
 use Rattle.fb_geometry.specs.declared.layout.Layout.TheVariants.{PerTrack, PerCylinder}
 use Rattle.fb_geometry.specs.declared.zone.Zone.{Zone}
 use Rattle.fb_geometry.specs.declared.fault.GeometryFault.TheVariants.{TooManyDefects, GrownOutside, GrownTwice, TooManyInCylinder}
-use Rattle.fb_geometry.specs.Shape.{Shape, slots_at, cylinders_of, offset_in, is_among}
+use Rattle.fb_geometry.specs.Shape.{Shape, offset_in, is_among}
 use Rattle.fb_geometry.specs.Places.{data_list, data_list_by, per_track, per_cylinder, good_track, by_head, replaced, stand_in}
 use Rattle.fb_geometry.specs.Faults.{spare_fault, or_else, fault_at, has_no_data, is_outside, least, is_place_before, is_track_before, repeated, is_full_track, is_full_cylinder, spares_at, cylinder_spares_at}
-use Rattle.fb_geometry.specs.Sound.{IsSound, IsCylinderOf, LiesOn, cylinder_size, cylinder_size_by}
-use Rattle.fb_geometry.specs.Turns.{IsZone, IsZoneAt, zone_at, slot_at, cylinder_slots}
+use Rattle.fb_geometry.specs.Sound.{IsSound, LiesOn, cylinder_size_by}
+use Rattle.fb_geometry.specs.Turns.{IsZoneAt, slot_at}
 use Rattle.fb_geometry.specs.Index.{IsFaultless}
 use Rattle.fb_geometry.proofs.Grid.{length-parts}
 use Rattle.fb_geometry.proofs.Turns.{good_track-is, good_cylinder-is}
@@ -39,8 +39,9 @@ none_or_not : {K : Type 0} (same : K → Bool) (full : K → Bool) (key : Place 
     → AllByRecursion (λ k. full k ≡ false) (map key places) → (length (filter (λ place. same (key place)) places) ≡ 0) ⊎ (full at ≡ false)
 none_or_not same full key at is [] all = inl refl
 none_or_not same full key at is (place ∷ places) all = elim (cases_Bool (same (key place))) [
-    | inl here ↦ inr (ap full (is (key place) here) ∙ all.0)
-    | inr off ↦ rw off (none_or_not same full key at is places all.1) ]
+  | inl here ↦ inr (ap full (is (key place) here) ∙ all.0)
+  | inr off ↦ rw off (none_or_not same full key at is places all.1)
+]
 
 few_from : (spares count : ℕ) → (count ≡ 0) ⊎ (nat_lt spares count ≡ false) → count ≤ spares
 few_from spares count (inl none) = omega arith
@@ -50,7 +51,7 @@ pub few_on_track : (disk : Shape) (track : Track) → spare_fault PerTrack disk 
 few_on_track disk track h =
     let none = filter-none (is_full_track disk) (map (λ place. place.track) disk.defects) (least-none is_track_before (filter (is_full_track disk) (map (λ place. place.track) disk.defects)) (fault_at-none TooManyDefects (least is_track_before (filter (is_full_track disk) (map (λ place. place.track) disk.defects))) h)) in
     few_from (spares_at disk.zones track.cylinder) (length (filter (λ place. same_track track place.track) disk.defects))
-      (none_or_not (same_track track) (is_full_track disk) (λ place. place.track) track (same_tracks track) disk.defects none)
+    (none_or_not (same_track track) (is_full_track disk) (λ place. place.track) track (same_tracks track) disk.defects none)
 
 -- what an outline with spares per cylinder keeps
 pub record HasSpares (disk : Shape) : Type 0 where
@@ -69,7 +70,8 @@ has_spares disk h =
       grown_inside = fault_at-none GrownOutside (find (is_outside disk) disk.grown) a.0;
       grown_once = fault_at-none GrownTwice (least is_place_before clash) b.0;
       few = λ cylinder. few_from (cylinder_spares_at disk.zones cylinder) (length (filter (λ place. place.track.cylinder == cylinder) (disk.defects ++ disk.grown)))
-        (none_or_not (λ k. k == cylinder) (is_full_cylinder disk) (λ place. place.track.cylinder) cylinder (λ k e. sym (eqb-true k cylinder e)) (disk.defects ++ disk.grown) none) }
+          (none_or_not (λ k. k == cylinder) (is_full_cylinder disk) (λ place. place.track.cylinder) cylinder (λ k e. sym (eqb-true k cylinder e)) (disk.defects ++ disk.grown) none);
+    }
 
 -- ---- each cylinder of a zone holds as many
 
@@ -84,7 +86,7 @@ module _ (disk : Shape) (zone : Zone) (cylinder : ℕ) (at : IsZoneAt disk cylin
   pub length-track : (head : ℕ) → spare_fault PerTrack disk ≡ None → length (take (zone.sectors - zone.spares) (good_track disk zone (record { cylinder = cylinder; head = head }))) ≡ zone.sectors - zone.spares
   length-track head h =
       length-take-le (zone.sectors - zone.spares) (good_track disk zone (record { cylinder = cylinder; head = head }))
-        (length-good_track zone some_sectors disk (record { cylinder = cylinder; head = head }) (omega (arith, few_on_track disk (record { cylinder = cylinder; head = head }) h, spares_at-zone disk.zones cylinder zone at.found)))
+      (length-good_track zone some_sectors disk (record { cylinder = cylinder; head = head }) (omega (arith, few_on_track disk (record { cylinder = cylinder; head = head }) h, spares_at-zone disk.zones cylinder zone at.found)))
 
   pub length-per_track : spare_fault PerTrack disk ≡ None → length (per_track disk zone cylinder) ≡ disk.heads * (zone.sectors - zone.spares)
   length-per_track h =
@@ -96,9 +98,13 @@ module _ (disk : Shape) (zone : Zone) (cylinder : ℕ) (at : IsZoneAt disk cylin
   length-good h = omega (arith, ap length (good_cylinder-is zone disk.heads some_sectors disk cylinder refl), length-good_cylinder zone some_sectors disk disk.heads cylinder)
 
   pub few_flaws : HasSpares disk → length (filter (λ place. place.track.cylinder == cylinder) disk.defects) + length (filter (λ place. place.track.cylinder == cylinder) disk.grown) ≤ zone.cylinder_spares
-  few_flaws h = omega (arith, h.few cylinder, cylinder_spares_at-zone disk.zones cylinder zone at.found,
-      ap length (filter-append (λ place. place.track.cylinder == cylinder) disk.defects disk.grown),
-      length-append (filter (λ place. place.track.cylinder == cylinder) disk.defects) (filter (λ place. place.track.cylinder == cylinder) disk.grown))
+  few_flaws h = omega (
+    arith,
+    h.few cylinder,
+    cylinder_spares_at-zone disk.zones cylinder zone at.found,
+    ap length (filter-append (λ place. place.track.cylinder == cylinder) disk.defects disk.grown),
+    length-append (filter (λ place. place.track.cylinder == cylinder) disk.defects) (filter (λ place. place.track.cylinder == cylinder) disk.grown),
+  )
 
   pub length-base : HasSpares disk → length (take (disk.heads * zone.sectors - zone.cylinder_spares) (by_head disk cylinder (good_track disk zone))) ≡ disk.heads * zone.sectors - zone.cylinder_spares
   length-base h = length-take-le (disk.heads * zone.sectors - zone.cylinder_spares) (by_head disk cylinder (good_track disk zone)) (omega (arith, length-good h, few_flaws h))
@@ -126,10 +132,10 @@ all-append P (x ∷ xs) ys h k = (h.0, all-append P xs ys h.1 k)
 pub all-filter : {A : Type 0} (P : A → Type 0) (test : A → Bool) (xs : List A) → AllByRecursion P xs → AllByRecursion P (filter test xs)
 all-filter P test [] h = tt
 all-filter P test (x ∷ xs) h = keep P (test x) x (filter test xs) h.0 (all-filter P test xs h.1)
-    where
-      keep : {A : Type 0} (P : A → Type 0) (b : Bool) (x : A) (xs : List A) → P x → AllByRecursion P xs → AllByRecursion P (cond b (x ∷ xs) xs)
-      keep P true x xs h k = (h, k)
-      keep P false x xs h k = k
+  where
+    keep : {A : Type 0} (P : A → Type 0) (b : Bool) (x : A) (xs : List A) → P x → AllByRecursion P xs → AllByRecursion P (cond b (x ∷ xs) xs)
+    keep P true x xs h k = (h, k)
+    keep P false x xs h k = k
 
 pub all-take : {A : Type 0} (P : A → Type 0) (n : ℕ) (xs : List A) → AllByRecursion P xs → AllByRecursion P (take n xs)
 all-take P zero xs h = tt
@@ -144,31 +150,33 @@ all-drop P (suc n) (x ∷ xs) h = all-drop P n xs h.1
 pub all-range : {A : Type 0} (P : A → Type 0) (f : ℕ → A) (a n : ℕ) → ((i : ℕ) → i < n → P (f (a + i))) → AllByRecursion P (map f (range_with_len a n))
 all-range P f a zero h = tt
 all-range P f a (suc n) h = (subst (λ x. P (f x)) (add_zero a) (h 0 (omega arith)), all-range P f (a + 1) n (λ i l. subst (λ x. P (f x)) (add_one a i) (h (i + 1) (omega arith))))
-    where
-      add_zero : (a : ℕ) → a + 0 ≡ a
-      add_zero a = omega arith
-      add_one : (a i : ℕ) → a + (i + 1) ≡ a + 1 + i
-      add_one a i = omega arith
+  where
+    add_zero : (a : ℕ) → a + 0 ≡ a
+    add_zero a = omega arith
+
+    add_one : (a i : ℕ) → a + (i + 1) ≡ a + 1 + i
+    add_one a i = omega arith
 
 pub all-parts : {A : Type 0} (P : A → Type 0) (f : ℕ → List A) (a n : ℕ) → ((i : ℕ) → i < n → AllByRecursion P (f (a + i))) → AllByRecursion P (flat_map f (range_with_len a n))
 all-parts P f a zero h = tt
 all-parts P f a (suc n) h = all-append P (f a) (flat_map f (range_with_len (a + 1) n)) (subst (λ x. AllByRecursion P (f x)) (add_zero a) (h 0 (omega arith)))
     (all-parts P f (a + 1) n (λ i l. subst (λ x. AllByRecursion P (f x)) (add_one a i) (h (i + 1) (omega arith))))
-    where
-      add_zero : (a : ℕ) → a + 0 ≡ a
-      add_zero a = omega arith
-      add_one : (a i : ℕ) → a + (i + 1) ≡ a + 1 + i
-      add_one a i = omega arith
+  where
+    add_zero : (a : ℕ) → a + 0 ≡ a
+    add_zero a = omega arith
+
+    add_one : (a i : ℕ) → a + (i + 1) ≡ a + 1 + i
+    add_one a i = omega arith
 
 pub all-replaced : (P : Place → Type 0) (disk : Shape) (places spares : List Place) → AllByRecursion P places → AllByRecursion P spares → AllByRecursion P (replaced disk places spares)
 all-replaced P disk [] spares h k = tt
 all-replaced P disk (place ∷ places) spares h k =
     let one = chosen P (is_among disk.grown place) place spares h.0 k in (one.0, all-replaced P disk places (stand_in (is_among disk.grown place) place spares).1 h.1 one.1)
-    where
-      chosen : (P : Place → Type 0) (b : Bool) (place : Place) (spares : List Place) → P place → AllByRecursion P spares → P (stand_in b place spares).0 × AllByRecursion P (stand_in b place spares).1
-      chosen P false place spares h k = (h, k)
-      chosen P true place [] h k = (h, k)
-      chosen P true place (spare ∷ spares) h k = (k.0, k.1)
+  where
+    chosen : (P : Place → Type 0) (b : Bool) (place : Place) (spares : List Place) → P place → AllByRecursion P spares → P (stand_in b place spares).0 × AllByRecursion P (stand_in b place spares).1
+    chosen P false place spares h k = (h, k)
+    chosen P true place [] h k = (h, k)
+    chosen P true place (spare ∷ spares) h k = (k.0, k.1)
 
 module _ (disk : Shape) (zone : Zone) (cylinder : ℕ) (at : IsZoneAt disk cylinder zone) where
   some : 0 < zone.sectors
@@ -178,13 +186,14 @@ module _ (disk : Shape) (zone : Zone) (cylinder : ℕ) (at : IsZoneAt disk cylin
   lies_on position h = record {
     cylinder_is = refl;
     head = div_below position zone.sectors disk.heads some h;
-    slot = subst (λ n. (slot_at zone disk.heads cylinder position).slot < n) (sym (slots_at-zone disk.zones cylinder zone at.found)) (mod-lt (offset_in zone disk.heads (record { cylinder = cylinder; head = position / zone.sectors }) + position % zone.sectors) some) }
+    slot = subst (λ n. (slot_at zone disk.heads cylinder position).slot < n) (sym (slots_at-zone disk.zones cylinder zone at.found)) (mod-lt (offset_in zone disk.heads (record { cylinder = cylinder; head = position / zone.sectors }) + position % zone.sectors) some);
+  }
 
   track_lies_on : (head : ℕ) → head < disk.heads → AllByRecursion (LiesOn disk cylinder) (good_track disk zone (record { cylinder = cylinder; head = head }))
   track_lies_on head h =
       subst (AllByRecursion (LiesOn disk cylinder)) (sym (good_track-is zone disk.heads some disk (record { cylinder = cylinder; head = head }) refl))
-        (all-filter (LiesOn disk cylinder) (λ place. not (is_among disk.defects place)) (map (slot_at zone disk.heads cylinder) (range_with_len (head * zone.sectors) zone.sectors))
-          (all-range (LiesOn disk cylinder) (slot_at zone disk.heads cylinder) (head * zone.sectors) zone.sectors (λ i l. lies_on (head * zone.sectors + i) (omega (arith, mul-add-lt head zone.sectors i disk.heads h l)))))
+      (all-filter (LiesOn disk cylinder) (λ place. not (is_among disk.defects place)) (map (slot_at zone disk.heads cylinder) (range_with_len (head * zone.sectors) zone.sectors))
+      (all-range (LiesOn disk cylinder) (slot_at zone disk.heads cylinder) (head * zone.sectors) zone.sectors (λ i l. lies_on (head * zone.sectors + i) (omega (arith, mul-add-lt head zone.sectors i disk.heads h l)))))
 
   good_lies_on : AllByRecursion (LiesOn disk cylinder) (by_head disk cylinder (good_track disk zone))
   good_lies_on = all-parts (LiesOn disk cylinder) (λ head. good_track disk zone (record { cylinder = cylinder; head = head })) 0 disk.heads (λ i l. track_lies_on (0 + i) (omega arith))
@@ -196,8 +205,8 @@ module _ (disk : Shape) (zone : Zone) (cylinder : ℕ) (at : IsZoneAt disk cylin
       let good = by_head disk cylinder (good_track disk zone) in
       let base = disk.heads * zone.sectors - zone.cylinder_spares in
       all-replaced (LiesOn disk cylinder) disk (take base good) (filter (λ place. not (is_among disk.grown place)) (drop base good))
-        (all-take (LiesOn disk cylinder) base good good_lies_on)
-        (all-filter (LiesOn disk cylinder) (λ place. not (is_among disk.grown place)) (drop base good) (all-drop (LiesOn disk cylinder) base good good_lies_on))
+      (all-take (LiesOn disk cylinder) base good good_lies_on)
+      (all-filter (LiesOn disk cylinder) (λ place. not (is_among disk.grown place)) (drop base good) (all-drop (LiesOn disk cylinder) base good good_lies_on))
 
 pub sound : (disk : Shape) → IsFaultless disk → IsSound disk
 sound disk h = record {
@@ -214,4 +223,5 @@ sound disk h = record {
   some_data = λ i zone at. some_size disk.layout disk zone (some_heads disk h.zones_hold) (data_of disk h.zones_hold i zone at);
   few_slots = λ i zone at. (ranges_of disk h.zones_hold i zone at).few_sectors;
   short_slots = short_slots disk h.zones_hold;
-  own = λ i zone cylinder j place at found. all_get (LiesOn disk cylinder) (data_list disk zone cylinder) j place (list_lies_on disk zone cylinder (zone_by_bounds disk h i zone cylinder at) disk.layout) found }
+  own = λ i zone cylinder j place at found. all_get (LiesOn disk cylinder) (data_list disk zone cylinder) j place (list_lies_on disk zone cylinder (zone_by_bounds disk h i zone cylinder at) disk.layout) found;
+}

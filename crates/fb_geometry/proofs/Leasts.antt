@@ -1,13 +1,12 @@
 -- The order of places and tracks, and the least of a list.
-use Rattle.std.proofs.Common.{◌≡◌, ◌≢◌, ℕ, zero, suc, ◌+◌, ◌-◌, ◌<◌, ◌≤◌, List, [], ◌∷◌, ◌++◌, length, refl, ap, sym, ◌∙◌, arith, Bool, true, false, not, cond, Option, Some, None, ◌⊎◌, inl, inr, map, subst}
-use Rattle.std.specs.Prelude.{filter, nat_lt, ◌==◌, ◌&&◌, ◌||◌, slice_get, if◌then◌else◌}
+use Rattle.std.proofs.Common.{◌≡◌, ℕ, zero, suc, List, [], ◌∷◌, ◌++◌, refl, ap, sym, ◌∙◌, arith, Bool, true, false, cond, Option, Some, None, ◌⊎◌, inl, inr, map}
+use Rattle.std.specs.Prelude.{filter, nat_lt, slice_get}
 use Rattle.std.specs.List.{list_any}
-use Rattle.std.proofs.lemmas.Bool.{cases_Bool, cases_lt, cases_order, true≢false, lt-ltb, le-ltb, ltb-true, ltb-false, eqb-true, eq-eqb, ne_eqb, or_parts, and_parts, or_cases, or_left, or_right}
+use Rattle.std.proofs.lemmas.Bool.{cases_Bool, true≢false, or_cases, or_left, or_right}
 use Rattle.std.proofs.lemmas.Bool.Decides.{nat_tests}
 use Rattle.std.proofs.lemmas.Option.{same_Some, none-some}
 use Rattle.fb_units.specs.declared.types.Place.{Place}
 use Rattle.fb_units.specs.declared.types.Track.{Track}
-use Rattle.fb_units.specs.Tracks.{same_track}
 use Rattle.fb_geometry.specs.declared.marks.Mark.{Mark}
 use Rattle.fb_geometry.specs.Marks.{is_mark_before}
 use Rattle.fb_geometry.specs.Faults.{is_place_before, is_track_before, least, lesser}
@@ -34,7 +33,8 @@ track_order = record {
   apart = λ a. grind (arith, nat_tests);
   back = λ a b h. grind (arith, nat_tests);
   chain = λ a b c h k. grind (arith, nat_tests);
-  total = one_track }
+  total = one_track;
+}
 
 module _ (a b : Place) (h : is_place_before a b ≡ false) (k : is_place_before b a ≡ false) where
   same_cylinder : a.track.cylinder ≡ b.track.cylinder
@@ -48,14 +48,15 @@ module _ (a b : Place) (h : is_place_before a b ≡ false) (k : is_place_before 
 
   one_place : a ≡ b
   one_place = ap (λ c. record { track = record { cylinder = c; head = a.track.head }; slot = a.slot }) same_cylinder
-    ∙ (ap (λ h. record { track = record { cylinder = b.track.cylinder; head = h }; slot = a.slot }) same_head ∙ ap (λ s. record { track = b.track; slot = s }) same_slot)
+      ∙ (ap (λ h. record { track = record { cylinder = b.track.cylinder; head = h }; slot = a.slot }) same_head ∙ ap (λ s. record { track = b.track; slot = s }) same_slot)
 
 pub place_order : IsOrder is_place_before
 place_order = record {
   apart = λ a. grind (arith, nat_tests);
   back = λ a b h. grind (arith, nat_tests);
   chain = λ a b c h k. grind (arith, nat_tests);
-  total = one_place }
+  total = one_place;
+}
 
 module _ (a b : Mark) (h : is_mark_before a b ≡ false) (k : is_mark_before b a ≡ false) where
   mark_cylinder : a.cylinder ≡ b.cylinder
@@ -72,14 +73,16 @@ mark_order = record {
   apart = λ a. grind (arith, nat_tests);
   back = λ a b h. grind (arith, nat_tests);
   chain = λ a b c h k. grind (arith, nat_tests);
-  total = one_mark }
+  total = one_mark;
+}
 
 pub number_order : IsOrder nat_lt
 number_order = record {
   apart = λ a. grind (arith, nat_tests);
   back = λ a b h. grind (arith, nat_tests);
   chain = λ a b c h k. grind (arith, nat_tests);
-  total = λ a b h k. grind (arith, nat_tests) }
+  total = λ a b h k. grind (arith, nat_tests);
+}
 
 -- ---- elements
 
@@ -98,20 +101,23 @@ lesser_is before order y x None all not_before (inl same) = ap Some same
 lesser_is before order y x None all not_before (inr at) = absurd (none-some x at)
 lesser_is before order y x (Some z) all not_before (inl same) = rw (ap (before z) same ∙ all z refl) (ap Some same)
 lesser_is before order y x (Some z) all not_before (inr at) = elim (cases_Bool (before z y)) [
-    | inl less ↦ rw less at
-    | inr more ↦ rw more (ap Some (order.total y x not_before (ap (λ z. before z y) (sym (same_Some z x at)) ∙ more))) ]
+  | inl less ↦ rw less at
+  | inr more ↦ rw more (ap Some (order.total y x not_before (ap (λ z. before z y) (sym (same_Some z x at)) ∙ more)))
+]
 
 lesser_from : {A : Type 0} (before : A → A → Bool) (y z : A) (o : Option A) → lesser before y o ≡ Some z → (y ≡ z) ⊎ (o ≡ Some z)
 lesser_from before y z None e = inl (same_Some y z e)
 lesser_from before y z (Some x) e = elim (cases_Bool (before x y)) [
-    | inl less ↦ inr (rw less at e)
-    | inr more ↦ inl (same_Some y z (rw more at e)) ]
+  | inl less ↦ inr (rw less at e)
+  | inr more ↦ inl (same_Some y z (rw more at e))
+]
 
 least_among : {A : Type 0} (before : A → A → Bool) (xs : List A) (z : A) → least before xs ≡ Some z → Among xs z
 least_among before [] z e = absurd (none-some z e)
 least_among before (y ∷ xs) z e = elim (lesser_from before y z (least before xs) e) [
-    | inl here ↦ (0, ap Some here)
-    | inr later ↦ among-tail y z xs (least_among before xs z later) ]
+  | inl here ↦ (0, ap Some here)
+  | inr later ↦ among-tail y z xs (least_among before xs z later)
+]
 
 -- none is before one that is the least
 pub least-is : {A : Type 0} (before : A → A → Bool) → IsOrder before → (xs : List A) (x : A) → Among xs x → ((y : A) → Among xs y → before y x ≡ false) → least before xs ≡ Some x
@@ -120,7 +126,7 @@ least-is before order (y ∷ xs) x (zero, at) first =
     lesser_is before order y x (least before xs) (λ z e. first z (among-tail y z xs (least_among before xs z e))) (first y (among-head y xs)) (inl (same_Some y x at))
 least-is before order (y ∷ xs) x (suc k, at) first =
     lesser_is before order y x (least before xs) (λ z e. first z (among-tail y z xs (least_among before xs z e))) (first y (among-head y xs))
-      (inr (least-is before order xs x (k, at) (λ z one. first z (among-tail y z xs one))))
+    (inr (least-is before order xs x (k, at) (λ z one. first z (among-tail y z xs one))))
 
 pub least-nothing : {A : Type 0} (before : A → A → Bool) (xs : List A) → ((y : A) → Among xs y → ⊥) → least before xs ≡ None
 least-nothing before [] none = refl
@@ -150,21 +156,24 @@ pub among-filter : {A : Type 0} (test : A → Bool) (xs : List A) (x : A) → Am
 among-filter test [] x one e = absurd (none-some x one.1)
 among-filter test (y ∷ xs) x (zero, at) e = rw (ap test (same_Some y x at) ∙ e) (0, at)
 among-filter test (y ∷ xs) x (suc k, at) e = elim (cases_Bool (test y)) [
-    | inl in_ ↦ rw in_ (among-tail y x (filter test xs) (among-filter test xs x (k, at) e))
-    | inr out ↦ rw out (among-filter test xs x (k, at) e) ]
+  | inl in_ ↦ rw in_ (among-tail y x (filter test xs) (among-filter test xs x (k, at) e))
+  | inr out ↦ rw out (among-filter test xs x (k, at) e)
+]
 
 pub among-filtered : {A : Type 0} (test : A → Bool) (xs : List A) (x : A) → Among (filter test xs) x → Among xs x × (test x ≡ true)
 among-filtered test [] x one = absurd (none-some x one.1)
 among-filtered test (y ∷ xs) x one = step (test y) refl one (λ one. among-filtered test xs x one)
-    where
-      head : {A : Type 0} (x y : A) (k : ℕ) (xs : List A) → slice_get (y ∷ xs) k ≡ Some x → (y ≡ x) ⊎ Among xs x
-      head x y zero xs at = inl (same_Some y x at)
-      head x y (suc k) xs at = inr (k, at)
-      step : (b : Bool) → test y ≡ b → Among (cond b (y ∷ filter test xs) (filter test xs)) x → (Among (filter test xs) x → Among xs x × (test x ≡ true)) → Among (y ∷ xs) x × (test x ≡ true)
-      step false e one rest = let found = rest one in (among-tail y x xs found.0, found.1)
-      step true e one rest = elim (head x y one.0 (filter test xs) one.1) [
-          | inl here ↦ ((0, ap Some here), sym (ap test here) ∙ e)
-          | inr later ↦ let found = rest later in (among-tail y x xs found.0, found.1) ]
+  where
+    head : {A : Type 0} (x y : A) (k : ℕ) (xs : List A) → slice_get (y ∷ xs) k ≡ Some x → (y ≡ x) ⊎ Among xs x
+    head x y zero xs at = inl (same_Some y x at)
+    head x y (suc k) xs at = inr (k, at)
+
+    step : (b : Bool) → test y ≡ b → Among (cond b (y ∷ filter test xs) (filter test xs)) x → (Among (filter test xs) x → Among xs x × (test x ≡ true)) → Among (y ∷ xs) x × (test x ≡ true)
+    step false e one rest = let found = rest one in (among-tail y x xs found.0, found.1)
+    step true e one rest = elim (head x y one.0 (filter test xs) one.1) [
+      | inl here ↦ ((0, ap Some here), sym (ap test here) ∙ e)
+      | inr later ↦ let found = rest later in (among-tail y x xs found.0, found.1)
+    ]
 
 pub among-map : {A B : Type 0} (f : A → B) (xs : List A) (x : A) → Among xs x → Among (map f xs) (f x)
 among-map f [] x one = absurd (none-some x one.1)
@@ -184,5 +193,6 @@ among-any test (y ∷ xs) x (suc k, at) e = or_right (test y) (list_any test xs)
 pub any-among : {A : Type 0} (test : A → Bool) (xs : List A) → list_any test xs ≡ true → (x : A) × Among xs x × (test x ≡ true)
 any-among test [] h = absurd (true≢false (sym h))
 any-among test (y ∷ xs) h = elim (or_cases (test y) (list_any test xs) h) [
-    | inl here ↦ (y, (0, refl), here)
-    | inr later ↦ let found = any-among test xs later in (found.0, among-tail y found.0 xs found.1, found.2) ]
+  | inl here ↦ (y, (0, refl), here)
+  | inr later ↦ let found = any-among test xs later in (found.0, among-tail y found.0 xs found.1, found.2)
+]

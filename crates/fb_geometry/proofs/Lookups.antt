@@ -1,19 +1,18 @@
 -- Where the sectors of a cylinder are.
-use Rattle.std.proofs.Common.{◌≡◌, ◌≢◌, ℕ, zero, suc, ◌+◌, ◌-◌, ◌*◌, ◌/◌, ◌%◌, ◌^◌, ◌<◌, ◌≤◌, List, [], ◌∷◌, ◌++◌, length, refl, ap, sym, ◌∙◌, arith, Bool, true, false, not, cond, Option, Some, None, ◌⊎◌, inl, inr, map, subst, take, drop, get_or}
-use Rattle.std.specs.Prelude.{filter, nat_lt, nat_le, ◌==◌, ◌&&◌, ◌||◌, slice_get}
-use Rattle.std.specs.List.{AllByRecursion, flat_map, range_with_len, list_any}
+use Rattle.std.proofs.Common.{◌≡◌, ℕ, zero, suc, ◌+◌, ◌-◌, ◌*◌, ◌/◌, ◌%◌, ◌<◌, ◌≤◌, List, [], ◌∷◌, ◌++◌, length, refl, ap, sym, ◌∙◌, arith, Bool, true, false, not, cond, Some, None, inl, inr, map, subst, take, drop}
+use Rattle.std.specs.Prelude.{filter, ◌==◌, slice_get}
+use Rattle.std.specs.List.{AllByRecursion, range_with_len, list_any}
 use Rattle.std.proofs.Math.Nat.{mod-lt}
-use Rattle.std.proofs.lemmas.Nat.{mul-add-lt, div_below, mul-le, div-add-mod'}
-use Rattle.std.proofs.lemmas.Bool.{cases_Bool, cases_lt, and_parts, eqb-true, true≢false, not_from_true, not_from_false, not-true}
+use Rattle.std.proofs.lemmas.Nat.{div_below, mul-le, div-add-mod'}
+use Rattle.std.proofs.lemmas.Bool.{cases_Bool, cases_lt}
 use Rattle.std.proofs.lemmas.Bool.Decides.{nat_tests}
-use Rattle.std.proofs.lemmas.Option.{same_Some, none-some, slice_get-get_or, slice_get_within}
+use Rattle.std.proofs.lemmas.Option.{same_Some, none-some, slice_get_within}
 use Rattle.std.proofs.lemmas.List.{length-take, length-take-le, length-append, map-append, take-append-drop, take-take}
 use Rattle.std.proofs.lemmas.List.Elements.{filter-append}
-use Rattle.std.proofs.lemmas.List.FromFn.{length-range_with_len, take-map-range_with_len}
+use Rattle.std.proofs.lemmas.List.FromFn.{take-map-range_with_len}
 use Rattle.fb_units.specs.declared.types.Place.{Place}
-use Rattle.fb_units.specs.declared.types.Track.{Track}
 use Rattle.fb_geometry.specs.declared.layout.Layout.{Layout}
-use Rattle.fb_geometry.specs.declared.layout.Layout.TheVariants.{PerTrack, PerCylinder}
+use Rattle.fb_geometry.specs.declared.layout.Layout.TheVariants.{PerTrack}
 use Rattle.fb_geometry.specs.declared.zone.Zone.{Zone}
 use Rattle.fb_geometry.specs.Shape.{Shape, same_place, is_among, offset_in}
 use Rattle.fb_geometry.specs.Places.{turn, per_track, per_cylinder, good_track, by_head, replaced, stand_in}
@@ -21,7 +20,7 @@ use Rattle.fb_geometry.specs.Faults.{spare_fault, has_no_data}
 use Rattle.fb_geometry.specs.Turns.{IsZone, IsZoneAt, slot_at, cylinder_slots, position_in}
 use Rattle.fb_geometry.specs.Slips.{IsAscending, slipped, rank, indexes}
 use Rattle.fb_geometry.proofs.Grid.{get_left, get_right, get_part, get_range}
-use Rattle.fb_geometry.proofs.Slips.{kept_at, kept_to, marked, rank-le, rank-slipped, slipped-free, rank-below, rank-at, rank-mono, rank-step, rank_marked, rank-le_length, among_at, indexes-ascend, length-kept, length-kept_front}
+use Rattle.fb_geometry.proofs.Slips.{kept_at, kept_to, marked, rank-le, rank-slipped, slipped-free, rank-at, rank-mono, rank-step, rank_marked, rank-le_length, among_at, indexes-ascend, length-kept, length-kept_front}
 use Rattle.fb_geometry.proofs.Turns.{good_track-is, good_cylinder-is, range-append, length-cylinder_slots, get-cylinder_slots, position_in-slot_at, slot_at-position_in, position_below}
 use Rattle.fb_geometry.proofs.Faultless.{all_get}
 use Rattle.fb_geometry.proofs.Laws.{HasSpares, length-track, length-per_track, length-good, few_flaws, length-per_cylinder, all-filter}
@@ -37,9 +36,9 @@ pub get_drop : {X : Type 0} (n : ℕ) (xs : List X) (i : ℕ) → slice_get (dro
 get_drop zero xs i = ap (slice_get xs) (omega arith)
 get_drop (suc n) [] i = refl
 get_drop (suc n) (x ∷ xs) i = get_drop n xs i ∙ ap (slice_get (x ∷ xs)) (next n i)
-    where
-      next : (n i : ℕ) → suc (n + i) ≡ suc n + i
-      next n i = omega arith
+  where
+    next : (n i : ℕ) → suc (n + i) ≡ suc n + i
+    next n i = omega arith
 
 pub within : {X : Type 0} (xs : List X) (i : ℕ) → i < length xs → (x : X) × (slice_get xs i ≡ Some x)
 within [] i h = absurd (omega arith)
@@ -57,9 +56,9 @@ module _ {A : Type 0} (test : A → Bool) (xs : List A) (numbers : List ℕ) (ar
 
   pub rank_le : (i : ℕ) → rank i numbers ≤ i
   rank_le i = omega (arith, ap (rank i) are, ap (λ j. rank j (indexes test 0 xs)) (zero_add i), rank-le test 0 i xs)
-      where
-        zero_add : (i : ℕ) → 0 + i ≡ i
-        zero_add i = omega arith
+    where
+      zero_add : (i : ℕ) → 0 + i ≡ i
+      zero_add i = omega arith
 
   -- the k-th that is left
   pub kth : (k : ℕ) → k < length (filter (λ x. not (test x)) xs) → (slipped k numbers < length xs) × (slice_get (filter (λ x. not (test x)) xs) k ≡ slice_get xs (slipped k numbers))
@@ -67,39 +66,39 @@ module _ {A : Type 0} (test : A → Bool) (xs : List A) (numbers : List ℕ) (ar
       let same = kept_at test 0 xs k (slipped k numbers) (ap (λ m. slipped m (indexes test 0 xs)) (zero_add k) ∙ (ap (slipped k) (sym are) ∙ sym (zero_add (slipped k numbers)))) in
       let one = within (filter (λ x. not (test x)) xs) k h in
       (slice_get_within xs (slipped k numbers) one.0 (sym same ∙ one.1), same)
-      where
-        zero_add : (i : ℕ) → 0 + i ≡ i
-        zero_add i = omega arith
+    where
+      zero_add : (i : ℕ) → 0 + i ≡ i
+      zero_add i = omega arith
 
   -- where one that is left goes
   pub goes : (i : ℕ) (x : A) → slice_get xs i ≡ Some x → test x ≡ false → slice_get (filter (λ x. not (test x)) xs) (i - rank i numbers) ≡ Some x
   goes i x at stays = kept_to test 0 xs i (i - rank i numbers) x at stays (omega (arith, rank_le i, ap (rank i) are, ap (λ j. rank j (indexes test 0 xs)) (zero_add i)))
-      where
-        zero_add : (i : ℕ) → 0 + i ≡ i
-        zero_add i = omega arith
+    where
+      zero_add : (i : ℕ) → 0 + i ≡ i
+      zero_add i = omega arith
 
   pub is_marked_at : (i : ℕ) (x : A) → slice_get xs i ≡ Some x → list_any (λ other. other == i) numbers ≡ test x
   is_marked_at i x at = ap (list_any (λ other. other == i)) are ∙ (ap (λ j. list_any (λ other. other == j) (indexes test 0 xs)) (zero_add i) ∙ marked test 0 xs i x at)
-      where
-        zero_add : (i : ℕ) → i ≡ 0 + i
-        zero_add i = omega arith
+    where
+      zero_add : (i : ℕ) → i ≡ 0 + i
+      zero_add i = omega arith
 
   -- what is left of the front
   pub length_front : (i : ℕ) → i ≤ length xs → length (filter (λ x. not (test x)) (take i xs)) ≡ i - rank i numbers
   length_front i h = omega (arith, length-kept_front test 0 i xs h, ap (rank i) are, ap (λ j. rank j (indexes test 0 xs)) (zero_add i))
-      where
-        zero_add : (i : ℕ) → 0 + i ≡ i
-        zero_add i = omega arith
+    where
+      zero_add : (i : ℕ) → 0 + i ≡ i
+      zero_add i = omega arith
 
 -- ---- spares at the end of each track
 
 all_good : {A : Type 0} (test : A → Bool) (xs : List A) → AllByRecursion (λ x. test x ≡ false) (filter (λ x. not (test x)) xs)
 all_good test [] = tt
 all_good test (x ∷ xs) = keep (test x) refl (all_good test xs)
-    where
-      keep : (b : Bool) → test x ≡ b → AllByRecursion (λ x. test x ≡ false) (filter (λ x. not (test x)) xs) → AllByRecursion (λ x. test x ≡ false) (cond (not b) (x ∷ filter (λ x. not (test x)) xs) (filter (λ x. not (test x)) xs))
-      keep true e all = all
-      keep false e all = (e, all)
+  where
+    keep : (b : Bool) → test x ≡ b → AllByRecursion (λ x. test x ≡ false) (filter (λ x. not (test x)) xs) → AllByRecursion (λ x. test x ≡ false) (cond (not b) (x ∷ filter (λ x. not (test x)) xs) (filter (λ x. not (test x)) xs))
+    keep true e all = all
+    keep false e all = (e, all)
 
 all_map : {A B : Type 0} (P : B → Type 0) (f : A → B) → ((x : A) → P (f x)) → (xs : List A) → AllByRecursion P (map f xs)
 all_map P f each [] = tt
@@ -152,23 +151,24 @@ module _ (disk : Shape) (zone : Zone) (cylinder : ℕ) (at : IsZoneAt disk cylin
       let left = disk.heads * n - first - n in
       let rest = map slot (range_with_len (first + n) left) in
       let parts : cylinder_slots zone disk.heads cylinder ≡ front ++ (part ++ rest) =
-          ap (λ m. map slot (range_with_len 0 m)) (sum (disk.heads * n) first n fits) ∙ (ap (map slot) (range-append 0 first (n + left) ∙ ap (λ a. range_with_len 0 first ++ range_with_len a (n + left)) (zero_add first)
-          ∙ ap (λ xs. range_with_len 0 first ++ xs) (range-append first n left)) ∙ (map-append slot (range_with_len 0 first) (range_with_len first n ++ range_with_len (first + n) left)
-          ∙ ap (λ xs. front ++ xs) (map-append slot (range_with_len first n) (range_with_len (first + n) left)))) in
+      ap (λ m. map slot (range_with_len 0 m)) (sum (disk.heads * n) first n fits) ∙ (ap (map slot) (range-append 0 first (n + left) ∙ ap (λ a. range_with_len 0 first ++ range_with_len a (n + left)) (zero_add first)
+      ∙ ap (λ xs. range_with_len 0 first ++ xs) (range-append first n left)) ∙ (map-append slot (range_with_len 0 first) (range_with_len first n ++ range_with_len (first + n) left)
+      ∙ ap (λ xs. front ++ xs) (map-append slot (range_with_len first n) (range_with_len (first + n) left)))) in
       let cut : good ≡ filter is_good front ++ (filter is_good part ++ filter is_good rest) =
-          ap (filter is_good) parts ∙ (filter-append is_good front (part ++ rest) ∙ ap (λ xs. filter is_good front ++ xs) (filter-append is_good part rest)) in
+      ap (filter is_good) parts ∙ (filter-append is_good front (part ++ rest) ∙ ap (λ xs. filter is_good front ++ xs) (filter-append is_good part rest)) in
       let before : length (filter is_good front) ≡ first - rank first numbers =
-          ap (λ xs. length (filter is_good xs)) (sym (take-map-range_with_len slot 0 (disk.heads * n) first (omega arith)))
-          ∙ length_front (is_among disk.defects) (cylinder_slots zone disk.heads cylinder) numbers are first (omega (arith, length-cylinder_slots zone disk.heads some cylinder)) in
+      ap (λ xs. length (filter is_good xs)) (sym (take-map-range_with_len slot 0 (disk.heads * n) first (omega arith)))
+      ∙ length_front (is_among disk.defects) (cylinder_slots zone disk.heads cylinder) numbers are first (omega (arith, length-cylinder_slots zone disk.heads some cylinder)) in
       let own : filter is_good part ≡ on_track head = sym (good_track-is zone disk.heads some disk (record { cylinder = cylinder; head = head }) refl) in
       ap (λ xs. slice_get xs (first - rank first numbers + i)) cut
       ∙ (get_right (filter is_good front) (filter is_good part ++ filter is_good rest) i (first - rank first numbers + i) (omega (arith, before))
       ∙ (get_left (filter is_good part) (filter is_good rest) i (omega (arith, ap length own)) ∙ ap (λ xs. slice_get xs i) own))
-      where
-        sum : (m a n : ℕ) → a + n ≤ m → m ≡ a + (n + (m - a - n))
-        sum m a n h = omega arith
-        zero_add : (a : ℕ) → 0 + a ≡ a
-        zero_add a = omega arith
+    where
+      sum : (m a n : ℕ) → a + n ≤ m → m ≡ a + (n + (m - a - n))
+      sum m a n h = omega arith
+
+      zero_add : (a : ℕ) → 0 + a ≡ a
+      zero_add a = omega arith
 
   module _ (few : spare_fault PerTrack disk ≡ None) where
     sectors_on : (head : ℕ) → zone.sectors - zone.spares ≤ length (good_track disk zone (record { cylinder = cylinder; head = head }))
@@ -177,11 +177,11 @@ module _ (disk : Shape) (zone : Zone) (cylinder : ℕ) (at : IsZoneAt disk cylin
     entry : (head i : ℕ) → head < disk.heads → i < zone.sectors - zone.spares → slice_get (per_track disk zone cylinder) (head * (zone.sectors - zone.spares) + i) ≡ slice_get (good_track disk zone (record { cylinder = cylinder; head = head })) i
     entry head i h l =
         get_part (λ head. take (zone.sectors - zone.spares) (good_track disk zone (record { cylinder = cylinder; head = head }))) (zone.sectors - zone.spares) (λ head. length-track disk zone cylinder at head few)
-          (range_with_len 0 disk.heads) head i (head * (zone.sectors - zone.spares) + i) head (get_range 0 disk.heads head h ∙ ap Some (zero_add head)) l refl
+        (range_with_len 0 disk.heads) head i (head * (zone.sectors - zone.spares) + i) head (get_range 0 disk.heads head h ∙ ap Some (zero_add head)) l refl
         ∙ get_take (zone.sectors - zone.spares) (on_track head) i l
-        where
-          zero_add : (a : ℕ) → 0 + a ≡ a
-          zero_add a = omega arith
+      where
+        zero_add : (a : ℕ) → 0 + a ≡ a
+        zero_add a = omega arith
 
     -- the place of the i-th sector of a track
     pub place_by_track : (j head i k : ℕ) → head * (zone.sectors - zone.spares) + i ≡ j → head < disk.heads → i < zone.sectors - zone.spares → head * zone.sectors - rank (head * zone.sectors) numbers + i ≡ k
@@ -197,8 +197,8 @@ module _ (disk : Shape) (zone : Zone) (cylinder : ℕ) (at : IsZoneAt disk cylin
     -- the track of a sector, and its index there
     pub split_by_track : (j : ℕ) → 0 < zone.sectors - zone.spares → j < length (per_track disk zone cylinder)
         → (j / (zone.sectors - zone.spares) < disk.heads) × (j % (zone.sectors - zone.spares) < zone.sectors - zone.spares)
-          × (j / (zone.sectors - zone.spares) * (zone.sectors - zone.spares) + j % (zone.sectors - zone.spares) ≡ j)
-          × (j / (zone.sectors - zone.spares) * zone.sectors + zone.sectors ≤ disk.heads * zone.sectors)
+        × (j / (zone.sectors - zone.spares) * (zone.sectors - zone.spares) + j % (zone.sectors - zone.spares) ≡ j)
+        × (j / (zone.sectors - zone.spares) * zone.sectors + zone.sectors ≤ disk.heads * zone.sectors)
     split_by_track j some_data h =
         let d = zone.sectors - zone.spares in
         let below : j < disk.heads * d = omega (arith, length-per_track disk zone cylinder at few) in
@@ -213,7 +213,7 @@ module _ (disk : Shape) (zone : Zone) (cylinder : ℕ) (at : IsZoneAt disk cylin
     -- where an entry stands on its track, from its position
     pub index_by_track : (j : ℕ) (place : Place) → 0 < zone.sectors - zone.spares → slice_get (per_track disk zone cylinder) j ≡ Some place
         → (is_among disk.defects place ≡ false) × (i : ℕ) × (i < zone.sectors - zone.spares)
-          × (place.track.head * zone.sectors - rank (place.track.head * zone.sectors) numbers + i ≡ position_in zone disk.heads place - rank (position_in zone disk.heads place) numbers)
+        × (place.track.head * zone.sectors - rank (place.track.head * zone.sectors) numbers + i ≡ position_in zone disk.heads place - rank (position_in zone disk.heads place) numbers)
     index_by_track j place some_data found =
         let d = zone.sectors - zone.spares in
         let below : j < disk.heads * d = omega (arith, slice_get_within (per_track disk zone cylinder) j place found, length-per_track disk zone cylinder at few) in
@@ -224,9 +224,12 @@ module _ (disk : Shape) (zone : Zone) (cylinder : ℕ) (at : IsZoneAt disk cylin
         let whole : head * d + i ≡ j = div-add-mod' j d in
         let here : slice_get (on_track head) i ≡ Some place = sym (entry head i on inside) ∙ (ap (slice_get (per_track disk zone cylinder)) whole ∙ found) in
         let same : place.track.head ≡ head = ap (λ track. track.head) (all_get (λ place. place.track ≡ record { cylinder = cylinder; head = head }) (on_track head) i place (tracks_are head) here) in
-        let in_good : slice_get good (head * zone.sectors - rank (head * zone.sectors) numbers + i) ≡ Some place = track_in_good head i on (slice_get_within (on_track head) i place here) ∙ here in
-        (all_get (λ place. is_among disk.defects place ≡ false) good (head * zone.sectors - rank (head * zone.sectors) numbers + i) place (all_good (is_among disk.defects) (cylinder_slots zone disk.heads cylinder)) in_good,
-          i, inside, ap (λ k. k * zone.sectors - rank (k * zone.sectors) numbers + i) same ∙ good_index (head * zone.sectors - rank (head * zone.sectors) numbers + i) place in_good)
+        let in_good : slice_get good (head * zone.sectors - rank (head * zone.sectors) numbers + i) ≡ Some place = track_in_good head i on (slice_get_within (on_track head) i place here) ∙ here in (
+          all_get (λ place. is_among disk.defects place ≡ false) good (head * zone.sectors - rank (head * zone.sectors) numbers + i) place (all_good (is_among disk.defects) (cylinder_slots zone disk.heads cylinder)) in_good,
+          i,
+          inside,
+          ap (λ k. k * zone.sectors - rank (k * zone.sectors) numbers + i) same ∙ good_index (head * zone.sectors - rank (head * zone.sectors) numbers + i) place in_good,
+        )
 
     -- a good slot of a track that comes early enough holds data
     pub holds_by_track : (place : Place) (i : ℕ) → place.track.cylinder ≡ cylinder → place.track.head < disk.heads → place.slot < zone.sectors → is_among disk.defects place ≡ false → i < zone.sectors - zone.spares
@@ -236,7 +239,7 @@ module _ (disk : Shape) (zone : Zone) (cylinder : ℕ) (at : IsZoneAt disk cylin
         let position = position_in zone disk.heads place in
         let slot : slice_get (cylinder_slots zone disk.heads cylinder) position ≡ Some place = slot_of place c h l in
         entry place.track.head i h inside ∙ (sym (track_in_good place.track.head i h (omega (arith, sectors_on place.track.head)))
-          ∙ (ap (slice_get good) e ∙ goes (is_among disk.defects) (cylinder_slots zone disk.heads cylinder) numbers are position place slot stays))
+        ∙ (ap (slice_get good) e ∙ goes (is_among disk.defects) (cylinder_slots zone disk.heads cylinder) numbers are position place slot stays))
 
 -- ---- spares at the end of the cylinder
 
@@ -256,8 +259,9 @@ module _ (disk : Shape) where
   replaced-moves (other ∷ places) (first ∷ spares) zero place spare at moves stand =
       ap (λ b. Some (stand_in b other (first ∷ spares)).0) (ap (is_among disk.grown) (same_Some other place at) ∙ moves) ∙ stand
   replaced-moves (other ∷ places) (first ∷ spares) (suc j) place spare at moves stand = elim (cases_Bool (is_among disk.grown other)) [
-      | inl gone ↦ rw gone (replaced-moves places spares j place spare at moves (rw gone at stand))
-      | inr stays ↦ rw stays (replaced-moves places (first ∷ spares) j place spare at moves (rw stays at stand)) ]
+    | inl gone ↦ rw gone (replaced-moves places spares j place spare at moves (rw gone at stand))
+    | inr stays ↦ rw stays (replaced-moves places (first ∷ spares) j place spare at moves (rw stays at stand))
+  ]
 
 length-indexes : {A : Type 0} (test : A → Bool) (xs : List A) → length (indexes test 0 xs) ≡ length (filter test xs)
 length-indexes test xs = omega (arith, length-kept test 0 xs, kept_and_dropped test xs)
@@ -293,9 +297,13 @@ module _ (disk : Shape) (zone : Zone) (cylinder : ℕ) (at : IsZoneAt disk cylin
   base_inside = omega (arith, length-good disk zone cylinder at h, few_flaws disk zone cylinder at h)
 
   few_grown : length grown ≤ length (filter (λ place. place.track.cylinder == cylinder) disk.grown)
-  few_grown = omega (arith, ap length those, length-indexes (is_among disk.grown) whole,
-      at_most_each same_place (λ place. place.track.cylinder == cylinder) whole disk.grown
-        (λ d. omega (arith, ap (λ xs. length (filter (λ place. same_place place d) xs)) whole-is, fewer (λ place. same_place place d) (λ place. not (is_among disk.defects place)) (cylinder_slots zone disk.heads cylinder), once_on_cylinder zone some_slots disk.heads cylinder d)))
+  few_grown = omega (
+    arith,
+    ap length those,
+    length-indexes (is_among disk.grown) whole,
+    at_most_each same_place (λ place. place.track.cylinder == cylinder) whole disk.grown
+        (λ d. omega (arith, ap (λ xs. length (filter (λ place. same_place place d) xs)) whole-is, fewer (λ place. same_place place d) (λ place. not (is_among disk.defects place)) (cylinder_slots zone disk.heads cylinder), once_on_cylinder zone some_slots disk.heads cylinder d)),
+  )
 
   -- what is left of the base list, before the spares
   clean_front : length (filter clean (take base whole)) ≡ base - rank base grown
@@ -359,8 +367,8 @@ module _ (disk : Shape) (zone : Zone) (cylinder : ℕ) (at : IsZoneAt disk cylin
   -- a sector's place is no defect, not grown, and comes early enough among those that are neither
   pub index_by_cylinder : (j : ℕ) (place : Place) → slice_get (per_cylinder disk zone cylinder) j ≡ Some place
       → (is_among disk.defects place ≡ false) × (is_among disk.grown place ≡ false)
-        × (slice_get whole (position_in zone disk.heads place - rank (position_in zone disk.heads place) numbers) ≡ Some place)
-        × (position_in zone disk.heads place - rank (position_in zone disk.heads place) numbers - rank (position_in zone disk.heads place - rank (position_in zone disk.heads place) numbers) grown < base)
+      × (slice_get whole (position_in zone disk.heads place - rank (position_in zone disk.heads place) numbers) ≡ Some place)
+      × (position_in zone disk.heads place - rank (position_in zone disk.heads place) numbers - rank (position_in zone disk.heads place - rank (position_in zone disk.heads place) numbers) grown < base)
   index_by_cylinder j place found =
       let below : j < base = omega (arith, slice_get_within (per_cylinder disk zone cylinder) j place found, length-per_cylinder disk zone cylinder at h) in
       let one = base_entry j below in
@@ -375,20 +383,24 @@ module _ (disk : Shape) (zone : Zone) (cylinder : ℕ) (at : IsZoneAt disk cylin
             let in_whole = kth (is_among disk.grown) whole grown those (base - rank base grown + m) (slice_get_within (filter clean whole) (base - rank base grown + m) place in_clean) in
             let here : slice_get whole k ≡ Some place = sym in_whole.1 ∙ in_clean in
             from_whole k place here (sym (is_marked_at (is_among disk.grown) whole grown those k place here) ∙ slipped-free (base - rank base grown + m) k grown grown_ascend refl)
-              (omega (arith, rank-slipped (base - rank base grown + m) k grown grown_ascend refl, rank_le (is_among disk.grown) whole grown those base))
+            (omega (arith, rank-slipped (base - rank base grown + m) k grown grown_ascend refl, rank_le (is_among disk.grown) whole grown those base))
         | inr stays ↦
             let same : one.0 ≡ place = same_Some one.0 place (sym (stayed j one.0 below one.1 stays) ∙ found) in
-            from_whole j place (one.1 ∙ ap Some same) (sym (ap (is_among disk.grown) same) ∙ stays) (omega arith) ]
-      where
-        from_whole : (k : ℕ) (place : Place) → slice_get whole k ≡ Some place → is_among disk.grown place ≡ false → k - rank k grown < base
-            → (is_among disk.defects place ≡ false) × (is_among disk.grown place ≡ false)
-              × (slice_get whole (position_in zone disk.heads place - rank (position_in zone disk.heads place) numbers) ≡ Some place)
-              × (position_in zone disk.heads place - rank (position_in zone disk.heads place) numbers - rank (position_in zone disk.heads place - rank (position_in zone disk.heads place) numbers) grown < base)
-        from_whole k place here stays early =
-            let in_good : slice_get (filter (λ place. not (is_among disk.defects place)) (cylinder_slots zone disk.heads cylinder)) k ≡ Some place = ap (λ xs. slice_get xs k) (sym whole-is) ∙ here in
-            let index = good_index disk zone cylinder at numbers are k place in_good in
-            (all_get (λ place. is_among disk.defects place ≡ false) (filter (λ place. not (is_among disk.defects place)) (cylinder_slots zone disk.heads cylinder)) k place (all_good (is_among disk.defects) (cylinder_slots zone disk.heads cylinder)) in_good,
-              stays, ap (slice_get whole) (sym index) ∙ here, subst (λ k. k - rank k grown < base) index early)
+            from_whole j place (one.1 ∙ ap Some same) (sym (ap (is_among disk.grown) same) ∙ stays) (omega arith)
+      ]
+    where
+      from_whole : (k : ℕ) (place : Place) → slice_get whole k ≡ Some place → is_among disk.grown place ≡ false → k - rank k grown < base
+          → (is_among disk.defects place ≡ false) × (is_among disk.grown place ≡ false)
+          × (slice_get whole (position_in zone disk.heads place - rank (position_in zone disk.heads place) numbers) ≡ Some place)
+          × (position_in zone disk.heads place - rank (position_in zone disk.heads place) numbers - rank (position_in zone disk.heads place - rank (position_in zone disk.heads place) numbers) grown < base)
+      from_whole k place here stays early =
+          let in_good : slice_get (filter (λ place. not (is_among disk.defects place)) (cylinder_slots zone disk.heads cylinder)) k ≡ Some place = ap (λ xs. slice_get xs k) (sym whole-is) ∙ here in
+          let index = good_index disk zone cylinder at numbers are k place in_good in (
+            all_get (λ place. is_among disk.defects place ≡ false) (filter (λ place. not (is_among disk.defects place)) (cylinder_slots zone disk.heads cylinder)) k place (all_good (is_among disk.defects) (cylinder_slots zone disk.heads cylinder)) in_good,
+            stays,
+            ap (slice_get whole) (sym index) ∙ here,
+            subst (λ k. k - rank k grown < base) index early,
+          )
 
   -- where a good slot stands in the good list
   pub in_whole : (place : Place) → place.track.cylinder ≡ cylinder → place.track.head < disk.heads → place.slot < zone.sectors → is_among disk.defects place ≡ false
@@ -415,8 +427,9 @@ module _ (disk : Shape) (zone : Zone) (cylinder : ℕ) (at : IsZoneAt disk cylin
       let index : rank g grown ≡ s = rank-at s grown g grown_ascend entry_ in
       let few : s < rank base grown = omega arith in
       let below : g < base = elim (cases_lt g base) [
-          | inl l ↦ l
-          | inr back ↦ absurd (omega (arith, rank-mono base g grown back)) ] in
+        | inl l ↦ l
+        | inr back ↦ absurd (omega (arith, rank-mono base g grown back))
+      ] in
       let one = base_entry g below in
       let gone : is_among disk.grown one.0 ≡ true = sym (is_marked_at (is_among disk.grown) whole grown those g one.0 one.1) ∙ among_at s g grown entry_ in
       let left : slice_get (filter clean whole) (k - rank k grown) ≡ Some place = goes (is_among disk.grown) whole grown those k place here stays in

@@ -1,14 +1,13 @@
 -- The marks of places.
-use Rattle.std.proofs.Common.{◌≡◌, ◌≢◌, ℕ, zero, suc, ◌+◌, ◌-◌, ◌*◌, ◌/◌, ◌%◌, ◌<◌, ◌≤◌, List, [], ◌∷◌, ◌++◌, length, refl, ap, sym, ◌∙◌, arith, Bool, true, false, not, cond, Option, Some, None, ◌⊎◌, inl, inr, map, subst, get_or}
-use Rattle.std.specs.Prelude.{filter, find, nat_lt, ◌==◌, ◌&&◌, ◌||◌, slice_get}
-use Rattle.std.specs.List.{list_any, AllByRecursion}
+use Rattle.std.proofs.Common.{◌≡◌, ℕ, ◌+◌, ◌-◌, ◌*◌, ◌/◌, ◌%◌, ◌<◌, List, [], ◌∷◌, length, refl, ap, sym, ◌∙◌, arith, true, false, not, Some, None, inl, inr, subst, get_or}
+use Rattle.std.specs.Prelude.{find, nat_lt, ◌==◌, ◌&&◌, ◌||◌}
+use Rattle.std.specs.List.{list_any}
 use Rattle.std.specs.Ordering.{nat_cmp, is_lt, ordering_then}
-use Rattle.std.proofs.lemmas.Bool.{cases_Bool, cases_lt, or_parts, and_parts, not-false, ltb-true, lt-ltb, eqb-true}
+use Rattle.std.proofs.lemmas.Bool.{cases_Bool, and_parts, not-false, ltb-true, lt-ltb, eqb-true}
 use Rattle.std.proofs.lemmas.Bool.Decides.{nat_tests}
 use Rattle.std.proofs.Math.Nat.{mod-lt}
 use Rattle.std.proofs.lemmas.Nat.{div_below}
 use Rattle.fb_units.specs.declared.types.Place.{Place}
-use Rattle.fb_units.specs.declared.types.Track.{Track}
 use Rattle.fb_geometry.specs.declared.zone.Zone.{Zone}
 use Rattle.fb_geometry.specs.declared.marks.Mark.{Mark}
 use Rattle.fb_geometry.specs.Shape.{Shape, slots_at, cylinders_of, offset_at, offset_in}
@@ -55,7 +54,7 @@ pub slot_at-inside : (disk : Shape) (zone : Zone) (cylinder position : ℕ) → 
 slot_at-inside disk zone cylinder position at h l =
     let place = slot_at zone disk.heads cylinder position in
     inside-from cylinder (cylinders_of disk.zones) (position / zone.sectors) disk.heads place.slot (slots_at disk.zones cylinder) h (div_below position zone.sectors disk.heads at.ranges.some_sectors l)
-      (subst (λ n. place.slot < n) (sym (slots_at-zone disk.zones cylinder zone at.found)) (mod-lt (offset_in zone disk.heads (record { cylinder = cylinder; head = position / zone.sectors }) + position % zone.sectors) at.ranges.some_sectors))
+    (subst (λ n. place.slot < n) (sym (slots_at-zone disk.zones cylinder zone at.found)) (mod-lt (offset_in zone disk.heads (record { cylinder = cylinder; head = position / zone.sectors }) + position % zone.sectors) at.ranges.some_sectors))
 
 -- a cylinder of the disk has a zone
 pub zone_exists : (disk : Shape) (cylinder : ℕ) → HasZones disk → cylinder < cylinders_of disk.zones → (zone : Zone) × IsZoneOf disk cylinder zone
@@ -74,7 +73,7 @@ mark_of-same disk a b zones h k e =
     let cylinder : a.track.cylinder ≡ b.track.cylinder = ap (λ mark. mark.cylinder) e in
     let at_b : zone_at disk.zones b.track.cylinder ≡ Some zone = subst (λ c. zone_at disk.zones c ≡ Some zone) cylinder one.1.found in
     let position : position_in zone disk.heads a ≡ position_in zone disk.heads b =
-      sym (position_is disk zone a one.1.found) ∙ (ap (λ mark. mark.position) e ∙ position_is disk zone b at_b) in
+    sym (position_is disk zone a one.1.found) ∙ (ap (λ mark. mark.position) e ∙ position_is disk zone b at_b) in
     sym (slot_at-position_in zone disk.heads some a (omega (arith, on_a.2, slots_at-zone disk.zones a.track.cylinder zone one.1.found)))
     ∙ (ap (λ c. slot_at zone disk.heads c (position_in zone disk.heads a)) cylinder ∙ (ap (slot_at zone disk.heads b.track.cylinder) position
     ∙ slot_at-position_in zone disk.heads some b (omega (arith, on_b.2, slots_at-zone disk.zones b.track.cylinder zone at_b))))
@@ -86,7 +85,8 @@ mark_on disk place zones h =
     let one = zone_exists disk place.track.cylinder zones on.0 in
     record {
       cylinder = on.0;
-      position = omega (arith, position_is disk one.0 place one.1.found, position_below one.0 disk.heads one.1.ranges.some_sectors place on.1, ap (λ n. disk.heads * n) (slots_at-zone disk.zones place.track.cylinder one.0 one.1.found)) }
+      position = omega (arith, position_is disk one.0 place one.1.found, position_below one.0 disk.heads one.1.ranges.some_sectors place on.1, ap (λ n. disk.heads * n) (slots_at-zone disk.zones place.track.cylinder one.0 one.1.found));
+    }
 
 -- ---- the others of a clash
 
@@ -101,9 +101,10 @@ same_mark-refl a = grind (arith, nat_tests)
 pub among-on : (mark : Mark) (others : List Mark) → list_any (λ other. other == mark.position) (positions (marks_on mark.cylinder others)) ≡ list_any (same_mark mark) others
 among-on mark [] = refl
 among-on mark (other ∷ others) = elim (cases_Bool (other.cylinder == mark.cylinder)) [
-    | inl here ↦ rw (here, turned mark.cylinder other.cylinder ∙ here) (ap (λ b. b || list_any (λ other. other == mark.position) (positions (marks_on mark.cylinder others))) (turned other.position mark.position)
-        ∙ ap (λ b. (mark.position == other.position) || b) (among-on mark others))
-    | inr off ↦ rw (off, turned mark.cylinder other.cylinder ∙ off) (among-on mark others) ]
-    where
-      turned : (a b : ℕ) → (a == b) ≡ (b == a)
-      turned a b = grind (arith, nat_tests)
+  | inl here ↦ rw (here, turned mark.cylinder other.cylinder ∙ here) (ap (λ b. b || list_any (λ other. other == mark.position) (positions (marks_on mark.cylinder others))) (turned other.position mark.position)
+      ∙ ap (λ b. (mark.position == other.position) || b) (among-on mark others))
+  | inr off ↦ rw (off, turned mark.cylinder other.cylinder ∙ off) (among-on mark others)
+]
+  where
+    turned : (a b : ℕ) → (a == b) ≡ (b == a)
+    turned a b = grind (arith, nat_tests)

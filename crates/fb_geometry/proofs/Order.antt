@@ -1,18 +1,18 @@
 -- Marks in order: what binary searches find among them.
-use Rattle.std.proofs.Common.{◌≡◌, ◌≢◌, ℕ, zero, suc, ◌+◌, ◌-◌, ◌*◌, ◌<◌, ◌≤◌, List, [], ◌∷◌, ◌++◌, length, refl, ap, sym, ◌∙◌, arith, Bool, true, false, not, cond, take, drop, ◌⊎◌, inl, inr, map, get_or, Ok, Err, Result, subst}
+use Rattle.std.proofs.Common.{◌≡◌, ℕ, zero, suc, ◌+◌, ◌-◌, ◌<◌, ◌≤◌, List, [], ◌∷◌, length, refl, ap, sym, ◌∙◌, arith, Bool, true, false, cond, take, drop, inl, inr, map, get_or, Ok, Err, Result, subst}
 use denote.Ref.{Bor}
 use denote.Param.Members.{Mut}
 use Rattle.std.specs.Fn.{ComputesKey, Called}
-use Rattle.std.specs.Prelude.{filter, slice_get, option_map, Some, nat_lt, nat_le, ◌==◌, ◌&&◌, ◌||◌, MatchResult, is_ok}
-use Rattle.std.specs.List.{AllByRecursion, AllWithin, HoldsAt, list_any}
+use Rattle.std.specs.Prelude.{filter, slice_get, option_map, Some, nat_lt, nat_le, ◌==◌, ◌&&◌, is_ok}
+use Rattle.std.specs.List.{AllByRecursion, HoldsAt, list_any}
 use Rattle.std.specs.List.Sorted.{IsNonDecreasingBy, IsPartitionPoint, IsBinarySearchResult, IsSearchInRange}
 use Rattle.std.specs.Ordering.{nat_cmp, ordering_index}
 use Rattle.std.specs.declared.cmp.Ordering.TheVariants.{Less, Equal, Greater}
-use Rattle.std.proofs.lemmas.Bool.{cases_Bool, cases_lt, true≢false, lt-ltb, le-ltb, and_parts, or_cases, ltb-true, eqb-true, eq-eqb, ne_eqb, cases_eq, or_left, or_right, or_from}
+use Rattle.std.proofs.lemmas.Bool.{cases_Bool, cases_lt, lt-ltb, le-ltb, and_parts, or_cases, ltb-true, eqb-true, eq-eqb, ne_eqb, cases_eq, or_left, or_right, or_from}
 use Rattle.std.proofs.lemmas.Bool.Decides.{nat_tests}
 use Rattle.std.proofs.lemmas.List.Sorted.{IsNonDecreasingBy-drop, answers_always}
 use Rattle.std.proofs.lemmas.Option.{slice_get-map, slice_get-get_or}
-use Rattle.std.proofs.lemmas.List.{get_or-map, length-map}
+use Rattle.std.proofs.lemmas.List.{get_or-map}
 use Rattle.fb_geometry.specs.declared.marks.Mark.{Mark}
 use Rattle.fb_geometry.specs.Slips.{IsAscending, rank, slipped}
 use Rattle.fb_geometry.specs.Marks.{AreInOrder, is_mark_before, positions, marks_on}
@@ -25,13 +25,15 @@ all_at P (x ∷ xs) (suc j) d all h = all_at P xs j d all.1 (omega arith)
 -- what a mark before another says
 before_cylinder : (a b : Mark) → is_mark_before a b ≡ true → a.cylinder ≤ b.cylinder
 before_cylinder a b h = elim (or_cases (nat_lt a.cylinder b.cylinder) ((a.cylinder == b.cylinder) && nat_lt a.position b.position) h) [
-    | inl less ↦ omega (arith, ltb-true a.cylinder b.cylinder less)
-    | inr same ↦ omega (arith, eqb-true a.cylinder b.cylinder (and_parts (a.cylinder == b.cylinder) (nat_lt a.position b.position) same).0) ]
+  | inl less ↦ omega (arith, ltb-true a.cylinder b.cylinder less)
+  | inr same ↦ omega (arith, eqb-true a.cylinder b.cylinder (and_parts (a.cylinder == b.cylinder) (nat_lt a.position b.position) same).0)
+]
 
 before_position : (a b : Mark) → is_mark_before a b ≡ true → (b.cylinder == a.cylinder) ≡ true → a.position < b.position
 before_position a b h e = elim (or_cases (nat_lt a.cylinder b.cylinder) ((a.cylinder == b.cylinder) && nat_lt a.position b.position) h) [
-    | inl less ↦ absurd (omega (arith, ltb-true a.cylinder b.cylinder less, eqb-true b.cylinder a.cylinder e))
-    | inr same ↦ ltb-true a.position b.position (and_parts (a.cylinder == b.cylinder) (nat_lt a.position b.position) same).1 ]
+  | inl less ↦ absurd (omega (arith, ltb-true a.cylinder b.cylinder less, eqb-true b.cylinder a.cylinder e))
+  | inr same ↦ ltb-true a.position b.position (and_parts (a.cylinder == b.cylinder) (nat_lt a.position b.position) same).1
+]
 
 -- cylinders don't fall
 pub cylinders-rise : (marks : List Mark) → AreInOrder marks → IsNonDecreasingBy (λ mark. mark.cylinder) marks
@@ -46,11 +48,11 @@ pub positions-rise : (marks : List Mark) → IsAscending (positions marks) → I
 positions-rise [] up i j d le h = absurd (omega arith)
 positions-rise (mark ∷ marks) up zero zero d le h = omega arith
 positions-rise (mark ∷ marks) up zero (suc j) d le h = omega (arith, later marks j up.0 (omega arith))
-    where
-      later : (marks : List Mark) (j : ℕ) → AllByRecursion (λ later. mark.position < later) (positions marks) → j < length marks → mark.position < (get_or marks j d).position
-      later [] j all h = absurd (omega arith)
-      later (other ∷ marks) zero all h = all.0
-      later (other ∷ marks) (suc j) all h = later marks j all.1 (omega arith)
+  where
+    later : (marks : List Mark) (j : ℕ) → AllByRecursion (λ later. mark.position < later) (positions marks) → j < length marks → mark.position < (get_or marks j d).position
+    later [] j all h = absurd (omega arith)
+    later (other ∷ marks) zero all h = all.0
+    later (other ∷ marks) (suc j) all h = later marks j all.1 (omega arith)
 positions-rise (mark ∷ marks) up (suc i) zero d le h = absurd (omega arith)
 positions-rise (mark ∷ marks) up (suc i) (suc j) d le h = positions-rise marks up.1 i j d (omega arith) (omega arith)
 
@@ -91,8 +93,9 @@ point-is p (x ∷ xs) (suc i) h at =
 pub length-filter-map : {X Y : Type 0} (p : Y → Bool) (f : X → Y) (xs : List X) → length (filter p (map f xs)) ≡ length (filter (λ x. p (f x)) xs)
 length-filter-map p f [] = refl
 length-filter-map p f (x ∷ xs) = elim (cases_Bool (p (f x))) [
-    | inl in_ ↦ rw in_ (ap suc (length-filter-map p f xs))
-    | inr out ↦ rw out (length-filter-map p f xs) ]
+  | inl in_ ↦ rw in_ (ap suc (length-filter-map p f xs))
+  | inr out ↦ rw out (length-filter-map p f xs)
+]
 
 pub rank-is : (number : ℕ) (marks : List Mark) (i : ℕ) → i ≤ length marks → IsPartitionPoint (λ mark. nat_lt mark.position number ≡ true) (λ mark. nat_lt mark.position number ≡ false) marks i → i ≡ rank number (positions marks)
 rank-is number marks i h at = sym (length-filter-map (λ passed. nat_lt passed number) (λ mark. mark.position) marks ∙ point-is (λ mark. nat_lt mark.position number) marks i h at)
@@ -131,41 +134,50 @@ rest-rises marks rest from up e = subst (λ rest. IsNonDecreasingBy (λ mark. ma
 pub found-is : (position : ℕ) (marks : List Mark) (r : Result ℕ ℕ) → IsNonDecreasingBy (λ mark. mark.position) marks → IsSearchInRange r (length marks)
     → IsBinarySearchResult (λ mark. nat_cmp mark.position position) marks r → is_ok r ≡ list_any (λ other. other == position) (positions marks)
 found-is position marks (Ok i) rise range at = sym (found position marks i range at)
-    where
-      equal : (a b : ℕ) → nat_cmp a b ≡ Equal → (a == b) ≡ true
-      equal a b e = grind (arith, nat_tests)
-      found : (position : ℕ) (marks : List Mark) (i : ℕ) → i < length marks → HoldsAt (λ mark. nat_cmp mark.position position ≡ Equal) marks i → list_any (λ other. other == position) (positions marks) ≡ true
-      found position [] i range at = absurd (omega arith)
-      found position (mark ∷ marks) zero range at = or_left (mark.position == position) (list_any (λ other. other == position) (positions marks)) (equal mark.position position (at mark))
-      found position (mark ∷ marks) (suc i) range at = or_right (mark.position == position) (list_any (λ other. other == position) (positions marks)) (found position marks i (omega arith) at)
+  where
+    equal : (a b : ℕ) → nat_cmp a b ≡ Equal → (a == b) ≡ true
+    equal a b e = grind (arith, nat_tests)
+
+    found : (position : ℕ) (marks : List Mark) (i : ℕ) → i < length marks → HoldsAt (λ mark. nat_cmp mark.position position ≡ Equal) marks i → list_any (λ other. other == position) (positions marks) ≡ true
+    found position [] i range at = absurd (omega arith)
+    found position (mark ∷ marks) zero range at = or_left (mark.position == position) (list_any (λ other. other == position) (positions marks)) (equal mark.position position (at mark))
+    found position (mark ∷ marks) (suc i) range at = or_right (mark.position == position) (list_any (λ other. other == position) (positions marks)) (found position marks i (omega arith) at)
 found-is position marks (Err i) rise range at = sym (missing position marks (λ k d h. differs k d h))
-    where
-      less : (a b : ℕ) → nat_cmp a b ≡ Less → (a == b) ≡ false
-      less a b e = grind (arith, nat_tests)
-      greater : (a b : ℕ) → nat_cmp a b ≡ Greater → (a == b) ≡ false
-      greater a b e = grind (arith, nat_tests)
-      index_rises : (a b q : ℕ) → a ≤ b → ordering_index (nat_cmp a q) ≤ ordering_index (nat_cmp b q)
-      index_rises a b q h = elim (cases_lt a q) [
-          | inl low ↦ rw (lt-ltb a q low) (omega arith)
-          | inr from ↦ rw (le-ltb a q from, le-ltb b q (omega arith)) (same_index a b q h from) ]
-        where
-          same_index : (a b q : ℕ) → a ≤ b → q ≤ a → ordering_index (cond (a == q) Equal Greater) ≤ ordering_index (cond (b == q) Equal Greater)
-          same_index a b q h from = elim (cases_eq b q) [
-              | inl same ↦ rw (eq-eqb a q (omega arith), eq-eqb b q same) (omega arith)
-              | inr differs ↦ rw (ne_eqb b q differs) (below_two (a == q)) ]
-            where
-              below_two : (b : Bool) → ordering_index (cond b Equal Greater) ≤ 2
-              below_two true = omega arith
-              below_two false = omega arith
-      point : IsPartitionPoint (λ mark. nat_cmp mark.position position ≡ Less) (λ mark. nat_cmp mark.position position ≡ Greater) marks i
-      point = at (λ j k d le h. index_rises (get_or marks j d).position (get_or marks k d).position position (rise j k d le h))
-      differs : (k : ℕ) (d : Mark) → k < length marks → ((get_or marks k d).position == position) ≡ false
-      differs k d h = elim (cases_lt k i) [
-          | inl before ↦ less (get_or marks k d).position position (point.0 k d (omega arith) before)
-          | inr behind ↦ greater (get_or marks k d).position position (point.1 k d behind h) ]
-      missing : (position : ℕ) (marks : List Mark) → ((k : ℕ) (d : Mark) → k < length marks → ((get_or marks k d).position == position) ≡ false) → list_any (λ other. other == position) (positions marks) ≡ false
-      missing position [] all = refl
-      missing position (mark ∷ marks) all = or_from (mark.position == position) (list_any (λ other. other == position) (positions marks)) (all 0 mark (omega arith)) (missing position marks (λ k d h. all (suc k) d (omega arith)))
+  where
+    less : (a b : ℕ) → nat_cmp a b ≡ Less → (a == b) ≡ false
+    less a b e = grind (arith, nat_tests)
+
+    greater : (a b : ℕ) → nat_cmp a b ≡ Greater → (a == b) ≡ false
+    greater a b e = grind (arith, nat_tests)
+
+    index_rises : (a b q : ℕ) → a ≤ b → ordering_index (nat_cmp a q) ≤ ordering_index (nat_cmp b q)
+    index_rises a b q h = elim (cases_lt a q) [
+      | inl low ↦ rw (lt-ltb a q low) (omega arith)
+      | inr from ↦ rw (le-ltb a q from, le-ltb b q (omega arith)) (same_index a b q h from)
+    ]
+      where
+        same_index : (a b q : ℕ) → a ≤ b → q ≤ a → ordering_index (cond (a == q) Equal Greater) ≤ ordering_index (cond (b == q) Equal Greater)
+        same_index a b q h from = elim (cases_eq b q) [
+          | inl same ↦ rw (eq-eqb a q (omega arith), eq-eqb b q same) (omega arith)
+          | inr differs ↦ rw (ne_eqb b q differs) (below_two (a == q))
+        ]
+          where
+            below_two : (b : Bool) → ordering_index (cond b Equal Greater) ≤ 2
+            below_two true = omega arith
+            below_two false = omega arith
+
+    point : IsPartitionPoint (λ mark. nat_cmp mark.position position ≡ Less) (λ mark. nat_cmp mark.position position ≡ Greater) marks i
+    point = at (λ j k d le h. index_rises (get_or marks j d).position (get_or marks k d).position position (rise j k d le h))
+
+    differs : (k : ℕ) (d : Mark) → k < length marks → ((get_or marks k d).position == position) ≡ false
+    differs k d h = elim (cases_lt k i) [
+      | inl before ↦ less (get_or marks k d).position position (point.0 k d (omega arith) before)
+      | inr behind ↦ greater (get_or marks k d).position position (point.1 k d behind h)
+    ]
+
+    missing : (position : ℕ) (marks : List Mark) → ((k : ℕ) (d : Mark) → k < length marks → ((get_or marks k d).position == position) ≡ false) → list_any (λ other. other == position) (positions marks) ≡ false
+    missing position [] all = refl
+    missing position (mark ∷ marks) all = or_from (mark.position == position) (list_any (λ other. other == position) (positions marks)) (all 0 mark (omega arith)) (missing position marks (λ k d h. all (suc k) d (omega arith)))
 
 -- ---- slipping
 

@@ -1,6 +1,6 @@
 -- What is left of a list where those that pass a test are dropped.
-use Rattle.std.proofs.Common.{◌≡◌, ◌≢◌, ℕ, zero, suc, ◌+◌, ◌-◌, ◌<◌, ◌≤◌, List, [], ◌∷◌, ◌++◌, length, refl, ap, sym, ◌∙◌, arith, Bool, true, false, not, cond, Option, Some, None, take, ◌⊎◌, inl, inr}
-use Rattle.std.specs.Prelude.{filter, slice_get, ◌==◌, nat_lt, nat_le, ◌||◌, ⊤}
+use Rattle.std.proofs.Common.{◌≡◌, ℕ, zero, suc, ◌+◌, ◌-◌, ◌<◌, ◌≤◌, List, [], ◌∷◌, length, refl, ap, sym, ◌∙◌, arith, Bool, true, false, not, cond, Some, take, inl, inr}
+use Rattle.std.specs.Prelude.{filter, slice_get, ◌==◌, nat_lt}
 use Rattle.std.specs.List.{list_any, AllByRecursion}
 use Rattle.std.proofs.lemmas.Bool.{cases_Bool, cases_lt, true≢false, lt-ltb, le-ltb, cases_order, ne_eqb, eq-eqb, eqb-false, or_left, or_right, or_parts}
 use Rattle.std.proofs.lemmas.Bool.Decides.{nat_tests}
@@ -40,8 +40,9 @@ slip_here number (x ∷ numbers) all = rw (lt-ltb number x all.0) refl
 pub slipped-le : (number : ℕ) (numbers : List ℕ) → number ≤ slipped number numbers
 slipped-le number [] = omega arith
 slipped-le number (x ∷ numbers) = elim (cases_lt number x) [
-    | inl h ↦ rw (lt-ltb number x h) (omega arith)
-    | inr h ↦ rw (le-ltb number x h) (omega (arith, slipped-le (number + 1) numbers)) ]
+  | inl h ↦ rw (lt-ltb number x h) (omega arith)
+  | inr h ↦ rw (le-ltb number x h) (omega (arith, slipped-le (number + 1) numbers))
+]
 
 -- one that is dropped
 dropped_first : {A : Type 0} (a : ℕ) (x : A) (xs kept : List A) (numbers : List ℕ) (k i : ℕ) → slipped (a + k) (a ∷ numbers) ≡ a + i
@@ -51,19 +52,19 @@ dropped_first a x xs kept numbers k i e rest =
     let on : slipped (a + k + 1) numbers ≡ a + i = rw here at e in
     let after : slipped (a + 1 + k) numbers ≡ a + i = ap (λ n. slipped n numbers) (omega arith) ∙ on in
     behind i after
-    where
-      behind : (i : ℕ) → slipped (a + 1 + k) numbers ≡ a + i → slice_get kept k ≡ slice_get (x ∷ xs) i
-      behind zero e = absurd (omega (arith, slipped-le (a + 1 + k) numbers))
-      behind (suc j) e = rest j (e ∙ omega arith)
+  where
+    behind : (i : ℕ) → slipped (a + 1 + k) numbers ≡ a + i → slice_get kept k ≡ slice_get (x ∷ xs) i
+    behind zero e = absurd (omega (arith, slipped-le (a + 1 + k) numbers))
+    behind (suc j) e = rest j (e ∙ omega arith)
 
 -- one that is kept
 kept_first : {A : Type 0} (a : ℕ) (x : A) (xs kept : List A) (numbers : List ℕ) (k i : ℕ) → AllByRecursion (λ later. a < later) numbers → slipped (a + k) numbers ≡ a + i
     → ((k j : ℕ) → slipped (a + 1 + k) numbers ≡ a + 1 + j → slice_get kept k ≡ slice_get xs j) → slice_get (x ∷ kept) k ≡ slice_get (x ∷ xs) i
 kept_first a x xs kept numbers zero zero all e rest = refl
 kept_first a x xs kept numbers zero (suc i) all e rest = absurd (omega (arith, slip_here a numbers all, ap (λ n. slipped n numbers) (a_zero a)))
-    where
-      a_zero : (a : ℕ) → a + 0 ≡ a
-      a_zero a = omega arith
+  where
+    a_zero : (a : ℕ) → a + 0 ≡ a
+    a_zero a = omega arith
 kept_first a x xs kept numbers (suc k) zero all e rest = absurd (omega (arith, slipped-le (a + suc k) numbers))
 kept_first a x xs kept numbers (suc k) (suc i) all e rest = rest k i (ap (λ n. slipped n numbers) (omega arith) ∙ e ∙ omega arith)
 
@@ -72,15 +73,17 @@ pub kept_at : {A : Type 0} (test : A → Bool) (a : ℕ) (xs : List A) (k i : �
     → slice_get (filter (λ x. not (test x)) xs) k ≡ slice_get xs i
 kept_at test a [] k i e = refl
 kept_at test a (x ∷ xs) k i e = elim (cases_Bool (test x)) [
-    | inl out ↦ rw out (dropped_first a x xs (filter (λ y. not (test y)) xs) (indexes test (a + 1) xs) k i (rw out at e) (λ j. kept_at test (a + 1) xs k j))
-    | inr stays ↦ rw stays (kept_first a x xs (filter (λ y. not (test y)) xs) (indexes test (a + 1) xs) k i (indexes-over test a (a + 1) xs (omega arith)) (rw stays at e) (λ k j. kept_at test (a + 1) xs k j)) ]
+  | inl out ↦ rw out (dropped_first a x xs (filter (λ y. not (test y)) xs) (indexes test (a + 1) xs) k i (rw out at e) (λ j. kept_at test (a + 1) xs k j))
+  | inr stays ↦ rw stays (kept_first a x xs (filter (λ y. not (test y)) xs) (indexes test (a + 1) xs) k i (indexes-over test a (a + 1) xs (omega arith)) (rw stays at e) (λ k j. kept_at test (a + 1) xs k j))
+]
 
 -- ---- ranks
 
 rank_cons : (number x : ℕ) (numbers : List ℕ) → rank number (x ∷ numbers) ≡ cond (nat_lt x number) 1 0 + rank number numbers
 rank_cons number x numbers = elim (cases_lt x number) [
-    | inl h ↦ rw (lt-ltb x number h) (omega arith)
-    | inr h ↦ rw (le-ltb x number h) (omega arith) ]
+  | inl h ↦ rw (lt-ltb x number h) (omega arith)
+  | inr h ↦ rw (le-ltb x number h) (omega arith)
+]
 
 -- none stands before a number that all are behind
 pub rank_none : (number : ℕ) (numbers : List ℕ) → AllByRecursion (λ later. number ≤ later) numbers → rank number numbers ≡ 0
@@ -95,24 +98,27 @@ all_from a b (x ∷ numbers) h all = (omega (arith, all.0), all_from a b numbers
 pub rank_between : (a b : ℕ) (numbers : List ℕ) → IsAscending numbers → AllByRecursion (λ later. a ≤ later) numbers → rank b numbers ≤ b - a
 rank_between a b [] up all = omega arith
 rank_between a b (x ∷ numbers) up all = elim (cases_lt x b) [
-    | inl before ↦ omega (arith, rank_cons b x numbers, ap {B = ℕ} (λ t. cond t 1 0) (lt-ltb x b before), rank_between (x + 1) b numbers up.1 (above x numbers up.0), all.0)
-    | inr behind ↦ omega (arith, rank_none b (x ∷ numbers) (behind, all_from b x numbers behind up.0)) ]
-    where
-      above : (x : ℕ) (numbers : List ℕ) → AllByRecursion (λ later. x < later) numbers → AllByRecursion (λ later. x + 1 ≤ later) numbers
-      above x [] all = tt
-      above x (y ∷ numbers) all = (omega (arith, all.0), above x numbers all.1)
+  | inl before ↦ omega (arith, rank_cons b x numbers, ap {B = ℕ} (λ t. cond t 1 0) (lt-ltb x b before), rank_between (x + 1) b numbers up.1 (above x numbers up.0), all.0)
+  | inr behind ↦ omega (arith, rank_none b (x ∷ numbers) (behind, all_from b x numbers behind up.0))
+]
+  where
+    above : (x : ℕ) (numbers : List ℕ) → AllByRecursion (λ later. x < later) numbers → AllByRecursion (λ later. x + 1 ≤ later) numbers
+    above x [] all = tt
+    above x (y ∷ numbers) all = (omega (arith, all.0), above x numbers all.1)
 
 pub rank-step : (a b : ℕ) (numbers : List ℕ) → IsAscending numbers → a ≤ b → rank b numbers ≤ rank a numbers + (b - a)
 rank-step a b [] up h = omega arith
 rank-step a b (x ∷ numbers) up h = elim (cases_lt x a) [
-    | inl before ↦ omega (arith, rank_cons b x numbers, ap {B = ℕ} (λ t. cond t 1 0) (lt-ltb x b (omega arith)), rank_cons a x numbers, ap {B = ℕ} (λ t. cond t 1 0) (lt-ltb x a before), rank-step a b numbers up.1 h)
-    | inr behind ↦ omega (arith, rank_between a b (x ∷ numbers) up (behind, all_from a x numbers behind up.0)) ]
+  | inl before ↦ omega (arith, rank_cons b x numbers, ap {B = ℕ} (λ t. cond t 1 0) (lt-ltb x b (omega arith)), rank_cons a x numbers, ap {B = ℕ} (λ t. cond t 1 0) (lt-ltb x a before), rank-step a b numbers up.1 h)
+  | inr behind ↦ omega (arith, rank_between a b (x ∷ numbers) up (behind, all_from a x numbers behind up.0))
+]
 
 pub rank-mono : (a b : ℕ) (numbers : List ℕ) → a ≤ b → rank a numbers ≤ rank b numbers
 rank-mono a b [] h = omega arith
 rank-mono a b (x ∷ numbers) h = elim (cases_lt x a) [
-    | inl before ↦ omega (arith, rank_cons b x numbers, ap {B = ℕ} (λ t. cond t 1 0) (lt-ltb x b (omega arith)), rank_cons a x numbers, ap {B = ℕ} (λ t. cond t 1 0) (lt-ltb x a before), rank-mono a b numbers h)
-    | inr behind ↦ omega (arith, rank_cons b x numbers, rank_cons a x numbers, ap {B = ℕ} (λ t. cond t 1 0) (le-ltb x a behind), rank-mono a b numbers h) ]
+  | inl before ↦ omega (arith, rank_cons b x numbers, ap {B = ℕ} (λ t. cond t 1 0) (lt-ltb x b (omega arith)), rank_cons a x numbers, ap {B = ℕ} (λ t. cond t 1 0) (lt-ltb x a before), rank-mono a b numbers h)
+  | inr behind ↦ omega (arith, rank_cons b x numbers, rank_cons a x numbers, ap {B = ℕ} (λ t. cond t 1 0) (le-ltb x a behind), rank-mono a b numbers h)
+]
 
 -- one that isn't among them adds nothing
 pub rank_unmarked : (number : ℕ) (numbers : List ℕ) → list_any (λ other. other == number) numbers ≡ false → rank (number + 1) numbers ≡ rank number numbers
@@ -122,21 +128,24 @@ rank_unmarked number (x ∷ numbers) h =
     let off = eqb-false x number parts.0 in
     elim (cases_lt x number) [
       | inl before ↦ omega (arith, rank_cons (number + 1) x numbers, ap {B = ℕ} (λ t. cond t 1 0) (lt-ltb x (number + 1) (omega arith)), rank_cons number x numbers, ap {B = ℕ} (λ t. cond t 1 0) (lt-ltb x number before), rank_unmarked number numbers parts.1)
-      | inr behind ↦ omega (arith, rank_cons (number + 1) x numbers, ap {B = ℕ} (λ t. cond t 1 0) (le-ltb x (number + 1) (above behind off)), rank_cons number x numbers, ap {B = ℕ} (λ t. cond t 1 0) (le-ltb x number behind), rank_unmarked number numbers parts.1) ]
-    where
-      above : number ≤ x → (x ≡ number → ⊥) → number + 1 ≤ x
-      above h k = elim (cases_order x number) [
-          | inl same ↦ absurd (k same)
-          | inr apart ↦ elim apart [
-            | inl less ↦ absurd (omega arith)
-            | inr more ↦ omega arith ] ]
+      | inr behind ↦ omega (arith, rank_cons (number + 1) x numbers, ap {B = ℕ} (λ t. cond t 1 0) (le-ltb x (number + 1) (above behind off)), rank_cons number x numbers, ap {B = ℕ} (λ t. cond t 1 0) (le-ltb x number behind), rank_unmarked number numbers parts.1)
+    ]
+  where
+    above : number ≤ x → (x ≡ number → ⊥) → number + 1 ≤ x
+    above h k = elim (cases_order x number) [
+      | inl same ↦ absurd (k same)
+      | inr apart ↦ elim apart [
+        | inl less ↦ absurd (omega arith)
+        | inr more ↦ omega arith
+      ]
+    ]
 
 pub rank-below : (number : ℕ) (numbers : List ℕ) → IsAscending numbers → rank number numbers ≤ number
 rank-below number numbers up = omega (arith, rank_between 0 number numbers up (all_any numbers))
-    where
-      all_any : (numbers : List ℕ) → AllByRecursion (λ later. 0 ≤ later) numbers
-      all_any [] = tt
-      all_any (x ∷ numbers) = (omega arith, all_any numbers)
+  where
+    all_any : (numbers : List ℕ) → AllByRecursion (λ later. 0 ≤ later) numbers
+    all_any [] = tt
+    all_any (x ∷ numbers) = (omega arith, all_any numbers)
 
 -- a number among them has as many before it as its index says
 pub rank-at : (i : ℕ) (numbers : List ℕ) (q : ℕ) → IsAscending numbers → slice_get numbers i ≡ Some q → rank q numbers ≡ i
@@ -144,17 +153,18 @@ rank-at i [] q up at = absurd (none-some q at)
 rank-at zero (x ∷ numbers) q up at = let same : x ≡ q = same_Some x q at in omega (arith, rank_none q (x ∷ numbers) (omega arith, all_from q x numbers (omega arith) up.0))
 rank-at (suc i) (x ∷ numbers) q up at =
     omega (arith, rank_cons q x numbers, ap {B = ℕ} (λ t. cond t 1 0) (lt-ltb x q (later numbers i up.0 at)), rank-at i numbers q up.1 at)
-    where
-      later : (numbers : List ℕ) (i : ℕ) → AllByRecursion (λ later. x < later) numbers → slice_get numbers i ≡ Some q → x < q
-      later [] i all at = absurd (none-some q at)
-      later (y ∷ numbers) zero all at = omega (arith, all.0, same_Some y q at)
-      later (y ∷ numbers) (suc i) all at = later numbers i all.1 at
+  where
+    later : (numbers : List ℕ) (i : ℕ) → AllByRecursion (λ later. x < later) numbers → slice_get numbers i ≡ Some q → x < q
+    later [] i all at = absurd (none-some q at)
+    later (y ∷ numbers) zero all at = omega (arith, all.0, same_Some y q at)
+    later (y ∷ numbers) (suc i) all at = later numbers i all.1 at
 
 pub rank-le_length : (number : ℕ) (numbers : List ℕ) → rank number numbers ≤ length numbers
 rank-le_length number [] = omega arith
 rank-le_length number (x ∷ numbers) = elim (cases_lt x number) [
-    | inl before ↦ omega (arith, rank_cons number x numbers, ap {B = ℕ} (λ t. cond t 1 0) (lt-ltb x number before), rank-le_length number numbers)
-    | inr behind ↦ omega (arith, rank_cons number x numbers, ap {B = ℕ} (λ t. cond t 1 0) (le-ltb x number behind), rank-le_length number numbers) ]
+  | inl before ↦ omega (arith, rank_cons number x numbers, ap {B = ℕ} (λ t. cond t 1 0) (lt-ltb x number before), rank-le_length number numbers)
+  | inr behind ↦ omega (arith, rank_cons number x numbers, ap {B = ℕ} (λ t. cond t 1 0) (le-ltb x number behind), rank-le_length number numbers)
+]
 
 -- an entry is among them
 pub among_at : (i q : ℕ) (numbers : List ℕ) → slice_get numbers i ≡ Some q → list_any (λ other. other == q) numbers ≡ true
@@ -166,15 +176,23 @@ among_at (suc i) q (x ∷ numbers) at = or_right (x == q) (list_any (λ other. o
 pub rank_marked : (q b : ℕ) (numbers : List ℕ) → IsAscending numbers → list_any (λ other. other == q) numbers ≡ true → q < b → rank q numbers < rank b numbers
 rank_marked q b [] up among h = absurd (true≢false (sym among))
 rank_marked q b (x ∷ numbers) up among h = elim (cases_order x q) [
-    | inl here ↦ omega (arith, rank_none q (x ∷ numbers) (omega arith, all_from q x numbers (omega arith) up.0), rank_cons b x numbers, ap {B = ℕ} (λ t. cond t 1 0) (lt-ltb x b (omega arith)))
-    | inr apart ↦ elim apart [
-      | inl before ↦ omega (arith, rank_cons b x numbers, ap {B = ℕ} (λ t. cond t 1 0) (lt-ltb x b (omega arith)), rank_cons q x numbers, ap {B = ℕ} (λ t. cond t 1 0) (lt-ltb x q before),
-          rank_marked q b numbers up.1 (rw (ne_eqb x q (λ e. omega arith)) at among) h)
-      | inr behind ↦ absurd (true≢false (sym among ∙ later q (x ∷ numbers) (behind, all_over q x numbers (omega arith) up.0))) ] ]
-    where
-      later : (number : ℕ) (numbers : List ℕ) → AllByRecursion (λ later. number < later) numbers → list_any (λ other. other == number) numbers ≡ false
-      later number [] all = refl
-      later number (y ∷ numbers) all = rw (ne_eqb y number (λ e. omega (arith, all.0))) (later number numbers all.1)
+  | inl here ↦ omega (arith, rank_none q (x ∷ numbers) (omega arith, all_from q x numbers (omega arith) up.0), rank_cons b x numbers, ap {B = ℕ} (λ t. cond t 1 0) (lt-ltb x b (omega arith)))
+  | inr apart ↦ elim apart [
+    | inl before ↦ omega (
+      arith,
+      rank_cons b x numbers,
+      ap {B = ℕ} (λ t. cond t 1 0) (lt-ltb x b (omega arith)),
+      rank_cons q x numbers,
+      ap {B = ℕ} (λ t. cond t 1 0) (lt-ltb x q before),
+      rank_marked q b numbers up.1 (rw (ne_eqb x q (λ e. omega arith)) at among) h,
+    )
+    | inr behind ↦ absurd (true≢false (sym among ∙ later q (x ∷ numbers) (behind, all_over q x numbers (omega arith) up.0)))
+  ]
+]
+  where
+    later : (number : ℕ) (numbers : List ℕ) → AllByRecursion (λ later. number < later) numbers → list_any (λ other. other == number) numbers ≡ false
+    later number [] all = refl
+    later number (y ∷ numbers) all = rw (ne_eqb y number (λ e. omega (arith, all.0))) (later number numbers all.1)
 
 slipped_here : (number x : ℕ) (numbers : List ℕ) → number < x → slipped number (x ∷ numbers) ≡ number
 slipped_here number x numbers h = rw (lt-ltb number x h) refl
@@ -186,10 +204,11 @@ slipped_on number x numbers h = rw (le-ltb number x h) refl
 pub rank-slipped : (number q : ℕ) (numbers : List ℕ) → IsAscending numbers → slipped number numbers ≡ q → rank q numbers + number ≡ q
 rank-slipped number q [] up e = omega arith
 rank-slipped number q (x ∷ numbers) up e = elim (cases_lt number x) [
-    | inl h ↦ let same : number ≡ q = sym (slipped_here number x numbers h) ∙ e in omega (arith, rank_none q (x ∷ numbers) (omega arith, all_from q x numbers (omega arith) up.0))
-    | inr h ↦ let after : slipped (number + 1) numbers ≡ q = sym (slipped_on number x numbers h) ∙ e in
-        let before : x < q = omega (arith, slipped-le (number + 1) numbers) in
-        omega (arith, rank_cons q x numbers, ap {B = ℕ} (λ b. cond b 1 0) (lt-ltb x q before), rank-slipped (number + 1) q numbers up.1 after) ]
+  | inl h ↦ let same : number ≡ q = sym (slipped_here number x numbers h) ∙ e in omega (arith, rank_none q (x ∷ numbers) (omega arith, all_from q x numbers (omega arith) up.0))
+  | inr h ↦ let after : slipped (number + 1) numbers ≡ q = sym (slipped_on number x numbers h) ∙ e in
+      let before : x < q = omega (arith, slipped-le (number + 1) numbers) in
+      omega (arith, rank_cons q x numbers, ap {B = ℕ} (λ b. cond b 1 0) (lt-ltb x q before), rank-slipped (number + 1) q numbers up.1 after)
+]
 
 not_among_later : (number : ℕ) (numbers : List ℕ) → AllByRecursion (λ later. number < later) numbers → list_any (λ other. other == number) numbers ≡ false
 not_among_later number [] all = refl
@@ -199,9 +218,10 @@ not_among_later number (x ∷ numbers) all = let off : (x == number) ≡ false =
 pub slipped-free : (number q : ℕ) (numbers : List ℕ) → IsAscending numbers → slipped number numbers ≡ q → list_any (λ other. other == q) numbers ≡ false
 slipped-free number q [] up e = refl
 slipped-free number q (x ∷ numbers) up e = elim (cases_lt number x) [
-    | inl h ↦ let same : number ≡ q = sym (slipped_here number x numbers h) ∙ e in not_among_later q (x ∷ numbers) (omega arith, all_over q x numbers (omega arith) up.0)
-    | inr h ↦ let after : slipped (number + 1) numbers ≡ q = sym (slipped_on number x numbers h) ∙ e in
-        let off : (x == q) ≡ false = grind (arith, nat_tests, slipped-le (number + 1) numbers) in rw off (slipped-free (number + 1) q numbers up.1 after) ]
+  | inl h ↦ let same : number ≡ q = sym (slipped_here number x numbers h) ∙ e in not_among_later q (x ∷ numbers) (omega arith, all_over q x numbers (omega arith) up.0)
+  | inr h ↦ let after : slipped (number + 1) numbers ≡ q = sym (slipped_on number x numbers h) ∙ e in
+      let off : (x == q) ≡ false = grind (arith, nat_tests, slipped-le (number + 1) numbers) in rw off (slipped-free (number + 1) q numbers up.1 after)
+]
 
 -- ---- where an element that is kept goes
 
@@ -226,8 +246,9 @@ pub rank-le : {A : Type 0} (test : A → Bool) (a i : ℕ) (xs : List A) → ran
 rank-le test a zero xs = omega (arith, rank_none (a + 0) (indexes test a xs) (indexes-from test (a + 0) a xs (omega arith)))
 rank-le test a (suc i) [] = omega arith
 rank-le test a (suc i) (x ∷ xs) = elim (cases_Bool (test x)) [
-    | inl out ↦ omega (arith, rank_next test a i x xs, ap {B = ℕ} (λ b. cond b 1 0) out, rank-le test (a + 1) i xs)
-    | inr stays ↦ omega (arith, rank_next test a i x xs, ap {B = ℕ} (λ b. cond b 1 0) stays, rank-le test (a + 1) i xs) ]
+  | inl out ↦ omega (arith, rank_next test a i x xs, ap {B = ℕ} (λ b. cond b 1 0) out, rank-le test (a + 1) i xs)
+  | inr stays ↦ omega (arith, rank_next test a i x xs, ap {B = ℕ} (λ b. cond b 1 0) stays, rank-le test (a + 1) i xs)
+]
 
 -- an element that is kept goes back by one for each that is dropped before it
 pub kept_to : {A : Type 0} (test : A → Bool) (a : ℕ) (xs : List A) (i k : ℕ) (x : A) → slice_get xs i ≡ Some x → test x ≡ false → k + rank (a + i) (indexes test a xs) ≡ i
@@ -236,18 +257,19 @@ kept_to test a [] i k x at stays e = at
 kept_to test a (y ∷ xs) zero k x at stays e =
     let same : y ≡ x = same_Some y x at in
     rw (ap test same ∙ stays) (ap (slice_get (y ∷ filter (λ z. not (test z)) xs)) (k_zero k (rank (a + 0) (indexes test a (y ∷ xs))) e) ∙ at)
-    where
-      k_zero : (k r : ℕ) → k + r ≡ 0 → k ≡ 0
-      k_zero k r e = omega arith
+  where
+    k_zero : (k r : ℕ) → k + r ≡ 0 → k ≡ 0
+    k_zero k r e = omega arith
 kept_to test a (y ∷ xs) (suc i) k x at stays e = elim (cases_Bool (test y)) [
-    | inl out ↦ rw out (kept_to test (a + 1) xs i k x at stays (omega (arith, rank_next test a i y xs, ap {B = ℕ} (λ b. cond b 1 0) out)))
-    | inr in_ ↦ rw in_ (on k (omega (arith, rank_next test a i y xs, ap {B = ℕ} (λ b. cond b 1 0) in_)) (λ k'. kept_to test (a + 1) xs i k' x at stays)) ]
-    where
-      on : (k : ℕ) → k + rank (a + 1 + i) (indexes test (a + 1) xs) ≡ suc i
-          → ((k' : ℕ) → k' + rank (a + 1 + i) (indexes test (a + 1) xs) ≡ i → slice_get (filter (λ z. not (test z)) xs) k' ≡ Some x)
-          → slice_get (y ∷ filter (λ z. not (test z)) xs) k ≡ Some x
-      on zero e rest = absurd (omega (arith, rank-le test (a + 1) i xs))
-      on (suc k) e rest = rest k (omega arith)
+  | inl out ↦ rw out (kept_to test (a + 1) xs i k x at stays (omega (arith, rank_next test a i y xs, ap {B = ℕ} (λ b. cond b 1 0) out)))
+  | inr in_ ↦ rw in_ (on k (omega (arith, rank_next test a i y xs, ap {B = ℕ} (λ b. cond b 1 0) in_)) (λ k'. kept_to test (a + 1) xs i k' x at stays))
+]
+  where
+    on : (k : ℕ) → k + rank (a + 1 + i) (indexes test (a + 1) xs) ≡ suc i
+        → ((k' : ℕ) → k' + rank (a + 1 + i) (indexes test (a + 1) xs) ≡ i → slice_get (filter (λ z. not (test z)) xs) k' ≡ Some x)
+        → slice_get (y ∷ filter (λ z. not (test z)) xs) k ≡ Some x
+    on zero e rest = absurd (omega (arith, rank-le test (a + 1) i xs))
+    on (suc k) e rest = rest k (omega arith)
 
 marked_step : (b : Bool) (a q : ℕ) (numbers : List ℕ) → a < q → list_any (λ other. other == q) (with_index b a numbers) ≡ list_any (λ other. other == q) numbers
 marked_step true a q numbers h = let off : (a == q) ≡ false = grind (arith, nat_tests) in rw off refl
@@ -262,9 +284,9 @@ pub marked : {A : Type 0} (test : A → Bool) (a : ℕ) (xs : List A) (i : ℕ) 
 marked test a [] i x at = absurd (none-some x at)
 marked test a (y ∷ xs) zero x at = ap (λ n. list_any (λ other. other == n) (indexes test a (y ∷ xs))) (a_zero a)
     ∙ marked_here (test y) a (indexes test (a + 1) xs) (indexes-over test a (a + 1) xs (omega arith)) ∙ ap test (same_Some y x at)
-    where
-      a_zero : (a : ℕ) → a + 0 ≡ a
-      a_zero a = omega arith
+  where
+    a_zero : (a : ℕ) → a + 0 ≡ a
+    a_zero a = omega arith
 marked test a (y ∷ xs) (suc i) x at = marked_step (test y) a (a + suc i) (indexes test (a + 1) xs) (omega arith)
     ∙ ap (λ n. list_any (λ other. other == n) (indexes test (a + 1) xs)) (omega arith) ∙ marked test (a + 1) xs i x at
 

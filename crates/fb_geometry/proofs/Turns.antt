@@ -1,10 +1,10 @@
 -- The slots of a cylinder in the order of their turns, as one list.
-use Rattle.std.proofs.Common.{◌≡◌, ◌≢◌, ℕ, zero, suc, ◌+◌, ◌-◌, ◌*◌, ◌/◌, ◌%◌, ◌<◌, ◌≤◌, List, [], ◌∷◌, ◌++◌, length, refl, ap, sym, ◌∙◌, arith, Bool, true, false, not, cond, Option, Some, None, take, ◌⊎◌, inl, inr, map, append_assoc}
+use Rattle.std.proofs.Common.{◌≡◌, ℕ, zero, suc, ◌+◌, ◌-◌, ◌*◌, ◌/◌, ◌%◌, ◌<◌, ◌≤◌, List, [], ◌∷◌, ◌++◌, length, refl, ap, sym, ◌∙◌, arith, Bool, not, Some, inl, inr, map}
 use Rattle.std.specs.Prelude.{filter, slice_get, option_map}
 use Rattle.std.specs.List.{flat_map, range_with_len}
 use Rattle.std.proofs.Math.Nat.{mod-lt, mod-eq_of_lt, add-mod_left}
-use Rattle.std.proofs.lemmas.Nat.{mul-add-lt, div-mul-add, mod-mul-add, div_below, div-add-mod'}
-use Rattle.std.proofs.lemmas.Bool.{cases_lt, cases_Bool}
+use Rattle.std.proofs.lemmas.Nat.{mul-add-lt, div-mul-add, mod-mul-add, div-add-mod'}
+use Rattle.std.proofs.lemmas.Bool.{cases_lt}
 use Rattle.std.proofs.lemmas.List.{map-append}
 use Rattle.std.proofs.lemmas.List.Elements.{filter-append}
 use Rattle.std.proofs.lemmas.Option.{slice_get-map}
@@ -24,20 +24,22 @@ round-here a n h = mod-eq_of_lt h
 
 pub round-behind : (a n : ℕ) → n ≤ a → a < n + n → a % n ≡ a - n
 round-behind a n from upto = ap (λ x. x % n) (turned a n from) ∙ (add-mod_left n (a - n) ∙ mod-eq_of_lt (omega arith))
-    where
-      turned : (a n : ℕ) → n ≤ a → a ≡ n + (a - n)
-      turned a n h = omega arith
+  where
+    turned : (a n : ℕ) → n ≤ a → a ≡ n + (a - n)
+    turned a n h = omega arith
 
 -- forward by an offset, and back again
 pub round-back : (offset i n : ℕ) → offset < n → i < n → ((offset + i) % n + n - offset) % n ≡ i
 round-back offset i n o h = elim (cases_lt (offset + i) n) [
-    | inl near ↦ ap (λ x. (x + n - offset) % n) (round-here (offset + i) n near) ∙ (round-behind (offset + i + n - offset) n (omega arith) (omega arith) ∙ omega arith)
-    | inr far ↦ ap (λ x. (x + n - offset) % n) (round-behind (offset + i) n far (omega arith)) ∙ (ap (λ x. x % n) (omega arith) ∙ round-here i n h) ]
+  | inl near ↦ ap (λ x. (x + n - offset) % n) (round-here (offset + i) n near) ∙ (round-behind (offset + i + n - offset) n (omega arith) (omega arith) ∙ omega arith)
+  | inr far ↦ ap (λ x. (x + n - offset) % n) (round-behind (offset + i) n far (omega arith)) ∙ (ap (λ x. x % n) (omega arith) ∙ round-here i n h)
+]
 
 pub round-forward : (offset slot n : ℕ) → offset < n → slot < n → (offset + (slot + n - offset) % n) % n ≡ slot
 round-forward offset slot n o h = elim (cases_lt slot offset) [
-    | inl before ↦ ap (λ x. (offset + x) % n) (round-here (slot + n - offset) n (omega arith)) ∙ (round-behind (offset + (slot + n - offset)) n (omega arith) (omega arith) ∙ omega arith)
-    | inr after ↦ ap (λ x. (offset + x) % n) (round-behind (slot + n - offset) n (omega arith) (omega arith)) ∙ (ap (λ x. x % n) (omega arith) ∙ round-here slot n h) ]
+  | inl before ↦ ap (λ x. (offset + x) % n) (round-here (slot + n - offset) n (omega arith)) ∙ (round-behind (offset + (slot + n - offset)) n (omega arith) (omega arith) ∙ omega arith)
+  | inr after ↦ ap (λ x. (offset + x) % n) (round-behind (slot + n - offset) n (omega arith) (omega arith)) ∙ (ap (λ x. x % n) (omega arith) ∙ round-here slot n h)
+]
 
 -- ---- ranges
 
@@ -46,25 +48,27 @@ map-ranges f g a b zero same = refl
 map-ranges f g a b (suc n) same =
     let head : f a ≡ g b = ap f (a_zero a) ∙ (same 0 (omega arith) ∙ ap g (sym (a_zero b))) in
     let tail : map f (range_with_len (a + 1) n) ≡ map g (range_with_len (b + 1) n) =
-        map-ranges f g (a + 1) (b + 1) n (λ i h. ap f (add_one a i) ∙ (same (i + 1) (omega arith) ∙ ap g (sym (add_one b i)))) in
+    map-ranges f g (a + 1) (b + 1) n (λ i h. ap f (add_one a i) ∙ (same (i + 1) (omega arith) ∙ ap g (sym (add_one b i)))) in
     ap (λ x. x ∷ map f (range_with_len (a + 1) n)) head ∙ ap (λ xs. g b ∷ xs) tail
-    where
-      a_zero : (a : ℕ) → a ≡ a + 0
-      a_zero a = omega arith
-      add_one : (a i : ℕ) → a + 1 + i ≡ a + (i + 1)
-      add_one a i = omega arith
+  where
+    a_zero : (a : ℕ) → a ≡ a + 0
+    a_zero a = omega arith
+
+    add_one : (a i : ℕ) → a + 1 + i ≡ a + (i + 1)
+    add_one a i = omega arith
 
 pub range-append : (a m n : ℕ) → range_with_len a (m + n) ≡ range_with_len a m ++ range_with_len (a + m) n
 range-append a zero n = ap (range_with_len a) (zero_add n) ∙ ap (λ x. range_with_len x n) (add_zero a)
-    where
-      zero_add : (n : ℕ) → 0 + n ≡ n
-      zero_add n = omega arith
-      add_zero : (a : ℕ) → a ≡ a + 0
-      add_zero a = omega arith
+  where
+    zero_add : (n : ℕ) → 0 + n ≡ n
+    zero_add n = omega arith
+
+    add_zero : (a : ℕ) → a ≡ a + 0
+    add_zero a = omega arith
 range-append a (suc m) n = ap (range_with_len a) (suc_add m n) ∙ ap (λ xs. a ∷ xs) (range-append (a + 1) m n ∙ ap (λ x. range_with_len (a + 1) m ++ range_with_len x n) (omega arith))
-    where
-      suc_add : (m n : ℕ) → suc m + n ≡ suc (m + n)
-      suc_add m n = omega arith
+  where
+    suc_add : (m n : ℕ) → suc m + n ≡ suc (m + n)
+    suc_add m n = omega arith
 
 ranged : (f : ℕ → ℕ) (a b n : ℕ) → ((i : ℕ) → i < n → b + i ≡ f (a + i)) → range_with_len b n ≡ map f (range_with_len a n)
 ranged f a b zero same = refl
@@ -72,11 +76,12 @@ ranged f a b (suc n) same =
     let head : b ≡ f a = add_zero b ∙ (same 0 (omega arith) ∙ ap f (sym (add_zero a))) in
     let tail : range_with_len (b + 1) n ≡ map f (range_with_len (a + 1) n) = ranged f (a + 1) (b + 1) n (λ i h. add_one b i ∙ (same (i + 1) (omega arith) ∙ ap f (sym (add_one a i)))) in
     ap (λ x. x ∷ range_with_len (b + 1) n) head ∙ ap (λ xs. f a ∷ xs) tail
-    where
-      add_zero : (a : ℕ) → a ≡ a + 0
-      add_zero a = omega arith
-      add_one : (a i : ℕ) → a + 1 + i ≡ a + (i + 1)
-      add_one a i = omega arith
+  where
+    add_zero : (a : ℕ) → a ≡ a + 0
+    add_zero a = omega arith
+
+    add_one : (a i : ℕ) → a + 1 + i ≡ a + (i + 1)
+    add_one a i = omega arith
 
 -- the turn, slot by slot
 pub turn-is : (n offset : ℕ) → offset < n → turn n offset ≡ map (λ i. (offset + i) % n) (range_with_len 0 n)
@@ -85,9 +90,9 @@ turn-is n offset h =
     ∙ (ap (λ xs. map (λ i. (offset + i) % n) (range_with_len 0 (n - offset)) ++ xs) (ranged (λ i. (offset + i) % n) (n - offset) 0 offset (λ i l. sym (round-behind (offset + (n - offset + i)) n (omega arith) (omega arith) ∙ omega arith)))
     ∙ (sym (map-append (λ i. (offset + i) % n) (range_with_len 0 (n - offset)) (range_with_len (n - offset) offset))
     ∙ ap (map (λ i. (offset + i) % n)) (ap (λ x. range_with_len 0 (n - offset) ++ range_with_len x offset) (sym (zero_add (n - offset))) ∙ (sym (range-append 0 (n - offset) offset) ∙ ap (range_with_len 0) (omega arith)))))
-    where
-      zero_add : (i : ℕ) → 0 + i ≡ i
-      zero_add i = omega arith
+  where
+    zero_add : (i : ℕ) → 0 + i ≡ i
+    zero_add i = omega arith
 
 -- ---- positions and places
 
@@ -106,18 +111,19 @@ flat_map-same f g same (x ∷ xs) = ap (λ ys. ys ++ flat_map f xs) (same x) ∙
 -- parts of one length, one after another
 flat-ranges : {A : Type 0} (g : ℕ → A) (n a h : ℕ) → flat_map (λ k. map g (range_with_len (k * n) n)) (range_with_len a h) ≡ map g (range_with_len (a * n) (h * n))
 flat-ranges g n a zero = ap (λ m. map g (range_with_len (a * n) m)) (none n)
-    where
-      none : (n : ℕ) → 0 ≡ 0 * n
-      none n = omega arith
+  where
+    none : (n : ℕ) → 0 ≡ 0 * n
+    none n = omega arith
 flat-ranges g n a (suc h) =
     ap (λ xs. map g (range_with_len (a * n) n) ++ xs) (flat-ranges g n (a + 1) h ∙ ap (λ b. map g (range_with_len b (h * n))) (next a n))
     ∙ (sym (map-append g (range_with_len (a * n) n) (range_with_len (a * n + n) (h * n)))
     ∙ ap (map g) (sym (range-append (a * n) n (h * n)) ∙ ap (range_with_len (a * n)) (more h n)))
-    where
-      next : (a n : ℕ) → (a + 1) * n ≡ a * n + n
-      next a n = omega arith
-      more : (h n : ℕ) → n + h * n ≡ suc h * n
-      more h n = omega arith
+  where
+    next : (a n : ℕ) → (a + 1) * n ≡ a * n + n
+    next a n = omega arith
+
+    more : (h n : ℕ) → n + h * n ≡ suc h * n
+    more h n = omega arith
 
 module _ (zone : Zone) (heads : ℕ) (some : 0 < zone.sectors) where
   -- the place at a position of a track
@@ -151,10 +157,10 @@ module _ (zone : Zone) (heads : ℕ) (some : 0 < zone.sectors) where
       ap (map (λ slot. record { track = track; slot = slot })) (turn-is zone.sectors (offset_in zone heads track) (offset_below track))
       ∙ (map-map (λ slot. record { track = track; slot = slot }) (λ i. (offset_in zone heads track + i) % zone.sectors) (range_with_len 0 zone.sectors)
       ∙ map-ranges (λ i. record { track = track; slot = (offset_in zone heads track + i) % zone.sectors }) (slot_at zone heads track.cylinder) 0 (track.head * zone.sectors) zone.sectors
-        (λ i h. ap (λ j. record { track = track; slot = (offset_in zone heads track + j) % zone.sectors }) (zero_add i) ∙ sym (slot_on track.cylinder track.head i h)))
-      where
-        zero_add : (i : ℕ) → 0 + i ≡ i
-        zero_add i = omega arith
+      (λ i h. ap (λ j. record { track = track; slot = (offset_in zone heads track + j) % zone.sectors }) (zero_add i) ∙ sym (slot_on track.cylinder track.head i h)))
+    where
+      zero_add : (i : ℕ) → 0 + i ≡ i
+      zero_add i = omega arith
 
   -- the good slots of a track are those of its part of the cylinder
   pub good_track-is : (disk : Shape) (track : Track) → disk.heads ≡ heads → good_track disk zone track
@@ -167,14 +173,14 @@ module _ (zone : Zone) (heads : ℕ) (some : 0 < zone.sectors) where
       ≡ filter (λ place. not (is_among disk.defects place)) (cylinder_slots zone heads cylinder)
   good_cylinder-is disk cylinder e =
       flat_map-same (λ head. good_track disk zone (record { cylinder = cylinder; head = head }))
-        (λ head. filter (λ place. not (is_among disk.defects place)) (map (slot_at zone heads cylinder) (range_with_len (head * zone.sectors) zone.sectors)))
-        (λ head. good_track-is disk (record { cylinder = cylinder; head = head }) e) (range_with_len 0 disk.heads)
+      (λ head. filter (λ place. not (is_among disk.defects place)) (map (slot_at zone heads cylinder) (range_with_len (head * zone.sectors) zone.sectors)))
+      (λ head. good_track-is disk (record { cylinder = cylinder; head = head }) e) (range_with_len 0 disk.heads)
       ∙ (filter-flat_map (λ place. not (is_among disk.defects place)) (λ head. map (slot_at zone heads cylinder) (range_with_len (head * zone.sectors) zone.sectors)) (range_with_len 0 disk.heads)
       ∙ ap (filter (λ place. not (is_among disk.defects place))) (flat-ranges (slot_at zone heads cylinder) zone.sectors 0 disk.heads
       ∙ (ap (λ h. map (slot_at zone heads cylinder) (range_with_len (0 * zone.sectors) (h * zone.sectors))) e ∙ ap (λ a. map (slot_at zone heads cylinder) (range_with_len a (heads * zone.sectors))) (zero_mul zone.sectors))))
-      where
-        zero_mul : (n : ℕ) → 0 * n ≡ 0
-        zero_mul n = omega arith
+    where
+      zero_mul : (n : ℕ) → 0 * n ≡ 0
+      zero_mul n = omega arith
 
   pub length-cylinder_slots : (cylinder : ℕ) → length (cylinder_slots zone heads cylinder) ≡ heads * zone.sectors
   length-cylinder_slots cylinder = length-map-range_with_len (slot_at zone heads cylinder) 0 (heads * zone.sectors)

@@ -11,7 +11,10 @@ ghost use Rattle.fb_geometry.specs.Index.{HasZones, AreJudged, defect_fault, Jud
 ghost use Rattle.fb_geometry.specs.Marks.{positions};
 ghost use Rattle.fb_geometry.specs.declared.layout.Layout.TheVariants.{PerTrack, PerCylinder};
 
-use crate::marks::{Mark, Marks, among_unmarked, entry_of_sector, is_marked, sector_of_entry, slipped, unmarked_before};
+use crate::marks::{
+    Mark, Marks, among_unmarked, entry_of_sector, is_marked, sector_of_entry, slipped,
+    unmarked_before,
+};
 use crate::outline::Outline;
 use crate::{GeometryError, GeometryFault, Layout, Zone};
 use fb_units::{Ns, Place, Track};

@@ -163,11 +163,7 @@ pub fn is_clash(marks: &[Mark], i: usize, others: &[Mark]) -> bool
 }
 
 // Unmarked positions, by how many before each are not marked.
-pub fn among_unmarked(
-    alloc: Global,
-    marked: &[Mark],
-    marks: &[Mark],
-) -> Result<Vec<Mark>, NoMemory>
+pub fn among_unmarked(alloc: Global, marked: &[Mark], marks: &[Mark]) -> Result<Vec<Mark>, NoMemory>
     requires { AreInOrder marked.now }
     ensures { IfOk result (λ unmarked. unmarked.items ≡ map (among_unmarked marked.now) marks.now) }
 {

@@ -15,9 +15,13 @@ use std::alloc::Global;
 use std::marker::Model;
 
 const LONGEST_ROTATION: Ns = 1_000_000_000;
+
 const MOST_HEADS: u32 = 64;
+
 const MOST_ZONES: usize = 64;
+
 const LAST_CYLINDER: u32 = 999_999;
+
 const MOST_SECTORS: u32 = 10_000;
 
 // The numbers, zones and bad slots that a disk is made from.
@@ -354,13 +358,7 @@ fn lesser(place: Place, other: Option<Place>) -> Place
     ensures { Some result ≡ lesser is_place_before place other }
 {
     match other {
-        Some(other) => {
-            if other < place {
-                other
-            } else {
-                place
-            }
-        }
+        Some(other) => { if other < place { other } else { place } }
         None => place,
     }
 }

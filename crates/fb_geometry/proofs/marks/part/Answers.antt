@@ -1,6 +1,6 @@
-use Rattle.std.proofs.Common.{◌≡◌, rules, arith, drop, sym, ap, ◌∙◌, subst, take}
+use Rattle.std.proofs.Common.{◌≡◌, rules, drop, sym, ◌∙◌, subst}
 use Rattle.std.specs.Prelude.{nat_lt, nat_le}
-use Rattle.std.proofs.lemmas.List.Sorted.{IsPartitionPoint-from_clause, IsPartitionedBy-ltb, IsPartitionedBy-leb, IsNonDecreasingBy-drop}
+use Rattle.std.proofs.lemmas.List.Sorted.{IsPartitionPoint-from_clause, IsPartitionedBy-ltb, IsPartitionedBy-leb}
 use Rattle.fb_geometry.specs.Slips.{IsAscending}
 use Rattle.fb_geometry.specs.Marks.{positions, marks_on}
 use Rattle.fb_geometry.proofs.Order.{part-of, rest-rises, cylinders-rise, marks_on-ascend}
@@ -15,8 +15,8 @@ found c =
     let rest = c.split_at.result.1.now in
     let cut : rest ≡ drop from marks = c.split_at.ensures.back in
     c.split_at-2.ensures.front ∙ part-of cylinder marks rest from n cut c.partition_point.ensures.bound c.partition_point-2.ensures.bound
-      (IsPartitionPoint-from_clause (λ mark. nat_lt mark.cylinder cylinder) marks from c.partition_point.ensures.partitioned (IsPartitionedBy-ltb (λ mark. mark.cylinder) marks cylinder (cylinders-rise marks c.requires)) (λ a r f called. search rules))
-      (IsPartitionPoint-from_clause (λ mark. nat_le mark.cylinder cylinder) rest n c.partition_point-2.ensures.partitioned (IsPartitionedBy-leb (λ mark. mark.cylinder) rest cylinder (rest-rises marks rest from c.requires cut)) (λ a r f called. search rules))
+    (IsPartitionPoint-from_clause (λ mark. nat_lt mark.cylinder cylinder) marks from c.partition_point.ensures.partitioned (IsPartitionedBy-ltb (λ mark. mark.cylinder) marks cylinder (cylinders-rise marks c.requires)) (λ a r f called. search rules))
+    (IsPartitionPoint-from_clause (λ mark. nat_le mark.cylinder cylinder) rest n c.partition_point-2.ensures.partitioned (IsPartitionedBy-leb (λ mark. mark.cylinder) rest cylinder (rest-rises marks rest from c.requires cut)) (λ a r f called. search rules))
 
 pub returns-clause-value : goal.returns-clause-value
 returns-clause-value c = found c

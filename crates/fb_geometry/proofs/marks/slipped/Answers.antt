@@ -1,4 +1,4 @@
-use Rattle.std.proofs.Common.{◌≡◌, sym, arith, ◌+◌, ◌-◌, ◌/◌, ◌<◌, ◌≤◌, length}
+use Rattle.std.proofs.Common.{◌≡◌, sym, arith, ◌+◌, ◌-◌, ◌/◌, ◌<◌, length}
 use Rattle.std.proofs.lemmas.List.{length-map}
 use Rattle.fb_geometry.specs.Marks.{positions}
 use Rattle.fb_geometry.specs.Slips.{slipped}

@@ -7,7 +7,8 @@ invariant-loop-low l = record {
   order : l.low ≤ l.high;
   upto : l.high ≤ length l.marks;
   before : (i : ℕ) → i < l.low → get_or (positions l.marks) i 0 ≤ l.number + i;
-  behind : (i : ℕ) → l.high ≤ i → i < length l.marks → l.number + i < get_or (positions l.marks) i 0 }
+  behind : (i : ℕ) → l.high ≤ i → i < length l.marks → l.number + i < get_or (positions l.marks) i 0;
+}
 
 abbrev pub decreases-loop-low : goal.decreases-loop-low
 decreases-loop-low l = l.high - l.low

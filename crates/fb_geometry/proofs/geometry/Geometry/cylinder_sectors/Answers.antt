@@ -1,4 +1,4 @@
-use Rattle.std.proofs.Common.{◌≡◌, sym, ap, ◌∙◌, length}
+use Rattle.std.proofs.Common.{sym, ap, ◌∙◌, length}
 use Rattle.fb_geometry.proofs.Laws.{length-data_list}
 use Rattle.fb_geometry.proofs.geometry.Geometry.cylinder_sectors.Goals as goal
 

@@ -1,4 +1,4 @@
-use Rattle.std.proofs.Common.{◌≡◌, ℕ, ◌+◌, ◌-◌, ◌*◌, ◌<◌, ◌≤◌, List, length, arith, ap, ◌∙◌, sym, Some, true, false, refl, subst, inl, inr, Option, None}
+use Rattle.std.proofs.Common.{◌≡◌, ℕ, ◌-◌, ◌*◌, ◌<◌, List, arith, ap, ◌∙◌, sym, Some, true, false, refl, subst, inl, inr, Option, None}
 use Rattle.std.specs.Prelude.{slice_get, ◌==◌, Bool, MatchOption, IfNone, IfSome}
 use Rattle.std.specs.List.{list_any}
 use Rattle.std.proofs.lemmas.Bool.{true≢false}
@@ -28,8 +28,8 @@ module _ (disk : Shape) (zone : Zone) (place : Place) (at : IsZoneAt disk place.
 
     indexed : (j : ℕ) → slice_get (per_cylinder disk zone place.track.cylinder) j ≡ Some place
         → (is_among disk.defects place ≡ false) × (is_among disk.grown place ≡ false)
-          × (slice_get (by_head disk place.track.cylinder (good_track disk zone)) (position_in zone disk.heads place - rank (position_in zone disk.heads place) numbers) ≡ Some place)
-          × (position_in zone disk.heads place - rank (position_in zone disk.heads place) numbers - rank (position_in zone disk.heads place - rank (position_in zone disk.heads place) numbers) grown < disk.heads * zone.sectors - zone.cylinder_spares)
+        × (slice_get (by_head disk place.track.cylinder (good_track disk zone)) (position_in zone disk.heads place - rank (position_in zone disk.heads place) numbers) ≡ Some place)
+        × (position_in zone disk.heads place - rank (position_in zone disk.heads place) numbers - rank (position_in zone disk.heads place - rank (position_in zone disk.heads place) numbers) grown < disk.heads * zone.sectors - zone.cylinder_spares)
     indexed j found = index_by_cylinder disk zone place.track.cylinder at spares numbers are grown those j place found
 
     -- what is said of the entry in the good list is so of the place
@@ -41,14 +41,16 @@ module _ (disk : Shape) (zone : Zone) (place : Place) (at : IsZoneAt disk place.
         elim none [
           | inl marks ↦ true≢false (sym marks ∙ (ap (λ k. list_any (λ other. other == k) grown) same
               ∙ (grown_at_index disk zone place.track.cylinder at spares numbers are grown those (position_in zone disk.heads place - rank (position_in zone disk.heads place) numbers) place one.2 ∙ one.1)))
-          | inr late ↦ absurd (omega (arith, one.3, ap (λ k. rank k grown) same)) ]
+          | inr late ↦ absurd (omega (arith, one.3, ap (λ k. rank k grown) same))
+        ]
     judged entry (Some j) same good none some =
         let here : slice_get (by_head disk place.track.cylinder (good_track disk zone)) entry ≡ Some place =
-          ap (slice_get (by_head disk place.track.cylinder (good_track disk zone))) same ∙ in_whole disk zone place.track.cylinder at spares numbers are grown those place refl h l good in
+        ap (slice_get (by_head disk place.track.cylinder (good_track disk zone))) same ∙ in_whole disk zone place.track.cylinder at spares numbers are grown those place refl h l good in
         let stays : is_among disk.grown place ≡ false = sym (grown_at_index disk zone place.track.cylinder at spares numbers are grown those entry place here) ∙ some.0 in
         elim some.1 [
           | inl own ↦ ap (slice_get (per_cylinder disk zone place.track.cylinder)) own.1 ∙ holds_staying disk zone place.track.cylinder at spares numbers are grown those entry place here stays own.0
-          | inr stead ↦ holds_moving disk zone place.track.cylinder at spares numbers are grown those entry j place here stays stead.0 stead.1 stead.2 ]
+          | inr stead ↦ holds_moving disk zone place.track.cylinder at spares numbers are grown those entry j place here stays stead.0 stead.1 stead.2
+        ]
 
 pub returns-then-is_marked : goal.returns-then-is_marked
 returns-then-is_marked c = λ j found.
@@ -56,9 +58,9 @@ returns-then-is_marked c = λ j found.
     let zone = c.args.zone in
     let numbers = positions c.defects_on-defects.result.now in
     let here = marked disk zone c.args.place c.requires.zone c.requires.layout c.requires.head c.requires.slot numbers c.defects_on-defects.ensures.marks
-      c.position-position.result true (c.position-position.ensures.value ∙ ap (λ heads. position_in zone heads c.args.place) c.heads-heads.ensures.value) (sym c.if-is_marked.true ∙ c.is_marked.ensures) in
+    c.position-position.result true (c.position-position.ensures.value ∙ ap (λ heads. position_in zone heads c.args.place) c.heads-heads.ensures.value) (sym c.if-is_marked.true ∙ c.is_marked.ensures) in
     let one = indexed disk zone c.args.place c.requires.zone c.requires.layout c.requires.head c.requires.slot numbers c.defects_on-defects.ensures.marks
-      (indexes (is_among disk.grown) 0 (by_head disk c.args.place.track.cylinder (good_track disk zone))) refl j found in
+    (indexes (is_among disk.grown) 0 (by_head disk c.args.place.track.cylinder (good_track disk zone))) refl j found in
     true≢false (here ∙ one.0)
 
 pub returns : goal.returns
@@ -70,8 +72,8 @@ returns c =
     let good = c.unmarked_before-good.result in
     let at_place = c.position-position.ensures.value ∙ ap (λ heads. position_in zone heads c.args.place) c.heads-heads.ensures.value in
     let here = marked disk zone c.args.place c.requires.zone c.requires.layout c.requires.head c.requires.slot numbers c.defects_on-defects.ensures.marks
-      c.position-position.result false at_place (sym c.if-is_marked.false ∙ c.is_marked.ensures) in
+    c.position-position.result false at_place (sym c.if-is_marked.false ∙ c.is_marked.ensures) in
     judged disk zone c.args.place c.requires.zone c.requires.layout c.requires.head c.requires.slot numbers c.defects_on-defects.ensures.marks grown c.grown_on.ensures.marks good c.sector_of_entry.result
-      (c.unmarked_before-good.ensures ∙ ap (λ position. position - rank position numbers) at_place) (sym here)
-      (subst (λ heads. IfNone c.sector_of_entry.result (HoldsNone grown (heads * zone.sectors - zone.cylinder_spares) good)) c.heads-heads.ensures.value c.sector_of_entry.ensures.none)
-      (subst (λ heads. IfSome c.sector_of_entry.result (HoldsSector grown (heads * zone.sectors - zone.cylinder_spares) good)) c.heads-heads.ensures.value c.sector_of_entry.ensures.some)
+    (c.unmarked_before-good.ensures ∙ ap (λ position. position - rank position numbers) at_place) (sym here)
+    (subst (λ heads. IfNone c.sector_of_entry.result (HoldsNone grown (heads * zone.sectors - zone.cylinder_spares) good)) c.heads-heads.ensures.value c.sector_of_entry.ensures.none)
+    (subst (λ heads. IfSome c.sector_of_entry.result (HoldsSector grown (heads * zone.sectors - zone.cylinder_spares) good)) c.heads-heads.ensures.value c.sector_of_entry.ensures.some)

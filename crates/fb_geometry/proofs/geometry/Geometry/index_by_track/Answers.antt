@@ -1,4 +1,4 @@
-use Rattle.std.proofs.Common.{◌≡◌, ℕ, ◌+◌, ◌-◌, ◌*◌, ◌<◌, ◌≤◌, List, length, arith, ap, ◌∙◌, sym, Some, true, false, refl, subst}
+use Rattle.std.proofs.Common.{◌≡◌, ℕ, ◌+◌, ◌-◌, ◌*◌, ◌<◌, ◌≤◌, List, arith, ap, ◌∙◌, sym, Some, true, false, refl}
 use Rattle.std.specs.Prelude.{slice_get, ◌==◌, Bool, None}
 use Rattle.std.specs.List.{list_any}
 use Rattle.fb_units.specs.declared.types.Place.{Place}
@@ -29,7 +29,7 @@ module _ (disk : Shape) (zone : Zone) (place : Place) (at : IsZoneAt disk place.
   -- what an index of the place says
   indexed : (j : ℕ) → slice_get (per_track disk zone place.track.cylinder) j ≡ Some place
       → (is_among disk.defects place ≡ false) × (i : ℕ) × (i < zone.sectors - zone.spares)
-        × (place.track.head * zone.sectors - rank (place.track.head * zone.sectors) numbers + i ≡ position_in zone disk.heads place - rank (position_in zone disk.heads place) numbers)
+      × (place.track.head * zone.sectors - rank (place.track.head * zone.sectors) numbers + i ≡ position_in zone disk.heads place - rank (position_in zone disk.heads place) numbers)
   indexed j found = index_by_track disk zone place.track.cylinder at numbers are few j place (some_by_track disk zone place.track.cylinder at layout) found
 
   late : (a b position : ℕ) → position ≡ position_in zone disk.heads place → a ≡ position - rank position numbers → b ≡ place.track.head * zone.sectors - rank (place.track.head * zone.sectors) numbers
@@ -48,7 +48,7 @@ module _ (disk : Shape) (zone : Zone) (place : Place) (at : IsZoneAt disk place.
 pub returns-then-is_marked : goal.returns-then-is_marked
 returns-then-is_marked c = λ j found.
     let here = marked c.args.self.now c.args.zone c.args.place c.requires.zone c.requires.layout c.requires.head c.requires.slot (positions c.defects_on-defects.result.now) c.defects_on-defects.ensures.marks
-      c.position-position.result true (c.position-position.ensures.value ∙ ap (λ heads. position_in c.args.zone heads c.args.place) c.heads-heads.ensures.value) (sym c.if-is_marked.true ∙ c.is_marked.ensures) in
+    c.position-position.result true (c.position-position.ensures.value ∙ ap (λ heads. position_in c.args.zone heads c.args.place) c.heads-heads.ensures.value) (sym c.if-is_marked.true ∙ c.is_marked.ensures) in
     let one = indexed c.args.self.now c.args.zone c.args.place c.requires.zone c.requires.layout c.requires.head c.requires.slot (positions c.defects_on-defects.result.now) c.defects_on-defects.ensures.marks j found in
     true≢false (here ∙ one.0)
 
@@ -63,8 +63,8 @@ overflow_sub-sector c =
 pub returns-then-sector-sectors : goal.returns-then-sector-sectors
 returns-then-sector-sectors c =
     late c.args.self.now c.args.zone c.args.place c.requires.zone c.requires.layout c.requires.head c.requires.slot (positions c.defects_on-defects.result.now) c.defects_on-defects.ensures.marks
-      c.unmarked_before.result c.unmarked_before-2.result c.position-position.result (c.position-position.ensures.value ∙ ap (λ heads. position_in c.args.zone heads c.args.place) c.heads-heads.ensures.value)
-      c.unmarked_before.ensures c.unmarked_before-2.ensures c.if-sector-sectors.true
+    c.unmarked_before.result c.unmarked_before-2.result c.position-position.result (c.position-position.ensures.value ∙ ap (λ heads. position_in c.args.zone heads c.args.place) c.heads-heads.ensures.value)
+    c.unmarked_before.ensures c.unmarked_before-2.ensures c.if-sector-sectors.true
 
 pub returns : goal.returns
 returns c =
@@ -73,8 +73,8 @@ returns c =
     let up = c.defects_on-defects.ensures.ascending in
     let at_place = c.position-position.ensures.value ∙ ap (λ heads. position_in c.args.zone heads c.args.place) c.heads-heads.ensures.value in
     let here = marked c.args.self.now c.args.zone c.args.place c.requires.zone c.requires.layout c.requires.head c.requires.slot numbers c.defects_on-defects.ensures.marks
-      c.position-position.result false at_place (sym c.if-is_marked.false ∙ c.is_marked.ensures) in
+    c.position-position.result false at_place (sym c.if-is_marked.false ∙ c.is_marked.ensures) in
     let behind : first ≤ c.position-position.result = omega (arith, c.position-position.ensures.value) in
     held c.args.self.now c.args.zone c.args.place c.requires.zone c.requires.layout c.requires.head c.requires.slot numbers c.defects_on-defects.ensures.marks
-      c.unmarked_before.result c.unmarked_before-2.result c.position-position.result at_place c.unmarked_before.ensures c.unmarked_before-2.ensures
-      (omega (arith, rank-step first c.position-position.result numbers up behind, rank-below first numbers up)) (sym here) (omega arith)
+    c.unmarked_before.result c.unmarked_before-2.result c.position-position.result at_place c.unmarked_before.ensures c.unmarked_before-2.ensures
+    (omega (arith, rank-step first c.position-position.result numbers up behind, rank-below first numbers up)) (sym here) (omega arith)

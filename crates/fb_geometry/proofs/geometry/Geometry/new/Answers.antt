@@ -1,11 +1,11 @@
-use Rattle.std.proofs.Common.{◌≡◌, sym, ap, ◌∙◌, subst, Some, None, Result, Ok, Err, Option}
+use Rattle.std.proofs.Common.{◌≡◌, sym, ◌∙◌, None, Result, Ok, Err}
 use Rattle.std.proofs.lemmas.Result.{err_from_is_err_and}
 use Rattle.fb_geometry.specs.Shape.{Shape}
-use Rattle.fb_geometry.specs.Faults.{Judges, first_fault, spare_fault}
+use Rattle.fb_geometry.specs.Faults.{Judges}
 use Rattle.fb_geometry.specs.declared.fault.GeometryError.{GeometryError}
 use Rattle.fb_geometry.specs.declared.fault.GeometryError.TheVariants.{Fault, NoMemory}
-use Rattle.fb_geometry.specs.Index.{HasZones, JudgesSpares, zone_fault, defect_fault, Answers}
-use Rattle.fb_geometry.proofs.Judging.{fault_of_zones, fault_of_defects, fault_of_spares, has_zones}
+use Rattle.fb_geometry.specs.Index.{JudgesSpares, zone_fault, defect_fault, Answers}
+use Rattle.fb_geometry.proofs.Judging.{fault_of_zones, fault_of_defects, fault_of_spares}
 use Rattle.fb_geometry.proofs.geometry.Geometry.new.Goals as goal
 
 -- what is said of the spares is so of the whole, once the zones and the defects are judged
@@ -21,7 +21,7 @@ refused disk NoMemory e h = tt
 pub returns-in-Some : goal.returns-in-Some
 returns-in-Some c =
     fault_of_zones (record { layout = c.args.layout; rotation = c.args.rotation; heads = c.args.heads; zones = c.args.zones.items; defects = c.args.defects.items; grown = c.args.grown.items }) c.in-Some.fault
-      (sym c.zone_fault.ensures ∙ c.in-Some.is)
+    (sym c.zone_fault.ensures ∙ c.in-Some.is)
 
 pub returns-in_err-defects : goal.returns-in_err-defects
 returns-in_err-defects c =

@@ -1,4 +1,4 @@
-use Rattle.std.proofs.Common.{◌≡◌, sym, ap, ◌∙◌}
+use Rattle.std.proofs.Common.{sym, ap, ◌∙◌}
 use Rattle.fb_geometry.specs.Shape.{offset_in}
 use Rattle.fb_geometry.proofs.Faultless.{offset_at-zone}
 use Rattle.fb_geometry.proofs.geometry.Geometry.offset.Goals as goal

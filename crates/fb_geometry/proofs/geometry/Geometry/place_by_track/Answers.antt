@@ -19,15 +19,18 @@ module _ (disk : Shape) (zone : Zone) (cylinder : ℕ) (at : IsZoneAt disk cylin
 
   found : (before : ℕ) → before ≡ j / (zone.sectors - zone.spares) * zone.sectors - rank (j / (zone.sectors - zone.spares) * zone.sectors) numbers
       → (slipped (before + j % (zone.sectors - zone.spares)) numbers < disk.heads * zone.sectors)
-        × (slice_get (per_track disk zone cylinder) j ≡ Some (slot_at zone disk.heads cylinder (slipped (before + j % (zone.sectors - zone.spares)) numbers)))
+      × (slice_get (per_track disk zone cylinder) j ≡ Some (slot_at zone disk.heads cylinder (slipped (before + j % (zone.sectors - zone.spares)) numbers)))
   found before e = place_by_track disk zone cylinder at numbers are (spares_by disk zone cylinder PerTrack at layout) j (j / (zone.sectors - zone.spares)) (j % (zone.sectors - zone.spares)) (before + j % (zone.sectors - zone.spares))
       split.2 split.0 split.1 (ap (λ n. n + j % (zone.sectors - zone.spares)) (sym e))
 
 pub overflow_mul-first : goal.overflow_mul-first
 overflow_mul-first c =
     let disk = c.args.self.now in
-    omega (arith, few_slots disk c.args.zone (omega arith) c.requires.zone.ranges,
-      (split disk c.args.zone c.args.cylinder c.requires.zone c.requires.layout c.args.j c.requires.sector (positions c.defects_on-defects.result.now) c.defects_on-defects.ensures.marks).3)
+    omega (
+      arith,
+      few_slots disk c.args.zone (omega arith) c.requires.zone.ranges,
+      (split disk c.args.zone c.args.cylinder c.requires.zone c.requires.layout c.args.j c.requires.sector (positions c.defects_on-defects.result.now) c.defects_on-defects.ensures.marks).3,
+    )
 
 pub overflow_add-good : goal.overflow_add-good
 overflow_add-good c =
@@ -38,8 +41,11 @@ overflow_add-good c =
 pub slipped-requires-clause-fits : goal.slipped-requires-clause-fits
 slipped-requires-clause-fits c =
     let disk = c.args.self.now in
-    omega (arith, few_slots disk c.args.zone (omega arith) c.requires.zone.ranges,
-      (found disk c.args.zone c.args.cylinder c.requires.zone c.requires.layout c.args.j c.requires.sector (positions c.defects_on-defects.result.now) c.defects_on-defects.ensures.marks c.unmarked_before.result c.unmarked_before.ensures).0)
+    omega (
+      arith,
+      few_slots disk c.args.zone (omega arith) c.requires.zone.ranges,
+      (found disk c.args.zone c.args.cylinder c.requires.zone c.requires.layout c.args.j c.requires.sector (positions c.defects_on-defects.result.now) c.defects_on-defects.ensures.marks c.unmarked_before.result c.unmarked_before.ensures).0,
+    )
 
 pub place_at-requires-clause-position : goal.place_at-requires-clause-position
 place_at-requires-clause-position c =
@@ -52,4 +58,4 @@ returns c =
     let zone = c.args.zone in
     let one = found c.args.self.now zone c.args.cylinder c.requires.zone c.requires.layout c.args.j c.requires.sector (positions c.defects_on-defects.result.now) c.defects_on-defects.ensures.marks c.unmarked_before.result c.unmarked_before.ensures in
     one.1 ∙ ap Some (ap (λ heads. slot_at zone heads c.args.cylinder (slipped (c.unmarked_before.result + c.args.j % (zone.sectors - zone.spares)) (positions c.defects_on-defects.result.now))) (sym c.heads-heads.ensures.value)
-      ∙ (ap (slot_at zone c.heads-heads.result c.args.cylinder) (sym c.slipped.ensures) ∙ sym c.place_at.ensures))
+    ∙ (ap (slot_at zone c.heads-heads.result c.args.cylinder) (sym c.slipped.ensures) ∙ sym c.place_at.ensures))

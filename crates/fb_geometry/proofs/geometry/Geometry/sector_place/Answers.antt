@@ -1,4 +1,4 @@
-use Rattle.std.proofs.Common.{◌≡◌, sym, ap, ◌∙◌, length, arith}
+use Rattle.std.proofs.Common.{sym, ap, ◌∙◌, length, arith}
 use Rattle.std.specs.Prelude.{slice_get}
 use Rattle.fb_geometry.specs.Places.{data_list_by}
 use Rattle.fb_geometry.proofs.geometry.Geometry.sector_place.Goals as goal

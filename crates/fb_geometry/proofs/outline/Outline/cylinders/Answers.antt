@@ -1,4 +1,4 @@
-use Rattle.std.proofs.Common.{◌≡◌, ◌-◌, ◌+◌, sym, ap, ◌∙◌, arith, length}
+use Rattle.std.proofs.Common.{◌-◌, ◌+◌, ap, ◌∙◌, arith, length}
 use Rattle.fb_geometry.specs.Shape.{cylinders_of}
 use Rattle.fb_geometry.proofs.Faultless.{last-cylinder, some_zones}
 use Rattle.fb_geometry.proofs.outline.Outline.cylinders.Goals as goal

@@ -1,4 +1,4 @@
-use Rattle.std.proofs.Common.{◌≡◌, sym, ◌∙◌}
+use Rattle.std.proofs.Common.{sym, ◌∙◌}
 use Rattle.fb_geometry.proofs.Spares.{first_of_marks}
 use Rattle.fb_geometry.proofs.outline.Outline.first_full_among.Goals as goal
 

@@ -12,8 +12,14 @@ returns c =
     let disk = c.args.self.now in
     let cylinder = c.args.cylinder in
     let count : length c.part.result.now + length c.part-2.result.now ≡ length (filter (λ place. place.track.cylinder == cylinder) (disk.defects ++ disk.grown)) =
-      omega (arith, ap length c.part.ensures.value, ap length c.part-2.ensures.value, count_on_cylinder disk disk.defects c.args.defects.now cylinder c.requires.defects, count_on_cylinder disk disk.grown c.args.grown.now cylinder c.requires.grown,
-        ap length (filter-append (λ place. place.track.cylinder == cylinder) disk.defects disk.grown),
-        length-append (filter (λ place. place.track.cylinder == cylinder) disk.defects) (filter (λ place. place.track.cylinder == cylinder) disk.grown)) in
+    omega (
+      arith,
+      ap length c.part.ensures.value,
+      ap length c.part-2.ensures.value,
+      count_on_cylinder disk disk.defects c.args.defects.now cylinder c.requires.defects,
+      count_on_cylinder disk disk.grown c.args.grown.now cylinder c.requires.grown,
+      ap length (filter-append (λ place. place.track.cylinder == cylinder) disk.defects disk.grown),
+      length-append (filter (λ place. place.track.cylinder == cylinder) disk.defects) (filter (λ place. place.track.cylinder == cylinder) disk.grown),
+    ) in
     ap (λ spares. nat_lt spares (length c.part.result.now + length c.part-2.result.now)) (sym (cylinder_spares_at-zone disk.zones cylinder c.zone_of.result c.zone_of.ensures.zone.found))
     ∙ ap (nat_lt (cylinder_spares_at disk.zones cylinder)) count

@@ -1,7 +1,7 @@
-use Rattle.std.proofs.Common.{◌≡◌, sym, ap, ◌∙◌, subst, Some, None, length}
+use Rattle.std.proofs.Common.{◌≡◌, sym, ap, ◌∙◌, subst, None}
 use Rattle.std.specs.Prelude.{find}
 use Rattle.fb_geometry.specs.Faults.{is_outside}
-use Rattle.fb_geometry.specs.Marks.{AreMarksOf, LeastClash}
+use Rattle.fb_geometry.specs.Marks.{AreMarksOf}
 use Rattle.fb_geometry.specs.Index.{AreJudged, defect_fault}
 use Rattle.fb_geometry.proofs.Clashes.{marks_lie}
 use Rattle.fb_geometry.proofs.Judging.{defect_twice, good_defects}

@@ -1,4 +1,4 @@
-use Rattle.std.proofs.Common.{◌≡◌, ap, sym, ◌∙◌}
+use Rattle.std.proofs.Common.{ap, sym, ◌∙◌}
 use Rattle.fb_geometry.specs.Turns.{position_in}
 use Rattle.fb_geometry.proofs.Marking.{position_is}
 use Rattle.fb_geometry.proofs.outline.Outline.mark.Goals as goal
@@ -8,4 +8,4 @@ returns c =
     let disk = c.args.self.now in
     let zone = c.zone_of-zone.result in
     ap (λ position. record { cylinder = c.args.place.track.cylinder; position = position })
-      (c.position.ensures.value ∙ (ap (λ disk. position_in zone disk.heads c.args.place) c.self.view_is ∙ sym (position_is disk zone c.args.place c.zone_of-zone.ensures.zone.found)))
+    (c.position.ensures.value ∙ (ap (λ disk. position_in zone disk.heads c.args.place) c.self.view_is ∙ sym (position_is disk zone c.args.place c.zone_of-zone.ensures.zone.found)))

@@ -1,4 +1,4 @@
-use Rattle.std.proofs.Common.{◌≡◌, sym, ap, ◌∙◌, subst, get_or, ◌+◌}
+use Rattle.std.proofs.Common.{sym, ◌∙◌, subst, get_or, ◌+◌}
 use Rattle.std.specs.List.Sorted.{IsPermutation}
 use Rattle.fb_geometry.specs.Faults.{is_outside}
 use Rattle.fb_geometry.proofs.Faultless.{find-none}
@@ -11,4 +11,5 @@ returns c =
     record {
       inside = find-none (is_outside c.args.self.now) c.args.places.now c.requires.inside;
       same = subst (λ marks. IsPermutation marks items) c.in_ok-marks.ensures c.sort_unstable.ensures.permutation;
-      sorted = λ k d l h. sym (sorted_by (get_or items (k + 1) d) (get_or items k d)) ∙ c.sort_unstable.ensures.sorted k d l h }
+      sorted = λ k d l h. sym (sorted_by (get_or items (k + 1) d) (get_or items k d)) ∙ c.sort_unstable.ensures.sorted k d l h;
+    }

@@ -1,4 +1,4 @@
-use Rattle.std.proofs.Common.{◌≡◌, ◌*◌, ap, sym, ◌∙◌, subst, false, arith}
+use Rattle.std.proofs.Common.{◌≡◌, ◌*◌, ap, ◌∙◌, arith}
 use Rattle.fb_geometry.specs.Faults.{is_outside}
 use Rattle.fb_geometry.specs.Marks.{mark_of}
 use Rattle.fb_geometry.specs.Turns.{slot_at}
@@ -15,4 +15,4 @@ pub returns-clause-inside : goal.returns-clause-inside
 returns-clause-inside c =
     let disk = c.args.self.now in
     ap (is_outside disk) (found c) ∙ slot_at-inside disk c.zone_of-zone.result c.args.mark.cylinder c.args.mark.position c.zone_of-zone.ensures.zone c.requires.on_disk.cylinder
-      (omega (arith, c.requires.on_disk.position, ap (λ n. disk.heads * n) c.zone_of-zone.ensures.slots))
+    (omega (arith, c.requires.on_disk.position, ap (λ n. disk.heads * n) c.zone_of-zone.ensures.slots))

@@ -1,4 +1,3 @@
-use Rattle.std.proofs.Common.{◌≡◌}
 use Rattle.fb_geometry.proofs.Marking.{inside_at}
 use Rattle.fb_geometry.proofs.outline.Outline.unsorted_marks.Goals as goal
 
