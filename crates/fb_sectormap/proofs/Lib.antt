@@ -1,1 +1,5 @@
-pub mod PlainPlaces
+pub mod Parts
+pub mod Zones
+pub mod ByCylinder
+pub mod Searches
+pub mod Making

@@ -1,3 +1,3 @@
 pub mod Lookup
 pub mod Cutting
-pub mod Plain
+pub mod Cylinders

@@ -1,59 +1,76 @@
-// The map between logical blocks and places, for a disk of one zone.
-ghost use Rattle.std.specs.Prelude.{◌≡◌, ℕ, ◌<◌, ◌≤◌, ◌^◌, length, IfOk, MatchOption};
+// The map between the numbers of sectors and their places.
+ghost use Rattle.std.specs.Prelude.{◌≡◌, ℕ, ◌+◌, ◌<◌, ◌≤◌, ◌^◌, length, map, IfOk, MatchOption};
 ghost use Rattle.fb_geometry.specs.Shape.{slots_at, cylinders_of, IsTrackOf};
 ghost use Rattle.fb_geometry.specs.Places.{places};
-ghost use Rattle.fb_sectormap.specs.Plain.{IsPlain};
 ghost use Rattle.fb_sectormap.specs.Lookup.{IsAt, place_at};
+ghost use Rattle.fb_sectormap.specs.Cylinders.{IsFirstOf, CylindersRise, IsSectorOf, TellsSector, TellsFirst};
 
-use crate::arithmetic::place_of;
+use crate::numbering::{CylinderSector, ZoneStart};
 use fb_geometry::Geometry;
 use fb_units::{NoMemory, Place, Track};
 use std::alloc::Global;
 use std::marker::Model;
 
-/// Which place each logical block has.
+/// Which place each sector of a disk has.
 #[derive(Drop)]
 pub struct SectorMap {
     geometry: Geometry,
-    sectors: u32,
+    starts: Vec<ZoneStart>,
+    sectors: u64,
 }
 
 impl Model for SectorMap {
-    ghost use Rattle.std.specs.Prelude.{◌≡◌};
-    ghost use Rattle.fb_geometry.specs.Shape.{Shape, slots_at};
-    ghost use Rattle.fb_sectormap.specs.Plain.{IsPlain};
+    ghost use Rattle.fb_geometry.specs.Shape.{Shape};
+    ghost use Rattle.fb_sectormap.specs.Cylinders.{IsMapped};
 
     ghost Value = { Shape };
 
     ghost view = { λ m. m.geometry };
 
-    ghost invariant = { λ m. IsPlain m.geometry × (m.sectors ≡ slots_at m.geometry.zones 0) };
+    ghost invariant = { λ m. IsMapped m.geometry m.starts.items m.sectors };
 }
 
 impl SectorMap {
+    /// The map of a disk.
     pub fn new(alloc: Global, geometry: Geometry) -> Result<SectorMap, NoMemory>
         ensures { IfOk result (λ map. map ≡ geometry) }
     {
-        let _ = alloc;
-        drop(geometry);
-        Err(NoMemory)
+        geometry.sound();
+        let mut starts = Vec::new(alloc);
+        let mut sectors = 0;
+        for i in 0..geometry.zones() {
+            let zone = geometry.zone(i);
+            let start = ZoneStart {
+                cylinder: zone.first,
+                lbn: sectors,
+                cylinder_sectors: geometry.cylinder_sectors(zone.first),
+            };
+            starts.push(start)?;
+            sectors = start.first_of(zone.last + 1);
+        }
+        Ok(SectorMap {
+            geometry,
+            starts,
+            sectors,
+        })
     }
 
+    /// The geometry that the map was made from.
     pub fn geometry(&self) -> &Geometry
         ensures { result.now ≡ self.now }
     {
         &self.geometry
     }
 
-    /// The number of logical blocks.
+    /// The number of sectors.
     pub fn count(&self) -> u64
         ensures value { result ≡ length (places self.now) }
         ensures bound { result ≤ 10 ^ 12 }
     {
-        self.geometry.cylinders() as u64 * (self.geometry.heads() as u64 * self.sectors as u64)
+        self.sectors
     }
 
-    /// The place of a logical block.
+    /// The place of a sector.
     pub fn place(&self, lbn: u64) -> Place
         requires { lbn < length (places self.now) }
         ensures at { IsAt self.now lbn result }
@@ -61,18 +78,59 @@ impl SectorMap {
         ensures track { IsTrackOf self.now result.track }
         ensures slot { result.slot < slots_at self.now.zones result.track.cylinder }
     {
-        place_of(lbn, self.geometry.heads() as u64, self.sectors as u64)
+        let at = self.by_cylinder(lbn);
+        self.geometry.sector_place(at.cylinder, at.sector)
     }
 
-    /// The logical block at a place, if it holds data.
+    /// The sector at a place. None where the slot holds no data.
     pub fn lbn_at(&self, track: Track, slot: u32) -> Option<u64>
         requires cylinder { track.cylinder < cylinders_of self.now.zones }
         requires head { track.head < self.now.heads }
         requires slot { slot < slots_at self.now.zones track.cylinder }
         ensures found { MatchOption result ((lbn : ℕ) → IsAt self.now lbn (record { track = track; slot = slot }) → ⊥) (λ lbn. IsAt self.now lbn (record { track = track; slot = slot })) }
     {
-        let heads = self.geometry.heads() as u64;
-        let on_disk = track.cylinder as u64 * heads + track.head as u64;
-        Some(on_disk * self.sectors as u64 + slot as u64)
+        let sector = self.geometry.sector_of_slot(track, slot)?;
+        Some(self.first_of(track.cylinder) + sector as u64)
+    }
+
+    /// The first sector of a cylinder.
+    pub fn first_of(&self, cylinder: u32) -> u64
+        requires { cylinder < cylinders_of self.now.zones }
+        ensures { IsFirstOf self.now cylinder result }
+    {
+        self.start_by_cylinder(cylinder).first_of(cylinder)
+    }
+
+    /// Sectors are numbered through the cylinders.
+    pub fn cylinders_rise(&self)
+        ensures { CylindersRise self.now }
+    {
+        let _geometry = &self.geometry;
+    }
+
+    // A sector by its cylinder.
+    fn by_cylinder(&self, lbn: u64) -> CylinderSector
+        requires { lbn < length (places self.now) }
+        ensures { IsSectorOf self.now result.cylinder result.sector lbn }
+    {
+        self.start_by_lbn(lbn).sector(lbn)
+    }
+
+    // The start of the zone that holds a sector.
+    fn start_by_lbn(&self, lbn: u64) -> ZoneStart
+        requires { lbn < length (places self.now) }
+        ensures { TellsSector self.now result lbn }
+    {
+        let starts = self.starts.as_slice();
+        starts[starts.partition_point(|start| start.lbn <= lbn) - 1]
+    }
+
+    // The start of the zone of a cylinder.
+    fn start_by_cylinder(&self, cylinder: u32) -> ZoneStart
+        requires { cylinder < cylinders_of self.now.zones }
+        ensures { TellsFirst self.now result cylinder }
+    {
+        let starts = self.starts.as_slice();
+        starts[starts.partition_point(|start| start.cylinder <= cylinder) - 1]
     }
 }

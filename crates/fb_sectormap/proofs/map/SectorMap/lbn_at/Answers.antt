@@ -1,16 +1,28 @@
-use Rattle.std.proofs.Common.{refl, sym, ap, ◌∙◌, arith, subst, ◌<◌, ◌≡◌}
-use Rattle.fb_geometry.specs.Shape.{Shape, slots_at, cylinders_of}
-use Rattle.fb_sectormap.proofs.PlainPlaces.{seen_at, same_slots}
+use Rattle.std.proofs.Common.{◌≡◌, ℕ, ap, sym, ◌∙◌, arith, subst, Some}
+use Rattle.std.specs.Prelude.{slice_get}
+use Rattle.fb_geometry.specs.Shape.{Shape}
+use Rattle.fb_geometry.specs.Places.{data_list_at}
+use Rattle.fb_geometry.specs.Sound.{IsSound}
+use Rattle.fb_sectormap.proofs.ByCylinder.{not_placed, numbered}
 use Rattle.fb_sectormap.proofs.map.SectorMap.lbn_at.Goals as goal
+
+pub returns-in_err-sector : goal.returns-in_err-sector
+returns-in_err-sector c =
+    let disk = c.args.self.now in
+    let none : (j : ℕ) → slice_get (data_list_at disk c.args.track.cylinder) j ≡ Some (record { track = c.args.track; slot = c.args.slot }) → ⊥ =
+        subst (λ (d : Shape). (j : ℕ) → slice_get (data_list_at d c.args.track.cylinder) j ≡ Some (record { track = c.args.track; slot = c.args.slot }) → ⊥) c.self.view_is c.in_err-sector.ensures in
+    rw c.from_residual.ensures (record { found = not_placed disk (subst IsSound c.self.view_is c.self.invariant.sound) (record { track = c.args.track; slot = c.args.slot }) none })
+
+pub overflow_add-result : goal.overflow_add-result
+overflow_add-result c =
+    let disk = c.args.self.now in
+    let sound : IsSound disk = subst IsSound c.self.view_is c.self.invariant.sound in
+    let listed = subst (λ (d : Shape). slice_get (data_list_at d c.args.track.cylinder) c.in_ok-sector.sector ≡ Some (record { track = c.args.track; slot = c.args.slot })) c.self.view_is c.in_ok-sector.ensures in
+    omega (arith, (numbered disk sound c.first_of.result c.in_ok-sector.sector (record { track = c.args.track; slot = c.args.slot }) c.requires.cylinder c.first_of.ensures listed).0)
 
 pub returns : goal.returns
 returns c =
-    let map = c.self.inside in
-    let seen : map.geometry ≡ c.args.self.now = c.self.view_is in
-    let cylinder : c.args.track.cylinder < cylinders_of map.geometry.zones = subst (λ (d : Shape). c.args.track.cylinder < cylinders_of d.zones) (sym seen) c.requires.cylinder in
-    let slot : c.args.slot < slots_at map.geometry.zones c.args.track.cylinder = subst (λ (d : Shape). c.args.slot < slots_at d.zones c.args.track.cylinder) (sym seen) c.requires.slot in
-    let same = same_slots map.geometry c.self.invariant.0 c.args.track.cylinder cylinder in
-    record {
-      found = seen_at map.geometry c.args.self.now seen c.self.invariant.0 map.sectors c.heads-heads.result c.args.track.cylinder c.args.track.head c.args.slot _
-          c.self.invariant.1 c.heads-heads.ensures.value cylinder (omega (arith, c.requires.head, ap (λ (d : Shape). d.heads) seen)) (omega (arith, slot, same)) refl;
-    }
+    let disk = c.args.self.now in
+    let sound : IsSound disk = subst IsSound c.self.view_is c.self.invariant.sound in
+    let listed = subst (λ (d : Shape). slice_get (data_list_at d c.args.track.cylinder) c.in_ok-sector.sector ≡ Some (record { track = c.args.track; slot = c.args.slot })) c.self.view_is c.in_ok-sector.ensures in
+    record { found = (numbered disk sound c.first_of.result c.in_ok-sector.sector (record { track = c.args.track; slot = c.args.slot }) c.requires.cylinder c.first_of.ensures listed).1 }

@@ -1,0 +1,7 @@
+use Rattle.std.proofs.Common.{subst}
+use Rattle.fb_geometry.specs.Sound.{IsSound}
+use Rattle.fb_sectormap.proofs.ByCylinder.{cylinders-rise}
+use Rattle.fb_sectormap.proofs.map.SectorMap.cylinders_rise.Goals as goal
+
+pub returns : goal.returns
+returns c = cylinders-rise c.args.self.now (subst IsSound c.self.view_is c.self.invariant.sound)
