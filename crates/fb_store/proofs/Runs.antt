@@ -1,5 +1,5 @@
 -- The runs of sectors give just those contents, and no two neighbours could be one.
-use Rattle.std.proofs.Common.{◌≡◌, ℕ, ◌+◌, List, [], ◌∷◌, ◌++◌, refl, true, false, map, Bool, cond, T, arith, sym, subst, ap, ap₂, ◌∙◌, true≢false, eqb→eq, ◌&&◌, ◌==◌, suc}
+use Rattle.std.proofs.Common.{◌≡◌, ℕ, ◌+◌, List, [], ◌∷◌, ◌++◌, refl, true, false, map, Bool, cond, T, arith, sym, ap, ap₂, ◌∙◌, true≢false, eqb→eq, ◌&&◌, ◌==◌, suc}
 use Rattle.std.specs.List.{flat_map, range_with_len}
 use Rattle.fb_store.specs.declared.content.Content.{Content}
 use Rattle.fb_store.specs.declared.content.Content.TheVariants.{Filled, Unreadable}

@@ -1,5 +1,5 @@
 -- The contents of sectors as runs.
-use Rattle.std.specs.Prelude.{ℕ, ◌+◌, List, [], ◌∷◌, Bool, true, false, ◌&&◌, ◌==◌, if◌then◌else◌}
+use Rattle.std.specs.Prelude.{◌≡◌, ◌≤◌, ◌<◌, ℕ, ◌+◌, List, [], ◌∷◌, Bool, true, false, ◌&&◌, ◌==◌, if◌then◌else◌}
 use Rattle.std.specs.List.{sum_by}
 use Rattle.fb_store.specs.declared.content.Content.{Content}
 use Rattle.fb_store.specs.declared.content.Content.TheVariants.{Filled, Unreadable}
@@ -29,3 +29,15 @@ bad_in run = if same_content run.content Unreadable then run.count else 0
 
 abbrev pub bad_of : List ContentRun → ℕ
 bad_of runs = sum_by bad_in runs
+
+-- a run from the first sector on, before the end, each of whose sectors holds the run's content
+pub record IsRun (content_of : ℕ → Content) (first end : ℕ) (run : ContentRun) : Type 0 where
+  pub from : run.first ≡ first
+  pub some : 0 < run.count
+  pub within : run.first + run.count ≤ end
+  pub same : (lbn : ℕ) → run.first ≤ lbn → lbn < run.first + run.count → content_of lbn ≡ run.content
+
+-- and which the sector after it doesn't continue
+pub record IsLongestRun (content_of : ℕ → Content) (first end : ℕ) (run : ContentRun) : Type 0 where
+  pub is_run : IsRun content_of first end run
+  pub longest : run.first + run.count < end → same_content run.content (content_of (run.first + run.count)) ≡ false

@@ -1,8 +1,8 @@
 // Who wrote each sector last.
 ghost use Rattle.std.specs.Prelude.{◌≡◌, ℕ, ◌+◌, ◌<◌, ◌≤◌, ◌^◌, length, map, IfOk, OnOk, OnErr};
 ghost use Rattle.std.specs.List.{range_with_len, sum_by, AllByRecursion};
-ghost use Rattle.fb_store.specs.Writes.{unwritten, after_write, content_in};
-ghost use Rattle.fb_store.specs.Runs.{runs_of};
+ghost use Rattle.fb_store.specs.Writes.{unwritten, after_write, content_in, is_within};
+ghost use Rattle.fb_store.specs.Runs.{runs_of, same_content, IsRun, IsLongestRun};
 
 use crate::{Content, ContentRun, Contents};
 use fb_units::NoMemory;
@@ -53,15 +53,89 @@ impl Store {
         Ok(())
     }
 
+    /// What a sector holds: its last writer's fill, or what was there before any write.
+    pub fn read(&self, lbn: u64) -> Content
+        ensures { result ≡ content_in self.now lbn }
+    {
+        match self.written.iter().find(|run| holds(run, lbn)) {
+            Some(run) => run.content,
+            None => original(&self.latent, lbn),
+        }
+    }
+
     /// The contents of a range as the fewest runs, ascending.
-    pub fn runs(&self, _alloc: Global, first: u64, count: u32) -> Result<Contents, NoMemory>
+    pub fn runs(&self, alloc: Global, first: u64, count: u32) -> Result<Contents, NoMemory>
         requires { first + count ≤ 10 ^ 12 }
         ensures fewest { IfOk result (λ runs. runs ≡ runs_of (map (λ lbn. (lbn, content_in self.now lbn)) (range_with_len first count))) }
         ensures whole { IfOk result (λ runs. sum_by (λ run. run.count) runs ≡ count) }
         ensures ranges { IfOk result (λ runs. AllByRecursion (λ run. run.first + run.count ≤ 10 ^ 12) runs) }
     {
-        let _ = first;
-        let _ = count;
-        Err(NoMemory)
+        let end = first + count as u64;
+        let mut runs = Contents::new(alloc);
+        let mut lbn = first;
+        while lbn < end {
+            let run = self.run_at(lbn, end);
+            lbn += run.count;
+            runs.push(run)?;
+        }
+        Ok(runs)
+    }
+
+    // The sectors from the first on, before the end, that hold what the first holds.
+    fn run_at(&self, first: u64, end: u64) -> ContentRun
+        requires first_in { first < end }
+        requires end_in { end ≤ 10 ^ 12 }
+        ensures { IsLongestRun (content_in self.now) first end result }
+    {
+        let mut run = self.piece_at(first, end);
+        while run.first + run.count < end {
+            let next = self.piece_at(run.first + run.count, end);
+            if !is_same(run.content, next.content) {
+                return run;
+            }
+            run.count += next.count;
+        }
+        run
+    }
+
+    // Some sectors from the first on, before the end, of which one range or none holds all.
+    fn piece_at(&self, first: u64, end: u64) -> ContentRun
+        requires { first < end }
+        ensures { IsRun (content_in self.now) first end result }
+    {
+        let _ = end;
+        ContentRun {
+            first,
+            count: 1,
+            content: self.read(first),
+        }
+    }
+}
+
+// The sector lies in the run.
+fn holds(run: &ContentRun, lbn: u64) -> bool
+    ensures { result ≡ is_within run.now.first run.now.count lbn }
+{
+    run.first <= lbn && lbn - run.first < run.count
+}
+
+// What a sector holds before any write.
+fn original(latent: &[u64], lbn: u64) -> Content
+    ensures { result ≡ unwritten latent.now lbn }
+{
+    if latent.iter().any(|bad| *bad == lbn) {
+        Content::Unreadable
+    } else {
+        Content::Filled(0)
+    }
+}
+
+fn is_same(a: Content, b: Content) -> bool
+    ensures { result ≡ same_content a b }
+{
+    match (a, b) {
+        (Content::Filled(one), Content::Filled(other)) => one == other,
+        (Content::Unreadable, Content::Unreadable) => true,
+        _ => false,
     }
 }
