@@ -26,3 +26,19 @@ invariant_of-result-clause-few_bytes c =
 
 pub invariant_of-result-clause-same_cylinders : goal.invariant_of-result-clause-same_cylinders
 invariant_of-result-clause-same_cylinders c = c.in_ok-mechanism.ensures.cylinders ∙ c.cylinders.ensures.value ∙ ap (λ map. cylinders_of map.zones) c.geometry-geometry.ensures
+
+pub invariant_of-result-clause-some_cylinders : goal.invariant_of-result-clause-some_cylinders
+invariant_of-result-clause-some_cylinders c =
+    omega (arith, c.cylinders.ensures.some, c.cylinders.ensures.value, ap (λ map. cylinders_of map.zones) c.geometry-geometry.ensures)
+
+pub invariant_of-result-clause-some_heads : goal.invariant_of-result-clause-some_heads
+invariant_of-result-clause-some_heads c = omega (arith, c.sound.ensures.some_heads, ap (λ map. map.heads) c.geometry-geometry.ensures)
+
+pub invariant_of-result-clause-some_rotation : goal.invariant_of-result-clause-some_rotation
+invariant_of-result-clause-some_rotation c = omega (arith, c.sound.ensures.some_rotation, ap (λ map. map.rotation) c.geometry-geometry.ensures)
+
+pub invariant_of-result-clause-short_rotation : goal.invariant_of-result-clause-short_rotation
+invariant_of-result-clause-short_rotation c = omega (arith, c.sound.ensures.short_rotation, ap (λ map. map.rotation) c.geometry-geometry.ensures)
+
+pub invariant_of-result-clause-few_blocks : goal.invariant_of-result-clause-few_blocks
+invariant_of-result-clause-few_blocks c = omega (arith, c.count.ensures.bound, c.count.ensures.value)
