@@ -3,7 +3,7 @@ use Rattle.std.proofs.Common.{◌≡◌, ℕ, ◌+◌, List, [], ◌∷◌, sym,
 use Rattle.fb_trace.specs.declared.trace.TraceFault.{TraceFault}
 use Rattle.fb_trace.specs.declared.trace.TraceError.{TraceError}
 use Rattle.fb_trace.specs.declared.trace.TraceError.TheVariants.{Fault, NoMemory}
-use Rattle.fb_trace.specs.Judging.{◌>>=◌}
+use Rattle.fb_units.specs.Judging.{◌>>=◌}
 use Rattle.fb_trace.specs.Reading.{Accepted, Progress, next_progress, lines_from}
 use Rattle.fb_trace.specs.Verdict.{Answers, accepted}
 

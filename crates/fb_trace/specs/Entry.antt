@@ -4,7 +4,7 @@ use Rattle.fb_units.specs.Numbers.{millis_of, number_of, flags_of}
 use Rattle.fb_trace.specs.declared.entry.Entry.{Entry}
 use Rattle.fb_trace.specs.declared.trace.TraceReason.{TraceReason}
 use Rattle.fb_trace.specs.declared.trace.TraceReason.TheVariants.{TooFewFields, BadTime, BadNumber}
-use Rattle.fb_trace.specs.Judging.{◌>>=◌, or_refuse}
+use Rattle.fb_units.specs.Judging.{◌>>=◌, or_refuse}
 
 -- a time, a device, a first block, a size and flags, or the first of them that isn't of its form
 unfoldable pub spelled : List ℕ → List ℕ → List ℕ → List ℕ → List ℕ → Result Entry TraceReason

@@ -1,4 +1,3 @@
-pub mod Judging
 pub mod Entry
 pub mod Line
 pub mod Reading

@@ -7,7 +7,7 @@ use Rattle.fb_trace.specs.declared.reader.Line.{Line}
 use Rattle.fb_trace.specs.declared.reader.Line.TheVariants.{Blank, PassedOver, Asked}
 use Rattle.fb_trace.specs.declared.trace.TraceReason.{TraceReason}
 use Rattle.fb_trace.specs.declared.trace.TraceReason.TheVariants.{OutOfOrder, Empty, TooLarge, BeyondDisk, TooMany}
-use Rattle.fb_trace.specs.Judging.{◌>>=◌, ◌>>◌, refuse}
+use Rattle.fb_units.specs.Judging.{◌>>=◌, ◌>>◌, refuse}
 use Rattle.fb_trace.specs.Entry.{entry_of}
 
 -- the request of this number that an entry asks for, on a disk of so many sectors

@@ -2,10 +2,11 @@
 use Rattle.std.specs.Prelude.{ℕ, ◌+◌, List, [], ◌∷◌, ◌++◌, length, Result, Ok}
 use Rattle.fb_units.specs.Lines.{lines_of, fields_of}
 use Rattle.fb_units.specs.declared.types.Request.{Request}
+use Rattle.fb_trace.specs.declared.trace.TraceReason.{TraceReason}
 use Rattle.fb_trace.specs.declared.trace.TraceFault.{TraceFault}
 use Rattle.fb_trace.specs.declared.reader.Line.{Line}
 use Rattle.fb_trace.specs.declared.reader.Line.TheVariants.{Blank, PassedOver, Asked}
-use Rattle.fb_trace.specs.Judging.{◌>>=◌, at_line}
+use Rattle.fb_units.specs.Judging.{◌>>=◌, refused_as}
 use Rattle.fb_trace.specs.Line.{line_of}
 
 -- the requests of one device, and how many of others were passed over
@@ -27,9 +28,13 @@ with_line so_far Blank = so_far
 with_line so_far (PassedOver arrival) = record { instant = arrival; trace = record { requests = so_far.trace.requests; passed_over = so_far.trace.passed_over + 1 } }
 with_line so_far (Asked request) = record { instant = request.arrival; trace = record { requests = so_far.trace.requests ++ request ∷ []; passed_over = so_far.trace.passed_over } }
 
+-- a fault of the line of this number
+abbrev pub fault_at : ℕ → TraceReason → TraceFault
+fault_at number reason = record { line = number; reason = reason }
+
 -- the next line, of this number
 abbrev pub next_progress : ℕ → ℕ → ℕ → Progress → List ℕ → Result Progress TraceFault
-next_progress device sectors number so_far line = at_line number do
+next_progress device sectors number so_far line = refused_as (fault_at number) do
   added ← line_of device sectors so_far.instant (length so_far.trace.requests + 1) (fields_of line)
   Ok (with_line so_far added)
 

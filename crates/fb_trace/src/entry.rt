@@ -2,7 +2,7 @@
 ghost use Rattle.std.specs.Prelude.{◌≡◌, ◌≤◌, ◌^◌, [], ◌∷◌, IfOk, MatchResult};
 ghost use Rattle.fb_units.specs.Lines.{fields_of};
 ghost use Rattle.fb_units.specs.Numbers.{millis_of, number_of, flags_of};
-ghost use Rattle.fb_trace.specs.Judging.{or_refuse};
+ghost use Rattle.fb_units.specs.Judging.{or_refuse};
 ghost use Rattle.fb_trace.specs.Entry.{entry_of, spelled};
 ghost use Rattle.fb_trace.specs.declared.trace.TraceReason.TheVariants.{TooFewFields, BadTime, BadNumber};
 

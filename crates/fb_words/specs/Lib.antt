@@ -1,0 +1,9 @@
+pub mod Names
+pub mod Options
+pub mod Values
+pub mod Reading
+pub mod Command
+pub mod Verdict
+pub mod Given
+pub mod Progress
+pub mod Limits

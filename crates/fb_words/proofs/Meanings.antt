@@ -1,0 +1,17 @@
+-- A word that is none of the names.
+use Rattle.std.proofs.Common.{◌≡◌, ℕ, List, [], ◌∷◌, false, None, inl, inr, refl, sym}
+use Rattle.std.specs.List.{AllByRecursion}
+use Rattle.std.specs.Str.{bytes_eq}
+use Rattle.std.proofs.lemmas.Bool.{cases_Bool}
+use Rattle.std.proofs.lemmas.Slice.Eq.{bytes_eq-Decides}
+use Rattle.fb_words.specs.Names.{meaning}
+
+bytes_differ : (a b : List ℕ) → (b ≡ a → ⊥) → bytes_eq a b ≡ false
+bytes_differ a b differ = elim (cases_Bool (bytes_eq a b)) [
+  | inl same ↦ absurd (differ (sym ((bytes_eq-Decides a b).0 same)))
+  | inr other ↦ other
+]
+
+pub no_meaning : {A : Type 0} (names : List (List ℕ × A)) (word : List ℕ) → AllByRecursion (λ name. word ≡ name.0 → ⊥) names → None ≡ meaning names word
+no_meaning [] word none = refl
+no_meaning (name ∷ names) word none = rw (bytes_differ name.0 word none.0) (no_meaning names word none.1)

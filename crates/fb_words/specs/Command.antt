@@ -1,0 +1,99 @@
+-- The command that words spell.
+use Rattle.std.specs.Prelude.{ℕ, List, [], ◌∷◌, length, Bool, not, ◌&&◌, ◌||◌, ◌==◌, Option, Result, Ok, Err, is_some, unwrap_or, if◌then◌else◌, false}
+use Rattle.fb_report.specs.declared.bytes.Bytes.{Bytes}
+use Rattle.fb_report.specs.declared.bytes.Bytes.TheVariants.{Nothing}
+use Rattle.fb_units.specs.Judging.{◌>>=◌, ◌>>◌, or_refuse, refuse, refused_as}
+use Rattle.fb_words.specs.declared.command.Policy.{Policy}
+use Rattle.fb_words.specs.declared.fault.UsageFault.{UsageFault}
+use Rattle.fb_words.specs.declared.fault.UsageReason.{UsageReason}
+use Rattle.fb_words.specs.declared.fault.UsageReason.TheVariants.{NoCommand, UnknownCommand, MissingOption, CallsAndBack, NotYet}
+use Rattle.fb_words.specs.declared.names.Verb.{Verb}
+use Rattle.fb_words.specs.declared.names.Verb.TheVariants.{Replay, Make}
+use Rattle.fb_words.specs.Names.{verb_of}
+use Rattle.fb_words.specs.Options.{Options, no_options}
+use Rattle.fb_words.specs.Reading.{ready, fault_at, options_from}
+
+-- the terms of a replay
+pub record ReplayTerms : Type 0 where
+  pub params : List ℕ
+  pub trace : List ℕ
+  pub policy : Policy
+  pub calls : Option (List ℕ)
+  pub back : Option (List ℕ)
+  pub until : ℕ
+  pub device : ℕ
+  pub bytes : Bytes
+  pub summary : Bool
+
+-- the terms of a trace and a script that are made up
+pub record MakeTerms : Type 0 where
+  pub params : List ℕ
+  pub trace : List ℕ
+  pub calls : List ℕ
+  pub number : ℕ
+  pub requests : ℕ
+  pub device : ℕ
+
+pub data Terms : Type 0 where
+  replays : ReplayTerms → Terms
+  makes : MakeTerms → Terms
+
+-- a script and a background report go together
+abbrev pub go_together : Options → Bool
+go_together given = (is_some given.calls && is_some given.back) || not (is_some given.calls || is_some given.back)
+
+-- the required options of a replay, and what holds where others aren't given
+unfoldable pub replay_of : Options → Result ReplayTerms UsageReason
+replay_of given = do
+  params ← or_refuse (MissingOption 0) given.params
+  trace ← or_refuse (MissingOption 1) given.trace
+  policy ← or_refuse (MissingOption 2) given.policy
+  refuse CallsAndBack (not (go_together given))
+  Ok (record {
+    params = params;
+    trace = trace;
+    policy = policy;
+    calls = given.calls;
+    back = given.back;
+    until = unwrap_or given.until 0;
+    device = unwrap_or given.device 0;
+    bytes = unwrap_or given.bytes Nothing;
+    summary = given.summary;
+  })
+
+-- the required options of a make
+unfoldable pub make_of : Options → Result MakeTerms UsageReason
+make_of given = do
+  params ← or_refuse (MissingOption 0) given.params
+  trace ← or_refuse (MissingOption 1) given.trace
+  calls ← or_refuse (MissingOption 2) given.calls
+  number ← or_refuse (MissingOption 3) given.number
+  requests ← or_refuse (MissingOption 4) given.requests
+  Ok (record { params = params; trace = trace; calls = calls; number = number; requests = requests; device = unwrap_or given.device 0 })
+
+unfoldable pub terms_of : Verb → Options → Result Terms UsageReason
+terms_of Replay given = replay_of given >>= (λ terms. Ok (replays terms))
+terms_of Make given = make_of given >>= (λ terms. Ok (makes terms))
+
+-- the word of the command stands at place 1, and the options after it
+unfoldable pub with_verb : ℕ → List ℕ → List (List ℕ) → Result Terms UsageFault
+with_verb count name words = do
+  verb ← refused_as (fault_at 1) (or_refuse UnknownCommand (verb_of name))
+  given ← options_from verb 2 (ready no_options) words
+  refused_as (fault_at count) (terms_of verb given)
+
+-- the first word is the program's and isn't looked at; what is missing is missing at the number of words
+abbrev pub command_of : List (List ℕ) → Result Terms UsageFault
+command_of [] = Err (fault_at 0 NoCommand)
+command_of (program ∷ []) = Err (fault_at 1 NoCommand)
+command_of (program ∷ name ∷ words) = with_verb (length (program ∷ name ∷ words)) name words
+
+-- what isn't built yet: made traces, background work, waits at the end, and summaries
+abbrev pub is_built : Terms → Bool
+is_built (replays terms) = not (is_some terms.calls) && not (is_some terms.back) && (terms.until == 0) && not terms.summary
+is_built (makes terms) = false
+
+-- the command, where it is built
+abbrev pub if_built : Result Terms UsageFault → Result Terms UsageFault
+if_built (Ok terms) = if is_built terms then Ok terms else Err (fault_at 0 NotYet)
+if_built (Err fault) = Err fault

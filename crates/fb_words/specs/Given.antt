@@ -1,0 +1,19 @@
+-- The options that were given, as what their words say.
+use Rattle.std.specs.Option.{option_copied}
+use Rattle.fb_words.specs.declared.given.Given.{Given}
+use Rattle.fb_words.specs.Options.{Options}
+
+abbrev pub options : Given → Options
+options given = record {
+  params = option_copied given.params;
+  trace = option_copied given.trace;
+  policy = given.policy;
+  calls = option_copied given.calls;
+  back = option_copied given.back;
+  until = given.until;
+  device = given.device;
+  bytes = given.bytes;
+  number = given.number;
+  requests = given.requests;
+  summary = given.summary;
+}

@@ -1,0 +1,35 @@
+-- What commands, options and values are called.
+use Rattle.std.specs.Prelude.{ℕ, List, [], ◌∷◌, Option, codes, find}
+use Rattle.std.specs.Option.{option_map}
+use Rattle.std.specs.Str.{bytes_eq}
+use Rattle.fb_report.specs.declared.bytes.Bytes as modes
+use Rattle.fb_report.specs.declared.bytes.Bytes.TheVariants.{Nothing, Digest, Dump}
+use Rattle.fb_words.specs.declared.command.Policy as policies
+use Rattle.fb_words.specs.declared.command.Policy.TheVariants.{Fcfs, Sstf, Clook, Sptf}
+use Rattle.fb_words.specs.declared.names.Verb.{Verb}
+use Rattle.fb_words.specs.declared.names.Verb.TheVariants.{Replay, Make}
+use Rattle.fb_words.specs.declared.names.OptionName.{OptionName}
+use Rattle.fb_words.specs.declared.names.OptionName.TheVariants.{Params, Trace, Policy, Calls, Back, Until, Device, Bytes, Number, Requests}
+
+-- what a word stands for among these names
+abbrev pub meaning : {A : Type 0} → List (List ℕ × A) → List ℕ → Option A
+meaning names word = option_map (λ name. name.1) (find (λ name. bytes_eq name.0 word) names)
+
+unfoldable pub verb_of : List ℕ → Option Verb
+verb_of = meaning ((codes "replay", Replay) ∷ (codes "make", Make) ∷ [])
+
+-- the options of a command that have a value
+abbrev pub options_of : Verb → List (List ℕ × OptionName)
+options_of Replay = (codes "--params", Params) ∷ (codes "--trace", Trace) ∷ (codes "--policy", Policy) ∷ (codes "--calls", Calls)
+    ∷ (codes "--back", Back) ∷ (codes "--until", Until) ∷ (codes "--device", Device) ∷ (codes "--bytes", Bytes) ∷ []
+options_of Make = (codes "--params", Params) ∷ (codes "--trace", Trace) ∷ (codes "--calls", Calls) ∷ (codes "--number", Number)
+    ∷ (codes "--requests", Requests) ∷ (codes "--device", Device) ∷ []
+
+unfoldable pub option_of : Verb → List ℕ → Option OptionName
+option_of verb = meaning (options_of verb)
+
+unfoldable pub policy_of : List ℕ → Option policies.Policy
+policy_of = meaning ((codes "fcfs", Fcfs) ∷ (codes "sstf", Sstf) ∷ (codes "clook", Clook) ∷ (codes "sptf", Sptf) ∷ [])
+
+unfoldable pub bytes_of : List ℕ → Option modes.Bytes
+bytes_of = meaning ((codes "none", Nothing) ∷ (codes "sha256", Digest) ∷ (codes "hex", Dump) ∷ [])

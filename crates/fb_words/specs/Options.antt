@@ -1,0 +1,21 @@
+-- The options that words give.
+use Rattle.std.specs.Prelude.{ℕ, List, Bool, Option, None, false}
+use Rattle.fb_report.specs.declared.bytes.Bytes.{Bytes}
+use Rattle.fb_words.specs.declared.command.Policy.{Policy}
+
+-- the value of each option, where it was given, and whether a summary is wanted
+pub record Options : Type 0 where
+  pub params : Option (List ℕ)
+  pub trace : Option (List ℕ)
+  pub policy : Option Policy
+  pub calls : Option (List ℕ)
+  pub back : Option (List ℕ)
+  pub until : Option ℕ
+  pub device : Option ℕ
+  pub bytes : Option Bytes
+  pub number : Option ℕ
+  pub requests : Option ℕ
+  pub summary : Bool
+
+abbrev pub no_options : Options
+no_options = record { params = None; trace = None; policy = None; calls = None; back = None; until = None; device = None; bytes = None; number = None; requests = None; summary = false }

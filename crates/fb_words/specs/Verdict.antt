@@ -1,0 +1,50 @@
+-- What an answer says of the words.
+use Rattle.std.specs.Prelude.{◌≡◌, Result, Ok, Err}
+use Rattle.std.specs.Option.{option_map}
+use Rattle.std.specs.String.{string_bytes}
+use Rattle.fb_words.specs.declared.command.ReplayWords.{ReplayWords}
+use Rattle.fb_words.specs.declared.command.MakeWords.{MakeWords}
+use Rattle.fb_words.specs.declared.command.Command.{Command}
+use Rattle.fb_words.specs.declared.command.Command.TheVariants.{Replay, Make}
+use Rattle.fb_words.specs.declared.fault.UsageFault.{UsageFault}
+use Rattle.fb_words.specs.declared.fault.WordsError.{WordsError}
+use Rattle.fb_words.specs.declared.fault.WordsError.TheVariants.{Fault, NoMemory}
+use Rattle.fb_words.specs.Command.{ReplayTerms, MakeTerms, Terms, replays, makes}
+
+abbrev pub replay_terms : ReplayWords → ReplayTerms
+replay_terms words = record {
+  params = string_bytes words.params;
+  trace = string_bytes words.trace;
+  policy = words.policy;
+  calls = option_map string_bytes words.calls;
+  back = option_map string_bytes words.back;
+  until = words.until;
+  device = words.device;
+  bytes = words.bytes;
+  summary = words.summary;
+}
+
+abbrev pub make_terms : MakeWords → MakeTerms
+make_terms words = record {
+  params = string_bytes words.params;
+  trace = string_bytes words.trace;
+  calls = string_bytes words.calls;
+  number = words.number;
+  requests = words.requests;
+  device = words.device;
+}
+
+abbrev pub terms : Command → Terms
+terms (Replay words) = replays (replay_terms words)
+terms (Make words) = makes (make_terms words)
+
+-- an answer is the verdict, or memory was wanting
+abbrev pub Answers : {A B : Type 0} → (A → B) → Result A WordsError → Result B UsageFault → Type 0
+Answers seen (Ok a) verdict = verdict ≡ Ok (seen a)
+Answers seen (Err (Fault fault)) verdict = verdict ≡ Err fault
+Answers seen (Err NoMemory) verdict = Unit {0}
+
+-- an answer is the verdict
+abbrev pub Agrees : {A B E : Type 0} → (A → B) → Result A E → Result B E → Type 0
+Agrees seen (Ok a) verdict = verdict ≡ Ok (seen a)
+Agrees seen (Err e) verdict = verdict ≡ Err e

@@ -1,0 +1,109 @@
+// What commands, options and values are called.
+ghost use Rattle.std.specs.Prelude.{◌≡◌};
+ghost use Rattle.fb_words.specs.Names.{verb_of, option_of, policy_of, bytes_of};
+
+use crate::Policy;
+use fb_report::Bytes;
+
+/// A command's name.
+#[derive(Clone, Copy, PartialEq, Eq)]
+pub enum Verb {
+    Replay,
+    Make,
+}
+
+/// An option that has a value.
+#[derive(Clone, Copy, PartialEq, Eq)]
+pub enum OptionName {
+    Params,
+    Trace,
+    Policy,
+    Calls,
+    Back,
+    Until,
+    Device,
+    Bytes,
+    Number,
+    Requests,
+}
+
+/// The command of this name.
+#[tactic(auto, unfolding(crate::specs::Names::verb_of))]
+pub fn verb_of(name: &str) -> Option<Verb>
+    ensures { result ≡ verb_of name.now }
+{
+    match name {
+        "replay" => Some(Verb::Replay),
+        "make" => Some(Verb::Make),
+        _ => None,
+    }
+}
+
+/// The option of this name, where the command has it.
+pub fn option_of(verb: Verb, name: &str) -> Option<OptionName>
+    ensures { result ≡ option_of verb name.now }
+{
+    match verb {
+        Verb::Replay => replay_option(name),
+        Verb::Make => make_option(name),
+    }
+}
+
+#[tactic(auto, unfolding(crate::specs::Names::option_of))]
+fn replay_option(name: &str) -> Option<OptionName>
+    ensures { result ≡ option_of Verb.Replay name.now }
+{
+    match name {
+        "--params" => Some(OptionName::Params),
+        "--trace" => Some(OptionName::Trace),
+        "--policy" => Some(OptionName::Policy),
+        "--calls" => Some(OptionName::Calls),
+        "--back" => Some(OptionName::Back),
+        "--until" => Some(OptionName::Until),
+        "--device" => Some(OptionName::Device),
+        "--bytes" => Some(OptionName::Bytes),
+        _ => None,
+    }
+}
+
+#[tactic(auto, unfolding(crate::specs::Names::option_of))]
+fn make_option(name: &str) -> Option<OptionName>
+    ensures { result ≡ option_of Verb.Make name.now }
+{
+    match name {
+        "--params" => Some(OptionName::Params),
+        "--trace" => Some(OptionName::Trace),
+        "--calls" => Some(OptionName::Calls),
+        "--number" => Some(OptionName::Number),
+        "--requests" => Some(OptionName::Requests),
+        "--device" => Some(OptionName::Device),
+        _ => None,
+    }
+}
+
+/// The policy of this name.
+#[tactic(auto, unfolding(crate::specs::Names::policy_of))]
+pub fn policy_of(name: &str) -> Option<Policy>
+    ensures { result ≡ policy_of name.now }
+{
+    match name {
+        "fcfs" => Some(Policy::Fcfs),
+        "sstf" => Some(Policy::Sstf),
+        "clook" => Some(Policy::Clook),
+        "sptf" => Some(Policy::Sptf),
+        _ => None,
+    }
+}
+
+/// The form of bytes of this name.
+#[tactic(auto, unfolding(crate::specs::Names::bytes_of))]
+pub fn bytes_of(name: &str) -> Option<Bytes>
+    ensures { result ≡ bytes_of name.now }
+{
+    match name {
+        "none" => Some(Bytes::Nothing),
+        "sha256" => Some(Bytes::Digest),
+        "hex" => Some(Bytes::Dump),
+        _ => None,
+    }
+}

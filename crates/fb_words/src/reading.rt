@@ -1,0 +1,180 @@
+// The words after the command, from left to right.
+ghost use Rattle.std.specs.Prelude.{◌≡◌, ◌+◌, map};
+ghost use Rattle.std.specs.Option.{option_copied};
+ghost use Rattle.std.specs.String.{string_bytes};
+ghost use Rattle.fb_units.specs.Judging.{or_refuse};
+ghost use Rattle.fb_words.specs.declared.fault.UsageReason.TheVariants.{UnknownOption};
+ghost use Rattle.fb_words.specs.Names.{option_of};
+ghost use Rattle.fb_words.specs.Given.{options};
+ghost use Rattle.fb_words.specs.Reading.{parts_of, is_summary, fault_at, ready, with_summary, with_part, with_option, with_name, with_word, at_end, options_from};
+ghost use Rattle.fb_words.specs.Options.{no_options};
+ghost use Rattle.fb_words.specs.Progress.{parts, progress};
+ghost use Rattle.fb_words.specs.Verdict.{Agrees};
+
+use crate::given::Given;
+use crate::names::{OptionName, Verb, option_of};
+use crate::values::with_value;
+use crate::{UsageFault, UsageReason};
+
+/// An option's name, and its value where the word has one.
+#[derive(Clone, Copy)]
+pub struct Parts<'a> {
+    pub name: &'a str,
+    pub value: Option<&'a str>,
+}
+
+/// The options so far, and the one whose value is the next word, with its place.
+#[derive(Clone, Copy)]
+pub enum Progress<'a> {
+    Ready(Given<'a>),
+    Awaits(Given<'a>, OptionName, usize),
+}
+
+/// A fault of the word at this place. A place that doesn't fit is the last that does.
+pub fn fault_at(place: usize, reason: UsageReason) -> UsageFault
+    ensures { result ≡ fault_at place reason }
+{
+    UsageFault {
+        place: place.min(u32::MAX as usize) as u32,
+        reason,
+    }
+}
+
+/// The options that the words after a command give.
+pub fn read_options(verb: Verb, words: &[String]) -> Result<Given<'_>, UsageFault>
+    ensures { Agrees options result (options_from verb 2 (ready no_options) (map string_bytes words.now)) }
+{
+    let mut so_far = Progress::Ready(Given::none());
+    for (index, word) in words.iter().enumerate() {
+        so_far = with_word(verb, index + 2, so_far, word.as_str())?;
+    }
+    at_end(so_far)
+}
+
+// At the end no value is missing.
+fn at_end(so_far: Progress<'_>) -> Result<Given<'_>, UsageFault>
+    ensures { Agrees options result (at_end (progress so_far.entry)) }
+{
+    match so_far {
+        Progress::Ready(given) => Ok(given),
+        Progress::Awaits(_, _, place) => Err(fault_at(place, UsageReason::NoValue)),
+    }
+}
+
+// A word more, at this place. A fault of a value is that of its option's word.
+#[tactic(auto, unfolding(crate::specs::Reading::with_word))]
+fn with_word<'a>(
+    verb: Verb,
+    place: usize,
+    so_far: Progress<'a>,
+    word: &'a str,
+) -> Result<Progress<'a>, UsageFault>
+    ensures { Agrees progress result (with_word verb place (progress so_far.entry) word.now) }
+{
+    match so_far {
+        Progress::Ready(given) => match with_name(verb, place, given, word) {
+            Ok(now) => Ok(now),
+            Err(reason) => Err(fault_at(place, reason)),
+        },
+        Progress::Awaits(given, option, at) => match with_value(given, option, word) {
+            Ok(now) => Ok(Progress::Ready(now)),
+            Err(reason) => Err(fault_at(at, reason)),
+        },
+    }
+}
+
+// A word that is no value.
+#[tactic(auto, unfolding(crate::specs::Reading::with_name))]
+fn with_name<'a>(
+    verb: Verb,
+    place: usize,
+    given: Given<'a>,
+    word: &'a str,
+) -> Result<Progress<'a>, UsageReason>
+    ensures { Agrees progress result (with_name verb place (options given.entry) word.now) }
+{
+    if is_summary(verb, word) {
+        with_summary(given)
+    } else {
+        with_option(verb, place, given, parts_of(word))
+    }
+}
+
+fn is_summary(verb: Verb, word: &str) -> bool
+    ensures { result ≡ is_summary verb word.now }
+{
+    match verb {
+        Verb::Replay => word == "--summary",
+        Verb::Make => false,
+    }
+}
+
+// A summary is wanted once.
+#[tactic(auto, unfolding(crate::specs::Reading::with_summary))]
+fn with_summary(given: Given<'_>) -> Result<Progress<'_>, UsageReason>
+    ensures { Agrees progress result (with_summary (options given.entry)) }
+{
+    if given.summary {
+        return Err(UsageReason::OptionTwice);
+    }
+    Ok(Progress::Ready(Given {
+        summary: true,
+        ..given
+    }))
+}
+
+// The name and the value around the first equals sign.
+#[tactic(auto, unfolding(crate::specs::Reading::parts_of))]
+fn parts_of(word: &str) -> Parts<'_>
+    ensures { parts result ≡ parts_of word.now }
+{
+    match word.split_once('=') {
+        Some((name, value)) => Parts {
+            name,
+            value: Some(value),
+        },
+        None => Parts {
+            name: word,
+            value: None,
+        },
+    }
+}
+
+// An option with a value.
+#[tactic(auto, unfolding(crate::specs::Reading::with_option))]
+fn with_option<'a>(
+    verb: Verb,
+    place: usize,
+    given: Given<'a>,
+    word: Parts<'a>,
+) -> Result<Progress<'a>, UsageReason>
+    ensures { Agrees progress result (with_option verb place (options given.entry) (parts word.entry)) }
+{
+    let option = named(verb, word.name)?;
+    if given.has(option) {
+        return Err(UsageReason::OptionTwice);
+    }
+    with_part(place, given, option, word.value)
+}
+
+fn named(verb: Verb, name: &str) -> Result<OptionName, UsageReason>
+    ensures { result ≡ or_refuse UnknownOption (option_of verb name.now) }
+{
+    option_of(verb, name).ok_or(UsageReason::UnknownOption)
+}
+
+// The value stands in the option's word, or it is the next word.
+#[tactic(auto, unfolding(crate::specs::Reading::with_part))]
+fn with_part<'a>(
+    place: usize,
+    given: Given<'a>,
+    option: OptionName,
+    value: Option<&'a str>,
+) -> Result<Progress<'a>, UsageReason>
+    ensures { Agrees progress result (with_part place (options given.entry) option (option_copied value.entry)) }
+{
+    match value {
+        None => Ok(Progress::Awaits(given, option, place)),
+        Some(value) => Ok(Progress::Ready(with_value(given, option, value)?)),
+    }
+}

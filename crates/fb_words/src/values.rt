@@ -1,0 +1,132 @@
+// The values of options.
+ghost use Rattle.std.specs.Prelude.{◌≡◌};
+ghost use Rattle.fb_units.specs.Judging.{or_refuse};
+ghost use Rattle.fb_units.specs.Numbers.{millis_of, number_of};
+ghost use Rattle.fb_words.specs.declared.fault.UsageReason.TheVariants.{BadValue};
+ghost use Rattle.fb_words.specs.Names.{policy_of, bytes_of};
+ghost use Rattle.fb_words.specs.Given.{options};
+ghost use Rattle.fb_words.specs.Values.{is_value, request_count_of, with_form, with_value};
+ghost use Rattle.fb_words.specs.Verdict.{Agrees};
+
+use crate::given::Given;
+use crate::names::{OptionName, bytes_of, policy_of};
+use crate::{Policy, UsageReason};
+use fb_report::Bytes;
+use fb_units::{Ns, read_millis, read_number};
+
+const MOST_REQUESTS: u64 = 1_000_000;
+
+/// The options with this value of an option more.
+#[tactic(auto, unfolding(crate::specs::Values::with_value))]
+pub fn with_value<'a>(
+    given: Given<'a>,
+    option: OptionName,
+    value: &'a str,
+) -> Result<Given<'a>, UsageReason>
+    ensures { Agrees options result (with_value (options given.entry) option value.now) }
+{
+    if !is_value(value) {
+        return Err(UsageReason::NoValue);
+    }
+    with_form(given, option, value)
+}
+
+// A value isn't empty and doesn't begin with a dash.
+fn is_value(word: &str) -> bool
+    ensures { result ≡ is_value word.now }
+{
+    match word.as_bytes() {
+        [] => false,
+        [b'-', ..] => false,
+        _ => true,
+    }
+}
+
+// The options with a value in the form of its option.
+#[tactic(auto, unfolding(crate::specs::Values::with_form))]
+fn with_form<'a>(
+    given: Given<'a>,
+    option: OptionName,
+    value: &'a str,
+) -> Result<Given<'a>, UsageReason>
+    ensures { Agrees options result (with_form (options given.entry) option value.now) }
+{
+    match option {
+        OptionName::Params => Ok(Given {
+            params: Some(value),
+            ..given
+        }),
+        OptionName::Trace => Ok(Given {
+            trace: Some(value),
+            ..given
+        }),
+        OptionName::Policy => Ok(Given {
+            policy: Some(policy(value)?),
+            ..given
+        }),
+        OptionName::Calls => Ok(Given {
+            calls: Some(value),
+            ..given
+        }),
+        OptionName::Back => Ok(Given {
+            back: Some(value),
+            ..given
+        }),
+        OptionName::Until => Ok(Given {
+            until: Some(time(value)?),
+            ..given
+        }),
+        OptionName::Device => Ok(Given {
+            device: Some(number(value)?),
+            ..given
+        }),
+        OptionName::Bytes => Ok(Given {
+            bytes: Some(bytes(value)?),
+            ..given
+        }),
+        OptionName::Number => Ok(Given {
+            number: Some(number(value)?),
+            ..given
+        }),
+        OptionName::Requests => Ok(Given {
+            requests: Some(request_count(value)?),
+            ..given
+        }),
+    }
+}
+
+fn policy(value: &str) -> Result<Policy, UsageReason>
+    ensures { result ≡ or_refuse BadValue (policy_of value.now) }
+{
+    policy_of(value).ok_or(UsageReason::BadValue)
+}
+
+fn bytes(value: &str) -> Result<Bytes, UsageReason>
+    ensures { result ≡ or_refuse BadValue (bytes_of value.now) }
+{
+    bytes_of(value).ok_or(UsageReason::BadValue)
+}
+
+fn time(value: &str) -> Result<Ns, UsageReason>
+    ensures { result ≡ or_refuse BadValue (millis_of value.now) }
+{
+    read_millis(value.as_bytes()).ok_or(UsageReason::BadValue)
+}
+
+fn number(value: &str) -> Result<u64, UsageReason>
+    ensures { result ≡ or_refuse BadValue (number_of value.now) }
+{
+    read_number(value.as_bytes()).ok_or(UsageReason::BadValue)
+}
+
+// A number of requests is at most a million.
+#[tactic(auto, unfolding(crate::specs::Values::request_count_of))]
+fn request_count(value: &str) -> Result<u64, UsageReason>
+    ensures { result ≡ request_count_of value.now }
+{
+    let count = number(value)?;
+    if count > MOST_REQUESTS {
+        return Err(UsageReason::BadValue);
+    }
+    Ok(count)
+}

@@ -1,0 +1,216 @@
+// The command that words spell.
+ghost use Rattle.std.specs.Prelude.{◌≡◌, IfOk, Ok, map, true};
+ghost use Rattle.std.specs.Option.{option_copied, option_map};
+ghost use Rattle.std.specs.String.{string_bytes};
+ghost use Rattle.fb_units.specs.Judging.{or_refuse, refused_as};
+ghost use Rattle.fb_words.specs.declared.fault.UsageReason.TheVariants.{UnknownCommand, MissingOption};
+ghost use Rattle.fb_words.specs.Names.{verb_of};
+ghost use Rattle.fb_words.specs.Given.{options};
+ghost use Rattle.fb_words.specs.Reading.{fault_at};
+ghost use Rattle.fb_words.specs.Command.{command_of, go_together, if_built, is_built, make_of, replay_of, terms_of, with_verb};
+ghost use Rattle.fb_words.specs.Limits.{IsWithinLimits};
+ghost use Rattle.fb_words.specs.Verdict.{Agrees, Answers, make_terms, replay_terms, terms};
+
+use crate::given::Given;
+use crate::names::{Verb, verb_of};
+use crate::reading::{fault_at, read_options};
+use crate::{Command, MakeWords, Policy, ReplayWords, UsageFault, UsageReason, WordsError};
+use fb_report::Bytes;
+use std::alloc::Global;
+
+/// The command that the words spell. The first is the program's name and isn't looked at. An error
+/// names the first faulty word.
+pub fn read_words(alloc: Global, words: &[String]) -> Result<Command, WordsError>
+    ensures answer { Answers terms result (if_built (command_of (map string_bytes words.now))) }
+    ensures limits { IfOk result (λ command. IsWithinLimits (terms command)) }
+    ensures built { IfOk result (λ command. is_built (terms command) ≡ true) }
+{
+    let command = command_of(alloc, words)?;
+    if !is_built(&command) {
+        return Err(WordsError::Fault(fault_at(0, UsageReason::NotYet)));
+    }
+    Ok(command)
+}
+
+// Made traces, background work, waits at the end and summaries aren't built yet.
+fn is_built(command: &Command) -> bool
+    ensures { result ≡ is_built (terms command.now) }
+{
+    match command {
+        Command::Replay(words) => {
+            words.calls.is_none() && words.back.is_none() && words.until == 0 && !words.summary
+        }
+        Command::Make(_) => false,
+    }
+}
+
+// The command, whether it is built or not.
+fn command_of(alloc: Global, words: &[String]) -> Result<Command, WordsError>
+    ensures { Answers terms result (command_of (map string_bytes words.now)) }
+{
+    match words {
+        [_, name, options @ ..] => with_verb(alloc, words.len(), name.as_str(), options),
+        _ => Err(WordsError::Fault(fault_at(words.len(), UsageReason::NoCommand))),
+    }
+}
+
+// The command of this name with these options. There are so many words in all.
+#[tactic(auto, unfolding(crate::specs::Command::with_verb))]
+fn with_verb(
+    alloc: Global,
+    count: usize,
+    name: &str,
+    options: &[String],
+) -> Result<Command, WordsError>
+    ensures { Answers terms result (with_verb count name.now (map string_bytes options.now)) }
+{
+    let verb = known_verb(name)?;
+    let given = read_options(verb, options)?;
+    command(alloc, count, verb, given)
+}
+
+fn known_verb(name: &str) -> Result<Verb, UsageFault>
+    ensures { result ≡ refused_as (fault_at 1) (or_refuse UnknownCommand (verb_of name.now)) }
+{
+    match verb_of(name) {
+        Some(verb) => Ok(verb),
+        None => Err(fault_at(1, UsageReason::UnknownCommand)),
+    }
+}
+
+// The command with the options that were given.
+#[tactic(auto, unfolding(crate::specs::Command::terms_of))]
+fn command(alloc: Global, count: usize, verb: Verb, given: Given<'_>) -> Result<Command, WordsError>
+    ensures { Answers terms result (refused_as (fault_at count) (terms_of verb (options given.entry))) }
+{
+    match verb {
+        Verb::Replay => Ok(Command::Replay(replay(alloc, count, given)?)),
+        Verb::Make => Ok(Command::Make(make(alloc, count, given)?)),
+    }
+}
+
+#[tactic(auto, unfolding(crate::specs::Command::replay_of))]
+fn replay(alloc: Global, count: usize, given: Given<'_>) -> Result<ReplayWords, WordsError>
+    ensures { Answers replay_terms result (refused_as (fault_at count) (replay_of (options given.entry))) }
+{
+    let params = required(given.params, count, 0)?;
+    let trace = required(given.trace, count, 1)?;
+    let policy = required(given.policy, count, 2)?;
+    if given.calls.is_some() != given.back.is_some() {
+        return Err(WordsError::Fault(fault_at(count, UsageReason::CallsAndBack)));
+    }
+    Ok(ReplayWords {
+        params: String::from_str(alloc, params)?,
+        trace: String::from_str(alloc, trace)?,
+        policy,
+        calls: copied(alloc, given.calls)?,
+        back: copied(alloc, given.back)?,
+        until: given.until.unwrap_or(0),
+        device: given.device.unwrap_or(0),
+        bytes: given.bytes.unwrap_or(Bytes::Nothing),
+        summary: given.summary,
+    })
+}
+
+#[tactic(auto, unfolding(crate::specs::Command::make_of))]
+fn make(alloc: Global, count: usize, given: Given<'_>) -> Result<MakeWords, WordsError>
+    ensures { Answers make_terms result (refused_as (fault_at count) (make_of (options given.entry))) }
+{
+    let params = required(given.params, count, 0)?;
+    let trace = required(given.trace, count, 1)?;
+    let calls = required(given.calls, count, 2)?;
+    let number = required(given.number, count, 3)?;
+    let requests = required(given.requests, count, 4)?;
+    Ok(MakeWords {
+        params: String::from_str(alloc, params)?,
+        trace: String::from_str(alloc, trace)?,
+        calls: String::from_str(alloc, calls)?,
+        number,
+        requests,
+        device: given.device.unwrap_or(0),
+    })
+}
+
+// The value of the required option of this number.
+fn required<T: Copy>(value: Option<T>, count: usize, number: u32) -> Result<T, UsageFault>
+    ensures { result ≡ refused_as (fault_at count) (or_refuse (MissingOption number) value) }
+{
+    match value {
+        Some(value) => Ok(value),
+        None => Err(fault_at(count, UsageReason::MissingOption(number))),
+    }
+}
+
+fn copied(alloc: Global, text: Option<&str>) -> Result<Option<String>, WordsError>
+    ensures { Answers (λ copy. option_map string_bytes copy) result (Ok (option_copied text.entry)) }
+{
+    match text {
+        Some(text) => Ok(Some(String::from_str(alloc, text)?)),
+        None => Ok(None),
+    }
+}
+
+#[cfg(test)]
+mod tests {
+    use super::*;
+    use std::test::Fail;
+
+    const REPLAY: &str = "freeblock replay --params k --trace t --policy fcfs";
+
+    // The words of a text, which have one space between them.
+    fn split(alloc: Global, text: &str) -> Result<Vec<String>, Fail> {
+        let mut words = Vec::new(alloc);
+        for word in text.split(' ') {
+            words.push(String::from_str(alloc, word)?)?;
+        }
+        Ok(words)
+    }
+
+    #[test]
+    fn names_the_first_fault(rt: HostRuntime) -> Result<(), Fail> {
+        let cases = [
+            ("freeblock", "", 1, UsageReason::NoCommand),
+            ("freeblock play", "", 1, UsageReason::UnknownCommand),
+            (REPLAY, " --fast", 8, UsageReason::UnknownOption),
+            (REPLAY, " --calls", 8, UsageReason::NoValue),
+            (REPLAY, " --policy sstf", 8, UsageReason::OptionTwice),
+            (REPLAY, " --bytes=md5", 8, UsageReason::BadValue),
+            (
+                "freeblock replay --params k --trace t",
+                "",
+                6,
+                UsageReason::MissingOption(2),
+            ),
+            (REPLAY, " --calls c", 10, UsageReason::CallsAndBack),
+        ];
+        for (start, end, place, reason) in cases {
+            let mut text = String::from_str(rt.alloc(), start)?;
+            text.push_str(end)?;
+            let words = split(rt.alloc(), text.as_str())?;
+            let answer = read_words(rt.alloc(), words.as_slice());
+            let fault = UsageFault { place, reason };
+            assert_eq!(rt; answer.err(), Some(WordsError::Fault(fault)));
+        }
+        Ok(())
+    }
+
+    #[test]
+    fn reads_a_replay(rt: HostRuntime) -> Result<(), Fail> {
+        let text =
+            "freeblock replay --bytes=sha256 --trace=t=1 --device 007 --policy sptf --params k";
+        let words = split(rt.alloc(), text)?;
+        let command = Command::Replay(ReplayWords {
+            params: String::from_str(rt.alloc(), "k")?,
+            trace: String::from_str(rt.alloc(), "t=1")?,
+            policy: Policy::Sptf,
+            calls: None,
+            back: None,
+            until: 0,
+            device: 7,
+            bytes: Bytes::Digest,
+            summary: false,
+        });
+        assert_eq!(rt; read_words(rt.alloc(), words.as_slice())?, command);
+        Ok(())
+    }
+}
