@@ -129,14 +129,14 @@ module _ (disk : Shape) (sound : HasZones disk) where
 abbrev Ascends : List Zone → Type 0
 Ascends zones = (i : ℕ) (zone : Zone) → slice_get zones i ≡ Some zone → zone.first ≤ zone.last
 
-next : (index begin : ℕ) (zone : Zone) (zones : List Zone) → first_apart index begin (zone ∷ zones) ≡ None → (zone.first ≡ begin) × (first_apart (index + 1) (zone.last + 1) zones ≡ None)
+pub next : (index begin : ℕ) (zone : Zone) (zones : List Zone) → first_apart index begin (zone ∷ zones) ≡ None → (zone.first ≡ begin) × (first_apart (index + 1) (zone.last + 1) zones ≡ None)
 next index begin zone zones h = elim (cases_Bool (zone.first == begin)) [
   | inl here ↦ (eqb-true zone.first begin here, rw here at h)
   | inr off ↦ absurd (none-some index (sym (rw off at h)))
 ]
 
 -- no zone begins before this one
-zones_from : (index begin i : ℕ) (zones : List Zone) (zone : Zone) → first_apart index begin zones ≡ None → Ascends zones → slice_get zones i ≡ Some zone → begin ≤ zone.first
+pub zones_from : (index begin i : ℕ) (zones : List Zone) (zone : Zone) → first_apart index begin zones ≡ None → Ascends zones → slice_get zones i ≡ Some zone → begin ≤ zone.first
 zones_from index begin i [] zone h up at = absurd (none-some zone at)
 zones_from index begin zero (other ∷ zones) zone h up at = let here = (next index begin other zones h).0 in omega (arith, ap (λ zone. zone.first) (same_Some other zone at))
 zones_from index begin (suc i) (other ∷ zones) zone h up at =

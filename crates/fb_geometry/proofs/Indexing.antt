@@ -102,6 +102,9 @@ of_cylinder cylinder q marks one =
     let mark : Mark = record { cylinder = cylinder; position = q } in
     among-on mark marks ∙ among-any (same_mark mark) marks mark one (same_mark-refl mark)
 
+mark_by : (mark : Mark) (cylinder position : ℕ) → mark.cylinder ≡ cylinder → mark.position ≡ position → mark ≡ record { cylinder = cylinder; position = position }
+mark_by mark cylinder position c p = ap (λ c. record { cylinder = c; position = mark.position }) c ∙ ap (λ p. record { cylinder = cylinder; position = p }) p
+
 same_place-refl : (a : Place) → same_place a a ≡ true
 same_place-refl a = grind (arith, nat_tests)
 
@@ -249,8 +252,7 @@ module _ (disk : Shape) (zones : HasZones disk) (defects grown : List Mark) (are
           let inside = inside_of disk zones disk.grown disk.grown grown grown those those place listed in
           let slot = place_slot disk zones defects are up zone cylinder place at c inside in
           let index : (among_unmarked defects (mark_of disk place)).position ≡ q = index_is place c slot.2 ∙ sym (good_index disk zone cylinder at (positions (marks_on cylinder defects)) indexed q place in_good) in
-          let mark : among_unmarked defects (mark_of disk place) ≡ record { cylinder = cylinder; position = q } =
-          ap (λ c. record { cylinder = c; position = (among_unmarked defects (mark_of disk place)).position }) c ∙ ap (λ p. record { cylinder = cylinder; position = p }) index in
+          let mark : among_unmarked defects (mark_of disk place) ≡ record { cylinder = cylinder; position = q } = mark_by (among_unmarked defects (mark_of disk place)) cylinder q c index in
           let marked_ = among-map (among_unmarked defects) grown (mark_of disk place) (mark_among disk zones disk.grown disk.grown grown grown those those place listed) in
           of_cylinder cylinder q (map (among_unmarked defects) grown) (marked_.0, marked_.1 ∙ ap Some mark)
 

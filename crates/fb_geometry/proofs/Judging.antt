@@ -5,7 +5,8 @@ use Rattle.std.proofs.lemmas.Option.{none-some}
 use Rattle.std.proofs.lemmas.List.{append-nil}
 use Rattle.std.proofs.lemmas.List.Sorted.{IsPermutation-refl}
 use Rattle.fb_units.specs.declared.types.Place.{Place}
-use Rattle.fb_geometry.specs.declared.layout.Layout.TheVariants.{PerCylinder}
+use Rattle.fb_geometry.specs.declared.layout.Layout.{Layout}
+use Rattle.fb_geometry.specs.declared.layout.Layout.TheVariants.{PerTrack, PerCylinder}
 use Rattle.fb_geometry.specs.declared.marks.Mark.{Mark}
 use Rattle.fb_geometry.specs.declared.fault.GeometryFault.{GeometryFault}
 use Rattle.fb_geometry.specs.declared.fault.GeometryFault.TheVariants.{OutOfRange, ZonesNotContiguous, SkewTooLarge, DefectOutside, DefectTwice, GrownOutside, GrownTwice, TooManyInCylinder}
@@ -131,3 +132,6 @@ fault_of_grown disk fault h =
     let twice = fault_at GrownTwice (least is_place_before (repeated disk.grown ++ filter (is_among disk.defects) disk.grown)) in
     let full = fault_at TooManyInCylinder (least nat_lt (filter (is_full_cylinder disk) (map (λ place. place.track.cylinder) (disk.defects ++ disk.grown)))) in
     sym (or_else-assoc outside twice full) ∙ ap (λ o. or_else o full) h
+
+pub fits_per_cylinder : (layout : Layout) (grown : List Place) → layout ≡ PerCylinder → layout ≡ PerTrack → grown ≡ []
+fits_per_cylinder layout grown h k = cc

@@ -12,3 +12,5 @@ pub mod Clashes
 pub mod Spares
 pub mod Indexing
 pub mod Judging
+pub mod Once
+pub mod Rotation

@@ -320,6 +320,14 @@ module _ (disk : Shape) (zone : Zone) (cylinder : ℕ) (at : IsZoneAt disk cylin
   spare_in_clean : (m : ℕ) → slice_get (filter clean whole) (base - rank base grown + m) ≡ slice_get spares m
   spare_in_clean m = ap (λ xs. slice_get xs (base - rank base grown + m)) clean_parts ∙ get-append_length (filter clean (take base whole)) spares m (base - rank base grown) clean_front
 
+  -- a spare, by its index among all that are not grown
+  spare_at : (m k : ℕ) (place : Place) → base - rank base grown + m ≡ k → slice_get (filter clean whole) k ≡ Some place → slice_get spares m ≡ Some place
+  spare_at m k place e at = subst (λ k. slice_get (filter clean whole) k ≡ Some place → slice_get spares m ≡ Some place) e (λ at. sym (spare_in_clean m) ∙ at) at
+
+  -- the same, where its index is known by an equation
+  spare_for : (m n : ℕ) (place : Place) → m ≡ n → slice_get spares n ≡ Some place → slice_get spares m ≡ Some place
+  spare_for m n place e at = subst (λ n. slice_get spares n ≡ Some place) (sym e) at
+
   -- how many grown entries come before one of the base list
   grown_before : (j : ℕ) → j ≤ base → length (filter (is_among disk.grown) (take j (take base whole))) ≡ rank j grown
   grown_before j l = ap (λ xs. length (filter (is_among disk.grown) xs)) (take-take j base whole l)
@@ -415,6 +423,9 @@ module _ (disk : Shape) (zone : Zone) (cylinder : ℕ) (at : IsZoneAt disk cylin
   pub holds_staying : (k : ℕ) (place : Place) → slice_get whole k ≡ Some place → is_among disk.grown place ≡ false → k < base → slice_get (per_cylinder disk zone cylinder) k ≡ Some place
   holds_staying k place here stays l = stayed k place l here stays
 
+  moved_by : (g s : ℕ) (old place : Place) → g < base → slice_get whole g ≡ Some old → slice_get grown s ≡ Some g → rank g grown ≡ s → slice_get spares s ≡ Some place → slice_get (per_cylinder disk zone cylinder) g ≡ Some place
+  moved_by g s old place below here entry_ index stand = moved g old place below here (sym (is_marked_at (is_among disk.grown) whole grown those g old here) ∙ among_at s g grown entry_) (spare_for (rank g grown) s place index stand)
+
   -- a spare holds the sector of the grown one that it stands in for
   pub holds_moving : (k g : ℕ) (place : Place) → slice_get whole k ≡ Some place → is_among disk.grown place ≡ false → base ≤ k → k - rank k grown < base
       → slice_get grown (k - rank k grown - (base - rank base grown)) ≡ Some g → slice_get (per_cylinder disk zone cylinder) g ≡ Some place
@@ -431,9 +442,8 @@ module _ (disk : Shape) (zone : Zone) (cylinder : ℕ) (at : IsZoneAt disk cylin
         | inr back ↦ absurd (omega (arith, rank-mono base g grown back))
       ] in
       let one = base_entry g below in
-      let gone : is_among disk.grown one.0 ≡ true = sym (is_marked_at (is_among disk.grown) whole grown those g one.0 one.1) ∙ among_at s g grown entry_ in
       let left : slice_get (filter clean whole) (k - rank k grown) ≡ Some place = goes (is_among disk.grown) whole grown those k place here stays in
-      moved g one.0 place below one.1 gone (ap (slice_get spares) index ∙ (sym (spare_in_clean s) ∙ (ap (slice_get (filter clean whole)) free ∙ left)))
+      moved_by g s one.0 place below one.1 entry_ index (spare_at s (k - rank k grown) place free left)
 
   pub few_before : rank base grown ≤ length grown
   few_before = rank-le_length base grown

@@ -1,10 +1,11 @@
 -- What a geometry keeps: that its outline has no fault, and an index of its bad slots.
-use Rattle.std.specs.Prelude.{◌≡◌, ℕ, ◌<◌, List, ◌++◌, length, Option, Some, None, Result, Ok, Err, false, find, filter, position}
+use Rattle.std.specs.Prelude.{◌≡◌, ℕ, ◌<◌, List, [], ◌++◌, length, Option, Some, None, Result, Ok, Err, false, find, filter, position}
 use Rattle.fb_units.specs.declared.types.Place.{Place}
 use Rattle.fb_geometry.specs.declared.fault.GeometryFault.{GeometryFault}
 use Rattle.fb_geometry.specs.declared.fault.GeometryFault.TheVariants.{ZonesNotContiguous, SkewTooLarge, DefectOutside, DefectTwice, GrownOutside, GrownTwice}
 use Rattle.fb_geometry.specs.declared.fault.GeometryError.{GeometryError}
 use Rattle.fb_geometry.specs.declared.fault.GeometryError.TheVariants.{Fault, NoMemory}
+use Rattle.fb_geometry.specs.declared.layout.Layout.TheVariants.{PerTrack}
 use Rattle.fb_geometry.specs.declared.zone.Zone.{Zone}
 use Rattle.fb_geometry.specs.declared.marks.Mark.{Mark}
 use Rattle.fb_geometry.specs.Shape.{Shape, is_among}
@@ -69,6 +70,7 @@ pub record IsKept (disk : Shape) (defects grown : List Mark) : Type 0 where
   pub faultless : IsFaultless disk
   pub sound : IsSound disk
   pub indexed : IsIndexed disk defects grown
+  pub fits : disk.layout ≡ PerTrack → disk.grown ≡ []
 
 -- the geometry has this outline, whose spares are enough, or the fault is the first of these; memory may be wanting
 abbrev pub JudgesSpares : Shape → Result Shape GeometryError → Type 0

@@ -1,11 +1,11 @@
 -- What every accepted outline keeps: the facts that the layers above build on.
-use Rattle.std.specs.Prelude.{◌≡◌, ℕ, ◌-◌, ◌*◌, ◌^◌, ◌<◌, ◌≤◌, length, Some, None, slice_get}
+use Rattle.std.specs.Prelude.{◌≡◌, ℕ, ◌-◌, ◌*◌, ◌^◌, ◌<◌, ◌≤◌, length, Some, None, false, slice_get}
 use Rattle.fb_units.specs.declared.types.Place.{Place}
 use Rattle.fb_geometry.specs.declared.layout.Layout.{Layout}
 use Rattle.fb_geometry.specs.declared.layout.Layout.TheVariants.{PerTrack, PerCylinder}
 use Rattle.fb_geometry.specs.declared.zone.Zone.{Zone}
-use Rattle.fb_geometry.specs.Shape.{Shape, slots_at, cylinders_of}
-use Rattle.fb_geometry.specs.Places.{data_list}
+use Rattle.fb_geometry.specs.Shape.{Shape, slots_at, cylinders_of, is_among}
+use Rattle.fb_geometry.specs.Places.{data_list, places}
 use Rattle.fb_geometry.specs.Faults.{first_apart}
 
 -- how many sectors each cylinder of a zone holds
@@ -48,3 +48,9 @@ pub record IsSound (disk : Shape) : Type 0 where
   -- what a cylinder's list names are slots of that cylinder
   pub own : (i : ℕ) (zone : Zone) (cylinder j : ℕ) (place : Place) → IsCylinderOf disk i zone cylinder
       → slice_get (data_list disk zone cylinder) j ≡ Some place → LiesOn disk cylinder place
+
+-- each sector has a place of its own, and none that is bad
+pub record HasOwnPlaces (disk : Shape) : Type 0 where
+  pub once : (i j : ℕ) (place : Place) → slice_get (places disk) i ≡ Some place → slice_get (places disk) j ≡ Some place → i ≡ j
+  pub no_defect : (i : ℕ) (place : Place) → slice_get (places disk) i ≡ Some place → is_among disk.defects place ≡ false
+  pub no_grown : (i : ℕ) (place : Place) → slice_get (places disk) i ≡ Some place → is_among disk.grown place ≡ false

@@ -1,10 +1,10 @@
 // The geometry of a disk.
 ghost use Rattle.std.specs.Prelude.{◌≡◌, ℕ, ◌+◌, ◌-◌, ◌*◌, ◌/◌, ◌<◌, ◌≤◌, ◌^◌, [], ◌∷◌, length, slice_get, Some, None, MatchOption};
 ghost use Rattle.fb_geometry.specs.Shape.{Shape, slots_at, cylinders_of, offset_at, is_among};
-ghost use Rattle.fb_geometry.specs.Angles.{slot_begin};
+ghost use Rattle.fb_geometry.specs.Angles.{slot_begin, CoverRotation};
 ghost use Rattle.fb_geometry.specs.Places.{data_list, data_list_at, per_track, per_cylinder, by_head, good_track};
 ghost use Rattle.fb_geometry.specs.Faults.{Judges, FitsLayout};
-ghost use Rattle.fb_geometry.specs.Sound.{IsSound, cylinder_size};
+ghost use Rattle.fb_geometry.specs.Sound.{IsSound, HasOwnPlaces, cylinder_size};
 ghost use Rattle.fb_geometry.specs.Turns.{IsZoneAt, cylinder_slots};
 ghost use Rattle.fb_geometry.specs.Slips.{IsAscending, indexes};
 ghost use Rattle.fb_geometry.specs.Index.{HasZones, AreJudged, defect_fault, JudgesSpares};
@@ -123,6 +123,21 @@ impl Geometry {
         ensures { IsSound self.now }
     {
         let _outline = &self.outline;
+    }
+
+    /// Each sector has a place of its own, and none that is bad.
+    pub fn own_places(&self)
+        ensures { HasOwnPlaces self.now }
+    {
+        let _outline = &self.outline;
+    }
+
+    /// The slots of a track follow one another around the whole rotation.
+    pub fn angles(&self, track: Track)
+        requires { track.cylinder < cylinders_of self.now.zones }
+        ensures { CoverRotation self.now.rotation (slots_at self.now.zones track.cylinder) }
+    {
+        let _slots = self.slots(track);
     }
 
     /// Where the spares stand.

@@ -5,7 +5,7 @@ use Rattle.fb_geometry.specs.declared.fault.GeometryFault.TheVariants.{TooManyIn
 use Rattle.fb_geometry.specs.Marks.{AreInOrder, among_unmarked}
 use Rattle.fb_geometry.specs.Index.{IsKept, IsFaultless, AreClear}
 use Rattle.fb_geometry.proofs.Laws.{sound}
-use Rattle.fb_geometry.proofs.Judging.{faultless, spares_per_cylinder}
+use Rattle.fb_geometry.proofs.Judging.{faultless, spares_per_cylinder, fits_per_cylinder}
 use Rattle.fb_geometry.proofs.Indexing.{indexed, grown_in_order}
 use Rattle.fb_geometry.proofs.geometry.Geometry.per_cylinder.Goals as goal
 
@@ -35,4 +35,5 @@ invariant_of-result c =
       faultless = good;
       sound = sound disk good;
       indexed = indexed disk c.requires.zones defects grown c.requires.defects.are c.requires.defects.ordered judged.are judged.ordered (subst (AreClear grown) c.deref.ensures.value c.in_ok-grown.ensures.clear);
+      fits = fits_per_cylinder disk.layout disk.grown c.requires.layout;
     }))

@@ -15,4 +15,4 @@ invariant_of-result c =
     let spares : spare_fault disk.layout disk ≡ None = ap (λ layout. spare_fault layout disk) c.requires.layout ∙ ap (fault_at TooManyDefects) no_track in
     let good : IsFaultless disk = faultless disk c.requires.zones c.requires.defects.faultless spares in
     subst (λ marks. IsKept disk marks c.none.result) (sym c.of.ensures) (subst (IsKept disk c.args.defects.items) (sym c.none.ensures)
-    (record { faultless = good; sound = sound disk good; indexed = indexed_alone disk c.requires.zones c.args.defects.items c.requires.defects.are c.requires.defects.ordered c.requires.grown }))
+    (record { faultless = good; sound = sound disk good; indexed = indexed_alone disk c.requires.zones c.args.defects.items c.requires.defects.are c.requires.defects.ordered c.requires.grown; fits = λ layout. c.requires.grown }))

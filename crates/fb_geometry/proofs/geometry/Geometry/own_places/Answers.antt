@@ -1,0 +1,7 @@
+use Rattle.std.proofs.Common.{subst}
+use Rattle.fb_geometry.specs.Sound.{HasOwnPlaces}
+use Rattle.fb_geometry.proofs.Once.{own_places}
+use Rattle.fb_geometry.proofs.geometry.Geometry.own_places.Goals as goal
+
+pub returns : goal.returns
+returns c = subst HasOwnPlaces c.self.view_is (own_places c.self.inside.outline c.self.invariant.faultless c.self.invariant.fits)
