@@ -1,8 +1,7 @@
 -- Sectors are numbered cylinder by cylinder.
-use Rattle.std.proofs.Common.{◌≡◌, ℕ, zero, suc, ◌+◌, ◌-◌, ◌*◌, ◌<◌, ◌≤◌, ◌^◌, List, [], ◌∷◌, ◌++◌, length, refl, ap, sym, ◌∙◌, subst, arith, inl, inr, Option, Some, None}
+use Rattle.std.proofs.Common.{◌≡◌, ℕ, zero, suc, ◌+◌, ◌-◌, ◌*◌, ◌<◌, ◌≤◌, ◌^◌, List, [], ◌∷◌, length, refl, ap, sym, ◌∙◌, arith, inl, inr, Some}
 use Rattle.std.specs.Prelude.{slice_get}
 use Rattle.std.specs.List.{flat_map, range_with_len}
-use Rattle.std.proofs.lemmas.Nat.{mul-le}
 use Rattle.std.proofs.lemmas.Bool.{cases_lt}
 use Rattle.std.proofs.lemmas.Option.{get_or_from_slice_get, slice_get_within}
 use Rattle.fb_units.specs.declared.types.Place.{Place}
@@ -35,7 +34,8 @@ module _ (disk : Shape) (sound : IsSound disk) where
   by_zone cylinder h = let found = some_zone 0 disk.zones cylinder follow (omega arith) h in record {
     index = found.index;
     zone = found.zone;
-    holds = record { zone_is = found.at; from = found.from; upto = found.upto } }
+    holds = record { zone_is = found.at; from = found.from; upto = found.upto };
+  }
 
   pub upto_last : (i : ℕ) (zone : Zone) → slice_get disk.zones i ≡ Some zone → zone.last < cylinders_of disk.zones
   upto_last i zone at = upto_end 0 disk.zones i zone follow at
@@ -63,7 +63,7 @@ module _ (disk : Shape) (sound : IsSound disk) where
   before-in_zone i zone cylinder at from upto =
       before-upto (data_list_at disk) zone.first (cylinder - zone.first) cylinder (omega arith)
       ∙ ap (λ n. sectors_before disk zone.first + n) (length-same (data_list_at disk) zone.first (cylinder - zone.first) (cylinder_size disk zone)
-        (λ c low high. size-by_zone i zone c (record { zone_is = at; from = low; upto = omega arith })))
+      (λ c low high. size-by_zone i zone c (record { zone_is = at; from = low; upto = omega arith })))
 
   pub at_sector : (cylinder j lbn : ℕ) → cylinder < cylinders_of disk.zones → j < length (data_list_at disk cylinder) → lbn ≡ sectors_before disk cylinder + j
       → slice_get (places disk) lbn ≡ slice_get (data_list_at disk cylinder) j
@@ -129,7 +129,8 @@ module _ (disk : Shape) (sound : IsSound disk) where
         is = record { on_disk = part.below; inside = part.inside; number = part.at };
         listed = place.1;
         lies = own-at part.part part.index place.0 part.below place.1;
-        placed_at = place_is lbn place.0 (at_sector part.part part.index lbn part.below part.inside part.at ∙ place.1) }
+        placed_at = place_is lbn place.0 (at_sector part.part part.index lbn part.below part.inside part.at ∙ place.1);
+      }
 
   pub cylinder-of : (lbn : ℕ) (h : lbn < length (places disk)) → (track_at disk lbn).cylinder ≡ (has_place lbn h).cylinder
   cylinder-of lbn h = ap (λ place. place.track.cylinder) (has_place lbn h).placed_at ∙ (has_place lbn h).lies.cylinder_is
@@ -137,8 +138,9 @@ module _ (disk : Shape) (sound : IsSound disk) where
   -- of two cylinders the lesser one's sectors come first
   before_later : (a b cylinder other sector sector' : ℕ) → IsSectorOf disk cylinder sector a → IsSectorOf disk other sector' b → a ≤ b → cylinder ≤ other
   before_later a b cylinder other sector sector' h k le = elim (cases_lt other cylinder) [
-      | inl less ↦ absurd (omega (arith, h.number, k.number, k.inside, before_next other, before-rise (other + 1) cylinder (omega arith)))
-      | inr more ↦ more ]
+    | inl less ↦ absurd (omega (arith, h.number, k.number, k.inside, before_next other, before-rise (other + 1) cylinder (omega arith)))
+    | inr more ↦ more
+  ]
 
   pub cylinders-rise : CylindersRise disk
   cylinders-rise a b le below =
@@ -161,9 +163,10 @@ module _ (disk : Shape) (sound : IsSound disk) where
         on_disk = on_disk;
         here = ap (λ place. place.track.cylinder) at ∙ (own-at cylinder 0 place.0 h place.1).cylinder_is;
         least = λ other below here.
-          let found = has_place other below in
-          let same : found.cylinder ≡ cylinder = sym (cylinder-of other below) ∙ here in
-          omega (arith, found.is.number, ap (sectors_before disk) same) }
+            let found = has_place other below in
+            let same : found.cylinder ≡ cylinder = sym (cylinder-of other below) ∙ here in
+            omega (arith, found.is.number, ap (sectors_before disk) same);
+      }
 
   only_first : (cylinder lbn : ℕ) → cylinder < cylinders_of disk.zones → IsFirstOf disk cylinder lbn → lbn ≡ sectors_before disk cylinder
   only_first cylinder lbn h first =
@@ -184,6 +187,7 @@ module _ (disk : Shape) (sound : IsSound disk) where
   numbered first j place on_disk is listed =
       let cylinder = place.track.cylinder in
       let inside = slice_get_within (data_list_at disk cylinder) j place listed in
-      let number : first + j ≡ sectors_before disk cylinder + j = omega (arith, only_first cylinder first on_disk is) in
-      (omega (arith, only_first cylinder first on_disk is, before-few cylinder (omega arith), size-few cylinder on_disk),
-       at_sector cylinder j (first + j) on_disk inside number ∙ listed)
+      let number : first + j ≡ sectors_before disk cylinder + j = omega (arith, only_first cylinder first on_disk is) in (
+        omega (arith, only_first cylinder first on_disk is, before-few cylinder (omega arith), size-few cylinder on_disk),
+        at_sector cylinder j (first + j) on_disk inside number ∙ listed,
+      )

@@ -3,3 +3,5 @@ pub mod Zones
 pub mod ByCylinder
 pub mod Searches
 pub mod Making
+pub mod Cutting
+pub mod Computed

@@ -1,10 +1,10 @@
 -- The starts of zones, one after another.
-use Rattle.std.proofs.Common.{◌≡◌, ℕ, zero, suc, ◌+◌, ◌-◌, ◌*◌, ◌<◌, ◌≤◌, ◌^◌, List, [], ◌∷◌, ◌++◌, length, map, take, refl, ap, sym, ◌∙◌, subst, arith, Option, Some, None}
+use Rattle.std.proofs.Common.{◌≡◌, ℕ, zero, suc, ◌+◌, ◌-◌, ◌*◌, ◌≤◌, ◌^◌, List, [], ◌∷◌, ◌++◌, length, map, take, ap, sym, ◌∙◌, arith, Some, None}
 use Rattle.std.specs.Prelude.{slice_get}
 use Rattle.std.proofs.lemmas.List.{map-append, take_all}
 use Rattle.fb_geometry.specs.declared.zone.Zone.{Zone}
-use Rattle.fb_geometry.specs.Shape.{Shape, cylinders_of}
-use Rattle.fb_geometry.specs.Places.{places, data_list_at}
+use Rattle.fb_geometry.specs.Shape.{Shape}
+use Rattle.fb_geometry.specs.Places.{data_list_at}
 use Rattle.fb_geometry.specs.Sound.{IsSound, cylinder_size}
 use Rattle.fb_sectormap.specs.declared.numbering.ZoneStart.{ZoneStart}
 use Rattle.fb_sectormap.specs.Cylinders.{IsMapped, sectors_before, start_of}
@@ -31,7 +31,7 @@ module _ (disk : Shape) (sound : IsSound disk) where
       ap (λ xs. xs ++ record { cylinder = zone.first; lbn = lbn; cylinder_sectors = size } ∷ []) are
       ∙ ap (λ n. map (start_of disk) (take i disk.zones) ++ record { cylinder = zone.first; lbn = n; cylinder_sectors = size } ∷ []) (first ∙ ap (sectors_before disk) (sym (first_is 0 disk.zones i zone (follow disk sound) at)))
       ∙ ap (λ n. map (start_of disk) (take i disk.zones) ++ record { cylinder = zone.first; lbn = sectors_before disk zone.first; cylinder_sectors = n } ∷ [])
-        (same ∙ size-by_zone disk sound i zone zone.first (record { zone_is = at; from = omega arith; upto = sound.some_cylinders i zone at }))
+      (same ∙ size-by_zone disk sound i zone zone.first (record { zone_is = at; from = omega arith; upto = sound.some_cylinders i zone at }))
       ∙ sym (ap (map (start_of disk)) (ap (λ n. take n disk.zones) (let next : i + 1 ≡ suc i = omega arith in next) ∙ take-next disk.zones i zone at) ∙ map-append (start_of disk) (take i disk.zones) (zone ∷ []))
 
   -- the sectors before the next zone
@@ -43,12 +43,13 @@ module _ (disk : Shape) (sound : IsSound disk) where
       let by_size : size ≡ cylinder_size disk zone = same ∙ size-by_zone disk sound i zone zone.first (record { zone_is = at; from = omega arith; upto = some }) in
       let next : border 0 disk.zones (i + 1) ≡ zone.last + 1 = ap (border 0 disk.zones) (let more : i + 1 ≡ suc i = omega arith in more) ∙ next_border 0 disk.zones i zone at in
       let whole : lbn + (zone.last + 1 - zone.first) * size ≡ sectors_before disk (zone.last + 1) =
-          ap (λ n. n + (zone.last + 1 - zone.first) * size) begin ∙ ap (λ n. sectors_before disk zone.first + (zone.last + 1 - zone.first) * n) by_size ∙ sym (before-in_zone disk sound i zone (zone.last + 1) at (omega arith) (omega arith)) in
+      ap (λ n. n + (zone.last + 1 - zone.first) * size) begin ∙ ap (λ n. sectors_before disk zone.first + (zone.last + 1 - zone.first) * n) by_size ∙ sym (before-in_zone disk sound i zone (zone.last + 1) at (omega arith) (omega arith)) in
       (whole ∙ ap (sectors_before disk) (sym next), omega (arith, whole, before-few disk sound (zone.last + 1) (omega (arith, upto_last disk sound i zone at))))
 
   -- all zones
   pub all_made : (i : ℕ) (starts : List ZoneStart) (count : ℕ) → i ≡ length disk.zones → starts ≡ map (start_of disk) (take i disk.zones) → count ≡ sectors_before disk (border 0 disk.zones i) → IsMapped disk starts count
   all_made i starts count e are count_as = record {
-      sound = sound;
-      starts_are = are ∙ ap (map (start_of disk)) (take_all i disk.zones (omega arith));
-      count_is = count_as ∙ (ap (sectors_before disk) (ap (border 0 disk.zones) e ∙ last_border 0 disk.zones sound.some_zones) ∙ sym (count-is disk sound)) }
+    sound = sound;
+    starts_are = are ∙ ap (map (start_of disk)) (take_all i disk.zones (omega arith));
+    count_is = count_as ∙ (ap (sectors_before disk) (ap (border 0 disk.zones) e ∙ last_border 0 disk.zones sound.some_zones) ∙ sym (count-is disk sound));
+  }

@@ -1,5 +1,5 @@
 -- A list that is made of parts, one for each number below a bound.
-use Rattle.std.proofs.Common.{◌≡◌, ℕ, zero, suc, ◌+◌, ◌-◌, ◌*◌, ◌<◌, ◌≤◌, List, [], ◌∷◌, ◌++◌, length, refl, ap, sym, ◌∙◌, arith, inl, inr}
+use Rattle.std.proofs.Common.{◌≡◌, ℕ, zero, suc, ◌+◌, ◌-◌, ◌*◌, ◌<◌, ◌≤◌, List, [], ◌∷◌, ◌++◌, length, refl, ap, ◌∙◌, arith, inl, inr}
 use Rattle.std.specs.Prelude.{slice_get}
 use Rattle.std.specs.List.{flat_map, range_with_len}
 use Rattle.std.proofs.lemmas.List.{length-append}
@@ -74,5 +74,6 @@ pub record IsIn {A : Type 0} (f : ℕ → List A) (n i : ℕ) : Type 0 where
 pub some_part : {A : Type 0} (f : ℕ → List A) (n i : ℕ) → i < before f n → IsIn f n i
 some_part f zero i h = absurd (omega arith)
 some_part f (suc n) i h = elim (cases_lt i (before f n)) [
-    | inl low ↦ let found = some_part f n i low in record { part = found.part; index = found.index; below = omega (arith, found.below); inside = found.inside; at = found.at }
-    | inr from ↦ record { part = n; index = i - before f n; below = omega arith; inside = omega (arith, before-more f n, ap (before f) (let next : n + 1 ≡ suc n = omega arith in next)); at = omega arith } ]
+  | inl low ↦ let found = some_part f n i low in record { part = found.part; index = found.index; below = omega (arith, found.below); inside = found.inside; at = found.at }
+  | inr from ↦ record { part = n; index = i - before f n; below = omega arith; inside = omega (arith, before-more f n, ap (before f) (let next : n + 1 ≡ suc n = omega arith in next)); at = omega arith }
+]

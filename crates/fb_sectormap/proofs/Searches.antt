@@ -1,7 +1,7 @@
 -- Searches among the starts of zones.
 use denote.Ref.{Bor}
 use denote.Param.Members.{Mut}
-use Rattle.std.proofs.Common.{◌≡◌, ℕ, zero, suc, ◌+◌, ◌-◌, ◌*◌, ◌/◌, ◌%◌, ◌<◌, ◌≤◌, ◌^◌, List, [], ◌∷◌, ◌++◌, length, map, get_or, Bool, true, false, refl, ap, sym, ◌∙◌, subst, arith, inl, inr, Option, Some, None, option_map}
+use Rattle.std.proofs.Common.{◌≡◌, ℕ, zero, suc, ◌+◌, ◌-◌, ◌*◌, ◌/◌, ◌<◌, ◌≤◌, List, length, map, get_or, Bool, true, false, refl, ap, sym, ◌∙◌, subst, arith, inl, inr, Some, option_map}
 use Rattle.std.specs.Prelude.{slice_get, nat_le}
 use Rattle.std.specs.Fn.{ComputesKey, Called}
 use Rattle.std.specs.List.Sorted.{IsPartitionPoint, IsPartitionedBy, IsNonDecreasingBy}
@@ -9,14 +9,14 @@ use Rattle.std.proofs.lemmas.Bool.{cases_lt, leb-true, leb-false}
 use Rattle.std.proofs.lemmas.List.Sorted.{IsPartitionPoint-from_clause, IsPartitionedBy-leb}
 use Rattle.std.proofs.lemmas.Nat.{div_below}
 use Rattle.std.proofs.lemmas.List.{length-map}
-use Rattle.std.proofs.lemmas.Option.{get_or_from_slice_get, slice_get-map, slice_get_within}
+use Rattle.std.proofs.lemmas.Option.{get_or_from_slice_get, slice_get-map}
 use Rattle.fb_geometry.specs.declared.zone.Zone.{Zone}
 use Rattle.fb_geometry.specs.Shape.{Shape, cylinders_of}
 use Rattle.fb_geometry.specs.Places.{places}
-use Rattle.fb_geometry.specs.Sound.{IsSound, IsCylinderOf, cylinder_size}
+use Rattle.fb_geometry.specs.Sound.{IsSound, cylinder_size}
 use Rattle.fb_sectormap.specs.declared.numbering.ZoneStart.{ZoneStart}
-use Rattle.fb_sectormap.specs.Cylinders.{IsFirstOf, IsMapped, IsSectorOf, TellsSector, TellsFirst, sectors_before, start_of}
-use Rattle.fb_sectormap.proofs.Zones.{AreFollowing, border, border-rises, first_is, next_border, last_border, zone_get}
+use Rattle.fb_sectormap.specs.Cylinders.{IsFirstOf, IsMapped, TellsSector, TellsFirst, sectors_before, start_of}
+use Rattle.fb_sectormap.proofs.Zones.{border, border-rises, first_is, next_border, last_border, zone_get}
 use Rattle.fb_sectormap.proofs.ByCylinder.{follow, before-rise, before-in_zone, before-few, size-by_zone, count-is, first-is, upto_last}
 
 module _ (disk : Shape) (sound : IsSound disk) (starts : List ZoneStart) (are : starts ≡ map (start_of disk) disk.zones) where
@@ -35,8 +35,12 @@ module _ (disk : Shape) (sound : IsSound disk) (starts : List ZoneStart) (are : 
         ap key (start_at i zone.0 d zone.1) ∙ is zone.0 ∙ ap upto (first_is 0 disk.zones i zone.0 (follow disk sound) zone.1)
 
     pub starts-rise : IsNonDecreasingBy key starts
-    starts-rise i j d le h = omega (arith, key_at i d (omega arith), key_at j d h,
-        rises (border 0 disk.zones i) (border 0 disk.zones j) (border-rises 0 disk.zones i j (follow disk sound) le))
+    starts-rise i j d le h = omega (
+      arith,
+      key_at i d (omega arith),
+      key_at j d h,
+      rises (border 0 disk.zones i) (border 0 disk.zones j) (border-rises 0 disk.zones i j (follow disk sound) le),
+    )
 
     -- the zone before the point holds the number
     pub record IsFound (x i : ℕ) : Type 0 where
@@ -58,12 +62,14 @@ module _ (disk : Shape) (sound : IsSound disk) (starts : List ZoneStart) (are : 
         let d = start_of disk zone.0 in
         let next : x < upto (border 0 disk.zones (suc i)) = elim (cases_lt (suc i) (length starts)) [
           | inl more ↦ omega (arith, leb-false (key (get_or starts (suc i) d)) x (at.1 (suc i) d (omega arith) more), key_at (suc i) d more)
-          | inr last ↦ omega (arith, high, ap upto (ap (border 0 disk.zones) (let all : suc i ≡ length disk.zones = omega (arith, length-starts) in all) ∙ last_border 0 disk.zones sound.some_zones)) ] in
+          | inr last ↦ omega (arith, high, ap upto (ap (border 0 disk.zones) (let all : suc i ≡ length disk.zones = omega (arith, length-starts) in all) ∙ last_border 0 disk.zones sound.some_zones))
+        ] in
         record {
           zone = zone.0;
           at = zone.1;
           from = omega (arith, leb-true (key (get_or starts i d)) x (at.0 i d (omega arith) (omega arith)), key_at i d (omega arith), ap upto (first_is 0 disk.zones i zone.0 (follow disk sound) zone.1));
-          behind = omega (arith, next, ap upto (next_border 0 disk.zones i zone.0 zone.1)) }
+          behind = omega (arith, next, ap upto (next_border 0 disk.zones i zone.0 zone.1));
+        }
 
 -- ---- the sector that a number names in its zone
 
@@ -84,7 +90,9 @@ tells_zone disk sound i zone lbn at from below =
       sector = record {
         on_disk = omega (arith, upto_last disk sound i zone at);
         inside = omega (arith, size-by_zone disk sound i zone (zone.first + behind / size) (record { zone_is = at; from = omega arith; upto = upto }));
-        number = let steps : zone.first + behind / size - zone.first ≡ behind / size = omega arith in omega (arith, rw steps at whole) } }
+        number = let steps : zone.first + behind / size - zone.first ≡ behind / size = omega arith in omega (arith, rw steps at whole);
+      };
+    }
 
 tells_first : (disk : Shape) → IsSound disk → (i : ℕ) (zone : Zone) (cylinder : ℕ) → slice_get disk.zones i ≡ Some zone → zone.first ≤ cylinder → cylinder < zone.last + 1 → TellsFirst disk (start_of disk zone) cylinder
 tells_first disk sound i zone cylinder at from below =
@@ -92,7 +100,8 @@ tells_first disk sound i zone cylinder at from below =
     record {
       from = from;
       few = omega (arith, first, before-few disk sound cylinder (omega (arith, upto_last disk sound i zone at)));
-      first = subst (IsFirstOf disk cylinder) first (first-is disk sound cylinder (omega (arith, upto_last disk sound i zone at))) }
+      first = subst (IsFirstOf disk cylinder) first (first-is disk sound cylinder (omega (arith, upto_last disk sound i zone at)));
+    }
 
 -- ---- what the two searches find
 

@@ -1,5 +1,5 @@
 -- Zones that follow one another.
-use Rattle.std.proofs.Common.{◌≡◌, ℕ, zero, suc, ◌+◌, ◌-◌, ◌*◌, ◌<◌, ◌≤◌, List, [], ◌∷◌, ◌++◌, length, refl, ap, sym, ◌∙◌, arith, inl, inr, Option, Some, None}
+use Rattle.std.proofs.Common.{◌≡◌, ℕ, zero, suc, ◌+◌, ◌-◌, ◌<◌, ◌≤◌, List, [], ◌∷◌, ◌++◌, length, refl, ap, sym, ◌∙◌, arith, inl, inr, Some, None}
 use Rattle.std.specs.Prelude.{slice_get, ◌==◌}
 use Rattle.std.specs.List.{flat_map, range_with_len}
 use Rattle.std.proofs.lemmas.Bool.{cases_Bool, cases_lt, eqb-true, le-leb, lt-leb}
@@ -9,7 +9,7 @@ use Rattle.fb_geometry.specs.declared.zone.Zone.{Zone}
 use Rattle.fb_geometry.specs.Shape.{Shape, cylinders_of}
 use Rattle.fb_geometry.specs.Places.{data_list, list_among, zone_places}
 use Rattle.fb_geometry.specs.Faults.{first_apart}
-use Rattle.fb_geometry.specs.Sound.{cylinder_size, cylinder_size_by}
+use Rattle.fb_geometry.specs.Sound.{cylinder_size_by}
 use Rattle.std.proofs.lemmas.Nat.{mul-le}
 use Rattle.fb_sectormap.proofs.Parts.{parts-split, same-parts}
 
@@ -30,8 +30,9 @@ some_none x e = cc
 pub following : (index begin : ℕ) (zones : List Zone) → first_apart index begin zones ≡ None → ((i : ℕ) (zone : Zone) → slice_get zones i ≡ Some zone → zone.first ≤ zone.last) → AreFollowing begin zones
 following index begin [] h some = tt
 following index begin (zone ∷ zones) h some = elim (cases_Bool (zone.first == begin)) [
-    | inl here ↦ (eqb-true zone.first begin here, some 0 zone refl, following (index + 1) (zone.last + 1) zones (rw here at h) (λ i. some (suc i)))
-    | inr off ↦ absurd (some_none index (rw off at h)) ]
+  | inl here ↦ (eqb-true zone.first begin here, some 0 zone refl, following (index + 1) (zone.last + 1) zones (rw here at h) (λ i. some (suc i)))
+  | inr off ↦ absurd (some_none index (rw off at h))
+]
 
 -- no zone begins before the first
 begins_from : (begin : ℕ) (zones : List Zone) (i : ℕ) (zone : Zone) → AreFollowing begin zones → slice_get zones i ≡ Some zone → begin ≤ zone.first
@@ -112,8 +113,9 @@ pub some_zone : (begin : ℕ) (zones : List Zone) (cylinder : ℕ) → AreFollow
 some_zone begin [] cylinder follow from below = absurd (omega arith)
 some_zone begin (zone ∷ []) cylinder follow from below = record { index = 0; zone = zone; at = refl; from = omega (arith, follow.0); upto = omega arith }
 some_zone begin (zone ∷ other ∷ zones) cylinder follow from below = elim (cases_lt zone.last cylinder) [
-    | inl behind ↦ let rest = some_zone (zone.last + 1) (other ∷ zones) cylinder follow.2 (omega arith) below in record { index = suc rest.index; zone = rest.zone; at = rest.at; from = rest.from; upto = rest.upto }
-    | inr here ↦ record { index = 0; zone = zone; at = refl; from = omega (arith, follow.0); upto = here } ]
+  | inl behind ↦ let rest = some_zone (zone.last + 1) (other ∷ zones) cylinder follow.2 (omega arith) below in record { index = suc rest.index; zone = rest.zone; at = rest.at; from = rest.from; upto = rest.upto }
+  | inr here ↦ record { index = 0; zone = zone; at = refl; from = omega (arith, follow.0); upto = here }
+]
 
 -- the places of a zone's cylinders are those of the disk's
 zone_by_cylinder : (disk : Shape) (zone : Zone) (zones : List Zone) → flat_map (list_among disk (zone ∷ zones)) (range_with_len zone.first (zone.last + 1 - zone.first)) ≡ zone_places disk zone

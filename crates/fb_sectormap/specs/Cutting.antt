@@ -1,15 +1,18 @@
 -- A range cut into blocks that each pass whole on one track.
-use Rattle.std.specs.Prelude.{ℕ, zero, suc, ◌+◌, ◌-◌, ◌%◌, List, [], ◌∷◌, Bool, ◌||◌, not, ◌==◌, nat_lt, if◌then◌else◌}
+use Rattle.std.specs.Prelude.{ℕ, zero, suc, ◌+◌, ◌-◌, ◌%◌, List, [], ◌∷◌, Bool, ◌&&◌, ◌||◌, not, ◌==◌, nat_lt, if◌then◌else◌}
+use Rattle.fb_units.specs.declared.types.Place.{Place}
 use Rattle.fb_units.specs.Tracks.{same_track}
 use Rattle.fb_geometry.specs.Shape.{Shape, turn_position}
 use Rattle.fb_sectormap.specs.declared.cut.Cut.{Cut}
 use Rattle.fb_sectormap.specs.Lookup.{place_at, track_at}
 
--- a block begins here: at a multiple of the block size, on another track, or not further on in the track's turn
+-- a place comes by later in the same turn of the same track
+abbrev pub is_later : Shape → Place → Place → Bool
+is_later disk before place = same_track before.track place.track && nat_lt (turn_position disk before) (turn_position disk place)
+
+-- a block begins here: at a multiple of the block size, or where the turn of the sector before doesn't go on
 abbrev pub is_cut_before : Shape → ℕ → ℕ → Bool
-is_cut_before disk block lbn = (lbn % block == 0)
-    || not (same_track (track_at disk (lbn - 1)) (track_at disk lbn))
-    || not (nat_lt (turn_position disk (place_at disk (lbn - 1))) (turn_position disk (place_at disk lbn)))
+is_cut_before disk block lbn = (lbn % block == 0) || not (is_later disk (place_at disk (lbn - 1)) (place_at disk lbn))
 
 -- a sector before blocks that begin behind it
 abbrev pub with_sector : Shape → ℕ → ℕ → List Cut → List Cut

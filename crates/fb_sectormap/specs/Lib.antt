@@ -1,3 +1,4 @@
 pub mod Lookup
 pub mod Cutting
 pub mod Cylinders
+pub mod Worked

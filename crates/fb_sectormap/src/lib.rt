@@ -8,6 +8,8 @@
 mod cut;
 mod map;
 mod numbering;
+mod worked;
 
 pub use cut::Cut;
 pub use map::SectorMap;
+pub use worked::small_disks;

@@ -108,6 +108,13 @@ impl SectorMap {
         let _geometry = &self.geometry;
     }
 
+    // The numbers of sectors are small.
+    pub(crate) fn few_sectors(&self)
+        ensures { length (places self.now) ≤ 10 ^ 12 }
+    {
+        let _geometry = &self.geometry;
+    }
+
     // A sector by its cylinder.
     fn by_cylinder(&self, lbn: u64) -> CylinderSector
         requires { lbn < length (places self.now) }

@@ -1,4 +1,4 @@
-use Rattle.std.proofs.Common.{◌≡◌, ℕ, ap, sym, ◌∙◌, arith, subst, Some}
+use Rattle.std.proofs.Common.{◌≡◌, ℕ, arith, subst, Some}
 use Rattle.std.specs.Prelude.{slice_get}
 use Rattle.fb_geometry.specs.Shape.{Shape}
 use Rattle.fb_geometry.specs.Places.{data_list_at}
@@ -10,7 +10,7 @@ pub returns-in_err-sector : goal.returns-in_err-sector
 returns-in_err-sector c =
     let disk = c.args.self.now in
     let none : (j : ℕ) → slice_get (data_list_at disk c.args.track.cylinder) j ≡ Some (record { track = c.args.track; slot = c.args.slot }) → ⊥ =
-        subst (λ (d : Shape). (j : ℕ) → slice_get (data_list_at d c.args.track.cylinder) j ≡ Some (record { track = c.args.track; slot = c.args.slot }) → ⊥) c.self.view_is c.in_err-sector.ensures in
+    subst (λ (d : Shape). (j : ℕ) → slice_get (data_list_at d c.args.track.cylinder) j ≡ Some (record { track = c.args.track; slot = c.args.slot }) → ⊥) c.self.view_is c.in_err-sector.ensures in
     rw c.from_residual.ensures (record { found = not_placed disk (subst IsSound c.self.view_is c.self.invariant.sound) (record { track = c.args.track; slot = c.args.slot }) none })
 
 pub overflow_add-result : goal.overflow_add-result

@@ -1,7 +1,7 @@
-use Rattle.std.proofs.Common.{◌≡◌, sym, ap, ◌∙◌, arith, subst, ◌<◌}
-use Rattle.fb_geometry.specs.Shape.{Shape, IsTrackOf, slots_at}
+use Rattle.std.proofs.Common.{◌≡◌, sym, arith, subst, ◌<◌}
+use Rattle.fb_geometry.specs.Shape.{Shape, slots_at}
 use Rattle.fb_geometry.specs.Places.{data_list_at}
-use Rattle.fb_geometry.specs.Sound.{IsSound, LiesOn}
+use Rattle.fb_geometry.specs.Sound.{IsSound}
 use Rattle.std.specs.Prelude.{slice_get, Some}
 use Rattle.fb_sectormap.proofs.ByCylinder.{placed, place_is, own-at}
 use Rattle.fb_sectormap.proofs.map.SectorMap.place.Goals as goal

@@ -1,0 +1,91 @@
+-- The first block of a cutting.
+use Rattle.std.proofs.Common.{◌≡◌, ℕ, zero, suc, ◌+◌, ◌-◌, ◌%◌, ◌<◌, ◌≤◌, List, [], ◌∷◌, Bool, true, false, not, refl, ap, sym, ◌∙◌, arith, ◌⊎◌, inl, inr}
+use Rattle.std.specs.Prelude.{◌==◌, nat_lt}
+use Rattle.std.proofs.lemmas.Bool.{and_parts, or_parts, or_from, or_left, or_right, eqb-true, eq-eqb, ne_eqb, cases_lt}
+use Rattle.std.proofs.Math.Nat.{mod-add-mod, mod-eq_of_lt, mod-lt, mod_self}
+use Rattle.fb_units.specs.declared.types.Track.{Track}
+use Rattle.fb_units.specs.Tracks.{same_track}
+use Rattle.fb_geometry.specs.Shape.{Shape, turn_position}
+use Rattle.fb_sectormap.specs.declared.cut.Cut.{Cut}
+use Rattle.fb_sectormap.specs.Lookup.{place_at, track_at}
+use Rattle.fb_sectormap.specs.Cutting.{cutting, with_sector, is_cut_before, is_later}
+
+same_tracks : (a b : Track) → same_track a b ≡ true → a ≡ b
+same_tracks a b h =
+    let parts = and_parts (a.cylinder == b.cylinder) (a.head == b.head) h in
+    ap (λ c. record { cylinder = c; head = a.head }) (eqb-true a.cylinder b.cylinder parts.0) ∙ ap (λ k. record { cylinder = b.cylinder; head = k }) (eqb-true a.head b.head parts.1)
+
+not_true : (b : Bool) → not b ≡ false → b ≡ true
+not_true true h = refl
+not_true false h = sym h
+
+abbrev cut_of : Shape → ℕ → ℕ → Cut
+cut_of disk lbn count = record { lbn = lbn; count = count; track = track_at disk lbn }
+
+-- a sector whose block ends with it
+alone : (disk : Shape) (block lbn : ℕ) (cuts : List Cut) → (cuts ≡ []) ⊎ (is_cut_before disk block (lbn + 1) ≡ true) → with_sector disk block lbn cuts ≡ cut_of disk lbn 1 ∷ cuts
+alone disk block lbn [] h = refl
+alone disk block lbn (cut ∷ cuts) (inl none) = cc
+alone disk block lbn (cut ∷ cuts) (inr here) = rw here refl
+
+-- a sector whose block goes on
+goes_on : (disk : Shape) (block lbn count : ℕ) (cuts : List Cut) → is_cut_before disk block (lbn + 1) ≡ false → with_sector disk block lbn (cut_of disk (lbn + 1) count ∷ cuts) ≡ cut_of disk lbn (count + 1) ∷ cuts
+goes_on disk block lbn count cuts here =
+    let later = not_true (is_later disk (place_at disk (lbn + 1 - 1)) (place_at disk (lbn + 1))) (or_parts ((lbn + 1) % block == 0) (not (is_later disk (place_at disk (lbn + 1 - 1)) (place_at disk (lbn + 1)))) here).1 in
+    let same = same_tracks (track_at disk (lbn + 1 - 1)) (track_at disk (lbn + 1)) (and_parts (same_track (track_at disk (lbn + 1 - 1)) (track_at disk (lbn + 1))) (nat_lt (turn_position disk (place_at disk (lbn + 1 - 1))) (turn_position disk (place_at disk (lbn + 1)))) later).0 in
+    let track : track_at disk (lbn + 1) ≡ track_at disk lbn = sym same ∙ ap (track_at disk) (let back : lbn + 1 - 1 ≡ lbn = omega arith in back) in
+    rw here (ap (λ t. record { lbn = lbn; count = count + 1; track = t } ∷ cuts) track)
+
+ended : (disk : Shape) (block lbn n : ℕ) → (1 < suc n → is_cut_before disk block (lbn + 1) ≡ true) → (cutting disk block (lbn + 1) n ≡ []) ⊎ (is_cut_before disk block (lbn + 1) ≡ true)
+unfolding cutting
+ended disk block lbn zero ends = inl refl
+ended disk block lbn (suc n) ends = inr (ends (omega arith))
+
+-- what begins a list, whatever its numbers are called
+front : (disk : Shape) (block lbn count count' at at' n n' : ℕ) → count ≡ count' → at ≡ at' → n ≡ n'
+    → cut_of disk lbn count ∷ cutting disk block at n ≡ cut_of disk lbn count' ∷ cutting disk block at' n'
+front disk block lbn count count' at at' n n' e f g =
+    ap (λ c. cut_of disk lbn c ∷ cutting disk block at n) e ∙ ap (λ a. cut_of disk lbn count' ∷ cutting disk block a n) f ∙ ap (λ m. cut_of disk lbn count' ∷ cutting disk block at' m) g
+
+pub first_block : (disk : Shape) (block lbn n k : ℕ) → 0 < k → k ≤ n → ((i : ℕ) → 0 < i → i < k → is_cut_before disk block (lbn + i) ≡ false) → (k < n → is_cut_before disk block (lbn + k) ≡ true)
+    → cutting disk block lbn n ≡ record { lbn = lbn; count = k; track = track_at disk lbn } ∷ cutting disk block (lbn + k) (n - k)
+unfolding cutting
+first_block disk block lbn n zero some le on ends = absurd (omega arith)
+first_block disk block lbn zero (suc k) some le on ends = absurd (omega arith)
+first_block disk block lbn (suc n) (suc zero) some le on ends =
+    alone disk block lbn (cutting disk block (lbn + 1) n) (ended disk block lbn n ends)
+    ∙ front disk block lbn 1 1 (lbn + 1) (lbn + 1) n (suc n - 1) refl refl (omega arith)
+first_block disk block lbn (suc n) (suc (suc k)) some le on ends =
+    let rest = first_block disk block (lbn + 1) n (suc k) (omega arith) (omega arith)
+    (λ i more less. ap (is_cut_before disk block) (let next : lbn + 1 + i ≡ lbn + (i + 1) = omega arith in next) ∙ on (i + 1) (omega arith) (omega arith))
+    (λ less. ap (is_cut_before disk block) (let next : lbn + 1 + suc k ≡ lbn + suc (suc k) = omega arith in next) ∙ ends (omega arith)) in
+    ap (with_sector disk block lbn) rest
+    ∙ goes_on disk block lbn (suc k) (cutting disk block (lbn + 1 + suc k) (n - suc k)) (on 1 (omega arith) (omega arith))
+    ∙ front disk block lbn (suc k + 1) (suc (suc k)) (lbn + 1 + suc k) (lbn + suc (suc k)) (n - suc k) (suc n - suc (suc k)) (omega arith) (omega arith) (omega arith)
+
+-- no multiple of the block size comes before the block's end
+inside_block : (block first i : ℕ) → 0 < i → i < block - first % block → ((first + i) % block == 0) ≡ false
+inside_block block first i some less =
+    let small : first % block + i < block = omega arith in
+    let value : (first + i) % block ≡ first % block + i = sym (mod-add-mod first block i) ∙ mod-eq_of_lt small in
+    ne_eqb ((first + i) % block) 0 (λ e. omega arith)
+
+at_block : (block first i : ℕ) → 0 < block → i ≡ block - first % block → ((first + i) % block == 0) ≡ true
+at_block block first i some e =
+    let low : first % block < block = mod-lt first some in
+    let whole : first % block + i ≡ block = omega arith in
+    eq-eqb ((first + i) % block) 0 (sym (mod-add-mod first block i) ∙ (ap (λ n. n % block) whole ∙ mod_self block))
+
+-- the block is as long as the turn goes on, and no longer than the range or up to the next multiple of the block size
+pub first_cut-is : (disk : Shape) (block first count most k : ℕ) → 0 < block → most ≤ count → most ≤ block - first % block → (most < count → most ≡ block - first % block) → 0 < k → k ≤ most
+    → ((i : ℕ) → 0 < i → i < k → is_later disk (place_at disk (first + i - 1)) (place_at disk (first + i)) ≡ true)
+    → (k < most → is_later disk (place_at disk (first + k - 1)) (place_at disk (first + k)) ≡ false)
+    → cutting disk block first count ≡ record { lbn = first; count = k; track = track_at disk first } ∷ cutting disk block (first + k) (count - k)
+first_cut-is disk block first count most k some_block within small whole some bound goes_on ends =
+    first_block disk block first count k some (omega arith)
+    (λ i more less. or_from ((first + i) % block == 0) (not (is_later disk (place_at disk (first + i - 1)) (place_at disk (first + i))))
+    (inside_block block first i more (omega arith)) (ap not (goes_on i more less)))
+    (λ less. elim (cases_lt k most) [
+      | inl early ↦ or_right ((first + k) % block == 0) (not (is_later disk (place_at disk (first + k - 1)) (place_at disk (first + k)))) (ap not (ends early))
+      | inr late ↦ or_left ((first + k) % block == 0) (not (is_later disk (place_at disk (first + k - 1)) (place_at disk (first + k)))) (at_block block first k some_block (omega (arith, whole (omega arith))))
+    ])

@@ -1,0 +1,16 @@
+use Rattle.std.proofs.Common.{◌-◌, ◌%◌, ◌≤◌, arith, ap, ◌∙◌, sym, ◌∷◌, ◌+◌}
+use Rattle.fb_units.specs.declared.types.Place.{Place}
+use Rattle.fb_sectormap.specs.Cutting.{cutting}
+use Rattle.fb_sectormap.proofs.Cutting.{first_cut-is}
+use Rattle.fb_sectormap.proofs.map.SectorMap.first_cut.Goals as goal
+use Rattle.fb_sectormap.proofs.map.SectorMap.first_cut.Goals.{then-count-left, else-count-left}
+
+pub returns-clause-first : goal.returns-clause-first
+returns-clause-first c =
+    let most = c.if-count-left.most in
+    let within : most ≤ c.args.count = elim c.if-count-left.branch [ then-count-left w ↦ omega arith | else-count-left w ↦ omega arith ] in
+    let small : most ≤ c.args.block - c.args.first % c.args.block = elim c.if-count-left.branch [ then-count-left w ↦ omega arith | else-count-left w ↦ omega arith ] in
+    first_cut-is c.args.self.now c.args.block c.args.first c.args.count most c.turn_length.result c.requires.block within small
+    (λ less. elim c.if-count-left.branch [ then-count-left w ↦ omega arith | else-count-left w ↦ omega arith ])
+    c.turn_length.ensures.some c.turn_length.ensures.bound c.turn_length.ensures.goes_on c.turn_length.ensures.ends
+    ∙ ap (λ (p : Place). record { lbn = c.args.first; count = c.turn_length.result; track = p.track } ∷ cutting c.args.self.now c.args.block (c.args.first + c.turn_length.result) (c.args.count - c.turn_length.result)) (sym c.place.ensures.value)
