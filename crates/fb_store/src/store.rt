@@ -1,20 +1,23 @@
 // Who wrote each sector last.
-ghost use Rattle.std.specs.Prelude.{◌≡◌, ℕ, ◌+◌, ◌<◌, ◌≤◌, ◌^◌, length, map, IfOk, OnOk, OnErr};
+ghost use Rattle.std.specs.Prelude.{◌≡◌, ℕ, ◌+◌, ◌<◌, ◌≤◌, ◌^◌, true, false, map, IfOk, OnOk, OnErr};
+ghost use Rattle.std.specs.Ordering.{nat_cmp};
+ghost use Rattle.std.specs.BTreeSet.{contains, IsFromIterResult};
 ghost use Rattle.std.specs.List.{range_with_len, sum_by, AllByRecursion};
-ghost use Rattle.fb_store.specs.Writes.{unwritten, after_write, content_in, is_within};
+ghost use Rattle.fb_store.specs.Writes.{unwritten, after_write, content_in};
 ghost use Rattle.fb_store.specs.Runs.{runs_of, same_content, IsRun, IsLongestRun};
 
+use crate::ranges::{next_begin, write, writer_at};
 use crate::{Content, ContentRun, Contents};
 use fb_units::NoMemory;
-use std::alloc::Global;
+use std::alloc::{AllocError, Global};
+use std::collections::{BTreeMap, BTreeSet};
 use std::marker::Model;
 
 /// What each sector of a disk holds.
 #[derive(Drop)]
 pub struct Store {
-    alloc: Global,
-    latent: Vec<u64>,
-    written: Vec<ContentRun>,
+    latent: BTreeSet<u64>,
+    ranges: BTreeMap<u64, Option<u64>>,
 }
 
 impl Model for Store {
@@ -22,7 +25,7 @@ impl Model for Store {
 
     ghost Value = { Holding };
 
-    ghost view = { λ s. record { latent = s.latent.items; written = s.written.items } };
+    ghost view = { λ s. record { latent = s.latent.keys; ranges = s.ranges.entries } };
 }
 
 impl Store {
@@ -31,9 +34,8 @@ impl Store {
         ensures { IfOk result (λ store. (lbn : ℕ) → content_in store lbn ≡ unwritten latent.now lbn) }
     {
         Ok(Store {
-            alloc,
-            latent: Vec::from_slice(alloc, latent)?,
-            written: Vec::new(alloc),
+            latent: set_of(alloc, latent)?,
+            ranges: BTreeMap::new(alloc),
         })
     }
 
@@ -44,12 +46,10 @@ impl Store {
         ensures ok { OnOk result ((lbn : ℕ) → content_in self.new lbn ≡ after_write first count writer lbn (content_in self.old lbn)) }
         ensures err { OnErr result ((lbn : ℕ) → content_in self.new lbn ≡ content_in self.old lbn) }
     {
-        let written = ContentRun {
-            first,
-            count: count as u64,
-            content: Content::Filled(writer),
-        };
-        self.written.insert(0, written)?;
+        if count == 0 {
+            return Ok(());
+        }
+        write(&mut self.ranges, first, first + count as u64, writer)?;
         Ok(())
     }
 
@@ -57,8 +57,8 @@ impl Store {
     pub fn read(&self, lbn: u64) -> Content
         ensures { result ≡ content_in self.now lbn }
     {
-        match self.written.iter().find(|run| holds(run, lbn)) {
-            Some(run) => run.content,
+        match writer_at(&self.ranges, lbn) {
+            Some(writer) => Content::Filled(writer),
             None => original(&self.latent, lbn),
         }
     }
@@ -98,35 +98,72 @@ impl Store {
         run
     }
 
-    // Some sectors from the first on, before the end, of which one range or none holds all.
+    // Sectors from the first on, before the end, that hold what the first holds: up to the next range, or the next latent sector.
     fn piece_at(&self, first: u64, end: u64) -> ContentRun
         requires { first < end }
         ensures { IsRun (content_in self.now) first end result }
     {
-        let _ = end;
-        ContentRun {
-            first,
-            count: 1,
-            content: self.read(first),
+        let stop = next_begin(&self.ranges, first, end);
+        match writer_at(&self.ranges, first) {
+            Some(writer) => ContentRun {
+                first,
+                count: stop - first,
+                content: Content::Filled(writer),
+            },
+            None => original_piece(&self.latent, first, stop),
         }
     }
 }
 
-// The sector lies in the run.
-fn holds(run: &ContentRun, lbn: u64) -> bool
-    ensures { result ≡ is_within run.now.first run.now.count lbn }
+fn set_of(alloc: Global, latent: &[u64]) -> Result<BTreeSet<u64>, AllocError>
+    ensures { IfOk result (IsFromIterResult nat_cmp latent.now) }
 {
-    run.first <= lbn && lbn - run.first < run.count
+    latent.iter().copied().collect(alloc)
 }
 
 // What a sector holds before any write.
-fn original(latent: &[u64], lbn: u64) -> Content
-    ensures { result ≡ unwritten latent.now lbn }
+fn original(latent: &BTreeSet<u64>, lbn: u64) -> Content
+    ensures { result ≡ unwritten latent.now.keys lbn }
 {
-    if latent.iter().any(|bad| *bad == lbn) {
+    if latent.contains(&lbn) {
         Content::Unreadable
     } else {
         Content::Filled(0)
+    }
+}
+
+// The first latent sector from one on, or the end.
+fn next_latent(latent: &BTreeSet<u64>, first: u64, end: u64) -> u64
+    requires { first < end }
+    ensures from { first ≤ result }
+    ensures within { result ≤ end }
+    ensures is_latent { result < end → contains nat_cmp latent.now result ≡ true }
+    ensures least { (bad : ℕ) → first ≤ bad → bad < result → contains nat_cmp latent.now bad ≡ false }
+{
+    match latent.range(first..).next() {
+        Some(bad) => (*bad).min(end),
+        None => end,
+    }
+}
+
+// The first latent sector, or the sectors up to the next one.
+fn original_piece(latent: &BTreeSet<u64>, first: u64, end: u64) -> ContentRun
+    requires { first < end }
+    ensures { IsRun (unwritten latent.now.keys) first end result }
+{
+    let bad = next_latent(latent, first, end);
+    if bad == first {
+        ContentRun {
+            first,
+            count: 1,
+            content: Content::Unreadable,
+        }
+    } else {
+        ContentRun {
+            first,
+            count: bad - first,
+            content: Content::Filled(0),
+        }
     }
 }
 

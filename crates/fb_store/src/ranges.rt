@@ -1,0 +1,74 @@
+// The ranges of a disk by where they begin, each with its writer if it has one: a range goes on to the next one.
+ghost use Rattle.std.specs.Prelude.{◌≡◌, ℕ, ◌+◌, ◌<◌, ◌≤◌, ◌≢◌, None, Some, OnOk, OnErr};
+ghost use Rattle.std.specs.Ordering.{nat_cmp};
+ghost use Rattle.std.specs.BTreeMap.{get, ContainsKey, IsUnchanged};
+ghost use Rattle.fb_store.specs.Writes.{writer_of};
+
+use fb_units::NoMemory;
+use std::collections::BTreeMap;
+
+/// Who wrote a sector, if it was written.
+pub fn writer_at(ranges: &BTreeMap<u64, Option<u64>>, lbn: u64) -> Option<u64>
+    ensures { result ≡ writer_of (get nat_cmp ranges.now) lbn }
+{
+    match ranges.range(..=lbn).next_back() {
+        Some((_, writer)) => *writer,
+        None => None,
+    }
+}
+
+/// Where the first range after a sector begins, or the end.
+pub fn next_begin(ranges: &BTreeMap<u64, Option<u64>>, lbn: u64, end: u64) -> u64
+    requires { lbn < end }
+    ensures above { lbn < result }
+    ensures within { result ≤ end }
+    ensures least { (begin : ℕ) → ContainsKey nat_cmp ranges.now begin → lbn < begin → result ≤ begin }
+{
+    match ranges.range(lbn + 1..).next() {
+        Some((begin, _)) => (*begin).min(end),
+        None => end,
+    }
+}
+
+/// Makes a range begin at a sector, with the writer that the sector has.
+pub fn cut(ranges: &mut BTreeMap<u64, Option<u64>>, at: u64) -> Result<(), NoMemory>
+    ensures begins { OnOk result (get nat_cmp ranges.new at ≡ Some (writer_of (get nat_cmp ranges.old) at)) }
+    ensures same { (lbn : ℕ) → writer_of (get nat_cmp ranges.new) lbn ≡ writer_of (get nat_cmp ranges.old) lbn }
+{
+    let writer = writer_at(ranges, at);
+    ranges.insert(at, writer)?;
+    Ok(())
+}
+
+/// Takes out all ranges that begin between two sectors.
+pub fn clear_between(ranges: &mut BTreeMap<u64, Option<u64>>, first: u64, end: u64)
+    requires { first < end }
+    ensures inside { (begin : ℕ) → first < begin → begin < end → get nat_cmp ranges.new begin ≡ None }
+    ensures below { (begin : ℕ) → begin ≤ first → get nat_cmp ranges.new begin ≡ get nat_cmp ranges.old begin }
+    ensures above { (begin : ℕ) → end ≤ begin → get nat_cmp ranges.new begin ≡ get nat_cmp ranges.old begin }
+{
+    let mut begin = next_begin(ranges, first, end);
+    while begin < end {
+        ranges.remove(&begin);
+        begin = next_begin(ranges, begin, end);
+    }
+}
+
+/// Gives all sectors from the first on, before the end, to a writer; where memory is wanting no sector changes its writer.
+pub fn write(
+    ranges: &mut BTreeMap<u64, Option<u64>>,
+    first: u64,
+    end: u64,
+    writer: u64,
+) -> Result<(), NoMemory>
+    requires { first < end }
+    ensures inside { OnOk result ((lbn : ℕ) → first ≤ lbn → lbn < end → writer_of (get nat_cmp ranges.new) lbn ≡ Some writer) }
+    ensures before { OnOk result ((lbn : ℕ) → lbn < first → writer_of (get nat_cmp ranges.new) lbn ≡ writer_of (get nat_cmp ranges.old) lbn) }
+    ensures after { OnOk result ((lbn : ℕ) → end ≤ lbn → writer_of (get nat_cmp ranges.new) lbn ≡ writer_of (get nat_cmp ranges.old) lbn) }
+    ensures err { OnErr result ((lbn : ℕ) → writer_of (get nat_cmp ranges.new) lbn ≡ writer_of (get nat_cmp ranges.old) lbn) }
+{
+    cut(ranges, end)?;
+    ranges.insert(first, Some(writer))?;
+    clear_between(ranges, first, end);
+    Ok(())
+}
