@@ -1,5 +1,5 @@
 -- The first of the fewest runs is the longest one at the first sector.
-use Rattle.std.proofs.Common.{◌≡◌, ℕ, ◌+◌, ◌-◌, ◌<◌, ◌≤◌, List, [], ◌∷◌, ◌++◌, refl, true, false, map, Bool, cond, T, arith, sym, ap, ap₂, ◌∙◌, ◌&&◌, ◌==◌, suc, zero, true≢false, eqb→eq, inl, inr, append_assoc, append-nil}
+use Rattle.std.proofs.Common.{◌≡◌, ℕ, ◌+◌, ◌-◌, ◌<◌, ◌≤◌, List, [], ◌∷◌, ◌++◌, refl, true, false, map, Bool, cond, arith, sym, ap, ap₂, ◌∙◌, ◌&&◌, ◌==◌, suc, zero, eqb→eq, inl, inr, append_assoc, append-nil}
 use Rattle.std.specs.List.{range_with_len, sum_by, AllByRecursion}
 use Rattle.std.proofs.lemmas.Bool.Decides.{nat_tests}
 use Rattle.std.proofs.lemmas.List.Sums.{sum_by-cons}
@@ -7,6 +7,7 @@ use Rattle.std.proofs.lemmas.Bool.{cases_lt}
 use Rattle.fb_store.specs.declared.content.Content.{Content}
 use Rattle.fb_store.specs.declared.content.Content.TheVariants.{Filled, Unreadable}
 use Rattle.fb_store.specs.declared.content.ContentRun.{ContentRun}
+use Rattle.fb_store.proofs.Runs.{so, left, is_same, joined}
 use Rattle.fb_store.specs.Runs.{same_content, with_content, runs_of, IsRun, IsLongestRun}
 
 -- n sectors from the first on, each with its content
@@ -15,10 +16,6 @@ held content_of first n = map (λ lbn. (lbn, content_of lbn)) (range_with_len fi
 
 abbrev run_of : ℕ → ℕ → Content → ContentRun
 run_of first count content = record { first = first; count = count; content = content }
-
--- either of what a sector before runs can give
-abbrev joined : Bool → ℕ → Content → ContentRun → List ContentRun → List ContentRun
-joined b lbn content run runs = cond b (run_of lbn (run.count + 1) content ∷ runs) (run_of lbn 1 content ∷ run ∷ runs)
 
 not_joined : (a b : Bool) (x y : List ContentRun) → b ≡ false → cond (a && b) x y ≡ y
 not_joined true b x y e = rw e refl
@@ -121,14 +118,6 @@ ends_joined : (b : Bool) (lbn bound : ℕ) (content : Content) (run : ContentRun
 ends_joined true lbn bound content run runs at within all = let place = at refl in let here = all.0 in (omega arith, all.1)
 ends_joined false lbn bound content run runs at within all = (omega arith, all)
 
-so : (b : Bool) → b ≡ true → T b
-so true p = tt
-so false p = absurd (true≢false (sym p))
-
-left : (a b : Bool) → (a && b) ≡ true → a ≡ true
-left true b p = refl
-left false b p = p
-
 ends_with : (lbn bound : ℕ) (content : Content) (runs : List ContentRun) → lbn + 1 ≤ bound
     → AllByRecursion (λ run. run.first + run.count ≤ bound) runs → AllByRecursion (λ run. run.first + run.count ≤ bound) (with_content lbn content runs)
 ends_with lbn bound content [] within all = (within, tt)
@@ -141,12 +130,6 @@ pub ends-runs_of-held : (content_of : ℕ → Content) (first n bound : ℕ) →
 ends-runs_of-held content_of first zero bound within = tt
 ends-runs_of-held content_of first (suc n) bound within =
     ends_with first bound (content_of first) (runs_of (held content_of (first + 1) n)) (omega arith) (ends-runs_of-held content_of (first + 1) n bound (omega arith))
-
-is_same : (a b : Content) → same_content a b ≡ true → a ≡ b
-is_same (Filled a) (Filled b) p = ap Filled (eqb→eq a b (so (a == b) p))
-is_same (Filled a) Unreadable p = absurd (true≢false (sym p))
-is_same Unreadable (Filled b) p = absurd (true≢false (sym p))
-is_same Unreadable Unreadable p = refl
 
 -- a run and one of its content after it are one run
 pub IsRun-joined : (content_of : ℕ → Content) (first end : ℕ) (run next : ContentRun) → IsRun content_of first end run → IsRun content_of (run.first + run.count) end next

@@ -23,11 +23,11 @@ AreFewest [] = Unit {0}
 AreFewest (run ∷ []) = Unit {0}
 AreFewest (run ∷ next ∷ runs) = (joins run next ≡ false) × AreFewest (next ∷ runs)
 
-so : (b : Bool) → b ≡ true → T b
+pub so : (b : Bool) → b ≡ true → T b
 so true p = tt
 so false p = absurd (true≢false (sym p))
 
-left : (a b : Bool) → (a && b) ≡ true → a ≡ true
+pub left : (a b : Bool) → (a && b) ≡ true → a ≡ true
 left true b p = refl
 left false b p = p
 
@@ -35,13 +35,14 @@ right : (a b : Bool) → (a && b) ≡ true → b ≡ true
 right true b p = p
 right false b p = absurd (true≢false (sym p))
 
-is_same : (a b : Content) → same_content a b ≡ true → a ≡ b
+pub is_same : (a b : Content) → same_content a b ≡ true → a ≡ b
 is_same (Filled a) (Filled b) p = ap Filled (eqb→eq a b (so (a == b) p))
 is_same (Filled a) Unreadable p = absurd (true≢false (sym p))
 is_same Unreadable (Filled b) p = absurd (true≢false (sym p))
 is_same Unreadable Unreadable p = refl
 
-abbrev joined : Bool → ℕ → Content → ContentRun → List ContentRun → List ContentRun
+-- either of what a sector before runs can give
+abbrev pub joined : Bool → ℕ → Content → ContentRun → List ContentRun → List ContentRun
 joined b lbn content run runs = cond b (record { first = lbn; count = run.count + 1; content = content } ∷ runs) (record { first = lbn; count = 1; content = content } ∷ run ∷ runs)
 
 longer : (lbn n : ℕ) → range_with_len lbn (n + 1) ≡ lbn ∷ range_with_len (lbn + 1) n
