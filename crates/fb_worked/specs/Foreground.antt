@@ -18,7 +18,10 @@ read arrival lbn count = record { name = Traced 1; arrival = arrival; lbn = lbn;
 abbrev pub run_of : Disk → List Request → Run
 run_of disk trace = record {
   fore = fore_rows (record { disk = disk; latent = []; trace = trace; passed_over = 0; calls = []; key = fcfs; until = 0 });
-  back = []; passed_over = 0; end = 0 }
+  back = [];
+  passed_over = 0;
+  end = 0;
+}
 
 abbrev pub text_of : Disk → List Request → List ℕ
 text_of disk trace = fore_text 16 Dump (run_of disk trace)
@@ -34,7 +37,7 @@ ReadTooLate = text_of small_disk (read 501 5 1 ∷ []) ≡ codes "freeblock fore
 
 abbrev pub ReadOverTracks : Type 0
 ReadOverTracks = text_of small_disk (read 0 11 2 ∷ [])
-  ≡ codes "freeblock fore 1\n1 R 11 2 0 0 1100 2500 0 0000000000000000000000000000000b0000000000000000000000000000000c\nend 1 0\n"
+    ≡ codes "freeblock fore 1\n1 R 11 2 0 0 1100 2500 0 0000000000000000000000000000000b0000000000000000000000000000000c\nend 1 0\n"
 
 abbrev pub ReadOfUnevenSlots : Type 0
 ReadOfUnevenSlots = text_of uneven_disk (read 0 3 1 ∷ []) ≡ codes "freeblock fore 1\n1 R 3 1 0 0 514 685 0 00000000000000000000000000000003\nend 1 0\n"

@@ -13,5 +13,4 @@ pub fn foreground_texts()
     ensures over_tracks { ReadOverTracks }
     ensures uneven { ReadOfUnevenSlots }
     ensures empty { ReadOfNothing }
-{
-}
+{}
