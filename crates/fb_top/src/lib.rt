@@ -11,5 +11,8 @@ mod reading;
 mod streams;
 mod writing;
 
+#[cfg(test)]
+mod tests;
+
 pub use command::run_command;
 pub use outcome::{Outcome, status};
