@@ -1,26 +1,24 @@
 -- No place stands twice among the places of an accepted outline, and none that is bad.
-use Rattle.std.proofs.Common.{◌≡◌, ◌≢◌, ℕ, zero, suc, ◌+◌, ◌-◌, ◌*◌, ◌<◌, ◌≤◌, List, [], ◌∷◌, ◌++◌, length, refl, ap, sym, ◌∙◌, arith, Bool, true, false, not, cond, Option, Some, None, ◌⊎◌, inl, inr, map, subst, take, drop}
+use Rattle.std.proofs.Common.{◌≡◌, ◌≢◌, ℕ, zero, suc, ◌+◌, ◌-◌, ◌*◌, ◌<◌, ◌≤◌, List, [], ◌∷◌, ◌++◌, refl, ap, sym, ◌∙◌, arith, Bool, true, false, not, cond, Some, None, map, subst, take, drop}
 use Rattle.std.specs.Prelude.{filter, slice_get}
 use Rattle.std.specs.List.{AllByRecursion, flat_map, range_with_len}
-use Rattle.std.proofs.lemmas.Bool.{cases_Bool, cases_lt, true≢false}
 use Rattle.std.proofs.lemmas.Option.{same_Some, none-some}
 use Rattle.std.proofs.lemmas.List.{take-append-drop}
 use Rattle.fb_units.specs.declared.types.Place.{Place}
-use Rattle.fb_units.specs.declared.types.Track.{Track}
 use Rattle.fb_geometry.specs.declared.layout.Layout.{Layout}
 use Rattle.fb_geometry.specs.declared.layout.Layout.TheVariants.{PerTrack, PerCylinder}
 use Rattle.fb_geometry.specs.declared.zone.Zone.{Zone}
 use Rattle.fb_geometry.specs.Shape.{Shape, is_among, offset_in}
 use Rattle.fb_geometry.specs.Places.{places, turn, zone_places, data_list, data_list_by, per_track, per_cylinder, good_track, by_head, replaced, stand_in}
 use Rattle.fb_geometry.specs.Faults.{first_apart}
-use Rattle.fb_geometry.specs.Turns.{IsZoneAt, slot_at, cylinder_slots, position_in}
+use Rattle.fb_geometry.specs.Turns.{slot_at, cylinder_slots, position_in}
 use Rattle.fb_geometry.specs.Slips.{indexes}
 use Rattle.fb_geometry.specs.Sound.{IsCylinderOf, LiesOn, HasOwnPlaces}
 use Rattle.fb_geometry.specs.Index.{IsFaultless}
 use Rattle.fb_geometry.proofs.Turns.{good_track-is, good_cylinder-is, position_in-slot_at}
 use Rattle.fb_geometry.proofs.Faultless.{all_get, next, zones_from, zone_by_bounds, ranges_of}
 use Rattle.fb_geometry.proofs.Lookups.{index_by_track, index_by_cylinder, spares_by, some_by_track}
-use Rattle.fb_geometry.proofs.Laws.{all-append, all-filter, all-take, all-drop, all-range, all-parts, all-replaced, list_lies_on, has_spares}
+use Rattle.fb_geometry.proofs.Laws.{all-append, all-filter, all-take, all-range, all-parts, all-replaced, list_lies_on, has_spares}
 
 -- each element differs from all that follow
 abbrev pub Distinct : {A : Type 0} → List A → Type 0

@@ -6,6 +6,8 @@ mod geometry;
 mod layout;
 mod marks;
 mod outline;
+#[cfg(test)]
+mod tests;
 mod zone;
 
 pub use fault::{GeometryError, GeometryFault};
