@@ -14,3 +14,4 @@ pub mod Indexing
 pub mod Judging
 pub mod Once
 pub mod Rotation
+pub mod Stretched

@@ -7,3 +7,4 @@ pub mod Slips
 pub mod Marks
 pub mod Index
 pub mod Turns
+pub mod Stretches

@@ -192,7 +192,7 @@ impl Geometry {
     }
 
     // The zone of a cylinder.
-    fn zone_of(&self, cylinder: u32) -> Zone
+    pub(crate) fn zone_of(&self, cylinder: u32) -> Zone
         requires { cylinder < cylinders_of self.now.zones }
         ensures zone { IsZoneAt self.now cylinder result }
         ensures slots { slots_at self.now.zones cylinder ≡ result.sectors }
@@ -372,7 +372,7 @@ impl Geometry {
     }
 
     // The defects of a cylinder, by their positions.
-    fn defects_on(&self, zone: Zone, cylinder: u32) -> &[Mark]
+    pub(crate) fn defects_on(&self, zone: Zone, cylinder: u32) -> &[Mark]
         requires { IsZoneAt self.now cylinder zone }
         ensures marks { positions result.now ≡ indexes (is_among self.now.defects) 0 (cylinder_slots zone self.now.heads cylinder) }
         ensures ascending { IsAscending (positions result.now) }
@@ -382,7 +382,7 @@ impl Geometry {
     }
 
     // The grown defects of a cylinder, by their indexes among its good slots.
-    fn grown_on(&self, zone: Zone, cylinder: u32) -> &[Mark]
+    pub(crate) fn grown_on(&self, zone: Zone, cylinder: u32) -> &[Mark]
         requires { IsZoneAt self.now cylinder zone }
         ensures marks { positions result.now ≡ indexes (is_among self.now.grown) 0 (by_head self.now cylinder (good_track self.now zone)) }
         ensures ascending { IsAscending (positions result.now) }

@@ -6,6 +6,7 @@ mod geometry;
 mod layout;
 mod marks;
 mod outline;
+mod stretch;
 #[cfg(test)]
 mod tests;
 mod zone;
@@ -13,4 +14,5 @@ mod zone;
 pub use fault::{GeometryError, GeometryFault};
 pub use geometry::Geometry;
 pub use layout::Layout;
+pub use stretch::Stretch;
 pub use zone::Zone;

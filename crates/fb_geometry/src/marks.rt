@@ -1,5 +1,5 @@
 // Marked positions of cylinders: bad slots, counted in the order in which they come by.
-ghost use Rattle.std.specs.Prelude.{◌≡◌, ◌+◌, ◌<◌, ◌≤◌, ◌^◌, ◌==◌, [], ◌-◌, IfNone, IfSome, IfOk, length, map};
+ghost use Rattle.std.specs.Prelude.{◌≡◌, ℕ, true, false, ◌+◌, ◌<◌, ◌≤◌, ◌^◌, ◌==◌, [], ◌-◌, IfNone, IfSome, IfOk, length, map};
 ghost use Rattle.std.specs.List.{list_any};
 ghost use Rattle.fb_geometry.specs.Slips.{IsAscending, rank, slipped, entry_of_sector, HoldsNone, HoldsSector};
 ghost use Rattle.fb_geometry.specs.Marks.{AreInOrder, positions, marks_on, clash_at, among_unmarked};
@@ -84,6 +84,21 @@ pub fn unmarked_before(marks: &[Mark], position: u32) -> u32
     ensures { result ≡ position - rank position (positions marks.now) }
 {
     position - rank(marks, position)
+}
+
+// How many positions from this one on come before the next marked one, or before the end.
+pub fn unmarked_from(marks: &[Mark], position: u32, end: u32) -> u32
+    requires ascending { IsAscending (positions marks.now) }
+    requires order { position ≤ end }
+    ensures bound { position + result ≤ end }
+    ensures free { (q : ℕ) → position ≤ q → q < position + result → list_any (λ other. other == q) (positions marks.now) ≡ false }
+    ensures ends { position + result < end → list_any (λ other. other == position + result) (positions marks.now) ≡ true }
+{
+    let next = rank(marks, position) as usize;
+    if next == marks.len() {
+        return end - position;
+    }
+    marks[next].position.min(end) - position
 }
 
 // Whether a position of the cylinder is marked.
