@@ -3,3 +3,4 @@ pub mod Read
 pub mod Done
 pub mod Causes
 pub mod Status
+pub mod Notes

@@ -5,6 +5,9 @@
 #![tactic(auto)]
 
 mod command;
+mod note;
+mod note_faults;
+mod note_words;
 mod outcome;
 mod policy;
 mod reading;
@@ -15,4 +18,5 @@ mod writing;
 mod tests;
 
 pub use command::run_command;
+pub use note::note_text;
 pub use outcome::{Outcome, status};

@@ -1,0 +1,78 @@
+// The line that says why there is no report.
+ghost use Rattle.std.specs.Prelude.{◌≡◌, ◌++◌, IfOk, OnOk};
+ghost use Rattle.fb_top.specs.Notes.{cause_text, input_text, note_of, output_text};
+
+use crate::Outcome;
+use crate::note_faults::{push_params_fault, push_trace_reason, push_usage_reason};
+use crate::note_words::{push_numbered, push_words};
+use fb_desk::{Input, Output};
+use fb_units::NoMemory;
+use std::alloc::Global;
+
+/// The line that says why a command has no report; it ends in a line feed. Where there is a
+/// report it is empty.
+pub fn note_text(alloc: Global, outcome: &Outcome) -> Result<Vec<u8>, NoMemory>
+    ensures { IfOk result (λ text. text.items ≡ note_of outcome.now) }
+{
+    let mut text = Vec::new(alloc);
+    match outcome {
+        Outcome::Done(_) => Ok(text),
+        _ => {
+            push_words(&mut text, "freeblock: ")?;
+            push_cause(&mut text, outcome)?;
+            text.push(b'\n')?;
+            Ok(text)
+        }
+    }
+}
+
+// Adds why there is no report.
+fn push_cause(text: &mut Vec<u8>, outcome: &Outcome) -> Result<(), NoMemory>
+    ensures { OnOk result (text.new.items ≡ text.old.items ++ cause_text outcome.now) }
+{
+    match outcome {
+        Outcome::Done(_) => Ok(()),
+        Outcome::Usage(fault) => {
+            push_numbered(text, "usage: word ", u64::from(fault.place))?;
+            push_usage_reason(text, fault.reason)
+        }
+        Outcome::Params(fault) => {
+            push_words(text, "params: ")?;
+            push_params_fault(text, fault)
+        }
+        Outcome::Trace(fault) => {
+            push_numbered(text, "trace: line ", fault.line)?;
+            push_trace_reason(text, fault.reason)
+        }
+        Outcome::TooLong(input) => push_input(text, "too long: ", *input),
+        Outcome::ReadFault(input) => push_input(text, "read fault: ", *input),
+        Outcome::WriteFault(output) => push_output(text, "write fault: ", *output),
+        Outcome::NoMemory => push_words(text, "no memory"),
+    }
+}
+
+// Adds what befell an input.
+fn push_input(text: &mut Vec<u8>, what: &str, input: Input) -> Result<(), NoMemory>
+    ensures { OnOk result (text.new.items ≡ text.old.items ++ (what.now ++ input_text input)) }
+{
+    push_words(text, what)?;
+    match input {
+        Input::Params => push_words(text, "params"),
+        Input::Trace => push_words(text, "trace"),
+        Input::Calls => push_words(text, "calls"),
+    }
+}
+
+// Adds what befell an output.
+fn push_output(text: &mut Vec<u8>, what: &str, output: Output) -> Result<(), NoMemory>
+    ensures { OnOk result (text.new.items ≡ text.old.items ++ (what.now ++ output_text output)) }
+{
+    push_words(text, what)?;
+    match output {
+        Output::Fore => push_words(text, "fore"),
+        Output::Back => push_words(text, "back"),
+        Output::Note => push_words(text, "note"),
+        Output::MadeTrace => push_words(text, "trace"),
+        Output::MadeCalls => push_words(text, "calls"),
+    }
+}

@@ -1,0 +1,96 @@
+// Words and values of a note.
+ghost use Rattle.std.specs.Prelude.{◌≡◌, ◌++◌, decimal, OnOk};
+ghost use Rattle.fb_top.specs.Notes.{numbered, place_text, track_text, valued};
+
+use fb_units::{KeyText, NoMemory, Place, Track};
+use itoa::Buffer;
+
+// Adds words.
+pub fn push_words(text: &mut Vec<u8>, words: &str) -> Result<(), NoMemory>
+    ensures { OnOk result (text.new.items ≡ text.old.items ++ words.now) }
+{
+    text.extend_from_slice(words.as_bytes())?;
+    Ok(())
+}
+
+// Adds a number in decimal digits.
+fn push_number(text: &mut Vec<u8>, number: u64) -> Result<(), NoMemory>
+    ensures { OnOk result (text.new.items ≡ text.old.items ++ decimal number) }
+{
+    let mut buffer = Buffer::new();
+    text.extend_from_slice(buffer.format(number).as_bytes())?;
+    Ok(())
+}
+
+// Adds which word or line it is.
+pub fn push_numbered(text: &mut Vec<u8>, what: &str, number: u64) -> Result<(), NoMemory>
+    ensures { OnOk result (text.new.items ≡ text.old.items ++ numbered what.now number) }
+{
+    push_words(text, what)?;
+    push_number(text, number)?;
+    push_words(text, ": ")
+}
+
+// Adds a key as it is.
+fn push_key(text: &mut Vec<u8>, key: &KeyText) -> Result<(), NoMemory>
+    ensures { OnOk result (text.new.items ≡ text.old.items ++ key.now) }
+{
+    for i in 0..key.len() {
+        text.push(*key.get(i))?;
+    }
+    Ok(())
+}
+
+// Adds a track.
+fn push_track(text: &mut Vec<u8>, track: Track) -> Result<(), NoMemory>
+    ensures { OnOk result (text.new.items ≡ text.old.items ++ track_text track) }
+{
+    push_number(text, u64::from(track.cylinder))?;
+    text.push(b'.')?;
+    push_number(text, u64::from(track.head))
+}
+
+// Adds a place.
+fn push_place(text: &mut Vec<u8>, place: Place) -> Result<(), NoMemory>
+    ensures { OnOk result (text.new.items ≡ text.old.items ++ place_text place) }
+{
+    push_track(text, place.track)?;
+    text.push(b'.')?;
+    push_number(text, u64::from(place.slot))
+}
+
+// Adds a reason that carries a number.
+pub fn push_with_number(text: &mut Vec<u8>, name: &str, number: u64) -> Result<(), NoMemory>
+    ensures { OnOk result (text.new.items ≡ text.old.items ++ valued name.now (decimal number)) }
+{
+    push_words(text, name)?;
+    text.push(b' ')?;
+    push_number(text, number)
+}
+
+// Adds a reason that carries a key.
+pub fn push_with_key(text: &mut Vec<u8>, name: &str, key: &KeyText) -> Result<(), NoMemory>
+    ensures { OnOk result (text.new.items ≡ text.old.items ++ valued name.now key.now) }
+{
+    push_words(text, name)?;
+    text.push(b' ')?;
+    push_key(text, key)
+}
+
+// Adds a reason that carries a track.
+pub fn push_with_track(text: &mut Vec<u8>, name: &str, track: Track) -> Result<(), NoMemory>
+    ensures { OnOk result (text.new.items ≡ text.old.items ++ valued name.now (track_text track)) }
+{
+    push_words(text, name)?;
+    text.push(b' ')?;
+    push_track(text, track)
+}
+
+// Adds a reason that carries a place.
+pub fn push_with_place(text: &mut Vec<u8>, name: &str, place: Place) -> Result<(), NoMemory>
+    ensures { OnOk result (text.new.items ≡ text.old.items ++ valued name.now (place_text place)) }
+{
+    push_words(text, name)?;
+    text.push(b' ')?;
+    push_place(text, place)
+}
