@@ -4,3 +4,4 @@ pub mod Done
 pub mod Causes
 pub mod Status
 pub mod Notes
+pub mod Noted

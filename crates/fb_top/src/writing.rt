@@ -1,12 +1,15 @@
-// The foreground report, written line by line.
+// The foreground report, written line by line, and the note.
 ghost use Rattle.std.specs.Prelude.{◌≡◌, ◌%◌, ◌+◌, ◌<◌, true, false, length, codes, IfErr, IfSome, OnOk, OnErr};
 ghost use Rattle.std.specs.List.{AllByRecursion};
 ghost use Rattle.fb_rows.specs.Ranges.{HasRanges};
 ghost use Rattle.fb_report.specs.Fore.{fore_text};
 ghost use Rattle.fb_desk.specs.Calls.{ChangesOutput};
 ghost use Rattle.fb_top.specs.Causes.{StopsFore};
+ghost use Rattle.fb_top.specs.Noted.{LeavesNote, TellsNote};
+ghost use Rattle.fb_top.specs.Notes.{note_of};
 
 use crate::Outcome;
+use crate::note::note_text;
 use crate::streams::write_whole;
 use fb_desk::{Desk, Failed, Output};
 use fb_report::{Bytes, fore_piece, fore_pieces};
@@ -45,4 +48,32 @@ pub fn write_fore<D: Desk>(
         }
     }
     Ok(())
+}
+
+// Writes the note of an outcome, if it has one, under the name `-`. Where that fails, or memory is
+// wanting, the note is left as it is.
+pub fn write_note<D: Desk>(alloc: Global, desk: &mut D, outcome: &Outcome)
+    requires { ((D.seen desk.old).outputs Output.Note).begun ≡ false }
+    ensures only { ChangesOutput Output.Note (D.seen desk.old) (D.seen desk.new) }
+    ensures note { LeavesNote outcome.now ((D.seen desk.old).outputs Output.Note) ((D.seen desk.new).outputs Output.Note) }
+{
+    match outcome {
+        Outcome::Done(_) => {}
+        _ => begin_note(alloc, desk, outcome),
+    }
+}
+
+// Begins the note and writes its text.
+fn begin_note<D: Desk>(alloc: Global, desk: &mut D, outcome: &Outcome)
+    requires { ((D.seen desk.old).outputs Output.Note).begun ≡ false }
+    ensures only { ChangesOutput Output.Note (D.seen desk.old) (D.seen desk.new) }
+    ensures note { TellsNote (note_of outcome.now) ((D.seen desk.old).outputs Output.Note) ((D.seen desk.new).outputs Output.Note) }
+{
+    let Ok(()) = desk.begin_output(Output::Note, "-") else {
+        return;
+    };
+    let Ok(text) = note_text(alloc, outcome) else {
+        return;
+    };
+    let _ = write_whole(desk, Output::Note, text.as_slice());
 }
