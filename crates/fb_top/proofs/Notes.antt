@@ -50,6 +50,9 @@ pub note_written : {T E : Type 0} (result : Result T E) (first old new : OutputV
 note_written (Ok x) first old new text line empty is whole front rose = whole_note first new old.written new.written text line empty is whole
 note_written (Err e) first old new text line empty is whole front rose = cut_note first new old.written new.written text line empty is front rose
 
+pub note_is_other : Note ≢ Fore
+note_is_other e = cc
+
 fore_is_other : Fore ≢ Note
 fore_is_other e = cc
 

@@ -1,16 +1,17 @@
 // The top call.
-ghost use Rattle.std.specs.Prelude.{◌≤◌, ◌^◌, map};
+ghost use Rattle.std.specs.Prelude.{◌≡◌, ◌≤◌, ◌^◌, map};
 ghost use Rattle.std.specs.String.{string_bytes};
 ghost use Rattle.fb_desk.specs.View.{IsUnused};
 ghost use Rattle.fb_words.specs.Command.{command_of, if_built};
 ghost use Rattle.fb_words.specs.Verdict.{replay_terms};
 ghost use Rattle.fb_top.specs.Causes.{AnswersWords, HasCause};
+ghost use Rattle.fb_top.specs.Noted.{LeavesNote};
 
 use crate::Outcome;
 use crate::policy::replay_by;
 use crate::reading::{read_disk, read_requests};
-use crate::writing::write_fore;
-use fb_desk::Desk;
+use crate::writing::{write_fore, write_note};
+use fb_desk::{Desk, Output};
 use fb_units::NoMemory;
 use fb_words::{Command, ReplayWords, WordsError, read_words};
 use std::alloc::Global;
@@ -19,10 +20,23 @@ use std::alloc::Global;
 ///
 /// A replay reads the parameter file whole, then the trace, each once, and nothing is written
 /// before both are accepted. Then the foreground report goes to the output `Fore`, under the name
-/// `-`. The desk must be unused.
+/// `-`. Where there is no report, a line that says why goes to the output `Note`, under the name
+/// `-`; whether it is written changes nothing in the outcome. The desk must be unused.
 pub fn run_command<D: Desk>(alloc: Global, desk: &mut D, words: &[String]) -> Outcome
     requires { IsUnused (D.seen desk.old) }
-    ensures { AnswersWords (if_built (command_of (map string_bytes words.now))) (D.seen desk.old) (D.seen desk.new) result }
+    ensures answers { AnswersWords (if_built (command_of (map string_bytes words.now))) (D.seen desk.old) (D.seen desk.new) result }
+    ensures note { LeavesNote result ((D.seen desk.old).outputs Output.Note) ((D.seen desk.new).outputs Output.Note) }
+{
+    let outcome = answer_words(alloc, desk, words);
+    write_note(alloc, desk, &outcome);
+    outcome
+}
+
+// Does what the words ask for, and writes no note.
+fn answer_words<D: Desk>(alloc: Global, desk: &mut D, words: &[String]) -> Outcome
+    requires { IsUnused (D.seen desk.old) }
+    ensures answers { AnswersWords (if_built (command_of (map string_bytes words.now))) (D.seen desk.old) (D.seen desk.new) result }
+    ensures no_note { (D.seen desk.new).outputs Output.Note ≡ (D.seen desk.old).outputs Output.Note }
 {
     match read_words(alloc, words) {
         Ok(Command::Replay(words)) => run_replay(alloc, desk, &words),
@@ -36,7 +50,8 @@ pub fn run_command<D: Desk>(alloc: Global, desk: &mut D, words: &[String]) -> Ou
 fn run_replay<D: Desk>(alloc: Global, desk: &mut D, words: &ReplayWords) -> Outcome
     requires unused { IsUnused (D.seen desk.old) }
     requires until { words.now.until ≤ 10 ^ 15 }
-    ensures { HasCause (replay_terms words.now) (D.seen desk.old) (D.seen desk.new) result }
+    ensures cause { HasCause (replay_terms words.now) (D.seen desk.old) (D.seen desk.new) result }
+    ensures no_note { (D.seen desk.new).outputs Output.Note ≡ (D.seen desk.old).outputs Output.Note }
 {
     let params = match read_disk(alloc, desk, words.params.as_str()) {
         Ok(params) => params,

@@ -1,16 +1,17 @@
 use Rattle.std.proofs.Common.{◌≡◌, ◌∙◌, List, ℕ, refl, sym, ap, subst, length}
 use Rattle.fb_words.specs.Verdict.{replay_terms}
-use Rattle.fb_desk.specs.declared.desk.Output.TheVariants.{Fore}
+use Rattle.fb_desk.specs.declared.desk.Output.TheVariants.{Fore, Note}
 use Rattle.fb_geometry.specs.Places.{places}
 use Rattle.fb_trace.specs.Verdict.{accepted}
 use Rattle.fb_top.specs.Read.{ReadsDisk, ReadsTrace}
 use Rattle.fb_top.specs.Causes.{StopsTrace}
 use Rattle.fb_top.specs.Done.{IsRunOf}
 use Rattle.fb_top.proofs.Later.{after_disk, after_run, reads_before, is_accepted}
+use Rattle.fb_top.proofs.Notes.{note_is_other}
 use Rattle.fb_top.proofs.command.run_replay.Goals as goal
 
-pub returns-in-Err-read_requests : goal.returns-in-Err-read_requests
-returns-in-Err-read_requests g c =
+pub returns-in-Err-read_requests-clause-cause : goal.returns-in-Err-read_requests-clause-cause
+returns-in-Err-read_requests-clause-cause g c =
     let old = g.D.Desk.seen c.args.desk.now in
     let mid = g.D.Desk.seen c.read_disk.new.desk in
     let new = g.D.Desk.seen c.read_requests.new.desk in
@@ -26,8 +27,8 @@ replay_by-requires g c = record {
       c.in-Ok.ensures.latent c.in-Ok-read_requests.ensures.servable c.requires.until;
 }
 
-pub returns-in-Ok-write_fore : goal.returns-in-Ok-write_fore
-returns-in-Ok-write_fore g c =
+pub returns-in-Ok-write_fore-clause-cause : goal.returns-in-Ok-write_fore-clause-cause
+returns-in-Ok-write_fore-clause-cause g c =
     let old = g.D.Desk.seen c.args.desk.now in
     let mid = g.D.Desk.seen c.read_disk.new.desk in
     let words = replay_terms c.args.words.now in
@@ -47,8 +48,8 @@ returns-in-Ok-write_fore g c =
       written = c.in-Ok-write_fore.ensures.written;
     }
 
-pub returns : goal.returns
-returns g c =
+pub returns-clause-cause : goal.returns-clause-cause
+returns-clause-cause g c =
     let old = g.D.Desk.seen c.args.desk.now in
     let mid = g.D.Desk.seen c.read_disk.new.desk in
     let late = g.D.Desk.seen c.read_requests.new.desk in
@@ -66,3 +67,9 @@ returns g c =
       plain = record { fore = c.in-Ok-replay_by.ensures.fore; passed_over = c.in-Ok-replay_by.ensures.passed_over };
     } in
     after_run words c.in-Ok-replay_by.run' old late new c.in-Err-write_fore.outcome is_run (c.in-Ok-read_requests.ensures.only.outputs Fore ∙ c.in-Ok.ensures.only.outputs Fore) c.in-Err-write_fore.ensures.stops
+
+pub returns-in-Ok-write_fore-clause-no_note : goal.returns-in-Ok-write_fore-clause-no_note
+returns-in-Ok-write_fore-clause-no_note g c = c.in-Ok-write_fore.ensures.only.outputs Note note_is_other ∙ c.in-Ok-read_requests.ensures.only.outputs Note ∙ c.in-Ok.ensures.only.outputs Note
+
+pub returns-clause-no_note : goal.returns-clause-no_note
+returns-clause-no_note g c = c.in-Err-write_fore.ensures.only.outputs Note note_is_other ∙ c.in-Ok-read_requests.ensures.only.outputs Note ∙ c.in-Ok.ensures.only.outputs Note
