@@ -38,6 +38,7 @@ pub reads_before : (old mid : DeskView) (name : List ℕ) (device : ℕ) (disk :
 reads_before old mid name device disk trace only reads = record {
   bytes = reads.bytes;
   held = subst (λ (o : Option (List ℕ)). IfSome o (λ held. reads.bytes ≡ held)) (only.held name) reads.held;
+  within = reads.within;
   spells = reads.spells;
 }
 
@@ -55,6 +56,7 @@ after_disk words disk latent old mid new (outcomes.Trace fault) reads first seco
     refuses = record {
       bytes = h.bytes;
       held = subst (λ (o : Option (List ℕ)). IfSome o (λ held. h.bytes ≡ held)) (first.held words.trace) h.held;
+      within = h.within;
       spells = h.spells;
     };
   },

@@ -1,5 +1,5 @@
 -- What the accepted inputs of a replay mean.
-use Rattle.std.specs.Prelude.{◌≡◌, ℕ, List, [], length, Result, Ok, Err}
+use Rattle.std.specs.Prelude.{◌≡◌, ℕ, ◌≤◌, ◌^◌, List, [], length, Result, Ok, Err}
 use Rattle.fb_geometry.specs.Places.{places}
 use Rattle.fb_service.specs.declared.disk.Disk.{Disk}
 use Rattle.fb_params.specs.Reading.{params_of}
@@ -18,24 +18,28 @@ use Rattle.fb_top.specs.Streams.{IsHeld}
 pub record ReadsDisk (desk : DeskView) (name : List ℕ) (disk : Disk) (latent : List ℕ) : Type 0 where
   pub bytes : List ℕ
   pub held : IsHeld desk name bytes
+  pub within : length bytes ≤ 2 ^ 20
   pub spells : params_of bytes ≡ Ok (record { outline = disk.map; mechanics = disk.mechanism; sector_bytes = disk.sector_bytes; latent = latent })
 
 -- or refused, with this fault
 pub record RefusesDisk (desk : DeskView) (name : List ℕ) (fault : ParamsFault) : Type 0 where
   pub bytes : List ℕ
   pub held : IsHeld desk name bytes
+  pub within : length bytes ≤ 2 ^ 20
   pub spells : params_of bytes ≡ Err fault
 
 -- the trace under a name is accepted for a device of the disk, with these requests
 pub record ReadsTrace (desk : DeskView) (name : List ℕ) (device : ℕ) (disk : Disk) (trace : Accepted) : Type 0 where
   pub bytes : List ℕ
   pub held : IsHeld desk name bytes
+  pub within : length bytes ≤ 2 ^ 28
   pub spells : trace_of device (length (places disk.map)) bytes ≡ Ok trace
 
 -- or refused, with this fault
 pub record RefusesTrace (desk : DeskView) (name : List ℕ) (device : ℕ) (disk : Disk) (fault : TraceFault) : Type 0 where
   pub bytes : List ℕ
   pub held : IsHeld desk name bytes
+  pub within : length bytes ≤ 2 ^ 28
   pub spells : trace_of device (length (places disk.map)) bytes ≡ Err fault
 
 -- the key of a policy

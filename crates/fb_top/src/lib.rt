@@ -12,10 +12,9 @@ mod outcome;
 mod policy;
 mod reading;
 mod streams;
-mod writing;
-
 #[cfg(test)]
 mod tests;
+mod writing;
 
 pub use command::run_command;
 pub use note::note_text;

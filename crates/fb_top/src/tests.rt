@@ -9,7 +9,8 @@ use fb_units::NoMemory;
 use std::alloc::Global;
 use std::test::Fail;
 
-const SMALL_DISK: &[u8] = b"version = 1\nrotation_ns = 1200\nsector_bytes = 16\nheads = 2\nhead_switch_ns = 200\nwrite_settle_ns = 50\nseek = [[1, 300], [3, 500]]\n[[zone]]\nfirst = 0\nlast = 3\nsectors = 12\n";
+const SMALL_DISK: &[u8] =
+    b"version = 1\nrotation_ns = 1200\nsector_bytes = 16\nheads = 2\nhead_switch_ns = 200\nwrite_settle_ns = 50\nseek = [[1, 300], [3, 500]]\n[[zone]]\nfirst = 0\nlast = 3\nsectors = 12\n";
 
 const ONE_READ: &[u8] = b"0 0 5 1 1\n";
 
