@@ -1,3 +1,5 @@
 pub mod Shown
 pub mod Lines
 pub mod Fore
+pub mod Back
+pub mod Summary

@@ -1,5 +1,6 @@
 -- Lines of fields.
 use Rattle.std.specs.Prelude.{ℕ, List, [], ◌∷◌, ◌++◌, decimal}
+use Rattle.fb_units.specs.declared.types.Track.{Track}
 use Rattle.fb_units.specs.declared.types.Name.{Name}
 use Rattle.fb_units.specs.declared.types.Name.TheVariants.{Traced, Promoted}
 
@@ -16,3 +17,7 @@ line_of first fields = with_fields first fields ++ 10 ∷ []
 abbrev pub name_text : Name → List ℕ
 name_text (Traced n) = decimal n
 name_text (Promoted n) = 80 ∷ decimal n
+
+-- cylinder, point, head
+abbrev pub track_text : Track → List ℕ
+track_text track = decimal track.cylinder ++ 46 ∷ decimal track.head

@@ -1,5 +1,5 @@
 -- What stopped a later step, told of the desk at the start.
-use Rattle.std.proofs.Common.{◌≡◌, ◌≢◌, ℕ, ◌+◌, ◌<◌, ◌≤◌, ◌^◌, List, [], ◌∷◌, length, Option, subst, refl, sym, ap, ◌∙◌, inl, inr, arith, map, true}
+use Rattle.std.proofs.Common.{◌≡◌, ◌≢◌, ℕ, ◌+◌, ◌<◌, ◌≤◌, ◌^◌, List, [], ◌∷◌, length, Option, subst, refl, sym, ap, ◌∙◌, inl, inr, arith, map, Bool, true, false}
 use Rattle.std.specs.Prelude.{IfSome}
 use Rattle.std.specs.List.{AllByRecursion}
 use Rattle.fb_units.specs.declared.types.Request.{Request}
@@ -23,7 +23,9 @@ use Rattle.fb_top.specs.declared.outcome.Outcome.{Outcome}
 use Rattle.fb_top.specs.declared.outcome.Outcome.TheVariants as outcomes
 use Rattle.fb_top.specs.Streams.{IsHeld, IsLonger, IsFront}
 use Rattle.fb_top.specs.Read.{ReadsDisk, ReadsTrace, RefusesTrace, Accepts, inputs_of}
-use Rattle.fb_top.specs.Done.{IsPlainRun, IsRunOf, IsDone, IsCutOff}
+use Rattle.fb_words.specs.declared.fault.UsageFault.{UsageFault}
+use Rattle.fb_top.specs.Built.{is_built, not_yet}
+use Rattle.fb_top.specs.Done.{IsPlainRun, IsRunOf, IsDone, IsCutOff, KeepsOthers}
 use Rattle.fb_top.specs.Causes.{HasCause, StopsTrace, StopsFore, KeepsReports, FaultsRose, RefusesInTurn, HoldsFront}
 use Rattle.fb_top.proofs.Fronts.{same_name}
 
@@ -41,6 +43,23 @@ reads_before old mid name device disk trace only reads = record {
   within = reads.within;
   spells = reads.spells;
 }
+
+-- what was read is accepted
+pub accepts_read : (words : ReplayTerms) (disk : Disk) (latent : List ℕ) (trace : Accepted) (old mid : DeskView) (params_name trace_name : List ℕ) → params_name ≡ words.params → trace_name ≡ words.trace
+    → ReadsDisk old params_name disk latent → ChangesInput Params old mid → ReadsTrace mid trace_name words.device disk trace → Accepts old words
+accepts_read words disk latent trace old mid params_name trace_name same_params same_trace reads only reads_trace = record {
+  disk = disk;
+  latent = latent;
+  trace = trace;
+  reads_disk = subst (λ (name : List ℕ). ReadsDisk old name disk latent) same_params reads;
+  reads_trace = reads_before old mid words.trace words.device disk trace only (subst (λ (name : List ℕ). ReadsTrace mid name words.device disk trace) same_trace reads_trace);
+}
+
+-- what isn't built is told when all was read
+pub unbuilt_read : (words : ReplayTerms) (old mid new : DeskView) (fault : UsageFault) (built : Bool) → Accepts old words → built ≡ is_built words → built ≡ false → fault ≡ not_yet
+    → ChangesInput Params old mid → ChangesInput Trace mid new → HasCause words old new (outcomes.Usage fault)
+unbuilt_read words old mid new fault built accepts same unbuilt is first second =
+    (record { accepts = accepts; unbuilt = sym same ∙ unbuilt; fault = is }, keeps old mid new first second)
 
 -- why the trace was not read
 pub after_disk : (words : ReplayTerms) (disk : Disk) (latent : List ℕ) (old mid new : DeskView) (outcome : Outcome) → ReadsDisk old words.params disk latent
@@ -73,22 +92,26 @@ after_disk words disk latent old mid new (outcomes.ReadFault Calls) reads first 
 after_disk words disk latent old mid new (outcomes.WriteFault output) reads first second h = absurd h
 after_disk words disk latent old mid new outcomes.NoMemory reads first second h = inl (keeps old mid new first second)
 
+-- where inputs were read and then the foreground written, no other output has changed
+pub others_read : (old mid late new : DeskView) → ChangesInput Params old mid → ChangesInput Trace mid late → ChangesOutput Fore late new → KeepsOthers old new
+others_read old mid late new first second third = λ output not_fore not_note. third.outputs output not_fore ∙ second.outputs output ∙ first.outputs output
+
 -- why the report was not written
-pub after_run : (words : ReplayTerms) (run : Run) (old mid new : DeskView) (outcome : Outcome) (is_run : IsRunOf old words run) → mid.outputs Fore ≡ old.outputs Fore
+pub after_run : (words : ReplayTerms) (run : Run) (old mid new : DeskView) (outcome : Outcome) (is_run : IsRunOf old words run) → KeepsOthers old new → mid.outputs Fore ≡ old.outputs Fore
     → StopsFore (fore_text is_run.accepts.disk.sector_bytes words.bytes run) mid new outcome → HasCause words old new outcome
-after_run words run old mid new (outcomes.Done other) is_run same h = absurd h
-after_run words run old mid new (outcomes.Usage fault) is_run same h = absurd h
-after_run words run old mid new (outcomes.Params fault) is_run same h = absurd h
-after_run words run old mid new (outcomes.Trace fault) is_run same h = absurd h
-after_run words run old mid new (outcomes.TooLong input) is_run same h = absurd h
-after_run words run old mid new (outcomes.ReadFault input) is_run same h = absurd h
-after_run words run old mid new (outcomes.WriteFault Fore) is_run same h =
-    (refl, subst (λ (v : OutputView). Rose v.faults (new.outputs Fore).faults) same h.0, record { run = run; is_run = is_run; front = h.1 })
-after_run words run old mid new (outcomes.WriteFault Back) is_run same h = absurd h
-after_run words run old mid new (outcomes.WriteFault Note) is_run same h = absurd h
-after_run words run old mid new (outcomes.WriteFault MadeTrace) is_run same h = absurd h
-after_run words run old mid new (outcomes.WriteFault MadeCalls) is_run same h = absurd h
-after_run words run old mid new outcomes.NoMemory is_run same h = inr (record { run = run; is_run = is_run; front = h })
+after_run words run old mid new (outcomes.Done other) is_run others same h = absurd h
+after_run words run old mid new (outcomes.Usage fault) is_run others same h = absurd h
+after_run words run old mid new (outcomes.Params fault) is_run others same h = absurd h
+after_run words run old mid new (outcomes.Trace fault) is_run others same h = absurd h
+after_run words run old mid new (outcomes.TooLong input) is_run others same h = absurd h
+after_run words run old mid new (outcomes.ReadFault input) is_run others same h = absurd h
+after_run words run old mid new (outcomes.WriteFault Fore) is_run others same h =
+    (refl, subst (λ (v : OutputView). Rose v.faults (new.outputs Fore).faults) same h.0, record { others = others; run = run; is_run = is_run; front = h.1 })
+after_run words run old mid new (outcomes.WriteFault Back) is_run others same h = absurd h
+after_run words run old mid new (outcomes.WriteFault Note) is_run others same h = absurd h
+after_run words run old mid new (outcomes.WriteFault MadeTrace) is_run others same h = absurd h
+after_run words run old mid new (outcomes.WriteFault MadeCalls) is_run others same h = absurd h
+after_run words run old mid new outcomes.NoMemory is_run others same h = inr (record { others = others; run = run; is_run = is_run; front = h })
 
 all_requests : (disk : Disk) (requests : List Request) → AllByRecursion (IsServable (length (places disk.map))) requests → AllByRecursion (IsRequestOf disk.map) requests
 all_requests disk [] all = tt

@@ -2,3 +2,4 @@ pub mod Pieces
 pub mod Fronts
 pub mod Later
 pub mod Notes
+pub mod Completeness

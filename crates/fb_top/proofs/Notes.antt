@@ -11,7 +11,7 @@ use Rattle.fb_desk.specs.declared.desk.Output.TheVariants.{Fore, Note}
 use Rattle.fb_top.specs.declared.outcome.Outcome.{Outcome}
 use Rattle.fb_top.specs.declared.outcome.Outcome.TheVariants as outcomes
 use Rattle.fb_top.specs.Streams.{AppendsFront, IsFront}
-use Rattle.fb_top.specs.Done.{IsCutOff, text_of}
+use Rattle.fb_top.specs.Done.{IsCutOff, KeepsOthers, text_of}
 use Rattle.fb_top.specs.Causes.{AnswersWords, HasCause, KeepsReports}
 use Rattle.fb_top.specs.Noted.{IsNote}
 use Rattle.fb_top.proofs.Fronts.{rose_later}
@@ -59,8 +59,12 @@ fore_is_other e = cc
 keeps_still : (old mid new : DeskView) → KeepsReports old mid → ChangesOutput Note mid new → KeepsReports old new
 keeps_still old mid new keeps only = λ output other. only.outputs output other ∙ keeps output other
 
+others_still : (old mid new : DeskView) → KeepsOthers old mid → ChangesOutput Note mid new → KeepsOthers old new
+others_still old mid new others only = λ output not_fore not_note. only.outputs output not_note ∙ others output not_fore not_note
+
 cut_off_still : (terms : ReplayTerms) (old mid new : DeskView) → IsCutOff old mid terms → ChangesOutput Note mid new → IsCutOff old new terms
 cut_off_still terms old mid new cut only = record {
+  others = others_still old mid new cut.others only;
   run = cut.run;
   is_run = cut.is_run;
   front = subst (λ (v : OutputView). v.begun ≡ true → IfSome v.written (λ bytes. IsFront bytes (text_of old terms cut.run cut.is_run))) (sym (only.outputs Fore fore_is_other)) cut.front;
@@ -68,11 +72,12 @@ cut_off_still terms old mid new cut only = record {
 
 cause_still : (terms : ReplayTerms) (old mid new : DeskView) (outcome : Outcome) → ChangesOutput Note mid new → HasCause terms old mid outcome → HasCause terms old new outcome
 cause_still terms old mid new (outcomes.Done run) only h = record {
+  others = others_still old mid new h.others only;
   is_run = h.is_run;
   name = subst (λ (v : OutputView). IfSome v.name (λ name. name ≡ codes "-")) (sym (only.outputs Fore fore_is_other)) h.name;
   written = subst (λ (v : OutputView). IfSome v.written (λ bytes. bytes ≡ text_of old terms run h.is_run)) (sym (only.outputs Fore fore_is_other)) h.written;
 }
-cause_still terms old mid new (outcomes.Usage fault) only h = absurd h
+cause_still terms old mid new (outcomes.Usage fault) only h = (h.0, keeps_still old mid new h.1 only)
 cause_still terms old mid new (outcomes.Params fault) only h = (h.0, keeps_still old mid new h.1 only)
 cause_still terms old mid new (outcomes.Trace fault) only h = (h.0, keeps_still old mid new h.1 only)
 cause_still terms old mid new (outcomes.TooLong input) only h = (h.0, h.1, keeps_still old mid new h.2 only)
@@ -86,5 +91,5 @@ cause_still terms old mid new outcomes.NoMemory only (inr cut) = inr (cut_off_st
 -- an answer keeps its cause where nothing but the note changes
 pub answer_still : (reading : Result Terms UsageFault) (old mid new : DeskView) (outcome : Outcome) → ChangesOutput Note mid new → AnswersWords reading old mid outcome → AnswersWords reading old new outcome
 answer_still (Ok (replays terms)) old mid new outcome only h = cause_still terms old mid new outcome only h
-answer_still (Ok (makes terms)) old mid new outcome only h = absurd h
+answer_still (Ok (makes terms)) old mid new outcome only h = (h.0, keeps_still old mid new h.1 only)
 answer_still (Err fault) old mid new outcome only h = (h.0, keeps_still old mid new h.1 only)

@@ -14,6 +14,7 @@ use Rattle.fb_top.specs.declared.outcome.Outcome.TheVariants as outcomes
 use Rattle.fb_top.specs.Read.{ReadsDisk, RefusesDisk, RefusesTrace}
 use Rattle.fb_trace.specs.declared.trace.TraceFault.{TraceFault}
 use Rattle.fb_top.specs.Streams.{IsLonger, IsFront}
+use Rattle.fb_top.specs.Built.{IsUnbuilt, not_yet}
 use Rattle.fb_top.specs.Done.{IsDone, IsCutOff}
 
 -- the name under which the words give an input; the calls have none yet
@@ -52,7 +53,7 @@ IsGiven Calls = ⊥
 -- the cause of each answer to the terms of a replay
 abbrev pub HasCause : ReplayTerms → DeskView → DeskView → Outcome → Type 0
 HasCause terms old new (outcomes.Done run) = IsDone old new terms run
-HasCause terms old new (outcomes.Usage fault) = ⊥
+HasCause terms old new (outcomes.Usage fault) = IsUnbuilt old terms fault × KeepsReports old new
 HasCause terms old new (outcomes.Params fault) = RefusesDisk old terms.params fault × KeepsReports old new
 HasCause terms old new (outcomes.Trace fault) = RefusesInTurn old terms fault × KeepsReports old new
 HasCause terms old new (outcomes.TooLong input) = IsGiven input × IsLonger old (name_of terms input) (limit_of input) × KeepsReports old new
@@ -60,11 +61,15 @@ HasCause terms old new (outcomes.ReadFault input) = IsGiven input × FaultsRose 
 HasCause terms old new (outcomes.WriteFault output) = (output ≡ Fore) × Rose (old.outputs output).faults (new.outputs output).faults × IsCutOff old new terms
 HasCause terms old new outcomes.NoMemory = KeepsReports old new ⊎ IsCutOff old new terms
 
--- the answer to the words of a command line: refused words are a usage fault, unless memory is wanting
+-- words that are refused are a usage fault, unless memory is wanting
+abbrev pub IsRefused : UsageFault → DeskView → DeskView → Outcome → Type 0
+IsRefused fault old new outcome = ((outcome ≡ outcomes.Usage fault) ⊎ (outcome ≡ outcomes.NoMemory)) × KeepsReports old new
+
+-- the answer to the words of a command line; traces are not made yet
 abbrev pub AnswersWords : Result Terms UsageFault → DeskView → DeskView → Outcome → Type 0
 AnswersWords (Ok (replays terms)) old new outcome = HasCause terms old new outcome
-AnswersWords (Ok (makes terms)) old new outcome = ⊥
-AnswersWords (Err fault) old new outcome = ((outcome ≡ outcomes.Usage fault) ⊎ (outcome ≡ outcomes.NoMemory)) × KeepsReports old new
+AnswersWords (Ok (makes terms)) old new outcome = IsRefused not_yet old new outcome
+AnswersWords (Err fault) old new outcome = IsRefused fault old new outcome
 
 -- why no disk was read
 abbrev pub StopsDisk : List ℕ → DeskView → DeskView → Outcome → Type 0

@@ -1,7 +1,9 @@
 pub mod Streams
 pub mod Read
+pub mod Built
 pub mod Done
 pub mod Causes
+pub mod Complete
 pub mod Status
 pub mod Notes
 pub mod Noted

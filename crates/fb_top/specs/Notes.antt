@@ -1,6 +1,5 @@
 -- The line that says why there is no report.
 use Rattle.std.specs.Prelude.{ℕ, List, [], ◌∷◌, ◌++◌, decimal, codes}
-use Rattle.fb_units.specs.declared.types.Track.{Track}
 use Rattle.fb_units.specs.declared.types.Place.{Place}
 use Rattle.fb_geometry.specs.declared.fault.GeometryFault.{GeometryFault}
 use Rattle.fb_geometry.specs.declared.fault.GeometryFault.TheVariants as geometry
@@ -11,6 +10,7 @@ use Rattle.fb_params.specs.declared.fault.ParamsFault.TheVariants as params
 use Rattle.fb_trace.specs.declared.trace.TraceReason.{TraceReason}
 use Rattle.fb_trace.specs.declared.trace.TraceReason.TheVariants as trace
 use Rattle.fb_trace.specs.declared.trace.TraceFault.{TraceFault}
+use Rattle.fb_report.specs.Lines.{track_text}
 use Rattle.fb_words.specs.declared.fault.UsageReason.{UsageReason}
 use Rattle.fb_words.specs.declared.fault.UsageReason.TheVariants as usage
 use Rattle.fb_words.specs.declared.fault.UsageFault.{UsageFault}
@@ -24,10 +24,6 @@ use Rattle.fb_top.specs.declared.outcome.Outcome.TheVariants as outcomes
 -- a reason's name and, after a space, the value that it carries
 abbrev pub valued : List ℕ → List ℕ → List ℕ
 valued name value = name ++ 32 ∷ value
-
--- cylinder, point, head
-abbrev pub track_text : Track → List ℕ
-track_text track = decimal track.cylinder ++ 46 ∷ decimal track.head
 
 -- track, point, slot
 abbrev pub place_text : Place → List ℕ

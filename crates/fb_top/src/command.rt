@@ -2,9 +2,11 @@
 ghost use Rattle.std.specs.Prelude.{◌≡◌, ◌≤◌, ◌^◌, map};
 ghost use Rattle.std.specs.String.{string_bytes};
 ghost use Rattle.fb_desk.specs.View.{IsUnused};
-ghost use Rattle.fb_words.specs.Command.{command_of, if_built};
+ghost use Rattle.fb_words.specs.Command.{command_of};
 ghost use Rattle.fb_words.specs.Verdict.{replay_terms};
 ghost use Rattle.fb_top.specs.Causes.{AnswersWords, HasCause};
+ghost use Rattle.fb_top.specs.Built.{is_built, not_yet};
+ghost use Rattle.fb_top.specs.Complete.{IsComplete};
 ghost use Rattle.fb_top.specs.Noted.{LeavesNote};
 
 use crate::Outcome;
@@ -13,7 +15,7 @@ use crate::reading::{read_disk, read_requests};
 use crate::writing::{write_fore, write_note};
 use fb_desk::{Desk, Output};
 use fb_units::NoMemory;
-use fb_words::{Command, ReplayWords, WordsError, read_words};
+use fb_words::{Command, ReplayWords, UsageFault, UsageReason, WordsError, read_words};
 use std::alloc::Global;
 
 /// Does what the words of a command line ask for; the first word is the program's name.
@@ -24,7 +26,8 @@ use std::alloc::Global;
 /// `-`; whether it is written changes nothing in the outcome. The desk must be unused.
 pub fn run_command<D: Desk>(alloc: Global, desk: &mut D, words: &[String]) -> Outcome
     requires { IsUnused (D.seen desk.old) }
-    ensures answers { AnswersWords (if_built (command_of (map string_bytes words.now))) (D.seen desk.old) (D.seen desk.new) result }
+    ensures answers { AnswersWords (command_of (map string_bytes words.now)) (D.seen desk.old) (D.seen desk.new) result }
+    ensures complete { IsComplete (command_of (map string_bytes words.now)) (D.seen desk.old) (D.seen desk.new) result }
     ensures note { LeavesNote result ((D.seen desk.old).outputs Output.Note) ((D.seen desk.new).outputs Output.Note) }
 {
     let outcome = answer_words(alloc, desk, words);
@@ -35,14 +38,31 @@ pub fn run_command<D: Desk>(alloc: Global, desk: &mut D, words: &[String]) -> Ou
 // Does what the words ask for, and writes no note.
 fn answer_words<D: Desk>(alloc: Global, desk: &mut D, words: &[String]) -> Outcome
     requires { IsUnused (D.seen desk.old) }
-    ensures answers { AnswersWords (if_built (command_of (map string_bytes words.now))) (D.seen desk.old) (D.seen desk.new) result }
+    ensures answers { AnswersWords (command_of (map string_bytes words.now)) (D.seen desk.old) (D.seen desk.new) result }
     ensures no_note { (D.seen desk.new).outputs Output.Note ≡ (D.seen desk.old).outputs Output.Note }
 {
     match read_words(alloc, words) {
         Ok(Command::Replay(words)) => run_replay(alloc, desk, &words),
-        Ok(Command::Make(_)) => unreachable!(),
+        Ok(Command::Make(_)) => Outcome::Usage(not_yet()),
         Err(WordsError::Fault(fault)) => Outcome::Usage(fault),
         Err(WordsError::NoMemory) => Outcome::NoMemory,
+    }
+}
+
+// There is no background work, no wait at the end and no summary.
+fn is_built(words: &ReplayWords) -> bool
+    ensures { result ≡ is_built (replay_terms words.now) }
+{
+    words.calls.is_none() && words.back.is_none() && words.until == 0 && !words.summary
+}
+
+// The fault of words for what isn't built.
+fn not_yet() -> UsageFault
+    ensures { result ≡ not_yet }
+{
+    UsageFault {
+        place: 0,
+        reason: UsageReason::NotYet,
     }
 }
 
@@ -67,6 +87,9 @@ fn run_replay<D: Desk>(alloc: Global, desk: &mut D, words: &ReplayWords) -> Outc
         Ok(trace) => trace,
         Err(outcome) => return outcome,
     };
+    if !is_built(words) {
+        return Outcome::Usage(not_yet());
+    }
     let run = match replay_by(alloc, words.policy, &params, &trace, words.until) {
         Ok(run) => run,
         Err(NoMemory) => return Outcome::NoMemory,

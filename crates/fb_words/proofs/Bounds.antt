@@ -1,6 +1,6 @@
 -- The numbers that words give are within the limits.
-use Rattle.std.proofs.Common.{◌≡◌, ℕ, ◌+◌, ◌≤◌, ◌^◌, List, [], ◌∷◌, true, false, subst, inl, inr, arith, Option, Some, None, Result, Ok}
-use Rattle.std.specs.Prelude.{IfSome, not, nat_lt, unwrap_or, length}
+use Rattle.std.proofs.Common.{◌≡◌, ℕ, ◌+◌, ◌≤◌, ◌^◌, List, [], ◌∷◌, true, false, subst, inl, inr, arith, Option, Some, None, Result, Ok, Err}
+use Rattle.std.specs.Prelude.{IfSome, IfOk, not, nat_lt, unwrap_or, length}
 use Rattle.std.proofs.lemmas.Bool.{cases_Bool}
 use Rattle.std.proofs.lemmas.Bool.Decides.{nat_tests}
 use Rattle.fb_units.specs.Judging.{or_refuse, refuse, refused_as}
@@ -16,6 +16,9 @@ use Rattle.fb_words.specs.Options.{Options, no_options}
 use Rattle.fb_words.specs.Values.{is_given, is_value, request_count_of, with_form, with_value}
 use Rattle.fb_words.specs.Reading.{Progress, ready, awaits, Parts, parts_of, is_summary, fault_at, with_summary, with_part, with_option, with_name, with_word, at_end, options_from}
 use Rattle.fb_words.specs.Command.{Terms, replays, makes, ReplayTerms, MakeTerms, go_together, replay_of, make_of, terms_of, with_verb, command_of}
+use Rattle.fb_words.specs.declared.command.Command.{Command}
+use Rattle.fb_words.specs.declared.fault.WordsError.{WordsError}
+use Rattle.fb_words.specs.Verdict.{Answers, terms}
 use Rattle.fb_words.specs.Limits.{IsWithinLimits}
 
 record IsSmall (given : Options) : Type 0 where
@@ -168,7 +171,12 @@ small-with_verb count name words terms e =
     small-terms_of verb.0 given.0 terms (step_ok (fault_at count) _ terms given.2) (small-options_from verb.0 2 (ready no_options) words given.0 given.1 nothing_small)
 
 -- the numbers of a command are within the limits
-pub within_limits : (words : List (List ℕ)) (terms : Terms) → command_of words ≡ Ok terms → IsWithinLimits terms
+within_limits : (words : List (List ℕ)) (terms : Terms) → command_of words ≡ Ok terms → IsWithinLimits terms
 within_limits [] terms e = cc
 within_limits (program ∷ []) terms e = cc
 within_limits (program ∷ name ∷ words) terms e = small-with_verb (length (program ∷ name ∷ words)) name words terms e
+
+-- so an answer's numbers are
+pub answer_within : (words : List (List ℕ)) (result : Result Command WordsError) → Answers terms result (command_of words) → IfOk result (λ command. IsWithinLimits (terms command))
+answer_within words (Ok command) e = within_limits words (terms command) e
+answer_within words (Err error) e = tt

@@ -6,7 +6,7 @@ use Rattle.fb_units.specs.Judging.{◌>>=◌, ◌>>◌, or_refuse, refuse, refus
 use Rattle.fb_words.specs.declared.command.Policy.{Policy}
 use Rattle.fb_words.specs.declared.fault.UsageFault.{UsageFault}
 use Rattle.fb_words.specs.declared.fault.UsageReason.{UsageReason}
-use Rattle.fb_words.specs.declared.fault.UsageReason.TheVariants.{NoCommand, UnknownCommand, MissingOption, CallsAndBack, NotYet}
+use Rattle.fb_words.specs.declared.fault.UsageReason.TheVariants.{NoCommand, UnknownCommand, MissingOption, CallsAndBack}
 use Rattle.fb_words.specs.declared.names.Verb.{Verb}
 use Rattle.fb_words.specs.declared.names.Verb.TheVariants.{Replay, Make}
 use Rattle.fb_words.specs.Names.{verb_of}
@@ -87,13 +87,3 @@ abbrev pub command_of : List (List ℕ) → Result Terms UsageFault
 command_of [] = Err (fault_at 0 NoCommand)
 command_of (program ∷ []) = Err (fault_at 1 NoCommand)
 command_of (program ∷ name ∷ words) = with_verb (length (program ∷ name ∷ words)) name words
-
--- what isn't built yet: made traces, background work, waits at the end, and summaries
-abbrev pub is_built : Terms → Bool
-is_built (replays terms) = not (is_some terms.calls) && not (is_some terms.back) && (terms.until == 0) && not terms.summary
-is_built (makes terms) = false
-
--- the command, where it is built
-abbrev pub if_built : Result Terms UsageFault → Result Terms UsageFault
-if_built (Ok terms) = if is_built terms then Ok terms else Err (fault_at 0 NotYet)
-if_built (Err fault) = Err fault

@@ -1,5 +1,5 @@
 // The command that words spell.
-ghost use Rattle.std.specs.Prelude.{◌≡◌, IfOk, Ok, map, true};
+ghost use Rattle.std.specs.Prelude.{◌≡◌, IfOk, Ok, map};
 ghost use Rattle.std.specs.Option.{option_copied, option_map};
 ghost use Rattle.std.specs.String.{string_bytes};
 ghost use Rattle.fb_units.specs.Judging.{or_refuse, refused_as};
@@ -7,7 +7,7 @@ ghost use Rattle.fb_words.specs.declared.fault.UsageReason.TheVariants.{UnknownC
 ghost use Rattle.fb_words.specs.Names.{verb_of};
 ghost use Rattle.fb_words.specs.Given.{options};
 ghost use Rattle.fb_words.specs.Reading.{fault_at};
-ghost use Rattle.fb_words.specs.Command.{command_of, go_together, if_built, is_built, make_of, replay_of, terms_of, with_verb};
+ghost use Rattle.fb_words.specs.Command.{command_of, go_together, make_of, replay_of, terms_of, with_verb};
 ghost use Rattle.fb_words.specs.Limits.{IsWithinLimits};
 ghost use Rattle.fb_words.specs.Verdict.{Agrees, Answers, make_terms, replay_terms, terms};
 
@@ -21,30 +21,13 @@ use std::alloc::Global;
 /// The command that the words spell. The first is the program's name and isn't looked at. An error
 /// names the first faulty word.
 pub fn read_words(alloc: Global, words: &[String]) -> Result<Command, WordsError>
-    ensures answer { Answers terms result (if_built (command_of (map string_bytes words.now))) }
+    ensures answer { Answers terms result (command_of (map string_bytes words.now)) }
     ensures limits { IfOk result (λ command. IsWithinLimits (terms command)) }
-    ensures built { IfOk result (λ command. is_built (terms command) ≡ true) }
 {
-    let command = command_of(alloc, words)?;
-    if !is_built(&command) {
-        return Err(WordsError::Fault(fault_at(0, UsageReason::NotYet)));
-    }
-    Ok(command)
+    command_of(alloc, words)
 }
 
-// Made traces, background work, waits at the end and summaries aren't built yet.
-fn is_built(command: &Command) -> bool
-    ensures { result ≡ is_built (terms command.now) }
-{
-    match command {
-        Command::Replay(words) => {
-            words.calls.is_none() && words.back.is_none() && words.until == 0 && !words.summary
-        }
-        Command::Make(_) => false,
-    }
-}
-
-// The command, whether it is built or not.
+// The command, whatever its numbers are.
 fn command_of(alloc: Global, words: &[String]) -> Result<Command, WordsError>
     ensures { Answers terms result (command_of (map string_bytes words.now)) }
 {

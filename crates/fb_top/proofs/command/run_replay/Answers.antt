@@ -6,7 +6,7 @@ use Rattle.fb_trace.specs.Verdict.{accepted}
 use Rattle.fb_top.specs.Read.{ReadsDisk, ReadsTrace}
 use Rattle.fb_top.specs.Causes.{StopsTrace}
 use Rattle.fb_top.specs.Done.{IsRunOf}
-use Rattle.fb_top.proofs.Later.{after_disk, after_run, reads_before, is_accepted}
+use Rattle.fb_top.proofs.Later.{accepts_read, after_disk, after_run, others_read, unbuilt_read, is_accepted}
 use Rattle.fb_top.proofs.Notes.{note_is_other}
 use Rattle.fb_top.proofs.command.run_replay.Goals as goal
 
@@ -31,17 +31,15 @@ pub returns-in-Ok-write_fore-clause-cause : goal.returns-in-Ok-write_fore-clause
 returns-in-Ok-write_fore-clause-cause g c =
     let old = g.D.Desk.seen c.args.desk.now in
     let mid = g.D.Desk.seen c.read_disk.new.desk in
+    let late = g.D.Desk.seen c.read_requests.new.desk in
+    let new = g.D.Desk.seen c.write_fore.new.desk in
     let words = replay_terms c.args.words.now in
     record {
+      others = others_read old mid late new c.in-Ok.ensures.only c.in-Ok-read_requests.ensures.only c.in-Ok-write_fore.ensures.only;
       is_run = record {
-        accepts = record {
-          disk = c.in-Ok.params.disk;
-          latent = c.in-Ok.params.latent.items;
-          trace = accepted c.in-Ok-read_requests.trace;
-          reads_disk = subst (λ (name : List ℕ). ReadsDisk old name c.in-Ok.params.disk c.in-Ok.params.latent.items) c.as_str.ensures.value c.in-Ok.ensures.disk;
-          reads_trace = reads_before old mid words.trace words.device c.in-Ok.params.disk (accepted c.in-Ok-read_requests.trace) c.in-Ok.ensures.only
-              (subst (λ (name : List ℕ). ReadsTrace mid name words.device c.in-Ok.params.disk (accepted c.in-Ok-read_requests.trace)) c.as_str-2.ensures.value c.in-Ok-read_requests.ensures.trace);
-        };
+        built = sym c.is_built.ensures ∙ c.after-is_built.false;
+        accepts = accepts_read words c.in-Ok.params.disk c.in-Ok.params.latent.items (accepted c.in-Ok-read_requests.trace) old mid _ _ c.as_str.ensures.value c.as_str-2.ensures.value
+            c.in-Ok.ensures.disk c.in-Ok.ensures.only c.in-Ok-read_requests.ensures.trace;
         plain = record { fore = c.in-Ok-replay_by.ensures.fore; passed_over = c.in-Ok-replay_by.ensures.passed_over };
       };
       name = c.in-Ok-write_fore.ensures.name;
@@ -56,17 +54,14 @@ returns-clause-cause g c =
     let new = g.D.Desk.seen c.write_fore.new.desk in
     let words = replay_terms c.args.words.now in
     let is_run : IsRunOf old words c.in-Ok-replay_by.run' = record {
-      accepts = record {
-        disk = c.in-Ok.params.disk;
-        latent = c.in-Ok.params.latent.items;
-        trace = accepted c.in-Ok-read_requests.trace;
-        reads_disk = subst (λ (name : List ℕ). ReadsDisk old name c.in-Ok.params.disk c.in-Ok.params.latent.items) c.as_str.ensures.value c.in-Ok.ensures.disk;
-        reads_trace = reads_before old mid words.trace words.device c.in-Ok.params.disk (accepted c.in-Ok-read_requests.trace) c.in-Ok.ensures.only
-            (subst (λ (name : List ℕ). ReadsTrace mid name words.device c.in-Ok.params.disk (accepted c.in-Ok-read_requests.trace)) c.as_str-2.ensures.value c.in-Ok-read_requests.ensures.trace);
-      };
+      built = sym c.is_built.ensures ∙ c.after-is_built.false;
+      accepts = accepts_read words c.in-Ok.params.disk c.in-Ok.params.latent.items (accepted c.in-Ok-read_requests.trace) old mid _ _ c.as_str.ensures.value c.as_str-2.ensures.value
+          c.in-Ok.ensures.disk c.in-Ok.ensures.only c.in-Ok-read_requests.ensures.trace;
       plain = record { fore = c.in-Ok-replay_by.ensures.fore; passed_over = c.in-Ok-replay_by.ensures.passed_over };
     } in
-    after_run words c.in-Ok-replay_by.run' old late new c.in-Err-write_fore.outcome is_run (c.in-Ok-read_requests.ensures.only.outputs Fore ∙ c.in-Ok.ensures.only.outputs Fore) c.in-Err-write_fore.ensures.stops
+    after_run words c.in-Ok-replay_by.run' old late new c.in-Err-write_fore.outcome is_run
+    (others_read old mid late new c.in-Ok.ensures.only c.in-Ok-read_requests.ensures.only c.in-Err-write_fore.ensures.only)
+    (c.in-Ok-read_requests.ensures.only.outputs Fore ∙ c.in-Ok.ensures.only.outputs Fore) c.in-Err-write_fore.ensures.stops
 
 pub returns-in-Ok-write_fore-clause-no_note : goal.returns-in-Ok-write_fore-clause-no_note
 returns-in-Ok-write_fore-clause-no_note g c = c.in-Ok-write_fore.ensures.only.outputs Note note_is_other ∙ c.in-Ok-read_requests.ensures.only.outputs Note ∙ c.in-Ok.ensures.only.outputs Note

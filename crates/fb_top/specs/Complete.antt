@@ -1,0 +1,34 @@
+-- What goes well is done.
+use Rattle.std.specs.Prelude.{◌≡◌, true, is_some, Result, Ok, Err}
+use Rattle.fb_desk.specs.Calls.{Rose}
+use Rattle.fb_desk.specs.View.{DeskView}
+use Rattle.fb_desk.specs.declared.desk.Input.{Input}
+use Rattle.fb_desk.specs.declared.desk.Output.TheVariants.{Fore}
+use Rattle.fb_words.specs.Command.{Terms, ReplayTerms, replays, makes}
+use Rattle.fb_words.specs.declared.fault.UsageFault.{UsageFault}
+use Rattle.fb_top.specs.declared.outcome.Outcome.{Outcome}
+use Rattle.fb_top.specs.declared.outcome.Outcome.TheVariants as outcomes
+use Rattle.fb_top.specs.Read.{Accepts}
+use Rattle.fb_top.specs.Built.{is_built}
+use Rattle.fb_top.specs.Causes.{FaultsRose}
+
+-- what is held is told and accepted, the foreground alone is wanted, and no count of faults rises but perhaps the note's
+pub record GoesWell (old new : DeskView) (terms : ReplayTerms) : Type 0 where
+  pub built : is_built terms ≡ true
+  pub accepts : Accepts old terms
+  pub params_told : is_some (old.held terms.params) ≡ true
+  pub trace_told : is_some (old.held terms.trace) ≡ true
+  pub inputs : (input : Input) → FaultsRose old new input → ⊥
+  pub fore : Rose (old.outputs Fore).faults (new.outputs Fore).faults → ⊥
+
+-- the replay was made, unless memory was wanting
+abbrev pub IsMade : Outcome → Type 0
+IsMade (outcomes.Done run) = Unit {0}
+IsMade outcomes.NoMemory = Unit {0}
+IsMade outcome = ⊥
+
+-- a replay that goes well is made
+abbrev pub IsComplete : Result Terms UsageFault → DeskView → DeskView → Outcome → Type 0
+IsComplete (Ok (replays terms)) old new outcome = GoesWell old new terms → IsMade outcome
+IsComplete (Ok (makes terms)) old new outcome = Unit {0}
+IsComplete (Err fault) old new outcome = Unit {0}
