@@ -5,3 +5,4 @@ pub mod Searches
 pub mod Making
 pub mod Cutting
 pub mod Computed
+pub mod Stretching

@@ -1,12 +1,12 @@
 // The map between the numbers of sectors and their places.
 ghost use Rattle.std.specs.Prelude.{◌≡◌, ℕ, ◌+◌, ◌<◌, ◌≤◌, ◌^◌, length, map, IfOk, MatchOption};
-ghost use Rattle.fb_geometry.specs.Shape.{slots_at, cylinders_of, IsTrackOf};
+ghost use Rattle.fb_geometry.specs.Shape.{slots_at, cylinders_of, turn_position, IsTrackOf};
 ghost use Rattle.fb_geometry.specs.Places.{places};
-ghost use Rattle.fb_sectormap.specs.Lookup.{IsAt, place_at};
+ghost use Rattle.fb_sectormap.specs.Lookup.{IsAt, place_at, neighbour};
 ghost use Rattle.fb_sectormap.specs.Cylinders.{IsFirstOf, CylindersRise, IsSectorOf, TellsSector, TellsFirst};
 
 use crate::numbering::{CylinderSector, ZoneStart};
-use fb_geometry::Geometry;
+use fb_geometry::{Geometry, Stretch};
 use fb_units::{NoMemory, Place, Track};
 use std::alloc::Global;
 use std::marker::Model;
@@ -80,6 +80,23 @@ impl SectorMap {
     {
         let at = self.by_cylinder(lbn);
         self.geometry.sector_place(at.cylinder, at.sector)
+    }
+
+    /// The place of a sector, and how many sectors from it on stand in neighbouring slots of its track.
+    ///
+    /// They come by one directly after another in one turn of the track.
+    pub fn stretch(&self, lbn: u64) -> Stretch
+        requires { lbn < length (places self.now) }
+        ensures some { 0 < result.count }
+        ensures on_disk { lbn + result.count ≤ length (places self.now) }
+        ensures first { result.place ≡ place_at self.now lbn }
+        ensures track { IsTrackOf self.now result.place.track }
+        ensures slot { result.place.slot < slots_at self.now.zones result.place.track.cylinder }
+        ensures next { (i : ℕ) → i < result.count → place_at self.now (lbn + i) ≡ neighbour self.now result.place i }
+        ensures one_turn { turn_position self.now result.place + result.count ≤ slots_at self.now.zones result.place.track.cylinder }
+    {
+        let at = self.by_cylinder(lbn);
+        self.geometry.stretch(at.cylinder, at.sector)
     }
 
     /// The sector at a place. None where the slot holds no data.

@@ -67,15 +67,6 @@ settled shape place t h =
     let none : wait shape.rotation (begin_angle shape place) (t + w) ≤ 0 = now.least 0 (ap (λ x. x % shape.rotation) (omega arith) ∙ before.reaches) in
     omega arith
 
--- one block more
-pub one_more : (shape : Shape) (old new : Extent) → new.first ≡ old.first → new.begin ≡ old.begin → new.count ≡ old.count + 1
-    → passages_of shape new ≡ passages_of shape old ++ passage_from shape (old.first + old.count) old.begin ∷ []
-one_more shape old new f b n =
-    ap (λ first. map (λ i. passage_from shape (first + i) new.begin) (range_with_len 0 new.count)) f
-    ∙ ap (λ begin. map (λ i. passage_from shape (old.first + i) begin) (range_with_len 0 new.count)) b
-    ∙ ap (λ count. map (λ i. passage_from shape (old.first + i) old.begin) (range_with_len 0 count)) n
-    ∙ map-range_with_len_more (λ i. passage_from shape (old.first + i) old.begin) 0 old.count old.count (omega arith)
-
 -- a passage that begins at u is the one from t on
 pub same_passage : (shape : Shape) (lbn t u : ℕ) → begin_angle shape (place_at shape lbn) < shape.rotation → u ≡ begin_from shape (place_at shape lbn) u → t ≤ u → u < t + shape.rotation
     → passage_from shape lbn t ≡ passage_from shape lbn u
@@ -85,14 +76,3 @@ same_passage shape lbn t u h e le near =
 pub angle_is : (shape : Shape) (lbn : ℕ) (place : Place) (first : ℕ) → IsAt shape lbn place → first ≡ begin_angle shape place → first < shape.rotation
     → begin_angle shape (place_at shape lbn) < shape.rotation
 angle_is shape lbn place first h e lt = subst (λ (p : Place). begin_angle shape p < shape.rotation) (sym (place_is shape lbn place h)) (omega arith)
-
--- a block that goes on is a part of the extent
-pub goes_on : (shape : Shape) (all : List Passage) (old new : Extent) (lbn begin : ℕ) → new.first ≡ old.first → new.begin ≡ old.begin → new.count ≡ old.count + 1
-    → old.first + old.count ≡ lbn → begin_angle shape (place_at shape lbn) < shape.rotation → begin ≡ begin_from shape (place_at shape lbn) begin
-    → old.begin ≤ begin → begin < old.begin + shape.rotation
-    → all ++ passages_of shape new ≡ all ++ passages_of shape old ++ passage_from shape lbn begin ∷ []
-goes_on shape all old new lbn begin f b n next angle stands le near =
-    ap (λ ps. all ++ ps) (one_more shape old new f b n
-    ∙ ap (λ l. passages_of shape old ++ passage_from shape l old.begin ∷ []) next
-    ∙ ap (λ p. passages_of shape old ++ p ∷ []) (same_passage shape lbn old.begin begin angle stands le near))
-    ∙ sym (append_assoc all (passages_of shape old) (passage_from shape lbn begin ∷ []))

@@ -1,16 +1,17 @@
 // The service of a request, by extents.
 ghost use Rattle.std.specs.Prelude.{◌≡◌, ◌+◌, ◌-◌, ◌*◌, ◌<◌, ◌≤◌, ◌^◌, [], ◌∷◌, ◌++◌, length, IfOk, OnOk};
-ghost use Rattle.fb_geometry.specs.Shape.{IsTrackOf};
+ghost use Rattle.fb_geometry.specs.Shape.{IsTrackOf, cylinders_of, slots_at};
 ghost use Rattle.fb_geometry.specs.Places.{places};
 ghost use Rattle.fb_seek.specs.Positioning.{pos};
-ghost use Rattle.fb_service.specs.Passing.{begin_angle, begin_from, end_from, length_of};
+ghost use Rattle.fb_service.specs.Passing.{begin_angle, begin_from, turned, ArePassing};
 ghost use Rattle.std.specs.List.{AllByRecursion};
 ghost use Rattle.fb_sectormap.specs.Lookup.{place_at};
 ghost use Rattle.fb_service.specs.Service.{passage_from, passages, media_of, finish_of};
-ghost use Rattle.fb_service.specs.Extents.{passages_of, all_passages_of};
+ghost use Rattle.fb_service.specs.Extents.{passages_of, all_passages_of, IsUnbroken};
 
 use crate::{Disk, Extent, Passage};
-use fb_units::{NoMemory, Ns, Track, wait_for};
+use fb_geometry::Geometry;
+use fb_units::{NoMemory, Ns, Place, Track, wait_for};
 use smallvec::SmallVec;
 use std::alloc::Global;
 
@@ -66,72 +67,108 @@ pub fn nth_passage(disk: &Disk, extent: &Extent, i: u32) -> Passage
     passage(disk, extent.first + i as u64, extent.begin)
 }
 
-// The extent of one block, after the way to its track.
-fn single(disk: &Disk, source: Track, now: Ns, lbn: u64, write: bool) -> Extent
-    requires source { IsTrackOf disk.now.map source }
-    requires block { lbn < length (places disk.now.map) }
-    requires now { now ≤ 10 ^ 19 - 2 * 10 ^ 9 }
-    ensures first { result.first ≡ lbn }
-    ensures count { result.count ≡ 1 }
-    ensures track { result.track ≡ (place_at disk.now.map lbn).track }
-    ensures on_disk { IsTrackOf disk.now.map result.track }
-    ensures begin { result.begin ≡ begin_from disk.now.map (place_at disk.now.map lbn) (now + pos disk.now.mechanism source (place_at disk.now.map lbn).track write) }
-    ensures end { result.end ≡ end_from disk.now.map (place_at disk.now.map lbn) (now + pos disk.now.mechanism source (place_at disk.now.map lbn).track write) }
-    ensures angle { begin_angle disk.now.map (place_at disk.now.map lbn) < disk.now.map.rotation }
-    ensures after { now ≤ result.begin }
-    ensures takes_time { result.begin < result.end }
-    ensures long { 0 < length_of disk.now.map (place_at disk.now.map lbn) }
-    ensures soon { result.end ≤ now + 4 * 10 ^ 9 }
+// How long so many neighbouring slots of a track pass, this one the first.
+fn passing_time(geometry: &Geometry, place: Place, count: u32) -> Ns
+    requires track { place.track.cylinder < cylinders_of geometry.now.zones }
+    requires slot { place.slot < slots_at geometry.now.zones place.track.cylinder }
+    requires some { 0 < count }
+    requires few { count ≤ slots_at geometry.now.zones place.track.cylinder }
+    ensures value { result ≡ turned geometry.now place count }
+    ensures takes_time { 0 < result }
+    ensures one_turn { result ≤ geometry.now.rotation }
+    ensures room { slots_at geometry.now.zones place.track.cylinder ≤ geometry.now.rotation }
 {
-    let track = disk.map.place(lbn).track;
-    let from = now + disk.mechanism.pos(source, track, write);
-    let passed = passage(disk, lbn, from);
-    Extent {
-        track,
-        first: lbn,
-        count: 1,
-        begin: passed.begin,
-        end: passed.end,
+    let slots = geometry.slots(place.track);
+    let begin = geometry.slot_begin(place.track, place.slot);
+    let last = place.slot + count - 1;
+    if last < slots {
+        geometry.slot_end(place.track, last) - begin
+    } else {
+        geometry.rotation() - begin + geometry.slot_end(place.track, last - slots)
     }
 }
 
-// Adds a block to the extents: to the last one, where it goes on without a wait within a rotation.
-fn add_block(
+// The extent of a sector and of those that pass directly after it, at most so many in all, after the way
+// to their track.
+fn stretch_extent(
+    disk: &Disk,
+    source: Track,
+    now: Ns,
+    lbn: u64,
+    most: u32,
+    write: bool,
+) -> Extent
+    requires source { IsTrackOf disk.now.map source }
+    requires some { 0 < most }
+    requires blocks { lbn + most ≤ length (places disk.now.map) }
+    requires now { now ≤ 10 ^ 19 - 2 * 10 ^ 9 }
+    ensures first { result.first ≡ lbn }
+    ensures bound { result.count ≤ most }
+    ensures on_disk { IsTrackOf disk.now.map result.track }
+    ensures begin { result.begin ≡ begin_from disk.now.map (place_at disk.now.map lbn) (now + pos disk.now.mechanism source (place_at disk.now.map lbn).track write) }
+    ensures unbroken { IsUnbroken disk.now.map result }
+    ensures timed { ArePassing disk.now.map lbn result.count }
+    ensures after { now ≤ result.begin }
+    ensures takes_time { result.begin < result.end }
+    ensures one_turn { result.end ≤ result.begin + disk.now.map.rotation }
+    ensures soon { result.end ≤ now + 4 * 10 ^ 9 }
+{
+    let geometry = disk.map.geometry();
+    let stretch = disk.map.stretch(lbn);
+    let place = stretch.place;
+    let count = stretch.count.min(most);
+    let angle = geometry.slot_begin(place.track, place.slot);
+    let from = now + disk.mechanism.pos(source, place.track, write);
+    let begin = from + wait_for(geometry.rotation(), angle, from);
+    let end = begin + passing_time(geometry, place, count);
+    Extent {
+        track: place.track,
+        first: lbn,
+        count,
+        begin,
+        end,
+    }
+}
+
+// Adds an extent to the others: to the last one, where it goes on without a wait within a rotation.
+fn add_extent(
     disk: &Disk,
     extents: &mut SmallVec<Extent, 4>,
     last: &mut Extent,
-    block: Extent,
+    next: Extent,
 ) -> Result<(), NoMemory>
-    requires one { block.count ≡ 1 }
-    requires next { last.old.first + last.old.count ≡ block.first }
-    requires room { last.old.count < 2 ^ 32 - 1 }
+    requires next { last.old.first + last.old.count ≡ next.first }
+    requires room { last.old.count + next.count < 2 ^ 32 }
     requires forward { last.old.begin < last.old.end }
-    requires begin { block.begin ≡ begin_from disk.now.map (place_at disk.now.map block.first) block.begin }
-    requires angle { begin_angle disk.now.map (place_at disk.now.map block.first) < disk.now.map.rotation }
-    requires track { block.track ≡ (place_at disk.now.map block.first).track }
-    requires after { last.old.end ≤ block.begin }
-    requires short { block.begin < block.end }
+    requires after { last.old.end ≤ next.begin }
+    requires takes_time { next.begin < next.end }
+    requires unbroken { IsUnbroken disk.now.map last.old }
+    requires next_unbroken { IsUnbroken disk.now.map next }
+    requires timed { ArePassing disk.now.map next.first next.count }
+    requires extents { AllByRecursion (IsUnbroken disk.now.map) extents.old.items }
     ensures passages { OnOk result (all_passages_of disk.now.map extents.new.items ++ passages_of disk.now.map last.new
-        ≡ all_passages_of disk.now.map extents.old.items ++ passages_of disk.now.map last.old ++ passage_from disk.now.map block.first block.begin ∷ []) }
-    ensures track { OnOk result (last.new.track ≡ block.track) }
-    ensures next { OnOk result (last.new.first + last.new.count ≡ block.first + 1) }
-    ensures few { OnOk result (last.new.count ≤ last.old.count + 1) }
+        ≡ (all_passages_of disk.now.map extents.old.items ++ passages_of disk.now.map last.old) ++ passages_of disk.now.map next) }
+    ensures unbroken { OnOk result (IsUnbroken disk.now.map last.new) }
+    ensures extents { OnOk result (AllByRecursion (IsUnbroken disk.now.map) extents.new.items) }
+    ensures track { OnOk result (last.new.track ≡ next.track) }
+    ensures next { OnOk result (last.new.first + last.new.count ≡ next.first + next.count) }
+    ensures few { OnOk result (last.new.count ≤ last.old.count + next.count) }
     ensures forward { OnOk result (last.new.begin < last.new.end) }
-    ensures end { OnOk result (last.new.end ≡ block.end) }
+    ensures end { OnOk result (last.new.end ≡ next.end) }
 {
     let rotation = disk.map.geometry().rotation();
-    let goes_on = block.track == last.track && block.begin == last.end;
-    if goes_on && block.begin - last.begin < rotation {
-        last.end = block.end;
-        last.count += 1;
+    let without_wait = next.track == last.track && next.begin == last.end;
+    if without_wait && next.end - last.begin <= rotation {
+        last.end = next.end;
+        last.count += next.count;
     } else {
         extents.push(*last)?;
-        *last = block;
+        *last = next;
     }
     Ok(())
 }
 
-/// Serves a request block by block, in ascending order.
+/// Serves a request sector after sector, in ascending order.
 pub fn serve(
     alloc: Global,
     disk: &Disk,
@@ -155,13 +192,16 @@ pub fn serve(
     ensures later { IfOk result (λ service. service.media < service.finish) }
     ensures each { IfOk result (λ service. AllByRecursion (λ passage. passage.begin < passage.end) (passages disk.now source now write lbn count)) }
     ensures soon { IfOk result (λ service. service.finish ≤ now + count * (4 * 10 ^ 9)) }
+    ensures unbroken { IfOk result (λ service. AllByRecursion (IsUnbroken disk.now.map) service.extents.items) }
 {
     let mut extents = SmallVec::new(alloc);
-    let mut last = single(disk, source, now, lbn, write);
+    let mut last = stretch_extent(disk, source, now, lbn, count, write);
     let media = last.begin;
-    for next in 1..count {
-        let block = single(disk, last.track, last.end, lbn + next as u64, write);
-        add_block(disk, &mut extents, &mut last, block)?;
+    let mut served = last.count;
+    while served < count {
+        let next = stretch_extent(disk, last.track, last.end, lbn + served as u64, count - served, write);
+        served += next.count;
+        add_extent(disk, &mut extents, &mut last, next)?;
     }
     extents.push(last)?;
     Ok(Service {
