@@ -2,20 +2,8 @@
 use Rattle.std.proofs.Common.{◌≡◌, ℕ, ◌≤◌, ◌<◌, List, [], ◌∷◌, ◌++◌, refl, true, false, Bool, cond, T, Option, Some, None, arith, sym, subst, ap, nat_le, true≢false, leb→le}
 use Rattle.std.specs.List.{AllByRecursion}
 use Rattle.fb_units.specs.declared.types.Request.{Request}
-use Rattle.fb_model.specs.PlainReplay.{better, first_least}
-
--- those before the pick have a greater key, those behind it no lesser one
-pub record IsFirstLeast (key : Request → ℕ) (requests : List Request) (pick : Request) (others : List Request) : Type 0 where
-  pub front : List Request
-  pub back : List Request
-  pub whole : requests ≡ front ++ pick ∷ back
-  pub rest : others ≡ front ++ back
-  pub before : AllByRecursion (λ request. key pick < key request) front
-  pub after : AllByRecursion (λ request. key pick ≤ key request) back
-
-abbrev pub PickOf : (Request → ℕ) → List Request → Option (Request × List Request) → Type 0
-PickOf key requests None = requests ≡ []
-PickOf key requests (Some best) = IsFirstLeast key requests best.0 best.1
+use Rattle.fb_model.specs.PlainReplay.{better, first_least, kept, pick_with, first_ready, has_arrived}
+use Rattle.fb_model.specs.Laws.{IsFirstLeast, IsPickOf, IsFirstReady, IsReadyPickOf}
 
 so : (b : Bool) → b ≡ true → T b
 so true p = tt
@@ -36,7 +24,7 @@ all_least key least pick [] back p before after = (p, weaker back after)
 all_least key least pick (request ∷ front) back p before after = (let one = before.0 in omega arith, all_least key least pick front back p before.1 after)
 
 pick_one : (key : Request → ℕ) (request : Request) (requests : List Request) (best : Request × List Request) (b : Bool) → nat_le (key request) (key best.0) ≡ b
-    → IsFirstLeast key requests best.0 best.1 → PickOf key (request ∷ requests) (cond b (Some (request, requests)) (Some (best.0, request ∷ best.1)))
+    → IsFirstLeast key requests best.0 best.1 → IsPickOf key (request ∷ requests) (cond b (Some (request, requests)) (Some (best.0, request ∷ best.1)))
 pick_one key request requests best true e m = record {
   front = [];
   back = requests;
@@ -56,7 +44,7 @@ pick_one key request requests best false e m = record {
 }
 
 pick_step : (key : Request → ℕ) (request : Request) (requests : List Request) (best : Option (Request × List Request))
-    → PickOf key requests best → PickOf key (request ∷ requests) (better key request requests best)
+    → IsPickOf key requests best → IsPickOf key (request ∷ requests) (better key request requests best)
 pick_step key request requests None e = record {
   front = [];
   back = requests;
@@ -67,6 +55,82 @@ pick_step key request requests None e = record {
 }
 pick_step key request requests (Some best) m = pick_one key request requests best (nat_le (key request) (key best.0)) refl m
 
-pub pick_of-first_least : (key : Request → ℕ) (requests : List Request) → PickOf key requests (first_least key requests)
+pub pick_of-first_least : (key : Request → ℕ) (requests : List Request) → IsPickOf key requests (first_least key requests)
 pick_of-first_least key [] = refl
 pick_of-first_least key (request ∷ requests) = pick_step key request requests (first_least key requests) (pick_of-first_least key requests)
+
+-- ---- among those that have arrived
+
+-- no key of those that have arrived is lesser than the pick's
+all_ready : (key : Request → ℕ) (now least : ℕ) (pick : Request) (front back : List Request) → least ≤ key pick
+    → AllByRecursion (λ request. request.arrival ≤ now → key pick < key request) front → AllByRecursion (λ request. request.arrival ≤ now → key pick ≤ key request) back
+    → AllByRecursion (λ request. request.arrival ≤ now → least ≤ key request) (front ++ pick ∷ back)
+all_ready key now least pick [] back p before after = (λ arrived. p, weaker back after)
+  where
+    weaker : (back : List Request) → AllByRecursion (λ request. request.arrival ≤ now → key pick ≤ key request) back → AllByRecursion (λ request. request.arrival ≤ now → least ≤ key request) back
+    weaker [] q = tt
+    weaker (request ∷ requests) q = (λ arrived. (let one = q.0 arrived in omega arith), weaker requests q.1)
+all_ready key now least pick (request ∷ front) back p before after =
+    (λ arrived. (let one = before.0 arrived in omega arith), all_ready key now least pick front back p before.1 after)
+
+none_ready : (key : Request → ℕ) (now least : ℕ) (requests : List Request) → AllByRecursion (λ request. now < request.arrival) requests
+    → AllByRecursion (λ request. request.arrival ≤ now → least ≤ key request) requests
+none_ready key now least [] none = tt
+none_ready key now least (request ∷ requests) none = (λ arrived. absurd (let late = none.0 in omega arith), none_ready key now least requests none.1)
+
+ready_one : (key : Request → ℕ) (now : ℕ) (request : Request) (requests : List Request) (best : Request × List Request) (b : Bool) → request.arrival ≤ now → nat_le (key request) (key best.0) ≡ b
+    → IsFirstReady key now requests best.0 best.1 → IsReadyPickOf key now (request ∷ requests) (cond b (Some (request, requests)) (Some (best.0, request ∷ best.1)))
+ready_one key now request requests best true here e m = record {
+  front = [];
+  back = requests;
+  whole = refl;
+  rest = refl;
+  arrived = here;
+  before = tt;
+  after = subst (λ rest. AllByRecursion (λ other. other.arrival ≤ now → key request ≤ key other) rest) (sym m.whole)
+      (all_ready key now (key request) best.0 m.front m.back (leb→le (key request) (key best.0) (so (nat_le (key request) (key best.0)) e)) m.before m.after);
+}
+ready_one key now request requests best false here e m = record {
+  front = request ∷ m.front;
+  back = m.back;
+  whole = ap (λ rest. request ∷ rest) m.whole;
+  rest = ap (λ rest. request ∷ rest) m.rest;
+  arrived = m.arrived;
+  before = (λ arrived. not_so (key request) (key best.0) e, m.before);
+  after = m.after;
+}
+
+ready_better : (key : Request → ℕ) (now : ℕ) (request : Request) (requests : List Request) (best : Option (Request × List Request)) → request.arrival ≤ now
+    → IsReadyPickOf key now requests best → IsReadyPickOf key now (request ∷ requests) (better key request requests best)
+ready_better key now request requests None here m = record {
+  front = [];
+  back = requests;
+  whole = refl;
+  rest = refl;
+  arrived = here;
+  before = tt;
+  after = none_ready key now (key request) requests m;
+}
+ready_better key now request requests (Some best) here m = ready_one key now request requests best (nat_le (key request) (key best.0)) here refl m
+
+ready_kept : (key : Request → ℕ) (now : ℕ) (request : Request) (requests : List Request) (best : Option (Request × List Request)) → now < request.arrival
+    → IsReadyPickOf key now requests best → IsReadyPickOf key now (request ∷ requests) (kept request best)
+ready_kept key now request requests None late m = (late, m)
+ready_kept key now request requests (Some best) late m = record {
+  front = request ∷ m.front;
+  back = m.back;
+  whole = ap (λ rest. request ∷ rest) m.whole;
+  rest = ap (λ rest. request ∷ rest) m.rest;
+  arrived = m.arrived;
+  before = (λ arrived. absurd (omega arith), m.before);
+  after = m.after;
+}
+
+ready_step : (key : Request → ℕ) (now : ℕ) (request : Request) (requests : List Request) (best : Option (Request × List Request)) (b : Bool) → has_arrived now request ≡ b
+    → IsReadyPickOf key now requests best → IsReadyPickOf key now (request ∷ requests) (pick_with b key request requests best)
+ready_step key now request requests best true e m = ready_better key now request requests best (leb→le request.arrival now (so (nat_le request.arrival now) e)) m
+ready_step key now request requests best false e m = ready_kept key now request requests best (not_so request.arrival now e) m
+
+pub ready_pick : (key : Request → ℕ) (now : ℕ) (requests : List Request) → IsReadyPickOf key now requests (first_ready key now requests)
+ready_pick key now [] = tt
+ready_pick key now (request ∷ requests) = ready_step key now request requests (first_ready key now requests) (has_arrived now request) refl (ready_pick key now requests)

@@ -1,0 +1,5 @@
+use Rattle.fb_geometry.proofs.Rotation.{cover}
+use Rattle.fb_model.proofs.laws.slots_cover_rotation.Goals as goal
+
+pub returns : goal.returns
+returns c = cover
