@@ -1,7 +1,9 @@
 -- Laws of the definitions, each in its subject's own words.
-use Rattle.std.specs.Prelude.{◌≡◌, ℕ, ◌+◌, ◌-◌, ◌*◌, ◌%◌, ◌<◌, ◌≤◌, List, [], ◌∷◌, ◌++◌, length, Option, Some, None}
-use Rattle.std.specs.List.{AllByRecursion, sum_by}
+use Rattle.std.specs.Prelude.{◌≡◌, ℕ, ◌+◌, ◌-◌, ◌*◌, ◌%◌, ◌<◌, ◌≤◌, List, [], ◌∷◌, ◌++◌, length, map, true, Option, Some, None, IsPermutation}
+use Rattle.std.specs.List.{AllByRecursion, list_any, sum_by}
 use Rattle.fb_units.specs.declared.types.Request.{Request}
+use Rattle.fb_units.specs.declared.types.Track.{Track}
+use Rattle.fb_units.specs.Rising.{IsRising}
 use Rattle.fb_units.specs.Wait.{wait, IsLeastWait}
 use Rattle.fb_geometry.specs.declared.zone.Zone.{Zone}
 use Rattle.fb_geometry.specs.Shape.{Shape}
@@ -10,8 +12,9 @@ use Rattle.fb_geometry.specs.Places.{places}
 use Rattle.fb_geometry.specs.Faults.{FitsLayout, first_fault}
 use Rattle.fb_geometry.specs.Sound.{HasOwnPlaces, cylinder_size}
 use Rattle.fb_sectormap.specs.Lookup.{place_at}
+use Rattle.fb_service.specs.declared.disk.Disk.{Disk}
 use Rattle.fb_service.specs.Passing.{begin_angle, begin_from}
-use Rattle.fb_model.specs.PlainReplay.{first_least, first_ready}
+use Rattle.fb_model.specs.PlainReplay.{Key, Served, finish, last_track, service, has_arrived, first_least, first_ready, first_track, plain_replay}
 
 -- ---- the platter
 
@@ -89,3 +92,47 @@ IsReadyPickOf key now requests (Some pick) = IsFirstReady key now requests pick.
 
 abbrev pub ReadyPicksAreFirstLeast : Type 0
 ReadyPicksAreFirstLeast = (key : Request → ℕ) (now : ℕ) (requests : List Request) → IsReadyPickOf key now requests (first_ready key now requests)
+
+-- ---- the plain replay
+
+-- each service starts on the track on which the one before it ended, and not before it ended
+abbrev pub AreInTurn : Disk → Track → ℕ → List Served → Type 0
+AreInTurn disk head now [] = Unit {0}
+AreInTurn disk head now (served ∷ later) =
+    (served.source ≡ head) × (now ≤ served.start) × AreInTurn disk (last_track disk served) (finish served) later
+
+-- each request is served once, none before it arrives, one after another
+pub record ServesEachOnce (disk : Disk) (requests : List Request) (replay : List Served) : Type 0 where
+  pub once : IsPermutation requests (map (λ served. served.request) replay)
+  pub arrived : AllByRecursion (λ served. served.request.arrival ≤ served.start) replay
+  pub in_turn : AreInTurn disk first_track 0 replay
+  pub ascend : IsRising (map (λ served. served.start) replay)
+
+abbrev pub ReplaysServeEachOnce : Type 0
+ReplaysServeEachOnce = (disk : Disk) (key : Key) (requests : List Request) → ServesEachOnce disk requests (plain_replay disk key requests)
+
+-- the first instant from now on by which one of the requests has arrived
+pub record IsReadyAt (now : ℕ) (requests : List Request) (instant : ℕ) : Type 0 where
+  pub from : now ≤ instant
+  pub arrived : list_any (has_arrived instant) requests ≡ true
+  pub first : (other : ℕ) → now ≤ other → list_any (has_arrived other) requests ≡ true → instant ≤ other
+
+-- of the requests left the first of least key among those that have arrived is served, as soon as one has, and these others are left
+pub record IsServedNext (disk : Disk) (key : Key) (head : Track) (now : ℕ) (left : List Request) (served : Served) (others : List Request) : Type 0 where
+  pub start : IsReadyAt now left served.start
+  pub pick : IsFirstReady (key disk head served.start) served.start left served.request others
+  pub passes : served ≡ service disk head served.start served.request
+
+-- so it goes on until none is left
+abbrev pub FollowsRules : Disk → Key → Track → ℕ → List Request → List Served → Type 0
+FollowsRules disk key head now left [] = left ≡ []
+FollowsRules disk key head now left (served ∷ later) =
+    (others : List Request) × IsServedNext disk key head now left served others × FollowsRules disk key (last_track disk served) (finish served) others later
+
+-- the plain replay follows the rules, and no other list of services does
+pub record IsOnlyReplay (disk : Disk) (key : Key) (requests : List Request) : Type 0 where
+  pub follows : FollowsRules disk key first_track 0 requests (plain_replay disk key requests)
+  pub only : (other : List Served) → FollowsRules disk key first_track 0 requests other → other ≡ plain_replay disk key requests
+
+abbrev pub OnePlainReplay : Type 0
+OnePlainReplay = (disk : Disk) (key : Key) (requests : List Request) → IsRising (map (λ request. request.arrival) requests) → IsOnlyReplay disk key requests

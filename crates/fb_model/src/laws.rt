@@ -1,5 +1,5 @@
 // Laws of the definitions.
-ghost use Rattle.fb_model.specs.Laws.{WaitsAreLeast, SlotsCoverRotation, PassagesBeginFirst, PlacesAreOwn, SectorsByZone, PicksAreFirstLeast, ReadyPicksAreFirstLeast};
+ghost use Rattle.fb_model.specs.Laws.{WaitsAreLeast, SlotsCoverRotation, PassagesBeginFirst, PlacesAreOwn, SectorsByZone, PicksAreFirstLeast, ReadyPicksAreFirstLeast, ReplaysServeEachOnce, OnePlainReplay};
 
 /// The wait for an angle is the least one after which the platter stands there.
 pub fn waits_are_least()
@@ -33,4 +33,14 @@ pub fn sectors_by_zone()
 pub fn picks_are_first_least()
     ensures all { PicksAreFirstLeast }
     ensures ready { ReadyPicksAreFirstLeast }
+{}
+
+/// A plain replay serves each request once, none before it arrives, one after another.
+pub fn replays_serve_each_once()
+    ensures { ReplaysServeEachOnce }
+{}
+
+/// The rules of service allow one list of services alone, which is the plain replay.
+pub fn one_plain_replay()
+    ensures { OnePlainReplay }
 {}
