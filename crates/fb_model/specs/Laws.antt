@@ -14,6 +14,13 @@ use Rattle.fb_geometry.specs.Sound.{HasOwnPlaces, cylinder_size}
 use Rattle.fb_sectormap.specs.Lookup.{place_at}
 use Rattle.fb_service.specs.declared.disk.Disk.{Disk}
 use Rattle.fb_service.specs.Passing.{begin_angle, begin_from}
+use Rattle.fb_wanted.specs.declared.block.Block.{Block}
+use Rattle.fb_rows.specs.declared.gap.Gap.{Gap}
+use Rattle.fb_rows.specs.declared.gap.Plan.{Plan}
+use Rattle.fb_model.specs.Plans.{IsBest}
+use Rattle.fb_model.specs.Foreground.{promoted}
+use Rattle.fb_model.specs.Inputs.{Inputs, requests}
+use Rattle.fb_model.specs.Accepted.{IsAccepted}
 use Rattle.fb_model.specs.PlainReplay.{Key, Served, finish, last_track, service, has_arrived, first_least, first_ready, first_track, plain_replay}
 
 -- ---- the platter
@@ -93,6 +100,16 @@ IsReadyPickOf key now requests (Some pick) = IsFirstReady key now requests pick.
 abbrev pub ReadyPicksAreFirstLeast : Type 0
 ReadyPicksAreFirstLeast = (key : Request → ℕ) (now : ℕ) (requests : List Request) → IsReadyPickOf key now requests (first_ready key now requests)
 
+-- ---- the foreground list
+
+-- the requests of the trace and the reads that were asked for, each once, in the order of their arrival
+pub record IsInOrder (inputs : Inputs) : Type 0 where
+  pub once : IsPermutation (inputs.trace ++ promoted inputs.calls) (requests inputs)
+  pub ascend : IsRising (map (λ request. request.arrival) (requests inputs))
+
+abbrev pub ForegroundListsAscend : Type 0
+ForegroundListsAscend = (inputs : Inputs) → IsAccepted inputs → IsInOrder inputs
+
 -- ---- the plain replay
 
 -- each service starts on the track on which the one before it ended, and not before it ended
@@ -136,3 +153,9 @@ pub record IsOnlyReplay (disk : Disk) (key : Key) (requests : List Request) : Ty
 
 abbrev pub OnePlainReplay : Type 0
 OnePlainReplay = (disk : Disk) (key : Key) (requests : List Request) → IsRising (map (λ request. request.arrival) requests) → IsOnlyReplay disk key requests
+
+-- ---- the best plan
+
+-- a gap has one best plan at most
+abbrev pub OneBestPlan : Type 0
+OneBestPlan = (disk : Disk) (gap : Gap) (wanted : List Block) (a b : Plan) → IsBest disk gap wanted a → IsBest disk gap wanted b → a ≡ b

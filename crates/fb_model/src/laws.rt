@@ -1,5 +1,6 @@
 // Laws of the definitions.
-ghost use Rattle.fb_model.specs.Laws.{WaitsAreLeast, SlotsCoverRotation, PassagesBeginFirst, PlacesAreOwn, SectorsByZone, PicksAreFirstLeast, ReadyPicksAreFirstLeast, ReplaysServeEachOnce, OnePlainReplay};
+ghost use Rattle.fb_model.specs.Laws.{WaitsAreLeast, SlotsCoverRotation, PassagesBeginFirst, PlacesAreOwn, SectorsByZone, PicksAreFirstLeast, ReadyPicksAreFirstLeast, ForegroundListsAscend, ReplaysServeEachOnce, OnePlainReplay, OneBestPlan};
+ghost use Rattle.fb_model.specs.Known.{OneFullRun};
 
 /// The wait for an angle is the least one after which the platter stands there.
 pub fn waits_are_least()
@@ -35,6 +36,12 @@ pub fn picks_are_first_least()
     ensures ready { ReadyPicksAreFirstLeast }
 {}
 
+/// The foreground list has each request of the trace and each read that was asked for once, in the
+/// order of their arrival.
+pub fn foreground_lists_ascend()
+    ensures { ForegroundListsAscend }
+{}
+
 /// A plain replay serves each request once, none before it arrives, one after another.
 pub fn replays_serve_each_once()
     ensures { ReplaysServeEachOnce }
@@ -43,4 +50,14 @@ pub fn replays_serve_each_once()
 /// The rules of service allow one list of services alone, which is the plain replay.
 pub fn one_plain_replay()
     ensures { OnePlainReplay }
+{}
+
+/// A gap has one best plan at most.
+pub fn one_best_plan()
+    ensures { OneBestPlan }
+{}
+
+/// Inputs have one full run at most: it is determined to its last row.
+pub fn one_full_run()
+    ensures { OneFullRun }
 {}
