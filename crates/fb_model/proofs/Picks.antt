@@ -1,6 +1,9 @@
 -- The pick is the first request of least key, and the others stay in their order.
-use Rattle.std.proofs.Common.{◌≡◌, ℕ, ◌≤◌, ◌<◌, List, [], ◌∷◌, ◌++◌, refl, true, false, Bool, cond, T, Option, Some, None, arith, sym, subst, ap, nat_le, true≢false, leb→le}
+use Rattle.std.proofs.Common.{inl, inr, ◌∙◌, ◌≡◌, ℕ, ◌≤◌, ◌<◌, List, [], ◌∷◌, ◌++◌, refl, true, false, Bool, cond, T, Option, Some, None, arith, sym, subst, ap, nat_le, true≢false, leb→le}
+use Rattle.std.specs.Prelude.{if◌then◌else◌}
 use Rattle.std.specs.List.{AllByRecursion}
+use Rattle.std.proofs.lemmas.Bool.{cases_Bool}
+use Rattle.std.proofs.lemmas.Bool.Decides.{nat_tests}
 use Rattle.fb_units.specs.declared.types.Request.{Request}
 use Rattle.fb_model.specs.PlainReplay.{better, first_least, kept, pick_with, first_ready, has_arrived}
 use Rattle.fb_model.specs.Laws.{IsFirstLeast, IsPickOf, IsFirstReady, IsReadyPickOf}
@@ -134,3 +137,60 @@ ready_step key now request requests best false e m = ready_kept key now request 
 pub ready_pick : (key : Request → ℕ) (now : ℕ) (requests : List Request) → IsReadyPickOf key now requests (first_ready key now requests)
 ready_pick key now [] = tt
 ready_pick key now (request ∷ requests) = ready_step key now request requests (first_ready key now requests) (has_arrived now request) refl (ready_pick key now requests)
+
+-- ---- and nothing else is a pick
+
+-- the pick among those that have arrived is one
+one_back : (key : Request → ℕ) (now : ℕ) (pick : Request) (back : List Request) (best : Option (Request × List Request)) → AllByRecursion (λ request. request.arrival ≤ now → key pick ≤ key request) back
+    → IsReadyPickOf key now back best → better key pick back best ≡ Some (pick, back)
+one_back key now pick back None after m = refl
+one_back key now pick back (Some best) after m =
+    let least = at_pick m.front (subst (λ xs. AllByRecursion (λ request. request.arrival ≤ now → key pick ≤ key request) xs) m.whole after) m.arrived in
+    let so : nat_le (key pick) (key best.0) ≡ true = grind (arith, nat_tests) in
+    ap (λ b. if b then Some (pick, back) else Some (best.0, pick ∷ best.1)) so
+  where
+    at_pick : (front : List Request) → AllByRecursion (λ request. request.arrival ≤ now → key pick ≤ key request) (front ++ best.0 ∷ m.back) → best.0.arrival ≤ now → key pick ≤ key best.0
+    at_pick [] all arrived = all.0 arrived
+    at_pick (request ∷ front) all arrived = at_pick front all.1 arrived
+
+one_front : (key : Request → ℕ) (now : ℕ) (pick : Request) (front back : List Request) → pick.arrival ≤ now → AllByRecursion (λ request. request.arrival ≤ now → key pick < key request) front
+    → AllByRecursion (λ request. request.arrival ≤ now → key pick ≤ key request) back → first_ready key now (front ++ pick ∷ back) ≡ Some (pick, front ++ back)
+one_front key now pick [] back arrived before after =
+    let here : nat_le pick.arrival now ≡ true = grind (arith, nat_tests) in
+    ap (λ b. pick_with b key pick back (first_ready key now back)) here ∙ one_back key now pick back (first_ready key now back) after (ready_pick key now back)
+one_front key now pick (request ∷ front) back arrived before after =
+    let rest = one_front key now pick front back arrived before.1 after in
+    ap (pick_with (has_arrived now request) key request (front ++ pick ∷ back)) rest ∙ elim (cases_Bool (has_arrived now request)) [
+      | inl here ↦
+          let greater = before.0 (let so : request.arrival ≤ now = grind (arith, nat_tests) in so) in
+          let not_less : nat_le (key request) (key pick) ≡ false = grind (arith, nat_tests) in
+          ap (λ b. pick_with b key request (front ++ pick ∷ back) (Some (pick, front ++ back))) here ∙ ap (λ b. if b then Some (request, front ++ pick ∷ back) else Some (pick, request ∷ (front ++ back))) not_less
+      | inr late ↦ ap (λ b. pick_with b key request (front ++ pick ∷ back) (Some (pick, front ++ back))) late
+    ]
+
+pub one_pick : (key : Request → ℕ) (now : ℕ) (left others : List Request) (pick : Request) → IsFirstReady key now left pick others → first_ready key now left ≡ Some (pick, others)
+one_pick key now left others pick m = ap (first_ready key now) m.whole ∙ one_front key now pick m.front m.back m.arrived m.before m.after ∙ ap (λ xs. Some (pick, xs)) (sym m.rest)
+
+least_back : (key : Request → ℕ) (pick : Request) (back : List Request) (best : Option (Request × List Request)) → AllByRecursion (λ request. key pick ≤ key request) back
+    → IsPickOf key back best → better key pick back best ≡ Some (pick, back)
+least_back key pick back None after m = refl
+least_back key pick back (Some best) after m =
+    let least = at_pick m.front (subst (λ xs. AllByRecursion (λ request. key pick ≤ key request) xs) m.whole after) in
+    let so : nat_le (key pick) (key best.0) ≡ true = grind (arith, nat_tests) in
+    ap (λ b. if b then Some (pick, back) else Some (best.0, pick ∷ best.1)) so
+  where
+    at_pick : (front : List Request) → AllByRecursion (λ request. key pick ≤ key request) (front ++ best.0 ∷ m.back) → key pick ≤ key best.0
+    at_pick [] all = all.0
+    at_pick (request ∷ front) all = at_pick front all.1
+
+least_front : (key : Request → ℕ) (pick : Request) (front back : List Request) → AllByRecursion (λ request. key pick < key request) front
+    → AllByRecursion (λ request. key pick ≤ key request) back → first_least key (front ++ pick ∷ back) ≡ Some (pick, front ++ back)
+least_front key pick [] back before after = least_back key pick back (first_least key back) after (pick_of-first_least key back)
+least_front key pick (request ∷ front) back before after =
+    let greater = before.0 in
+    let not_less : nat_le (key request) (key pick) ≡ false = grind (arith, nat_tests) in
+    ap (better key request (front ++ pick ∷ back)) (least_front key pick front back before.1 after)
+    ∙ ap (λ b. if b then Some (request, front ++ pick ∷ back) else Some (pick, request ∷ (front ++ back))) not_less
+
+pub one_least : (key : Request → ℕ) (requests others : List Request) (pick : Request) → IsFirstLeast key requests pick others → first_least key requests ≡ Some (pick, others)
+one_least key requests others pick m = ap (first_least key) m.whole ∙ least_front key pick m.front m.back m.before m.after ∙ ap (λ xs. Some (pick, xs)) (sym m.rest)

@@ -15,9 +15,12 @@ use Rattle.fb_seek.specs.Positioning.{pos}
 use Rattle.fb_service.specs.declared.disk.Disk.{Disk}
 use Rattle.fb_service.specs.Passing.{begin_from}
 use Rattle.fb_service.specs.Service.{passages, passage_from, finish_of}
-use Rattle.fb_model.specs.PlainReplay.{Key, Served, finish, last_track, service, has_arrived, better, pick_with, first_ready, start_of, plain, first_track, plain_replay}
-use Rattle.fb_model.specs.Laws.{IsFirstReady, IsReadyPickOf, AreInTurn, ServesEachOnce, IsReadyAt, IsServedNext, FollowsRules, IsOnlyReplay}
-use Rattle.fb_model.proofs.Picks.{ready_pick}
+use Rattle.fb_model.specs.PlainReplay.{Key, Served, finish, last_track, service, has_arrived, first_ready, start_of, plain, first_track, plain_replay}
+use Rattle.fb_rows.specs.declared.fore.ForeRow.{ForeRow}
+use Rattle.fb_model.specs.Inputs.{Inputs, requests, served}
+use Rattle.fb_model.specs.Content.{Medium, medium_of, fore_row, fore_rows}
+use Rattle.fb_model.specs.Laws.{AreOneByOne, HaveOneRow, IsFirstReady, IsReadyPickOf, AreInTurn, ServesEachOnce, IsReadyAt, IsServedNext, FollowsRules, IsOnlyReplay}
+use Rattle.fb_model.proofs.Picks.{ready_pick, one_pick}
 
 -- ---- when the next service starts
 
@@ -210,37 +213,6 @@ turns_follow disk key head now left (served ∷ later) rising turns =
 
 -- ---- and nothing else follows them
 
--- the pick among those that have arrived is one
-one_back : (key : Request → ℕ) (now : ℕ) (pick : Request) (back : List Request) (best : Option (Request × List Request)) → AllByRecursion (λ request. request.arrival ≤ now → key pick ≤ key request) back
-    → IsReadyPickOf key now back best → better key pick back best ≡ Some (pick, back)
-one_back key now pick back None after m = refl
-one_back key now pick back (Some best) after m =
-    let least = at_pick m.front (subst (λ xs. AllByRecursion (λ request. request.arrival ≤ now → key pick ≤ key request) xs) m.whole after) m.arrived in
-    let so : nat_le (key pick) (key best.0) ≡ true = grind (arith, nat_tests) in
-    ap (λ b. if b then Some (pick, back) else Some (best.0, pick ∷ best.1)) so
-  where
-    at_pick : (front : List Request) → AllByRecursion (λ request. request.arrival ≤ now → key pick ≤ key request) (front ++ best.0 ∷ m.back) → best.0.arrival ≤ now → key pick ≤ key best.0
-    at_pick [] all arrived = all.0 arrived
-    at_pick (request ∷ front) all arrived = at_pick front all.1 arrived
-
-one_front : (key : Request → ℕ) (now : ℕ) (pick : Request) (front back : List Request) → pick.arrival ≤ now → AllByRecursion (λ request. request.arrival ≤ now → key pick < key request) front
-    → AllByRecursion (λ request. request.arrival ≤ now → key pick ≤ key request) back → first_ready key now (front ++ pick ∷ back) ≡ Some (pick, front ++ back)
-one_front key now pick [] back arrived before after =
-    let here : nat_le pick.arrival now ≡ true = grind (arith, nat_tests) in
-    ap (λ b. pick_with b key pick back (first_ready key now back)) here ∙ one_back key now pick back (first_ready key now back) after (ready_pick key now back)
-one_front key now pick (request ∷ front) back arrived before after =
-    let rest = one_front key now pick front back arrived before.1 after in
-    ap (pick_with (has_arrived now request) key request (front ++ pick ∷ back)) rest ∙ elim (cases_Bool (has_arrived now request)) [
-      | inl here ↦
-          let greater = before.0 (let so : request.arrival ≤ now = grind (arith, nat_tests) in so) in
-          let not_less : nat_le (key request) (key pick) ≡ false = grind (arith, nat_tests) in
-          ap (λ b. pick_with b key request (front ++ pick ∷ back) (Some (pick, front ++ back))) here ∙ ap (λ b. if b then Some (request, front ++ pick ∷ back) else Some (pick, request ∷ (front ++ back))) not_less
-      | inr late ↦ ap (λ b. pick_with b key request (front ++ pick ∷ back) (Some (pick, front ++ back))) late
-    ]
-
-one_pick : (key : Request → ℕ) (now : ℕ) (left others : List Request) (pick : Request) → IsFirstReady key now left pick others → first_ready key now left ≡ Some (pick, others)
-one_pick key now left others pick m = ap (first_ready key now) m.whole ∙ one_front key now pick m.front m.back m.arrived m.before m.after ∙ ap (λ xs. Some (pick, xs)) (sym m.rest)
-
 one_start : (now : ℕ) (left : List Request) (start other : ℕ) → IsReadyAt now left start → IsReadyAt now left other → start ≡ other
 one_start now left start other a b = omega (arith, a.first other b.from b.arrived, b.first start a.from a.arrived)
 
@@ -284,3 +256,33 @@ only_replay disk key requests rising = record {
   follows = turns_follow disk key first_track 0 requests (plain_replay disk key requests) rising (plain_turns (length requests) disk key first_track 0 requests (omega arith));
   only = λ other follows. only_plain (length requests) disk key first_track 0 requests other rising (omega arith) follows;
 }
+
+-- ---- the rows
+
+rows_arrived : (medium : Medium) (replay : List Served) → AllByRecursion (λ (served : Served). served.request.arrival ≤ served.start) replay → AllByRecursion (λ (row : ForeRow). row.request.arrival ≤ row.start) (map (fore_row medium) replay)
+rows_arrived medium [] all = tt
+rows_arrived medium (served ∷ later) all = (all.0, rows_arrived medium later all.1)
+
+rows_one_by_one : (medium : Medium) (disk : Disk) (key : Key) (head : Track) (now : ℕ) (left : List Request) (replay : List Served) → AreTurns disk key head now left replay → AreOneByOne now (map (fore_row medium) replay)
+rows_one_by_one medium disk key head now left [] turns = tt
+rows_one_by_one medium disk key head now left (served ∷ later) turns = (
+  omega (arith, start_from now left, turns.1.start),
+  turns_end disk key head now left turns.0 served turns.1,
+  rows_one_by_one medium disk key (last_track disk served) (finish served) turns.0 later turns.2,
+)
+
+same_requests : (medium : Medium) (replay : List Served) → map (λ (row : ForeRow). row.request) (map (fore_row medium) replay) ≡ map (λ (served : Served). served.request) replay
+same_requests medium [] = refl
+same_requests medium (served ∷ later) = ap (λ xs. served.request ∷ xs) (same_requests medium later)
+
+pub one_row : (inputs : Inputs) → HaveOneRow (requests inputs) (fore_rows inputs)
+unfolding served fore_rows
+one_row inputs =
+    let replay = plain_replay inputs.disk inputs.key (requests inputs) in
+    let turns = plain_turns (length (requests inputs)) inputs.disk inputs.key first_track 0 (requests inputs) (omega arith) in
+    let each = each_once inputs.disk inputs.key (requests inputs) in
+    record {
+      once = subst (IsPermutation (requests inputs)) (sym (same_requests (medium_of inputs) replay)) each.once;
+      arrived = rows_arrived (medium_of inputs) replay each.arrived;
+      one_by_one = rows_one_by_one (medium_of inputs) inputs.disk inputs.key first_track 0 (requests inputs) replay turns;
+    }

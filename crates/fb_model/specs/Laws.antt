@@ -7,7 +7,7 @@ use Rattle.fb_units.specs.Rising.{IsRising}
 use Rattle.fb_units.specs.Wait.{wait, IsLeastWait}
 use Rattle.fb_geometry.specs.declared.zone.Zone.{Zone}
 use Rattle.fb_geometry.specs.Shape.{Shape}
-use Rattle.fb_geometry.specs.Angles.{CoverRotation}
+use Rattle.fb_geometry.specs.Angles.{slot_begin, CoverRotation}
 use Rattle.fb_geometry.specs.Places.{places}
 use Rattle.fb_geometry.specs.Faults.{FitsLayout, first_fault}
 use Rattle.fb_geometry.specs.Sound.{HasOwnPlaces, cylinder_size}
@@ -15,11 +15,15 @@ use Rattle.fb_sectormap.specs.Lookup.{place_at}
 use Rattle.fb_service.specs.declared.disk.Disk.{Disk}
 use Rattle.fb_service.specs.Passing.{begin_angle, begin_from}
 use Rattle.fb_wanted.specs.declared.block.Block.{Block}
+use Rattle.fb_rows.specs.declared.fore.ForeRow.{ForeRow}
+use Rattle.fb_rows.specs.declared.run.Run.{Run}
 use Rattle.fb_rows.specs.declared.gap.Gap.{Gap}
 use Rattle.fb_rows.specs.declared.gap.Plan.{Plan}
 use Rattle.fb_model.specs.Plans.{IsBest}
 use Rattle.fb_model.specs.Foreground.{promoted}
 use Rattle.fb_model.specs.Inputs.{Inputs, requests}
+use Rattle.fb_model.specs.Content.{fore_rows}
+use Rattle.fb_model.specs.SoundRun.{IsSound}
 use Rattle.fb_model.specs.Accepted.{IsAccepted}
 use Rattle.fb_model.specs.PlainReplay.{Key, Served, finish, last_track, service, has_arrived, first_least, first_ready, first_track, plain_replay}
 
@@ -32,6 +36,21 @@ WaitsAreLeast = (rotation angle now : ℕ) → angle < rotation → IsLeastWait 
 -- slots follow one another around the whole rotation
 abbrev pub SlotsCoverRotation : Type 0
 SlotsCoverRotation = (rotation n : ℕ) → 0 < n → n ≤ rotation → CoverRotation rotation n
+
+-- the angle lies in the slot
+pub record IsInSlot (rotation n angle slot : ℕ) : Type 0 where
+  pub inside : slot < n
+  pub from : slot_begin rotation n slot ≤ angle
+  pub below : angle < slot_begin rotation n (slot + 1)
+
+-- and in no other
+pub record HasOneSlot (rotation n angle : ℕ) : Type 0 where
+  pub slot : ℕ
+  pub lies : IsInSlot rotation n angle slot
+  pub only : (other : ℕ) → IsInSlot rotation n angle other → other ≡ slot
+
+abbrev pub AnglesHaveOneSlot : Type 0
+AnglesHaveOneSlot = (rotation n angle : ℕ) → 0 < n → angle < rotation → HasOneSlot rotation n angle
 
 -- the first instant from t on at which the platter stands at the angle
 pub record IsFirstAt (rotation angle t instant : ℕ) : Type 0 where
@@ -100,6 +119,15 @@ IsReadyPickOf key now requests (Some pick) = IsFirstReady key now requests pick.
 abbrev pub ReadyPicksAreFirstLeast : Type 0
 ReadyPicksAreFirstLeast = (key : Request → ℕ) (now : ℕ) (requests : List Request) → IsReadyPickOf key now requests (first_ready key now requests)
 
+-- and nothing else is one
+abbrev pub OnePick : Type 0
+OnePick = (key : Request → ℕ) (requests : List Request) (pick : Request) (others : List Request)
+    → IsFirstLeast key requests pick others → first_least key requests ≡ Some (pick, others)
+
+abbrev pub OneReadyPick : Type 0
+OneReadyPick = (key : Request → ℕ) (now : ℕ) (requests : List Request) (pick : Request) (others : List Request)
+    → IsFirstReady key now requests pick others → first_ready key now requests ≡ Some (pick, others)
+
 -- ---- the foreground list
 
 -- the requests of the trace and the reads that were asked for, each once, in the order of their arrival
@@ -127,6 +155,20 @@ pub record ServesEachOnce (disk : Disk) (requests : List Request) (replay : List
 
 abbrev pub ReplaysServeEachOnce : Type 0
 ReplaysServeEachOnce = (disk : Disk) (key : Key) (requests : List Request) → ServesEachOnce disk requests (plain_replay disk key requests)
+
+-- no row starts before the one before it has finished, and none finishes before it starts
+abbrev pub AreOneByOne : ℕ → List ForeRow → Type 0
+AreOneByOne now [] = Unit {0}
+AreOneByOne now (row ∷ rows) = (now ≤ row.start) × (row.start ≤ row.finish) × AreOneByOne row.finish rows
+
+-- each request has one row, which doesn't start before it arrives
+pub record HaveOneRow (requests : List Request) (rows : List ForeRow) : Type 0 where
+  pub once : IsPermutation requests (map (λ row. row.request) rows)
+  pub arrived : AllByRecursion (λ row. row.request.arrival ≤ row.start) rows
+  pub one_by_one : AreOneByOne 0 rows
+
+abbrev pub RequestsHaveOneRow : Type 0
+RequestsHaveOneRow = (inputs : Inputs) → HaveOneRow (requests inputs) (fore_rows inputs)
 
 -- the first instant from now on by which one of the requests has arrived
 pub record IsReadyAt (now : ℕ) (requests : List Request) (instant : ℕ) : Type 0 where
@@ -159,3 +201,17 @@ OnePlainReplay = (disk : Disk) (key : Key) (requests : List Request) → IsRisin
 -- a gap has one best plan at most
 abbrev pub OneBestPlan : Type 0
 OneBestPlan = (disk : Disk) (gap : Gap) (wanted : List Block) (a b : Plan) → IsBest disk gap wanted a → IsBest disk gap wanted b → a ≡ b
+
+-- ---- the background
+
+-- inputs that ask for the same foreground, whatever else their calls ask for
+pub record HaveOneForeground (a b : Inputs) : Type 0 where
+  pub disk : a.disk ≡ b.disk
+  pub latent : a.latent ≡ b.latent
+  pub trace : a.trace ≡ b.trace
+  pub key : a.key ≡ b.key
+  pub promoted : promoted a.calls ≡ promoted b.calls
+
+-- background work leaves the foreground as it is
+abbrev pub ForegroundIsUntouched : Type 0
+ForegroundIsUntouched = (a b : Inputs) (run_a run_b : Run) → HaveOneForeground a b → IsSound a run_a → IsSound b run_b → run_a.fore ≡ run_b.fore

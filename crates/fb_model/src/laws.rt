@@ -1,5 +1,5 @@
 // Laws of the definitions.
-ghost use Rattle.fb_model.specs.Laws.{WaitsAreLeast, SlotsCoverRotation, PassagesBeginFirst, PlacesAreOwn, SectorsByZone, PicksAreFirstLeast, ReadyPicksAreFirstLeast, ForegroundListsAscend, ReplaysServeEachOnce, OnePlainReplay, OneBestPlan};
+ghost use Rattle.fb_model.specs.Laws.{WaitsAreLeast, SlotsCoverRotation, AnglesHaveOneSlot, PassagesBeginFirst, PlacesAreOwn, SectorsByZone, PicksAreFirstLeast, ReadyPicksAreFirstLeast, OnePick, OneReadyPick, ForegroundListsAscend, ReplaysServeEachOnce, RequestsHaveOneRow, OnePlainReplay, OneBestPlan, ForegroundIsUntouched};
 ghost use Rattle.fb_model.specs.Known.{OneFullRun};
 
 /// The wait for an angle is the least one after which the platter stands there.
@@ -8,9 +8,10 @@ pub fn waits_are_least()
 {}
 
 /// The slots of a track ascend from angle 0 and end with the rotation, each where the next begins,
-/// if there are no more of them than nanoseconds.
+/// if there are no more of them than nanoseconds. Each angle lies in one of them alone.
 pub fn slots_cover_rotation()
-    ensures { SlotsCoverRotation }
+    ensures cover { SlotsCoverRotation }
+    ensures one { AnglesHaveOneSlot }
 {}
 
 /// A sector's passage begins at the first instant from the given one on at which the platter stands
@@ -30,10 +31,12 @@ pub fn sectors_by_zone()
 {}
 
 /// The pick is the first request of least key, and the others keep their order. So it is too among
-/// the requests that have arrived.
+/// the requests that have arrived. Nothing else is a pick.
 pub fn picks_are_first_least()
     ensures all { PicksAreFirstLeast }
     ensures ready { ReadyPicksAreFirstLeast }
+    ensures one { OnePick }
+    ensures one_ready { OneReadyPick }
 {}
 
 /// The foreground list has each request of the trace and each read that was asked for once, in the
@@ -42,9 +45,11 @@ pub fn foreground_lists_ascend()
     ensures { ForegroundListsAscend }
 {}
 
-/// A plain replay serves each request once, none before it arrives, one after another.
+/// A plain replay serves each request once, none before it arrives, one after another. So each
+/// request has one row of the foreground.
 pub fn replays_serve_each_once()
-    ensures { ReplaysServeEachOnce }
+    ensures served { ReplaysServeEachOnce }
+    ensures rows { RequestsHaveOneRow }
 {}
 
 /// The rules of service allow one list of services alone, which is the plain replay.
@@ -60,4 +65,10 @@ pub fn one_best_plan()
 /// Inputs have one full run at most: it is determined to its last row.
 pub fn one_full_run()
     ensures { OneFullRun }
+{}
+
+/// Background work leaves the foreground as it is: sound runs whose inputs ask for the same
+/// foreground have the same foreground rows.
+pub fn foreground_is_untouched()
+    ensures { ForegroundIsUntouched }
 {}
