@@ -62,7 +62,7 @@ pub fn one_best_plan()
     ensures { OneBestPlan }
 {}
 
-/// Inputs have one full run at most: it is determined to its last row.
+/// Accepted inputs have one full run at most: it is determined to its last row.
 pub fn one_full_run()
     ensures { OneFullRun }
 {}
