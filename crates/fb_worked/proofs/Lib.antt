@@ -1,1 +1,10 @@
 pub mod Texts
+pub mod OnSmallDisks
+pub mod BestPlans
+pub mod GapsRuns
+pub mod IdleRuns
+pub mod SessionsRuns
+pub mod WrittenRuns
+pub mod BackupsRuns
+pub mod CleaningRuns
+pub mod KnownRuns

@@ -1,2 +1,11 @@
+pub mod Rows
 pub mod SmallDisk
 pub mod Foreground
+pub mod Whole
+pub mod Gaps
+pub mod Idle
+pub mod Sessions
+pub mod Written
+pub mod Backups
+pub mod Cleaning
+pub mod Known

@@ -1,9 +1,21 @@
 //! Small runs worked out by hand, computed from the definitions.
 //!
-//! Nothing here runs. Each function's contract says what the definitions give for a disk of 96
-//! sectors, and its proof is the computation.
+//! Nothing here runs. Each function's contract says what the definitions give for disks of four
+//! cylinders and two heads, and its proof is the computation.
 #![tactic(auto)]
 
+mod backups;
+mod cleaning;
 mod foreground;
+mod gaps;
+mod idle;
+mod sessions;
+mod written;
 
+pub use backups::worked_backups;
+pub use cleaning::worked_segments;
 pub use foreground::foreground_texts;
+pub use gaps::worked_gaps;
+pub use idle::worked_dwells;
+pub use sessions::worked_sessions;
+pub use written::worked_contents;

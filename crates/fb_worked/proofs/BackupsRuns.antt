@@ -1,0 +1,100 @@
+-- Runs that show backups, computed.
+use Rattle.std.proofs.Common.{List, [], ◌∷◌, refl, lit≤, true}
+use Rattle.fb_calls.specs.declared.call.Kind.TheVariants.{Backup}
+use Rattle.fb_rows.specs.declared.gap.Plan.TheVariants.{Direct}
+use Rattle.fb_rows.specs.declared.gap.How.TheVariants.{Idle as ByIdle}
+use Rattle.fb_worked.specs.Rows.{at, untouched, written, block, got, done_line, seal_line, task_line}
+use Rattle.fb_rows.specs.declared.back.BackRow.{BackRow}
+use Rattle.fb_model.specs.Course.{Part}
+use Rattle.fb_model.specs.SoundRun.{none, taken, IsSoundBy, Throughout}
+use Rattle.fb_model.specs.FullRun.{IsAllDelivered, IsFull}
+use Rattle.fb_worked.specs.Whole.{LeavesNothingOut}
+use Rattle.fb_worked.specs.Backups.{overwritten_backup, backup_without_aborted}
+use Rattle.fb_worked.proofs.OnSmallDisks.{on_small_disks, part, with_rows}
+use Rattle.fb_worked.proofs.BestPlans.{nothing_wanted}
+
+abbrev parts_of_overwritten_backup : List Part
+parts_of_overwritten_backup =
+    part [] (Direct 0) (
+    with_rows (got (block 0 0 0 2 (at 0 0) 1) 0 200 ByIdle 0 (untouched 0 2 ∷ [])) []
+    ∷ [])
+    ∷ part [] (Direct 250) []
+    ∷ part [] (Direct 0) (
+    with_rows (got (block 0 1 2 2 (at 0 0) 1) 1400 1600 ByIdle 0 (untouched 2 2 ∷ [])) []
+    ∷ with_rows (got (block 0 0 0 2 (at 0 0) 1) 2400 2600 ByIdle 0 (written 1 0 1 ∷ untouched 1 1 ∷ [])) (seal_line 0 2600 (written 1 0 1 ∷ untouched 1 3 ∷ []) ∷ done_line 0 2600 ∷ [])
+    ∷ [])
+    ∷ []
+
+abbrev tasks_of_overwritten_backup : List BackRow
+tasks_of_overwritten_backup = task_line 0 Backup 2 2 0 true ∷ []
+
+sound_overwritten_backup : IsSoundBy overwritten_backup.inputs parts_of_overwritten_backup overwritten_backup.run
+unfolding on_small_disks
+sound_overwritten_backup = record {
+  fore = refl;
+  passed_over = refl;
+  possible = refl;
+  end = refl;
+  part_each = refl;
+  tasks = tasks_of_overwritten_backup;
+  back = refl;
+  planned = (tt, ((lit≤ tt, lit≤ tt), (tt, tt)));
+  deliveries = (taken none, (none, (taken (taken none), tt)));
+  tested = (
+    record { settled = refl; followed = (refl, tt) },
+    (
+      record { settled = refl; followed = tt },
+      (record { settled = refl; followed = (refl, (refl, tt)) }, tt),
+    ),
+  );
+  counted = refl;
+}
+
+all_overwritten_backup : Throughout IsAllDelivered overwritten_backup.inputs parts_of_overwritten_backup
+unfolding on_small_disks
+all_overwritten_backup = (refl, (refl, (refl, tt)))
+
+pub overwritten_backup_is_whole : LeavesNothingOut overwritten_backup.inputs overwritten_backup.run
+overwritten_backup_is_whole = record { parts = parts_of_overwritten_backup; sound = sound_overwritten_backup; all = all_overwritten_backup }
+
+abbrev parts_of_backup_without_aborted : List Part
+parts_of_backup_without_aborted =
+    part [] (Direct 0) (
+    with_rows (got (block 0 0 0 2 (at 0 0) 1) 0 200 ByIdle 0 (untouched 0 2 ∷ [])) (seal_line 0 200 (untouched 0 2 ∷ []) ∷ done_line 0 200 ∷ [])
+    ∷ [])
+    ∷ part [] (Direct 250) []
+    ∷ part [] (Direct 0) []
+    ∷ []
+
+abbrev tasks_of_backup_without_aborted : List BackRow
+tasks_of_backup_without_aborted = task_line 0 Backup 2 1 1 true ∷ []
+
+sound_backup_without_aborted : IsSoundBy backup_without_aborted.inputs parts_of_backup_without_aborted backup_without_aborted.run
+unfolding on_small_disks
+sound_backup_without_aborted = record {
+  fore = refl;
+  passed_over = refl;
+  possible = refl;
+  end = refl;
+  part_each = refl;
+  tasks = tasks_of_backup_without_aborted;
+  back = refl;
+  planned = (tt, ((lit≤ tt, lit≤ tt), (tt, tt)));
+  deliveries = (taken none, (none, (none, tt)));
+  tested = (
+    record { settled = refl; followed = (refl, tt) },
+    (
+      record { settled = refl; followed = tt },
+      (record { settled = refl; followed = tt }, tt),
+    ),
+  );
+  counted = refl;
+}
+
+all_backup_without_aborted : Throughout IsAllDelivered backup_without_aborted.inputs parts_of_backup_without_aborted
+unfolding on_small_disks
+all_backup_without_aborted = (refl, (refl, (refl, tt)))
+
+pub backup_without_aborted_is_full : IsFull backup_without_aborted.inputs backup_without_aborted.run
+unfolding on_small_disks
+backup_without_aborted_is_full = record { parts = parts_of_backup_without_aborted; sound = sound_backup_without_aborted; best = (tt, (nothing_wanted _ _ (lit≤ tt, lit≤ tt), (tt, tt))); all = all_backup_without_aborted }

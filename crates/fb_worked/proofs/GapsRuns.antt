@@ -1,0 +1,288 @@
+-- Runs that show the plans of gaps, computed.
+use Rattle.std.proofs.Common.{List, [], ◌∷◌, refl, lit≤, lit<, true, false}
+use Rattle.fb_calls.specs.declared.call.Kind.TheVariants.{Plain}
+use Rattle.fb_rows.specs.declared.gap.Plan.TheVariants.{Direct, Detour}
+use Rattle.fb_rows.specs.declared.gap.How.TheVariants.{Gap as ByGap}
+use Rattle.fb_worked.specs.Rows.{at, untouched, block, got, done_line, task_line}
+use Rattle.fb_rows.specs.declared.back.BackRow.{BackRow}
+use Rattle.fb_model.specs.Course.{Part}
+use Rattle.fb_model.specs.SoundRun.{none, taken, IsSoundBy, Throughout}
+use Rattle.fb_model.specs.FullRun.{IsAllDelivered}
+use Rattle.fb_worked.specs.Whole.{LeavesNothingOut}
+use Rattle.fb_worked.specs.Gaps.{both_dwells, detour, no_time_to_settle, detour_on_the_way, detour_over_nothing, weight_decides, block_over_the_turn}
+use Rattle.fb_worked.proofs.OnSmallDisks.{on_small_disks, part, with_rows}
+
+abbrev parts_of_both_dwells : List Part
+parts_of_both_dwells =
+    part [] (Direct 0) []
+    ∷ part [] (Direct 800) (
+    with_rows (got (block 0 0 6 1 (at 0 0) 1) 600 700 ByGap 0 (untouched 6 1 ∷ [])) []
+    ∷ with_rows (got (block 0 1 7 1 (at 0 0) 1) 700 800 ByGap 0 (untouched 7 1 ∷ [])) []
+    ∷ with_rows (got (block 0 2 35 1 (at 1 0) 1) 1100 1200 ByGap 0 (untouched 35 1 ∷ [])) (done_line 0 1200 ∷ [])
+    ∷ [])
+    ∷ part [] (Direct 0) []
+    ∷ []
+
+abbrev tasks_of_both_dwells : List BackRow
+tasks_of_both_dwells = task_line 0 Plain 3 3 0 true ∷ []
+
+sound_both_dwells : IsSoundBy both_dwells.inputs parts_of_both_dwells both_dwells.run
+unfolding on_small_disks
+sound_both_dwells = record {
+  fore = refl;
+  passed_over = refl;
+  possible = refl;
+  end = refl;
+  part_each = refl;
+  tasks = tasks_of_both_dwells;
+  back = refl;
+  planned = ((lit≤ tt, lit≤ tt), ((lit≤ tt, lit≤ tt), (tt, tt)));
+  deliveries = (none, (taken (taken (taken none)), (none, tt)));
+  tested = (
+    record { settled = refl; followed = tt },
+    (
+      record { settled = refl; followed = (refl, (refl, (refl, tt))) },
+      (record { settled = refl; followed = tt }, tt),
+    ),
+  );
+  counted = refl;
+}
+
+all_both_dwells : Throughout IsAllDelivered both_dwells.inputs parts_of_both_dwells
+unfolding on_small_disks
+all_both_dwells = (refl, (refl, (refl, tt)))
+
+pub both_dwells_is_whole : LeavesNothingOut both_dwells.inputs both_dwells.run
+both_dwells_is_whole = record { parts = parts_of_both_dwells; sound = sound_both_dwells; all = all_both_dwells }
+
+abbrev parts_of_detour : List Part
+parts_of_detour =
+    part [] (Direct 0) []
+    ∷ part [] (Detour (at 0 1) 900) (
+    with_rows (got (block 0 0 20 1 (at 0 1) 1) 800 900 ByGap 0 (untouched 20 1 ∷ [])) (done_line 0 900 ∷ [])
+    ∷ [])
+    ∷ part [] (Direct 0) []
+    ∷ []
+
+abbrev tasks_of_detour : List BackRow
+tasks_of_detour = task_line 0 Plain 1 1 0 true ∷ []
+
+sound_detour : IsSoundBy detour.inputs parts_of_detour detour.run
+unfolding on_small_disks
+sound_detour = record {
+  fore = refl;
+  passed_over = refl;
+  possible = refl;
+  end = refl;
+  part_each = refl;
+  tasks = tasks_of_detour;
+  back = refl;
+  planned = ((lit≤ tt, lit≤ tt), (record { on_disk = record { cylinder = lit< tt; head = lit< tt }; not_source = refl; not_target = refl; after_arrival = lit≤ tt; in_time = lit≤ tt }, (tt, tt)));
+  deliveries = (none, (taken none, (none, tt)));
+  tested = (
+    record { settled = refl; followed = tt },
+    (
+      record { settled = refl; followed = (refl, tt) },
+      (record { settled = refl; followed = tt }, tt),
+    ),
+  );
+  counted = refl;
+}
+
+all_detour : Throughout IsAllDelivered detour.inputs parts_of_detour
+unfolding on_small_disks
+all_detour = (refl, (refl, (refl, tt)))
+
+pub detour_is_whole : LeavesNothingOut detour.inputs detour.run
+detour_is_whole = record { parts = parts_of_detour; sound = sound_detour; all = all_detour }
+
+abbrev parts_of_no_time_to_settle : List Part
+parts_of_no_time_to_settle =
+    part [] (Direct 0) []
+    ∷ part [] (Direct 600) []
+    ∷ part [] (Direct 0) []
+    ∷ []
+
+abbrev tasks_of_no_time_to_settle : List BackRow
+tasks_of_no_time_to_settle = task_line 0 Plain 1 0 0 false ∷ []
+
+sound_no_time_to_settle : IsSoundBy no_time_to_settle.inputs parts_of_no_time_to_settle no_time_to_settle.run
+unfolding on_small_disks
+sound_no_time_to_settle = record {
+  fore = refl;
+  passed_over = refl;
+  possible = refl;
+  end = refl;
+  part_each = refl;
+  tasks = tasks_of_no_time_to_settle;
+  back = refl;
+  planned = ((lit≤ tt, lit≤ tt), ((lit≤ tt, lit≤ tt), (tt, tt)));
+  deliveries = (none, (none, (none, tt)));
+  tested = (
+    record { settled = refl; followed = tt },
+    (
+      record { settled = refl; followed = tt },
+      (record { settled = refl; followed = tt }, tt),
+    ),
+  );
+  counted = refl;
+}
+
+all_no_time_to_settle : Throughout IsAllDelivered no_time_to_settle.inputs parts_of_no_time_to_settle
+unfolding on_small_disks
+all_no_time_to_settle = (refl, (refl, (refl, tt)))
+
+pub no_time_to_settle_is_whole : LeavesNothingOut no_time_to_settle.inputs no_time_to_settle.run
+no_time_to_settle_is_whole = record { parts = parts_of_no_time_to_settle; sound = sound_no_time_to_settle; all = all_no_time_to_settle }
+
+abbrev parts_of_detour_on_the_way : List Part
+parts_of_detour_on_the_way =
+    part [] (Detour (at 1 0) 200) (
+    with_rows (got (block 0 0 25 1 (at 1 0) 1) 100 200 ByGap 0 (untouched 25 1 ∷ [])) (done_line 0 200 ∷ [])
+    ∷ [])
+    ∷ part [] (Direct 0) []
+    ∷ []
+
+abbrev tasks_of_detour_on_the_way : List BackRow
+tasks_of_detour_on_the_way = task_line 0 Plain 1 1 0 true ∷ []
+
+sound_detour_on_the_way : IsSoundBy detour_on_the_way.inputs parts_of_detour_on_the_way detour_on_the_way.run
+unfolding on_small_disks
+sound_detour_on_the_way = record {
+  fore = refl;
+  passed_over = refl;
+  possible = refl;
+  end = refl;
+  part_each = refl;
+  tasks = tasks_of_detour_on_the_way;
+  back = refl;
+  planned = (record { on_disk = record { cylinder = lit< tt; head = lit< tt }; not_source = refl; not_target = refl; after_arrival = lit≤ tt; in_time = lit≤ tt }, (tt, tt));
+  deliveries = (taken none, (none, tt));
+  tested = (
+    record { settled = refl; followed = (refl, tt) },
+    (record { settled = refl; followed = tt }, tt),
+  );
+  counted = refl;
+}
+
+all_detour_on_the_way : Throughout IsAllDelivered detour_on_the_way.inputs parts_of_detour_on_the_way
+unfolding on_small_disks
+all_detour_on_the_way = (refl, (refl, tt))
+
+pub detour_on_the_way_is_whole : LeavesNothingOut detour_on_the_way.inputs detour_on_the_way.run
+detour_on_the_way_is_whole = record { parts = parts_of_detour_on_the_way; sound = sound_detour_on_the_way; all = all_detour_on_the_way }
+
+abbrev parts_of_detour_over_nothing : List Part
+parts_of_detour_over_nothing =
+    part [] (Detour (at 1 0) 100) (
+    with_rows (got (block 0 0 51 1 (at 2 0) 1) 300 400 ByGap 0 (untouched 51 1 ∷ [])) (done_line 0 400 ∷ [])
+    ∷ [])
+    ∷ part [] (Direct 0) []
+    ∷ []
+
+abbrev tasks_of_detour_over_nothing : List BackRow
+tasks_of_detour_over_nothing = task_line 0 Plain 1 1 0 true ∷ []
+
+sound_detour_over_nothing : IsSoundBy detour_over_nothing.inputs parts_of_detour_over_nothing detour_over_nothing.run
+unfolding on_small_disks
+sound_detour_over_nothing = record {
+  fore = refl;
+  passed_over = refl;
+  possible = refl;
+  end = refl;
+  part_each = refl;
+  tasks = tasks_of_detour_over_nothing;
+  back = refl;
+  planned = (record { on_disk = record { cylinder = lit< tt; head = lit< tt }; not_source = refl; not_target = refl; after_arrival = lit≤ tt; in_time = lit≤ tt }, (tt, tt));
+  deliveries = (taken none, (none, tt));
+  tested = (
+    record { settled = refl; followed = (refl, tt) },
+    (record { settled = refl; followed = tt }, tt),
+  );
+  counted = refl;
+}
+
+all_detour_over_nothing : Throughout IsAllDelivered detour_over_nothing.inputs parts_of_detour_over_nothing
+unfolding on_small_disks
+all_detour_over_nothing = (refl, (refl, tt))
+
+pub detour_over_nothing_is_whole : LeavesNothingOut detour_over_nothing.inputs detour_over_nothing.run
+detour_over_nothing_is_whole = record { parts = parts_of_detour_over_nothing; sound = sound_detour_over_nothing; all = all_detour_over_nothing }
+
+abbrev parts_of_weight_decides : List Part
+parts_of_weight_decides =
+    part [] (Direct 0) []
+    ∷ part [] (Direct 600) (
+    with_rows (got (block 1 0 33 1 (at 1 0) 5) 900 1000 ByGap 0 (untouched 33 1 ∷ [])) (done_line 1 1000 ∷ [])
+    ∷ [])
+    ∷ part [] (Direct 0) []
+    ∷ []
+
+abbrev tasks_of_weight_decides : List BackRow
+tasks_of_weight_decides = task_line 0 Plain 2 0 0 false ∷ task_line 1 Plain 1 1 0 true ∷ []
+
+sound_weight_decides : IsSoundBy weight_decides.inputs parts_of_weight_decides weight_decides.run
+unfolding on_small_disks
+sound_weight_decides = record {
+  fore = refl;
+  passed_over = refl;
+  possible = refl;
+  end = refl;
+  part_each = refl;
+  tasks = tasks_of_weight_decides;
+  back = refl;
+  planned = ((lit≤ tt, lit≤ tt), ((lit≤ tt, lit≤ tt), (tt, tt)));
+  deliveries = (none, (taken none, (none, tt)));
+  tested = (
+    record { settled = refl; followed = tt },
+    (
+      record { settled = refl; followed = (refl, tt) },
+      (record { settled = refl; followed = tt }, tt),
+    ),
+  );
+  counted = refl;
+}
+
+all_weight_decides : Throughout IsAllDelivered weight_decides.inputs parts_of_weight_decides
+unfolding on_small_disks
+all_weight_decides = (refl, (refl, (refl, tt)))
+
+pub weight_decides_is_whole : LeavesNothingOut weight_decides.inputs weight_decides.run
+weight_decides_is_whole = record { parts = parts_of_weight_decides; sound = sound_weight_decides; all = all_weight_decides }
+
+abbrev parts_of_block_over_the_turn : List Part
+parts_of_block_over_the_turn =
+    part [] (Direct 0) (
+    with_rows (got (block 0 0 12 2 (at 0 1) 1) 1100 1300 ByGap 0 (untouched 12 2 ∷ [])) (done_line 0 1300 ∷ [])
+    ∷ [])
+    ∷ part [] (Direct 0) []
+    ∷ []
+
+abbrev tasks_of_block_over_the_turn : List BackRow
+tasks_of_block_over_the_turn = task_line 0 Plain 1 1 0 true ∷ []
+
+sound_block_over_the_turn : IsSoundBy block_over_the_turn.inputs parts_of_block_over_the_turn block_over_the_turn.run
+unfolding on_small_disks
+sound_block_over_the_turn = record {
+  fore = refl;
+  passed_over = refl;
+  possible = refl;
+  end = refl;
+  part_each = refl;
+  tasks = tasks_of_block_over_the_turn;
+  back = refl;
+  planned = ((lit≤ tt, lit≤ tt), (tt, tt));
+  deliveries = (taken none, (none, tt));
+  tested = (
+    record { settled = refl; followed = (refl, tt) },
+    (record { settled = refl; followed = tt }, tt),
+  );
+  counted = refl;
+}
+
+all_block_over_the_turn : Throughout IsAllDelivered block_over_the_turn.inputs parts_of_block_over_the_turn
+unfolding on_small_disks
+all_block_over_the_turn = (refl, (refl, tt))
+
+pub block_over_the_turn_is_whole : LeavesNothingOut block_over_the_turn.inputs block_over_the_turn.run
+block_over_the_turn_is_whole = record { parts = parts_of_block_over_the_turn; sound = sound_block_over_the_turn; all = all_block_over_the_turn }

@@ -1,0 +1,217 @@
+-- Runs that show idle dwells and rides, computed.
+use Rattle.std.proofs.Common.{List, [], ◌∷◌, refl, lit≤, true, false}
+use Rattle.fb_calls.specs.declared.call.Kind.TheVariants.{Plain}
+use Rattle.fb_rows.specs.declared.gap.Plan.TheVariants.{Direct}
+use Rattle.fb_rows.specs.declared.gap.How.TheVariants.{Gap as ByGap, Idle as ByIdle, Ride as ByRide}
+use Rattle.fb_worked.specs.Rows.{at, untouched, block, got, done_line, task_line}
+use Rattle.fb_rows.specs.declared.back.BackRow.{BackRow}
+use Rattle.fb_model.specs.Course.{Part}
+use Rattle.fb_model.specs.SoundRun.{none, taken, IsSoundBy, Throughout}
+use Rattle.fb_model.specs.FullRun.{IsAllDelivered, IsFull}
+use Rattle.fb_worked.specs.Whole.{LeavesNothingOut}
+use Rattle.fb_worked.specs.Idle.{idle_to_the_end, idle_too_short, grown_defect_cuts, promoted_read_carries, caught_not_carried}
+use Rattle.fb_worked.proofs.OnSmallDisks.{on_small_disks, part, with_rows}
+use Rattle.fb_worked.proofs.BestPlans.{nothing_wanted}
+
+abbrev parts_of_idle_to_the_end : List Part
+parts_of_idle_to_the_end =
+    part [] (Direct 0) (
+    with_rows (got (block 0 0 5 1 (at 0 0) 1) 500 600 ByIdle 0 (untouched 5 1 ∷ [])) (done_line 0 600 ∷ [])
+    ∷ [])
+    ∷ part [] (Direct 600) []
+    ∷ part [] (Direct 0) []
+    ∷ []
+
+abbrev tasks_of_idle_to_the_end : List BackRow
+tasks_of_idle_to_the_end = task_line 0 Plain 1 1 0 true ∷ []
+
+sound_idle_to_the_end : IsSoundBy idle_to_the_end.inputs parts_of_idle_to_the_end idle_to_the_end.run
+unfolding on_small_disks
+sound_idle_to_the_end = record {
+  fore = refl;
+  passed_over = refl;
+  possible = refl;
+  end = refl;
+  part_each = refl;
+  tasks = tasks_of_idle_to_the_end;
+  back = refl;
+  planned = (tt, ((lit≤ tt, lit≤ tt), (tt, tt)));
+  deliveries = (taken none, (none, (none, tt)));
+  tested = (
+    record { settled = refl; followed = (refl, tt) },
+    (
+      record { settled = refl; followed = tt },
+      (record { settled = refl; followed = tt }, tt),
+    ),
+  );
+  counted = refl;
+}
+
+all_idle_to_the_end : Throughout IsAllDelivered idle_to_the_end.inputs parts_of_idle_to_the_end
+unfolding on_small_disks
+all_idle_to_the_end = (refl, (refl, (refl, tt)))
+
+pub idle_to_the_end_is_full : IsFull idle_to_the_end.inputs idle_to_the_end.run
+unfolding on_small_disks
+idle_to_the_end_is_full = record { parts = parts_of_idle_to_the_end; sound = sound_idle_to_the_end; best = (tt, (nothing_wanted _ _ (lit≤ tt, lit≤ tt), (tt, tt))); all = all_idle_to_the_end }
+
+abbrev parts_of_idle_too_short : List Part
+parts_of_idle_too_short =
+    part [] (Direct 0) []
+    ∷ part [] (Direct 599) []
+    ∷ part [] (Direct 0) []
+    ∷ []
+
+abbrev tasks_of_idle_too_short : List BackRow
+tasks_of_idle_too_short = task_line 0 Plain 1 0 0 false ∷ []
+
+sound_idle_too_short : IsSoundBy idle_too_short.inputs parts_of_idle_too_short idle_too_short.run
+unfolding on_small_disks
+sound_idle_too_short = record {
+  fore = refl;
+  passed_over = refl;
+  possible = refl;
+  end = refl;
+  part_each = refl;
+  tasks = tasks_of_idle_too_short;
+  back = refl;
+  planned = (tt, ((lit≤ tt, lit≤ tt), (tt, tt)));
+  deliveries = (none, (none, (none, tt)));
+  tested = (
+    record { settled = refl; followed = tt },
+    (
+      record { settled = refl; followed = tt },
+      (record { settled = refl; followed = tt }, tt),
+    ),
+  );
+  counted = refl;
+}
+
+all_idle_too_short : Throughout IsAllDelivered idle_too_short.inputs parts_of_idle_too_short
+unfolding on_small_disks
+all_idle_too_short = (refl, (refl, (refl, tt)))
+
+pub idle_too_short_is_whole : LeavesNothingOut idle_too_short.inputs idle_too_short.run
+idle_too_short_is_whole = record { parts = parts_of_idle_too_short; sound = sound_idle_too_short; all = all_idle_too_short }
+
+abbrev parts_of_grown_defect_cuts : List Part
+parts_of_grown_defect_cuts =
+    part [] (Direct 0) (
+    with_rows (got (block 0 0 2 1 (at 0 0) 1) 200 300 ByIdle 0 (untouched 2 1 ∷ [])) []
+    ∷ with_rows (got (block 0 2 4 1 (at 0 0) 1) 400 500 ByIdle 0 (untouched 4 1 ∷ [])) []
+    ∷ [])
+    ∷ []
+
+abbrev tasks_of_grown_defect_cuts : List BackRow
+tasks_of_grown_defect_cuts = task_line 0 Plain 3 2 0 false ∷ []
+
+sound_grown_defect_cuts : IsSoundBy grown_defect_cuts.inputs parts_of_grown_defect_cuts grown_defect_cuts.run
+unfolding on_small_disks
+sound_grown_defect_cuts = record {
+  fore = refl;
+  passed_over = refl;
+  possible = refl;
+  end = refl;
+  part_each = refl;
+  tasks = tasks_of_grown_defect_cuts;
+  back = refl;
+  planned = (tt, tt);
+  deliveries = (taken (taken none), tt);
+  tested =
+      (record { settled = refl; followed = (refl, (refl, tt)) }, tt);
+  counted = refl;
+}
+
+all_grown_defect_cuts : Throughout IsAllDelivered grown_defect_cuts.inputs parts_of_grown_defect_cuts
+unfolding on_small_disks
+all_grown_defect_cuts = (refl, tt)
+
+pub grown_defect_cuts_is_full : IsFull grown_defect_cuts.inputs grown_defect_cuts.run
+unfolding on_small_disks
+grown_defect_cuts_is_full = record { parts = parts_of_grown_defect_cuts; sound = sound_grown_defect_cuts; best = (tt, tt); all = all_grown_defect_cuts }
+
+abbrev parts_of_promoted_read_carries : List Part
+parts_of_promoted_read_carries =
+    part [] (Direct 0) (
+    with_rows (got (block 0 0 5 1 (at 0 0) 1) 500 600 ByIdle 0 (untouched 5 1 ∷ [])) []
+    ∷ with_rows (got (block 0 1 6 1 (at 0 0) 1) 600 700 ByIdle 0 (untouched 6 1 ∷ [])) (done_line 0 700 ∷ [])
+    ∷ [])
+    ∷ part [] (Direct 1700) (
+    with_rows (got (block 0 2 7 1 (at 0 0) 1) 1900 2000 ByRide 0 (untouched 7 1 ∷ [])) []
+    ∷ with_rows (got (block 0 3 8 1 (at 0 0) 1) 2000 2100 ByRide 0 (untouched 8 1 ∷ [])) (done_line 0 2100 ∷ [])
+    ∷ [])
+    ∷ part [] (Direct 0) []
+    ∷ []
+
+abbrev tasks_of_promoted_read_carries : List BackRow
+tasks_of_promoted_read_carries = task_line 0 Plain 4 4 0 true ∷ []
+
+sound_promoted_read_carries : IsSoundBy promoted_read_carries.inputs parts_of_promoted_read_carries promoted_read_carries.run
+unfolding on_small_disks
+sound_promoted_read_carries = record {
+  fore = refl;
+  passed_over = refl;
+  possible = refl;
+  end = refl;
+  part_each = refl;
+  tasks = tasks_of_promoted_read_carries;
+  back = refl;
+  planned = (tt, ((lit≤ tt, lit≤ tt), (tt, tt)));
+  deliveries = (taken (taken none), (taken (taken none), (none, tt)));
+  tested = (
+    record { settled = refl; followed = (refl, (refl, tt)) },
+    (
+      record { settled = refl; followed = (refl, (refl, tt)) },
+      (record { settled = refl; followed = tt }, tt),
+    ),
+  );
+  counted = refl;
+}
+
+all_promoted_read_carries : Throughout IsAllDelivered promoted_read_carries.inputs parts_of_promoted_read_carries
+unfolding on_small_disks
+all_promoted_read_carries = (refl, (refl, (refl, tt)))
+
+pub promoted_read_carries_is_whole : LeavesNothingOut promoted_read_carries.inputs promoted_read_carries.run
+promoted_read_carries_is_whole = record { parts = parts_of_promoted_read_carries; sound = sound_promoted_read_carries; all = all_promoted_read_carries }
+
+abbrev parts_of_caught_not_carried : List Part
+parts_of_caught_not_carried =
+    part [] (Direct 0) []
+    ∷ part [] (Direct 100) (
+    with_rows (got (block 0 0 6 1 (at 0 0) 1) 600 700 ByGap 0 (untouched 6 1 ∷ [])) (done_line 0 700 ∷ [])
+    ∷ [])
+    ∷ part [] (Direct 0) []
+    ∷ []
+
+abbrev tasks_of_caught_not_carried : List BackRow
+tasks_of_caught_not_carried = task_line 0 Plain 1 1 0 true ∷ []
+
+sound_caught_not_carried : IsSoundBy caught_not_carried.inputs parts_of_caught_not_carried caught_not_carried.run
+unfolding on_small_disks
+sound_caught_not_carried = record {
+  fore = refl;
+  passed_over = refl;
+  possible = refl;
+  end = refl;
+  part_each = refl;
+  tasks = tasks_of_caught_not_carried;
+  back = refl;
+  planned = (tt, ((lit≤ tt, lit≤ tt), (tt, tt)));
+  deliveries = (none, (taken none, (none, tt)));
+  tested = (
+    record { settled = refl; followed = tt },
+    (
+      record { settled = refl; followed = (refl, tt) },
+      (record { settled = refl; followed = tt }, tt),
+    ),
+  );
+  counted = refl;
+}
+
+all_caught_not_carried : Throughout IsAllDelivered caught_not_carried.inputs parts_of_caught_not_carried
+unfolding on_small_disks
+all_caught_not_carried = (refl, (refl, (refl, tt)))
+
+pub caught_not_carried_is_whole : LeavesNothingOut caught_not_carried.inputs caught_not_carried.run
+caught_not_carried_is_whole = record { parts = parts_of_caught_not_carried; sound = sound_caught_not_carried; all = all_caught_not_carried }

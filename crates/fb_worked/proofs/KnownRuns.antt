@@ -1,0 +1,103 @@
+-- Two runs that are the same up to an instant, computed.
+use Rattle.std.proofs.Common.{List, [], ◌∷◌, refl, lit≤, true}
+use Rattle.fb_calls.specs.declared.call.Kind.TheVariants.{Plain}
+use Rattle.fb_rows.specs.declared.gap.Plan.TheVariants.{Direct}
+use Rattle.fb_rows.specs.declared.gap.How.TheVariants.{Gap as ByGap}
+use Rattle.fb_worked.specs.Rows.{at, untouched, block, got, done_line, task_line}
+use Rattle.fb_rows.specs.declared.back.BackRow.{BackRow}
+use Rattle.fb_model.specs.Course.{Part}
+use Rattle.fb_model.specs.SoundRun.{none, taken, IsSoundBy, Throughout}
+use Rattle.fb_model.specs.FullRun.{IsAllDelivered}
+use Rattle.fb_worked.specs.Whole.{LeavesNothingOut}
+use Rattle.fb_worked.specs.Known.{run_without_third, run_with_third}
+use Rattle.fb_worked.proofs.OnSmallDisks.{on_small_disks, part, with_rows}
+
+abbrev parts_of_run_without_third : List Part
+parts_of_run_without_third =
+    part [] (Direct 0) []
+    ∷ part [] (Direct 800) (
+    with_rows (got (block 0 0 6 1 (at 0 0) 1) 600 700 ByGap 0 (untouched 6 1 ∷ [])) []
+    ∷ with_rows (got (block 0 1 7 1 (at 0 0) 1) 700 800 ByGap 0 (untouched 7 1 ∷ [])) []
+    ∷ with_rows (got (block 0 2 35 1 (at 1 0) 1) 1100 1200 ByGap 0 (untouched 35 1 ∷ [])) (done_line 0 1200 ∷ [])
+    ∷ [])
+    ∷ part [] (Direct 0) []
+    ∷ []
+
+abbrev tasks_of_run_without_third : List BackRow
+tasks_of_run_without_third = task_line 0 Plain 3 3 0 true ∷ []
+
+sound_run_without_third : IsSoundBy run_without_third.inputs parts_of_run_without_third run_without_third.run
+unfolding on_small_disks
+sound_run_without_third = record {
+  fore = refl;
+  passed_over = refl;
+  possible = refl;
+  end = refl;
+  part_each = refl;
+  tasks = tasks_of_run_without_third;
+  back = refl;
+  planned = ((lit≤ tt, lit≤ tt), ((lit≤ tt, lit≤ tt), (tt, tt)));
+  deliveries = (none, (taken (taken (taken none)), (none, tt)));
+  tested = (
+    record { settled = refl; followed = tt },
+    (
+      record { settled = refl; followed = (refl, (refl, (refl, tt))) },
+      (record { settled = refl; followed = tt }, tt),
+    ),
+  );
+  counted = refl;
+}
+
+all_run_without_third : Throughout IsAllDelivered run_without_third.inputs parts_of_run_without_third
+unfolding on_small_disks
+all_run_without_third = (refl, (refl, (refl, tt)))
+
+pub run_without_third_is_whole : LeavesNothingOut run_without_third.inputs run_without_third.run
+run_without_third_is_whole = record { parts = parts_of_run_without_third; sound = sound_run_without_third; all = all_run_without_third }
+
+abbrev parts_of_run_with_third : List Part
+parts_of_run_with_third =
+    part [] (Direct 0) []
+    ∷ part [] (Direct 800) (
+    with_rows (got (block 0 0 6 1 (at 0 0) 1) 600 700 ByGap 0 (untouched 6 1 ∷ [])) []
+    ∷ with_rows (got (block 0 1 7 1 (at 0 0) 1) 700 800 ByGap 0 (untouched 7 1 ∷ [])) []
+    ∷ with_rows (got (block 0 2 35 1 (at 1 0) 1) 1100 1200 ByGap 0 (untouched 35 1 ∷ [])) (done_line 0 1200 ∷ [])
+    ∷ [])
+    ∷ part [] (Direct 1300) []
+    ∷ part [] (Direct 0) []
+    ∷ []
+
+abbrev tasks_of_run_with_third : List BackRow
+tasks_of_run_with_third = task_line 0 Plain 3 3 0 true ∷ []
+
+sound_run_with_third : IsSoundBy run_with_third.inputs parts_of_run_with_third run_with_third.run
+unfolding on_small_disks
+sound_run_with_third = record {
+  fore = refl;
+  passed_over = refl;
+  possible = refl;
+  end = refl;
+  part_each = refl;
+  tasks = tasks_of_run_with_third;
+  back = refl;
+  planned = ((lit≤ tt, lit≤ tt), ((lit≤ tt, lit≤ tt), ((lit≤ tt, lit≤ tt), (tt, tt))));
+  deliveries = (none, (taken (taken (taken none)), (none, (none, tt))));
+  tested = (
+    record { settled = refl; followed = tt },
+    (
+      record { settled = refl; followed = (refl, (refl, (refl, tt))) },
+      (
+        record { settled = refl; followed = tt },
+        (record { settled = refl; followed = tt }, tt),
+      ),
+    ),
+  );
+  counted = refl;
+}
+
+all_run_with_third : Throughout IsAllDelivered run_with_third.inputs parts_of_run_with_third
+unfolding on_small_disks
+all_run_with_third = (refl, (refl, (refl, (refl, tt))))
+
+pub run_with_third_is_whole : LeavesNothingOut run_with_third.inputs run_with_third.run
+run_with_third_is_whole = record { parts = parts_of_run_with_third; sound = sound_run_with_third; all = all_run_with_third }

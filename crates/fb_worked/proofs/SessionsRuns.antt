@@ -1,0 +1,176 @@
+-- Runs that show what calls do to a session, computed.
+use Rattle.std.proofs.Common.{List, [], ◌∷◌, refl, lit≤, true, false}
+use Rattle.fb_calls.specs.declared.call.Kind.TheVariants.{Plain}
+use Rattle.fb_rows.specs.declared.gap.Plan.TheVariants.{Direct}
+use Rattle.fb_rows.specs.declared.gap.How.TheVariants.{Gap as ByGap}
+use Rattle.fb_worked.specs.Rows.{at, untouched, block, got, done_line, task_line}
+use Rattle.fb_rows.specs.declared.back.BackRow.{BackRow}
+use Rattle.fb_model.specs.Course.{Part}
+use Rattle.fb_model.specs.SoundRun.{none, taken, IsSoundBy, Throughout}
+use Rattle.fb_model.specs.FullRun.{IsAllDelivered}
+use Rattle.fb_worked.specs.Whole.{LeavesNothingOut}
+use Rattle.fb_worked.specs.Sessions.{abort_while_waiting, abort_too_late, suspended, closed}
+use Rattle.fb_worked.proofs.OnSmallDisks.{on_small_disks, part, with_rows}
+
+abbrev parts_of_abort_while_waiting : List Part
+parts_of_abort_while_waiting =
+    part [] (Direct 0) []
+    ∷ part [] (Direct 700) (
+    with_rows (got (block 0 0 6 1 (at 0 0) 1) 600 700 ByGap 0 (untouched 6 1 ∷ [])) []
+    ∷ with_rows (got (block 0 2 35 1 (at 1 0) 1) 1100 1200 ByGap 0 (untouched 35 1 ∷ [])) (done_line 0 1200 ∷ [])
+    ∷ [])
+    ∷ part [] (Direct 0) []
+    ∷ []
+
+abbrev tasks_of_abort_while_waiting : List BackRow
+tasks_of_abort_while_waiting = task_line 0 Plain 3 2 1 true ∷ []
+
+sound_abort_while_waiting : IsSoundBy abort_while_waiting.inputs parts_of_abort_while_waiting abort_while_waiting.run
+unfolding on_small_disks
+sound_abort_while_waiting = record {
+  fore = refl;
+  passed_over = refl;
+  possible = refl;
+  end = refl;
+  part_each = refl;
+  tasks = tasks_of_abort_while_waiting;
+  back = refl;
+  planned = ((lit≤ tt, lit≤ tt), ((lit≤ tt, lit≤ tt), (tt, tt)));
+  deliveries = (none, (taken (taken none), (none, tt)));
+  tested = (
+    record { settled = refl; followed = tt },
+    (
+      record { settled = refl; followed = (refl, (refl, tt)) },
+      (record { settled = refl; followed = tt }, tt),
+    ),
+  );
+  counted = refl;
+}
+
+all_abort_while_waiting : Throughout IsAllDelivered abort_while_waiting.inputs parts_of_abort_while_waiting
+unfolding on_small_disks
+all_abort_while_waiting = (refl, (refl, (refl, tt)))
+
+pub abort_while_waiting_is_whole : LeavesNothingOut abort_while_waiting.inputs abort_while_waiting.run
+abort_while_waiting_is_whole = record { parts = parts_of_abort_while_waiting; sound = sound_abort_while_waiting; all = all_abort_while_waiting }
+
+abbrev parts_of_abort_too_late : List Part
+parts_of_abort_too_late =
+    part [] (Direct 0) []
+    ∷ part [] (Direct 800) (
+    with_rows (got (block 0 0 6 1 (at 0 0) 1) 600 700 ByGap 0 (untouched 6 1 ∷ [])) []
+    ∷ with_rows (got (block 0 1 7 1 (at 0 0) 1) 700 800 ByGap 0 (untouched 7 1 ∷ [])) []
+    ∷ with_rows (got (block 0 2 35 1 (at 1 0) 1) 1100 1200 ByGap 0 (untouched 35 1 ∷ [])) (done_line 0 1200 ∷ [])
+    ∷ [])
+    ∷ part [] (Direct 0) []
+    ∷ []
+
+abbrev tasks_of_abort_too_late : List BackRow
+tasks_of_abort_too_late = task_line 0 Plain 3 3 0 true ∷ []
+
+sound_abort_too_late : IsSoundBy abort_too_late.inputs parts_of_abort_too_late abort_too_late.run
+unfolding on_small_disks
+sound_abort_too_late = record {
+  fore = refl;
+  passed_over = refl;
+  possible = refl;
+  end = refl;
+  part_each = refl;
+  tasks = tasks_of_abort_too_late;
+  back = refl;
+  planned = ((lit≤ tt, lit≤ tt), ((lit≤ tt, lit≤ tt), (tt, tt)));
+  deliveries = (none, (taken (taken (taken none)), (none, tt)));
+  tested = (
+    record { settled = refl; followed = tt },
+    (
+      record { settled = refl; followed = (refl, (refl, (refl, tt))) },
+      (record { settled = refl; followed = tt }, tt),
+    ),
+  );
+  counted = refl;
+}
+
+all_abort_too_late : Throughout IsAllDelivered abort_too_late.inputs parts_of_abort_too_late
+unfolding on_small_disks
+all_abort_too_late = (refl, (refl, (refl, tt)))
+
+pub abort_too_late_is_whole : LeavesNothingOut abort_too_late.inputs abort_too_late.run
+abort_too_late_is_whole = record { parts = parts_of_abort_too_late; sound = sound_abort_too_late; all = all_abort_too_late }
+
+abbrev parts_of_suspended : List Part
+parts_of_suspended =
+    part [] (Direct 0) []
+    ∷ part [] (Direct 600) []
+    ∷ part [] (Direct 0) []
+    ∷ []
+
+abbrev tasks_of_suspended : List BackRow
+tasks_of_suspended = task_line 0 Plain 3 0 0 false ∷ []
+
+sound_suspended : IsSoundBy suspended.inputs parts_of_suspended suspended.run
+unfolding on_small_disks
+sound_suspended = record {
+  fore = refl;
+  passed_over = refl;
+  possible = refl;
+  end = refl;
+  part_each = refl;
+  tasks = tasks_of_suspended;
+  back = refl;
+  planned = ((lit≤ tt, lit≤ tt), ((lit≤ tt, lit≤ tt), (tt, tt)));
+  deliveries = (none, (none, (none, tt)));
+  tested = (
+    record { settled = refl; followed = tt },
+    (
+      record { settled = refl; followed = tt },
+      (record { settled = refl; followed = tt }, tt),
+    ),
+  );
+  counted = refl;
+}
+
+all_suspended : Throughout IsAllDelivered suspended.inputs parts_of_suspended
+unfolding on_small_disks
+all_suspended = (refl, (refl, (refl, tt)))
+
+pub suspended_is_whole : LeavesNothingOut suspended.inputs suspended.run
+suspended_is_whole = record { parts = parts_of_suspended; sound = sound_suspended; all = all_suspended }
+
+abbrev parts_of_closed : List Part
+parts_of_closed =
+    part [] (Direct 0) []
+    ∷ part (done_line 0 600 ∷ []) (Direct 600) []
+    ∷ part [] (Direct 0) []
+    ∷ []
+
+abbrev tasks_of_closed : List BackRow
+tasks_of_closed = task_line 0 Plain 3 0 3 true ∷ []
+
+sound_closed : IsSoundBy closed.inputs parts_of_closed closed.run
+unfolding on_small_disks
+sound_closed = record {
+  fore = refl;
+  passed_over = refl;
+  possible = refl;
+  end = refl;
+  part_each = refl;
+  tasks = tasks_of_closed;
+  back = refl;
+  planned = ((lit≤ tt, lit≤ tt), ((lit≤ tt, lit≤ tt), (tt, tt)));
+  deliveries = (none, (none, (none, tt)));
+  tested = (
+    record { settled = refl; followed = tt },
+    (
+      record { settled = refl; followed = tt },
+      (record { settled = refl; followed = tt }, tt),
+    ),
+  );
+  counted = refl;
+}
+
+all_closed : Throughout IsAllDelivered closed.inputs parts_of_closed
+unfolding on_small_disks
+all_closed = (refl, (refl, (refl, tt)))
+
+pub closed_is_whole : LeavesNothingOut closed.inputs closed.run
+closed_is_whole = record { parts = parts_of_closed; sound = sound_closed; all = all_closed }

@@ -1,0 +1,182 @@
+-- Runs that show the contents that a delivery finds, computed.
+use Rattle.std.proofs.Common.{List, [], ◌∷◌, refl, lit≤, true}
+use Rattle.fb_calls.specs.declared.call.Kind.TheVariants.{Plain, Scrub}
+use Rattle.fb_rows.specs.declared.gap.Plan.TheVariants.{Direct}
+use Rattle.fb_rows.specs.declared.gap.How.TheVariants.{Idle as ByIdle}
+use Rattle.fb_worked.specs.Rows.{at, untouched, written, unreadable, block, got, done_line, bad_line, task_line}
+use Rattle.fb_rows.specs.declared.back.BackRow.{BackRow}
+use Rattle.fb_model.specs.Course.{Part}
+use Rattle.fb_model.specs.SoundRun.{none, taken, IsSoundBy, Throughout}
+use Rattle.fb_model.specs.FullRun.{IsAllDelivered, IsFull}
+use Rattle.fb_worked.specs.Whole.{LeavesNothingOut}
+use Rattle.fb_worked.specs.Written.{overwritten_between, latent_until_written, read_as_the_write_ends, scrub_finds_latent}
+use Rattle.fb_worked.proofs.OnSmallDisks.{on_small_disks, part, with_rows}
+use Rattle.fb_worked.proofs.BestPlans.{nothing_wanted}
+
+abbrev parts_of_overwritten_between : List Part
+parts_of_overwritten_between =
+    part [] (Direct 0) (
+    with_rows (got (block 0 0 6 1 (at 0 0) 1) 600 700 ByIdle 0 (untouched 6 1 ∷ [])) (done_line 0 700 ∷ [])
+    ∷ [])
+    ∷ part [] (Direct 700) []
+    ∷ part [] (Direct 0) []
+    ∷ part [] (Direct 0) (
+    with_rows (got (block 0 1 6 1 (at 0 0) 1) 3000 3100 ByIdle 0 (written 1 6 1 ∷ [])) (done_line 0 3100 ∷ [])
+    ∷ [])
+    ∷ []
+
+abbrev tasks_of_overwritten_between : List BackRow
+tasks_of_overwritten_between = task_line 0 Plain 2 2 0 true ∷ []
+
+sound_overwritten_between : IsSoundBy overwritten_between.inputs parts_of_overwritten_between overwritten_between.run
+unfolding on_small_disks
+sound_overwritten_between = record {
+  fore = refl;
+  passed_over = refl;
+  possible = refl;
+  end = refl;
+  part_each = refl;
+  tasks = tasks_of_overwritten_between;
+  back = refl;
+  planned = (tt, ((lit≤ tt, lit≤ tt), (tt, (tt, tt))));
+  deliveries = (taken none, (none, (none, (taken none, tt))));
+  tested = (
+    record { settled = refl; followed = (refl, tt) },
+    (
+      record { settled = refl; followed = tt },
+      (
+        record { settled = refl; followed = tt },
+        (record { settled = refl; followed = (refl, tt) }, tt),
+      ),
+    ),
+  );
+  counted = refl;
+}
+
+all_overwritten_between : Throughout IsAllDelivered overwritten_between.inputs parts_of_overwritten_between
+unfolding on_small_disks
+all_overwritten_between = (refl, (refl, (refl, (refl, tt))))
+
+pub overwritten_between_is_full : IsFull overwritten_between.inputs overwritten_between.run
+unfolding on_small_disks
+overwritten_between_is_full = record { parts = parts_of_overwritten_between; sound = sound_overwritten_between; best = (tt, (nothing_wanted _ _ (lit≤ tt, lit≤ tt), (tt, (tt, tt)))); all = all_overwritten_between }
+
+abbrev parts_of_latent_until_written : List Part
+parts_of_latent_until_written =
+    part [] (Direct 0) (
+    with_rows (got (block 0 0 6 1 (at 0 0) 1) 600 700 ByIdle 1 (unreadable 6 1 ∷ [])) (done_line 0 700 ∷ [])
+    ∷ [])
+    ∷ part [] (Direct 700) []
+    ∷ part [] (Direct 0) []
+    ∷ part [] (Direct 0) (
+    with_rows (got (block 0 1 6 1 (at 0 0) 1) 3000 3100 ByIdle 0 (written 1 6 1 ∷ [])) (done_line 0 3100 ∷ [])
+    ∷ [])
+    ∷ []
+
+abbrev tasks_of_latent_until_written : List BackRow
+tasks_of_latent_until_written = task_line 0 Plain 2 2 0 true ∷ []
+
+sound_latent_until_written : IsSoundBy latent_until_written.inputs parts_of_latent_until_written latent_until_written.run
+unfolding on_small_disks
+sound_latent_until_written = record {
+  fore = refl;
+  passed_over = refl;
+  possible = refl;
+  end = refl;
+  part_each = refl;
+  tasks = tasks_of_latent_until_written;
+  back = refl;
+  planned = (tt, ((lit≤ tt, lit≤ tt), (tt, (tt, tt))));
+  deliveries = (taken none, (none, (none, (taken none, tt))));
+  tested = (
+    record { settled = refl; followed = (refl, tt) },
+    (
+      record { settled = refl; followed = tt },
+      (
+        record { settled = refl; followed = tt },
+        (record { settled = refl; followed = (refl, tt) }, tt),
+      ),
+    ),
+  );
+  counted = refl;
+}
+
+all_latent_until_written : Throughout IsAllDelivered latent_until_written.inputs parts_of_latent_until_written
+unfolding on_small_disks
+all_latent_until_written = (refl, (refl, (refl, (refl, tt))))
+
+pub latent_until_written_is_full : IsFull latent_until_written.inputs latent_until_written.run
+unfolding on_small_disks
+latent_until_written_is_full = record { parts = parts_of_latent_until_written; sound = sound_latent_until_written; best = (tt, (nothing_wanted _ _ (lit≤ tt, lit≤ tt), (tt, (tt, tt)))); all = all_latent_until_written }
+
+abbrev parts_of_read_as_the_write_ends : List Part
+parts_of_read_as_the_write_ends =
+    part [] (Direct 0) []
+    ∷ part [] (Direct 0) (
+    with_rows (got (block 0 0 0 1 (at 0 0) 1) 1200 2400 ByIdle 0 (written 1 0 1 ∷ [])) (done_line 0 2400 ∷ [])
+    ∷ [])
+    ∷ []
+
+abbrev tasks_of_read_as_the_write_ends : List BackRow
+tasks_of_read_as_the_write_ends = task_line 0 Plain 1 1 0 true ∷ []
+
+sound_read_as_the_write_ends : IsSoundBy read_as_the_write_ends.inputs parts_of_read_as_the_write_ends read_as_the_write_ends.run
+unfolding on_small_disks
+sound_read_as_the_write_ends = record {
+  fore = refl;
+  passed_over = refl;
+  possible = refl;
+  end = refl;
+  part_each = refl;
+  tasks = tasks_of_read_as_the_write_ends;
+  back = refl;
+  planned = ((lit≤ tt, lit≤ tt), (tt, tt));
+  deliveries = (none, (taken none, tt));
+  tested = (
+    record { settled = refl; followed = tt },
+    (record { settled = refl; followed = (refl, tt) }, tt),
+  );
+  counted = refl;
+}
+
+all_read_as_the_write_ends : Throughout IsAllDelivered read_as_the_write_ends.inputs parts_of_read_as_the_write_ends
+unfolding on_small_disks
+all_read_as_the_write_ends = (refl, (refl, tt))
+
+pub read_as_the_write_ends_is_whole : LeavesNothingOut read_as_the_write_ends.inputs read_as_the_write_ends.run
+read_as_the_write_ends_is_whole = record { parts = parts_of_read_as_the_write_ends; sound = sound_read_as_the_write_ends; all = all_read_as_the_write_ends }
+
+abbrev parts_of_scrub_finds_latent : List Part
+parts_of_scrub_finds_latent =
+    part [] (Direct 0) (
+    with_rows (got (block 0 0 4 4 (at 0 0) 1) 400 800 ByIdle 1 (untouched 4 2 ∷ unreadable 6 1 ∷ untouched 7 1 ∷ [])) (bad_line 0 6 ∷ done_line 0 800 ∷ [])
+    ∷ [])
+    ∷ []
+
+abbrev tasks_of_scrub_finds_latent : List BackRow
+tasks_of_scrub_finds_latent = task_line 0 Scrub 1 1 0 true ∷ []
+
+sound_scrub_finds_latent : IsSoundBy scrub_finds_latent.inputs parts_of_scrub_finds_latent scrub_finds_latent.run
+unfolding on_small_disks
+sound_scrub_finds_latent = record {
+  fore = refl;
+  passed_over = refl;
+  possible = refl;
+  end = refl;
+  part_each = refl;
+  tasks = tasks_of_scrub_finds_latent;
+  back = refl;
+  planned = (tt, tt);
+  deliveries = (taken none, tt);
+  tested =
+      (record { settled = refl; followed = (refl, tt) }, tt);
+  counted = refl;
+}
+
+all_scrub_finds_latent : Throughout IsAllDelivered scrub_finds_latent.inputs parts_of_scrub_finds_latent
+unfolding on_small_disks
+all_scrub_finds_latent = (refl, tt)
+
+pub scrub_finds_latent_is_full : IsFull scrub_finds_latent.inputs scrub_finds_latent.run
+unfolding on_small_disks
+scrub_finds_latent_is_full = record { parts = parts_of_scrub_finds_latent; sound = sound_scrub_finds_latent; best = (tt, tt); all = all_scrub_finds_latent }
