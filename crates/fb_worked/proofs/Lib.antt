@@ -7,4 +7,5 @@ pub mod SessionsRuns
 pub mod WrittenRuns
 pub mod BackupsRuns
 pub mod CleaningRuns
+pub mod WrongRuns
 pub mod KnownRuns

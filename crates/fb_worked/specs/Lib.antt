@@ -8,4 +8,5 @@ pub mod Sessions
 pub mod Written
 pub mod Backups
 pub mod Cleaning
+pub mod Wrong
 pub mod Known

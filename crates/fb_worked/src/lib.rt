@@ -11,6 +11,7 @@ mod gaps;
 mod idle;
 mod sessions;
 mod written;
+mod wrong;
 
 pub use backups::worked_backups;
 pub use cleaning::worked_segments;
@@ -19,3 +20,4 @@ pub use gaps::worked_gaps;
 pub use idle::worked_dwells;
 pub use sessions::worked_sessions;
 pub use written::worked_contents;
+pub use wrong::wrong_runs;

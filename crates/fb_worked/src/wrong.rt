@@ -1,0 +1,26 @@
+// Wrong runs.
+ghost use Rattle.fb_rows.specs.declared.gap.Plan.TheVariants.{Detour};
+ghost use Rattle.fb_model.specs.Plans.{IsPlan};
+ghost use Rattle.fb_model.specs.SoundRun.{IsSound};
+ghost use Rattle.fb_model.specs.FullRun.{IsFull};
+ghost use Rattle.fb_worked.specs.Rows.{at};
+ghost use Rattle.fb_worked.specs.SmallDisk.{small_disk};
+ghost use Rattle.fb_worked.specs.Wrong.{delivered_too_late, delivered_twice, delivered_after_abort, completion_left_out, delivery_left_out, contents_of_later, settling_gap, detour_without_settle, served_sooner};
+
+/// Runs that are wrong in one way each, and that the definitions refuse.
+///
+/// A sound run delivers a block only where it passes whole, once, unless it was aborted, and with the
+/// contents of its passage. It gives each completion row, takes the way of one of the gap's plans, and
+/// serves each request at its time. It may leave a delivery out, but a full run may not.
+pub fn wrong_runs()
+    ensures too_late { IsSound delivered_too_late.inputs delivered_too_late.run → ⊥ }
+    ensures twice { IsSound delivered_twice.inputs delivered_twice.run → ⊥ }
+    ensures after_abort { IsSound delivered_after_abort.inputs delivered_after_abort.run → ⊥ }
+    ensures contents_of_later { IsSound contents_of_later.inputs contents_of_later.run → ⊥ }
+    ensures completion { IsSound completion_left_out.inputs completion_left_out.run → ⊥ }
+    ensures no_plan { IsPlan small_disk settling_gap (Detour (at 0 1) 900) → ⊥ }
+    ensures without_settle { IsSound detour_without_settle.inputs detour_without_settle.run → ⊥ }
+    ensures served_sooner { IsSound served_sooner.inputs served_sooner.run → ⊥ }
+    ensures left_out { IsSound delivery_left_out.inputs delivery_left_out.run }
+    ensures not_full { IsFull delivery_left_out.inputs delivery_left_out.run → ⊥ }
+{}
