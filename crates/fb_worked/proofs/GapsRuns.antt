@@ -55,7 +55,7 @@ all_both_dwells = (refl, (refl, (refl, tt)))
 pub both_dwells_is_whole : LeavesNothingOut both_dwells.inputs both_dwells.run
 both_dwells_is_whole = record { parts = parts_of_both_dwells; sound = sound_both_dwells; all = all_both_dwells }
 
-abbrev parts_of_detour : List Part
+abbrev pub parts_of_detour : List Part
 parts_of_detour =
     part [] (Direct 0) []
     ∷ part [] (Detour (at 0 1) 900) (
@@ -67,7 +67,7 @@ parts_of_detour =
 abbrev tasks_of_detour : List BackRow
 tasks_of_detour = task_line 0 Plain 1 1 0 true ∷ []
 
-sound_detour : IsSoundBy detour.inputs parts_of_detour detour.run
+pub sound_detour : IsSoundBy detour.inputs parts_of_detour detour.run
 unfolding on_small_disks
 sound_detour = record {
   fore = refl;
@@ -89,12 +89,9 @@ sound_detour = record {
   counted = refl;
 }
 
-all_detour : Throughout IsAllDelivered detour.inputs parts_of_detour
+pub all_detour : Throughout IsAllDelivered detour.inputs parts_of_detour
 unfolding on_small_disks
 all_detour = (refl, (refl, (refl, tt)))
-
-pub detour_is_whole : LeavesNothingOut detour.inputs detour.run
-detour_is_whole = record { parts = parts_of_detour; sound = sound_detour; all = all_detour }
 
 abbrev parts_of_no_time_to_settle : List Part
 parts_of_no_time_to_settle =

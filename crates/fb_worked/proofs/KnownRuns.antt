@@ -7,6 +7,7 @@ use Rattle.fb_worked.specs.Rows.{at, untouched, block, got, done_line, task_line
 use Rattle.fb_rows.specs.declared.back.BackRow.{BackRow}
 use Rattle.fb_model.specs.Course.{Part}
 use Rattle.fb_model.specs.SoundRun.{none, taken, IsSoundBy, Throughout}
+use Rattle.fb_model.specs.Known.{AgreeUpTo, SameKnown}
 use Rattle.fb_model.specs.FullRun.{IsAllDelivered}
 use Rattle.fb_worked.specs.Whole.{LeavesNothingOut}
 use Rattle.fb_worked.specs.Known.{run_without_third, run_with_third}
@@ -101,3 +102,9 @@ all_run_with_third = (refl, (refl, (refl, (refl, tt))))
 
 pub run_with_third_is_whole : LeavesNothingOut run_with_third.inputs run_with_third.run
 run_with_third_is_whole = record { parts = parts_of_run_with_third; sound = sound_run_with_third; all = all_run_with_third }
+
+pub inputs_agree : AgreeUpTo 1250 run_without_third.inputs run_with_third.inputs
+inputs_agree = record { disk = refl; latent = refl; key = refl; requests = refl; calls = refl }
+
+pub same_known : SameKnown 1250 run_without_third.run run_with_third.run
+same_known = record { fore = refl; back = refl }

@@ -1,7 +1,9 @@
 pub mod Texts
 pub mod OnSmallDisks
+pub mod Placing
 pub mod BestPlans
 pub mod GapsRuns
+pub mod BestDetour
 pub mod IdleRuns
 pub mod SessionsRuns
 pub mod WrittenRuns
@@ -9,3 +11,4 @@ pub mod BackupsRuns
 pub mod CleaningRuns
 pub mod WrongRuns
 pub mod KnownRuns
+pub mod AcceptedInputs

@@ -12,8 +12,8 @@ use Rattle.fb_model.specs.PlainReplay.{plain}
 use Rattle.fb_model.specs.Inputs.{served}
 use Rattle.fb_model.specs.Content.{medium_of, fore_rows}
 use Rattle.fb_report.specs.Fore.{fore_lines}
-use Rattle.fb_worked.specs.SmallDisk.{small_disk, uneven_disk}
-use Rattle.fb_worked.specs.Foreground.{FirstRead, ReadInTime, ReadTooLate, ReadOverTracks, ReadOfUnevenSlots, ReadOfNothing}
+use Rattle.fb_worked.specs.SmallDisk.{small_disk, uneven_disk, skewed_disk, slipped_disk, remapped_disk}
+use Rattle.fb_worked.specs.Foreground.{FirstRead, ReadInTime, ReadTooLate, ReadOverTracks, ReadOverSkewedTracks, ReadOverSlip, ReadOverMoved, ReadOfUnevenSlots, ReadOfNothing}
 
 pub first_read : FirstRead
 unfolding digits encode_with places place_at pos begin_from passages mark fill plain served medium_of fore_rows fore_lines small_disk
@@ -30,6 +30,18 @@ read_too_late = refl
 pub read_over_tracks : ReadOverTracks
 unfolding digits encode_with places place_at pos begin_from passages mark fill plain served medium_of fore_rows fore_lines small_disk
 read_over_tracks = refl
+
+pub read_over_skewed_tracks : ReadOverSkewedTracks
+unfolding digits encode_with places place_at pos begin_from passages mark fill plain served medium_of fore_rows fore_lines skewed_disk
+read_over_skewed_tracks = refl
+
+pub read_over_slip : ReadOverSlip
+unfolding digits encode_with places place_at pos begin_from passages mark fill plain served medium_of fore_rows fore_lines slipped_disk
+read_over_slip = refl
+
+pub read_over_moved : ReadOverMoved
+unfolding digits encode_with places place_at pos begin_from passages mark fill plain served medium_of fore_rows fore_lines remapped_disk
+read_over_moved = refl
 
 pub read_of_uneven_slots : ReadOfUnevenSlots
 unfolding digits encode_with places place_at pos begin_from passages mark fill plain served medium_of fore_rows fore_lines uneven_disk

@@ -8,7 +8,7 @@ use Rattle.fb_model.specs.PlainReplay.{fcfs}
 use Rattle.fb_model.specs.Content.{fore_rows}
 use Rattle.fb_report.specs.declared.bytes.Bytes.TheVariants.{Dump}
 use Rattle.fb_report.specs.Fore.{fore_text}
-use Rattle.fb_worked.specs.SmallDisk.{small_disk, uneven_disk}
+use Rattle.fb_worked.specs.SmallDisk.{small_disk, uneven_disk, skewed_disk, slipped_disk, remapped_disk}
 
 -- the first request of a trace
 abbrev pub read : ℕ → ℕ → ℕ → Request
@@ -38,6 +38,18 @@ ReadTooLate = text_of small_disk (read 501 5 1 ∷ []) ≡ codes "freeblock fore
 abbrev pub ReadOverTracks : Type 0
 ReadOverTracks = text_of small_disk (read 0 11 2 ∷ [])
     ≡ codes "freeblock fore 1\n1 R 11 2 0 0 1100 2500 0 0000000000000000000000000000000b0000000000000000000000000000000c\nend 1 0\n"
+
+abbrev pub ReadOverSkewedTracks : Type 0
+ReadOverSkewedTracks = text_of skewed_disk (read 0 11 2 ∷ [])
+    ≡ codes "freeblock fore 1\n1 R 11 2 0 0 1100 1500 0 0000000000000000000000000000000b0000000000000000000000000000000c\nend 1 0\n"
+
+abbrev pub ReadOverSlip : Type 0
+ReadOverSlip = text_of slipped_disk (read 0 2 2 ∷ [])
+    ≡ codes "freeblock fore 1\n1 R 2 2 0 0 200 500 0 0000000000000000000000000000000200000000000000000000000000000003\nend 1 0\n"
+
+abbrev pub ReadOverMoved : Type 0
+ReadOverMoved = text_of remapped_disk (read 0 2 3 ∷ [])
+    ≡ codes "freeblock fore 1\n1 R 2 3 0 0 200 1700 0 000000000000000000000000000000020000000000000000000000000000000300000000000000000000000000000004\nend 1 0\n"
 
 abbrev pub ReadOfUnevenSlots : Type 0
 ReadOfUnevenSlots = text_of uneven_disk (read 0 3 1 ∷ []) ≡ codes "freeblock fore 1\n1 R 3 1 0 0 514 685 0 00000000000000000000000000000003\nend 1 0\n"

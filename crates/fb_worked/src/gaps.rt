@@ -1,4 +1,5 @@
 // Plans of gaps.
+ghost use Rattle.fb_model.specs.FullRun.{IsFull};
 ghost use Rattle.fb_worked.specs.Whole.{LeavesNothingOut};
 ghost use Rattle.fb_worked.specs.Gaps.{both_dwells, detour, no_time_to_settle, detour_on_the_way, detour_over_nothing, weight_decides, block_over_the_turn};
 
@@ -10,7 +11,7 @@ ghost use Rattle.fb_worked.specs.Gaps.{both_dwells, detour, no_time_to_settle, d
 /// weight of a block counts. A block goes on over the end of a turn.
 pub fn worked_gaps()
     ensures both_dwells { LeavesNothingOut both_dwells.inputs both_dwells.run }
-    ensures detour { LeavesNothingOut detour.inputs detour.run }
+    ensures detour { IsFull detour.inputs detour.run }
     ensures no_time_to_settle { LeavesNothingOut no_time_to_settle.inputs no_time_to_settle.run }
     ensures detour_on_the_way { LeavesNothingOut detour_on_the_way.inputs detour_on_the_way.run }
     ensures detour_over_nothing { LeavesNothingOut detour_over_nothing.inputs detour_over_nothing.run }

@@ -4,20 +4,26 @@
 //! cylinders and two heads, and its proof is the computation.
 #![tactic(auto)]
 
+mod accepted;
 mod backups;
 mod cleaning;
 mod foreground;
 mod gaps;
 mod idle;
+mod known;
+mod passages;
 mod sessions;
 mod written;
 mod wrong;
 
+pub use accepted::accepted_inputs;
 pub use backups::worked_backups;
 pub use cleaning::worked_segments;
 pub use foreground::foreground_texts;
 pub use gaps::worked_gaps;
 pub use idle::worked_dwells;
+pub use known::runs_known_in_part;
+pub use passages::worked_passages;
 pub use sessions::worked_sessions;
 pub use written::worked_contents;
 pub use wrong::wrong_runs;
