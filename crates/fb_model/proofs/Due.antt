@@ -1,5 +1,5 @@
 -- What is due at a decision: each row is of a wanted block, passes whole, and has the bytes of its beginning; none stands twice.
-use Rattle.std.proofs.Common.{◌≡◌, ℕ, ◌+◌, ◌≤◌, List, [], ◌∷◌, ◌++◌, refl, lit≤, true, false, map, filter, Bool, cond, if◌then◌else◌, ◌-◌, not, arith, ap, nat_le, ◌⊎◌, inl, inr}
+use Rattle.std.proofs.Common.{◌≡◌, ℕ, ◌+◌, ◌≤◌, List, [], ◌∷◌, ◌++◌, refl, lit≤, true, false, map, filter, Bool, cond, if◌then◌else◌, ◌-◌, not, arith, ap, ◌⊎◌, inl, inr}
 use Rattle.std.specs.List.{AllByRecursion, fold, flat_map}
 use Rattle.fb_store.specs.Runs.{runs_of, bad_of}
 use Rattle.fb_wanted.specs.declared.block.Block.{Block}
@@ -14,9 +14,10 @@ use Rattle.fb_model.specs.Content.{Medium, contents_at}
 use Rattle.fb_model.specs.Plans.{block_begin, block_end, catches, early_dwell, late_dwell}
 use Rattle.fb_model.specs.Inputs.{Inputs}
 use Rattle.fb_model.specs.Decisions.{Decision, serves, idles, ends}
-use Rattle.fb_model.specs.History.{Past, wanted, state, is_wanted, blocks_of, task_numbers}
+use Rattle.fb_wanted.specs.States.{is_wanted}
+use Rattle.fb_model.specs.History.{Past, wanted, state, blocks_of, task_numbers}
 use Rattle.fb_model.specs.Course.{Part, settled_past}
-use Rattle.fb_model.specs.Rides.{gap_of, due, delivery, by_end, in_order, caught, missed, lies_in, rides, due_in_gap, begin_at, end_at}
+use Rattle.fb_model.specs.Rides.{gap_of, due, delivery, is_before, placed, in_order, caught, missed, lies_in, rides, due_in_gap, begin_at, end_at}
 use Rattle.fb_model.specs.SoundRun.{IsSublist, none, left_out, taken, IsDelivered}
 
 -- a row has the bytes of its beginning
@@ -34,17 +35,17 @@ pub record IsCaughtIn (medium : Medium) (how : How) (dwell : Dwell) (Q : Block �
   pub bytes : HasBytes medium row
 
 all_choice : (P : DeliveryRow → Type 0) (b : Bool) (first row : DeliveryRow) (xs ys : List DeliveryRow) → P first → P row → AllByRecursion P xs → AllByRecursion P ys
-    → AllByRecursion P (cond b (first ∷ xs) (row ∷ first ∷ ys))
-all_choice P true first row xs ys p q ps qs = (p, ps)
-all_choice P false first row xs ys p q ps qs = (q, (p, qs))
+    → AllByRecursion P (cond b (row ∷ first ∷ ys) (first ∷ xs))
+all_choice P true first row xs ys p q ps qs = (q, (p, qs))
+all_choice P false first row xs ys p q ps qs = (p, ps)
 
-all_by_end : (P : DeliveryRow → Type 0) (rows : List DeliveryRow) (row : DeliveryRow) → AllByRecursion P rows → P row → AllByRecursion P (by_end rows row)
-all_by_end P [] row ps q = (q, ps)
-all_by_end P (first ∷ rows) row ps q = all_choice P (nat_le first.end row.end) first row (by_end rows row) rows ps.0 q (all_by_end P rows row ps.1 q) ps.1
+all_placed : (P : DeliveryRow → Type 0) (rows : List DeliveryRow) (row : DeliveryRow) → AllByRecursion P rows → P row → AllByRecursion P (placed rows row)
+all_placed P [] row ps q = (q, ps)
+all_placed P (first ∷ rows) row ps q = all_choice P (is_before row.end row.block first.end first.block) first row (placed rows row) rows ps.0 q (all_placed P rows row ps.1 q) ps.1
 
-all_ordered : (P : DeliveryRow → Type 0) (rows before : List DeliveryRow) → AllByRecursion P before → AllByRecursion P rows → AllByRecursion P (fold by_end before rows)
+all_ordered : (P : DeliveryRow → Type 0) (rows before : List DeliveryRow) → AllByRecursion P before → AllByRecursion P rows → AllByRecursion P (fold placed before rows)
 all_ordered P [] before ps qs = ps
-all_ordered P (row ∷ rows) before ps qs = all_ordered P rows (by_end before row) (all_by_end P before row ps qs.0) qs.1
+all_ordered P (row ∷ rows) before ps qs = all_ordered P rows (placed before row) (all_placed P before row ps qs.0) qs.1
 
 all_one : (P : DeliveryRow → Type 0) (b : Bool) (f : Block → DeliveryRow) (block : Block) (xs : List Block) → (b ≡ true → P (f block)) → AllByRecursion P (map f xs)
     → AllByRecursion P (map f (cond b (block ∷ xs) xs))
@@ -75,17 +76,17 @@ total_append f [] ys = omega arith
 total_append f (x ∷ xs) ys = let rest = total_append f xs ys in omega arith
 
 total_choice : (f : DeliveryRow → ℕ) (b : Bool) (first row : DeliveryRow) (xs ys : List DeliveryRow) → total f xs ≡ f row + total f ys
-    → total f (cond b (first ∷ xs) (row ∷ first ∷ ys)) ≡ f row + (f first + total f ys)
-total_choice f true first row xs ys p = omega arith
-total_choice f false first row xs ys p = refl
+    → total f (cond b (row ∷ first ∷ ys) (first ∷ xs)) ≡ f row + (f first + total f ys)
+total_choice f true first row xs ys p = refl
+total_choice f false first row xs ys p = omega arith
 
-total_by_end : (f : DeliveryRow → ℕ) (rows : List DeliveryRow) (row : DeliveryRow) → total f (by_end rows row) ≡ f row + total f rows
-total_by_end f [] row = refl
-total_by_end f (first ∷ rows) row = total_choice f (nat_le first.end row.end) first row (by_end rows row) rows (total_by_end f rows row)
+total_placed : (f : DeliveryRow → ℕ) (rows : List DeliveryRow) (row : DeliveryRow) → total f (placed rows row) ≡ f row + total f rows
+total_placed f [] row = refl
+total_placed f (first ∷ rows) row = total_choice f (is_before row.end row.block first.end first.block) first row (placed rows row) rows (total_placed f rows row)
 
-total_ordered : (f : DeliveryRow → ℕ) (rows before : List DeliveryRow) → total f (fold by_end before rows) ≡ total f before + total f rows
+total_ordered : (f : DeliveryRow → ℕ) (rows before : List DeliveryRow) → total f (fold placed before rows) ≡ total f before + total f rows
 total_ordered f [] before = omega arith
-total_ordered f (row ∷ rows) before = let later = total_ordered f rows (by_end before row) in let now = total_by_end f before row in omega arith
+total_ordered f (row ∷ rows) before = let later = total_ordered f rows (placed before row) in let now = total_placed f before row in omega arith
 
 total_mapped : {A B : Type 0} (f : B → ℕ) (g : A → B) (xs : List A) → total f (map g xs) ≡ total (λ x. f (g x)) xs
 total_mapped f g [] = refl

@@ -7,7 +7,8 @@ use Rattle.fb_calls.specs.declared.call.Action.{Action}
 use Rattle.fb_calls.specs.declared.call.Action.TheVariants.{Close, Segment}
 use Rattle.fb_wanted.specs.declared.block.Block.{Block}
 use Rattle.fb_wanted.specs.declared.block.State.{State}
-use Rattle.fb_model.specs.History.{Event, called, chose, tested, Past, LogSegment, terms_of, blocks_of, bare_state, is_delivered, is_aborted}
+use Rattle.fb_wanted.specs.States.{is_delivered}
+use Rattle.fb_model.specs.History.{Event, called, chose, tested, Past, LogSegment, terms_of, blocks_of, bare_state, is_aborted}
 
 -- the segments of a task in line order, numbered from 1
 abbrev pub segment_in : ℕ → Action → List LogSegment

@@ -1,12 +1,12 @@
 -- What a sector holds at an instant.
 use Rattle.std.specs.Prelude.{ℕ, List, [], ◌&&◌, ◌==◌, nat_le, Option, Some, None, filter, map, if◌then◌else◌}
-use Rattle.std.specs.List.{flat_map, list_any, range_with_len, last_or}
+use Rattle.std.specs.List.{flat_map, range_with_len, last_or}
 use Rattle.fb_units.specs.declared.types.Name.{Name}
 use Rattle.fb_units.specs.declared.types.Name.TheVariants.{Traced, Promoted}
 use Rattle.fb_service.specs.declared.disk.Disk.{Disk}
 use Rattle.fb_service.specs.declared.passage.Passage.{Passage}
 use Rattle.fb_store.specs.declared.content.Content.{Content}
-use Rattle.fb_store.specs.declared.content.Content.TheVariants.{Filled, Unreadable}
+use Rattle.fb_store.specs.declared.content.Content.TheVariants.{Filled}
 use Rattle.fb_store.specs.declared.content.ContentRun.{ContentRun}
 use Rattle.fb_store.specs.Runs.{runs_of, bad_of}
 use Rattle.fb_store.specs.Writes.{unwritten}

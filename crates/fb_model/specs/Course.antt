@@ -1,6 +1,6 @@
 -- The history of a run, decision by decision, and the rows that it gives.
-use Rattle.std.specs.Prelude.{ℕ, List, [], ◌∷◌, ◌++◌, length, drop, Bool, true, false, nat_le, map}
-use Rattle.std.specs.List.{flat_map, fold, count_by, take_while, zip}
+use Rattle.std.specs.Prelude.{ℕ, List, [], ◌∷◌, ◌++◌, length, drop, Bool, true, false, nat_le, map, filter}
+use Rattle.std.specs.List.{flat_map, fold, count_by, zip}
 use Rattle.fb_calls.specs.declared.call.Action.{Action}
 use Rattle.fb_calls.specs.declared.call.Action.TheVariants.{Want}
 use Rattle.fb_calls.specs.declared.call.Call.{Call}
@@ -8,13 +8,14 @@ use Rattle.fb_geometry.specs.Shape.{Shape}
 use Rattle.fb_sectormap.specs.Cutting.{cutting}
 use Rattle.fb_service.specs.declared.disk.Disk.{Disk}
 use Rattle.fb_wanted.specs.declared.block.Block.{Block}
+use Rattle.fb_wanted.specs.States.{is_delivered}
 use Rattle.fb_rows.specs.declared.gap.Plan.{Plan}
 use Rattle.fb_rows.specs.declared.back.DeliveryRow.{DeliveryRow}
 use Rattle.fb_rows.specs.declared.back.BackRow.{BackRow}
 use Rattle.fb_rows.specs.declared.back.BackRow.TheVariants.{Gap as GapLine, Idle as IdleLine, Got as GotLine, Task as TaskLine}
 use Rattle.fb_model.specs.Inputs.{Inputs}
 use Rattle.fb_model.specs.Decisions.{Decision, serves, idles, ends, instant_of, decisions}
-use Rattle.fb_model.specs.History.{Event, called, tested, delivered, finished, Past, task_numbers, terms_of, blocks_of, bare_state, is_delivered, is_aborted}
+use Rattle.fb_model.specs.History.{Event, called, tested, delivered, finished, Past, task_numbers, terms_of, blocks_of, bare_state, is_aborted}
 use Rattle.fb_model.specs.Completion.{is_complete}
 use Rattle.fb_model.specs.Segments.{next_blocks, with_choices}
 use Rattle.fb_model.specs.Rides.{gap_of}
@@ -42,9 +43,13 @@ abbrev pub is_call : Event → Bool
 is_call (called call blocks) = true
 is_call _ = false
 
--- the calls that have not taken effect, up to an instant
+-- how many calls have taken effect
+abbrev pub calls_taken : Past → ℕ
+calls_taken past = length (filter is_call past)
+
+-- the calls whose instant has come, but for those that have taken effect
 abbrev pub calls_due : List Call → Past → ℕ → List Call
-calls_due calls past now = take_while (λ call. nat_le call.instant now) (drop (count_by is_call past) calls)
+calls_due calls past now = drop (calls_taken past) (filter (λ call. nat_le call.instant now) calls)
 
 -- after the calls and choices of a decision
 unfoldable pub settled_past : Inputs → Past → Decision → Past

@@ -1,5 +1,5 @@
 -- What has happened in a run, and what it says of tasks and blocks. The latest event comes first.
-use Rattle.std.specs.Prelude.{ℕ, ◌+◌, List, [], ◌∷◌, ◌++◌, length, Bool, true, false, ◌&&◌, not, ◌==◌, nat_lt, filter, if◌then◌else◌}
+use Rattle.std.specs.Prelude.{ℕ, List, [], ◌∷◌, ◌++◌, length, Bool, true, false, ◌&&◌, not, ◌==◌, filter, if◌then◌else◌}
 use Rattle.std.specs.List.{list_any, flat_map, range_with_len, slice_index_or}
 use Rattle.fb_units.specs.declared.types.Request.{Request}
 use Rattle.fb_calls.specs.declared.call.Kind.{Kind}
@@ -10,6 +10,7 @@ use Rattle.fb_calls.specs.declared.call.Call.{Call}
 use Rattle.fb_wanted.specs.declared.block.Block.{Block}
 use Rattle.fb_wanted.specs.declared.block.State.{State}
 use Rattle.fb_wanted.specs.declared.block.State.TheVariants.{Wanted, Suspended, Delivered, Aborted}
+use Rattle.fb_wanted.specs.States.{shares, is_wanted, is_delivered}
 use Rattle.fb_rows.specs.declared.back.DeliveryRow.{DeliveryRow}
 use Rattle.fb_rows.specs.declared.back.BackRow.{BackRow}
 use Rattle.fb_rows.specs.declared.back.BackRow.TheVariants.{Seal as SealLine}
@@ -74,10 +75,6 @@ blocks_of past task = filter (λ block. block.task == task) (registered past)
 abbrev pub same_block : Block → Block → Bool
 same_block a b = (a.task == b.task) && (a.index == b.index)
 
--- the block and n sectors from first on have a sector in common
-abbrev pub shares : Block → ℕ → ℕ → Bool
-shares block first n = nat_lt block.lbn (first + n) && nat_lt first (block.lbn + block.count)
-
 -- the events that concern a block
 abbrev pub registers : Event → Block → Bool
 registers event block = list_any (same_block block) (registered_by event)
@@ -87,7 +84,7 @@ delivers (delivered row) block = same_block row.block block
 delivers _ block = false
 
 abbrev pub ends_block : Action → Block → Bool
-ends_block (Abort first count) block = shares block first count
+ends_block (Abort first count) block = shares first count block
 ends_block Close block = true
 ends_block _ block = false
 
@@ -96,7 +93,7 @@ aborts (called call blocks) block = (call.task == block.task) && ends_block call
 aborts _ block = false
 
 abbrev pub overwrites : Event → Block → Bool
-overwrites (finished request) block = request.write && shares block request.lbn request.count
+overwrites (finished request) block = request.write && shares request.lbn request.count block
 overwrites _ block = false
 
 -- a backup's seal row has been given
@@ -117,14 +114,6 @@ is_backup _ = false
 
 abbrev pub is_open_backup : Past → ℕ → Bool
 is_open_backup past task = is_backup (terms_of past task).kind && not (is_sealed past task)
-
-abbrev pub is_wanted : State → Bool
-is_wanted Wanted = true
-is_wanted _ = false
-
-abbrev pub is_delivered : State → Bool
-is_delivered Delivered = true
-is_delivered _ = false
 
 abbrev pub is_aborted : State → Bool
 is_aborted Aborted = true

@@ -11,7 +11,8 @@ use Rattle.fb_rows.specs.declared.back.DeliveryRow.{DeliveryRow}
 use Rattle.fb_rows.specs.declared.back.BackRow.{BackRow}
 use Rattle.fb_rows.specs.declared.back.BackRow.TheVariants.{Bad as BadLine, Seal as SealLine, Segment as SegmentLine, Complete as CompleteLine}
 use Rattle.fb_model.specs.Content.{Medium, contents_at}
-use Rattle.fb_model.specs.History.{Event, tested, delivered, Past, terms_of, task_numbers, blocks_of, same_block, is_open_backup, bare_state, is_delivered}
+use Rattle.fb_wanted.specs.States.{is_delivered}
+use Rattle.fb_model.specs.History.{Event, tested, delivered, Past, terms_of, task_numbers, blocks_of, same_block, is_open_backup, bare_state}
 use Rattle.fb_model.specs.Completion.{Choice, choices, is_cleaned, is_complete, was_complete}
 use Rattle.fb_model.specs.Segments.{live_count}
 

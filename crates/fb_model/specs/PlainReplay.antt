@@ -1,4 +1,5 @@
 -- The plain replay: requests are served one after another, each the first of least key among those that have arrived.
+-- The shortest positioning time is studied by Worthington, Ganger and Patt (SIGMETRICS 1994); the ties are this project's.
 use Rattle.std.specs.Prelude.{ℕ, zero, suc, ◌+◌, ◌-◌, ◌%◌, List, [], ◌∷◌, length, Bool, true, false, nat_le, Option, Some, None, unwrap_or, if◌then◌else◌}
 use Rattle.std.specs.Option.{option_map}
 use Rattle.std.specs.List.{list_any}

@@ -1,4 +1,4 @@
--- Plans for a gap, what they catch, and the best one.
+-- Plans for a gap, what they catch, and the best one: freeblock scheduling (Lumb and others, OSDI 2000; Lumb, Schindler and Ganger, FAST 2002).
 use Rattle.std.specs.Prelude.{◌≡◌, ◌⊎◌, ℕ, ◌+◌, ◌-◌, ◌*◌, ◌%◌, ◌≤◌, ◌<◌, List, Bool, false, ◌&&◌, ◌||◌, nat_le, filter}
 use Rattle.std.specs.List.{sum_by}
 use Rattle.fb_units.specs.declared.types.Track.{Track}

@@ -1,5 +1,5 @@
 -- The deliveries that are due: what dwells catch and what foreground reads carry.
-use Rattle.std.specs.Prelude.{ℕ, ◌+◌, ◌-◌, List, [], ◌∷◌, ◌++◌, Bool, ◌&&◌, not, ◌==◌, nat_le, filter, find, map, if◌then◌else◌}
+use Rattle.std.specs.Prelude.{ℕ, ◌+◌, ◌-◌, List, [], ◌∷◌, ◌++◌, Bool, ◌&&◌, ◌||◌, not, ◌==◌, nat_le, nat_lt, filter, find, map, if◌then◌else◌}
 use Rattle.std.specs.Option.{option_map_or}
 use Rattle.std.specs.List.{fold}
 use Rattle.fb_units.specs.declared.types.Request.{Request}
@@ -28,14 +28,19 @@ delivery medium how block begin end =
     let runs = runs_of (contents_at medium block.lbn block.count begin) in
     record { block = block; begin = begin; end = end; how = how; bad = bad_of runs; content = runs }
 
--- a row behind those that don't end after it
-abbrev pub by_end : List DeliveryRow → DeliveryRow → List DeliveryRow
-by_end [] row = row ∷ []
-by_end (first ∷ rows) row = if nat_le first.end row.end then first ∷ by_end rows row else row ∷ first ∷ rows
+-- a block is delivered before another one: by end, then by task, then by index
+abbrev pub is_before : ℕ → Block → ℕ → Block → Bool
+is_before end block other_end other = nat_lt end other_end
+    || ((end == other_end) && (nat_lt block.task other.task || ((block.task == other.task) && nat_lt block.index other.index)))
 
--- by end; where two end together they keep their order, which is by task and index
+-- a row among rows in order
+abbrev pub placed : List DeliveryRow → DeliveryRow → List DeliveryRow
+placed [] row = row ∷ []
+placed (first ∷ rows) row = if is_before row.end row.block first.end first.block then row ∷ first ∷ rows else first ∷ placed rows row
+
+-- in the order of delivery
 abbrev pub in_order : List DeliveryRow → List DeliveryRow
-in_order rows = fold by_end [] rows
+in_order rows = fold placed [] rows
 
 -- what a dwell catches of these blocks
 abbrev pub caught : Medium → How → Dwell → List Block → List DeliveryRow

@@ -1,5 +1,5 @@
--- The choice of segments.
-use Rattle.std.specs.Prelude.{ℕ, zero, suc, ◌+◌, ◌-◌, ◌*◌, List, [], ◌∷◌, ◌++◌, length, Bool, true, false, ◌&&◌, not, ◌==◌, nat_lt, filter, if◌then◌else◌}
+-- The choice of segments, by benefit and cost (Rosenblum and Ousterhout, The Design and Implementation of a Log-Structured File System); ties are this project's.
+use Rattle.std.specs.Prelude.{ℕ, zero, suc, ◌+◌, ◌-◌, ◌*◌, List, [], ◌∷◌, ◌++◌, length, Bool, true, false, ◌&&◌, not, nat_lt, filter, if◌then◌else◌}
 use Rattle.std.specs.List.{list_any, fold, best_of}
 use Rattle.fb_geometry.specs.Shape.{Shape}
 use Rattle.fb_calls.specs.declared.call.Kind.{Kind}
@@ -8,7 +8,7 @@ use Rattle.fb_sectormap.specs.declared.cut.Cut.{Cut}
 use Rattle.fb_sectormap.specs.Cutting.{cutting}
 use Rattle.fb_wanted.specs.declared.block.Block.{Block}
 use Rattle.fb_model.specs.History.{chose, Past, LogSegment, terms_of, task_numbers, blocks_of}
-use Rattle.fb_model.specs.Completion.{segments, choices, is_closed, is_cleaned}
+use Rattle.fb_model.specs.Completion.{segments, choices, is_choice_of, is_closed, is_cleaned}
 
 -- blocks for cut ranges, numbered from n on
 abbrev pub numbered : ℕ → ℕ → ℕ → List Cut → List Block
@@ -35,7 +35,7 @@ live_cuts disk block lbn (live ∷ lives) = (if live then cutting disk block lbn
 
 -- the segments that a task has not chosen
 abbrev pub is_chosen : Past → ℕ → LogSegment → Bool
-is_chosen past task segment = list_any (λ choice. choice.segment.number == segment.number) (choices past task)
+is_chosen past task segment = list_any (is_choice_of segment) (choices past task)
 
 abbrev pub unchosen : Past → ℕ → List LogSegment
 unchosen past task = filter (λ segment. not (is_chosen past task segment)) (segments past task)

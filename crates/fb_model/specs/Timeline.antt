@@ -14,6 +14,7 @@ use Rattle.fb_rows.specs.declared.gap.Plan.{Plan}
 use Rattle.fb_rows.specs.declared.gap.Plan.TheVariants.{Direct, Detour}
 use Rattle.fb_rows.specs.declared.back.BackRow.{BackRow}
 use Rattle.fb_rows.specs.declared.back.BackRow.TheVariants.{Gap as GapLine, Idle as IdleLine}
+use Rattle.fb_model.specs.PlainReplay.{first_track}
 
 -- a piece of the head's way: a stay on a track, a move from one to another, a sector's passage
 pub data Piece : Type 0 where
@@ -25,17 +26,19 @@ pub data Piece : Type 0 where
 abbrev pub way : Disk → Track → Track → Bool → ℕ → List Piece
 way disk from to write now = if same_track from to then [] else move from to write now (now + pos disk.mechanism from to write) ∷ []
 
--- the move to the target and the stay there
-abbrev pub approach : Disk → Gap → Track → ℕ → List Piece
-approach disk gap from leave = way disk from gap.target gap.write leave
-    ++ stay gap.target (leave + pos disk.mechanism from gap.target gap.write) gap.deadline ∷ []
+-- the stay on the target from the end of the move to it
+abbrev pub arrival : Disk → Gap → Track → ℕ → Piece
+arrival disk gap from leave = stay gap.target (leave + pos disk.mechanism from gap.target gap.write) gap.deadline
 
+-- straight from the source to the target, or by a track that is another than both
 abbrev pub gap_pieces : Disk → Gap → Plan → List Piece
-gap_pieces disk gap (Direct leave) = stay gap.source gap.now leave ∷ approach disk gap gap.source leave
+gap_pieces disk gap (Direct leave) = stay gap.source gap.now leave ∷ way disk gap.source gap.target gap.write leave ++ arrival disk gap gap.source leave ∷ []
 gap_pieces disk gap (Detour track leave) =
     move gap.source track false gap.now (gap.now + pos disk.mechanism gap.source track false)
     ∷ stay track (gap.now + pos disk.mechanism gap.source track false) leave
-    ∷ approach disk gap track leave
+    ∷ move track gap.target gap.write leave (leave + pos disk.mechanism track gap.target gap.write)
+    ∷ arrival disk gap track leave
+    ∷ []
 
 -- passages, with the moves and waits between them
 abbrev pub passing : Disk → Track → ℕ → Bool → List Passage → List Piece
@@ -90,4 +93,4 @@ led_to disk track now (piece ∷ pieces) = if can_follow disk track now piece
 
 -- the pieces are possible, from the first track and the instant 0 on, and end then
 abbrev pub IsPossible : Disk → List Piece → ℕ → Type 0
-IsPossible disk pieces end = led_to disk (record { cylinder = 0; head = 0 }) 0 pieces ≡ Some end
+IsPossible disk pieces end = led_to disk first_track 0 pieces ≡ Some end
