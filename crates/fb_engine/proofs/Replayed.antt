@@ -18,7 +18,8 @@ use Rattle.fb_store.specs.declared.content.Content.{Content}
 use Rattle.fb_store.specs.declared.content.Content.TheVariants.{Filled}
 use Rattle.fb_store.specs.declared.content.ContentRun.{ContentRun}
 use Rattle.fb_store.specs.Runs.{runs_of, bad_of}
-use Rattle.fb_store.specs.Writes.{Holding, content_in, unwritten, is_within, after_write}
+use Rattle.fb_store.specs.Writes.{unwritten, is_within, after_write}
+use Rattle.fb_store.specs.Index.{Holding, content_in}
 use Rattle.fb_rows.specs.declared.fore.ForeRow.{ForeRow}
 use Rattle.fb_model.specs.PlainReplay.{Key, Served, plain, service, media, finish, last_track, plain_replay}
 use Rattle.fb_model.specs.Inputs.{Inputs, served}

@@ -5,7 +5,8 @@ use Rattle.fb_units.specs.declared.types.Request.{Request}
 use Rattle.fb_store.specs.declared.content.Content.{Content}
 use Rattle.fb_store.specs.declared.content.ContentRun.{ContentRun}
 use Rattle.fb_store.specs.Runs.{runs_of, bad_of}
-use Rattle.fb_store.specs.Writes.{Holding, content_in, after_write}
+use Rattle.fb_store.specs.Writes.{after_write}
+use Rattle.fb_store.specs.Index.{Holding, content_in}
 use Rattle.fb_rows.specs.declared.fore.ForeRow.{ForeRow}
 use Rattle.fb_model.specs.PlainReplay.{Served, media, finish}
 use Rattle.fb_model.specs.Content.{number_of}

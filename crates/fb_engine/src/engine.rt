@@ -3,7 +3,7 @@ ghost use Rattle.std.specs.Prelude.{◌≡◌, ◌==◌, ℕ, suc, ◌+◌, ◌-
 ghost use Rattle.std.specs.List.{AllByRecursion};
 ghost use Rattle.fb_geometry.specs.Shape.{IsTrackOf};
 ghost use Rattle.fb_rows.specs.Ranges.{HasRanges};
-ghost use Rattle.fb_store.specs.Writes.{content_in};
+ghost use Rattle.fb_store.specs.Index.{content_in};
 ghost use Rattle.fb_service.specs.Service.{passages};
 ghost use Rattle.fb_model.specs.Accepted.{IsAccepted};
 ghost use Rattle.fb_model.specs.Content.{fore_rows};

@@ -4,7 +4,7 @@ ghost use Rattle.std.specs.List.{AllByRecursion, sum_by};
 ghost use Rattle.fb_geometry.specs.Shape.{IsTrackOf};
 ghost use Rattle.fb_geometry.specs.Places.{places};
 ghost use Rattle.fb_rows.specs.Ranges.{HasRanges};
-ghost use Rattle.fb_store.specs.Writes.{content_in};
+ghost use Rattle.fb_store.specs.Index.{content_in};
 ghost use Rattle.fb_model.specs.Accepted.{IsRequestOf};
 ghost use Rattle.fb_model.specs.Content.{number_of};
 ghost use Rattle.fb_model.specs.PlainReplay.{service, last_track};

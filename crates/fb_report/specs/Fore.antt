@@ -16,14 +16,14 @@ abbrev pub row_bytes : ℕ → Bytes → ForeRow → List ℕ
 row_bytes size bytes row = if row.request.write then codes "-" else shown bytes size row.content
 
 -- nor a sector that can't be read
-abbrev pub bad_sectors : ForeRow → ℕ
-bad_sectors row = if row.request.write then 0 else row.bad
+abbrev pub bad_count : ForeRow → ℕ
+bad_count row = if row.request.write then 0 else row.bad
 
 -- name, kind, first LBN, count, arrival, start, media, finish, bad sectors and bytes
 abbrev pub fore_line : ℕ → Bytes → ForeRow → List ℕ
 fore_line size bytes row = line_of (name_text row.request.name)
     (kind_text row.request.write ∷ decimal row.request.lbn ∷ decimal row.request.count ∷ decimal row.request.arrival
-    ∷ decimal row.start ∷ decimal row.media ∷ decimal row.finish ∷ decimal (bad_sectors row) ∷ row_bytes size bytes row ∷ [])
+    ∷ decimal row.start ∷ decimal row.media ∷ decimal row.finish ∷ decimal (bad_count row) ∷ row_bytes size bytes row ∷ [])
 
 abbrev pub first_line : List ℕ
 first_line = line_of (codes "freeblock") (codes "fore" ∷ codes "1" ∷ [])

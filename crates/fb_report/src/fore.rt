@@ -3,7 +3,7 @@ ghost use Rattle.std.specs.Prelude.{◌≡◌, ℕ, ◌+◌, ◌%◌, ◌<◌, �
 ghost use Rattle.std.specs.List.{AllByRecursion};
 ghost use Rattle.fb_report.specs.declared.bytes.Bytes.{Bytes};
 ghost use Rattle.fb_report.specs.Shown.{shown};
-ghost use Rattle.fb_report.specs.Fore.{bad_sectors, kind_text, row_bytes, fore_line, first_line, last_line, fore_lines, fore_text};
+ghost use Rattle.fb_report.specs.Fore.{bad_count, kind_text, row_bytes, fore_line, first_line, last_line, fore_lines, fore_text};
 ghost use Rattle.fb_rows.specs.Ranges.{HasRanges};
 
 use crate::Bytes;
@@ -100,7 +100,7 @@ fn fore_line(
 {
     let found = row_bytes(alloc, row, sector_bytes, bytes)?;
     let count = row.request.count;
-    let bad = bad_sectors(row);
+    let bad = bad_count(row);
     let mut line = Line::named(alloc, row.request.name)?;
     line.word(kind(row.request.write))?;
     line.number(row.request.lbn)?;
@@ -115,8 +115,8 @@ fn fore_line(
 }
 
 // How many sectors of a read could not be read.
-fn bad_sectors(row: &ForeRow) -> u32
-    ensures { result ≡ bad_sectors row.now }
+fn bad_count(row: &ForeRow) -> u32
+    ensures { result ≡ bad_count row.now }
 {
     if row.request.write { 0 } else { row.bad }
 }

@@ -10,7 +10,8 @@ use Rattle.fb_store.specs.declared.content.Content.{Content}
 use Rattle.fb_store.specs.declared.content.Content.TheVariants.{Filled, Unreadable}
 use Rattle.fb_store.specs.declared.content.ContentRun.{ContentRun}
 use Rattle.fb_store.specs.Runs.{IsRun}
-use Rattle.fb_store.specs.Writes.{unwritten, is_within, after_write, filled_or, writer_of, begins_at, content_in}
+use Rattle.fb_store.specs.Writes.{unwritten, is_within, after_write}
+use Rattle.fb_store.specs.Index.{filled_or, writer_of, begins_at, content_in}
 use Rattle.fb_store.proofs.Writers.{steady, none_there, no_writer}
 
 same_key : (lbn bad : ℕ) → is_at (nat_cmp lbn) bad ≡ (bad == lbn)

@@ -4,24 +4,7 @@ use Rattle.std.specs.List.{flat_map, range_with_len}
 use Rattle.fb_store.specs.declared.content.Content.{Content}
 use Rattle.fb_store.specs.declared.content.Content.TheVariants.{Filled, Unreadable}
 use Rattle.fb_store.specs.declared.content.ContentRun.{ContentRun}
-use Rattle.fb_store.specs.Runs.{same_content, with_content, runs_of}
-
--- the sectors of runs, each with its content
-abbrev pub sectors_in : ContentRun → List (ℕ × Content)
-sectors_in run = map (λ lbn. (lbn, run.content)) (range_with_len run.first run.count)
-
-abbrev pub sectors_of : List ContentRun → List (ℕ × Content)
-sectors_of runs = flat_map sectors_in runs
-
--- a run could go on in the next one
-abbrev pub joins : ContentRun → ContentRun → Bool
-joins a b = (b.first == a.first + a.count) && same_content a.content b.content
-
--- no two neighbours could be one
-abbrev pub AreFewest : List ContentRun → Type 0
-AreFewest [] = Unit {0}
-AreFewest (run ∷ []) = Unit {0}
-AreFewest (run ∷ next ∷ runs) = (joins run next ≡ false) × AreFewest (next ∷ runs)
+use Rattle.fb_store.specs.Runs.{same_content, with_content, runs_of, sectors_of, joins, AreFewest}
 
 pub so : (b : Bool) → b ≡ true → T b
 so true p = tt

@@ -5,7 +5,7 @@ use Rattle.std.specs.Ordering.{nat_cmp, is_gt, is_lt}
 use Rattle.std.specs.BTreeMap.{is_at}
 use Rattle.std.proofs.lemmas.Bool.{cases_lt}
 use Rattle.std.proofs.lemmas.Bool.Decides.{nat_tests}
-use Rattle.fb_store.specs.Writes.{writer_of}
+use Rattle.fb_store.specs.Index.{writer_of}
 
 abbrev Begins : Type 0
 Begins = ℕ → Option (Option ℕ)

@@ -1,6 +1,6 @@
 -- The contents of sectors as runs.
-use Rattle.std.specs.Prelude.{◌≡◌, ◌≤◌, ◌<◌, ℕ, ◌+◌, List, [], ◌∷◌, Bool, true, false, ◌&&◌, ◌==◌, if◌then◌else◌}
-use Rattle.std.specs.List.{sum_by}
+use Rattle.std.specs.Prelude.{◌≡◌, ◌≤◌, ◌<◌, ℕ, ◌+◌, List, [], ◌∷◌, Bool, true, false, ◌&&◌, ◌==◌, map, if◌then◌else◌}
+use Rattle.std.specs.List.{sum_by, flat_map, range_with_len}
 use Rattle.fb_store.specs.declared.content.Content.{Content}
 use Rattle.fb_store.specs.declared.content.Content.TheVariants.{Filled, Unreadable}
 use Rattle.fb_store.specs.declared.content.ContentRun.{ContentRun}
@@ -22,6 +22,28 @@ with_content lbn content (run ∷ runs) = if (run.first == lbn + 1) && same_cont
 abbrev pub runs_of : List (ℕ × Content) → List ContentRun
 runs_of [] = []
 runs_of (sector ∷ sectors) = with_content sector.0 sector.1 (runs_of sectors)
+
+-- the sectors of runs, each with its content
+abbrev pub sectors_in : ContentRun → List (ℕ × Content)
+sectors_in run = map (λ lbn. (lbn, run.content)) (range_with_len run.first run.count)
+
+abbrev pub sectors_of : List ContentRun → List (ℕ × Content)
+sectors_of runs = flat_map sectors_in runs
+
+-- a run could go on in the next one
+abbrev pub joins : ContentRun → ContentRun → Bool
+joins a b = (b.first == a.first + a.count) && same_content a.content b.content
+
+-- no two neighbours could be one
+abbrev pub AreFewest : List ContentRun → Type 0
+AreFewest [] = Unit {0}
+AreFewest (run ∷ []) = Unit {0}
+AreFewest (run ∷ next ∷ runs) = (joins run next ≡ false) × AreFewest (next ∷ runs)
+
+-- runs give just these contents, in their order, and are the fewest
+pub record ArePacked (sectors : List (ℕ × Content)) (runs : List ContentRun) : Type 0 where
+  pub contents : sectors_of runs ≡ sectors
+  pub fewest : AreFewest runs
 
 -- how many sectors of a run can't be read
 abbrev pub bad_in : ContentRun → ℕ

@@ -2,7 +2,7 @@
 ghost use Rattle.std.specs.Prelude.{◌≡◌, ℕ, ◌+◌, ◌<◌, ◌≤◌, ◌≢◌, None, Some, OnOk, OnErr};
 ghost use Rattle.std.specs.Ordering.{nat_cmp};
 ghost use Rattle.std.specs.BTreeMap.{get, ContainsKey, IsUnchanged};
-ghost use Rattle.fb_store.specs.Writes.{writer_of};
+ghost use Rattle.fb_store.specs.Index.{writer_of};
 
 use fb_units::NoMemory;
 use std::collections::BTreeMap;

@@ -1,10 +1,12 @@
 // Who wrote each sector last.
-ghost use Rattle.std.specs.Prelude.{◌≡◌, ℕ, ◌+◌, ◌<◌, ◌≤◌, ◌^◌, true, false, map, IfOk, OnOk, OnErr};
+ghost use Rattle.std.specs.Prelude.{◌≡◌, ℕ, List, ◌+◌, ◌<◌, ◌≤◌, ◌^◌, true, false, map, IfOk, OnOk, OnErr};
 ghost use Rattle.std.specs.Ordering.{nat_cmp};
 ghost use Rattle.std.specs.BTreeSet.{contains, IsFromIterResult};
 ghost use Rattle.std.specs.List.{range_with_len, sum_by, AllByRecursion};
-ghost use Rattle.fb_store.specs.Writes.{unwritten, after_write, content_in};
-ghost use Rattle.fb_store.specs.Runs.{runs_of, same_content, IsRun, IsLongestRun};
+ghost use Rattle.fb_store.specs.declared.content.Content.{Content};
+ghost use Rattle.fb_store.specs.Writes.{unwritten, after_write};
+ghost use Rattle.fb_store.specs.Index.{content_in};
+ghost use Rattle.fb_store.specs.Runs.{runs_of, same_content, ArePacked, IsRun, IsLongestRun};
 
 use crate::ranges::{next_begin, write, writer_at};
 use crate::{Content, ContentRun, Contents};
@@ -21,7 +23,7 @@ pub struct Store {
 }
 
 impl Model for Store {
-    ghost use Rattle.fb_store.specs.Writes.{Holding};
+    ghost use Rattle.fb_store.specs.Index.{Holding};
 
     ghost Value = { Holding };
 
@@ -114,6 +116,11 @@ impl Store {
         }
     }
 }
+
+/// The runs of sectors give each its content, in their order, and are the fewest that do.
+pub fn runs_are_fewest()
+    ensures { (sectors : List (ℕ × Content)) → ArePacked sectors (runs_of sectors) }
+{}
 
 fn set_of(alloc: Global, latent: &[u64]) -> Result<BTreeSet<u64>, AllocError>
     ensures { IfOk result (IsFromIterResult nat_cmp latent.now) }

@@ -53,7 +53,7 @@ trace_once old new terms fault well turn =
     let trace = well.accepts.reads_trace in
     let refuses = turn.refuses in
     let same = same_ok (params_of reads.bytes) _ _ reads.spells
-      (ap params_of (same_bytes (old.held terms.params) reads.bytes other.bytes well.params_told reads.held other.held) ∙ other.spells) in
+    (ap params_of (same_bytes (old.held terms.params) reads.bytes other.bytes well.params_told reads.held other.held) ∙ other.spells) in
     not_both (trace_of terms.device (length (places well.accepts.disk.map)) trace.bytes) _ fault trace.spells
     (ap (λ p. trace_of terms.device (length (places p.outline)) trace.bytes) same
     ∙ ap (trace_of terms.device (length (places turn.disk.map))) (same_bytes (old.held terms.trace) trace.bytes refuses.bytes well.trace_told trace.held refuses.held)

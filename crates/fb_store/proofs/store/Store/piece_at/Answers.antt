@@ -1,6 +1,6 @@
 use Rattle.std.proofs.Common.{subst, ◌-◌}
 use Rattle.fb_store.specs.declared.content.Content.TheVariants.{Filled}
-use Rattle.fb_store.specs.Writes.{content_in}
+use Rattle.fb_store.specs.Index.{content_in}
 use Rattle.fb_store.specs.Runs.{IsRun}
 use Rattle.fb_store.proofs.Originals.{IsRun-written, IsRun-unwritten}
 use Rattle.fb_store.proofs.store.Store.piece_at.Goals as goal

@@ -1,7 +1,8 @@
 use Rattle.std.proofs.Common.{ap, ◌∙◌, Result, Ok, Err, OnErr}
 use Rattle.std.specs.Ordering.{nat_cmp}
 use Rattle.std.specs.BTreeMap.{get}
-use Rattle.fb_store.specs.Writes.{unwritten, writer_of, filled_or, after_write, content_in}
+use Rattle.fb_store.specs.Writes.{unwritten, after_write}
+use Rattle.fb_store.specs.Index.{writer_of, filled_or, content_in}
 use Rattle.fb_store.proofs.Originals.{content_written}
 use Rattle.fb_store.proofs.store.Store.write_range.Goals as goal
 
