@@ -1,24 +1,19 @@
 -- A replay that goes well is made.
-use Rattle.std.proofs.Common.{◌≡◌, ℕ, ◌<◌, ◌≤◌, ◌^◌, List, length, Option, Some, None, true, refl, sym, ap, subst, ◌∙◌, inl, inr, arith, Result, Ok, Err}
+use Rattle.std.proofs.Common.{◌≡◌, ℕ, ◌<◌, ◌≤◌, ◌^◌, List, length, Option, Some, None, true, sym, ap, subst, ◌∙◌, arith, Result, Ok, Err}
 use Rattle.std.specs.Prelude.{IfSome, is_some}
-use Rattle.fb_geometry.specs.Shape.{Shape}
 use Rattle.fb_geometry.specs.Places.{places}
-use Rattle.fb_service.specs.declared.disk.Disk.{Disk}
 use Rattle.fb_params.specs.declared.fault.ParamsFault.{ParamsFault}
 use Rattle.fb_params.specs.Reading.{params_of}
 use Rattle.fb_trace.specs.declared.trace.TraceFault.{TraceFault}
 use Rattle.fb_trace.specs.Reading.{trace_of}
 use Rattle.fb_desk.specs.View.{DeskView}
-use Rattle.fb_desk.specs.declared.desk.Input.{Input}
 use Rattle.fb_desk.specs.declared.desk.Input.TheVariants.{Params, Trace, Calls}
-use Rattle.fb_desk.specs.declared.desk.Output.TheVariants.{Fore}
 use Rattle.fb_desk.specs.Calls.{Rose}
 use Rattle.fb_words.specs.Command.{Terms, ReplayTerms, replays, makes}
 use Rattle.fb_words.specs.declared.fault.UsageFault.{UsageFault}
 use Rattle.fb_top.specs.declared.outcome.Outcome.{Outcome}
 use Rattle.fb_top.specs.declared.outcome.Outcome.TheVariants as outcomes
-use Rattle.fb_top.specs.Streams.{IsHeld, IsLonger}
-use Rattle.fb_top.specs.Read.{ReadsDisk, RefusesDisk, RefusesTrace, Accepts}
+use Rattle.fb_top.specs.Read.{RefusesDisk}
 use Rattle.fb_top.specs.Causes.{AnswersWords, HasCause, RefusesInTurn}
 use Rattle.fb_top.specs.Complete.{GoesWell, IsMade, IsComplete}
 

@@ -1,5 +1,5 @@
 -- What stopped a later step, told of the desk at the start.
-use Rattle.std.proofs.Common.{◌≡◌, ◌≢◌, ℕ, ◌+◌, ◌<◌, ◌≤◌, ◌^◌, List, [], ◌∷◌, length, Option, subst, refl, sym, ap, ◌∙◌, inl, inr, arith, map, Bool, true, false}
+use Rattle.std.proofs.Common.{◌≡◌, ◌≢◌, ℕ, ◌<◌, ◌≤◌, ◌^◌, List, [], ◌∷◌, length, Option, subst, refl, sym, ◌∙◌, inl, inr, arith, Bool, false}
 use Rattle.std.specs.Prelude.{IfSome}
 use Rattle.std.specs.List.{AllByRecursion}
 use Rattle.fb_units.specs.declared.types.Request.{Request}
@@ -10,24 +10,19 @@ use Rattle.fb_trace.specs.Reading.{Accepted}
 use Rattle.fb_trace.specs.Servable.{IsServable, IsTraceOf}
 use Rattle.fb_model.specs.Accepted.{IsAccepted, IsRequestOf}
 use Rattle.fb_model.specs.PlainReplay.{Key}
-use Rattle.fb_model.specs.Content.{fore_rows}
 use Rattle.fb_report.specs.Fore.{fore_text}
 use Rattle.fb_desk.specs.Calls.{Rose, ChangesInput, ChangesOutput}
 use Rattle.fb_desk.specs.View.{DeskView, InputView, OutputView}
-use Rattle.fb_desk.specs.declared.desk.Input.{Input}
 use Rattle.fb_desk.specs.declared.desk.Input.TheVariants.{Params, Trace, Calls}
-use Rattle.fb_desk.specs.declared.desk.Output.{Output}
 use Rattle.fb_desk.specs.declared.desk.Output.TheVariants.{Fore, Back, Note, MadeTrace, MadeCalls}
 use Rattle.fb_words.specs.Command.{ReplayTerms}
 use Rattle.fb_top.specs.declared.outcome.Outcome.{Outcome}
 use Rattle.fb_top.specs.declared.outcome.Outcome.TheVariants as outcomes
-use Rattle.fb_top.specs.Streams.{IsHeld, IsLonger, IsFront}
-use Rattle.fb_top.specs.Read.{ReadsDisk, ReadsTrace, RefusesTrace, Accepts, inputs_of}
+use Rattle.fb_top.specs.Read.{ReadsDisk, ReadsTrace, Accepts}
 use Rattle.fb_words.specs.declared.fault.UsageFault.{UsageFault}
 use Rattle.fb_top.specs.Built.{is_built, not_yet}
-use Rattle.fb_top.specs.Done.{IsPlainRun, IsRunOf, IsDone, IsCutOff, KeepsOthers}
-use Rattle.fb_top.specs.Causes.{HasCause, StopsTrace, StopsFore, KeepsReports, FaultsRose, RefusesInTurn, HoldsFront}
-use Rattle.fb_top.proofs.Fronts.{same_name}
+use Rattle.fb_top.specs.Done.{IsRunOf, KeepsOthers}
+use Rattle.fb_top.specs.Causes.{HasCause, StopsTrace, StopsFore, KeepsReports}
 
 other_input : Trace ≢ Params
 other_input e = cc
@@ -45,7 +40,7 @@ reads_before old mid name device disk trace only reads = record {
 }
 
 -- what was read is accepted
-pub accepts_read : (words : ReplayTerms) (disk : Disk) (latent : List ℕ) (trace : Accepted) (old mid : DeskView) (params_name trace_name : List ℕ) → params_name ≡ words.params → trace_name ≡ words.trace
+abbrev pub accepts_read : (words : ReplayTerms) (disk : Disk) (latent : List ℕ) (trace : Accepted) (old mid : DeskView) (params_name trace_name : List ℕ) → params_name ≡ words.params → trace_name ≡ words.trace
     → ReadsDisk old params_name disk latent → ChangesInput Params old mid → ReadsTrace mid trace_name words.device disk trace → Accepts old words
 accepts_read words disk latent trace old mid params_name trace_name same_params same_trace reads only reads_trace = record {
   disk = disk;
@@ -59,7 +54,7 @@ accepts_read words disk latent trace old mid params_name trace_name same_params 
 pub unbuilt_read : (words : ReplayTerms) (old mid new : DeskView) (fault : UsageFault) (built : Bool) → Accepts old words → built ≡ is_built words → built ≡ false → fault ≡ not_yet
     → ChangesInput Params old mid → ChangesInput Trace mid new → HasCause words old new (outcomes.Usage fault)
 unbuilt_read words old mid new fault built accepts same unbuilt is first second =
-    (record { accepts = accepts; unbuilt = sym same ∙ unbuilt; fault = is }, keeps old mid new first second)
+    (record { accepts = accepts; unbuilt = sym same ∙ unbuilt; told = is }, keeps old mid new first second)
 
 -- why the trace was not read
 pub after_disk : (words : ReplayTerms) (disk : Disk) (latent : List ℕ) (old mid new : DeskView) (outcome : Outcome) → ReadsDisk old words.params disk latent

@@ -19,4 +19,4 @@ not_yet = fault_at 0 NotYet
 pub record IsUnbuilt (desk : DeskView) (terms : ReplayTerms) (fault : UsageFault) : Type 0 where
   pub accepts : Accepts desk terms
   pub unbuilt : is_built terms ≡ false
-  pub fault : fault ≡ not_yet
+  pub told : fault ≡ not_yet

@@ -9,11 +9,9 @@ use Rattle.fb_params.specs.declared.fault.ParamsFault.{ParamsFault}
 use Rattle.fb_params.specs.declared.fault.ParamsFault.TheVariants as params
 use Rattle.fb_trace.specs.declared.trace.TraceReason.{TraceReason}
 use Rattle.fb_trace.specs.declared.trace.TraceReason.TheVariants as trace
-use Rattle.fb_trace.specs.declared.trace.TraceFault.{TraceFault}
 use Rattle.fb_report.specs.Lines.{track_text}
 use Rattle.fb_words.specs.declared.fault.UsageReason.{UsageReason}
 use Rattle.fb_words.specs.declared.fault.UsageReason.TheVariants as usage
-use Rattle.fb_words.specs.declared.fault.UsageFault.{UsageFault}
 use Rattle.fb_desk.specs.declared.desk.Input.{Input}
 use Rattle.fb_desk.specs.declared.desk.Input.TheVariants as inputs
 use Rattle.fb_desk.specs.declared.desk.Output.{Output}

@@ -1,6 +1,7 @@
 // Words and values of a note.
 ghost use Rattle.std.specs.Prelude.{◌≡◌, ◌++◌, decimal, OnOk};
-ghost use Rattle.fb_top.specs.Notes.{numbered, place_text, track_text, valued};
+ghost use Rattle.fb_report.specs.Lines.{track_text};
+ghost use Rattle.fb_top.specs.Notes.{numbered, place_text, valued};
 
 use fb_units::{KeyText, NoMemory, Place, Track};
 use itoa::Buffer;

@@ -1,9 +1,8 @@
-use Rattle.std.proofs.Common.{◌≡◌, ◌∙◌, List, ℕ, refl, sym, ap, subst, length}
+use Rattle.std.proofs.Common.{◌∙◌, List, ℕ, sym, subst}
 use Rattle.fb_words.specs.Verdict.{replay_terms}
 use Rattle.fb_desk.specs.declared.desk.Output.TheVariants.{Fore, Note}
-use Rattle.fb_geometry.specs.Places.{places}
 use Rattle.fb_trace.specs.Verdict.{accepted}
-use Rattle.fb_top.specs.Read.{ReadsDisk, ReadsTrace}
+use Rattle.fb_top.specs.Read.{ReadsDisk}
 use Rattle.fb_top.specs.Causes.{StopsTrace}
 use Rattle.fb_top.specs.Done.{IsRunOf}
 use Rattle.fb_top.proofs.Later.{accepts_read, after_disk, after_run, others_read, unbuilt_read, is_accepted}
@@ -37,7 +36,7 @@ returns-in-Ok-write_fore-clause-cause g c =
     record {
       others = others_read old mid late new c.in-Ok.ensures.only c.in-Ok-read_requests.ensures.only c.in-Ok-write_fore.ensures.only;
       is_run = record {
-        built = sym c.is_built.ensures ∙ c.after-is_built.false;
+        built = sym c.is_built.ensures ∙ c.if-not-is_built.false;
         accepts = accepts_read words c.in-Ok.params.disk c.in-Ok.params.latent.items (accepted c.in-Ok-read_requests.trace) old mid _ _ c.as_str.ensures.value c.as_str-2.ensures.value
             c.in-Ok.ensures.disk c.in-Ok.ensures.only c.in-Ok-read_requests.ensures.trace;
         plain = record { fore = c.in-Ok-replay_by.ensures.fore; passed_over = c.in-Ok-replay_by.ensures.passed_over };
@@ -54,7 +53,7 @@ returns-clause-cause g c =
     let new = g.D.Desk.seen c.write_fore.new.desk in
     let words = replay_terms c.args.words.now in
     let is_run : IsRunOf old words c.in-Ok-replay_by.run' = record {
-      built = sym c.is_built.ensures ∙ c.after-is_built.false;
+      built = sym c.is_built.ensures ∙ c.if-not-is_built.false;
       accepts = accepts_read words c.in-Ok.params.disk c.in-Ok.params.latent.items (accepted c.in-Ok-read_requests.trace) old mid _ _ c.as_str.ensures.value c.as_str-2.ensures.value
           c.in-Ok.ensures.disk c.in-Ok.ensures.only c.in-Ok-read_requests.ensures.trace;
       plain = record { fore = c.in-Ok-replay_by.ensures.fore; passed_over = c.in-Ok-replay_by.ensures.passed_over };
@@ -68,3 +67,14 @@ returns-in-Ok-write_fore-clause-no_note g c = c.in-Ok-write_fore.ensures.only.ou
 
 pub returns-clause-no_note : goal.returns-clause-no_note
 returns-clause-no_note g c = c.in-Err-write_fore.ensures.only.outputs Note note_is_other ∙ c.in-Ok-read_requests.ensures.only.outputs Note ∙ c.in-Ok.ensures.only.outputs Note
+
+pub returns-then-not-is_built-clause-cause : goal.returns-then-not-is_built-clause-cause
+returns-then-not-is_built-clause-cause g c =
+    let old = g.D.Desk.seen c.args.desk.now in
+    let mid = g.D.Desk.seen c.read_disk.new.desk in
+    let new = g.D.Desk.seen c.read_requests.new.desk in
+    let words = replay_terms c.args.words.now in
+    unbuilt_read words old mid new c.not_yet.result c.is_built.result
+    (accepts_read words c.in-Ok.params.disk c.in-Ok.params.latent.items (accepted c.in-Ok-read_requests.trace) old mid _ _ c.as_str.ensures.value c.as_str-2.ensures.value
+    c.in-Ok.ensures.disk c.in-Ok.ensures.only c.in-Ok-read_requests.ensures.trace)
+    c.is_built.ensures c.if-not-is_built.true c.not_yet.ensures c.in-Ok.ensures.only c.in-Ok-read_requests.ensures.only

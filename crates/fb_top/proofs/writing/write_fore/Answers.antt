@@ -1,7 +1,6 @@
-use Rattle.std.proofs.Common.{◌+◌, ◌≡◌, ◌≤◌, ◌∙◌, ap, arith, List, ℕ, Option, subst, sym, length}
-use Rattle.std.specs.Prelude.{IfSome, Some, slice_get}
+use Rattle.std.proofs.Common.{◌≡◌, ◌∙◌, ap, arith, sym}
+use Rattle.std.specs.Prelude.{Some, slice_get}
 use Rattle.fb_desk.specs.declared.desk.Output.TheVariants.{Fore}
-use Rattle.fb_desk.specs.Calls.{behind, Rose}
 use Rattle.fb_report.specs.Fore.{fore_lines}
 use Rattle.fb_top.proofs.Pieces.{output_on}
 use Rattle.fb_top.proofs.Fronts.{front_of, front_more, holds_more, holds_all, holds_none, rose_later, same_name}
