@@ -5,15 +5,19 @@
 #![tactic(auto)]
 
 mod command;
+#[cfg(test)]
+mod fault_tests;
 mod note;
 mod note_faults;
 mod note_words;
 mod outcome;
 mod policy;
 mod reading;
+#[cfg(test)]
+mod replay_tests;
 mod streams;
 #[cfg(test)]
-mod tests;
+mod test_desk;
 mod writing;
 
 pub use command::run_command;
