@@ -1,17 +1,17 @@
 -- Runs that show backups, computed.
-use Rattle.std.proofs.Common.{List, [], ◌∷◌, refl, lit≤, true}
+use Rattle.std.proofs.Common.{List, [], ◌∷◌, refl, lit≤, lit<, true}
 use Rattle.fb_calls.specs.declared.call.Kind.TheVariants.{Backup}
 use Rattle.fb_rows.specs.declared.gap.Plan.TheVariants.{Direct}
 use Rattle.fb_rows.specs.declared.gap.How.TheVariants.{Idle as ByIdle}
+use Rattle.fb_worked.specs.SmallDisk.{small_disk}
 use Rattle.fb_worked.specs.Rows.{at, untouched, written, block, got, done_line, seal_line, task_line}
 use Rattle.fb_rows.specs.declared.back.BackRow.{BackRow}
 use Rattle.fb_model.specs.Course.{Part}
 use Rattle.fb_model.specs.SoundRun.{none, taken, IsSoundBy, Throughout}
-use Rattle.fb_model.specs.FullRun.{IsAllDelivered, IsFull}
-use Rattle.fb_worked.specs.Whole.{LeavesNothingOut}
+use Rattle.fb_model.specs.FullRun.{IsAllDelivered, IsBestPlanned, IsFull}
 use Rattle.fb_worked.specs.Backups.{overwritten_backup, backup_without_aborted}
-use Rattle.fb_worked.proofs.OnSmallDisks.{on_small_disks, part, with_rows}
-use Rattle.fb_worked.proofs.BestPlans.{nothing_wanted}
+use Rattle.fb_worked.proofs.OnSmallDisks.{on_small_disks, part, with_rows, gap}
+use Rattle.fb_worked.proofs.BestPlans.{none_in_time}
 
 abbrev parts_of_overwritten_backup : List Part
 parts_of_overwritten_backup =
@@ -54,8 +54,12 @@ all_overwritten_backup : Throughout IsAllDelivered overwritten_backup.inputs par
 unfolding on_small_disks
 all_overwritten_backup = (refl, (refl, (refl, tt)))
 
-pub overwritten_backup_is_whole : LeavesNothingOut overwritten_backup.inputs overwritten_backup.run
-overwritten_backup_is_whole = record { parts = parts_of_overwritten_backup; sound = sound_overwritten_backup; all = all_overwritten_backup }
+best_overwritten_backup : Throughout IsBestPlanned overwritten_backup.inputs parts_of_overwritten_backup
+unfolding on_small_disks
+best_overwritten_backup = (tt, (none_in_time small_disk (gap (at 0 0) (at 0 0) 250 1200 true) (block 0 1 2 2 (at 0 0) 1 ∷ []) (lit< tt, tt) (lit≤ tt, lit≤ tt), (tt, tt)))
+
+pub overwritten_backup_is_full : IsFull overwritten_backup.inputs overwritten_backup.run
+overwritten_backup_is_full = record { parts = parts_of_overwritten_backup; sound = sound_overwritten_backup; best = best_overwritten_backup; all = all_overwritten_backup }
 
 abbrev parts_of_backup_without_aborted : List Part
 parts_of_backup_without_aborted =
@@ -95,6 +99,9 @@ all_backup_without_aborted : Throughout IsAllDelivered backup_without_aborted.in
 unfolding on_small_disks
 all_backup_without_aborted = (refl, (refl, (refl, tt)))
 
-pub backup_without_aborted_is_full : IsFull backup_without_aborted.inputs backup_without_aborted.run
+best_backup_without_aborted : Throughout IsBestPlanned backup_without_aborted.inputs parts_of_backup_without_aborted
 unfolding on_small_disks
-backup_without_aborted_is_full = record { parts = parts_of_backup_without_aborted; sound = sound_backup_without_aborted; best = (tt, (nothing_wanted _ _ (lit≤ tt, lit≤ tt), (tt, tt))); all = all_backup_without_aborted }
+best_backup_without_aborted = (tt, (none_in_time small_disk (gap (at 0 0) (at 0 0) 250 1200 true) [] tt (lit≤ tt, lit≤ tt), (tt, tt)))
+
+pub backup_without_aborted_is_full : IsFull backup_without_aborted.inputs backup_without_aborted.run
+backup_without_aborted_is_full = record { parts = parts_of_backup_without_aborted; sound = sound_backup_without_aborted; best = best_backup_without_aborted; all = all_backup_without_aborted }

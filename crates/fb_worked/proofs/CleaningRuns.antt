@@ -1,16 +1,17 @@
 -- Runs that show the cleaning of segments, computed.
-use Rattle.std.proofs.Common.{List, [], ◌∷◌, refl, lit≤, true}
+use Rattle.std.proofs.Common.{List, [], ◌∷◌, refl, lit≤, lit<, true, false}
 use Rattle.fb_calls.specs.declared.call.Kind.TheVariants.{Clean}
 use Rattle.fb_rows.specs.declared.gap.Plan.TheVariants.{Direct}
 use Rattle.fb_rows.specs.declared.gap.How.TheVariants.{Gap as ByGap, Idle as ByIdle}
+use Rattle.fb_worked.specs.SmallDisk.{small_disk}
 use Rattle.fb_worked.specs.Rows.{at, untouched, block, got, done_line, segment_line, task_line}
 use Rattle.fb_rows.specs.declared.back.BackRow.{BackRow}
 use Rattle.fb_model.specs.Course.{Part}
 use Rattle.fb_model.specs.SoundRun.{none, taken, IsSoundBy, Throughout}
-use Rattle.fb_model.specs.FullRun.{IsAllDelivered, IsFull}
-use Rattle.fb_worked.specs.Whole.{LeavesNothingOut}
+use Rattle.fb_model.specs.FullRun.{IsAllDelivered, IsBestPlanned, IsFull}
 use Rattle.fb_worked.specs.Cleaning.{segments_by_benefit, segment_without_live_blocks, segment_keeps_its_passages, closed_with_chosen_segment, suspended_session_chooses}
-use Rattle.fb_worked.proofs.OnSmallDisks.{on_small_disks, part, with_rows}
+use Rattle.fb_worked.proofs.OnSmallDisks.{on_small_disks, part, with_rows, gap}
+use Rattle.fb_worked.proofs.BestPlans.{none_in_time, all_at_once}
 
 abbrev parts_of_segments_by_benefit : List Part
 parts_of_segments_by_benefit =
@@ -53,8 +54,12 @@ all_segments_by_benefit : Throughout IsAllDelivered segments_by_benefit.inputs p
 unfolding on_small_disks
 all_segments_by_benefit = (refl, (refl, (refl, tt)))
 
-pub segments_by_benefit_is_whole : LeavesNothingOut segments_by_benefit.inputs segments_by_benefit.run
-segments_by_benefit_is_whole = record { parts = parts_of_segments_by_benefit; sound = sound_segments_by_benefit; all = all_segments_by_benefit }
+best_segments_by_benefit : Throughout IsBestPlanned segments_by_benefit.inputs parts_of_segments_by_benefit
+unfolding on_small_disks
+best_segments_by_benefit = (tt, (none_in_time small_disk (gap (at 0 0) (at 0 0) 700 1100 false) (block 0 1 0 1 (at 0 0) 1 ∷ block 0 2 2 1 (at 0 0) 1 ∷ []) (lit< tt, (lit< tt, tt)) (lit≤ tt, lit≤ tt), (tt, tt)))
+
+pub segments_by_benefit_is_full : IsFull segments_by_benefit.inputs segments_by_benefit.run
+segments_by_benefit_is_full = record { parts = parts_of_segments_by_benefit; sound = sound_segments_by_benefit; best = best_segments_by_benefit; all = all_segments_by_benefit }
 
 abbrev parts_of_segment_without_live_blocks : List Part
 parts_of_segment_without_live_blocks =
@@ -85,9 +90,12 @@ all_segment_without_live_blocks : Throughout IsAllDelivered segment_without_live
 unfolding on_small_disks
 all_segment_without_live_blocks = (refl, tt)
 
-pub segment_without_live_blocks_is_full : IsFull segment_without_live_blocks.inputs segment_without_live_blocks.run
+best_segment_without_live_blocks : Throughout IsBestPlanned segment_without_live_blocks.inputs parts_of_segment_without_live_blocks
 unfolding on_small_disks
-segment_without_live_blocks_is_full = record { parts = parts_of_segment_without_live_blocks; sound = sound_segment_without_live_blocks; best = (tt, tt); all = all_segment_without_live_blocks }
+best_segment_without_live_blocks = (tt, tt)
+
+pub segment_without_live_blocks_is_full : IsFull segment_without_live_blocks.inputs segment_without_live_blocks.run
+segment_without_live_blocks_is_full = record { parts = parts_of_segment_without_live_blocks; sound = sound_segment_without_live_blocks; best = best_segment_without_live_blocks; all = all_segment_without_live_blocks }
 
 abbrev parts_of_segment_keeps_its_passages : List Part
 parts_of_segment_keeps_its_passages =
@@ -137,8 +145,12 @@ all_segment_keeps_its_passages : Throughout IsAllDelivered segment_keeps_its_pas
 unfolding on_small_disks
 all_segment_keeps_its_passages = (refl, (refl, (refl, (refl, (refl, tt)))))
 
-pub segment_keeps_its_passages_is_whole : LeavesNothingOut segment_keeps_its_passages.inputs segment_keeps_its_passages.run
-segment_keeps_its_passages_is_whole = record { parts = parts_of_segment_keeps_its_passages; sound = sound_segment_keeps_its_passages; all = all_segment_keeps_its_passages }
+best_segment_keeps_its_passages : Throughout IsBestPlanned segment_keeps_its_passages.inputs parts_of_segment_keeps_its_passages
+unfolding on_small_disks
+best_segment_keeps_its_passages = (tt, (none_in_time small_disk (gap (at 0 0) (at 0 0) 150 1200 true) (block 0 1 12 1 (at 0 1) 1 ∷ []) (lit< tt, tt) (lit≤ tt, lit≤ tt), (tt, (all_at_once small_disk (gap (at 0 0) (at 0 1) 2000 2700 false) (block 0 1 12 1 (at 0 1) 1 ∷ []) refl (lit≤ tt, lit≤ tt), (tt, tt)))))
+
+pub segment_keeps_its_passages_is_full : IsFull segment_keeps_its_passages.inputs segment_keeps_its_passages.run
+segment_keeps_its_passages_is_full = record { parts = parts_of_segment_keeps_its_passages; sound = sound_segment_keeps_its_passages; best = best_segment_keeps_its_passages; all = all_segment_keeps_its_passages }
 
 abbrev parts_of_closed_with_chosen_segment : List Part
 parts_of_closed_with_chosen_segment =
@@ -172,9 +184,12 @@ all_closed_with_chosen_segment : Throughout IsAllDelivered closed_with_chosen_se
 unfolding on_small_disks
 all_closed_with_chosen_segment = (refl, (refl, tt))
 
-pub closed_with_chosen_segment_is_full : IsFull closed_with_chosen_segment.inputs closed_with_chosen_segment.run
+best_closed_with_chosen_segment : Throughout IsBestPlanned closed_with_chosen_segment.inputs parts_of_closed_with_chosen_segment
 unfolding on_small_disks
-closed_with_chosen_segment_is_full = record { parts = parts_of_closed_with_chosen_segment; sound = sound_closed_with_chosen_segment; best = (tt, (tt, tt)); all = all_closed_with_chosen_segment }
+best_closed_with_chosen_segment = (tt, (tt, tt))
+
+pub closed_with_chosen_segment_is_full : IsFull closed_with_chosen_segment.inputs closed_with_chosen_segment.run
+closed_with_chosen_segment_is_full = record { parts = parts_of_closed_with_chosen_segment; sound = sound_closed_with_chosen_segment; best = best_closed_with_chosen_segment; all = all_closed_with_chosen_segment }
 
 abbrev parts_of_suspended_session_chooses : List Part
 parts_of_suspended_session_chooses =
@@ -210,6 +225,9 @@ all_suspended_session_chooses : Throughout IsAllDelivered suspended_session_choo
 unfolding on_small_disks
 all_suspended_session_chooses = (refl, (refl, tt))
 
-pub suspended_session_chooses_is_full : IsFull suspended_session_chooses.inputs suspended_session_chooses.run
+best_suspended_session_chooses : Throughout IsBestPlanned suspended_session_chooses.inputs parts_of_suspended_session_chooses
 unfolding on_small_disks
-suspended_session_chooses_is_full = record { parts = parts_of_suspended_session_chooses; sound = sound_suspended_session_chooses; best = (tt, (tt, tt)); all = all_suspended_session_chooses }
+best_suspended_session_chooses = (tt, (tt, tt))
+
+pub suspended_session_chooses_is_full : IsFull suspended_session_chooses.inputs suspended_session_chooses.run
+suspended_session_chooses_is_full = record { parts = parts_of_suspended_session_chooses; sound = sound_suspended_session_chooses; best = best_suspended_session_chooses; all = all_suspended_session_chooses }

@@ -3,14 +3,16 @@ use Rattle.std.proofs.Common.{List, [], ◌∷◌, refl, lit≤, lit<, true, fal
 use Rattle.fb_calls.specs.declared.call.Kind.TheVariants.{Plain}
 use Rattle.fb_rows.specs.declared.gap.Plan.TheVariants.{Direct, Detour}
 use Rattle.fb_rows.specs.declared.gap.How.TheVariants.{Gap as ByGap}
+use Rattle.fb_worked.specs.SmallDisk.{small_disk, quick_disk, turned_disk}
 use Rattle.fb_worked.specs.Rows.{at, untouched, block, got, done_line, task_line}
 use Rattle.fb_rows.specs.declared.back.BackRow.{BackRow}
 use Rattle.fb_model.specs.Course.{Part}
 use Rattle.fb_model.specs.SoundRun.{none, taken, IsSoundBy, Throughout}
-use Rattle.fb_model.specs.FullRun.{IsAllDelivered}
-use Rattle.fb_worked.specs.Whole.{LeavesNothingOut}
+use Rattle.fb_model.specs.FullRun.{IsAllDelivered, IsBestPlanned, IsFull}
 use Rattle.fb_worked.specs.Gaps.{both_dwells, detour, no_time_to_settle, detour_on_the_way, detour_over_nothing, weight_decides, block_over_the_turn}
-use Rattle.fb_worked.proofs.OnSmallDisks.{on_small_disks, part, with_rows}
+use Rattle.fb_worked.proofs.OnSmallDisks.{on_small_disks, part, with_rows, gap}
+use Rattle.fb_worked.proofs.BestPlans.{here, there, none_in_time, none_on_the_way, all_at_once, all_then_leave, all_by_detour}
+use Rattle.fb_worked.proofs.CloseGaps.{by_weight, sooner_over}
 
 abbrev parts_of_both_dwells : List Part
 parts_of_both_dwells =
@@ -52,10 +54,14 @@ all_both_dwells : Throughout IsAllDelivered both_dwells.inputs parts_of_both_dwe
 unfolding on_small_disks
 all_both_dwells = (refl, (refl, (refl, tt)))
 
-pub both_dwells_is_whole : LeavesNothingOut both_dwells.inputs both_dwells.run
-both_dwells_is_whole = record { parts = parts_of_both_dwells; sound = sound_both_dwells; all = all_both_dwells }
+best_both_dwells : Throughout IsBestPlanned both_dwells.inputs parts_of_both_dwells
+unfolding on_small_disks
+best_both_dwells = (none_in_time small_disk (gap (at 0 0) (at 0 0) 0 500 false) (block 0 0 6 1 (at 0 0) 1 ∷ block 0 1 7 1 (at 0 0) 1 ∷ block 0 2 35 1 (at 1 0) 1 ∷ []) (lit< tt, (lit< tt, (lit< tt, tt))) (lit≤ tt, lit≤ tt), (all_then_leave small_disk (gap (at 0 0) (at 1 0) 600 1200 false) (block 0 0 6 1 (at 0 0) 1 ∷ block 0 1 7 1 (at 0 0) 1 ∷ block 0 2 35 1 (at 1 0) 1 ∷ []) 800 (block 0 1 7 1 (at 0 0) 1) (there here) (lit< tt) refl (lit≤ tt) refl (lit≤ tt, lit≤ tt), (tt, tt)))
 
-abbrev pub parts_of_detour : List Part
+pub both_dwells_is_full : IsFull both_dwells.inputs both_dwells.run
+both_dwells_is_full = record { parts = parts_of_both_dwells; sound = sound_both_dwells; best = best_both_dwells; all = all_both_dwells }
+
+abbrev parts_of_detour : List Part
 parts_of_detour =
     part [] (Direct 0) []
     ∷ part [] (Detour (at 0 1) 900) (
@@ -67,7 +73,7 @@ parts_of_detour =
 abbrev tasks_of_detour : List BackRow
 tasks_of_detour = task_line 0 Plain 1 1 0 true ∷ []
 
-pub sound_detour : IsSoundBy detour.inputs parts_of_detour detour.run
+sound_detour : IsSoundBy detour.inputs parts_of_detour detour.run
 unfolding on_small_disks
 sound_detour = record {
   fore = refl;
@@ -89,9 +95,16 @@ sound_detour = record {
   counted = refl;
 }
 
-pub all_detour : Throughout IsAllDelivered detour.inputs parts_of_detour
+all_detour : Throughout IsAllDelivered detour.inputs parts_of_detour
 unfolding on_small_disks
 all_detour = (refl, (refl, (refl, tt)))
+
+best_detour : Throughout IsBestPlanned detour.inputs parts_of_detour
+unfolding on_small_disks
+best_detour = (none_in_time small_disk (gap (at 0 0) (at 0 0) 0 500 false) (block 0 0 20 1 (at 0 1) 1 ∷ []) (lit< tt, tt) (lit≤ tt, lit≤ tt), (all_by_detour small_disk (gap (at 0 0) (at 1 0) 600 1200 false) (block 0 0 20 1 (at 0 1) 1 ∷ []) (at 0 1) 900 (block 0 0 20 1 (at 0 1) 1) here (lit< tt) refl refl refl (lit≤ tt) refl (record { on_disk = record { cylinder = lit< tt; head = lit< tt }; not_source = refl; not_target = refl; after_arrival = lit≤ tt; in_time = lit≤ tt }), (tt, tt)))
+
+pub detour_is_full : IsFull detour.inputs detour.run
+detour_is_full = record { parts = parts_of_detour; sound = sound_detour; best = best_detour; all = all_detour }
 
 abbrev parts_of_no_time_to_settle : List Part
 parts_of_no_time_to_settle =
@@ -129,8 +142,12 @@ all_no_time_to_settle : Throughout IsAllDelivered no_time_to_settle.inputs parts
 unfolding on_small_disks
 all_no_time_to_settle = (refl, (refl, (refl, tt)))
 
-pub no_time_to_settle_is_whole : LeavesNothingOut no_time_to_settle.inputs no_time_to_settle.run
-no_time_to_settle_is_whole = record { parts = parts_of_no_time_to_settle; sound = sound_no_time_to_settle; all = all_no_time_to_settle }
+best_no_time_to_settle : Throughout IsBestPlanned no_time_to_settle.inputs parts_of_no_time_to_settle
+unfolding on_small_disks
+best_no_time_to_settle = (none_in_time small_disk (gap (at 0 0) (at 0 0) 0 500 false) (block 0 0 20 1 (at 0 1) 1 ∷ []) (lit< tt, tt) (lit≤ tt, lit≤ tt), (none_on_the_way small_disk (gap (at 0 0) (at 1 0) 600 1200 true) (block 0 0 20 1 (at 0 1) 1 ∷ []) ((refl, (refl, lit< tt)), tt) (lit≤ tt, lit≤ tt), (tt, tt)))
+
+pub no_time_to_settle_is_full : IsFull no_time_to_settle.inputs no_time_to_settle.run
+no_time_to_settle_is_full = record { parts = parts_of_no_time_to_settle; sound = sound_no_time_to_settle; best = best_no_time_to_settle; all = all_no_time_to_settle }
 
 abbrev parts_of_detour_on_the_way : List Part
 parts_of_detour_on_the_way =
@@ -166,8 +183,12 @@ all_detour_on_the_way : Throughout IsAllDelivered detour_on_the_way.inputs parts
 unfolding on_small_disks
 all_detour_on_the_way = (refl, (refl, tt))
 
-pub detour_on_the_way_is_whole : LeavesNothingOut detour_on_the_way.inputs detour_on_the_way.run
-detour_on_the_way_is_whole = record { parts = parts_of_detour_on_the_way; sound = sound_detour_on_the_way; all = all_detour_on_the_way }
+best_detour_on_the_way : Throughout IsBestPlanned detour_on_the_way.inputs parts_of_detour_on_the_way
+unfolding on_small_disks
+best_detour_on_the_way = (all_by_detour quick_disk (gap (at 0 0) (at 2 0) 0 1500 false) (block 0 0 25 1 (at 1 0) 1 ∷ []) (at 1 0) 200 (block 0 0 25 1 (at 1 0) 1) here (lit< tt) refl refl refl (lit≤ tt) refl (record { on_disk = record { cylinder = lit< tt; head = lit< tt }; not_source = refl; not_target = refl; after_arrival = lit≤ tt; in_time = lit≤ tt }), (tt, tt))
+
+pub detour_on_the_way_is_full : IsFull detour_on_the_way.inputs detour_on_the_way.run
+detour_on_the_way_is_full = record { parts = parts_of_detour_on_the_way; sound = sound_detour_on_the_way; best = best_detour_on_the_way; all = all_detour_on_the_way }
 
 abbrev parts_of_detour_over_nothing : List Part
 parts_of_detour_over_nothing =
@@ -203,8 +224,12 @@ all_detour_over_nothing : Throughout IsAllDelivered detour_over_nothing.inputs p
 unfolding on_small_disks
 all_detour_over_nothing = (refl, (refl, tt))
 
-pub detour_over_nothing_is_whole : LeavesNothingOut detour_over_nothing.inputs detour_over_nothing.run
-detour_over_nothing_is_whole = record { parts = parts_of_detour_over_nothing; sound = sound_detour_over_nothing; all = all_detour_over_nothing }
+best_detour_over_nothing : Throughout IsBestPlanned detour_over_nothing.inputs parts_of_detour_over_nothing
+unfolding on_small_disks
+best_detour_over_nothing = (sooner_over, (tt, tt))
+
+pub detour_over_nothing_is_full : IsFull detour_over_nothing.inputs detour_over_nothing.run
+detour_over_nothing_is_full = record { parts = parts_of_detour_over_nothing; sound = sound_detour_over_nothing; best = best_detour_over_nothing; all = all_detour_over_nothing }
 
 abbrev parts_of_weight_decides : List Part
 parts_of_weight_decides =
@@ -244,8 +269,12 @@ all_weight_decides : Throughout IsAllDelivered weight_decides.inputs parts_of_we
 unfolding on_small_disks
 all_weight_decides = (refl, (refl, (refl, tt)))
 
-pub weight_decides_is_whole : LeavesNothingOut weight_decides.inputs weight_decides.run
-weight_decides_is_whole = record { parts = parts_of_weight_decides; sound = sound_weight_decides; all = all_weight_decides }
+best_weight_decides : Throughout IsBestPlanned weight_decides.inputs parts_of_weight_decides
+unfolding on_small_disks
+best_weight_decides = (none_in_time small_disk (gap (at 0 0) (at 0 0) 0 500 false) (block 0 0 6 1 (at 0 0) 1 ∷ block 0 1 7 1 (at 0 0) 1 ∷ block 1 0 33 1 (at 1 0) 5 ∷ []) (lit< tt, (lit< tt, (lit< tt, tt))) (lit≤ tt, lit≤ tt), (by_weight, (tt, tt)))
+
+pub weight_decides_is_full : IsFull weight_decides.inputs weight_decides.run
+weight_decides_is_full = record { parts = parts_of_weight_decides; sound = sound_weight_decides; best = best_weight_decides; all = all_weight_decides }
 
 abbrev parts_of_block_over_the_turn : List Part
 parts_of_block_over_the_turn =
@@ -281,5 +310,9 @@ all_block_over_the_turn : Throughout IsAllDelivered block_over_the_turn.inputs p
 unfolding on_small_disks
 all_block_over_the_turn = (refl, (refl, tt))
 
-pub block_over_the_turn_is_whole : LeavesNothingOut block_over_the_turn.inputs block_over_the_turn.run
-block_over_the_turn_is_whole = record { parts = parts_of_block_over_the_turn; sound = sound_block_over_the_turn; all = all_block_over_the_turn }
+best_block_over_the_turn : Throughout IsBestPlanned block_over_the_turn.inputs parts_of_block_over_the_turn
+unfolding on_small_disks
+best_block_over_the_turn = (all_at_once turned_disk (gap (at 0 0) (at 0 1) 0 1300 false) (block 0 0 12 2 (at 0 1) 1 ∷ []) refl (lit≤ tt, lit≤ tt), (tt, tt))
+
+pub block_over_the_turn_is_full : IsFull block_over_the_turn.inputs block_over_the_turn.run
+block_over_the_turn_is_full = record { parts = parts_of_block_over_the_turn; sound = sound_block_over_the_turn; best = best_block_over_the_turn; all = all_block_over_the_turn }

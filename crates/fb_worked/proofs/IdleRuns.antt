@@ -1,17 +1,17 @@
 -- Runs that show idle dwells and rides, computed.
-use Rattle.std.proofs.Common.{List, [], ◌∷◌, refl, lit≤, true, false}
+use Rattle.std.proofs.Common.{List, [], ◌∷◌, refl, lit≤, lit<, true, false}
 use Rattle.fb_calls.specs.declared.call.Kind.TheVariants.{Plain}
 use Rattle.fb_rows.specs.declared.gap.Plan.TheVariants.{Direct}
 use Rattle.fb_rows.specs.declared.gap.How.TheVariants.{Gap as ByGap, Idle as ByIdle, Ride as ByRide}
+use Rattle.fb_worked.specs.SmallDisk.{small_disk}
 use Rattle.fb_worked.specs.Rows.{at, untouched, block, got, done_line, task_line}
 use Rattle.fb_rows.specs.declared.back.BackRow.{BackRow}
 use Rattle.fb_model.specs.Course.{Part}
 use Rattle.fb_model.specs.SoundRun.{none, taken, IsSoundBy, Throughout}
-use Rattle.fb_model.specs.FullRun.{IsAllDelivered, IsFull}
-use Rattle.fb_worked.specs.Whole.{LeavesNothingOut}
+use Rattle.fb_model.specs.FullRun.{IsAllDelivered, IsBestPlanned, IsFull}
 use Rattle.fb_worked.specs.Idle.{idle_to_the_end, idle_too_short, grown_defect_cuts, promoted_read_carries, caught_not_carried}
-use Rattle.fb_worked.proofs.OnSmallDisks.{on_small_disks, part, with_rows}
-use Rattle.fb_worked.proofs.BestPlans.{nothing_wanted}
+use Rattle.fb_worked.proofs.OnSmallDisks.{on_small_disks, part, with_rows, gap}
+use Rattle.fb_worked.proofs.BestPlans.{none_in_time, all_at_once}
 
 abbrev parts_of_idle_to_the_end : List Part
 parts_of_idle_to_the_end =
@@ -51,9 +51,12 @@ all_idle_to_the_end : Throughout IsAllDelivered idle_to_the_end.inputs parts_of_
 unfolding on_small_disks
 all_idle_to_the_end = (refl, (refl, (refl, tt)))
 
-pub idle_to_the_end_is_full : IsFull idle_to_the_end.inputs idle_to_the_end.run
+best_idle_to_the_end : Throughout IsBestPlanned idle_to_the_end.inputs parts_of_idle_to_the_end
 unfolding on_small_disks
-idle_to_the_end_is_full = record { parts = parts_of_idle_to_the_end; sound = sound_idle_to_the_end; best = (tt, (nothing_wanted _ _ (lit≤ tt, lit≤ tt), (tt, tt))); all = all_idle_to_the_end }
+best_idle_to_the_end = (tt, (none_in_time small_disk (gap (at 0 0) (at 1 0) 600 1200 false) [] tt (lit≤ tt, lit≤ tt), (tt, tt)))
+
+pub idle_to_the_end_is_full : IsFull idle_to_the_end.inputs idle_to_the_end.run
+idle_to_the_end_is_full = record { parts = parts_of_idle_to_the_end; sound = sound_idle_to_the_end; best = best_idle_to_the_end; all = all_idle_to_the_end }
 
 abbrev parts_of_idle_too_short : List Part
 parts_of_idle_too_short =
@@ -91,8 +94,12 @@ all_idle_too_short : Throughout IsAllDelivered idle_too_short.inputs parts_of_id
 unfolding on_small_disks
 all_idle_too_short = (refl, (refl, (refl, tt)))
 
-pub idle_too_short_is_whole : LeavesNothingOut idle_too_short.inputs idle_too_short.run
-idle_too_short_is_whole = record { parts = parts_of_idle_too_short; sound = sound_idle_too_short; all = all_idle_too_short }
+best_idle_too_short : Throughout IsBestPlanned idle_too_short.inputs parts_of_idle_too_short
+unfolding on_small_disks
+best_idle_too_short = (tt, (none_in_time small_disk (gap (at 0 0) (at 1 0) 599 1200 false) (block 0 0 5 1 (at 0 0) 1 ∷ []) (lit< tt, tt) (lit≤ tt, lit≤ tt), (tt, tt)))
+
+pub idle_too_short_is_full : IsFull idle_too_short.inputs idle_too_short.run
+idle_too_short_is_full = record { parts = parts_of_idle_too_short; sound = sound_idle_too_short; best = best_idle_too_short; all = all_idle_too_short }
 
 abbrev parts_of_grown_defect_cuts : List Part
 parts_of_grown_defect_cuts =
@@ -126,9 +133,12 @@ all_grown_defect_cuts : Throughout IsAllDelivered grown_defect_cuts.inputs parts
 unfolding on_small_disks
 all_grown_defect_cuts = (refl, tt)
 
-pub grown_defect_cuts_is_full : IsFull grown_defect_cuts.inputs grown_defect_cuts.run
+best_grown_defect_cuts : Throughout IsBestPlanned grown_defect_cuts.inputs parts_of_grown_defect_cuts
 unfolding on_small_disks
-grown_defect_cuts_is_full = record { parts = parts_of_grown_defect_cuts; sound = sound_grown_defect_cuts; best = (tt, tt); all = all_grown_defect_cuts }
+best_grown_defect_cuts = (tt, tt)
+
+pub grown_defect_cuts_is_full : IsFull grown_defect_cuts.inputs grown_defect_cuts.run
+grown_defect_cuts_is_full = record { parts = parts_of_grown_defect_cuts; sound = sound_grown_defect_cuts; best = best_grown_defect_cuts; all = all_grown_defect_cuts }
 
 abbrev parts_of_promoted_read_carries : List Part
 parts_of_promoted_read_carries =
@@ -172,8 +182,12 @@ all_promoted_read_carries : Throughout IsAllDelivered promoted_read_carries.inpu
 unfolding on_small_disks
 all_promoted_read_carries = (refl, (refl, (refl, tt)))
 
-pub promoted_read_carries_is_whole : LeavesNothingOut promoted_read_carries.inputs promoted_read_carries.run
-promoted_read_carries_is_whole = record { parts = parts_of_promoted_read_carries; sound = sound_promoted_read_carries; all = all_promoted_read_carries }
+best_promoted_read_carries : Throughout IsBestPlanned promoted_read_carries.inputs parts_of_promoted_read_carries
+unfolding on_small_disks
+best_promoted_read_carries = (tt, (none_in_time small_disk (gap (at 0 0) (at 0 0) 1700 1700 false) (block 0 2 7 1 (at 0 0) 1 ∷ block 0 3 8 1 (at 0 0) 1 ∷ []) (lit< tt, (lit< tt, tt)) (lit≤ tt, lit≤ tt), (tt, tt)))
+
+pub promoted_read_carries_is_full : IsFull promoted_read_carries.inputs promoted_read_carries.run
+promoted_read_carries_is_full = record { parts = parts_of_promoted_read_carries; sound = sound_promoted_read_carries; best = best_promoted_read_carries; all = all_promoted_read_carries }
 
 abbrev parts_of_caught_not_carried : List Part
 parts_of_caught_not_carried =
@@ -213,5 +227,9 @@ all_caught_not_carried : Throughout IsAllDelivered caught_not_carried.inputs par
 unfolding on_small_disks
 all_caught_not_carried = (refl, (refl, (refl, tt)))
 
-pub caught_not_carried_is_whole : LeavesNothingOut caught_not_carried.inputs caught_not_carried.run
-caught_not_carried_is_whole = record { parts = parts_of_caught_not_carried; sound = sound_caught_not_carried; all = all_caught_not_carried }
+best_caught_not_carried : Throughout IsBestPlanned caught_not_carried.inputs parts_of_caught_not_carried
+unfolding on_small_disks
+best_caught_not_carried = (tt, (all_at_once small_disk (gap (at 0 0) (at 0 0) 100 1200 false) (block 0 0 6 1 (at 0 0) 1 ∷ []) refl (lit≤ tt, lit≤ tt), (tt, tt)))
+
+pub caught_not_carried_is_full : IsFull caught_not_carried.inputs caught_not_carried.run
+caught_not_carried_is_full = record { parts = parts_of_caught_not_carried; sound = sound_caught_not_carried; best = best_caught_not_carried; all = all_caught_not_carried }

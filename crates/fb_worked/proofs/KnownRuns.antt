@@ -1,17 +1,18 @@
 -- Two runs that are the same up to an instant, computed.
-use Rattle.std.proofs.Common.{List, [], ◌∷◌, refl, lit≤, true}
+use Rattle.std.proofs.Common.{List, [], ◌∷◌, refl, lit≤, lit<, true, false}
 use Rattle.fb_calls.specs.declared.call.Kind.TheVariants.{Plain}
 use Rattle.fb_rows.specs.declared.gap.Plan.TheVariants.{Direct}
 use Rattle.fb_rows.specs.declared.gap.How.TheVariants.{Gap as ByGap}
+use Rattle.fb_worked.specs.SmallDisk.{small_disk}
 use Rattle.fb_worked.specs.Rows.{at, untouched, block, got, done_line, task_line}
 use Rattle.fb_rows.specs.declared.back.BackRow.{BackRow}
 use Rattle.fb_model.specs.Course.{Part}
 use Rattle.fb_model.specs.SoundRun.{none, taken, IsSoundBy, Throughout}
 use Rattle.fb_model.specs.Known.{AgreeUpTo, SameKnown}
-use Rattle.fb_model.specs.FullRun.{IsAllDelivered}
-use Rattle.fb_worked.specs.Whole.{LeavesNothingOut}
+use Rattle.fb_model.specs.FullRun.{IsAllDelivered, IsBestPlanned, IsFull}
 use Rattle.fb_worked.specs.Known.{run_without_third, run_with_third}
-use Rattle.fb_worked.proofs.OnSmallDisks.{on_small_disks, part, with_rows}
+use Rattle.fb_worked.proofs.OnSmallDisks.{on_small_disks, part, with_rows, gap}
+use Rattle.fb_worked.proofs.BestPlans.{here, there, none_in_time, all_then_leave}
 
 abbrev parts_of_run_without_third : List Part
 parts_of_run_without_third =
@@ -53,8 +54,12 @@ all_run_without_third : Throughout IsAllDelivered run_without_third.inputs parts
 unfolding on_small_disks
 all_run_without_third = (refl, (refl, (refl, tt)))
 
-pub run_without_third_is_whole : LeavesNothingOut run_without_third.inputs run_without_third.run
-run_without_third_is_whole = record { parts = parts_of_run_without_third; sound = sound_run_without_third; all = all_run_without_third }
+best_run_without_third : Throughout IsBestPlanned run_without_third.inputs parts_of_run_without_third
+unfolding on_small_disks
+best_run_without_third = (none_in_time small_disk (gap (at 0 0) (at 0 0) 0 500 false) (block 0 0 6 1 (at 0 0) 1 ∷ block 0 1 7 1 (at 0 0) 1 ∷ block 0 2 35 1 (at 1 0) 1 ∷ []) (lit< tt, (lit< tt, (lit< tt, tt))) (lit≤ tt, lit≤ tt), (all_then_leave small_disk (gap (at 0 0) (at 1 0) 600 1200 false) (block 0 0 6 1 (at 0 0) 1 ∷ block 0 1 7 1 (at 0 0) 1 ∷ block 0 2 35 1 (at 1 0) 1 ∷ []) 800 (block 0 1 7 1 (at 0 0) 1) (there here) (lit< tt) refl (lit≤ tt) refl (lit≤ tt, lit≤ tt), (tt, tt)))
+
+pub run_without_third_is_full : IsFull run_without_third.inputs run_without_third.run
+run_without_third_is_full = record { parts = parts_of_run_without_third; sound = sound_run_without_third; best = best_run_without_third; all = all_run_without_third }
 
 abbrev parts_of_run_with_third : List Part
 parts_of_run_with_third =
@@ -100,8 +105,12 @@ all_run_with_third : Throughout IsAllDelivered run_with_third.inputs parts_of_ru
 unfolding on_small_disks
 all_run_with_third = (refl, (refl, (refl, (refl, tt))))
 
-pub run_with_third_is_whole : LeavesNothingOut run_with_third.inputs run_with_third.run
-run_with_third_is_whole = record { parts = parts_of_run_with_third; sound = sound_run_with_third; all = all_run_with_third }
+best_run_with_third : Throughout IsBestPlanned run_with_third.inputs parts_of_run_with_third
+unfolding on_small_disks
+best_run_with_third = (none_in_time small_disk (gap (at 0 0) (at 0 0) 0 500 false) (block 0 0 6 1 (at 0 0) 1 ∷ block 0 1 7 1 (at 0 0) 1 ∷ block 0 2 35 1 (at 1 0) 1 ∷ []) (lit< tt, (lit< tt, (lit< tt, tt))) (lit≤ tt, lit≤ tt), (all_then_leave small_disk (gap (at 0 0) (at 1 0) 600 1200 false) (block 0 0 6 1 (at 0 0) 1 ∷ block 0 1 7 1 (at 0 0) 1 ∷ block 0 2 35 1 (at 1 0) 1 ∷ []) 800 (block 0 1 7 1 (at 0 0) 1) (there here) (lit< tt) refl (lit≤ tt) refl (lit≤ tt, lit≤ tt), (none_in_time small_disk (gap (at 1 0) (at 3 0) 1300 2400 false) [] tt (lit≤ tt, lit≤ tt), (tt, tt))))
+
+pub run_with_third_is_full : IsFull run_with_third.inputs run_with_third.run
+run_with_third_is_full = record { parts = parts_of_run_with_third; sound = sound_run_with_third; best = best_run_with_third; all = all_run_with_third }
 
 pub inputs_agree : AgreeUpTo 1250 run_without_third.inputs run_with_third.inputs
 inputs_agree = record { disk = refl; latent = refl; key = refl; requests = refl; calls = refl }

@@ -2,8 +2,8 @@ pub mod Texts
 pub mod OnSmallDisks
 pub mod Placing
 pub mod BestPlans
+pub mod CloseGaps
 pub mod GapsRuns
-pub mod BestDetour
 pub mod IdleRuns
 pub mod SessionsRuns
 pub mod WrittenRuns

@@ -1,16 +1,17 @@
 -- Runs that show what calls do to a session, computed.
-use Rattle.std.proofs.Common.{List, [], ◌∷◌, refl, lit≤, true, false}
+use Rattle.std.proofs.Common.{List, [], ◌∷◌, refl, lit≤, lit<, true, false}
 use Rattle.fb_calls.specs.declared.call.Kind.TheVariants.{Plain}
 use Rattle.fb_rows.specs.declared.gap.Plan.TheVariants.{Direct}
 use Rattle.fb_rows.specs.declared.gap.How.TheVariants.{Gap as ByGap}
+use Rattle.fb_worked.specs.SmallDisk.{small_disk}
 use Rattle.fb_worked.specs.Rows.{at, untouched, block, got, done_line, task_line}
 use Rattle.fb_rows.specs.declared.back.BackRow.{BackRow}
 use Rattle.fb_model.specs.Course.{Part}
 use Rattle.fb_model.specs.SoundRun.{none, taken, IsSoundBy, Throughout}
-use Rattle.fb_model.specs.FullRun.{IsAllDelivered}
-use Rattle.fb_worked.specs.Whole.{LeavesNothingOut}
+use Rattle.fb_model.specs.FullRun.{IsAllDelivered, IsBestPlanned, IsFull}
 use Rattle.fb_worked.specs.Sessions.{abort_while_waiting, abort_too_late, suspended, closed}
-use Rattle.fb_worked.proofs.OnSmallDisks.{on_small_disks, part, with_rows}
+use Rattle.fb_worked.proofs.OnSmallDisks.{on_small_disks, part, with_rows, gap}
+use Rattle.fb_worked.proofs.BestPlans.{here, there, none_in_time, all_then_leave}
 
 abbrev parts_of_abort_while_waiting : List Part
 parts_of_abort_while_waiting =
@@ -51,8 +52,12 @@ all_abort_while_waiting : Throughout IsAllDelivered abort_while_waiting.inputs p
 unfolding on_small_disks
 all_abort_while_waiting = (refl, (refl, (refl, tt)))
 
-pub abort_while_waiting_is_whole : LeavesNothingOut abort_while_waiting.inputs abort_while_waiting.run
-abort_while_waiting_is_whole = record { parts = parts_of_abort_while_waiting; sound = sound_abort_while_waiting; all = all_abort_while_waiting }
+best_abort_while_waiting : Throughout IsBestPlanned abort_while_waiting.inputs parts_of_abort_while_waiting
+unfolding on_small_disks
+best_abort_while_waiting = (none_in_time small_disk (gap (at 0 0) (at 0 0) 0 500 false) (block 0 0 6 1 (at 0 0) 1 ∷ block 0 1 7 1 (at 0 0) 1 ∷ block 0 2 35 1 (at 1 0) 1 ∷ []) (lit< tt, (lit< tt, (lit< tt, tt))) (lit≤ tt, lit≤ tt), (all_then_leave small_disk (gap (at 0 0) (at 1 0) 600 1200 false) (block 0 0 6 1 (at 0 0) 1 ∷ block 0 2 35 1 (at 1 0) 1 ∷ []) 700 (block 0 0 6 1 (at 0 0) 1) here (lit< tt) refl (lit≤ tt) refl (lit≤ tt, lit≤ tt), (tt, tt)))
+
+pub abort_while_waiting_is_full : IsFull abort_while_waiting.inputs abort_while_waiting.run
+abort_while_waiting_is_full = record { parts = parts_of_abort_while_waiting; sound = sound_abort_while_waiting; best = best_abort_while_waiting; all = all_abort_while_waiting }
 
 abbrev parts_of_abort_too_late : List Part
 parts_of_abort_too_late =
@@ -94,8 +99,12 @@ all_abort_too_late : Throughout IsAllDelivered abort_too_late.inputs parts_of_ab
 unfolding on_small_disks
 all_abort_too_late = (refl, (refl, (refl, tt)))
 
-pub abort_too_late_is_whole : LeavesNothingOut abort_too_late.inputs abort_too_late.run
-abort_too_late_is_whole = record { parts = parts_of_abort_too_late; sound = sound_abort_too_late; all = all_abort_too_late }
+best_abort_too_late : Throughout IsBestPlanned abort_too_late.inputs parts_of_abort_too_late
+unfolding on_small_disks
+best_abort_too_late = (none_in_time small_disk (gap (at 0 0) (at 0 0) 0 500 false) (block 0 0 6 1 (at 0 0) 1 ∷ block 0 1 7 1 (at 0 0) 1 ∷ block 0 2 35 1 (at 1 0) 1 ∷ []) (lit< tt, (lit< tt, (lit< tt, tt))) (lit≤ tt, lit≤ tt), (all_then_leave small_disk (gap (at 0 0) (at 1 0) 600 1200 false) (block 0 0 6 1 (at 0 0) 1 ∷ block 0 1 7 1 (at 0 0) 1 ∷ block 0 2 35 1 (at 1 0) 1 ∷ []) 800 (block 0 1 7 1 (at 0 0) 1) (there here) (lit< tt) refl (lit≤ tt) refl (lit≤ tt, lit≤ tt), (tt, tt)))
+
+pub abort_too_late_is_full : IsFull abort_too_late.inputs abort_too_late.run
+abort_too_late_is_full = record { parts = parts_of_abort_too_late; sound = sound_abort_too_late; best = best_abort_too_late; all = all_abort_too_late }
 
 abbrev parts_of_suspended : List Part
 parts_of_suspended =
@@ -133,8 +142,12 @@ all_suspended : Throughout IsAllDelivered suspended.inputs parts_of_suspended
 unfolding on_small_disks
 all_suspended = (refl, (refl, (refl, tt)))
 
-pub suspended_is_whole : LeavesNothingOut suspended.inputs suspended.run
-suspended_is_whole = record { parts = parts_of_suspended; sound = sound_suspended; all = all_suspended }
+best_suspended : Throughout IsBestPlanned suspended.inputs parts_of_suspended
+unfolding on_small_disks
+best_suspended = (none_in_time small_disk (gap (at 0 0) (at 0 0) 0 500 false) (block 0 0 6 1 (at 0 0) 1 ∷ block 0 1 7 1 (at 0 0) 1 ∷ block 0 2 35 1 (at 1 0) 1 ∷ []) (lit< tt, (lit< tt, (lit< tt, tt))) (lit≤ tt, lit≤ tt), (none_in_time small_disk (gap (at 0 0) (at 1 0) 600 1200 false) [] tt (lit≤ tt, lit≤ tt), (tt, tt)))
+
+pub suspended_is_full : IsFull suspended.inputs suspended.run
+suspended_is_full = record { parts = parts_of_suspended; sound = sound_suspended; best = best_suspended; all = all_suspended }
 
 abbrev parts_of_closed : List Part
 parts_of_closed =
@@ -172,5 +185,9 @@ all_closed : Throughout IsAllDelivered closed.inputs parts_of_closed
 unfolding on_small_disks
 all_closed = (refl, (refl, (refl, tt)))
 
-pub closed_is_whole : LeavesNothingOut closed.inputs closed.run
-closed_is_whole = record { parts = parts_of_closed; sound = sound_closed; all = all_closed }
+best_closed : Throughout IsBestPlanned closed.inputs parts_of_closed
+unfolding on_small_disks
+best_closed = (none_in_time small_disk (gap (at 0 0) (at 0 0) 0 500 false) (block 0 0 6 1 (at 0 0) 1 ∷ block 0 1 7 1 (at 0 0) 1 ∷ block 0 2 35 1 (at 1 0) 1 ∷ []) (lit< tt, (lit< tt, (lit< tt, tt))) (lit≤ tt, lit≤ tt), (none_in_time small_disk (gap (at 0 0) (at 1 0) 600 1200 false) [] tt (lit≤ tt, lit≤ tt), (tt, tt)))
+
+pub closed_is_full : IsFull closed.inputs closed.run
+closed_is_full = record { parts = parts_of_closed; sound = sound_closed; best = best_closed; all = all_closed }

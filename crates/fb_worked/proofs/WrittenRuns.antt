@@ -3,15 +3,15 @@ use Rattle.std.proofs.Common.{List, [], ◌∷◌, refl, lit≤, true}
 use Rattle.fb_calls.specs.declared.call.Kind.TheVariants.{Plain, Scrub}
 use Rattle.fb_rows.specs.declared.gap.Plan.TheVariants.{Direct}
 use Rattle.fb_rows.specs.declared.gap.How.TheVariants.{Idle as ByIdle}
+use Rattle.fb_worked.specs.SmallDisk.{small_disk, one_sector_disk}
 use Rattle.fb_worked.specs.Rows.{at, untouched, written, unreadable, block, got, done_line, bad_line, task_line}
 use Rattle.fb_rows.specs.declared.back.BackRow.{BackRow}
 use Rattle.fb_model.specs.Course.{Part}
 use Rattle.fb_model.specs.SoundRun.{none, taken, IsSoundBy, Throughout}
-use Rattle.fb_model.specs.FullRun.{IsAllDelivered, IsFull}
-use Rattle.fb_worked.specs.Whole.{LeavesNothingOut}
+use Rattle.fb_model.specs.FullRun.{IsAllDelivered, IsBestPlanned, IsFull}
 use Rattle.fb_worked.specs.Written.{overwritten_between, latent_until_written, read_as_the_write_ends, scrub_finds_latent}
-use Rattle.fb_worked.proofs.OnSmallDisks.{on_small_disks, part, with_rows}
-use Rattle.fb_worked.proofs.BestPlans.{nothing_wanted}
+use Rattle.fb_worked.proofs.OnSmallDisks.{on_small_disks, part, with_rows, gap}
+use Rattle.fb_worked.proofs.BestPlans.{none_in_time}
 
 abbrev parts_of_overwritten_between : List Part
 parts_of_overwritten_between =
@@ -57,9 +57,12 @@ all_overwritten_between : Throughout IsAllDelivered overwritten_between.inputs p
 unfolding on_small_disks
 all_overwritten_between = (refl, (refl, (refl, (refl, tt))))
 
-pub overwritten_between_is_full : IsFull overwritten_between.inputs overwritten_between.run
+best_overwritten_between : Throughout IsBestPlanned overwritten_between.inputs parts_of_overwritten_between
 unfolding on_small_disks
-overwritten_between_is_full = record { parts = parts_of_overwritten_between; sound = sound_overwritten_between; best = (tt, (nothing_wanted _ _ (lit≤ tt, lit≤ tt), (tt, (tt, tt)))); all = all_overwritten_between }
+best_overwritten_between = (tt, (none_in_time small_disk (gap (at 0 0) (at 0 0) 700 1800 true) [] tt (lit≤ tt, lit≤ tt), (tt, (tt, tt))))
+
+pub overwritten_between_is_full : IsFull overwritten_between.inputs overwritten_between.run
+overwritten_between_is_full = record { parts = parts_of_overwritten_between; sound = sound_overwritten_between; best = best_overwritten_between; all = all_overwritten_between }
 
 abbrev parts_of_latent_until_written : List Part
 parts_of_latent_until_written =
@@ -105,9 +108,12 @@ all_latent_until_written : Throughout IsAllDelivered latent_until_written.inputs
 unfolding on_small_disks
 all_latent_until_written = (refl, (refl, (refl, (refl, tt))))
 
-pub latent_until_written_is_full : IsFull latent_until_written.inputs latent_until_written.run
+best_latent_until_written : Throughout IsBestPlanned latent_until_written.inputs parts_of_latent_until_written
 unfolding on_small_disks
-latent_until_written_is_full = record { parts = parts_of_latent_until_written; sound = sound_latent_until_written; best = (tt, (nothing_wanted _ _ (lit≤ tt, lit≤ tt), (tt, (tt, tt)))); all = all_latent_until_written }
+best_latent_until_written = (tt, (none_in_time small_disk (gap (at 0 0) (at 0 0) 700 1800 true) [] tt (lit≤ tt, lit≤ tt), (tt, (tt, tt))))
+
+pub latent_until_written_is_full : IsFull latent_until_written.inputs latent_until_written.run
+latent_until_written_is_full = record { parts = parts_of_latent_until_written; sound = sound_latent_until_written; best = best_latent_until_written; all = all_latent_until_written }
 
 abbrev parts_of_read_as_the_write_ends : List Part
 parts_of_read_as_the_write_ends =
@@ -143,8 +149,12 @@ all_read_as_the_write_ends : Throughout IsAllDelivered read_as_the_write_ends.in
 unfolding on_small_disks
 all_read_as_the_write_ends = (refl, (refl, tt))
 
-pub read_as_the_write_ends_is_whole : LeavesNothingOut read_as_the_write_ends.inputs read_as_the_write_ends.run
-read_as_the_write_ends_is_whole = record { parts = parts_of_read_as_the_write_ends; sound = sound_read_as_the_write_ends; all = all_read_as_the_write_ends }
+best_read_as_the_write_ends : Throughout IsBestPlanned read_as_the_write_ends.inputs parts_of_read_as_the_write_ends
+unfolding on_small_disks
+best_read_as_the_write_ends = (none_in_time one_sector_disk (gap (at 0 0) (at 0 0) 0 0 true) [] tt (lit≤ tt, lit≤ tt), (tt, tt))
+
+pub read_as_the_write_ends_is_full : IsFull read_as_the_write_ends.inputs read_as_the_write_ends.run
+read_as_the_write_ends_is_full = record { parts = parts_of_read_as_the_write_ends; sound = sound_read_as_the_write_ends; best = best_read_as_the_write_ends; all = all_read_as_the_write_ends }
 
 abbrev parts_of_scrub_finds_latent : List Part
 parts_of_scrub_finds_latent =
@@ -177,6 +187,9 @@ all_scrub_finds_latent : Throughout IsAllDelivered scrub_finds_latent.inputs par
 unfolding on_small_disks
 all_scrub_finds_latent = (refl, tt)
 
-pub scrub_finds_latent_is_full : IsFull scrub_finds_latent.inputs scrub_finds_latent.run
+best_scrub_finds_latent : Throughout IsBestPlanned scrub_finds_latent.inputs parts_of_scrub_finds_latent
 unfolding on_small_disks
-scrub_finds_latent_is_full = record { parts = parts_of_scrub_finds_latent; sound = sound_scrub_finds_latent; best = (tt, tt); all = all_scrub_finds_latent }
+best_scrub_finds_latent = (tt, tt)
+
+pub scrub_finds_latent_is_full : IsFull scrub_finds_latent.inputs scrub_finds_latent.run
+scrub_finds_latent_is_full = record { parts = parts_of_scrub_finds_latent; sound = sound_scrub_finds_latent; best = best_scrub_finds_latent; all = all_scrub_finds_latent }

@@ -2,7 +2,6 @@ pub mod Rows
 pub mod SmallDisk
 pub mod Foreground
 pub mod Passages
-pub mod Whole
 pub mod Gaps
 pub mod Idle
 pub mod Sessions

@@ -1,6 +1,5 @@
 // Cleaning of segments.
 ghost use Rattle.fb_model.specs.FullRun.{IsFull};
-ghost use Rattle.fb_worked.specs.Whole.{LeavesNothingOut};
 ghost use Rattle.fb_worked.specs.Cleaning.{segments_by_benefit, segment_without_live_blocks, segment_keeps_its_passages, closed_with_chosen_segment, suspended_session_chooses};
 
 /// Whole runs that show how segments are chosen and cleaned.
@@ -9,9 +8,9 @@ ghost use Rattle.fb_worked.specs.Cleaning.{segments_by_benefit, segment_without_
 /// The contents of a segment are those of its blocks' passages. A closed session drops its segments,
 /// and a suspended one chooses, but reads only after the resume.
 pub fn worked_segments()
-    ensures segments_by_benefit { LeavesNothingOut segments_by_benefit.inputs segments_by_benefit.run }
+    ensures segments_by_benefit { IsFull segments_by_benefit.inputs segments_by_benefit.run }
     ensures segment_without_live_blocks { IsFull segment_without_live_blocks.inputs segment_without_live_blocks.run }
-    ensures segment_keeps_its_passages { LeavesNothingOut segment_keeps_its_passages.inputs segment_keeps_its_passages.run }
+    ensures segment_keeps_its_passages { IsFull segment_keeps_its_passages.inputs segment_keeps_its_passages.run }
     ensures closed_with_chosen_segment { IsFull closed_with_chosen_segment.inputs closed_with_chosen_segment.run }
     ensures suspended_session_chooses { IsFull suspended_session_chooses.inputs suspended_session_chooses.run }
 {}

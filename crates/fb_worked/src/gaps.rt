@@ -1,6 +1,5 @@
 // Plans of gaps.
 ghost use Rattle.fb_model.specs.FullRun.{IsFull};
-ghost use Rattle.fb_worked.specs.Whole.{LeavesNothingOut};
 ghost use Rattle.fb_worked.specs.Gaps.{both_dwells, detour, no_time_to_settle, detour_on_the_way, detour_over_nothing, weight_decides, block_over_the_turn};
 
 /// Whole runs that show what a gap's plan delivers.
@@ -10,11 +9,11 @@ ghost use Rattle.fb_worked.specs.Gaps.{both_dwells, detour, no_time_to_settle, d
 /// without a wanted block, if it reaches the target sooner, and no request begins sooner for it. The
 /// weight of a block counts. A block goes on over the end of a turn.
 pub fn worked_gaps()
-    ensures both_dwells { LeavesNothingOut both_dwells.inputs both_dwells.run }
+    ensures both_dwells { IsFull both_dwells.inputs both_dwells.run }
     ensures detour { IsFull detour.inputs detour.run }
-    ensures no_time_to_settle { LeavesNothingOut no_time_to_settle.inputs no_time_to_settle.run }
-    ensures detour_on_the_way { LeavesNothingOut detour_on_the_way.inputs detour_on_the_way.run }
-    ensures detour_over_nothing { LeavesNothingOut detour_over_nothing.inputs detour_over_nothing.run }
-    ensures weight_decides { LeavesNothingOut weight_decides.inputs weight_decides.run }
-    ensures block_over_the_turn { LeavesNothingOut block_over_the_turn.inputs block_over_the_turn.run }
+    ensures no_time_to_settle { IsFull no_time_to_settle.inputs no_time_to_settle.run }
+    ensures detour_on_the_way { IsFull detour_on_the_way.inputs detour_on_the_way.run }
+    ensures detour_over_nothing { IsFull detour_over_nothing.inputs detour_over_nothing.run }
+    ensures weight_decides { IsFull weight_decides.inputs weight_decides.run }
+    ensures block_over_the_turn { IsFull block_over_the_turn.inputs block_over_the_turn.run }
 {}

@@ -1,5 +1,5 @@
 // Calls on sessions.
-ghost use Rattle.fb_worked.specs.Whole.{LeavesNothingOut};
+ghost use Rattle.fb_model.specs.FullRun.{IsFull};
 ghost use Rattle.fb_worked.specs.Sessions.{abort_while_waiting, abort_too_late, suspended, closed};
 
 /// Whole runs that show when a call takes effect.
@@ -7,8 +7,8 @@ ghost use Rattle.fb_worked.specs.Sessions.{abort_while_waiting, abort_too_late, 
 /// An abort counts from the next decision on, so it comes too late for a block of the gap in which it
 /// is made. Of a suspended session nothing is delivered; a closed one is complete.
 pub fn worked_sessions()
-    ensures abort_while_waiting { LeavesNothingOut abort_while_waiting.inputs abort_while_waiting.run }
-    ensures abort_too_late { LeavesNothingOut abort_too_late.inputs abort_too_late.run }
-    ensures suspended { LeavesNothingOut suspended.inputs suspended.run }
-    ensures closed { LeavesNothingOut closed.inputs closed.run }
+    ensures abort_while_waiting { IsFull abort_while_waiting.inputs abort_while_waiting.run }
+    ensures abort_too_late { IsFull abort_too_late.inputs abort_too_late.run }
+    ensures suspended { IsFull suspended.inputs suspended.run }
+    ensures closed { IsFull closed.inputs closed.run }
 {}

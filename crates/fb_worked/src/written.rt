@@ -1,6 +1,5 @@
 // Contents of deliveries.
 ghost use Rattle.fb_model.specs.FullRun.{IsFull};
-ghost use Rattle.fb_worked.specs.Whole.{LeavesNothingOut};
 ghost use Rattle.fb_worked.specs.Written.{overwritten_between, latent_until_written, read_as_the_write_ends, scrub_finds_latent};
 
 /// Whole runs that show the contents that deliveries find.
@@ -10,6 +9,6 @@ ghost use Rattle.fb_worked.specs.Written.{overwritten_between, latent_until_writ
 pub fn worked_contents()
     ensures overwritten_between { IsFull overwritten_between.inputs overwritten_between.run }
     ensures latent_until_written { IsFull latent_until_written.inputs latent_until_written.run }
-    ensures read_as_the_write_ends { LeavesNothingOut read_as_the_write_ends.inputs read_as_the_write_ends.run }
+    ensures read_as_the_write_ends { IsFull read_as_the_write_ends.inputs read_as_the_write_ends.run }
     ensures scrub_finds_latent { IsFull scrub_finds_latent.inputs scrub_finds_latent.run }
 {}

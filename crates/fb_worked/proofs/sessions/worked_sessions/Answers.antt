@@ -1,5 +1,5 @@
-use Rattle.fb_worked.proofs.SessionsRuns.{abort_while_waiting_is_whole, abort_too_late_is_whole, suspended_is_whole, closed_is_whole}
+use Rattle.fb_worked.proofs.SessionsRuns.{abort_while_waiting_is_full, abort_too_late_is_full, suspended_is_full, closed_is_full}
 use Rattle.fb_worked.proofs.sessions.worked_sessions.Goals as goal
 
 pub returns : goal.returns
-returns c = record { abort_while_waiting = abort_while_waiting_is_whole; abort_too_late = abort_too_late_is_whole; suspended = suspended_is_whole; closed = closed_is_whole }
+returns c = record { abort_while_waiting = abort_while_waiting_is_full; abort_too_late = abort_too_late_is_full; suspended = suspended_is_full; closed = closed_is_full }
