@@ -4,13 +4,13 @@ use Rattle.fb_calls.specs.declared.call.Kind.TheVariants.{Clean}
 use Rattle.fb_rows.specs.declared.gap.Plan.TheVariants.{Direct}
 use Rattle.fb_rows.specs.declared.gap.How.TheVariants.{Gap as ByGap, Idle as ByIdle}
 use Rattle.fb_worked.specs.SmallDisk.{small_disk}
-use Rattle.fb_worked.specs.Rows.{at, untouched, block, got, done_line, segment_line, task_line}
+use Rattle.fb_worked.specs.Rows.{at, gap, untouched, block, got, done_line, segment_line, task_line}
 use Rattle.fb_rows.specs.declared.back.BackRow.{BackRow}
 use Rattle.fb_model.specs.Course.{Part}
 use Rattle.fb_model.specs.SoundRun.{none, taken, IsSoundBy, Throughout}
 use Rattle.fb_model.specs.FullRun.{IsAllDelivered, IsBestPlanned, IsFull}
 use Rattle.fb_worked.specs.Cleaning.{segments_by_benefit, segment_without_live_blocks, segment_keeps_its_passages, closed_with_chosen_segment, suspended_session_chooses}
-use Rattle.fb_worked.proofs.OnSmallDisks.{on_small_disks, part, with_rows, gap}
+use Rattle.fb_worked.proofs.OnSmallDisks.{on_small_disks, part, with_rows}
 use Rattle.fb_worked.proofs.BestPlans.{none_in_time, all_at_once}
 
 abbrev parts_of_segments_by_benefit : List Part

@@ -11,8 +11,8 @@ use Rattle.fb_rows.specs.declared.gap.Plan.{Plan}
 use Rattle.fb_rows.specs.declared.gap.Plan.TheVariants.{Direct, Detour}
 use Rattle.fb_model.specs.Plans.{IsPlan, IsBest, IsNoLater, value, is_caught, block_end, catches, early_dwell}
 use Rattle.fb_worked.specs.SmallDisk.{small_disk, quick_disk, quick_arm}
-use Rattle.fb_worked.specs.Rows.{at, block}
-use Rattle.fb_worked.proofs.OnSmallDisks.{on_small_disks, gap}
+use Rattle.fb_worked.specs.Rows.{at, gap, block}
+use Rattle.fb_worked.proofs.OnSmallDisks.{on_small_disks}
 use Rattle.fb_worked.proofs.BestPlans.{end-le, at_most_all, all_caught}
 
 -- the two blocks on the source, and the one of greater weight on the target

@@ -4,13 +4,13 @@ use Rattle.fb_calls.specs.declared.call.Kind.TheVariants.{Plain}
 use Rattle.fb_rows.specs.declared.gap.Plan.TheVariants.{Direct, Detour}
 use Rattle.fb_rows.specs.declared.gap.How.TheVariants.{Gap as ByGap}
 use Rattle.fb_worked.specs.SmallDisk.{small_disk, quick_disk, turned_disk}
-use Rattle.fb_worked.specs.Rows.{at, untouched, block, got, done_line, task_line}
+use Rattle.fb_worked.specs.Rows.{at, gap, untouched, block, got, done_line, task_line}
 use Rattle.fb_rows.specs.declared.back.BackRow.{BackRow}
 use Rattle.fb_model.specs.Course.{Part}
 use Rattle.fb_model.specs.SoundRun.{none, taken, IsSoundBy, Throughout}
 use Rattle.fb_model.specs.FullRun.{IsAllDelivered, IsBestPlanned, IsFull}
 use Rattle.fb_worked.specs.Gaps.{both_dwells, detour, no_time_to_settle, detour_on_the_way, detour_over_nothing, weight_decides, block_over_the_turn}
-use Rattle.fb_worked.proofs.OnSmallDisks.{on_small_disks, part, with_rows, gap}
+use Rattle.fb_worked.proofs.OnSmallDisks.{on_small_disks, part, with_rows}
 use Rattle.fb_worked.proofs.BestPlans.{here, there, none_in_time, none_on_the_way, all_at_once, all_then_leave, all_by_detour}
 use Rattle.fb_worked.proofs.CloseGaps.{by_weight, sooner_over}
 

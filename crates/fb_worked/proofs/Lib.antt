@@ -10,5 +10,6 @@ pub mod WrittenRuns
 pub mod BackupsRuns
 pub mod CleaningRuns
 pub mod WrongRuns
+pub mod WrongPlans
 pub mod KnownRuns
 pub mod AcceptedInputs

@@ -1,13 +1,11 @@
--- What an answer unfolds to compute a run on a small disk, and short words for gaps and for the parts of decisions.
-use Rattle.std.specs.Prelude.{⊤, ℕ, List, Bool}
-use Rattle.fb_units.specs.declared.types.Track.{Track}
+-- What an answer unfolds to compute a run on a small disk, and short words for the parts of decisions.
+use Rattle.std.specs.Prelude.{⊤, List}
 use Rattle.fb_geometry.specs.Places.{places}
 use Rattle.fb_sectormap.specs.Lookup.{place_at}
 use Rattle.fb_sectormap.specs.Cutting.{cutting}
 use Rattle.fb_seek.specs.Positioning.{pos}
 use Rattle.fb_service.specs.Passing.{begin_from}
 use Rattle.fb_service.specs.Service.{passages}
-use Rattle.fb_rows.specs.declared.gap.Gap.{Gap}
 use Rattle.fb_rows.specs.declared.gap.Plan.{Plan}
 use Rattle.fb_rows.specs.declared.back.BackRow.{BackRow}
 use Rattle.fb_rows.specs.declared.back.DeliveryRow.{DeliveryRow}
@@ -36,7 +34,3 @@ part settled plan deliveries = record { settled = settled; plan = plan; deliveri
 -- a delivery and the rows that follow it
 abbrev pub with_rows : DeliveryRow → List BackRow → Delivery
 with_rows row rows = record { got = row; after = rows }
-
--- source, target, start, deadline, whether the request writes
-abbrev pub gap : Track → Track → ℕ → ℕ → Bool → Gap
-gap source target now deadline write = record { source = source; target = target; now = now; deadline = deadline; write = write }

@@ -10,6 +10,7 @@ use Rattle.fb_calls.specs.declared.call.Call.{Call}
 use Rattle.fb_calls.specs.declared.call.Kind.{Kind}
 use Rattle.fb_wanted.specs.declared.block.Block.{Block}
 use Rattle.fb_rows.specs.declared.fore.ForeRow.{ForeRow}
+use Rattle.fb_rows.specs.declared.gap.Gap.{Gap}
 use Rattle.fb_rows.specs.declared.gap.Plan.{Plan}
 use Rattle.fb_rows.specs.declared.gap.How.{How}
 use Rattle.fb_rows.specs.declared.back.DeliveryRow.{DeliveryRow}
@@ -64,13 +65,13 @@ got block begin end how bad content = record { block = block; begin = begin; end
 abbrev pub got_line : DeliveryRow → BackRow
 got_line row = GotLine row
 
--- source, target, start, deadline, whether the request writes, plan
+-- source, target, start, deadline, whether the request writes
+abbrev pub gap : Track → Track → ℕ → ℕ → Bool → Gap
+gap source target now deadline write = record { source = source; target = target; now = now; deadline = deadline; write = write }
+
+-- and the gap's plan
 abbrev pub gap_line : Name → Track → Track → ℕ → ℕ → Bool → Plan → BackRow
-gap_line name source target now deadline write plan = GapLine (record {
-  name = name;
-  gap = record { source = source; target = target; now = now; deadline = deadline; write = write };
-  plan = plan;
-})
+gap_line name source target now deadline write plan = GapLine (record { name = name; gap = gap source target now deadline write; plan = plan })
 
 abbrev pub idle_line : Track → ℕ → ℕ → BackRow
 idle_line track begin end = IdleLine (record { track = track; begin = begin; end = end })

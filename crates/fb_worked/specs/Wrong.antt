@@ -4,6 +4,7 @@ use Rattle.fb_units.specs.declared.types.Name.TheVariants.{Traced}
 use Rattle.fb_calls.specs.declared.call.Call.{Call}
 use Rattle.fb_calls.specs.declared.call.Kind.TheVariants.{Plain}
 use Rattle.fb_calls.specs.declared.call.Action.TheVariants.{Open, Want, Abort}
+use Rattle.fb_wanted.specs.declared.block.Block.{Block}
 use Rattle.fb_rows.specs.declared.gap.Gap.{Gap}
 use Rattle.fb_rows.specs.declared.gap.Plan.TheVariants.{Direct, Detour}
 use Rattle.fb_rows.specs.declared.gap.How.TheVariants.{Gap as ByGap, Idle as ByIdle}
@@ -11,7 +12,7 @@ use Rattle.fb_rows.specs.declared.back.BackRow.{BackRow}
 use Rattle.fb_model.specs.PlainReplay.{fcfs}
 use Rattle.fb_model.specs.Inputs.{Inputs}
 use Rattle.fb_worked.specs.SmallDisk.{small_disk, quick_disk}
-use Rattle.fb_worked.specs.Rows.{Worked, at, reading, writing, untouched, written, row, call, block, got, got_line, gap_line, idle_line, done_line, task_line}
+use Rattle.fb_worked.specs.Rows.{Worked, at, gap, reading, writing, untouched, written, row, call, block, got, got_line, gap_line, idle_line, done_line, task_line}
 
 -- calls alone, and the head idle from the beginning
 abbrev pub idle_inputs : List Call → ℕ → Inputs
@@ -85,7 +86,7 @@ contents_of_later = record {
 
 -- a detour before a write, which leaves no time to settle
 abbrev pub settling_gap : Gap
-settling_gap = record { source = at 0 0; target = at 1 0; now = 0; deadline = 1200; write = true }
+settling_gap = gap (at 0 0) (at 1 0) 0 1200 true
 
 abbrev pub detour_without_settle : Worked
 detour_without_settle = record {
@@ -135,3 +136,20 @@ served_sooner = record {
     end = 400;
   };
 }
+
+-- a gap with three wanted blocks, two on the source and one on the target
+abbrev pub gap_with_three : Gap
+gap_with_three = gap (at 0 0) (at 1 0) 600 1200 false
+
+abbrev pub three_blocks : List Block
+three_blocks = block 0 0 6 1 (at 0 0) 1 ∷ block 0 1 7 1 (at 0 0) 1 ∷ block 0 2 35 1 (at 1 0) 1 ∷ []
+
+-- a gap with a block on a track on the way, or one on the target, which passes while the head is on the direct way
+abbrev pub gap_with_one : Gap
+gap_with_one = gap (at 0 0) (at 2 0) 0 1500 false
+
+abbrev pub block_on_target : List Block
+block_on_target = block 0 0 51 1 (at 2 0) 1 ∷ []
+
+abbrev pub block_on_the_way : List Block
+block_on_the_way = block 0 0 25 1 (at 1 0) 1 ∷ []

@@ -2,7 +2,7 @@
 ghost use Rattle.fb_model.specs.FullRun.{IsFull};
 ghost use Rattle.fb_worked.specs.Backups.{overwritten_backup, backup_without_aborted};
 
-/// Whole runs that show what a backup's image is.
+/// Full runs that show what a backup's image is.
 ///
 /// A block that is written after its delivery is delivered again, and the image has the new contents.
 /// An aborted block is not part of the image, and after the seal a write changes nothing.

@@ -2,11 +2,11 @@
 ghost use Rattle.fb_model.specs.FullRun.{IsFull};
 ghost use Rattle.fb_worked.specs.Cleaning.{segments_by_benefit, segment_without_live_blocks, segment_keeps_its_passages, closed_with_chosen_segment, suspended_session_chooses};
 
-/// Whole runs that show how segments are chosen and cleaned.
+/// Full runs that show how segments are chosen and cleaned.
 ///
 /// The segment of the greater benefit is first. One without live blocks is cleaned where it is chosen.
-/// The contents of a segment are those of its blocks' passages. A closed session drops its segments,
-/// and a suspended one chooses, but reads only after the resume.
+/// The contents of a segment are those of its blocks' passages. Of a closed session the chosen
+/// blocks are aborted, and it is complete. A suspended one chooses, but reads only after the resume.
 pub fn worked_segments()
     ensures segments_by_benefit { IsFull segments_by_benefit.inputs segments_by_benefit.run }
     ensures segment_without_live_blocks { IsFull segment_without_live_blocks.inputs segment_without_live_blocks.run }

@@ -2,7 +2,7 @@
 ghost use Rattle.fb_model.specs.FullRun.{IsFull};
 ghost use Rattle.fb_worked.specs.Gaps.{both_dwells, detour, no_time_to_settle, detour_on_the_way, detour_over_nothing, weight_decides, block_over_the_turn};
 
-/// Whole runs that show what a gap's plan delivers.
+/// Full runs that show what the best plan of a gap delivers.
 ///
 /// Two dwells of one gap deliver on both tracks. A detour delivers where neither of them would, and
 /// is back in time; before a write there must be time to settle, too. A detour may go over a track

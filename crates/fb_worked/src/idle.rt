@@ -2,7 +2,7 @@
 ghost use Rattle.fb_model.specs.FullRun.{IsFull};
 ghost use Rattle.fb_worked.specs.Idle.{idle_to_the_end, idle_too_short, grown_defect_cuts, promoted_read_carries, caught_not_carried};
 
-/// Whole runs that show what idle dwells and foreground reads deliver.
+/// Full runs that show what idle dwells and foreground reads deliver.
 ///
 /// A block that ends as the dwell does is delivered, and a nanosecond less is too short. A sector
 /// that has moved ends a block. A promoted read carries blocks, but none that its gap has caught.

@@ -3,7 +3,7 @@ ghost use Rattle.fb_model.specs.FullRun.{IsFull};
 ghost use Rattle.fb_model.specs.Known.{AgreeUpTo, SameKnown};
 ghost use Rattle.fb_worked.specs.Known.{run_without_third, run_with_third};
 
-/// Two runs whose inputs agree up to an instant, and that are the same up to it.
+/// Two full runs whose inputs agree up to an instant, and that are the same up to it.
 ///
 /// In the one a third request arrives a little later. The rows that are known by the instant don't
 /// tell whether it will.

@@ -26,4 +26,4 @@ pub use known::runs_known_in_part;
 pub use passages::worked_passages;
 pub use sessions::worked_sessions;
 pub use written::worked_contents;
-pub use wrong::wrong_runs;
+pub use wrong::{wrong_plans, wrong_runs};

@@ -2,7 +2,7 @@
 ghost use Rattle.fb_model.specs.FullRun.{IsFull};
 ghost use Rattle.fb_worked.specs.Sessions.{abort_while_waiting, abort_too_late, suspended, closed};
 
-/// Whole runs that show when a call takes effect.
+/// Full runs that show when a call takes effect.
 ///
 /// An abort counts from the next decision on, so it comes too late for a block of the gap in which it
 /// is made. Of a suspended session nothing is delivered; a closed one is complete.

@@ -2,7 +2,7 @@
 ghost use Rattle.fb_model.specs.FullRun.{IsFull};
 ghost use Rattle.fb_worked.specs.Written.{overwritten_between, latent_until_written, read_as_the_write_ends, scrub_finds_latent};
 
-/// Whole runs that show the contents that deliveries find.
+/// Full runs that show the contents that deliveries find.
 ///
 /// A delivery has the contents of its own passage, before a write and after it, and as the write ends.
 /// An unreadable sector is counted, is a finding of a scrub, and can be read once it was written.
