@@ -2,7 +2,7 @@
 use Rattle.std.proofs.Common.{◌≡◌, ℕ, ◌+◌, ◌-◌, ◌<◌, ◌≤◌, List, [], ◌∷◌, Option, Some, None, refl, true, false, Bool, cond, ◌||◌, ◌==◌, arith, sym, ap, ap₂, ◌∙◌, inl, inr}
 use Rattle.std.specs.Ordering.{nat_cmp}
 use Rattle.std.specs.BTreeMap.{is_at}
-use Rattle.std.specs.Option.{IsSome}
+use Rattle.std.specs.Option.{IsSome, unwrap_or}
 use Rattle.std.specs.List.{list_any}
 use Rattle.std.proofs.lemmas.Bool.{cases_lt}
 use Rattle.std.proofs.lemmas.Bool.Decides.{nat_tests}
@@ -11,8 +11,8 @@ use Rattle.fb_store.specs.declared.content.Content.TheVariants.{Filled, Unreadab
 use Rattle.fb_store.specs.declared.content.ContentRun.{ContentRun}
 use Rattle.fb_store.specs.Runs.{IsRun}
 use Rattle.fb_store.specs.Writes.{unwritten, is_within, after_write}
-use Rattle.fb_store.specs.Index.{filled_or, writer_of, begins_at, content_in}
-use Rattle.fb_store.proofs.Writers.{steady, none_there, no_writer}
+use Rattle.fb_store.specs.Index.{held_of, begins_at, content_in}
+use Rattle.fb_store.proofs.Held.{steady, none_there, none_held}
 
 same_key : (lbn bad : ℕ) → is_at (nat_cmp lbn) bad ≡ (bad == lbn)
 same_key lbn bad = grind (arith, nat_tests)
@@ -35,14 +35,14 @@ after : (first n lbn : ℕ) → first + n ≤ lbn → is_within first n lbn ≡ 
 after first n lbn more = grind (arith, nat_tests)
 
 -- the contents after a write
-pub content_written : (first n writer lbn : ℕ) (was is : Option ℕ) (original : Content)
-    → (first ≤ lbn → lbn < first + n → is ≡ Some writer) → (lbn < first → is ≡ was) → (first + n ≤ lbn → is ≡ was)
-    → filled_or is original ≡ after_write first n writer lbn (filled_or was original)
+pub content_written : (first n writer lbn : ℕ) (was is : Option Content) (original : Content)
+    → (first ≤ lbn → lbn < first + n → is ≡ Some (Filled writer)) → (lbn < first → is ≡ was) → (first + n ≤ lbn → is ≡ was)
+    → unwrap_or is original ≡ after_write first n writer lbn (unwrap_or was original)
 content_written first n writer lbn was is original here less more = elim (cases_lt lbn first) [
-  | inl a ↦ ap (λ w. filled_or w original) (less a) ∙ ap (λ b. cond b (Filled writer) (filled_or was original)) (sym (before first n lbn a))
+  | inl a ↦ ap (λ w. unwrap_or w original) (less a) ∙ ap (λ b. cond b (Filled writer) (unwrap_or was original)) (sym (before first n lbn a))
   | inr a ↦ elim (cases_lt lbn (first + n)) [
-    | inl b ↦ ap (λ w. filled_or w original) (here a b) ∙ ap (λ b. cond b (Filled writer) (filled_or was original)) (sym (inside first n lbn a b))
-    | inr b ↦ ap (λ w. filled_or w original) (more b) ∙ ap (λ b. cond b (Filled writer) (filled_or was original)) (sym (after first n lbn b))
+    | inl b ↦ ap (λ w. unwrap_or w original) (here a b) ∙ ap (λ b. cond b (Filled writer) (unwrap_or was original)) (sym (inside first n lbn a b))
+    | inr b ↦ ap (λ w. unwrap_or w original) (more b) ∙ ap (λ b. cond b (Filled writer) (unwrap_or was original)) (sym (after first n lbn b))
   ]
 ]
 
@@ -56,31 +56,31 @@ IsRun-original keys first end bad some within none = record {
   same = λ lbn a b. unwritten-is keys lbn false (none lbn a (omega arith));
 }
 
-goes_on : (ranges : List (ℕ × Option ℕ)) (first stop lbn : ℕ) → ((begin : ℕ) → IsSome (begins_at ranges begin) → first < begin → stop ≤ begin) → first ≤ lbn → lbn < stop
-    → writer_of (begins_at ranges) lbn ≡ writer_of (begins_at ranges) first
+goes_on : (ranges : List (ℕ × Option Content)) (first stop lbn : ℕ) → ((begin : ℕ) → IsSome (begins_at ranges begin) → first < begin → stop ≤ begin) → first ≤ lbn → lbn < stop
+    → held_of (begins_at ranges) lbn ≡ held_of (begins_at ranges) first
 goes_on ranges first stop lbn next from to = steady (begins_at ranges) first lbn from
     (λ begin a b. none_there (begins_at ranges begin) (λ some. let past : stop ≤ begin = next begin some a in absurd (omega arith)))
 
 -- nothing is written where no range begins
-pub content_in-empty : (ranges : List (ℕ × Option ℕ)) (keys latent : List ℕ) (lbn : ℕ) → ranges ≡ [] → list_any (is_at (nat_cmp lbn)) keys ≡ list_any (is_at (nat_cmp lbn)) latent
+pub content_in-empty : (ranges : List (ℕ × Option Content)) (keys latent : List ℕ) (lbn : ℕ) → ranges ≡ [] → list_any (is_at (nat_cmp lbn)) keys ≡ list_any (is_at (nat_cmp lbn)) latent
     → content_in (record { latent = keys; ranges = ranges }) lbn ≡ unwritten latent lbn
 content_in-empty ranges keys latent lbn none same =
-    ap (λ w. filled_or w (unwritten keys lbn)) (ap (λ rs. writer_of (begins_at rs) lbn) none ∙ no_writer (begins_at []) lbn (λ begin le. refl))
+    ap (λ w. unwrap_or w (unwritten keys lbn)) (ap (λ rs. held_of (begins_at rs) lbn) none ∙ none_held (begins_at []) lbn (λ begin le. refl))
     ∙ ap (λ any. cond any Unreadable (Filled 0)) (sym (any_key keys lbn) ∙ (same ∙ any_key latent lbn))
 
--- sectors of a range that has a writer
-pub IsRun-written : (ranges : List (ℕ × Option ℕ)) (latent : List ℕ) (first end stop writer : ℕ) → first < stop → stop ≤ end → Some writer ≡ writer_of (begins_at ranges) first
+-- sectors of a range that has a content
+pub IsRun-written : (ranges : List (ℕ × Option Content)) (latent : List ℕ) (first end stop : ℕ) (content : Content) → first < stop → stop ≤ end → Some content ≡ held_of (begins_at ranges) first
     → ((begin : ℕ) → IsSome (begins_at ranges begin) → first < begin → stop ≤ begin)
-    → IsRun (content_in (record { latent = latent; ranges = ranges })) first end (record { first = first; count = stop - first; content = Filled writer })
-IsRun-written ranges latent first end stop writer some within here next = record {
+    → IsRun (content_in (record { latent = latent; ranges = ranges })) first end (record { first = first; count = stop - first; content = content })
+IsRun-written ranges latent first end stop content some within here next = record {
   from = refl;
   some = omega arith;
   within = omega arith;
-  same = λ lbn a b. ap (λ w. filled_or w (unwritten latent lbn)) (goes_on ranges first stop lbn next a (omega arith) ∙ sym here);
+  same = λ lbn a b. ap (λ w. unwrap_or w (unwritten latent lbn)) (goes_on ranges first stop lbn next a (omega arith) ∙ sym here);
 }
 
 -- sectors of a range that has none
-pub IsRun-unwritten : (ranges : List (ℕ × Option ℕ)) (latent : List ℕ) (first end stop : ℕ) (run : ContentRun) → stop ≤ end → None ≡ writer_of (begins_at ranges) first
+pub IsRun-unwritten : (ranges : List (ℕ × Option Content)) (latent : List ℕ) (first end stop : ℕ) (run : ContentRun) → stop ≤ end → None ≡ held_of (begins_at ranges) first
     → ((begin : ℕ) → IsSome (begins_at ranges begin) → first < begin → stop ≤ begin)
     → IsRun (unwritten latent) first stop run → IsRun (content_in (record { latent = latent; ranges = ranges })) first end run
 IsRun-unwritten ranges latent first end stop run within here next is =
@@ -89,5 +89,5 @@ IsRun-unwritten ranges latent first end stop run within here next is =
       from = is.from;
       some = is.some;
       within = omega arith;
-      same = λ lbn a b. ap (λ w. filled_or w (unwritten latent lbn)) (goes_on ranges first stop lbn next (omega arith) (omega arith) ∙ sym here) ∙ is.same lbn a b;
+      same = λ lbn a b. ap (λ w. unwrap_or w (unwritten latent lbn)) (goes_on ranges first stop lbn next (omega arith) (omega arith) ∙ sym here) ∙ is.same lbn a b;
     }

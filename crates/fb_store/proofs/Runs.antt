@@ -1,10 +1,10 @@
 -- The runs of sectors give just those contents, and no two neighbours could be one.
 use Rattle.std.proofs.Common.{◌≡◌, ℕ, ◌+◌, List, [], ◌∷◌, ◌++◌, refl, true, false, map, Bool, cond, T, arith, sym, ap, ap₂, ◌∙◌, true≢false, eqb→eq, ◌&&◌, ◌==◌, suc}
-use Rattle.std.specs.List.{flat_map, range_with_len}
+use Rattle.std.specs.List.{range_with_len}
 use Rattle.fb_store.specs.declared.content.Content.{Content}
 use Rattle.fb_store.specs.declared.content.Content.TheVariants.{Filled, Unreadable}
 use Rattle.fb_store.specs.declared.content.ContentRun.{ContentRun}
-use Rattle.fb_store.specs.Runs.{same_content, with_content, runs_of, sectors_of, joins, AreFewest}
+use Rattle.fb_store.specs.Runs.{same_content, with_content, runs_of, sectors_of, AreFewest}
 
 pub so : (b : Bool) → b ≡ true → T b
 so true p = tt

@@ -1,24 +1,25 @@
-// The ranges of a disk by where they begin, each with its writer if it has one: a range goes on to the next one.
+// Ranges of sectors by where they begin, each with its content if it has one: a range goes on to the next one.
 ghost use Rattle.std.specs.Prelude.{◌≡◌, ℕ, ◌+◌, ◌<◌, ◌≤◌, ◌≢◌, None, Some, OnOk, OnErr};
 ghost use Rattle.std.specs.Ordering.{nat_cmp};
 ghost use Rattle.std.specs.BTreeMap.{get, ContainsKey, IsUnchanged};
-ghost use Rattle.fb_store.specs.Index.{writer_of};
+ghost use Rattle.fb_store.specs.Index.{held_of};
 
+use crate::Content;
 use fb_units::NoMemory;
 use std::collections::BTreeMap;
 
-/// Who wrote a sector, if it was written.
-pub fn writer_at(ranges: &BTreeMap<u64, Option<u64>>, lbn: u64) -> Option<u64>
-    ensures { result ≡ writer_of (get nat_cmp ranges.now) lbn }
+/// The content of the range that a sector lies in, if it has one.
+pub fn held_at(ranges: &BTreeMap<u64, Option<Content>>, lbn: u64) -> Option<Content>
+    ensures { result ≡ held_of (get nat_cmp ranges.now) lbn }
 {
     match ranges.range(..=lbn).next_back() {
-        Some((_, writer)) => *writer,
+        Some((_, held)) => *held,
         None => None,
     }
 }
 
 /// Where the first range after a sector begins, or the end.
-pub fn next_begin(ranges: &BTreeMap<u64, Option<u64>>, lbn: u64, end: u64) -> u64
+pub fn next_begin(ranges: &BTreeMap<u64, Option<Content>>, lbn: u64, end: u64) -> u64
     requires { lbn < end }
     ensures above { lbn < result }
     ensures within { result ≤ end }
@@ -30,18 +31,18 @@ pub fn next_begin(ranges: &BTreeMap<u64, Option<u64>>, lbn: u64, end: u64) -> u6
     }
 }
 
-/// Makes a range begin at a sector, with the writer that the sector has.
-pub fn cut(ranges: &mut BTreeMap<u64, Option<u64>>, at: u64) -> Result<(), NoMemory>
-    ensures begins { OnOk result (get nat_cmp ranges.new at ≡ Some (writer_of (get nat_cmp ranges.old) at)) }
-    ensures same { (lbn : ℕ) → writer_of (get nat_cmp ranges.new) lbn ≡ writer_of (get nat_cmp ranges.old) lbn }
+/// Makes a range begin at a sector, with the content that the sector has.
+pub fn cut(ranges: &mut BTreeMap<u64, Option<Content>>, at: u64) -> Result<(), NoMemory>
+    ensures begins { OnOk result (get nat_cmp ranges.new at ≡ Some (held_of (get nat_cmp ranges.old) at)) }
+    ensures same { (lbn : ℕ) → held_of (get nat_cmp ranges.new) lbn ≡ held_of (get nat_cmp ranges.old) lbn }
 {
-    let writer = writer_at(ranges, at);
-    ranges.insert(at, writer)?;
+    let held = held_at(ranges, at);
+    ranges.insert(at, held)?;
     Ok(())
 }
 
 /// Takes out all ranges that begin between two sectors.
-pub fn clear_between(ranges: &mut BTreeMap<u64, Option<u64>>, first: u64, end: u64)
+pub fn clear_between(ranges: &mut BTreeMap<u64, Option<Content>>, first: u64, end: u64)
     requires { first < end }
     ensures inside { (begin : ℕ) → first < begin → begin < end → get nat_cmp ranges.new begin ≡ None }
     ensures below { (begin : ℕ) → begin ≤ first → get nat_cmp ranges.new begin ≡ get nat_cmp ranges.old begin }
@@ -54,21 +55,21 @@ pub fn clear_between(ranges: &mut BTreeMap<u64, Option<u64>>, first: u64, end: u
     }
 }
 
-/// Gives all sectors from the first on, before the end, to a writer; where memory is wanting no sector changes its writer.
+/// Gives all sectors from the first on, before the end, a content or none; where memory is wanting all stays.
 pub fn write(
-    ranges: &mut BTreeMap<u64, Option<u64>>,
+    ranges: &mut BTreeMap<u64, Option<Content>>,
     first: u64,
     end: u64,
-    writer: u64,
+    held: Option<Content>,
 ) -> Result<(), NoMemory>
     requires { first < end }
-    ensures inside { OnOk result ((lbn : ℕ) → first ≤ lbn → lbn < end → writer_of (get nat_cmp ranges.new) lbn ≡ Some writer) }
-    ensures before { OnOk result ((lbn : ℕ) → lbn < first → writer_of (get nat_cmp ranges.new) lbn ≡ writer_of (get nat_cmp ranges.old) lbn) }
-    ensures after { OnOk result ((lbn : ℕ) → end ≤ lbn → writer_of (get nat_cmp ranges.new) lbn ≡ writer_of (get nat_cmp ranges.old) lbn) }
-    ensures err { OnErr result ((lbn : ℕ) → writer_of (get nat_cmp ranges.new) lbn ≡ writer_of (get nat_cmp ranges.old) lbn) }
+    ensures inside { OnOk result ((lbn : ℕ) → first ≤ lbn → lbn < end → held_of (get nat_cmp ranges.new) lbn ≡ held) }
+    ensures before { OnOk result ((lbn : ℕ) → lbn < first → held_of (get nat_cmp ranges.new) lbn ≡ held_of (get nat_cmp ranges.old) lbn) }
+    ensures after { OnOk result ((lbn : ℕ) → end ≤ lbn → held_of (get nat_cmp ranges.new) lbn ≡ held_of (get nat_cmp ranges.old) lbn) }
+    ensures err { OnErr result ((lbn : ℕ) → held_of (get nat_cmp ranges.new) lbn ≡ held_of (get nat_cmp ranges.old) lbn) }
 {
     cut(ranges, end)?;
-    ranges.insert(first, Some(writer))?;
+    ranges.insert(first, held)?;
     clear_between(ranges, first, end);
     Ok(())
 }

@@ -8,7 +8,7 @@ ghost use Rattle.fb_store.specs.Writes.{unwritten, after_write};
 ghost use Rattle.fb_store.specs.Index.{content_in};
 ghost use Rattle.fb_store.specs.Runs.{runs_of, same_content, ArePacked, IsRun, IsLongestRun};
 
-use crate::ranges::{next_begin, write, writer_at};
+use crate::ranges::{held_at, next_begin, write};
 use crate::{Content, ContentRun, Contents};
 use fb_units::NoMemory;
 use std::alloc::{AllocError, Global};
@@ -19,7 +19,7 @@ use std::marker::Model;
 #[derive(Drop)]
 pub struct Store {
     latent: BTreeSet<u64>,
-    ranges: BTreeMap<u64, Option<u64>>,
+    ranges: BTreeMap<u64, Option<Content>>,
 }
 
 impl Model for Store {
@@ -51,7 +51,8 @@ impl Store {
         if count == 0 {
             return Ok(());
         }
-        write(&mut self.ranges, first, first + count as u64, writer)?;
+        let end = first + count as u64;
+        write(&mut self.ranges, first, end, Some(Content::Filled(writer)))?;
         Ok(())
     }
 
@@ -59,8 +60,8 @@ impl Store {
     pub fn read(&self, lbn: u64) -> Content
         ensures { result ≡ content_in self.now lbn }
     {
-        match writer_at(&self.ranges, lbn) {
-            Some(writer) => Content::Filled(writer),
+        match held_at(&self.ranges, lbn) {
+            Some(content) => content,
             None => original(&self.latent, lbn),
         }
     }
@@ -106,11 +107,11 @@ impl Store {
         ensures { IsRun (content_in self.now) first end result }
     {
         let stop = next_begin(&self.ranges, first, end);
-        match writer_at(&self.ranges, first) {
-            Some(writer) => ContentRun {
+        match held_at(&self.ranges, first) {
+            Some(content) => ContentRun {
                 first,
                 count: stop - first,
-                content: Content::Filled(writer),
+                content,
             },
             None => original_piece(&self.latent, first, stop),
         }

@@ -1,13 +1,12 @@
 use Rattle.std.proofs.Common.{subst, ◌-◌}
-use Rattle.fb_store.specs.declared.content.Content.TheVariants.{Filled}
 use Rattle.fb_store.specs.Index.{content_in}
 use Rattle.fb_store.specs.Runs.{IsRun}
 use Rattle.fb_store.proofs.Originals.{IsRun-written, IsRun-unwritten}
 use Rattle.fb_store.proofs.store.Store.piece_at.Goals as goal
 
 pub returns-in-Some : goal.returns-in-Some
-returns-in-Some c = subst (λ holding. IsRun (content_in holding) c.args.first c.args.end (record { first = c.args.first; count = c.next_begin-stop.result - c.args.first; content = Filled c.in-Some.writer })) c.self.view_is
-    (IsRun-written c.self.inside.ranges.entries c.self.inside.latent.keys c.args.first c.args.end c.next_begin-stop.result c.in-Some.writer c.next_begin-stop.ensures.above c.next_begin-stop.ensures.within
+returns-in-Some c = subst (λ holding. IsRun (content_in holding) c.args.first c.args.end (record { first = c.args.first; count = c.next_begin-stop.result - c.args.first; content = c.in-Some.content })) c.self.view_is
+    (IsRun-written c.self.inside.ranges.entries c.self.inside.latent.keys c.args.first c.args.end c.next_begin-stop.result c.in-Some.content c.next_begin-stop.ensures.above c.next_begin-stop.ensures.within
     c.in-Some.ensures c.next_begin-stop.ensures.least)
 
 pub returns-in-None : goal.returns-in-None

@@ -1,0 +1,92 @@
+-- What a sector holds, by where the ranges begin.
+use Rattle.std.proofs.Common.{◌≡◌, ◌≢◌, ℕ, ◌<◌, ◌≤◌, Option, Some, None, refl, false, arith, sym, ap, ap₂, ◌∙◌, suc, zero, inl, inr, rules}
+use Rattle.std.specs.Option.{unwrap_or, IsSome}
+use Rattle.std.specs.Ordering.{nat_cmp, is_gt, is_lt}
+use Rattle.std.specs.BTreeMap.{is_at}
+use Rattle.std.proofs.lemmas.Bool.{cases_lt}
+use Rattle.std.proofs.lemmas.Bool.Decides.{nat_tests}
+use Rattle.fb_store.specs.declared.content.Content.{Content}
+use Rattle.fb_store.specs.Index.{held_of}
+
+abbrev Begins : Type 0
+Begins = ℕ → Option (Option Content)
+
+pub none_there : (o : Option (Option Content)) → (IsSome o → ⊥) → o ≡ None
+none_there None never = refl
+none_there (Some w) never = absurd (never (search rules))
+
+-- the range that begins at the sector says what it holds
+pub held_here : (begins : Begins) (lbn : ℕ) (w : Option Content) → begins lbn ≡ Some w → held_of begins lbn ≡ w
+held_here begins zero w e = ap (λ o. unwrap_or o None) e
+held_here begins (suc n) w e = ap (λ o. unwrap_or o (held_of begins n)) e
+
+held_before : (begins : Begins) (n : ℕ) → begins (suc n) ≡ None → held_of begins (suc n) ≡ held_of begins n
+held_before begins n e = ap (λ o. unwrap_or o (held_of begins n)) e
+
+-- a range goes on as long as no other begins
+pub steady : (begins : Begins) (first lbn : ℕ) → first ≤ lbn → ((begin : ℕ) → first < begin → begin ≤ lbn → begins begin ≡ None) → held_of begins lbn ≡ held_of begins first
+steady begins first zero le none = let same : zero ≡ first = omega arith in ap (held_of begins) same
+steady begins first (suc n) le none = elim (cases_lt n first) [
+  | inl less ↦ let same : suc n ≡ first = omega arith in ap (held_of begins) same
+  | inr more ↦ held_before begins n (none (suc n) (omega arith) (omega arith)) ∙ steady begins first n more (λ begin a b. none begin a (omega arith))
+]
+
+pub none_held : (begins : Begins) (lbn : ℕ) → ((begin : ℕ) → begin ≤ lbn → begins begin ≡ None) → held_of begins lbn ≡ None
+none_held begins zero none = ap (λ o. unwrap_or o None) (none zero (omega arith))
+none_held begins (suc n) none = held_before begins n (none (suc n) (omega arith)) ∙ none_held begins n (λ begin b. none begin (omega arith))
+
+-- the same ranges begin up to a sector
+agree_below : (begins others : Begins) (lbn : ℕ) → ((begin : ℕ) → begin ≤ lbn → others begin ≡ begins begin) → held_of others lbn ≡ held_of begins lbn
+agree_below begins others zero same = ap (λ o. unwrap_or o None) (same zero (omega arith))
+agree_below begins others (suc n) same = ap₂ (λ o w. unwrap_or o w) (same (suc n) (omega arith)) (agree_below begins others n (λ begin b. same begin (omega arith)))
+
+-- the same ranges begin after a sector that holds the same
+agree_from : (begins others : Begins) (at lbn : ℕ) → at ≤ lbn → held_of others at ≡ held_of begins at → ((begin : ℕ) → at < begin → others begin ≡ begins begin) → held_of others lbn ≡ held_of begins lbn
+agree_from begins others at zero le here same = let e : at ≡ zero = omega arith in ap (held_of others) (sym e) ∙ (here ∙ ap (held_of begins) e)
+agree_from begins others at (suc n) le here same = elim (cases_lt n at) [
+  | inl less ↦ let e : at ≡ suc n = omega arith in ap (held_of others) (sym e) ∙ (here ∙ ap (held_of begins) e)
+  | inr more ↦ ap₂ (λ o w. unwrap_or o w) (same (suc n) (omega arith)) (agree_from begins others at n more here same)
+]
+
+pub not_above : (a b : ℕ) → is_gt (nat_cmp a b) ≡ false → a ≤ b
+not_above a b e = grind (arith, nat_tests)
+
+pub is_not_above : (a b : ℕ) → a ≤ b → is_gt (nat_cmp a b) ≡ false
+is_not_above a b le = grind (arith, nat_tests)
+
+pub not_below : (a b : ℕ) → is_lt (nat_cmp a b) ≡ false → b ≤ a
+not_below a b e = grind (arith, nat_tests)
+
+-- the last range that begins at a sector or before it says what the sector holds
+pub held_last : (begins : Begins) (begin lbn : ℕ) (w : Option Content) → begins begin ≡ Some w → is_gt (nat_cmp begin lbn) ≡ false
+    → ((later : ℕ) → is_gt (nat_cmp later lbn) ≡ false → IsSome (begins later) → is_lt (nat_cmp begin later) ≡ false) → w ≡ held_of begins lbn
+held_last begins begin lbn w here le last =
+    sym (steady begins begin lbn (not_above begin lbn le)
+    (λ later a b. none_there (begins later) (λ some. let no : later ≤ begin = not_below begin later (last later (is_not_above later lbn b) some) in absurd (omega arith)))
+    ∙ held_here begins begin w here)
+
+other_key : (at begin : ℕ) → begin ≢ at → is_at (nat_cmp at) begin ≡ false
+other_key at begin apart = grind (arith, nat_tests)
+
+-- a cut changes nothing that a sector holds
+pub cut_same : (begins others : Begins) (at : ℕ) → others at ≡ Some (held_of begins at) → ((begin : ℕ) → is_at (nat_cmp at) begin ≡ false → others begin ≡ begins begin)
+    → (lbn : ℕ) → held_of others lbn ≡ held_of begins lbn
+cut_same begins others at here others_stay lbn = elim (cases_lt lbn at) [
+  | inl less ↦ agree_below begins others lbn (λ begin b. others_stay begin (other_key at begin (λ e. absurd (omega arith))))
+  | inr more ↦ agree_from begins others at lbn more (held_here others at (held_of begins at) here) (λ begin b. others_stay begin (other_key at begin (λ e. absurd (omega arith))))
+]
+
+-- what a write leaves: begins before it, put with the new range, and left without those between
+module _ (begins put left : Begins) (first end : ℕ) (w : Option Content) (some : first < end)
+    (here : put first ≡ Some w) (put_stays : (begin : ℕ) → is_at (nat_cmp first) begin ≡ false → put begin ≡ begins begin)
+    (inside : (begin : ℕ) → first < begin → begin < end → left begin ≡ None) (below : (begin : ℕ) → begin ≤ first → left begin ≡ put begin) (above : (begin : ℕ) → end ≤ begin → left begin ≡ put begin) where
+  pub wrote_inside : (lbn : ℕ) → first ≤ lbn → lbn < end → held_of left lbn ≡ w
+  wrote_inside lbn from to = steady left first lbn from (λ begin a b. inside begin a (omega arith)) ∙ held_here left first w (below first (omega arith) ∙ here)
+
+  pub wrote_before : (lbn : ℕ) → lbn < first → held_of left lbn ≡ held_of begins lbn
+  wrote_before lbn less = agree_below begins left lbn (λ begin b. below begin (omega arith) ∙ put_stays begin (other_key first begin (λ e. absurd (omega arith))))
+
+  pub wrote_after : begins end ≡ Some (held_of begins end) → (lbn : ℕ) → end ≤ lbn → held_of left lbn ≡ held_of begins lbn
+  wrote_after at_end lbn more = agree_from begins left end lbn more
+      (held_here left end (held_of begins end) (above end (omega arith) ∙ (put_stays end (other_key first end (λ e. absurd (omega arith))) ∙ at_end)))
+      (λ begin b. above begin (omega arith) ∙ put_stays begin (other_key first begin (λ e. absurd (omega arith))))
