@@ -15,6 +15,10 @@ pub none_there : (o : Option (Option Content)) → (IsSome o → ⊥) → o ≡ 
 none_there None never = refl
 none_there (Some w) never = absurd (never (search rules))
 
+pub some_there : (o : Option (Option Content)) (w : Option Content) → o ≡ Some w → IsSome o
+some_there None w e = absurd (grind arith)
+some_there (Some v) w e = search rules
+
 -- the range that begins at the sector says what it holds
 pub held_here : (begins : Begins) (lbn : ℕ) (w : Option Content) → begins lbn ≡ Some w → held_of begins lbn ≡ w
 held_here begins zero w e = ap (λ o. unwrap_or o None) e
@@ -90,3 +94,26 @@ module _ (begins put left : Begins) (first end : ℕ) (w : Option Content) (some
   wrote_after at_end lbn more = agree_from begins left end lbn more
       (held_here left end (held_of begins end) (above end (omega arith) ∙ (put_stays end (other_key first end (λ e. absurd (omega arith))) ∙ at_end)))
       (λ begin b. above begin (omega arith) ∙ put_stays begin (other_key first begin (λ e. absurd (omega arith))))
+
+-- a range has the content that all ranges in it have
+value_or : (o : Option (Option Content)) (before w : Option Content) → before ≡ w → (IsSome o → o ≡ Some w) → unwrap_or o before ≡ w
+value_or None before w e same = e
+value_or (Some x) before w e same = ap (λ o. unwrap_or o before) (same (search rules))
+
+pub assigned_inside : (begins : Begins) (first lbn : ℕ) (w : Option Content) → begins first ≡ Some w → first ≤ lbn
+    → ((begin : ℕ) → first < begin → begin ≤ lbn → IsSome (begins begin) → begins begin ≡ Some w) → held_of begins lbn ≡ w
+assigned_inside begins first zero w here le same = let e : zero ≡ first = omega arith in held_here begins zero w (ap begins e ∙ here)
+assigned_inside begins first (suc n) w here le same = elim (cases_lt n first) [
+  | inl less ↦ let e : suc n ≡ first = omega arith in held_here begins (suc n) w (ap begins e ∙ here)
+  | inr more ↦ value_or (begins (suc n)) (held_of begins n) w (assigned_inside begins first n w here more (λ begin a b. same begin a (omega arith))) (same (suc n) (omega arith) (omega arith))
+]
+
+pub assigned_before : (begins others : Begins) (first lbn : ℕ) → lbn < first → ((begin : ℕ) → begin < first → others begin ≡ begins begin) → held_of others lbn ≡ held_of begins lbn
+assigned_before begins others first lbn less same = agree_below begins others lbn (λ begin b. same begin (omega arith))
+
+same_here : (begins others : Begins) (at : ℕ) (o : Option (Option Content)) → begins at ≡ o → IsSome o → others at ≡ begins at → held_of others at ≡ held_of begins at
+same_here begins others at None e some same = absurd (search rules)
+same_here begins others at (Some w) e some same = held_here others at w (same ∙ e) ∙ sym (held_here begins at w e)
+
+pub assigned_after : (begins others : Begins) (end lbn : ℕ) → IsSome (begins end) → end ≤ lbn → ((begin : ℕ) → end ≤ begin → others begin ≡ begins begin) → held_of others lbn ≡ held_of begins lbn
+assigned_after begins others end lbn some le same = agree_from begins others end lbn le (same_here begins others end (begins end) refl some (same end (omega arith))) (λ begin b. same begin (omega arith))

@@ -14,7 +14,7 @@ use Rattle.fb_store.specs.Runs.{same_content, with_content, runs_of, IsRun, IsLo
 abbrev pub held : (ℕ → Content) → ℕ → ℕ → List (ℕ × Content)
 held content_of first n = map (λ lbn. (lbn, content_of lbn)) (range_with_len first n)
 
-abbrev run_of : ℕ → ℕ → Content → ContentRun
+abbrev pub run_of : ℕ → ℕ → Content → ContentRun
 run_of first count content = record { first = first; count = count; content = content }
 
 not_joined : (a b : Bool) (x y : List ContentRun) → b ≡ false → cond (a && b) x y ≡ y
@@ -48,7 +48,7 @@ last_one content_of first zero content here next = rw here refl
 last_one content_of first (suc rest) content here next =
     rw here (apart first (first + 1) content (content_of (first + 1)) (runs_of (held content_of (first + 1 + 1) rest)) (next (omega arith)))
 
-run_ahead : (content_of : ℕ → Content) (first n rest m : ℕ) (content : Content) → m ≡ n + rest
+pub run_ahead : (content_of : ℕ → Content) (first n rest m : ℕ) (content : Content) → m ≡ n + rest
     → ((lbn : ℕ) → first ≤ lbn → lbn < first + suc n → content_of lbn ≡ content)
     → (0 < rest → same_content content (content_of (first + suc n)) ≡ false)
     → runs_of (held content_of first (suc m)) ≡ run_of first (suc n) content ∷ runs_of (held content_of (first + suc n) rest)

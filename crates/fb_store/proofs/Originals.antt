@@ -25,13 +25,13 @@ any_key (bad ∷ keys) lbn = ap₂ (λ a b. a || b) (same_key lbn bad) (any_key 
 pub unwritten-is : (keys : List ℕ) (lbn : ℕ) (b : Bool) → list_any (is_at (nat_cmp lbn)) keys ≡ b → unwritten keys lbn ≡ cond b Unreadable (Filled 0)
 unwritten-is keys lbn b e = ap (λ any. cond any Unreadable (Filled 0)) (sym (any_key keys lbn) ∙ e)
 
-inside : (first n lbn : ℕ) → first ≤ lbn → lbn < first + n → is_within first n lbn ≡ true
+pub inside : (first n lbn : ℕ) → first ≤ lbn → lbn < first + n → is_within first n lbn ≡ true
 inside first n lbn from to = grind (arith, nat_tests)
 
-before : (first n lbn : ℕ) → lbn < first → is_within first n lbn ≡ false
+pub before : (first n lbn : ℕ) → lbn < first → is_within first n lbn ≡ false
 before first n lbn less = grind (arith, nat_tests)
 
-after : (first n lbn : ℕ) → first + n ≤ lbn → is_within first n lbn ≡ false
+pub after : (first n lbn : ℕ) → first + n ≤ lbn → is_within first n lbn ≡ false
 after first n lbn more = grind (arith, nat_tests)
 
 -- the contents after a write
@@ -56,7 +56,7 @@ IsRun-original keys first end bad some within none = record {
   same = λ lbn a b. unwritten-is keys lbn false (none lbn a (omega arith));
 }
 
-goes_on : (ranges : List (ℕ × Option Content)) (first stop lbn : ℕ) → ((begin : ℕ) → IsSome (begins_at ranges begin) → first < begin → stop ≤ begin) → first ≤ lbn → lbn < stop
+pub goes_on : (ranges : List (ℕ × Option Content)) (first stop lbn : ℕ) → ((begin : ℕ) → IsSome (begins_at ranges begin) → first < begin → stop ≤ begin) → first ≤ lbn → lbn < stop
     → held_of (begins_at ranges) lbn ≡ held_of (begins_at ranges) first
 goes_on ranges first stop lbn next from to = steady (begins_at ranges) first lbn from
     (λ begin a b. none_there (begins_at ranges begin) (λ some. let past : stop ≤ begin = next begin some a in absurd (omega arith)))

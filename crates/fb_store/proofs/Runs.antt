@@ -14,7 +14,7 @@ pub left : (a b : Bool) → (a && b) ≡ true → a ≡ true
 left true b p = refl
 left false b p = p
 
-right : (a b : Bool) → (a && b) ≡ true → b ≡ true
+pub right : (a b : Bool) → (a && b) ≡ true → b ≡ true
 right true b p = p
 right false b p = absurd (true≢false (sym p))
 

@@ -1,11 +1,12 @@
 -- How the contents of sectors are kept: where ranges begin, each with its content if it has one; a range goes on to the next one.
 -- Contracts speak of what a sector holds alone.
-use Rattle.std.specs.Prelude.{ℕ, zero, suc, List, Option, None}
-use Rattle.std.specs.Option.{unwrap_or}
+use Rattle.std.specs.Prelude.{◌≡◌, ℕ, zero, suc, ◌+◌, List, Option, None, Some, slice_get}
+use Rattle.std.specs.Option.{unwrap_or, IsSome}
 use Rattle.std.specs.Ordering.{nat_cmp}
 use Rattle.std.specs.BTreeMap.{is_at}
 use Rattle.std.specs.Map.{lookup}
 use Rattle.fb_store.specs.declared.content.Content.{Content}
+use Rattle.fb_store.specs.declared.content.ContentRun.{ContentRun}
 use Rattle.fb_store.specs.Writes.{unwritten}
 
 -- what a sector holds: the range that begins at it says so, or else it is as the sector before it
@@ -29,3 +30,7 @@ pub record Holding : Type 0 where
 -- what a sector of a disk holds: what was written to it, or what was there before any write
 abbrev pub content_in : Holding → ℕ → Content
 content_in holding lbn = unwrap_or (held_at holding.ranges lbn) (unwritten holding.latent lbn)
+
+-- a range begins at each run and after it
+abbrev pub AreCut : (ℕ → Option (Option Content)) → List ContentRun → Type 0
+AreCut begins runs = (i : ℕ) (run : ContentRun) → slice_get runs i ≡ Some run → IsSome (begins run.first) × IsSome (begins (run.first + run.count))

@@ -34,6 +34,12 @@ sectors_of runs = flat_map sectors_in runs
 abbrev pub joins : ContentRun → ContentRun → Bool
 joins a b = (b.first == a.first + a.count) && same_content a.content b.content
 
+-- the last of the runs could go on in a run
+abbrev pub last_joins : List ContentRun → ContentRun → Bool
+last_joins [] run = false
+last_joins (last ∷ []) run = joins last run
+last_joins (first ∷ next ∷ runs) run = last_joins (next ∷ runs) run
+
 -- no two neighbours could be one
 abbrev pub AreFewest : List ContentRun → Type 0
 AreFewest [] = Unit {0}

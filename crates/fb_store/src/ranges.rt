@@ -34,6 +34,7 @@ pub fn next_begin(ranges: &BTreeMap<u64, Option<Content>>, lbn: u64, end: u64) -
 /// Makes a range begin at a sector, with the content that the sector has.
 pub fn cut(ranges: &mut BTreeMap<u64, Option<Content>>, at: u64) -> Result<(), NoMemory>
     ensures begins { OnOk result (get nat_cmp ranges.new at ≡ Some (held_of (get nat_cmp ranges.old) at)) }
+    ensures keeps { (begin : ℕ) → ContainsKey nat_cmp ranges.old begin → ContainsKey nat_cmp ranges.new begin }
     ensures same { (lbn : ℕ) → held_of (get nat_cmp ranges.new) lbn ≡ held_of (get nat_cmp ranges.old) lbn }
 {
     let held = held_at(ranges, at);
@@ -72,4 +73,31 @@ pub fn write(
     ranges.insert(first, held)?;
     clear_between(ranges, first, end);
     Ok(())
+}
+
+/// Gives all sectors from the first on, before the end, a content, where ranges begin at both.
+pub fn assign(ranges: &mut BTreeMap<u64, Option<Content>>, first: u64, end: u64, content: Content)
+    requires begins { ContainsKey nat_cmp ranges.old first }
+    requires ends { ContainsKey nat_cmp ranges.old end }
+    ensures inside { (lbn : ℕ) → first ≤ lbn → lbn < end → held_of (get nat_cmp ranges.new) lbn ≡ Some content }
+    ensures before { (lbn : ℕ) → lbn < first → held_of (get nat_cmp ranges.new) lbn ≡ held_of (get nat_cmp ranges.old) lbn }
+    ensures after { (lbn : ℕ) → end ≤ lbn → held_of (get nat_cmp ranges.new) lbn ≡ held_of (get nat_cmp ranges.old) lbn }
+    ensures keeps { (begin : ℕ) → ContainsKey nat_cmp ranges.old begin → ContainsKey nat_cmp ranges.new begin }
+{
+    let mut begin = first;
+    while begin < end {
+        change(ranges, begin, content);
+        begin = next_begin(ranges, begin, end);
+    }
+}
+
+// Changes the content of the range that begins at a sector, if one does.
+fn change(ranges: &mut BTreeMap<u64, Option<Content>>, at: u64, content: Content)
+    ensures here { ContainsKey nat_cmp ranges.old at → get nat_cmp ranges.new at ≡ Some (Some content) }
+    ensures none { get nat_cmp ranges.old at ≡ None → get nat_cmp ranges.new at ≡ None }
+    ensures others { (begin : ℕ) → begin ≢ at → get nat_cmp ranges.new begin ≡ get nat_cmp ranges.old begin }
+{
+    if let Some(held) = ranges.get_mut(&at) {
+        *held = Some(content);
+    }
 }

@@ -8,6 +8,7 @@ ghost use Rattle.fb_store.specs.Writes.{unwritten, after_write};
 ghost use Rattle.fb_store.specs.Index.{content_in};
 ghost use Rattle.fb_store.specs.Runs.{runs_of, same_content, ArePacked, IsRun, IsLongestRun};
 
+use crate::content::is_same;
 use crate::ranges::{held_at, next_begin, write};
 use crate::{Content, ContentRun, Contents};
 use fb_units::NoMemory;
@@ -172,15 +173,5 @@ fn original_piece(latent: &BTreeSet<u64>, first: u64, end: u64) -> ContentRun
             count: bad - first,
             content: Content::Filled(0),
         }
-    }
-}
-
-fn is_same(a: Content, b: Content) -> bool
-    ensures { result ≡ same_content a b }
-{
-    match (a, b) {
-        (Content::Filled(one), Content::Filled(other)) => one == other,
-        (Content::Unreadable, Content::Unreadable) => true,
-        _ => false,
     }
 }

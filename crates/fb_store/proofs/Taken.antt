@@ -1,0 +1,158 @@
+-- What taken contents and a dropped range leave, and the contents of ranges.
+use Rattle.std.proofs.Common.{◌≡◌, ℕ, ◌+◌, ◌-◌, ◌<◌, ◌≤◌, List, [], ◌∷◌, ◌++◌, Option, Some, None, refl, true, false, map, Bool, cond, arith, sym, ap, ap₂, ◌∙◌, ◌==◌, suc, zero, inl, inr, take, append_assoc, append-nil, slice_get, subst}
+use Rattle.std.specs.Option.{IsSome}
+use Rattle.std.specs.List.{range_with_len, AllByRecursion}
+use Rattle.std.proofs.lemmas.Bool.{cases_lt}
+use Rattle.std.proofs.lemmas.Bool.Decides.{nat_tests}
+use Rattle.fb_store.specs.declared.content.Content.{Content}
+use Rattle.fb_store.specs.declared.content.ContentRun.{ContentRun}
+use Rattle.fb_store.specs.Runs.{runs_of, sectors_of, sectors_in}
+use Rattle.fb_store.specs.Index.{held_at, begins_at}
+use Rattle.fb_store.specs.Pieces.{after_taking, after_dropping, held_sector, held_in}
+use Rattle.fb_store.proofs.Held.{none_held}
+use Rattle.fb_store.proofs.Originals.{inside, before, after, goes_on}
+use Rattle.fb_store.proofs.Joined.{fewest-again}
+
+pub after_taking-append : (sectors more : List (ℕ × Content)) (lbn : ℕ) (held : Option Content) → after_taking (sectors ++ more) lbn held ≡ after_taking more lbn (after_taking sectors lbn held)
+after_taking-append [] more lbn held = refl
+after_taking-append (sector ∷ sectors) more lbn held = after_taking-append sectors more lbn (cond (sector.0 == lbn) (Some sector.1) held)
+
+not_here : (first lbn : ℕ) → first < lbn → (first == lbn) ≡ false
+not_here first lbn less = grind (arith, nat_tests)
+
+not_yet : (first lbn : ℕ) → lbn < first → (first == lbn) ≡ false
+not_yet first lbn less = grind (arith, nat_tests)
+
+here : (first lbn : ℕ) → first ≡ lbn → (first == lbn) ≡ true
+here first lbn same = grind (arith, nat_tests)
+
+-- sectors with one content, taken
+on : (first n : ℕ) (content : Content) (lbn : ℕ) (held : Option Content) (b : Bool) → (first == lbn) ≡ b
+    → after_taking (map (λ l. (l, content)) (range_with_len first (suc n))) lbn held ≡ after_taking (map (λ l. (l, content)) (range_with_len (first + 1) n)) lbn (cond b (Some content) held)
+on first n content lbn held b e = ap (λ x. after_taking (map (λ l. (l, content)) (range_with_len (first + 1) n)) lbn (cond x (Some content) held)) e
+
+taken_before : (first n : ℕ) (content : Content) (lbn : ℕ) (held : Option Content) → lbn < first → after_taking (map (λ l. (l, content)) (range_with_len first n)) lbn held ≡ held
+taken_before first zero content lbn held less = refl
+taken_before first (suc n) content lbn held less = on first n content lbn held false (not_yet first lbn less) ∙ taken_before (first + 1) n content lbn held (omega arith)
+
+taken_after : (first n : ℕ) (content : Content) (lbn : ℕ) (held : Option Content) → first + n ≤ lbn → after_taking (map (λ l. (l, content)) (range_with_len first n)) lbn held ≡ held
+taken_after first zero content lbn held more = refl
+taken_after first (suc n) content lbn held more = on first n content lbn held false (not_here first lbn (omega arith)) ∙ taken_after (first + 1) n content lbn held (omega arith)
+
+taken_inside : (first n : ℕ) (content : Content) (lbn : ℕ) (held : Option Content) → first ≤ lbn → lbn < first + n → after_taking (map (λ l. (l, content)) (range_with_len first n)) lbn held ≡ Some content
+taken_inside first zero content lbn held from to = absurd (omega arith)
+taken_inside first (suc n) content lbn held from to = elim (cases_lt first lbn) [
+  | inl less ↦ on first n content lbn held false (not_here first lbn less) ∙ taken_inside (first + 1) n content lbn held (omega arith) (omega arith)
+  | inr more ↦ on first n content lbn held true (here first lbn (omega arith)) ∙ taken_before (first + 1) n content lbn (Some content) (omega arith)
+]
+
+-- one more run, taken
+pub taken_more : (runs : List ContentRun) (i : ℕ) (run : ContentRun) (lbn : ℕ) (original was is : Option Content) → take (i + 1) runs ≡ take i runs ++ run ∷ []
+    → was ≡ after_taking (sectors_of (take i runs)) lbn original
+    → (run.first ≤ lbn → lbn < run.first + run.count → is ≡ Some run.content) → (lbn < run.first → is ≡ was) → (run.first + run.count ≤ lbn → is ≡ was)
+    → is ≡ after_taking (sectors_of (take (i + 1) runs)) lbn original
+taken_more runs i run lbn original was is split so_far within less more =
+    let whole = ap (λ rs. after_taking (sectors_of rs) lbn original) split
+    ∙ (ap (λ ss. after_taking ss lbn original) (sectors_more (take i runs) run) ∙ (after_taking-append (sectors_of (take i runs)) (sectors_in run) lbn original ∙ ap (λ h. after_taking (sectors_in run) lbn h) (sym so_far))) in
+    elim (cases_lt lbn run.first) [
+      | inl a ↦ less a ∙ sym (whole ∙ taken_before run.first run.count run.content lbn was a)
+      | inr a ↦ elim (cases_lt lbn (run.first + run.count)) [
+        | inl b ↦ within a b ∙ sym (whole ∙ taken_inside run.first run.count run.content lbn was a b)
+        | inr b ↦ more b ∙ sym (whole ∙ taken_after run.first run.count run.content lbn was b)
+      ]
+    ] where
+      sectors_more : (runs : List ContentRun) (run : ContentRun) → sectors_of (runs ++ run ∷ []) ≡ sectors_of runs ++ sectors_in run
+      sectors_more [] run = append-nil (sectors_in run)
+      sectors_more (first ∷ runs) run = ap (λ rest. sectors_in first ++ rest) (sectors_more runs run) ∙ sym (append_assoc (sectors_in first) (sectors_of runs) (sectors_in run))
+
+-- what a drop leaves
+pub dropped : (first n lbn : ℕ) (was is : Option Content) → (first ≤ lbn → lbn < first + n → is ≡ None) → (lbn < first → is ≡ was) → (first + n ≤ lbn → is ≡ was)
+    → is ≡ after_dropping first n lbn was
+dropped first n lbn was is within less more = elim (cases_lt lbn first) [
+  | inl a ↦ less a ∙ ap (λ b. cond b None was) (sym (before first n lbn a))
+  | inr a ↦ elim (cases_lt lbn (first + n)) [
+    | inl b ↦ within a b ∙ ap (λ c. cond c None was) (sym (inside first n lbn a b))
+    | inr b ↦ more b ∙ ap (λ c. cond c None was) (sym (after first n lbn b))
+  ]
+]
+
+pub nothing_dropped : (first n lbn : ℕ) (was : Option Content) → n ≡ 0 → was ≡ after_dropping first n lbn was
+nothing_dropped first n lbn was none = dropped first n lbn was was (λ a b. absurd (omega arith)) (λ a. refl) (λ a. refl)
+
+-- nothing is held where no range begins
+pub held_at-empty : (ranges : List (ℕ × Option Content)) (lbn : ℕ) → ranges ≡ [] → held_at ranges lbn ≡ None
+held_at-empty ranges lbn none = ap (λ rs. held_at rs lbn) none ∙ none_held (begins_at []) lbn (λ begin le. refl)
+
+-- the contents of two neighbouring ranges
+pub held_in-split : (content_of : ℕ → Option Content) (first m n : ℕ) → held_in content_of (range_with_len first (m + n)) ≡ held_in content_of (range_with_len first m) ++ held_in content_of (range_with_len (first + m) n)
+held_in-split content_of first zero n =
+    let at : first + 0 ≡ first = omega arith in
+    let all : 0 + n ≡ n = omega arith in
+    rw (at, all) refl
+held_in-split content_of first (suc m) n =
+    let at : first + 1 + m ≡ first + suc m = omega arith in
+    let all : suc m + n ≡ suc (m + n) = omega arith in
+    rw all (ap (λ rest. held_sector first (content_of first) ++ rest) (held_in-split content_of (first + 1) m n)
+    ∙ (sym (append_assoc (held_sector first (content_of first)) (held_in content_of (range_with_len (first + 1) m)) (held_in content_of (range_with_len (first + 1 + m) n)))
+    ∙ ap (λ lbn. held_in content_of (range_with_len first (suc m)) ++ held_in content_of (range_with_len lbn n)) at))
+
+held_some : (content_of : ℕ → Option Content) (content : Content) (first n : ℕ) → ((lbn : ℕ) → first ≤ lbn → lbn < first + n → content_of lbn ≡ Some content)
+    → held_in content_of (range_with_len first n) ≡ map (λ lbn. (lbn, content)) (range_with_len first n)
+held_some content_of content first zero all = refl
+held_some content_of content first (suc n) all =
+    ap₂ (λ o rest. held_sector first o ++ rest) (all first (omega arith) (omega arith)) (held_some content_of content (first + 1) n (λ lbn a b. all lbn (omega arith) (omega arith)))
+
+held_none : (content_of : ℕ → Option Content) (first n : ℕ) → ((lbn : ℕ) → first ≤ lbn → lbn < first + n → content_of lbn ≡ None) → held_in content_of (range_with_len first n) ≡ []
+held_none content_of first zero all = refl
+held_none content_of first (suc n) all =
+    ap₂ (λ o rest. held_sector first o ++ rest) (all first (omega arith) (omega arith)) (held_none content_of (first + 1) n (λ lbn a b. all lbn (omega arith) (omega arith)))
+
+-- the contents up to where the next range begins
+pub held_piece : (ranges : List (ℕ × Option Content)) (lbn next : ℕ) (content : Content) → lbn < next → ((begin : ℕ) → IsSome (begins_at ranges begin) → lbn < begin → next ≤ begin)
+    → Some content ≡ held_at ranges lbn → held_in (held_at ranges) (range_with_len lbn (next - lbn)) ≡ sectors_in (record { first = lbn; count = next - lbn; content = content })
+held_piece ranges lbn next content some least held =
+    held_some (held_at ranges) content lbn (next - lbn) (λ l a b. goes_on ranges lbn next l least a (omega arith) ∙ sym held)
+
+pub held_gap : (ranges : List (ℕ × Option Content)) (lbn next : ℕ) → lbn < next → ((begin : ℕ) → IsSome (begins_at ranges begin) → lbn < begin → next ≤ begin)
+    → None ≡ held_at ranges lbn → held_in (held_at ranges) (range_with_len lbn (next - lbn)) ≡ []
+held_gap ranges lbn next some least held =
+    held_none (held_at ranges) lbn (next - lbn) (λ l a b. goes_on ranges lbn next l least a (omega arith) ∙ sym held)
+
+pub none_added : (runs : List ContentRun) (sectors : List (ℕ × Content)) → sectors ≡ [] → runs ≡ runs_of (sectors_of runs) → runs ≡ runs_of (sectors_of runs ++ sectors)
+none_added runs sectors none fewest = fewest ∙ ap runs_of (sym (append-nil (sectors_of runs)) ∙ ap (λ ss. sectors_of runs ++ ss) (sym none))
+
+-- the runs of a range so far, and one piece more
+pub added_more : (content_of : ℕ → Option Content) (start : List (ℕ × Content)) (runs more : List ContentRun) (first lbn next : ℕ) → first ≤ lbn → lbn ≤ next
+    → runs ≡ runs_of (start ++ held_in content_of (range_with_len first (lbn - first)))
+    → more ≡ runs_of (sectors_of runs ++ held_in content_of (range_with_len lbn (next - lbn)))
+    → more ≡ runs_of (start ++ held_in content_of (range_with_len first (next - first)))
+added_more content_of start runs more first lbn next from to so_far added =
+    let before = held_in content_of (range_with_len first (lbn - first)) in
+    let piece = held_in content_of (range_with_len lbn (next - lbn)) in
+    let own = (fewest-again (start ++ before) runs so_far).0 in
+    let at : first + (lbn - first) ≡ lbn = omega arith in
+    let size : next - first ≡ lbn - first + (next - lbn) = omega arith in
+    let whole = ap (λ n. held_in content_of (range_with_len first n)) size ∙ (held_in-split content_of first (lbn - first) (next - lbn) ∙ ap (λ l. before ++ held_in content_of (range_with_len l (next - lbn))) at) in
+    added ∙ ap runs_of (ap (λ ss. ss ++ piece) own ∙ (append_assoc start before piece ∙ ap (λ ss. start ++ ss) (sym whole)))
+
+some_one : {X : Type 0} (x y : X) → Some x ≡ Some y → x ≡ y
+some_one x y e = grind arith
+
+pub all_at : (P : ContentRun → Type 0) (runs : List ContentRun) (i : ℕ) (run : ContentRun) → AllByRecursion P runs → slice_get runs i ≡ Some run → P run
+all_at P [] i run all at = absurd (grind arith)
+all_at P (first ∷ runs) zero run all at = subst P (some_one first run at) all.0
+all_at P (first ∷ runs) (suc i) run all at = all_at P runs i run all.1 at
+
+-- a list up to one place more
+pub take_one : (runs : List ContentRun) (i : ℕ) (run : ContentRun) → slice_get runs i ≡ Some run → take (i + 1) runs ≡ take i runs ++ run ∷ []
+take_one [] i run at = absurd (grind arith)
+take_one (first ∷ runs) zero run at = ap (λ x. x ∷ []) (some_one first run at)
+take_one (first ∷ runs) (suc i) run at = let more : suc i + 1 ≡ suc (i + 1) = omega arith in rw more (ap (λ rest. first ∷ rest) (take_one runs i run at))
+
+-- what is so of all before a place and of the one there
+pub so_far_more : (P : ContentRun → Type 0) (runs : List ContentRun) (i : ℕ) (run : ContentRun) → slice_get runs i ≡ Some run → ((j : ℕ) (r : ContentRun) → j < i → slice_get runs j ≡ Some r → P r) → P run
+    → (j : ℕ) (r : ContentRun) → j < i + 1 → slice_get runs j ≡ Some r → P r
+so_far_more P runs i run at before here j r less there = elim (cases_lt j i) [
+  | inl l ↦ before j r l there
+  | inr m ↦ let same : j ≡ i = omega arith in subst P (some_one run r (sym at ∙ (ap (slice_get runs) (sym same) ∙ there))) here
+]

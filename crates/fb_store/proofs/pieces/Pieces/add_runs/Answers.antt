@@ -1,0 +1,24 @@
+use Rattle.std.proofs.Common.{◌-◌, ◌++◌, arith}
+use Rattle.std.specs.List.{range_with_len}
+use Rattle.fb_store.specs.Index.{held_at}
+use Rattle.fb_store.specs.Pieces.{held_in}
+use Rattle.fb_store.specs.Runs.{sectors_of}
+use Rattle.fb_store.proofs.Joined.{fewest-again}
+use Rattle.fb_store.proofs.Taken.{added_more}
+use Rattle.fb_store.proofs.pieces.Pieces.add_runs.Goals as goal
+
+pub add_piece-requires-clause-fewest : goal.add_piece-requires-clause-fewest
+add_piece-requires-clause-fewest c =
+    (fewest-again (sectors_of c.args.runs.now ++ held_in (held_at c.args.self.now) (range_with_len c.args.first (c.loop-lbn.lbn - c.args.first))) c.loop-lbn.runs c.loop-lbn.invariant.so_far).1
+
+pub loop-lbn-preserved : goal.loop-lbn-preserved
+loop-lbn-preserved c =
+    let from = c.loop-lbn.invariant.from in
+    let next = c.in_ok-lbn.ensures.next in
+    record {
+      bounds = next.1;
+      from = omega (arith, next.0);
+      stop = c.loop-lbn.invariant.stop;
+      so_far = added_more (held_at c.args.self.now) (sectors_of c.args.runs.now) c.loop-lbn.runs c.add_piece.new.runs c.args.first c.loop-lbn.lbn c.in_ok-lbn.lbn from (omega (arith, next.0))
+          c.loop-lbn.invariant.so_far c.in_ok-lbn.ensures.more;
+    }

@@ -1,0 +1,5 @@
+use Rattle.fb_store.proofs.Taken.{held_at-empty}
+use Rattle.fb_store.proofs.pieces.Pieces.new.Goals as goal
+
+pub returns : goal.returns
+returns c lbn = held_at-empty c.new.result.entries lbn c.new.ensures.empty

@@ -1,0 +1,16 @@
+use Rattle.std.proofs.Common.{ap, ◌∙◌, Result, Ok, Err, OnErr}
+use Rattle.fb_store.specs.Pieces.{after_taking}
+use Rattle.fb_store.specs.Index.{held_at}
+use Rattle.fb_store.specs.Runs.{sectors_of}
+use Rattle.fb_store.proofs.pieces.Pieces.take.Goals as goal
+
+on_err : {T E P : Type 0} (r : Result T E) → P → OnErr r P
+on_err (Ok x) p = tt
+on_err (Err e) p = p
+
+pub returns-clause-ok : goal.returns-clause-ok
+returns-clause-ok c lbn = c.assign_runs.ensures lbn
+    ∙ ap (after_taking (sectors_of c.args.contents.now) lbn) (c.in_ok-cut_runs.ensures.same lbn ∙ ap (λ ranges. held_at ranges lbn) c.self.view_is)
+
+pub returns-in_err-cut_runs-clause-err : goal.returns-in_err-cut_runs-clause-err
+returns-in_err-cut_runs-clause-err c = on_err c.from_residual.result (λ lbn. c.in_err-cut_runs.ensures.same lbn ∙ ap (λ ranges. held_at ranges lbn) c.self.view_is)

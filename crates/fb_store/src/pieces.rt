@@ -1,0 +1,130 @@
+// The contents of some sectors.
+ghost use Rattle.std.specs.Prelude.{◌≡◌, ℕ, ◌+◌, ◌-◌, ◌<◌, ◌≤◌, ◌^◌, ◌++◌, None, IfOk, OnOk, OnErr};
+ghost use Rattle.std.specs.Ordering.{nat_cmp};
+ghost use Rattle.std.specs.BTreeMap.{get};
+ghost use Rattle.std.specs.List.{AllByRecursion, range_with_len};
+ghost use Rattle.fb_store.specs.Index.{held_of, held_at, AreCut};
+ghost use Rattle.fb_store.specs.Pieces.{after_taking, after_dropping, held_in};
+ghost use Rattle.fb_store.specs.Runs.{runs_of, sectors_of};
+
+use crate::ranges::{assign, cut, held_at, next_begin, write};
+use crate::{Content, ContentRun, Contents};
+use fb_units::NoMemory;
+use std::alloc::Global;
+use std::collections::BTreeMap;
+use std::marker::Model;
+
+/// What some sectors hold: each sector has a content or none.
+#[derive(Drop)]
+pub struct Pieces {
+    ranges: BTreeMap<u64, Option<Content>>,
+}
+
+impl Model for Pieces {
+    ghost use Rattle.std.specs.Prelude.{ℕ, List, Option};
+    ghost use Rattle.fb_store.specs.declared.content.Content.{Content};
+
+    ghost Value = { List (ℕ × Option Content) };
+
+    ghost view = { λ p. p.ranges.entries };
+}
+
+impl Pieces {
+    /// No sector holds anything.
+    pub fn new(alloc: Global) -> Self
+        ensures { (lbn : ℕ) → held_at result lbn ≡ None }
+    {
+        Pieces {
+            ranges: BTreeMap::new(alloc),
+        }
+    }
+
+    /// Each sector of the runs holds from now on what the last of them gives it, and all others stay.
+    /// Where memory is wanting all stays.
+    pub fn take(&mut self, contents: &Contents) -> Result<(), NoMemory>
+        requires { AllByRecursion (λ run. run.first + run.count ≤ 10 ^ 12) contents.now }
+        ensures ok { OnOk result ((lbn : ℕ) → held_at self.new lbn ≡ after_taking (sectors_of contents.now) lbn (held_at self.old lbn)) }
+        ensures err { OnErr result ((lbn : ℕ) → held_at self.new lbn ≡ held_at self.old lbn) }
+    {
+        cut_runs(&mut self.ranges, contents)?;
+        assign_runs(&mut self.ranges, contents);
+        Ok(())
+    }
+
+    /// No sector of the range holds anything from now on, and all others stay. Where memory is wanting all stays.
+    pub fn drop_range(&mut self, first: u64, count: u64) -> Result<(), NoMemory>
+        requires { first + count ≤ 10 ^ 12 }
+        ensures ok { OnOk result ((lbn : ℕ) → held_at self.new lbn ≡ after_dropping first count lbn (held_at self.old lbn)) }
+        ensures err { OnErr result ((lbn : ℕ) → held_at self.new lbn ≡ held_at self.old lbn) }
+    {
+        if count == 0 {
+            return Ok(());
+        }
+        write(&mut self.ranges, first, first + count, None)?;
+        Ok(())
+    }
+
+    /// Adds the contents of a range's sectors after runs, which stay the fewest.
+    pub fn add_runs(&self, runs: &mut Contents, first: u64, count: u64) -> Result<(), NoMemory>
+        requires range { first + count ≤ 10 ^ 12 }
+        requires fewest { runs.old ≡ runs_of (sectors_of runs.old) }
+        ensures { OnOk result (runs.new ≡ runs_of (sectors_of runs.old ++ held_in (held_at self.now) (range_with_len first count))) }
+    {
+        let end = first + count;
+        let mut lbn = first;
+        while lbn < end {
+            lbn = self.add_piece(runs, lbn, end)?;
+        }
+        Ok(())
+    }
+
+    // Adds the contents of sectors up to where the next range begins, and tells where that is.
+    fn add_piece(&self, runs: &mut Contents, lbn: u64, end: u64) -> Result<u64, NoMemory>
+        requires range { (lbn < end) × (end ≤ 10 ^ 12) }
+        requires fewest { runs.old ≡ runs_of (sectors_of runs.old) }
+        ensures next { IfOk result (λ next. (lbn < next) × (next ≤ end)) }
+        ensures more { IfOk result (λ next. runs.new ≡ runs_of (sectors_of runs.old ++ held_in (held_at self.now) (range_with_len lbn (next - lbn)))) }
+    {
+        let next = next_begin(&self.ranges, lbn, end);
+        match held_at(&self.ranges, lbn) {
+            Some(content) => {
+                runs.join(ContentRun {
+                    first: lbn,
+                    count: next - lbn,
+                    content,
+                })?;
+                Ok(next)
+            }
+            None => Ok(next),
+        }
+    }
+}
+
+// Makes ranges begin at each run and after it; what sectors hold stays.
+fn cut_runs(
+    ranges: &mut BTreeMap<u64, Option<Content>>,
+    contents: &Contents,
+) -> Result<(), NoMemory>
+    requires { AllByRecursion (λ run. run.first + run.count ≤ 10 ^ 12) contents.now }
+    ensures same { (lbn : ℕ) → held_of (get nat_cmp ranges.new) lbn ≡ held_of (get nat_cmp ranges.old) lbn }
+    ensures begins { OnOk result (AreCut (get nat_cmp ranges.new) contents.now) }
+{
+    for i in 0..contents.len() {
+        let run = *contents.get(i);
+        cut(ranges, run.first)?;
+        cut(ranges, run.first + run.count)?;
+    }
+    Ok(())
+}
+
+// Gives the sectors of each run its content.
+fn assign_runs(ranges: &mut BTreeMap<u64, Option<Content>>, contents: &Contents)
+    requires runs { AllByRecursion (λ run. run.first + run.count ≤ 10 ^ 12) contents.now }
+    requires begins { AreCut (get nat_cmp ranges.old) contents.now }
+    ensures { (lbn : ℕ) → held_of (get nat_cmp ranges.new) lbn ≡ after_taking (sectors_of contents.now) lbn (held_of (get nat_cmp ranges.old) lbn) }
+{
+    for i in 0..contents.len() {
+        let run = *contents.get(i);
+        assign(ranges, run.first, run.first + run.count, run.content);
+    }
+}
