@@ -1,0 +1,33 @@
+-- The blocks that hexadecimal digits stand for.
+use Rattle.std.proofs.Common.{◌≡◌, ℕ, zero, suc, ◌*◌, ◌/◌, ◌%◌, ◌<◌, ◌≤◌, true, false, List, [], ◌∷◌, length, get_or, refl, arith}
+use Rattle.std.specs.Char.{is_digit}
+use Rattle.std.specs.List.{list_all}
+use Rattle.std.proofs.lemmas.Bool.Decides.{nat_tests}
+use Rattle.fb_calls.specs.Live.{bits_of, bits, is_live}
+
+pub length-bits : (digits : List ℕ) → length (bits digits) ≡ 4 * length digits
+unfolding bits
+length-bits [] = refl
+length-bits (digit ∷ digits) = let rest = length-bits digits in omega arith
+
+-- the block at a place is a bit of the digit of its four
+pub bit_at : (digits : List ℕ) (block : ℕ) → block < 4 * length digits → get_or (bits digits) block false ≡ get_or (bits_of (get_or digits (block / 4) 0)) (block % 4) false
+unfolding bits
+bit_at [] block h = absurd (omega arith)
+bit_at (digit ∷ digits) zero h = refl
+bit_at (digit ∷ digits) (suc zero) h = refl
+bit_at (digit ∷ digits) (suc (suc zero)) h = refl
+bit_at (digit ∷ digits) (suc (suc (suc zero))) h = refl
+bit_at (digit ∷ digits) (suc (suc (suc (suc block)))) h =
+    let whole : suc (suc (suc (suc block))) / 4 ≡ suc (block / 4) = omega arith in
+    let rest : suc (suc (suc (suc block))) % 4 ≡ block % 4 = omega arith in
+    rw (whole, rest) (bit_at digits block (omega arith))
+
+-- what digits of so many blocks are
+pub live_digits : (blocks : ℕ) (digits : List ℕ) → is_live blocks digits ≡ true → list_all (λ digit. is_digit digit 16) digits ≡ true
+unfolding is_live
+live_digits blocks digits h = grind (arith, nat_tests)
+
+pub live_length : (blocks : ℕ) (digits : List ℕ) → is_live blocks digits ≡ true → blocks ≤ 4 * length digits
+unfolding is_live
+live_length blocks digits h = grind (arith, nat_tests)

@@ -1,0 +1,4 @@
+pub mod Bits
+pub mod LiveBlocks
+pub mod Positions
+pub mod LinesRead

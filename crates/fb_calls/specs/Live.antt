@@ -1,0 +1,21 @@
+-- Which blocks of a segment are live, as hexadecimal digits.
+use Rattle.std.specs.Prelude.{ℕ, ◌+◌, ◌/◌, ◌%◌, List, [], ◌∷◌, length, take, drop, Bool, not, ◌&&◌, ◌==◌, Option, Some, None, if◌then◌else◌}
+use Rattle.std.specs.Char.{digit_value, is_digit}
+use Rattle.std.specs.List.{flat_map, list_all}
+
+-- the four blocks of a digit: the first has the bit of value 8, the last that of value 1
+abbrev pub bits_of : ℕ → List Bool
+bits_of digit =
+    let value = digit_value digit in
+    (value / 8 % 2 == 1) ∷ (value / 4 % 2 == 1) ∷ (value / 2 % 2 == 1) ∷ (value % 2 == 1) ∷ []
+
+unfoldable pub bits : List ℕ → List Bool
+bits digits = flat_map bits_of digits
+
+-- as many digits as so many blocks need, and no bit behind the last block
+unfoldable pub is_live : ℕ → List ℕ → Bool
+is_live blocks digits = (length digits == (blocks + 3) / 4) && list_all (λ digit. is_digit digit 16) digits && list_all not (drop blocks (bits digits))
+
+-- for each block whether it is live
+abbrev pub live_of : ℕ → List ℕ → Option (List Bool)
+live_of blocks digits = if is_live blocks digits then Some (take blocks (bits digits)) else None

@@ -1,0 +1,37 @@
+-- The sessions that a script has opened.
+use Rattle.std.specs.Prelude.{ℕ, List, [], ◌∷◌, ◌++◌, Bool, true, false, Option, position, set}
+use Rattle.std.specs.List.{slice_index_or}
+use Rattle.std.specs.Str.{bytes_eq}
+use Rattle.fb_calls.specs.declared.call.Kind.{Kind}
+use Rattle.fb_calls.specs.declared.call.Kind.TheVariants.{Plain, Backup, Clean}
+use Rattle.fb_calls.specs.declared.call.Action.{Action}
+use Rattle.fb_calls.specs.declared.call.Action.TheVariants.{Open, Want, Close}
+use Rattle.fb_calls.specs.declared.session.Session.{Session}
+
+abbrev pub is_backup : Kind → Bool
+is_backup Backup = true
+is_backup _ = false
+
+abbrev pub is_clean : Kind → Bool
+is_clean Clean = true
+is_clean _ = false
+
+-- the number of the task of this name, which is its place in order of opening
+abbrev pub task_of : List (List ℕ) → List ℕ → Option ℕ
+task_of names name = position (bytes_eq name) names
+
+-- the session of a task
+abbrev pub session_of : List Session → ℕ → Session
+session_of sessions task = slice_index_or sessions task (record { kind = Plain; block = 1; wanted = false; closed = false })
+
+-- an open gives a name
+abbrev pub names_after : List (List ℕ) → List ℕ → Action → List (List ℕ)
+names_after names name (Open kind weight block) = names ++ name ∷ []
+names_after names name _ = names
+
+-- an open begins a session, a want and a close leave their mark on that of the task
+abbrev pub sessions_after : List Session → ℕ → Action → List Session
+sessions_after sessions task (Open kind weight block) = sessions ++ record { kind = kind; block = block; wanted = false; closed = false } ∷ []
+sessions_after sessions task (Want first count) = set sessions task (record (session_of sessions task) { wanted = true })
+sessions_after sessions task Close = set sessions task (record (session_of sessions task) { closed = true })
+sessions_after sessions task _ = sessions

@@ -1,0 +1,58 @@
+// How many blocks a call can give.
+ghost use Rattle.std.specs.Prelude.{◌≡◌, ◌+◌, ◌*◌, ◌<◌, ◌≤◌, ◌^◌, length, take, true, MatchOption};
+ghost use Rattle.fb_geometry.specs.Places.{places};
+ghost use Rattle.fb_sectormap.specs.Cutting.{cutting};
+ghost use Rattle.fb_calls.specs.Blocks.{live_cuts};
+ghost use Rattle.fb_calls.specs.Live.{bits, is_live};
+
+use crate::live_digits::is_live_block;
+use fb_sectormap::SectorMap;
+
+/// How many blocks a range of sectors is cut into. None where there are more than so many.
+#[tactic(auto, unfolding(fb_sectormap::specs::Cutting::cutting))]
+pub fn count_cuts(map: &SectorMap, block: u32, first: u64, count: u64, most: u64) -> Option<u64>
+    requires block { 0 < block }
+    requires on_disk { first + count ≤ length (places map.now) }
+    requires fits { first + count < 2 ^ 64 }
+    ensures { MatchOption result (most < length (cutting map.now block first count)) (λ cuts. (cuts ≡ length (cutting map.now block first count)) × (cuts ≤ most)) }
+{
+    let mut lbn = first;
+    let mut left = count;
+    let mut cuts = 0;
+    while left > 0 {
+        let cut = map.first_cut(lbn, left, block);
+        if cuts == most {
+            return None;
+        }
+        lbn += cut.count as u64;
+        left -= cut.count as u64;
+        cuts += 1;
+    }
+    Some(cuts)
+}
+
+/// How many blocks the live blocks of a segment are cut into. None where there are more than so many.
+pub fn count_live_cuts(
+    map: &SectorMap,
+    block: u32,
+    first: u64,
+    blocks: u64,
+    live: &[u8],
+    most: u64,
+) -> Option<u64>
+    requires block { 0 < block }
+    requires live { is_live blocks live.now ≡ true }
+    requires on_disk { first + blocks * block ≤ length (places map.now) }
+    requires fits { first + blocks * block < 2 ^ 64 }
+    ensures { MatchOption result (most < length (live_cuts map.now block first (take blocks (bits live.now)))) (λ cuts. (cuts ≡ length (live_cuts map.now block first (take blocks (bits live.now)))) × (cuts ≤ most)) }
+{
+    let mut lbn = first;
+    let mut cuts = 0;
+    for i in 0..blocks {
+        if is_live_block(live, i) {
+            cuts += count_cuts(map, block, lbn, block as u64, most - cuts)?;
+        }
+        lbn += block as u64;
+    }
+    Some(cuts)
+}

@@ -1,0 +1,82 @@
+// What verbs, kinds and tasks are called.
+ghost use Rattle.std.specs.Prelude.{◌≡◌};
+ghost use Rattle.std.specs.List.{list_all};
+ghost use Rattle.fb_calls.specs.Words.{verb_of, kind_of, fields_behind, is_name_byte, is_name};
+
+use crate::Kind;
+
+/// What a call does.
+#[derive(Clone, Copy, PartialEq, Eq)]
+pub enum Verb {
+    Open,
+    Want,
+    Abort,
+    Promote,
+    Suspend,
+    Resume,
+    Close,
+    Segment,
+}
+
+/// The verb of this name.
+#[tactic(auto, unfolding(crate::specs::Words::verb_of))]
+pub fn verb_of(name: &[u8]) -> Option<Verb>
+    ensures { result ≡ verb_of name.now }
+{
+    match name {
+        b"open" => Some(Verb::Open),
+        b"want" => Some(Verb::Want),
+        b"abort" => Some(Verb::Abort),
+        b"promote" => Some(Verb::Promote),
+        b"suspend" => Some(Verb::Suspend),
+        b"resume" => Some(Verb::Resume),
+        b"close" => Some(Verb::Close),
+        b"segment" => Some(Verb::Segment),
+        _ => None,
+    }
+}
+
+/// The kind of this name.
+#[tactic(auto, unfolding(crate::specs::Words::kind_of))]
+pub fn kind_of(name: &[u8]) -> Option<Kind>
+    ensures { result ≡ kind_of name.now }
+{
+    match name {
+        b"plain" => Some(Kind::Plain),
+        b"backup" => Some(Kind::Backup),
+        b"scrub" => Some(Kind::Scrub),
+        b"clean" => Some(Kind::Clean),
+        _ => None,
+    }
+}
+
+/// How many fields stand behind the task's name.
+pub fn fields_behind(verb: Verb) -> usize
+    ensures { result ≡ fields_behind verb }
+{
+    match verb {
+        Verb::Open => 3,
+        Verb::Want | Verb::Abort | Verb::Promote => 2,
+        Verb::Suspend | Verb::Resume | Verb::Close => 0,
+        Verb::Segment => 4,
+    }
+}
+
+/// Whether a text is a task's name.
+pub fn is_name(text: &[u8]) -> bool
+    ensures { result ≡ is_name text.now }
+{
+    text.len() >= 1 && text.len() <= 32 && are_name_bytes(text)
+}
+
+fn are_name_bytes(text: &[u8]) -> bool
+    ensures { result ≡ list_all is_name_byte text.now }
+{
+    text.iter().all(|byte| is_name_byte(*byte))
+}
+
+fn is_name_byte(byte: u8) -> bool
+    ensures { result ≡ is_name_byte byte }
+{
+    byte.is_ascii_alphanumeric() || byte == b'_' || byte == b'-'
+}
