@@ -1,4 +1,5 @@
 pub mod Bits
+pub mod Cuttings
+pub mod LinesRead
 pub mod LiveBlocks
 pub mod Positions
-pub mod LinesRead

@@ -16,6 +16,9 @@ pub fn count_cuts(map: &SectorMap, block: u32, first: u64, count: u64, most: u64
     requires fits { first + count < 2 ^ 64 }
     ensures { MatchOption result (most < length (cutting map.now block first count)) (λ cuts. (cuts ≡ length (cutting map.now block first count)) × (cuts ≤ most)) }
 {
+    if count / block as u64 > most {
+        return None;
+    }
     let mut lbn = first;
     let mut left = count;
     let mut cuts = 0;
