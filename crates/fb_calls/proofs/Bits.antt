@@ -31,3 +31,7 @@ live_digits blocks digits h = grind (arith, nat_tests)
 pub live_length : (blocks : ℕ) (digits : List ℕ) → is_live blocks digits ≡ true → blocks ≤ 4 * length digits
 unfolding is_live
 live_length blocks digits h = grind (arith, nat_tests)
+
+pub live_some : (blocks : ℕ) (digits : List ℕ) → is_live blocks digits ≡ true → 1 ≤ blocks
+unfolding is_live
+live_some blocks digits h = grind (arith, nat_tests)

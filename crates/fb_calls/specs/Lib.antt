@@ -8,3 +8,4 @@ pub mod Reading
 pub mod Promoted
 pub mod Verdict
 pub mod Reader
+pub mod Allowed

@@ -1,5 +1,5 @@
 -- Which blocks of a segment are live, as hexadecimal digits.
-use Rattle.std.specs.Prelude.{ℕ, ◌+◌, ◌/◌, ◌%◌, List, [], ◌∷◌, length, take, drop, Bool, not, ◌&&◌, ◌==◌, Option, Some, None, if◌then◌else◌}
+use Rattle.std.specs.Prelude.{ℕ, ◌+◌, ◌/◌, ◌%◌, List, [], ◌∷◌, length, take, drop, Bool, not, ◌&&◌, ◌==◌, nat_le, Option, Some, None, if◌then◌else◌}
 use Rattle.std.specs.Char.{digit_value, is_digit}
 use Rattle.std.specs.List.{flat_map, list_all}
 
@@ -12,9 +12,9 @@ bits_of digit =
 unfoldable pub bits : List ℕ → List Bool
 bits digits = flat_map bits_of digits
 
--- as many digits as so many blocks need, and no bit behind the last block
+-- at least one block, as many digits as so many blocks need, and no bit behind the last block
 unfoldable pub is_live : ℕ → List ℕ → Bool
-is_live blocks digits = (length digits == (blocks + 3) / 4) && list_all (λ digit. is_digit digit 16) digits && list_all not (drop blocks (bits digits))
+is_live blocks digits = nat_le 1 blocks && (length digits == (blocks + 3) / 4) && list_all (λ digit. is_digit digit 16) digits && list_all not (drop blocks (bits digits))
 
 -- for each block whether it is live
 abbrev pub live_of : ℕ → List ℕ → Option (List Bool)

@@ -8,14 +8,17 @@ use crate::Live;
 use fb_units::NoMemory;
 use std::alloc::Global;
 
-/// Whether digits say of so many blocks which are live: four blocks to a digit, and nothing behind
-/// the last block.
+/// Whether digits say of so many blocks, at least one, which are live: four blocks to a digit, and
+/// nothing behind the last block.
 #[tactic(auto, unfolding(crate::specs::Live::is_live))]
 pub fn is_live(blocks: u64, digits: &[u8]) -> bool
     requires { blocks ≤ 10 ^ 15 }
     ensures { result ≡ is_live blocks digits.now }
 {
-    digits.len() as u64 == (blocks + 3) / 4 && are_digits(digits) && is_clear_from(digits, blocks)
+    blocks >= 1
+        && digits.len() as u64 == (blocks + 3) / 4
+        && are_digits(digits)
+        && is_clear_from(digits, blocks)
 }
 
 fn are_digits(text: &[u8]) -> bool

@@ -1,6 +1,7 @@
 // A script, line by line.
 ghost use Rattle.std.specs.Prelude.{◌≡◌, ◌+◌, ◌*◌, ◌≤◌, ◌^◌, [], ◌∷◌, ◌++◌, length, None, IfOk, IfErr, OnOk};
 ghost use Rattle.std.specs.List.{AllByRecursion};
+ghost use Rattle.fb_calls.specs.Allowed.{IsScript};
 ghost use Rattle.fb_calls.specs.Blocks.{reads_in};
 ghost use Rattle.fb_calls.specs.Judgement.{with_blocks};
 ghost use Rattle.fb_calls.specs.Reading.{next_progress, calls_of, at_start, at_end};
@@ -43,7 +44,8 @@ pub fn read_calls(
     map: &SectorMap,
     trace_count: u64,
 ) -> Result<Calls, CallsError>
-    ensures { Answers accepted result (calls_of map.now trace_count bytes.now) }
+    ensures answer { Answers accepted result (calls_of map.now trace_count bytes.now) }
+    ensures script { IfOk result (λ calls. IsScript map.now trace_count calls.names calls.calls.items) }
 {
     let mut reader = Reader::new(alloc, trace_count);
     let mut rest = bytes;
