@@ -12,7 +12,7 @@ use Rattle.fb_service.specs.declared.passage.Extent.{Extent}
 use Rattle.fb_service.specs.Passing.{begin_from, begin_angle, length_of, ArePassing}
 use Rattle.fb_service.specs.Service.{passage_from}
 use Rattle.fb_service.specs.Extents.{passages_of, FollowOn, IsUnbroken}
-use Rattle.fb_service.proofs.Passes.{stays, same_passage}
+use Rattle.fb_service.proofs.Passes.{same_passage}
 use Rattle.fb_service.proofs.Serving.{from_begin}
 
 pub same_tracks : (a b : Track) → same_track a b ≡ true → a ≡ b
@@ -61,9 +61,9 @@ module _ (disk : Shape) (first other begin next end : ℕ) where
       let takes : this.begin < this.end = omega (arith, long i (omega arith) (omega arith)) in
       let ends : this.end ≤ end = in-time (i + 1) n this.end follow.1 in
       let one : passage_from disk (first + (before + i)) begin ≡ this =
-          ap (λ l. passage_from disk l begin) number
-          ∙ same_passage disk (other + i) begin this.begin angle stands (omega (arith, follow.0)) (omega (arith, follow.0))
-          ∙ from_begin disk (other + i) next this.begin angle refl in
+      ap (λ l. passage_from disk l begin) number
+      ∙ same_passage disk (other + i) begin this.begin angle stands (omega (arith, follow.0)) (omega (arith, follow.0))
+      ∙ from_begin disk (other + i) next this.begin angle refl in
       let rest = same-passages before (i + 1) n this.end joins (λ x more less. angles x (omega arith) (omega arith)) (λ x more less. long x (omega arith) (omega arith)) (omega (arith, follow.0)) upto follow.1 in
       ap (λ p. p ∷ map (λ x. passage_from disk (first + x) begin) (range_with_len (before + i + 1) n)) one
       ∙ ap (λ x. this ∷ map (λ y. passage_from disk (first + y) begin) (range_with_len x n)) (let same : before + i + 1 ≡ before + (i + 1) = omega arith in same)
@@ -81,7 +81,7 @@ module _ (disk : Shape) (last next joined : Extent) (unbroken : IsUnbroken disk 
       ∙ map-both (λ i. passage_from disk (last.first + i) last.begin) (range_with_len 0 last.count) (range_with_len (0 + last.count) next.count)
       ∙ ap (λ x. passages_of disk last ++ map (λ i. passage_from disk (last.first + i) last.begin) (range_with_len x next.count)) (let same : 0 + last.count ≡ last.count + 0 = omega arith in same)
       ∙ ap (λ ps. passages_of disk last ++ ps) (same-passages disk last.first next.first last.begin next.begin next.end last.count 0 next.count next.begin behind
-        (λ x more less. timed.angle x (omega arith)) (λ x more less. timed.long x (omega arith)) (omega arith) turn goes_on.without_wait)
+      (λ x more less. timed.angle x (omega arith)) (λ x more less. timed.long x (omega arith)) (omega arith) turn goes_on.without_wait)
 
   pub joined-unbroken : IsUnbroken disk joined
   joined-unbroken = record {

@@ -13,10 +13,10 @@ use Rattle.fb_sectormap.specs.Lookup.{place_at}
 use Rattle.fb_service.specs.declared.disk.Disk.{Disk}
 use Rattle.fb_service.specs.declared.passage.Passage.{Passage}
 use Rattle.fb_service.specs.declared.passage.Extent.{Extent}
-use Rattle.fb_service.specs.Passing.{begin_from, end_from, begin_angle, end_angle, length_of, ArePassing}
+use Rattle.fb_service.specs.Passing.{begin_from, begin_angle, end_angle, length_of, ArePassing}
 use Rattle.fb_service.specs.Service.{passage_from, passages, finish_of, media_of}
 use Rattle.fb_service.specs.Extents.{passages_of, all_passages_of, FollowOn, IsUnbroken}
-use Rattle.fb_service.proofs.Passes.{settled, same_passage}
+use Rattle.fb_service.proofs.Passes.{settled}
 
 -- when the way to a sector has ended
 abbrev pub arrived : Disk → Track → ℕ → Bool → ℕ → ℕ
@@ -77,7 +77,7 @@ module _ (disk : Disk) (write : Bool) (track : Track) (first begin end left : �
       let here_track = on_track i (omega arith) (omega arith) in
       let still : arrived disk track this.end write next ≡ this.end = omega (arith, stays_there disk.mechanism track (place_at disk.map next).track write (sym (on_track (i + 1) (omega arith) (omega arith)))) in
       let again : passage_from disk.map next (arrived disk track this.end write next) ≡ passage_from disk.map next begin =
-          ap (passage_from disk.map next) (still ∙ sym follow.1.0) ∙ from_begin disk.map next begin _ (angles (i + 1) (omega arith) (omega arith)) refl in
+      ap (passage_from disk.map next) (still ∙ sym follow.1.0) ∙ from_begin disk.map next begin _ (angles (i + 1) (omega arith) (omega arith)) refl in
       let rest = in_a_row (i + 1) n track this.end this.end (λ x more less. on_track x (omega arith) (omega arith)) (λ x more less. angles x (omega arith) (omega arith)) again follow.1 in
       passages-next disk source now write (first + i) (suc (suc n) + left) (suc n + left) (omega arith)
       ∙ ap (λ (p : Passage). p ∷ passages disk (place_at disk.map (first + i)).track p.end write (first + i + 1) (suc n + left)) here
@@ -94,11 +94,11 @@ served_extent disk source now write lbn left extent unbroken timed first begin =
     let count : extent.count ≡ suc (extent.count - 1) = omega (arith, unbroken.some) in
     let start : extent.first + 0 ≡ lbn = omega arith in
     let row = in_a_row disk write extent.track extent.first extent.begin extent.end left 0 (extent.count - 1) source now extent.begin
-        (λ x more less. unbroken.on_track x (omega arith))
-        (λ x more less. subst (λ l. begin_angle disk.map (place_at disk.map (l + x)) < disk.map.rotation) (sym first) (timed.angle x (omega arith)))
-        (subst (λ l. passage_from disk.map l (arrived disk source now write l) ≡ passage_from disk.map l extent.begin) (sym start)
-          (sym (from_begin disk.map lbn (arrived disk source now write lbn) extent.begin (subst (λ l. begin_angle disk.map (place_at disk.map l) < disk.map.rotation) (let same : lbn + 0 ≡ lbn = omega arith in same) (timed.angle 0 unbroken.some)) begin)))
-        (subst (λ n. FollowOn extent.begin (map (λ x. passage_from disk.map (extent.first + x) extent.begin) (range_with_len 0 n)) extent.end) count unbroken.without_wait) in
+    (λ x more less. unbroken.on_track x (omega arith))
+    (λ x more less. subst (λ l. begin_angle disk.map (place_at disk.map (l + x)) < disk.map.rotation) (sym first) (timed.angle x (omega arith)))
+    (subst (λ l. passage_from disk.map l (arrived disk source now write l) ≡ passage_from disk.map l extent.begin) (sym start)
+    (sym (from_begin disk.map lbn (arrived disk source now write lbn) extent.begin (subst (λ l. begin_angle disk.map (place_at disk.map l) < disk.map.rotation) (let same : lbn + 0 ≡ lbn = omega arith in same) (timed.angle 0 unbroken.some)) begin)))
+    (subst (λ n. FollowOn extent.begin (map (λ x. passage_from disk.map (extent.first + x) extent.begin) (range_with_len 0 n)) extent.end) count unbroken.without_wait) in
     ap (λ n. passages disk source now write lbn (n + left)) count
     ∙ ap (λ l. passages disk source now write l (suc (extent.count - 1) + left)) (sym start)
     ∙ row

@@ -1,9 +1,9 @@
 -- The slots of a track as the platter turns on: slot n + s is slot s one rotation later.
-use Rattle.std.proofs.Common.{◌≡◌, ℕ, zero, suc, ◌+◌, ◌-◌, ◌*◌, ◌/◌, ◌%◌, ◌<◌, ◌≤◌, ap, sym, ◌∙◌, subst, inl, inr, ◌⊎◌, arith, refl}
+use Rattle.std.proofs.Common.{◌≡◌, ℕ, zero, suc, ◌+◌, ◌-◌, ◌*◌, ◌/◌, ◌%◌, ◌<◌, ◌≤◌, ap, ◌∙◌, inl, inr, ◌⊎◌, arith}
 use Rattle.std.proofs.Math.Nat.{add-mul-div_right, mod-eq_of_lt, add-mod_left}
 use Rattle.std.proofs.lemmas.Nat.{le-div, div-add-mod', div-mul-add}
 use Rattle.std.proofs.lemmas.Bool.{cases_lt}
-use Rattle.fb_units.specs.Wait.{wait, IsLeastWait}
+use Rattle.fb_units.specs.Wait.{wait}
 use Rattle.fb_units.proofs.Waits.{wait_least, least_unique, least_of, rest_is}
 use Rattle.fb_geometry.specs.Angles.{slot_begin}
 

@@ -1,8 +1,7 @@
 -- Neighbouring slots pass without a wait.
-use Rattle.std.proofs.Common.{◌≡◌, ℕ, zero, suc, ◌+◌, ◌-◌, ◌<◌, ◌≤◌, ◌%◌, List, [], ◌∷◌, map, refl, ap, sym, ◌∙◌, subst, arith}
+use Rattle.std.proofs.Common.{◌≡◌, ℕ, zero, suc, ◌+◌, ◌<◌, ◌≤◌, ◌%◌, map, refl, ap, sym, ◌∙◌, subst, arith}
 use Rattle.std.specs.List.{range_with_len}
 use Rattle.fb_units.specs.declared.types.Place.{Place}
-use Rattle.fb_units.specs.declared.types.Track.{Track}
 use Rattle.fb_units.specs.Wait.{wait}
 use Rattle.fb_units.proofs.Waits.{wait_least}
 use Rattle.fb_geometry.specs.Shape.{Shape, slots_at}
@@ -10,7 +9,7 @@ use Rattle.fb_geometry.specs.Angles.{slot_begin}
 use Rattle.fb_sectormap.specs.Lookup.{place_at, neighbour}
 use Rattle.fb_service.specs.declared.passage.Passage.{Passage}
 use Rattle.fb_service.specs.declared.passage.Extent.{Extent}
-use Rattle.fb_service.specs.Passing.{begin_from, begin_angle, end_angle, length_of, turned, ArePassing}
+use Rattle.fb_service.specs.Passing.{begin_from, begin_angle, length_of, turned, ArePassing}
 use Rattle.fb_service.specs.Service.{passage_from}
 use Rattle.fb_service.specs.Extents.{passages_of, FollowOn, IsUnbroken}
 use Rattle.fb_service.proofs.Turning.{begins-behind, as-long, in-turn, next-after, later-after}
@@ -34,8 +33,13 @@ module _ (disk : Shape) (place : Place) (some : 0 < slots_at disk.zones place.tr
   neighbour-begins t i less here = waited disk (neighbour disk place i) t (turned disk place i) (begins-behind disk.rotation slots some short place.slot i t slot less here)
 
   pub turned-next : (i : ℕ) → i < slots → turned disk place i + length_of disk (neighbour disk place i) ≡ turned disk place (i + 1)
-  turned-next i less = omega (arith, as-long disk.rotation slots some short place.slot i slot less, later-after disk.rotation slots some short place.slot i, next-after disk.rotation slots some short (place.slot + i),
-    ap (slot_begin disk.rotation slots) (let one : place.slot + i + 1 ≡ place.slot + (i + 1) = omega arith in one))
+  turned-next i less = omega (
+    arith,
+    as-long disk.rotation slots some short place.slot i slot less,
+    later-after disk.rotation slots some short place.slot i,
+    next-after disk.rotation slots some short (place.slot + i),
+    ap (slot_begin disk.rotation slots) (let one : place.slot + i + 1 ≡ place.slot + (i + 1) = omega arith in one),
+  )
 
   pub neighbour-passage : (lbn t i : ℕ) → i < slots → t % disk.rotation ≡ begin_angle disk place → place_at disk lbn ≡ neighbour disk place i
       → passage_from disk lbn t ≡ record { lbn = lbn; begin = t + turned disk place i; end = t + turned disk place (i + 1) }
@@ -66,7 +70,7 @@ module _ (disk : Shape) (place : Place) (some : 0 < slots_at disk.zones place.tr
       on_track = λ i less. ap (λ l. (place_at disk (l + i)).track) first ∙ (ap (λ (p : Place). p.track) (each i (omega arith)) ∙ sym track);
       without_wait =
           let whole : FollowOn t (map (λ x. passage_from disk (lbn + x) t) (range_with_len 0 count)) (t + turned disk place count) =
-              subst (λ x. FollowOn x (map (λ x. passage_from disk (lbn + x) t) (range_with_len 0 count)) (t + turned disk place count)) (let none : t + turned disk place 0 ≡ t = omega (arith, ap (slot_begin disk.rotation slots) (let same : place.slot + 0 ≡ place.slot = omega arith in same)) in none) (follow-on 0 count (omega arith)) in
+          subst (λ x. FollowOn x (map (λ x. passage_from disk (lbn + x) t) (range_with_len 0 count)) (t + turned disk place count)) (let none : t + turned disk place 0 ≡ t = omega (arith, ap (slot_begin disk.rotation slots) (let same : place.slot + 0 ≡ place.slot = omega arith in same)) in none) (follow-on 0 count (omega arith)) in
           subst (λ x. FollowOn extent.begin (passages_of disk extent) x) (sym end)
           (subst (λ (e : Extent). FollowOn e.begin (passages_of disk e) (t + turned disk place count)) (let same : record { track = extent.track; first = lbn; count = count; begin = t; end = extent.end } ≡ extent = rw (sym first, sym size, sym begin) refl in same) whole);
     }

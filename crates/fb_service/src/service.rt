@@ -24,47 +24,18 @@ pub struct Service {
     pub last_track: Track,
 }
 
-// The passage of a block from an instant on.
-fn passage(disk: &Disk, lbn: u64, from: Ns) -> Passage
-    requires block { lbn < length (places disk.now.map) }
+// The first instant from this one on at which a slot begins to pass.
+fn next_begin(geometry: &Geometry, place: Place, from: Ns) -> Ns
+    requires track { place.track.cylinder < cylinders_of geometry.now.zones }
+    requires slot { place.slot < slots_at geometry.now.zones place.track.cylinder }
     requires from { from ≤ 10 ^ 19 }
-    ensures value { result ≡ passage_from disk.now.map lbn from }
-    ensures angle { begin_angle disk.now.map (place_at disk.now.map lbn) < disk.now.map.rotation }
-    ensures after { from ≤ result.begin }
-    ensures soon { result.begin < from + 10 ^ 9 }
-    ensures takes_time { result.begin < result.end }
-    ensures short { result.end ≤ result.begin + 10 ^ 9 }
+    ensures value { result ≡ begin_from geometry.now place from }
+    ensures angle { begin_angle geometry.now place < geometry.now.rotation }
+    ensures after { from ≤ result }
+    ensures soon { result < from + 10 ^ 9 }
 {
-    let geometry = disk.map.geometry();
-    let place = disk.map.place(lbn);
     let angle = geometry.slot_begin(place.track, place.slot);
-    let begin = from + wait_for(geometry.rotation(), angle, from);
-    let end = begin + (geometry.slot_end(place.track, place.slot) - angle);
-    Passage { lbn, begin, end }
-}
-
-/// When the first sector of a request that starts now begins to pass.
-pub fn first_pass(disk: &Disk, source: Track, now: Ns, lbn: u64, write: bool) -> Ns
-    requires source { IsTrackOf disk.now.map source }
-    requires block { lbn < length (places disk.now.map) }
-    requires now { now ≤ 9 * 10 ^ 18 }
-    ensures value { result ≡ begin_from disk.now.map (place_at disk.now.map lbn) (now + pos disk.now.mechanism source (place_at disk.now.map lbn).track write) }
-    ensures after { now ≤ result }
-    ensures soon { result < now + 3 * 10 ^ 9 }
-{
-    let track = disk.map.place(lbn).track;
-    let from = now + disk.mechanism.pos(source, track, write);
-    passage(disk, lbn, from).begin
-}
-
-/// The passage of an extent's i-th sector.
-pub fn nth_passage(disk: &Disk, extent: &Extent, i: u32) -> Passage
-    requires sector { i < extent.now.count }
-    requires blocks { extent.now.first + extent.now.count ≤ length (places disk.now.map) }
-    requires begin { extent.now.begin ≤ 10 ^ 19 }
-    ensures { result ≡ passage_from disk.now.map (extent.now.first + i) extent.now.begin }
-{
-    passage(disk, extent.first + i as u64, extent.begin)
+    from + wait_for(geometry.rotation(), angle, from)
 }
 
 // How long so many neighbouring slots of a track pass, this one the first.
@@ -88,16 +59,38 @@ fn passing_time(geometry: &Geometry, place: Place, count: u32) -> Ns
     }
 }
 
+/// When the first sector of a request that starts now begins to pass.
+pub fn first_pass(disk: &Disk, source: Track, now: Ns, lbn: u64, write: bool) -> Ns
+    requires source { IsTrackOf disk.now.map source }
+    requires block { lbn < length (places disk.now.map) }
+    requires now { now ≤ 9 * 10 ^ 18 }
+    ensures value { result ≡ begin_from disk.now.map (place_at disk.now.map lbn) (now + pos disk.now.mechanism source (place_at disk.now.map lbn).track write) }
+    ensures after { now ≤ result }
+    ensures soon { result < now + 3 * 10 ^ 9 }
+{
+    let place = disk.map.place(lbn);
+    let from = now + disk.mechanism.pos(source, place.track, write);
+    next_begin(disk.map.geometry(), place, from)
+}
+
+/// The passage of an extent's i-th sector.
+pub fn nth_passage(disk: &Disk, extent: &Extent, i: u32) -> Passage
+    requires sector { i < extent.now.count }
+    requires blocks { extent.now.first + extent.now.count ≤ length (places disk.now.map) }
+    requires begin { extent.now.begin ≤ 10 ^ 19 }
+    ensures { result ≡ passage_from disk.now.map (extent.now.first + i) extent.now.begin }
+{
+    let geometry = disk.map.geometry();
+    let lbn = extent.first + i as u64;
+    let place = disk.map.place(lbn);
+    let begin = next_begin(geometry, place, extent.begin);
+    let end = begin + passing_time(geometry, place, 1);
+    Passage { lbn, begin, end }
+}
+
 // The extent of a sector and of those that pass directly after it, at most so many in all, after the way
 // to their track.
-fn stretch_extent(
-    disk: &Disk,
-    source: Track,
-    now: Ns,
-    lbn: u64,
-    most: u32,
-    write: bool,
-) -> Extent
+fn stretch_extent(disk: &Disk, source: Track, now: Ns, lbn: u64, most: u32, write: bool) -> Extent
     requires source { IsTrackOf disk.now.map source }
     requires some { 0 < most }
     requires blocks { lbn + most ≤ length (places disk.now.map) }
@@ -110,16 +103,14 @@ fn stretch_extent(
     ensures timed { ArePassing disk.now.map lbn result.count }
     ensures after { now ≤ result.begin }
     ensures takes_time { result.begin < result.end }
-    ensures one_turn { result.end ≤ result.begin + disk.now.map.rotation }
     ensures soon { result.end ≤ now + 4 * 10 ^ 9 }
 {
     let geometry = disk.map.geometry();
     let stretch = disk.map.stretch(lbn);
     let place = stretch.place;
     let count = stretch.count.min(most);
-    let angle = geometry.slot_begin(place.track, place.slot);
     let from = now + disk.mechanism.pos(source, place.track, write);
-    let begin = from + wait_for(geometry.rotation(), angle, from);
+    let begin = next_begin(geometry, place, from);
     let end = begin + passing_time(geometry, place, count);
     Extent {
         track: place.track,
@@ -199,7 +190,9 @@ pub fn serve(
     let media = last.begin;
     let mut served = last.count;
     while served < count {
-        let next = stretch_extent(disk, last.track, last.end, lbn + served as u64, count - served, write);
+        let from = lbn + served as u64;
+        let left = count - served;
+        let next = stretch_extent(disk, last.track, last.end, from, left, write);
         served += next.count;
         add_extent(disk, &mut extents, &mut last, next)?;
     }

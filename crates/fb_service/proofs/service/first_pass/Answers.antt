@@ -1,12 +1,16 @@
-use Rattle.std.proofs.Common.{ap, ◌∙◌, ◌+◌}
-use Rattle.fb_service.specs.declared.passage.Passage.{Passage}
+use Rattle.std.proofs.Common.{◌≡◌, ap, ◌∙◌, ◌+◌}
+use Rattle.fb_units.specs.declared.types.Place.{Place}
+use Rattle.fb_geometry.specs.Shape.{Shape}
+use Rattle.fb_seek.specs.Positioning.{pos}
 use Rattle.fb_service.specs.Passing.{begin_from}
-use Rattle.fb_sectormap.specs.Lookup.{place_at}
-use Rattle.fb_service.proofs.Passes.{way_is}
 use Rattle.fb_service.proofs.service.first_pass.Goals as goal
 
 pub returns-clause-value : goal.returns-clause-value
 returns-clause-value c =
-    ap (λ (p : Passage). p.begin) c.passage.ensures.value
-    ∙ ap (begin_from c.args.disk.now.map (place_at c.args.disk.now.map c.args.lbn))
-    (way_is c.args.disk.now c.args.source c.args.now c.args.lbn c.args.write c.place.result c.pos.result c.place.ensures.at c.pos.ensures.value)
+    let disk = c.args.disk.now in
+    let place = c.place-place.result in
+    let seen : c.geometry.result.now ≡ disk.map = c.geometry.ensures in
+    c.next_begin.ensures.value
+    ∙ ap (λ (d : Shape). begin_from d place (c.args.now + c.pos.result)) seen
+    ∙ ap (λ m. begin_from disk.map place (c.args.now + m)) c.pos.ensures.value
+    ∙ ap (λ (p : Place). begin_from disk.map p (c.args.now + pos disk.mechanism c.args.source p.track c.args.write)) c.place-place.ensures.value

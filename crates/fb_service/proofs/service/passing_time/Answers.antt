@@ -1,5 +1,5 @@
-use Rattle.std.proofs.Common.{◌≡◌, ◌+◌, ◌-◌, ◌<◌, ◌≤◌, ap, ◌∙◌, arith}
-use Rattle.fb_geometry.specs.Shape.{Shape, slots_at}
+use Rattle.std.proofs.Common.{◌≡◌, ◌+◌, ◌-◌, ◌<◌, ◌≤◌, ap, arith}
+use Rattle.fb_geometry.specs.Shape.{slots_at}
 use Rattle.fb_geometry.specs.Angles.{slot_begin}
 use Rattle.fb_service.specs.Passing.{turned}
 use Rattle.fb_service.proofs.Turning.{over, within-turn, later-after}
@@ -32,7 +32,7 @@ returns-else-last-slots c =
     let here = ap (slot_begin disk.rotation slots) (let same : slot + c.args.count - 1 - c.slots-slots.result + 1 ≡ past = omega (arith, c.slots-slots.ensures.value) in same) in
     let end = ap (slot_begin disk.rotation slots) (let same : past + slots ≡ slot + c.args.count = omega (arith, c.slots-slots.ensures.value) in same) in
     let value : c.rotation.result - c.slot_begin-begin.result + c.slot_end-else-last-slots.result ≡ turned disk c.args.place c.args.count =
-        omega (arith, here, end, over disk.rotation slots some short past, c.slot_end-else-last-slots.ensures.value, c.slot_begin-begin.ensures.value, c.slot_begin-begin.ensures.bound, c.rotation.ensures.value) in
+    omega (arith, here, end, over disk.rotation slots some short past, c.slot_end-else-last-slots.ensures.value, c.slot_begin-begin.ensures.value, c.slot_begin-begin.ensures.bound, c.rotation.ensures.value) in
     record {
       value = value;
       takes_time = omega (arith, value, later-after disk.rotation slots some short slot c.args.count);

@@ -1,4 +1,4 @@
-use Rattle.std.proofs.Common.{◌≡◌, ℕ, ◌+◌, ◌-◌, ◌*◌, ◌<◌, ◌≤◌, ◌^◌, ◌++◌, length}
+use Rattle.std.proofs.Common.{◌≡◌, ℕ, ◌+◌, ◌-◌, ◌*◌, ◌<◌, ◌≤◌, ◌^◌, ◌++◌}
 use Rattle.std.specs.List.{AllByRecursion}
 use Rattle.fb_geometry.specs.Shape.{IsTrackOf}
 use Rattle.fb_sectormap.specs.Lookup.{place_at}

@@ -1,25 +1,27 @@
-use Rattle.std.proofs.Common.{◌≡◌, ◌+◌, ◌%◌, ◌<◌, ◌≤◌, ap, sym, ◌∙◌, subst, arith, refl}
-use Rattle.fb_units.specs.Wait.{wait}
+use Rattle.std.proofs.Common.{◌≡◌, ◌+◌, ◌%◌, ◌<◌, ◌≤◌, ap, ◌∙◌, subst, arith, refl}
 use Rattle.fb_units.specs.declared.types.Place.{Place}
-use Rattle.fb_units.proofs.Waits.{wait_least}
 use Rattle.fb_geometry.specs.Shape.{Shape, slots_at}
 use Rattle.fb_seek.specs.Positioning.{pos}
-use Rattle.fb_sectormap.specs.Lookup.{place_at}
 use Rattle.fb_service.specs.Passing.{begin_from, begin_angle, turned}
-use Rattle.fb_service.proofs.Passes.{begins_at}
 use Rattle.fb_service.proofs.Unbroken.{at_angle, are-passing, unbroken}
 use Rattle.fb_service.proofs.service.stretch_extent.Goals as goal
 
 -- the extent's beginning, by the place
-begins : (c : goal.After-result-1) → c.args.now + c.pos.result + c.wait_for.result ≡ begin_from c.args.disk.now.map c.stretch-stretch.result.place (c.args.now + c.pos.result)
+begins : (c : goal.After-result-1) → c.next_begin-begin.result ≡ begin_from c.args.disk.now.map c.stretch-stretch.result.place (c.args.now + c.pos.result)
 begins c =
+    let seen : c.geometry-geometry.result.now ≡ c.args.disk.now.map = c.geometry-geometry.ensures in
+    c.next_begin-begin.ensures.value ∙ ap (λ (d : Shape). begin_from d c.stretch-stretch.result.place (c.args.now + c.pos.result)) seen
+
+here : (c : goal.After-result-1) → c.next_begin-begin.result % c.args.disk.now.map.rotation ≡ begin_angle c.args.disk.now.map c.stretch-stretch.result.place
+here c =
     let disk = c.args.disk.now.map in
     let place = c.stretch-stretch.result.place in
     let seen : c.geometry-geometry.result.now ≡ disk = c.geometry-geometry.ensures in
-    begins_at disk place (c.args.now + c.pos.result) c.wait_for.result
-    (c.wait_for.ensures.value
-    ∙ ap (λ r. wait r c.slot_begin-angle.result (c.args.now + c.pos.result)) (c.rotation.ensures.value ∙ ap (λ (d : Shape). d.rotation) seen)
-    ∙ ap (λ a. wait disk.rotation a (c.args.now + c.pos.result)) (c.slot_begin-angle.ensures.value ∙ ap (λ (d : Shape). begin_angle d place) seen))
+    ap (λ t. t % disk.rotation) (begins c)
+    ∙ at_angle disk place (c.args.now + c.pos.result) (subst (λ (d : Shape). begin_angle d place < d.rotation) seen c.next_begin-begin.ensures.angle)
+
+room : (c : goal.After-result-1) → slots_at c.args.disk.now.map.zones c.stretch-stretch.result.place.track.cylinder ≤ c.args.disk.now.map.rotation
+room c = subst (λ (d : Shape). slots_at d.zones c.stretch-stretch.result.place.track.cylinder ≤ d.rotation) (let seen : c.geometry-geometry.result.now ≡ c.args.disk.now.map = c.geometry-geometry.ensures in seen) c.passing_time.ensures.room
 
 pub returns-clause-begin : goal.returns-clause-begin
 returns-clause-begin c =
@@ -31,22 +33,15 @@ returns-clause-begin c =
 pub returns-clause-unbroken : goal.returns-clause-unbroken
 returns-clause-unbroken c =
     let disk = c.args.disk.now.map in
-    let place = c.stretch-stretch.result.place in
+    let stretch = c.stretch-stretch in
     let seen : c.geometry-geometry.result.now ≡ disk = c.geometry-geometry.ensures in
-    let room : slots_at disk.zones place.track.cylinder ≤ disk.rotation = subst (λ (d : Shape). slots_at d.zones place.track.cylinder ≤ d.rotation) seen c.passing_time.ensures.room in
-    let angle : begin_angle disk place < disk.rotation = omega (arith, c.slot_begin-angle.ensures.bound, ap (λ (d : Shape). d.rotation) seen, ap (λ (d : Shape). begin_angle d place) seen, c.slot_begin-angle.ensures.value) in
-    let here = ap (λ t. t % disk.rotation) (begins c) ∙ at_angle disk place (c.args.now + c.pos.result) angle in
-    unbroken disk place (omega (arith, c.stretch-stretch.ensures.slot)) room c.stretch-stretch.ensures.slot c.args.lbn (c.args.now + c.pos.result + c.wait_for.result) c.min-count.result
-    (omega (arith, c.stretch-stretch.ensures.one_turn, c.min-count.ensures)) here (λ i less. c.stretch-stretch.ensures.next i (omega (arith, c.min-count.ensures))) (omega (arith, c.min-count.ensures, c.stretch-stretch.ensures.some))
-    _ refl refl refl refl (ap (λ e. c.args.now + c.pos.result + c.wait_for.result + e) (c.passing_time.ensures.value ∙ ap (λ (d : Shape). turned d place c.min-count.result) seen))
+    unbroken disk stretch.result.place (omega (arith, stretch.ensures.slot)) (room c) stretch.ensures.slot c.args.lbn c.next_begin-begin.result c.min-count.result
+    (omega (arith, stretch.ensures.one_turn, c.min-count.ensures)) (here c) (λ i less. stretch.ensures.next i (omega (arith, c.min-count.ensures))) (omega (arith, c.min-count.ensures, stretch.ensures.some))
+    _ refl refl refl refl (ap (λ t. c.next_begin-begin.result + t) (c.passing_time.ensures.value ∙ ap (λ (d : Shape). turned d stretch.result.place c.min-count.result) seen))
 
 pub returns-clause-timed : goal.returns-clause-timed
 returns-clause-timed c =
     let disk = c.args.disk.now.map in
-    let place = c.stretch-stretch.result.place in
-    let seen : c.geometry-geometry.result.now ≡ disk = c.geometry-geometry.ensures in
-    let room : slots_at disk.zones place.track.cylinder ≤ disk.rotation = subst (λ (d : Shape). slots_at d.zones place.track.cylinder ≤ d.rotation) seen c.passing_time.ensures.room in
-    let angle : begin_angle disk place < disk.rotation = omega (arith, c.slot_begin-angle.ensures.bound, ap (λ (d : Shape). d.rotation) seen, ap (λ (d : Shape). begin_angle d place) seen, c.slot_begin-angle.ensures.value) in
-    let here = ap (λ t. t % disk.rotation) (begins c) ∙ at_angle disk place (c.args.now + c.pos.result) angle in
-    are-passing disk place (omega (arith, c.stretch-stretch.ensures.slot)) room c.stretch-stretch.ensures.slot c.args.lbn (c.args.now + c.pos.result + c.wait_for.result) c.min-count.result
-    (omega (arith, c.stretch-stretch.ensures.one_turn, c.min-count.ensures)) here (λ i less. c.stretch-stretch.ensures.next i (omega (arith, c.min-count.ensures)))
+    let stretch = c.stretch-stretch in
+    are-passing disk stretch.result.place (omega (arith, stretch.ensures.slot)) (room c) stretch.ensures.slot c.args.lbn c.next_begin-begin.result c.min-count.result
+    (omega (arith, stretch.ensures.one_turn, c.min-count.ensures)) (here c) (λ i less. stretch.ensures.next i (omega (arith, c.min-count.ensures)))

@@ -1,7 +1,5 @@
-use Rattle.std.proofs.Common.{◌≡◌, ◌+◌, ◌<◌, ◌≤◌, ◌∙◌, ap, sym, subst, arith, Some}
-use Rattle.std.specs.Prelude.{slice_get}
+use Rattle.std.proofs.Common.{◌+◌, ◌<◌, ◌≤◌, sym, subst, arith}
 use Rattle.fb_geometry.specs.Shape.{Shape, slots_at, turn_position}
-use Rattle.fb_geometry.specs.Places.{data_list_at}
 use Rattle.fb_geometry.specs.Sound.{IsSound}
 use Rattle.fb_geometry.specs.Stretches.{IsStretch}
 use Rattle.fb_sectormap.proofs.ByCylinder.{own-at, place_is, placed}
