@@ -6,3 +6,4 @@ pub mod Making
 pub mod Cutting
 pub mod Computed
 pub mod Stretching
+pub mod Turns
