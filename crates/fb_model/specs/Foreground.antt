@@ -1,26 +1,9 @@
 -- The foreground list: the trace's requests, and the reads that calls ask for.
-use Rattle.std.specs.Prelude.{ℕ, ◌+◌, List, [], ◌∷◌, ◌++◌, length, false, nat_le, if◌then◌else◌}
+use Rattle.std.specs.Prelude.{List, [], ◌∷◌, nat_le, if◌then◌else◌}
 use Rattle.std.specs.List.{fold}
 use Rattle.fb_units.specs.declared.types.Request.{Request}
-use Rattle.fb_units.specs.declared.types.Name.TheVariants.{Promoted}
-use Rattle.fb_calls.specs.declared.call.Action.{Action}
-use Rattle.fb_calls.specs.declared.call.Action.TheVariants.{Promote}
 use Rattle.fb_calls.specs.declared.call.Call.{Call}
-
--- the read of a promote call, which is named by n
-abbrev pub read_of : ℕ → Call → Action → List Request
-read_of n call (Promote first count) = record { name = Promoted n; arrival = call.instant; lbn = first; count = count; write = false } ∷ []
-read_of n call _ = []
-
--- the promoted reads in line order, named from n on
-abbrev pub promoted_from : ℕ → List Call → List Request
-promoted_from n [] = []
-promoted_from n (call ∷ calls) =
-    let reads = read_of n call call.action in
-    reads ++ promoted_from (n + length reads) calls
-
-abbrev pub promoted : List Call → List Request
-promoted calls = promoted_from 1 calls
+pub use Rattle.fb_calls.specs.Promoted.{read_of, promoted_from, promoted}
 
 -- a read behind all that arrive by its instant
 abbrev pub behind : List Request → Request → List Request

@@ -2,10 +2,11 @@
 use Rattle.std.specs.Prelude.{ℕ, List, [], ◌∷◌, ◌++◌, length, Bool, true, false, ◌&&◌, not, ◌==◌, filter, if◌then◌else◌}
 use Rattle.std.specs.List.{list_any, flat_map, range_with_len, slice_index_or}
 use Rattle.fb_units.specs.declared.types.Request.{Request}
-use Rattle.fb_calls.specs.declared.call.Kind.{Kind}
-use Rattle.fb_calls.specs.declared.call.Kind.TheVariants.{Plain, Backup}
+use Rattle.fb_calls.specs.declared.call.Kind.TheVariants.{Plain}
+use Rattle.fb_calls.specs.Sessions.{is_backup}
+pub use Rattle.fb_calls.specs.Allowed.{Terms, terms_in}
 use Rattle.fb_calls.specs.declared.call.Action.{Action}
-use Rattle.fb_calls.specs.declared.call.Action.TheVariants.{Open, Abort, Suspend, Resume, Close}
+use Rattle.fb_calls.specs.declared.call.Action.TheVariants.{Abort, Suspend, Resume, Close}
 use Rattle.fb_calls.specs.declared.call.Call.{Call}
 use Rattle.fb_wanted.specs.declared.block.Block.{Block}
 use Rattle.fb_wanted.specs.declared.block.State.{State}
@@ -34,16 +35,7 @@ pub data Event : Type 0 where
 abbrev pub Past : Type 0
 Past = List Event
 
--- what a task was opened with
-pub record Terms : Type 0 where
-  pub kind : Kind
-  pub weight : ℕ
-  pub block : ℕ
-
-abbrev pub terms_in : Action → List Terms
-terms_in (Open kind weight block) = record { kind = kind; weight = weight; block = block } ∷ []
-terms_in _ = []
-
+-- what a task is opened with by an event
 abbrev pub opened_by : Event → List Terms
 opened_by (called call blocks) = terms_in call.action
 opened_by _ = []
@@ -107,10 +99,6 @@ seals task _ = false
 
 abbrev pub is_sealed : Past → ℕ → Bool
 is_sealed past task = list_any (seals task) past
-
-abbrev pub is_backup : Kind → Bool
-is_backup Backup = true
-is_backup _ = false
 
 abbrev pub is_open_backup : Past → ℕ → Bool
 is_open_backup past task = is_backup (terms_of past task).kind && not (is_sealed past task)

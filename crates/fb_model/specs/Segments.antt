@@ -1,11 +1,10 @@
 -- The choice of segments, by benefit and cost (Rosenblum and Ousterhout, The Design and Implementation of a Log-Structured File System); ties are this project's.
-use Rattle.std.specs.Prelude.{ℕ, zero, suc, ◌+◌, ◌-◌, ◌*◌, List, [], ◌∷◌, ◌++◌, length, Bool, true, false, ◌&&◌, not, nat_lt, filter, if◌then◌else◌}
+use Rattle.std.specs.Prelude.{ℕ, zero, suc, ◌+◌, ◌-◌, ◌*◌, List, [], ◌∷◌, length, Bool, ◌&&◌, not, nat_lt, filter, if◌then◌else◌}
 use Rattle.std.specs.List.{list_any, fold, best_of}
 use Rattle.fb_geometry.specs.Shape.{Shape}
-use Rattle.fb_calls.specs.declared.call.Kind.{Kind}
-use Rattle.fb_calls.specs.declared.call.Kind.TheVariants.{Clean}
+use Rattle.fb_calls.specs.Blocks.{live_cuts}
+use Rattle.fb_calls.specs.Sessions.{is_clean}
 use Rattle.fb_sectormap.specs.declared.cut.Cut.{Cut}
-use Rattle.fb_sectormap.specs.Cutting.{cutting}
 use Rattle.fb_wanted.specs.declared.block.Block.{Block}
 use Rattle.fb_model.specs.History.{chose, Past, LogSegment, terms_of, task_numbers, blocks_of}
 use Rattle.fb_model.specs.Completion.{segments, choices, is_choice_of, is_closed, is_cleaned}
@@ -27,11 +26,6 @@ live_count segment = length (filter (λ live. live) segment.live)
 -- greater benefit, (N - L) * age / (N + L)
 abbrev pub is_better : LogSegment → LogSegment → Bool
 is_better a b = nat_lt ((b.blocks - live_count b) * b.age * (a.blocks + live_count a)) ((a.blocks - live_count a) * a.age * (b.blocks + live_count b))
-
--- the cuttings of the segment's live blocks, ascending
-abbrev pub live_cuts : Shape → ℕ → ℕ → List Bool → List Cut
-live_cuts disk block lbn [] = []
-live_cuts disk block lbn (live ∷ lives) = (if live then cutting disk block lbn block else []) ++ live_cuts disk block (lbn + block) lives
 
 -- the segments that a task has not chosen
 abbrev pub is_chosen : Past → ℕ → LogSegment → Bool
@@ -58,10 +52,6 @@ choose_once disk task past = if is_busy past task then past else choose_best dis
 abbrev pub choose_up_to : ℕ → Shape → ℕ → Past → Past
 choose_up_to zero disk task past = past
 choose_up_to (suc n) disk task past = choose_up_to n disk task (choose_once disk task past)
-
-abbrev pub is_clean : Kind → Bool
-is_clean Clean = true
-is_clean _ = false
 
 -- until a segment with live blocks is chosen or none is left
 abbrev pub choose_in : Shape → Past → ℕ → Past
