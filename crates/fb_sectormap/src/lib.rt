@@ -8,6 +8,8 @@
 mod cut;
 mod map;
 mod numbering;
+#[cfg(test)]
+mod tests;
 mod worked;
 
 pub use cut::Cut;

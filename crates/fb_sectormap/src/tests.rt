@@ -1,0 +1,92 @@
+// Sectors worked out by hand, for small disks of four cylinders with two heads and twelve slots a track.
+use crate::{Cut, SectorMap};
+use fb_geometry::{Geometry, Layout, Zone};
+use fb_units::{Place, Track};
+use std::alloc::Global;
+use std::test::Fail;
+
+const ZONE: Zone = Zone {
+    first: 0,
+    last: 3,
+    sectors: 12,
+    track_skew: 0,
+    cylinder_skew: 0,
+    spares: 0,
+    cylinder_spares: 2,
+};
+
+fn place(cylinder: u32, head: u32, slot: u32) -> Place {
+    Place {
+        track: Track { cylinder, head },
+        slot,
+    }
+}
+
+// The disk with two spares at the end of each cylinder.
+fn disk(alloc: Global, defects: &[Place], grown: &[Place]) -> Result<SectorMap, Fail> {
+    let mut zones = Vec::new(alloc);
+    zones.push(ZONE)?;
+    let defects = defects.to_vec(alloc)?;
+    let grown = grown.to_vec(alloc)?;
+    let geometry = Geometry::new(alloc, Layout::PerCylinder, 1200, 2, zones, defects, grown)?;
+    Ok(SectorMap::new(alloc, geometry)?)
+}
+
+// The place of a sector; None where there is none.
+fn place_of(map: &SectorMap, lbn: u64) -> Option<Place> {
+    if lbn >= map.count() {
+        return None;
+    }
+    Some(map.place(lbn))
+}
+
+// How many sectors from this one on stand in neighbouring slots; 0 where there is none.
+fn neighbours(map: &SectorMap, lbn: u64) -> u32 {
+    if lbn >= map.count() {
+        return 0;
+    }
+    map.stretch(lbn).count
+}
+
+#[test]
+fn finds_sectors_that_moved(rt: HostRuntime) -> Result<(), Fail> {
+    let bad = [place(0, 0, 3)];
+    let moved = [place(0, 1, 4)];
+    for (defects, grown, lbn, at, count) in [
+        (bad.as_slice(), [].as_slice(), 3, place(0, 0, 4), 8),
+        (&bad, &[], 10, place(0, 0, 11), 1),
+        (&bad, &[], 11, place(0, 1, 0), 11),
+        (&bad, &[], 22, place(1, 0, 0), 12),
+        (&[], &moved, 15, place(0, 1, 3), 1),
+        (&[], &moved, 16, place(0, 1, 10), 1),
+        (&[], &moved, 17, place(0, 1, 5), 5),
+    ] {
+        let map = disk(rt.alloc(), defects, grown)?;
+        assert_eq!(rt; map.count(), 88);
+        assert_eq!(rt; place_of(&map, lbn), Some(at));
+        assert_eq!(rt; neighbours(&map, lbn), count);
+    }
+    Ok(())
+}
+
+// The first block of a range's cutting; None where it is no range of the disk.
+fn first_cut(map: &SectorMap, first: u64, count: u64, block: u32) -> Option<Cut> {
+    let sectors = map.count();
+    if count == 0 || block == 0 || first > sectors || count > sectors - first {
+        return None;
+    }
+    Some(map.first_cut(first, count, block))
+}
+
+#[test]
+fn cuts_behind_a_sector_that_moved(rt: HostRuntime) -> Result<(), Fail> {
+    let map = disk(rt.alloc(), &[], &[place(0, 1, 4)])?;
+    let track = place(0, 1, 4).track;
+    for (lbn, left, count) in [(15, 4, 2), (17, 2, 2)] {
+        assert_eq!(rt;
+            first_cut(&map, lbn, left, 20),
+            Some(Cut { lbn, count, track })
+        );
+    }
+    Ok(())
+}
