@@ -8,7 +8,7 @@ use Rattle.fb_store.specs.declared.content.Content.{Content}
 use Rattle.fb_store.specs.declared.content.ContentRun.{ContentRun}
 use Rattle.fb_store.specs.Runs.{runs_of, sectors_of, sectors_in}
 use Rattle.fb_store.specs.Index.{held_at, begins_at}
-use Rattle.fb_store.specs.Pieces.{after_taking, after_dropping, held_sector, held_in}
+use Rattle.fb_store.specs.Pieces.{after_taking, after_take, after_dropping, held_sector, held_in}
 use Rattle.fb_store.proofs.Held.{none_held}
 use Rattle.fb_store.proofs.Originals.{inside, before, after, goes_on}
 use Rattle.fb_store.proofs.Joined.{fewest-again}
@@ -26,24 +26,36 @@ not_yet first lbn less = grind (arith, nat_tests)
 here : (first lbn : ℕ) → first ≡ lbn → (first == lbn) ≡ true
 here first lbn same = grind (arith, nat_tests)
 
--- sectors with one content, taken
-on : (first n : ℕ) (content : Content) (lbn : ℕ) (held : Option Content) (b : Bool) → (first == lbn) ≡ b
-    → after_taking (map (λ l. (l, content)) (range_with_len first (suc n))) lbn held ≡ after_taking (map (λ l. (l, content)) (range_with_len (first + 1) n)) lbn (cond b (Some content) held)
-on first n content lbn held b e = ap (λ x. after_taking (map (λ l. (l, content)) (range_with_len (first + 1) n)) lbn (cond x (Some content) held)) e
+-- sectors in a row, taken
+on : (content_of : ℕ → Content) (first n lbn : ℕ) (held : Option Content) (b : Bool) → (first == lbn) ≡ b
+    → after_taking (map (λ l. (l, content_of l)) (range_with_len first (suc n))) lbn held ≡ after_taking (map (λ l. (l, content_of l)) (range_with_len (first + 1) n)) lbn (cond b (Some (content_of first)) held)
+on content_of first n lbn held b e = ap (λ x. after_taking (map (λ l. (l, content_of l)) (range_with_len (first + 1) n)) lbn (cond x (Some (content_of first)) held)) e
 
-taken_before : (first n : ℕ) (content : Content) (lbn : ℕ) (held : Option Content) → lbn < first → after_taking (map (λ l. (l, content)) (range_with_len first n)) lbn held ≡ held
-taken_before first zero content lbn held less = refl
-taken_before first (suc n) content lbn held less = on first n content lbn held false (not_yet first lbn less) ∙ taken_before (first + 1) n content lbn held (omega arith)
+taken_before : (content_of : ℕ → Content) (first n lbn : ℕ) (held : Option Content) → lbn < first → after_taking (map (λ l. (l, content_of l)) (range_with_len first n)) lbn held ≡ held
+taken_before content_of first zero lbn held less = refl
+taken_before content_of first (suc n) lbn held less = on content_of first n lbn held false (not_yet first lbn less) ∙ taken_before content_of (first + 1) n lbn held (omega arith)
 
-taken_after : (first n : ℕ) (content : Content) (lbn : ℕ) (held : Option Content) → first + n ≤ lbn → after_taking (map (λ l. (l, content)) (range_with_len first n)) lbn held ≡ held
-taken_after first zero content lbn held more = refl
-taken_after first (suc n) content lbn held more = on first n content lbn held false (not_here first lbn (omega arith)) ∙ taken_after (first + 1) n content lbn held (omega arith)
+taken_after : (content_of : ℕ → Content) (first n lbn : ℕ) (held : Option Content) → first + n ≤ lbn → after_taking (map (λ l. (l, content_of l)) (range_with_len first n)) lbn held ≡ held
+taken_after content_of first zero lbn held more = refl
+taken_after content_of first (suc n) lbn held more = on content_of first n lbn held false (not_here first lbn (omega arith)) ∙ taken_after content_of (first + 1) n lbn held (omega arith)
 
-taken_inside : (first n : ℕ) (content : Content) (lbn : ℕ) (held : Option Content) → first ≤ lbn → lbn < first + n → after_taking (map (λ l. (l, content)) (range_with_len first n)) lbn held ≡ Some content
-taken_inside first zero content lbn held from to = absurd (omega arith)
-taken_inside first (suc n) content lbn held from to = elim (cases_lt first lbn) [
-  | inl less ↦ on first n content lbn held false (not_here first lbn less) ∙ taken_inside (first + 1) n content lbn held (omega arith) (omega arith)
-  | inr more ↦ on first n content lbn held true (here first lbn (omega arith)) ∙ taken_before (first + 1) n content lbn (Some content) (omega arith)
+taken_inside : (content_of : ℕ → Content) (first n lbn : ℕ) (held : Option Content) → first ≤ lbn → lbn < first + n → after_taking (map (λ l. (l, content_of l)) (range_with_len first n)) lbn held ≡ Some (content_of lbn)
+taken_inside content_of first zero lbn held from to = absurd (omega arith)
+taken_inside content_of first (suc n) lbn held from to = elim (cases_lt first lbn) [
+  | inl less ↦ on content_of first n lbn held false (not_here first lbn less) ∙ taken_inside content_of (first + 1) n lbn held (omega arith) (omega arith)
+  | inr more ↦ let same : first ≡ lbn = omega arith in
+      on content_of first n lbn held true (here first lbn same) ∙ (taken_before content_of (first + 1) n lbn (Some (content_of first)) (omega arith) ∙ ap (λ l. Some (content_of l)) same)
+]
+
+-- the contents of a block, taken
+pub taken_block : (content_of : ℕ → Content) (first n lbn : ℕ) (sectors : List (ℕ × Content)) (held : Option Content) → sectors ≡ map (λ l. (l, content_of l)) (range_with_len first n)
+    → after_taking sectors lbn held ≡ after_take content_of first n lbn held
+taken_block content_of first n lbn sectors held e = ap (λ ss. after_taking ss lbn held) e ∙ elim (cases_lt lbn first) [
+  | inl a ↦ taken_before content_of first n lbn held a ∙ ap (λ b. cond b (Some (content_of lbn)) held) (sym (before first n lbn a))
+  | inr a ↦ elim (cases_lt lbn (first + n)) [
+    | inl b ↦ taken_inside content_of first n lbn held a b ∙ ap (λ c. cond c (Some (content_of lbn)) held) (sym (inside first n lbn a b))
+    | inr b ↦ taken_after content_of first n lbn held b ∙ ap (λ c. cond c (Some (content_of lbn)) held) (sym (after first n lbn b))
+  ]
 ]
 
 -- one more run, taken
@@ -55,10 +67,10 @@ taken_more runs i run lbn original was is split so_far within less more =
     let whole = ap (λ rs. after_taking (sectors_of rs) lbn original) split
     ∙ (ap (λ ss. after_taking ss lbn original) (sectors_more (take i runs) run) ∙ (after_taking-append (sectors_of (take i runs)) (sectors_in run) lbn original ∙ ap (λ h. after_taking (sectors_in run) lbn h) (sym so_far))) in
     elim (cases_lt lbn run.first) [
-      | inl a ↦ less a ∙ sym (whole ∙ taken_before run.first run.count run.content lbn was a)
+      | inl a ↦ less a ∙ sym (whole ∙ taken_before (λ l. run.content) run.first run.count lbn was a)
       | inr a ↦ elim (cases_lt lbn (run.first + run.count)) [
-        | inl b ↦ within a b ∙ sym (whole ∙ taken_inside run.first run.count run.content lbn was a b)
-        | inr b ↦ more b ∙ sym (whole ∙ taken_after run.first run.count run.content lbn was b)
+        | inl b ↦ within a b ∙ sym (whole ∙ taken_inside (λ l. run.content) run.first run.count lbn was a b)
+        | inr b ↦ more b ∙ sym (whole ∙ taken_after (λ l. run.content) run.first run.count lbn was b)
       ]
     ] where
       sectors_more : (runs : List ContentRun) (run : ContentRun) → sectors_of (runs ++ run ∷ []) ≡ sectors_of runs ++ sectors_in run

@@ -1,13 +1,23 @@
 -- The contents of some sectors: what taken contents and a dropped range leave.
-use Rattle.std.specs.Prelude.{ℕ, List, [], ◌∷◌, Option, None, Some, ◌==◌, if◌then◌else◌}
-use Rattle.std.specs.List.{flat_map}
+use Rattle.std.specs.Prelude.{◌≡◌, ℕ, List, [], ◌∷◌, Option, None, Some, ◌==◌, map, if◌then◌else◌}
+use Rattle.std.specs.List.{flat_map, range_with_len}
 use Rattle.fb_store.specs.declared.content.Content.{Content}
+use Rattle.fb_store.specs.declared.content.ContentRun.{ContentRun}
+use Rattle.fb_store.specs.Runs.{sectors_of}
 use Rattle.fb_store.specs.Writes.{is_within}
 
 -- what a sector holds after contents were taken: what the last of them gives it, or what it held before
 abbrev pub after_taking : List (ℕ × Content) → ℕ → Option Content → Option Content
 after_taking [] lbn before = before
 after_taking (sector ∷ sectors) lbn before = after_taking sectors lbn (if sector.0 == lbn then Some sector.1 else before)
+
+-- the runs give each of n sectors from the first on its content, in their order, and give no other sector any
+abbrev pub Gives : List ContentRun → (ℕ → Content) → ℕ → ℕ → Type 0
+Gives runs content_of first n = sectors_of runs ≡ map (λ lbn. (lbn, content_of lbn)) (range_with_len first n)
+
+-- what a sector holds after the contents of n sectors from the first on were taken
+abbrev pub after_take : (ℕ → Content) → ℕ → ℕ → ℕ → Option Content → Option Content
+after_take content_of first n lbn before = if is_within first n lbn then Some (content_of lbn) else before
 
 -- what a sector holds after n sectors from the first on were dropped
 abbrev pub after_dropping : ℕ → ℕ → ℕ → Option Content → Option Content

@@ -3,8 +3,9 @@ ghost use Rattle.std.specs.Prelude.{◌≡◌, ℕ, ◌+◌, ◌-◌, ◌<◌, �
 ghost use Rattle.std.specs.Ordering.{nat_cmp};
 ghost use Rattle.std.specs.BTreeMap.{get};
 ghost use Rattle.std.specs.List.{AllByRecursion, range_with_len};
+ghost use Rattle.fb_store.specs.declared.content.Content.{Content};
 ghost use Rattle.fb_store.specs.Index.{held_of, held_at, AreCut};
-ghost use Rattle.fb_store.specs.Pieces.{after_taking, after_dropping, held_in};
+ghost use Rattle.fb_store.specs.Pieces.{after_taking, Gives, after_take, after_dropping, held_in};
 ghost use Rattle.fb_store.specs.Runs.{runs_of, sectors_of};
 
 use crate::ranges::{assign, cut, held_at, next_begin, write};
@@ -44,6 +45,7 @@ impl Pieces {
     pub fn take(&mut self, contents: &Contents) -> Result<(), NoMemory>
         requires { AllByRecursion (λ run. run.first + run.count ≤ 10 ^ 12) contents.now }
         ensures ok { OnOk result ((lbn : ℕ) → held_at self.new lbn ≡ after_taking (sectors_of contents.now) lbn (held_at self.old lbn)) }
+        ensures given { OnOk result ((content_of : ℕ → Content) (first n lbn : ℕ) → Gives contents.now content_of first n → held_at self.new lbn ≡ after_take content_of first n lbn (held_at self.old lbn)) }
         ensures err { OnErr result ((lbn : ℕ) → held_at self.new lbn ≡ held_at self.old lbn) }
     {
         cut_runs(&mut self.ranges, contents)?;

@@ -2,6 +2,7 @@ use Rattle.std.proofs.Common.{ap, ◌∙◌, Result, Ok, Err, OnErr}
 use Rattle.fb_store.specs.Pieces.{after_taking}
 use Rattle.fb_store.specs.Index.{held_at}
 use Rattle.fb_store.specs.Runs.{sectors_of}
+use Rattle.fb_store.proofs.Taken.{taken_block}
 use Rattle.fb_store.proofs.pieces.Pieces.take.Goals as goal
 
 on_err : {T E P : Type 0} (r : Result T E) → P → OnErr r P
@@ -14,3 +15,6 @@ returns-clause-ok c lbn = c.assign_runs.ensures lbn
 
 pub returns-in_err-cut_runs-clause-err : goal.returns-in_err-cut_runs-clause-err
 returns-in_err-cut_runs-clause-err c = on_err c.from_residual.result (λ lbn. c.in_err-cut_runs.ensures.same lbn ∙ ap (λ ranges. held_at ranges lbn) c.self.view_is)
+
+pub returns-clause-given : goal.returns-clause-given
+returns-clause-given c content_of first n lbn gives = returns-clause-ok c lbn ∙ taken_block content_of first n lbn (sectors_of c.args.contents.now) (held_at c.args.self.now lbn) gives
