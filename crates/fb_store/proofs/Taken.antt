@@ -7,8 +7,9 @@ use Rattle.std.proofs.lemmas.Bool.Decides.{nat_tests}
 use Rattle.fb_store.specs.declared.content.Content.{Content}
 use Rattle.fb_store.specs.declared.content.ContentRun.{ContentRun}
 use Rattle.fb_store.specs.Runs.{runs_of, sectors_of, sectors_in}
+use Rattle.fb_store.specs.Writes.{is_within}
 use Rattle.fb_store.specs.Index.{held_at, begins_at}
-use Rattle.fb_store.specs.Pieces.{after_taking, after_take, after_dropping, held_sector, held_in}
+use Rattle.fb_store.specs.Pieces.{after_taking, after_take, after_dropping, held_sector, held_in, EndsBy}
 use Rattle.fb_store.proofs.Held.{none_held}
 use Rattle.fb_store.proofs.Originals.{inside, before, after, goes_on}
 use Rattle.fb_store.proofs.Joined.{fewest-again}
@@ -168,3 +169,35 @@ so_far_more P runs i run at before here j r less there = elim (cases_lt j i) [
   | inl l ↦ before j r l there
   | inr m ↦ let same : j ≡ i = omega arith in subst P (some_one run r (sym at ∙ (ap (slice_get runs) (sym same) ∙ there))) here
 ]
+
+-- contents that end by a sector leave all from there on
+pub taken_past : (end lbn : ℕ) (runs : List ContentRun) (held : Option Content) → AllByRecursion (λ run. run.first + run.count ≤ end) runs → end ≤ lbn → after_taking (sectors_of runs) lbn held ≡ held
+taken_past end lbn [] held all past = refl
+taken_past end lbn (run ∷ runs) held all past =
+    let here = all.0 in
+    after_taking-append (sectors_in run) (sectors_of runs) lbn held
+    ∙ (taken_past end lbn runs (after_taking (sectors_in run) lbn held) all.1 past ∙ taken_after (λ l. run.content) run.first run.count lbn held (omega arith))
+
+pub dropped_past : (first n lbn : ℕ) (held : Option Content) → held ≡ None → after_dropping first n lbn held ≡ None
+dropped_past first n lbn held none = go (is_within first n lbn) where
+  go : (b : Bool) → cond b None held ≡ None
+  go true = refl
+  go false = none
+
+-- sectors from which on nothing is held add nothing
+held_in-further : (content_of : ℕ → Option Content) (end more : ℕ) → EndsBy content_of end → held_in content_of (range_with_len 0 (end + more)) ≡ held_in content_of (range_with_len 0 end)
+held_in-further content_of end more none =
+    held_in-split content_of 0 end more
+    ∙ (ap (λ rest. held_in content_of (range_with_len 0 end) ++ rest) (held_none content_of (0 + end) more (λ lbn a b. none lbn (omega arith)))
+    ∙ append-nil (held_in content_of (range_with_len 0 end)))
+
+held_in-ends : (content_of : ℕ → Option Content) (end other : ℕ) → EndsBy content_of end → EndsBy content_of other → held_in content_of (range_with_len 0 end) ≡ held_in content_of (range_with_len 0 other)
+held_in-ends content_of end other none nothing = elim (cases_lt end other) [
+  | inl less ↦ let more : end + (other - end) ≡ other = omega arith in sym (ap (λ n. held_in content_of (range_with_len 0 n)) (sym more) ∙ held_in-further content_of end (other - end) none)
+  | inr le ↦ let more : other + (end - other) ≡ end = omega arith in ap (λ n. held_in content_of (range_with_len 0 n)) (sym more) ∙ held_in-further content_of other (end - other) nothing
+]
+
+pub contents_to : (content_of : ℕ → Option Content) (start runs : List ContentRun) (end other : ℕ) → start ≡ [] → EndsBy content_of end → runs ≡ runs_of (sectors_of start ++ held_in content_of (range_with_len 0 end)) → EndsBy content_of other
+    → runs ≡ runs_of (held_in content_of (range_with_len 0 other))
+contents_to content_of start runs end other none ends e nothing =
+    e ∙ ap runs_of (ap (λ rs. sectors_of rs ++ held_in content_of (range_with_len 0 end)) none ∙ held_in-ends content_of end other ends nothing)

@@ -1,5 +1,5 @@
 -- The contents of some sectors: what taken contents and a dropped range leave.
-use Rattle.std.specs.Prelude.{◌≡◌, ℕ, List, [], ◌∷◌, Option, None, Some, ◌==◌, map, if◌then◌else◌}
+use Rattle.std.specs.Prelude.{◌≡◌, ◌≤◌, ℕ, List, [], ◌∷◌, Option, None, Some, ◌==◌, map, if◌then◌else◌}
 use Rattle.std.specs.List.{flat_map, range_with_len}
 use Rattle.fb_store.specs.declared.content.Content.{Content}
 use Rattle.fb_store.specs.declared.content.ContentRun.{ContentRun}
@@ -31,3 +31,7 @@ held_sector lbn (Some content) = (lbn, content) ∷ []
 -- those of these sectors that hold something, each with its content
 abbrev pub held_in : (ℕ → Option Content) → List ℕ → List (ℕ × Content)
 held_in content_of lbns = flat_map (λ lbn. held_sector lbn (content_of lbn)) lbns
+
+-- no sector from the end on holds anything
+abbrev pub EndsBy : (ℕ → Option Content) → ℕ → Type 0
+EndsBy content_of end = (lbn : ℕ) → end ≤ lbn → content_of lbn ≡ None

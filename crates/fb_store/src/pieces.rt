@@ -5,7 +5,7 @@ ghost use Rattle.std.specs.BTreeMap.{get};
 ghost use Rattle.std.specs.List.{AllByRecursion, range_with_len};
 ghost use Rattle.fb_store.specs.declared.content.Content.{Content};
 ghost use Rattle.fb_store.specs.Index.{held_of, held_at, AreCut};
-ghost use Rattle.fb_store.specs.Pieces.{after_taking, Gives, after_take, after_dropping, held_in};
+ghost use Rattle.fb_store.specs.Pieces.{after_taking, Gives, EndsBy, after_take, after_dropping, held_in};
 ghost use Rattle.fb_store.specs.Runs.{runs_of, sectors_of};
 
 use crate::ranges::{assign, cut, held_at, next_begin, write};
@@ -15,6 +15,9 @@ use std::alloc::Global;
 use std::collections::BTreeMap;
 use std::marker::Model;
 
+// No sector has a number as great as this.
+const SECTORS: u64 = 1_000_000_000_000;
+
 /// What some sectors hold: each sector has a content or none.
 #[derive(Drop)]
 pub struct Pieces {
@@ -22,12 +25,16 @@ pub struct Pieces {
 }
 
 impl Model for Pieces {
-    ghost use Rattle.std.specs.Prelude.{ℕ, List, Option};
+    ghost use Rattle.std.specs.Prelude.{ℕ, ◌^◌, List, Option};
     ghost use Rattle.fb_store.specs.declared.content.Content.{Content};
+    ghost use Rattle.fb_store.specs.Index.{held_at};
+    ghost use Rattle.fb_store.specs.Pieces.{EndsBy};
 
     ghost Value = { List (ℕ × Option Content) };
 
     ghost view = { λ p. p.ranges.entries };
+
+    ghost invariant = { λ p. EndsBy (held_at p.ranges.entries) (10 ^ 12) };
 }
 
 impl Pieces {
@@ -66,6 +73,16 @@ impl Pieces {
         Ok(())
     }
 
+    /// All that is held, as the fewest runs, ascending.
+    pub fn contents(&self, alloc: Global) -> Result<Contents, NoMemory>
+        ensures ends { EndsBy (held_at self.now) (10 ^ 12) }
+        ensures fewest { IfOk result (λ runs. (end : ℕ) → EndsBy (held_at self.now) end → runs ≡ runs_of (held_in (held_at self.now) (range_with_len 0 end))) }
+    {
+        let mut runs = Contents::new(alloc);
+        self.add_runs(&mut runs, 0, self.end())?;
+        Ok(runs)
+    }
+
     /// Adds the contents of a range's sectors after runs, which stay the fewest.
     pub fn add_runs(&self, runs: &mut Contents, first: u64, count: u64) -> Result<(), NoMemory>
         requires range { first + count ≤ 10 ^ 12 }
@@ -78,6 +95,15 @@ impl Pieces {
             lbn = self.add_piece(runs, lbn, end)?;
         }
         Ok(())
+    }
+
+    // A sector from which on none holds anything.
+    fn end(&self) -> u64
+        ensures most { result ≤ 10 ^ 12 }
+        ensures none { EndsBy (held_at self.now) result }
+    {
+        let _ranges = &self.ranges;
+        SECTORS
     }
 
     // Adds the contents of sectors up to where the next range begins, and tells where that is.

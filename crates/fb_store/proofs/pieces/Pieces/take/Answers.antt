@@ -1,8 +1,8 @@
-use Rattle.std.proofs.Common.{ap, ◌∙◌, Result, Ok, Err, OnErr}
+use Rattle.std.proofs.Common.{ap, ◌∙◌, ◌^◌, Result, Ok, Err, OnErr}
 use Rattle.fb_store.specs.Pieces.{after_taking}
 use Rattle.fb_store.specs.Index.{held_at}
 use Rattle.fb_store.specs.Runs.{sectors_of}
-use Rattle.fb_store.proofs.Taken.{taken_block}
+use Rattle.fb_store.proofs.Taken.{taken_block, taken_past}
 use Rattle.fb_store.proofs.pieces.Pieces.take.Goals as goal
 
 on_err : {T E P : Type 0} (r : Result T E) → P → OnErr r P
@@ -18,3 +18,10 @@ returns-in_err-cut_runs-clause-err c = on_err c.from_residual.result (λ lbn. c.
 
 pub returns-clause-given : goal.returns-clause-given
 returns-clause-given c content_of first n lbn gives = returns-clause-ok c lbn ∙ taken_block content_of first n lbn (sectors_of c.args.contents.now) (held_at c.args.self.now lbn) gives
+
+pub invariant_of-self : goal.invariant_of-self
+invariant_of-self c lbn past = c.cut_runs.ensures.same lbn ∙ c.self.invariant lbn past
+
+pub invariant_of-self-2 : goal.invariant_of-self-2
+invariant_of-self-2 c lbn past = c.assign_runs.ensures lbn
+    ∙ (taken_past (10 ^ 12) lbn c.args.contents.now (held_at c.cut_runs.new.ranges.entries lbn) c.requires past ∙ (c.cut_runs.ensures.same lbn ∙ c.self.invariant lbn past))

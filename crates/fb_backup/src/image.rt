@@ -1,0 +1,66 @@
+// The contents that a backup has taken.
+ghost use Rattle.std.specs.Prelude.{◌≡◌, ℕ, ◌+◌, ◌≤◌, ◌^◌, None, IfOk, OnOk, OnErr};
+ghost use Rattle.std.specs.List.{AllByRecursion, range_with_len};
+ghost use Rattle.fb_store.specs.declared.content.Content.{Content};
+ghost use Rattle.fb_store.specs.Index.{held_at};
+ghost use Rattle.fb_store.specs.Pieces.{Gives, EndsBy, after_take, after_dropping, held_in};
+ghost use Rattle.fb_store.specs.Runs.{runs_of};
+
+use fb_store::{Contents, Pieces};
+use fb_units::NoMemory;
+use fb_wanted::Block;
+use std::alloc::Global;
+use std::marker::Model;
+
+/// What the delivered blocks of a backup hold: for each sector the content that was taken last and not dropped since.
+#[derive(Drop)]
+pub struct Image {
+    pieces: Pieces,
+}
+
+impl Model for Image {
+    ghost use Rattle.std.specs.Prelude.{ℕ, List, Option};
+    ghost use Rattle.fb_store.specs.declared.content.Content.{Content};
+
+    ghost Value = { List (ℕ × Option Content) };
+
+    ghost view = { λ image. image.pieces };
+}
+
+impl Image {
+    /// An image without a sector.
+    pub fn new(alloc: Global) -> Self
+        ensures { (lbn : ℕ) → held_at result lbn ≡ None }
+    {
+        Image {
+            pieces: Pieces::new(alloc),
+        }
+    }
+
+    /// Replaces the content of the block's sectors. Where memory is wanting all stays.
+    pub fn take(&mut self, block: Block, content: &Contents) -> Result<(), NoMemory>
+        requires ranges { AllByRecursion (λ run. run.first + run.count ≤ 10 ^ 12) content.now }
+        requires covers { (content_of : ℕ → Content) × Gives content.now content_of block.lbn block.count }
+        ensures ok { OnOk result ((content_of : ℕ → Content) (lbn : ℕ) → Gives content.now content_of block.lbn block.count → held_at self.new lbn ≡ after_take content_of block.lbn block.count lbn (held_at self.old lbn)) }
+        ensures err { OnErr result ((lbn : ℕ) → held_at self.new lbn ≡ held_at self.old lbn) }
+    {
+        self.pieces.take(content)
+    }
+
+    /// Takes the range's sectors out of the image. Where memory is wanting all stays.
+    pub fn drop_range(&mut self, first: u64, count: u64) -> Result<(), NoMemory>
+        requires { first + count ≤ 10 ^ 12 }
+        ensures ok { OnOk result ((lbn : ℕ) → held_at self.new lbn ≡ after_dropping first count lbn (held_at self.old lbn)) }
+        ensures err { OnErr result ((lbn : ℕ) → held_at self.new lbn ≡ held_at self.old lbn) }
+    {
+        self.pieces.drop_range(first, count)
+    }
+
+    /// The contents of the image's sectors as the fewest runs, ascending.
+    pub fn contents(&self, alloc: Global) -> Result<Contents, NoMemory>
+        ensures ends { EndsBy (held_at self.now) (10 ^ 12) }
+        ensures fewest { IfOk result (λ runs. (end : ℕ) → EndsBy (held_at self.now) end → runs ≡ runs_of (held_in (held_at self.now) (range_with_len 0 end))) }
+    {
+        self.pieces.contents(alloc)
+    }
+}
