@@ -6,7 +6,7 @@ use Rattle.fb_units.specs.Lines.{lines_of, fields_of}
 use Rattle.fb_geometry.specs.Shape.{Shape}
 use Rattle.fb_calls.specs.declared.call.Call.{Call}
 use Rattle.fb_calls.specs.declared.fault.CallsReason.TheVariants.{OutOfOrder}
-use Rattle.fb_calls.specs.Allowed.{IsScript}
+use Rattle.fb_calls.specs.Allowed.{tasks, IsScript}
 use Rattle.fb_calls.specs.Judgement.{Progress, task_for, call_of, with_call}
 use Rattle.fb_calls.specs.Line.{Entry, entry_of}
 use Rattle.fb_calls.specs.Reading.{Accepted, at_start, at_end, line_read, fault_at, next_progress, lines_from, calls_of}
@@ -62,16 +62,19 @@ module _ (disk : Shape) (traced : ℕ) where
     last = tt;
   }
 
-  pub script_allowed : (text : List ℕ) (accepted : Accepted) → calls_of disk traced text ≡ Ok accepted → length accepted.calls < 2 ^ 32 → IsScript disk traced accepted.names accepted.calls
+  pub script_allowed : (text : List ℕ) (accepted : Accepted) → calls_of disk traced text ≡ Ok accepted → length accepted.calls < 2 ^ 32
+      → (length accepted.names ≡ length (tasks accepted.calls)) × IsScript disk traced accepted.calls
   script_allowed text accepted given few =
       let read = lines_allowed 1 (at_start traced) (lines_of text) accepted at_start_known given in
       let knows = read.2 in
       let few_calls : length read.0.calls < 2 ^ 32 = subst (λ a. length a.calls < 2 ^ 32) (sym read.1) few in
-      subst (λ a. IsScript disk traced a.names a.calls) read.1 (record {
-        names_are = knows.names_are;
-        instants = knows.rising;
-        allowed = knows.allowed;
-        few_calls = few_calls;
-        few_blocks = omega (arith, knows.blocks_are, knows.few_blocks);
-        few_reads = λ small. let reads = knows.few_reads small in omega (arith, knows.reads_are);
-      })
+      subst (λ a. (length a.names ≡ length (tasks a.calls)) × IsScript disk traced a.calls) read.1 (
+        knows.names_are,
+        record {
+          instants = knows.rising;
+          allowed = knows.allowed;
+          few_calls = few_calls;
+          few_blocks = omega (arith, knows.blocks_are, knows.few_blocks);
+          few_reads = λ small. let reads = knows.few_reads small in omega (arith, knows.reads_are);
+        },
+      )

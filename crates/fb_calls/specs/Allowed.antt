@@ -78,8 +78,7 @@ blocks_from disk before [] = 0
 blocks_from disk before (call ∷ calls) = blocks_in disk (terms_of before call.task).block call.action + blocks_from disk (before ++ call ∷ []) calls
 
 -- the calls of a script behind a trace of so many requests
-pub record IsScript (disk : Shape) (traced : ℕ) (names : List (List ℕ)) (calls : List Call) : Type 0 where
-  pub names_are : length names ≡ length (tasks calls)
+pub record IsScript (disk : Shape) (traced : ℕ) (calls : List Call) : Type 0 where
   pub instants : IsRising (map (λ call. call.instant) calls)
   pub allowed : AreAllowed disk [] calls
   pub few_calls : length calls < 2 ^ 32

@@ -29,8 +29,8 @@ const MOST_SECTORS: u64 = 2_048;
 
 const MOST_SEGMENT_BLOCKS: u64 = 4_096;
 
-/// A call that may be made: its line and instant, its task by name and number, what it asks for, and how many
-/// blocks that gives.
+/// A call that may be made: its line and instant, its task by name and number, what it asks for, and
+/// how many blocks that gives.
 #[derive(Clone, Copy)]
 pub struct Step<'a> {
     pub line: u64,

@@ -2,7 +2,9 @@
 //!
 //! A text is accepted exactly where its lines keep the rules of the format on a disk and behind a
 //! trace, and then it means its calls in line order, with the tasks numbered in order of opening; a
-//! text that is refused names its first faulty line and the first reason of that line.
+//! text that is refused names its first faulty line and the first reason of that line. What is
+//! accepted is fit for a replay: each call keeps the rules after those before it, and the blocks and
+//! reads that they ask for are within their limits.
 #![tactic(auto)]
 
 mod blocks;

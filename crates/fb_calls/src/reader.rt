@@ -1,7 +1,7 @@
 // A script, line by line.
 ghost use Rattle.std.specs.Prelude.{◌≡◌, ◌+◌, ◌*◌, ◌≤◌, ◌^◌, [], ◌∷◌, ◌++◌, length, None, IfOk, IfErr, OnOk};
 ghost use Rattle.std.specs.List.{AllByRecursion};
-ghost use Rattle.fb_calls.specs.Allowed.{IsScript};
+ghost use Rattle.fb_calls.specs.Allowed.{tasks, IsScript};
 ghost use Rattle.fb_calls.specs.Blocks.{reads_in};
 ghost use Rattle.fb_calls.specs.Judgement.{with_blocks};
 ghost use Rattle.fb_calls.specs.Reading.{next_progress, calls_of, at_start, at_end};
@@ -37,7 +37,7 @@ pub struct Reader {
 }
 
 /// The calls of a script, on a disk and behind a trace of so many requests. An error names the first
-/// faulty line and its first fault.
+/// faulty line and its first fault. More calls than have numbers in 32 bits count as want of memory.
 pub fn read_calls(
     alloc: Global,
     bytes: &[u8],
@@ -45,7 +45,8 @@ pub fn read_calls(
     trace_count: u64,
 ) -> Result<Calls, CallsError>
     ensures answer { Answers accepted result (calls_of map.now trace_count bytes.now) }
-    ensures script { IfOk result (λ calls. IsScript map.now trace_count calls.names calls.calls.items) }
+    ensures names { IfOk result (λ calls. length calls.names ≡ length (tasks calls.calls.items)) }
+    ensures script { IfOk result (λ calls. IsScript map.now trace_count calls.calls.items) }
 {
     let mut reader = Reader::new(alloc, trace_count);
     let mut rest = bytes;

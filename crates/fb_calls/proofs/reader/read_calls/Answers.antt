@@ -33,4 +33,8 @@ returns-clause-answer c =
 
 pub returns-clause-script : goal.returns-clause-script
 returns-clause-script c =
-    script_allowed c.args.map.now c.args.trace_count c.args.bytes.now (accepted c.in_ok-end.field-0) (returns-clause-answer c) (rw (ap (λ a. a.calls) c.in_ok-end.ensures) c.loop-line.invariant.reader.few_calls)
+    (script_allowed c.args.map.now c.args.trace_count c.args.bytes.now (accepted c.in_ok-end.field-0) (returns-clause-answer c) (rw (ap (λ a. a.calls) c.in_ok-end.ensures) c.loop-line.invariant.reader.few_calls)).1
+
+pub returns-clause-names : goal.returns-clause-names
+returns-clause-names c =
+    (script_allowed c.args.map.now c.args.trace_count c.args.bytes.now (accepted c.in_ok-end.field-0) (returns-clause-answer c) (rw (ap (λ a. a.calls) c.in_ok-end.ensures) c.loop-line.invariant.reader.few_calls)).0
