@@ -11,14 +11,11 @@ use Rattle.fb_wanted.specs.declared.block.Change.{Change}
 use Rattle.fb_wanted.specs.declared.block.Entry.{Entry}
 use Rattle.fb_wanted.specs.States.{after, entry_after, is_block, on_track}
 use Rattle.fb_units.specs.Tracks.{same_track}
-use Rattle.fb_wanted.specs.Numbering.{AreNumbered, blocks_of, registered}
+use Rattle.fb_wanted.specs.Numbering.{AreNumbered, AreSmall, blocks_of, registered}
 
 pub blocks-after : (task : ℕ) (change : Change) (es : List Entry) → blocks_of (after task change es) ≡ blocks_of es
 blocks-after task change [] = refl
 blocks-after task change (e ∷ es) = rw (blocks-after task change es) refl
-
-pub numbered-after : (task : ℕ) (change : Change) (es : List Entry) → AreNumbered (blocks_of es) → AreNumbered (blocks_of (after task change es))
-numbered-after task change es h = subst AreNumbered (sym (blocks-after task change es)) h
 
 -- an entry of a longer list stands in the shorter one, or is the new one
 pub in_either : {X : Type 0} (xs : List X) (y x : X) (i : ℕ) → slice_get (xs ++ y ∷ []) i ≡ Some x → ((i < length xs) × (slice_get xs i ≡ Some x)) ⊎ ((i ≡ length xs) × (x ≡ y))
@@ -111,16 +108,27 @@ take-front : (xs ys : List Entry) → take (length xs) (xs ++ ys) ≡ xs
 take-front [] ys = refl
 take-front (x ∷ xs) ys = rw (take-front xs ys) refl
 
-pub kept : (es new rest : List Entry) (n task : ℕ) (change : Change) → length es ≡ n → new ≡ after task change es → AreNumbered (blocks_of es) → length es ≤ 16000000
-    → AreNumbered (blocks_of (take n (new ++ rest))) × (length (take n (new ++ rest)) ≤ 16000000)
-kept es new rest n task change size e numbered few =
+small-more : (es : List Entry) (e : Entry) → AreSmall (blocks_of es) → e.block.weight ≤ 1000 → e.block.count ≤ 2048 → AreSmall (blocks_of (es ++ e ∷ []))
+small-more es e h light short = subst AreSmall (sym (blocks-more es e)) (λ i b at. elim (in_either (blocks_of es) e.block b i at) [
+  | inl old ↦ h i b old.1
+  | inr new ↦ subst (λ c. (c.weight ≤ 1000) × (c.count ≤ 2048)) (sym new.1) (light, short)
+])
+
+-- a registered block is small
+pub small_at : (es : List Entry) (i : ℕ) (d : Entry) → AreSmall (blocks_of es) → i < length es → ((get_or es i d).block.weight ≤ 1000) × ((get_or es i d).block.count ≤ 2048)
+small_at es i d h lt = h i (get_or es i d).block (slice_get-map (λ x. x.block) es i ∙ ap (option_map (λ x. x.block)) (slice_get-get_or es i d lt))
+
+pub kept : (es new rest : List Entry) (n task : ℕ) (change : Change) → length es ≡ n → new ≡ after task change es → AreNumbered (blocks_of es) → length es ≤ 16000000 → AreSmall (blocks_of es)
+    → AreNumbered (blocks_of (take n (new ++ rest))) × (length (take n (new ++ rest)) ≤ 16000000) × AreSmall (blocks_of (take n (new ++ rest)))
+kept es new rest n task change size e numbered few small =
     let same : length new ≡ length es = ap length e ∙ length-map-own (entry_after task change) es in
     let all : take n (new ++ rest) ≡ new = ap (λ k. take k (new ++ rest)) (sym size ∙ sym same) ∙ take-front new rest in
-    rw all (subst (λ xs. AreNumbered (blocks_of xs)) (sym e) (numbered-after task change es numbered), omega arith)
+    let blocks : blocks_of new ≡ blocks_of es = ap blocks_of e ∙ blocks-after task change es in
+    rw all (subst AreNumbered (sym blocks) numbered, omega arith, subst AreSmall (sym blocks) small)
 
-pub pushed : (es new : List Entry) (e : Entry) → new ≡ es ++ e ∷ [] → AreNumbered (blocks_of es) → e.block.index ≡ registered e.block.task (blocks_of es) → length es < 16000000
-    → AreNumbered (blocks_of new) × (length new ≤ 16000000)
-pushed es new e same numbered free room = (subst (λ xs. AreNumbered (blocks_of xs)) (sym same) (numbered-more es e numbered free), omega (arith, ap length same, length-append es (e ∷ [])))
+pub pushed : (es new : List Entry) (e : Entry) → new ≡ es ++ e ∷ [] → AreNumbered (blocks_of es) → e.block.index ≡ registered e.block.task (blocks_of es) → length es < 16000000 → AreSmall (blocks_of es) → e.block.weight ≤ 1000 → e.block.count ≤ 2048
+    → AreNumbered (blocks_of new) × (length new ≤ 16000000) × AreSmall (blocks_of new)
+pushed es new e same numbered free room small light short = (subst (λ xs. AreNumbered (blocks_of xs)) (sym same) (numbered-more es e numbered free), omega (arith, ap length same, length-append es (e ∷ [])), subst (λ xs. AreSmall (blocks_of xs)) (sym same) (small-more es e small light short))
 
 pub block_seen : (track : Track) (es now : List Entry) (k i : ℕ) (d : Entry) → es ≡ now → k < length es → same_track track (get_or es k d).block.track ≡ true → i ≡ length (on_track track (take k es))
     → slice_get (blocks_of (on_track track now)) i ≡ Some (get_or es k d).block
