@@ -1,0 +1,73 @@
+// Each call once, over two blocks of a task and one of another.
+use crate::{Block, State, Wanted};
+use fb_units::Track;
+use std::test::Fail;
+
+const NEAR: Track = Track {
+    cylinder: 0,
+    head: 1,
+};
+
+const FAR: Track = Track {
+    cylinder: 2,
+    head: 0,
+};
+
+const FIRST: Block = Block {
+    task: 0,
+    index: 0,
+    lbn: 12,
+    count: 4,
+    track: NEAR,
+    weight: 1,
+};
+
+const SECOND: Block = Block {
+    task: 0,
+    index: 1,
+    lbn: 16,
+    count: 4,
+    track: NEAR,
+    weight: 2,
+};
+
+const OTHER: Block = Block {
+    task: 1,
+    index: 0,
+    lbn: 48,
+    count: 4,
+    track: FAR,
+    weight: 3,
+};
+
+#[test]
+fn a_block_is_delivered(rt: HostRuntime) -> Result<(), Fail> {
+    let mut wanted = Wanted::new(rt.alloc());
+    wanted.register(FIRST, false)?;
+    assert_eq!(rt; wanted.state(0, 0), State::Wanted);
+    wanted.deliver(0, 0);
+    assert_eq!(rt; wanted.wanted_weight_on(NEAR), 0);
+    wanted.rewant(0, 15, 9, true);
+    assert_eq!(rt; wanted.wanted_weight_on(NEAR), 0);
+    wanted.resume(0);
+    assert_eq!(rt; wanted.wanted_weight_on(NEAR), 4);
+    Ok(())
+}
+
+#[test]
+fn blocks_of_two_tasks(rt: HostRuntime) -> Result<(), Fail> {
+    let mut wanted = Wanted::new(rt.alloc());
+    wanted.register(FIRST, false)?;
+    wanted.register(SECOND, true)?;
+    wanted.register(OTHER, false)?;
+    wanted.resume(0);
+    assert_eq!(rt; wanted.wanted_weight_on(NEAR), 12);
+    assert_eq!(rt; wanted.abort(0, 8, 5), 1);
+    assert_eq!(rt; wanted.wanted_weight_on(NEAR), 8);
+    wanted.suspend(0);
+    assert_eq!(rt; wanted.wanted_weight_on(NEAR), 0);
+    assert_eq!(rt; wanted.registered_on(NEAR), 2);
+    assert_eq!(rt; wanted.block_on(NEAR, 1), SECOND);
+    assert_eq!(rt; wanted.next_registered_track(SECOND.track), Some(NEAR));
+    Ok(())
+}
