@@ -1,4 +1,4 @@
-use Rattle.std.proofs.Common.{ap, arith, ◌∙◌, refl}
+use Rattle.std.proofs.Common.{ap, arith, ◌∙◌}
 use Rattle.fb_geometry.specs.Shape.{cylinders_of}
 use Rattle.fb_service.proofs.tests.disk_of.Goals as goal
 
