@@ -1,7 +1,9 @@
 -- The blocks that hexadecimal digits stand for.
-use Rattle.std.proofs.Common.{◌≡◌, ℕ, zero, suc, ◌*◌, ◌/◌, ◌%◌, ◌<◌, ◌≤◌, true, false, List, [], ◌∷◌, length, get_or, refl, arith}
+use Rattle.std.proofs.Common.{◌+◌, ◌≡◌, ℕ, zero, suc, ◌*◌, ◌/◌, ◌%◌, ◌<◌, ◌≤◌, true, false, List, [], ◌∷◌, length, get_or, take, length-take, inl, inr, refl, arith, ◌∙◌}
 use Rattle.std.specs.Char.{is_digit}
 use Rattle.std.specs.List.{list_all}
+use Rattle.std.proofs.lemmas.Bool.{cases_lt}
+use Rattle.std.proofs.lemmas.List.{get_or-take, get_or_past}
 use Rattle.std.proofs.lemmas.Bool.Decides.{nat_tests}
 use Rattle.fb_calls.specs.Live.{bits_of, bits, is_live}
 
@@ -35,3 +37,20 @@ live_length blocks digits h = grind (arith, nat_tests)
 pub live_some : (blocks : ℕ) (digits : List ℕ) → is_live blocks digits ≡ true → 1 ≤ blocks
 unfolding is_live
 live_some blocks digits h = grind (arith, nat_tests)
+
+no_bit : (k : ℕ) → get_or (bits_of 48) k false ≡ false
+no_bit zero = refl
+no_bit (suc zero) = refl
+no_bit (suc (suc zero)) = refl
+no_bit (suc (suc (suc zero))) = refl
+no_bit (suc (suc (suc (suc k)))) = refl
+
+-- a zero stands for four blocks that aren't live
+pub zero_dead : (blocks : ℕ) (digits : List ℕ) (i : ℕ) → i % 4 ≡ 0 → i < 4 * length digits → get_or digits (i / 4) 0 ≡ 48 → (k : ℕ) → k < 4 → get_or (take blocks (bits digits)) (i + k) false ≡ false
+zero_dead blocks digits i multiple inside no_digit k small = elim (cases_lt (i + k) blocks) [
+  | inl within ↦
+      let digit : (i + k) / 4 ≡ i / 4 = omega arith in
+      let place : (i + k) % 4 ≡ k = omega arith in
+      get_or-take blocks (bits digits) (i + k) false (omega arith) ∙ bit_at digits (i + k) (omega arith) ∙ rw (digit, place, no_digit) (no_bit k)
+  | inr past ↦ get_or_past (take blocks (bits digits)) (i + k) false (omega (arith, length-take blocks (bits digits)))
+]

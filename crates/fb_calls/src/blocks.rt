@@ -1,5 +1,5 @@
 // How many blocks a call can give.
-ghost use Rattle.std.specs.Prelude.{◌≡◌, ◌+◌, ◌*◌, ◌<◌, ◌≤◌, ◌^◌, length, take, true, MatchOption};
+ghost use Rattle.std.specs.Prelude.{◌≡◌, ◌+◌, ◌*◌, ◌<◌, ◌≤◌, ◌^◌, [], length, take, true, if◌then◌else◌, MatchOption};
 ghost use Rattle.fb_geometry.specs.Places.{places};
 ghost use Rattle.fb_sectormap.specs.Cutting.{cutting};
 ghost use Rattle.fb_calls.specs.Blocks.{live_cuts};
@@ -45,17 +45,35 @@ pub fn count_live_cuts(
 ) -> Option<u64>
     requires block { 0 < block }
     requires live { is_live blocks live.now ≡ true }
+    requires few { blocks ≤ 4096 }
     requires on_disk { first + blocks * block ≤ length (places map.now) }
     requires fits { first + blocks * block < 2 ^ 64 }
     ensures { MatchOption result (most < length (live_cuts map.now block first (take blocks (bits live.now)))) (λ cuts. (cuts ≡ length (live_cuts map.now block first (take blocks (bits live.now)))) × (cuts ≤ most)) }
 {
-    let mut lbn = first;
+    let mut i = 0;
     let mut cuts = 0;
-    for i in 0..blocks {
-        if is_live_block(live, i) {
-            cuts += count_cuts(map, block, lbn, block as u64, most - cuts)?;
+    while i < blocks {
+        if i % 4 == 0 && live[(i / 4) as usize] == b'0' {
+            i += 4;
+        } else {
+            let lbn = first + i * block as u64;
+            cuts += count_block(map, block, lbn, is_live_block(live, i), most - cuts)?;
+            i += 1;
         }
-        lbn += block as u64;
     }
     Some(cuts)
+}
+
+// How many blocks a block of a segment is cut into: none where it isn't live.
+fn count_block(map: &SectorMap, block: u32, lbn: u64, live: bool, most: u64) -> Option<u64>
+    requires block { 0 < block }
+    requires on_disk { lbn + block ≤ length (places map.now) }
+    requires fits { lbn + block < 2 ^ 64 }
+    ensures { MatchOption result (most < length (if live then cutting map.now block lbn block else [])) (λ cuts. (cuts ≡ length (if live then cutting map.now block lbn block else [])) × (cuts ≤ most)) }
+{
+    if live {
+        count_cuts(map, block, lbn, block as u64, most)
+    } else {
+        Some(0)
+    }
 }

@@ -1,5 +1,5 @@
 // Which blocks of a segment are live.
-ghost use Rattle.std.specs.Prelude.{◌≡◌, ◌<◌, [], ◌∷◌, ◌++◌, length, OnOk, OnErr, slice_get};
+ghost use Rattle.std.specs.Prelude.{◌≡◌, ◌<◌, [], ◌∷◌, ◌++◌, length, IfOk, OnOk, OnErr, slice_get};
 
 use fb_units::NoMemory;
 use std::alloc::Global;
@@ -27,6 +27,15 @@ impl Live {
         Live {
             blocks: Vec::new(alloc),
         }
+    }
+
+    // An empty list with room for so many blocks.
+    pub(crate) fn with_capacity(alloc: Global, blocks: usize) -> Result<Self, NoMemory>
+        ensures { IfOk result (λ live. live ≡ []) }
+    {
+        Ok(Live {
+            blocks: Vec::with_capacity(alloc, blocks)?,
+        })
     }
 
     /// Adds a block at the end. Where memory is wanting the list stays as it is.

@@ -72,7 +72,7 @@ pub fn read_live(alloc: Global, blocks: u64, digits: &[u8]) -> Result<Live, NoMe
     requires { is_live blocks digits.now ≡ true }
     ensures { IfOk result (λ live. live ≡ take blocks (bits digits.now)) }
 {
-    let mut live = Live::new(alloc);
+    let mut live = Live::with_capacity(alloc, blocks as usize)?;
     for block in 0..blocks {
         live.push(is_live_block(digits, block))?;
     }
