@@ -1,31 +1,53 @@
--- The lines of the foreground report.
-use Rattle.std.proofs.Common.{◌≡◌, ℕ, zero, suc, ◌+◌, ◌-◌, ◌<◌, ◌≤◌, List, [], ◌∷◌, ◌++◌, length, map, refl, sym, ap, ◌∙◌, arith, Some}
+-- The lines of a report: a first one, one for each row in order, and a last one.
+use Rattle.std.proofs.Common.{◌≡◌, ℕ, zero, suc, ◌+◌, ◌-◌, ◌<◌, ◌≤◌, List, [], ◌∷◌, ◌++◌, length, map, refl, sym, ap, ◌∙◌, arith, append-nil, drop, Some}
 use Rattle.std.specs.Prelude.{slice_get, option_map}
-use Rattle.std.proofs.lemmas.List.{length-append, length-map}
-use Rattle.std.proofs.lemmas.Option.{slice_get-map}
-use Rattle.fb_report.proofs.Ranges.{get_left, get_right}
-use Rattle.fb_rows.specs.declared.fore.ForeRow.{ForeRow}
+use Rattle.std.specs.List.{flat_map}
+use Rattle.std.proofs.lemmas.List.{length-append, length-map, drop_all}
+use Rattle.std.proofs.lemmas.Option.{slice_get-map, slice_get_within}
+use Rattle.fb_report.proofs.Ranges.{get_left, get_right, drop_got, part_more}
 use Rattle.fb_rows.specs.declared.run.Run.{Run}
 use Rattle.fb_report.specs.declared.bytes.Bytes.{Bytes}
 use Rattle.fb_report.specs.Fore.{fore_line, first_line, last_line, fore_lines}
+use Rattle.fb_report.specs.Back.{back_line, back_first, back_last, back_lines}
 
-pub length-fore_lines : (len : ℕ) (bytes : Bytes) (run : Run) → length (fore_lines len bytes run) ≡ length run.fore + 2
-unfolding fore_lines
-length-fore_lines len bytes run = omega (arith, length-append (map (fore_line len bytes) run.fore) (last_line run ∷ []), length-map run.fore (fore_line len bytes))
+-- these lines are a first one, a line for each row, and a last one
+pub record AreLines {X : Type 0} (first : List ℕ) (line : X → List ℕ) (rows : List X) (last : List ℕ) (lines : List (List ℕ)) : Type 0 where
+  pub are : lines ≡ first ∷ (map line rows ++ last ∷ [])
 
-pub line_first : (len : ℕ) (bytes : Bytes) (run : Run) (k : ℕ) → k ≡ 0 → slice_get (fore_lines len bytes run) k ≡ Some first_line
-unfolding fore_lines
-line_first len bytes run k e = ap (slice_get (fore_lines len bytes run)) e
+module _ {X : Type 0} (first : List ℕ) (line : X → List ℕ) (rows : List X) (last : List ℕ) (lines : List (List ℕ)) (h : AreLines first line rows last lines) where
+  pub length_lines : length lines ≡ length rows + 2
+  length_lines = ap length h.are ∙ omega (arith, length-append (map line rows) (last ∷ []), length-map rows line)
 
-pub line_row : (len : ℕ) (bytes : Bytes) (run : Run) (k i : ℕ) (row : ForeRow) → k ≡ suc i → slice_get run.fore i ≡ Some row → i < length run.fore → slice_get (fore_lines len bytes run) k ≡ Some (fore_line len bytes row)
-unfolding fore_lines
-line_row len bytes run k i row e f h =
-    ap (slice_get (fore_lines len bytes run)) e
-    ∙ get_left (map (fore_line len bytes) run.fore) (last_line run ∷ []) i (omega (arith, length-map run.fore (fore_line len bytes)))
-    ∙ slice_get-map (fore_line len bytes) run.fore i ∙ ap (option_map (fore_line len bytes)) f
+  pub line_first : (k : ℕ) → k ≡ 0 → slice_get lines k ≡ Some first
+  line_first k e = ap (slice_get lines) e ∙ ap (λ xs. slice_get xs 0) h.are
 
-pub line_last : (len : ℕ) (bytes : Bytes) (run : Run) (k : ℕ) → k ≡ suc (length run.fore) → slice_get (fore_lines len bytes run) k ≡ Some (last_line run)
+  pub line_row : (k : ℕ) (row : X) → 0 < k → slice_get rows (k - 1) ≡ Some row → slice_get lines k ≡ Some (line row)
+  line_row k row some f =
+      let next : k ≡ suc (k - 1) = omega arith in
+      ap (slice_get lines) next
+      ∙ ap (λ xs. slice_get xs (suc (k - 1))) h.are
+      ∙ get_left (map line rows) (last ∷ []) (k - 1) (omega (arith, length-map rows line, slice_get_within rows (k - 1) row f))
+      ∙ slice_get-map line rows (k - 1) ∙ ap (option_map line) f
+
+  pub line_last : (k : ℕ) → k ≡ suc (length rows) → slice_get lines k ≡ Some last
+  line_last k e =
+      ap (slice_get lines) e
+      ∙ ap (λ xs. slice_get xs (suc (length rows))) h.are
+      ∙ get_right (map line rows) (last ∷ []) 0 (length rows) (omega (arith, length-map rows line))
+
+pub fore_are : (size : ℕ) (bytes : Bytes) (run : Run) → AreLines first_line (fore_line size bytes) run.fore (last_line run) (fore_lines size bytes run)
 unfolding fore_lines
-line_last len bytes run k e =
-    ap (slice_get (fore_lines len bytes run)) e
-    ∙ get_right (map (fore_line len bytes) run.fore) (last_line run ∷ []) 0 (length run.fore) (omega (arith, length-map run.fore (fore_line len bytes)))
+fore_are size bytes run = record { are = refl }
+
+pub back_are : (names : List (List ℕ)) (size : ℕ) (bytes : Bytes) (run : Run) → AreLines back_first (back_line names size bytes) run.back (back_last run) (back_lines names size bytes run)
+unfolding back_lines
+back_are names size bytes run = record { are = refl }
+
+-- a line more of a text
+pub text_more : (lines : List (List ℕ)) (k : ℕ) (now new line : List ℕ) (whole : List ℕ) → now ++ flat_map (λ x. x) (drop k lines) ≡ whole
+    → slice_get lines k ≡ Some line → new ≡ now ++ line → new ++ flat_map (λ x. x) (drop (k + 1) lines) ≡ whole
+text_more lines k now new line whole so_far at is = part_more (λ x. x) now new line line (drop k lines) (drop (k + 1) lines) whole so_far (drop_got lines k line at) refl is
+
+-- no line is left
+pub text_whole : (lines : List (List ℕ)) (k : ℕ) (text whole : List ℕ) → text ++ flat_map (λ x. x) (drop k lines) ≡ whole → length lines ≤ k → text ≡ whole
+text_whole lines k text whole so_far past = sym (append-nil text) ∙ ap (λ rest. text ++ flat_map (λ x. x) rest) (sym (drop_all k lines past)) ∙ so_far

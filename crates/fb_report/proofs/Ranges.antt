@@ -1,11 +1,12 @@
 -- Going over a list or a range part by part.
-use Rattle.std.proofs.Common.{◌≡◌, ℕ, zero, suc, ◌+◌, ◌-◌, ◌<◌, List, [], ◌∷◌, ◌++◌, length, refl, sym, ap, ◌∙◌, arith, append_assoc, append-nil, drop, take, Some}
+use Rattle.std.proofs.Common.{◌≡◌, ℕ, zero, suc, ◌+◌, ◌-◌, ◌<◌, List, [], ◌∷◌, ◌++◌, length, refl, sym, ap, ◌∙◌, arith, append_assoc, append-nil, drop, take, subst, get_or, Some}
 use Rattle.std.specs.Prelude.{slice_get}
 use Rattle.std.proofs.lemmas.List.{drop_more}
 use Rattle.std.proofs.lemmas.Option.{slice_get_within, get_or_from_slice_get}
-use Rattle.std.specs.List.{flat_map, range_with_len}
+use Rattle.std.specs.List.{AllByRecursion, flat_map, range_with_len, sum_by}
 use Rattle.std.proofs.lemmas.List.{take_more}
 use Rattle.std.proofs.lemmas.List.Concat.{flat_map-append}
+use Rattle.std.proofs.lemmas.List.Sums.{sum_by-append}
 
 -- a part more was added
 pub part_more : {X : Type 0} (f : X → List ℕ) (now new part : List ℕ) (x : X) (rest rest' : List X) (whole : List ℕ) → now ++ flat_map f rest ≡ whole → rest ≡ x ∷ rest' → part ≡ f x → new ≡ now ++ part → new ++ flat_map f rest' ≡ whole
@@ -49,3 +50,20 @@ pub taken : {X : Type 0} (f : X → List ℕ) (before part : List ℕ) (xs : Lis
     → (before ++ flat_map f (take i xs)) ++ part ≡ before ++ flat_map f (take (i + 1) xs)
 taken f before part xs i x at is =
     joined f before part (take i xs) (take (i + 1) xs) x (take_more xs i x (slice_get_within xs i x at) ∙ ap (λ y. take i xs ++ y ∷ []) (get_or_from_slice_get xs i x x at)) is
+
+-- one element more
+pub one_more : {X : Type 0} (xs : List X) (i : ℕ) (x : X) → slice_get xs i ≡ Some x → take (i + 1) xs ≡ take i xs ++ x ∷ []
+one_more xs i x at = take_more xs i x (slice_get_within xs i x at) ∙ ap (λ y. take i xs ++ y ∷ []) (get_or_from_slice_get xs i x x at)
+
+-- the sum with one element more
+pub sum_more : {X : Type 0} (f : X → ℕ) (xs : List X) (i : ℕ) (x : X) → slice_get xs i ≡ Some x → sum_by f (take (i + 1) xs) ≡ sum_by f (take i xs) + f x
+sum_more f xs i x at = ap (sum_by f) (one_more xs i x at) ∙ sum_by-append f (take i xs) (x ∷ []) ∙ omega arith
+
+all_at : {X : Type 0} (P : X → Type 0) (xs : List X) (i : ℕ) (d : X) → AllByRecursion P xs → i < length xs → P (get_or xs i d)
+all_at P [] i d all within = absurd (omega arith)
+all_at P (y ∷ xs) zero d all within = all.0
+all_at P (y ∷ xs) (suc i) d all within = all_at P xs i d all.1 (omega arith)
+
+-- an element keeps what all of them keep
+pub all_get : {X : Type 0} (P : X → Type 0) (xs : List X) (i : ℕ) (x : X) → AllByRecursion P xs → slice_get xs i ≡ Some x → P x
+all_get P xs i x all at = subst P (get_or_from_slice_get xs i x x at) (all_at P xs i x all (slice_get_within xs i x at))

@@ -13,6 +13,8 @@ use Rattle.fb_rows.specs.declared.gap.How.{How}
 use Rattle.fb_rows.specs.declared.gap.How.TheVariants.{Gap as ByGap, Idle as ByIdle, Ride as ByRide}
 use Rattle.fb_rows.specs.declared.back.GapRow.{GapRow}
 use Rattle.fb_rows.specs.declared.back.DeliveryRow.{DeliveryRow}
+use Rattle.fb_rows.specs.declared.back.BadRow.{BadRow}
+use Rattle.fb_rows.specs.declared.back.CompleteRow.{CompleteRow}
 use Rattle.fb_rows.specs.declared.back.SealRow.{SealRow}
 use Rattle.fb_rows.specs.declared.back.SegmentRow.{SegmentRow}
 use Rattle.fb_rows.specs.declared.back.TaskRow.{TaskRow}
@@ -83,21 +85,35 @@ abbrev pub task_line : List (List ℕ) → TaskRow → List ℕ
 task_line names row = line_of (codes "task") (task_text names row.task ∷ task_kind_text row.kind ∷ decimal row.registered ∷ decimal row.delivered ∷ decimal row.aborted
     ∷ decimal (row.registered - row.delivered - row.aborted) ∷ is_complete_text row.complete ∷ [])
 
+-- task and LBN
+abbrev pub bad_line : List (List ℕ) → BadRow → List ℕ
+bad_line names row = line_of (codes "bad") (task_text names row.task ∷ decimal row.lbn ∷ [])
+
+-- task and instant
+abbrev pub complete_line : List (List ℕ) → CompleteRow → List ℕ
+complete_line names row = line_of (codes "done") (task_text names row.task ∷ decimal row.instant ∷ [])
+
 -- the line of a row
 abbrev pub back_line : List (List ℕ) → ℕ → Bytes → BackRow → List ℕ
 back_line names size bytes (Gap row) = gap_line row
 back_line names size bytes (Idle dwell) = idle_line dwell
 back_line names size bytes (Got row) = got_line names size bytes row
-back_line names size bytes (Bad row) = line_of (codes "bad") (task_text names row.task ∷ decimal row.lbn ∷ [])
+back_line names size bytes (Bad row) = bad_line names row
 back_line names size bytes (Seal row) = seal_line names size bytes row
 back_line names size bytes (Segment row) = segment_line names size bytes row
-back_line names size bytes (Complete row) = line_of (codes "done") (task_text names row.task ∷ decimal row.instant ∷ [])
+back_line names size bytes (Complete row) = complete_line names row
 back_line names size bytes (Task row) = task_line names row
 
--- the first line, a line for each row in order, and the end of the run
+abbrev pub back_first : List ℕ
+back_first = line_of (codes "freeblock") (codes "back" ∷ codes "1" ∷ [])
+
+-- the run's end
+abbrev pub back_last : Run → List ℕ
+back_last run = line_of (codes "end") (decimal run.end ∷ [])
+
+-- the first line, a line for each row in order, and the last
 unfoldable pub back_lines : List (List ℕ) → ℕ → Bytes → Run → List (List ℕ)
-back_lines names size bytes run = line_of (codes "freeblock") (codes "back" ∷ codes "1" ∷ [])
-    ∷ (map (back_line names size bytes) run.back ++ line_of (codes "end") (decimal run.end ∷ []) ∷ [])
+back_lines names size bytes run = back_first ∷ (map (back_line names size bytes) run.back ++ back_last run ∷ [])
 
 abbrev pub back_text : List (List ℕ) → ℕ → Bytes → Run → List ℕ
 back_text names size bytes run = flat_map (λ line. line) (back_lines names size bytes run)

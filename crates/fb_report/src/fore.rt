@@ -1,19 +1,15 @@
 // The foreground report.
-ghost use Rattle.std.specs.Prelude.{◌≡◌, ℕ, ◌+◌, ◌%◌, ◌<◌, ◌≤◌, ◌^◌, length, Some, IfOk, slice_get};
+ghost use Rattle.std.specs.Prelude.{◌≡◌, ℕ, ◌+◌, ◌%◌, ◌<◌, length, Some, IfOk, slice_get};
 ghost use Rattle.std.specs.List.{AllByRecursion};
 ghost use Rattle.fb_report.specs.declared.bytes.Bytes.{Bytes};
-ghost use Rattle.fb_report.specs.Shown.{shown};
 ghost use Rattle.fb_report.specs.Fore.{bad_count, kind_text, row_bytes, fore_line, first_line, last_line, fore_lines, fore_text};
 ghost use Rattle.fb_rows.specs.Ranges.{HasRanges};
 
 use crate::Bytes;
+use crate::contents::shown;
 use crate::line::Line;
-use crate::sectors::pour;
-use crate::sink::{HexDump, push_hex};
 use fb_rows::{ForeRow, Run};
-use fb_store::Contents;
 use fb_units::NoMemory;
-use sha2::{Digest, Sha256};
 use std::alloc::Global;
 
 /// The number of lines of the foreground report: one for each row, the first and the last.
@@ -142,44 +138,4 @@ fn row_bytes(
         return Ok(b"-".to_vec(alloc)?);
     }
     shown(alloc, &row.content, sector_bytes, bytes)
-}
-
-// The bytes of contents as they are shown.
-fn shown(
-    alloc: Global,
-    contents: &Contents,
-    sector_bytes: u32,
-    bytes: Bytes,
-) -> Result<Vec<u8>, NoMemory>
-    requires whole { sector_bytes % 16 ≡ 0 }
-    requires ranges { AllByRecursion (λ run. run.first + run.count ≤ 10 ^ 12) contents.now }
-    ensures { IfOk result (λ field. field.items ≡ shown bytes sector_bytes contents.now) }
-{
-    match bytes {
-        Bytes::Nothing => Ok(b"-".to_vec(alloc)?),
-        Bytes::Digest => digest(alloc, contents, sector_bytes),
-        Bytes::Dump => dump(alloc, contents, sector_bytes),
-    }
-}
-
-fn digest(alloc: Global, contents: &Contents, sector_bytes: u32) -> Result<Vec<u8>, NoMemory>
-    requires whole { sector_bytes % 16 ≡ 0 }
-    requires ranges { AllByRecursion (λ run. run.first + run.count ≤ 10 ^ 12) contents.now }
-    ensures { IfOk result (λ field. field.items ≡ shown Bytes.Digest sector_bytes contents.now) }
-{
-    let mut hasher = Sha256::new();
-    pour(alloc, &mut hasher, contents, sector_bytes)?;
-    let mut text = Vec::new(alloc);
-    push_hex(&mut text, &hasher.finalize())?;
-    Ok(text)
-}
-
-fn dump(alloc: Global, contents: &Contents, sector_bytes: u32) -> Result<Vec<u8>, NoMemory>
-    requires whole { sector_bytes % 16 ≡ 0 }
-    requires ranges { AllByRecursion (λ run. run.first + run.count ≤ 10 ^ 12) contents.now }
-    ensures { IfOk result (λ field. field.items ≡ shown Bytes.Dump sector_bytes contents.now) }
-{
-    let mut dump = HexDump::new(alloc);
-    pour(alloc, &mut dump, contents, sector_bytes)?;
-    Ok(dump.into_text())
 }

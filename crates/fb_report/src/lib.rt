@@ -5,11 +5,15 @@
 //! Digests are made while the bytes go by, so that none are held.
 #![tactic(auto)]
 
+mod back;
+mod back_line;
 mod bytes;
+mod contents;
 mod fore;
 mod line;
 mod sectors;
 mod sink;
 
+pub use back::{back_piece, back_pieces, back_text};
 pub use bytes::Bytes;
 pub use fore::{fore_piece, fore_pieces, fore_text};

@@ -1,0 +1,17 @@
+use Rattle.std.proofs.Common.{arith, ap, ◌∙◌, ◌++◌}
+use Rattle.fb_report.specs.Back.{back_lines}
+use Rattle.fb_report.proofs.Lines.{length_lines, text_more, text_whole, back_are}
+use Rattle.fb_report.proofs.back.back_text.Goals as goal
+
+pub back_piece-requires-clause-piece : goal.back_piece-requires-clause-piece
+back_piece-requires-clause-piece c = omega (arith, length_lines _ _ _ _ _ (back_are c.args.names.now c.args.sector_bytes c.args.bytes c.args.run.now))
+
+pub loop-k-preserved : goal.loop-k-preserved
+loop-k-preserved c =
+    text_more (back_lines c.args.names.now c.args.sector_bytes c.args.bytes c.args.run.now) c.loop-k.k c.loop-k.text.items c.extend_from_slice.new.self.items c.in_ok-line.line.items _ c.loop-k.invariant
+    c.in_ok-line.ensures (c.in_ok-extend_from_slice.ensures.items ∙ ap (λ xs. c.loop-k.text.items ++ xs) c.as_slice.ensures.value)
+
+pub returns : goal.returns
+returns c =
+    text_whole (back_lines c.args.names.now c.args.sector_bytes c.args.bytes c.args.run.now) c.loop-k.k c.loop-k.text.items _ c.loop-k.invariant
+    (omega (arith, length_lines _ _ _ _ _ (back_are c.args.names.now c.args.sector_bytes c.args.bytes c.args.run.now)))

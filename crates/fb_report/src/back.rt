@@ -1,0 +1,89 @@
+// The background report.
+ghost use Rattle.std.specs.Prelude.{◌≡◌, ℕ, ◌+◌, ◌%◌, ◌<◌, List, length, Some, IfOk, slice_get};
+ghost use Rattle.std.specs.List.{AllByRecursion};
+ghost use Rattle.fb_report.specs.declared.bytes.Bytes.{Bytes};
+ghost use Rattle.fb_report.specs.Back.{back_first, back_last, back_lines, back_text};
+ghost use Rattle.fb_rows.specs.Ranges.{HasBackRanges};
+ghost use Rattle.fb_rows.specs.Tasks.{HasNamedTask};
+
+use crate::Bytes;
+use crate::back_line::back_line;
+use crate::line::Line;
+use fb_calls::Names;
+use fb_rows::Run;
+use fb_units::NoMemory;
+use std::alloc::Global;
+
+/// The number of lines of the background report: one for each row, the first and the last.
+pub fn back_pieces(run: &Run) -> u64
+    ensures value { result ≡ length run.now.back + 2 }
+    ensures lines { (names : List (List ℕ)) (size : ℕ) (bytes : Bytes) → result ≡ length (back_lines names size bytes run.now) }
+{
+    run.back.len() as u64 + 2
+}
+
+/// The k-th line of the background report, from 0, with its line feed.
+///
+/// `sector_bytes` is the size of a sector, a multiple of 16, and `names` are the tasks' names.
+pub fn back_piece(
+    alloc: Global,
+    run: &Run,
+    names: &Names,
+    sector_bytes: u32,
+    bytes: Bytes,
+    k: u64,
+) -> Result<Vec<u8>, NoMemory>
+    requires whole { sector_bytes % 16 ≡ 0 }
+    requires ranges { AllByRecursion HasBackRanges run.now.back }
+    requires named { AllByRecursion (HasNamedTask names.now) run.now.back }
+    requires piece { k < length run.now.back + 2 }
+    ensures { IfOk result (λ line. slice_get (back_lines names.now sector_bytes bytes run.now) k ≡ Some line.items) }
+{
+    let rows = run.back.len() as u64;
+    if k == 0 {
+        Ok(first_line(alloc)?)
+    } else if k <= rows {
+        let row = run.back.get(k as usize - 1);
+        Ok(back_line(alloc, row, names, sector_bytes, bytes)?)
+    } else {
+        Ok(last_line(alloc, run)?)
+    }
+}
+
+/// The whole background report.
+pub fn back_text(
+    alloc: Global,
+    run: &Run,
+    names: &Names,
+    sector_bytes: u32,
+    bytes: Bytes,
+) -> Result<Vec<u8>, NoMemory>
+    requires whole { sector_bytes % 16 ≡ 0 }
+    requires ranges { AllByRecursion HasBackRanges run.now.back }
+    requires named { AllByRecursion (HasNamedTask names.now) run.now.back }
+    ensures { IfOk result (λ text. text.items ≡ back_text names.now sector_bytes bytes run.now) }
+{
+    let mut text = Vec::new(alloc);
+    for k in 0..back_pieces(run) {
+        let line = back_piece(alloc, run, names, sector_bytes, bytes, k)?;
+        text.extend_from_slice(line.as_slice())?;
+    }
+    Ok(text)
+}
+
+fn first_line(alloc: Global) -> Result<Vec<u8>, NoMemory>
+    ensures { IfOk result (λ line. line.items ≡ back_first) }
+{
+    let mut line = Line::new(alloc, b"freeblock")?;
+    line.word(b"back")?;
+    line.word(b"1")?;
+    line.end()
+}
+
+fn last_line(alloc: Global, run: &Run) -> Result<Vec<u8>, NoMemory>
+    ensures { IfOk result (λ line. line.items ≡ back_last run.now) }
+{
+    let mut line = Line::new(alloc, b"end")?;
+    line.number(run.end)?;
+    line.end()
+}

@@ -1,0 +1,216 @@
+// The lines of the background's rows.
+ghost use Rattle.std.specs.Prelude.{◌≡◌, ◌<◌, ◌%◌, length, OnOk, IfOk};
+ghost use Rattle.fb_report.specs.Lines.{with_fields};
+ghost use Rattle.fb_report.specs.Back.{back_line, bad_line, complete_line, gap_line, got_line, how_text, idle_line, is_complete_text, plan_fields, seal_line, segment_line, task_kind_text, task_line};
+ghost use Rattle.fb_rows.specs.Ranges.{AreRanges, HasBackRanges};
+ghost use Rattle.fb_rows.specs.Tasks.{HasNamedTask};
+
+use crate::Bytes;
+use crate::contents::{sectors, shown, shown_digest};
+use crate::line::Line;
+use fb_calls::{Kind, Names};
+use fb_rows::{
+    BackRow, BadRow, CompleteRow, DeliveryRow, Dwell, GapRow, How, Plan, SealRow, SegmentRow,
+    TaskRow,
+};
+use fb_units::NoMemory;
+use std::alloc::Global;
+
+/// The line of a row.
+pub fn back_line(
+    alloc: Global,
+    row: &BackRow,
+    names: &Names,
+    sector_bytes: u32,
+    bytes: Bytes,
+) -> Result<Vec<u8>, NoMemory>
+    requires whole { sector_bytes % 16 ≡ 0 }
+    requires ranges { HasBackRanges row.now }
+    requires named { HasNamedTask names.now row.now }
+    ensures { IfOk result (λ line. line.items ≡ back_line names.now sector_bytes bytes row.now) }
+{
+    match row {
+        BackRow::Gap(row) => gap_line(alloc, row),
+        BackRow::Idle(dwell) => idle_line(alloc, dwell),
+        BackRow::Got(row) => got_line(alloc, row, names, sector_bytes, bytes),
+        BackRow::Bad(row) => bad_line(alloc, row, names),
+        BackRow::Seal(row) => seal_line(alloc, row, names, sector_bytes, bytes),
+        BackRow::Segment(row) => segment_line(alloc, row, names, sector_bytes, bytes),
+        BackRow::Complete(row) => complete_line(alloc, row, names),
+        BackRow::Task(row) => task_line(alloc, row, names),
+    }
+}
+
+fn gap_line(alloc: Global, row: &GapRow) -> Result<Vec<u8>, NoMemory>
+    ensures { IfOk result (λ line. line.items ≡ gap_line row.now) }
+{
+    let mut line = Line::new(alloc, b"gap")?;
+    line.name(row.name)?;
+    line.track(row.gap.source)?;
+    line.track(row.gap.target)?;
+    line.number(row.gap.now)?;
+    line.number(row.gap.deadline)?;
+    push_plan(&mut line, row.plan)?;
+    line.end()
+}
+
+fn push_plan(line: &mut Line, plan: Plan) -> Result<(), NoMemory>
+    ensures { OnOk result (line.new ≡ with_fields line.old (plan_fields plan)) }
+{
+    match plan {
+        Plan::Direct { leave } => {
+            line.word(b"direct")?;
+            line.number(leave)
+        }
+        Plan::Detour { track, leave } => {
+            line.word(b"detour")?;
+            line.track(track)?;
+            line.number(leave)
+        }
+    }
+}
+
+fn idle_line(alloc: Global, dwell: &Dwell) -> Result<Vec<u8>, NoMemory>
+    ensures { IfOk result (λ line. line.items ≡ idle_line dwell.now) }
+{
+    let mut line = Line::new(alloc, b"idle")?;
+    line.track(dwell.track)?;
+    line.number(dwell.begin)?;
+    line.number(dwell.end)?;
+    line.end()
+}
+
+fn got_line(
+    alloc: Global,
+    row: &DeliveryRow,
+    names: &Names,
+    sector_bytes: u32,
+    bytes: Bytes,
+) -> Result<Vec<u8>, NoMemory>
+    requires whole { sector_bytes % 16 ≡ 0 }
+    requires ranges { AreRanges row.now.content }
+    requires named { row.now.block.task < length names.now }
+    ensures { IfOk result (λ line. line.items ≡ got_line names.now sector_bytes bytes row.now) }
+{
+    let found = shown(alloc, &row.content, sector_bytes, bytes)?;
+    let mut line = Line::new(alloc, b"got")?;
+    line.task(names, row.block.task)?;
+    line.number(row.block.index as u64)?;
+    line.number(row.block.lbn)?;
+    line.number(row.block.count as u64)?;
+    line.number(row.begin)?;
+    line.number(row.end)?;
+    line.word(how(row.how))?;
+    line.number(row.bad as u64)?;
+    line.word(found.as_slice())?;
+    line.end()
+}
+
+fn how(how: How) -> &'static [u8]
+    ensures { result.now ≡ how_text how }
+{
+    match how {
+        How::Gap => b"gap",
+        How::Idle => b"idle",
+        How::Ride => b"ride",
+    }
+}
+
+fn bad_line(alloc: Global, row: &BadRow, names: &Names) -> Result<Vec<u8>, NoMemory>
+    requires named { row.now.task < length names.now }
+    ensures { IfOk result (λ line. line.items ≡ bad_line names.now row.now) }
+{
+    let mut line = Line::new(alloc, b"bad")?;
+    line.task(names, row.task)?;
+    line.number(row.lbn)?;
+    line.end()
+}
+
+fn seal_line(
+    alloc: Global,
+    row: &SealRow,
+    names: &Names,
+    sector_bytes: u32,
+    bytes: Bytes,
+) -> Result<Vec<u8>, NoMemory>
+    requires whole { sector_bytes % 16 ≡ 0 }
+    requires ranges { AreRanges row.now.content }
+    requires named { row.now.task < length names.now }
+    ensures { IfOk result (λ line. line.items ≡ seal_line names.now sector_bytes bytes row.now) }
+{
+    let digest = shown_digest(alloc, &row.content, sector_bytes, bytes)?;
+    let mut line = Line::new(alloc, b"seal")?;
+    line.task(names, row.task)?;
+    line.number(row.instant)?;
+    line.sum(sectors(&row.content))?;
+    line.word(digest.as_slice())?;
+    line.end()
+}
+
+fn segment_line(
+    alloc: Global,
+    row: &SegmentRow,
+    names: &Names,
+    sector_bytes: u32,
+    bytes: Bytes,
+) -> Result<Vec<u8>, NoMemory>
+    requires whole { sector_bytes % 16 ≡ 0 }
+    requires ranges { AreRanges row.now.content }
+    requires named { row.now.task < length names.now }
+    ensures { IfOk result (λ line. line.items ≡ segment_line names.now sector_bytes bytes row.now) }
+{
+    let digest = shown_digest(alloc, &row.content, sector_bytes, bytes)?;
+    let mut line = Line::new(alloc, b"seg")?;
+    line.task(names, row.task)?;
+    line.number(row.segment as u64)?;
+    line.number(row.instant)?;
+    line.number(row.live as u64)?;
+    line.word(digest.as_slice())?;
+    line.end()
+}
+
+fn complete_line(alloc: Global, row: &CompleteRow, names: &Names) -> Result<Vec<u8>, NoMemory>
+    requires named { row.now.task < length names.now }
+    ensures { IfOk result (λ line. line.items ≡ complete_line names.now row.now) }
+{
+    let mut line = Line::new(alloc, b"done")?;
+    line.task(names, row.task)?;
+    line.number(row.instant)?;
+    line.end()
+}
+
+fn task_line(alloc: Global, row: &TaskRow, names: &Names) -> Result<Vec<u8>, NoMemory>
+    requires named { row.now.task < length names.now }
+    ensures { IfOk result (λ line. line.items ≡ task_line names.now row.now) }
+{
+    let left = row
+        .registered
+        .saturating_sub(row.delivered)
+        .saturating_sub(row.aborted);
+    let mut line = Line::new(alloc, b"task")?;
+    line.task(names, row.task)?;
+    line.word(kind(row.kind))?;
+    line.number(row.registered as u64)?;
+    line.number(row.delivered as u64)?;
+    line.number(row.aborted as u64)?;
+    line.number(left as u64)?;
+    line.word(if_complete(row.complete))?;
+    line.end()
+}
+
+fn kind(kind: Kind) -> &'static [u8]
+    ensures { result.now ≡ task_kind_text kind }
+{
+    match kind {
+        Kind::Plain => b"plain",
+        Kind::Backup => b"backup",
+        Kind::Scrub => b"scrub",
+        Kind::Clean => b"clean",
+    }
+}
+
+fn if_complete(complete: bool) -> &'static [u8]
+    ensures { result.now ≡ is_complete_text complete }
+{
+    if complete { b"complete" } else { b"open" }
+}

@@ -1,0 +1,84 @@
+// The contents of a row as they are shown.
+ghost use Rattle.std.specs.Prelude.{◌≡◌, ◌%◌, IfOk};
+ghost use Rattle.std.specs.List.{sum_by};
+ghost use Rattle.fb_report.specs.declared.bytes.Bytes.{Bytes};
+ghost use Rattle.fb_report.specs.Shown.{shown};
+ghost use Rattle.fb_report.specs.Back.{digest_text};
+ghost use Rattle.fb_rows.specs.Ranges.{AreRanges};
+
+use crate::Bytes;
+use crate::sectors::pour;
+use crate::sink::{HexDump, push_hex};
+use fb_store::Contents;
+use fb_units::NoMemory;
+use sha2::{Digest, Sha256};
+use std::alloc::Global;
+
+/// The bytes of contents as they are shown.
+pub fn shown(
+    alloc: Global,
+    contents: &Contents,
+    sector_bytes: u32,
+    bytes: Bytes,
+) -> Result<Vec<u8>, NoMemory>
+    requires whole { sector_bytes % 16 ≡ 0 }
+    requires ranges { AreRanges contents.now }
+    ensures { IfOk result (λ field. field.items ≡ shown bytes sector_bytes contents.now) }
+{
+    match bytes {
+        Bytes::Nothing => Ok(b"-".to_vec(alloc)?),
+        Bytes::Digest => digest(alloc, contents, sector_bytes),
+        Bytes::Dump => dump(alloc, contents, sector_bytes),
+    }
+}
+
+/// The digest of contents, in every mode but that which shows nothing.
+pub fn shown_digest(
+    alloc: Global,
+    contents: &Contents,
+    sector_bytes: u32,
+    bytes: Bytes,
+) -> Result<Vec<u8>, NoMemory>
+    requires whole { sector_bytes % 16 ≡ 0 }
+    requires ranges { AreRanges contents.now }
+    ensures { IfOk result (λ field. field.items ≡ digest_text bytes sector_bytes contents.now) }
+{
+    match bytes {
+        Bytes::Nothing => Ok(b"-".to_vec(alloc)?),
+        Bytes::Digest | Bytes::Dump => digest(alloc, contents, sector_bytes),
+    }
+}
+
+/// How many sectors there are.
+pub fn sectors(contents: &Contents) -> u128
+    requires ranges { AreRanges contents.now }
+    ensures { result ≡ sum_by (λ run. run.count) contents.now }
+{
+    let mut sectors = 0;
+    for place in 0..contents.len() {
+        sectors += contents.get(place).count as u128;
+    }
+    sectors
+}
+
+fn digest(alloc: Global, contents: &Contents, sector_bytes: u32) -> Result<Vec<u8>, NoMemory>
+    requires whole { sector_bytes % 16 ≡ 0 }
+    requires ranges { AreRanges contents.now }
+    ensures { IfOk result (λ field. field.items ≡ shown Bytes.Digest sector_bytes contents.now) }
+{
+    let mut hasher = Sha256::new();
+    pour(alloc, &mut hasher, contents, sector_bytes)?;
+    let mut text = Vec::new(alloc);
+    push_hex(&mut text, &hasher.finalize())?;
+    Ok(text)
+}
+
+fn dump(alloc: Global, contents: &Contents, sector_bytes: u32) -> Result<Vec<u8>, NoMemory>
+    requires whole { sector_bytes % 16 ≡ 0 }
+    requires ranges { AreRanges contents.now }
+    ensures { IfOk result (λ field. field.items ≡ shown Bytes.Dump sector_bytes contents.now) }
+{
+    let mut dump = HexDump::new(alloc);
+    pour(alloc, &mut dump, contents, sector_bytes)?;
+    Ok(dump.into_text())
+}
