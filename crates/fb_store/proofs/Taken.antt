@@ -197,7 +197,6 @@ held_in-ends content_of end other none nothing = elim (cases_lt end other) [
   | inr le ↦ let more : other + (end - other) ≡ end = omega arith in ap (λ n. held_in content_of (range_with_len 0 n)) (sym more) ∙ held_in-further content_of other (end - other) nothing
 ]
 
-pub contents_to : (content_of : ℕ → Option Content) (start runs : List ContentRun) (end other : ℕ) → start ≡ [] → EndsBy content_of end → runs ≡ runs_of (sectors_of start ++ held_in content_of (range_with_len 0 end)) → EndsBy content_of other
+pub contents_to : (content_of : ℕ → Option Content) (runs : List ContentRun) (end other : ℕ) → EndsBy content_of end → runs ≡ runs_of (held_in content_of (range_with_len 0 end)) → EndsBy content_of other
     → runs ≡ runs_of (held_in content_of (range_with_len 0 other))
-contents_to content_of start runs end other none ends e nothing =
-    e ∙ ap runs_of (ap (λ rs. sectors_of rs ++ held_in content_of (range_with_len 0 end)) none ∙ held_in-ends content_of end other ends nothing)
+contents_to content_of runs end other ends e nothing = e ∙ ap runs_of (held_in-ends content_of end other ends nothing)

@@ -1,5 +1,5 @@
 // The contents of some sectors.
-ghost use Rattle.std.specs.Prelude.{◌≡◌, ℕ, ◌+◌, ◌-◌, ◌<◌, ◌≤◌, ◌^◌, ◌++◌, None, IfOk, OnOk, OnErr};
+ghost use Rattle.std.specs.Prelude.{◌≡◌, ℕ, List, [], ◌+◌, ◌-◌, ◌<◌, ◌≤◌, ◌^◌, ◌++◌, None, IfOk, OnOk, OnErr};
 ghost use Rattle.std.specs.Ordering.{nat_cmp};
 ghost use Rattle.std.specs.BTreeMap.{get};
 ghost use Rattle.std.specs.List.{AllByRecursion, range_with_len};
@@ -40,7 +40,8 @@ impl Model for Pieces {
 impl Pieces {
     /// No sector holds anything.
     pub fn new(alloc: Global) -> Self
-        ensures { (lbn : ℕ) → held_at result lbn ≡ None }
+        ensures empty { result ≡ [] }
+        ensures none { (lbn : ℕ) → held_at result lbn ≡ None }
     {
         Pieces {
             ranges: BTreeMap::new(alloc),
@@ -86,8 +87,8 @@ impl Pieces {
     /// Adds the contents of a range's sectors after runs, which stay the fewest.
     pub fn add_runs(&self, runs: &mut Contents, first: u64, count: u64) -> Result<(), NoMemory>
         requires range { first + count ≤ 10 ^ 12 }
-        requires fewest { runs.old ≡ runs_of (sectors_of runs.old) }
-        ensures { OnOk result (runs.new ≡ runs_of (sectors_of runs.old ++ held_in (held_at self.now) (range_with_len first count))) }
+        requires fewest { (sectors : List (ℕ × Content)) × (runs.old ≡ runs_of sectors) }
+        ensures { OnOk result ((sectors : List (ℕ × Content)) → runs.old ≡ runs_of sectors → runs.new ≡ runs_of (sectors ++ held_in (held_at self.now) (range_with_len first count))) }
     {
         let end = first + count;
         let mut lbn = first;
