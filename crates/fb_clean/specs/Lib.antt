@@ -1,0 +1,3 @@
+pub mod Segments
+pub mod Numbers
+pub mod Best

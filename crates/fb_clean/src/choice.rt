@@ -1,0 +1,36 @@
+// The choice of a segment.
+ghost use Rattle.std.specs.Prelude.{◌≡◌, ◌<◌, None, Some, length, IfSome, IfNone, slice_get};
+ghost use Rattle.fb_clean.specs.Segments.{first_best, waiting};
+ghost use Rattle.fb_clean.specs.Best.{HoldsBest, beats_best};
+
+use crate::segment::Segment;
+
+/// The place of the first segment of greatest benefit of those left to choose.
+pub fn best_waiting(segments: &[Segment]) -> Option<usize>
+    ensures some { IfSome result (λ i. slice_get segments.now i ≡ first_best (waiting segments.now)) }
+    ensures within { IfSome result (λ i. i < length segments.now) }
+    ensures none { IfNone result (first_best (waiting segments.now) ≡ None) }
+{
+    let mut best = None;
+    for i in 0..segments.len() {
+        if beats(segments, i, best) {
+            best = Some(i);
+        }
+    }
+    best
+}
+
+// Whether a segment is left to choose and better than the best one before it.
+fn beats(segments: &[Segment], i: usize, best: Option<usize>) -> bool
+    requires within { i < length segments.now }
+    requires before { IfSome best (λ b. b < length segments.now) }
+    ensures { result ≡ beats_best segments.now i best }
+{
+    if !segments[i].waits() {
+        return false;
+    }
+    match best {
+        Some(b) => segments[i].is_better(&segments[b]),
+        None => true,
+    }
+}

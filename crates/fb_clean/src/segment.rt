@@ -1,0 +1,122 @@
+// One segment of a log.
+ghost use Rattle.std.specs.Prelude.{◌≡◌, ◌+◌, ◌-◌, ◌*◌, ◌≤◌, ◌^◌, true, length, IfOk};
+ghost use Rattle.std.specs.List.{AllByRecursion};
+ghost use Rattle.fb_clean.specs.Segments.{is_better, live_blocks, left_out};
+
+use fb_calls::Live;
+use fb_units::NoMemory;
+use std::alloc::Global;
+use std::marker::Model;
+
+/// A segment that was added.
+#[derive(Drop)]
+pub struct Segment {
+    number: u32,
+    blocks: u32,
+    age: u64,
+    live: Vec<u64>,
+    waits: bool,
+}
+
+impl Model for Segment {
+    ghost use Rattle.std.specs.Prelude.{length, ◌≤◌};
+    ghost use Rattle.fb_clean.specs.Segments.{LogSegment};
+
+    ghost Value = { LogSegment };
+
+    ghost view = { λ s. record { number = s.number; blocks = s.blocks; age = s.age; live = s.live.items; waits = s.waits } };
+
+    ghost invariant = { λ s. (length s.live.items ≤ s.blocks) × (s.blocks ≤ 4096) };
+}
+
+impl Segment {
+    /// A segment that is left to choose, with live blocks from its first LBN on.
+    pub fn new(
+        alloc: Global,
+        number: u32,
+        first: u64,
+        block: u32,
+        age: u64,
+        live: &Live,
+    ) -> Result<Segment, NoMemory>
+        requires few { length live.now ≤ 4096 }
+        requires range { first + length live.now * block ≤ 10 ^ 12 }
+        ensures value { IfOk result (λ segment. segment ≡ record { number = number; blocks = length live.now; age = age; live = live_blocks block first live.now; waits = true }) }
+        ensures within { IfOk result (λ segment. AllByRecursion (λ lbn. lbn + block ≤ 10 ^ 12) segment.live) }
+    {
+        Ok(Segment {
+            number,
+            blocks: live.len() as u32,
+            age,
+            live: live_lbns(alloc, first, block, live)?,
+            waits: true,
+        })
+    }
+
+    pub fn number(&self) -> u32
+        ensures { result ≡ self.now.number }
+    {
+        self.number
+    }
+
+    pub fn waits(&self) -> bool
+        ensures { result ≡ self.now.waits }
+    {
+        self.waits
+    }
+
+    /// Where the live blocks begin.
+    pub fn live(&self) -> &[u64]
+        ensures value { result.now ≡ self.now.live }
+        ensures few { length result.now ≤ 4096 }
+    {
+        &self.live
+    }
+
+    /// Leaves the segment out of those left to choose.
+    pub fn leave(&mut self)
+        ensures { self.new ≡ left_out self.old }
+    {
+        self.waits = false;
+    }
+
+    /// Whether this segment has a greater benefit than the other.
+    pub fn is_better(&self, other: &Segment) -> bool
+        ensures { result ≡ is_better self.now other.now }
+    {
+        other.free() * other.age as u128 * self.cost()
+            < self.free() * self.age as u128 * other.cost()
+    }
+
+    // The blocks that are not live.
+    fn free(&self) -> u128
+        ensures value { result ≡ self.now.blocks - length self.now.live }
+        ensures few { result ≤ 4096 }
+    {
+        (self.blocks - self.live.len() as u32) as u128
+    }
+
+    // The blocks read and the live blocks written again.
+    fn cost(&self) -> u128
+        ensures value { result ≡ self.now.blocks + length self.now.live }
+        ensures few { result ≤ 8192 }
+    {
+        (self.blocks + self.live.len() as u32) as u128
+    }
+}
+
+// Where the live blocks begin.
+fn live_lbns(alloc: Global, first: u64, block: u32, live: &Live) -> Result<Vec<u64>, NoMemory>
+    requires { first + length live.now * block ≤ 10 ^ 12 }
+    ensures { IfOk result (λ lbns. lbns.items ≡ live_blocks block first live.now) }
+{
+    let mut lbns = Vec::new(alloc);
+    let mut lbn = first;
+    for i in 0..live.len() {
+        if *live.get(i) {
+            lbns.push(lbn)?;
+        }
+        lbn += block as u64;
+    }
+    Ok(lbns)
+}

@@ -1,0 +1,199 @@
+// The segments of a session.
+ghost use Rattle.std.specs.Prelude.{◌≡◌, ◌≢◌, ℕ, List, [], ◌∷◌, ◌++◌, Bool, Option, None, Some, ◌+◌, ◌-◌, ◌*◌, ◌<◌, ◌≤◌, ◌^◌, length, filter, map, IfOk, OnOk, OnErr, slice_get};
+ghost use Rattle.std.specs.List.{AllByRecursion, flat_map, range_with_len};
+ghost use Rattle.fb_store.specs.declared.content.Content.{Content};
+ghost use Rattle.fb_store.specs.Index.{held_at};
+ghost use Rattle.fb_store.specs.Pieces.{Gives, after_take, held_in};
+ghost use Rattle.fb_store.specs.Runs.{runs_of};
+ghost use Rattle.fb_clean.specs.Segments.{live_blocks, left_out, after_add, choice_of, after_choice, after_drop, live_of, taken_for, packed_sectors};
+
+use crate::choice::best_waiting;
+use crate::segment::Segment;
+use fb_calls::Live;
+use fb_store::{Contents, Pieces};
+use fb_units::NoMemory;
+use fb_wanted::Block;
+use std::alloc::Global;
+use std::marker::Model;
+
+/// The segments of a session that cleans a log, numbered from 1 in order of adding.
+#[derive(Drop)]
+pub struct Segments {
+    alloc: Global,
+    block: u32,
+    segments: Vec<Segment>,
+    unfinished: Option<u32>,
+    taken: Vec<Pieces>,
+}
+
+impl Model for Segments {
+    ghost use Rattle.std.specs.Prelude.{length};
+    ghost use Rattle.fb_clean.specs.Segments.{Cleaning};
+    ghost use Rattle.fb_clean.specs.Numbers.{IsSound};
+
+    ghost Value = { Cleaning };
+
+    ghost view = { λ s. record { block = s.block; segments = s.segments.items; unfinished = s.unfinished; taken = s.taken.items } };
+
+    ghost invariant = { λ s. IsSound s.block s.segments.items s.unfinished (length s.taken.items) };
+}
+
+impl Segments {
+    /// No segment, for a session with this block size.
+    pub fn new(alloc: Global, block: u32) -> Self
+        ensures { result ≡ record { block = block; segments = []; unfinished = None; taken = [] } }
+    {
+        Segments {
+            alloc,
+            block,
+            segments: Vec::new(alloc),
+            unfinished: None,
+            taken: Vec::new(alloc),
+        }
+    }
+
+    /// Adds a segment under the next number. Where memory is wanting all stays.
+    pub fn add(&mut self, first: u64, blocks: u32, age: u64, live: &Live) -> Result<(), NoMemory>
+        requires few { blocks ≤ 4096 }
+        requires each { length live.now ≡ blocks }
+        requires range { first + blocks * self.old.block ≤ 10 ^ 12 }
+        requires room { length self.old.segments < 2 ^ 32 - 1 }
+        ensures ok { OnOk result (self.new ≡ after_add first blocks age live.now self.old) }
+        ensures err { OnErr result (self.new ≡ self.old) }
+    {
+        let number = self.segments.len() as u32 + 1;
+        let segment = Segment::new(self.alloc, number, first, self.block, age, live)?;
+        let pieces = Pieces::new(self.alloc);
+        push_both(&mut self.segments, segment, &mut self.taken, pieces)
+    }
+
+    /// How many live blocks the segment has.
+    pub fn live_count(&self, segment: u32) -> u32
+        requires { (0 < segment) × (segment ≤ length self.now.segments) }
+        ensures { result ≡ length (live_of self.now segment) }
+    {
+        self.segments[segment as usize - 1].live().len() as u32
+    }
+
+    /// The first LBN of the segment's i-th live block, from 0.
+    pub fn live_block(&self, segment: u32, i: u32) -> u64
+        requires added { (0 < segment) × (segment ≤ length self.now.segments) }
+        requires within { i < length (live_of self.now segment) }
+        ensures { slice_get (live_of self.now segment) i ≡ Some result }
+    {
+        self.segments[segment as usize - 1].live()[i as usize]
+    }
+
+    /// Chooses the segment of greatest benefit, and answers its number: none where a chosen segment is unfinished or none is left.
+    pub fn choose(&mut self) -> Option<u32>
+        ensures choice { result ≡ choice_of self.old }
+        ensures state { self.new ≡ after_choice result self.old }
+    {
+        if self.unfinished.is_some() {
+            return None;
+        }
+        let best = best_waiting(&self.segments)?;
+        self.segments[best].leave();
+        self.unfinished = Some(best as u32 + 1);
+        self.unfinished
+    }
+
+    /// Gives the content of a block to the chosen segment. Where memory is wanting all stays.
+    pub fn take(&mut self, block: Block, content: &Contents) -> Result<(), NoMemory>
+        requires ranges { AllByRecursion (λ run. run.first + run.count ≤ 10 ^ 12) content.now }
+        requires covers { (content_of : ℕ → Content) × Gives content.now content_of block.lbn block.count }
+        requires chosen { self.old.unfinished ≢ None }
+        ensures same { (self.new.block ≡ self.old.block) × (self.new.segments ≡ self.old.segments) × (self.new.unfinished ≡ self.old.unfinished) }
+        ensures ok { OnOk result ((content_of : ℕ → Content) (number lbn : ℕ) → Gives content.now content_of block.lbn block.count → self.old.unfinished ≡ Some number → taken_for self.new number lbn ≡ after_take content_of block.lbn block.count lbn (taken_for self.old number lbn)) }
+        ensures others { (number lbn : ℕ) → 0 < number → self.old.unfinished ≢ Some number → taken_for self.new number lbn ≡ taken_for self.old number lbn }
+        ensures err { OnErr result ((number lbn : ℕ) → taken_for self.new number lbn ≡ taken_for self.old number lbn) }
+    {
+        match self.unfinished {
+            Some(number) => self.taken[number as usize - 1].take(content),
+            None => Ok(()),
+        }
+    }
+
+    /// Finishes the chosen segment.
+    pub fn finish(&mut self, segment: u32)
+        requires { self.old.unfinished ≡ Some segment }
+        ensures { self.new ≡ record self.old { unfinished = None } }
+    {
+        self.unfinished = None;
+    }
+
+    /// Drops the segments not chosen as yet.
+    pub fn drop_rest(&mut self)
+        ensures { self.new ≡ after_drop self.old }
+    {
+        leave_all(&mut self.segments);
+    }
+
+    /// What was taken for a segment, in order of its live blocks, as the fewest runs.
+    pub fn packed(&self, alloc: Global, segment: u32) -> Result<Contents, NoMemory>
+        requires { (0 < segment) × (segment ≤ length self.now.segments) }
+        ensures { IfOk result (λ runs. runs ≡ runs_of (packed_sectors self.now segment)) }
+    {
+        let place = segment as usize - 1;
+        pack(
+            alloc,
+            &self.taken[place],
+            self.segments[place].live(),
+            self.block,
+        )
+    }
+}
+
+/// The live blocks of a segment are as many as it names live.
+pub fn live_blocks_are_live()
+    ensures { (block first : ℕ) (live : List Bool) → length (live_blocks block first live) ≡ length (filter (λ is_live. is_live) live) }
+{}
+
+// Leaves all segments out of those left to choose.
+fn leave_all(segments: &mut [Segment])
+    ensures { segments.new ≡ map left_out segments.old }
+{
+    for i in 0..segments.len() {
+        segments[i].leave();
+    }
+}
+
+// The contents of blocks, one after the other.
+fn pack(alloc: Global, taken: &Pieces, live: &[u64], block: u32) -> Result<Contents, NoMemory>
+    requires { AllByRecursion (λ lbn. lbn + block ≤ 10 ^ 12) live.now }
+    ensures { IfOk result (λ runs. runs ≡ runs_of (flat_map (λ lbn. held_in (held_at taken.now) (range_with_len lbn block)) live.now)) }
+{
+    let mut runs = Contents::new(alloc);
+    for lbn in live {
+        taken.add_runs(&mut runs, *lbn, block as u64)?;
+    }
+    Ok(runs)
+}
+
+// Adds to both lists or to none.
+fn push_both(
+    segments: &mut Vec<Segment>,
+    segment: Segment,
+    taken: &mut Vec<Pieces>,
+    pieces: Pieces,
+) -> Result<(), NoMemory>
+    ensures ok { OnOk result ((segments.new.items ≡ segments.old.items ++ segment ∷ []) × (taken.new.items ≡ taken.old.items ++ pieces ∷ [])) }
+    ensures err { OnErr result ((segments.new.items ≡ segments.old.items) × (taken.new.items ≡ taken.old.items)) }
+{
+    taken.push(pieces)?;
+    match push(segments, segment) {
+        Ok(()) => Ok(()),
+        Err(NoMemory) => {
+            taken.pop();
+            Err(NoMemory)
+        }
+    }
+}
+
+fn push(segments: &mut Vec<Segment>, segment: Segment) -> Result<(), NoMemory>
+    ensures ok { OnOk result (segments.new.items ≡ segments.old.items ++ segment ∷ []) }
+    ensures err { OnErr result (segments.new.items ≡ segments.old.items) }
+{
+    segments.push(segment)?;
+    Ok(())
+}
