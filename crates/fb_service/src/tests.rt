@@ -127,23 +127,24 @@ fn is_request(disk: &Disk, lbn: u64, count: u32) -> bool
     0 < count && count <= 2048 && lbn <= sectors && count as u64 <= sectors - lbn
 }
 
-// When a read begins to pass, and when it has passed; None where it is no request of the disk.
+// When a read begins to pass, when it has passed, and in how many extents; None where it is no request of
+// the disk.
 fn times_of(
     alloc: Global,
     disk: &Disk,
     now: Ns,
     lbn: u64,
     count: u32,
-) -> Result<Option<(Ns, Ns)>, Fail> {
+) -> Result<Option<(Ns, Ns, usize)>, Fail> {
     if !is_request(disk, lbn, count) || now > LATE {
         return Ok(None);
     }
     let service = serve(alloc, disk, SOURCE, now, lbn, count, false)?;
-    Ok(Some((service.media, service.finish)))
+    Ok(Some((service.media, service.finish, service.extents.len())))
 }
 
 #[test]
-fn waits_for_each_sector(rt: HostRuntime) -> Result<(), Fail> {
+fn waits_for_each_extent(rt: HostRuntime) -> Result<(), Fail> {
     let bad = [place(0, 0, 3)];
     for (layout, zone, defects, grown, now, lbn, count, times) in [
         (
@@ -154,14 +155,24 @@ fn waits_for_each_sector(rt: HostRuntime) -> Result<(), Fail> {
             0,
             5,
             1,
-            (500, 600),
+            (500, 600, 1),
         ),
-        (Layout::PerTrack, ZONE, &[], &[], 500, 5, 1, (500, 600)),
-        (Layout::PerTrack, ZONE, &[], &[], 501, 5, 1, (1700, 1800)),
-        (Layout::PerTrack, ZONE, &[], &[], 0, 11, 2, (1100, 2500)),
-        (Layout::PerTrack, SKEWED, &[], &[], 0, 11, 2, (1100, 1500)),
-        (Layout::PerTrack, SPARED, &bad, &[], 0, 2, 2, (200, 500)),
-        (Layout::PerTrack, UNEVEN, &[], &[], 0, 3, 1, (514, 685)),
+        (Layout::PerTrack, ZONE, &[], &[], 500, 5, 1, (500, 600, 1)),
+        (Layout::PerTrack, ZONE, &[], &[], 501, 5, 1, (1700, 1800, 1)),
+        (Layout::PerTrack, ZONE, &[], &[], 0, 11, 2, (1100, 2500, 2)),
+        (
+            Layout::PerTrack,
+            SKEWED,
+            &[],
+            &[],
+            0,
+            11,
+            2,
+            (1100, 1500, 2),
+        ),
+        (Layout::PerTrack, ZONE, &[], &[], 0, 0, 24, (0, 3600, 2)),
+        (Layout::PerTrack, SPARED, &bad, &[], 0, 2, 2, (200, 500, 2)),
+        (Layout::PerTrack, UNEVEN, &[], &[], 0, 3, 1, (514, 685, 1)),
         (
             Layout::PerCylinder,
             TWO_SPARES,
@@ -170,7 +181,7 @@ fn waits_for_each_sector(rt: HostRuntime) -> Result<(), Fail> {
             0,
             2,
             3,
-            (200, 1700),
+            (200, 1700, 3),
         ),
     ] {
         let disk = small_disk(rt.alloc(), layout, zone, defects, grown)?;
