@@ -54,6 +54,7 @@ pub fn count_live_cuts(
     let mut cuts = 0;
     while i < blocks {
         if i % 4 == 0 && live[(i / 4) as usize] == b'0' {
+            // None of the digit's four blocks is live.
             i += 4;
         } else {
             let lbn = first + i * block as u64;
