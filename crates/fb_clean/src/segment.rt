@@ -84,8 +84,14 @@ impl Segment {
     pub fn is_better(&self, other: &Segment) -> bool
         ensures { result ≡ is_better self.now other.now }
     {
-        other.free() * other.age as u128 * self.cost()
-            < self.free() * self.age as u128 * other.cost()
+        other.product(self) < self.product(other)
+    }
+
+    /// The benefit, brought to the other's cost.
+    pub fn product(&self, other: &Segment) -> u128
+        ensures { result ≡ (self.now.blocks - length self.now.live) * self.now.age * (other.now.blocks + length other.now.live) }
+    {
+        self.free() * self.age as u128 * other.cost()
     }
 
     // The blocks that are not live.

@@ -1,5 +1,5 @@
 // The segments of a session.
-ghost use Rattle.std.specs.Prelude.{◌≡◌, ◌≢◌, ℕ, List, [], ◌∷◌, ◌++◌, Bool, Option, None, Some, ◌+◌, ◌-◌, ◌*◌, ◌<◌, ◌≤◌, ◌^◌, length, filter, map, IfOk, OnOk, OnErr, slice_get};
+ghost use Rattle.std.specs.Prelude.{◌≡◌, ◌≢◌, ℕ, List, [], ◌∷◌, ◌++◌, Bool, Option, None, Some, ◌+◌, ◌-◌, ◌*◌, ◌<◌, ◌≤◌, ◌^◌, length, filter, map, IfOk, IfSome, OnOk, OnErr, slice_get};
 ghost use Rattle.std.specs.List.{AllByRecursion, flat_map, range_with_len};
 ghost use Rattle.fb_store.specs.declared.content.Content.{Content};
 ghost use Rattle.fb_store.specs.Index.{held_at};
@@ -88,6 +88,7 @@ impl Segments {
     pub fn choose(&mut self) -> Option<u32>
         ensures choice { result ≡ choice_of self.old }
         ensures state { self.new ≡ after_choice result self.old }
+        ensures known { IfSome result (λ number. (0 < number) × (number ≤ length self.new.segments)) }
     {
         if self.unfinished.is_some() {
             return None;

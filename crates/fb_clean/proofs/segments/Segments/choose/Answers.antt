@@ -1,4 +1,5 @@
 use Rattle.std.proofs.Common.{◌≡◌, ◌+◌, ◌<◌, Some, ap, sym, ◌∙◌, arith, length, subst, slice_get}
+use Rattle.std.proofs.lemmas.List.{length-set}
 use Rattle.fb_clean.specs.Segments.{choice_of, without, left_out, first_best, waiting}
 use Rattle.fb_clean.proofs.Chosen.{some_at}
 use Rattle.fb_clean.proofs.Kept.{left_at, sound_chosen, none_unfinished, number_chosen}
@@ -33,3 +34,10 @@ returns-clause-state c =
     ap (λ xs. record { block = c.self.inside.block; segments = xs; unfinished = Some (c.in_ok-best.best + 1); taken = c.self.inside.taken.items })
     (left_at segments c.in_ok-best.best here.0 c.index_mut.result.now c.leave.new.self c.self.invariant.numbered here.1 (c.leave.ensures ∙ ap left_out c.index_mut.ensures.value) ∙ ap (λ n. without n segments) number)
     ∙ ap (λ v. record { block = v.block; segments = without (c.in_ok-best.best + 1) v.segments; unfinished = Some (c.in_ok-best.best + 1); taken = v.taken }) c.self.view_is
+
+pub returns-clause-known : goal.returns-clause-known
+returns-clause-known c =
+    let segments = c.self.inside.segments.items in
+    let within = c.in_ok-best.ensures.within in
+    let less : c.in_ok-best.best < length segments = omega (arith, within, ap length c.deref.ensures.value) in
+    (omega arith, omega (arith, length-set segments c.in_ok-best.best c.leave.new.self))
