@@ -6,5 +6,7 @@
 #![tactic(auto)]
 
 mod image;
+#[cfg(test)]
+mod tests;
 
 pub use image::Image;
