@@ -1,11 +1,11 @@
 -- The summary of a run.
-use Rattle.std.specs.Prelude.{ℕ, ◌-◌, max, map, List, [], ◌∷◌, Bool, true, false, length, decimal, codes, Option, Some, None}
+use Rattle.std.specs.Prelude.{ℕ, ◌-◌, max, map, List, [], ◌∷◌, length, decimal, codes, Option, Some, None}
 use Rattle.std.specs.List.{flat_map, filter_map, sum_by, count_by, fold}
 use Rattle.fb_rows.specs.declared.back.GapRow.{GapRow}
 use Rattle.fb_rows.specs.declared.back.DeliveryRow.{DeliveryRow}
 use Rattle.fb_rows.specs.declared.back.TaskRow.{TaskRow}
 use Rattle.fb_rows.specs.declared.back.BackRow.{BackRow}
-use Rattle.fb_rows.specs.declared.back.BackRow.TheVariants.{Gap, Idle, Got, Bad, Seal, Segment, Complete, Task}
+use Rattle.fb_rows.specs.declared.back.BackRow.TheVariants.{Gap, Got, Task}
 use Rattle.fb_rows.specs.declared.run.Run.{Run}
 use Rattle.fb_report.specs.Lines.{line_of}
 

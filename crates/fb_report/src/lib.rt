@@ -1,7 +1,9 @@
 //! The texts of a run, line by line.
 //!
 //! A report is a list of lines, and each piece is one of them. The foreground text is a function of
-//! the foreground rows, the number of requests passed over, the sector size and the mode of bytes.
+//! the foreground rows, the number of requests passed over, the sector size and the mode of bytes;
+//! the background text of the background rows, the tasks' names, the run's end, the sector size and
+//! the mode; the summary of the run alone.
 //! Digests are made while the bytes go by, so that none are held.
 #![tactic(auto)]
 
@@ -13,7 +15,9 @@ mod fore;
 mod line;
 mod sectors;
 mod sink;
+mod summary;
 
 pub use back::{back_piece, back_pieces, back_text};
 pub use bytes::Bytes;
 pub use fore::{fore_piece, fore_pieces, fore_text};
+pub use summary::summary_text;

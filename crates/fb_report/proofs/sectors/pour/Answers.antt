@@ -1,4 +1,4 @@
-use Rattle.std.proofs.Common.{ℕ, ◌+◌, ◌∙◌, ap, subst, arith, length, refl}
+use Rattle.std.proofs.Common.{ap, subst, arith}
 use Rattle.fb_report.specs.Shown.{run_bytes}
 use Rattle.fb_report.proofs.Ranges.{taken}
 use Rattle.fb_report.proofs.sectors.pour.Goals as goal
