@@ -4,6 +4,10 @@
 //! order of joining. They keep a ring, or maps ordered by sector and number of joining.
 #![tactic(auto)]
 
+mod clook;
+mod cylinders;
+mod index;
 mod ring;
 
+pub use clook::ClookMap;
 pub use ring::FcfsRing;

@@ -1,0 +1,23 @@
+-- Keys of a sector and a number.
+use Rattle.std.proofs.Common.{◌≡◌, ◌≢◌, ℕ, ◌≤◌, arith, true, false}
+use Rattle.std.specs.Ordering.{nat_cmp, ordering_then, is_gt, is_eq}
+use Rattle.std.specs.declared.cmp.Ordering.TheVariants.{Equal}
+use Rattle.std.proofs.lemmas.Bool.Decides.{nat_tests}
+
+pub at_sector : (a c d : ℕ) → a ≤ c → is_gt (ordering_then (nat_cmp a c) (nat_cmp 0 d)) ≡ false
+at_sector a c d h = grind (arith, nat_tests)
+
+pub sectors_rise : (a b c d : ℕ) → is_gt (ordering_then (nat_cmp a c) (nat_cmp b d)) ≡ false → a ≤ c
+sectors_rise a b c d h = grind (arith, nat_tests)
+
+pub same_number : (a b c d : ℕ) → ordering_then (nat_cmp a c) (nat_cmp b d) ≡ Equal → b ≡ d
+same_number a b c d h = grind (arith, nat_tests)
+
+pub here_equal : (a b : ℕ) → is_eq (ordering_then (nat_cmp a a) (nat_cmp b b)) ≡ true
+here_equal a b = grind (arith, nat_tests)
+
+pub same_key : (a b c d : ℕ) → b ≢ d → is_eq (ordering_then (nat_cmp a c) (nat_cmp b d)) ≡ false
+same_key a b c d h = grind (arith, nat_tests)
+
+pub equal_keys : (a b c d : ℕ) → is_eq (ordering_then (nat_cmp a c) (nat_cmp b d)) ≡ true → (a ≡ c) × (b ≡ d)
+equal_keys a b c d h = (grind (arith, nat_tests), grind (arith, nat_tests))

@@ -1,0 +1,224 @@
+-- The first request of least rank, taken out.
+use Rattle.std.proofs.Common.{◌≡◌, ◌≢◌, ℕ, zero, suc, ◌+◌, ◌<◌, ◌≤◌, List, [], ◌∷◌, map, refl, sym, ap, subst, ◌∙◌, arith, Bool, true, false, inl, inr, ◌⊎◌, Option, Some, None, IsSome, length}
+use Rattle.std.specs.Prelude.{nat_lt, nat_le, ◌==◌, if◌then◌else◌, IfSome, cond}
+use Rattle.std.specs.List.{AllByRecursion}
+use Rattle.std.specs.Map.{lookup, remove_entry}
+use Rattle.std.specs.BTreeMap.{is_at}
+use Rattle.std.proofs.lemmas.Bool.{cases_Bool, true≢false}
+use Rattle.std.proofs.lemmas.Bool.Decides.{nat_tests}
+use Rattle.fb_units.specs.declared.types.Request.{Request}
+use Rattle.fb_model.specs.PlainReplay.{first_least, better}
+use Rattle.fb_fastq.specs.Joining.{Waiting, number_of, join_in, in_order, pending_of, AreNumbered, IsIndex, IsFirst}
+use Rattle.fb_fastq.proofs.Keys.{same_key, here_equal, equal_keys}
+use Rattle.fb_fastq.proofs.Joins.{order, all_join, all_in_order}
+
+-- a request is among others
+abbrev pub IsIn : Waiting → List Waiting → Type 0
+IsIn w [] = ⊥
+IsIn w (x ∷ xs) = (w ≡ x) ⊎ IsIn w xs
+
+pub all_of : (P : Waiting → Type 0) (w : Waiting) (ws : List Waiting) → AllByRecursion P ws → IsIn w ws → P w
+all_of P w [] all e = elim e [ ]
+all_of P w (x ∷ ws) all (inl e) = subst P (sym e) all.0
+all_of P w (x ∷ ws) all (inr e) = all_of P w ws all.1 e
+
+abbrev IsRising : List Waiting → Type 0
+IsRising [] = Unit {0}
+IsRising (w ∷ ws) = AllByRecursion (λ x. number_of w < number_of x) ws × IsRising ws
+
+above : (m n : ℕ) (ws : List Waiting) → m < n → AllByRecursion (λ x. n < number_of x) ws → AllByRecursion (λ x. m < number_of x) ws
+above m n [] h all = tt
+above m n (w ∷ ws) h all = (let under : n < number_of w = all.0 in omega arith, above m n ws h all.1)
+
+join_rising : (w : Waiting) (ws : List Waiting) → AllByRecursion (λ x. number_of x ≢ number_of w) ws → IsRising ws → IsRising (join_in w ws)
+join_rising w [] apart h = (tt, tt)
+join_rising w (x ∷ ws) apart h = elim (cases_Bool (nat_lt (number_of w) (number_of x))) [
+  | inl less ↦ let lt : number_of w < number_of x = grind (arith, nat_tests) in rw less ((lt, above (number_of w) (number_of x) ws lt h.0), h)
+  | inr more ↦ let other : number_of x ≢ number_of w = apart.0 in let lt : number_of x < number_of w = grind (arith, nat_tests) in
+      rw more (all_join (λ y. number_of x < number_of y) w ws lt h.0, join_rising w ws apart.1 h.1)
+]
+
+in_order_rising : (ws : List Waiting) → AreNumbered ws → IsRising (in_order ws)
+in_order_rising [] h = tt
+in_order_rising (w ∷ ws) h = join_rising w (in_order ws) (all_in_order (λ x. number_of x ≢ number_of w) ws h.0) (in_order_rising ws h.1)
+
+abbrev without : ℕ → List Waiting → List Waiting
+without n [] = []
+without n (w ∷ ws) = if number_of w == n then ws else w ∷ without n ws
+
+without_joined : (w : Waiting) (ws : List Waiting) → AllByRecursion (λ x. number_of x ≢ number_of w) ws → without (number_of w) (join_in w ws) ≡ ws
+without_joined w [] h = let t : (number_of w == number_of w) ≡ true = grind (arith, nat_tests) in rw t refl
+without_joined w (x ∷ ws) h = elim (cases_Bool (nat_lt (number_of w) (number_of x))) [
+  | inl less ↦ let t : (number_of w == number_of w) ≡ true = grind (arith, nat_tests) in rw (less, t) refl
+  | inr more ↦ let other : number_of x ≢ number_of w = h.0 in let t : (number_of x == number_of w) ≡ false = grind (arith, nat_tests) in rw (more, t) (ap (λ l. x ∷ l) (without_joined w ws h.1))
+]
+
+joins_front : (w : Waiting) (ws : List Waiting) → AllByRecursion (λ x. number_of w < number_of x) ws → join_in w ws ≡ w ∷ ws
+joins_front w [] h = refl
+joins_front w (x ∷ ws) h = let lt : number_of w < number_of x = h.0 in let t : nat_lt (number_of w) (number_of x) ≡ true = grind (arith, nat_tests) in rw t refl
+
+without_other : (n : ℕ) (w : Waiting) (ws : List Waiting) → number_of w ≢ n → IsRising ws → without n (join_in w ws) ≡ join_in w (without n ws)
+without_other n w [] other h = let t : (number_of w == n) ≡ false = grind (arith, nat_tests) in rw t refl
+without_other n w (x ∷ ws) other h = let s : (number_of w == n) ≡ false = grind (arith, nat_tests) in
+    elim (cases_Bool (nat_lt (number_of w) (number_of x))) [
+      | inl less ↦ let lt : number_of w < number_of x = grind (arith, nat_tests) in elim (cases_Bool (number_of x == n)) [
+        | inl here ↦ rw (less, s, here) (sym (joins_front w ws (above (number_of w) (number_of x) ws lt h.0)))
+        | inr there ↦ rw (less, s, there, less) refl
+      ]
+      | inr more ↦ elim (cases_Bool (number_of x == n)) [
+        | inl here ↦ rw (more, here) refl
+        | inr there ↦ rw (more, there, more) (ap (λ l. x ∷ l) (without_other n w ws other h.1))
+      ]
+    ]
+
+in_order_without : (w : Waiting) (ws : List Waiting) → AreNumbered ws → IsIn w ws → in_order (remove_entry (is_at (order w.0)) ws) ≡ without (number_of w) (in_order ws)
+in_order_without w [] h e = elim e [ ]
+in_order_without w (x ∷ ws) h (inl e) = subst (λ y. in_order (remove_entry (is_at (order w.0)) (y ∷ ws)) ≡ without (number_of w) (join_in y (in_order ws))) e
+    (let t = here_equal w.0.0 w.0.1 in rw t (sym (without_joined w (in_order ws) (all_in_order (λ y. number_of y ≢ number_of w) ws (subst (λ y. AllByRecursion (λ z. number_of z ≢ number_of y) ws) (sym e) h.0)))))
+in_order_without w (x ∷ ws) h (inr e) =
+    let other : number_of w ≢ number_of x = all_of (λ y. number_of y ≢ number_of x) w ws h.0 e in
+    let t = same_key w.0.0 w.0.1 x.0.0 x.0.1 other in
+    rw t (ap (join_in x) (in_order_without w ws h.1 e) ∙ sym (without_other (number_of w) x (in_order ws) (λ s. other (sym s)) (in_order_rising ws h.1)))
+
+front_better : (rank : Request → ℕ) (r : Request) (rs : List Request) (best : Option (Request × List Request)) → IfSome best (λ b. rank r ≤ rank b.0) → better rank r rs best ≡ Some (r, rs)
+front_better rank r rs None h = refl
+front_better rank r rs (Some b) h = let le : rank r ≤ rank b.0 = h in let t : nat_le (rank r) (rank b.0) ≡ true = grind (arith, nat_tests) in rw t refl
+
+picked_better : (P : Request → Type 0) (rank : Request → ℕ) (r : Request) (rs : List Request) (best : Option (Request × List Request)) → P r → IfSome best (λ b. P b.0) → IfSome (better rank r rs best) (λ b. P b.0)
+picked_better P rank r rs None p h = p
+picked_better P rank r rs (Some b) p h = elim (cases_Bool (nat_le (rank r) (rank b.0))) [ inl yes' ↦ rw yes' p | inr no' ↦ rw no' h ]
+
+picked : (P : Request → Type 0) (rank : Request → ℕ) (ws : List Waiting) → AllByRecursion (λ w. P w.1) ws → IfSome (first_least rank (map (λ w. w.1) ws)) (λ b. P b.0)
+picked P rank [] h = tt
+picked P rank (w ∷ ws) h = picked_better P rank w.1 (map (λ x. x.1) ws) (first_least rank (map (λ x. x.1) ws)) h.0 (picked P rank ws h.1)
+
+not_above : (rank : Request → ℕ) (w : Waiting) (ws : List Waiting) → IsFirst rank w ws → AllByRecursion (λ x. rank w.1 ≤ rank x.1) ws
+not_above rank w [] h = tt
+not_above rank w (x ∷ ws) h = (elim h.0 [ inl less ↦ omega (arith, less) | inr tied ↦ omega (arith, tied.0) ], not_above rank w ws h.1)
+
+later_better : (rank : Request → ℕ) (r q : Request) (rs qs : List Request) (best : Option (Request × List Request)) → best ≡ Some (q, qs) → rank q < rank r → better rank r rs best ≡ Some (q, r ∷ qs)
+later_better rank r q rs qs best e lt = let t : nat_le (rank r) (rank q) ≡ false = grind (arith, nat_tests) in ap (better rank r rs) e ∙ ap (λ b. if b then Some (r, rs) else Some (q, r ∷ qs)) t
+
+least_rising : (rank : Request → ℕ) (w : Waiting) (ws : List Waiting) → IsRising ws → IsIn w ws → IsFirst rank w ws → first_least rank (map (λ x. x.1) ws) ≡ Some (w.1, map (λ x. x.1) (without (number_of w) ws))
+least_rising rank w [] h e first = elim e [ ]
+least_rising rank w (x ∷ ws) h (inl e) first = subst (λ y. first_least rank (map (λ z. z.1) (y ∷ ws)) ≡ Some (w.1, map (λ z. z.1) (without (number_of w) (y ∷ ws)))) e
+    (let t : (number_of w == number_of w) ≡ true = grind (arith, nat_tests) in
+    rw t (front_better rank w.1 (map (λ z. z.1) ws) (first_least rank (map (λ z. z.1) ws)) (picked (λ r. rank w.1 ≤ rank r) rank ws (not_above rank w ws first.1))))
+least_rising rank w (x ∷ ws) h (inr e) first =
+    let lt : number_of x < number_of w = all_of (λ y. number_of x < number_of y) w ws h.0 e in
+    let t : (number_of x == number_of w) ≡ false = grind (arith, nat_tests) in
+    let less : rank w.1 < rank x.1 = elim first.0 [ inl l ↦ l | inr tied ↦ let le : number_of w ≤ number_of x = tied.1 in absurd (omega arith) ] in
+    rw t (later_better rank x.1 w.1 (map (λ z. z.1) ws) (map (λ z. z.1) (without (number_of w) ws)) (first_least rank (map (λ z. z.1) ws)) (least_rising rank w ws h.1 e first.1) less)
+
+in_joined : (w x : Waiting) (ws : List Waiting) → (w ≡ x) ⊎ IsIn w ws → IsIn w (join_in x ws)
+in_joined w x [] (inl e) = inl e
+in_joined w x [] (inr e) = elim e [ ]
+in_joined w x (y ∷ ws) h = elim (cases_Bool (nat_lt (number_of x) (number_of y))) [
+  | inl less ↦ rw less h
+  | inr more ↦ rw more (elim h [ inl e ↦ inr (in_joined w x ws (inl e)) | inr there ↦ elim there [ inl e ↦ inl e | inr e ↦ inr (in_joined w x ws (inr e)) ] ])
+]
+
+in_in_order : (w : Waiting) (ws : List Waiting) → IsIn w ws → IsIn w (in_order ws)
+in_in_order w [] e = elim e [ ]
+in_in_order w (x ∷ ws) (inl e) = in_joined w x (in_order ws) (inl e)
+in_in_order w (x ∷ ws) (inr e) = in_joined w x (in_order ws) (inr (in_in_order w ws e))
+
+-- the first of least rank is what the plain replay takes
+pub least_taken : (rank : Request → ℕ) (w : Waiting) (ws : List Waiting) → AreNumbered ws → IsIn w ws → IsFirst rank w ws
+    → first_least rank (pending_of ws) ≡ Some (w.1, pending_of (remove_entry (is_at (order w.0)) ws))
+least_taken rank w ws apart there first =
+    least_rising rank w (in_order ws) (in_order_rising ws apart) (in_in_order w ws there) (all_in_order (λ x. (rank w.1 < rank x.1) ⊎ ((rank w.1 ≡ rank x.1) × (number_of w ≤ number_of x))) ws first)
+    ∙ ap (λ l. Some (w.1, map (λ x. x.1) l)) (sym (in_order_without w ws apart there))
+
+all_removed : (P : Waiting → Type 0) (k : ℕ × ℕ) (ws : List Waiting) → AllByRecursion P ws → AllByRecursion P (remove_entry (is_at (order k)) ws)
+all_removed P k [] h = tt
+all_removed P k (w ∷ ws) h = elim (cases_Bool (is_at (order k) w.0)) [ inl here ↦ rw here h.1 | inr there ↦ rw there (h.0, all_removed P k ws h.1) ]
+
+numbered_removed : (k : ℕ × ℕ) (ws : List Waiting) → AreNumbered ws → AreNumbered (remove_entry (is_at (order k)) ws)
+numbered_removed k [] h = tt
+numbered_removed k (w ∷ ws) h = elim (cases_Bool (is_at (order k) w.0)) [ inl here ↦ rw here h.1 | inr there ↦ rw there (all_removed (λ x. number_of x ≢ number_of w) k ws h.0, numbered_removed k ws h.1) ]
+
+pub index_removed : (joined : ℕ) (k : ℕ × ℕ) (ws : List Waiting) → IsIndex ws joined → IsIndex (remove_entry (is_at (order k)) ws) joined
+index_removed joined k ws h = record {
+  sectors = all_removed (λ w. w.0.0 ≡ w.1.lbn) k ws h.sectors;
+  given = all_removed (λ w. number_of w < joined) k ws h.given;
+  numbered = numbered_removed k ws h.numbered;
+}
+
+some_injective : {X : Type 0} (x y : X) → Some x ≡ Some y → x ≡ y
+some_injective x y e = cc
+
+found_there : (b : Bool) (x r : Request) (o : Option Request) → b ≡ false → cond b (Some x) o ≡ Some r → o ≡ Some r
+found_there b x r o t e = sym (ap (λ c. cond c (Some x) o) t) ∙ e
+
+found_here : (b : Bool) (x r : Request) (o : Option Request) → b ≡ true → cond b (Some x) o ≡ Some r → x ≡ r
+found_here b x r o t e = some_injective x r (sym (ap (λ c. cond c (Some x) o) t) ∙ e)
+
+same_waiting : (l n : ℕ) (r : Request) (w : Waiting) → l ≡ w.0.0 → n ≡ w.0.1 → w.1 ≡ r → ◌≡◌ {A = Waiting} ((l, n), r) w
+same_waiting l n r w a b c = ap (λ x. ((x, n), r)) a ∙ (ap (λ x. ((w.0.0, x), r)) b ∙ ap (λ x. (w.0, x)) (sym c))
+
+-- what the map holds at a key is among its entries
+pub held_is_in : (l n : ℕ) (r : Request) (ws : List Waiting) → lookup (is_at (order (l, n))) ws ≡ Some r → IsIn ((l, n), r) ws
+held_is_in l n r [] e = absurd (grind arith)
+held_is_in l n r (w ∷ ws) e = elim (cases_Bool (is_at (order (l, n)) w.0)) [
+  | inl here ↦ let keys = equal_keys l n w.0.0 w.0.1 here in inl (same_waiting l n r w keys.0 keys.1 (found_here (is_at (order (l, n)) w.0) w.1 r (lookup (is_at (order (l, n))) ws) here e))
+  | inr there ↦ inr (held_is_in l n r ws (found_there (is_at (order (l, n)) w.0) w.1 r (lookup (is_at (order (l, n))) ws) there e))
+]
+
+-- the map has the key of each of its entries
+pub is_held : (w : Waiting) (ws : List Waiting) → IsIn w ws → IsSome (lookup (is_at (order w.0)) ws)
+is_held w [] e = elim e [ ]
+is_held w (x ∷ ws) (inl e) = subst (λ y. IsSome (lookup (is_at (order w.0)) (y ∷ ws))) e (let t = here_equal w.0.0 w.0.1 in rw t refl)
+is_held w (x ∷ ws) (inr e) = elim (cases_Bool (is_at (order w.0) x.0)) [ inl here ↦ rw here refl | inr there ↦ rw there (is_held w ws e) ]
+
+pub first_held : (ws : List Waiting) → 0 < length ws → (w : Waiting) × IsIn w ws
+first_held [] h = absurd (omega arith)
+first_held (w ∷ ws) h = (w, inl refl)
+
+pub all_from : (P : Waiting → Type 0) (ws : List Waiting) → ((w : Waiting) → IsIn w ws → P w) → AllByRecursion P ws
+all_from P [] h = tt
+all_from P (w ∷ ws) h = (h w (inl refl), all_from P ws (λ x e. h x (inr e)))
+
+pub in_order_all : (P : Request → Type 0) (ws : List Waiting) → AllByRecursion P (pending_of ws) → (w : Waiting) → IsIn w ws → P w.1
+in_order_all P ws h w e = all_of (λ x. P x.1) w (in_order ws) (unmapped (in_order ws) h) (in_in_order w ws e)
+  where
+    unmapped : (xs : List Waiting) → AllByRecursion P (map (λ x. x.1) xs) → AllByRecursion (λ x. P x.1) xs
+    unmapped [] h = tt
+    unmapped (x ∷ xs) h = (h.0, unmapped xs h.1)
+
+length_joined : (w : Waiting) (ws : List Waiting) → length (map (λ x. x.1) (join_in w ws)) ≡ length (map (λ x. x.1) ws) + 1
+length_joined w [] = refl
+length_joined w (x ∷ ws) = elim (cases_Bool (nat_lt (number_of w) (number_of x))) [
+  | inl less ↦ rw less (omega arith)
+  | inr more ↦ let rest = length_joined w ws in rw more (omega (arith, rest))
+]
+
+pub length_pending : (ws : List Waiting) → length (pending_of ws) ≡ length ws
+length_pending [] = refl
+length_pending (w ∷ ws) = let one = length_joined w (in_order ws) in let rest = length_pending ws in omega (arith, one, rest)
+
+pub tells_none : (b : Bool) (n : ℕ) → ((b ≡ true → n ≡ 0) × (n ≡ 0 → b ≡ true)) → b ≡ (n == 0)
+tells_none true n h = let none : n ≡ 0 = h.0 refl in grind (arith, nat_tests)
+tells_none false zero h = h.1 refl
+tells_none false (suc n) h = grind (arith, nat_tests)
+
+-- what holds of each pending request holds of what a key has, which stands at its sector
+pub at_key : (P : Request → Type 0) (ws : List Waiting) (joined : ℕ) (q : ℕ × ℕ) → IsIndex ws joined → AllByRecursion P (pending_of ws) → IsSome (lookup (is_at (order q)) ws) → (r : Request) × P r × (q.0 ≡ r.lbn)
+at_key P ws joined q index all has = go (lookup (is_at (order q)) ws) refl has
+  where
+    go : (o : Option Request) → lookup (is_at (order q)) ws ≡ o → IsSome o → (r : Request) × P r × (q.0 ≡ r.lbn)
+    go None e h = absurd (true≢false (sym h))
+    go (Some r) e h =
+        let there = held_is_in q.0 q.1 r ws e in
+        (r, in_order_all P ws all ((q.0, q.1), r) there, all_of (λ w. w.0.0 ≡ w.1.lbn) ((q.0, q.1), r) ws index.sectors there)
+
+-- the first by sectors is the first by requests
+pub first_by_sector : (rank : ℕ → ℕ) (key : ℕ × ℕ) (r : Request) (ws : List Waiting) (joined : ℕ) → IsIndex ws joined → lookup (is_at (order key)) ws ≡ Some r
+    → ((q : ℕ × ℕ) → IsSome (lookup (is_at (order q)) ws) → (rank key.0 < rank q.0) ⊎ ((rank key.0 ≡ rank q.0) × (key.1 ≤ q.1)))
+    → IsFirst (λ s. rank s.lbn) (key, r) ws
+first_by_sector rank key r ws joined index e h =
+    let own : key.0 ≡ r.lbn = all_of (λ w. w.0.0 ≡ w.1.lbn) ((key.0, key.1), r) ws index.sectors (held_is_in key.0 key.1 r ws e) in
+    all_from (λ x. (rank r.lbn < rank x.1.lbn) ⊎ ((rank r.lbn ≡ rank x.1.lbn) × (key.1 ≤ number_of x))) ws (λ w there.
+    let at : w.0.0 ≡ w.1.lbn = all_of (λ x. x.0.0 ≡ x.1.lbn) w ws index.sectors there in
+    subst (λ n. (rank r.lbn < rank n) ⊎ ((rank r.lbn ≡ rank n) × (key.1 ≤ number_of w))) at
+    (subst (λ n. (rank n < rank w.0.0) ⊎ ((rank n ≡ rank w.0.0) × (key.1 ≤ number_of w))) own (h w.0 (is_held w ws there))))
