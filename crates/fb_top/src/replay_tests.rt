@@ -66,6 +66,14 @@ fn reports(rt: HostRuntime) -> Result<(), Fail> {
             "0 0 3 1 1\n",
             "freeblock fore 1\n1 R 3 1 0 0 514 685 0 00000000000000000000000000000003\nend 1 0\n",
         ),
+        // two reads at once
+        (
+            "hex",
+            "",
+            TWELVE,
+            "0 0 5 1 1\n0 0 24 1 1\n",
+            "freeblock fore 1\n1 R 5 1 0 0 500 600 0 00000000000000000000000000000005\n2 R 24 1 0 600 1200 1300 0 00000000000000000000000000000018\nend 2 0\n",
+        ),
         // of no requests
         ("hex", "", TWELVE, "", "freeblock fore 1\nend 0 0\n"),
         // of another device
