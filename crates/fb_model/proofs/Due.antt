@@ -15,7 +15,7 @@ use Rattle.fb_model.specs.Plans.{block_begin, block_end, catches, early_dwell, l
 use Rattle.fb_model.specs.Inputs.{Inputs}
 use Rattle.fb_model.specs.Decisions.{Decision, serves, idles, ends}
 use Rattle.fb_wanted.specs.States.{is_wanted}
-use Rattle.fb_model.specs.History.{Past, wanted, state, blocks_of, task_numbers}
+use Rattle.fb_model.specs.History.{Past, wanted, state, registered}
 use Rattle.fb_model.specs.Course.{Part, settled_past}
 use Rattle.fb_model.specs.Rides.{gap_of, due, delivery, is_before, placed, in_order, caught, missed, lies_in, rides, due_in_gap, begin_at, end_at}
 use Rattle.fb_model.specs.SoundRun.{IsSublist, none, left_out, taken, IsDelivered}
@@ -242,7 +242,7 @@ all_tested test (x ∷ xs) = go (test x) refl (all_tested test xs)
 -- the state of a block that is delivered at a decision was Wanted after its calls and choices
 pub wanted_true : (past : Past) → AllByRecursion (λ block. is_wanted (state past block) ≡ true) (wanted past)
 unfolding wanted
-wanted_true past = all_tested (λ block. is_wanted (state past block)) (flat_map (blocks_of past) (task_numbers past))
+wanted_true past = all_tested (λ block. is_wanted (state past block)) (registered past)
 
 pub delivery_wanted : (inputs : Inputs) (medium : Medium) (past : Past) (step : Decision × Part) → IsDelivered inputs medium past step
     → AllByRecursion (IsDueRow medium step.0 step.1.plan (λ block. is_wanted (state (settled_past inputs past step.0) block) ≡ true)) (map (λ delivery. delivery.got) step.1.deliveries)

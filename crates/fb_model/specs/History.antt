@@ -1,6 +1,6 @@
 -- What has happened in a run, and what it says of tasks and blocks. The latest event comes first.
 use Rattle.std.specs.Prelude.{ℕ, List, [], ◌∷◌, ◌++◌, length, Bool, true, false, ◌&&◌, not, ◌==◌, filter, if◌then◌else◌}
-use Rattle.std.specs.List.{list_any, flat_map, range_with_len, slice_index_or}
+use Rattle.std.specs.List.{list_any, range_with_len, slice_index_or}
 use Rattle.fb_units.specs.declared.types.Request.{Request}
 use Rattle.fb_calls.specs.declared.call.Kind.TheVariants.{Plain}
 use Rattle.fb_calls.specs.Sessions.{is_backup}
@@ -140,6 +140,6 @@ is_suspended (event ∷ past) task = suspension_after event task (is_suspended p
 abbrev pub state : Past → Block → State
 state past block = if is_wanted (bare_state past block) && is_suspended past block.task then Suspended else bare_state past block
 
--- the wanted blocks, by task and index
+-- the wanted blocks, in order of registration
 unfoldable pub wanted : Past → List Block
-wanted past = filter (λ block. is_wanted (state past block)) (flat_map (blocks_of past) (task_numbers past))
+wanted past = filter (λ block. is_wanted (state past block)) (registered past)
