@@ -1,8 +1,8 @@
 -- What is kept beside the list of registered blocks, as blocks are registered and change.
-use Rattle.std.proofs.Common.{◌≡◌, ℕ, suc, ◌+◌, ◌-◌, ◌*◌, ◌<◌, ◌≤◌, inl, inr, ◌==◌, List, [], ◌∷◌, ◌++◌, Option, Some, None, Bool, true, false, if◌then◌else◌, length, length-append, filter, slice_get, get_or, set, refl, ap, sym, ◌∙◌, arith, subst, option_map}
+use Rattle.std.proofs.Common.{◌≡◌, ℕ, ◌+◌, ◌-◌, ◌<◌, ◌≤◌, inl, inr, ◌==◌, List, [], ◌∷◌, ◌++◌, Some, None, true, false, if◌then◌else◌, length, length-append, slice_get, get_or, set, refl, ap, sym, ◌∙◌, arith, subst, option_map}
 use Rattle.std.specs.BTreeMap.{BTreeMap, get}
 use Rattle.std.specs.Ordering.{is_eq}
-use Rattle.std.proofs.lemmas.Bool.{cases_Bool, true≢false}
+use Rattle.std.proofs.lemmas.Bool.{cases_Bool}
 use Rattle.std.proofs.lemmas.Bool.Decides.{nat_tests}
 use Rattle.std.proofs.lemmas.Option.{same_Some, none-some}
 use Rattle.fb_units.specs.declared.types.Track.{Track}
@@ -12,7 +12,7 @@ use Rattle.fb_wanted.specs.declared.block.State.{State}
 use Rattle.fb_wanted.specs.declared.tracks.OnTrack.{OnTrack}
 use Rattle.fb_wanted.specs.Numbering.{AreInOrder, AreSmall, blocks_of, registered}
 use Rattle.fb_wanted.specs.Tracks.{wanted_weight}
-use Rattle.fb_wanted.specs.Index.{places, of_task, of_track, grown, reweighed, kept_from, kept_of, track_cmp, IsIndex, IsKept, with_state}
+use Rattle.fb_wanted.specs.Index.{places, of_task, of_track, grown, reweighed, kept_from, kept_of, track_cmp, IsKept, with_state}
 use Rattle.fb_wanted.proofs.Lists.{at_track}
 use Rattle.fb_wanted.proofs.Standing.{length-with_state, items-with_state, blocks-with_state, places-with_state, places-more_yes, places-more_no}
 use Rattle.fb_wanted.proofs.Numbers.{numbered-more, small-more}

@@ -1,12 +1,12 @@
 -- Lists of lists, and tracks as keys.
-use Rattle.std.proofs.Common.{◌≡◌, ℕ, zero, suc, ◌+◌, ◌<◌, ◌≤◌, ◌⊎◌, inl, inr, ◌==◌, List, [], ◌∷◌, ◌++◌, Bool, true, false, Result, Ok, Err, OnErr, OnOk, if◌then◌else◌, length, get_or, set, refl, ap, sym, ◌∙◌, arith, subst}
+use Rattle.std.proofs.Common.{◌≡◌, ℕ, zero, suc, ◌<◌, ◌≤◌, ◌⊎◌, inl, inr, ◌==◌, List, [], ◌∷◌, ◌++◌, true, false, Result, Ok, Err, OnErr, if◌then◌else◌, length, get_or, set, refl, ap, sym, ◌∙◌, arith}
 use Rattle.std.specs.Ordering.{is_eq, is_gt}
 use Rattle.std.proofs.lemmas.Bool.{cases_Bool, cases_lt}
 use Rattle.std.proofs.lemmas.Bool.Decides.{nat_tests}
 use Rattle.std.proofs.lemmas.List.{get_or-set_same, get_or-set_other}
 use Rattle.fb_units.specs.declared.types.Track.{Track}
 use Rattle.fb_units.specs.Tracks.{same_track}
-use Rattle.fb_wanted.specs.Index.{track_cmp}
+use Rattle.fb_wanted.specs.Index.{track_cmp, fall_cmp}
 use Rattle.fb_wanted.specs.Tracks.{IsTrackBefore}
 
 pub on_err : {T E P : Type 0} (r : Result T E) → P → OnErr r P
@@ -60,3 +60,12 @@ taken_back old one two n place added back k =
       | inl here ↦ let same : n ≡ k = grind (arith, nat_tests) in back (get_or old n []) place last k ∙ rw here (ap (λ j. get_or old j []) same)
       | inr other ↦ back (get_or old n []) place last k ∙ rw other (added k ∙ rw other refl)
     ]
+
+pub from_fall : (task from j : ℕ) → from ≤ j → is_gt (fall_cmp (task, from) (task, j)) ≡ false
+from_fall task from j h = grind (arith, nat_tests)
+
+pub falls_rise : (task other i j : ℕ) → is_gt (fall_cmp (other, i) (task, j)) ≡ false → other ≡ task → i ≤ j
+falls_rise task other i j h same = grind (arith, nat_tests)
+
+pub task_rises : (task from other i j : ℕ) → is_gt (fall_cmp (task, from) (other, i)) ≡ false → is_gt (fall_cmp (other, i) (task, j)) ≡ false → other ≡ task
+task_rises task from other i j up down = grind (arith, nat_tests)

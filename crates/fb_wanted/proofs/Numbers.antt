@@ -1,15 +1,14 @@
 -- Numbers of blocks.
-use Rattle.std.proofs.Common.{◌≡◌, ℕ, zero, suc, ◌+◌, ◌<◌, ◌≤◌, ◌⊎◌, inl, inr, ◌==◌, List, [], ◌∷◌, ◌++◌, Bool, true, false, Some, if◌then◌else◌, length, length-append, append-nil, filter, map, slice_get, get_or, take, refl, ap, sym, ◌∙◌, arith, subst, option_map}
-use Rattle.std.proofs.lemmas.Bool.{cases_Bool, true≢false}
+use Rattle.std.proofs.Common.{◌≡◌, ℕ, zero, suc, ◌<◌, ◌≤◌, ◌⊎◌, inl, inr, ◌==◌, List, [], ◌∷◌, ◌++◌, Bool, true, Some, if◌then◌else◌, length, append-nil, filter, slice_get, get_or, take, refl, ap, sym, ◌∙◌, arith, subst, option_map}
+use Rattle.std.proofs.lemmas.Bool.{cases_Bool}
 use Rattle.std.proofs.lemmas.Bool.Decides.{nat_tests}
 use Rattle.std.proofs.lemmas.List.Elements.{filter-append}
-use Rattle.std.proofs.lemmas.Option.{slice_get-map, same_Some, none-some}
+use Rattle.std.proofs.lemmas.Option.{slice_get-map}
 use Rattle.fb_wanted.specs.declared.block.Block.{Block}
-use Rattle.fb_wanted.specs.declared.block.Change.{Change}
 use Rattle.fb_wanted.specs.declared.block.Entry.{Entry}
-use Rattle.fb_wanted.specs.States.{after, entry_after, is_block}
+use Rattle.fb_wanted.specs.States.{is_block}
 use Rattle.fb_wanted.specs.Numbering.{AreInOrder, AreSmall, blocks_of, registered}
-use Rattle.fb_wanted.specs.Index.{of_task, change_nth, places}
+use Rattle.fb_wanted.specs.Index.{of_task, places}
 use Rattle.fb_wanted.proofs.Standing.{among}
 
 -- an entry of a longer list stands in the shorter one, or is the new one

@@ -1,5 +1,5 @@
 -- How a change of one block is one of a task.
-use Rattle.std.proofs.Common.{◌≡◌, ℕ, ◌==◌, List, Some, true, false, slice_get, filter, map, refl, ap, sym, ◌∙◌, arith}
+use Rattle.std.proofs.Common.{◌≡◌, ℕ, ◌==◌, List, true, false, refl, ap, sym, arith}
 use Rattle.std.proofs.lemmas.Bool.Decides.{nat_tests}
 use Rattle.fb_wanted.specs.declared.block.Change.{Change}
 use Rattle.fb_wanted.specs.declared.block.Change.TheVariants.{Deliver}

@@ -1,18 +1,17 @@
 -- What is read of a task and of a track.
-use Rattle.std.proofs.Common.{◌≡◌, ℕ, ◌+◌, ◌<◌, ◌≤◌, ◌⊎◌, inl, inr, List, [], ◌∷◌, Option, Some, None, Bool, true, false, length, filter, map, slice_get, get_or, IsSome, IfSome, IfNone, true≢false, ◌*◌, refl, ap, sym, ◌∙◌, arith, subst, option_map}
+use Rattle.std.proofs.Common.{◌≡◌, ℕ, ◌+◌, ◌<◌, ◌≤◌, inl, inr, List, [], ◌∷◌, Option, Some, None, Bool, length, filter, slice_get, get_or, IsSome, IfSome, IfNone, true≢false, ◌*◌, refl, ap, sym, ◌∙◌, arith, subst, option_map}
 use Rattle.std.specs.BTreeMap.{BTreeMap, get, ContainsKey}
 use Rattle.std.proofs.lemmas.Bool.{cases_Bool, cases_lt}
 use Rattle.std.proofs.lemmas.List.{get_or_past}
-use Rattle.std.proofs.lemmas.Option.{slice_get-map, none-some}
+use Rattle.std.proofs.lemmas.Option.{slice_get-map}
 use Rattle.fb_units.specs.declared.types.Track.{Track}
-use Rattle.fb_wanted.specs.declared.block.Block.{Block}
 use Rattle.fb_wanted.specs.declared.block.Entry.{Entry}
 use Rattle.fb_wanted.specs.declared.tracks.OnTrack.{OnTrack}
 use Rattle.fb_wanted.specs.States.{on_track}
 use Rattle.fb_wanted.specs.Numbering.{blocks_of}
 use Rattle.fb_wanted.specs.Tracks.{wanted_weight, HasBlock, IsTrackBefore, IsNextTrack}
-use Rattle.fb_wanted.specs.Index.{places, of_task, of_track, kept_from, kept_of, track_cmp, IsKept}
-use Rattle.fb_wanted.proofs.Standing.{length-places, at_place, place_within, get_some}
+use Rattle.fb_wanted.specs.Index.{places, of_task, of_track, kept_from, track_cmp, IsKept}
+use Rattle.fb_wanted.proofs.Standing.{length-places, at_place}
 use Rattle.fb_wanted.proofs.Kept.{kept_some, kept_none}
 use Rattle.fb_wanted.proofs.Weights.{weight_none, weight_at, weight-le}
 

@@ -1,13 +1,17 @@
 -- What is kept beside the list of registered blocks.
-use Rattle.std.specs.Prelude.{◌≡◌, ℕ, zero, suc, ◌+◌, ◌-◌, ◌≤◌, ◌==◌, Bool, List, [], ◌∷◌, ◌++◌, Option, Some, None, length, map, filter, get_or, slice_get, if◌then◌else◌}
+use Rattle.std.specs.Prelude.{◌≡◌, ℕ, zero, suc, ◌+◌, ◌-◌, ◌≤◌, ◌<◌, ◌==◌, Bool, true, false, List, [], ◌∷◌, ◌++◌, Option, Some, None, length, map, filter, get_or, slice_get, if◌then◌else◌}
 use Rattle.std.specs.Ordering.{nat_cmp, ordering_then}
 use Rattle.std.specs.declared.cmp.Ordering.{Ordering}
 use Rattle.std.specs.BTreeMap.{BTreeMap, get}
+use Rattle.std.specs.BTreeSet.{BTreeSet, contains}
 use Rattle.fb_units.specs.declared.types.Track.{Track}
 use Rattle.fb_units.specs.Tracks.{same_track}
+use Rattle.fb_wanted.specs.declared.block.Block.{Block}
+use Rattle.fb_wanted.specs.declared.block.Change.{Change}
 use Rattle.fb_wanted.specs.declared.block.Entry.{Entry}
 use Rattle.fb_wanted.specs.declared.block.State.{State}
 use Rattle.fb_wanted.specs.declared.tracks.OnTrack.{OnTrack}
+use Rattle.fb_wanted.specs.States.{shares, state_after}
 use Rattle.fb_wanted.specs.Numbering.{AreInOrder, AreSmall, blocks_of}
 use Rattle.fb_wanted.specs.Tracks.{wanted_weight}
 
@@ -47,6 +51,26 @@ kept_of track entries = kept_from (places (of_track track) entries) (wanted_weig
 pub record IsIndex (entries : List Entry) (tasks : List (List ℕ)) (tracks : BTreeMap Track OnTrack) : Type 0 where
   pub by_task : (task : ℕ) → get_or tasks task [] ≡ places (of_task task) entries
   pub by_track : (track : Track) → get track_cmp tracks track ≡ kept_of track entries
+
+-- the LBNs of the task's blocks, in order of registration
+abbrev pub lbns : ℕ → List Entry → List ℕ
+lbns task entries = map (λ entry. entry.block.lbn) (filter (of_task task) entries)
+
+-- by task, then by number
+abbrev pub fall_cmp : ℕ × ℕ → ℕ × ℕ → Ordering
+fall_cmp a b = ordering_then (nat_cmp a.0 b.0) (nat_cmp a.1 b.1)
+
+-- each block whose LBN is less than that of its task's block before it is noted
+abbrev pub AreNoted : List Entry → BTreeSet (ℕ × ℕ) → Type 0
+AreNoted entries falls = (task i a b : ℕ) → slice_get (lbns task entries) i ≡ Some a → slice_get (lbns task entries) (suc i) ≡ Some b → b < a → contains fall_cmp falls (task, suc i) ≡ true
+
+-- the numbers from one on don't fall before an end
+abbrev pub Rises : List ℕ → ℕ → ℕ → Type 0
+Rises xs from end = (i j a b : ℕ) → from ≤ i → i ≤ j → j < end → slice_get xs i ≡ Some a → slice_get xs j ≡ Some b → a ≤ b
+
+-- a change that leaves each block which shares no sector with the range
+abbrev pub IsWithin : Change → ℕ → ℕ → Type 0
+IsWithin change first count = (block : Block) (state : State) → shares first count block ≡ false → state_after change block state ≡ state
 
 -- the registered blocks, and what is kept beside them
 pub record IsKept (entries : List Entry) (tasks : List (List ℕ)) (tracks : BTreeMap Track OnTrack) : Type 0 where

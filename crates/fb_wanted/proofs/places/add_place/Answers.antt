@@ -1,4 +1,4 @@
-use Rattle.std.proofs.Common.{◌≡◌, ap, sym, ◌∙◌, [], get_or, set, arith}
+use Rattle.std.proofs.Common.{ap, ◌∙◌, [], get_or, set}
 use Rattle.std.proofs.lemmas.List.{set-get_or}
 use Rattle.fb_wanted.proofs.Lists.{on_err}
 use Rattle.fb_wanted.proofs.places.add_place.Goals as goal

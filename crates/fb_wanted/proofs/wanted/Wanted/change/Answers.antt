@@ -1,7 +1,6 @@
-use Rattle.std.proofs.Common.{◌≡◌, ◌≤◌, ◌∙◌, ap, sym, arith, length, filter, add-one, refl, ◌+◌}
-use Rattle.fb_wanted.specs.declared.block.Entry.{Entry}
+use Rattle.std.proofs.Common.{◌∙◌, ap, sym, arith, length, filter, add-one, refl}
 use Rattle.fb_wanted.specs.Index.{of_task, change_first, change_nth}
-use Rattle.fb_wanted.specs.States.{after, entry_after}
+use Rattle.fb_wanted.specs.States.{entry_after}
 use Rattle.fb_wanted.proofs.OfTask.{others_after}
 use Rattle.fb_wanted.proofs.Standing.{first_none, first_one_more, first_all, passing-first}
 use Rattle.fb_wanted.proofs.wanted.Wanted.change.Goals as goal
