@@ -154,19 +154,6 @@ module _ (e : Entry) (es : List Entry) (tasks newtasks : List (List ℕ)) (track
       (subst (λ p. (task : ℕ) → get_or newtasks task [] ≡ (if e.block.task == task then get_or tasks task [] ++ p ∷ [] else get_or tasks task [])) is by_task)
       (subst (λ p. (t : Track) → get track_cmp new t ≡ (if same_track e.block.track t then Some (grown p (wanted_weight e.block.track (e ∷ [])) (get track_cmp tracks t)) else get track_cmp tracks t)) is by_track))
 
--- the same facts of other lists that say the same
-pub kept_alike : (es : List Entry) (tasks newtasks : List (List ℕ)) (tracks new : BTreeMap Track OnTrack) → IsKept es tasks tracks
-    → ((task : ℕ) → get_or newtasks task [] ≡ get_or tasks task []) → ((t : Track) → get track_cmp new t ≡ get track_cmp tracks t) → IsKept es newtasks new
-kept_alike es tasks newtasks tracks new h by_task by_track = record {
-  in_order = h.in_order;
-  few = h.few;
-  small = h.small;
-  index = record {
-    by_task = λ task. by_task task ∙ h.index.by_task task;
-    by_track = λ t. by_track t ∙ h.index.by_track t;
-  };
-}
-
 -- a track that had no block
 pub first_on_track : (m new : BTreeMap Track OnTrack) (track : Track) (place weight : ℕ) (ps : List ℕ) → get track_cmp m track ≡ None → ps ≡ place ∷ []
     → ((t : Track) → get track_cmp new t ≡ (if is_eq (track_cmp track t) then Some (record { places = ps; weight = weight }) else get track_cmp m t))

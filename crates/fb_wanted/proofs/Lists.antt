@@ -1,9 +1,8 @@
 -- Lists of lists, and tracks as keys.
-use Rattle.std.proofs.Common.{◌≡◌, ℕ, zero, suc, ◌<◌, ◌≤◌, ◌⊎◌, inl, inr, ◌==◌, List, [], ◌∷◌, ◌++◌, true, false, Result, Ok, Err, OnErr, if◌then◌else◌, length, get_or, set, refl, ap, sym, ◌∙◌, arith}
+use Rattle.std.proofs.Common.{◌≡◌, ℕ, zero, suc, ◌≤◌, ◌⊎◌, inl, inr, ◌==◌, List, [], ◌∷◌, ◌++◌, true, false, Result, Ok, Err, OnErr, if◌then◌else◌, get_or, refl, ap, ◌∙◌, arith}
 use Rattle.std.specs.Ordering.{is_eq, is_gt}
 use Rattle.std.proofs.lemmas.Bool.{cases_Bool, cases_lt}
 use Rattle.std.proofs.lemmas.Bool.Decides.{nat_tests}
-use Rattle.std.proofs.lemmas.List.{get_or-set_same, get_or-set_other}
 use Rattle.fb_units.specs.declared.types.Track.{Track}
 use Rattle.fb_units.specs.Tracks.{same_track}
 use Rattle.fb_wanted.specs.Index.{track_cmp, fall_cmp}
@@ -19,13 +18,6 @@ one_empty [] zero = refl
 one_empty [] (suc k) = refl
 one_empty (x ∷ xs) zero = refl
 one_empty (x ∷ xs) (suc k) = one_empty xs k
-
--- one of the lists in another's place
-pub list_set : (xs : List (List ℕ)) (n k : ℕ) (ys : List ℕ) → n < length xs → get_or (set xs n ys) k [] ≡ (if n == k then ys else get_or xs k [])
-list_set xs n k ys lt = elim (cases_Bool (n == k)) [
-  | inl yes' ↦ let same : n ≡ k = grind (arith, nat_tests) in rw yes' (ap (λ j. get_or (set xs n ys) j []) (sym same) ∙ get_or-set_same xs n ys [] lt)
-  | inr no' ↦ rw no' (get_or-set_other xs n k ys [] (λ same. grind (arith, nat_tests)))
-]
 
 pub at_track : (a b : Track) → is_eq (track_cmp a b) ≡ same_track a b
 at_track a b = grind (arith, nat_tests)

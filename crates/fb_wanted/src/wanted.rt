@@ -25,6 +25,7 @@ use std::marker::Model;
 /// To register, to deliver or to look up costs a logarithm of the number of tracks or blocks.
 /// To suspend or to resume costs as much for each block of the task, and to abort or to want again
 /// as much for each of its blocks near the range and for each time that its LBNs fall.
+/// A task takes room for each number below its own.
 #[derive(Drop)]
 pub struct Wanted {
     alloc: Global,
@@ -53,7 +54,7 @@ impl Model for Wanted {
     ghost invariant = { λ w. IsKept w.entries.items w.tasks.items w.tracks × AreNoted w.entries.items w.falls };
 }
 
-// Where a block that is to be registered will stand; where memory is wanting all stays.
+// Notes where a block that is to be registered will stand; where memory is wanting all stays.
 fn add_to_index(
     tasks: &mut Vec<Places>,
     tracks: &mut BTreeMap<Track, OnTrack>,
