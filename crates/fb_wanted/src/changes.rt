@@ -4,7 +4,6 @@ ghost use Rattle.fb_wanted.specs.States.{shares, is_wanted, is_suspended, is_del
 ghost use Rattle.fb_units.specs.Tracks.{same_track};
 
 use crate::{Block, Change, Entry, State};
-use fb_units::Track;
 
 // Whether the block shares a sector with the range.
 fn shares(block: Block, first: u64, count: u64) -> bool
@@ -34,7 +33,8 @@ fn is_open(state: State) -> bool
     }
 }
 
-fn wanted_unless(suspended: bool) -> State
+/// The state of a block that is wanted anew.
+pub fn wanted_unless(suspended: bool) -> State
     ensures { result ≡ wanted_unless suspended }
 {
     if suspended {
@@ -69,8 +69,8 @@ fn rewanted(first: u64, count: u64, suspended: bool, block: Block, state: State)
     }
 }
 
-// The state of a block of the task after the change.
-fn state_after(change: Change, block: Block, state: State) -> State
+/// The state of a block of the task after the change.
+pub fn state_after(change: Change, block: Block, state: State) -> State
     ensures { result ≡ state_after change block state }
 {
     match change {
@@ -98,42 +98,8 @@ fn state_after(change: Change, block: Block, state: State) -> State
     }
 }
 
-fn entry_after(task: u32, change: Change, entry: Entry) -> Entry
-    ensures { result ≡ entry_after task change entry }
-{
-    if entry.block.task == task {
-        Entry {
-            block: entry.block,
-            state: state_after(change, entry.block, entry.state),
-        }
-    } else {
-        entry
-    }
-}
-
-/// Changes the blocks of the task.
-pub fn change_all(entries: &mut [Entry], task: u32, change: Change)
-    ensures { entries.new ≡ after task change entries.old }
-{
-    for i in 0..entries.len() {
-        entries[i] = entry_after(task, change, entries[i]);
-    }
-}
-
-/// How many blocks of the task an abort of the range changes.
-pub fn count_abortable(entries: &[Entry], task: u32, first: u64, count: u64) -> u64
-    ensures { result ≡ length (filter (is_abortable task first count) entries.now) }
-{
-    let mut n = 0;
-    for entry in entries {
-        if is_abortable(*entry, task, first, count) {
-            n += 1;
-        }
-    }
-    n
-}
-
-fn is_abortable(entry: Entry, task: u32, first: u64, count: u64) -> bool
+/// Whether an abort of the range changes the block.
+pub fn is_abortable(entry: Entry, task: u32, first: u64, count: u64) -> bool
     ensures { result ≡ is_abortable task first count entry }
 {
     if entry.block.task != task {
@@ -143,21 +109,4 @@ fn is_abortable(entry: Entry, task: u32, first: u64, count: u64) -> bool
         return false;
     }
     is_open(entry.state)
-}
-
-/// Whether this is the task's block of that number.
-pub fn is_block(entry: Entry, task: u32, index: u32) -> bool
-    ensures { result ≡ is_block task index entry }
-{
-    if entry.block.task != task {
-        return false;
-    }
-    entry.block.index == index
-}
-
-/// Whether the entry's block lies on the track.
-pub fn is_on(entry: Entry, track: Track) -> bool
-    ensures { result ≡ same_track track entry.block.track }
-{
-    track == entry.block.track
 }

@@ -1,4 +1,4 @@
-// Each call once, over two blocks of a task and one of another.
+// Each call once, over blocks of a task, the last of them before the first on the disk, and one of another.
 use crate::{Block, State, Wanted};
 use fb_units::Track;
 use std::test::Fail;
@@ -39,6 +39,31 @@ const OTHER: Block = Block {
     track: FAR,
     weight: 3,
 };
+
+const BEFORE: Block = Block {
+    task: 0,
+    index: 2,
+    lbn: 8,
+    count: 4,
+    track: NEAR,
+    weight: 1,
+};
+
+#[test]
+fn a_range_reaches_blocks_of_two_wants(rt: HostRuntime) -> Result<(), Fail> {
+    let mut wanted = Wanted::new(rt.alloc());
+    wanted.register(FIRST, false)?;
+    wanted.register(SECOND, false)?;
+    wanted.register(BEFORE, false)?;
+    assert_eq!(rt; wanted.abort(0, 11, 2), 2);
+    assert_eq!(rt; wanted.wanted_weight_on(NEAR), 8);
+    wanted.deliver(0, 1);
+    assert_eq!(rt; wanted.wanted_weight_on(NEAR), 0);
+    wanted.rewant(0, 15, 2, false);
+    assert_eq!(rt; wanted.wanted_weight_on(NEAR), 8);
+    assert_eq!(rt; wanted.next_registered_track(FAR), None);
+    Ok(())
+}
 
 #[test]
 fn a_block_is_delivered(rt: HostRuntime) -> Result<(), Fail> {

@@ -1,54 +1,87 @@
-// What a block says of a track.
-ghost use Rattle.std.specs.Prelude.{◌≡◌, ◌≤◌, [], ◌∷◌, ◌++◌, true, false, List};
-ghost use Rattle.fb_wanted.specs.declared.block.Entry.{Entry};
-ghost use Rattle.fb_wanted.specs.Tracks.{wanted_weight, IsTrackBefore, IsNext};
+// What is kept of the tracks on which blocks are registered.
+ghost use Rattle.std.specs.Prelude.{◌≡◌, ◌≤◌, ◌<◌, ◌+◌, ◌-◌, ◌^◌, ◌∷◌, ◌++◌, [], List, Option, Some, IfSome, IfNone, OnOk, OnErr, if◌then◌else◌};
+ghost use Rattle.std.specs.Option.{option_map};
+ghost use Rattle.std.specs.BTreeMap.{get, ContainsKey};
+ghost use Rattle.fb_units.specs.declared.types.Track.{Track};
+ghost use Rattle.fb_units.specs.Tracks.{same_track};
+ghost use Rattle.fb_wanted.specs.Index.{track_cmp, grown, reweighed};
+ghost use Rattle.fb_wanted.specs.Tracks.{wanted_weight, IsTrackBefore};
 
-use crate::changes::is_on;
+use crate::places::Places;
 use crate::{Entry, State};
-use fb_units::Track;
+use fb_units::{NoMemory, Track};
+use std::alloc::Global;
+use std::collections::BTreeMap;
 
-/// What the block adds to the wanted weight of the track.
-pub fn weight_on(entry: Entry, track: Track) -> u64
+/// The registered blocks of a track.
+#[derive(Drop)]
+pub struct OnTrack {
+    /// Where they stand.
+    pub places: Places,
+    /// Weight times sectors of the wanted ones.
+    pub weight: u64,
+}
+
+/// What the block adds to the wanted weight of its track.
+pub fn weight_of(entry: Entry) -> u64
     requires light { entry.block.weight ≤ 1000 }
     requires short { entry.block.count ≤ 2048 }
-    ensures value { result ≡ wanted_weight track (entry ∷ []) }
+    ensures value { result ≡ wanted_weight entry.block.track (entry ∷ []) }
     ensures small { result ≤ 2048000 }
 {
-    if !is_on(entry, track) {
-        return 0;
-    }
     match entry.state {
         State::Wanted => entry.block.weight as u64 * entry.block.count as u64,
         _ => 0,
     }
 }
 
-fn is_before(a: Track, b: Track) -> bool
-    ensures yes { result ≡ true → IsTrackBefore a b }
-    ensures no { result ≡ false → IsTrackBefore a b → ⊥ }
+/// Adds a block to a track; where memory is wanting all stays.
+pub fn add_to_track(
+    tracks: &mut BTreeMap<Track, OnTrack>,
+    alloc: Global,
+    track: Track,
+    place: u32,
+    weight: u64,
+) -> Result<(), NoMemory>
+    requires { IfSome (get track_cmp tracks.old track) (λ on. on.weight + weight < 2 ^ 64) }
+    ensures ok { OnOk result ((t : Track) → get track_cmp tracks.new t ≡ (if same_track track t then Some (grown place weight (get track_cmp tracks.old t)) else get track_cmp tracks.old t)) }
+    ensures err { OnErr result ((t : Track) → get track_cmp tracks.new t ≡ get track_cmp tracks.old t) }
 {
-    if a.cylinder == b.cylinder {
-        a.head < b.head
-    } else {
-        a.cylinder < b.cylinder
+    match tracks.get_mut(&track) {
+        Some(on) => {
+            on.places.push(place)?;
+            on.weight += weight;
+            Ok(())
+        }
+        None => {
+            let mut places = Places::new(alloc);
+            places.push(place)?;
+            tracks.insert(track, OnTrack { places, weight })?;
+            Ok(())
+        }
     }
 }
 
-/// The next track from the first on, where it was the next one and a block of another track is added.
-pub fn nearer(from: Track, next: Option<Track>, track: Track) -> Option<Track>
-    ensures { (entries : List Entry) (entry : Entry) → entry.block.track ≡ track → IsNext from entries next → IsNext from (entries ++ entry ∷ []) result }
+/// Changes the weight of a track.
+pub fn reweigh(tracks: &mut BTreeMap<Track, OnTrack>, track: Track, lost: u64, gained: u64)
+    requires { IfSome (get track_cmp tracks.old track) (λ on. (lost ≤ on.weight) × (on.weight + gained < 2 ^ 64)) }
+    ensures { (t : Track) → get track_cmp tracks.new t ≡ (if same_track track t then option_map (reweighed lost gained) (get track_cmp tracks.old t) else get track_cmp tracks.old t) }
 {
-    if is_before(track, from) {
-        return next;
+    match tracks.get_mut(&track) {
+        Some(on) => on.weight = on.weight - lost + gained,
+        None => {}
     }
-    match next {
-        Some(best) => {
-            if is_before(track, best) {
-                Some(track)
-            } else {
-                next
-            }
-        }
-        None => Some(track),
+}
+
+/// The least track not before this one of which something is kept.
+pub fn next_track(tracks: &BTreeMap<Track, OnTrack>, from: Track) -> Option<Track>
+    ensures found { IfSome result (λ t. ContainsKey track_cmp tracks.now t) }
+    ensures from { IfSome result (λ t. IsTrackBefore t from → ⊥) }
+    ensures least { IfSome result (λ t. (k : Track) → ContainsKey track_cmp tracks.now k → (IsTrackBefore k from → ⊥) → IsTrackBefore k t → ⊥) }
+    ensures none { IfNone result ((k : Track) → ContainsKey track_cmp tracks.now k → IsTrackBefore k from) }
+{
+    match tracks.range(from..).next() {
+        Some((track, _)) => Some(*track),
+        None => None,
     }
 }

@@ -1,0 +1,63 @@
+-- Lists of lists, and tracks as keys.
+use Rattle.std.proofs.Common.{◌≡◌, ℕ, zero, suc, ◌≤◌, ◌⊎◌, inl, inr, ◌==◌, List, [], ◌∷◌, ◌++◌, true, false, Result, Ok, Err, OnErr, if◌then◌else◌, get_or, refl, ap, ◌∙◌, arith}
+use Rattle.std.specs.Ordering.{is_eq, is_gt}
+use Rattle.std.proofs.lemmas.Bool.{cases_Bool, cases_lt}
+use Rattle.std.proofs.lemmas.Bool.Decides.{nat_tests}
+use Rattle.fb_units.specs.declared.types.Track.{Track}
+use Rattle.fb_units.specs.Tracks.{same_track}
+use Rattle.fb_wanted.specs.Index.{track_cmp, fall_cmp}
+use Rattle.fb_wanted.specs.Tracks.{IsTrackBefore}
+
+pub on_err : {T E P : Type 0} (r : Result T E) → P → OnErr r P
+on_err (Ok x) p = tt
+on_err (Err e) p = p
+
+-- an empty list more
+pub one_empty : (xs : List (List ℕ)) (k : ℕ) → get_or (xs ++ [] ∷ []) k [] ≡ get_or xs k []
+one_empty [] zero = refl
+one_empty [] (suc k) = refl
+one_empty (x ∷ xs) zero = refl
+one_empty (x ∷ xs) (suc k) = one_empty xs k
+
+pub at_track : (a b : Track) → is_eq (track_cmp a b) ≡ same_track a b
+at_track a b = grind (arith, nat_tests)
+
+pub from_track : (a b : Track) → (IsTrackBefore b a → ⊥) → is_gt (track_cmp a b) ≡ false
+from_track a b h = grind (arith, nat_tests)
+
+pub not_behind : (a b : Track) → is_gt (track_cmp a b) ≡ false → IsTrackBefore b a → ⊥
+not_behind a b le h = grind (arith, nat_tests)
+
+pub before_or_not : (a b : Track) → IsTrackBefore a b ⊎ (IsTrackBefore a b → ⊥)
+before_or_not a b = elim (cases_lt a.cylinder b.cylinder) [
+  | inl less ↦ inl (inl less)
+  | inr more ↦ elim (cases_lt b.cylinder a.cylinder) [
+    | inl beyond ↦ inr (λ h. elim h [ inl l ↦ absurd (omega arith) | inr s ↦ absurd (omega (arith, s.0)) ])
+    | inr level ↦ elim (cases_lt a.head b.head) [
+      | inl above ↦ let same : a.cylinder ≡ b.cylinder = omega arith in inl (inr (same, above))
+      | inr below ↦ inr (λ h. elim h [ inl l ↦ absurd (omega arith) | inr s ↦ absurd (omega (arith, s.1)) ])
+    ]
+  ]
+]
+
+-- the last place of a list is taken back
+pub taken_back : (old one two : List (List ℕ)) (n place : ℕ)
+    → ((k : ℕ) → get_or one k [] ≡ (if n == k then get_or old k [] ++ place ∷ [] else get_or old k []))
+    → ((ps : List ℕ) (last : ℕ) → get_or one n [] ≡ ps ++ last ∷ [] → (k : ℕ) → get_or two k [] ≡ (if n == k then ps else get_or one k []))
+    → (k : ℕ) → get_or two k [] ≡ get_or old k []
+taken_back old one two n place added back k =
+    let itself : (n == n) ≡ true = grind (arith, nat_tests) in
+    let last : get_or one n [] ≡ get_or old n [] ++ place ∷ [] = added n ∙ rw itself refl in
+    elim (cases_Bool (n == k)) [
+      | inl here ↦ let same : n ≡ k = grind (arith, nat_tests) in back (get_or old n []) place last k ∙ rw here (ap (λ j. get_or old j []) same)
+      | inr other ↦ back (get_or old n []) place last k ∙ rw other (added k ∙ rw other refl)
+    ]
+
+pub from_fall : (task from j : ℕ) → from ≤ j → is_gt (fall_cmp (task, from) (task, j)) ≡ false
+from_fall task from j h = grind (arith, nat_tests)
+
+pub falls_rise : (task other i j : ℕ) → is_gt (fall_cmp (other, i) (task, j)) ≡ false → other ≡ task → i ≤ j
+falls_rise task other i j h same = grind (arith, nat_tests)
+
+pub task_rises : (task from other i j : ℕ) → is_gt (fall_cmp (task, from) (other, i)) ≡ false → is_gt (fall_cmp (other, i) (task, j)) ≡ false → other ≡ task
+task_rises task from other i j up down = grind (arith, nat_tests)

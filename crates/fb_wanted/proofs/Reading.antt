@@ -1,0 +1,112 @@
+-- What is read of a task and of a track.
+use Rattle.std.proofs.Common.{◌≡◌, ℕ, ◌+◌, ◌<◌, ◌≤◌, inl, inr, List, [], ◌∷◌, Option, Some, None, Bool, length, filter, slice_get, get_or, IsSome, IfSome, IfNone, true≢false, ◌*◌, refl, ap, sym, ◌∙◌, arith, subst, option_map}
+use Rattle.std.specs.BTreeMap.{BTreeMap, get, ContainsKey}
+use Rattle.std.proofs.lemmas.Bool.{cases_Bool, cases_lt}
+use Rattle.std.proofs.lemmas.List.{get_or_past}
+use Rattle.std.proofs.lemmas.Option.{slice_get-map}
+use Rattle.fb_units.specs.declared.types.Track.{Track}
+use Rattle.fb_wanted.specs.declared.block.Entry.{Entry}
+use Rattle.fb_wanted.specs.declared.tracks.OnTrack.{OnTrack}
+use Rattle.fb_wanted.specs.States.{on_track}
+use Rattle.fb_wanted.specs.Numbering.{blocks_of}
+use Rattle.fb_wanted.specs.Tracks.{wanted_weight, HasBlock, IsTrackBefore, IsNextTrack}
+use Rattle.fb_wanted.specs.Index.{places, of_task, of_track, kept_from, track_cmp, IsKept}
+use Rattle.fb_wanted.proofs.Standing.{length-places, at_place}
+use Rattle.fb_wanted.proofs.Kept.{kept_some, kept_none}
+use Rattle.fb_wanted.proofs.Weights.{weight_none, weight_at, weight-le}
+
+few_pass : (p : Entry → Bool) (es : List Entry) → length (filter p es) ≤ length es
+few_pass p [] = omega arith
+few_pass p (e ∷ es) = elim (cases_Bool (p e)) [
+  | inl yes' ↦ rw yes' (omega (arith, few_pass p es))
+  | inr no' ↦ rw no' (omega (arith, few_pass p es))
+]
+
+some_kept : (ps : List ℕ) (w : ℕ) → 0 < length ps → IsSome (kept_from ps w)
+some_kept [] w lt = absurd (omega arith)
+some_kept (p ∷ ps) w lt = refl
+
+none_kept : (ps : List ℕ) (w : ℕ) → length ps ≡ 0 → IsSome (kept_from ps w) → ⊥
+none_kept [] w none has = absurd (true≢false (sym has))
+none_kept (p ∷ ps) w none has = absurd (omega arith)
+
+room_kept : (ps : List ℕ) (w lost gained : ℕ) → lost ≤ w → w ≤ 32768000000000 → gained ≤ 2048000 → IfSome (kept_from ps w) (λ on. (lost ≤ on.weight) × (on.weight + gained < 18446744073709551616))
+room_kept [] w lost gained part all small = tt
+room_kept (p ∷ ps) w lost gained part all small = (part, omega arith)
+
+le_kept : (ps : List ℕ) (w : ℕ) → w ≤ 32768000000000 → IfSome (kept_from ps w) (λ on. on.weight ≤ 16000000 * 2048000)
+le_kept [] w all = tt
+le_kept (p ∷ ps) w all = all
+
+module _ (es : List Entry) (tasks : List (List ℕ)) (tracks : BTreeMap Track OnTrack) (h : IsKept es tasks tracks) where
+  pub task_count : (task n : ℕ) (ps : List ℕ) → n ≡ length ps → ps ≡ get_or tasks task [] → (n ≤ 16000000) × (n ≡ length (filter (of_task task) es))
+  task_count task n ps is at =
+      let same : n ≡ length (filter (of_task task) es) = is ∙ (ap length (at ∙ h.index.by_task task) ∙ length-places (of_task task) es) in
+      (omega (arith, same, few_pass (of_task task) es, h.few), same)
+
+  pub no_task : (task : ℕ) → length tasks ≤ task → 0 ≡ length (filter (of_task task) es)
+  no_task task past = ap length (sym (get_or_past tasks task [] past) ∙ h.index.by_task task) ∙ length-places (of_task task) es
+
+  pub task_there : (task k : ℕ) → k < length (filter (of_task task) es) → task < length tasks
+  task_there task k lt = elim (cases_lt task (length tasks)) [
+    | inl there ↦ there
+    | inr past ↦ absurd (omega (arith, no_task task past, lt))
+  ]
+
+  pub task_place : (task k : ℕ) (ps : List ℕ) → ps ≡ get_or tasks task [] → k < length (filter (of_task task) es) → k < length ps
+  task_place task k ps at lt =
+      let same : length ps ≡ length (filter (of_task task) es) = ap length (at ∙ h.index.by_task task) ∙ length-places (of_task task) es in
+      omega (arith, same, lt)
+
+  pub track_kept : (t : Track) (on : OnTrack) → Some on ≡ get track_cmp tracks t → (on.places ≡ places (of_track t) es) × (on.weight ≡ wanted_weight t es)
+  track_kept t on at = kept_some (places (of_track t) es) (wanted_weight t es) on (sym (at ∙ h.index.by_track t))
+
+  pub track_count : (t : Track) (on : OnTrack) (n : ℕ) → Some on ≡ get track_cmp tracks t → n ≡ length on.places → (n ≤ 16000000) × (n ≡ length (on_track t es))
+  track_count t on n at is =
+      let same : n ≡ length (on_track t es) = is ∙ (ap length (track_kept t on at).0 ∙ length-places (of_track t) es) in
+      (omega (arith, same, few_pass (of_track t) es, h.few), same)
+
+  pub no_track : (t : Track) → None ≡ get track_cmp tracks t → (0 ≡ length (on_track t es)) × (0 ≡ wanted_weight t es)
+  no_track t at =
+      let none = kept_none (places (of_track t) es) (wanted_weight t es) (sym (at ∙ h.index.by_track t)) in
+      (ap length (sym none) ∙ length-places (of_track t) es, sym (weight_none t es none))
+
+  pub track_weight : (t : Track) (on : OnTrack) → Some on ≡ get track_cmp tracks t → on.weight ≤ 16000000 * 2048000
+  track_weight t on at = omega (arith, (track_kept t on at).1, weight-le t es h.small, h.few)
+
+  -- a block's weight is part of its track's, and another one fits
+  pub weight_room : (n : ℕ) (e : Entry) (lost gained : ℕ) → slice_get es n ≡ Some e → lost ≡ wanted_weight e.block.track (e ∷ []) → gained ≤ 2048000
+      → IfSome (get track_cmp tracks e.block.track) (λ on. (lost ≤ on.weight) × (on.weight + gained < 18446744073709551616))
+  weight_room n e lost gained at is small =
+      let part = weight_at e.block.track n e es at in
+      let all = weight-le e.block.track es h.small in
+      subst (λ k. IfSome k (λ on. (lost ≤ on.weight) × (on.weight + gained < 18446744073709551616))) (sym (h.index.by_track e.block.track))
+      (room_kept (places (of_track e.block.track) es) (wanted_weight e.block.track es) lost gained (omega (arith, is, part)) (omega (arith, all, h.few)) small)
+
+  pub track_room : (t : Track) → IfSome (get track_cmp tracks t) (λ on. on.weight ≤ 16000000 * 2048000)
+  track_room t = subst (λ k. IfSome k (λ on. on.weight ≤ 16000000 * 2048000)) (sym (h.index.by_track t)) (le_kept (places (of_track t) es) (wanted_weight t es) (omega (arith, weight-le t es h.small, h.few)))
+
+  pub has_kept : (t : Track) → ContainsKey track_cmp tracks t → HasBlock es t
+  has_kept t has = elim (cases_lt 0 (length (on_track t es))) [
+    | inl some ↦ some
+    | inr none ↦ absurd (none_kept (places (of_track t) es) (wanted_weight t es) (omega (arith, none, length-places (of_track t) es)) (subst IsSome (h.index.by_track t) has))
+  ]
+
+  pub kept_has : (t : Track) → HasBlock es t → ContainsKey track_cmp tracks t
+  kept_has t has = subst IsSome (sym (h.index.by_track t)) (some_kept (places (of_track t) es) (wanted_weight t es) (omega (arith, has, length-places (of_track t) es)))
+
+  pub next_some : (from : Track) (next : Option Track) → IfSome next (λ t. ContainsKey track_cmp tracks t) → IfSome next (λ t. IsTrackBefore t from → ⊥)
+      → IfSome next (λ t. (k : Track) → ContainsKey track_cmp tracks k → (IsTrackBefore k from → ⊥) → IsTrackBefore k t → ⊥)
+      → IfSome next (λ t. IsNextTrack from es t)
+  next_some from None found ahead least = tt
+  next_some from (Some t) found ahead least = record { has_block = has_kept t found; not_before = ahead; least = λ other has beyond. least other (kept_has other has) beyond }
+
+  pub next_none : (from : Track) (next : Option Track) → IfNone next ((k : Track) → ContainsKey track_cmp tracks k → IsTrackBefore k from) → IfNone next ((t : Track) → HasBlock es t → IsTrackBefore t from)
+  next_none from None none = λ t has. none t (kept_has t has)
+  next_none from (Some t) none = tt
+
+-- the block at a place of a track
+pub block_there : (t : Track) (es : List Entry) (ps : List ℕ) (i p : ℕ) (e : Entry) → ps ≡ places (of_track t) es → slice_get ps i ≡ Some p → slice_get es p ≡ Some e
+    → slice_get (blocks_of (on_track t es)) i ≡ Some e.block
+block_there t es ps i p e same at is =
+    slice_get-map (λ x. x.block) (on_track t es) i ∙ ap (option_map (λ x. x.block)) (at_place (of_track t) es i p (ap (λ l. slice_get l i) (sym same) ∙ at) ∙ is)

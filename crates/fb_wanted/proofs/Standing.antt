@@ -1,0 +1,229 @@
+-- Where blocks stand among the registered ones.
+use Rattle.std.proofs.Common.{◌≡◌, ℕ, zero, suc, ◌+◌, ◌<◌, ◌≤◌, inl, inr, List, [], ◌∷◌, ◌++◌, Bool, true, false, Some, if◌then◌else◌, set, take, length, length-append, filter, map, slice_get, refl, ap, sym, ◌∙◌, arith, subst}
+use Rattle.std.proofs.lemmas.Bool.{cases_Bool}
+use Rattle.std.proofs.lemmas.List.{length-map, map-append, take_all, append-nil}
+use Rattle.std.proofs.lemmas.List.Elements.{filter_more}
+use Rattle.std.proofs.lemmas.Option.{same_Some, none-some, slice_get_within, get_or_from_slice_get}
+use Rattle.fb_wanted.specs.declared.block.Entry.{Entry}
+use Rattle.fb_wanted.specs.declared.block.Block.{Block}
+use Rattle.fb_wanted.specs.declared.block.State.{State}
+use Rattle.fb_wanted.specs.Numbering.{blocks_of}
+use Rattle.fb_wanted.specs.Index.{places, with_state, change_nth, change_first}
+
+pub length-places : (p : Entry → Bool) (es : List Entry) → length (places p es) ≡ length (filter p es)
+length-places p [] = refl
+length-places p (e ∷ es) = elim (cases_Bool (p e)) [
+  | inl yes' ↦ rw yes' (ap (λ n. suc n) (length-map (places p es) (λ n. suc n) ∙ length-places p es))
+  | inr no' ↦ rw no' (length-map (places p es) (λ n. suc n) ∙ length-places p es)
+]
+
+pub places-more_yes : (p : Entry → Bool) (es : List Entry) (e : Entry) → p e ≡ true → places p (es ++ e ∷ []) ≡ places p es ++ length es ∷ []
+places-more_yes p [] e pass = rw pass refl
+places-more_yes p (x ∷ es) e pass =
+    let rest = ap (map (λ n. suc n)) (places-more_yes p es e pass) ∙ map-append (λ n. suc n) (places p es) (length es ∷ []) in
+    elim (cases_Bool (p x)) [
+      | inl yes' ↦ rw yes' (ap (λ l. 0 ∷ l) rest)
+      | inr no' ↦ rw no' rest
+    ]
+
+pub places-more_no : (p : Entry → Bool) (es : List Entry) (e : Entry) → p e ≡ false → places p (es ++ e ∷ []) ≡ places p es
+places-more_no p [] e fail = rw fail refl
+places-more_no p (x ∷ es) e fail =
+    let rest = ap (map (λ n. suc n)) (places-more_no p es e fail) in
+    elim (cases_Bool (p x)) [
+      | inl yes' ↦ rw yes' (ap (λ l. 0 ∷ l) rest)
+      | inr no' ↦ rw no' rest
+    ]
+
+-- a number that was raised
+pub raised : (ps : List ℕ) (k j : ℕ) → slice_get (map (λ n. suc n) ps) k ≡ Some j → (i : ℕ) × (slice_get ps k ≡ Some i) × (j ≡ suc i)
+raised [] k j h = absurd (none-some j h)
+raised (p ∷ ps) zero j h = (p, refl, sym (same_Some (suc p) j h))
+raised (p ∷ ps) (suc k) j h = raised ps k j h
+
+pub raised_at : (ps : List ℕ) (k j : ℕ) → slice_get ps k ≡ Some j → slice_get (map (λ n. suc n) ps) k ≡ Some (suc j)
+raised_at [] k j h = absurd (none-some j h)
+raised_at (p ∷ ps) zero j h = ap (λ n. Some (suc n)) (same_Some p j h)
+raised_at (p ∷ ps) (suc k) j h = raised_at ps k j h
+
+pub get_some : {X : Type 0} (xs : List X) (k : ℕ) → k < length xs → (x : X) × (slice_get xs k ≡ Some x)
+get_some [] k h = absurd (omega arith)
+get_some (x ∷ xs) zero h = (x, refl)
+get_some (x ∷ xs) (suc k) h = get_some xs k (omega arith)
+
+-- what stands at the k-th place
+at_step : (p : Entry → Bool) (x : Entry) (es : List Entry) (b : Bool) (k j : ℕ) → ((i n : ℕ) → slice_get (places p es) i ≡ Some n → slice_get (filter p es) i ≡ slice_get es n)
+    → slice_get (if b then 0 ∷ map (λ n. suc n) (places p es) else map (λ n. suc n) (places p es)) k ≡ Some j
+    → slice_get (if b then x ∷ filter p es else filter p es) k ≡ slice_get (x ∷ es) j
+at_step p x es true zero j rest h = ap (slice_get (x ∷ es)) (same_Some 0 j h)
+at_step p x es true (suc k) j rest h = let r = raised (places p es) k j h in rest k r.0 r.1 ∙ ap (slice_get (x ∷ es)) (sym r.2)
+at_step p x es false k j rest h = let r = raised (places p es) k j h in rest k r.0 r.1 ∙ ap (slice_get (x ∷ es)) (sym r.2)
+
+pub at_place : (p : Entry → Bool) (es : List Entry) (k j : ℕ) → slice_get (places p es) k ≡ Some j → slice_get (filter p es) k ≡ slice_get es j
+at_place p [] k j h = absurd (none-some j h)
+at_place p (x ∷ es) k j h = at_step p x es (p x) k j (at_place p es) h
+
+-- each place is one of the list's
+pub place_within : (p : Entry → Bool) (es : List Entry) (k j : ℕ) → slice_get (places p es) k ≡ Some j → j < length es
+place_within p es k j h =
+    let lt = slice_get_within (places p es) k j h in
+    let inside : k < length (filter p es) = omega (arith, lt, length-places p es) in
+    let e = get_some (filter p es) k inside in
+    slice_get_within es j e.0 (sym (at_place p es k j h) ∙ e.1)
+
+-- where an entry that passes comes among those that pass
+pub among : (p : Entry → Bool) (es : List Entry) (j : ℕ) (e : Entry) → slice_get es j ≡ Some e → p e ≡ true → (k : ℕ) × (slice_get (places p es) k ≡ Some j) × (slice_get (filter p es) k ≡ Some e)
+among p [] j e h pass = absurd (none-some e h)
+among p (x ∷ es) zero e h pass = let hit = ap p (same_Some x e h) ∙ pass in (0, rw hit refl, rw hit h)
+among p (x ∷ es) (suc j) e h pass =
+    let r = among p es j e h pass in
+    let up = raised_at (places p es) r.0 j r.1 in
+    elim (cases_Bool (p x)) [
+      | inl yes' ↦ (suc r.0, rw yes' up, rw yes' r.2)
+      | inr no' ↦ (r.0, rw no' up, rw no' r.2)
+    ]
+
+-- the entry of that number in another state
+pub length-with_state : (s : State) (n : ℕ) (es : List Entry) → length (with_state s n es) ≡ length es
+length-with_state s n [] = refl
+length-with_state s zero (e ∷ es) = refl
+length-with_state s (suc n) (e ∷ es) = ap (λ k. suc k) (length-with_state s n es)
+
+pub blocks-with_state : (s : State) (n : ℕ) (es : List Entry) → blocks_of (with_state s n es) ≡ blocks_of es
+blocks-with_state s n [] = refl
+blocks-with_state s zero (e ∷ es) = refl
+blocks-with_state s (suc n) (e ∷ es) = ap (λ l. e.block ∷ l) (blocks-with_state s n es)
+
+-- a test of the block alone
+pub places-with_state : (p : Block → Bool) (s : State) (n : ℕ) (es : List Entry) → places (λ e. p e.block) (with_state s n es) ≡ places (λ e. p e.block) es
+places-with_state p s n [] = refl
+places-with_state p s zero (e ∷ es) = refl
+places-with_state p s (suc n) (e ∷ es) = ap (λ ps. if p e.block then 0 ∷ map (λ k. suc k) ps else map (λ k. suc k) ps) (places-with_state p s n es)
+
+-- items written at their places
+pub items-with_state : (s : State) (n : ℕ) (e : Entry) (es : List Entry) → slice_get es n ≡ Some e → set es n (record { block = e.block; state = s }) ≡ with_state s n es
+items-with_state s n e [] h = absurd (none-some e h)
+items-with_state s zero e (x ∷ es) h = let same = same_Some x e h in ap (λ (y : Entry). let z : Entry = record { block = y.block; state = s } in z ∷ es) (sym same)
+items-with_state s (suc n) e (x ∷ es) h = ap (λ l. x ∷ l) (items-with_state s n e es h)
+
+-- the k-th of those that pass is changed
+nth_step : (p : Entry → Bool) (f : Entry → Entry) (s : State) (x e : Entry) (es : List Entry) (b : Bool) (k j : ℕ)
+    → ((i n : ℕ) → slice_get (places p es) i ≡ Some n → slice_get es n ≡ Some e → with_state s n es ≡ change_nth p f i es)
+    → p x ≡ b → f e ≡ record { block = e.block; state = s }
+    → slice_get (if b then 0 ∷ map (λ n. suc n) (places p es) else map (λ n. suc n) (places p es)) k ≡ Some j
+    → slice_get (x ∷ es) j ≡ Some e → with_state s j (x ∷ es) ≡ change_nth p f k (x ∷ es)
+nth_step p f s x e es true zero j rest is new h at =
+    let first : j ≡ 0 = sym (same_Some 0 j h) in
+    let same : x ≡ e = same_Some x e (ap (slice_get (x ∷ es)) (sym first) ∙ at) in
+    rw (first, is) (ap (λ y. y ∷ es) (ap (λ (y : Entry). let z : Entry = record { block = y.block; state = s } in z) same ∙ (sym new ∙ ap f (sym same))))
+nth_step p f s x e es true (suc k) j rest is new h at =
+    let r = raised (places p es) k j h in
+    rw (r.2, is) (ap (λ l. x ∷ l) (rest k r.0 r.1 (ap (slice_get (x ∷ es)) (sym r.2) ∙ at)))
+nth_step p f s x e es false zero j rest is new h at =
+    let r = raised (places p es) zero j h in
+    rw (r.2, is) (ap (λ l. x ∷ l) (rest zero r.0 r.1 (ap (slice_get (x ∷ es)) (sym r.2) ∙ at)))
+nth_step p f s x e es false (suc k) j rest is new h at =
+    let r = raised (places p es) (suc k) j h in
+    rw (r.2, is) (ap (λ l. x ∷ l) (rest (suc k) r.0 r.1 (ap (slice_get (x ∷ es)) (sym r.2) ∙ at)))
+
+pub nth_turned : (p : Entry → Bool) (f : Entry → Entry) (s : State) (e : Entry) (es : List Entry) (k j : ℕ) → f e ≡ record { block = e.block; state = s }
+    → slice_get (places p es) k ≡ Some j → slice_get es j ≡ Some e → with_state s j es ≡ change_nth p f k es
+nth_turned p f s e [] k j new h at = refl
+nth_turned p f s e (x ∷ es) k j new h at = nth_step p f s x e es (p x) k j (λ i n. nth_turned p f s e es i n new) refl new h at
+
+-- the first k of them, and one more
+pub first_none : (p : Entry → Bool) (f : Entry → Entry) (es : List Entry) → change_first p f 0 es ≡ es
+first_none p f [] = refl
+first_none p f (e ∷ es) = refl
+
+pub first_one_more : (p : Entry → Bool) (f : Entry → Entry) → ((e : Entry) → p (f e) ≡ p e) → (es : List Entry) (k : ℕ) → change_nth p f k (change_first p f k es) ≡ change_first p f (suc k) es
+first_one_more p f stays [] k = refl
+first_one_more p f stays (e ∷ es) zero =
+    let rest : change_nth p f 0 es ≡ change_first p f 1 es = ap (change_nth p f 0) (sym (first_none p f es)) ∙ first_one_more p f stays es 0 in
+    elim (cases_Bool (p e)) [
+      | inl yes' ↦ rw yes' (ap (λ l. f e ∷ l) (sym (first_none p f es)))
+      | inr no' ↦ rw no' (ap (λ l. e ∷ l) rest)
+    ]
+first_one_more p f stays (e ∷ es) (suc k) = elim (cases_Bool (p e)) [
+  | inl yes' ↦ rw (yes', stays e ∙ yes') (ap (λ l. f e ∷ l) (first_one_more p f stays es k))
+  | inr no' ↦ rw (no', no') (ap (λ l. e ∷ l) (first_one_more p f stays es (suc k)))
+]
+
+pub passing-first : (p : Entry → Bool) (f : Entry → Entry) → ((e : Entry) → p (f e) ≡ p e) → (es : List Entry) (k : ℕ) → length (filter p (change_first p f k es)) ≡ length (filter p es)
+passing-first p f stays [] k = refl
+passing-first p f stays (e ∷ es) zero = refl
+passing-first p f stays (e ∷ es) (suc k) = elim (cases_Bool (p e)) [
+  | inl yes' ↦ rw (yes', stays e ∙ yes') (ap (λ n. suc n) (passing-first p f stays es k))
+  | inr no' ↦ rw (no', no') (passing-first p f stays es (suc k))
+]
+
+pub first_all : (p : Entry → Bool) (f : Entry → Entry) → ((e : Entry) → p e ≡ false → f e ≡ e) → (es : List Entry) (k : ℕ) → length (filter p es) ≤ k → change_first p f k es ≡ map f es
+first_all p f others [] k le = refl
+first_all p f others (e ∷ es) zero le = elim (cases_Bool (p e)) [
+  | inl yes' ↦ let more : length (filter p (e ∷ es)) ≡ suc (length (filter p es)) = rw yes' refl in absurd (omega (arith, more, le))
+  | inr no' ↦
+      let none : length (filter p es) ≤ 0 = subst (λ b. length (if b then e ∷ filter p es else filter p es) ≤ 0) no' le in
+      ap (λ l. e ∷ l) (sym (first_none p f es) ∙ first_all p f others es 0 none) ∙ ap (λ x. x ∷ map f es) (sym (others e no'))
+]
+first_all p f others (e ∷ es) (suc k) le = elim (cases_Bool (p e)) [
+  | inl yes' ↦ let more : length (filter p (e ∷ es)) ≡ suc (length (filter p es)) = rw yes' refl in rw yes' (ap (λ l. f e ∷ l) (first_all p f others es k (omega (arith, more, le))))
+  | inr no' ↦
+      let fewer : length (filter p es) ≤ suc k = subst (λ b. length (if b then e ∷ filter p es else filter p es) ≤ suc k) no' le in
+      rw no' (ap (λ l. e ∷ l) (first_all p f others es (suc k) fewer) ∙ ap (λ x. x ∷ map f es) (sym (others e no')))
+]
+
+-- those that pass both tests
+pub both_tests : (p q : Entry → Bool) → ((e : Entry) → p e ≡ false → q e ≡ false) → (es : List Entry) → filter q (filter p es) ≡ filter q es
+both_tests p q within [] = refl
+both_tests p q within (e ∷ es) = elim (cases_Bool (p e)) [
+  | inl yes' ↦ rw yes' (ap (λ l. if q e then e ∷ l else l) (both_tests p q within es))
+  | inr no' ↦ rw (no', within e no') (both_tests p q within es)
+]
+
+-- one more of a list is counted, or not
+pub counted_one : (q : Entry → Bool) (xs : List Entry) (k n : ℕ) (e : Entry) → slice_get xs k ≡ Some e → q e ≡ true → n ≡ length (filter q (take k xs)) → n + 1 ≡ length (filter q (take (k + 1) xs))
+counted_one q xs k n e at pass is =
+    let here = get_or_from_slice_get xs k e e at in
+    let more = filter_more q xs k e (slice_get_within xs k e at) in
+    let list : filter q (take (k + 1) xs) ≡ filter q (take k xs) ++ e ∷ [] = more ∙ (ap (λ y. filter q (take k xs) ++ (if q y then y ∷ [] else [])) here ∙ ap (λ b. filter q (take k xs) ++ (if b then e ∷ [] else [])) pass) in
+    omega (arith, is, ap length list, length-append (filter q (take k xs)) (e ∷ []))
+
+pub counted_none : (q : Entry → Bool) (xs : List Entry) (k n : ℕ) (e : Entry) → slice_get xs k ≡ Some e → q e ≡ false → n ≡ length (filter q (take k xs)) → n ≡ length (filter q (take (k + 1) xs))
+counted_none q xs k n e at fail is =
+    let here = get_or_from_slice_get xs k e e at in
+    let more = filter_more q xs k e (slice_get_within xs k e at) in
+    let list : filter q (take (k + 1) xs) ≡ filter q (take k xs) ++ [] = more ∙ (ap (λ y. filter q (take k xs) ++ (if q y then y ∷ [] else [])) here ∙ ap (λ b. filter q (take k xs) ++ (if b then e ∷ [] else [])) fail) in
+    is ∙ ap length (sym (list ∙ append-nil (filter q (take k xs))))
+
+pub counted_all : (q : Entry → Bool) (xs : List Entry) (k n : ℕ) → length xs ≤ k → n ≡ length (filter q (take k xs)) → n ≡ length (filter q xs)
+counted_all q xs k n past is = is ∙ ap (λ l. length (filter q l)) (take_all k xs past)
+
+passes_step : (p : Entry → Bool) (x : Entry) (es : List Entry) (b : Bool) (k : ℕ) (e : Entry) → p x ≡ b → ((i : ℕ) (y : Entry) → slice_get (filter p es) i ≡ Some y → p y ≡ true)
+    → slice_get (if b then x ∷ filter p es else filter p es) k ≡ Some e → p e ≡ true
+passes_step p x es true zero e is rest h = ap p (sym (same_Some x e h)) ∙ is
+passes_step p x es true (suc k) e is rest h = rest k e h
+passes_step p x es false k e is rest h = rest k e h
+
+pub passes : (p : Entry → Bool) (es : List Entry) (k : ℕ) (e : Entry) → slice_get (filter p es) k ≡ Some e → p e ≡ true
+passes p [] k e h = absurd (none-some e h)
+passes p (x ∷ es) k e h = passes_step p x es (p x) k e refl (passes p es) h
+
+-- where no other one changes, the change of the k-th is the change of all
+all_stay : (p : Entry → Bool) (f : Entry → Entry) (es : List Entry) → ((e : Entry) → p e ≡ false → f e ≡ e) → ((j : ℕ) (e : Entry) → slice_get (filter p es) j ≡ Some e → f e ≡ e) → es ≡ map f es
+all_stay p f [] others own = refl
+all_stay p f (x ∷ es) others own = elim (cases_Bool (p x)) [
+  | inl yes' ↦ ap (λ y. y ∷ es) (sym (own 0 x (rw yes' refl))) ∙ ap (λ l. f x ∷ l) (all_stay p f es others (λ j e at. own (suc j) e (rw yes' at)))
+  | inr no' ↦ ap (λ y. y ∷ es) (sym (others x no')) ∙ ap (λ l. f x ∷ l) (all_stay p f es others (λ j e at. own j e (rw no' at)))
+]
+
+pub nth_alone : (p : Entry → Bool) (f : Entry → Entry) (k : ℕ) (es : List Entry) → ((e : Entry) → p e ≡ false → f e ≡ e) → ((j : ℕ) (e : Entry) → slice_get (filter p es) j ≡ Some e → (j ≡ k → ⊥) → f e ≡ e)
+    → change_nth p f k es ≡ map f es
+nth_alone p f k [] others own = refl
+nth_alone p f zero (x ∷ es) others own = elim (cases_Bool (p x)) [
+  | inl yes' ↦ rw yes' (ap (λ l. f x ∷ l) (all_stay p f es others (λ j e at. own (suc j) e (rw yes' at) (λ same. omega arith))))
+  | inr no' ↦ rw no' (ap (λ y. y ∷ change_nth p f 0 es) (sym (others x no')) ∙ ap (λ l. f x ∷ l) (nth_alone p f 0 es others (λ j e at. own j e (rw no' at))))
+]
+nth_alone p f (suc k) (x ∷ es) others own = elim (cases_Bool (p x)) [
+  | inl yes' ↦ rw yes' (ap (λ y. y ∷ change_nth p f k es) (sym (own 0 x (rw yes' refl) (λ same. omega arith))) ∙ ap (λ l. f x ∷ l) (nth_alone p f k es others (λ j e at ne. own (suc j) e (rw yes' at) (λ same. ne (omega arith)))))
+  | inr no' ↦ rw no' (ap (λ y. y ∷ change_nth p f (suc k) es) (sym (others x no')) ∙ ap (λ l. f x ∷ l) (nth_alone p f (suc k) es others (λ j e at. own j e (rw no' at))))
+]

@@ -1,0 +1,86 @@
+-- The weight of a track's wanted blocks.
+use Rattle.std.proofs.Common.{◌≡◌, ℕ, zero, suc, ◌+◌, ◌*◌, ◌≤◌, inl, inr, List, [], ◌∷◌, ◌++◌, Some, Bool, if◌then◌else◌, true, false, length, map, slice_get, refl, ap, ◌∙◌, arith}
+use Rattle.std.specs.List.{sum_by}
+use Rattle.std.proofs.lemmas.Bool.{cases_Bool}
+use Rattle.std.proofs.lemmas.List.Elements.{filter-append}
+use Rattle.std.proofs.lemmas.List.Sums.{sum_by-append}
+use Rattle.std.proofs.lemmas.Nat.{mul-le}
+use Rattle.std.proofs.lemmas.Option.{same_Some, none-some}
+use Rattle.fb_units.specs.declared.types.Track.{Track}
+use Rattle.fb_units.specs.Tracks.{same_track}
+use Rattle.fb_wanted.specs.declared.block.Block.{Block}
+use Rattle.fb_wanted.specs.declared.block.Entry.{Entry}
+use Rattle.fb_wanted.specs.declared.block.State.{State}
+use Rattle.fb_wanted.specs.States.{on_track, is_wanted, wanted_of}
+use Rattle.fb_wanted.specs.Numbering.{AreSmall, blocks_of}
+use Rattle.fb_wanted.specs.Tracks.{wanted_weight}
+use Rattle.fb_wanted.specs.Index.{places, of_track, with_state}
+
+wanted-append : (xs ys : List Entry) → wanted_of (xs ++ ys) ≡ wanted_of xs ++ wanted_of ys
+wanted-append [] ys = refl
+wanted-append (x ∷ xs) ys = elim (cases_Bool (is_wanted x.state)) [
+  | inl yes' ↦ rw yes' (ap (λ l. x.block ∷ l) (wanted-append xs ys))
+  | inr no' ↦ rw no' (wanted-append xs ys)
+]
+
+pub weight-append : (t : Track) (xs ys : List Entry) → wanted_weight t (xs ++ ys) ≡ wanted_weight t xs + wanted_weight t ys
+weight-append t xs ys =
+    let weigh = sum_by (λ (b : Block). b.weight * b.count) in
+    ap (λ l. weigh (wanted_of l)) (filter-append (λ x. same_track t x.block.track) xs ys)
+    ∙ (ap weigh (wanted-append (on_track t xs) (on_track t ys)) ∙ sum_by-append (λ (b : Block). b.weight * b.count) (wanted_of (on_track t xs)) (wanted_of (on_track t ys)))
+
+weight-cons : (t : Track) (e : Entry) (es : List Entry) → wanted_weight t (e ∷ es) ≡ wanted_weight t (e ∷ []) + wanted_weight t es
+weight-cons t e es = weight-append t (e ∷ []) es
+
+-- the weight of one block goes, and the other comes
+pub weight-with_state : (t : Track) (s : State) (n : ℕ) (e : Entry) (es : List Entry) → slice_get es n ≡ Some e
+    → wanted_weight t (with_state s n es) + wanted_weight t (e ∷ []) ≡ wanted_weight t es + wanted_weight t (record { block = e.block; state = s } ∷ [])
+weight-with_state t s n e [] h = absurd (none-some e h)
+weight-with_state t s zero e (x ∷ es) h =
+    let same = same_Some x e h in
+    let old = weight-cons t x es in
+    let one = ap (λ y. wanted_weight t (y ∷ [])) same in
+    let two = ap (λ (y : Entry). let z : Entry = record { block = y.block; state = s } in wanted_weight t (z ∷ [])) same in
+    let new = weight-cons t (record { block = x.block; state = s }) es in
+    omega (arith, old, new, one, two)
+weight-with_state t s (suc n) e (x ∷ es) h =
+    let rest = weight-with_state t s n e es h in
+    let old = weight-cons t x es in
+    let new = weight-cons t x (with_state s n es) in
+    omega (arith, old, new, rest)
+
+pub weight_elsewhere : (t : Track) (e : Entry) → same_track t e.block.track ≡ false → wanted_weight t (e ∷ []) ≡ 0
+weight_elsewhere t e other = rw other refl
+
+none_pass : (b : Bool) (ps : List ℕ) → (if b then 0 ∷ map (λ n. suc n) ps else map (λ n. suc n) ps) ≡ [] → (b ≡ false) × (ps ≡ [])
+none_pass true ps h = let more : ◌≡◌ {A = ℕ} (suc (length (map (λ n. suc n) ps))) 0 = ap length h in absurd (omega (arith, more))
+none_pass false [] h = (refl, refl)
+none_pass false (p ∷ ps) h = let more : ◌≡◌ {A = ℕ} (suc (length (map (λ n. suc n) ps))) 0 = ap length h in absurd (omega (arith, more))
+
+pub weight_none : (t : Track) (es : List Entry) → places (of_track t) es ≡ [] → wanted_weight t es ≡ 0
+weight_none t [] h = refl
+weight_none t (e ∷ es) h =
+    let none = none_pass (same_track t e.block.track) (places (of_track t) es) h in
+    omega (arith, weight-cons t e es, weight_elsewhere t e none.0, weight_none t es none.1)
+
+pub weight_at : (t : Track) (n : ℕ) (e : Entry) (es : List Entry) → slice_get es n ≡ Some e → wanted_weight t (e ∷ []) ≤ wanted_weight t es
+weight_at t n e [] h = absurd (none-some e h)
+weight_at t zero e (x ∷ es) h = let one = ap (λ y. wanted_weight t (y ∷ [])) (same_Some x e h) in omega (arith, weight-cons t x es, one)
+weight_at t (suc n) e (x ∷ es) h = omega (arith, weight-cons t x es, weight_at t n e es h)
+
+weight_small : (t : Track) (e : Entry) → e.block.weight ≤ 1000 → e.block.count ≤ 2048 → wanted_weight t (e ∷ []) ≤ 2048000
+weight_small t e light short = elim (cases_Bool (same_track t e.block.track)) [
+  | inl on ↦ elim (cases_Bool (is_wanted e.state)) [
+    | inl yes' ↦ rw (on, yes') (omega (arith, mul-le e.block.weight e.block.count 1000 2048 light short))
+    | inr no' ↦ rw (on, no') (omega arith)
+  ]
+  | inr off ↦ rw off (omega arith)
+]
+
+pub weight-le : (t : Track) (es : List Entry) → AreSmall (blocks_of es) → wanted_weight t es ≤ 2048000 * length es
+weight-le t [] h = omega arith
+weight-le t (e ∷ es) h =
+    let small = h 0 e.block refl in
+    let one = weight_small t e small.0 small.1 in
+    let rest = weight-le t es (λ i b at. h (suc i) b at) in
+    omega (arith, weight-cons t e es, one, rest)

@@ -1,0 +1,6 @@
+use Rattle.fb_wanted.proofs.Lists.{taken_back}
+use Rattle.fb_wanted.proofs.wanted.add_to_index.Goals as goal
+
+pub returns-in-Err-clause-tasks_stay : goal.returns-in-Err-clause-tasks_stay
+returns-in-Err-clause-tasks_stay c =
+    taken_back c.args.tasks.now.items c.add_place.new.tasks.items c.take_place_back.new.tasks.items c.args.entry.block.task c.args.place c.in_ok-add_place.ensures.ok c.take_place_back.ensures

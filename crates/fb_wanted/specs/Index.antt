@@ -1,0 +1,98 @@
+-- What is kept beside the list of registered blocks.
+use Rattle.std.specs.Prelude.{◌≡◌, ℕ, zero, suc, ◌+◌, ◌-◌, ◌≤◌, ◌<◌, ◌==◌, Bool, true, false, List, [], ◌∷◌, ◌++◌, Option, Some, None, length, map, filter, get_or, slice_get, if◌then◌else◌}
+use Rattle.std.specs.Ordering.{nat_cmp, ordering_then}
+use Rattle.std.specs.declared.cmp.Ordering.{Ordering}
+use Rattle.std.specs.BTreeMap.{BTreeMap, get}
+use Rattle.std.specs.BTreeSet.{BTreeSet, contains}
+use Rattle.fb_units.specs.declared.types.Track.{Track}
+use Rattle.fb_units.specs.Tracks.{same_track}
+use Rattle.fb_wanted.specs.declared.block.Block.{Block}
+use Rattle.fb_wanted.specs.declared.block.Change.{Change}
+use Rattle.fb_wanted.specs.declared.block.Entry.{Entry}
+use Rattle.fb_wanted.specs.declared.block.State.{State}
+use Rattle.fb_wanted.specs.declared.tracks.OnTrack.{OnTrack}
+use Rattle.fb_wanted.specs.States.{shares, state_after}
+use Rattle.fb_wanted.specs.Numbering.{AreInOrder, AreSmall, blocks_of}
+use Rattle.fb_wanted.specs.Tracks.{wanted_weight}
+
+-- by cylinder, then by head
+abbrev pub track_cmp : Track → Track → Ordering
+track_cmp a b = ordering_then (nat_cmp a.cylinder b.cylinder) (nat_cmp a.head b.head)
+
+-- the numbers of those that pass
+abbrev pub places : (Entry → Bool) → List Entry → List ℕ
+places test [] = []
+places test (e ∷ es) = if test e then 0 ∷ map (λ n. suc n) (places test es) else map (λ n. suc n) (places test es)
+
+abbrev pub of_task : ℕ → Entry → Bool
+of_task task entry = entry.block.task == task
+
+abbrev pub of_track : Track → Entry → Bool
+of_track track entry = same_track track entry.block.track
+
+-- a track with one more block
+abbrev pub grown : ℕ → ℕ → Option OnTrack → OnTrack
+grown place weight None = record { places = place ∷ []; weight = weight }
+grown place weight (Some on) = record { places = on.places ++ place ∷ []; weight = on.weight + weight }
+
+-- a track of another weight
+abbrev pub reweighed : ℕ → ℕ → OnTrack → OnTrack
+reweighed lost gained on = record { places = on.places; weight = on.weight - lost + gained }
+
+-- what is kept of a track: nothing where it has no block
+abbrev pub kept_from : List ℕ → ℕ → Option OnTrack
+kept_from [] weight = None
+kept_from (p ∷ ps) weight = Some (record { places = p ∷ ps; weight = weight })
+
+abbrev pub kept_of : Track → List Entry → Option OnTrack
+kept_of track entries = kept_from (places (of_track track) entries) (wanted_weight track entries)
+
+-- what is kept of each task and of each track
+pub record IsIndex (entries : List Entry) (tasks : List (List ℕ)) (tracks : BTreeMap Track OnTrack) : Type 0 where
+  pub by_task : (task : ℕ) → get_or tasks task [] ≡ places (of_task task) entries
+  pub by_track : (track : Track) → get track_cmp tracks track ≡ kept_of track entries
+
+-- the LBNs of the task's blocks, in order of registration
+abbrev pub lbns : ℕ → List Entry → List ℕ
+lbns task entries = map (λ entry. entry.block.lbn) (filter (of_task task) entries)
+
+-- by task, then by number
+abbrev pub fall_cmp : ℕ × ℕ → ℕ × ℕ → Ordering
+fall_cmp a b = ordering_then (nat_cmp a.0 b.0) (nat_cmp a.1 b.1)
+
+-- each block whose LBN is less than that of its task's block before it is noted
+abbrev pub AreNoted : List Entry → BTreeSet (ℕ × ℕ) → Type 0
+AreNoted entries falls = (task i a b : ℕ) → slice_get (lbns task entries) i ≡ Some a → slice_get (lbns task entries) (suc i) ≡ Some b → b < a → contains fall_cmp falls (task, suc i) ≡ true
+
+-- the numbers from one on don't fall before an end
+abbrev pub Rises : List ℕ → ℕ → ℕ → Type 0
+Rises xs from end = (i j a b : ℕ) → from ≤ i → i ≤ j → j < end → slice_get xs i ≡ Some a → slice_get xs j ≡ Some b → a ≤ b
+
+-- a change that leaves each block which shares no sector with the range
+abbrev pub IsWithin : Change → ℕ → ℕ → Type 0
+IsWithin change first count = (block : Block) (state : State) → shares first count block ≡ false → state_after change block state ≡ state
+
+-- the registered blocks, and what is kept beside them
+pub record IsKept (entries : List Entry) (tasks : List (List ℕ)) (tracks : BTreeMap Track OnTrack) : Type 0 where
+  pub in_order : AreInOrder (blocks_of entries)
+  pub few : length entries ≤ 16000000
+  pub small : AreSmall (blocks_of entries)
+  pub index : IsIndex entries tasks tracks
+
+-- the entry of that number in another state
+abbrev pub with_state : State → ℕ → List Entry → List Entry
+with_state state n [] = []
+with_state state zero (e ∷ es) = record { block = e.block; state = state } ∷ es
+with_state state (suc n) (e ∷ es) = e ∷ with_state state n es
+
+-- the k-th of those that pass is changed
+abbrev pub change_nth : (Entry → Bool) → (Entry → Entry) → ℕ → List Entry → List Entry
+change_nth test change k [] = []
+change_nth test change zero (e ∷ es) = if test e then change e ∷ es else e ∷ change_nth test change zero es
+change_nth test change (suc k) (e ∷ es) = e ∷ change_nth test change (if test e then k else suc k) es
+
+-- the first k of those that pass are changed
+abbrev pub change_first : (Entry → Bool) → (Entry → Entry) → ℕ → List Entry → List Entry
+change_first test change k [] = []
+change_first test change zero (e ∷ es) = e ∷ es
+change_first test change (suc k) (e ∷ es) = if test e then change e ∷ change_first test change k es else e ∷ change_first test change (suc k) es

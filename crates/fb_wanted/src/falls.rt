@@ -1,0 +1,35 @@
+// Where the LBNs of a task's blocks fall: in between they rise, so a range is searched for by halves.
+ghost use Rattle.std.specs.Prelude.{◌≡◌, ℕ, ◌<◌, ◌≤◌, true, false, IfSome, IfNone, OnOk};
+ghost use Rattle.std.specs.BTreeSet.{contains};
+ghost use Rattle.fb_wanted.specs.Index.{fall_cmp};
+
+use fb_units::NoMemory;
+use std::collections::BTreeSet;
+
+/// Notes where the LBNs of the task fall; where memory is wanting nothing is lost.
+pub fn note_fall(
+    falls: &mut BTreeSet<(u32, u32)>,
+    task: u32,
+    index: u32,
+    is_fall: bool,
+) -> Result<(), NoMemory>
+    ensures stay { (k : ℕ × ℕ) → contains fall_cmp falls.old k ≡ true → contains fall_cmp falls.new k ≡ true }
+    ensures noted { OnOk result (is_fall ≡ true → contains fall_cmp falls.new (task, index) ≡ true) }
+{
+    if is_fall {
+        falls.insert((task, index))?;
+    }
+    Ok(())
+}
+
+/// The first noted number of the task from one on.
+pub fn next_fall(falls: &BTreeSet<(u32, u32)>, task: u32, from: u32) -> Option<u32>
+    ensures from { IfSome result (λ i. from ≤ i) }
+    ensures first { IfSome result (λ i. (j : ℕ) → from ≤ j → j < i → contains fall_cmp falls.now (task, j) ≡ false) }
+    ensures none { IfNone result ((j : ℕ) → from ≤ j → contains fall_cmp falls.now (task, j) ≡ false) }
+{
+    match falls.range((task, from)..).next() {
+        Some(fall) => { if fall.0 == task { Some(fall.1) } else { None } }
+        None => None,
+    }
+}

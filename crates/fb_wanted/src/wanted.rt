@@ -1,0 +1,431 @@
+// The registered blocks, in order of registration, and beside them where those of each task and of each track stand.
+ghost use Rattle.std.specs.Prelude.{◌≡◌, List, suc, true, false, take, ◌⊎◌, ◌+◌, ◌<◌, ◌≤◌, ℕ, [], ◌∷◌, ◌++◌, ◌*◌, length, filter, map, OnOk, OnErr, IfSome, IfNone, Some, slice_get, get_or, ◌==◌, if◌then◌else◌};
+ghost use Rattle.std.specs.BTreeMap.{get};
+ghost use Rattle.fb_wanted.specs.declared.block.Block.{Block};
+ghost use Rattle.fb_wanted.specs.declared.block.Entry.{Entry};
+ghost use Rattle.fb_wanted.specs.States.{after, shares, entry_after, is_abortable, is_wanted, wanted_unless, on_track, is_block};
+ghost use Rattle.fb_wanted.specs.Numbering.{blocks_of, registered};
+ghost use Rattle.fb_wanted.specs.Tracks.{wanted_weight, HasBlock, IsTrackBefore, IsNextTrack};
+ghost use Rattle.fb_wanted.specs.Index.{places, of_task, lbns, Rises, IsWithin, with_state, change_nth, change_first, track_cmp, grown};
+ghost use Rattle.fb_units.specs.declared.types.Track.{Track};
+ghost use Rattle.fb_units.specs.Tracks.{same_track};
+
+use crate::changes::{is_abortable, state_after, wanted_unless};
+use crate::falls::{next_fall, note_fall};
+use crate::places::{Places, add_place, take_place_back};
+use crate::tracks::{OnTrack, add_to_track, next_track, reweigh, weight_of};
+use crate::{Block, Change, Entry, State};
+use fb_units::{NoMemory, Track};
+use std::alloc::Global;
+use std::collections::{BTreeMap, BTreeSet};
+use std::marker::Model;
+
+/// Registered blocks, each with its state, in order of registration.
+///
+/// To register, to deliver or to look up costs a logarithm of the number of tracks or blocks.
+/// To suspend or to resume costs as much for each block of the task, and to abort or to want again
+/// as much for each of its blocks near the range and for each time that its LBNs fall.
+/// A task takes room for each number below its own.
+#[derive(Drop)]
+pub struct Wanted {
+    alloc: Global,
+    entries: Vec<Entry>,
+    tasks: Vec<Places>,
+    tracks: BTreeMap<Track, OnTrack>,
+    falls: BTreeSet<(u32, u32)>,
+}
+
+// Blocks of a task from one number to another, whose LBNs rise.
+#[derive(Clone, Copy)]
+struct Rise {
+    from: u32,
+    end: u32,
+}
+
+impl Model for Wanted {
+    ghost use Rattle.std.specs.Prelude.{List};
+    ghost use Rattle.fb_wanted.specs.declared.block.Entry.{Entry};
+    ghost use Rattle.fb_wanted.specs.Index.{IsKept, AreNoted};
+
+    ghost Value = { List Entry };
+
+    ghost view = { λ w. w.entries.items };
+
+    ghost invariant = { λ w. IsKept w.entries.items w.tasks.items w.tracks × AreNoted w.entries.items w.falls };
+}
+
+// Notes where a block that is to be registered will stand; where memory is wanting all stays.
+fn add_to_index(
+    tasks: &mut Vec<Places>,
+    tracks: &mut BTreeMap<Track, OnTrack>,
+    alloc: Global,
+    place: u32,
+    entry: Entry,
+) -> Result<(), NoMemory>
+    requires light { entry.block.weight ≤ 1000 }
+    requires short { entry.block.count ≤ 2048 }
+    requires room { IfSome (get track_cmp tracks.old entry.block.track) (λ on. on.weight ≤ 16000000 * 2048000) }
+    ensures tasks { OnOk result ((k : ℕ) → get_or tasks.new.items k [] ≡ (if entry.block.task == k then get_or tasks.old.items k [] ++ place ∷ [] else get_or tasks.old.items k [])) }
+    ensures tracks { OnOk result ((t : Track) → get track_cmp tracks.new t ≡ (if same_track entry.block.track t then Some (grown place (wanted_weight entry.block.track (entry ∷ [])) (get track_cmp tracks.old t)) else get track_cmp tracks.old t)) }
+    ensures tasks_stay { OnErr result ((k : ℕ) → get_or tasks.new.items k [] ≡ get_or tasks.old.items k []) }
+    ensures tracks_stay { OnErr result ((t : Track) → get track_cmp tracks.new t ≡ get track_cmp tracks.old t) }
+{
+    let block = entry.block;
+    add_place(tasks, alloc, block.task, place)?;
+    match add_to_track(tracks, alloc, block.track, place, weight_of(entry)) {
+        Ok(()) => Ok(()),
+        Err(error) => {
+            take_place_back(tasks, block.task);
+            Err(error)
+        }
+    }
+}
+
+impl Wanted {
+    // How many blocks of the task are registered.
+    fn registered_by(&self, task: u32) -> u32
+        ensures { result ≡ length (filter (of_task task) self.now) }
+    {
+        match self.tasks.get(task as usize) {
+            Some(places) => places.len() as u32,
+            None => 0,
+        }
+    }
+
+    // Where the k-th block of the task stands.
+    fn place_of(&self, task: u32, k: u32) -> u32
+        requires { k < length (filter (of_task task) self.now) }
+        ensures { slice_get (places (of_task task) self.now) k ≡ Some result }
+    {
+        self.tasks[task as usize].get(k as usize)
+    }
+
+    // The entry of that number.
+    fn entry_at(&self, place: u32) -> Entry
+        requires { place < length self.now }
+        ensures { slice_get self.now place ≡ Some result }
+    {
+        self.entries[place as usize]
+    }
+
+    // The k-th block of the task.
+    fn entry_of(&self, task: u32, k: u32) -> Entry
+        requires { k < length (filter (of_task task) self.now) }
+        ensures { slice_get (filter (of_task task) self.now) k ≡ Some result }
+    {
+        self.entry_at(self.place_of(task, k))
+    }
+
+    // Brings the entry of that number into a state.
+    fn set_state(&mut self, place: u32, state: State)
+        requires { place < length self.old }
+        ensures { self.new ≡ with_state state place self.old }
+    {
+        let entry = self.entries[place as usize];
+        let turned = Entry {
+            block: entry.block,
+            state,
+        };
+        self.entries[place as usize] = turned;
+        reweigh(
+            &mut self.tracks,
+            entry.block.track,
+            weight_of(entry),
+            weight_of(turned),
+        );
+    }
+
+    // Changes the k-th block of the task.
+    fn change_block(&mut self, task: u32, k: u32, change: Change)
+        requires { k < length (filter (of_task task) self.old) }
+        ensures { self.new ≡ change_nth (of_task task) (entry_after task change) k self.old }
+    {
+        let place = self.place_of(task, k);
+        let entry = self.entry_at(place);
+        self.set_state(place, state_after(change, entry.block, entry.state));
+    }
+
+    // Changes each block of the task.
+    fn change(&mut self, task: u32, change: Change)
+        ensures { self.new ≡ after task change self.old }
+    {
+        for k in 0..self.registered_by(task) {
+            self.change_block(task, k, change);
+        }
+    }
+
+    // Whether the LBNs of its task fall at a block that is to be registered.
+    fn is_fall(&self, block: Block) -> bool
+        requires { block.index ≡ length (filter (of_task block.task) self.now) }
+        ensures { (i a : ℕ) → suc i ≡ block.index → slice_get (lbns block.task self.now) i ≡ Some a → block.lbn < a → result ≡ true }
+    {
+        if block.index == 0 {
+            return false;
+        }
+        block.lbn < self.entry_of(block.task, block.index - 1).block.lbn
+    }
+
+    // The rise that begins at the k-th block of the task.
+    fn rise_at(&self, task: u32, k: u32) -> Rise
+        requires { k < length (filter (of_task task) self.now) }
+        ensures from { result.from ≡ k }
+        ensures ahead { k < result.end }
+        ensures within { result.end ≤ length (filter (of_task task) self.now) }
+        ensures rises { Rises (lbns task self.now) k result.end }
+    {
+        let count = self.registered_by(task);
+        match next_fall(&self.falls, task, k + 1) {
+            Some(fall) => Rise {
+                from: k,
+                end: fall.min(count),
+            },
+            None => Rise {
+                from: k,
+                end: count,
+            },
+        }
+    }
+
+    // The first block of a rise whose LBN isn't less.
+    fn first_from(&self, task: u32, rise: Rise, lbn: u64) -> u32
+        requires order { rise.from ≤ rise.end }
+        requires within { rise.end ≤ length (filter (of_task task) self.now) }
+        requires rises { Rises (lbns task self.now) rise.from rise.end }
+        ensures order { (rise.from ≤ result) × (result ≤ rise.end) }
+        ensures less { (i a : ℕ) → rise.from ≤ i → i < result → slice_get (lbns task self.now) i ≡ Some a → a < lbn }
+        ensures rest { (i a : ℕ) → result ≤ i → i < rise.end → slice_get (lbns task self.now) i ≡ Some a → lbn ≤ a }
+    {
+        let mut low = rise.from;
+        let mut high = rise.end;
+        while low < high {
+            let middle = low + (high - low) / 2;
+            if self.entry_of(task, middle).block.lbn < lbn {
+                low = middle + 1;
+            } else {
+                high = middle;
+            }
+        }
+        low
+    }
+
+    // The first block of a rise that lies behind the range.
+    fn first_behind(&self, task: u32, rise: Rise, first: u64, count: u64) -> u32
+        requires order { rise.from ≤ rise.end }
+        requires within { rise.end ≤ length (filter (of_task task) self.now) }
+        requires rises { Rises (lbns task self.now) rise.from rise.end }
+        ensures order { (rise.from ≤ result) × (result ≤ rise.end) }
+        ensures rest { (i a : ℕ) → result ≤ i → i < rise.end → slice_get (lbns task self.now) i ≡ Some a → first + count ≤ a }
+    {
+        match first.checked_add(count) {
+            Some(behind) => self.first_from(task, rise, behind),
+            None => rise.end,
+        }
+    }
+
+    // Those of a rise that may share a sector with the range: no block has more than 2048 sectors.
+    fn sharing(&self, task: u32, rise: Rise, first: u64, count: u64) -> Rise
+        requires order { rise.from ≤ rise.end }
+        requires within { rise.end ≤ length (filter (of_task task) self.now) }
+        requires rises { Rises (lbns task self.now) rise.from rise.end }
+        ensures order { (rise.from ≤ result.from) × (result.from ≤ rise.end) × (result.end ≤ rise.end) }
+        ensures others { (i : ℕ) (block : Block) → rise.from ≤ i → i < rise.end → (i < result.from) ⊎ (result.end ≤ i) → slice_get (blocks_of (filter (of_task task) self.now)) i ≡ Some block → shares first count block ≡ false }
+    {
+        let _ = &self.entries;
+        let from = self.first_from(task, rise, first.saturating_sub(2047));
+        let end = self.first_behind(task, rise, first, count);
+        Rise { from, end }
+    }
+
+    // Changes the blocks of a rise that share a sector with the range.
+    fn change_rise(&mut self, task: u32, rise: Rise, first: u64, count: u64, change: Change)
+        requires order { rise.from ≤ rise.end }
+        requires within { rise.end ≤ length (filter (of_task task) self.old) }
+        requires rises { Rises (lbns task self.old) rise.from rise.end }
+        requires change { IsWithin change first count }
+        ensures { (es : List Entry) → self.old ≡ change_first (of_task task) (entry_after task change) rise.from es → self.new ≡ change_first (of_task task) (entry_after task change) rise.end es }
+    {
+        let near = self.sharing(task, rise, first, count);
+        for k in near.from..near.end {
+            self.change_block(task, k, change);
+        }
+    }
+
+    // Changes the blocks of the task that share a sector with the range.
+    fn change_range(&mut self, task: u32, first: u64, count: u64, change: Change)
+        requires { IsWithin change first count }
+        ensures { self.new ≡ after task change self.old }
+    {
+        let end = self.registered_by(task);
+        let mut k = 0;
+        while k < end {
+            let rise = self.rise_at(task, k);
+            self.change_rise(task, rise, first, count, change);
+            k = rise.end;
+        }
+    }
+
+    // How many blocks of a rise an abort of the range changes.
+    fn count_in_rise(&self, task: u32, rise: Rise, first: u64, count: u64) -> u64
+        requires order { rise.from ≤ rise.end }
+        requires within { rise.end ≤ length (filter (of_task task) self.now) }
+        requires rises { Rises (lbns task self.now) rise.from rise.end }
+        ensures few { result + rise.from ≤ rise.end }
+        ensures more { (n : ℕ) → n ≡ length (filter (is_abortable task first count) (take rise.from (filter (of_task task) self.now))) → n + result ≡ length (filter (is_abortable task first count) (take rise.end (filter (of_task task) self.now))) }
+    {
+        let near = self.sharing(task, rise, first, count);
+        let mut n = 0;
+        for k in near.from..near.end {
+            if is_abortable(self.entry_of(task, k), task, first, count) {
+                n += 1;
+            }
+        }
+        n
+    }
+
+    // How many blocks of the task an abort of the range changes.
+    fn count_abortable(&self, task: u32, first: u64, count: u64) -> u64
+        ensures { result ≡ length (filter (is_abortable task first count) self.now) }
+    {
+        let end = self.registered_by(task);
+        let mut n = 0;
+        let mut k = 0;
+        while k < end {
+            let rise = self.rise_at(task, k);
+            n += self.count_in_rise(task, rise, first, count);
+            k = rise.end;
+        }
+        n
+    }
+
+    /// No block.
+    pub fn new(alloc: Global) -> Self
+        ensures { result ≡ [] }
+    {
+        Wanted {
+            alloc,
+            entries: Vec::new(alloc),
+            tasks: Vec::new(alloc),
+            tracks: BTreeMap::new(alloc),
+            falls: BTreeSet::new(alloc),
+        }
+    }
+
+    /// Registers a block.
+    pub fn register(&mut self, block: Block, suspended: bool) -> Result<(), NoMemory>
+        requires numbered { block.index ≡ registered block.task (blocks_of self.old) }
+        requires room { length self.old < 16000000 }
+        requires light { block.weight ≤ 1000 }
+        requires short { block.count ≤ 2048 }
+        ensures ok { OnOk result (self.new ≡ self.old ++ record { block = block; state = wanted_unless suspended } ∷ []) }
+        ensures err { OnErr result (self.new ≡ self.old) }
+    {
+        let state = wanted_unless(suspended);
+        let entry = Entry { block, state };
+        let is_fall = self.is_fall(block);
+        let place = self.entries.len() as u32;
+        self.entries.reserve(1)?;
+        note_fall(&mut self.falls, block.task, block.index, is_fall)?;
+        add_to_index(&mut self.tasks, &mut self.tracks, self.alloc, place, entry)?;
+        self.entries.push(entry)?;
+        Ok(())
+    }
+
+    /// Aborts the task's blocks that are neither delivered nor aborted and share a sector with the range.
+    pub fn abort(&mut self, task: u32, first: u64, count: u64) -> u64
+        ensures states { self.new ≡ after task (Change.Abort first count) self.old }
+        ensures number { result ≡ length (filter (is_abortable task first count) self.old) }
+    {
+        let number = self.count_abortable(task, first, count);
+        self.change_range(task, first, count, Change::Abort { first, count });
+        number
+    }
+
+    /// Marks a wanted block as delivered.
+    pub fn deliver(&mut self, task: u32, index: u32)
+        requires { (e : Entry) × (i : ℕ) × (slice_get self.old i ≡ Some e) × (is_block task index e ≡ true) × (e.state ≡ State.Wanted) }
+        ensures { self.new ≡ after task (Change.Deliver index) self.old }
+    {
+        let _ = &self.entries;
+        self.change_block(task, index, Change::Deliver { index });
+    }
+
+    /// Wants the task's delivered blocks again that share a sector with the range.
+    pub fn rewant(&mut self, task: u32, first: u64, count: u64, suspended: bool)
+        ensures { self.new ≡ after task (Change.Rewant first count suspended) self.old }
+    {
+        self.change_range(
+            task,
+            first,
+            count,
+            Change::Rewant {
+                first,
+                count,
+                suspended,
+            },
+        );
+    }
+
+    /// Suspends the task's wanted blocks.
+    pub fn suspend(&mut self, task: u32)
+        ensures { self.new ≡ after task Change.Suspend self.old }
+    {
+        self.change(task, Change::Suspend);
+    }
+
+    /// Wants the task's suspended blocks.
+    pub fn resume(&mut self, task: u32)
+        ensures { self.new ≡ after task Change.Resume self.old }
+    {
+        self.change(task, Change::Resume);
+    }
+
+    /// The state of a registered block.
+    pub fn state(&self, task: u32, index: u32) -> State
+        requires { (e : Entry) × (i : ℕ) × (slice_get self.now i ≡ Some e) × (is_block task index e ≡ true) }
+        ensures { (e : Entry) (i : ℕ) → slice_get self.now i ≡ Some e → is_block task index e ≡ true → e.state ≡ result }
+    {
+        let _ = &self.entries;
+        self.entry_of(task, index).state
+    }
+
+    /// How many blocks of the track are registered.
+    pub fn registered_on(&self, track: Track) -> u32
+        ensures count { result ≡ length (on_track track self.now) }
+        ensures few { result ≤ 16000000 }
+    {
+        match self.tracks.get(&track) {
+            Some(on) => on.places.len() as u32,
+            None => 0,
+        }
+    }
+
+    /// The i-th registered block of the track.
+    pub fn block_on(&self, track: Track, i: u32) -> Block
+        requires { i < length (on_track track self.now) }
+        ensures { slice_get (blocks_of (on_track track self.now)) i ≡ Some result }
+    {
+        match self.tracks.get(&track) {
+            Some(on) => self.entries[on.places.get(i as usize) as usize].block,
+            None => unreachable!(),
+        }
+    }
+
+    /// Weight times sectors of the track's wanted blocks.
+    pub fn wanted_weight_on(&self, track: Track) -> u64
+        ensures sum { result ≡ wanted_weight track self.now }
+        ensures small { result ≤ 16000000 * 2048000 }
+    {
+        match self.tracks.get(&track) {
+            Some(on) => on.weight,
+            None => 0,
+        }
+    }
+
+    /// The least track not before this one on which a block is registered.
+    pub fn next_registered_track(&self, from: Track) -> Option<Track>
+        ensures some { IfSome result (λ track. IsNextTrack from self.now track) }
+        ensures none { IfNone result ((track : Track) → HasBlock self.now track → IsTrackBefore track from) }
+    {
+        next_track(&self.tracks, from)
+    }
+}
