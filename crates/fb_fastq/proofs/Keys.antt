@@ -1,7 +1,7 @@
 -- Keys of a sector and a number.
-use Rattle.std.proofs.Common.{◌≡◌, ◌≢◌, ℕ, ◌≤◌, arith, true, false}
-use Rattle.std.specs.Ordering.{nat_cmp, ordering_then, is_gt, is_eq}
-use Rattle.std.specs.declared.cmp.Ordering.TheVariants.{Equal}
+use Rattle.std.proofs.Common.{◌≡◌, ◌≢◌, ℕ, ◌<◌, ◌≤◌, arith, true, false}
+use Rattle.std.specs.Ordering.{nat_cmp, ordering_then, is_gt, is_lt, is_eq}
+use Rattle.std.specs.declared.cmp.Ordering.TheVariants.{Less, Equal}
 use Rattle.std.proofs.lemmas.Bool.Decides.{nat_tests}
 
 pub at_sector : (a c d : ℕ) → a ≤ c → is_gt (ordering_then (nat_cmp a c) (nat_cmp 0 d)) ≡ false
@@ -21,3 +21,9 @@ same_key a b c d h = grind (arith, nat_tests)
 
 pub equal_keys : (a b c d : ℕ) → is_eq (ordering_then (nat_cmp a c) (nat_cmp b d)) ≡ true → (a ≡ c) × (b ≡ d)
 equal_keys a b c d h = (grind (arith, nat_tests), grind (arith, nat_tests))
+
+pub below_sector : (a c d : ℕ) → a < c → ordering_then (nat_cmp a c) (nat_cmp d 0) ≡ Less
+below_sector a c d h = grind (arith, nat_tests)
+
+pub sectors_fall : (a b c d : ℕ) → is_lt (ordering_then (nat_cmp a c) (nat_cmp b d)) ≡ false → c ≤ a
+sectors_fall a b c d h = grind (arith, nat_tests)

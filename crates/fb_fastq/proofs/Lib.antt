@@ -1,4 +1,4 @@
 pub mod Keys
 pub mod Joins
 pub mod Least
-pub mod Upwards
+pub mod Turns

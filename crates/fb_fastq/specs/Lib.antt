@@ -1,3 +1,3 @@
 pub mod Joining
 pub mod Runs
-pub mod Upwards
+pub mod Turns

@@ -1,13 +1,21 @@
 //! The order in which pending requests are served, found without a look at all that is pending.
 //!
 //! These queues keep the law of the plain ones: a queue takes the first request of least key, in
-//! order of joining. They keep a ring, or maps ordered by sector and number of joining.
+//! order of joining. They keep a ring, or a map ordered by sector and number of joining, in which
+//! the requests of a cylinder stand together.
 #![tactic(auto)]
 
-mod clook;
+mod choice;
 mod cylinders;
 mod index;
+mod indexed;
+mod nearest;
 mod ring;
+mod upwards;
+mod waiting;
 
-pub use clook::ClookMap;
+pub use choice::Choice;
+pub use indexed::Indexed;
+pub use nearest::{Nearest, SstfMap};
 pub use ring::FcfsRing;
+pub use upwards::{ClookMap, Upwards};

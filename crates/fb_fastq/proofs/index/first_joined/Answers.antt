@@ -1,7 +1,7 @@
 use Rattle.std.proofs.Common.{arith, inl, inr, subst, sym, ap}
 use Rattle.std.specs.BTreeMap.{ContainsKey}
 use Rattle.std.proofs.lemmas.Bool.{cases_lt}
-use Rattle.fb_fastq.proofs.Joins.{order}
+use Rattle.fb_fastq.specs.Joining.{order}
 use Rattle.fb_fastq.proofs.index.first_joined.Goals as goal
 
 pub loop-lbn-preserved-in-Some : goal.loop-lbn-preserved-in-Some

@@ -1,6 +1,6 @@
 use Rattle.std.specs.Prelude.{ℕ, ◌<◌, ◌≤◌, ◌-◌}
 use Rattle.std.specs.BTreeMap.{ContainsKey}
-use Rattle.fb_fastq.proofs.Joins.{order}
+use Rattle.fb_fastq.specs.Joining.{order}
 use Rattle.fb_fastq.proofs.index.first_joined.Given as goal
 
 -- the first of those before the sector that comes next

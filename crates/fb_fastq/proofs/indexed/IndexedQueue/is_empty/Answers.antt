@@ -2,10 +2,10 @@ use Rattle.std.proofs.Common.{◌≡◌, ◌∙◌, ap, sym, subst, length}
 use Rattle.std.specs.Prelude.{◌==◌}
 use Rattle.fb_fastq.specs.Joining.{pending_of}
 use Rattle.fb_fastq.proofs.Least.{length_pending, tells_none}
-use Rattle.fb_fastq.proofs.clook.ClookMapQueue.is_empty.Goals as goal
+use Rattle.fb_fastq.proofs.indexed.IndexedQueue.is_empty.Goals as goal
 
 pub returns : goal.returns
-returns c =
+returns g c =
     let ws = c.self.inside.waiting.entries in
     let seen = ap (λ v. v.waiting) c.self.view_is in
     subst (λ es. c.is_empty.result ≡ (length (pending_of es) == 0)) seen
