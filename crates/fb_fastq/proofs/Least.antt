@@ -148,7 +148,7 @@ index_removed joined k ws h = record {
   numbered = numbered_removed k ws h.numbered;
 }
 
-some_injective : {X : Type 0} (x y : X) → Some x ≡ Some y → x ≡ y
+pub some_injective : {X : Type 0} (x y : X) → Some x ≡ Some y → x ≡ y
 some_injective x y e = cc
 
 found_there : (b : Bool) (x r : Request) (o : Option Request) → b ≡ false → cond b (Some x) o ≡ Some r → o ≡ Some r
@@ -209,21 +209,24 @@ tells_none false (suc n) h = grind (arith, nat_tests)
 pub all_waiting : (P : Request → Type 0) (ws : List Waiting) → AllByRecursion P (pending_of ws) → AllByRecursion (λ w. P w.1) ws
 all_waiting P ws h = all_from (λ w. P w.1) ws (in_order_all P ws h)
 
--- what a key has stands at its sector, and is one of those that wait
-pub at_key : (ws : List Waiting) (q : ℕ × ℕ) → StandAtSectors ws → IsSome (lookup (is_at (order q)) ws) → (r : Request) × IsIn (q, r) ws × (q.0 ≡ r.lbn)
-at_key ws q stand has = go (lookup (is_at (order q)) ws) refl has
+-- what a key has is one of those that wait
+pub at_key : (ws : List Waiting) (q : ℕ × ℕ) → IsSome (lookup (is_at (order q)) ws) → (r : Request) × IsIn (q, r) ws
+at_key ws q has = go (lookup (is_at (order q)) ws) refl has
   where
-    go : (o : Option Request) → lookup (is_at (order q)) ws ≡ o → IsSome o → (r : Request) × IsIn (q, r) ws × (q.0 ≡ r.lbn)
+    go : (o : Option Request) → lookup (is_at (order q)) ws ≡ o → IsSome o → (r : Request) × IsIn (q, r) ws
     go None e h = absurd (true≢false (sym h))
-    go (Some r) e h = let there = held_is_in q.0 q.1 r ws e in (r, there, all_of (λ w. w.0.0 ≡ w.1.lbn) (q, r) ws stand there)
+    go (Some r) e h = (r, held_is_in q.0 q.1 r ws e)
 
 -- where the requests that wait can be served, their sectors are the disk's
+pub lies_on_disk : (disk : Shape) (ws : List Waiting) → StandAtSectors ws → AllByRecursion (λ w. IsRequestOf disk w.1) ws → (w : Waiting) → IsIn w ws → w.0.0 < length (places disk)
+lies_on_disk disk ws stand on_disk w there =
+    let range = (all_of (λ x. IsRequestOf disk x.1) w ws on_disk there).range in
+    let lies = all_of (λ x. x.0.0 ≡ x.1.lbn) w ws stand there in
+    omega (arith, range.some, range.inside, lies)
+
 pub lie_on_disk : (disk : Shape) (ws : List Waiting) → StandAtSectors ws → AllByRecursion (λ w. IsRequestOf disk w.1) ws → (q : ℕ × ℕ) → IsSome (lookup (is_at (order q)) ws) → q.0 < length (places disk)
 lie_on_disk disk ws stand on_disk q has =
-    let at = at_key ws q stand has in
-    let range = (all_of (λ w. IsRequestOf disk w.1) (q, at.0) ws on_disk at.1).range in
-    let lies = at.2 in
-    omega (arith, range.some, range.inside, lies)
+    let at = at_key ws q has in lies_on_disk disk ws stand on_disk (q, at.0) at.1
 
 -- the first by sectors is the first by requests
 pub first_by_sector : (rank : ℕ → ℕ) (key : ℕ × ℕ) (r : Request) (ws : List Waiting) → StandAtSectors ws → lookup (is_at (order key)) ws ≡ Some r

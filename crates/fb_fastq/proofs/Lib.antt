@@ -2,3 +2,5 @@ pub mod Keys
 pub mod Joins
 pub mod Least
 pub mod Turns
+pub mod Far
+pub mod Walks

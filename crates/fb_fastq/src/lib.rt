@@ -11,6 +11,7 @@ mod index;
 mod indexed;
 mod nearest;
 mod ring;
+mod soonest;
 mod upwards;
 mod waiting;
 
@@ -18,4 +19,5 @@ pub use choice::Choice;
 pub use indexed::Indexed;
 pub use nearest::{Nearest, SstfMap};
 pub use ring::FcfsRing;
+pub use soonest::{Soonest, SptfBuckets};
 pub use upwards::{ClookMap, Upwards};

@@ -1,4 +1,3 @@
-use Rattle.std.proofs.Common.{ℕ}
 use Rattle.fb_sectormap.specs.Lookup.{track_at}
 use Rattle.fb_seek.specs.Positioning.{distance_of}
 use Rattle.fb_fastq.proofs.Least.{first_by_sector, lie_on_disk}
