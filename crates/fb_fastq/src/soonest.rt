@@ -2,8 +2,7 @@
 ghost use Rattle.std.specs.Prelude.{◌≡◌, ℕ, ◌-◌, ◌<◌, ◌≤◌, ◌^◌, ◌*◌, ◌⊎◌, length, true};
 ghost use Rattle.std.specs.List.{AllByRecursion};
 ghost use Rattle.fb_units.specs.declared.types.Request.{Request};
-ghost use Rattle.fb_geometry.specs.Shape.{IsTrackOf};
-ghost use Rattle.fb_geometry.specs.Places.{places};
+ghost use Rattle.fb_geometry.specs.Shape.{IsTrackOf, cylinders_of};
 ghost use Rattle.fb_sectormap.specs.Lookup.{track_at};
 ghost use Rattle.fb_seek.specs.Positioning.{distance_of};
 ghost use Rattle.fb_model.specs.Accepted.{IsRequestOf};
@@ -12,7 +11,7 @@ ghost use Rattle.fb_fastq.specs.Joining.{StandAtSectors};
 ghost use Rattle.fb_fastq.specs.Runs.{IsStartOf};
 ghost use Rattle.fb_fastq.specs.Candidates.{IsCandidate, IsBefore, Beats};
 
-use crate::cylinders::start_of;
+use crate::cylinders::{end_of, start_of};
 use crate::{Choice, Indexed};
 use fb_service::{Disk, first_pass};
 use fb_units::{Ns, Request, Track};
@@ -57,14 +56,13 @@ fn sooner(a: Candidate, b: Candidate) -> Candidate
     }
 }
 
-// Whether the arm's way to the cylinder of a sector alone takes longer.
-fn is_too_far(disk: &Disk, head: Track, lbn: u64, wait: Ns) -> bool
-    requires lbn { lbn < length (places disk.now.map) }
+// Whether the arm's way to a cylinder alone takes longer.
+fn is_too_far(disk: &Disk, head: Track, cylinder: u32, wait: Ns) -> bool
+    requires cylinder { cylinder < cylinders_of disk.now.map.zones }
     requires head { IsTrackOf disk.now.map head }
-    ensures { result ≡ true → (now : ℕ) (r : Request) → distance_of head.cylinder (track_at disk.now.map lbn).cylinder ≤ distance_of head.cylinder (track_at disk.now.map r.lbn).cylinder → wait < sptf disk.now head now r }
+    ensures { result ≡ true → (now : ℕ) (r : Request) → distance_of head.cylinder cylinder ≤ distance_of head.cylinder (track_at disk.now.map r.lbn).cylinder → wait < sptf disk.now head now r }
 {
     disk.mechanism.seeks_rise();
-    let cylinder = disk.map.place(lbn).track.cylinder;
     wait < disk.mechanism.seek(head.cylinder.abs_diff(cylinder))
 }
 
@@ -89,9 +87,14 @@ fn soonest_above(
 {
     disk.map.cylinders_rise();
     let mut best = first;
+    let mut end = start;
     for (key, request) in waiting.range((start, 0)..) {
-        if is_too_far(disk, head, key.0, best.wait) {
-            return best;
+        if key.0 >= end {
+            let cylinder = disk.map.place(key.0).track.cylinder;
+            if is_too_far(disk, head, cylinder, best.wait) {
+                return best;
+            }
+            end = end_of(&disk.map, cylinder);
         }
         best = sooner(best, candidate_of(disk, head, now, *key, request));
     }
@@ -119,9 +122,14 @@ fn soonest_below(
 {
     disk.map.cylinders_rise();
     let mut best = first;
+    let mut begin = start;
     for (key, request) in waiting.range(..(start, 0)).rev() {
-        if is_too_far(disk, head, key.0, best.wait) {
-            return best;
+        if key.0 < begin {
+            let cylinder = disk.map.place(key.0).track.cylinder;
+            if is_too_far(disk, head, cylinder, best.wait) {
+                return best;
+            }
+            begin = start_of(&disk.map, cylinder);
         }
         best = sooner(best, candidate_of(disk, head, now, *key, request));
     }

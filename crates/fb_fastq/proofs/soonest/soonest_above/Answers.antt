@@ -1,4 +1,7 @@
 use Rattle.std.proofs.Common.{◌≡◌, ◌∙◌, ◌≤◌, sym, subst, refl, inl, inr}
+use Rattle.fb_units.specs.declared.types.Place.{Place}
+use Rattle.fb_sectormap.specs.Lookup.{track_at}
+use Rattle.fb_seek.specs.Positioning.{distance_of}
 use Rattle.fb_model.specs.Accepted.{IsRequestOf}
 use Rattle.fb_fastq.specs.Joining.{Waiting}
 use Rattle.fb_fastq.proofs.Keys.{is_from, from_is}
@@ -15,8 +18,8 @@ loop-key-init c = (
       (λ w t. is_from c.args.start w.0.0 w.0.1 t) (λ w h. from_is c.args.start w.0.0 w.0.1 h),
 )
 
-pub is_too_far-requires-clause-lbn : goal.is_too_far-requires-clause-lbn
-is_too_far-requires-clause-lbn c =
+pub place-cylinder-requires : goal.place-cylinder-requires
+place-cylinder-requires c =
     let x : Waiting = (c.in-Some.key.now, c.in-Some.request.now) in
     let there : IsIn x c.loop-key.key-iterator = subst (IsIn x) (sym c.in-Some.ensures.steps) (inl refl) in
     lies_on_disk c.args.disk.now.map c.args.waiting.now.entries c.requires.sectors c.requires.on_disk x (c.loop-key.invariant.2.inside x there).0
@@ -39,9 +42,10 @@ returns-then-is_too_far-clause-least c =
     all_from _ entries (walk_stops c.args.disk.now c.args.head c.args.now c.args.waiting.now c.args.first (λ w. c.args.start ≤ w.0.0) c.loop-key.best c.loop-key.key-iterator walk (λ w left.
     let there = (walk.inside w left).0 in
     c.is_too_far.ensures c.if-is_too_far.true c.args.now w.1
+    (subst (λ (p : Place). distance_of c.args.head.cylinder p.track.cylinder ≤ distance_of c.args.head.cylinder (track_at map w.1.lbn).cylinder) (sym c.place-cylinder.ensures.value)
     (farther_above map c.args.head.cylinder c.args.start x w c.cylinders_rise.ensures c.requires.start (all_of (λ y. y.0.0 ≡ y.1.lbn) w entries c.requires.sectors there)
     (lies_on_disk map entries c.requires.sectors c.requires.on_disk x own.0) (lies_on_disk map entries c.requires.sectors c.requires.on_disk w there)
-    own.1 (nearest_first x w rest (subst SectorsRise steps walk.rise) (subst (IsIn w) steps left)))))
+    own.1 (nearest_first x w rest (subst SectorsRise steps walk.rise) (subst (IsIn w) steps left))))))
 
 pub loop-key-preserved : goal.loop-key-preserved
 loop-key-preserved c =
