@@ -40,7 +40,7 @@ pub fn replay_by(
 }
 
 // The run in the order of a new queue, without calls.
-fn replay_in<Q: Queue>(
+pub fn replay_in<Q: Queue>(
     alloc: Global,
     params: &Parameters,
     trace: &Trace,
