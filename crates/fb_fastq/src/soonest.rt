@@ -18,7 +18,7 @@ use fb_units::{Ns, Request, Track};
 use std::collections::BTreeMap;
 
 /// The soonest first passage first.
-#[derive(Clone, Copy, Debug, Default, PartialEq, Eq)]
+#[derive(Clone, Copy, Default)]
 pub struct Soonest;
 
 /// Shortest positioning time first, over an index whose buckets are the cylinders' runs.

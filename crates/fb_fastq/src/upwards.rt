@@ -15,7 +15,7 @@ use fb_units::{Ns, Request, Track};
 use std::collections::BTreeMap;
 
 /// The next cylinder upwards first, and from the last one on the first.
-#[derive(Clone, Copy, Debug, Default, PartialEq, Eq)]
+#[derive(Clone, Copy, Default)]
 pub struct Upwards;
 
 /// The circular elevator, over an index.
