@@ -48,3 +48,6 @@ is_before a c d h = grind (arith, nat_tests)
 
 pub before_is : (a c d : ℕ) → c < a → (true && not (is_le (ordering_then (nat_cmp a c) (nat_cmp 0 d)))) ≡ true
 before_is a c d h = grind (arith, nat_tests)
+
+pub later_number : (a b c d : ℕ) → ordering_then (nat_cmp a c) (nat_cmp b d) ≡ Less → c ≤ a → b ≤ d
+later_number a b c d h le = grind (arith, nat_tests)

@@ -4,3 +4,4 @@ pub mod Least
 pub mod Turns
 pub mod Far
 pub mod Walks
+pub mod Rows

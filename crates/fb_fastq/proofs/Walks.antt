@@ -37,7 +37,7 @@ unfolding IsStrictlySortedBy
 sectors_rise [] h = tt
 sectors_rise (w ∷ ws) h = (all_above w ws h.0, sectors_rise ws h.1)
 
-all_filter : (P : Waiting → Type 0) (test : Waiting → Bool) (ws : List Waiting) → AllByRecursion P ws → AllByRecursion P (filter test ws)
+pub all_filter : (P : Waiting → Type 0) (test : Waiting → Bool) (ws : List Waiting) → AllByRecursion P ws → AllByRecursion P (filter test ws)
 all_filter P test [] h = tt
 all_filter P test (w ∷ ws) h = elim (cases_Bool (test w)) [ inl in' ↦ rw in' (h.0, all_filter P test ws h.1) | inr out' ↦ rw out' (all_filter P test ws h.1) ]
 

@@ -87,9 +87,43 @@ pub fn earlier(a: (u64, u64), b: (u64, u64)) -> (u64, u64)
     if b.1 < a.1 { b } else { a }
 }
 
+/// The request that joined first of those that were looked at, and the sector before which all were.
+#[derive(Clone, Copy)]
+pub struct Seen {
+    pub best: (u64, u64),
+    pub next: u64,
+}
+
+// What is seen when the requests from there on are looked at too, as far as an end, or as far as the
+// second one of a sector.
+fn see_more(waiting: &BTreeMap<(u64, u64), Request>, seen: Seen, end: u64) -> Seen
+    requires found { Waits waiting.now seen.best }
+    requires before { seen.next < end }
+    ensures found { Waits waiting.now result.best }
+    ensures inside { (result.best ≡ seen.best) ⊎ ((seen.next ≤ result.best.0) × (result.best.0 < end)) }
+    ensures earlier { result.best.1 ≤ seen.best.1 }
+    ensures more { seen.next < result.next }
+    ensures within { result.next ≤ end }
+    ensures least { (q : ℕ × ℕ) → Waits waiting.now q → seen.next ≤ q.0 → q.0 < result.next → result.best.1 ≤ q.1 }
+{
+    let mut best = seen.best;
+    let mut next = seen.next;
+    for (key, _) in waiting.range((seen.next, 0)..) {
+        if key.0 >= end {
+            return Seen { best, next: end };
+        }
+        if key.0 < next {
+            return Seen { best, next };
+        }
+        best = earlier(best, *key);
+        next = key.0 + 1;
+    }
+    Seen { best, next: end }
+}
+
 /// The key of the request that joined first, of those from the sector of a key on, before an end.
 ///
-/// It looks at the first request of each sector alone.
+/// It looks at the first request of each sector, and at most at one more.
 pub fn first_joined(
     waiting: &BTreeMap<(u64, u64), Request>,
     first: (u64, u64),
@@ -102,16 +136,12 @@ pub fn first_joined(
     ensures inside { (first.0 ≤ result.0) × (result.0 < end) }
     ensures least { (q : ℕ × ℕ) → Waits waiting.now q → first.0 ≤ q.0 → q.0 < end → result.1 ≤ q.1 }
 {
-    let mut best = first;
-    let mut lbn = first.0 + 1;
-    while lbn < end {
-        match next_in(waiting, lbn, end) {
-            Some(key) => {
-                best = earlier(best, key);
-                lbn = key.0 + 1;
-            }
-            None => lbn = end,
-        }
+    let mut seen = Seen {
+        best: first,
+        next: first.0 + 1,
+    };
+    while seen.next < end {
+        seen = see_more(waiting, seen, end);
     }
-    best
+    seen.best
 }
