@@ -1,5 +1,5 @@
 -- A seek over more cylinders takes no less time.
-use Rattle.std.proofs.Common.{◌≡◌, ℕ, zero, suc, ◌+◌, ◌-◌, ◌*◌, ◌/◌, ◌<◌, ◌≤◌, List, [], ◌∷◌, length, true, false, ap, sym, ◌∙◌, subst, refl, arith, inl, inr, add-one}
+use Rattle.std.proofs.Common.{◌≡◌, ℕ, suc, ◌+◌, ◌-◌, ◌*◌, ◌/◌, ◌<◌, ◌≤◌, List, [], ◌∷◌, length, false, arith, inl, inr, add-one}
 use Rattle.std.specs.Prelude.{nat_le, ◌==◌}
 use Rattle.std.specs.List.{slice_index_or}
 use Rattle.std.proofs.Math.Nat.{div-mul-le_self, div-le_of_le-mul, mul-le-mul_right}
@@ -9,7 +9,7 @@ use Rattle.std.proofs.lemmas.Bool.Decides.{nat_tests}
 use Rattle.fb_seek.specs.declared.point.SeekPoint.{SeekPoint}
 use Rattle.fb_seek.specs.Mechanics.{Mechanics}
 use Rattle.fb_seek.specs.Table.{IsTable}
-use Rattle.fb_seek.specs.Positioning.{seek_after, seek_along, seek}
+use Rattle.fb_seek.specs.Positioning.{seek_after, seek_along}
 use Rattle.fb_seek.specs.Rising.{SeeksRise}
 
 -- points whose distances rise and whose times don't fall
@@ -22,8 +22,11 @@ are_slower : (before : SeekPoint) (points : List SeekPoint)
     → ((k : ℕ) (d : SeekPoint) → k < length points → (slice_index_or (before ∷ points) k d).time ≤ (slice_index_or points k d).time)
     → AreSlower before points
 are_slower before [] rising slower = tt
-are_slower before (next ∷ points) rising slower = (rising 0 before (omega arith), slower 0 before (omega arith),
-  are_slower next points (λ k d l. rising (suc k) d (omega arith)) (λ k d l. slower (suc k) d (omega arith)))
+are_slower before (next ∷ points) rising slower = (
+  rising 0 before (omega arith),
+  slower 0 before (omega arith),
+  are_slower next points (λ k d l. rising (suc k) d (omega arith)) (λ k d l. slower (suc k) d (omega arith)),
+)
 
 share_rises : (a b k : ℕ) → 0 < k → a ≤ b → a / k ≤ b / k
 share_rises a b k some le = let part = div-mul-le_self a k in le-div (a / k) b k some (omega (arith, part, le))
