@@ -2,18 +2,15 @@
 use Rattle.std.proofs.Common.{◌≡◌, ◌≢◌, ℕ, ◌+◌, ◌<◌, List, [], ◌∷◌, ◌++◌, map, refl, ap, ◌∙◌, arith, true, false, inl, inr}
 use Rattle.std.specs.Prelude.{nat_lt}
 use Rattle.std.specs.List.{AllByRecursion}
-use Rattle.std.specs.Ordering.{nat_cmp, ordering_then, match_ordering}
+use Rattle.std.specs.Ordering.{match_ordering}
 use Rattle.std.specs.declared.cmp.Ordering.{Ordering}
 use Rattle.std.specs.declared.cmp.Ordering.TheVariants.{Less, Equal, Greater}
 use Rattle.std.specs.BTreeMap.{insert_entry}
 use Rattle.std.proofs.lemmas.Bool.{cases_Bool}
 use Rattle.std.proofs.lemmas.Bool.Decides.{nat_tests}
 use Rattle.fb_units.specs.declared.types.Request.{Request}
-use Rattle.fb_fastq.specs.Joining.{Waiting, number_of, join_in, in_order, pending_of, AreNumbered, IsIndex}
+use Rattle.fb_fastq.specs.Joining.{order, Waiting, number_of, join_in, in_order, pending_of, AreNumbered, IsIndex}
 use Rattle.fb_fastq.proofs.Keys.{same_number}
-
-abbrev pub order : ℕ × ℕ → ℕ × ℕ → Ordering
-order a b = ordering_then (nat_cmp a.0 b.0) (nat_cmp a.1 b.1)
 
 join_before_last : (w x : Waiting) (ws : List Waiting) → number_of w < number_of x → join_in w (ws ++ x ∷ []) ≡ join_in w ws ++ x ∷ []
 join_before_last w x [] h = let t : nat_lt (number_of w) (number_of x) ≡ true = grind (arith, nat_tests) in rw t refl

@@ -7,10 +7,13 @@ use Rattle.std.specs.BTreeMap.{is_at}
 use Rattle.std.proofs.lemmas.Bool.{cases_Bool, true≢false}
 use Rattle.std.proofs.lemmas.Bool.Decides.{nat_tests}
 use Rattle.fb_units.specs.declared.types.Request.{Request}
+use Rattle.fb_geometry.specs.Shape.{Shape}
+use Rattle.fb_geometry.specs.Places.{places}
+use Rattle.fb_model.specs.Accepted.{IsRequestOf}
 use Rattle.fb_model.specs.PlainReplay.{first_least, better}
-use Rattle.fb_fastq.specs.Joining.{Waiting, number_of, join_in, in_order, pending_of, AreNumbered, IsIndex, IsFirst}
+use Rattle.fb_fastq.specs.Joining.{order, Waiting, number_of, join_in, in_order, pending_of, AreNumbered, StandAtSectors, IsIndex, IsNoLater, IsFirst}
 use Rattle.fb_fastq.proofs.Keys.{same_key, here_equal, equal_keys}
-use Rattle.fb_fastq.proofs.Joins.{order, all_join, all_in_order}
+use Rattle.fb_fastq.proofs.Joins.{all_join, all_in_order}
 
 -- a request is among others
 abbrev pub IsIn : Waiting → List Waiting → Type 0
@@ -145,7 +148,7 @@ index_removed joined k ws h = record {
   numbered = numbered_removed k ws h.numbered;
 }
 
-some_injective : {X : Type 0} (x y : X) → Some x ≡ Some y → x ≡ y
+pub some_injective : {X : Type 0} (x y : X) → Some x ≡ Some y → x ≡ y
 some_injective x y e = cc
 
 found_there : (b : Bool) (x r : Request) (o : Option Request) → b ≡ false → cond b (Some x) o ≡ Some r → o ≡ Some r
@@ -202,23 +205,36 @@ tells_none true n h = let none : n ≡ 0 = h.0 refl in grind (arith, nat_tests)
 tells_none false zero h = h.1 refl
 tells_none false (suc n) h = grind (arith, nat_tests)
 
--- what holds of each pending request holds of what a key has, which stands at its sector
-pub at_key : (P : Request → Type 0) (ws : List Waiting) (joined : ℕ) (q : ℕ × ℕ) → IsIndex ws joined → AllByRecursion P (pending_of ws) → IsSome (lookup (is_at (order q)) ws) → (r : Request) × P r × (q.0 ≡ r.lbn)
-at_key P ws joined q index all has = go (lookup (is_at (order q)) ws) refl has
+-- what holds of each pending request holds of each that waits
+pub all_waiting : (P : Request → Type 0) (ws : List Waiting) → AllByRecursion P (pending_of ws) → AllByRecursion (λ w. P w.1) ws
+all_waiting P ws h = all_from (λ w. P w.1) ws (in_order_all P ws h)
+
+-- what a key has is one of those that wait
+pub at_key : (ws : List Waiting) (q : ℕ × ℕ) → IsSome (lookup (is_at (order q)) ws) → (r : Request) × IsIn (q, r) ws
+at_key ws q has = go (lookup (is_at (order q)) ws) refl has
   where
-    go : (o : Option Request) → lookup (is_at (order q)) ws ≡ o → IsSome o → (r : Request) × P r × (q.0 ≡ r.lbn)
+    go : (o : Option Request) → lookup (is_at (order q)) ws ≡ o → IsSome o → (r : Request) × IsIn (q, r) ws
     go None e h = absurd (true≢false (sym h))
-    go (Some r) e h =
-        let there = held_is_in q.0 q.1 r ws e in
-        (r, in_order_all P ws all ((q.0, q.1), r) there, all_of (λ w. w.0.0 ≡ w.1.lbn) ((q.0, q.1), r) ws index.sectors there)
+    go (Some r) e h = (r, held_is_in q.0 q.1 r ws e)
+
+-- where the requests that wait can be served, their sectors are the disk's
+pub lies_on_disk : (disk : Shape) (ws : List Waiting) → StandAtSectors ws → AllByRecursion (λ w. IsRequestOf disk w.1) ws → (w : Waiting) → IsIn w ws → w.0.0 < length (places disk)
+lies_on_disk disk ws stand on_disk w there =
+    let range = (all_of (λ x. IsRequestOf disk x.1) w ws on_disk there).range in
+    let lies = all_of (λ x. x.0.0 ≡ x.1.lbn) w ws stand there in
+    omega (arith, range.some, range.inside, lies)
+
+pub lie_on_disk : (disk : Shape) (ws : List Waiting) → StandAtSectors ws → AllByRecursion (λ w. IsRequestOf disk w.1) ws → (q : ℕ × ℕ) → IsSome (lookup (is_at (order q)) ws) → q.0 < length (places disk)
+lie_on_disk disk ws stand on_disk q has =
+    let at = at_key ws q has in lies_on_disk disk ws stand on_disk (q, at.0) at.1
 
 -- the first by sectors is the first by requests
-pub first_by_sector : (rank : ℕ → ℕ) (key : ℕ × ℕ) (r : Request) (ws : List Waiting) (joined : ℕ) → IsIndex ws joined → lookup (is_at (order key)) ws ≡ Some r
-    → ((q : ℕ × ℕ) → IsSome (lookup (is_at (order q)) ws) → (rank key.0 < rank q.0) ⊎ ((rank key.0 ≡ rank q.0) × (key.1 ≤ q.1)))
+pub first_by_sector : (rank : ℕ → ℕ) (key : ℕ × ℕ) (r : Request) (ws : List Waiting) → StandAtSectors ws → lookup (is_at (order key)) ws ≡ Some r
+    → ((q : ℕ × ℕ) → IsSome (lookup (is_at (order q)) ws) → IsNoLater (rank key.0) key.1 (rank q.0) q.1)
     → IsFirst (λ s. rank s.lbn) (key, r) ws
-first_by_sector rank key r ws joined index e h =
-    let own : key.0 ≡ r.lbn = all_of (λ w. w.0.0 ≡ w.1.lbn) ((key.0, key.1), r) ws index.sectors (held_is_in key.0 key.1 r ws e) in
-    all_from (λ x. (rank r.lbn < rank x.1.lbn) ⊎ ((rank r.lbn ≡ rank x.1.lbn) × (key.1 ≤ number_of x))) ws (λ w there.
-    let at : w.0.0 ≡ w.1.lbn = all_of (λ x. x.0.0 ≡ x.1.lbn) w ws index.sectors there in
-    subst (λ n. (rank r.lbn < rank n) ⊎ ((rank r.lbn ≡ rank n) × (key.1 ≤ number_of w))) at
-    (subst (λ n. (rank n < rank w.0.0) ⊎ ((rank n ≡ rank w.0.0) × (key.1 ≤ number_of w))) own (h w.0 (is_held w ws there))))
+first_by_sector rank key r ws stand e h =
+    let own : key.0 ≡ r.lbn = all_of (λ w. w.0.0 ≡ w.1.lbn) (key, r) ws stand (held_is_in key.0 key.1 r ws e) in
+    all_from (λ x. IsNoLater (rank r.lbn) key.1 (rank x.1.lbn) (number_of x)) ws (λ w there.
+    let at : w.0.0 ≡ w.1.lbn = all_of (λ x. x.0.0 ≡ x.1.lbn) w ws stand there in
+    subst (λ n. IsNoLater (rank r.lbn) key.1 (rank n) (number_of w)) at
+    (subst (λ n. IsNoLater (rank n) key.1 (rank w.0.0) (number_of w)) own (h w.0 (is_held w ws there))))

@@ -1,4 +1,7 @@
 pub mod Keys
 pub mod Joins
 pub mod Least
-pub mod Upwards
+pub mod Turns
+pub mod Far
+pub mod Walks
+pub mod Rows

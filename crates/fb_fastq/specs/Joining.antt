@@ -1,7 +1,18 @@
 -- Pending requests by sector and number of joining.
 use Rattle.std.specs.Prelude.{◌≡◌, ℕ, ◌<◌, ◌≤◌, ◌≢◌, List, [], ◌∷◌, nat_lt, map, if◌then◌else◌, ◌⊎◌}
 use Rattle.std.specs.List.{AllByRecursion}
+use Rattle.std.specs.Ordering.{nat_cmp, ordering_then}
+use Rattle.std.specs.declared.cmp.Ordering.{Ordering}
+use Rattle.std.specs.BTreeMap.{BTreeMap, ContainsKey}
 use Rattle.fb_units.specs.declared.types.Request.{Request}
+
+-- by sector, and of one sector by number of joining
+abbrev pub order : ℕ × ℕ → ℕ × ℕ → Ordering
+order a b = ordering_then (nat_cmp a.0 b.0) (nat_cmp a.1 b.1)
+
+-- a request waits under this key
+abbrev pub Waits : BTreeMap (ℕ × ℕ) Request → ℕ × ℕ → Type 0
+Waits waiting key = ContainsKey order waiting key
 
 -- a request that waits, behind its sector and its number of joining
 abbrev pub Waiting : Type 0
@@ -29,15 +40,23 @@ abbrev pub AreNumbered : List Waiting → Type 0
 AreNumbered [] = Unit {0}
 AreNumbered (w ∷ ws) = AllByRecursion (λ x. number_of x ≢ number_of w) ws × AreNumbered ws
 
+-- each stands at its sector
+abbrev pub StandAtSectors : List Waiting → Type 0
+StandAtSectors ws = AllByRecursion (λ w. w.0.0 ≡ w.1.lbn) ws
+
 -- each stands at its sector, with a number of its own that was given already
 pub record IsIndex (ws : List Waiting) (joined : ℕ) : Type 0 where
-  pub sectors : AllByRecursion (λ w. w.0.0 ≡ w.1.lbn) ws
+  pub sectors : StandAtSectors ws
   pub given : AllByRecursion (λ w. number_of w < joined) ws
   pub numbered : AreNumbered ws
 
+-- a rank and a number of joining that come before others, or are the same
+abbrev pub IsNoLater : ℕ → ℕ → ℕ → ℕ → Type 0
+IsNoLater rank number other_rank other_number = (rank < other_rank) ⊎ ((rank ≡ other_rank) × (number ≤ other_number))
+
 -- no rank is less than that of this request, and none of its rank joined before it
 abbrev pub IsFirst : (Request → ℕ) → Waiting → List Waiting → Type 0
-IsFirst rank w ws = AllByRecursion (λ x. (rank w.1 < rank x.1) ⊎ ((rank w.1 ≡ rank x.1) × (number_of w ≤ number_of x))) ws
+IsFirst rank w ws = AllByRecursion (λ x. IsNoLater (rank w.1) (number_of w) (rank x.1) (number_of x)) ws
 
 -- what a queue keeps: the requests that wait, and how many joined
 pub record Index : Type 0 where

@@ -1,3 +1,4 @@
 pub mod Joining
 pub mod Runs
-pub mod Upwards
+pub mod Turns
+pub mod Candidates

@@ -2,6 +2,7 @@
 ghost use Rattle.std.specs.Prelude.{◌≡◌, ◌+◌, ◌-◌, ◌*◌, ◌/◌, ◌<◌, ◌≤◌, ◌^◌};
 ghost use Rattle.fb_seek.specs.Mechanics.{Mechanics};
 ghost use Rattle.fb_seek.specs.Positioning.{seek, pos};
+ghost use Rattle.fb_seek.specs.Rising.{SeeksRise};
 ghost use Rattle.fb_seek.specs.Faults.{Judges};
 
 use crate::table::{fault_of, next_point};
@@ -67,6 +68,13 @@ impl Mechanism {
             return points[0].time;
         }
         interpolate(points[next - 1], points[next], distance)
+    }
+
+    /// A seek over more cylinders takes no less time.
+    pub fn seeks_rise(&self)
+        ensures { SeeksRise self.now }
+    {
+        let _points = &self.points;
     }
 
     /// The time, in nanoseconds, from one track to another, settled there if it is for a write.

@@ -8,9 +8,10 @@ ghost use Rattle.fb_top.specs.Read.{key_of};
 
 use fb_calls::{Calls, Names};
 use fb_engine::replay;
+use fb_fastq::{ClookMap, FcfsRing, SptfBuckets, SstfMap};
 use fb_params::Parameters;
 use fb_plan::SlowPlanner;
-use fb_queue::{Clook, Fcfs, Queue, Sptf, Sstf};
+use fb_queue::Queue;
 use fb_rows::Run;
 use fb_trace::Trace;
 use fb_units::{NoMemory, Ns};
@@ -31,15 +32,15 @@ pub fn replay_by(
     ensures passed_over { IfOk result (λ run. run.passed_over ≡ trace.now.passed_over) }
 {
     match policy {
-        Policy::Fcfs => replay_in(alloc, params, trace, Fcfs::new(alloc), until),
-        Policy::Sstf => replay_in(alloc, params, trace, Sstf::new(alloc), until),
-        Policy::Clook => replay_in(alloc, params, trace, Clook::new(alloc), until),
-        Policy::Sptf => replay_in(alloc, params, trace, Sptf::new(alloc), until),
+        Policy::Fcfs => replay_in(alloc, params, trace, FcfsRing::new(alloc), until),
+        Policy::Sstf => replay_in(alloc, params, trace, SstfMap::new(alloc), until),
+        Policy::Clook => replay_in(alloc, params, trace, ClookMap::new(alloc), until),
+        Policy::Sptf => replay_in(alloc, params, trace, SptfBuckets::new(alloc), until),
     }
 }
 
 // The run in the order of a new queue, without calls.
-fn replay_in<Q: Queue>(
+pub fn replay_in<Q: Queue>(
     alloc: Global,
     params: &Parameters,
     trace: &Trace,

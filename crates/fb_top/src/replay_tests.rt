@@ -4,8 +4,6 @@ use std::test::Fail;
 
 const WORDS: &str = "freeblock replay --params k --trace t --policy ";
 
-const CROWD: &[u8] = b"0 0 48 1 1\n0.0001 0 24 1 1\n0.0001 0 72 1 1\n0.0001 0 24 1 1\n";
-
 #[test]
 fn reports(rt: HostRuntime) -> Result<(), Fail> {
     let alloc = rt.alloc();
@@ -126,39 +124,6 @@ fn reports(rt: HostRuntime) -> Result<(), Fail> {
         let ending = end(alloc, &mut desk, words.as_str())?;
         assert_eq!(rt; ending.fore.as_slice(), report.as_bytes());
         assert_eq!(rt; ending.status, 0);
-    }
-    Ok(())
-}
-
-#[test]
-fn orders_of_service(rt: HostRuntime) -> Result<(), Fail> {
-    let alloc = rt.alloc();
-    let params = disk(alloc, "", TWELVE)?;
-    let orders = [
-        (
-            "fcfs",
-            "freeblock fore 1\n1 R 48 1 0 0 1200 1300 0 00000000000000000000000000000030\n2 R 24 1 100 1300 2400 2500 0 00000000000000000000000000000018\n3 R 72 1 100 2500 3600 3700 0 00000000000000000000000000000048\n4 R 24 1 100 3700 4800 4900 0 00000000000000000000000000000018\nend 4 0\n",
-        ),
-        (
-            "sstf",
-            "freeblock fore 1\n1 R 48 1 0 0 1200 1300 0 00000000000000000000000000000030\n2 R 24 1 100 1300 2400 2500 0 00000000000000000000000000000018\n4 R 24 1 100 2500 3600 3700 0 00000000000000000000000000000018\n3 R 72 1 100 3700 4800 4900 0 00000000000000000000000000000048\nend 4 0\n",
-        ),
-        (
-            "clook",
-            "freeblock fore 1\n1 R 48 1 0 0 1200 1300 0 00000000000000000000000000000030\n3 R 72 1 100 1300 2400 2500 0 00000000000000000000000000000048\n2 R 24 1 100 2500 3600 3700 0 00000000000000000000000000000018\n4 R 24 1 100 3700 4800 4900 0 00000000000000000000000000000018\nend 4 0\n",
-        ),
-        (
-            "sptf",
-            "freeblock fore 1\n1 R 48 1 0 0 1200 1300 0 00000000000000000000000000000030\n2 R 24 1 100 1300 2400 2500 0 00000000000000000000000000000018\n3 R 72 1 100 2500 3600 3700 0 00000000000000000000000000000048\n4 R 24 1 100 3700 4800 4900 0 00000000000000000000000000000018\nend 4 0\n",
-        ),
-    ];
-    for (policy, report) in orders {
-        let mut words = String::from_str(alloc, WORDS)?;
-        words.push_str(policy)?;
-        words.push_str(" --bytes hex")?;
-        let mut desk = desk(alloc, 4096, params.as_bytes(), CROWD)?;
-        let ending = end(alloc, &mut desk, words.as_str())?;
-        assert_eq!(rt; ending.fore.as_slice(), report.as_bytes(), "{policy}");
     }
     Ok(())
 }

@@ -2,7 +2,7 @@ use Rattle.std.proofs.Common.{sym, subst, inl, inr, IsSome, IfSome, true≢false
 use Rattle.std.specs.Prelude.{slice_get}
 use Rattle.std.specs.BTreeMap.Range.{IsLeBy}
 use Rattle.std.proofs.lemmas.Bool.{cases_lt}
-use Rattle.fb_fastq.proofs.Joins.{order}
+use Rattle.fb_fastq.specs.Joining.{order}
 use Rattle.fb_fastq.proofs.Keys.{at_sector, sectors_rise}
 use Rattle.fb_fastq.proofs.index.next_from.Goals as goal
 

@@ -1,0 +1,31 @@
+-- The wait for a first passage is no shorter than the way of the arm.
+use Rattle.std.proofs.Common.{◌≡◌, ℕ, ◌≤◌, Bool, inl, inr, arith}
+use Rattle.std.specs.Prelude.{◌==◌, if◌then◌else◌}
+use Rattle.std.proofs.Math.Nat.{le-max_left}
+use Rattle.std.proofs.lemmas.Bool.{cases_Bool}
+use Rattle.std.proofs.lemmas.Bool.Decides.{nat_tests}
+use Rattle.fb_units.specs.declared.types.Track.{Track}
+use Rattle.fb_units.specs.declared.types.Request.{Request}
+use Rattle.fb_units.specs.Tracks.{same_track}
+use Rattle.fb_sectormap.specs.Lookup.{track_at}
+use Rattle.fb_seek.specs.Mechanics.{Mechanics}
+use Rattle.fb_seek.specs.Positioning.{seek, pos, distance_of}
+use Rattle.fb_service.specs.declared.disk.Disk.{Disk}
+use Rattle.fb_service.specs.Passing.{begin_from}
+use Rattle.fb_model.specs.PlainReplay.{sptf}
+
+-- the arm moves as long as its seek at least
+moves : (arm : Mechanics) (a b : Track) (write : Bool) → seek arm (distance_of a.cylinder b.cylinder) ≤ pos arm a b write
+unfolding pos
+moves arm a b write = elim (cases_Bool (same_track a b)) [
+  | inl same ↦ let still : distance_of a.cylinder b.cylinder ≡ 0 = grind (arith, nat_tests) in rw (same, still) (omega arith)
+  | inr apart ↦ rw apart (
+      let most = le-max_left (seek arm (distance_of a.cylinder b.cylinder)) (if a.head == b.head then 0 else arm.head_switch) in
+      omega (arith, most))
+]
+
+pub waits_for_arm : (disk : Disk) (head : Track) (now : ℕ) (r : Request) → seek disk.mechanism (distance_of head.cylinder (track_at disk.map r.lbn).cylinder) ≤ sptf disk head now r
+unfolding begin_from
+waits_for_arm disk head now r =
+    let way = moves disk.mechanism head (track_at disk.map r.lbn) r.write in
+    omega (arith, way)

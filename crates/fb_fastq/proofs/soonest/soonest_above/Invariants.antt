@@ -1,0 +1,10 @@
+use Rattle.std.proofs.Common.{◌≤◌}
+use Rattle.fb_fastq.proofs.Walks.{IsWalk}
+use Rattle.fb_fastq.proofs.soonest.soonest_above.Given as goal
+
+-- the best of those that are seen
+abbrev pub invariant-loop-key : goal.invariant-loop-key
+invariant-loop-key l =
+    (goal.iterator-loop-key).can_next l.key-iterator ×
+    (goal.iterator-loop-key).is_finite l.key-iterator ×
+    IsWalk l.disk l.head l.now l.waiting l.fn.first (λ w. l.start ≤ w.0.0) l.best l.key-iterator

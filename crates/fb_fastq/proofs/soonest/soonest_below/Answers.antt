@@ -1,0 +1,68 @@
+use Rattle.std.specs.Iterator.Adapters.{rev_source}
+use Rattle.std.proofs.Common.{◌≡◌, ◌∙◌, ◌<◌, ◌≤◌, ap, sym, subst}
+use Rattle.fb_units.specs.declared.types.Place.{Place}
+use Rattle.fb_sectormap.specs.Lookup.{track_at}
+use Rattle.fb_seek.specs.Positioning.{distance_of}
+use Rattle.fb_model.specs.Accepted.{IsRequestOf}
+use Rattle.fb_fastq.specs.Joining.{Waiting}
+use Rattle.fb_fastq.proofs.Keys.{is_before, before_is}
+use Rattle.fb_fastq.proofs.Least.{IsIn, all_of, all_from, lies_on_disk}
+use Rattle.fb_fastq.proofs.Walks.{SectorsRise, sectors_rise, in_front, in_last, last_or_front, rise_front, nearest_last, farther_below, walk_begins, walk_goes_on, walk_stops, walk_ends}
+use Rattle.fb_fastq.proofs.soonest.soonest_below.Goals as goal
+
+pub loop-key-init : goal.loop-key-init
+loop-key-init c = (
+  tt,
+  tt,
+  walk_begins c.args.disk.now c.args.head c.args.now c.args.waiting.now c.args.first (λ w. w.0.0 < c.args.start) _ (rev_source c.into_iter-key-iterator.result)
+      c.requires.first (sectors_rise c.args.waiting.now.entries c.range.ensures.ordered) (ap rev_source c.into_iter-key-iterator.ensures.into_iter_gives ∙ (c.rev-key-items.ensures.source ∙ c.range.ensures.between tt))
+      (λ w t. is_before c.args.start w.0.0 w.0.1 t) (λ w h. before_is c.args.start w.0.0 w.0.1 h),
+)
+
+pub place-cylinder-requires : goal.place-cylinder-requires
+place-cylinder-requires c =
+    let x : Waiting = (c.in-Some.key.now, c.in-Some.request.now) in
+    let there : IsIn x (rev_source c.loop-key.key-iterator) = subst (IsIn x) (sym c.in-Some.ensures.steps) (in_last x (rev_source c.next.new.self)) in
+    lies_on_disk c.args.disk.now.map c.args.waiting.now.entries c.requires.sectors c.requires.on_disk x (c.loop-key.invariant.2.inside x there).0
+
+pub candidate_of-requires-clause-request : goal.candidate_of-requires-clause-request
+candidate_of-requires-clause-request c =
+    let x : Waiting = (c.in-Some.key.now, c.in-Some.request.now) in
+    let there : IsIn x (rev_source c.loop-key.key-iterator) = subst (IsIn x) (sym c.in-Some.ensures.steps) (in_last x (rev_source c.next.new.self)) in
+    all_of (λ w. IsRequestOf c.args.disk.now.map w.1) x c.args.waiting.now.entries c.requires.on_disk (c.loop-key.invariant.2.inside x there).0
+
+pub returns-then-is_too_far-clause-least : goal.returns-then-is_too_far-clause-least
+returns-then-is_too_far-clause-least c =
+    let entries = c.args.waiting.now.entries in
+    let map = c.args.disk.now.map in
+    let x : Waiting = (c.in-Some.key.now, c.in-Some.request.now) in
+    let rest = (rev_source c.next.new.self) in
+    let steps = c.in-Some.ensures.steps in
+    let walk = c.loop-key.invariant.2 in
+    let own = walk.inside x (subst (IsIn x) (sym c.in-Some.ensures.steps) (in_last x (rev_source c.next.new.self))) in
+    all_from _ entries (walk_stops c.args.disk.now c.args.head c.args.now c.args.waiting.now c.args.first (λ w. w.0.0 < c.args.start) c.loop-key.best (rev_source c.loop-key.key-iterator) walk (λ w left.
+    let there = (walk.inside w left).0 in
+    c.is_too_far.ensures c.if-is_too_far.true c.args.now w.1
+    (subst (λ (p : Place). distance_of c.args.head.cylinder p.track.cylinder ≤ distance_of c.args.head.cylinder (track_at map w.1.lbn).cylinder) (sym c.place-cylinder.ensures.value)
+    (farther_below map c.args.head.cylinder c.args.start x w c.cylinders_rise.ensures c.requires.start (all_of (λ y. y.0.0 ≡ y.1.lbn) w entries c.requires.sectors there)
+    (lies_on_disk map entries c.requires.sectors c.requires.on_disk x own.0) (lies_on_disk map entries c.requires.sectors c.requires.on_disk w there)
+    own.1 (nearest_last x w rest (subst SectorsRise steps walk.rise) (subst (IsIn w) steps left))))))
+
+pub loop-key-preserved : goal.loop-key-preserved
+loop-key-preserved c =
+    let x : Waiting = (c.in-Some.key.now, c.in-Some.request.now) in
+    let rest = (rev_source c.next.new.self) in
+    let steps = c.in-Some.ensures.steps in
+    let walk = c.loop-key.invariant.2 in (
+      tt,
+      tt,
+      walk_goes_on c.args.disk.now c.args.head c.args.now c.args.waiting.now c.args.first (λ w. w.0.0 < c.args.start) c.loop-key.best c.candidate_of.result c.sooner-best.result x (rev_source c.loop-key.key-iterator) rest walk
+          c.range.ensures.ordered
+          (rise_front x rest (subst SectorsRise steps walk.rise)).0 (λ w e. subst (IsIn w) (sym steps) (in_front w x rest e)) (λ w e. last_or_front w x rest (subst (IsIn w) steps e))
+          (subst (IsIn x) (sym c.in-Some.ensures.steps) (in_last x (rev_source c.next.new.self)))
+          c.candidate_of.ensures.key c.candidate_of.ensures.wait c.sooner-best.ensures.one c.sooner-best.ensures.first c.sooner-best.ensures.second,
+    )
+
+pub returns-clause-least : goal.returns-clause-least
+returns-clause-least c =
+    all_from _ c.args.waiting.now.entries (walk_ends c.args.disk.now c.args.head c.args.now c.args.waiting.now c.args.first (λ w. w.0.0 < c.args.start) c.loop-key.best (rev_source c.loop-key.key-iterator) c.loop-key.invariant.2 c.in-None.ensures.steps.0)

@@ -1,0 +1,11 @@
+use Rattle.std.proofs.Common.{◌<◌}
+use Rattle.std.specs.Iterator.Adapters.{rev_source}
+use Rattle.fb_fastq.proofs.Walks.{IsWalk}
+use Rattle.fb_fastq.proofs.soonest.soonest_below.Given as goal
+
+-- the best of those that are seen
+abbrev pub invariant-loop-key : goal.invariant-loop-key
+invariant-loop-key l =
+    (goal.iterator-loop-key).can_next l.key-iterator ×
+    (goal.iterator-loop-key).is_finite l.key-iterator ×
+    IsWalk l.disk l.head l.now l.waiting l.fn.first (λ w. w.0.0 < l.start) l.best (rev_source l.key-iterator)

@@ -1,0 +1,68 @@
+// A queue over pending requests by sector.
+ghost use Rattle.std.specs.Prelude.{◌≡◌, []};
+ghost use Rattle.fb_fastq.specs.Joining.{pending_of};
+
+use crate::Choice;
+use crate::index::{add, take_out};
+use fb_queue::Queue;
+use fb_service::Disk;
+use fb_units::{NoMemory, Ns, Request, Track};
+use std::alloc::Global;
+use std::collections::BTreeMap;
+use std::marker::Model;
+
+/// Requests that wait, by sector and number of joining, of which a choice takes the first of least
+/// key.
+#[derive(Drop)]
+pub struct Indexed<C: Choice> {
+    choice: C,
+    waiting: BTreeMap<(u64, u64), Request>,
+    joined: u64,
+}
+
+impl<C: Choice> Model for Indexed<C> {
+    ghost use Rattle.fb_fastq.specs.Joining.{Index, IsIndex};
+
+    ghost Value = { Index };
+
+    ghost view = { λ q. record { waiting = q.waiting.entries; joined = q.joined } };
+
+    ghost invariant = { λ q. IsIndex q.waiting.entries q.joined };
+}
+
+impl<C: Choice + Default> Indexed<C> {
+    /// An empty queue.
+    pub fn new(alloc: Global) -> Indexed<C>
+        ensures pending { pending_of result.waiting ≡ [] }
+        ensures joined { result.joined ≡ 0 }
+    {
+        Indexed {
+            choice: C::default(),
+            waiting: BTreeMap::new(alloc),
+            joined: 0,
+        }
+    }
+}
+
+impl<C: Choice> Queue for Indexed<C> {
+    ghost pending = { λ q. pending_of q.waiting };
+
+    ghost joined = { λ q. q.joined };
+
+    ghost key = { C.key };
+
+    fn add(&mut self, request: Request) -> Result<(), NoMemory> {
+        add(&mut self.waiting, self.joined, request)?;
+        self.joined += 1;
+        Ok(())
+    }
+
+    fn take(&mut self, disk: &Disk, head: Track, now: Ns) -> Request {
+        let key = self.choice.choose(&self.waiting, disk, head, now);
+        take_out(&mut self.waiting, key)
+    }
+
+    fn is_empty(&self) -> bool {
+        self.waiting.is_empty()
+    }
+}
