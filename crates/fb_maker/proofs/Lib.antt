@@ -1,2 +1,5 @@
 pub mod Drawing
 pub mod Zones
+pub mod Splitting
+pub mod Spelling
+pub mod TraceRead

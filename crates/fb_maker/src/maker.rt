@@ -1,7 +1,8 @@
 // A trace that is made from a number.
-ghost use Rattle.std.specs.Prelude.{◌≡◌, ℕ, ◌+◌, ◌*◌, ◌<◌, ◌≤◌, ◌^◌, IfOk, OnOk, OnErr};
+ghost use Rattle.std.specs.Prelude.{◌≡◌, ℕ, ◌+◌, ◌*◌, ◌<◌, ◌≤◌, ◌^◌, IfOk, OnOk, OnErr, Ok};
 ghost use Rattle.fb_maker.specs.Words.{state_after};
-ghost use Rattle.fb_maker.specs.Trace.{arrival_before, request_at, line_of};
+ghost use Rattle.fb_maker.specs.Trace.{arrival_before, request_at, made_requests, made_trace};
+ghost use Rattle.fb_trace.specs.Reading.{trace_of};
 ghost use Rattle.fb_maker.specs.Making.{begun, line_made};
 
 use crate::line::line_of;
@@ -73,6 +74,12 @@ impl Maker {
         Ok(line)
     }
 }
+
+/// What is made is read: a trace of n lines is accepted for its device, as its n requests.
+pub fn made_traces_are_read()
+    ensures { (number device sectors n : ℕ) → device ≤ 10 ^ 15 → 1 ≤ sectors → sectors ≤ 10 ^ 12 → n ≤ 10 ^ 6
+        → trace_of device sectors (made_trace number device sectors n) ≡ Ok (record { requests = made_requests number sectors n; passed_over = 0 }) }
+{}
 
 // The request behind so many others, of the next four words.
 fn draw(words: &mut SplitMix64, sectors: u64, behind: u64, before: Ns) -> Request

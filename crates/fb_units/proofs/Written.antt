@@ -19,7 +19,7 @@ digits_end n [] d = refl
 digits_end n (c ∷ ds) d = digits_end (10 * n + (c - 48)) ds d
 
 -- decimal digits are digits, and write the number
-all_digits : (n : ℕ) → n < 2 ^ 64 → list_all is_ascii_digit (decimal n) ≡ true
+pub all_digits : (n : ℕ) → n < 2 ^ 64 → list_all is_ascii_digit (decimal n) ≡ true
 all_digits = decimal_by_steps (λ m ds. list_all is_ascii_digit ds ≡ true) (λ m h. rw (digit m h) refl)
     (λ m ds l h. list_all-append is_ascii_digit ds ((48 + m % 10) ∷ []) ∙ rw (h, digit (m % 10) (omega arith)) refl)
 
@@ -53,14 +53,14 @@ some_digits : (ds : List ℕ) → 0 < length ds → list_all is_ascii_digit ds �
 some_digits [] some h = absurd (omega arith)
 some_digits (c ∷ ds) some h = h
 
-last_are_digits : (n : ℕ) → list_all is_ascii_digit (last_six n) ≡ true
+pub last_are_digits : (n : ℕ) → list_all is_ascii_digit (last_six n) ≡ true
 last_are_digits n = rw (digit (n / 100000 % 10) (omega arith), digit (n / 10000 % 10) (omega arith), digit (n / 1000 % 10) (omega arith), digit (n / 100 % 10) (omega arith), digit (n / 10 % 10) (omega arith), digit (n / 1 % 10) (omega arith)) refl
 
 -- the last six digits write what is left of a million
 last_value : (n : ℕ) → digits_after 0 (six_of (last_six n)) ≡ n % 1000000
 last_value n = omega arith
 
-whole_number : (n : ℕ) → n ≤ limit → number_of (decimal n) ≡ Some n
+pub whole_number : (n : ℕ) → n ≤ limit → number_of (decimal n) ≡ Some n
 whole_number n h = rw (some_digits (decimal n) (decimal_nonempty n (omega arith)) (all_digits n (omega arith)), value_of n (omega arith)) (sym (within_limit n h))
 
 whole_and_rest : (n : ℕ) → n ≤ limit → within (10 ^ 6 * (n / 1000000) + n % 1000000) ≡ Some n
