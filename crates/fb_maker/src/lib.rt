@@ -11,5 +11,5 @@ mod script;
 #[cfg(test)]
 mod tests;
 
-pub use maker::Maker;
+pub use maker::{Maker, made_traces_are_read};
 pub use script::made_calls;

@@ -1,11 +1,11 @@
 // Traces from one number, whose words were reckoned apart, and scripts of three disks.
-ghost use Rattle.std.specs.Prelude.{◌≡◌, ◌≤◌, ◌==◌, not, false};
+ghost use Rattle.std.specs.Prelude.{◌≡◌, ◌≤◌, ◌^◌, ◌==◌, not, false};
 ghost use Rattle.std.specs.List.{list_any};
 
 use crate::{Maker, made_calls};
 use fb_geometry::{Geometry, Layout, Zone};
 use fb_sectormap::SectorMap;
-use fb_units::Ns;
+use fb_units::{NoMemory, Ns};
 use std::alloc::Global;
 use std::test::Fail;
 
@@ -38,44 +38,34 @@ fn disk(alloc: Global, rotation: Ns, heads: u32, zones: Vec<Zone>) -> Result<Sec
     Ok(SectorMap::new(alloc, geometry)?)
 }
 
+// The first three lines for a disk of so many sectors.
+fn first_lines(alloc: Global, device: u64, sectors: u64) -> Result<Vec<u8>, NoMemory>
+    requires device { device ≤ 10 ^ 15 }
+    requires some { 1 ≤ sectors }
+    requires few { sectors ≤ 10 ^ 12 }
+{
+    let mut maker = Maker::new(7, device, sectors);
+    let mut text = maker.next_line(alloc)?;
+    text.extend_from_slice(maker.next_line(alloc)?.as_slice())?;
+    text.extend_from_slice(maker.next_line(alloc)?.as_slice())?;
+    Ok(text)
+}
+
 #[test]
 fn lines_of_a_number(rt: HostRuntime) -> Result<(), Fail> {
     let alloc = rt.alloc();
-    let traces: [(u64, u64, [&[u8]; 3]); 3] = [
-        (
-            0,
-            96,
-            [
-                b"10.957685 0 0 96 0\n",
-                b"21.085527 0 61 16 0\n",
-                b"22.474220 0 6 80 1\n",
-            ],
-        ),
-        (
-            3,
-            16_739_688,
-            [
-                b"10.957685 3 4790676 104 0\n",
-                b"21.085527 3 6895462 16 0\n",
-                b"22.474220 3 3482184 80 1\n",
-            ],
-        ),
-        (
-            0,
-            5,
-            [
-                b"10.957685 0 0 5 0\n",
-                b"21.085527 0 0 5 0\n",
-                b"22.474220 0 0 5 1\n",
-            ],
-        ),
-    ];
-    for (device, sectors, lines) in traces {
-        let mut maker = Maker::new(7, device, sectors);
-        for line in lines {
-            assert_eq!(rt; maker.next_line(alloc)?.as_slice(), line);
-        }
-    }
+    assert_eq!(rt;
+        first_lines(alloc, 0, 96)?.as_slice(),
+        b"10.957685 0 0 96 0\n21.085527 0 61 16 0\n22.474220 0 6 80 1\n".as_slice()
+    );
+    assert_eq!(rt;
+        first_lines(alloc, 3, 16_739_688)?.as_slice(),
+        b"10.957685 3 4790676 104 0\n21.085527 3 6895462 16 0\n22.474220 3 3482184 80 1\n".as_slice()
+    );
+    assert_eq!(rt;
+        first_lines(alloc, 0, 5)?.as_slice(),
+        b"10.957685 0 0 5 0\n21.085527 0 0 5 0\n22.474220 0 0 5 1\n".as_slice()
+    );
     Ok(())
 }
 

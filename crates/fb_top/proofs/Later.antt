@@ -60,6 +60,7 @@ unbuilt_read words old mid new fault built accepts same unbuilt is first second 
 pub after_disk : (words : ReplayTerms) (disk : Disk) (latent : List ℕ) (old mid new : DeskView) (outcome : Outcome) → ReadsDisk old words.params disk latent
     → ChangesInput Params old mid → ChangesInput Trace mid new → StopsTrace words.trace words.device disk mid new outcome → HasCause words old new outcome
 after_disk words disk latent old mid new (outcomes.Done run) reads first second h = absurd h
+after_disk words disk latent old mid new (outcomes.Made n) reads first second h = absurd h
 after_disk words disk latent old mid new (outcomes.Usage fault) reads first second h = absurd h
 after_disk words disk latent old mid new (outcomes.Params fault) reads first second h = absurd h
 after_disk words disk latent old mid new (outcomes.Trace fault) reads first second h = (
@@ -95,6 +96,7 @@ others_read old mid late new first second third = λ output not_fore not_note. t
 pub after_run : (words : ReplayTerms) (run : Run) (old mid new : DeskView) (outcome : Outcome) (is_run : IsRunOf old words run) → KeepsOthers old new → mid.outputs Fore ≡ old.outputs Fore
     → StopsFore (fore_text is_run.accepts.disk.sector_bytes words.bytes run) mid new outcome → HasCause words old new outcome
 after_run words run old mid new (outcomes.Done other) is_run others same h = absurd h
+after_run words run old mid new (outcomes.Made n) is_run others same h = absurd h
 after_run words run old mid new (outcomes.Usage fault) is_run others same h = absurd h
 after_run words run old mid new (outcomes.Params fault) is_run others same h = absurd h
 after_run words run old mid new (outcomes.Trace fault) is_run others same h = absurd h

@@ -4,12 +4,14 @@ ghost use Rattle.std.specs.String.{string_bytes};
 ghost use Rattle.fb_desk.specs.View.{IsUnused};
 ghost use Rattle.fb_words.specs.Command.{command_of};
 ghost use Rattle.fb_words.specs.Verdict.{replay_terms};
-ghost use Rattle.fb_top.specs.Causes.{AnswersWords, HasCause};
+ghost use Rattle.fb_top.specs.Answers.{AnswersWords};
+ghost use Rattle.fb_top.specs.Causes.{HasCause};
 ghost use Rattle.fb_top.specs.Built.{is_built, not_yet};
 ghost use Rattle.fb_top.specs.Complete.{IsComplete};
 ghost use Rattle.fb_top.specs.Noted.{LeavesNote};
 
 use crate::Outcome;
+use crate::make::run_make;
 use crate::policy::replay_by;
 use crate::reading::{read_disk, read_requests};
 use crate::writing::{write_fore, write_note};
@@ -22,7 +24,8 @@ use std::alloc::Global;
 ///
 /// A replay reads the parameter file whole, then the trace, each once, and nothing is written
 /// before both are accepted. Then the foreground report goes to the output `Fore`, under the name
-/// `-`. Where there is no report, a line that says why goes to the output `Note`, under the name
+/// `-`. A make reads the parameter file, and then writes a trace and a call script that are accepted
+/// with it. Where a command fails, a line that says why goes to the output `Note`, under the name
 /// `-`; whether it is written changes nothing in the outcome. The desk must be unused.
 pub fn run_command<D: Desk>(alloc: Global, desk: &mut D, words: &[String]) -> Outcome
     requires { IsUnused (D.seen desk.old) }
@@ -43,7 +46,7 @@ fn answer_words<D: Desk>(alloc: Global, desk: &mut D, words: &[String]) -> Outco
 {
     match read_words(alloc, words) {
         Ok(Command::Replay(words)) => run_replay(alloc, desk, &words),
-        Ok(Command::Make(_)) => Outcome::Usage(not_yet()),
+        Ok(Command::Make(words)) => run_make(alloc, desk, &words),
         Err(WordsError::Fault(fault)) => Outcome::Usage(fault),
         Err(WordsError::NoMemory) => Outcome::NoMemory,
     }

@@ -7,6 +7,9 @@
 mod command;
 #[cfg(test)]
 mod fault_tests;
+mod make;
+#[cfg(test)]
+mod make_tests;
 mod note;
 mod note_faults;
 mod note_words;
