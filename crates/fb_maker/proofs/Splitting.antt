@@ -48,7 +48,7 @@ field_last word is =
 printed_is : (byte : ℕ) → plain byte ≡ true → printed byte ≡ true
 printed_is byte is = grind (arith, nat_tests)
 
-and_parts : (a b : Bool) → (a && b) ≡ true → (a ≡ true) × (b ≡ true)
+pub and_parts : (a b : Bool) → (a && b) ≡ true → (a ≡ true) × (b ≡ true)
 and_parts true true is = (refl, refl)
 and_parts true false is = cc
 and_parts false b is = cc

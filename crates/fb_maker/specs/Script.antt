@@ -4,6 +4,10 @@ use Rattle.std.specs.List.{flat_map, list_all}
 use Rattle.fb_geometry.specs.declared.layout.Layout.{Layout}
 use Rattle.fb_geometry.specs.declared.layout.Layout.TheVariants.{PerTrack, PerCylinder}
 use Rattle.fb_geometry.specs.declared.zone.Zone.{Zone}
+use Rattle.fb_calls.specs.declared.call.Action.{Action}
+use Rattle.fb_calls.specs.declared.call.Action.TheVariants.{Open, Want}
+use Rattle.fb_calls.specs.declared.call.Call.{Call}
+use Rattle.fb_calls.specs.declared.call.Kind.TheVariants.{Scrub, Backup}
 use Rattle.fb_geometry.specs.Shape.{Shape}
 use Rattle.fb_geometry.specs.Places.{places, zone_places}
 
@@ -40,3 +44,16 @@ script_lines disk =
 
 abbrev pub script_text : Shape → List ℕ
 script_text disk = flat_map (λ line. line) (script_lines disk)
+
+-- a call at the instant 0
+abbrev pub call_at : ℕ → ℕ → Action → Call
+call_at line task action = record { line = line; instant = 0; task = task; action = action }
+
+-- the calls that the lines spell
+abbrev pub script_calls : Shape → List Call
+script_calls disk =
+    call_at 1 0 (Open Scrub 1 16)
+    ∷ call_at 2 0 (Want 0 (min (length (places disk)) (most disk)))
+    ∷ call_at 3 1 (Open Backup 2 16)
+    ∷ call_at 4 1 (Want 0 (min (first_zone disk disk.zones) (most disk)))
+    ∷ []

@@ -12,4 +12,4 @@ mod script;
 mod tests;
 
 pub use maker::{Maker, made_traces_are_read};
-pub use script::made_calls;
+pub use script::{made_calls, made_scripts_are_read};

@@ -1,7 +1,8 @@
 // A call script that is made for a disk.
-ghost use Rattle.std.specs.Prelude.{◌≡◌, ◌++◌, ◌∷◌, [], OnOk, IfOk, decimal};
+ghost use Rattle.std.specs.Prelude.{◌≡◌, ℕ, ◌++◌, ◌∷◌, [], Ok, OnOk, IfOk, codes, decimal};
 ghost use Rattle.std.specs.List.{list_all};
-ghost use Rattle.fb_maker.specs.Script.{script_text, most, first_zone, has_long_tracks, is_long};
+ghost use Rattle.fb_maker.specs.Script.{script_text, most, first_zone, has_long_tracks, is_long, script_calls};
+ghost use Rattle.fb_calls.specs.Reading.{calls_of};
 
 use fb_geometry::{Geometry, Layout, Zone};
 use fb_sectormap::SectorMap;
@@ -32,6 +33,14 @@ pub fn made_calls(alloc: Global, map: &SectorMap) -> Result<Vec<u8>, NoMemory>
         first_zone(map.geometry()).min(most),
     )?;
     Ok(text)
+}
+
+/// What is made is read: a script is accepted for its disk, behind any trace, as its four calls.
+pub fn made_scripts_are_read(map: &SectorMap)
+    ensures { (traced : ℕ) → calls_of map.now traced (script_text map.now) ≡ Ok (record { names = codes "scrub" ∷ codes "backup" ∷ []; calls = script_calls map.now }) }
+{
+    map.geometry().sound();
+    let _sectors = map.count();
 }
 
 // Adds a line that ends in a number.

@@ -1,6 +1,6 @@
 -- What a make wrote, told of the desk at the start.
 use Rattle.std.proofs.Common.{◌≡◌, ◌≢◌, ℕ, ◌+◌, ◌-◌, ◌<◌, ◌≤◌, List, [], ◌∷◌, ◌++◌, length, take, drop, subst, refl, sym, ap, ◌∙◌, suc, inl, inr, arith, Option, Some, None}
-use Rattle.std.specs.Prelude.{IfSome, slice_get, Ok}
+use Rattle.std.specs.Prelude.{IfSome, slice_get, Ok, codes}
 use Rattle.std.specs.List.{flat_map, range_with_len}
 use Rattle.std.proofs.lemmas.List.{take-append-drop, length-append, length-map}
 use Rattle.std.proofs.lemmas.List.FromFn.{get_or-range_with_len, length-range_with_len, length-map-range_with_len}
@@ -12,7 +12,8 @@ use Rattle.fb_geometry.specs.Sound.{IsSound}
 use Rattle.fb_geometry.specs.declared.zone.Zone.{Zone}
 use Rattle.fb_trace.specs.Reading.{trace_of}
 use Rattle.fb_maker.specs.Trace.{request_at, line_of, made_lines, made_requests}
-use Rattle.fb_maker.specs.Script.{script_text}
+use Rattle.fb_maker.specs.Script.{script_text, script_calls}
+use Rattle.fb_calls.specs.Reading.{calls_of}
 use Rattle.fb_desk.specs.Calls.{Rose, ChangesInput, ChangesOutput}
 use Rattle.fb_desk.specs.View.{DeskView, InputView, OutputView}
 use Rattle.fb_desk.specs.declared.desk.Input.TheVariants.{Params, Trace, Calls}
@@ -75,6 +76,7 @@ make_cause_still terms old mid new (outcomes.Made n) only h = record {
   trace = whole_still MadeTrace terms.trace (trace_text terms h.makes.disk) mid new (only.outputs MadeTrace trace_is_other) h.trace;
   calls = whole_still MadeCalls terms.calls (script_text h.makes.disk.map) mid new (only.outputs MadeCalls calls_are_other) h.calls;
   trace_read = h.trace_read;
+  calls_read = h.calls_read;
 }
 make_cause_still terms old mid new (outcomes.Usage fault) only h = absurd h
 make_cause_still terms old mid new (outcomes.Params fault) only h = (h.0, keeps_still old mid new h.1 only)
@@ -153,14 +155,16 @@ stopped_calls terms old mid late new outcomes.NoMemory makes first second third 
 pub wrote_both : (terms : MakeTerms) (old mid late new : DeskView) (makes : MakesFor old terms) (n : ℕ) → n ≡ terms.requests → ChangesInput Params old mid → ChangesOutput MadeTrace mid late → ChangesOutput MadeCalls late new
     → HoldsWhole (late.outputs MadeTrace) terms.trace (trace_text terms makes.disk) → HoldsWhole (new.outputs MadeCalls) terms.calls (script_text makes.disk.map)
     → (trace_of terms.device (sectors_of makes.disk) (trace_text terms makes.disk) ≡ Ok (record { requests = made_requests terms.number (sectors_of makes.disk) terms.requests; passed_over = 0 }))
+    → (calls_of makes.disk.map terms.requests (script_text makes.disk.map) ≡ Ok (record { names = codes "scrub" ∷ codes "backup" ∷ []; calls = script_calls makes.disk.map }))
     → WritesBoth old new terms n
-wrote_both terms old mid late new makes n count first second third trace calls read = record {
+wrote_both terms old mid late new makes n count first second third trace calls read script = record {
   count = count;
   others = unmade old mid late new first second third;
   makes = makes;
   trace = whole_still MadeTrace terms.trace (trace_text terms makes.disk) late new (third.outputs MadeTrace trace_is_no_calls) trace;
   calls = calls;
   trace_read = read;
+  calls_read = script;
 }
 
 -- a name that stays

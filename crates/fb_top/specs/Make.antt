@@ -1,10 +1,11 @@
 -- What a make writes, and why it has its answer.
-use Rattle.std.specs.Prelude.{◌≡◌, ◌≢◌, ◌⊎◌, ℕ, List, length, true, IfSome, is_some, Ok}
+use Rattle.std.specs.Prelude.{◌≡◌, ◌≢◌, ◌⊎◌, ℕ, List, [], ◌∷◌, length, true, IfSome, is_some, Ok, codes}
 use Rattle.fb_geometry.specs.Places.{places}
 use Rattle.fb_service.specs.declared.disk.Disk.{Disk}
 use Rattle.fb_trace.specs.Reading.{trace_of}
 use Rattle.fb_maker.specs.Trace.{made_requests, made_trace}
-use Rattle.fb_maker.specs.Script.{script_text}
+use Rattle.fb_maker.specs.Script.{script_text, script_calls}
+use Rattle.fb_calls.specs.Reading.{calls_of}
 use Rattle.fb_desk.specs.Calls.{Rose}
 use Rattle.fb_desk.specs.View.{DeskView, OutputView}
 use Rattle.fb_desk.specs.declared.desk.Input.TheVariants.{Params}
@@ -56,6 +57,7 @@ pub record WritesBoth (old new : DeskView) (terms : MakeTerms) (n : ℕ) : Type 
   pub calls : HoldsWhole (new.outputs MadeCalls) terms.calls (script_text makes.disk.map)
   pub trace_read : trace_of terms.device (sectors_of makes.disk) (trace_text terms makes.disk)
       ≡ Ok (record { requests = made_requests terms.number (sectors_of makes.disk) terms.requests; passed_over = 0 })
+  pub calls_read : calls_of makes.disk.map terms.requests (script_text makes.disk.map) ≡ Ok (record { names = codes "scrub" ∷ codes "backup" ∷ []; calls = script_calls makes.disk.map })
 
 -- the trace was cut off, and nothing else was written
 pub record CutsTrace (old new : DeskView) (terms : MakeTerms) : Type 0 where

@@ -14,7 +14,8 @@ use crate::Outcome;
 use crate::make::run_make;
 use crate::policy::replay_by;
 use crate::reading::{read_disk, read_requests};
-use crate::writing::{write_fore, write_note};
+use crate::report::write_report;
+use crate::writing::write_note;
 use fb_desk::{Desk, Output};
 use fb_units::NoMemory;
 use fb_words::{Command, ReplayWords, UsageFault, UsageReason, WordsError, read_words};
@@ -23,8 +24,8 @@ use std::alloc::Global;
 /// Does what the words of a command line ask for; the first word is the program's name.
 ///
 /// A replay reads the parameter file whole, then the trace, each once, and nothing is written
-/// before both are accepted. Then the foreground report goes to the output `Fore`, under the name
-/// `-`. A make reads the parameter file, and then writes a trace and a call script that are accepted
+/// before both are accepted. Then the foreground report, or the summary where one is wanted, goes to
+/// the output `Fore`, under the name `-`. A make reads the parameter file, and then writes a trace and a call script that are accepted
 /// with it. Where a command fails, a line that says why goes to the output `Note`, under the name
 /// `-`; whether it is written changes nothing in the outcome. The desk must be unused.
 pub fn run_command<D: Desk>(alloc: Global, desk: &mut D, words: &[String]) -> Outcome
@@ -52,11 +53,11 @@ fn answer_words<D: Desk>(alloc: Global, desk: &mut D, words: &[String]) -> Outco
     }
 }
 
-// There is no background work, no wait at the end and no summary.
+// There is no background work and no wait at the end.
 fn is_built(words: &ReplayWords) -> bool
     ensures { result ≡ is_built (replay_terms words.now) }
 {
-    words.calls.is_none() && words.back.is_none() && words.until == 0 && !words.summary
+    words.calls.is_none() && words.back.is_none() && words.until == 0
 }
 
 // The fault of words for what isn't built.
@@ -98,7 +99,7 @@ fn run_replay<D: Desk>(alloc: Global, desk: &mut D, words: &ReplayWords) -> Outc
         Err(NoMemory) => return Outcome::NoMemory,
     };
     let sector_bytes = params.disk.sector_bytes;
-    match write_fore(alloc, desk, &run, sector_bytes, words.bytes) {
+    match write_report(alloc, desk, words, &run, sector_bytes) {
         Ok(()) => Outcome::Done(run),
         Err(outcome) => outcome,
     }

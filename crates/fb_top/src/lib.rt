@@ -18,6 +18,7 @@ mod policy;
 mod reading;
 #[cfg(test)]
 mod replay_tests;
+mod report;
 mod streams;
 #[cfg(test)]
 mod test_desk;

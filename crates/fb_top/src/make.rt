@@ -14,7 +14,7 @@ use crate::Outcome;
 use crate::reading::read_disk;
 use crate::streams::write_whole;
 use fb_desk::{Desk, Failed, Output};
-use fb_maker::{Maker, made_calls, made_traces_are_read};
+use fb_maker::{Maker, made_calls, made_scripts_are_read, made_traces_are_read};
 use fb_sectormap::SectorMap;
 use fb_units::NoMemory;
 use fb_words::MakeWords;
@@ -34,6 +34,7 @@ pub fn run_make<D: Desk>(alloc: Global, desk: &mut D, words: &MakeWords) -> Outc
     let map = &params.disk.map;
     map.geometry().sound();
     made_traces_are_read();
+    made_scripts_are_read(map);
     match write_trace(alloc, desk, words, map.count()) {
         Ok(()) => {}
         Err(outcome) => return outcome,

@@ -6,6 +6,8 @@ const MAKE: &str = "freeblock make --params k --trace t --calls c --number 7 --r
 
 const REPLAY: &str = "freeblock replay --params k --trace t --policy sptf --bytes sha256";
 
+const SUMMARY: &str = "freeblock replay --params k --trace t --policy sptf --summary";
+
 #[test]
 fn a_made_trace_is_replayed(rt: HostRuntime) -> Result<(), Fail> {
     let alloc = rt.alloc();
@@ -27,6 +29,14 @@ fn a_made_trace_is_replayed(rt: HostRuntime) -> Result<(), Fail> {
     let replayed = end(alloc, &mut replayer, REPLAY)?;
     assert_eq!(rt; replayed.status, 0);
     assert!(rt; replayed.fore.as_slice().ends_with(b"\nend 40 0\n"));
+    let mut summarizer = desk(alloc, 4096, params.as_bytes(), made.made_trace.as_slice())?;
+    let summarized = end(alloc, &mut summarizer, SUMMARY)?;
+    assert!(rt;
+        summarized
+            .fore
+            .as_slice()
+            .starts_with(b"requests 40\npassed 0\n")
+    );
     Ok(())
 }
 

@@ -46,6 +46,7 @@ returns-in-Ok-write_calls-clause-cause g c =
     (subst (λ (name : List ℕ). HoldsWhole (new.outputs MadeCalls) name (script_text disk.map)) c.as_str-2.ensures.value c.in-Ok-write_calls.ensures.whole)
     (c.made_traces_are_read.ensures terms.number terms.device (length (places disk.map)) terms.requests c.requires.limits.2
     (some_sectors disk.map (subst IsSound c.geometry.ensures c.sound.ensures)) (omega (arith, c.count.ensures.value, c.count.ensures.bound)) c.requires.limits.1)
+    (c.made_scripts_are_read.ensures terms.requests)
 
 pub returns-clause-cause : goal.returns-clause-cause
 returns-clause-cause g c =
