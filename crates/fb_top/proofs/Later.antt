@@ -10,7 +10,6 @@ use Rattle.fb_trace.specs.Reading.{Accepted}
 use Rattle.fb_trace.specs.Servable.{IsServable, IsTraceOf}
 use Rattle.fb_model.specs.Accepted.{IsAccepted, IsRequestOf}
 use Rattle.fb_model.specs.PlainReplay.{Key}
-use Rattle.fb_report.specs.Fore.{fore_text}
 use Rattle.fb_desk.specs.Calls.{Rose, ChangesInput, ChangesOutput}
 use Rattle.fb_desk.specs.View.{DeskView, InputView, OutputView}
 use Rattle.fb_desk.specs.declared.desk.Input.TheVariants.{Params, Trace, Calls}
@@ -21,7 +20,7 @@ use Rattle.fb_top.specs.declared.outcome.Outcome.TheVariants as outcomes
 use Rattle.fb_top.specs.Read.{ReadsDisk, ReadsTrace, Accepts}
 use Rattle.fb_words.specs.declared.fault.UsageFault.{UsageFault}
 use Rattle.fb_top.specs.Built.{is_built, not_yet}
-use Rattle.fb_top.specs.Done.{IsRunOf, KeepsOthers}
+use Rattle.fb_top.specs.Done.{IsRunOf, KeepsOthers, text_of}
 use Rattle.fb_top.specs.Causes.{HasCause, StopsTrace, StopsFore, KeepsReports}
 
 other_input : Trace ≢ Params
@@ -60,6 +59,7 @@ unbuilt_read words old mid new fault built accepts same unbuilt is first second 
 pub after_disk : (words : ReplayTerms) (disk : Disk) (latent : List ℕ) (old mid new : DeskView) (outcome : Outcome) → ReadsDisk old words.params disk latent
     → ChangesInput Params old mid → ChangesInput Trace mid new → StopsTrace words.trace words.device disk mid new outcome → HasCause words old new outcome
 after_disk words disk latent old mid new (outcomes.Done run) reads first second h = absurd h
+after_disk words disk latent old mid new (outcomes.Made n) reads first second h = absurd h
 after_disk words disk latent old mid new (outcomes.Usage fault) reads first second h = absurd h
 after_disk words disk latent old mid new (outcomes.Params fault) reads first second h = absurd h
 after_disk words disk latent old mid new (outcomes.Trace fault) reads first second h = (
@@ -93,8 +93,9 @@ others_read old mid late new first second third = λ output not_fore not_note. t
 
 -- why the report was not written
 pub after_run : (words : ReplayTerms) (run : Run) (old mid new : DeskView) (outcome : Outcome) (is_run : IsRunOf old words run) → KeepsOthers old new → mid.outputs Fore ≡ old.outputs Fore
-    → StopsFore (fore_text is_run.accepts.disk.sector_bytes words.bytes run) mid new outcome → HasCause words old new outcome
+    → StopsFore (text_of old words run is_run) mid new outcome → HasCause words old new outcome
 after_run words run old mid new (outcomes.Done other) is_run others same h = absurd h
+after_run words run old mid new (outcomes.Made n) is_run others same h = absurd h
 after_run words run old mid new (outcomes.Usage fault) is_run others same h = absurd h
 after_run words run old mid new (outcomes.Params fault) is_run others same h = absurd h
 after_run words run old mid new (outcomes.Trace fault) is_run others same h = absurd h

@@ -12,7 +12,9 @@ use Rattle.fb_top.specs.declared.outcome.Outcome.{Outcome}
 use Rattle.fb_top.specs.declared.outcome.Outcome.TheVariants as outcomes
 use Rattle.fb_top.specs.Streams.{AppendsFront, IsFront}
 use Rattle.fb_top.specs.Done.{IsCutOff, KeepsOthers, text_of}
-use Rattle.fb_top.specs.Causes.{AnswersWords, HasCause, KeepsReports}
+use Rattle.fb_top.specs.Causes.{HasCause, KeepsReports}
+use Rattle.fb_top.specs.Answers.{AnswersWords}
+use Rattle.fb_top.proofs.Making.{make_cause_still}
 use Rattle.fb_top.specs.Noted.{IsNote}
 use Rattle.fb_top.proofs.Fronts.{rose_later}
 
@@ -77,6 +79,7 @@ cause_still terms old mid new (outcomes.Done run) only h = record {
   name = subst (λ (v : OutputView). IfSome v.name (λ name. name ≡ codes "-")) (sym (only.outputs Fore fore_is_other)) h.name;
   written = subst (λ (v : OutputView). IfSome v.written (λ bytes. bytes ≡ text_of old terms run h.is_run)) (sym (only.outputs Fore fore_is_other)) h.written;
 }
+cause_still terms old mid new (outcomes.Made n) only h = absurd h
 cause_still terms old mid new (outcomes.Usage fault) only h = (h.0, keeps_still old mid new h.1 only)
 cause_still terms old mid new (outcomes.Params fault) only h = (h.0, keeps_still old mid new h.1 only)
 cause_still terms old mid new (outcomes.Trace fault) only h = (h.0, keeps_still old mid new h.1 only)
@@ -91,5 +94,5 @@ cause_still terms old mid new outcomes.NoMemory only (inr cut) = inr (cut_off_st
 -- an answer keeps its cause where nothing but the note changes
 pub answer_still : (reading : Result Terms UsageFault) (old mid new : DeskView) (outcome : Outcome) → ChangesOutput Note mid new → AnswersWords reading old mid outcome → AnswersWords reading old new outcome
 answer_still (Ok (replays terms)) old mid new outcome only h = cause_still terms old mid new outcome only h
-answer_still (Ok (makes terms)) old mid new outcome only h = (h.0, keeps_still old mid new h.1 only)
+answer_still (Ok (makes terms)) old mid new outcome only h = make_cause_still terms old mid new outcome only h
 answer_still (Err fault) old mid new outcome only h = (h.0, keeps_still old mid new h.1 only)

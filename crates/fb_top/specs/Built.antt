@@ -7,9 +7,9 @@ use Rattle.fb_words.specs.Reading.{fault_at}
 use Rattle.fb_words.specs.Command.{ReplayTerms}
 use Rattle.fb_top.specs.Read.{Accepts}
 
--- there is no background work, no wait at the end and no summary
+-- there is no background work and no wait at the end
 abbrev pub is_built : ReplayTerms → Bool
-is_built terms = not (is_some terms.calls) && not (is_some terms.back) && (terms.until == 0) && not terms.summary
+is_built terms = not (is_some terms.calls) && not (is_some terms.back) && (terms.until == 0)
 
 -- the fault of words for what isn't built
 abbrev pub not_yet : UsageFault

@@ -1,5 +1,5 @@
 -- Why a command has its answer.
-use Rattle.std.specs.Prelude.{◌≡◌, ◌≢◌, ◌⊎◌, ℕ, ◌^◌, List, [], true, IfSome, Result, Ok, Err}
+use Rattle.std.specs.Prelude.{◌≡◌, ◌≢◌, ◌⊎◌, ℕ, ◌^◌, List, [], true, IfSome}
 use Rattle.fb_service.specs.declared.disk.Disk.{Disk}
 use Rattle.fb_desk.specs.Calls.{Rose}
 use Rattle.fb_desk.specs.View.{DeskView}
@@ -7,14 +7,13 @@ use Rattle.fb_desk.specs.declared.desk.Input.{Input}
 use Rattle.fb_desk.specs.declared.desk.Input.TheVariants.{Params, Trace, Calls}
 use Rattle.fb_desk.specs.declared.desk.Output.{Output}
 use Rattle.fb_desk.specs.declared.desk.Output.TheVariants.{Fore, Note}
-use Rattle.fb_words.specs.Command.{Terms, ReplayTerms, replays, makes}
-use Rattle.fb_words.specs.declared.fault.UsageFault.{UsageFault}
+use Rattle.fb_words.specs.Command.{ReplayTerms}
 use Rattle.fb_top.specs.declared.outcome.Outcome.{Outcome}
 use Rattle.fb_top.specs.declared.outcome.Outcome.TheVariants as outcomes
 use Rattle.fb_top.specs.Read.{ReadsDisk, RefusesDisk, RefusesTrace}
 use Rattle.fb_trace.specs.declared.trace.TraceFault.{TraceFault}
 use Rattle.fb_top.specs.Streams.{IsLonger, IsFront}
-use Rattle.fb_top.specs.Built.{IsUnbuilt, not_yet}
+use Rattle.fb_top.specs.Built.{IsUnbuilt}
 use Rattle.fb_top.specs.Done.{IsDone, IsCutOff}
 
 -- the name under which the words give an input; the calls have none yet
@@ -53,6 +52,7 @@ IsGiven Calls = ⊥
 -- the cause of each answer to the terms of a replay
 abbrev pub HasCause : ReplayTerms → DeskView → DeskView → Outcome → Type 0
 HasCause terms old new (outcomes.Done run) = IsDone old new terms run
+HasCause terms old new (outcomes.Made n) = ⊥
 HasCause terms old new (outcomes.Usage fault) = IsUnbuilt old terms fault × KeepsReports old new
 HasCause terms old new (outcomes.Params fault) = RefusesDisk old terms.params fault × KeepsReports old new
 HasCause terms old new (outcomes.Trace fault) = RefusesInTurn old terms fault × KeepsReports old new
@@ -60,16 +60,6 @@ HasCause terms old new (outcomes.TooLong input) = IsGiven input × IsLonger old 
 HasCause terms old new (outcomes.ReadFault input) = IsGiven input × FaultsRose old new input × KeepsReports old new
 HasCause terms old new (outcomes.WriteFault output) = (output ≡ Fore) × Rose (old.outputs output).faults (new.outputs output).faults × IsCutOff old new terms
 HasCause terms old new outcomes.NoMemory = KeepsReports old new ⊎ IsCutOff old new terms
-
--- words that are refused are a usage fault, unless memory is wanting
-abbrev pub IsRefused : UsageFault → DeskView → DeskView → Outcome → Type 0
-IsRefused fault old new outcome = ((outcome ≡ outcomes.Usage fault) ⊎ (outcome ≡ outcomes.NoMemory)) × KeepsReports old new
-
--- the answer to the words of a command line; traces are not made yet
-abbrev pub AnswersWords : Result Terms UsageFault → DeskView → DeskView → Outcome → Type 0
-AnswersWords (Ok (replays terms)) old new outcome = HasCause terms old new outcome
-AnswersWords (Ok (makes terms)) old new outcome = IsRefused not_yet old new outcome
-AnswersWords (Err fault) old new outcome = IsRefused fault old new outcome
 
 -- why no disk was read
 abbrev pub StopsDisk : List ℕ → DeskView → DeskView → Outcome → Type 0

@@ -11,6 +11,7 @@ use Rattle.fb_top.specs.declared.outcome.Outcome.TheVariants as outcomes
 use Rattle.fb_top.specs.Read.{Accepts}
 use Rattle.fb_top.specs.Built.{is_built}
 use Rattle.fb_top.specs.Causes.{FaultsRose}
+use Rattle.fb_top.specs.Make.{MakeGoesWell, MakesAll}
 
 -- what is held is told and accepted, the foreground alone is wanted, and no count of faults rises but perhaps the note's
 pub record GoesWell (old new : DeskView) (terms : ReplayTerms) : Type 0 where
@@ -27,8 +28,8 @@ IsMade (outcomes.Done run) = Unit {0}
 IsMade outcomes.NoMemory = Unit {0}
 IsMade outcome = ⊥
 
--- a replay that goes well is made
+-- what goes well is done
 abbrev pub IsComplete : Result Terms UsageFault → DeskView → DeskView → Outcome → Type 0
 IsComplete (Ok (replays terms)) old new outcome = GoesWell old new terms → IsMade outcome
-IsComplete (Ok (makes terms)) old new outcome = Unit {0}
+IsComplete (Ok (makes terms)) old new outcome = MakeGoesWell old new terms → MakesAll terms outcome
 IsComplete (Err fault) old new outcome = Unit {0}

@@ -1,9 +1,10 @@
 -- What a replay has written.
-use Rattle.std.specs.Prelude.{◌≡◌, ◌≢◌, ℕ, List, true, IfSome, codes}
+use Rattle.std.specs.Prelude.{◌≡◌, ◌≢◌, ℕ, List, true, IfSome, codes, if◌then◌else◌}
 use Rattle.fb_rows.specs.declared.run.Run.{Run}
 use Rattle.fb_model.specs.Inputs.{Inputs}
 use Rattle.fb_model.specs.Content.{fore_rows}
 use Rattle.fb_report.specs.Fore.{fore_text}
+use Rattle.fb_report.specs.Summary.{summary_text}
 use Rattle.fb_desk.specs.View.{DeskView}
 use Rattle.fb_desk.specs.declared.desk.Output.{Output}
 use Rattle.fb_desk.specs.declared.desk.Output.TheVariants.{Fore, Note}
@@ -23,9 +24,12 @@ pub record IsRunOf (desk : DeskView) (terms : ReplayTerms) (run : Run) : Type 0 
   pub accepts : Accepts desk terms
   pub plain : IsPlainRun (inputs_of terms accepts.disk accepts.latent accepts.trace) run
 
--- the text of its foreground
+-- what the words want to be told of a run: its summary, or the text of its foreground
+abbrev pub told_of : ReplayTerms → ℕ → Run → List ℕ
+told_of terms sector_bytes run = if terms.summary then summary_text run else fore_text sector_bytes terms.bytes run
+
 abbrev pub text_of : (desk : DeskView) (terms : ReplayTerms) (run : Run) → IsRunOf desk terms run → List ℕ
-text_of desk terms run is_run = fore_text is_run.accepts.disk.sector_bytes terms.bytes run
+text_of desk terms run is_run = told_of terms is_run.accepts.disk.sector_bytes run
 
 -- no output but the foreground and the note has changed
 abbrev pub KeepsOthers : DeskView → DeskView → Type 0

@@ -3,6 +3,8 @@ pub mod Read
 pub mod Built
 pub mod Done
 pub mod Causes
+pub mod Make
+pub mod Answers
 pub mod Complete
 pub mod Status
 pub mod Notes

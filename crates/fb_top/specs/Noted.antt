@@ -20,4 +20,5 @@ pub record TellsNote (line : List ℕ) (old new : OutputView) : Type 0 where
 -- the note's output after an outcome: as before where a report was written
 abbrev pub LeavesNote : Outcome → OutputView → OutputView → Type 0
 LeavesNote (outcomes.Done run) old new = new ≡ old
+LeavesNote (outcomes.Made n) old new = new ≡ old
 LeavesNote outcome old new = TellsNote (note_of outcome) old new

@@ -100,9 +100,10 @@ output_text outputs.MadeCalls = codes "calls"
 abbrev pub numbered : List ℕ → ℕ → List ℕ
 numbered what number = what ++ decimal number ++ codes ": "
 
--- why there is no report
+-- why a command failed
 abbrev pub cause_text : Outcome → List ℕ
 cause_text (outcomes.Done run) = []
+cause_text (outcomes.Made n) = []
 cause_text (outcomes.Usage fault) = numbered (codes "usage: word ") fault.place ++ usage_reason fault.reason
 cause_text (outcomes.Params fault) = codes "params: " ++ params_fault fault
 cause_text (outcomes.Trace fault) = numbered (codes "trace: line ") fault.line ++ trace_reason fault.reason
@@ -115,7 +116,8 @@ cause_text outcomes.NoMemory = codes "no memory"
 abbrev pub note_line : List ℕ → List ℕ
 note_line words = codes "freeblock: " ++ words ++ 10 ∷ []
 
--- the note of an outcome, empty where a report was written
+-- the note of an outcome, empty where the command was done
 abbrev pub note_of : Outcome → List ℕ
 note_of (outcomes.Done run) = []
+note_of (outcomes.Made n) = []
 note_of outcome = note_line (cause_text outcome)

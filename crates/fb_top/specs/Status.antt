@@ -1,10 +1,11 @@
 -- The exit status of each outcome.
 use Rattle.std.specs.Prelude.{ℕ}
 use Rattle.fb_top.specs.declared.outcome.Outcome.{Outcome}
-use Rattle.fb_top.specs.declared.outcome.Outcome.TheVariants.{Done, Usage, Params, Trace, TooLong, ReadFault, WriteFault, NoMemory}
+use Rattle.fb_top.specs.declared.outcome.Outcome.TheVariants.{Done, Made, Usage, Params, Trace, TooLong, ReadFault, WriteFault, NoMemory}
 
 abbrev pub status_of : Outcome → ℕ
 status_of (Done run) = 0
+status_of (Made n) = 0
 status_of (Usage fault) = 2
 status_of (Params fault) = 3
 status_of (Trace fault) = 4

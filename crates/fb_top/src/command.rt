@@ -4,15 +4,18 @@ ghost use Rattle.std.specs.String.{string_bytes};
 ghost use Rattle.fb_desk.specs.View.{IsUnused};
 ghost use Rattle.fb_words.specs.Command.{command_of};
 ghost use Rattle.fb_words.specs.Verdict.{replay_terms};
-ghost use Rattle.fb_top.specs.Causes.{AnswersWords, HasCause};
+ghost use Rattle.fb_top.specs.Answers.{AnswersWords};
+ghost use Rattle.fb_top.specs.Causes.{HasCause};
 ghost use Rattle.fb_top.specs.Built.{is_built, not_yet};
 ghost use Rattle.fb_top.specs.Complete.{IsComplete};
 ghost use Rattle.fb_top.specs.Noted.{LeavesNote};
 
 use crate::Outcome;
+use crate::make::run_make;
 use crate::policy::replay_by;
 use crate::reading::{read_disk, read_requests};
-use crate::writing::{write_fore, write_note};
+use crate::report::write_report;
+use crate::writing::write_note;
 use fb_desk::{Desk, Output};
 use fb_units::NoMemory;
 use fb_words::{Command, ReplayWords, UsageFault, UsageReason, WordsError, read_words};
@@ -21,8 +24,9 @@ use std::alloc::Global;
 /// Does what the words of a command line ask for; the first word is the program's name.
 ///
 /// A replay reads the parameter file whole, then the trace, each once, and nothing is written
-/// before both are accepted. Then the foreground report goes to the output `Fore`, under the name
-/// `-`. Where there is no report, a line that says why goes to the output `Note`, under the name
+/// before both are accepted. Then the foreground report, or the summary where one is wanted, goes to
+/// the output `Fore`, under the name `-`. A make reads the parameter file, and then writes a trace and a call script that are accepted
+/// with it. Where a command fails, a line that says why goes to the output `Note`, under the name
 /// `-`; whether it is written changes nothing in the outcome. The desk must be unused.
 pub fn run_command<D: Desk>(alloc: Global, desk: &mut D, words: &[String]) -> Outcome
     requires { IsUnused (D.seen desk.old) }
@@ -43,17 +47,17 @@ fn answer_words<D: Desk>(alloc: Global, desk: &mut D, words: &[String]) -> Outco
 {
     match read_words(alloc, words) {
         Ok(Command::Replay(words)) => run_replay(alloc, desk, &words),
-        Ok(Command::Make(_)) => Outcome::Usage(not_yet()),
+        Ok(Command::Make(words)) => run_make(alloc, desk, &words),
         Err(WordsError::Fault(fault)) => Outcome::Usage(fault),
         Err(WordsError::NoMemory) => Outcome::NoMemory,
     }
 }
 
-// There is no background work, no wait at the end and no summary.
+// There is no background work and no wait at the end.
 fn is_built(words: &ReplayWords) -> bool
     ensures { result ≡ is_built (replay_terms words.now) }
 {
-    words.calls.is_none() && words.back.is_none() && words.until == 0 && !words.summary
+    words.calls.is_none() && words.back.is_none() && words.until == 0
 }
 
 // The fault of words for what isn't built.
@@ -95,7 +99,7 @@ fn run_replay<D: Desk>(alloc: Global, desk: &mut D, words: &ReplayWords) -> Outc
         Err(NoMemory) => return Outcome::NoMemory,
     };
     let sector_bytes = params.disk.sector_bytes;
-    match write_fore(alloc, desk, &run, sector_bytes, words.bytes) {
+    match write_report(alloc, desk, words, &run, sector_bytes) {
         Ok(()) => Outcome::Done(run),
         Err(outcome) => outcome,
     }

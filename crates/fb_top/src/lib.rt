@@ -7,6 +7,9 @@
 mod command;
 #[cfg(test)]
 mod fault_tests;
+mod make;
+#[cfg(test)]
+mod make_tests;
 mod note;
 mod note_faults;
 mod note_words;
@@ -17,6 +20,7 @@ mod queue_tests;
 mod reading;
 #[cfg(test)]
 mod replay_tests;
+mod report;
 mod streams;
 #[cfg(test)]
 mod test_desk;

@@ -17,6 +17,7 @@ pub fn note_text(alloc: Global, outcome: &Outcome) -> Result<Vec<u8>, NoMemory>
     let mut text = Vec::new(alloc);
     match outcome {
         Outcome::Done(_) => Ok(text),
+        Outcome::Made(_) => Ok(text),
         _ => {
             push_words(&mut text, "freeblock: ")?;
             push_cause(&mut text, outcome)?;
@@ -32,6 +33,7 @@ fn push_cause(text: &mut Vec<u8>, outcome: &Outcome) -> Result<(), NoMemory>
 {
     match outcome {
         Outcome::Done(_) => Ok(()),
+        Outcome::Made(_) => Ok(()),
         Outcome::Usage(fault) => {
             push_numbered(text, "usage: word ", u64::from(fault.place))?;
             push_usage_reason(text, fault.reason)

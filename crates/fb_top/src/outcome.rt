@@ -13,6 +13,8 @@ use fb_words::UsageFault;
 pub enum Outcome {
     /// The replay was made and its report written whole.
     Done(Run),
+    /// A trace of so many requests and a call script were made and written whole.
+    Made(u64),
     /// The words are no command.
     Usage(UsageFault),
     /// The parameter file is refused.
@@ -35,6 +37,7 @@ pub fn status(outcome: &Outcome) -> u8
 {
     match outcome {
         Outcome::Done(_) => 0,
+        Outcome::Made(_) => 0,
         Outcome::Usage(_) => 2,
         Outcome::Params(_) => 3,
         Outcome::Trace(_) => 4,

@@ -197,3 +197,16 @@ fn refused_words(rt: HostRuntime) -> Result<(), Fail> {
     }
     Ok(())
 }
+
+#[test]
+fn a_summary(rt: HostRuntime) -> Result<(), Fail> {
+    let alloc = rt.alloc();
+    let params = disk(alloc, "", TWELVE)?;
+    let words = "freeblock replay --params k --trace t --policy fcfs --summary";
+    let mut desk = desk(alloc, 1, params.as_bytes(), b"0 0 5 1 1\n0 0 24 1 1\n")?;
+    let ending = end(alloc, &mut desk, words)?;
+    let lines = b"requests 2\npassed 0\nsectors 2\nfinish 1300\nresponse 1900\n";
+    assert!(rt; ending.fore.as_slice().starts_with(lines));
+    assert_eq!(rt; ending.status, 0);
+    Ok(())
+}

@@ -22,6 +22,8 @@ pub struct Ending {
     pub status: u8,
     pub fore: Vec<u8>,
     pub note: Vec<u8>,
+    pub made_trace: Vec<u8>,
+    pub made_calls: Vec<u8>,
 }
 
 /// A small disk, with these lines before its zone and these in it.
@@ -43,7 +45,7 @@ pub fn desk(
     requires { 0 < piece }
     ensures { IfOk result (λ desk. IsUnused (memory_view desk)) }
 {
-    let mut desk = MemoryDesk::new(alloc, piece, piece, 1_000)?;
+    let mut desk = MemoryDesk::new(alloc, piece, piece, 10_000)?;
     desk.hold("k", params)?;
     desk.hold("t", trace)?;
     Ok(desk)
@@ -59,6 +61,8 @@ pub fn end(alloc: Global, desk: &mut MemoryDesk, words: &str) -> Result<Ending, 
         status: status(&outcome),
         fore: copied(alloc, desk.written(Output::Fore))?,
         note: copied(alloc, desk.written(Output::Note))?,
+        made_trace: copied(alloc, desk.written(Output::MadeTrace))?,
+        made_calls: copied(alloc, desk.written(Output::MadeCalls))?,
     })
 }
 

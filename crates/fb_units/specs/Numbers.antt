@@ -1,5 +1,5 @@
 -- Numbers and times as text.
-use Rattle.std.specs.Prelude.{ℕ, ◌+◌, ◌-◌, ◌*◌, ◌^◌, List, [], ◌∷◌, Bool, ◌&&◌, ◌||◌, Option, Some, None, nat_eq, nat_le, nat_lt, if◌then◌else◌, false, ◌++◌, take, drop, replicate, length, ◌==◌, codes}
+use Rattle.std.specs.Prelude.{ℕ, ◌+◌, ◌-◌, ◌*◌, ◌/◌, ◌%◌, ◌^◌, List, [], ◌∷◌, Bool, ◌&&◌, ◌||◌, Option, Some, None, nat_eq, nat_le, nat_lt, if◌then◌else◌, false, ◌++◌, take, drop, replicate, length, map, ◌==◌, codes, decimal}
 use Rattle.std.specs.Char.{digit_value, is_ascii_digit, is_digit}
 use Rattle.std.specs.List.{list_all, before_first, after_first, starts_with}
 
@@ -37,6 +37,14 @@ millis_of text =
     if are_digits whole && list_all is_ascii_digit fraction
     then within (10 ^ 6 * digits_after 0 whole + digits_after 0 (six_of fraction))
     else None
+
+-- the last six digits of a number, with zeros for those that are missing
+abbrev pub last_six : ℕ → List ℕ
+last_six n = map (λ place. 48 + n / 10 ^ place % 10) (5 ∷ 4 ∷ 3 ∷ 2 ∷ 1 ∷ 0 ∷ [])
+
+-- nanoseconds as whole milliseconds, a point and six digits
+unfoldable pub millis_text : ℕ → List ℕ
+millis_text ns = decimal (ns / 10 ^ 6) ++ 46 ∷ last_six ns
 
 -- the number that hexadecimal digits write after those of n
 abbrev pub hex_digits_after : ℕ → List ℕ → ℕ

@@ -11,7 +11,7 @@ mod times;
 mod types;
 
 pub use lines::{next_field, next_line};
-pub use numbers::{LIMIT, read_flags, read_millis, read_number};
+pub use numbers::{LIMIT, read_flags, read_millis, read_number, write_millis};
 pub use text::KeyText;
 pub use times::{Ns, wait_for};
 pub use types::{Name, NoMemory, Place, Request, Track};

@@ -26,23 +26,23 @@ replay_by-requires g c = record {
       c.in-Ok.ensures.latent c.in-Ok-read_requests.ensures.servable c.requires.until;
 }
 
-pub returns-in-Ok-write_fore-clause-cause : goal.returns-in-Ok-write_fore-clause-cause
-returns-in-Ok-write_fore-clause-cause g c =
+pub returns-in-Ok-write_report-clause-cause : goal.returns-in-Ok-write_report-clause-cause
+returns-in-Ok-write_report-clause-cause g c =
     let old = g.D.Desk.seen c.args.desk.now in
     let mid = g.D.Desk.seen c.read_disk.new.desk in
     let late = g.D.Desk.seen c.read_requests.new.desk in
-    let new = g.D.Desk.seen c.write_fore.new.desk in
+    let new = g.D.Desk.seen c.write_report.new.desk in
     let words = replay_terms c.args.words.now in
     record {
-      others = others_read old mid late new c.in-Ok.ensures.only c.in-Ok-read_requests.ensures.only c.in-Ok-write_fore.ensures.only;
+      others = others_read old mid late new c.in-Ok.ensures.only c.in-Ok-read_requests.ensures.only c.in-Ok-write_report.ensures.only;
       is_run = record {
         built = sym c.is_built.ensures ∙ c.if-not-is_built.false;
         accepts = accepts_read words c.in-Ok.params.disk c.in-Ok.params.latent.items (accepted c.in-Ok-read_requests.trace) old mid _ _ c.as_str.ensures.value c.as_str-2.ensures.value
             c.in-Ok.ensures.disk c.in-Ok.ensures.only c.in-Ok-read_requests.ensures.trace;
         plain = record { fore = c.in-Ok-replay_by.ensures.fore; passed_over = c.in-Ok-replay_by.ensures.passed_over };
       };
-      name = c.in-Ok-write_fore.ensures.name;
-      written = c.in-Ok-write_fore.ensures.written;
+      name = c.in-Ok-write_report.ensures.name;
+      written = c.in-Ok-write_report.ensures.written;
     }
 
 pub returns-clause-cause : goal.returns-clause-cause
@@ -50,7 +50,7 @@ returns-clause-cause g c =
     let old = g.D.Desk.seen c.args.desk.now in
     let mid = g.D.Desk.seen c.read_disk.new.desk in
     let late = g.D.Desk.seen c.read_requests.new.desk in
-    let new = g.D.Desk.seen c.write_fore.new.desk in
+    let new = g.D.Desk.seen c.write_report.new.desk in
     let words = replay_terms c.args.words.now in
     let is_run : IsRunOf old words c.in-Ok-replay_by.run' = record {
       built = sym c.is_built.ensures ∙ c.if-not-is_built.false;
@@ -58,15 +58,15 @@ returns-clause-cause g c =
           c.in-Ok.ensures.disk c.in-Ok.ensures.only c.in-Ok-read_requests.ensures.trace;
       plain = record { fore = c.in-Ok-replay_by.ensures.fore; passed_over = c.in-Ok-replay_by.ensures.passed_over };
     } in
-    after_run words c.in-Ok-replay_by.run' old late new c.in-Err-write_fore.outcome is_run
-    (others_read old mid late new c.in-Ok.ensures.only c.in-Ok-read_requests.ensures.only c.in-Err-write_fore.ensures.only)
-    (c.in-Ok-read_requests.ensures.only.outputs Fore ∙ c.in-Ok.ensures.only.outputs Fore) c.in-Err-write_fore.ensures.stops
+    after_run words c.in-Ok-replay_by.run' old late new c.in-Err-write_report.outcome is_run
+    (others_read old mid late new c.in-Ok.ensures.only c.in-Ok-read_requests.ensures.only c.in-Err-write_report.ensures.only)
+    (c.in-Ok-read_requests.ensures.only.outputs Fore ∙ c.in-Ok.ensures.only.outputs Fore) c.in-Err-write_report.ensures.stops
 
-pub returns-in-Ok-write_fore-clause-no_note : goal.returns-in-Ok-write_fore-clause-no_note
-returns-in-Ok-write_fore-clause-no_note g c = c.in-Ok-write_fore.ensures.only.outputs Note note_is_other ∙ c.in-Ok-read_requests.ensures.only.outputs Note ∙ c.in-Ok.ensures.only.outputs Note
+pub returns-in-Ok-write_report-clause-no_note : goal.returns-in-Ok-write_report-clause-no_note
+returns-in-Ok-write_report-clause-no_note g c = c.in-Ok-write_report.ensures.only.outputs Note note_is_other ∙ c.in-Ok-read_requests.ensures.only.outputs Note ∙ c.in-Ok.ensures.only.outputs Note
 
 pub returns-clause-no_note : goal.returns-clause-no_note
-returns-clause-no_note g c = c.in-Err-write_fore.ensures.only.outputs Note note_is_other ∙ c.in-Ok-read_requests.ensures.only.outputs Note ∙ c.in-Ok.ensures.only.outputs Note
+returns-clause-no_note g c = c.in-Err-write_report.ensures.only.outputs Note note_is_other ∙ c.in-Ok-read_requests.ensures.only.outputs Note ∙ c.in-Ok.ensures.only.outputs Note
 
 pub returns-then-not-is_built-clause-cause : goal.returns-then-not-is_built-clause-cause
 returns-then-not-is_built-clause-cause g c =

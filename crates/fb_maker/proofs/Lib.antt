@@ -1,0 +1,10 @@
+pub mod Drawing
+pub mod Zones
+pub mod Splitting
+pub mod Spelling
+pub mod TraceRead
+pub mod Left
+pub mod Breaks
+pub mod Blocks
+pub mod LongTracks
+pub mod ScriptRead

@@ -1,0 +1,66 @@
+-- The first zone.
+use Rattle.std.proofs.Common.{◌≡◌, ℕ, suc, zero, ◌+◌, ◌-◌, ◌*◌, ◌<◌, ◌≤◌, List, [], ◌∷◌, length, Bool, true, ◌++◌, append_assoc, append-nil, min, refl, sym, ap, ◌∙◌, arith, Some, None, inl, inr}
+use Rattle.std.specs.Prelude.{◌==◌, slice_get, nat_le, ◌&&◌, decimal, codes}
+use Rattle.std.specs.List.{flat_map, range_with_len}
+use Rattle.std.proofs.lemmas.List.{length-append}
+use Rattle.std.proofs.lemmas.Bool.{cases_Bool}
+use Rattle.std.proofs.lemmas.Bool.Decides.{nat_tests}
+use Rattle.fb_geometry.specs.declared.zone.Zone.{Zone}
+use Rattle.std.proofs.lemmas.Option.{none-some, get_or_from_slice_get}
+use Rattle.fb_geometry.specs.Faults.{first_apart}
+use Rattle.fb_geometry.specs.Shape.{Shape, cylinders_of}
+use Rattle.fb_geometry.specs.Places.{data_list, list_among, places}
+use Rattle.fb_maker.specs.Script.{first_zone, most, script_lines, script_text}
+
+-- the first of the zones begins at the first cylinder
+pub begins_at_first : (zones : List Zone) (zone : Zone) → first_apart 0 0 zones ≡ None → slice_get zones 0 ≡ Some zone → zone.first ≡ 0
+begins_at_first [] zone contiguous is = cc
+begins_at_first (first ∷ zones) zone contiguous is = elim (cases_Bool (first.first == 0)) [
+  | inl begins ↦ let same : first ≡ zone = get_or_from_slice_get (first ∷ zones) 0 zone zone is in ap (λ (z : Zone). z.first) (sym same) ∙ grind (arith, nat_tests)
+  | inr apart ↦ absurd (none-some 0 (sym contiguous ∙ rw apart refl))
+]
+
+-- lists of one length, one after another
+pub same_lengths : {A : Type 0} (f : ℕ → List A) (size a n : ℕ) → ((k : ℕ) → a ≤ k → k < a + n → length (f k) ≡ size) → length (flat_map f (range_with_len a n)) ≡ n * size
+same_lengths f size a zero same = omega arith
+same_lengths f size a (suc n) same =
+    length-append (f a) (flat_map f (range_with_len (a + 1) n))
+    ∙ omega (arith, same a (omega arith) (omega arith), same_lengths f size (a + 1) n (λ k low high. same k (omega arith) (omega arith)))
+
+pub both_true : (a b : Bool) → a ≡ true → b ≡ true → (a && b) ≡ true
+both_true a b e f = rw (e, f) refl
+
+pub some_cylinders : (zones : List Zone) → 0 < length zones → 0 < cylinders_of zones
+some_cylinders [] some = absurd (omega arith)
+some_cylinders (zone ∷ []) some = omega arith
+some_cylinders (zone ∷ next ∷ zones) some = some_cylinders (next ∷ zones) (omega arith)
+
+-- as many cylinders as the first zone has, each with as many sectors as its first
+pub first_zone_is : (disk : Shape) (zones : List Zone) (zone : Zone) (n : ℕ) → slice_get zones 0 ≡ Some zone → zone.first ≤ zone.last → n ≡ length (list_among disk zones zone.first)
+    → ((k : ℕ) → zone.first ≤ k → k ≤ zone.last → length (data_list disk zone k) ≡ length (data_list disk zone zone.first)) → (zone.last + 1 - zone.first) * n ≡ first_zone disk zones
+first_zone_is disk [] zone n is some count same = cc
+first_zone_is disk (first ∷ zones) zone n is some count same =
+    let here : first ≡ zone = get_or_from_slice_get (first ∷ zones) 0 zone zone is in
+    let chosen : nat_le zone.first first.last ≡ true = grind (arith, nat_tests, ap (λ (z : Zone). z.last) here) in
+    let held : n ≡ length (data_list disk zone zone.first) = count ∙ rw chosen (ap (λ z. length (data_list disk z zone.first)) here) in
+    ap (λ m. (zone.last + 1 - zone.first) * m) held
+    ∙ sym (same_lengths (data_list disk zone) (length (data_list disk zone zone.first)) zone.first (zone.last + 1 - zone.first) (λ k low high. same k low (omega arith)))
+    ∙ ap (λ z. first_zone disk (z ∷ zones)) (sym here)
+
+four_lines : (a b c d : List ℕ) → ((a ++ b) ++ c) ++ d ≡ flat_map (λ line. line) (a ∷ b ∷ c ∷ d ∷ [])
+four_lines a b c d = append_assoc (a ++ b) c d ∙ append_assoc a b (c ++ d) ∙ ap (λ x. a ++ (b ++ (c ++ x))) (sym (append-nil d))
+
+-- the text of four lines, one behind the other
+pub is_script : (disk : Shape) (none one two three four : List ℕ) (scrubbed saved : ℕ) → none ≡ [] → one ≡ none ++ codes "0.000000 open scrub scrub 1 16\n"
+    → two ≡ one ++ (codes "0.000000 want scrub 0 " ++ decimal scrubbed ++ 10 ∷ []) → three ≡ two ++ codes "0.000000 open backup backup 2 16\n"
+    → four ≡ three ++ (codes "0.000000 want backup 0 " ++ decimal saved ++ 10 ∷ [])
+    → scrubbed ≡ min (length (places disk)) (most disk) → saved ≡ min (first_zone disk disk.zones) (most disk) → four ≡ script_text disk
+unfolding script_lines
+is_script disk none one two three four scrubbed saved e0 e1 e2 e3 e4 es ez =
+    let a = codes "0.000000 open scrub scrub 1 16\n" in
+    let b = λ (n : ℕ). codes "0.000000 want scrub 0 " ++ decimal n ++ 10 ∷ [] in
+    let c = codes "0.000000 open backup backup 2 16\n" in
+    let d = λ (n : ℕ). codes "0.000000 want backup 0 " ++ decimal n ++ 10 ∷ [] in
+    e4 ∙ ap (λ x. x ++ d saved) (e3 ∙ ap (λ x. x ++ c) (e2 ∙ ap (λ x. x ++ b scrubbed) (e1 ∙ ap (λ x. x ++ a) e0)))
+    ∙ ap (λ n. ((a ++ b n) ++ c) ++ d saved) es ∙ ap (λ n. ((a ++ b (min (length (places disk)) (most disk))) ++ c) ++ d n) ez
+    ∙ four_lines a (b (min (length (places disk)) (most disk))) c (d (min (first_zone disk disk.zones) (most disk)))

@@ -1,0 +1,19 @@
+use Rattle.std.proofs.Common.{refl, ◌∙◌}
+use Rattle.fb_desk.specs.declared.desk.Output.TheVariants.{MadeCalls}
+use Rattle.fb_maker.specs.Script.{script_text}
+use Rattle.fb_top.proofs.Fronts.{rose_later}
+use Rattle.fb_top.proofs.Making.{nothing_yet, cut_output}
+use Rattle.fb_top.proofs.make.write_calls.Goals as goal
+
+pub returns-in-Err-made_calls-clause-stops : goal.returns-in-Err-made_calls-clause-stops
+returns-in-Err-made_calls-clause-stops g c = λ begun. nothing_yet ((g.D.Desk.seen c.begin_output.new.self).outputs MadeCalls).written (script_text c.args.map.now) c.in-Ok.ensures.empty
+
+pub returns-clause-stops : goal.returns-clause-stops
+returns-clause-stops g c =
+    let old = (g.D.Desk.seen c.args.desk.now).outputs MadeCalls in
+    let now = (g.D.Desk.seen c.begin_output.new.self).outputs MadeCalls in
+    let new = (g.D.Desk.seen c.write_whole.new.desk).outputs MadeCalls in (
+      refl,
+      rose_later old.faults now.faults new.faults c.in-Ok.ensures.cause.later c.in-Err-write_whole.ensures.cause.failed,
+      λ begun. cut_output now.written new.written c.as_slice.result.now (script_text c.args.map.now) c.in-Ok.ensures.empty (c.as_slice.ensures.value ∙ c.in-Ok-made_calls.ensures) c.in-Err-write_whole.ensures.front,
+    )

@@ -1,0 +1,63 @@
+use Rattle.std.proofs.Common.{◌≡◌, ◌∙◌, ◌+◌, ap, arith, sym, refl}
+use Rattle.std.specs.Prelude.{Some, slice_get}
+use Rattle.std.specs.String.{string_bytes}
+use Rattle.fb_desk.specs.declared.desk.Output.TheVariants.{MadeTrace}
+use Rattle.fb_maker.specs.Making.{Making, line_made}
+use Rattle.fb_maker.specs.Trace.{made_lines}
+use Rattle.fb_top.proofs.Pieces.{output_on}
+use Rattle.fb_top.proofs.Fronts.{front_of, front_more, holds_more, holds_all, rose_later}
+use Rattle.fb_top.proofs.Making.{line_at, same_named, lines_counted}
+use Rattle.fb_top.proofs.make.write_trace.Goals as goal
+
+pub returns-in-Err-next_line-clause-stops : goal.returns-in-Err-next_line-clause-stops
+returns-in-Err-next_line-clause-stops g c =
+    let words = c.args.words.now in
+    let lines = made_lines words.number words.device c.args.sectors words.requests in
+    λ begun. front_of ((g.D.Desk.seen c.loop-place.desk).outputs MadeTrace).written lines c.loop-place.place c.loop-place.invariant.lines
+
+pub returns-in-Err-write_whole-clause-stops : goal.returns-in-Err-write_whole-clause-stops
+returns-in-Err-write_whole-clause-stops g c =
+    let words = c.args.words.now in
+    let place = c.loop-place.place in
+    let lines = made_lines words.number words.device c.args.sectors words.requests in
+    let old = g.D.Desk.seen c.args.desk.now in
+    let now = g.D.Desk.seen c.loop-place.desk in
+    let new = g.D.Desk.seen c.write_whole.new.desk in
+    let line : slice_get lines place ≡ Some c.as_slice.result.now =
+    line_at words.number words.device c.args.sectors words.requests place c.loop-place-test.true
+    ∙ ap Some (sym (c.as_slice.ensures.value ∙ c.in-Ok-next_line.ensures.line ∙ ap line_made c.loop-place.invariant.maker)) in (
+      refl,
+      rose_later (old.outputs MadeTrace).faults (now.outputs MadeTrace).faults (new.outputs MadeTrace).faults c.loop-place.invariant.later c.in-Err-write_whole.ensures.cause.failed,
+      λ begun. front_more (now.outputs MadeTrace).written (new.outputs MadeTrace).written lines place c.as_slice.result.now c.loop-place.invariant.lines line c.in-Err-write_whole.ensures.front,
+    )
+
+pub loop-place-preserved : goal.loop-place-preserved
+loop-place-preserved g c =
+    let words = c.args.words.now in
+    let place = c.loop-place.place in
+    let lines = made_lines words.number words.device c.args.sectors words.requests in
+    let old = g.D.Desk.seen c.args.desk.now in
+    let now = g.D.Desk.seen c.loop-place.desk in
+    let new = g.D.Desk.seen c.write_whole.new.desk in
+    let told = c.in-Ok-write_whole.ensures in
+    let line : slice_get lines place ≡ Some c.as_slice.result.now =
+    line_at words.number words.device c.args.sectors words.requests place c.loop-place-test.true
+    ∙ ap Some (sym (c.as_slice.ensures.value ∙ c.in-Ok-next_line.ensures.line ∙ ap line_made c.loop-place.invariant.maker)) in
+    record {
+      only = output_on MadeTrace old now new c.loop-place.invariant.only told.only;
+      later = omega (arith, c.loop-place.invariant.later, told.cause.later);
+      begun = told.begun;
+      name = same_named (string_bytes words.trace) (now.outputs MadeTrace).name (new.outputs MadeTrace).name told.name c.loop-place.invariant.name;
+      lines = holds_more (now.outputs MadeTrace).written (new.outputs MadeTrace).written lines place c.as_slice.result.now c.loop-place.invariant.lines line told.whole;
+      maker = c.in-Ok-next_line.ensures.ok ∙ ap (λ (making : Making). record making { made = making.made + 1 }) c.loop-place.invariant.maker;
+    }
+
+pub returns-clause-whole : goal.returns-clause-whole
+returns-clause-whole g c =
+    let words = c.args.words.now in
+    let lines = made_lines words.number words.device c.args.sectors words.requests in
+    record {
+      named = c.loop-place.invariant.name;
+      written = holds_all ((g.D.Desk.seen c.loop-place.desk).outputs MadeTrace).written lines c.loop-place.place c.loop-place.invariant.lines
+          (omega (arith, lines_counted words.number words.device c.args.sectors words.requests, c.loop-place-test.false));
+    }

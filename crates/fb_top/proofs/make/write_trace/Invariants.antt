@@ -1,0 +1,21 @@
+use Rattle.std.proofs.Common.{◌≡◌, ◌≤◌, true}
+use Rattle.std.specs.Prelude.{IfSome}
+use Rattle.std.specs.String.{string_bytes}
+use Rattle.fb_desk.specs.declared.desk.Output.TheVariants.{MadeTrace}
+use Rattle.fb_desk.specs.Calls.{ChangesOutput}
+use Rattle.fb_maker.specs.Trace.{made_lines}
+use Rattle.fb_top.proofs.Fronts.{HoldsLines}
+use Rattle.fb_top.proofs.make.write_trace.Given as goal
+
+abbrev pub invariant-loop-place : goal.invariant-loop-place
+invariant-loop-place g l =
+    let old = g.D.Desk.seen l.fn.desk in
+    let new = g.D.Desk.seen l.desk in
+    record {
+      only : ChangesOutput MadeTrace old new;
+      later : (old.outputs MadeTrace).faults ≤ (new.outputs MadeTrace).faults;
+      begun : (new.outputs MadeTrace).begun ≡ true;
+      name : IfSome (new.outputs MadeTrace).name (λ told. told ≡ string_bytes l.words.trace);
+      lines : HoldsLines (new.outputs MadeTrace).written (made_lines l.words.number l.words.device l.sectors l.words.requests) l.place;
+      maker : l.maker ≡ record { number = l.words.number; device = l.words.device; sectors = l.sectors; made = l.place };
+    }
