@@ -31,6 +31,12 @@ is_delivered Suspended = false
 is_delivered Delivered = true
 is_delivered Aborted = false
 
+abbrev pub is_aborted : State → Bool
+is_aborted Wanted = false
+is_aborted Suspended = false
+is_aborted Delivered = false
+is_aborted Aborted = true
+
 -- neither delivered nor aborted
 abbrev pub is_open : State → Bool
 is_open Wanted = true

@@ -4,17 +4,19 @@ ghost use Rattle.std.specs.BTreeMap.{get};
 ghost use Rattle.fb_wanted.specs.declared.block.Block.{Block};
 ghost use Rattle.fb_wanted.specs.declared.block.Entry.{Entry};
 ghost use Rattle.fb_wanted.specs.States.{after, shares, entry_after, is_abortable, is_wanted, wanted_unless, on_track, is_block};
-ghost use Rattle.fb_wanted.specs.Numbering.{blocks_of, registered};
+ghost use Rattle.fb_wanted.specs.Numbering.{AreInOrder, blocks_of, registered};
+ghost use Rattle.fb_wanted.specs.Counting.{counts_of};
 ghost use Rattle.fb_wanted.specs.Tracks.{wanted_weight, HasBlock, IsTrackBefore, IsNextTrack};
 ghost use Rattle.fb_wanted.specs.Index.{places, of_task, lbns, Rises, IsWithin, with_state, change_nth, change_first, track_cmp, grown};
 ghost use Rattle.fb_units.specs.declared.types.Track.{Track};
 ghost use Rattle.fb_units.specs.Tracks.{same_track};
 
 use crate::changes::{is_abortable, state_after, wanted_unless};
+use crate::counting::counted;
 use crate::falls::{next_fall, note_fall};
 use crate::places::{Places, add_place, take_place_back};
 use crate::tracks::{OnTrack, add_to_track, next_track, reweigh, weight_of};
-use crate::{Block, Change, Entry, State};
+use crate::{Block, Change, Counts, Entry, State};
 use fb_units::{NoMemory, Track};
 use std::alloc::Global;
 use std::collections::{BTreeMap, BTreeSet};
@@ -386,6 +388,38 @@ impl Wanted {
     {
         let _ = &self.entries;
         self.entry_of(task, index).state
+    }
+
+    /// A registered block with its state.
+    pub fn entry(&self, task: u32, index: u32) -> Entry
+        requires { (e : Entry) × (i : ℕ) × (slice_get self.now i ≡ Some e) × (is_block task index e ≡ true) }
+        ensures { (e : Entry) (i : ℕ) → slice_get self.now i ≡ Some e → is_block task index e ≡ true → e ≡ result }
+    {
+        let _ = &self.entries;
+        self.entry_of(task, index)
+    }
+
+    /// How many blocks of the task are registered, and how many of them are delivered and aborted.
+    pub fn counts(&self, task: u32) -> Counts
+        ensures { result ≡ counts_of task self.now }
+    {
+        let _ = &self.entries;
+        let mut counts = Counts {
+            registered: 0,
+            delivered: 0,
+            aborted: 0,
+        };
+        for k in 0..self.registered_by(task) {
+            counts = counted(counts, self.entry_of(task, k), task);
+        }
+        counts
+    }
+
+    /// The k-th block of a task has the index k.
+    pub fn numbered_in_order(&self)
+        ensures { AreInOrder (blocks_of self.now) }
+    {
+        let _ = &self.entries;
     }
 
     /// How many blocks of the track are registered.
