@@ -1,6 +1,6 @@
 // The segments of a session.
 ghost use Rattle.std.specs.Prelude.{◌≡◌, ◌≢◌, ℕ, List, [], ◌∷◌, ◌++◌, Bool, Option, None, Some, ◌+◌, ◌-◌, ◌*◌, ◌<◌, ◌≤◌, ◌^◌, length, filter, map, IfOk, IfSome, OnOk, OnErr, slice_get};
-ghost use Rattle.std.specs.List.{AllByRecursion, flat_map, range_with_len};
+ghost use Rattle.std.specs.List.{AllByRecursion, flat_map, list_any, range_with_len};
 ghost use Rattle.fb_store.specs.declared.content.Content.{Content};
 ghost use Rattle.fb_store.specs.Index.{held_at};
 ghost use Rattle.fb_store.specs.Pieces.{Gives, after_take, held_in};
@@ -65,6 +65,28 @@ impl Segments {
         let segment = Segment::new(self.alloc, number, first, self.block, age, live)?;
         let pieces = Pieces::new(self.alloc);
         push_both(&mut self.segments, segment, &mut self.taken, pieces)
+    }
+
+    /// How many segments were added.
+    pub fn len(&self) -> u32
+        ensures { result ≡ length self.now.segments }
+    {
+        self.segments.len() as u32
+    }
+
+    /// The number of the chosen segment while it is unfinished.
+    pub fn unfinished(&self) -> Option<u32>
+        ensures value { result ≡ self.now.unfinished }
+        ensures known { IfSome result (λ number. (0 < number) × (number ≤ length self.now.segments)) }
+    {
+        self.unfinished
+    }
+
+    /// Whether a segment is left to choose.
+    pub fn has_rest(&self) -> bool
+        ensures { result ≡ list_any (λ segment. segment.waits) self.now.segments }
+    {
+        self.segments.iter().any(|segment| segment.waits())
     }
 
     /// How many live blocks the segment has.

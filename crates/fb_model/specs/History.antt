@@ -12,6 +12,7 @@ use Rattle.fb_wanted.specs.declared.block.Block.{Block}
 use Rattle.fb_wanted.specs.declared.block.State.{State}
 use Rattle.fb_wanted.specs.declared.block.State.TheVariants.{Wanted, Suspended, Delivered, Aborted}
 use Rattle.fb_wanted.specs.States.{shares, is_wanted, is_delivered}
+pub use Rattle.fb_wanted.specs.States.{is_aborted}
 use Rattle.fb_rows.specs.declared.back.DeliveryRow.{DeliveryRow}
 use Rattle.fb_rows.specs.declared.back.BackRow.{BackRow}
 use Rattle.fb_rows.specs.declared.back.BackRow.TheVariants.{Seal as SealLine}
@@ -102,10 +103,6 @@ is_sealed past task = list_any (seals task) past
 
 abbrev pub is_open_backup : Past → ℕ → Bool
 is_open_backup past task = is_backup (terms_of past task).kind && not (is_sealed past task)
-
-abbrev pub is_aborted : State → Bool
-is_aborted Aborted = true
-is_aborted _ = false
 
 -- what an event makes of a block that was in the state before
 abbrev pub state_after : Past → Event → Block → State → State
