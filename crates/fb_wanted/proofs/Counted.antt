@@ -1,13 +1,18 @@
--- The counts of a task as entries are added.
-use Rattle.std.proofs.Common.{◌≡◌, ℕ, ◌+◌, ◌<◌, ◌≤◌, ◌==◌, inl, inr, List, [], ◌∷◌, ◌++◌, Bool, true, false, length, length-append, length-take, filter, get_or, take, refl, ap, sym, ◌∙◌, arith, subst, slice_get, Some}
+-- The counts of a task, as a block is added or comes into another state.
+use Rattle.std.proofs.Common.{◌≡◌, ℕ, ◌+◌, ◌≤◌, ◌==◌, inl, inr, List, [], ◌∷◌, ◌++◌, false, Bool, length, length-append, filter, slice_get, Some, refl, ap, ◌∙◌, arith}
 use Rattle.std.proofs.lemmas.Bool.{cases_Bool}
-use Rattle.std.proofs.lemmas.Option.{slice_get_within, get_or_from_slice_get}
-use Rattle.std.proofs.lemmas.List.{take_more}
 use Rattle.std.proofs.lemmas.List.Elements.{filter-append}
 use Rattle.fb_wanted.specs.declared.block.Counts.{Counts}
 use Rattle.fb_wanted.specs.declared.block.Entry.{Entry}
+use Rattle.fb_wanted.specs.declared.block.State.{State}
 use Rattle.fb_wanted.specs.States.{is_delivered, is_aborted}
-use Rattle.fb_wanted.specs.Counting.{of_task, counts_of, sum_of}
+use Rattle.fb_wanted.specs.Counting.{of_task, counts_of, no_counts, sum_of, recounted, AreNoMore}
+use Rattle.fb_wanted.specs.Index.{with_state}
+use Rattle.fb_wanted.proofs.Sums.{sum-with_state, sum_at}
+
+-- counts of equal parts
+pub same_counts : (a b : Counts) → a.registered ≡ b.registered → a.delivered ≡ b.delivered → a.aborted ≡ b.aborted → a ≡ b
+same_counts a b x y z = rw (x, y, z) refl
 
 filtered-append : (p q : Entry → Bool) (xs ys : List Entry) → length (filter p (filter q (xs ++ ys))) ≡ length (filter p (filter q xs)) + length (filter p (filter q ys))
 filtered-append p q xs ys = ap (λ l. length (filter p l)) (filter-append q xs ys)
@@ -21,44 +26,58 @@ counts-append task xs ys =
     let c = filtered-append (λ e. is_aborted e.state) own xs ys in
     rw (a, b, c) refl
 
-filter-le : (p : Entry → Bool) (xs : List Entry) → length (filter p xs) ≤ length xs
+-- no more pass than there are
+pub filter-le : (p : Entry → Bool) (xs : List Entry) → length (filter p xs) ≤ length xs
 filter-le p [] = omega arith
 filter-le p (x ∷ xs) = elim (cases_Bool (p x)) [ inl yes' ↦ rw yes' (omega (arith, filter-le p xs)) | inr no' ↦ rw no' (omega (arith, filter-le p xs)) ]
 
 -- no more are delivered or aborted than there are
-pub counts-few : (task : ℕ) (xs : List Entry) → ((counts_of task xs).registered ≤ length xs) × ((counts_of task xs).delivered ≤ (counts_of task xs).registered) × ((counts_of task xs).aborted ≤ (counts_of task xs).registered)
-counts-few task xs = (filter-le (λ e. e.block.task == task) xs, filter-le (λ e. is_delivered e.state) (of_task task xs), filter-le (λ e. is_aborted e.state) (of_task task xs))
+pub counts-few : (task : ℕ) (es : List Entry) → ((counts_of task es).registered ≤ length es) × ((counts_of task es).delivered ≤ length es) × ((counts_of task es).aborted ≤ length es)
+counts-few task es =
+    let registered = filter-le (λ e. e.block.task == task) es in
+    let delivered = filter-le (λ e. is_delivered e.state) (of_task task es) in
+    let aborted = filter-le (λ e. is_aborted e.state) (of_task task es) in
+    (registered, omega (arith, registered, delivered), omega (arith, registered, aborted))
 
-pub counts-more : (task : ℕ) (es : List Entry) (i : ℕ) (d : Entry) → i < length es → counts_of task (take (i + 1) es) ≡ sum_of (counts_of task (take i es)) (counts_of task (get_or es i d ∷ []))
-counts-more task es i d lt = ap (counts_of task) (take_more es i d lt) ∙ counts-append task (take i es) (get_or es i d ∷ [])
+pub counts_elsewhere : (task : ℕ) (e : Entry) → (e.block.task == task) ≡ false → counts_of task (e ∷ []) ≡ no_counts
+counts_elsewhere task e other = rw other refl
 
-length-take-le : (xs : List Entry) (i : ℕ) → i < length xs → length (take i xs) ≤ i
-length-take-le xs i lt = omega (arith, length-take i xs)
+counts-cons : (task : ℕ) (x : Entry) (xs : List Entry) → counts_of task (x ∷ xs) ≡ sum_of (counts_of task (x ∷ [])) (counts_of task xs)
+counts-cons task x xs = counts-append task (x ∷ []) xs
 
--- so the counts so far can grow
-pub counts-room : (task : ℕ) (es : List Entry) (i : ℕ) (counts : Counts) → counts ≡ counts_of task (take i es) → i < length es → length es ≤ 16000000
-    → (counts.registered < 4294967295) × (counts.delivered ≤ counts.registered) × (counts.aborted ≤ counts.registered)
-counts-room task es i counts same lt few =
-    let h = counts-few task (take i es) in
-    subst (λ n. (n.registered < 4294967295) × (n.delivered ≤ n.registered) × (n.aborted ≤ n.registered)) (sym same) (omega (arith, h.0, length-take-le es i lt), h.1, h.2)
+-- where nothing is lost and nothing gained, the counts stay
+pub recounted_none : (lost gained counts : Counts) → lost ≡ no_counts → gained ≡ no_counts → counts ≡ recounted lost gained counts
+recounted_none lost gained counts x y =
+    same_counts _ _ (omega (arith, ap (λ n. n.registered) x, ap (λ n. n.registered) y)) (omega (arith, ap (λ n. n.delivered) x, ap (λ n. n.delivered) y)) (omega (arith, ap (λ n. n.aborted) x, ap (λ n. n.aborted) y))
 
--- those of the task alone count
-pub counts-own : (task : ℕ) (es : List Entry) → counts_of task (filter (λ entry. entry.block.task == task) es) ≡ counts_of task es
-counts-own task es = ap (λ (list : List Entry). record {
-  registered = length list;
-  delivered = length (filter (λ entry. is_delivered entry.state) list);
-  aborted = length (filter (λ entry. is_aborted entry.state) list);
-}) (twice es)
-  where
-    twice : (es : List Entry) → filter (λ (entry : Entry). entry.block.task == task) (filter (λ (entry : Entry). entry.block.task == task) es) ≡ filter (λ (entry : Entry). entry.block.task == task) es
-    twice [] = refl
-    twice (e ∷ es) = elim (cases_Bool (e.block.task == task)) [
-      | inl own ↦ rw own (rw own (ap (λ l. e ∷ l) (twice es)))
-      | inr other ↦ rw other (twice es)
-    ]
+-- one more block is counted
+pub counts-grown : (task : ℕ) (es : List Entry) (e : Entry) → recounted no_counts (counts_of task (e ∷ [])) (counts_of task es) ≡ counts_of task (es ++ e ∷ [])
+counts-grown task es e =
+    let all = counts-append task es (e ∷ []) in
+    same_counts _ _ (omega (arith, ap (λ n. n.registered) all)) (omega (arith, ap (λ n. n.delivered) all)) (omega (arith, ap (λ n. n.aborted) all))
 
-pub counts-one : (task : ℕ) (es : List Entry) (i : ℕ) (e : Entry) → slice_get es i ≡ Some e → counts_of task (take (i + 1) es) ≡ sum_of (counts_of task (take i es)) (counts_of task (e ∷ []))
-counts-one task es i e at = counts-more task es i e (slice_get_within es i e at) ∙ ap (λ x. sum_of (counts_of task (take i es)) (counts_of task (x ∷ []))) (get_or_from_slice_get es i e e at)
+-- the counts of one block are part of those of all
+pub counts_at : (task n : ℕ) (e : Entry) (es : List Entry) → slice_get es n ≡ Some e → AreNoMore (counts_of task (e ∷ [])) (counts_of task es)
+counts_at task n e es at = (
+  sum_at (λ xs. (counts_of task xs).registered) (λ x xs. ap (λ a. a.registered) (counts-cons task x xs)) n e es at,
+  sum_at (λ xs. (counts_of task xs).delivered) (λ x xs. ap (λ a. a.delivered) (counts-cons task x xs)) n e es at,
+  sum_at (λ xs. (counts_of task xs).aborted) (λ x xs. ap (λ a. a.aborted) (counts-cons task x xs)) n e es at,
+)
 
-pub own-few : (task : ℕ) (es : List Entry) → length (filter (λ (entry : Entry). entry.block.task == task) es) ≤ length es
-own-few task es = filter-le (λ (entry : Entry). entry.block.task == task) es
+-- one more block of another task
+pub counts-grown_other : (task : ℕ) (es : List Entry) (e : Entry) → (e.block.task == task) ≡ false → counts_of task es ≡ counts_of task (es ++ e ∷ [])
+counts-grown_other task es e other = recounted_none no_counts _ (counts_of task es) refl (counts_elsewhere task e other) ∙ counts-grown task es e
+
+module _ (task : ℕ) (s : State) (n : ℕ) (e : Entry) (es : List Entry) (at : slice_get es n ≡ Some e) where
+  -- those of the block as it was go, and those of it as it is come
+  pub counts-with_state : recounted (counts_of task (e ∷ [])) (counts_of task (record { block = e.block; state = s } ∷ [])) (counts_of task es) ≡ counts_of task (with_state s n es)
+  counts-with_state =
+      let part = counts_at task n e es at in
+      same_counts _ _
+      (omega (arith, part.0, sum-with_state (λ xs. (counts_of task xs).registered) (λ x xs. ap (λ a. a.registered) (counts-cons task x xs)) s n e es at))
+      (omega (arith, part.1, sum-with_state (λ xs. (counts_of task xs).delivered) (λ x xs. ap (λ a. a.delivered) (counts-cons task x xs)) s n e es at))
+      (omega (arith, part.2, sum-with_state (λ xs. (counts_of task xs).aborted) (λ x xs. ap (λ a. a.aborted) (counts-cons task x xs)) s n e es at))
+
+  -- a block of another task
+  pub counts-with_other : (e.block.task == task) ≡ false → counts_of task es ≡ counts_of task (with_state s n es)
+  counts-with_other other = recounted_none _ _ (counts_of task es) (counts_elsewhere task e other) (counts_elsewhere task (record { block = e.block; state = s }) other) ∙ counts-with_state

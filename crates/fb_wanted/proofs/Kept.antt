@@ -9,13 +9,17 @@ use Rattle.fb_units.specs.declared.types.Track.{Track}
 use Rattle.fb_units.specs.Tracks.{same_track}
 use Rattle.fb_wanted.specs.declared.block.Entry.{Entry}
 use Rattle.fb_wanted.specs.declared.block.State.{State}
+use Rattle.fb_wanted.specs.declared.block.Counts.{Counts}
+use Rattle.fb_wanted.specs.declared.tasks.OfTask.{OfTask}
 use Rattle.fb_wanted.specs.declared.tracks.OnTrack.{OnTrack}
+use Rattle.fb_wanted.specs.Counting.{counts_of, no_counts, recounted}
 use Rattle.fb_wanted.specs.Numbering.{AreInOrder, AreSmall, blocks_of, registered}
 use Rattle.fb_wanted.specs.Tracks.{wanted_weight}
-use Rattle.fb_wanted.specs.Index.{places, of_task, of_track, grown, reweighed, kept_from, kept_of, track_cmp, IsKept, with_state}
+use Rattle.fb_wanted.specs.Index.{places, of_task, of_track, grown, reweighed, no_blocks, grown_task, counted_anew, kept_of_task, kept_from, kept_of, track_cmp, IsKept, with_state}
 use Rattle.fb_wanted.proofs.Lists.{at_track}
 use Rattle.fb_wanted.proofs.Standing.{length-with_state, items-with_state, blocks-with_state, places-with_state, places-more_yes, places-more_no}
 use Rattle.fb_wanted.proofs.Numbers.{numbered-more, small-more}
+use Rattle.fb_wanted.proofs.Counted.{counts-grown, counts-grown_other, counts-with_state, counts-with_other}
 use Rattle.fb_wanted.proofs.Weights.{weight-append, weight-with_state, weight_elsewhere, weight_none, weight_at}
 
 pub same_one : (a b : Track) → same_track a b ≡ true → a ≡ b
@@ -47,6 +51,10 @@ kept-grown : (ps : List ℕ) (w place gained : ℕ) → (ps ≡ [] → w ≡ 0) 
 kept-grown [] w place gained none = let same : gained ≡ w + gained = omega (arith, none refl) in ap (kept_from (place ∷ [])) same
 kept-grown (p ∷ ps) w place gained none = refl
 
+-- tasks of equal parts
+same_blocks : (a b : OfTask) → a.places ≡ b.places → a.counts ≡ b.counts → a ≡ b
+same_blocks a b x y = rw (x, y) refl
+
 module _ (s : State) (n : ℕ) (e : Entry) (es : List Entry) (tracks new : BTreeMap Track OnTrack) (at : slice_get es n ≡ Some e) where
   abbrev pub turned : Entry
   turned = record { block = e.block; state = s }
@@ -73,15 +81,30 @@ module _ (s : State) (n : ℕ) (e : Entry) (es : List Entry) (tracks new : BTree
       let weight : wanted_weight t es ≡ wanted_weight t (with_state s n es) = omega (arith, lost, gained, change) in
       kept ∙ (ap (kept_from (places (of_track t) es)) weight ∙ ap (λ ps. kept_from ps (wanted_weight t (with_state s n es))) (sym (places-with_state (λ b. same_track t b.track) s n es)))
 
-  pub kept_turned : (tasks : List (List ℕ)) → IsKept es tasks tracks
+  kept_own : (task : ℕ) (blocks : OfTask) → (e.block.task == task) ≡ true → blocks ≡ kept_of_task task es
+      → counted_anew (counts_of e.block.task (e ∷ [])) (counts_of e.block.task (turned ∷ [])) blocks ≡ kept_of_task task (with_state s n es)
+  kept_own task blocks own kept =
+      let same : e.block.task ≡ task = grind (arith, nat_tests) in
+      ap (counted_anew (counts_of e.block.task (e ∷ [])) (counts_of e.block.task (turned ∷ []))) kept
+      ∙ (ap (λ u. counted_anew (counts_of u (e ∷ [])) (counts_of u (turned ∷ [])) (kept_of_task task es)) same
+      ∙ same_blocks _ _ (sym (places-with_state (λ b. b.task == task) s n es)) (counts-with_state task s n e es at))
+
+  kept_other : (task : ℕ) → (e.block.task == task) ≡ false → kept_of_task task es ≡ kept_of_task task (with_state s n es)
+  kept_other task other = same_blocks _ _ (sym (places-with_state (λ b. b.task == task) s n es)) (counts-with_other task s n e es at other)
+
+  pub kept_turned : (tasks more : List OfTask) → IsKept es tasks tracks
+      → ((k : ℕ) → get_or more k no_blocks ≡ (if e.block.task == k then counted_anew (counts_of e.block.task (e ∷ [])) (counts_of e.block.task (turned ∷ [])) (get_or tasks k no_blocks) else get_or tasks k no_blocks))
       → ((t : Track) → get track_cmp new t ≡ (if same_track e.block.track t then option_map (reweighed (wanted_weight e.block.track (e ∷ [])) (wanted_weight e.block.track (turned ∷ []))) (get track_cmp tracks t) else get track_cmp tracks t))
-      → IsKept (with_state s n es) tasks new
-  kept_turned tasks h changed = record {
+      → IsKept (with_state s n es) more new
+  kept_turned tasks more h counted changed = record {
     in_order = subst AreInOrder (sym (blocks-with_state s n es)) h.in_order;
     few = omega (arith, length-with_state s n es, h.few);
     small = subst AreSmall (sym (blocks-with_state s n es)) h.small;
     index = record {
-      by_task = λ task. h.index.by_task task ∙ sym (places-with_state (λ b. b.task == task) s n es);
+      by_task = λ task. elim (cases_Bool (e.block.task == task)) [
+        | inl own ↦ counted task ∙ rw own (kept_own task (get_or tasks task no_blocks) own (h.index.by_task task))
+        | inr other ↦ counted task ∙ rw other (h.index.by_task task ∙ kept_other task other)
+      ];
       by_track = λ t. elim (cases_Bool (same_track e.block.track t)) [
         | inl here ↦ changed t ∙ rw here (kept_there t here (h.index.by_track t))
         | inr other ↦ changed t ∙ rw other (kept_elsewhere t other (h.index.by_track t))
@@ -90,23 +113,38 @@ module _ (s : State) (n : ℕ) (e : Entry) (es : List Entry) (tracks new : BTree
   }
 
   -- as it is written in its place
-  pub kept_set : (tasks : List (List ℕ)) (lost gained : ℕ) → IsKept es tasks tracks → lost ≡ wanted_weight e.block.track (e ∷ []) → gained ≡ wanted_weight e.block.track (turned ∷ [])
+  pub kept_set : (tasks more : List OfTask) (was is : Counts) (lost gained : ℕ) → IsKept es tasks tracks
+      → was ≡ counts_of e.block.task (e ∷ []) → is ≡ counts_of e.block.task (turned ∷ []) → lost ≡ wanted_weight e.block.track (e ∷ []) → gained ≡ wanted_weight e.block.track (turned ∷ [])
+      → ((k : ℕ) → get_or more k no_blocks ≡ (if e.block.task == k then counted_anew was is (get_or tasks k no_blocks) else get_or tasks k no_blocks))
       → ((t : Track) → get track_cmp new t ≡ (if same_track e.block.track t then option_map (reweighed lost gained) (get track_cmp tracks t) else get track_cmp tracks t))
-      → IsKept (set es n turned) tasks new
-  kept_set tasks lost gained h loses gains changed =
+      → IsKept (set es n turned) more new
+  kept_set tasks more was is lost gained h before after loses gains counted changed =
+      let counts : (k : ℕ) → get_or more k no_blocks ≡ (if e.block.task == k then counted_anew (counts_of e.block.task (e ∷ [])) (counts_of e.block.task (turned ∷ [])) (get_or tasks k no_blocks) else get_or tasks k no_blocks)
+      = λ k. counted k
+      ∙ (ap (λ x. if e.block.task == k then counted_anew x is (get_or tasks k no_blocks) else get_or tasks k no_blocks) before
+      ∙ ap (λ x. if e.block.task == k then counted_anew (counts_of e.block.task (e ∷ [])) x (get_or tasks k no_blocks) else get_or tasks k no_blocks) after) in
       let weights : (t : Track) → get track_cmp new t ≡ (if same_track e.block.track t then option_map (reweighed (wanted_weight e.block.track (e ∷ [])) (wanted_weight e.block.track (turned ∷ []))) (get track_cmp tracks t) else get track_cmp tracks t)
       = λ t. changed t
       ∙ (ap (λ l. if same_track e.block.track t then option_map (reweighed l gained) (get track_cmp tracks t) else get track_cmp tracks t) loses
       ∙ ap (λ g. if same_track e.block.track t then option_map (reweighed (wanted_weight e.block.track (e ∷ [])) g) (get track_cmp tracks t) else get track_cmp tracks t) gains) in
-      subst (λ l. IsKept l tasks new) (sym (items-with_state s n e es at)) (kept_turned tasks h weights)
+      subst (λ l. IsKept l more new) (sym (items-with_state s n e es at)) (kept_turned tasks more h counts weights)
 
-module _ (e : Entry) (es : List Entry) (tasks newtasks : List (List ℕ)) (tracks new : BTreeMap Track OnTrack) where
-  more_of_task : (task : ℕ) → get_or tasks task [] ≡ places (of_task task) es
-      → get_or newtasks task [] ≡ (if e.block.task == task then get_or tasks task [] ++ length es ∷ [] else get_or tasks task [])
-      → get_or newtasks task [] ≡ places (of_task task) (es ++ e ∷ [])
+module _ (e : Entry) (es : List Entry) (tasks newtasks : List OfTask) (tracks new : BTreeMap Track OnTrack) where
+  more_own : (task : ℕ) (blocks : OfTask) → (e.block.task == task) ≡ true → blocks ≡ kept_of_task task es → grown_task (length es) e blocks ≡ kept_of_task task (es ++ e ∷ [])
+  more_own task blocks own kept =
+      let same : e.block.task ≡ task = grind (arith, nat_tests) in
+      ap (grown_task (length es) e) kept
+      ∙ same_blocks _ _ (sym (places-more_yes (of_task task) es e own)) (ap (λ u. recounted no_counts (counts_of u (e ∷ [])) (counts_of task es)) same ∙ counts-grown task es e)
+
+  more_other : (task : ℕ) → (e.block.task == task) ≡ false → kept_of_task task es ≡ kept_of_task task (es ++ e ∷ [])
+  more_other task other = same_blocks _ _ (sym (places-more_no (of_task task) es e other)) (counts-grown_other task es e other)
+
+  more_of_task : (task : ℕ) → get_or tasks task no_blocks ≡ kept_of_task task es
+      → get_or newtasks task no_blocks ≡ (if e.block.task == task then grown_task (length es) e (get_or tasks task no_blocks) else get_or tasks task no_blocks)
+      → get_or newtasks task no_blocks ≡ kept_of_task task (es ++ e ∷ [])
   more_of_task task kept changed = elim (cases_Bool (e.block.task == task)) [
-    | inl own ↦ changed ∙ rw own (ap (λ ps. ps ++ length es ∷ []) kept ∙ sym (places-more_yes (of_task task) es e own))
-    | inr other ↦ changed ∙ rw other (kept ∙ sym (places-more_no (of_task task) es e other))
+    | inl own ↦ changed ∙ rw own (more_own task (get_or tasks task no_blocks) own kept)
+    | inr other ↦ changed ∙ rw other (kept ∙ more_other task other)
   ]
 
   more_on_track : (t : Track) → get track_cmp tracks t ≡ kept_of t es
@@ -130,7 +168,7 @@ module _ (e : Entry) (es : List Entry) (tasks newtasks : List (List ℕ)) (track
   ]
 
   pub kept_more : IsKept es tasks tracks → e.block.index ≡ registered e.block.task (blocks_of es) → length es < 16000000 → e.block.weight ≤ 1000 → e.block.count ≤ 2048
-      → ((task : ℕ) → get_or newtasks task [] ≡ (if e.block.task == task then get_or tasks task [] ++ length es ∷ [] else get_or tasks task []))
+      → ((task : ℕ) → get_or newtasks task no_blocks ≡ (if e.block.task == task then grown_task (length es) e (get_or tasks task no_blocks) else get_or tasks task no_blocks))
       → ((t : Track) → get track_cmp new t ≡ (if same_track e.block.track t then Some (grown (length es) (wanted_weight e.block.track (e ∷ [])) (get track_cmp tracks t)) else get track_cmp tracks t))
       → IsKept (es ++ e ∷ []) newtasks new
   kept_more h free room light short by_task by_track = record {
@@ -146,12 +184,12 @@ module _ (e : Entry) (es : List Entry) (tasks newtasks : List (List ℕ)) (track
   -- as it is pushed at the end
   pub kept_pushed : (items : List Entry) (place : ℕ) → items ≡ es ++ e ∷ [] → place ≡ length es
       → IsKept es tasks tracks → e.block.index ≡ registered e.block.task (blocks_of es) → length es < 16000000 → e.block.weight ≤ 1000 → e.block.count ≤ 2048
-      → ((task : ℕ) → get_or newtasks task [] ≡ (if e.block.task == task then get_or tasks task [] ++ place ∷ [] else get_or tasks task []))
+      → ((task : ℕ) → get_or newtasks task no_blocks ≡ (if e.block.task == task then grown_task place e (get_or tasks task no_blocks) else get_or tasks task no_blocks))
       → ((t : Track) → get track_cmp new t ≡ (if same_track e.block.track t then Some (grown place (wanted_weight e.block.track (e ∷ [])) (get track_cmp tracks t)) else get track_cmp tracks t))
       → IsKept items newtasks new
   kept_pushed items place list is h free room light short by_task by_track =
       subst (λ l. IsKept l newtasks new) (sym list) (kept_more h free room light short
-      (subst (λ p. (task : ℕ) → get_or newtasks task [] ≡ (if e.block.task == task then get_or tasks task [] ++ p ∷ [] else get_or tasks task [])) is by_task)
+      (subst (λ p. (task : ℕ) → get_or newtasks task no_blocks ≡ (if e.block.task == task then grown_task p e (get_or tasks task no_blocks) else get_or tasks task no_blocks)) is by_task)
       (subst (λ p. (t : Track) → get track_cmp new t ≡ (if same_track e.block.track t then Some (grown p (wanted_weight e.block.track (e ∷ [])) (get track_cmp tracks t)) else get track_cmp tracks t)) is by_track))
 
 -- a track that had no block

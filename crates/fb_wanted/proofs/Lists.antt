@@ -5,15 +5,19 @@ use Rattle.std.proofs.lemmas.Bool.{cases_Bool, cases_lt}
 use Rattle.std.proofs.lemmas.Bool.Decides.{nat_tests}
 use Rattle.fb_units.specs.declared.types.Track.{Track}
 use Rattle.fb_units.specs.Tracks.{same_track}
-use Rattle.fb_wanted.specs.Index.{track_cmp, fall_cmp}
+use Rattle.fb_wanted.specs.declared.block.Counts.{Counts}
+use Rattle.fb_wanted.specs.declared.block.Entry.{Entry}
+use Rattle.fb_wanted.specs.declared.tasks.OfTask.{OfTask}
+use Rattle.fb_wanted.specs.Counting.{counts_of, no_counts}
+use Rattle.fb_wanted.specs.Index.{track_cmp, fall_cmp, no_blocks, joined, counted_anew, grown_task}
 use Rattle.fb_wanted.specs.Tracks.{IsTrackBefore}
 
 pub on_err : {T E P : Type 0} (r : Result T E) → P → OnErr r P
 on_err (Ok x) p = tt
 on_err (Err e) p = p
 
--- an empty list more
-pub one_empty : (xs : List (List ℕ)) (k : ℕ) → get_or (xs ++ [] ∷ []) k [] ≡ get_or xs k []
+-- a task with no block more
+pub one_empty : (xs : List OfTask) (k : ℕ) → get_or (xs ++ no_blocks ∷ []) k no_blocks ≡ get_or xs k no_blocks
 one_empty [] zero = refl
 one_empty [] (suc k) = refl
 one_empty (x ∷ xs) zero = refl
@@ -40,18 +44,30 @@ before_or_not a b = elim (cases_lt a.cylinder b.cylinder) [
   ]
 ]
 
--- the last place of a list is taken back
-pub taken_back : (old one two : List (List ℕ)) (n place : ℕ)
-    → ((k : ℕ) → get_or one k [] ≡ (if n == k then get_or old k [] ++ place ∷ [] else get_or old k []))
-    → ((ps : List ℕ) (last : ℕ) → get_or one n [] ≡ ps ++ last ∷ [] → (k : ℕ) → get_or two k [] ≡ (if n == k then ps else get_or one k []))
-    → (k : ℕ) → get_or two k [] ≡ get_or old k []
+-- the last place of a task is taken back
+pub taken_back : (old one two : List OfTask) (n place : ℕ)
+    → ((k : ℕ) → get_or one k no_blocks ≡ (if n == k then joined place (get_or old k no_blocks) else get_or old k no_blocks))
+    → ((blocks : OfTask) (last : ℕ) → get_or one n no_blocks ≡ joined last blocks → (k : ℕ) → get_or two k no_blocks ≡ (if n == k then blocks else get_or one k no_blocks))
+    → (k : ℕ) → get_or two k no_blocks ≡ get_or old k no_blocks
 taken_back old one two n place added back k =
     let itself : (n == n) ≡ true = grind (arith, nat_tests) in
-    let last : get_or one n [] ≡ get_or old n [] ++ place ∷ [] = added n ∙ rw itself refl in
+    let last : get_or one n no_blocks ≡ joined place (get_or old n no_blocks) = added n ∙ rw itself refl in
     elim (cases_Bool (n == k)) [
-      | inl here ↦ let same : n ≡ k = grind (arith, nat_tests) in back (get_or old n []) place last k ∙ rw here (ap (λ j. get_or old j []) same)
-      | inr other ↦ back (get_or old n []) place last k ∙ rw other (added k ∙ rw other refl)
+      | inl here ↦ let same : n ≡ k = grind (arith, nat_tests) in back (get_or old n no_blocks) place last k ∙ rw here (ap (λ j. get_or old j no_blocks) same)
+      | inr other ↦ back (get_or old n no_blocks) place last k ∙ rw other (added k ∙ rw other refl)
     ]
+
+-- a place is added to those of a task, and its block is counted
+pub joined_counted : (old one two : List OfTask) (place : ℕ) (e : Entry) (lost gained : Counts) → lost ≡ no_counts → gained ≡ counts_of e.block.task (e ∷ [])
+    → ((k : ℕ) → get_or one k no_blocks ≡ (if e.block.task == k then joined place (get_or old k no_blocks) else get_or old k no_blocks))
+    → ((k : ℕ) → get_or two k no_blocks ≡ (if e.block.task == k then counted_anew lost gained (get_or one k no_blocks) else get_or one k no_blocks))
+    → (k : ℕ) → get_or two k no_blocks ≡ (if e.block.task == k then grown_task place e (get_or old k no_blocks) else get_or old k no_blocks)
+joined_counted old one two place e lost gained none more added counted k = elim (cases_Bool (e.block.task == k)) [
+  | inl here ↦
+      let blocks = joined place (get_or old k no_blocks) in
+      counted k ∙ rw here (ap (counted_anew lost gained) (added k ∙ rw here refl) ∙ (ap (λ x. counted_anew x gained blocks) none ∙ ap (λ x. counted_anew no_counts x blocks) more))
+  | inr other ↦ counted k ∙ rw other (added k ∙ rw other refl)
+]
 
 pub from_fall : (task from j : ℕ) → from ≤ j → is_gt (fall_cmp (task, from) (task, j)) ≡ false
 from_fall task from j h = grind (arith, nat_tests)

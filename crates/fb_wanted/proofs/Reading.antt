@@ -1,26 +1,24 @@
 -- What is read of a task and of a track.
-use Rattle.std.proofs.Common.{◌≡◌, ℕ, ◌+◌, ◌<◌, ◌≤◌, inl, inr, List, [], ◌∷◌, Option, Some, None, Bool, length, filter, slice_get, get_or, IsSome, IfSome, IfNone, true≢false, ◌*◌, refl, ap, sym, ◌∙◌, arith, subst, option_map}
+use Rattle.std.proofs.Common.{◌≡◌, ℕ, ◌+◌, ◌<◌, ◌≤◌, inl, inr, List, [], ◌∷◌, Option, Some, None, true, length, filter, slice_get, get_or, IsSome, IfSome, IfNone, true≢false, ◌*◌, refl, ap, sym, ◌∙◌, arith, subst, option_map}
 use Rattle.std.specs.BTreeMap.{BTreeMap, get, ContainsKey}
-use Rattle.std.proofs.lemmas.Bool.{cases_Bool, cases_lt}
+use Rattle.std.proofs.lemmas.Bool.{cases_lt}
+use Rattle.std.proofs.lemmas.Bool.Decides.{nat_tests}
 use Rattle.std.proofs.lemmas.List.{get_or_past}
-use Rattle.std.proofs.lemmas.Option.{slice_get-map}
+use Rattle.std.proofs.lemmas.Option.{slice_get-map, slice_get_within}
 use Rattle.fb_units.specs.declared.types.Track.{Track}
 use Rattle.fb_wanted.specs.declared.block.Entry.{Entry}
+use Rattle.fb_wanted.specs.declared.block.Counts.{Counts}
+use Rattle.fb_wanted.specs.declared.tasks.OfTask.{OfTask}
 use Rattle.fb_wanted.specs.declared.tracks.OnTrack.{OnTrack}
+use Rattle.fb_wanted.specs.Counting.{counts_of, sum_of, AreNoMore, Fit}
 use Rattle.fb_wanted.specs.States.{on_track}
 use Rattle.fb_wanted.specs.Numbering.{blocks_of}
 use Rattle.fb_wanted.specs.Tracks.{wanted_weight, HasBlock, IsTrackBefore, IsNextTrack}
-use Rattle.fb_wanted.specs.Index.{places, of_task, of_track, kept_from, track_cmp, IsKept}
-use Rattle.fb_wanted.proofs.Standing.{length-places, at_place}
+use Rattle.fb_wanted.specs.Index.{places, of_task, of_track, kept_from, track_cmp, IsKept, no_blocks}
+use Rattle.fb_wanted.proofs.Standing.{length-places, at_place, among}
+use Rattle.fb_wanted.proofs.Counted.{filter-le, counts_at, counts-few}
 use Rattle.fb_wanted.proofs.Kept.{kept_some, kept_none}
 use Rattle.fb_wanted.proofs.Weights.{weight_none, weight_at, weight-le}
-
-few_pass : (p : Entry → Bool) (es : List Entry) → length (filter p es) ≤ length es
-few_pass p [] = omega arith
-few_pass p (e ∷ es) = elim (cases_Bool (p e)) [
-  | inl yes' ↦ rw yes' (omega (arith, few_pass p es))
-  | inr no' ↦ rw no' (omega (arith, few_pass p es))
-]
 
 some_kept : (ps : List ℕ) (w : ℕ) → 0 < length ps → IsSome (kept_from ps w)
 some_kept [] w lt = absurd (omega arith)
@@ -38,14 +36,17 @@ le_kept : (ps : List ℕ) (w : ℕ) → w ≤ 32768000000000 → IfSome (kept_fr
 le_kept [] w all = tt
 le_kept (p ∷ ps) w all = all
 
-module _ (es : List Entry) (tasks : List (List ℕ)) (tracks : BTreeMap Track OnTrack) (h : IsKept es tasks tracks) where
-  pub task_count : (task n : ℕ) (ps : List ℕ) → n ≡ length ps → ps ≡ get_or tasks task [] → (n ≤ 16000000) × (n ≡ length (filter (of_task task) es))
-  task_count task n ps is at =
-      let same : n ≡ length (filter (of_task task) es) = is ∙ (ap length (at ∙ h.index.by_task task) ∙ length-places (of_task task) es) in
-      (omega (arith, same, few_pass (of_task task) es, h.few), same)
+module _ (es : List Entry) (tasks : List OfTask) (tracks : BTreeMap Track OnTrack) (h : IsKept es tasks tracks) where
+  task_length : (task : ℕ) (blocks : OfTask) → blocks ≡ get_or tasks task no_blocks → length blocks.places ≡ length (filter (of_task task) es)
+  task_length task blocks at = ap (λ b. length b.places) (at ∙ h.index.by_task task) ∙ length-places (of_task task) es
+
+  pub task_count : (task n : ℕ) (blocks : OfTask) → n ≡ length blocks.places → blocks ≡ get_or tasks task no_blocks → (n ≤ 16000000) × (n ≡ length (filter (of_task task) es))
+  task_count task n blocks is at =
+      let same : n ≡ length (filter (of_task task) es) = is ∙ task_length task blocks at in
+      (omega (arith, same, filter-le (of_task task) es, h.few), same)
 
   pub no_task : (task : ℕ) → length tasks ≤ task → 0 ≡ length (filter (of_task task) es)
-  no_task task past = ap length (sym (get_or_past tasks task [] past) ∙ h.index.by_task task) ∙ length-places (of_task task) es
+  no_task task past = task_length task no_blocks (sym (get_or_past tasks task no_blocks past))
 
   pub task_there : (task k : ℕ) → k < length (filter (of_task task) es) → task < length tasks
   task_there task k lt = elim (cases_lt task (length tasks)) [
@@ -53,10 +54,32 @@ module _ (es : List Entry) (tasks : List (List ℕ)) (tracks : BTreeMap Track On
     | inr past ↦ absurd (omega (arith, no_task task past, lt))
   ]
 
-  pub task_place : (task k : ℕ) (ps : List ℕ) → ps ≡ get_or tasks task [] → k < length (filter (of_task task) es) → k < length ps
-  task_place task k ps at lt =
-      let same : length ps ≡ length (filter (of_task task) es) = ap length (at ∙ h.index.by_task task) ∙ length-places (of_task task) es in
-      omega (arith, same, lt)
+  pub task_place : (task k : ℕ) (blocks : OfTask) → blocks ≡ get_or tasks task no_blocks → k < length (filter (of_task task) es) → k < length blocks.places
+  task_place task k blocks at lt = omega (arith, task_length task blocks at, lt)
+
+  -- the counts that are kept of a task
+  pub task_counts : (task : ℕ) (blocks : OfTask) → blocks ≡ get_or tasks task no_blocks → blocks.counts ≡ counts_of task es
+  task_counts task blocks at = ap (λ b. b.counts) (at ∙ h.index.by_task task)
+
+  kept_counts : (task : ℕ) → (get_or tasks task no_blocks).counts ≡ counts_of task es
+  kept_counts task = task_counts task (get_or tasks task no_blocks) refl
+
+  -- a registered block is one of its task's, and counts among them
+  pub its_task_there : (n : ℕ) (e : Entry) → slice_get es n ≡ Some e → e.block.task < length tasks
+  its_task_there n e at =
+      let own : of_task e.block.task e ≡ true = grind (arith, nat_tests) in
+      let place = among (of_task e.block.task) es n e at own in
+      task_there e.block.task place.0 (slice_get_within (filter (of_task e.block.task) es) place.0 e place.2)
+
+  pub counts_part : (n : ℕ) (e : Entry) (lost : Counts) → slice_get es n ≡ Some e → lost ≡ counts_of e.block.task (e ∷ []) → AreNoMore lost (get_or tasks e.block.task no_blocks).counts
+  counts_part n e lost at is = rw (is, kept_counts e.block.task) (counts_at e.block.task n e es at)
+
+  -- another block's counts fit beside those of the task
+  pub counts_room : (task : ℕ) (e : Entry) (gained : Counts) → gained ≡ counts_of task (e ∷ []) → Fit (sum_of (get_or tasks task no_blocks).counts gained)
+  counts_room task e gained is =
+      let one = counts-few task (e ∷ []) in
+      let all = counts-few task es in
+      rw (is, kept_counts task) (omega (arith, one.0, all.0, h.few), omega (arith, one.1, all.1, h.few), omega (arith, one.2, all.2, h.few))
 
   pub track_kept : (t : Track) (on : OnTrack) → Some on ≡ get track_cmp tracks t → (on.places ≡ places (of_track t) es) × (on.weight ≡ wanted_weight t es)
   track_kept t on at = kept_some (places (of_track t) es) (wanted_weight t es) on (sym (at ∙ h.index.by_track t))
@@ -64,7 +87,7 @@ module _ (es : List Entry) (tasks : List (List ℕ)) (tracks : BTreeMap Track On
   pub track_count : (t : Track) (on : OnTrack) (n : ℕ) → Some on ≡ get track_cmp tracks t → n ≡ length on.places → (n ≤ 16000000) × (n ≡ length (on_track t es))
   track_count t on n at is =
       let same : n ≡ length (on_track t es) = is ∙ (ap length (track_kept t on at).0 ∙ length-places (of_track t) es) in
-      (omega (arith, same, few_pass (of_track t) es, h.few), same)
+      (omega (arith, same, filter-le (of_track t) es, h.few), same)
 
   pub no_track : (t : Track) → None ≡ get track_cmp tracks t → (0 ≡ length (on_track t es)) × (0 ≡ wanted_weight t es)
   no_track t at =

@@ -1,11 +1,10 @@
 -- The weight of a track's wanted blocks.
-use Rattle.std.proofs.Common.{◌≡◌, ℕ, zero, suc, ◌+◌, ◌*◌, ◌≤◌, inl, inr, List, [], ◌∷◌, ◌++◌, Some, Bool, if◌then◌else◌, true, false, length, map, slice_get, refl, ap, ◌∙◌, arith}
+use Rattle.std.proofs.Common.{◌≡◌, ℕ, suc, ◌+◌, ◌*◌, ◌≤◌, inl, inr, List, [], ◌∷◌, ◌++◌, Some, Bool, if◌then◌else◌, true, false, length, map, slice_get, refl, ap, ◌∙◌, arith}
 use Rattle.std.specs.List.{sum_by}
 use Rattle.std.proofs.lemmas.Bool.{cases_Bool}
 use Rattle.std.proofs.lemmas.List.Elements.{filter-append}
 use Rattle.std.proofs.lemmas.List.Sums.{sum_by-append}
 use Rattle.std.proofs.lemmas.Nat.{mul-le}
-use Rattle.std.proofs.lemmas.Option.{same_Some, none-some}
 use Rattle.fb_units.specs.declared.types.Track.{Track}
 use Rattle.fb_units.specs.Tracks.{same_track}
 use Rattle.fb_wanted.specs.declared.block.Block.{Block}
@@ -15,6 +14,7 @@ use Rattle.fb_wanted.specs.States.{on_track, is_wanted, wanted_of}
 use Rattle.fb_wanted.specs.Numbering.{AreSmall, blocks_of}
 use Rattle.fb_wanted.specs.Tracks.{wanted_weight}
 use Rattle.fb_wanted.specs.Index.{places, of_track, with_state}
+use Rattle.fb_wanted.proofs.Sums.{sum-with_state, sum_at}
 
 wanted-append : (xs ys : List Entry) → wanted_of (xs ++ ys) ≡ wanted_of xs ++ wanted_of ys
 wanted-append [] ys = refl
@@ -35,19 +35,7 @@ weight-cons t e es = weight-append t (e ∷ []) es
 -- the weight of one block goes, and the other comes
 pub weight-with_state : (t : Track) (s : State) (n : ℕ) (e : Entry) (es : List Entry) → slice_get es n ≡ Some e
     → wanted_weight t (with_state s n es) + wanted_weight t (e ∷ []) ≡ wanted_weight t es + wanted_weight t (record { block = e.block; state = s } ∷ [])
-weight-with_state t s n e [] h = absurd (none-some e h)
-weight-with_state t s zero e (x ∷ es) h =
-    let same = same_Some x e h in
-    let old = weight-cons t x es in
-    let one = ap (λ y. wanted_weight t (y ∷ [])) same in
-    let two = ap (λ (y : Entry). let z : Entry = record { block = y.block; state = s } in wanted_weight t (z ∷ [])) same in
-    let new = weight-cons t (record { block = x.block; state = s }) es in
-    omega (arith, old, new, one, two)
-weight-with_state t s (suc n) e (x ∷ es) h =
-    let rest = weight-with_state t s n e es h in
-    let old = weight-cons t x es in
-    let new = weight-cons t x (with_state s n es) in
-    omega (arith, old, new, rest)
+weight-with_state t s n e es at = sum-with_state (wanted_weight t) (weight-cons t) s n e es at
 
 pub weight_elsewhere : (t : Track) (e : Entry) → same_track t e.block.track ≡ false → wanted_weight t (e ∷ []) ≡ 0
 weight_elsewhere t e other = rw other refl
@@ -64,9 +52,7 @@ weight_none t (e ∷ es) h =
     omega (arith, weight-cons t e es, weight_elsewhere t e none.0, weight_none t es none.1)
 
 pub weight_at : (t : Track) (n : ℕ) (e : Entry) (es : List Entry) → slice_get es n ≡ Some e → wanted_weight t (e ∷ []) ≤ wanted_weight t es
-weight_at t n e [] h = absurd (none-some e h)
-weight_at t zero e (x ∷ es) h = let one = ap (λ y. wanted_weight t (y ∷ [])) (same_Some x e h) in omega (arith, weight-cons t x es, one)
-weight_at t (suc n) e (x ∷ es) h = omega (arith, weight-cons t x es, weight_at t n e es h)
+weight_at t n e es at = sum_at (wanted_weight t) (weight-cons t) n e es at
 
 weight_small : (t : Track) (e : Entry) → e.block.weight ≤ 1000 → e.block.count ≤ 2048 → wanted_weight t (e ∷ []) ≤ 2048000
 weight_small t e light short = elim (cases_Bool (same_track t e.block.track)) [

@@ -1,5 +1,5 @@
 -- How many blocks of a task there are in each state.
-use Rattle.std.specs.Prelude.{ℕ, ◌+◌, ◌==◌, List, length, filter}
+use Rattle.std.specs.Prelude.{ℕ, ◌+◌, ◌-◌, ◌≤◌, ◌<◌, ◌^◌, ◌==◌, List, length, filter}
 use Rattle.fb_wanted.specs.declared.block.Counts.{Counts}
 use Rattle.fb_wanted.specs.declared.block.Entry.{Entry}
 use Rattle.fb_wanted.specs.States.{is_delivered, is_aborted}
@@ -18,3 +18,23 @@ counts_of task entries = record {
 -- the counts of both
 abbrev pub sum_of : Counts → Counts → Counts
 sum_of a b = record { registered = a.registered + b.registered; delivered = a.delivered + b.delivered; aborted = a.aborted + b.aborted }
+
+-- the counts of no block
+abbrev pub no_counts : Counts
+no_counts = record { registered = 0; delivered = 0; aborted = 0 }
+
+-- the counts with one part lost and another gained
+abbrev pub recounted : Counts → Counts → Counts → Counts
+recounted lost gained counts = record {
+  registered = counts.registered - lost.registered + gained.registered;
+  delivered = counts.delivered - lost.delivered + gained.delivered;
+  aborted = counts.aborted - lost.aborted + gained.aborted;
+}
+
+-- none of them is more than the other's
+abbrev pub AreNoMore : Counts → Counts → Type 0
+AreNoMore a b = (a.registered ≤ b.registered) × (a.delivered ≤ b.delivered) × (a.aborted ≤ b.aborted)
+
+-- each of them fits in its field
+abbrev pub Fit : Counts → Type 0
+Fit counts = (counts.registered < 2 ^ 32) × (counts.delivered < 2 ^ 32) × (counts.aborted < 2 ^ 32)

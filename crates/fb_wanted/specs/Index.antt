@@ -8,9 +8,12 @@ use Rattle.fb_units.specs.declared.types.Track.{Track}
 use Rattle.fb_units.specs.Tracks.{same_track}
 use Rattle.fb_wanted.specs.declared.block.Block.{Block}
 use Rattle.fb_wanted.specs.declared.block.Change.{Change}
+use Rattle.fb_wanted.specs.declared.block.Counts.{Counts}
 use Rattle.fb_wanted.specs.declared.block.Entry.{Entry}
 use Rattle.fb_wanted.specs.declared.block.State.{State}
+use Rattle.fb_wanted.specs.declared.tasks.OfTask.{OfTask}
 use Rattle.fb_wanted.specs.declared.tracks.OnTrack.{OnTrack}
+use Rattle.fb_wanted.specs.Counting.{counts_of, no_counts, recounted}
 use Rattle.fb_wanted.specs.States.{shares, state_after}
 use Rattle.fb_wanted.specs.Numbering.{AreInOrder, AreSmall, blocks_of}
 use Rattle.fb_wanted.specs.Tracks.{wanted_weight}
@@ -30,6 +33,26 @@ of_task task entry = entry.block.task == task
 abbrev pub of_track : Track → Entry → Bool
 of_track track entry = same_track track entry.block.track
 
+-- a task with no block
+abbrev pub no_blocks : OfTask
+no_blocks = record { places = []; counts = no_counts }
+
+-- a task with one more place
+abbrev pub joined : ℕ → OfTask → OfTask
+joined place blocks = record { places = blocks.places ++ place ∷ []; counts = blocks.counts }
+
+-- a task with one part of its counts lost and another gained
+abbrev pub counted_anew : Counts → Counts → OfTask → OfTask
+counted_anew lost gained blocks = record { places = blocks.places; counts = recounted lost gained blocks.counts }
+
+-- a task with one more block
+abbrev pub grown_task : ℕ → Entry → OfTask → OfTask
+grown_task place entry blocks = counted_anew no_counts (counts_of entry.block.task (entry ∷ [])) (joined place blocks)
+
+-- what is kept of a task
+abbrev pub kept_of_task : ℕ → List Entry → OfTask
+kept_of_task task entries = record { places = places (of_task task) entries; counts = counts_of task entries }
+
 -- a track with one more block
 abbrev pub grown : ℕ → ℕ → Option OnTrack → OnTrack
 grown place weight None = record { places = place ∷ []; weight = weight }
@@ -48,8 +71,8 @@ abbrev pub kept_of : Track → List Entry → Option OnTrack
 kept_of track entries = kept_from (places (of_track track) entries) (wanted_weight track entries)
 
 -- what is kept of each task and of each track
-pub record IsIndex (entries : List Entry) (tasks : List (List ℕ)) (tracks : BTreeMap Track OnTrack) : Type 0 where
-  pub by_task : (task : ℕ) → get_or tasks task [] ≡ places (of_task task) entries
+pub record IsIndex (entries : List Entry) (tasks : List OfTask) (tracks : BTreeMap Track OnTrack) : Type 0 where
+  pub by_task : (task : ℕ) → get_or tasks task no_blocks ≡ kept_of_task task entries
   pub by_track : (track : Track) → get track_cmp tracks track ≡ kept_of track entries
 
 -- the LBNs of the task's blocks, in order of registration
@@ -73,7 +96,7 @@ abbrev pub IsWithin : Change → ℕ → ℕ → Type 0
 IsWithin change first count = (block : Block) (state : State) → shares first count block ≡ false → state_after change block state ≡ state
 
 -- the registered blocks, and what is kept beside them
-pub record IsKept (entries : List Entry) (tasks : List (List ℕ)) (tracks : BTreeMap Track OnTrack) : Type 0 where
+pub record IsKept (entries : List Entry) (tasks : List OfTask) (tracks : BTreeMap Track OnTrack) : Type 0 where
   pub in_order : AreInOrder (blocks_of entries)
   pub few : length entries ≤ 16000000
   pub small : AreSmall (blocks_of entries)

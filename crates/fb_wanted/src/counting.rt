@@ -1,35 +1,52 @@
 // How many blocks of a task there are in each state.
-ghost use Rattle.std.specs.Prelude.{◌≡◌, ◌+◌, ◌-◌, ◌<◌, ◌≤◌, ◌^◌, [], ◌∷◌};
-ghost use Rattle.fb_wanted.specs.Counting.{counts_of, sum_of};
+ghost use Rattle.std.specs.Prelude.{◌≡◌, [], ◌∷◌};
+ghost use Rattle.fb_wanted.specs.Counting.{counts_of, no_counts, sum_of, recounted, AreNoMore, Fit};
 
 use crate::{Counts, Entry, State};
 
-/// The counts with one more block, where it is the task's.
-pub fn counted(counts: Counts, entry: Entry, task: u32) -> Counts
-    requires few { counts.registered < 2 ^ 32 - 1 }
-    requires delivered { counts.delivered ≤ counts.registered }
-    requires aborted { counts.aborted ≤ counts.registered }
-    ensures { result ≡ sum_of counts (counts_of task (entry ∷ [])) }
+/// The counts of a task with no block.
+pub fn no_counts() -> Counts
+    ensures { result ≡ no_counts }
 {
-    if entry.block.task != task {
-        return counts;
+    Counts {
+        registered: 0,
+        delivered: 0,
+        aborted: 0,
     }
-    let registered = counts.registered + 1;
+}
+
+/// What the block adds to the counts of its task.
+pub fn counts_of(entry: Entry) -> Counts
+    ensures { result ≡ counts_of entry.block.task (entry ∷ []) }
+{
     match entry.state {
         State::Delivered => Counts {
-            registered,
-            delivered: counts.delivered + 1,
-            aborted: counts.aborted,
+            registered: 1,
+            delivered: 1,
+            aborted: 0,
         },
         State::Aborted => Counts {
-            registered,
-            delivered: counts.delivered,
-            aborted: counts.aborted + 1,
+            registered: 1,
+            delivered: 0,
+            aborted: 1,
         },
         _ => Counts {
-            registered,
-            delivered: counts.delivered,
-            aborted: counts.aborted,
+            registered: 1,
+            delivered: 0,
+            aborted: 0,
         },
+    }
+}
+
+/// The counts with one part lost and another gained.
+pub fn recounted(counts: Counts, lost: Counts, gained: Counts) -> Counts
+    requires part { AreNoMore lost counts }
+    requires room { Fit (sum_of counts gained) }
+    ensures { result ≡ recounted lost gained counts }
+{
+    Counts {
+        registered: counts.registered - lost.registered + gained.registered,
+        delivered: counts.delivered - lost.delivered + gained.delivered,
+        aborted: counts.aborted - lost.aborted + gained.aborted,
     }
 }

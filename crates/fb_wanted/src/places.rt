@@ -1,5 +1,5 @@
 // Where blocks stand among the registered ones.
-ghost use Rattle.std.specs.Prelude.{◌≡◌, ℕ, ◌<◌, ◌∷◌, ◌++◌, [], List, Some, slice_get, length, get_or, OnOk, OnErr, if◌then◌else◌, ◌==◌};
+ghost use Rattle.std.specs.Prelude.{◌≡◌, ℕ, ◌<◌, ◌∷◌, ◌++◌, [], List, Some, slice_get, length, OnOk, OnErr};
 
 use fb_units::NoMemory;
 use std::alloc::Global;
@@ -58,33 +58,5 @@ impl Places {
         ensures { slice_get self.now i ≡ Some result }
     {
         self.items[i]
-    }
-}
-
-/// Adds a place to those of the task; where memory is wanting all stay.
-pub fn add_place(
-    tasks: &mut Vec<Places>,
-    alloc: Global,
-    task: u32,
-    place: u32,
-) -> Result<(), NoMemory>
-    ensures ok { OnOk result ((k : ℕ) → get_or tasks.new.items k [] ≡ (if task == k then get_or tasks.old.items k [] ++ place ∷ [] else get_or tasks.old.items k [])) }
-    ensures err { OnErr result ((k : ℕ) → get_or tasks.new.items k [] ≡ get_or tasks.old.items k []) }
-{
-    let task = task as usize;
-    for _ in tasks.len()..task + 1 {
-        tasks.push(Places::new(alloc))?;
-    }
-    tasks[task].push(place)?;
-    Ok(())
-}
-
-/// Takes the last place of the task away.
-pub fn take_place_back(tasks: &mut Vec<Places>, task: u32)
-    ensures { (places : List ℕ) (last : ℕ) → get_or tasks.old.items task [] ≡ places ++ last ∷ [] → (k : ℕ) → get_or tasks.new.items k [] ≡ (if task == k then places else get_or tasks.old.items k []) }
-{
-    let task = task as usize;
-    if task < tasks.len() {
-        tasks[task].pop();
     }
 }

@@ -59,8 +59,18 @@ fn a_range_reaches_blocks_of_two_wants(rt: HostRuntime) -> Result<(), Fail> {
     assert_eq!(rt; wanted.wanted_weight_on(NEAR), 8);
     wanted.deliver(0, 1);
     assert_eq!(rt; wanted.wanted_weight_on(NEAR), 0);
+    let counts = wanted.counts(0);
+    assert_eq!(rt;
+        (counts.registered, counts.delivered, counts.aborted),
+        (3, 1, 2)
+    );
     wanted.rewant(0, 15, 2, false);
     assert_eq!(rt; wanted.wanted_weight_on(NEAR), 8);
+    let counts = wanted.counts(0);
+    assert_eq!(rt;
+        (counts.registered, counts.delivered, counts.aborted),
+        (3, 0, 2)
+    );
     assert_eq!(rt; wanted.next_registered_track(FAR), None);
     Ok(())
 }

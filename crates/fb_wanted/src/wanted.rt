@@ -1,20 +1,20 @@
-// The registered blocks, in order of registration, and beside them where those of each task and of each track stand.
+// The registered blocks, in order of registration, and beside them what is kept of each task and of each track.
 ghost use Rattle.std.specs.Prelude.{◌≡◌, List, suc, true, false, take, ◌⊎◌, ◌+◌, ◌<◌, ◌≤◌, ℕ, [], ◌∷◌, ◌++◌, ◌*◌, length, filter, map, OnOk, OnErr, IfSome, IfNone, Some, slice_get, get_or, ◌==◌, if◌then◌else◌};
 ghost use Rattle.std.specs.BTreeMap.{get};
 ghost use Rattle.fb_wanted.specs.declared.block.Block.{Block};
 ghost use Rattle.fb_wanted.specs.declared.block.Entry.{Entry};
 ghost use Rattle.fb_wanted.specs.States.{after, shares, entry_after, is_abortable, is_wanted, wanted_unless, on_track, is_block};
 ghost use Rattle.fb_wanted.specs.Numbering.{AreInOrder, blocks_of, registered};
-ghost use Rattle.fb_wanted.specs.Counting.{counts_of};
+ghost use Rattle.fb_wanted.specs.Counting.{counts_of, sum_of, Fit};
 ghost use Rattle.fb_wanted.specs.Tracks.{wanted_weight, HasBlock, IsTrackBefore, IsNextTrack};
-ghost use Rattle.fb_wanted.specs.Index.{places, of_task, lbns, Rises, IsWithin, with_state, change_nth, change_first, track_cmp, grown};
+ghost use Rattle.fb_wanted.specs.Index.{places, of_task, lbns, Rises, IsWithin, with_state, change_nth, change_first, track_cmp, grown, no_blocks, grown_task};
 ghost use Rattle.fb_units.specs.declared.types.Track.{Track};
 ghost use Rattle.fb_units.specs.Tracks.{same_track};
 
 use crate::changes::{is_abortable, state_after, wanted_unless};
-use crate::counting::counted;
+use crate::counting::{counts_of, no_counts};
 use crate::falls::{next_fall, note_fall};
-use crate::places::{Places, add_place, take_place_back};
+use crate::tasks::{OfTask, add_place, recount, take_place_back};
 use crate::tracks::{OnTrack, add_to_track, next_track, reweigh, weight_of};
 use crate::{Block, Change, Counts, Entry, State};
 use fb_units::{NoMemory, Track};
@@ -24,7 +24,8 @@ use std::marker::Model;
 
 /// Registered blocks, each with its state, in order of registration.
 ///
-/// To register, to deliver or to look up costs a logarithm of the number of tracks or blocks.
+/// To register, to deliver or to look up costs a logarithm of the number of tracks or blocks;
+/// the counts of a task cost the same however many blocks it has.
 /// To suspend or to resume costs as much for each block of the task, and to abort or to want again
 /// as much for each of its blocks near the range and for each time that its LBNs fall.
 /// A task takes room for each number below its own.
@@ -32,7 +33,7 @@ use std::marker::Model;
 pub struct Wanted {
     alloc: Global,
     entries: Vec<Entry>,
-    tasks: Vec<Places>,
+    tasks: Vec<OfTask>,
     tracks: BTreeMap<Track, OnTrack>,
     falls: BTreeSet<(u32, u32)>,
 }
@@ -56,9 +57,9 @@ impl Model for Wanted {
     ghost invariant = { λ w. IsKept w.entries.items w.tasks.items w.tracks × AreNoted w.entries.items w.falls };
 }
 
-// Notes where a block that is to be registered will stand; where memory is wanting all stays.
+// Notes where a block that is to be registered will stand, and counts it; where memory is wanting all stays.
 fn add_to_index(
-    tasks: &mut Vec<Places>,
+    tasks: &mut Vec<OfTask>,
     tracks: &mut BTreeMap<Track, OnTrack>,
     alloc: Global,
     place: u32,
@@ -67,15 +68,19 @@ fn add_to_index(
     requires light { entry.block.weight ≤ 1000 }
     requires short { entry.block.count ≤ 2048 }
     requires room { IfSome (get track_cmp tracks.old entry.block.track) (λ on. on.weight ≤ 16000000 * 2048000) }
-    ensures tasks { OnOk result ((k : ℕ) → get_or tasks.new.items k [] ≡ (if entry.block.task == k then get_or tasks.old.items k [] ++ place ∷ [] else get_or tasks.old.items k [])) }
+    requires few { Fit (sum_of (get_or tasks.old.items entry.block.task no_blocks).counts (counts_of entry.block.task (entry ∷ []))) }
+    ensures tasks { OnOk result ((k : ℕ) → get_or tasks.new.items k no_blocks ≡ (if entry.block.task == k then grown_task place entry (get_or tasks.old.items k no_blocks) else get_or tasks.old.items k no_blocks)) }
     ensures tracks { OnOk result ((t : Track) → get track_cmp tracks.new t ≡ (if same_track entry.block.track t then Some (grown place (wanted_weight entry.block.track (entry ∷ [])) (get track_cmp tracks.old t)) else get track_cmp tracks.old t)) }
-    ensures tasks_stay { OnErr result ((k : ℕ) → get_or tasks.new.items k [] ≡ get_or tasks.old.items k []) }
+    ensures tasks_stay { OnErr result ((k : ℕ) → get_or tasks.new.items k no_blocks ≡ get_or tasks.old.items k no_blocks) }
     ensures tracks_stay { OnErr result ((t : Track) → get track_cmp tracks.new t ≡ get track_cmp tracks.old t) }
 {
     let block = entry.block;
     add_place(tasks, alloc, block.task, place)?;
     match add_to_track(tracks, alloc, block.track, place, weight_of(entry)) {
-        Ok(()) => Ok(()),
+        Ok(()) => {
+            recount(tasks, block.task, no_counts(), counts_of(entry));
+            Ok(())
+        }
         Err(error) => {
             take_place_back(tasks, block.task);
             Err(error)
@@ -89,7 +94,7 @@ impl Wanted {
         ensures { result ≡ length (filter (of_task task) self.now) }
     {
         match self.tasks.get(task as usize) {
-            Some(places) => places.len() as u32,
+            Some(of_task) => of_task.places.len() as u32,
             None => 0,
         }
     }
@@ -99,7 +104,7 @@ impl Wanted {
         requires { k < length (filter (of_task task) self.now) }
         ensures { slice_get (places (of_task task) self.now) k ≡ Some result }
     {
-        self.tasks[task as usize].get(k as usize)
+        self.tasks[task as usize].places.get(k as usize)
     }
 
     // The entry of that number.
@@ -129,6 +134,12 @@ impl Wanted {
             state,
         };
         self.entries[place as usize] = turned;
+        recount(
+            &mut self.tasks,
+            entry.block.task,
+            counts_of(entry),
+            counts_of(turned),
+        );
         reweigh(
             &mut self.tracks,
             entry.block.track,
@@ -403,16 +414,10 @@ impl Wanted {
     pub fn counts(&self, task: u32) -> Counts
         ensures { result ≡ counts_of task self.now }
     {
-        let _ = &self.entries;
-        let mut counts = Counts {
-            registered: 0,
-            delivered: 0,
-            aborted: 0,
-        };
-        for k in 0..self.registered_by(task) {
-            counts = counted(counts, self.entry_of(task, k), task);
+        match self.tasks.get(task as usize) {
+            Some(of_task) => of_task.counts,
+            None => no_counts(),
         }
-        counts
     }
 
     /// The k-th block of a task has the index k.

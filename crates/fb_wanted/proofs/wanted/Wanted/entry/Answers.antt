@@ -1,4 +1,4 @@
-use Rattle.std.proofs.Common.{◌∙◌, ap, sym, subst, filter}
+use Rattle.std.proofs.Common.{◌∙◌, sym, subst, filter}
 use Rattle.std.proofs.lemmas.Option.{same_Some, slice_get_within}
 use Rattle.fb_wanted.specs.Index.{of_task}
 use Rattle.fb_wanted.specs.Numbering.{AreInOrder, blocks_of}

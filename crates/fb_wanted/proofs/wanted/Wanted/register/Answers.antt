@@ -1,10 +1,10 @@
-use Rattle.std.proofs.Common.{◌<◌, ◌∙◌, ◌++◌, ◌∷◌, [], ap, sym, subst, length, filter, slice_get}
+use Rattle.std.proofs.Common.{◌<◌, ◌∙◌, ◌++◌, ◌∷◌, [], ap, sym, refl, subst, length, filter, slice_get}
 use Rattle.std.proofs.lemmas.List.{length-map}
 use Rattle.fb_wanted.specs.declared.block.Entry.{Entry}
 use Rattle.fb_wanted.specs.Numbering.{blocks_of, registered}
 use Rattle.fb_wanted.specs.Index.{of_task, lbns, AreNoted}
 use Rattle.fb_wanted.proofs.Numbers.{task-blocks}
-use Rattle.fb_wanted.proofs.Reading.{track_room}
+use Rattle.fb_wanted.proofs.Reading.{track_room, counts_room}
 use Rattle.fb_wanted.proofs.Kept.{kept_pushed}
 use Rattle.fb_wanted.proofs.Ranges.{noted-more, noted_still}
 use Rattle.fb_wanted.proofs.wanted.Wanted.register.Goals as goal
@@ -15,6 +15,9 @@ is_fall-is_fall-requires c =
 
 pub add_to_index-requires-clause-room : goal.add_to_index-requires-clause-room
 add_to_index-requires-clause-room c = track_room c.self.inside.entries.items c.self.inside.tasks.items c.self.inside.tracks c.self.invariant.0 c.args.block.track
+
+pub add_to_index-requires-clause-few : goal.add_to_index-requires-clause-few
+add_to_index-requires-clause-few c = counts_room c.self.inside.entries.items c.self.inside.tasks.items c.self.inside.tracks c.self.invariant.0 c.args.block.task (record { block = c.args.block; state = c.wanted_unless-state.result }) _ refl
 
 pub invariant_of-self-2 : goal.invariant_of-self-2
 invariant_of-self-2 c =

@@ -1,0 +1,7 @@
+use Rattle.std.proofs.Common.{◌≡◌, ℕ, length, get_or}
+use Rattle.fb_wanted.specs.Index.{no_blocks}
+use Rattle.fb_wanted.proofs.tasks.add_place.Given as goal
+
+-- only tasks with no block are added, up to the task's
+abbrev pub invariant-loop : goal.invariant-loop
+invariant-loop l = ((k : ℕ) → get_or l.tasks.items k no_blocks ≡ get_or l.initial.tasks.items k no_blocks) × (length l.tasks.items ≡ l.counter)

@@ -1,0 +1,62 @@
+// What is kept of the tasks for which blocks are registered.
+ghost use Rattle.std.specs.Prelude.{◌≡◌, ℕ, ◌<◌, ◌∷◌, ◌++◌, [], List, length, get_or, OnOk, OnErr, if◌then◌else◌, ◌==◌};
+ghost use Rattle.fb_wanted.specs.Counting.{sum_of, AreNoMore, Fit};
+ghost use Rattle.fb_wanted.specs.Index.{no_blocks, joined, counted_anew};
+
+use crate::Counts;
+use crate::counting::{no_counts, recounted};
+use crate::places::Places;
+use fb_units::NoMemory;
+use std::alloc::Global;
+
+/// The registered blocks of a task.
+#[derive(Drop)]
+pub struct OfTask {
+    /// Where they stand.
+    pub places: Places,
+    /// How many there are, and how many of them are delivered and aborted.
+    pub counts: Counts,
+}
+
+/// Adds a place to those of the task, uncounted; where memory is wanting all stay.
+pub fn add_place(
+    tasks: &mut Vec<OfTask>,
+    alloc: Global,
+    task: u32,
+    place: u32,
+) -> Result<(), NoMemory>
+    ensures ok { OnOk result ((k : ℕ) → get_or tasks.new.items k no_blocks ≡ (if task == k then joined place (get_or tasks.old.items k no_blocks) else get_or tasks.old.items k no_blocks)) }
+    ensures there { OnOk result (task < length tasks.new.items) }
+    ensures err { OnErr result ((k : ℕ) → get_or tasks.new.items k no_blocks ≡ get_or tasks.old.items k no_blocks) }
+{
+    let task = task as usize;
+    for _ in tasks.len()..task + 1 {
+        tasks.push(OfTask {
+            places: Places::new(alloc),
+            counts: no_counts(),
+        })?;
+    }
+    tasks[task].places.push(place)?;
+    Ok(())
+}
+
+/// Takes the last place of the task away.
+pub fn take_place_back(tasks: &mut Vec<OfTask>, task: u32)
+    ensures { (blocks : OfTask) (last : ℕ) → get_or tasks.old.items task no_blocks ≡ joined last blocks → (k : ℕ) → get_or tasks.new.items k no_blocks ≡ (if task == k then blocks else get_or tasks.old.items k no_blocks) }
+{
+    let task = task as usize;
+    if task < tasks.len() {
+        tasks[task].places.pop();
+    }
+}
+
+/// Takes a part from the counts of the task, and adds another one.
+pub fn recount(tasks: &mut Vec<OfTask>, task: u32, lost: Counts, gained: Counts)
+    requires there { task < length tasks.old.items }
+    requires part { AreNoMore lost (get_or tasks.old.items task no_blocks).counts }
+    requires room { Fit (sum_of (get_or tasks.old.items task no_blocks).counts gained) }
+    ensures { (k : ℕ) → get_or tasks.new.items k no_blocks ≡ (if task == k then counted_anew lost gained (get_or tasks.old.items k no_blocks) else get_or tasks.old.items k no_blocks) }
+{
+    let blocks = &mut tasks[task as usize];
+    blocks.counts = recounted(blocks.counts, lost, gained);
+}
