@@ -1,0 +1,222 @@
+-- The rows that follow a delivery, and the sessions after them.
+use Rattle.std.proofs.Common.{◌≡◌, ℕ, zero, suc, ◌+◌, ◌<◌, ◌≤◌, ◌==◌, ◌&&◌, ◌||◌, not, if◌then◌else◌, List, [], ◌∷◌, ◌++◌, Bool, true, false, Some, None, Option, inl, inr, length, map, set, get_or, slice_get, append-nil, append_assoc, refl, ap, ap₂, sym, ◌∙◌, arith, subst}
+use Rattle.std.proofs.Math.Bool.{and-false}
+use Rattle.std.specs.List.{AllByRecursion, flat_map, list_any, range_with_len}
+use Rattle.std.proofs.lemmas.Bool.{cases_Bool}
+use Rattle.std.proofs.lemmas.Bool.Decides.{nat_tests}
+use Rattle.std.proofs.lemmas.List.{length-set}
+use Rattle.std.proofs.lemmas.Option.{slice_get_within, slice_get-get_or}
+use Rattle.fb_geometry.specs.Shape.{Shape}
+use Rattle.fb_calls.specs.declared.call.Kind.{Kind}
+use Rattle.fb_calls.specs.Sessions.{is_clean}
+use Rattle.std.specs.Option.{option_map}
+use Rattle.fb_rows.specs.declared.back.BackRow.{BackRow}
+use Rattle.fb_rows.specs.declared.back.BackRow.TheVariants.{Bad as BadLine, Got as GotLine, Seal as SealLine, Segment as SegmentLine, Complete as CompleteLine}
+use Rattle.fb_rows.specs.declared.back.DeliveryRow.{DeliveryRow}
+use Rattle.fb_wanted.specs.declared.block.Change.TheVariants.{Deliver}
+use Rattle.fb_wanted.specs.declared.block.Entry.{Entry}
+use Rattle.fb_wanted.specs.declared.block.State.TheVariants.{Wanted}
+use Rattle.fb_wanted.specs.States.{after, is_block}
+use Rattle.fb_store.specs.declared.content.Content.{Content}
+use Rattle.fb_store.specs.Pieces.{Gives}
+use Rattle.fb_model.specs.History.{Past, tested, delivered, tasks, terms_of, registered, is_open_backup, is_seal_of}
+use Rattle.fb_model.specs.Completion.{Choice, choices, is_cleaned, is_complete}
+use Rattle.fb_model.specs.Segments.{live_count}
+use Rattle.fb_model.specs.Images.{reports, test_rows, segment_rows, seal_rows, complete_rows, is_newly_cleaned, findings, is_scrub, bad_sectors}
+use Rattle.fb_tasks.specs.declared.session.Session.{Session}
+use Rattle.fb_tasks.specs.Taken.{by_deliveries, rows_after, found_for}
+use Rattle.fb_tasks.specs.Keeping.{HasTaken}
+use Rattle.fb_tasks.specs.Standing.{entry_of, choice_in, AreReported, MayFinish, IsBlockOf, IsAtWork, HoldsBlocks, Stands, Told}
+use Rattle.fb_tasks.specs.Telling.{Tells, IsSettled, MayDeliver}
+use Rattle.fb_tasks.proofs.Lists.{all_at, number_same, same_number, other_number, filter_none, some_at, map_at}
+use Rattle.fb_tasks.proofs.Same.{told-same, open-same}
+use Rattle.fb_tasks.proofs.Calls.{get_set, get_own}
+use Rattle.fb_tasks.proofs.RowsOf.{rows-given, seals_given, findings-mute}
+use Rattle.fb_tasks.proofs.Tested.{once, stands-tested, at_work-tested, settled-tested}
+use Rattle.fb_tasks.proofs.AllTested.{AreAllRows, tells-tested}
+use Rattle.fb_tasks.proofs.Deliveries.{delivered-same, delivered-entries}
+use Rattle.fb_tasks.proofs.OwnDelivery.{WasWanted, was_wanted, delivered-holds, delivered-stands, at_work_now}
+use Rattle.fb_tasks.proofs.Delivered.{complete-other}
+
+flat_empty : {X : Type 0} (f : ℕ → List X) (a n : ℕ) → ((j : ℕ) → a ≤ j → j < a + n → f j ≡ []) → flat_map f (range_with_len a n) ≡ []
+flat_empty f a zero h = refl
+flat_empty f a (suc n) h = rw (h a (omega arith) (omega arith), flat_empty f (a + 1) n (λ j from to. h j (omega arith) (omega arith))) refl
+
+-- where one number alone gives anything
+flat_one : {X : Type 0} (f : ℕ → List X) (k a n : ℕ) → a ≤ k → k < a + n → ((j : ℕ) → a ≤ j → j < a + n → (j ≡ k → ⊥) → f j ≡ []) → flat_map f (range_with_len a n) ≡ f k
+flat_one f k a zero from to others = absurd (omega arith)
+flat_one f k a (suc n) from to others = elim (cases_Bool (a == k)) [
+  | inl here ↦
+      let e = same_number a k here in
+      ap (λ xs. f a ++ xs) (flat_empty f (a + 1) n (λ j after below. others j (omega arith) (omega arith) (λ same. absurd (omega (arith, e, same, after))))) ∙ (append-nil (f a) ∙ ap f e)
+  | inr other ↦
+      let differ = other_number a k other in
+      ap (λ xs. xs ++ flat_map f (range_with_len (a + 1) n)) (others a (omega arith) (omega arith) differ)
+      ∙ flat_one f k (a + 1) n (further a k from differ) (omega arith) (λ j after below. others j (omega arith) (omega arith))
+] where
+  further : (a k : ℕ) → a ≤ k → (a ≡ k → ⊥) → a + 1 ≤ k
+  further a k from differ = grind (arith, nat_tests)
+
+pub holds : {disk : Shape} {past : Past} {sessions : List Session} {held : List Entry} → Tells disk past sessions held → HoldsBlocks disk past held
+holds h = record { entries = h.entries; on_disk = h.on_disk; indexed = h.indexed; unopened = h.unopened; segments = h.segments }
+
+pub joined : {X : Type 0} (old : List X) (got : X) (f s a b : List X) → ((((old ++ got ∷ []) ++ f) ++ s) ++ a) ++ b ≡ old ++ got ∷ (f ++ (s ++ (a ++ b)))
+joined old got f s a b = append_assoc (((old ++ got ∷ []) ++ f) ++ s) a b ∙ (append_assoc ((old ++ got ∷ []) ++ f) s (a ++ b) ∙ (append_assoc (old ++ got ∷ []) f (s ++ (a ++ b)) ∙ append_assoc old (got ∷ []) (f ++ (s ++ (a ++ b)))))
+
+module _ {disk : Shape} {past : Past} {sessions : List Session} {held : List Entry} (got : DeliveryRow) (may : MayDeliver disk past sessions held got) where
+  pub placed : WasWanted past got.block
+  placed = was_wanted past got.block may.place may.wanted
+
+  pub opened : got.block.task < length (tasks past)
+  opened = (all_at (IsBlockOf disk (length (tasks past))) (registered past) placed.place got.block may.tells.on_disk placed.registered_there).task
+
+  module _ (task : ℕ) (other : got.block.task ≡ task → ⊥) (less : task < length (tasks past)) where
+    told-other : (session : Session) → slice_get sessions task ≡ Some session → Told (delivered got ∷ past) task session
+    told-other session at = told-same (delivered-same past got task other) session (may.tells.each task session at)
+
+    found : (session : Session) × (slice_get sessions task ≡ Some session)
+    found = some_at sessions task (subst (λ n. task < n) (sym may.tells.as_many) less)
+
+    still-complete : is_complete (delivered got ∷ past) task ≡ is_complete past task
+    still-complete = complete-other past got task other found.0 (may.tells.each task found.0 found.1).stands
+
+    unsealed-other : (is_open_backup (delivered got ∷ past) task && is_complete (delivered got ∷ past) task) ≡ false
+    unsealed-other =
+        ap₂ (λ a b. a && b) (sym (open-same (delivered-same past got task other).work.base)) still-complete
+        ∙ (sym (seals_given by_deliveries past 0 task) ∙ ap (list_any (is_seal_of task)) (may.settled.no_rows by_deliveries 0))
+
+    no_segments : (now : ℕ) → segment_rows by_deliveries (delivered got ∷ past) now task ≡ []
+    no_segments now = ap (map (λ (choice : Choice). SegmentLine (record { task = task; segment = choice.segment.number; instant = now; live = live_count choice.segment; content = found_for (delivered got ∷ past) choice.blocks })))
+        (filter_none (is_newly_cleaned (delivered got ∷ past) task) (choices (delivered got ∷ past) task) (told-other found.0 found.1).reported)
+
+    no_ends : (now : ℕ) → (seal_rows by_deliveries (delivered got ∷ past) now task ++ complete_rows (delivered got ∷ past) now task) ≡ []
+    no_ends now =
+        ap (λ b. (if b then SealLine (record { task = task; instant = now; content = by_deliveries.image_at (delivered got ∷ past) task now }) ∷ [] else []) ++ complete_rows (delivered got ∷ past) now task) unsealed-other
+        ∙ (ap₂ (λ a b. if a && not b then CompleteLine (record { task = task; instant = now }) ∷ [] else []) still-complete (may.settled.tested task)
+        ∙ ap (λ b. if b then CompleteLine (record { task = task; instant = now }) ∷ [] else []) (once (is_complete past task)))
+
+  -- the block's own task alone gives rows
+  pub own-rows : (now : ℕ) → test_rows by_deliveries (delivered got ∷ past) now
+      ≡ segment_rows by_deliveries (delivered got ∷ past) now got.block.task ++ (seal_rows by_deliveries (delivered got ∷ past) now got.block.task ++ complete_rows (delivered got ∷ past) now got.block.task)
+  unfolding test_rows
+  own-rows now = ap (λ ts. flat_map (segment_rows by_deliveries (delivered got ∷ past) now) (range_with_len 0 (length ts)) ++ flat_map (λ task. seal_rows by_deliveries (delivered got ∷ past) now task ++ complete_rows (delivered got ∷ past) now task) (range_with_len 0 (length ts))) (append-nil (tasks past))
+      ∙ ap₂ (λ a b. a ++ b)
+      (flat_one (segment_rows by_deliveries (delivered got ∷ past) now) got.block.task 0 (length (tasks past)) (omega arith) (omega (arith, opened)) (λ j from less differ. no_segments j (λ e. differ (sym e)) (omega (arith, less)) now))
+      (flat_one (λ task. seal_rows by_deliveries (delivered got ∷ past) now task ++ complete_rows (delivered got ∷ past) now task) got.block.task 0 (length (tasks past)) (omega arith) (omega (arith, opened)) (λ j from less differ. no_ends j (λ e. differ (sym e)) (omega (arith, less)) now))
+
+  pub all-rows : (old rows : List BackRow) → rows ≡ ((((old ++ GotLine got ∷ []) ++ findings past got) ++ segment_rows by_deliveries (delivered got ∷ past) got.end got.block.task) ++ seal_rows by_deliveries (delivered got ∷ past) got.end got.block.task) ++ complete_rows (delivered got ∷ past) got.end got.block.task
+      → rows ≡ old ++ GotLine got ∷ rows_after past got
+  all-rows old rows is = is ∙ (joined old (GotLine got) (findings past got) (segment_rows by_deliveries (delivered got ∷ past) got.end got.block.task) (seal_rows by_deliveries (delivered got ∷ past) got.end got.block.task) (complete_rows (delivered got ∷ past) got.end got.block.task)
+      ∙ ap (λ rest. old ++ GotLine got ∷ (findings past got ++ rest)) (sym (own-rows got.end)))
+
+  -- its findings are those of its session
+  pub findings_same : (kind : Kind) (lbns : List ℕ) → (terms_of past got.block.task).kind ≡ kind → lbns ≡ (if is_scrub kind then bad_sectors got.content else []) → map (λ lbn. BadLine (record { task = got.block.task; lbn = lbn })) lbns ≡ findings past got
+  findings_same kind lbns same is =
+      ap (map (λ lbn. BadLine (record { task = got.block.task; lbn = lbn }))) (is ∙ ap (λ k. if is_scrub k then bad_sectors got.content else []) (sym same)) ∙ either (is_scrub (terms_of past got.block.task).kind) where
+        either : (b : Bool) → map (λ lbn. BadLine (record { task = got.block.task; lbn = lbn })) (if b then bad_sectors got.content else []) ≡ (if b then map (λ lbn. BadLine (record { task = got.block.task; lbn = lbn })) (bad_sectors got.content) else [])
+        either true = refl
+        either false = refl
+
+  module _ (now : List Entry) (h : HoldsBlocks disk (delivered got ∷ past) now) where
+    pub all-given : AreAllRows (delivered got ∷ past) (rows_after past got)
+    all-given task = rows-given by_deliveries (delivered got ∷ past) got.end (findings past got) (findings-mute past got) task (λ more. (h.unopened task more).choices)
+
+    pub settled-delivered : IsSettled (tested (rows_after past got) ∷ delivered got ∷ past)
+    settled-delivered = settled-tested (delivered got ∷ past) (rows_after past got) (λ task less. all-given task)
+
+    other-tested : (task : ℕ) (session : Session) → (got.block.task ≡ task → ⊥) → slice_get sessions task ≡ Some session
+        → (Stands (tested (rows_after past got) ∷ delivered got ∷ past) task session) × (IsAtWork (tested (rows_after past got) ∷ delivered got ∷ past) task session)
+    other-tested task session other at =
+        let less : task < length (tasks past) = subst (λ n. task < n) may.tells.as_many (slice_get_within sessions task session at) in
+        let told = told-other task other less session at in
+        let none = unsealed-other task other less in (
+          stands-tested (delivered got ∷ past) (rows_after past got) task (all-given task) session session
+              (record { kind = refl; weight = refl; block = refl; suspended = refl; closed = refl; sealed = sym (ap (λ b. b || session.sealed) none); log = refl; image = λ _ lbn. refl })
+              ((may.tells.each task session at).stands.complete ∙ (may.settled.tested task ∙ sym (still-complete task other less))) told.stands told.at_work,
+          at_work-tested (delivered got ∷ past) (rows_after past got) task session session refl refl told.at_work,
+        )
+
+    -- the sessions tell the history with its delivery and its test
+    pub tells-delivered : (new : Session) → (Stands (tested (rows_after past got) ∷ delivered got ∷ past) got.block.task new) × (IsAtWork (tested (rows_after past got) ∷ delivered got ∷ past) got.block.task new)
+        → Tells disk (tested (rows_after past got) ∷ delivered got ∷ past) (set sessions got.block.task new) now
+    tells-delivered new own = tells-tested (rows_after past got) (set sessions got.block.task new) h (length-set sessions got.block.task new ∙ (may.tells.as_many ∙ ap length (sym (append-nil (tasks past))))) all-given
+        (λ task session at. elim (cases_Bool (got.block.task == task)) [
+          | inl mine ↦
+              let e = same_number got.block.task task mine in
+              subst (λ t. (Stands (tested (rows_after past got) ∷ delivered got ∷ past) t session) × (IsAtWork (tested (rows_after past got) ∷ delivered got ∷ past) t session)) e
+              (subst (λ s. (Stands (tested (rows_after past got) ∷ delivered got ∷ past) got.block.task s) × (IsAtWork (tested (rows_after past got) ∷ delivered got ∷ past) got.block.task s))
+              (sym (get_own sessions got.block.task new session (ap (slice_get (set sessions got.block.task new)) e ∙ at))) own)
+          | inr other ↦ other-tested task session (other_number got.block.task task other) (get_set sessions got.block.task task new session at (other_number got.block.task task other))
+        ])
+
+-- before the test each cleaned segment but the chosen one has its row
+module _ (past : Past) (got : DeliveryRow) (task : ℕ) (old mid : Session) (stands : Stands past task old) (reported : AreReported past task) (same : mid.log.unfinished ≡ old.log.unfinished) where
+  abbrev IsSilent : Choice → Type 0
+  IsSilent choice = (mid.log.unfinished ≡ Some choice.segment.number → ⊥) → is_newly_cleaned (delivered got ∷ past) task choice ≡ false
+
+  silent : (choice : Choice) → is_cleaned past choice ≡ true → is_newly_cleaned past task choice ≡ false → IsSilent choice
+  silent choice cleaned none = λ _. ap (λ b. is_cleaned (delivered got ∷ past) choice && b) (sym (ap (λ b. b && not (list_any (reports task choice.segment.number) past)) cleaned) ∙ none) ∙ and-false (is_cleaned (delivered got ∷ past) choice)
+
+  chosen-silent : (done : List Choice) (current : Option Choice) → old.log.unfinished ≡ option_map (λ choice. choice.segment.number) current → AllByRecursion (λ choice. is_cleaned past choice ≡ true) done
+      → AllByRecursion (λ choice. is_newly_cleaned past task choice ≡ false) (done ++ choice_in current) → AllByRecursion IsSilent (done ++ choice_in current)
+  chosen-silent [] None unfinished cleaned none = tt
+  chosen-silent [] (Some current) unfinished cleaned none = ((λ not_it. absurd (not_it (same ∙ unfinished))), tt)
+  chosen-silent (c ∷ cs) current unfinished cleaned none = (silent c cleaned.0 none.0, chosen-silent cs current unfinished cleaned.1 none.1)
+
+  pub others-silent : AllByRecursion IsSilent (choices (delivered got ∷ past) task)
+  others-silent = subst (AllByRecursion IsSilent) (sym (append-nil (choices past task))) (elim (cases_Bool (is_clean old.kind)) [
+    | inl cleans ↦
+        let log = stands.log cleans in
+        subst (AllByRecursion IsSilent) (sym log.chosen) (chosen-silent log.done log.current log.unfinished log.cleaned (subst (AllByRecursion (λ choice. is_newly_cleaned past task choice ≡ false)) log.chosen reported))
+    | inr other ↦ subst (AllByRecursion IsSilent) (sym (stands.unchosen other)) tt
+  ])
+
+module _ {disk : Shape} {past : Past} {sessions : List Session} {held : List Entry} (got : DeliveryRow) (may : MayDeliver disk past sessions held got) where
+  pub held-now : (now : List Entry) → now ≡ after got.block.task (Deliver got.block.index) held → HoldsBlocks disk (delivered got ∷ past) now
+  held-now now is = delivered-holds disk past got (placed got may) held now (delivered-entries past got held now may.tells.entries is) (holds may.tells)
+
+  pub wanted-entry : (e : Entry) × (i : ℕ) × (slice_get held i ≡ Some e) × (is_block got.block.task got.block.index e ≡ true) × (e.state ≡ Wanted)
+  wanted-entry =
+      let was = placed got may in (
+        entry_of past got.block,
+        was.place,
+        ap (λ es. slice_get es was.place) may.tells.entries ∙ map_at (entry_of past) (registered past) was.place got.block was.registered_there,
+        ap₂ (λ a b. a && b) (number_same got.block.task got.block.task refl) (number_same got.block.index got.block.index refl),
+        was.shown_wanted,
+      )
+
+  module _ (old : Session) (at : slice_get sessions got.block.task ≡ Some old) where
+    told-own : Told past got.block.task old
+    told-own = may.tells.each got.block.task old at
+
+    pub busy-own : is_clean old.kind ≡ true → old.log.unfinished ≡ None → ⊥
+    busy-own cleans idle = at_work_now disk past got (placed got may) old.log (told-own.stands.log cleans) idle
+
+    pub kind-own : (terms_of past got.block.task).kind ≡ old.kind
+    kind-own = ap (λ t. t.kind) told-own.stands.terms
+
+    pub may-finish : (now : List Entry) (mid : Session) → now ≡ after got.block.task (Deliver got.block.index) held → ((content_at : ℕ → Content) → Gives got.content content_at got.block.lbn got.block.count → HasTaken content_at got.block old mid)
+        → MayFinish disk (delivered got ∷ past) got.block.task mid now
+    may-finish now mid is takes =
+        let taken = takes may.content_at may.content in record {
+          blocks = held-now now is;
+          stands = delivered-stands disk past got (placed got may) may.content_at old mid (may.tells.indexed got.block.task) may.content taken told-own.stands;
+          reported = others-silent past got got.block.task old mid told-own.stands told-own.reported taken.same.unfinished;
+        }
+
+  -- the session of the delivered block
+  pub own-there : (old : Session) → old ≡ get_or sessions got.block.task old → slice_get sessions got.block.task ≡ Some old
+  own-there old is =
+      let within : got.block.task < length sessions = subst (λ n. got.block.task < n) (sym may.tells.as_many) (opened got may) in
+      slice_get-get_or sessions got.block.task old within ∙ ap Some (sym is)
+
+  -- the rows of the session's test, one after the other
+  pub rows-one_by_one : (old with_got with_findings with_segment rows : List BackRow) (kind : Kind) (lbns : List ℕ) → (terms_of past got.block.task).kind ≡ kind → lbns ≡ (if is_scrub kind then bad_sectors got.content else [])
+      → with_got ≡ old ++ GotLine got ∷ [] → with_findings ≡ with_got ++ map (λ lbn. BadLine (record { task = got.block.task; lbn = lbn })) lbns
+      → with_segment ≡ with_findings ++ segment_rows by_deliveries (delivered got ∷ past) got.end got.block.task
+      → rows ≡ (with_segment ++ seal_rows by_deliveries (delivered got ∷ past) got.end got.block.task) ++ complete_rows (delivered got ∷ past) got.end got.block.task
+      → rows ≡ old ++ GotLine got ∷ rows_after past got
+  rows-one_by_one old with_got with_findings with_segment rows kind lbns same is pushed found segment ends = all-rows got may old rows
+      (ends ∙ ap (λ xs. (xs ++ seal_rows by_deliveries (delivered got ∷ past) got.end got.block.task) ++ complete_rows (delivered got ∷ past) got.end got.block.task)
+      (segment ∙ ap (λ xs. xs ++ segment_rows by_deliveries (delivered got ∷ past) got.end got.block.task)
+      (found ∙ ap₂ (λ a b. a ++ b) pushed (findings_same got may kind lbns same is))))

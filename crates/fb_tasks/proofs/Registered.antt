@@ -1,0 +1,105 @@
+-- Blocks that an event registers.
+use Rattle.std.proofs.Common.{◌≡◌, ℕ, suc, ◌+◌, ◌<◌, ◌==◌, ◌&&◌, ◌||◌, if◌then◌else◌, List, [], ◌∷◌, ◌++◌, Bool, true, false, inl, inr, length, filter, map, refl, ap, sym, ◌∙◌, arith, subst}
+use Rattle.std.proofs.Math.Bool.{or-true}
+use Rattle.std.specs.List.{AllByRecursion, list_any}
+use Rattle.std.proofs.lemmas.Bool.{cases_Bool}
+use Rattle.std.proofs.lemmas.List.{map-append}
+use Rattle.fb_wanted.specs.declared.block.Block.{Block}
+use Rattle.fb_wanted.specs.declared.block.Entry.{Entry}
+use Rattle.fb_wanted.specs.declared.block.State.TheVariants.{Wanted}
+use Rattle.fb_wanted.specs.States.{wanted_unless}
+use Rattle.fb_wanted.specs.Numbering as numbering
+use Rattle.fb_model.specs.History.{Past, blocks_of, registered, bare_state, is_suspended, same_block}
+use Rattle.fb_tasks.specs.declared.session.Session.{Session}
+use Rattle.fb_tasks.specs.Keeping.{new_entries}
+use Rattle.fb_tasks.specs.Standing.{entry_of, AreIndexed}
+use Rattle.fb_tasks.proofs.Lists.{all_weaker, all_with, map_same, number_same, number_other, same_number, other_number}
+use Rattle.fb_tasks.proofs.States.{shown}
+
+itself : (block : Block) → same_block block block ≡ true
+itself block = rw (number_same block.task block.task refl, number_same block.index block.index refl) refl
+
+-- each block is one of them
+pub all_member : (added : List Block) → AllByRecursion (λ block. list_any (same_block block) added ≡ true) added
+all_member [] = tt
+all_member (b ∷ bs) = (rw (itself b) refl, all_weaker (λ block. list_any (same_block block) bs ≡ true) (λ block. list_any (same_block block) (b ∷ bs) ≡ true) (λ block h. rw h (or-true (same_block block b))) bs (all_member bs))
+
+-- blocks that are numbered on from n have no smaller number
+no_smaller : (block : Block) (n : ℕ) (added : List Block) → block.index < n → AreIndexed n added → list_any (same_block block) added ≡ false
+no_smaller block n [] less h = refl
+no_smaller block n (b ∷ bs) less h =
+    let other : (block.index == b.index) ≡ false = number_other block.index b.index (λ e. absurd (omega (arith, h.0))) in
+    rw other (and-or (block.task == b.task) (no_smaller block (n + 1) bs (omega arith) h.1)) where
+      and-or : (x : Bool) {y : Bool} → y ≡ false → ((x && false) || y) ≡ false
+      and-or true h = h
+      and-or false h = h
+
+pub no_own : (block : Block) (task : ℕ) (added : List Block) → (block.task ≡ task → ⊥) → AllByRecursion (λ b. b.task ≡ task) added → list_any (same_block block) added ≡ false
+no_own block task [] other h = refl
+no_own block task (b ∷ bs) other h =
+    let differ : (block.task == b.task) ≡ false = number_other block.task b.task (λ e. other (e ∙ h.0)) in
+    rw differ (no_own block task bs other h.1)
+
+-- the numbers of a task's blocks are below their number
+pub indexed_below : (task n total : ℕ) (bs : List Block) → n + length (filter (λ b. b.task == task) bs) ≡ total → AreIndexed n (filter (λ b. b.task == task) bs) → AllByRecursion (λ block. block.task ≡ task → block.index < total) bs
+indexed_below task n total [] e h = tt
+indexed_below task n total (b ∷ bs) e h = elim (cases_Bool (b.task == task)) [
+  | inl own ↦
+      let k = subst (λ x. AreIndexed n (if x then b ∷ filter (λ c. c.task == task) bs else filter (λ c. c.task == task) bs)) own h in
+      let f : n + suc (length (filter (λ c. c.task == task) bs)) ≡ total = subst (λ x. n + length (if x then b ∷ filter (λ c. c.task == task) bs else filter (λ c. c.task == task) bs) ≡ total) own e in
+      ((λ mine. omega (arith, k.0, f)), indexed_below task (n + 1) total bs (omega (arith, f)) k.1)
+  | inr other ↦
+      let k = subst (λ x. AreIndexed n (if x then b ∷ filter (λ c. c.task == task) bs else filter (λ c. c.task == task) bs)) other h in
+      let f : n + length (filter (λ c. c.task == task) bs) ≡ total = subst (λ x. n + length (if x then b ∷ filter (λ c. c.task == task) bs else filter (λ c. c.task == task) bs) ≡ total) other e in
+      ((λ mine. absurd (other_number b.task task other mine)), indexed_below task n total bs f k)
+]
+
+-- no block that is registered already is registered again
+pub none_again : (past : Past) (task : ℕ) (added : List Block) → AreIndexed 0 (blocks_of past task) → AreIndexed (length (blocks_of past task)) added → AllByRecursion (λ b. b.task ≡ task) added
+    → AllByRecursion (λ block. list_any (same_block block) added ≡ false) (registered past)
+none_again past task added before after own =
+    all_weaker (λ block. block.task ≡ task → block.index < length (blocks_of past task)) (λ block. list_any (same_block block) added ≡ false)
+    (λ block less. elim (cases_Bool (block.task == task)) [
+      | inl mine ↦ no_smaller block (length (blocks_of past task)) added (less (same_number block.task task mine)) after
+      | inr other ↦ no_own block task added (other_number block.task task other) own
+    ]) (registered past) (indexed_below task 0 (length (blocks_of past task)) (registered past) (omega arith) before)
+
+pub indexed_append : (n : ℕ) (xs ys : List Block) → AreIndexed n xs → AreIndexed (n + length xs) ys → AreIndexed n (xs ++ ys)
+indexed_append n [] ys p q = subst (λ k. AreIndexed k ys) (let e : n + 0 ≡ n = omega arith in e) q
+indexed_append n (x ∷ xs) ys p q = (p.0, indexed_append (n + 1) xs ys p.1 (subst (λ k. AreIndexed k ys) (let e : n + suc (length xs) ≡ n + 1 + length xs = omega arith in e) q))
+
+-- the wanted set names the registered blocks
+pub named_same : (past : Past) (bs : List Block) → numbering.blocks_of (map (entry_of past) bs) ≡ bs
+named_same past [] = refl
+named_same past (b ∷ bs) = rw (named_same past bs) refl
+
+pub all_own : (task : ℕ) (added : List Block) → AllByRecursion (λ b. b.task ≡ task) added → filter (λ b. b.task == task) added ≡ added
+all_own task [] h = refl
+all_own task (b ∷ bs) h = let own : (b.task == task) ≡ true = number_same b.task task h.0 in rw own (ap (λ xs. b ∷ xs) (all_own task bs h.1))
+
+-- an event registers blocks of a task, and does nothing else to blocks
+module _ (past new : Past) (task : ℕ) (added : List Block)
+    (bare : (block : Block) → bare_state new block ≡ (if list_any (same_block block) added then Wanted else bare_state past block))
+    (before : AreIndexed 0 (blocks_of past task)) (after : AreIndexed (length (blocks_of past task)) added) (own : AllByRecursion (λ b. b.task ≡ task) added) where
+  pub old_bare : AllByRecursion (λ block. bare_state new block ≡ bare_state past block) (registered past)
+  old_bare = all_weaker (λ block. list_any (same_block block) added ≡ false) (λ block. bare_state new block ≡ bare_state past block)
+      (λ block none. bare block ∙ ap (λ b. if b then Wanted else bare_state past block) none) (registered past) (none_again past task added before after own)
+
+  pub new_bare : AllByRecursion (λ block. bare_state new block ≡ Wanted) added
+  new_bare = all_weaker (λ block. list_any (same_block block) added ≡ true) (λ block. bare_state new block ≡ Wanted)
+      (λ block one. bare block ∙ ap (λ b. if b then Wanted else bare_state past block) one) added (all_member added)
+
+  pub registered-entries : (session : Session) (held now : List Entry) → ((t : ℕ) → is_suspended new t ≡ is_suspended past t) → session.suspended ≡ is_suspended past task
+      → held ≡ map (entry_of past) (registered past) → now ≡ held ++ new_entries session added → now ≡ map (entry_of new) (registered past ++ added)
+  registered-entries session held now same says entries pushed =
+      pushed ∙ (ap (λ es. es ++ new_entries session added) entries
+      ∙ (ap (λ es. es ++ new_entries session added) (map_same (entry_of past) (entry_of new) (registered past) (all_weaker (λ block. bare_state new block ≡ bare_state past block) (λ block. entry_of past block ≡ entry_of new block) old_entry (registered past) old_bare))
+      ∙ (ap (λ es. map (entry_of new) (registered past) ++ es) (map_same (λ block. record { block = block; state = wanted_unless session.suspended }) (entry_of new) added
+      (all_with (λ block. bare_state new block ≡ Wanted) (λ b. b.task ≡ task) (λ block. ◌≡◌ {A = Entry} (record { block = block; state = wanted_unless session.suspended }) (entry_of new block)) new_entry added new_bare own))
+      ∙ sym (map-append (entry_of new) (registered past) added)))) where
+        old_entry : (block : Block) → bare_state new block ≡ bare_state past block → entry_of past block ≡ entry_of new block
+        old_entry block e = ap (λ s. record { block = block; state = s }) (ap (λ s. shown s (is_suspended past block.task)) (sym e) ∙ ap (shown (bare_state new block)) (sym (same block.task)))
+
+        new_entry : (block : Block) → bare_state new block ≡ Wanted → block.task ≡ task → ◌≡◌ {A = Entry} (record { block = block; state = wanted_unless session.suspended }) (entry_of new block)
+        new_entry block e mine = ap (λ s. record { block = block; state = s })
+            (ap wanted_unless (says ∙ (ap (is_suspended past) (sym mine) ∙ sym (same block.task))) ∙ ap (λ s. shown s (is_suspended new block.task)) (sym e))

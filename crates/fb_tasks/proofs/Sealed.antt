@@ -1,0 +1,238 @@
+-- A backup is sealed: its image has the delivered blocks alone.
+use Rattle.std.proofs.Common.{◌≡◌, ℕ, zero, suc, ◌+◌, ◌-◌, ◌<◌, ◌≤◌, ◌==◌, ◌&&◌, ◌||◌, ◌^◌, not, nat_lt, if◌then◌else◌, List, [], ◌∷◌, ◌++◌, Bool, true, false, Some, None, Option, length, filter, take, slice_get, refl, ap, ap₂, sym, ◌∙◌, arith, subst}
+use Rattle.std.proofs.Math.Bool.{and-false, and_comm}
+use Rattle.std.proofs.lemmas.Option.{slice_get_within, get_or_from_slice_get}
+use Rattle.std.proofs.lemmas.List.{take_more}
+use Rattle.std.specs.List.{AllByRecursion, flat_map, list_any, list_all, range_with_len}
+use Rattle.std.proofs.lemmas.Bool.{true≢false, and_parts}
+use Rattle.std.proofs.lemmas.Grind.{flat_map-append}
+use Rattle.fb_geometry.specs.Shape.{Shape}
+use Rattle.fb_calls.specs.declared.call.Kind.{Kind}
+use Rattle.fb_calls.specs.declared.call.Kind.TheVariants.{Plain, Backup, Scrub, Clean}
+use Rattle.fb_calls.specs.Sessions.{is_backup}
+use Rattle.fb_store.specs.declared.content.Content.{Content}
+use Rattle.fb_store.specs.declared.content.ContentRun.{ContentRun}
+use Rattle.fb_store.specs.Index.{held_at}
+use Rattle.fb_store.specs.Pieces.{held_sector, held_in, EndsBy}
+use Rattle.fb_store.specs.Runs.{runs_of, sectors_of}
+use Rattle.fb_store.specs.Writes.{is_within}
+use Rattle.fb_wanted.specs.declared.block.Block.{Block}
+use Rattle.fb_wanted.specs.declared.block.State.{State}
+use Rattle.fb_wanted.specs.declared.block.State.TheVariants.{Wanted, Suspended, Delivered, Aborted}
+use Rattle.fb_wanted.specs.declared.block.Entry.{Entry}
+use Rattle.fb_wanted.specs.States.{is_delivered, is_aborted, is_block}
+use Rattle.fb_wanted.specs.Counting.{counts_of}
+use Rattle.fb_model.specs.History.{Past, tasks, terms_of, registered, blocks_of, bare_state, is_suspended, is_open_backup, is_sealed}
+use Rattle.fb_model.specs.Completion.{is_over, is_complete, is_complete_as}
+use Rattle.fb_tasks.specs.Keeping.{without_aborted}
+use Rattle.fb_rows.specs.declared.back.BackRow.TheVariants.{Seal as SealLine}
+use Rattle.fb_model.specs.Images.{seal_rows}
+use Rattle.fb_tasks.specs.Taken.{content_of, found_for, by_deliveries}
+use Rattle.fb_tasks.specs.Standing.{entry_of, Ascend, AreIndexed, IsBlockOf, HoldsBlock, HoldsBlocks, HoldsImage, Stands}
+use Rattle.fb_tasks.specs.declared.session.Session.{Session}
+use Rattle.fb_tasks.proofs.Counting.{counts_same}
+use Rattle.fb_tasks.proofs.Lists.{all_weaker, all_with, all_filter, all_at, some_same, number_same, filter_from, map_at, some_at, list_all_each}
+use Rattle.fb_tasks.proofs.Same.{own}
+use Rattle.fb_tasks.proofs.States.{shown_aborted}
+use Rattle.fb_tasks.proofs.Sectors.{held_same, within, before_it, behind_it, ascend_from}
+
+-- a range in two parts
+pub range_append : (a n m : ℕ) → range_with_len a (n + m) ≡ range_with_len a n ++ range_with_len (a + n) m
+range_append a zero m =
+    let none : a ≡ a + 0 = omega arith in
+    let all : 0 + m ≡ m = omega arith in
+    ap (range_with_len a) all ∙ ap (λ x. range_with_len x m) none
+range_append a (suc n) m =
+    let more : suc n + m ≡ suc (n + m) = omega arith in
+    let same : (a + 1) + n ≡ a + suc n = omega arith in
+    ap (range_with_len a) more ∙ (ap (λ xs. a ∷ xs) (range_append (a + 1) n m) ∙ ap (λ x. a ∷ (range_with_len (a + 1) n ++ range_with_len x m)) same)
+
+nothing_in : (lbns : List ℕ) → held_in (λ lbn. None) lbns ≡ []
+nothing_in [] = refl
+nothing_in (lbn ∷ lbns) = nothing_in lbns
+
+held_none : (now : ℕ → Option Content) (a n : ℕ) → ((k : ℕ) → a ≤ k → k < a + n → now k ≡ None) → held_in now (range_with_len a n) ≡ []
+held_none now a n none = held_same now (λ lbn. None) a n none ∙ nothing_in (range_with_len a n)
+
+-- what a sector holds after the sectors of aborted blocks were dropped, block by block
+abbrev pub dropped : Past → ℕ → Option Content → List Block → Option Content
+dropped past lbn held [] = held
+dropped past lbn held (block ∷ blocks) = dropped past lbn (without_aborted (entry_of past block) lbn held) blocks
+
+pub dropped_more : (past : Past) (lbn : ℕ) (held : Option Content) (blocks : List Block) (block : Block) → dropped past lbn held (blocks ++ block ∷ []) ≡ without_aborted (entry_of past block) lbn (dropped past lbn held blocks)
+dropped_more past lbn held [] block = refl
+dropped_more past lbn held (b ∷ bs) block = dropped_more past lbn (without_aborted (entry_of past b) lbn held) bs block
+
+pub dropped_next : (past : Past) (lbn : ℕ) (held : Option Content) (blocks : List Block) (i : ℕ) (block : Block) → slice_get blocks i ≡ Some block → without_aborted (entry_of past block) lbn (dropped past lbn held (take i blocks)) ≡ dropped past lbn held (take (i + 1) blocks)
+dropped_next past lbn held blocks i block at = sym (
+    ap (dropped past lbn held) (take_more blocks i block (slice_get_within blocks i block at) ∙ ap (λ x. take i blocks ++ x ∷ []) (get_or_from_slice_get blocks i block block at))
+    ∙ dropped_more past lbn held (take i blocks) block)
+
+-- a sector lies in an aborted block
+abbrev is_hit : Past → ℕ → Block → Bool
+is_hit past lbn block = is_aborted (bare_state past block) && is_within block.lbn block.count lbn
+
+dropped_is : (past : Past) (lbn : ℕ) (held : Option Content) (blocks : List Block) → dropped past lbn held blocks ≡ (if list_any (is_hit past lbn) blocks then None else held)
+dropped_is past lbn held [] = refl
+dropped_is past lbn held (b ∷ bs) =
+    dropped_is past lbn (without_aborted (entry_of past b) lbn held) bs
+    ∙ (ap (λ a. if list_any (is_hit past lbn) bs then None else (if a && is_within b.lbn b.count lbn then None else held)) (shown_aborted (bare_state past b) (is_suspended past b.task))
+    ∙ either (is_hit past lbn b) (list_any (is_hit past lbn) bs)) where
+      either : (one more : Bool) → (if more then None else (if one then None else held)) ≡ (if one || more then None else held)
+      either true true = refl
+      either true false = refl
+      either false true = refl
+      either false false = refl
+
+module _ (p : Block → Bool) where
+  abbrev pub has_it : ℕ → Block → Bool
+  has_it lbn block = p block && is_within block.lbn block.count lbn
+
+  and_yes : (b : Bool) → ((b && true) || false) ≡ b
+  and_yes true = refl
+  and_yes false = refl
+
+  before_all : (from lbn : ℕ) (blocks : List Block) → lbn < from → AllByRecursion (λ block. from ≤ block.lbn) blocks → list_any (has_it lbn) blocks ≡ false
+  before_all from lbn [] less h = refl
+  before_all from lbn (b ∷ bs) less h =
+      let first = h.0 in
+      rw (before_it b.lbn b.count lbn (omega arith), and-false (p b), before_all from lbn bs less h.1) refl
+
+  -- a sector of a block lies in no other
+  pub in_one : (from : ℕ) (blocks : List Block) → Ascend from blocks → AllByRecursion (λ block. (lbn : ℕ) → block.lbn ≤ lbn → lbn < block.lbn + block.count → list_any (has_it lbn) blocks ≡ p block) blocks
+  in_one from [] h = tt
+  in_one from (b ∷ bs) h = (
+    (λ lbn first last. rw (within b.lbn b.count lbn first last, before_all (b.lbn + b.count) lbn bs last (ascend_from (b.lbn + b.count) bs h.1)) (and_yes (p b))),
+    all_with (λ (block : Block). b.lbn + b.count ≤ block.lbn) (λ (block : Block). (lbn : ℕ) → block.lbn ≤ lbn → lbn < block.lbn + block.count → list_any (has_it lbn) bs ≡ p block) (λ (block : Block). (lbn : ℕ) → block.lbn ≤ lbn → lbn < block.lbn + block.count → list_any (has_it lbn) (b ∷ bs) ≡ p block)
+        (λ block past_it rest lbn first last. rw (behind_it b.lbn b.count lbn (omega arith), and-false (p b)) (rest lbn first last)) bs (ascend_from (b.lbn + b.count) bs h.1) (in_one (b.lbn + b.count) bs h.1),
+  )
+
+-- what is held of a block: all of a delivered one, and nothing of another
+abbrev HoldsPart : Past → (ℕ → Option Content) → Block → Type 0
+HoldsPart past held block = held_in held (range_with_len block.lbn block.count) ≡ (if is_delivered (bare_state past block) then sectors_of (content_of past block) else [])
+
+-- what is held of ascending blocks, where nothing is held beside them
+held_parts : (past : Past) (held : ℕ → Option Content) (from end : ℕ) (blocks : List Block) → Ascend from blocks → AllByRecursion (λ block. block.lbn + block.count ≤ end) blocks → AllByRecursion (HoldsPart past held) blocks
+    → ((lbn : ℕ) → from ≤ lbn → list_any (λ block. is_within block.lbn block.count lbn) blocks ≡ false → held lbn ≡ None)
+    → held_in held (range_with_len from (end - from)) ≡ flat_map (λ block. sectors_of (content_of past block)) (filter (λ block. is_delivered (bare_state past block)) blocks)
+held_parts past held from end [] ascend within parts none = held_none held from (end - from) (λ k first last. none k first refl)
+held_parts past held from end (b ∷ bs) ascend within parts none =
+    let first : from ≤ b.lbn = ascend.0 in
+    let last : b.lbn + b.count ≤ end = within.0 in
+    let whole : end - from ≡ (b.lbn - from) + (b.count + (end - (b.lbn + b.count))) = omega arith in
+    let start : from + (b.lbn - from) ≡ b.lbn = omega arith in
+    ap (λ n. held_in held (range_with_len from n)) whole
+    ∙ (ap (held_in held) (range_append from (b.lbn - from) (b.count + (end - (b.lbn + b.count))) ∙ ap (λ x. range_with_len from (b.lbn - from) ++ range_with_len x (b.count + (end - (b.lbn + b.count)))) start)
+    ∙ (flat_map-append (λ lbn. held_sector lbn (held lbn)) (range_with_len from (b.lbn - from)) (range_with_len b.lbn (b.count + (end - (b.lbn + b.count))))
+    ∙ (ap (λ xs. xs ++ held_in held (range_with_len b.lbn (b.count + (end - (b.lbn + b.count))))) (held_none held from (b.lbn - from) (λ k at_least less. let gap : k < b.lbn = omega arith in none k at_least (gap_none k gap)))
+    ∙ (ap (held_in held) (range_append b.lbn b.count (end - (b.lbn + b.count)))
+    ∙ (flat_map-append (λ lbn. held_sector lbn (held lbn)) (range_with_len b.lbn b.count) (range_with_len (b.lbn + b.count) (end - (b.lbn + b.count)))
+    ∙ (ap₂ (λ xs ys. xs ++ ys) parts.0 (held_parts past held (b.lbn + b.count) end bs ascend.1 within.1 parts.1 (λ lbn from_it other. none lbn (omega arith) (rw (behind_it b.lbn b.count lbn from_it) other)))
+    ∙ by_state (is_delivered (bare_state past b)))))))) where
+      gap_none : (k : ℕ) → k < b.lbn → list_any (λ (block : Block). is_within block.lbn block.count k) (b ∷ bs) ≡ false
+      gap_none k less =
+          let follow : k < b.lbn + b.count = omega arith in
+          rw (before_it b.lbn b.count k less) (before_all (λ block. true) (b.lbn + b.count) k bs follow (ascend_from (b.lbn + b.count) bs ascend.1))
+
+      by_state : (done : Bool) → (if done then sectors_of (content_of past b) else []) ++ flat_map (λ block. sectors_of (content_of past block)) (filter (λ block. is_delivered (bare_state past block)) bs)
+          ≡ flat_map (λ block. sectors_of (content_of past block)) (if done then b ∷ filter (λ block. is_delivered (bare_state past block)) bs else filter (λ block. is_delivered (bare_state past block)) bs)
+      by_state true = refl
+      by_state false = refl
+
+module _ (past : Past) (blocks : List Block) (ascend : Ascend 0 blocks) (over : AllByRecursion (λ block. is_over (bare_state past block) ≡ true) blocks)
+    (held now : ℕ → Option Content) (holds : HoldsImage past blocks held) (drops : (lbn : ℕ) → now lbn ≡ dropped past lbn (held lbn) blocks) where
+  parts_now : AllByRecursion (HoldsPart past now) blocks
+  parts_now = all_with (λ block. is_over (bare_state past block) ≡ true) (λ block. HoldsBlock past held block × ((lbn : ℕ) → block.lbn ≤ lbn → lbn < block.lbn + block.count → list_any (is_hit past lbn) blocks ≡ is_aborted (bare_state past block))) (HoldsPart past now)
+      (λ block is_over both. part block (bare_state past block) refl is_over both.0 both.1) blocks over
+      (all_with (HoldsBlock past held) (λ (block : Block). (lbn : ℕ) → block.lbn ≤ lbn → lbn < block.lbn + block.count → list_any (is_hit past lbn) blocks ≡ is_aborted (bare_state past block)) (λ block. HoldsBlock past held block × ((lbn : ℕ) → block.lbn ≤ lbn → lbn < block.lbn + block.count → list_any (is_hit past lbn) blocks ≡ is_aborted (bare_state past block)))
+      (λ block a b. (a, b)) blocks holds.each (in_one (λ block. is_aborted (bare_state past block)) 0 blocks ascend)) where
+        part : (block : Block) (s : State) → bare_state past block ≡ s → is_over (bare_state past block) ≡ true → HoldsBlock past held block → ((lbn : ℕ) → block.lbn ≤ lbn → lbn < block.lbn + block.count → list_any (is_hit past lbn) blocks ≡ is_aborted (bare_state past block)) → HoldsPart past now block
+        part block Wanted e is h hit = absurd (true≢false (sym is ∙ ap is_over e))
+        part block Suspended e is h hit = absurd (true≢false (sym is ∙ ap is_over e))
+        part block Delivered e is h hit =
+            held_same now held block.lbn block.count (λ k from to. drops k ∙ (dropped_is past k (held k) blocks ∙ ap (λ b. if b then None else held k) (hit k from to ∙ ap is_aborted e)))
+            ∙ (h (ap is_delivered e) ∙ ap (λ s. if is_delivered s then sectors_of (content_of past block) else []) (sym e))
+        part block Aborted e is h hit =
+            held_none now block.lbn block.count (λ k from to. drops k ∙ (dropped_is past k (held k) blocks ∙ ap (λ b. if b then None else held k) (hit k from to ∙ ap is_aborted e)))
+            ∙ ap (λ s. if is_delivered s then sectors_of (content_of past block) else []) (sym e)
+
+  nothing_beside : (lbn : ℕ) → 0 ≤ lbn → list_any (λ block. is_within block.lbn block.count lbn) blocks ≡ false → now lbn ≡ None
+  nothing_beside lbn from other = drops lbn ∙ (dropped_is past lbn (held lbn) blocks ∙ (ap (λ h. if list_any (is_hit past lbn) blocks then None else h) (holds.only lbn other) ∙ none_either (list_any (is_hit past lbn) blocks))) where
+    none_either : (b : Bool) → (let n : Option Content = None in if b then n else None) ≡ None
+    none_either true = refl
+    none_either false = refl
+
+  -- the image has what the delivered blocks' last deliveries found
+  pub sealed_held : (end : ℕ) → AllByRecursion (λ block. block.lbn + block.count ≤ end) blocks → held_in now (range_with_len 0 end) ≡ flat_map (λ block. sectors_of (content_of past block)) (filter (λ block. is_delivered (bare_state past block)) blocks)
+  sealed_held end within =
+      let whole : end ≡ end - 0 = omega arith in
+      ap (λ n. held_in now (range_with_len 0 n)) whole ∙ held_parts past now 0 end blocks ascend within parts_now nothing_beside
+
+-- all is over where a backup is complete
+pub backup_over : (past : Past) (task : ℕ) → is_backup (terms_of past task).kind ≡ true → is_complete past task ≡ true → AllByRecursion (λ block. is_over (bare_state past block) ≡ true) (blocks_of past task)
+unfolding is_complete
+backup_over past task backup complete = by (terms_of past task).kind backup complete where
+  by : (kind : Kind) → is_backup kind ≡ true → is_complete_as kind past task ≡ true → AllByRecursion (λ block. is_over (bare_state past block) ≡ true) (blocks_of past task)
+  by Plain is h = absurd (true≢false (sym is))
+  by Backup is h = list_all_each (λ block. is_over (bare_state past block)) (blocks_of past task) (and_parts (nat_lt 0 (length (blocks_of past task))) (list_all (λ block. is_over (bare_state past block)) (blocks_of past task)) h).1
+  by Scrub is h = absurd (true≢false (sym is))
+  by Clean is h = absurd (true≢false (sym is))
+
+-- the task's block of a number stands among those that are registered
+pub indexed_at : (n k : ℕ) (blocks : List Block) (block : Block) → AreIndexed n blocks → slice_get blocks k ≡ Some block → block.index ≡ n + k
+indexed_at n k [] block h at = absurd (grind arith)
+indexed_at n zero (b ∷ bs) block h at = let same : n ≡ n + 0 = omega arith in ap (λ (x : Block). x.index) (sym (some_same b block at)) ∙ (h.0 ∙ same)
+indexed_at n (suc k) (b ∷ bs) block h at = let same : n + 1 + k ≡ n + suc k = omega arith in indexed_at (n + 1) k bs block h.1 at ∙ same
+
+-- the entry of a task's block
+pub record HasEntry (held : List Entry) (task index : ℕ) (entry : Entry) : Type 0 where
+  pub place : ℕ
+  pub at : slice_get held place ≡ Some entry
+  pub is_block : is_block task index entry ≡ true
+  pub within : entry.block.lbn + entry.block.count ≤ 10 ^ 12
+
+module _ {disk : Shape} {past : Past} {held : List Entry} (h : HoldsBlocks disk past held) (task : ℕ) where
+  pub entry_at : (index : ℕ) (block : Block) → slice_get (blocks_of past task) index ≡ Some block → HasEntry held task index (entry_of past block)
+  entry_at index block at =
+      let place = filter_from (λ (b : Block). b.task == task) (registered past) index block at in
+      record {
+        place = place.0;
+        at = ap (λ es. slice_get es place.0) h.entries ∙ map_at (entry_of past) (registered past) place.0 block place.1;
+        is_block = ap₂ (λ a b. a && b) (number_same block.task task (all_at (λ (b : Block). b.task ≡ task) (blocks_of past task) index block (own past task) at)) (number_same block.index index (let from_none : 0 + index ≡ index = omega arith in indexed_at 0 index (blocks_of past task) block (h.indexed task) at ∙ from_none));
+        within = (all_at (IsBlockOf disk (length (tasks past))) (registered past) place.0 block h.on_disk place.1).within;
+      }
+
+  pub block_at : (index n : ℕ) → n ≡ (counts_of task held).registered → index < n → (block : Block) × (slice_get (blocks_of past task) index ≡ Some block)
+  block_at index n is less = some_at (blocks_of past task) index (subst (λ k. index < k) (is ∙ ap (λ c. c.registered) (counts_same past task held h.entries)) less)
+
+  pub all_blocks : (n : ℕ) → n ≡ (counts_of task held).registered → take n (blocks_of past task) ≡ blocks_of past task
+  all_blocks n is = ap (λ k. take k (blocks_of past task)) (is ∙ ap (λ c. c.registered) (counts_same past task held h.entries)) ∙ take_whole (blocks_of past task) where
+    take_whole : (xs : List Block) → take (length xs) xs ≡ xs
+    take_whole [] = refl
+    take_whole (x ∷ xs) = ap (λ ys. x ∷ ys) (take_whole xs)
+
+  -- the seal's content
+  pub sealed_content : (session : Session) (now : ℕ → Option Content) (content : List ContentRun) → Stands past task session → is_open_backup past task ≡ true → is_complete past task ≡ true
+      → ((lbn : ℕ) → now lbn ≡ dropped past lbn (held_at session.image lbn) (blocks_of past task))
+      → EndsBy now (10 ^ 12) → ((end : ℕ) → EndsBy now end → content ≡ runs_of (held_in now (range_with_len 0 end)))
+      → content ≡ found_for past (filter (λ block. is_delivered (bare_state past block)) (blocks_of past task))
+  sealed_content session now content stands is_open complete drops ends gives = by (10 ^ 12) ends (all_weaker (IsBlockOf disk (length (tasks past))) (λ (block : Block). block.lbn + block.count ≤ 10 ^ 12) (λ block on_disk. on_disk.within) (blocks_of past task) (all_filter (IsBlockOf disk (length (tasks past))) (λ (b : Block). b.task == task) (registered past) h.on_disk)) where
+    backup : is_backup (terms_of past task).kind ≡ true
+    backup = (and_parts (is_backup (terms_of past task).kind) (not (is_sealed past task)) is_open).0
+
+    by : (end : ℕ) → EndsBy now end → AllByRecursion (λ (block : Block). block.lbn + block.count ≤ end) (blocks_of past task) → content ≡ found_for past (filter (λ block. is_delivered (bare_state past block)) (blocks_of past task))
+    by end ends within = gives end ends ∙ ap runs_of (sealed_held past (blocks_of past task) (stands.ascend (ap (λ t. is_backup t.kind) (sym stands.terms) ∙ backup)) (backup_over past task backup complete) (held_at session.image) now (stands.image is_open) drops end within)
+
+-- a session tells whether its task is a backup that has not been sealed
+pub open_same : {past : Past} {task : ℕ} (session : Session) → Stands past task session → is_open_backup past task ≡ (is_backup session.kind && not session.sealed)
+open_same {past} {task} session stands = ap₂ (λ t s. is_backup t.kind && not s) stands.terms (sym stands.sealed)
+
+pub seal_row : (past : Past) (now task : ℕ) (content : List ContentRun) → is_open_backup past task ≡ true → is_complete past task ≡ true
+    → content ≡ found_for past (filter (λ block. is_delivered (bare_state past block)) (blocks_of past task)) → SealLine (record { task = task; instant = now; content = content }) ∷ [] ≡ seal_rows by_deliveries past now task
+seal_row past now task content is_open complete is =
+    ap (λ found. SealLine (record { task = task; instant = now; content = found }) ∷ []) is
+    ∙ sym (ap₂ (λ a b. if a && b then SealLine (record { task = task; instant = now; content = found_for past (filter (λ block. is_delivered (bare_state past block)) (blocks_of past task)) }) ∷ [] else []) is_open complete)
+
+-- the seal of a session is that of its task
+pub seals_same : {past : Past} {task : ℕ} (session : Session) (complete : Bool) → Stands past task session → complete ≡ is_complete past task → (complete && (is_backup session.kind && not session.sealed)) ≡ (is_open_backup past task && is_complete past task)
+seals_same {past} {task} session complete stands says = ap₂ (λ a b. a && b) says (sym (open_same session stands)) ∙ and_comm (is_complete past task) (is_open_backup past task)

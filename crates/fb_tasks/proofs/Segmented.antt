@@ -1,0 +1,224 @@
+-- The segments of a log, as the history and as the session have them.
+use Rattle.std.proofs.Common.{◌≡◌, ℕ, zero, suc, ◌+◌, ◌-◌, ◌*◌, ◌^◌, ◌<◌, ◌≤◌, ◌==◌, ◌&&◌, not, if◌then◌else◌, List, [], ◌∷◌, ◌++◌, Bool, true, false, Some, None, Option, inl, inr, length, filter, map, slice_get, append-nil, length-append, refl, ap, sym, ◌∙◌, arith, subst}
+use Rattle.std.proofs.Math.Bool.{and-true}
+use Rattle.std.specs.List.{AllByRecursion, flat_map, range_with_len, slice_index_or, sum_by, best_of}
+use Rattle.std.proofs.lemmas.Bool.{cases_Bool}
+use Rattle.std.proofs.lemmas.List.Sums.{sum_by-append}
+use Rattle.std.proofs.lemmas.List.Concat.{flat_map-append}
+use Rattle.std.proofs.lemmas.Option.{get_or_from_slice_get}
+use Rattle.fb_geometry.specs.Shape.{Shape}
+use Rattle.fb_geometry.specs.Places.{places}
+use Rattle.fb_sectormap.specs.declared.cut.Cut.{Cut}
+use Rattle.fb_sectormap.specs.Cutting.{cutting, with_sector, is_cut_before}
+use Rattle.fb_calls.specs.declared.call.Action.{Action}
+use Rattle.fb_calls.specs.declared.call.Action.TheVariants.{Segment}
+use Rattle.fb_calls.specs.Blocks.{live_cuts}
+use Rattle.fb_wanted.specs.declared.block.Block.{Block}
+use Rattle.fb_clean.specs.Segments as clean
+use Rattle.fb_model.specs.History.{Past, called, chose, tested, delivered, finished, LogSegment, terms_of}
+use Rattle.fb_model.specs.Completion.{segments, segment_in, is_closed}
+use Rattle.fb_model.specs.Segments.{numbered, live_count, is_better, is_chosen, unchosen}
+use Rattle.fb_tasks.specs.Keeping.{cuts_of}
+use Rattle.fb_tasks.specs.Standing.{kept_segment, Ascend, IsBlockOf}
+use Rattle.fb_tasks.proofs.Lists.{some_same, all_append, all_weaker}
+use Rattle.fb_tasks.proofs.Cuts.{cuts_are, cuts_placed, cuts_ascend, cuts_end, cuts_cover}
+use Rattle.fb_tasks.proofs.LiveBlocks.{numbered_append}
+
+abbrev pub NumberedFrom : ℕ → List LogSegment → Type 0
+NumberedFrom n [] = Unit {0}
+NumberedFrom n (s ∷ ss) = (s.number ≡ n) × NumberedFrom (n + 1) ss
+
+numbered_push : (n : ℕ) (ss : List LogSegment) (s : LogSegment) → NumberedFrom n ss → s.number ≡ n + length ss → NumberedFrom n (ss ++ s ∷ [])
+numbered_push n [] s h e = (omega (arith, e), tt)
+numbered_push n (x ∷ ss) s h e = (h.0, numbered_push (n + 1) ss s h.1 (omega (arith, e)))
+
+-- segments are numbered from 1
+pub numbered_given : (past : Past) (task : ℕ) → NumberedFrom 1 (segments past task)
+numbered_given [] task = tt
+numbered_given (called call blocks ∷ past) task = elim (cases_Bool (call.task == task)) [
+  | inl own ↦ rw own (by_action call.action (numbered_given past task))
+  | inr other ↦ rw (other, append-nil (segments past task)) (numbered_given past task)
+] where
+  by_action : (a : Action) → NumberedFrom 1 (segments past task) → NumberedFrom 1 (segments past task ++ segment_in (length (segments past task) + 1) a)
+  by_action (Segment first blocks age live) before = numbered_push 1 (segments past task) (record { number = length (segments past task) + 1; first = first; blocks = blocks; age = age; live = live }) before (omega arith)
+  by_action _ before = subst (NumberedFrom 1) (sym (append-nil (segments past task))) before
+numbered_given (chose chooser segment blocks ∷ past) task = subst (NumberedFrom 1) (sym (append-nil (segments past task))) (numbered_given past task)
+numbered_given (tested rows ∷ past) task = subst (NumberedFrom 1) (sym (append-nil (segments past task))) (numbered_given past task)
+numbered_given (delivered got ∷ past) task = subst (NumberedFrom 1) (sym (append-nil (segments past task))) (numbered_given past task)
+numbered_given (finished request ∷ past) task = subst (NumberedFrom 1) (sym (append-nil (segments past task))) (numbered_given past task)
+
+-- a segment stands at its number
+pub at_number : (n : ℕ) (ss : List LogSegment) → NumberedFrom n ss → AllByRecursion (λ s. (n ≤ s.number) × (slice_get ss (s.number - n) ≡ Some s)) ss
+at_number n [] h = tt
+at_number n (x ∷ ss) h = (
+  (omega (arith, h.0), ap (slice_get (x ∷ ss)) (let e : x.number - n ≡ 0 = omega (arith, h.0) in e)),
+  all_weaker (λ s. (n + 1 ≤ s.number) × (slice_get ss (s.number - (n + 1)) ≡ Some s)) (λ s. (n ≤ s.number) × (slice_get (x ∷ ss) (s.number - n) ≡ Some s))
+      (λ s there. (omega (arith, there.0), ap (slice_get (x ∷ ss)) (let e : s.number - n ≡ suc (s.number - (n + 1)) = omega (arith, there.0) in e) ∙ there.1)) ss (at_number (n + 1) ss h.1),
+)
+
+-- where a session finds the live blocks of a segment
+pub live_there : (past : Past) (task : ℕ) (ss : List LogSegment) (s : LogSegment) → slice_get ss (s.number - 1) ≡ Some s
+    → slice_index_or (map (λ (x : clean.LogSegment). x.live) (map (kept_segment past task) ss)) (s.number - 1) [] ≡ clean.live_blocks (terms_of past task).block s.first s.live
+live_there past task ss s at = get_or_from_slice_get (map (λ (x : clean.LogSegment). x.live) (map (kept_segment past task) ss)) (s.number - 1) (clean.live_blocks (terms_of past task).block s.first s.live) [] (through ss (s.number - 1) at) where
+  through : (xs : List LogSegment) (i : ℕ) → slice_get xs i ≡ Some s → slice_get (map (λ (x : clean.LogSegment). x.live) (map (kept_segment past task) xs)) i ≡ Some (clean.live_blocks (terms_of past task).block s.first s.live)
+  through [] i h = absurd (grind arith)
+  through (x ∷ xs) zero h = ap (λ (y : LogSegment). Some (clean.live_blocks (terms_of past task).block y.first y.live)) (some_same x s h)
+  through (x ∷ xs) (suc i) h = through xs i h
+
+-- a test that is the same gives the same best one
+pub best_map : {X Y : Type 0} (f : X → Y) (p : X → X → Bool) (q : Y → Y → Bool) → ((a b : X) → q (f a) (f b) ≡ p a b) → (x : X) (xs : List X) → best_of q (f x) (map f xs) ≡ f (best_of p x xs)
+best_map f p q same x [] = refl
+best_map f p q same x (y ∷ ys) =
+    ap (λ z. best_of q z (map f ys)) (ap (λ t. if t then f y else f x) (same y x) ∙ pushed (p y x)) ∙ best_map f p q same (if p y x then y else x) ys where
+      pushed : (b : Bool) → (if b then f y else f x) ≡ f (if b then y else x)
+      pushed true = refl
+      pushed false = refl
+
+-- what holds of all holds of the best one
+pub all_best : {X : Type 0} (P : X → Type 0) (p : X → X → Bool) (x : X) (xs : List X) → P x → AllByRecursion P xs → P (best_of p x xs)
+all_best P p x [] one all = one
+all_best P p x (y ∷ ys) one all = elim (cases_Bool (p y x)) [
+  | inl better ↦ rw better (all_best P p y ys all.0 all.1)
+  | inr worse ↦ rw worse (all_best P p x ys one all.1)
+]
+
+-- the number of the best of those left to choose
+abbrev pub number_of_best : List LogSegment → Option ℕ
+number_of_best [] = None
+number_of_best (s ∷ ss) = Some (best_of is_better s ss).number
+
+module _ (past : Past) (task : ℕ) (going : is_closed past task ≡ false) (lives : (block first : ℕ) (live : List Bool) → length (clean.live_blocks block first live) ≡ length (filter (λ is_live. is_live) live)) where
+  waits_same : (s : LogSegment) → (kept_segment past task s).waits ≡ not (is_chosen past task s)
+  waits_same s = ap (λ b. not (is_chosen past task s) && not b) going ∙ and-true (not (is_chosen past task s))
+
+  pub waiting_kept : (ss : List LogSegment) → clean.waiting (map (kept_segment past task) ss) ≡ map (kept_segment past task) (filter (λ s. not (is_chosen past task s)) ss)
+  waiting_kept [] = refl
+  waiting_kept (s ∷ ss) =
+      let rest = waiting_kept ss in
+      elim (cases_Bool (is_chosen past task s)) [
+        | inl chosen ↦ ap (λ b. if b then kept_segment past task s ∷ clean.waiting (map (kept_segment past task) ss) else clean.waiting (map (kept_segment past task) ss)) (waits_same s ∙ ap not chosen)
+            ∙ (rest ∙ ap (λ b. map (kept_segment past task) (if not b then s ∷ filter (λ x. not (is_chosen past task x)) ss else filter (λ x. not (is_chosen past task x)) ss)) (sym chosen))
+        | inr left ↦ ap (λ b. if b then kept_segment past task s ∷ clean.waiting (map (kept_segment past task) ss) else clean.waiting (map (kept_segment past task) ss)) (waits_same s ∙ ap not left)
+            ∙ (ap (λ xs. kept_segment past task s ∷ xs) rest ∙ ap (λ b. map (kept_segment past task) (if not b then s ∷ filter (λ x. not (is_chosen past task x)) ss else filter (λ x. not (is_chosen past task x)) ss)) (sym left))
+      ]
+
+  better_same : (a b : LogSegment) → clean.is_better (kept_segment past task a) (kept_segment past task b) ≡ is_better a b
+  better_same a b =
+      let x : length (kept_segment past task a).live ≡ live_count a = lives (terms_of past task).block a.first a.live in
+      let y : length (kept_segment past task b).live ≡ live_count b = lives (terms_of past task).block b.first b.live in
+      rw (x, y) refl
+
+  pub best_kept : (s : LogSegment) (ss : List LogSegment) → best_of clean.is_better (kept_segment past task s) (map (kept_segment past task) ss) ≡ kept_segment past task (best_of is_better s ss)
+  best_kept s ss = best_map (kept_segment past task) is_better clean.is_better better_same s ss
+
+  -- the session's choice is the history's
+  pub choice_kept : (log : clean.Cleaning) → log.segments ≡ map (kept_segment past task) (segments past task) → log.unfinished ≡ None → (left : List LogSegment) → unchosen past task ≡ left → clean.choice_of log ≡ number_of_best left
+  choice_kept log all idle left is_left =
+      ap (λ u. clean.choice_while u log.segments) idle
+      ∙ (ap (λ ss. clean.number_of (clean.first_best (clean.waiting ss))) all
+      ∙ (ap (λ ss. clean.number_of (clean.first_best ss)) (waiting_kept (segments past task) ∙ ap (map (kept_segment past task)) is_left) ∙ of_left left)) where
+        of_left : (xs : List LogSegment) → clean.number_of (clean.first_best (map (kept_segment past task) xs)) ≡ number_of_best xs
+        of_left [] = refl
+        of_left (s ∷ ss) = ap (λ (x : clean.LogSegment). Some x.number) (best_kept s ss)
+
+-- the cuttings of live blocks, by either list of them
+pub cuts_of_live : (disk : Shape) (block first : ℕ) (live : List Bool) → cuts_of disk block (clean.live_blocks block first live) ≡ live_cuts disk block first live
+cuts_of_live disk block first [] = refl
+cuts_of_live disk block first (true ∷ live) = ap (λ xs. cutting disk block first block ++ xs) (cuts_of_live disk block (first + block) live)
+cuts_of_live disk block first (false ∷ live) = cuts_of_live disk block (first + block) live
+
+pub live_within : (block first bound : ℕ) (live : List Bool) → first + length live * block ≤ bound → AllByRecursion (λ lbn. lbn + block ≤ bound) (clean.live_blocks block first live)
+live_within block first bound [] within = tt
+live_within block first bound (true ∷ live) within = (omega arith, live_within block (first + block) bound live (omega arith))
+live_within block first bound (false ∷ live) within = live_within block (first + block) bound live (omega arith)
+
+pub live_placed : (disk : Shape) (tasks task weight block n first : ℕ) (live : List Bool) → task < tasks → weight ≤ 1000 → 0 < block → block ≤ 2048 → first + length live * block ≤ length (places disk) → first + length live * block ≤ 10 ^ 12
+    → AllByRecursion (IsBlockOf disk tasks) (numbered task weight n (live_cuts disk block first live))
+live_placed disk tasks task weight block n first [] opened light some short on_disk within = tt
+live_placed disk tasks task weight block n first (true ∷ live) opened light some short on_disk within =
+    subst (AllByRecursion (IsBlockOf disk tasks)) (sym (numbered_append task weight n (cutting disk block first block) (live_cuts disk block (first + block) live)))
+    (all_append (IsBlockOf disk tasks) (numbered task weight n (cutting disk block first block)) (numbered task weight (n + length (cutting disk block first block)) (live_cuts disk block (first + block) live))
+    (cuts_placed disk tasks task weight block n first (first + block) (cutting disk block first block) opened light short (omega arith) (omega arith) (cuts_are disk block first block some))
+    (live_placed disk tasks task weight block (n + length (cutting disk block first block)) (first + block) live opened light some short (omega arith) (omega arith)))
+live_placed disk tasks task weight block n first (false ∷ live) opened light some short on_disk within = live_placed disk tasks task weight block n (first + block) live opened light some short (omega arith) (omega arith)
+
+-- laid end to end they are the live blocks
+pub live_cover : (disk : Shape) (task weight block n first : ℕ) (live : List Bool) → 0 < block
+    → flat_map (λ part. range_with_len part.lbn part.count) (numbered task weight n (live_cuts disk block first live)) ≡ flat_map (λ lbn. range_with_len lbn block) (clean.live_blocks block first live)
+live_cover disk task weight block n first [] some = refl
+live_cover disk task weight block n first (true ∷ live) some =
+    ap (flat_map (λ (part : Block). range_with_len part.lbn part.count)) (numbered_append task weight n (cutting disk block first block) (live_cuts disk block (first + block) live))
+    ∙ (flat_map-append (λ (part : Block). range_with_len part.lbn part.count) (numbered task weight n (cutting disk block first block)) (numbered task weight (n + length (cutting disk block first block)) (live_cuts disk block (first + block) live))
+    ∙ (ap (λ xs. xs ++ flat_map (λ (part : Block). range_with_len part.lbn part.count) (numbered task weight (n + length (cutting disk block first block)) (live_cuts disk block (first + block) live)))
+    (cuts_cover disk task weight block n first (first + block) (cutting disk block first block) (cuts_are disk block first block some) ∙ ap (range_with_len first) (let e : first + block - first ≡ block = omega arith in e))
+    ∙ ap (λ xs. range_with_len first block ++ xs) (live_cover disk task weight block (n + length (cutting disk block first block)) (first + block) live some)))
+live_cover disk task weight block n first (false ∷ live) some = live_cover disk task weight block n (first + block) live some
+
+ascend_append : (low next : ℕ) (xs ys : List Block) → Ascend low xs → low ≤ next → AllByRecursion (λ b. b.lbn + b.count ≤ next) xs → Ascend next ys → Ascend low (xs ++ ys)
+ascend_append low next [] [] p le ends q = tt
+ascend_append low next [] (y ∷ ys) p le ends q = (omega (arith, q.0), q.1)
+ascend_append low next (x ∷ xs) ys p le ends q = (p.0, ascend_append (x.lbn + x.count) next xs ys p.1 ends.0 ends.1 q)
+
+-- they ascend
+pub live_ascend : (disk : Shape) (task weight block n first low : ℕ) (live : List Bool) → 0 < block → low ≤ first → Ascend low (numbered task weight n (live_cuts disk block first live))
+live_ascend disk task weight block n first low [] some le = tt
+live_ascend disk task weight block n first low (true ∷ live) some le =
+    let are = cuts_are disk block first block some in
+    subst (Ascend low) (sym (numbered_append task weight n (cutting disk block first block) (live_cuts disk block (first + block) live)))
+    (ascend_append low (first + block) (numbered task weight n (cutting disk block first block)) (numbered task weight (n + length (cutting disk block first block)) (live_cuts disk block (first + block) live))
+    (cuts_ascend disk task weight block n first (first + block) low (cutting disk block first block) le are) (omega arith)
+    (cuts_end disk task weight block n first (first + block) (cutting disk block first block) are)
+    (live_ascend disk task weight block (n + length (cutting disk block first block)) (first + block) (first + block) live some (omega arith)))
+live_ascend disk task weight block n first low (false ∷ live) some le = live_ascend disk task weight block n (first + block) low live some (omega arith)
+
+-- a range of some sectors has a block
+cutting_some : (disk : Shape) (block lbn n : ℕ) → 0 < n → 0 < length (cutting disk block lbn n)
+unfolding cutting
+cutting_some disk block lbn zero some = absurd (omega arith)
+cutting_some disk block lbn (suc n) some = with_some (cutting disk block (lbn + 1) n) where
+  with_some : (cs : List Cut) → 0 < length (with_sector disk block lbn cs)
+  with_some [] = omega arith
+  with_some (c ∷ cs) = elim (cases_Bool (is_cut_before disk block (lbn + 1))) [ inl here ↦ rw here (omega arith) | inr on ↦ rw on (omega arith) ]
+
+pub live_some : (disk : Shape) (block first : ℕ) (live : List Bool) → 0 < block → 0 < length (clean.live_blocks block first live) → 0 < length (live_cuts disk block first live)
+live_some disk block first [] some h = absurd (omega arith)
+live_some disk block first (true ∷ live) some h = omega (arith, length-append (cutting disk block first block) (live_cuts disk block (first + block) live), cutting_some disk block first block some)
+live_some disk block first (false ∷ live) some h = live_some disk block (first + block) live some h
+
+sum_cons : {X : Type 0} (f : X → ℕ) (x : X) (xs : List X) → sum_by f (x ∷ xs) ≡ f x + sum_by f xs
+sum_cons f x xs = sum_by-append f (x ∷ []) xs ∙ ap (λ n. n + sum_by f xs) (let e : 0 + f x ≡ f x = omega arith in e)
+
+-- the sum over those that pass, with one element more
+sum_pass : {X : Type 0} (f : X → ℕ) (p : X → Bool) (x : X) (xs : List X) → p x ≡ true → sum_by f (filter p (x ∷ xs)) ≡ f x + sum_by f (filter p xs)
+sum_pass f p x xs h = ap (λ b. sum_by f (if b then x ∷ filter p xs else filter p xs)) h ∙ sum_cons f x (filter p xs)
+
+sum_fail : {X : Type 0} (f : X → ℕ) (p : X → Bool) (x : X) (xs : List X) → p x ≡ false → sum_by f (filter p (x ∷ xs)) ≡ sum_by f (filter p xs)
+sum_fail f p x xs h = ap (λ b. sum_by f (if b then x ∷ filter p xs else filter p xs)) h
+
+-- without one element a sum is less by what it gave
+sum_less : {X : Type 0} (f : X → ℕ) (p q : X → Bool) → ((x : X) → q x ≡ true → p x ≡ true) → (xs : List X) → sum_by f (filter q xs) ≤ sum_by f (filter p xs)
+sum_less f p q weaker [] = omega arith
+sum_less f p q weaker (x ∷ xs) =
+    let rest = sum_less f p q weaker xs in
+    elim (cases_Bool (q x)) [
+      | inl in_q ↦ omega (arith, rest, sum_pass f q x xs in_q, sum_pass f p x xs (weaker x in_q))
+      | inr out_q ↦ elim (cases_Bool (p x)) [
+        | inl in_p ↦ omega (arith, rest, sum_fail f q x xs out_q, sum_pass f p x xs in_p)
+        | inr out_p ↦ omega (arith, rest, sum_fail f q x xs out_q, sum_fail f p x xs out_p)
+      ]
+    ]
+
+pub sum_without : {X : Type 0} (f : X → ℕ) (p q : X → Bool) → ((x : X) → q x ≡ true → p x ≡ true) → (xs : List X) (i : ℕ) (x : X) → slice_get xs i ≡ Some x → p x ≡ true → q x ≡ false → sum_by f (filter q xs) + f x ≤ sum_by f (filter p xs)
+sum_without f p q weaker [] i x at in_p out_q = absurd (grind arith)
+sum_without f p q weaker (y ∷ ys) zero x at in_p out_q =
+    let e = some_same y x at in
+    omega (arith, sum_less f p q weaker ys, ap f e, sum_pass f p y ys (ap p e ∙ in_p), sum_fail f q y ys (ap q e ∙ out_q))
+sum_without f p q weaker (y ∷ ys) (suc i) x at in_p out_q =
+    let rest = sum_without f p q weaker ys i x at in_p out_q in
+    elim (cases_Bool (q y)) [
+      | inl in_q ↦ omega (arith, rest, sum_pass f q y ys in_q, sum_pass f p y ys (weaker y in_q))
+      | inr no_q ↦ elim (cases_Bool (p y)) [
+        | inl yes_p ↦ omega (arith, rest, sum_fail f q y ys no_q, sum_pass f p y ys yes_p)
+        | inr no_p ↦ omega (arith, rest, sum_fail f q y ys no_q, sum_fail f p y ys no_p)
+      ]
+    ]

@@ -1,0 +1,99 @@
+-- The states of registered blocks, suspended or not.
+use Rattle.std.proofs.Common.{◌≡◌, ℕ, ◌==◌, ◌&&◌, not, if◌then◌else◌, List, [], ◌∷◌, Bool, true, false, inl, inr, map, refl, ap, ◌∙◌}
+use Rattle.std.specs.List.{AllByRecursion}
+use Rattle.std.proofs.lemmas.Bool.{cases_Bool, true≢false}
+use Rattle.fb_wanted.specs.declared.block.Block.{Block}
+use Rattle.fb_wanted.specs.declared.block.Change.{Change}
+use Rattle.fb_wanted.specs.declared.block.Entry.{Entry}
+use Rattle.fb_wanted.specs.declared.block.State.{State}
+use Rattle.fb_wanted.specs.declared.block.State.TheVariants.{Wanted, Suspended, Delivered, Aborted}
+use Rattle.fb_wanted.specs.States.{is_wanted, is_delivered, is_suspended, is_open, is_aborted, wanted_unless, state_after, after}
+use Rattle.fb_model.specs.History.{Past, bare_state, state, registered, registers, delivers, aborts, overwrites, is_open_backup}
+use Rattle.fb_tasks.specs.Standing.{entry_of}
+
+-- a block of a task that is held back is suspended where it would be wanted
+abbrev pub shown : State → Bool → State
+shown bare held_back = if is_wanted bare && held_back then Suspended else bare
+
+pub show_suspended : (bare : State) (held_back : Bool) → (if is_wanted (shown bare held_back) then Suspended else shown bare held_back) ≡ shown bare true
+show_suspended Wanted true = refl
+show_suspended Wanted false = refl
+show_suspended Suspended held_back = refl
+show_suspended Delivered held_back = refl
+show_suspended Aborted held_back = refl
+
+pub show_resumed : (bare : State) (held_back : Bool) → is_suspended bare ≡ false → (if is_suspended (shown bare held_back) then Wanted else shown bare held_back) ≡ shown bare false
+show_resumed Wanted true h = refl
+show_resumed Wanted false h = refl
+show_resumed Suspended held_back h = absurd (true≢false h)
+show_resumed Delivered held_back h = refl
+show_resumed Aborted held_back h = refl
+
+pub show_aborted : (bare : State) (held_back hit : Bool) → (if hit && is_open (shown bare held_back) then Aborted else shown bare held_back) ≡ shown (if hit && not (is_delivered bare) then Aborted else bare) held_back
+show_aborted Wanted true true = refl
+show_aborted Wanted false true = refl
+show_aborted Wanted true false = refl
+show_aborted Wanted false false = refl
+show_aborted Suspended held_back true = refl
+show_aborted Suspended held_back false = refl
+show_aborted Delivered held_back true = refl
+show_aborted Delivered held_back false = refl
+show_aborted Aborted held_back true = refl
+show_aborted Aborted held_back false = refl
+
+pub show_rewanted : (bare : State) (held_back hit : Bool) → (if hit && is_delivered (shown bare held_back) then wanted_unless held_back else shown bare held_back) ≡ shown (if hit && is_delivered bare then Wanted else bare) held_back
+show_rewanted Wanted true true = refl
+show_rewanted Wanted false true = refl
+show_rewanted Wanted true false = refl
+show_rewanted Wanted false false = refl
+show_rewanted Suspended held_back true = refl
+show_rewanted Suspended held_back false = refl
+show_rewanted Delivered true true = refl
+show_rewanted Delivered false true = refl
+show_rewanted Delivered held_back false = refl
+show_rewanted Aborted held_back true = refl
+show_rewanted Aborted held_back false = refl
+
+-- a block is delivered or aborted, whether its task is held back or not
+pub shown_delivered : (bare : State) (held_back : Bool) → is_delivered (shown bare held_back) ≡ is_delivered bare
+shown_delivered Wanted true = refl
+shown_delivered Wanted false = refl
+shown_delivered Suspended held_back = refl
+shown_delivered Delivered held_back = refl
+shown_delivered Aborted held_back = refl
+
+pub shown_aborted : (bare : State) (held_back : Bool) → is_aborted (shown bare held_back) ≡ is_aborted bare
+shown_aborted Wanted true = refl
+shown_aborted Wanted false = refl
+shown_aborted Suspended held_back = refl
+shown_aborted Delivered held_back = refl
+shown_aborted Aborted held_back = refl
+
+-- no event suspends a block by itself
+pub never_suspended : (past : Past) (block : Block) → is_suspended (bare_state past block) ≡ false
+unfolding bare_state
+never_suspended [] block = refl
+never_suspended (event ∷ past) block = elim (cases_Bool (registers event block)) [
+  | inl new ↦ rw new refl
+  | inr old ↦ rw old (elim (cases_Bool (delivers event block)) [
+    | inl got ↦ rw got refl
+    | inr none ↦ rw none (elim (cases_Bool (aborts event block && not (is_delivered (bare_state past block)))) [
+      | inl ended ↦ rw ended refl
+      | inr going ↦ rw going (elim (cases_Bool (overwrites event block && is_delivered (bare_state past block) && is_open_backup past block.task)) [
+        | inl again ↦ rw again refl
+        | inr same ↦ rw same (never_suspended past block)
+      ])
+    ])
+  ])
+]
+
+-- where each block is changed as the history says, the wanted set holds the blocks as the history leaves them
+pub after_changed : (past new : Past) (task : ℕ) (change : Change) (held : List Entry) → held ≡ map (entry_of past) (registered past)
+    → AllByRecursion (λ block. (if block.task == task then state_after change block (state past block) else state past block) ≡ state new block) (registered past)
+    → after task change held ≡ map (entry_of new) (registered past)
+after_changed past new task change held same each =
+    ap (after task change) same ∙ changed_each (registered past) each where
+      changed_each : (bs : List Block) → AllByRecursion (λ block. (if block.task == task then state_after change block (state past block) else state past block) ≡ state new block) bs
+          → after task change (map (entry_of past) bs) ≡ map (entry_of new) bs
+      changed_each [] h = refl
+      changed_each (b ∷ bs) h = rw (h.0, changed_each bs h.1) refl

@@ -1,0 +1,19 @@
+use Rattle.std.proofs.Common.{◌++◌, ap, sym, ◌∙◌, append-nil}
+use Rattle.std.proofs.lemmas.Result.{on_ok_weaker}
+use Rattle.fb_tasks.proofs.Finished.{unequal_tested, unchosen_tested, chosen_tested}
+use Rattle.fb_tasks.proofs.session.Session.test_segment.Goals as goal
+
+pub returns-then-counts : goal.returns-then-counts
+returns-then-counts c = λ disk past may.
+    let is = unequal_tested c.args.self.now may c.args.now c.counts-counts.result c.counts-counts.ensures c.if-counts.true in
+    (is.stands, is.at_work, sym (append-nil c.args.rows.now) ∙ ap (λ rows. c.args.rows.now ++ rows) is.rows)
+
+pub returns-in_ok-content-in-Some : goal.returns-in_ok-content-in-Some
+returns-in_ok-content-in-Some c = on_ok_weaker c.finish.result (λ pushed disk past may.
+    let is = chosen_tested c.args.self.now may c.args.now c.counts-counts.result c.counts-counts.ensures c.if-counts.false c.finish.new.self c.in-Some.segment c.in_ok-content-in-Some.content c.finish.ensures.session (sym c.in-Some.ensures.value) c.in_ok-content-in-Some.ensures in
+    (is.stands, is.at_work, pushed ∙ ap (λ rows. c.args.rows.now ++ rows) is.rows)) c.finish.ensures.row
+
+pub returns-in-None : goal.returns-in-None
+returns-in-None c = λ disk past may.
+    let is = unchosen_tested c.args.self.now may c.args.now (sym c.in-None.ensures.value) in
+    (is.stands, is.at_work, sym (append-nil c.args.rows.now) ∙ ap (λ rows. c.args.rows.now ++ rows) is.rows)

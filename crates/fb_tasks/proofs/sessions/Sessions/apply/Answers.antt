@@ -1,0 +1,60 @@
+use Rattle.std.proofs.Common.{◌<◌, ap, subst, refl}
+use Rattle.std.proofs.lemmas.Result.{on_ok_weaker}
+use Rattle.fb_calls.specs.Allowed.{MayAsk}
+use Rattle.fb_model.specs.Course.{blocks_by}
+use Rattle.fb_tasks.specs.Standing.{calls_of}
+use Rattle.fb_tasks.proofs.Aborts.{promoted-tells, aborted-tells}
+use Rattle.fb_tasks.proofs.Applied.{room_for_one, session_there, takes_none}
+use Rattle.fb_tasks.proofs.sessions.Sessions.apply.Goals as goal
+
+pub open-requires : goal.open-requires
+open-requires c = room_for_one c.args.map.now c.requires.0 c.args.self.now c.args.wanted.now c.args.call.now c.requires.1
+
+pub suspend-requires : goal.suspend-requires
+suspend-requires c = session_there c.args.map.now c.requires.0 c.args.self.now c.args.wanted.now c.args.call.now (λ a. subst (λ x. MayAsk c.args.map.now (calls_of c.requires.0) c.args.call.now.task x) c.in-Suspend.is a) c.requires.1
+
+pub resume-requires : goal.resume-requires
+resume-requires c = session_there c.args.map.now c.requires.0 c.args.self.now c.args.wanted.now c.args.call.now (λ a. subst (λ x. MayAsk c.args.map.now (calls_of c.requires.0) c.args.call.now.task x) c.in-Resume.is a) c.requires.1
+
+pub close-requires : goal.close-requires
+close-requires c = session_there c.args.map.now c.requires.0 c.args.self.now c.args.wanted.now c.args.call.now (λ a. subst (λ x. MayAsk c.args.map.now (calls_of c.requires.0) c.args.call.now.task x) c.in-Close.is a) c.requires.1
+
+pub returns-in-Open : goal.returns-in-Open
+returns-in-Open c = record { ok = on_ok_weaker c.open.result (λ says past h. takes_none c.args.map.now past c.args.call.now c.open.new.self c.args.wanted.now (ap (blocks_by c.args.map.now past c.args.call.now.task) c.in-Open.is) (says c.args.map.now past c.args.call.now c.args.wanted.now c.in-Open.is h)) c.open.ensures }
+
+pub returns-in-Abort : goal.returns-in-Abort
+returns-in-Abort c = record {
+  ok = λ past h. takes_none c.args.map.now past c.args.call.now c.args.self.now c.abort.new.self (ap (blocks_by c.args.map.now past c.args.call.now.task) c.in-Abort.is)
+      (aborted-tells c.args.map.now past c.args.call.now c.in-Abort.first c.in-Abort.count c.args.self.now c.args.wanted.now c.abort.new.self c.in-Abort.is
+      (subst (λ n. c.args.call.now.task < n) h.tells.as_many (session_there c.args.map.now past c.args.self.now c.args.wanted.now c.args.call.now (λ a. (subst (λ x. MayAsk c.args.map.now (calls_of past) c.args.call.now.task x) c.in-Abort.is a).0) h)) c.abort.ensures.states h.tells);
+}
+
+pub returns-in-Promote : goal.returns-in-Promote
+returns-in-Promote c = record {
+  ok = λ past h. takes_none c.args.map.now past c.args.call.now c.args.self.now c.args.wanted.now (ap (blocks_by c.args.map.now past c.args.call.now.task) c.in-Promote.is)
+      (promoted-tells c.args.map.now past c.args.call.now c.in-Promote.first c.in-Promote.count c.args.self.now c.args.wanted.now c.in-Promote.is h.tells);
+}
+
+pub returns-in-Suspend : goal.returns-in-Suspend
+returns-in-Suspend c = record {
+  ok = λ past h. takes_none c.args.map.now past c.args.call.now c.suspend.new.self c.suspend.new.wanted (ap (blocks_by c.args.map.now past c.args.call.now.task) c.in-Suspend.is)
+      (c.suspend.ensures c.args.map.now past c.args.call.now (record { task = refl; action = c.in-Suspend.is }) h.tells);
+}
+
+pub returns-in-Resume : goal.returns-in-Resume
+returns-in-Resume c = record {
+  ok = λ past h. takes_none c.args.map.now past c.args.call.now c.resume.new.self c.resume.new.wanted (ap (blocks_by c.args.map.now past c.args.call.now.task) c.in-Resume.is)
+      (c.resume.ensures c.args.map.now past c.args.call.now (record { task = refl; action = c.in-Resume.is }) h.tells);
+}
+
+pub returns-in-Close : goal.returns-in-Close
+returns-in-Close c = record {
+  ok = λ past h. takes_none c.args.map.now past c.args.call.now c.close.new.self c.close.new.wanted (ap (blocks_by c.args.map.now past c.args.call.now.task) c.in-Close.is)
+      (c.close.ensures past c.args.call.now (record { task = refl; action = c.in-Close.is }) h.tells);
+}
+
+pub returns-in-Segment : goal.returns-in-Segment
+returns-in-Segment c = record {
+  ok = on_ok_weaker c.add_segment.result (λ says past h. takes_none c.args.map.now past c.args.call.now c.add_segment.new.self c.args.wanted.now (ap (blocks_by c.args.map.now past c.args.call.now.task) c.in-Segment.is)
+      (says past c.args.call.now c.args.wanted.now (record { task = refl; action = c.in-Segment.is }) h)) c.add_segment.ensures;
+}

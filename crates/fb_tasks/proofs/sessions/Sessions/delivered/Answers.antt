@@ -1,0 +1,53 @@
+use Rattle.std.proofs.Common.{◌∷◌, sym, ◌∙◌, subst, arith}
+use Rattle.std.proofs.lemmas.Result.{on_ok_weaker}
+use Rattle.fb_model.specs.History.{delivered}
+use Rattle.fb_tasks.specs.Taken.{rows_after}
+use Rattle.fb_tasks.specs.Telling.{MayDeliver}
+use Rattle.fb_tasks.proofs.AfterDelivery.{opened, own-there, wanted-entry, busy-own, kind-own, held-now, may-finish, all-given, tells-delivered, settled-delivered, rows-one_by_one}
+use Rattle.fb_tasks.proofs.sessions.Sessions.delivered.Goals as goal
+
+pub deliver-requires : goal.deliver-requires
+deliver-requires c = wanted-entry c.args.got c.requires.2
+
+pub index_mut-session-requires : goal.index_mut-session-requires
+index_mut-session-requires c =
+    let may = subst (λ xs. MayDeliver c.requires.0 c.requires.1 xs c.args.wanted.now c.args.got) (sym c.self.view_is) c.requires.2 in
+    omega (arith, opened c.args.got may, may.tells.as_many, c.self.inside.sessions.ok.0)
+
+pub take-requires-clause-chosen : goal.take-requires-clause-chosen
+take-requires-clause-chosen c =
+    let may = subst (λ xs. MayDeliver c.requires.0 c.requires.1 xs c.args.wanted.now c.args.got) (sym c.self.view_is) c.requires.2 in
+    busy-own c.args.got may c.index_mut-session.result.now (own-there c.args.got may c.index_mut-session.result.now c.index_mut-session.ensures.value)
+
+pub test-requires : goal.test-requires
+test-requires c =
+    let may = subst (λ xs. MayDeliver c.requires.0 c.requires.1 xs c.args.wanted.now c.args.got) (sym c.self.view_is) c.requires.2 in
+    let there = own-there c.args.got may c.index_mut-session.result.now c.index_mut-session.ensures.value in
+    let new = delivered c.args.got ∷ c.requires.1 in
+    let finished = c.in_ok-test_segment.ensures c.requires.0 new (may-finish c.args.got may c.index_mut-session.result.now there c.deliver.new.self c.take.new.self c.deliver.ensures c.in_ok-take.ensures) in
+    (c.requires.0, new, record { blocks = held-now c.args.got may c.deliver.new.self c.deliver.ensures; stands = finished.0; at_work = finished.1 })
+
+pub returns-clause-tells : goal.returns-clause-tells
+returns-clause-tells c = on_ok_weaker c.test.result (λ tests disk past outer.
+    let may = subst (λ xs. MayDeliver disk past xs c.args.wanted.now c.args.got) (sym c.self.view_is) outer in
+    let there = own-there c.args.got may c.index_mut-session.result.now c.index_mut-session.ensures.value in
+    let new = delivered c.args.got ∷ past in
+    let held = held-now c.args.got may c.deliver.new.self c.deliver.ensures in
+    let finished = c.in_ok-test_segment.ensures disk new (may-finish c.args.got may c.index_mut-session.result.now there c.deliver.new.self c.take.new.self c.deliver.ensures c.in_ok-take.ensures) in
+    tells-delivered c.args.got may c.deliver.new.self held c.test.new.self
+    (tests disk new (rows_after past c.args.got) (record { blocks = held; stands = finished.0; at_work = finished.1 }) (all-given c.args.got may c.deliver.new.self held c.args.got.block.task))) c.test.ensures.session
+
+pub returns-clause-settled : goal.returns-clause-settled
+returns-clause-settled c = on_ok_weaker c.test.result (λ tests disk past outer.
+    let may = subst (λ xs. MayDeliver disk past xs c.args.wanted.now c.args.got) (sym c.self.view_is) outer in
+    settled-delivered c.args.got may c.deliver.new.self (held-now c.args.got may c.deliver.new.self c.deliver.ensures)) c.test.ensures.session
+
+pub returns-clause-rows : goal.returns-clause-rows
+returns-clause-rows c = on_ok_weaker c.test.result (λ ends disk past outer.
+    let may = subst (λ xs. MayDeliver disk past xs c.args.wanted.now c.args.got) (sym c.self.view_is) outer in
+    let there = own-there c.args.got may c.index_mut-session.result.now c.index_mut-session.ensures.value in
+    let new = delivered c.args.got ∷ past in
+    let finished = c.in_ok-test_segment.ensures disk new (may-finish c.args.got may c.index_mut-session.result.now there c.deliver.new.self c.take.new.self c.deliver.ensures c.in_ok-take.ensures) in
+    let kind = kind-own c.args.got may c.index_mut-session.result.now there ∙ sym (c.in_ok-take.ensures may.content_at may.content).same.kind in
+    rows-one_by_one c.args.got may c.args.rows.now c.push.new.self c.push_findings.new.rows c.test_segment.new.rows c.test.new.rows c.take.new.self.kind c.deref.result.now kind (c.deref.ensures.value ∙ c.in_ok-findings.ensures)
+    c.in_ok-push.ensures.ok c.in_ok-push_findings.ensures finished.2 (ends disk new (record { blocks = held-now c.args.got may c.deliver.new.self c.deliver.ensures; stands = finished.0; at_work = finished.1 }))) c.test.ensures.rows

@@ -1,0 +1,26 @@
+use Rattle.std.proofs.Common.{◌≡◌, ◌<◌, ◌++◌, Some, length, map, slice_get, ap, sym, ◌∙◌, arith, rules}
+use Rattle.std.specs.List.{range_with_len}
+use Rattle.std.proofs.lemmas.Option.{slice_get-get_or}
+use Rattle.fb_model.specs.Course.{task_row, task_rows}
+use Rattle.fb_tasks.proofs.Complete.{counts_small}
+use Rattle.fb_tasks.proofs.Rows.{map_more, row_same}
+use Rattle.fb_tasks.proofs.sessions.Sessions.task_rows.Goals as goal
+
+pub is_complete-requires : goal.is_complete-requires
+is_complete-requires c = counts_small c.requires.1 c.loop-task.task c.args.wanted.now c.counts-counts.result c.counts-counts.ensures c.requires.2.entries (search rules)
+
+pub loop-task-preserved : goal.loop-task-preserved
+loop-task-preserved c = λ disk past h.
+    let session = c.index-session.result.now in
+    let within : c.loop-task.task < length c.self.inside.sessions.items = omega (arith, c.loop-task-test.true, c.len-task-end.ensures, c.self.inside.sessions.ok.0) in
+    let there = ap (λ xs. slice_get xs c.loop-task.task) (sym c.self.view_is) ∙ (slice_get-get_or c.self.inside.sessions.items c.loop-task.task session within ∙ ap Some (sym c.index-session.ensures)) in
+    let told = h.each c.loop-task.task session there in
+    map_more (task_row past) c.args.rows.now c.loop-task.rows c.push.new.self c.loop-task.task _ (c.loop-task.invariant disk past h)
+    (row_same past c.loop-task.task session c.args.wanted.now c.counts-counts.result c.is_complete.result told.stands told.at_work h.entries c.counts-counts.ensures c.is_complete.ensures)
+    c.in_ok-push.ensures.ok
+
+pub returns : goal.returns
+unfolding task_rows
+returns c = λ disk past h.
+    let all : c.loop-task.task ≡ length c.self.inside.sessions.items = omega (arith, c.loop-task-test.false, c.loop-task.auto.task-end, c.len-task-end.ensures, c.self.inside.sessions.ok.0) in
+    c.loop-task.invariant disk past h ∙ ap (λ n. c.args.rows.now ++ map (task_row past) (range_with_len 0 n)) (all ∙ (ap length c.self.view_is ∙ h.as_many))

@@ -1,0 +1,49 @@
+use Rattle.std.proofs.Common.{Some, ap, sym, ◌∙◌, subst, arith}
+use Rattle.std.proofs.lemmas.Option.{slice_get-get_or}
+use Rattle.std.proofs.lemmas.Result.{on_ok_weaker}
+use Rattle.fb_tasks.specs.Telling.{Tells, MayTake}
+use Rattle.fb_model.specs.Course.{take_call}
+use Rattle.fb_tasks.proofs.Wants.{may_want, wanted-tells, want_within}
+use Rattle.fb_tasks.proofs.sessions.Sessions.want.Goals as goal
+
+pub index-requires : goal.index-requires
+index-requires c =
+    let r = c.requires in
+    omega (arith, want_within c.args.map.now r.0 r.1 c.args.task c.args.first c.args.count c.self.inside.sessions.items c.args.self.now c.args.wanted.now r.2 c.self.view_is r.3, c.self.inside.sessions.ok.0)
+
+pub want_range-requires-clause-block : goal.want_range-requires-clause-block
+want_range-requires-clause-block c =
+    let r = c.requires in
+    let within = want_within c.args.map.now r.0 r.1 c.args.task c.args.first c.args.count c.self.inside.sessions.items c.args.self.now c.args.wanted.now r.2 c.self.view_is r.3 in
+    let there = slice_get-get_or c.self.inside.sessions.items c.args.task c.index.result.now within ∙ ap Some (sym c.index.ensures) in
+    (may_want c.args.map.now r.0 r.1 c.args.task c.args.first c.args.count c.self.inside.sessions.items c.index.result.now c.args.wanted.now r.2 there (subst (λ xs. MayTake c.args.map.now r.0 xs c.args.wanted.now r.1) (sym c.self.view_is) r.3)).stands.block
+
+pub want_range-requires-clause-weight : goal.want_range-requires-clause-weight
+want_range-requires-clause-weight c =
+    let r = c.requires in
+    let within = want_within c.args.map.now r.0 r.1 c.args.task c.args.first c.args.count c.self.inside.sessions.items c.args.self.now c.args.wanted.now r.2 c.self.view_is r.3 in
+    let there = slice_get-get_or c.self.inside.sessions.items c.args.task c.index.result.now within ∙ ap Some (sym c.index.ensures) in
+    (may_want c.args.map.now r.0 r.1 c.args.task c.args.first c.args.count c.self.inside.sessions.items c.index.result.now c.args.wanted.now r.2 there (subst (λ xs. MayTake c.args.map.now r.0 xs c.args.wanted.now r.1) (sym c.self.view_is) r.3)).stands.weight
+
+pub want_range-requires-clause-on_disk : goal.want_range-requires-clause-on_disk
+want_range-requires-clause-on_disk c =
+    let r = c.requires in
+    let within = want_within c.args.map.now r.0 r.1 c.args.task c.args.first c.args.count c.self.inside.sessions.items c.args.self.now c.args.wanted.now r.2 c.self.view_is r.3 in
+    let there = slice_get-get_or c.self.inside.sessions.items c.args.task c.index.result.now within ∙ ap Some (sym c.index.ensures) in
+    (may_want c.args.map.now r.0 r.1 c.args.task c.args.first c.args.count c.self.inside.sessions.items c.index.result.now c.args.wanted.now r.2 there (subst (λ xs. MayTake c.args.map.now r.0 xs c.args.wanted.now r.1) (sym c.self.view_is) r.3)).on_disk
+
+pub want_range-requires-clause-few : goal.want_range-requires-clause-few
+want_range-requires-clause-few c =
+    let r = c.requires in
+    let within = want_within c.args.map.now r.0 r.1 c.args.task c.args.first c.args.count c.self.inside.sessions.items c.args.self.now c.args.wanted.now r.2 c.self.view_is r.3 in
+    let there = slice_get-get_or c.self.inside.sessions.items c.args.task c.index.result.now within ∙ ap Some (sym c.index.ensures) in
+    (may_want c.args.map.now r.0 r.1 c.args.task c.args.first c.args.count c.self.inside.sessions.items c.index.result.now c.args.wanted.now r.2 there (subst (λ xs. MayTake c.args.map.now r.0 xs c.args.wanted.now r.1) (sym c.self.view_is) r.3)).few
+
+pub returns : goal.returns
+returns c =
+    let r = c.requires in
+    let within = want_within c.args.map.now r.0 r.1 c.args.task c.args.first c.args.count c.self.inside.sessions.items c.args.self.now c.args.wanted.now r.2 c.self.view_is r.3 in
+    on_ok_weaker c.want_range.result (λ pushed past call is h.
+    subst (λ xs. Tells c.args.map.now (take_call c.args.map.now past call) xs c.want_range.new.wanted) c.self.view_is
+    (wanted-tells c.args.map.now past call c.args.task c.args.first c.args.count c.self.inside.sessions.items c.args.self.now c.index.result.now c.args.wanted.now c.want_range.new.wanted
+    (omega (arith, c.count-sectors.ensures.value, c.count-sectors.ensures.bound)) is c.self.view_is within c.index.ensures pushed h)) c.want_range.ensures

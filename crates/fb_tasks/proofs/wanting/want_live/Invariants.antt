@@ -1,0 +1,14 @@
+use Rattle.std.proofs.Common.{◌≡◌, ◌+◌, ◌≤◌, ◌++◌, length, drop}
+use Rattle.fb_clean.specs.Segments.{live_of}
+use Rattle.fb_wanted.specs.Numbering.{registered, blocks_of}
+use Rattle.fb_model.specs.Segments.{numbered}
+use Rattle.fb_tasks.specs.Keeping.{new_entries, cuts_of}
+use Rattle.fb_tasks.proofs.wanting.want_live.Given as goal
+
+-- the registered blocks and those that are left are all that the live blocks give
+abbrev pub invariant-loop-i : goal.invariant-loop-i
+invariant-loop-i l = record {
+  all : l.wanted ++ new_entries l.session (numbered l.task l.session.weight (registered l.task (blocks_of l.wanted)) (cuts_of l.map l.session.block (drop l.i (live_of l.session.log l.segment))))
+      ≡ l.initial.wanted ++ new_entries l.session (numbered l.task l.session.weight (registered l.task (blocks_of l.initial.wanted)) (cuts_of l.map l.session.block (live_of l.session.log l.segment)));
+  few : length l.wanted + length (cuts_of l.map l.session.block (drop l.i (live_of l.session.log l.segment))) ≤ 16000000;
+}

@@ -1,0 +1,19 @@
+use Rattle.std.proofs.Common.{◌≡◌, ◌+◌, ◌≤◌, ◌++◌, length}
+use Rattle.fb_sectormap.specs.Cutting.{cutting}
+use Rattle.fb_wanted.specs.Numbering.{registered, blocks_of}
+use Rattle.fb_model.specs.Segments.{numbered}
+use Rattle.fb_tasks.specs.Keeping.{new_entries}
+use Rattle.fb_tasks.proofs.wanting.want_range.Given as goal
+
+-- the registered blocks and those that are left are all that the range gives
+abbrev pub invariant-loop-left : goal.invariant-loop-left
+invariant-loop-left l = record {
+  all : l.wanted ++ new_entries l.session (numbered l.task l.session.weight l.index (cutting l.map l.session.block l.lbn l.left))
+      ≡ l.initial.wanted ++ new_entries l.session (numbered l.task l.session.weight (registered l.task (blocks_of l.initial.wanted)) (cutting l.map l.session.block l.first l.count));
+  next : l.index ≡ registered l.task (blocks_of l.wanted);
+  within : l.lbn + l.left ≡ l.first + l.count;
+  few : length l.wanted + length (cutting l.map l.session.block l.lbn l.left) ≤ 16000000;
+}
+
+abbrev pub decreases-loop-left : goal.decreases-loop-left
+decreases-loop-left l = l.left

@@ -1,0 +1,93 @@
+-- What one session keeps. Contracts of inner functions cite it.
+use Rattle.std.specs.Prelude.{◌≡◌, ℕ, ◌+◌, List, length, map, Bool, true, false, ◌&&◌, ◌||◌, not, ◌==◌, nat_lt, if◌then◌else◌, Option, None, Some}
+use Rattle.std.specs.List.{flat_map, list_any}
+use Rattle.fb_geometry.specs.Shape.{Shape}
+use Rattle.fb_calls.specs.declared.call.Kind.{Kind}
+use Rattle.fb_calls.specs.declared.call.Kind.TheVariants.{Clean}
+use Rattle.fb_calls.specs.Sessions.{is_backup, is_clean}
+use Rattle.fb_sectormap.specs.declared.cut.Cut.{Cut}
+use Rattle.fb_sectormap.specs.Cutting.{cutting}
+use Rattle.fb_store.specs.declared.content.Content.{Content}
+use Rattle.fb_store.specs.Index.{held_at}
+use Rattle.fb_store.specs.Pieces.{after_take}
+use Rattle.fb_store.specs.Writes.{is_within}
+use Rattle.fb_wanted.specs.declared.block.Block.{Block}
+use Rattle.fb_wanted.specs.declared.block.Counts.{Counts}
+use Rattle.fb_wanted.specs.declared.block.Entry.{Entry}
+use Rattle.fb_wanted.specs.States.{wanted_unless, is_aborted}
+use Rattle.fb_clean.specs.Segments.{Cleaning, taken_for}
+use Rattle.fb_tasks.specs.declared.session.Session.{Session}
+
+-- nothing of the log is left: it was closed, or all is chosen and finished
+abbrev pub is_none : Option ℕ → Bool
+is_none None = true
+is_none (Some number) = false
+
+abbrev pub is_worked_off : Bool → Cleaning → Bool
+is_worked_off closed log = nat_lt 0 (length log.segments)
+    && (closed || (is_none log.unfinished && not (list_any (λ segment. segment.waits) log.segments)))
+
+-- there is a block, and none is neither delivered nor aborted
+abbrev pub are_over : Counts → Bool
+are_over counts = nat_lt 0 counts.registered && (counts.delivered + counts.aborted == counts.registered)
+
+abbrev pub complete_as : Kind → Session → Counts → Bool
+complete_as Clean session counts = is_worked_off session.closed session.log
+complete_as _ session counts = are_over counts
+
+abbrev pub complete_by : Session → Counts → Bool
+complete_by session counts = complete_as session.kind session counts
+
+-- blocks that a session has just registered
+abbrev pub new_entries : Session → List Block → List Entry
+new_entries session blocks = map (λ block. record { block = block; state = wanted_unless session.suspended }) blocks
+
+-- the cuttings of blocks that begin at these sectors
+abbrev pub cuts_of : Shape → ℕ → List ℕ → List Cut
+cuts_of disk block lbns = flat_map (λ lbn. cutting disk block lbn block) lbns
+
+-- what a sector of an image holds after the sectors of an aborted block were dropped
+abbrev pub without_aborted : Entry → ℕ → Option Content → Option Content
+without_aborted entry lbn before = if is_aborted entry.state && is_within entry.block.lbn entry.block.count lbn then None else before
+
+-- all but the image stays
+pub record IsSameButImage (old new : Session) : Type 0 where
+  pub kind : new.kind ≡ old.kind
+  pub weight : new.weight ≡ old.weight
+  pub block : new.block ≡ old.block
+  pub suspended : new.suspended ≡ old.suspended
+  pub closed : new.closed ≡ old.closed
+  pub complete : new.complete ≡ old.complete
+  pub sealed : new.sealed ≡ old.sealed
+  pub log : new.log ≡ old.log
+
+-- a backup has been sealed where it was to be, and what its image holds has served
+pub record IsSealed (seals : Bool) (old new : Session) : Type 0 where
+  pub kind : new.kind ≡ old.kind
+  pub weight : new.weight ≡ old.weight
+  pub block : new.block ≡ old.block
+  pub suspended : new.suspended ≡ old.suspended
+  pub closed : new.closed ≡ old.closed
+  pub complete : new.complete ≡ old.complete
+  pub sealed : new.sealed ≡ (seals || old.sealed)
+  pub log : new.log ≡ old.log
+  pub image : seals ≡ false → (lbn : ℕ) → held_at new.image lbn ≡ held_at old.image lbn
+
+-- all but the image and what was taken for the log stays
+pub record IsSameButTaken (old new : Session) : Type 0 where
+  pub kind : new.kind ≡ old.kind
+  pub weight : new.weight ≡ old.weight
+  pub block : new.block ≡ old.block
+  pub suspended : new.suspended ≡ old.suspended
+  pub closed : new.closed ≡ old.closed
+  pub complete : new.complete ≡ old.complete
+  pub sealed : new.sealed ≡ old.sealed
+  pub log_block : new.log.block ≡ old.log.block
+  pub segments : new.log.segments ≡ old.log.segments
+  pub unfinished : new.log.unfinished ≡ old.log.unfinished
+
+-- the content of a block was taken into the image of a backup, or for the chosen segment
+pub record HasTaken (content_at : ℕ → Content) (block : Block) (old new : Session) : Type 0 where
+  pub same : IsSameButTaken old new
+  pub image : is_backup old.kind ≡ true → (lbn : ℕ) → held_at new.image lbn ≡ after_take content_at block.lbn block.count lbn (held_at old.image lbn)
+  pub log : is_clean old.kind ≡ true → (number lbn : ℕ) → old.log.unfinished ≡ Some number → taken_for new.log number lbn ≡ after_take content_at block.lbn block.count lbn (taken_for old.log number lbn)

@@ -1,0 +1,4 @@
+pub mod Keeping
+pub mod Taken
+pub mod Standing
+pub mod Telling

@@ -1,0 +1,71 @@
+-- The sessions and the wanted set tell what a history has made of tasks and blocks.
+use Rattle.std.specs.Prelude.{◌≡◌, ◌≤◌, ◌<◌, ◌^◌, ◌*◌, ◌+◌, ◌-◌, ℕ, List, [], ◌∷◌, Some, length, map, slice_get}
+use Rattle.std.specs.List.{AllByRecursion, sum_by}
+use Rattle.fb_geometry.specs.Shape.{Shape}
+use Rattle.fb_calls.specs.declared.call.Action.{Action}
+use Rattle.fb_calls.specs.declared.call.Call.{Call}
+use Rattle.fb_calls.specs.Allowed.{MayAsk}
+use Rattle.fb_wanted.specs.declared.block.Entry.{Entry}
+use Rattle.fb_rows.specs.declared.back.DeliveryRow.{DeliveryRow}
+use Rattle.fb_rows.specs.Ranges.{AreRanges}
+use Rattle.fb_store.specs.declared.content.Content.{Content}
+use Rattle.fb_store.specs.Pieces.{Gives}
+use Rattle.fb_model.specs.History.{tested, Past, tasks, task_numbers, terms_of, registered, blocks_of, wanted}
+use Rattle.fb_model.specs.Completion.{is_complete, was_complete, segments}
+use Rattle.fb_model.specs.Segments.{with_choices}
+use Rattle.fb_model.specs.Course.{blocks_by}
+use Rattle.fb_model.specs.Images.{Sources, test_rows}
+use Rattle.fb_tasks.specs.declared.session.Session.{Session}
+pub use Rattle.fb_tasks.specs.Standing.{calls_by, calls_of, entry_of, IsBlockOf}
+use Rattle.fb_tasks.specs.Standing.{Told, AreIndexed, IsUntouched, IsSegmentOf, choosable_by}
+use Rattle.fb_tasks.specs.Taken.{by_deliveries}
+
+-- one session for each task, in order of opening, and each registered block in its state, in order of registration
+pub record Tells (disk : Shape) (past : Past) (sessions : List Session) (held : List Entry) : Type 0 where
+  pub as_many : length sessions ≡ length (tasks past)
+  pub each : (task : ℕ) (session : Session) → slice_get sessions task ≡ Some session → Told past task session
+  pub entries : held ≡ map (entry_of past) (registered past)
+  pub on_disk : AllByRecursion (IsBlockOf disk (length (tasks past))) (registered past)
+  pub indexed : (task : ℕ) → AreIndexed 0 (blocks_of past task)
+  pub unopened : (task : ℕ) → length (tasks past) ≤ task → IsUntouched past task
+  pub segments : (task : ℕ) → AllByRecursion (IsSegmentOf disk (terms_of past task).block) (segments past task)
+
+-- how many blocks the choices of the segments not yet chosen can register
+abbrev pub choosable : Shape → Past → ℕ
+choosable disk past = sum_by (choosable_by disk past) (task_numbers past)
+
+-- a call that keeps the rules after those before it, and registers no more blocks than there may be
+pub record MayTake (disk : Shape) (past : Past) (sessions : List Session) (entries : List Entry) (call : Call) : Type 0 where
+  pub tells : Tells disk past sessions entries
+  pub asks : MayAsk disk (calls_of past) call.task call.action
+  pub few : length (registered past) + length (blocks_by disk past call.task call.action) ≤ 16 * 10 ^ 6
+  pub few_calls : length (calls_of past) < 2 ^ 32 - 1
+
+-- the choices don't register more blocks than there may be
+pub record MaySettle (disk : Shape) (past : Past) (sessions : List Session) (entries : List Entry) : Type 0 where
+  pub tells : Tells disk past sessions entries
+  pub few : length (registered past) + choosable disk past ≤ 16 * 10 ^ 6
+
+-- all was tested after the last event that could complete something: one more test would give no row
+pub record IsSettled (past : Past) : Type 0 where
+  pub tested : (task : ℕ) → was_complete past task ≡ is_complete past task
+  pub no_rows : (sources : Sources) (now : ℕ) → test_rows sources past now ≡ []
+
+-- after the choices and their test
+abbrev pub settled_at : Shape → Past → ℕ → Past
+settled_at disk past now = tested (test_rows by_deliveries (with_choices disk past) now) ∷ with_choices disk past
+
+-- a delivery of a wanted block, with the contents of its sectors, after a test
+pub record MayDeliver (disk : Shape) (past : Past) (sessions : List Session) (entries : List Entry) (got : DeliveryRow) : Type 0 where
+  pub tells : Tells disk past sessions entries
+  pub settled : IsSettled past
+  pub place : ℕ
+  pub wanted : slice_get (wanted past) place ≡ Some got.block
+  pub content_at : ℕ → Content
+  pub content : Gives got.content content_at got.block.lbn got.block.count
+  pub ranges : AreRanges got.content
+
+-- a call of a task asks for an action
+pub record IsCall (asker : ℕ) (asked : Action) (call : Call) : Type 0 where
+  pub task : call.task ≡ asker
+  pub action : call.action ≡ asked

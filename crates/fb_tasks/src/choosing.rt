@@ -1,0 +1,89 @@
+// The choice of segments.
+ghost use Rattle.std.specs.Prelude.{◌≡◌, ℕ, List, ◌&&◌, not, true, false, ◌++◌, OnOk, IfOk};
+ghost use Rattle.fb_calls.specs.Sessions.{is_clean};
+ghost use Rattle.fb_rows.specs.declared.back.BackRow.{BackRow as Row};
+ghost use Rattle.fb_model.specs.History.{Past};
+ghost use Rattle.fb_model.specs.Segments.{choose_once, choose_in};
+ghost use Rattle.fb_model.specs.Images.{segment_rows};
+ghost use Rattle.fb_tasks.specs.Taken.{by_deliveries};
+ghost use Rattle.fb_tasks.specs.Standing.{MayChoose, HasChosen, AreReported};
+
+use crate::session::Session;
+use crate::wanting::want_live;
+use fb_calls::Kind;
+use fb_clean::live_blocks_are_live;
+use fb_rows::BackRows;
+use fb_sectormap::SectorMap;
+use fb_store::Contents;
+use fb_units::{NoMemory, Ns};
+use fb_wanted::Wanted;
+use std::alloc::Global;
+
+impl Session {
+    /// Chooses segments until one has live blocks or none is left; one without live blocks is finished at once.
+    pub fn choose(
+        &mut self,
+        alloc: Global,
+        map: &SectorMap,
+        wanted: &mut Wanted,
+        task: u32,
+        now: Ns,
+        rows: &mut BackRows,
+    ) -> Result<(), NoMemory>
+        requires { (past : Past) × MayChoose map.now past task self.old wanted.old }
+        ensures chosen { OnOk result ((past : Past) → MayChoose map.now past task self.old wanted.old → HasChosen map.now (choose_in map.now past task) task self.new wanted.new) }
+        ensures rows { OnOk result ((past : Past) → MayChoose map.now past task self.old wanted.old → AreReported past task → rows.new ≡ rows.old ++ segment_rows by_deliveries (choose_in map.now past task) now task) }
+    {
+        if !self.may_choose() {
+            return Ok(());
+        }
+        for _turn in 0..self.log.len() {
+            if !self.choose_one(alloc, map, wanted, task, now, rows)? {
+                return Ok(());
+            }
+        }
+        Ok(())
+    }
+
+    // Whether the session is one that chooses segments.
+    fn may_choose(&self) -> bool
+        ensures { result ≡ (is_clean self.now.kind && not self.now.closed) }
+    {
+        match self.kind {
+            Kind::Clean => !self.closed,
+            _ => false,
+        }
+    }
+
+    // Chooses a segment, if none is unfinished and one is left. Tells whether one was chosen.
+    fn choose_one(
+        &mut self,
+        alloc: Global,
+        map: &SectorMap,
+        wanted: &mut Wanted,
+        task: u32,
+        now: Ns,
+        rows: &mut BackRows,
+    ) -> Result<bool, NoMemory>
+        requires cleans { (is_clean self.old.kind ≡ true) × (self.old.closed ≡ false) }
+        requires may { (past : Past) × MayChoose map.now past task self.old wanted.old }
+        ensures chosen { IfOk result (λ some. (past : Past) → MayChoose map.now past task self.old wanted.old → MayChoose map.now (choose_once map.now task past) task self.new wanted.new) }
+        ensures same { (self.new.kind ≡ self.old.kind) × (self.new.closed ≡ self.old.closed) }
+        ensures none { IfOk result (λ some. some ≡ false → (past : Past) → MayChoose map.now past task self.old wanted.old → choose_once map.now task past ≡ past) }
+        ensures rows { IfOk result (λ some. (past : Past) (before : List Row) → MayChoose map.now past task self.old wanted.old
+            → rows.old ≡ before ++ segment_rows by_deliveries past now task → rows.new ≡ before ++ segment_rows by_deliveries (choose_once map.now task past) now task) }
+    {
+        let _sectors = map.count();
+        live_blocks_are_live();
+        match self.log.choose() {
+            Some(segment) => {
+                want_live(map, wanted, self, task, segment)?;
+                if self.log.live_count(segment) == 0 {
+                    self.finish(task, segment, now, Contents::new(alloc), rows)?;
+                }
+                Ok(true)
+            }
+            None => Ok(false),
+        }
+    }
+}

@@ -1,0 +1,76 @@
+// One session.
+ghost use Rattle.std.specs.Prelude.{◌≡◌, ℕ, [], ◌&&◌, not, None, false, ◌+◌, ◌<◌, ◌^◌};
+ghost use Rattle.fb_calls.specs.Sessions.{is_backup};
+ghost use Rattle.fb_store.specs.Index.{held_at};
+ghost use Rattle.fb_tasks.specs.Keeping.{complete_by};
+
+use fb_backup::Image;
+use fb_calls::Kind;
+use fb_clean::Segments;
+use fb_wanted::Counts;
+use std::alloc::Global;
+
+/// What a task was opened with, and how far it has come.
+#[derive(Drop)]
+pub struct Session {
+    pub kind: Kind,
+    pub weight: u32,
+    pub block: u32,
+    /// Whether its blocks are held back.
+    pub suspended: bool,
+    pub closed: bool,
+    /// Whether it was complete at the last test.
+    pub complete: bool,
+    /// Whether a backup's seal row was given.
+    pub sealed: bool,
+    /// What the delivered blocks of a backup hold.
+    pub image: Image,
+    /// The segments that a clean session was given.
+    pub log: Segments,
+}
+
+impl Session {
+    /// A session that has just been opened.
+    pub fn new(alloc: Global, kind: Kind, weight: u32, block: u32) -> Session
+        ensures terms { (result.kind ≡ kind) × (result.weight ≡ weight) × (result.block ≡ block) }
+        ensures state { (result.suspended ≡ false) × (result.closed ≡ false) × (result.complete ≡ false) × (result.sealed ≡ false) }
+        ensures image { (lbn : ℕ) → held_at result.image lbn ≡ None }
+        ensures log { result.log ≡ record { block = block; segments = []; unfinished = None; taken = [] } }
+    {
+        Session {
+            kind,
+            weight,
+            block,
+            suspended: false,
+            closed: false,
+            complete: false,
+            sealed: false,
+            image: Image::new(alloc),
+            log: Segments::new(alloc, block),
+        }
+    }
+
+    /// Whether the task is complete, by what has become of its blocks.
+    pub fn is_complete(&self, counts: Counts) -> bool
+        requires { counts.delivered + counts.aborted < 2 ^ 32 }
+        ensures { result ≡ complete_by self.now counts }
+    {
+        match self.kind {
+            Kind::Clean => {
+                self.log.len() > 0
+                    && (self.closed || (self.log.unfinished().is_none() && !self.log.has_rest()))
+            }
+            _ => counts.registered > 0 && counts.delivered + counts.aborted == counts.registered,
+        }
+    }
+
+    /// Whether this is a backup that has not been sealed.
+    pub fn is_open_backup(&self) -> bool
+        ensures { result ≡ (is_backup self.now.kind && not self.now.sealed) }
+    {
+        match self.kind {
+            Kind::Backup => !self.sealed,
+            _ => false,
+        }
+    }
+}

@@ -1,0 +1,303 @@
+// The sessions of a run, and what calls, deliveries and writes make of them.
+ghost use Rattle.std.specs.Prelude.{◌≡◌, ◌≤◌, ◌<◌, ◌^◌, ◌*◌, ◌-◌, ℕ, List, [], ◌∷◌, ◌++◌, Bool, true, false, length, OnOk, OnErr};
+ghost use Rattle.std.specs.List.{flat_map};
+ghost use Rattle.fb_geometry.specs.Shape.{Shape};
+ghost use Rattle.fb_units.specs.declared.types.Request.{Request};
+ghost use Rattle.fb_calls.specs.declared.call.Call.{Call as Asked};
+ghost use Rattle.fb_calls.specs.declared.call.Action.TheVariants.{Open, Want, Suspend, Resume, Close, Segment};
+ghost use Rattle.fb_wanted.specs.declared.block.Entry.{Entry};
+ghost use Rattle.fb_rows.specs.declared.back.BackRow.TheVariants.{Got as GotLine};
+ghost use Rattle.fb_model.specs.History.{Past, called, tested, finished, task_numbers};
+ghost use Rattle.fb_model.specs.Completion.{is_complete};
+ghost use Rattle.fb_model.specs.Course.{take_call, with_delivery, task_rows};
+ghost use Rattle.fb_model.specs.Images.{test_rows, segment_rows, seal_rows, complete_rows};
+ghost use Rattle.fb_model.specs.Segments.{with_choices};
+ghost use Rattle.fb_tasks.specs.declared.session.Session.{Session};
+ghost use Rattle.fb_tasks.specs.Taken.{by_deliveries, rows_after, delivery_of};
+ghost use Rattle.fb_tasks.specs.Standing.{HaveChosen};
+ghost use Rattle.fb_tasks.specs.Telling.{Tells, MayTake, MaySettle, MayDeliver, IsSettled, IsCall, settled_at};
+
+use crate::delivering::push_findings;
+use crate::session::Session;
+use crate::wanting::want_range;
+use fb_calls::{Action, Call, Kind, Live};
+use fb_rows::{BackRow, BackRows, DeliveryRow, TaskRow};
+use fb_sectormap::SectorMap;
+use fb_units::{NoMemory, Ns};
+use fb_wanted::Wanted;
+use std::alloc::Global;
+use std::marker::Model;
+
+/// The sessions in order of opening: a session's place is its task's number.
+#[derive(Drop)]
+pub struct Sessions {
+    alloc: Global,
+    sessions: Vec<Session>,
+}
+
+impl Model for Sessions {
+    ghost use Rattle.std.specs.Prelude.{List};
+    ghost use Rattle.std.specs.Prelude.{length, ◌<◌, ◌^◌};
+    ghost use Rattle.fb_tasks.specs.declared.session.Session.{Session};
+
+    ghost Value = { List Session };
+
+    ghost view = { λ s. s.sessions.items };
+
+    ghost invariant = { λ s. length s.sessions.items < 2 ^ 32 };
+}
+
+impl Sessions {
+    /// No session.
+    pub fn new(alloc: Global) -> Self
+        ensures { (disk : Shape) → Tells disk [] result [] }
+    {
+        Sessions {
+            alloc,
+            sessions: Vec::new(alloc),
+        }
+    }
+
+    /// A call takes effect.
+    pub fn apply(
+        &mut self,
+        map: &SectorMap,
+        wanted: &mut Wanted,
+        call: &Call,
+    ) -> Result<(), NoMemory>
+        requires { (past : Past) × MayTake map.now past self.old wanted.old call.now }
+        ensures ok { OnOk result ((past : Past) → MayTake map.now past self.old wanted.old call.now → Tells map.now (take_call map.now past call.now) self.new wanted.new) }
+    {
+        match &call.action {
+            Action::Open {
+                kind,
+                weight,
+                block,
+            } => self.open(*kind, *weight, *block),
+            Action::Want { first, count } => self.want(map, wanted, call.task, *first, *count),
+            Action::Abort { first, count } => {
+                wanted.abort(call.task, *first, *count);
+                Ok(())
+            }
+            Action::Promote { .. } => Ok(()),
+            Action::Suspend => {
+                self.suspend(wanted, call.task);
+                Ok(())
+            }
+            Action::Resume => {
+                self.resume(wanted, call.task);
+                Ok(())
+            }
+            Action::Close => {
+                self.close(map, wanted, call.task);
+                Ok(())
+            }
+            Action::Segment {
+                first,
+                blocks,
+                age,
+                live,
+            } => self.add_segment(map, call.task, *first, *blocks, *age, live),
+        }
+    }
+
+    /// Chooses segments, and tests what is complete: the rows are those of a decision before its plan.
+    pub fn settle(
+        &mut self,
+        map: &SectorMap,
+        wanted: &mut Wanted,
+        now: Ns,
+        rows: &mut BackRows,
+    ) -> Result<(), NoMemory>
+        requires { (past : Past) × MaySettle map.now past self.old wanted.old }
+        ensures tells { OnOk result ((past : Past) → MaySettle map.now past self.old wanted.old → Tells map.now (settled_at map.now past now) self.new wanted.new) }
+        ensures settled { OnOk result ((past : Past) → MaySettle map.now past self.old wanted.old → IsSettled (settled_at map.now past now)) }
+        ensures rows { OnOk result ((past : Past) → MaySettle map.now past self.old wanted.old → rows.new ≡ rows.old ++ test_rows by_deliveries (with_choices map.now past) now) }
+    {
+        self.choose_all(map, wanted, now, rows)?;
+        self.test_all(wanted, now, rows)
+    }
+
+    /// A wanted block is delivered: its row stands, then its findings and what its test gives.
+    pub fn delivered(
+        &mut self,
+        wanted: &mut Wanted,
+        got: DeliveryRow,
+        rows: &mut BackRows,
+    ) -> Result<(), NoMemory>
+        requires { (disk : Shape) × (past : Past) × MayDeliver disk past self.old wanted.old got }
+        ensures tells { OnOk result ((disk : Shape) (past : Past) → MayDeliver disk past self.old wanted.old got → Tells disk (with_delivery past (delivery_of past got)) self.new wanted.new) }
+        ensures settled { OnOk result ((disk : Shape) (past : Past) → MayDeliver disk past self.old wanted.old got → IsSettled (with_delivery past (delivery_of past got))) }
+        ensures rows { OnOk result ((disk : Shape) (past : Past) → MayDeliver disk past self.old wanted.old got → rows.new ≡ rows.old ++ GotLine got ∷ rows_after past got) }
+    {
+        let task = got.block.task;
+        let end = got.end;
+        wanted.deliver(task, got.block.index);
+        let session = &mut self.sessions[task as usize];
+        session.take(got.block, &got.content)?;
+        let findings = session.findings(self.alloc, &got)?;
+        rows.push(BackRow::Got(got))?;
+        push_findings(rows, task, &findings)?;
+        session.test_segment(self.alloc, wanted, task, end, rows)?;
+        session.test(self.alloc, wanted, task, end, rows)
+    }
+
+    /// A write has passed: blocks of open backups that it overwrote are wanted again.
+    pub fn after_write(&mut self, wanted: &mut Wanted, first: u64, count: u32)
+        requires { (disk : Shape) × (past : Past) × Tells disk past self.old wanted.old }
+        ensures { (disk : Shape) (past : Past) (request : Request) → request.write ≡ true → request.lbn ≡ first → request.count ≡ count
+            → Tells disk past self.old wanted.old → Tells disk (finished request ∷ past) self.new wanted.new }
+    {
+        for task in 0..self.sessions.len() {
+            let session = &self.sessions[task];
+            if session.is_open_backup() {
+                wanted.rewant(task as u32, first, count as u64, session.suspended);
+            }
+        }
+    }
+
+    /// Whether the task is complete.
+    pub fn complete(&self, wanted: &Wanted, task: u32) -> bool
+        requires opened { task < length self.now }
+        requires tells { (disk : Shape) × (past : Past) × Tells disk past self.now wanted.now }
+        ensures { (disk : Shape) (past : Past) → Tells disk past self.now wanted.now → result ≡ is_complete past task }
+    {
+        self.sessions[task as usize].is_complete(wanted.counts(task))
+    }
+
+    /// How each task stands, in order of opening.
+    pub fn task_rows(&self, wanted: &Wanted, rows: &mut BackRows) -> Result<(), NoMemory>
+        requires { (disk : Shape) × (past : Past) × Tells disk past self.now wanted.now }
+        ensures { OnOk result ((disk : Shape) (past : Past) → Tells disk past self.now wanted.now → rows.new ≡ rows.old ++ task_rows past) }
+    {
+        for task in 0..self.sessions.len() {
+            let session = &self.sessions[task];
+            let counts = wanted.counts(task as u32);
+            rows.push(BackRow::Task(TaskRow {
+                task: task as u32,
+                kind: session.kind,
+                registered: counts.registered,
+                delivered: counts.delivered,
+                aborted: counts.aborted,
+                complete: session.is_complete(counts),
+            }))?;
+        }
+        Ok(())
+    }
+}
+
+impl Sessions {
+    // Opens a session.
+    fn open(&mut self, kind: Kind, weight: u32, block: u32) -> Result<(), NoMemory>
+        requires { length self.old < 2 ^ 32 - 1 }
+        ensures { OnOk result ((disk : Shape) (past : Past) (call : Asked) (held : List Entry) → call.action ≡ Open kind weight block → MayTake disk past self.old held call → Tells disk (called call [] ∷ past) self.new held) }
+    {
+        let session = Session::new(self.alloc, kind, weight, block);
+        self.sessions.push(session)?;
+        Ok(())
+    }
+
+    // Wants the blocks of a range.
+    fn want(
+        &mut self,
+        map: &SectorMap,
+        wanted: &mut Wanted,
+        task: u32,
+        first: u64,
+        count: u64,
+    ) -> Result<(), NoMemory>
+        requires { (past : Past) × (call : Asked) × IsCall task (Want first count) call × MayTake map.now past self.old wanted.old call }
+        ensures { OnOk result ((past : Past) (call : Asked) → IsCall task (Want first count) call → MayTake map.now past self.old wanted.old call → Tells map.now (take_call map.now past call) self.new wanted.new) }
+    {
+        let _sectors = map.count();
+        want_range(
+            map,
+            wanted,
+            &self.sessions[task as usize],
+            task,
+            first,
+            count,
+        )
+    }
+
+    fn suspend(&mut self, wanted: &mut Wanted, task: u32)
+        requires { task < length self.old }
+        ensures { (disk : Shape) (past : Past) (call : Asked) → IsCall task Suspend call → Tells disk past self.old wanted.old → Tells disk (called call [] ∷ past) self.new wanted.new }
+    {
+        self.sessions[task as usize].suspended = true;
+        wanted.suspend(task);
+    }
+
+    fn resume(&mut self, wanted: &mut Wanted, task: u32)
+        requires { task < length self.old }
+        ensures { (disk : Shape) (past : Past) (call : Asked) → IsCall task Resume call → Tells disk past self.old wanted.old → Tells disk (called call [] ∷ past) self.new wanted.new }
+    {
+        self.sessions[task as usize].suspended = false;
+        wanted.resume(task);
+    }
+
+    // Aborts what is left of the task, and drops the segments that it has not chosen.
+    fn close(&mut self, map: &SectorMap, wanted: &mut Wanted, task: u32)
+        requires { task < length self.old }
+        ensures { (past : Past) (call : Asked) → IsCall task Close call → Tells map.now past self.old wanted.old → Tells map.now (called call [] ∷ past) self.new wanted.new }
+    {
+        let session = &mut self.sessions[task as usize];
+        session.closed = true;
+        session.log.drop_rest();
+        wanted.abort(task, 0, map.count());
+    }
+
+    fn add_segment(
+        &mut self,
+        map: &SectorMap,
+        task: u32,
+        first: u64,
+        blocks: u32,
+        age: u64,
+        live: &Live,
+    ) -> Result<(), NoMemory>
+        requires { (past : Past) × (call : Asked) × (held : List Entry) × IsCall task (Segment first blocks age live.now) call × MayTake map.now past self.old held call }
+        ensures { OnOk result ((past : Past) (call : Asked) (held : List Entry) → IsCall task (Segment first blocks age live.now) call → MayTake map.now past self.old held call → Tells map.now (called call [] ∷ past) self.new held) }
+    {
+        let _sectors = map.count();
+        self.sessions[task as usize]
+            .log
+            .add(first, blocks, age, live)
+    }
+
+    // Lets each session choose, in order of opening.
+    fn choose_all(
+        &mut self,
+        map: &SectorMap,
+        wanted: &mut Wanted,
+        now: Ns,
+        rows: &mut BackRows,
+    ) -> Result<(), NoMemory>
+        requires { (past : Past) × MaySettle map.now past self.old wanted.old }
+        ensures chosen { OnOk result ((past : Past) → MaySettle map.now past self.old wanted.old → HaveChosen map.now (with_choices map.now past) self.new wanted.new) }
+        ensures rows { OnOk result ((past : Past) → MaySettle map.now past self.old wanted.old → rows.new ≡ rows.old ++ flat_map (segment_rows by_deliveries (with_choices map.now past) now) (task_numbers (with_choices map.now past))) }
+    {
+        for task in 0..self.sessions.len() {
+            self.sessions[task].choose(self.alloc, map, wanted, task as u32, now, rows)?;
+        }
+        Ok(())
+    }
+
+    // Tests each session, in order of opening.
+    fn test_all(&mut self, wanted: &Wanted, now: Ns, rows: &mut BackRows) -> Result<(), NoMemory>
+        requires { (disk : Shape) × (past : Past) × HaveChosen disk past self.old wanted.now }
+        ensures tells { OnOk result ((disk : Shape) (past : Past) → HaveChosen disk past self.old wanted.now → Tells disk (tested (test_rows by_deliveries past now) ∷ past) self.new wanted.now) }
+        ensures rows { OnOk result ((disk : Shape) (past : Past) → HaveChosen disk past self.old wanted.now → rows.new ≡ rows.old ++ flat_map (λ task. seal_rows by_deliveries past now task ++ complete_rows past now task) (task_numbers past)) }
+    {
+        for task in 0..self.sessions.len() {
+            self.sessions[task].test(self.alloc, wanted, task as u32, now, rows)?;
+        }
+        Ok(())
+    }
+}
+
+/// A read that has passed changes nothing.
+pub fn reads_change_nothing()
+    ensures { (disk : Shape) (past : Past) (request : Request) (sessions : List Session) (entries : List Entry) → request.write ≡ false
+        → Tells disk past sessions entries → Tells disk (finished request ∷ past) sessions entries }
+{}

@@ -1,0 +1,190 @@
+// What a test of completion makes of a session, and the rows that it gives.
+ghost use Rattle.std.specs.Prelude.{◌≡◌, ℕ, List, [], ◌∷◌, ◌++◌, ◌+◌, ◌<◌, ◌≤◌, ◌^◌, ◌&&◌, not, if◌then◌else◌, true, None, Some, filter, length, slice_get, OnOk, IfOk, IfSome};
+ghost use Rattle.fb_geometry.specs.Shape.{Shape};
+ghost use Rattle.fb_calls.specs.Sessions.{is_backup, is_clean};
+ghost use Rattle.fb_store.specs.Index.{held_at};
+ghost use Rattle.fb_wanted.specs.declared.block.Entry.{Entry};
+ghost use Rattle.fb_wanted.specs.Counting.{counts_of};
+ghost use Rattle.fb_wanted.specs.States.{is_block, is_delivered};
+ghost use Rattle.fb_clean.specs.Segments.{live_of};
+ghost use Rattle.fb_rows.specs.declared.back.BackRow.{BackRow as Row};
+ghost use Rattle.fb_rows.specs.declared.back.BackRow.TheVariants.{Segment as SegmentLine, Complete as CompleteLine};
+ghost use Rattle.fb_model.specs.History.{Past, tested, blocks_of, bare_state, is_open_backup};
+ghost use Rattle.fb_model.specs.Completion.{is_complete};
+ghost use Rattle.fb_model.specs.Images.{segment_rows, seal_rows, complete_rows};
+ghost use Rattle.fb_tasks.specs.Keeping.{IsSameButImage, IsSealed, without_aborted};
+ghost use Rattle.fb_tasks.specs.Taken.{by_deliveries, found_for};
+ghost use Rattle.fb_tasks.specs.Standing.{Stands, HoldsBlocks, IsAtWork, AreRowsOf, HasChosen, MayFinish};
+
+use crate::session::Session;
+use fb_calls::Kind;
+use fb_rows::{BackRow, BackRows, CompleteRow, SealRow, SegmentRow};
+use fb_store::Contents;
+use fb_units::{NoMemory, Ns};
+use fb_wanted::{State, Wanted};
+use std::alloc::Global;
+
+impl Session {
+    /// Finishes the chosen segment, if each of its blocks is delivered, and adds its row.
+    pub fn test_segment(
+        &mut self,
+        alloc: Global,
+        wanted: &Wanted,
+        task: u32,
+        now: Ns,
+        rows: &mut BackRows,
+    ) -> Result<(), NoMemory>
+        ensures { OnOk result ((disk : Shape) (past : Past) → MayFinish disk past task self.old wanted.now
+            → (Stands past task self.new) × (IsAtWork past task self.new) × (rows.new ≡ rows.old ++ segment_rows by_deliveries past now task)) }
+    {
+        let counts = wanted.counts(task);
+        if counts.delivered != counts.registered {
+            return Ok(());
+        }
+        match self.chosen_segment() {
+            Some(segment) => {
+                let content = self.log.packed(alloc, segment)?;
+                self.finish(task, segment, now, content, rows)
+            }
+            None => Ok(()),
+        }
+    }
+
+    // The segment that a clean session was given last, until it is finished.
+    fn chosen_segment(&self) -> Option<u32>
+        ensures value { result ≡ if is_clean self.now.kind then self.now.log.unfinished else None }
+        ensures known { IfSome result (λ segment. (0 < segment) × (segment ≤ length self.now.log.segments)) }
+    {
+        match self.kind {
+            Kind::Clean => self.log.unfinished(),
+            _ => None,
+        }
+    }
+
+    /// Finishes the chosen segment, and adds its row.
+    pub fn finish(
+        &mut self,
+        task: u32,
+        segment: u32,
+        now: Ns,
+        content: Contents,
+        rows: &mut BackRows,
+    ) -> Result<(), NoMemory>
+        requires added { (0 < segment) × (segment ≤ length self.old.log.segments) }
+        requires chosen { self.old.log.unfinished ≡ Some segment }
+        ensures session { self.new ≡ record self.old { log = record self.old.log { unfinished = None } } }
+        ensures row { OnOk result (rows.new ≡ rows.old ++ SegmentLine (record { task = task; segment = segment; instant = now; live = length (live_of self.old.log segment); content = content }) ∷ []) }
+    {
+        let live = self.log.live_count(segment);
+        self.log.finish(segment);
+        rows.push(BackRow::Segment(SegmentRow {
+            task,
+            segment,
+            instant: now,
+            live,
+            content,
+        }))
+    }
+
+    /// Tests whether the task is complete, and adds the rows of its seal and its completion.
+    pub fn test(
+        &mut self,
+        alloc: Global,
+        wanted: &Wanted,
+        task: u32,
+        now: Ns,
+        rows: &mut BackRows,
+    ) -> Result<(), NoMemory>
+        requires { (disk : Shape) × (past : Past) × HasChosen disk past task self.old wanted.now }
+        ensures session { OnOk result ((disk : Shape) (past : Past) (all : List Row) → HasChosen disk past task self.old wanted.now → AreRowsOf past task all
+            → (Stands (tested all ∷ past) task self.new) × (IsAtWork (tested all ∷ past) task self.new)) }
+        ensures rows { OnOk result ((disk : Shape) (past : Past) → HasChosen disk past task self.old wanted.now
+            → rows.new ≡ rows.old ++ seal_rows by_deliveries past now task ++ complete_rows past now task) }
+    {
+        let complete = self.is_complete(wanted.counts(task));
+        self.add_seal(alloc, wanted, task, now, complete, rows)?;
+        self.add_completion(task, now, complete, rows)
+    }
+
+    // Seals the backup if it is complete and was not sealed before, and adds the seal's row.
+    fn add_seal(
+        &mut self,
+        alloc: Global,
+        wanted: &Wanted,
+        task: u32,
+        now: Ns,
+        complete: bool,
+        rows: &mut BackRows,
+    ) -> Result<(), NoMemory>
+        requires { (disk : Shape) × (past : Past) × HoldsBlocks disk past wanted.now }
+        ensures session { OnOk result (IsSealed (complete && (is_backup self.old.kind && not self.old.sealed)) self.old self.new) }
+        ensures rows { OnOk result ((disk : Shape) (past : Past) → HoldsBlocks disk past wanted.now → Stands past task self.old → complete ≡ is_complete past task
+            → rows.new ≡ rows.old ++ seal_rows by_deliveries past now task) }
+    {
+        if !complete || !self.is_open_backup() {
+            return Ok(());
+        }
+        let registered = wanted.counts(task).registered;
+        let content = self.seal(alloc, wanted, task, registered)?;
+        rows.push(BackRow::Seal(SealRow {
+            task,
+            instant: now,
+            content,
+        }))
+    }
+
+    // Notes whether the task is complete, and adds the row of its completion if it wasn't at the test before.
+    fn add_completion(
+        &mut self,
+        task: u32,
+        now: Ns,
+        complete: bool,
+        rows: &mut BackRows,
+    ) -> Result<(), NoMemory>
+        ensures session { self.new ≡ record self.old { complete = complete } }
+        ensures rows { OnOk result (rows.new ≡ rows.old ++ (if complete && not self.old.complete then CompleteLine (record { task = task; instant = now }) ∷ [] else [])) }
+    {
+        let was_complete = self.complete;
+        self.complete = complete;
+        if !complete || was_complete {
+            return Ok(());
+        }
+        rows.push(BackRow::Complete(CompleteRow { task, instant: now }))
+    }
+
+    // Seals the backup, and gives its image.
+    fn seal(
+        &mut self,
+        alloc: Global,
+        wanted: &Wanted,
+        task: u32,
+        registered: u32,
+    ) -> Result<Contents, NoMemory>
+        requires blocks { (disk : Shape) × (past : Past) × HoldsBlocks disk past wanted.now }
+        requires registered { registered ≡ (counts_of task wanted.now).registered }
+        ensures session { OnOk result (IsSealed true self.old self.new) }
+        ensures content { IfOk result (λ content. (disk : Shape) (past : Past) → HoldsBlocks disk past wanted.now → Stands past task self.old → is_open_backup past task ≡ true → is_complete past task ≡ true
+            → content ≡ found_for past (filter (λ block. is_delivered (bare_state past block)) (blocks_of past task))) }
+    {
+        self.sealed = true;
+        for index in 0..registered {
+            self.drop_aborted(wanted, task, index)?;
+        }
+        self.image.contents(alloc)
+    }
+
+    // Takes an aborted block's sectors out of the image.
+    fn drop_aborted(&mut self, wanted: &Wanted, task: u32, index: u32) -> Result<(), NoMemory>
+        requires { (e : Entry) × (i : ℕ) × (slice_get wanted.now i ≡ Some e) × (is_block task index e ≡ true) × (e.block.lbn + e.block.count ≤ 10 ^ 12) }
+        ensures session { IsSameButImage self.old self.new }
+        ensures image { OnOk result ((e : Entry) (i lbn : ℕ) → slice_get wanted.now i ≡ Some e → is_block task index e ≡ true → held_at self.new.image lbn ≡ without_aborted e lbn (held_at self.old.image lbn)) }
+    {
+        let entry = wanted.entry(task, index);
+        match entry.state {
+            State::Aborted => self
+                .image
+                .drop_range(entry.block.lbn, entry.block.count as u64),
+            _ => Ok(()),
+        }
+    }
+}
