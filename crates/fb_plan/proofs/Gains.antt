@@ -84,7 +84,8 @@ pub value-gain : (disk : Disk) (gap : Gap) (plan : Plan) (es : List Entry) → v
 unfolding value
 value-gain disk gap plan es = sums (is_caught disk gap plan) es
 
-one_part : (g : Entry → ℕ) (p : Entry → Bool) → ((e : Entry) → p e ≡ false → g e ≡ 0) → (es : List Entry) → sum_by g es ≡ sum_by g (filter p es)
+-- a sum needs only those that add to it
+pub one_part : (g : Entry → ℕ) (p : Entry → Bool) → ((e : Entry) → p e ≡ false → g e ≡ 0) → (es : List Entry) → sum_by g es ≡ sum_by g (filter p es)
 one_part g p none [] = refl
 one_part g p none (e ∷ es) = elim (cases_Bool (p e)) [
   | inl y ↦ rw y (omega (arith, sum_by-cons g e es, sum_by-cons g e (filter p es), one_part g p none es))

@@ -54,6 +54,7 @@ fn move_on(disk: &Disk, gap: &Gap, way: Way) -> Ns
         .pos(early_track(gap, way), gap.target, gap.write)
 }
 
+/// The plan with its value.
 pub fn scored(disk: &Disk, wanted: &Wanted, gap: &Gap, plan: Plan) -> Scored
     requires plan { IsPlan disk.now gap.now plan }
     requires gap { IsGap disk.now gap.now }
@@ -113,7 +114,7 @@ fn try_entry(
     try_plan(disk, wanted, gap, plan_by(way, end), best)
 }
 
-// Tries all plans of a way.
+/// Tries all plans of a way.
 pub fn try_way(disk: &Disk, wanted: &Wanted, gap: &Gap, way: Way, start: Scored) -> Scored
     requires way { IsWay disk.now gap.now way }
     requires track { IsTrackOf disk.now.map (early_track gap.now way) }

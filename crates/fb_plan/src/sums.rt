@@ -27,6 +27,7 @@ pub fn entry_on(wanted: &Wanted, track: Track, i: u32) -> Entry
     }
 }
 
+/// Whether the state is that of a wanted block.
 pub fn is_wanted(state: State) -> bool
     ensures { result ≡ is_wanted state }
 {
@@ -107,6 +108,7 @@ fn track_of(gap: &Gap, plan: Plan) -> Track
     }
 }
 
+/// Whether the two are one track.
 pub fn is_same(a: Track, b: Track) -> bool
     ensures { result ≡ same_track a b }
 {

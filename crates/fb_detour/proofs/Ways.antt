@@ -1,0 +1,108 @@
+-- What no detour over a track can exceed.
+use Rattle.std.proofs.Common.{◌≡◌, ℕ, ◌+◌, ◌-◌, ◌<◌, ◌≤◌, ◌*◌, ◌/◌, min, inl, inr, List, false, refl, arith}
+use Rattle.std.proofs.lemmas.Bool.{cases_lt}
+use Rattle.std.proofs.Math.Nat.{div-mul-le_self, mul-le-mul_right}
+use Rattle.fb_units.specs.declared.types.Track.{Track}
+use Rattle.fb_seek.specs.Positioning.{pos}
+use Rattle.fb_service.specs.declared.disk.Disk.{Disk}
+use Rattle.fb_wanted.specs.declared.block.Block.{Block}
+use Rattle.fb_wanted.specs.declared.block.Entry.{Entry}
+use Rattle.fb_wanted.specs.States.{wanted_of}
+use Rattle.fb_wanted.specs.Tracks.{wanted_weight, HasBlock}
+use Rattle.fb_rows.specs.declared.gap.Gap.{Gap}
+use Rattle.fb_rows.specs.declared.gap.Plan.{Plan}
+use Rattle.fb_rows.specs.declared.gap.Plan.TheVariants.{Detour}
+use Rattle.fb_model.specs.Plans.{value, early_dwell, late_dwell, IsDetour, IsTrackBefore}
+use Rattle.fb_plan.specs.declared.choice.Scored.{Scored}
+use Rattle.fb_detour.specs.declared.parts.LateParts.{LateParts}
+use Rattle.fb_plan.specs.Ways.{IsScored, Beats}
+use Rattle.fb_detour.specs.Bounds.{stay, early_to, late_most, IsEnough, IsLate, part_at}
+use Rattle.fb_detour.proofs.Ranges.{not_itself}
+use Rattle.fb_detour.proofs.Ceilings.{two_stays, longer_stay, weight_of_stay, bare_track}
+
+module _ (disk : Disk) (gap : Gap) (es : List Entry) (track : Track) (leave : ℕ) (is : IsDetour disk gap track leave) where
+  pub late-le : (from : ℕ) → from ≤ gap.now + pos disk.mechanism gap.source track false + pos disk.mechanism track gap.target gap.write
+      → stay disk (late_dwell disk gap (Detour track leave)) es ≤ stay disk (late_most gap from) es
+  late-le from le = longer_stay disk (late_dwell disk gap (Detour track leave)) (late_most gap from) es disk.some_rotation refl (omega (arith, is.after_arrival, le)) (omega arith)
+
+  early-le : (arrive upto : ℕ) → arrive ≡ gap.now + pos disk.mechanism gap.source track false → leave ≤ upto
+      → stay disk (early_dwell disk gap (Detour track leave)) es ≤ stay disk (early_to track arrive upto) es
+  early-le arrive upto a le = longer_stay disk (early_dwell disk gap (Detour track leave)) (early_to track arrive upto) es disk.some_rotation refl (omega (arith, a)) le
+
+  late-from : (from : ℕ) → from ≤ leave + pos disk.mechanism track gap.target gap.write → stay disk (late_dwell disk gap (Detour track leave)) es ≤ stay disk (late_most gap from) es
+  late-from from le = longer_stay disk (late_dwell disk gap (Detour track leave)) (late_most gap from) es disk.some_rotation refl le (omega arith)
+
+  both : value disk gap (wanted_of es) (Detour track leave) ≤ stay disk (early_dwell disk gap (Detour track leave)) es + stay disk (late_dwell disk gap (Detour track leave)) es
+  both = two_stays disk gap (Detour track leave) es
+
+  -- by the weight of both tracks
+  pub by_weights : value disk gap (wanted_of es) (Detour track leave) ≤ wanted_weight track es + wanted_weight gap.target es
+  by_weights = omega (arith, both, weight_of_stay disk (early_dwell disk gap (Detour track leave)) es, weight_of_stay disk (late_dwell disk gap (Detour track leave)) es)
+
+  -- by the track's weight, and what the target gives from an instant on
+  pub by_weight : (from : ℕ) → from ≤ gap.now + pos disk.mechanism gap.source track false + pos disk.mechanism track gap.target gap.write
+      → value disk gap (wanted_of es) (Detour track leave) ≤ wanted_weight track es + stay disk (late_most gap from) es
+  by_weight from le = omega (arith, both, weight_of_stay disk (early_dwell disk gap (Detour track leave)) es, late-le from le)
+
+  -- by the time up to one leave on the track, and after another on the target
+  pub by_stretch : (arrive upto from way : ℕ) → arrive ≡ gap.now + pos disk.mechanism gap.source track false → way ≡ pos disk.mechanism track gap.target gap.write
+      → from ≤ leave → leave ≤ upto
+      → value disk gap (wanted_of es) (Detour track leave) ≤ stay disk (early_to track arrive upto) es + stay disk (late_most gap (from + way)) es
+  by_stretch arrive upto from way a w low high = omega (arith, both, early-le arrive upto a high, late-from (from + way) (omega (arith, w, low)))
+
+  -- by the target alone where no block is registered on the track
+  pub bare_weight : (HasBlock es track → ⊥) → value disk gap (wanted_of es) (Detour track leave) ≤ wanted_weight gap.target es
+  bare_weight none = omega (arith, both, bare_track disk (early_dwell disk gap (Detour track leave)) es none, weight_of_stay disk (late_dwell disk gap (Detour track leave)) es)
+
+  pub bare_stay : (from : ℕ) → from ≤ gap.now + pos disk.mechanism gap.source track false + pos disk.mechanism track gap.target gap.write
+      → (HasBlock es track → ⊥) → value disk gap (wanted_of es) (Detour track leave) ≤ stay disk (late_most gap from) es
+  bare_stay from le none = omega (arith, both, bare_track disk (early_dwell disk gap (Detour track leave)) es none, late-le from le)
+
+-- a head that comes to the target sooner gets no less
+pub late-sooner : (disk : Disk) (gap : Gap) (es : List Entry) (sooner later value' : ℕ) → sooner ≤ later → value' ≡ stay disk (late_most gap sooner) es → stay disk (late_most gap later) es ≤ value'
+late-sooner disk gap es sooner later value' le v = omega (arith, longer_stay disk (late_most gap later) (late_most gap sooner) es disk.some_rotation refl le (omega arith), v)
+
+min-below : (n : ℕ) → min n 31 ≤ n
+min-below n = omega arith
+
+least_step : (n step : ℕ) → min (n / step) 31 * step ≤ n
+least_step n step =
+    let whole = div-mul-le_self n step in
+    let part = mul-le-mul_right step (min-below (n / step)) in
+    omega (arith, whole, part)
+
+-- the part at an instant is no less than what the target can still give from then on
+pub late-part : (disk : Disk) (gap : Gap) (es : List Entry) (late : LateParts) (from : ℕ) → IsLate disk gap es late → gap.now ≤ from → stay disk (late_most gap from) es ≤ part_at late from
+late-part disk gap es late from is after =
+    let k = min ((from - late.begin) / late.step) 31 in
+    let small : k < 32 = omega arith in
+    let begin : late.begin + k * late.step ≤ from = omega (arith, least_step (from - late.begin) late.step, is.from_now, after) in
+    omega (arith, longer_stay disk (late_most gap from) (late_most gap (late.begin + k * late.step)) es disk.some_rotation refl begin (omega arith), is.each k small)
+
+-- a detour of no more value than that is not better than the best so far
+pub not_better : (disk : Disk) (gap : Gap) (wanted : List Block) (best : Scored) (ceiling : ℕ) (first track : Track) (leave : ℕ) → IsScored disk gap wanted best → IsEnough best ceiling first
+    → (IsTrackBefore track first → ⊥) → value disk gap wanted (Detour track leave) ≤ ceiling → Beats disk gap wanted best.plan (Detour track leave)
+not_better disk gap wanted best ceiling first track leave scored enough later le = elim enough [
+  | inl less ↦ inl (omega (arith, scored.score, le, less))
+  | inr same ↦ elim (cases_lt (value disk gap wanted (Detour track leave)) (value disk gap wanted best.plan)) [
+    | inl less ↦ inl less
+    | inr more ↦ inr (omega (arith, scored.score, le, same.0, more), same.1 track leave later)
+  ]
+]
+
+-- the leaves of one stretch more
+pub stretch_beaten : (disk : Disk) (gap : Gap) (es : List Entry) (best : Scored) (track : Track) (arrive way from upto early late : ℕ) → IsScored disk gap (wanted_of es) best → IsEnough best (early + late) track
+    → arrive ≡ gap.now + pos disk.mechanism gap.source track false → way ≡ pos disk.mechanism track gap.target gap.write
+    → stay disk (early_to track arrive upto) es ≤ early → stay disk (late_most gap (from + way)) es ≤ late
+    → ((leave : ℕ) → leave < from → IsDetour disk gap track leave → Beats disk gap (wanted_of es) best.plan (Detour track leave))
+    → (leave : ℕ) → leave ≤ upto → IsDetour disk gap track leave → Beats disk gap (wanted_of es) best.plan (Detour track leave)
+stretch_beaten disk gap es best track arrive way from upto early late scored enough a w e l before leave high is = elim (cases_lt leave from) [
+  | inl less ↦ before leave less is
+  | inr low ↦ not_better disk gap (wanted_of es) best (early + late) track track leave scored enough (not_itself track)
+      (omega (arith, by_stretch disk gap es track leave is arrive upto from way a w low high, e, l))
+]
+
+-- a track that is not reached has no detour
+pub out_of_reach : (disk : Disk) (gap : Gap) (wanted : List Block) (best : Plan) (track : Track) (leave from : ℕ) → from ≤ gap.now + pos disk.mechanism gap.source track false + pos disk.mechanism track gap.target gap.write
+    → gap.deadline < from → IsDetour disk gap track leave → Beats disk gap wanted best (Detour track leave)
+out_of_reach disk gap wanted best track leave from le late is = absurd (omega (arith, le, late, is.after_arrival, is.in_time))

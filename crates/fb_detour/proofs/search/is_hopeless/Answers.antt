@@ -1,0 +1,33 @@
+use Rattle.std.proofs.Common.{arith, ap, ◌+◌, ◌-◌}
+use Rattle.fb_wanted.specs.States.{wanted_of}
+use Rattle.fb_detour.proofs.Ways.{not_better, by_weight, by_stretch, late-part}
+use Rattle.fb_detour.proofs.Ranges.{not_itself}
+use Rattle.fb_detour.proofs.search.is_hopeless.Goals as goal
+
+pub returns-then-is_enough : goal.returns-then-is_enough
+returns-then-is_enough c = λ h leave is.
+    let from = c.args.gap.now.now + c.pos.result + c.pos-move_on.result in
+    not_better c.args.disk.now c.args.gap.now (wanted_of c.args.wanted.now) c.args.best (c.wanted_weight_on-weight.result + c.late_at-after.result) c.args.track c.args.track leave
+    c.requires.best (c.is_enough.ensures c.if-is_enough.true) (not_itself c.args.track)
+    (omega (
+      arith,
+      by_weight c.args.disk.now c.args.gap.now c.args.wanted.now c.args.track leave is from (omega (arith, c.pos.ensures.value, c.pos-move_on.ensures.value)),
+      c.wanted_weight_on-weight.ensures.sum,
+      late-part c.args.disk.now c.args.gap.now c.args.wanted.now c.args.late.now from c.requires.late (omega arith),
+      c.late_at-after.ensures.value,
+    ))
+
+pub returns-then-misses_enough : goal.returns-then-misses_enough
+returns-then-misses_enough c = λ h leave is.
+    let from = c.args.gap.now.now + c.pos.result + c.pos-move_on.result in
+    let most = c.misses_enough.ensures c.if-misses_enough.true in
+    not_better c.args.disk.now c.args.gap.now (wanted_of c.args.wanted.now) c.args.best (most.0 + c.late_at-after.result) c.args.track c.args.track leave
+    c.requires.best most.2 (not_itself c.args.track)
+    (omega (
+      arith,
+      by_stretch c.args.disk.now c.args.gap.now c.args.wanted.now c.args.track leave is (c.args.gap.now.now + c.pos.result) (c.args.gap.now.deadline - c.pos-move_on.result) (c.args.gap.now.now + c.pos.result) c.pos-move_on.result
+          (ap (λ x. c.args.gap.now.now + x) c.pos.ensures.value) c.pos-move_on.ensures.value (omega (arith, is.after_arrival, c.pos.ensures.value)) (omega (arith, is.in_time, c.pos-move_on.ensures.value)),
+      most.1,
+      late-part c.args.disk.now c.args.gap.now c.args.wanted.now c.args.late.now from c.requires.late (omega arith),
+      c.late_at-after.ensures.value,
+    ))

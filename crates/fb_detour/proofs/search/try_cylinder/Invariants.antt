@@ -1,0 +1,10 @@
+use Rattle.std.proofs.Common.{◌<◌, ℕ}
+use Rattle.fb_wanted.specs.States.{wanted_of}
+use Rattle.fb_plan.specs.Ways.{IsScored, Beats}
+use Rattle.fb_detour.specs.Bounds.{BeatsOver}
+use Rattle.fb_detour.proofs.search.try_cylinder.Given as goal
+
+abbrev pub invariant-loop-head : goal.invariant-loop-head
+invariant-loop-head l = IsScored l.disk l.gap (wanted_of l.wanted) l.best
+    × Beats l.disk l.gap (wanted_of l.wanted) l.best.plan l.initial.best.plan
+    × ((head : ℕ) → head < l.head → BeatsOver l.disk l.gap (wanted_of l.wanted) l.best.plan (record { cylinder = l.cylinder; head = head }))

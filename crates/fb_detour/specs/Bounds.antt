@@ -1,0 +1,71 @@
+-- What bounds the value of detours.
+use Rattle.std.specs.Prelude.{◌≡◌, ℕ, ◌+◌, ◌-◌, ◌*◌, ◌/◌, ◌<◌, ◌≤◌, ◌⊎◌, min, nat_lt, get_or, List, ◌&&◌, if◌then◌else◌}
+use Rattle.std.specs.List.{sum_by}
+use Rattle.fb_units.specs.declared.types.Track.{Track}
+use Rattle.fb_service.specs.declared.disk.Disk.{Disk}
+use Rattle.fb_wanted.specs.declared.block.Block.{Block}
+use Rattle.fb_wanted.specs.declared.block.Entry.{Entry}
+use Rattle.fb_wanted.specs.States.{is_wanted, on_track}
+use Rattle.fb_rows.specs.declared.gap.Dwell.{Dwell}
+use Rattle.fb_rows.specs.declared.gap.Gap.{Gap}
+use Rattle.fb_rows.specs.declared.gap.Plan.{Plan}
+use Rattle.fb_rows.specs.declared.gap.Plan.TheVariants.{Detour}
+use Rattle.fb_model.specs.Plans.{block_begin, catches, IsDetour, IsNoLater, IsTrackBefore}
+use Rattle.fb_plan.specs.declared.choice.Scored.{Scored}
+use Rattle.fb_detour.specs.declared.parts.LateParts.{LateParts}
+use Rattle.fb_plan.specs.Ways.{Beats}
+
+-- what a registered block adds to a stay of the head on its track
+abbrev pub stay_gain : Disk → Dwell → Entry → ℕ
+stay_gain disk dwell entry = if is_wanted entry.state && catches disk dwell entry.block then entry.block.weight * entry.block.count else 0
+
+-- what a registered block weighs while it is wanted
+abbrev pub wanted_worth : Entry → ℕ
+wanted_worth entry = if is_wanted entry.state then entry.block.weight * entry.block.count else 0
+
+-- what no stay from an instant up to another can catch, since its passage doesn't begin by then
+abbrev pub missed : Disk → ℕ → ℕ → Entry → ℕ
+missed disk arrive latest entry = if is_wanted entry.state && nat_lt latest (block_begin disk.map entry.block arrive) then entry.block.weight * entry.block.count else 0
+
+-- what a stay catches of its track's blocks
+unfoldable pub stay : Disk → Dwell → List Entry → ℕ
+stay disk dwell entries = sum_by (stay_gain disk dwell) (on_track dwell.track entries)
+
+-- the stay on the target of a head that comes there then
+abbrev pub late_most : Gap → ℕ → Dwell
+late_most gap from = record { track = gap.target; begin = from; end = gap.deadline }
+
+-- the stay on a track up to an instant
+abbrev pub early_to : Track → ℕ → ℕ → Dwell
+early_to track arrive upto = record { track = track; begin = arrive; end = upto }
+
+-- the part at the last step that is no later
+abbrev pub part_at : LateParts → ℕ → ℕ
+part_at late from = get_or late.parts (min ((from - late.begin) / late.step) 31) 0
+
+-- each part is no less than what the target can still give after so many steps
+pub record IsLate (disk : Disk) (gap : Gap) (entries : List Entry) (late : LateParts) : Type 0 where
+  pub some : 0 < late.step
+  pub from_now : late.begin ≤ gap.now
+  pub each : (k : ℕ) → k < 32 → stay disk (late_most gap (late.begin + k * late.step)) entries ≤ get_or late.parts k 0
+  pub small : (k : ℕ) → k < 32 → get_or late.parts k 0 ≤ 16000000 * 2048000
+
+-- how far a cylinder lies from those of a range
+abbrev pub distance_to : ℕ → ℕ → ℕ → ℕ
+distance_to from end cylinder = (from - cylinder) + (cylinder + 1 - end)
+
+-- the best so far is at least as good as each detour over the track
+abbrev pub BeatsOver : Disk → Gap → List Block → Plan → Track → Type 0
+BeatsOver disk gap wanted best track = (leave : ℕ) → IsDetour disk gap track leave → Beats disk gap wanted best (Detour track leave)
+
+-- and over each track of these cylinders
+abbrev pub BeatsRange : Disk → Gap → List Block → Plan → ℕ → ℕ → Type 0
+BeatsRange disk gap wanted best from end = (track : Track) → from ≤ track.cylinder → track.cylinder < end → BeatsOver disk gap wanted best track
+
+-- the plan comes before each detour over this track or a later one
+abbrev pub IsAhead : Plan → Track → Type 0
+IsAhead plan track = (other : Track) (leave : ℕ) → (IsTrackBefore other track → ⊥) → IsNoLater plan (Detour other leave)
+
+-- no detour of this value, over this track or a later one, is better than the best so far
+abbrev pub IsEnough : Scored → ℕ → Track → Type 0
+IsEnough best ceiling track = (ceiling < best.value) ⊎ ((ceiling ≡ best.value) × IsAhead best.plan track)

@@ -1,0 +1,25 @@
+// The planner that passes over tracks which can't be better.
+use crate::search::try_all;
+use fb_plan::{Planner, Way, scored, try_way};
+use fb_rows::{Gap, Plan};
+use fb_service::Disk;
+use fb_wanted::Wanted;
+
+/// Passes over the cylinders out of reach and the tracks whose wanted blocks, together with what the
+/// target can still give, can't beat the best so far.
+#[derive(Clone, Copy, Debug, PartialEq, Eq)]
+pub struct IndexedPlanner;
+
+impl IndexedPlanner {
+    pub fn new() -> IndexedPlanner {
+        IndexedPlanner
+    }
+}
+
+impl Planner for IndexedPlanner {
+    fn best(&self, disk: &Disk, wanted: &Wanted, gap: &Gap) -> Plan {
+        let first = scored(disk, wanted, gap, Plan::Direct { leave: gap.now });
+        let direct = try_way(disk, wanted, gap, Way::Source, first);
+        try_all(disk, wanted, gap, direct).plan
+    }
+}

@@ -1,0 +1,13 @@
+//! The best plan for a gap, found without a look at most tracks.
+#![tactic(auto)]
+
+mod bounds;
+mod indexed;
+mod leaves;
+mod missing;
+mod parts;
+mod search;
+#[cfg(test)]
+mod tests;
+
+pub use indexed::IndexedPlanner;

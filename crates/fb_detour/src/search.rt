@@ -1,0 +1,184 @@
+// The search over tracks: a track is passed over where no detour over it is better than the best so far.
+ghost use Rattle.std.specs.Prelude.{◌≡◌, ◌+◌, ◌≤◌, ◌<◌, true};
+ghost use Rattle.fb_geometry.specs.Shape.{IsTrackOf};
+ghost use Rattle.fb_wanted.specs.States.{wanted_of};
+ghost use Rattle.fb_plan.specs.Ways.{AreOnDisk, IsGap, IsScored, Beats};
+ghost use Rattle.fb_detour.specs.Bounds.{BeatsOver, BeatsRange, IsLate};
+
+use crate::bounds::{has_registered, is_enough, least_way};
+use crate::leaves::leaves_beaten;
+use crate::missing::misses_enough;
+use crate::parts::{LateParts, late_at, late_parts};
+use fb_plan::{Scored, Way, is_same, try_way};
+use fb_rows::Gap;
+use fb_service::Disk;
+use fb_units::Track;
+use fb_wanted::Wanted;
+
+// Whether no detour over the track is better than the best so far.
+fn is_hopeless(
+    disk: &Disk,
+    wanted: &Wanted,
+    gap: &Gap,
+    late: &LateParts,
+    track: Track,
+    best: Scored,
+) -> bool
+    requires track { IsTrackOf disk.now.map track }
+    requires gap { IsGap disk.now gap.now }
+    requires blocks { AreOnDisk disk.now wanted.now }
+    requires late { IsLate disk.now gap.now wanted.now late.now }
+    requires best { IsScored disk.now gap.now (wanted_of wanted.now) best }
+    ensures { result ≡ true → BeatsOver disk.now gap.entry.now (wanted_of wanted.now) best.plan track }
+{
+    let arrive = gap.now + disk.mechanism.pos(gap.source, track, false);
+    let move_on = disk.mechanism.pos(track, gap.target, gap.write);
+    if gap.deadline < arrive + move_on {
+        return true;
+    }
+    let weight = wanted.wanted_weight_on(track);
+    let after = late_at(late, arrive + move_on);
+    if is_enough(best, weight + after, track) {
+        return true;
+    }
+    let latest = gap.deadline - move_on;
+    if misses_enough(disk, wanted, track, arrive, latest, after, best) {
+        return true;
+    }
+    leaves_beaten(disk, wanted, gap, late, track, arrive, move_on, best)
+}
+
+// Tries the plans over a track, unless none can be better than the best so far.
+fn try_track(
+    disk: &Disk,
+    wanted: &Wanted,
+    gap: &Gap,
+    late: &LateParts,
+    track: Track,
+    start: Scored,
+) -> Scored
+    requires track { IsTrackOf disk.now.map track }
+    requires gap { IsGap disk.now gap.now }
+    requires blocks { AreOnDisk disk.now wanted.now }
+    requires late { IsLate disk.now gap.now wanted.now late.now }
+    requires best { IsScored disk.now gap.now (wanted_of wanted.now) start }
+    ensures scored { IsScored disk.now gap.entry.now (wanted_of wanted.now) result }
+    ensures keeps { Beats disk.now gap.entry.now (wanted_of wanted.now) result.plan start.plan }
+    ensures tried { BeatsOver disk.now gap.entry.now (wanted_of wanted.now) result.plan track }
+{
+    if is_same(track, gap.source) {
+        return start;
+    }
+    if is_same(track, gap.target) {
+        return start;
+    }
+    if is_hopeless(disk, wanted, gap, late, track, start) {
+        return start;
+    }
+    try_way(disk, wanted, gap, Way::Over(track), start)
+}
+
+// Tries the tracks of a cylinder.
+fn try_cylinder(
+    disk: &Disk,
+    wanted: &Wanted,
+    gap: &Gap,
+    late: &LateParts,
+    cylinder: u32,
+    start: Scored,
+) -> Scored
+    requires cylinder { cylinder < disk.now.mechanism.cylinders }
+    requires gap { IsGap disk.now gap.now }
+    requires blocks { AreOnDisk disk.now wanted.now }
+    requires late { IsLate disk.now gap.now wanted.now late.now }
+    requires best { IsScored disk.now gap.now (wanted_of wanted.now) start }
+    ensures scored { IsScored disk.now gap.entry.now (wanted_of wanted.now) result }
+    ensures keeps { Beats disk.now gap.entry.now (wanted_of wanted.now) result.plan start.plan }
+    ensures tried { BeatsRange disk.now gap.entry.now (wanted_of wanted.now) result.plan cylinder (cylinder + 1) }
+{
+    let mut best = start;
+    for head in 0..disk.map.geometry().heads() {
+        best = try_track(disk, wanted, gap, late, Track { cylinder, head }, best);
+    }
+    best
+}
+
+// Whether no detour over a track of these cylinders is better than the best so far.
+fn can_skip(
+    disk: &Disk,
+    wanted: &Wanted,
+    gap: &Gap,
+    late: &LateParts,
+    from: u32,
+    end: u32,
+    best: Scored,
+) -> bool
+    requires some { from < end }
+    requires cylinders { end ≤ disk.now.mechanism.cylinders }
+    requires gap { IsGap disk.now gap.now }
+    requires blocks { AreOnDisk disk.now wanted.now }
+    requires late { IsLate disk.now gap.now wanted.now late.now }
+    requires best { IsScored disk.now gap.now (wanted_of wanted.now) best }
+    ensures { result ≡ true → BeatsRange disk.now gap.entry.now (wanted_of wanted.now) best.plan from end }
+{
+    let arrive = gap.now + least_way(disk, gap, from, end);
+    if gap.deadline < arrive {
+        return true;
+    }
+    if has_registered(wanted, from, end) {
+        return false;
+    }
+    let first = Track {
+        cylinder: from,
+        head: 0,
+    };
+    is_enough(best, late_at(late, arrive), first)
+}
+
+// The cylinders before this one, from one on, can be passed over: twice as many at each step.
+fn skip(disk: &Disk, wanted: &Wanted, gap: &Gap, late: &LateParts, from: u32, best: Scored) -> u32
+    requires within { from ≤ disk.now.mechanism.cylinders }
+    requires gap { IsGap disk.now gap.now }
+    requires blocks { AreOnDisk disk.now wanted.now }
+    requires late { IsLate disk.now gap.now wanted.now late.now }
+    requires best { IsScored disk.now gap.now (wanted_of wanted.now) best }
+    ensures after { from ≤ result }
+    ensures within { result ≤ disk.now.mechanism.cylinders }
+    ensures passed { BeatsRange disk.now gap.entry.now (wanted_of wanted.now) best.plan from result }
+{
+    let end = disk.map.geometry().cylinders();
+    let mut next = from;
+    while next < end {
+        let upto = next + (end - next).min(next - from + 1);
+        if !can_skip(disk, wanted, gap, late, next, upto, best) {
+            return next;
+        }
+        next = upto;
+    }
+    next
+}
+
+// Tries the tracks of all cylinders.
+pub fn try_all(disk: &Disk, wanted: &Wanted, gap: &Gap, start: Scored) -> Scored
+    requires gap { IsGap disk.now gap.now }
+    requires blocks { AreOnDisk disk.now wanted.now }
+    requires best { IsScored disk.now gap.now (wanted_of wanted.now) start }
+    ensures scored { IsScored disk.now gap.entry.now (wanted_of wanted.now) result }
+    ensures keeps { Beats disk.now gap.entry.now (wanted_of wanted.now) result.plan start.plan }
+    ensures tried { BeatsRange disk.now gap.entry.now (wanted_of wanted.now) result.plan 0 disk.now.mechanism.cylinders }
+{
+    let late = late_parts(disk, wanted, gap);
+    let end = disk.map.geometry().cylinders();
+    let mut best = start;
+    let mut from = 0;
+    while from < end {
+        let next = skip(disk, wanted, gap, &late, from, best);
+        if from < next {
+            from = next;
+        } else {
+            best = try_cylinder(disk, wanted, gap, &late, from, best);
+            from += 1;
+        }
+    }
+    best
+}
