@@ -1,15 +1,12 @@
 -- What the services so far have left on the disk, and what the ones to come can't have left yet.
-use Rattle.std.proofs.Common.{◌≡◌, ℕ, zero, suc, ◌+◌, ◌<◌, ◌≤◌, List, [], ◌∷◌, ◌++◌, length, map, Bool, true, false, refl, ap, sym, ◌∙◌, arith, Option, Some, None, inl, inr, subst}
-use Rattle.std.specs.Prelude.{nat_le, nat_lt, ◌==◌, ◌&&◌, filter, if◌then◌else◌, unwrap_or}
+use Rattle.std.proofs.Common.{◌≡◌, ℕ, zero, suc, ◌+◌, ◌≤◌, List, [], ◌∷◌, ◌++◌, map, Bool, true, false, refl, ap, ◌∙◌, arith, Option, Some, None, inl, inr}
+use Rattle.std.specs.Prelude.{◌==◌, filter, if◌then◌else◌, unwrap_or}
 use Rattle.std.specs.Option.{option_map}
-use Rattle.std.specs.List.{list_any, AllByRecursion, last_or, range_with_len, flat_map}
+use Rattle.std.specs.List.{list_any, AllByRecursion, last_or, flat_map}
 use Rattle.std.proofs.lemmas.Bool.{cases_Bool, cases_lt}
 use Rattle.std.proofs.lemmas.Bool.Decides.{nat_tests}
-use Rattle.std.proofs.lemmas.List.Elements.{filter-append}
-use Rattle.std.proofs.lemmas.List.Concat.{flat_map-append}
 use Rattle.fb_units.specs.declared.types.Track.{Track}
 use Rattle.fb_units.specs.declared.types.Request.{Request}
-use Rattle.fb_units.specs.Wait.{wait}
 use Rattle.fb_seek.specs.Positioning.{pos}
 use Rattle.fb_sectormap.specs.Lookup.{track_at}
 use Rattle.fb_service.specs.declared.disk.Disk.{Disk}
@@ -19,7 +16,7 @@ use Rattle.fb_service.specs.Service.{passages, finish_of, passage_from}
 use Rattle.fb_store.specs.declared.content.Content.{Content}
 use Rattle.fb_store.specs.declared.content.Content.TheVariants.{Filled}
 use Rattle.fb_store.specs.Writes.{is_within}
-use Rattle.fb_model.specs.PlainReplay.{Key, Served, plain, service, start_of, has_arrived, first_ready, last_track, finish}
+use Rattle.fb_model.specs.PlainReplay.{Key, plain, service, start_of, has_arrived, first_ready, last_track, finish}
 use Rattle.fb_model.specs.Content.{Written, writes_of, number_of, content_by}
 
 pub all_weaker : {X : Type 0} (P Q : X → Type 0) → ((x : X) → P x → Q x) → (xs : List X) → AllByRecursion P xs → AllByRecursion Q xs
@@ -34,7 +31,7 @@ pub all_append : {X : Type 0} (P : X → Type 0) (xs ys : List X) → AllByRecur
 all_append P [] ys a b = b
 all_append P (x ∷ xs) ys a b = (a.0, all_append P xs ys a.1 b)
 
-all_map : {X Y : Type 0} (P : Y → Type 0) (f : X → Y) (xs : List X) → AllByRecursion (λ x. P (f x)) xs → AllByRecursion P (map f xs)
+pub all_map : {X Y : Type 0} (P : Y → Type 0) (f : X → Y) (xs : List X) → AllByRecursion (λ x. P (f x)) xs → AllByRecursion P (map f xs)
 all_map P f [] all = tt
 all_map P f (x ∷ xs) all = (all.0, all_map P f xs all.1)
 
@@ -69,7 +66,7 @@ all_ends : (disk : Disk) (source : Track) (now : ℕ) (write : Bool) (lbn n : �
 all_ends disk source now write lbn n = all_weaker _ _ (λ p h. (omega (arith, h.0, h.1), h.2)) _ (passed_between disk source now write lbn n).1
 
 -- a request starts no earlier than the one before it ended
-start_after : (now : ℕ) (left : List Request) → now ≤ start_of now left
+pub start_after : (now : ℕ) (left : List Request) → now ≤ start_of now left
 start_after now [] = omega arith
 start_after now (request ∷ left) = elim (cases_Bool (list_any (has_arrived now) (request ∷ left))) [
   | inl come ↦ rw come (omega arith)

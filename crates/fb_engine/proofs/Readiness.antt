@@ -1,6 +1,6 @@
 -- Who has arrived, and who is taken.
-use Rattle.std.proofs.Common.{◌≡◌, ℕ, zero, suc, ◌+◌, ◌-◌, ◌<◌, ◌≤◌, max, List, [], ◌∷◌, ◌++◌, length, drop, Bool, true, false, refl, ap, sym, ◌∙◌, arith, Option, Some, None, append_assoc, inl, inr, subst, get_or}
-use Rattle.std.specs.Prelude.{slice_get, IfSome, nat_le, if◌then◌else◌, cond, unwrap_or, ◌==◌}
+use Rattle.std.proofs.Common.{◌≡◌, ℕ, zero, suc, ◌+◌, ◌<◌, ◌≤◌, max, List, [], ◌∷◌, ◌++◌, length, drop, Bool, true, false, refl, ap, sym, ◌∙◌, arith, Option, Some, None, append_assoc, inl, inr, subst}
+use Rattle.std.specs.Prelude.{slice_get, IfSome, nat_le, if◌then◌else◌, ◌==◌}
 use Rattle.std.specs.Option.{option_map}
 use Rattle.std.specs.List.{list_any, AllByRecursion}
 use Rattle.std.proofs.lemmas.Bool.Decides.{nat_tests}
@@ -8,9 +8,8 @@ use Rattle.std.proofs.lemmas.Bool.{cases_lt}
 use Rattle.fb_units.specs.declared.types.Track.{Track}
 use Rattle.fb_units.specs.declared.types.Request.{Request}
 use Rattle.fb_service.specs.declared.disk.Disk.{Disk}
-use Rattle.fb_model.specs.PlainReplay.{Key, has_arrived, better, kept, pick_with, first_least, first_ready, start_of, service, finish, last_track, plain, Served}
+use Rattle.fb_model.specs.PlainReplay.{Key, has_arrived, better, first_least, first_ready, start_of, service, finish, last_track, plain, Served}
 use Rattle.fb_engine.specs.Waiting.{left, IsInOrder}
-use Rattle.std.proofs.lemmas.List.{drop_more, length-drop}
 
 has_come : (now : ℕ) (r : Request) → r.arrival ≤ now → has_arrived now r ≡ true
 has_come now r h = grind (arith, nat_tests)
@@ -117,36 +116,6 @@ all_weaker P Q f (x ∷ xs) all = (f x all.0, all_weaker P Q f xs all.1)
 not_none : (n : ℕ) → true ≡ (suc n == 0) → ⊥
 not_none n e = grind (arith, nat_tests)
 
--- when nothing waits, the first one ahead decides
-pub start_empty : (now next : ℕ) (requests ps : List Request) (d : Request) → true ≡ (length ps == 0) → IsInOrder requests → next < length requests
-    → max (get_or requests next d).arrival now ≡ start_of now (left requests next ps)
-start_empty now next requests (p ∷ ps) d e order h = absurd (not_none (length ps) e)
-start_empty now next requests [] d e order h =
-    sym (ap (start_of now) (drop_more requests next d h)
-    ∙ start_ahead now (get_or requests next d) (drop (next + 1) requests) (subst IsInOrder (drop_more requests next d h) (order_dropped next requests order)))
-
-pub start_some : (now next : ℕ) (requests ps : List Request) → false ≡ (length ps == 0) → AllByRecursion (λ r. r.arrival ≤ now) ps → now ≡ start_of now (left requests next ps)
-start_some now next requests [] e all = cc
-start_some now next requests (p ∷ ps) e all = sym (start_waiting now (p ∷ ps) (drop next requests) (omega arith) all)
-
--- the start is late enough for one to wait
-pub some_waits : (now start : ℕ) (ps qs : List Request) → now ≤ start → start ≡ start_of now (ps ++ qs) → 0 < length (ps ++ qs) → AllByRecursion (λ r. start < r.arrival) qs → 0 < length ps
-some_waits now start (p ∷ ps) qs later e h ahead = omega arith
-some_waits now start [] [] later e h ahead = absurd (omega arith)
-some_waits now start [] (q ∷ qs) later e h ahead =
-    let none = none_any now (q ∷ qs) (all_weaker (λ r. start < r.arrival) (λ r. now < r.arrival) (λ r lt. omega arith) (q ∷ qs) ahead) in
-    let first : start ≡ q.arrival = e ∙ ap (λ b. if b then now else q.arrival) none in
-    absurd (omega (arith, ahead.0))
-
--- and no later than the last arrival
-pub start_soon : (now top : ℕ) (rs : List Request) → AllByRecursion (λ r. r.arrival ≤ top) rs → start_of now rs ≤ max now top
-start_soon now top [] all = omega arith
-start_soon now top (r ∷ rs) all = chosen (list_any (has_arrived now) (r ∷ rs))
-  where
-    chosen : (b : Bool) → (if b then now else r.arrival) ≤ max now top
-    chosen true = omega arith
-    chosen false = omega (arith, all.0)
-
 pub taken : (P : Request → Type 0) (key : Request → ℕ) (ps : List Request) (r : Request) (rest : List Request) → AllByRecursion P ps → first_least key ps ≡ Some (r, rest)
     → P r × (AllByRecursion P rest × (length rest + 1 ≡ length ps))
 taken P key ps r rest all e = subst (Picks P (length ps)) e (picks_all P key ps all)
@@ -155,21 +124,6 @@ taken P key ps r rest all e = subst (Picks P (length ps)) e (picks_all P key ps 
 pub taken_ready : (key : Request → ℕ) (now : ℕ) (ps qs : List Request) (r : Request) (rest : List Request) → AllByRecursion (λ r. r.arrival ≤ now) ps → AllByRecursion (λ r. now < r.arrival) qs
     → first_least key ps ≡ Some (r, rest) → first_ready key now (ps ++ qs) ≡ Some (r, rest ++ qs)
 taken_ready key now ps qs r rest here ahead e = ready_waiting key now ps qs here ahead ∙ ap (option_map (with_rest qs)) e
-
--- one decision is one service of the plain replay
-pub decided : (n : ℕ) (disk : Disk) (key : Key) (head : Track) (now : ℕ) (left : List Request) (start : ℕ) (pick : Request) (rest : List Request) (end : ℕ) (track : Track) (begin : ℕ) (named : Request)
-    → start ≡ start_of now left → first_ready (key disk head start) start left ≡ Some (pick, rest)
-    → named ≡ pick → begin ≡ start → end ≡ finish (service disk head start pick) → track ≡ last_track disk (service disk head start pick)
-    → plain (suc n) disk key head now left ≡ service disk head begin named ∷ plain n disk key track end rest
-decided n disk key head now left start pick rest end track begin named e f r b g t = rw (g, t, r, b) (plain_next n disk key head now left start pick rest e f)
-
--- when nothing waits, one is ahead
-pub in_range : (next : ℕ) (requests ps : List Request) → true ≡ (length ps == 0) → 0 < length (left requests next ps) → next < length requests
-in_range next requests [] e h = omega (arith, length-drop next requests)
-in_range next requests (p ∷ ps) e h = absurd (not_none (length ps) e)
-
-pub first_left : (requests ps : List Request) → ps ≡ [] → left requests 0 ps ≡ requests
-first_left requests ps e = ap (left requests 0) e
 
 -- nothing is left, so nothing follows
 pub none_left : (n : ℕ) (disk : Disk) (key : Key) (head : Track) (now : ℕ) (rs : List Request) → n ≡ 0 → plain n disk key head now rs ≡ []
@@ -180,3 +134,7 @@ none_left (suc n) disk key head now rs e = absurd (omega arith)
 -- a list of services goes on by one
 pub one_more : (done : List Served) (served : Served) (before after whole : List Served) → before ≡ served ∷ after → done ++ before ≡ whole → (done ++ served ∷ []) ++ after ≡ whole
 one_more done served before after whole e h = append_assoc done (served ∷ []) after ∙ ap (λ xs. done ++ xs) (sym e) ∙ h
+
+pub none_waits : (ps : List Request) → true ≡ (length ps == 0) → ps ≡ []
+none_waits [] e = refl
+none_waits (p ∷ ps) e = absurd (not_none (length ps) e)

@@ -1,5 +1,5 @@
 -- How far the plain replay has come: the services so far, their rows, and what they left on the disk.
-use Rattle.std.proofs.Common.{◌≡◌, ℕ, zero, suc, ◌+◌, ◌<◌, ◌≤◌, List, [], ◌∷◌, ◌++◌, length, map, Bool, true, false, refl, ap, sym, ◌∙◌, arith, Option, Some, None, inl, inr, subst, append_assoc, append-nil}
+use Rattle.std.proofs.Common.{◌≡◌, ℕ, zero, suc, ◌+◌, ◌<◌, ◌≤◌, List, [], ◌∷◌, ◌++◌, map, Bool, true, false, refl, ap, sym, ◌∙◌, arith, Option, None, inl, inr, subst, append-nil}
 use Rattle.std.specs.Prelude.{nat_le, ◌==◌, ◌&&◌, filter, if◌then◌else◌}
 use Rattle.std.specs.List.{AllByRecursion, last_or, range_with_len, flat_map}
 use Rattle.std.proofs.lemmas.Bool.{cases_Bool}
@@ -13,23 +13,21 @@ use Rattle.fb_service.specs.declared.disk.Disk.{Disk}
 use Rattle.fb_service.specs.declared.passage.Passage.{Passage}
 use Rattle.fb_sectormap.specs.Lookup.{track_at}
 use Rattle.fb_seek.specs.Positioning.{pos}
-use Rattle.fb_service.specs.Service.{passages, passage_from, finish_of}
+use Rattle.fb_service.specs.Service.{passages, passage_from}
 use Rattle.fb_store.specs.declared.content.Content.{Content}
-use Rattle.fb_store.specs.declared.content.Content.TheVariants.{Filled}
 use Rattle.fb_store.specs.declared.content.ContentRun.{ContentRun}
 use Rattle.fb_store.specs.Runs.{runs_of, bad_of}
-use Rattle.fb_store.specs.Writes.{unwritten, is_within, after_write}
+use Rattle.fb_store.specs.Writes.{unwritten}
 use Rattle.fb_store.specs.Index.{Holding, content_in}
 use Rattle.fb_rows.specs.declared.fore.ForeRow.{ForeRow}
-use Rattle.fb_model.specs.PlainReplay.{Key, Served, plain, service, media, finish, last_track, plain_replay}
+use Rattle.fb_model.specs.PlainReplay.{Served, service, media, finish}
 use Rattle.fb_model.specs.Inputs.{Inputs, served}
-use Rattle.fb_model.specs.Foreground.{foreground_list}
-use Rattle.fb_model.specs.Accepted.{IsAccepted, IsRequestOf, IsRising}
+use Rattle.fb_model.specs.Accepted.{IsRising}
 use Rattle.fb_model.specs.Content.{Written, Medium, medium_of, fore_rows, writes_of, number_of, content, content_by, found, fore_row}
-use Rattle.fb_engine.specs.Waiting.{IsInOrder, IsTraceOf}
+use Rattle.fb_engine.specs.Waiting.{IsInOrder}
 use Rattle.fb_engine.specs.Contents.{found_in, left_by, IsRowOf}
 use Rattle.fb_engine.proofs.Readiness.{one_more}
-use Rattle.fb_engine.proofs.Passed.{all_weaker, all_both, all_append, passed_between, written_by, written_between, written_after, last_joined, own_writes}
+use Rattle.fb_engine.proofs.Passed.{all_weaker, all_both, all_append, passed_between, written_by, written_between, last_joined, own_writes}
 
 -- the writes of these services
 abbrev pub all_writes : List Served → List Written
@@ -41,7 +39,7 @@ medium_by disk latent whole = record { disk = disk; latent = latent; writes = al
 abbrev is_of : ℕ → Written → Bool
 is_of lbn write = write.passage.lbn == lbn
 
-abbrev is_of_by : ℕ → ℕ → Written → Bool
+abbrev pub is_of_by : ℕ → ℕ → Written → Bool
 is_of_by lbn t write = (write.passage.lbn == lbn) && nat_le write.passage.end t
 
 -- what a sector holds after these services
@@ -55,7 +53,7 @@ pub record Replayed (disk : Disk) (latent : List ℕ) (whole : List Served) (res
   pub holds : (lbn : ℕ) → content_in holding lbn ≡ held_after latent done lbn
 
 -- writes that ended by then are those of the sector
-ended_by : (lbn t : ℕ) (writes : List Written) → AllByRecursion (λ (w : Written). w.passage.end ≤ t) writes → filter (is_of_by lbn t) writes ≡ filter (is_of lbn) writes
+pub ended_by : (lbn t : ℕ) (writes : List Written) → AllByRecursion (λ (w : Written). w.passage.end ≤ t) writes → filter (is_of_by lbn t) writes ≡ filter (is_of lbn) writes
 ended_by lbn t [] all = refl
 ended_by lbn t (w ∷ writes) all =
     let ends : nat_le w.passage.end t ≡ true = let h = all.0 in grind (arith, nat_tests) in
@@ -65,7 +63,7 @@ ended_by lbn t (w ∷ writes) all =
     ]
 
 -- and those that end later don't count
-not_yet : (lbn t : ℕ) (writes : List Written) → AllByRecursion (λ (w : Written). t < w.passage.end) writes → filter (is_of_by lbn t) writes ≡ []
+pub not_yet : (lbn t : ℕ) (writes : List Written) → AllByRecursion (λ (w : Written). t < w.passage.end) writes → filter (is_of_by lbn t) writes ≡ []
 not_yet lbn t [] all = refl
 not_yet lbn t (w ∷ writes) all =
     let late : nat_le w.passage.end t ≡ false = let h = all.0 in grind (arith, nat_tests) in
@@ -189,27 +187,16 @@ replayed_more disk latent whole done rest later head now start end request rows 
     }
 
 -- all of it is the foreground of these inputs
-pub whole_fore : (inputs : Inputs) (rows : List ForeRow) (done rest : List Served) (now : ℕ) (holding : Holding) → inputs.calls ≡ [] → rest ≡ []
-    → Replayed inputs.disk inputs.latent (plain_replay inputs.disk inputs.key inputs.trace) rest rows now holding done → rows ≡ fore_rows inputs
-unfolding fore_rows medium_of served
-whole_fore inputs rows done rest now holding no_calls none so_far =
-    let all : done ≡ plain_replay inputs.disk inputs.key inputs.trace = sym (append-nil done) ∙ ap (λ xs. done ++ xs) (sym none) ∙ so_far.all in
-    so_far.rows_are
-    ∙ ap (map (fore_row (medium_by inputs.disk inputs.latent (plain_replay inputs.disk inputs.key inputs.trace)))) all
-    ∙ ap (λ calls. map (fore_row (medium_by inputs.disk inputs.latent (plain_replay inputs.disk inputs.key (foreground_list inputs.trace calls)))) (plain_replay inputs.disk inputs.key (foreground_list inputs.trace calls))) (sym no_calls)
+pub whole_fore : (inputs : Inputs) (rows : List ForeRow) (done : List Served) (now : ℕ) (holding : Holding) → Replayed inputs.disk inputs.latent (served inputs) [] rows now holding done → rows ≡ fore_rows inputs
+unfolding fore_rows medium_of
+whole_fore inputs rows done now holding so_far =
+    let all : done ≡ served inputs = sym (append-nil done) ∙ so_far.all in
+    so_far.rows_are ∙ ap (map (fore_row (medium_by inputs.disk inputs.latent (served inputs)))) all
 
 all_of_map : {X Y : Type 0} (P : Y → Type 0) (f : X → Y) (xs : List X) → AllByRecursion P (map f xs) → AllByRecursion (λ x. P (f x)) xs
 all_of_map P f [] all = tt
 all_of_map P f (x ∷ xs) all = (all.0, all_of_map P f xs all.1)
 
-in_order : (requests : List Request) → IsRising (map (λ (r : Request). r.arrival) requests) → IsInOrder requests
+pub in_order : (requests : List Request) → IsRising (map (λ (r : Request). r.arrival) requests) → IsInOrder requests
 in_order [] rising = tt
 in_order (r ∷ rs) rising = (all_of_map (λ later. r.arrival ≤ later) (λ (o : Request). o.arrival) rs rising.0, in_order rs rising.1)
-
--- an accepted trace can be served
-pub is_trace : (inputs : Inputs) (disk : Disk) (requests : List Request) → inputs.disk ≡ disk → requests ≡ inputs.trace → IsAccepted inputs → IsTraceOf disk requests
-is_trace inputs disk requests d e accepted = record {
-  order = subst IsInOrder (sym e) (in_order inputs.trace accepted.arrivals);
-  on_disk = subst (AllByRecursion (IsRequestOf disk.map)) (sym e) (subst (λ (d : Disk). AllByRecursion (IsRequestOf d.map) inputs.trace) d accepted.requests);
-  few = omega (arith, accepted.few_requests, ap length e);
-}

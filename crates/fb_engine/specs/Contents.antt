@@ -1,5 +1,5 @@
 -- What a request finds on a disk, and what it leaves there.
-use Rattle.std.specs.Prelude.{◌≡◌, ℕ, List, [], Bool, map, if◌then◌else◌}
+use Rattle.std.specs.Prelude.{◌≡◌, ℕ, List, [], map, if◌then◌else◌}
 use Rattle.std.specs.List.{range_with_len}
 use Rattle.fb_units.specs.declared.types.Request.{Request}
 use Rattle.fb_store.specs.declared.content.Content.{Content}

@@ -1,2 +1,7 @@
-pub mod Waiting
 pub mod Contents
+pub mod Waiting
+pub mod Carried
+pub mod Deliveries
+pub mod Calls
+pub mod Standing
+pub mod Deciding

@@ -1,41 +1,56 @@
-// The replay of a trace, decision by decision.
-ghost use Rattle.std.specs.Prelude.{◌≡◌, ◌==◌, ℕ, suc, ◌+◌, ◌-◌, ◌*◌, ◌<◌, ◌≤◌, ◌^◌, [], ◌∷◌, ◌++◌, drop, length, max, IfOk, IfSome, OnOk, slice_get};
+// The replay, decision by decision.
+ghost use Rattle.std.specs.Prelude.{◌≡◌, ℕ, ◌-◌, ◌*◌, ◌<◌, ◌≤◌, ◌^◌, List, [], true, length, take, Some, IfOk, OnOk, slice_get};
 ghost use Rattle.std.specs.List.{AllByRecursion};
 ghost use Rattle.fb_geometry.specs.Shape.{IsTrackOf};
-ghost use Rattle.fb_rows.specs.Ranges.{HasRanges};
-ghost use Rattle.fb_store.specs.Index.{content_in};
-ghost use Rattle.fb_service.specs.Service.{passages};
-ghost use Rattle.fb_model.specs.Accepted.{IsAccepted};
-ghost use Rattle.fb_model.specs.Content.{fore_rows};
-ghost use Rattle.fb_model.specs.PlainReplay.{plain, service};
-ghost use Rattle.fb_engine.specs.Contents.{left_by, IsRowOf};
-ghost use Rattle.fb_engine.specs.Waiting.{left, IsWaiting, IsTraceOf};
+ghost use Rattle.fb_rows.specs.Ranges.{HasRanges, HasBackRanges};
+ghost use Rattle.fb_rows.specs.Tasks.{HasNamedTask};
+ghost use Rattle.fb_calls.specs.Allowed.{tasks};
+ghost use Rattle.fb_model.specs.Accepted.{IsAccepted, IsRequestOf};
+ghost use Rattle.fb_model.specs.FullRun.{IsFull};
+ghost use Rattle.fb_model.specs.History.{Past};
+ghost use Rattle.fb_model.specs.PlainReplay.{first_least};
+ghost use Rattle.fb_tasks.specs.Telling.{Tells};
+ghost use Rattle.fb_engine.specs.Waiting.{IsWaiting, IsTraceOf};
+ghost use Rattle.fb_engine.specs.Calls.{IsScriptOf, IsCalled};
+ghost use Rattle.fb_engine.specs.Deliveries.{IsCurrent};
+ghost use Rattle.fb_engine.specs.Deciding.{IsAtStart, next_of, HasServedNext, HasStayed, HasDecided};
 
-use crate::joining::{join_arrived, start};
+use crate::background::Background;
+use crate::foreground::foreground;
+use crate::joining::join_arrived;
 use crate::serving::serve_request;
+use crate::timing::disk_is_sound;
 use fb_calls::Calls;
+use fb_model::foreground_lists_ascend;
 use fb_plan::Planner;
 use fb_queue::Queue;
-use fb_rows::{BackRows, ForeRow, ForeRows, Run};
+use fb_rows::{BackRows, Dwell, ForeRows, Run};
 use fb_service::Disk;
 use fb_store::Store;
+use fb_tasks::Sessions;
 use fb_trace::Trace;
 use fb_units::{NoMemory, Ns, Request, Track};
+use fb_wanted::Wanted;
 use std::alloc::Global;
 
-// What one decision gives: a row, how many requests have joined, and where the head stands then.
+// What stands between two decisions, beside the requests that wait.
 #[derive(Drop)]
-struct Decision {
-    row: ForeRow,
-    next: usize,
+struct Course {
+    store: Store,
+    background: Background,
+    fore: ForeRows,
+    // How many requests have joined, and how many calls have taken effect.
+    joined: usize,
+    called: usize,
     head: Track,
+    now: Ns,
 }
 
-/// Replays a trace on a disk, by a queue's policy.
+/// Replays a trace and a call script on a disk, by a queue's policy, with the best plan in every gap.
 ///
 /// `latent` are the sectors that can't be read until a write passes them, and `until` is the
 /// instant, in nanoseconds, up to which the head stays when nothing is left to do. The queue has
-/// to be a new one. Until the background is built, `calls` have to be empty and the planner isn't asked.
+/// to be a new one. The only error is want of memory.
 pub fn replay<Q: Queue, P: Planner>(
     alloc: Global,
     disk: &Disk,
@@ -49,77 +64,167 @@ pub fn replay<Q: Queue, P: Planner>(
     requires empty { Q.pending queue ≡ [] }
     requires fresh { Q.joined queue ≡ 0 }
     requires accepted { IsAccepted (record { disk = disk.now; latent = latent.now; trace = trace.now.requests.items; passed_over = trace.now.passed_over; calls = calls.now.calls.items; key = Q.key; until = until }) }
-    requires no_calls { calls.now.calls.items ≡ [] }
-    ensures fore { IfOk result (λ run. run.fore ≡ fore_rows (record { disk = disk.now; latent = latent.now; trace = trace.now.requests.items; passed_over = trace.now.passed_over; calls = calls.now.calls.items; key = Q.key; until = until })) }
+    ensures full { IfOk result (λ run. IsFull (record { disk = disk.now; latent = latent.now; trace = trace.now.requests.items; passed_over = trace.now.passed_over; calls = calls.now.calls.items; key = Q.key; until = until }) run) }
     ensures ranges { IfOk result (λ run. AllByRecursion HasRanges run.fore) }
     ensures few { IfOk result (λ run. length run.fore ≤ 10 ^ 6) }
-    ensures passed_over { IfOk result (λ run. run.passed_over ≡ trace.now.passed_over) }
+    ensures back_ranges { IfOk result (λ run. AllByRecursion HasBackRanges run.back) }
+    ensures named { IfOk result (λ run. (names : List (List ℕ)) → length names ≡ length (tasks calls.now.calls.items) → AllByRecursion (HasNamedTask names) run.back) }
 {
-    let _planner = planner;
-    let requests = trace.requests.as_slice();
+    foreground_lists_ascend();
+    disk_is_sound(disk);
+    let requests = foreground(alloc, trace.requests.as_slice(), calls)?;
+    let requests = requests.as_slice();
     let mut queue = queue;
-    let mut store = Store::new(alloc, latent)?;
-    let mut rows = ForeRows::new(alloc);
-    let mut head = Track {
-        cylinder: 0,
-        head: 0,
-    };
-    let mut now: Ns = 0;
-    let mut next = 0;
-    for _ in 0..requests.len() {
-        let decision = decide(
-            alloc, disk, requests, &mut queue, &mut store, next, head, now,
+    let mut course = at_start(alloc, latent)?;
+    let mut goes_on = true;
+    while goes_on {
+        goes_on = decide(
+            alloc,
+            disk,
+            requests,
+            calls,
+            planner,
+            until,
+            &mut queue,
+            &mut course,
         )?;
-        next = decision.next;
-        head = decision.head;
-        now = decision.row.finish;
-        rows.push(decision.row)?;
     }
+    let mut background = course.background;
+    background
+        .sessions
+        .task_rows(&background.wanted, &mut background.rows)?;
     Ok(Run {
-        fore: rows,
-        back: BackRows::new(alloc),
+        fore: course.fore,
+        back: background.rows,
         passed_over: trace.passed_over,
-        end: now.max(until),
+        end: course.now,
     })
 }
 
-// Waits for a request if none has arrived, and serves the one that the queue takes.
-fn decide<Q: Queue>(
+// Nothing has happened yet.
+fn at_start(alloc: Global, latent: &[u64]) -> Result<Course, NoMemory>
+    ensures { IfOk result (λ course. IsAtStart latent.now course) }
+{
+    Ok(Course {
+        store: Store::new(alloc, latent)?,
+        background: Background {
+            sessions: Sessions::new(alloc),
+            wanted: Wanted::new(alloc),
+            rows: BackRows::new(alloc),
+        },
+        fore: ForeRows::new(alloc),
+        joined: 0,
+        called: 0,
+        head: Track {
+            cylinder: 0,
+            head: 0,
+        },
+        now: 0,
+    })
+}
+
+// One decision: a request is served, or the head stays until the next instant or the end. Tells whether another one follows.
+fn decide<Q: Queue, P: Planner>(
     alloc: Global,
     disk: &Disk,
     requests: &[Request],
+    calls: &Calls,
+    planner: &P,
+    until: Ns,
     queue: &mut Q,
-    store: &mut Store,
-    next: usize,
-    head: Track,
-    now: Ns,
-) -> Result<Decision, NoMemory>
-    requires trace { IsTraceOf disk.now requests.now }
-    requires waiting { IsWaiting disk.now requests.now now next (Q.joined queue.old) (Q.pending queue.old) }
-    requires some { 0 < length (left requests.now next (Q.pending queue.old)) }
-    requires head { IsTrackOf disk.now.map head }
-    requires now { now ≤ 9 * 10 ^ 18 - 10 ^ 15 }
-    ensures next { IfOk result (λ decision. (n : ℕ) → plain (suc n) disk.now Q.key head now (left requests.now next (Q.pending queue.old))
-        ≡ service disk.now head decision.row.start decision.row.request ∷ plain n disk.now Q.key decision.head decision.row.finish (left requests.now decision.next (Q.pending queue.new))) }
-    ensures row { IfOk result (λ decision. IsRowOf store.old (service disk.now head decision.row.start decision.row.request) decision.row) }
-    ensures leaves { IfOk result (λ decision. (lbn : ℕ) → content_in store.new lbn ≡ left_by decision.row.request lbn (content_in store.old lbn)) }
-    ensures each { IfOk result (λ decision. AllByRecursion (λ passage. passage.begin < passage.end)
-        (passages disk.now head decision.row.start decision.row.request.write decision.row.request.lbn decision.row.request.count)) }
-    ensures from { IfOk result (λ decision. now ≤ decision.row.start) }
-    ensures later { IfOk result (λ decision. decision.row.start < decision.row.finish) }
-    ensures waiting { IfOk result (λ decision. IsWaiting disk.now requests.now decision.row.finish decision.next (Q.joined queue.new) (Q.pending queue.new)) }
-    ensures count { IfOk result (λ decision. length (left requests.now decision.next (Q.pending queue.new)) + 1 ≡ length (left requests.now next (Q.pending queue.old))) }
-    ensures head { IfOk result (λ decision. IsTrackOf disk.now.map decision.head) }
-    ensures ranges { IfOk result (λ decision. HasRanges decision.row) }
-    ensures soon { IfOk result (λ decision. decision.row.finish ≤ max now (10 ^ 15) + 2048 * (4 * 10 ^ 9)) }
+    course: &mut Course,
+) -> Result<bool, NoMemory>
+    requires list { IsTraceOf disk.now requests.now }
+    requires script { IsScriptOf disk.now.map calls.now.calls.items }
+    requires waiting { IsWaiting disk.now requests.now course.old.now course.old.joined (Q.joined queue.old) (Q.pending queue.old) }
+    requires come { AllByRecursion (λ r. r.arrival ≤ course.old.now) (take course.old.joined requests.now) }
+    requires head { IsTrackOf disk.now.map course.old.head }
+    requires now { course.old.now ≤ 9 * 10 ^ 18 - 10 ^ 15 }
+    requires called { (past : Past) × IsCalled disk.now.map calls.now.calls.items past course.old.called × Tells disk.now.map past course.old.background.sessions course.old.background.wanted }
+    ensures decided { IfOk result (λ goes_on. (past : Past) → IsCalled disk.now.map calls.now.calls.items past course.old.called
+        → Tells disk.now.map past course.old.background.sessions course.old.background.wanted
+        → HasDecided disk.now requests.now calls.now.calls.items Q.key until past course.old (Q.pending queue.old) goes_on course.new (Q.pending queue.new)) }
+    ensures waiting { IfOk result (λ goes_on. goes_on ≡ true → IsWaiting disk.now requests.now course.new.now course.new.joined (Q.joined queue.new) (Q.pending queue.new)) }
 {
-    let start = start(requests, queue, next, now);
-    let next = join_arrived(requests, queue, next, start)?;
-    let request = queue.take(disk, head, start);
-    let serving = serve_request(alloc, disk, store, head, start, request)?;
-    Ok(Decision {
-        row: serving.row,
-        next,
-        head: serving.head,
-    })
+    let now = course.now;
+    course.called = course.background.settle(disk, calls, course.called, now)?;
+    course.joined = join_arrived(requests, queue, course.joined, now)?;
+    if !queue.is_empty() {
+        serve_next(alloc, disk, planner, queue, course)?;
+        return Ok(true);
+    }
+    match next_instant(requests, calls, course.joined, course.called) {
+        Some(instant) => {
+            stay_until(alloc, disk, course, instant)?;
+            Ok(true)
+        }
+        None => {
+            if now < until {
+                stay_until(alloc, disk, course, until)?;
+            }
+            Ok(false)
+        }
+    }
+}
+
+// The first instant to come at which a request arrives or a call takes effect.
+fn next_instant(requests: &[Request], calls: &Calls, joined: usize, called: usize) -> Option<Ns>
+    ensures { result ≡ next_of (slice_get requests.now joined) (slice_get calls.now.calls.items called) }
+{
+    match (requests.get(joined), calls.calls.get(called)) {
+        (Some(request), Some(call)) => Some(request.arrival.min(call.instant)),
+        (Some(request), None) => Some(request.arrival),
+        (None, Some(call)) => Some(call.instant),
+        (None, None) => None,
+    }
+}
+
+// Serves the request that the queue takes.
+fn serve_next<Q: Queue, P: Planner>(
+    alloc: Global,
+    disk: &Disk,
+    planner: &P,
+    queue: &mut Q,
+    course: &mut Course,
+) -> Result<(), NoMemory>
+    requires some { 0 < length (Q.pending queue.old) }
+    requires on_disk { AllByRecursion (IsRequestOf disk.now.map) (Q.pending queue.old) }
+    requires head { IsTrackOf disk.now.map course.old.head }
+    requires now { course.old.now ≤ 9 * 10 ^ 18 - 10 ^ 15 }
+    requires current { (past : Past) × IsCurrent disk.now.map past course.old.background }
+    ensures served { OnOk result ((request : Request) × (first_least (Q.key disk.now course.old.head course.old.now) (Q.pending queue.old) ≡ Some (request, Q.pending queue.new))
+        × HasServedNext disk.now request course.old course.new) }
+    ensures counted { OnOk result (Q.joined queue.new ≡ Q.joined queue.old) }
+{
+    let request = queue.take(disk, course.head, course.now);
+    let serving = serve_request(
+        alloc,
+        disk,
+        planner,
+        &mut course.store,
+        &mut course.background,
+        course.head,
+        course.now,
+        request,
+    )?;
+    course.head = serving.head;
+    course.now = serving.row.finish;
+    course.fore.push(serving.row)?;
+    Ok(())
+}
+
+// Stays on the track until an instant.
+fn stay_until(alloc: Global, disk: &Disk, course: &mut Course, instant: Ns) -> Result<(), NoMemory>
+    requires current { (past : Past) × IsCurrent disk.now.map past course.old.background }
+    requires early { course.old.now ≤ 9 * 10 ^ 18 }
+    ensures { OnOk result (HasStayed disk.now instant course.old course.new) }
+{
+    let dwell = Dwell {
+        track: course.head,
+        begin: course.now,
+        end: instant,
+    };
+    course.background.idle(alloc, disk, &course.store, dwell)?;
+    course.now = instant;
+    Ok(())
 }

@@ -1,27 +1,10 @@
 // Requests that join the queue.
-ghost use Rattle.std.specs.Prelude.{◌≡◌, ◌<◌, ◌≤◌, ◌^◌, length, IfOk, IfSome, OnOk, slice_get};
+ghost use Rattle.std.specs.Prelude.{◌≡◌, ◌<◌, ◌≤◌, ◌^◌, length, take, IfOk, IfSome, OnOk, slice_get};
 ghost use Rattle.std.specs.List.{AllByRecursion};
-ghost use Rattle.fb_model.specs.PlainReplay.{start_of};
-ghost use Rattle.fb_engine.specs.Waiting.{left, IsInOrder};
+ghost use Rattle.fb_engine.specs.Waiting.{left};
 
 use fb_queue::Queue;
 use fb_units::{NoMemory, Ns, Request};
-
-// When the next request starts: now, or where none waits when the next one arrives.
-pub fn start<Q: Queue>(requests: &[Request], queue: &Q, next: usize, now: Ns) -> Ns
-    requires order { IsInOrder requests.now }
-    requires within { next ≤ length requests.now }
-    requires some { 0 < length (left requests.now next (Q.pending queue.now)) }
-    requires arrived { AllByRecursion (λ r. r.arrival ≤ now) (Q.pending queue.now) }
-    ensures value { result ≡ start_of now (left requests.now next (Q.pending queue.now)) }
-    ensures later { now ≤ result }
-{
-    if queue.is_empty() {
-        requests[next].arrival.max(now)
-    } else {
-        now
-    }
-}
 
 // Adds the requests that have arrived, and answers how many have joined then.
 pub fn join_arrived<Q: Queue>(
@@ -34,10 +17,12 @@ pub fn join_arrived<Q: Queue>(
     requires few { length requests.now ≤ 10 ^ 6 }
     requires joined { Q.joined queue.old ≡ next }
     requires arrived { AllByRecursion (λ r. r.arrival ≤ now) (Q.pending queue.old) }
+    requires come { AllByRecursion (λ r. r.arrival ≤ now) (take next requests.now) }
     ensures within { IfOk result (λ later. later ≤ length requests.now) }
     ensures joined { IfOk result (λ later. Q.joined queue.new ≡ later) }
     ensures left { IfOk result (λ later. left requests.now later (Q.pending queue.new) ≡ left requests.now next (Q.pending queue.old)) }
     ensures arrived { OnOk result (AllByRecursion (λ r. r.arrival ≤ now) (Q.pending queue.new)) }
+    ensures come { IfOk result (λ later. AllByRecursion (λ r. r.arrival ≤ now) (take later requests.now)) }
     ensures ahead { IfOk result (λ later. IfSome (slice_get requests.now later) (λ r. now < r.arrival)) }
 {
     let mut next = next;

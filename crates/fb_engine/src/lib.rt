@@ -1,12 +1,17 @@
 //! The replay, decision by decision.
 //!
-//! `replay` gives the run of a trace: its foreground rows are those of the plain replay, for every
-//! queue that meets its law. The queue decides by nothing but its key, and what stands between two
-//! decisions is what has joined and what is still to come.
+//! `replay` gives the full run of a trace and a call script: the foreground of the plain replay, and beside it the
+//! background with the best plan in every gap. It holds for every queue and every planner that meet their laws; nothing
+//! else of them is used.
 #![tactic(auto)]
 
+mod background;
 mod engine;
+mod foreground;
 mod joining;
+mod riding;
 mod serving;
+mod settling;
+mod timing;
 
 pub use engine::replay;

@@ -6,16 +6,20 @@ use Rattle.fb_params.specs.declared.fault.ParamsFault.{ParamsFault}
 use Rattle.fb_params.specs.Reading.{params_of}
 use Rattle.fb_trace.specs.declared.trace.TraceFault.{TraceFault}
 use Rattle.fb_trace.specs.Reading.{trace_of}
+use Rattle.fb_calls.specs.declared.fault.CallsFault.{CallsFault}
+use Rattle.fb_calls.specs.Reading.{calls_of}
 use Rattle.fb_desk.specs.View.{DeskView}
+use Rattle.fb_desk.specs.declared.desk.Input.{Input}
 use Rattle.fb_desk.specs.declared.desk.Input.TheVariants.{Params, Trace, Calls}
 use Rattle.fb_desk.specs.declared.desk.Output.TheVariants.{Fore, Back, Note, MadeTrace, MadeCalls}
-use Rattle.fb_desk.specs.Calls.{Rose}
 use Rattle.fb_words.specs.Command.{Terms, ReplayTerms, MakeTerms, replays, makes}
 use Rattle.fb_words.specs.declared.fault.UsageFault.{UsageFault}
 use Rattle.fb_top.specs.declared.outcome.Outcome.{Outcome}
 use Rattle.fb_top.specs.declared.outcome.Outcome.TheVariants as outcomes
-use Rattle.fb_top.specs.Read.{RefusesDisk}
-use Rattle.fb_top.specs.Causes.{HasCause, RefusesInTurn}
+use Rattle.fb_top.specs.Read.{RefusesDisk, ReadsCalls, ReadsScript}
+use Rattle.fb_top.specs.Streams.{IsLonger}
+use Rattle.fb_top.specs.Done.{IsCutShort}
+use Rattle.fb_top.specs.Causes.{AcceptsDisk, AcceptsTrace, HasCause, IsTooLong, RefusesTraceInTurn, RefusesCallsInTurn}
 use Rattle.fb_top.specs.Answers.{AnswersWords}
 use Rattle.fb_top.specs.Make.{MakeHasCause, MakeGoesWell, MakesAll}
 use Rattle.fb_top.specs.Complete.{GoesWell, IsMade, IsComplete}
@@ -28,49 +32,106 @@ same_bytes None one two is one_is two_is = cc
 not_both : {A E : Type 0} (verdict : Result A E) (a : A) (e : E) → verdict ≡ Ok a → verdict ≡ Err e → ⊥
 not_both verdict a e ok err = cc
 
+same_name : (one two : List ℕ) → ◌≡◌ {A = Option (List ℕ)} (Some one) (Some two) → one ≡ two
+same_name one two e = cc
+
 not_longer : (told : Option (List ℕ)) (bytes : List ℕ) (limit : ℕ) → is_some told ≡ true → IfSome told (λ held. bytes ≡ held) → length bytes ≤ limit → IfSome told (λ held. limit < length held) → ⊥
 not_longer (Some held) bytes limit is same within longer =
     let few : length held ≤ limit = subst (λ (x : List ℕ). length x ≤ limit) same within in absurd (omega arith)
 not_longer None bytes limit is same within longer = cc
 
--- an accepted parameter file is not refused
-disk_once : (old new : DeskView) (terms : ReplayTerms) (fault : ParamsFault) → GoesWell old new terms → RefusesDisk old terms.params fault → ⊥
-disk_once old new terms fault well refuses =
-    let reads = well.accepts.reads_disk in
-    not_both (params_of reads.bytes) _ fault reads.spells
-    (ap params_of (same_bytes (old.held terms.params) reads.bytes refuses.bytes well.params_told reads.held refuses.held) ∙ refuses.spells)
-
 same_ok : {A E : Type 0} (verdict : Result A E) (a b : A) → verdict ≡ Ok a → verdict ≡ Ok b → a ≡ b
 same_ok verdict a b e f = cc
 
--- nor is an accepted trace
-trace_once : (old new : DeskView) (terms : ReplayTerms) (fault : TraceFault) → GoesWell old new terms → RefusesInTurn old terms fault → ⊥
-trace_once old new terms fault well turn =
-    let reads = well.accepts.reads_disk in
-    let other = turn.reads_disk in
-    let trace = well.accepts.reads_trace in
-    let refuses = turn.refuses in
-    let same = same_ok (params_of reads.bytes) _ _ reads.spells
-    (ap params_of (same_bytes (old.held terms.params) reads.bytes other.bytes well.params_told reads.held other.held) ∙ other.spells) in
-    not_both (trace_of terms.device (length (places well.accepts.disk.map)) trace.bytes) _ fault trace.spells
-    (ap (λ p. trace_of terms.device (length (places p.outline)) trace.bytes) same
-    ∙ ap (trace_of terms.device (length (places turn.disk.map))) (same_bytes (old.held terms.trace) trace.bytes refuses.bytes well.trace_told trace.held refuses.held)
-    ∙ refuses.spells)
+-- what is accepted is not refused
+module _ (old new : DeskView) (terms : ReplayTerms) (well : GoesWell old new terms) where
+  disk_once : (fault : ParamsFault) → RefusesDisk old terms.params fault → ⊥
+  disk_once fault refuses =
+      let reads = well.accepts.disk in
+      not_both (params_of reads.bytes) _ fault reads.spells
+      (ap params_of (same_bytes (old.held terms.params) reads.bytes refuses.bytes well.params_told reads.held refuses.held) ∙ refuses.spells)
 
-made : (old new : DeskView) (terms : ReplayTerms) (outcome : Outcome) → HasCause terms old new outcome → GoesWell old new terms → IsMade outcome
-made old new terms (outcomes.Done run) cause well = tt
-made old new terms (outcomes.Made n) cause well = absurd cause
-made old new terms (outcomes.Usage fault) cause well = absurd (let built = well.built in let unbuilt = cause.0.unbuilt in cc)
-made old new terms (outcomes.Params fault) cause well = disk_once old new terms fault well cause.0
-made old new terms (outcomes.Trace fault) cause well = trace_once old new terms fault well cause.0
-made old new terms (outcomes.TooLong Params) cause well =
-    not_longer (old.held terms.params) well.accepts.reads_disk.bytes (2 ^ 20) well.params_told well.accepts.reads_disk.held well.accepts.reads_disk.within cause.1
-made old new terms (outcomes.TooLong Trace) cause well =
-    not_longer (old.held terms.trace) well.accepts.reads_trace.bytes (2 ^ 28) well.trace_told well.accepts.reads_trace.held well.accepts.reads_trace.within cause.1
-made old new terms (outcomes.TooLong Calls) cause well = absurd cause.0
-made old new terms (outcomes.ReadFault input) cause well = well.inputs input cause.1
-made old new terms (outcomes.WriteFault output) cause well = well.fore (subst (λ o. Rose (old.outputs o).faults (new.outputs o).faults) cause.0 cause.1)
-made old new terms outcomes.NoMemory cause well = tt
+  -- the disk is read once
+  same_map : (other : AcceptsDisk old terms.params) → well.files.disk.map ≡ other.disk.map
+  same_map other =
+      let reads = well.accepts.disk in
+      let again = other.reads_disk in
+      ap (λ p. p.outline) (same_ok (params_of reads.bytes) _ _ reads.spells
+      (ap params_of (same_bytes (old.held terms.params) reads.bytes again.bytes well.params_told reads.held again.held) ∙ again.spells))
+
+  -- bytes of a trace spell the same on the same disk
+  same_trace : (other : AcceptsDisk old terms.params) (bytes : List ℕ) → IfSome (old.held terms.trace) (λ held. bytes ≡ held)
+      → trace_of terms.device (length (places well.files.disk.map)) well.accepts.trace.bytes ≡ trace_of terms.device (length (places other.disk.map)) bytes
+  same_trace other bytes held =
+      let trace = well.accepts.trace in
+      ap (λ map. trace_of terms.device (length (places map)) trace.bytes) (same_map other)
+      ∙ ap (trace_of terms.device (length (places other.disk.map))) (same_bytes (old.held terms.trace) trace.bytes bytes well.trace_told trace.held held)
+
+  trace_once : (fault : TraceFault) → RefusesTraceInTurn old terms fault → ⊥
+  trace_once fault turn =
+      not_both (trace_of terms.device (length (places well.files.disk.map)) well.accepts.trace.bytes) _ fault well.accepts.trace.spells
+      (same_trace turn.before turn.refuses.bytes turn.refuses.held ∙ turn.refuses.spells)
+
+  same_requests : (other : AcceptsTrace old terms) → well.files.trace ≡ other.trace
+  same_requests other =
+      same_ok (trace_of terms.device (length (places well.files.disk.map)) well.accepts.trace.bytes) _ _ well.accepts.trace.spells
+      (same_trace other.params other.reads_trace.bytes other.reads_trace.held ∙ other.reads_trace.spells)
+
+  -- the script under the name that is given
+  script_under : (name : List ℕ) → terms.calls ≡ Some name → ReadsCalls old name well.files.disk (length well.files.trace.requests) well.files.script
+  script_under name given =
+      subst (λ (told : Option (List ℕ)). ReadsScript old told well.files.disk (length well.files.trace.requests) well.files.script) given well.accepts.script
+
+  told_under : (name : List ℕ) → terms.calls ≡ Some name → is_some (old.held name) ≡ true
+  told_under name given = subst (λ (told : Option (List ℕ)). IfSome told (λ n. is_some (old.held n) ≡ true)) given well.calls_told
+
+  calls_once : (fault : CallsFault) → RefusesCallsInTurn old terms fault → ⊥
+  calls_once fault turn =
+      let reads = script_under turn.name turn.given in
+      not_both (calls_of well.files.disk.map (length well.files.trace.requests) reads.bytes) _ fault reads.spells
+      (ap (λ map. calls_of map (length well.files.trace.requests) reads.bytes) (same_map turn.before.params)
+      ∙ ap (λ trace. calls_of turn.before.params.disk.map (length trace.requests) reads.bytes) (same_requests turn.before)
+      ∙ ap (calls_of turn.before.params.disk.map (length turn.before.trace.requests))
+      (same_bytes (old.held turn.name) reads.bytes turn.refuses.bytes (told_under turn.name turn.given) reads.held turn.refuses.held)
+      ∙ turn.refuses.spells)
+
+  not_too_long : (input : Input) → IsTooLong old terms input → ⊥
+  not_too_long Params long =
+      not_longer (old.held terms.params) well.accepts.disk.bytes (2 ^ 20) well.params_told well.accepts.disk.held well.accepts.disk.within
+      (subst (λ (name : List ℕ). IsLonger old name (2 ^ 20)) (sym (same_name terms.params long.name long.given)) long.longer)
+  not_too_long Trace long =
+      not_longer (old.held terms.trace) well.accepts.trace.bytes (2 ^ 28) well.trace_told well.accepts.trace.held well.accepts.trace.within
+      (subst (λ (name : List ℕ). IsLonger old name (2 ^ 28)) (sym (same_name terms.trace long.name long.given)) long.longer)
+  not_too_long Calls long =
+      let reads = script_under long.name long.given in not_longer (old.held long.name) reads.bytes (2 ^ 26) (told_under long.name long.given) reads.held reads.within long.longer
+
+  not_cut_short : (outcome : Outcome) → IsCutShort old new terms outcome → IsMade outcome
+  not_cut_short (outcomes.WriteFault Fore) cut = absurd (well.fore cut.stops.0)
+  not_cut_short (outcomes.WriteFault Back) cut = absurd (well.back cut.stops.0)
+  not_cut_short (outcomes.WriteFault Note) cut = absurd cut.stops
+  not_cut_short (outcomes.WriteFault MadeTrace) cut = absurd cut.stops
+  not_cut_short (outcomes.WriteFault MadeCalls) cut = absurd cut.stops
+  not_cut_short outcomes.NoMemory cut = tt
+  not_cut_short (outcomes.Done run) cut = tt
+  not_cut_short (outcomes.Made n) cut = absurd cut.stops
+  not_cut_short (outcomes.Usage fault) cut = absurd cut.stops
+  not_cut_short (outcomes.Params fault) cut = absurd cut.stops
+  not_cut_short (outcomes.Trace fault) cut = absurd cut.stops
+  not_cut_short (outcomes.Calls fault) cut = absurd cut.stops
+  not_cut_short (outcomes.TooLong input) cut = absurd cut.stops
+  not_cut_short (outcomes.ReadFault input) cut = absurd cut.stops
+
+  made : (outcome : Outcome) → HasCause terms old new outcome → IsMade outcome
+  made (outcomes.Done run) cause = tt
+  made (outcomes.Made n) cause = absurd cause
+  made (outcomes.Usage fault) cause = absurd cause
+  made (outcomes.Params fault) cause = absurd (disk_once fault cause.0)
+  made (outcomes.Trace fault) cause = absurd (trace_once fault cause.0)
+  made (outcomes.Calls fault) cause = absurd (calls_once fault cause.0)
+  made (outcomes.TooLong input) cause = absurd (not_too_long input cause.0)
+  made (outcomes.ReadFault input) cause = absurd (well.inputs input cause.0.rose)
+  made (outcomes.WriteFault output) cause = not_cut_short (outcomes.WriteFault output) cause
+  made outcomes.NoMemory cause = tt
 
 -- nor is a make's parameter file refused
 make_disk_once : (old new : DeskView) (terms : MakeTerms) (fault : ParamsFault) → MakeGoesWell old new terms → RefusesDisk old terms.params fault → ⊥
@@ -85,6 +146,7 @@ made_texts old new terms (outcomes.Done run) cause well = absurd cause
 made_texts old new terms (outcomes.Usage fault) cause well = absurd cause
 made_texts old new terms (outcomes.Params fault) cause well = make_disk_once old new terms fault well cause.0
 made_texts old new terms (outcomes.Trace fault) cause well = absurd cause
+made_texts old new terms (outcomes.Calls fault) cause well = absurd cause
 made_texts old new terms (outcomes.TooLong Params) cause well =
     not_longer (old.held terms.params) well.makes.reads_disk.bytes (2 ^ 20) well.params_told well.makes.reads_disk.held well.makes.reads_disk.within cause.0
 made_texts old new terms (outcomes.TooLong Trace) cause well = absurd cause
@@ -101,6 +163,6 @@ made_texts old new terms outcomes.NoMemory cause well = tt
 
 -- an answer with its cause is complete
 pub complete : (reading : Result Terms UsageFault) (old new : DeskView) (outcome : Outcome) → AnswersWords reading old new outcome → IsComplete reading old new outcome
-complete (Ok (replays terms)) old new outcome cause = made old new terms outcome cause
+complete (Ok (replays terms)) old new outcome cause = λ well. made old new terms well outcome cause
 complete (Ok (makes terms)) old new outcome cause = made_texts old new terms outcome cause
 complete (Err fault) old new outcome cause = tt

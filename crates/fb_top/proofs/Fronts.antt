@@ -1,15 +1,12 @@
 -- Texts written line by line.
 use Rattle.std.proofs.Common.{◌≡◌, ℕ, ◌+◌, ◌≤◌, List, [], ◌∷◌, ◌++◌, length, take, drop, sym, ap, ◌∙◌, arith, append_assoc, append-nil, Option, Some, None, subst}
-use Rattle.std.specs.Prelude.{IfSome, slice_get, codes}
-use Rattle.std.specs.List.{flat_map}
+use Rattle.std.specs.Prelude.{IfSome, slice_get}
 use Rattle.std.proofs.lemmas.List.{take_more, drop_more, take_all, take-append-drop}
 use Rattle.std.proofs.lemmas.List.Concat.{flat_map-append}
 use Rattle.std.proofs.lemmas.Option.{slice_get_within, get_or_from_slice_get}
 use Rattle.fb_desk.specs.Calls.{behind, Rose}
 use Rattle.fb_top.specs.Streams.{IsFront, AppendsFront}
-
-abbrev pub joined : List (List ℕ) → List ℕ
-joined lines = flat_map (λ line. line) lines
+use Rattle.fb_top.specs.Written.{joined}
 
 -- the lines up to a place
 abbrev pub HoldsLines : Option (List ℕ) → List (List ℕ) → ℕ → Type 0
@@ -68,5 +65,15 @@ holds_none (Some bytes) lines h = h
 pub rose_later : (old now new : ℕ) → old ≤ now → Rose now new → Rose old new
 rose_later old now new le rose = omega arith
 
-pub same_name : (old new : Option (List ℕ)) → new ≡ old → IfSome old (λ name. name ≡ codes "-") → IfSome new (λ name. name ≡ codes "-")
-same_name old new e h = subst (λ (o : Option (List ℕ)). IfSome o (λ name. name ≡ codes "-")) (sym e) h
+-- a name that stays
+pub same_name : (name : List ℕ) (old new : Option (List ℕ)) → new ≡ old → IfSome old (λ told. told ≡ name) → IfSome new (λ told. told ≡ name)
+same_name name old new same h = subst (λ (told : Option (List ℕ)). IfSome told (λ it. it ≡ name)) (sym same) h
+
+-- a text of which nothing was written, or a part
+pub nothing_yet : (now : Option (List ℕ)) (text : List ℕ) → IfSome now (λ bytes. bytes ≡ []) → IfSome now (λ bytes. IsFront bytes text)
+nothing_yet None text empty = tt
+nothing_yet (Some bytes) text empty = (text, ap (λ front. front ++ text) empty)
+
+pub cut_text : (old new : Option (List ℕ)) (bytes text : List ℕ) → IfSome old (λ held. held ≡ []) → bytes ≡ text → AppendsFront old new bytes → IfSome new (λ held. IsFront held text)
+cut_text None new bytes text empty is front = rw front.2 tt
+cut_text (Some held) new bytes text empty is front = rw front.2 (drop front.0 bytes, ap (λ xs. (xs ++ take front.0 bytes) ++ drop front.0 bytes) empty ∙ take-append-drop front.0 bytes ∙ is)

@@ -1,6 +1,6 @@
--- What stopped a later step, told of the desk at the start.
-use Rattle.std.proofs.Common.{◌≡◌, ◌≢◌, ℕ, ◌<◌, ◌≤◌, ◌^◌, List, [], ◌∷◌, length, Option, subst, refl, sym, ◌∙◌, inl, inr, arith, Bool, false}
-use Rattle.std.specs.Prelude.{IfSome}
+-- What was read or written later, told of the desk at the start.
+use Rattle.std.proofs.Common.{◌≡◌, ◌≢◌, ℕ, ◌<◌, ◌≤◌, ◌^◌, List, [], ◌∷◌, length, Option, Some, None, true, refl, subst, ◌∙◌, inl, inr, arith}
+use Rattle.std.specs.Prelude.{IfSome, is_some}
 use Rattle.std.specs.List.{AllByRecursion}
 use Rattle.fb_units.specs.declared.types.Request.{Request}
 use Rattle.fb_geometry.specs.Places.{places}
@@ -8,106 +8,189 @@ use Rattle.fb_service.specs.declared.disk.Disk.{Disk}
 use Rattle.fb_rows.specs.declared.run.Run.{Run}
 use Rattle.fb_trace.specs.Reading.{Accepted}
 use Rattle.fb_trace.specs.Servable.{IsServable, IsTraceOf}
+use Rattle.fb_calls.specs.Allowed.{IsScript}
+use Rattle.fb_calls.specs.Reading.{Accepted as Script}
 use Rattle.fb_model.specs.Accepted.{IsAccepted, IsRequestOf}
 use Rattle.fb_model.specs.PlainReplay.{Key}
-use Rattle.fb_desk.specs.Calls.{Rose, ChangesInput, ChangesOutput}
-use Rattle.fb_desk.specs.View.{DeskView, InputView, OutputView}
+use Rattle.fb_desk.specs.Calls.{Rose, ChangesInput}
+use Rattle.fb_desk.specs.View.{DeskView, InputView}
 use Rattle.fb_desk.specs.declared.desk.Input.TheVariants.{Params, Trace, Calls}
-use Rattle.fb_desk.specs.declared.desk.Output.TheVariants.{Fore, Back, Note, MadeTrace, MadeCalls}
 use Rattle.fb_words.specs.Command.{ReplayTerms}
 use Rattle.fb_top.specs.declared.outcome.Outcome.{Outcome}
 use Rattle.fb_top.specs.declared.outcome.Outcome.TheVariants as outcomes
-use Rattle.fb_top.specs.Read.{ReadsDisk, ReadsTrace, Accepts}
-use Rattle.fb_words.specs.declared.fault.UsageFault.{UsageFault}
-use Rattle.fb_top.specs.Built.{is_built, not_yet}
-use Rattle.fb_top.specs.Done.{IsRunOf, KeepsOthers, text_of}
-use Rattle.fb_top.specs.Causes.{HasCause, StopsTrace, StopsFore, KeepsReports}
+use Rattle.fb_top.specs.Read.{ReadsDisk, ReadsTrace, ReadsCalls, ReadsScript, Files, inputs_of}
+use Rattle.fb_top.specs.Written.{KeepsReports}
+use Rattle.fb_top.specs.Done.{IsRunOf, StopsReports}
+use Rattle.fb_top.specs.Causes.{AcceptsDisk, AcceptsTrace, EndsAt, HasCause, StopsDisk, StopsTrace, StopsCalls, StopsScript}
+use Rattle.fb_top.proofs.Moved.{stops_reports}
 
-other_input : Trace ≢ Params
-other_input e = cc
+trace_is_no_params : Trace ≢ Params
+trace_is_no_params e = cc
 
-keeps : (old mid new : DeskView) → ChangesInput Params old mid → ChangesInput Trace mid new → KeepsReports old new
-keeps old mid new first second = λ output other. second.outputs output ∙ first.outputs output
+calls_are_no_params : Calls ≢ Params
+calls_are_no_params e = cc
+
+calls_are_no_trace : Calls ≢ Trace
+calls_are_no_trace e = cc
+
+ends_at_params : (old new : DeskView) → ChangesInput Params old new → EndsAt Params old new
+ends_at_params old new only = record { later = (only.inputs Trace trace_is_no_params, only.inputs Calls calls_are_no_params); reports = λ output no_note. only.outputs output }
+
+ends_at_trace : (old mid new : DeskView) → ChangesInput Params old mid → ChangesInput Trace mid new → EndsAt Trace old new
+ends_at_trace old mid new first second =
+    record { later = second.inputs Calls calls_are_no_trace ∙ first.inputs Calls calls_are_no_params; reports = λ output no_note. second.outputs output ∙ first.outputs output }
+
+ends_at_calls : (old mid late new : DeskView) → ChangesInput Params old mid → ChangesInput Trace mid late → ChangesInput Calls late new → EndsAt Calls old new
+ends_at_calls old mid late new first second third = record { later = tt; reports = λ output no_note. third.outputs output ∙ second.outputs output ∙ first.outputs output }
 
 -- the trace is held before as it is held after the parameter file was read
-pub reads_before : (old mid : DeskView) (name : List ℕ) (device : ℕ) (disk : Disk) (trace : Accepted) → ChangesInput Params old mid → ReadsTrace mid name device disk trace → ReadsTrace old name device disk trace
-reads_before old mid name device disk trace only reads = record {
+pub trace_before : (old mid : DeskView) (name : List ℕ) (device : ℕ) (disk : Disk) (trace : Accepted) → ChangesInput Params old mid → ReadsTrace mid name device disk trace → ReadsTrace old name device disk trace
+trace_before old mid name device disk trace only reads = record {
   bytes = reads.bytes;
-  held = subst (λ (o : Option (List ℕ)). IfSome o (λ held. reads.bytes ≡ held)) (only.held name) reads.held;
+  held = subst (λ (told : Option (List ℕ)). IfSome told (λ held. reads.bytes ≡ held)) (only.held name) reads.held;
   within = reads.within;
   spells = reads.spells;
 }
 
--- what was read is accepted
-abbrev pub accepts_read : (words : ReplayTerms) (disk : Disk) (latent : List ℕ) (trace : Accepted) (old mid : DeskView) (params_name trace_name : List ℕ) → params_name ≡ words.params → trace_name ≡ words.trace
-    → ReadsDisk old params_name disk latent → ChangesInput Params old mid → ReadsTrace mid trace_name words.device disk trace → Accepts old words
-accepts_read words disk latent trace old mid params_name trace_name same_params same_trace reads only reads_trace = record {
-  disk = disk;
-  latent = latent;
-  trace = trace;
-  reads_disk = subst (λ (name : List ℕ). ReadsDisk old name disk latent) same_params reads;
-  reads_trace = reads_before old mid words.trace words.device disk trace only (subst (λ (name : List ℕ). ReadsTrace mid name words.device disk trace) same_trace reads_trace);
+-- and the script as after both
+pub script_before : (old mid late : DeskView) (given : Option (List ℕ)) (disk : Disk) (traced : ℕ) (script : Script) → ChangesInput Params old mid → ChangesInput Trace mid late
+    → ReadsScript late given disk traced script → ReadsScript old given disk traced script
+script_before old mid late None disk traced script first second reads = reads
+script_before old mid late (Some name) disk traced script first second reads = record {
+  bytes = reads.bytes;
+  held = subst (λ (told : Option (List ℕ)). IfSome told (λ held. reads.bytes ≡ held)) (second.held name ∙ first.held name) reads.held;
+  within = reads.within;
+  spells = reads.spells;
 }
 
--- what isn't built is told when all was read
-pub unbuilt_read : (words : ReplayTerms) (old mid new : DeskView) (fault : UsageFault) (built : Bool) → Accepts old words → built ≡ is_built words → built ≡ false → fault ≡ not_yet
-    → ChangesInput Params old mid → ChangesInput Trace mid new → HasCause words old new (outcomes.Usage fault)
-unbuilt_read words old mid new fault built accepts same unbuilt is first second =
-    (record { accepts = accepts; unbuilt = sym same ∙ unbuilt; told = is }, keeps old mid new first second)
+-- why the parameter file was not read
+pub at_params : (words : ReplayTerms) (old new : DeskView) (outcome : Outcome) → ChangesInput Params old new → StopsDisk words.params old new outcome → HasCause words old new outcome
+at_params words old new (outcomes.Params fault) only h = (h, ends_at_params old new only)
+at_params words old new (outcomes.TooLong Params) only h = (record { before = tt; name = words.params; given = refl; longer = h }, ends_at_params old new only)
+at_params words old new (outcomes.ReadFault Params) only h = (record { before = tt; given = refl; rose = h }, ends_at_params old new only)
+at_params words old new outcomes.NoMemory only h = inl (λ output no_note. only.outputs output)
+at_params words old new (outcomes.Done run) only h = absurd h
+at_params words old new (outcomes.Made n) only h = absurd h
+at_params words old new (outcomes.Usage fault) only h = absurd h
+at_params words old new (outcomes.Trace fault) only h = absurd h
+at_params words old new (outcomes.Calls fault) only h = absurd h
+at_params words old new (outcomes.TooLong Trace) only h = absurd h
+at_params words old new (outcomes.TooLong Calls) only h = absurd h
+at_params words old new (outcomes.ReadFault Trace) only h = absurd h
+at_params words old new (outcomes.ReadFault Calls) only h = absurd h
+at_params words old new (outcomes.WriteFault output) only h = absurd h
 
 -- why the trace was not read
-pub after_disk : (words : ReplayTerms) (disk : Disk) (latent : List ℕ) (old mid new : DeskView) (outcome : Outcome) → ReadsDisk old words.params disk latent
-    → ChangesInput Params old mid → ChangesInput Trace mid new → StopsTrace words.trace words.device disk mid new outcome → HasCause words old new outcome
-after_disk words disk latent old mid new (outcomes.Done run) reads first second h = absurd h
-after_disk words disk latent old mid new (outcomes.Made n) reads first second h = absurd h
-after_disk words disk latent old mid new (outcomes.Usage fault) reads first second h = absurd h
-after_disk words disk latent old mid new (outcomes.Params fault) reads first second h = absurd h
-after_disk words disk latent old mid new (outcomes.Trace fault) reads first second h = (
+pub at_trace : (words : ReplayTerms) (old mid new : DeskView) (outcome : Outcome) (before : AcceptsDisk old words.params) → ChangesInput Params old mid → ChangesInput Trace mid new
+    → StopsTrace words.trace words.device before.disk mid new outcome → HasCause words old new outcome
+at_trace words old mid new (outcomes.Trace fault) before first second h = (
   record {
-    disk = disk;
-    latent = latent;
-    reads_disk = reads;
+    before = before;
     refuses = record {
       bytes = h.bytes;
-      held = subst (λ (o : Option (List ℕ)). IfSome o (λ held. h.bytes ≡ held)) (first.held words.trace) h.held;
+      held = subst (λ (told : Option (List ℕ)). IfSome told (λ held. h.bytes ≡ held)) (first.held words.trace) h.held;
       within = h.within;
       spells = h.spells;
     };
   },
-  keeps old mid new first second,
+  ends_at_trace old mid new first second,
 )
-after_disk words disk latent old mid new (outcomes.TooLong Params) reads first second h = absurd h
-after_disk words disk latent old mid new (outcomes.TooLong Trace) reads first second h =
-    (tt, subst (λ (o : Option (List ℕ)). IfSome o (λ held. 2 ^ 28 < length held)) (first.held words.trace) h, keeps old mid new first second)
-after_disk words disk latent old mid new (outcomes.TooLong Calls) reads first second h = absurd h
-after_disk words disk latent old mid new (outcomes.ReadFault Params) reads first second h = absurd h
-after_disk words disk latent old mid new (outcomes.ReadFault Trace) reads first second h =
-    (tt, subst (λ (v : InputView). Rose v.faults (new.inputs Trace).faults) (first.inputs Trace other_input) h, keeps old mid new first second)
-after_disk words disk latent old mid new (outcomes.ReadFault Calls) reads first second h = absurd h
-after_disk words disk latent old mid new (outcomes.WriteFault output) reads first second h = absurd h
-after_disk words disk latent old mid new outcomes.NoMemory reads first second h = inl (keeps old mid new first second)
+at_trace words old mid new (outcomes.TooLong Trace) before first second h = (
+  record {
+    before = before;
+    name = words.trace;
+    given = refl;
+    longer = subst (λ (told : Option (List ℕ)). IfSome told (λ held. 2 ^ 28 < length held)) (first.held words.trace) h;
+  },
+  ends_at_trace old mid new first second,
+)
+at_trace words old mid new (outcomes.ReadFault Trace) before first second h = (
+  record { before = before; given = refl; rose = subst (λ (v : InputView). Rose v.faults (new.inputs Trace).faults) (first.inputs Trace trace_is_no_params) h },
+  ends_at_trace old mid new first second,
+)
+at_trace words old mid new outcomes.NoMemory before first second h = inl (λ output no_note. second.outputs output ∙ first.outputs output)
+at_trace words old mid new (outcomes.Done run) before first second h = absurd h
+at_trace words old mid new (outcomes.Made n) before first second h = absurd h
+at_trace words old mid new (outcomes.Usage fault) before first second h = absurd h
+at_trace words old mid new (outcomes.Params fault) before first second h = absurd h
+at_trace words old mid new (outcomes.Calls fault) before first second h = absurd h
+at_trace words old mid new (outcomes.TooLong Params) before first second h = absurd h
+at_trace words old mid new (outcomes.TooLong Calls) before first second h = absurd h
+at_trace words old mid new (outcomes.ReadFault Params) before first second h = absurd h
+at_trace words old mid new (outcomes.ReadFault Calls) before first second h = absurd h
+at_trace words old mid new (outcomes.WriteFault output) before first second h = absurd h
 
--- where inputs were read and then the foreground written, no other output has changed
-pub others_read : (old mid late new : DeskView) → ChangesInput Params old mid → ChangesInput Trace mid late → ChangesOutput Fore late new → KeepsOthers old new
-others_read old mid late new first second third = λ output not_fore not_note. third.outputs output not_fore ∙ second.outputs output ∙ first.outputs output
+has_name : (given : Option (List ℕ)) (name : List ℕ) → given ≡ Some name → is_some given ≡ true
+has_name given name e = cc
 
--- why the report was not written
-pub after_run : (words : ReplayTerms) (run : Run) (old mid new : DeskView) (outcome : Outcome) (is_run : IsRunOf old words run) → KeepsOthers old new → mid.outputs Fore ≡ old.outputs Fore
-    → StopsFore (text_of old words run is_run) mid new outcome → HasCause words old new outcome
-after_run words run old mid new (outcomes.Done other) is_run others same h = absurd h
-after_run words run old mid new (outcomes.Made n) is_run others same h = absurd h
-after_run words run old mid new (outcomes.Usage fault) is_run others same h = absurd h
-after_run words run old mid new (outcomes.Params fault) is_run others same h = absurd h
-after_run words run old mid new (outcomes.Trace fault) is_run others same h = absurd h
-after_run words run old mid new (outcomes.TooLong input) is_run others same h = absurd h
-after_run words run old mid new (outcomes.ReadFault input) is_run others same h = absurd h
-after_run words run old mid new (outcomes.WriteFault Fore) is_run others same h =
-    (refl, subst (λ (v : OutputView). Rose v.faults (new.outputs Fore).faults) same h.0, record { others = others; run = run; is_run = is_run; front = h.1 })
-after_run words run old mid new (outcomes.WriteFault Back) is_run others same h = absurd h
-after_run words run old mid new (outcomes.WriteFault Note) is_run others same h = absurd h
-after_run words run old mid new (outcomes.WriteFault MadeTrace) is_run others same h = absurd h
-after_run words run old mid new (outcomes.WriteFault MadeCalls) is_run others same h = absurd h
-after_run words run old mid new outcomes.NoMemory is_run others same h = inr (record { others = others; run = run; is_run = is_run; front = h })
+-- why the script of this name was not read
+at_calls : (words : ReplayTerms) (old mid late new : DeskView) (outcome : Outcome) (before : AcceptsTrace old words) (name : List ℕ) → words.calls ≡ Some name
+    → ChangesInput Params old mid → ChangesInput Trace mid late → ChangesInput Calls late new
+    → StopsCalls name before.params.disk (length before.trace.requests) late new outcome → HasCause words old new outcome
+at_calls words old mid late new (outcomes.Calls fault) before name given first second third h = (
+  record {
+    before = before;
+    name = name;
+    given = given;
+    refuses = record {
+      bytes = h.bytes;
+      held = subst (λ (told : Option (List ℕ)). IfSome told (λ held. h.bytes ≡ held)) (second.held name ∙ first.held name) h.held;
+      within = h.within;
+      spells = h.spells;
+    };
+  },
+  ends_at_calls old mid late new first second third,
+)
+at_calls words old mid late new (outcomes.TooLong Calls) before name given first second third h = (
+  record {
+    before = before;
+    name = name;
+    given = given;
+    longer = subst (λ (told : Option (List ℕ)). IfSome told (λ held. 2 ^ 26 < length held)) (second.held name ∙ first.held name) h;
+  },
+  ends_at_calls old mid late new first second third,
+)
+at_calls words old mid late new (outcomes.ReadFault Calls) before name given first second third h = (
+  record {
+    before = before;
+    given = has_name words.calls name given;
+    rose = subst (λ (v : InputView). Rose v.faults (new.inputs Calls).faults) (second.inputs Calls calls_are_no_trace ∙ first.inputs Calls calls_are_no_params) h;
+  },
+  ends_at_calls old mid late new first second third,
+)
+at_calls words old mid late new outcomes.NoMemory before name given first second third h = inl (λ output no_note. third.outputs output ∙ second.outputs output ∙ first.outputs output)
+at_calls words old mid late new (outcomes.Done run) before name given first second third h = absurd h
+at_calls words old mid late new (outcomes.Made n) before name given first second third h = absurd h
+at_calls words old mid late new (outcomes.Usage fault) before name given first second third h = absurd h
+at_calls words old mid late new (outcomes.Params fault) before name given first second third h = absurd h
+at_calls words old mid late new (outcomes.Trace fault) before name given first second third h = absurd h
+at_calls words old mid late new (outcomes.TooLong Params) before name given first second third h = absurd h
+at_calls words old mid late new (outcomes.TooLong Trace) before name given first second third h = absurd h
+at_calls words old mid late new (outcomes.ReadFault Params) before name given first second third h = absurd h
+at_calls words old mid late new (outcomes.ReadFault Trace) before name given first second third h = absurd h
+at_calls words old mid late new (outcomes.WriteFault output) before name given first second third h = absurd h
+
+-- why the script that is given was not read
+pub at_script : (words : ReplayTerms) (old mid late new : DeskView) (outcome : Outcome) (before : AcceptsTrace old words)
+    → ChangesInput Params old mid → ChangesInput Trace mid late → ChangesInput Calls late new
+    → StopsScript words.calls before.params.disk (length before.trace.requests) late new outcome → HasCause words old new outcome
+at_script words old mid late new outcome before first second third h = at_calls words old mid late new outcome before h.0 h.1 first second third h.2
+
+-- why the reports of a run were not written
+pub at_reports : (words : ReplayTerms) (run : Run) (old mid new : DeskView) (outcome : Outcome) (is_run : IsRunOf old words run) → KeepsReports old mid
+    → StopsReports words is_run.files run mid new outcome → HasCause words old new outcome
+at_reports words run old mid new (outcomes.WriteFault output) is_run keeps h =
+    record { run = run; is_run = is_run; stops = stops_reports old mid new new keeps (λ output no_note. refl) words is_run.files run (outcomes.WriteFault output) h }
+at_reports words run old mid new outcomes.NoMemory is_run keeps h =
+    inr (record { run = run; is_run = is_run; stops = stops_reports old mid new new keeps (λ output no_note. refl) words is_run.files run outcomes.NoMemory h })
+at_reports words run old mid new (outcomes.Done other) is_run keeps h = absurd h
+at_reports words run old mid new (outcomes.Made n) is_run keeps h = absurd h
+at_reports words run old mid new (outcomes.Usage fault) is_run keeps h = absurd h
+at_reports words run old mid new (outcomes.Params fault) is_run keeps h = absurd h
+at_reports words run old mid new (outcomes.Trace fault) is_run keeps h = absurd h
+at_reports words run old mid new (outcomes.Calls fault) is_run keeps h = absurd h
+at_reports words run old mid new (outcomes.TooLong input) is_run keeps h = absurd h
+at_reports words run old mid new (outcomes.ReadFault input) is_run keeps h = absurd h
 
 all_requests : (disk : Disk) (requests : List Request) → AllByRecursion (IsServable (length (places disk.map))) requests → AllByRecursion (IsRequestOf disk.map) requests
 all_requests disk [] all = tt
@@ -115,18 +198,18 @@ all_requests disk (request ∷ requests) all =
     (record { range = record { some = all.0.some; inside = all.0.inside }; few = all.0.few; arrival = all.0.arrival }, all_requests disk requests all.1)
 
 -- what was read can be replayed
-pub is_accepted : (disk : Disk) (latent : List ℕ) (requests : List Request) (passed_over : ℕ) (key : Key) (until : ℕ) → AllByRecursion (λ lbn. lbn < length (places disk.map)) latent
-    → IsTraceOf (length (places disk.map)) requests → until ≤ 10 ^ 15
-    → IsAccepted (record { disk = disk; latent = latent; trace = requests; passed_over = passed_over; calls = []; key = key; until = until })
-is_accepted disk latent requests passed_over key until inside trace late = record {
+pub is_accepted : (files : Files) (key : Key) (until : ℕ) → AllByRecursion (λ lbn. lbn < length (places files.disk.map)) files.latent
+    → IsTraceOf (length (places files.disk.map)) files.trace.requests → IsScript files.disk.map (length files.trace.requests) files.script.calls → until ≤ 10 ^ 15
+    → IsAccepted (inputs_of files key until)
+is_accepted files key until inside trace script late = record {
   latent = inside;
-  requests = all_requests disk requests trace.servable;
+  requests = all_requests files.disk files.trace.requests trace.servable;
   names = trace.names;
   arrivals = trace.arrivals;
-  instants = tt;
-  calls = tt;
-  few_calls = omega arith;
-  few_blocks = omega arith;
-  few_requests = omega (arith, trace.few);
+  instants = script.instants;
+  calls = script.allowed;
+  few_calls = script.few_calls;
+  few_blocks = script.few_blocks;
+  few_requests = script.few_reads trace.few;
   until = late;
 }

@@ -1,6 +1,10 @@
 pub mod Pieces
 pub mod Fronts
+pub mod Counted
+pub mod SameText
+pub mod Moved
 pub mod Later
+pub mod Reports
 pub mod Making
 pub mod Notes
 pub mod Completeness

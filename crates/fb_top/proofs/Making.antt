@@ -10,6 +10,7 @@ use Rattle.fb_geometry.specs.Shape.{Shape}
 use Rattle.fb_geometry.specs.Places.{places, zone_places, data_list}
 use Rattle.fb_geometry.specs.Sound.{IsSound}
 use Rattle.fb_geometry.specs.declared.zone.Zone.{Zone}
+use Rattle.fb_service.specs.declared.disk.Disk.{Disk}
 use Rattle.fb_trace.specs.Reading.{trace_of}
 use Rattle.fb_maker.specs.Trace.{request_at, line_of, made_lines, made_requests}
 use Rattle.fb_maker.specs.Script.{script_text, script_calls}
@@ -17,20 +18,14 @@ use Rattle.fb_calls.specs.Reading.{calls_of}
 use Rattle.fb_desk.specs.Calls.{Rose, ChangesInput, ChangesOutput}
 use Rattle.fb_desk.specs.View.{DeskView, InputView, OutputView}
 use Rattle.fb_desk.specs.declared.desk.Input.TheVariants.{Params, Trace, Calls}
-use Rattle.fb_desk.specs.declared.desk.Output.{Output}
 use Rattle.fb_desk.specs.declared.desk.Output.TheVariants.{Fore, Back, Note, MadeTrace, MadeCalls}
 use Rattle.fb_words.specs.Command.{MakeTerms}
 use Rattle.fb_top.specs.declared.outcome.Outcome.{Outcome}
 use Rattle.fb_top.specs.declared.outcome.Outcome.TheVariants as outcomes
-use Rattle.fb_top.specs.Causes.{KeepsReports}
-use Rattle.fb_top.specs.Streams.{IsFront, AppendsFront}
-use Rattle.fb_top.specs.Make.{MakesFor, MakeHasCause, WritesBoth, CutsTrace, CutsCalls, HoldsWhole, HoldsFrontOf, KeepsUnmade, StopsMade, trace_text, sectors_of}
-
-trace_is_other : MadeTrace ≢ Note
-trace_is_other e = cc
-
-calls_are_other : MadeCalls ≢ Note
-calls_are_other e = cc
+use Rattle.fb_top.specs.Causes.{AcceptsDisk}
+use Rattle.fb_top.specs.Written.{HoldsWhole, HoldsFront, KeepsReports, KeepsButBoth, StopsText}
+use Rattle.fb_top.specs.Make.{MakeHasCause, WritesBoth, CutsTrace, CutsCalls, trace_text, sectors_of}
+use Rattle.fb_top.proofs.Moved.{trace_is_no_note, calls_are_no_note, keeps_but_both, faults_rose, whole, cuts_off, cuts_second}
 
 calls_are_no_trace : MadeCalls ≢ MadeTrace
 calls_are_no_trace e = cc
@@ -38,81 +33,65 @@ calls_are_no_trace e = cc
 trace_is_no_calls : MadeTrace ≢ MadeCalls
 trace_is_no_calls e = cc
 
--- an output that stays holds what it held
-whole_still : (which : Output) (name text : List ℕ) (old new : DeskView) → new.outputs which ≡ old.outputs which → HoldsWhole (old.outputs which) name text → HoldsWhole (new.outputs which) name text
-whole_still which name text old new same whole = subst (λ (v : OutputView). HoldsWhole v name text) (sym same) whole
+-- a desk keeps its reports where nothing but the note changes
+pub keeps_reports : (old new : DeskView) → ChangesOutput Note old new → KeepsReports old new
+keeps_reports old new only = λ output no_note. only.outputs output no_note
 
-front_still : (which : Output) (text : List ℕ) (old new : DeskView) → new.outputs which ≡ old.outputs which → HoldsFrontOf (old.outputs which) text → HoldsFrontOf (new.outputs which) text
-front_still which text old new same front = subst (λ (v : OutputView). HoldsFrontOf v text) (sym same) front
+pub keeps_still : (old mid new : DeskView) → KeepsReports old mid → ChangesOutput Note mid new → KeepsReports old new
+keeps_still old mid new keeps only = λ output no_note. only.outputs output no_note ∙ keeps output no_note
 
-unmade_still : (old mid new : DeskView) → KeepsUnmade old mid → ChangesOutput Note mid new → KeepsUnmade old new
-unmade_still old mid new keeps only = λ output no_trace no_calls no_note. only.outputs output no_note ∙ keeps output no_trace no_calls no_note
+module _ (terms : MakeTerms) (old mid new : DeskView) (only : ChangesOutput Note mid new) where
+  same : KeepsReports old old
+  same = λ output no_note. refl
 
-cuts_trace_still : (terms : MakeTerms) (old mid new : DeskView) → ChangesOutput Note mid new → CutsTrace old mid terms → CutsTrace old new terms
-cuts_trace_still terms old mid new only cut = record {
-  others = λ output no_trace no_note. only.outputs output no_note ∙ cut.others output no_trace no_note;
-  makes = cut.makes;
-  front = front_still MadeTrace (trace_text terms cut.makes.disk) mid new (only.outputs MadeTrace trace_is_other) cut.front;
-}
+  cuts_trace_still : CutsTrace old mid terms → CutsTrace old new terms
+  cuts_trace_still h = record { makes = h.makes; cut = cuts_off old old mid new same (keeps_reports mid new only) MadeTrace (trace_text terms h.makes.disk) trace_is_no_note h.cut }
 
-cuts_calls_still : (terms : MakeTerms) (old mid new : DeskView) → ChangesOutput Note mid new → CutsCalls old mid terms → CutsCalls old new terms
-cuts_calls_still terms old mid new only cut = record {
-  others = unmade_still old mid new cut.others only;
-  makes = cut.makes;
-  trace = whole_still MadeTrace terms.trace (trace_text terms cut.makes.disk) mid new (only.outputs MadeTrace trace_is_other) cut.trace;
-  front = front_still MadeCalls (script_text cut.makes.disk.map) mid new (only.outputs MadeCalls calls_are_other) cut.front;
-}
+  cuts_calls_still : CutsCalls old mid terms → CutsCalls old new terms
+  cuts_calls_still h = record {
+    makes = h.makes;
+    cut = cuts_second old old mid new same (keeps_reports mid new only) MadeTrace MadeCalls terms.trace (trace_text terms h.makes.disk) (script_text h.makes.disk.map) trace_is_no_note calls_are_no_note h.cut;
+  }
 
-keeps_still : (old mid new : DeskView) → KeepsReports old mid → ChangesOutput Note mid new → KeepsReports old new
-keeps_still old mid new keeps only = λ output other. only.outputs output other ∙ keeps output other
+  -- an answer keeps its cause where nothing but the note changes
+  pub make_cause_still : (outcome : Outcome) → MakeHasCause terms old mid outcome → MakeHasCause terms old new outcome
+  make_cause_still (outcomes.Made n) h = record {
+    count = h.count;
+    others = keeps_but_both old old mid new same (keeps_reports mid new only) MadeTrace MadeCalls h.others;
+    makes = h.makes;
+    trace = whole old old mid new same (keeps_reports mid new only) MadeTrace terms.trace (trace_text terms h.makes.disk) trace_is_no_note h.trace;
+    calls = whole old old mid new same (keeps_reports mid new only) MadeCalls terms.calls (script_text h.makes.disk.map) calls_are_no_note h.calls;
+    trace_read = h.trace_read;
+    calls_read = h.calls_read;
+  }
+  make_cause_still (outcomes.Params fault) h = (h.0, keeps_still old mid new h.1 only)
+  make_cause_still (outcomes.TooLong Params) h = (h.0, keeps_still old mid new h.1 only)
+  make_cause_still (outcomes.ReadFault Params) h = (subst (λ (v : InputView). Rose (old.inputs Params).faults v.faults) (sym (only.inputs Params)) h.0, keeps_still old mid new h.1 only)
+  make_cause_still (outcomes.WriteFault MadeTrace) h = (faults_rose old old mid new same (keeps_reports mid new only) MadeTrace trace_is_no_note h.0, cuts_trace_still h.1)
+  make_cause_still (outcomes.WriteFault MadeCalls) h = (faults_rose old old mid new same (keeps_reports mid new only) MadeCalls calls_are_no_note h.0, cuts_calls_still h.1)
+  make_cause_still outcomes.NoMemory (inl keeps) = inl (keeps_still old mid new keeps only)
+  make_cause_still outcomes.NoMemory (inr (inl cut)) = inr (inl (cuts_trace_still cut))
+  make_cause_still outcomes.NoMemory (inr (inr cut)) = inr (inr (cuts_calls_still cut))
+  make_cause_still (outcomes.Done run) h = absurd h
+  make_cause_still (outcomes.Usage fault) h = absurd h
+  make_cause_still (outcomes.Trace fault) h = absurd h
+  make_cause_still (outcomes.Calls fault) h = absurd h
+  make_cause_still (outcomes.TooLong Trace) h = absurd h
+  make_cause_still (outcomes.TooLong Calls) h = absurd h
+  make_cause_still (outcomes.ReadFault Trace) h = absurd h
+  make_cause_still (outcomes.ReadFault Calls) h = absurd h
+  make_cause_still (outcomes.WriteFault Fore) h = absurd h
+  make_cause_still (outcomes.WriteFault Back) h = absurd h
+  make_cause_still (outcomes.WriteFault Note) h = absurd h
 
--- an answer keeps its cause where nothing but the note changes
-pub make_cause_still : (terms : MakeTerms) (old mid new : DeskView) (outcome : Outcome) → ChangesOutput Note mid new → MakeHasCause terms old mid outcome → MakeHasCause terms old new outcome
-make_cause_still terms old mid new (outcomes.Done run) only h = absurd h
-make_cause_still terms old mid new (outcomes.Made n) only h = record {
-  count = h.count;
-  others = unmade_still old mid new h.others only;
-  makes = h.makes;
-  trace = whole_still MadeTrace terms.trace (trace_text terms h.makes.disk) mid new (only.outputs MadeTrace trace_is_other) h.trace;
-  calls = whole_still MadeCalls terms.calls (script_text h.makes.disk.map) mid new (only.outputs MadeCalls calls_are_other) h.calls;
-  trace_read = h.trace_read;
-  calls_read = h.calls_read;
-}
-make_cause_still terms old mid new (outcomes.Usage fault) only h = absurd h
-make_cause_still terms old mid new (outcomes.Params fault) only h = (h.0, keeps_still old mid new h.1 only)
-make_cause_still terms old mid new (outcomes.Trace fault) only h = absurd h
-make_cause_still terms old mid new (outcomes.TooLong Params) only h = (h.0, keeps_still old mid new h.1 only)
-make_cause_still terms old mid new (outcomes.TooLong Trace) only h = absurd h
-make_cause_still terms old mid new (outcomes.TooLong Calls) only h = absurd h
-make_cause_still terms old mid new (outcomes.ReadFault Params) only h =
-    (subst (λ (v : InputView). Rose (old.inputs Params).faults v.faults) (sym (only.inputs Params)) h.0, keeps_still old mid new h.1 only)
-make_cause_still terms old mid new (outcomes.ReadFault Trace) only h = absurd h
-make_cause_still terms old mid new (outcomes.ReadFault Calls) only h = absurd h
-make_cause_still terms old mid new (outcomes.WriteFault MadeTrace) only h =
-    (subst (λ (v : OutputView). Rose (old.outputs MadeTrace).faults v.faults) (sym (only.outputs MadeTrace trace_is_other)) h.0, cuts_trace_still terms old mid new only h.1)
-make_cause_still terms old mid new (outcomes.WriteFault MadeCalls) only h =
-    (subst (λ (v : OutputView). Rose (old.outputs MadeCalls).faults v.faults) (sym (only.outputs MadeCalls calls_are_other)) h.0, cuts_calls_still terms old mid new only h.1)
-make_cause_still terms old mid new (outcomes.WriteFault Fore) only h = absurd h
-make_cause_still terms old mid new (outcomes.WriteFault Back) only h = absurd h
-make_cause_still terms old mid new (outcomes.WriteFault Note) only h = absurd h
-make_cause_still terms old mid new outcomes.NoMemory only (inl keeps) = inl (keeps_still old mid new keeps only)
-make_cause_still terms old mid new outcomes.NoMemory only (inr (inl cut)) = inr (inl (cuts_trace_still terms old mid new only cut))
-make_cause_still terms old mid new outcomes.NoMemory only (inr (inr cut)) = inr (inr (cuts_calls_still terms old mid new only cut))
-
-cuts_trace : (terms : MakeTerms) (old mid new : DeskView) (makes : MakesFor old terms) → ChangesInput Params old mid → ChangesOutput MadeTrace mid new
-    → HoldsFrontOf (new.outputs MadeTrace) (trace_text terms makes.disk) → CutsTrace old new terms
-cuts_trace terms old mid new makes first second front = record { others = λ output no_trace no_note. second.outputs output no_trace ∙ first.outputs output; makes = makes; front = front }
+cuts_trace : (terms : MakeTerms) (old mid new : DeskView) (makes : AcceptsDisk old terms.params) → ChangesInput Params old mid → ChangesOutput MadeTrace mid new
+    → HoldsFront (new.outputs MadeTrace) (trace_text terms makes.disk) → CutsTrace old new terms
+cuts_trace terms old mid new makes first second front =
+    record { makes = makes; cut = record { others = λ output no_trace no_note. second.outputs output no_trace ∙ first.outputs output; front = front } }
 
 -- why the trace was not written
-pub stopped_trace : (terms : MakeTerms) (old mid new : DeskView) (outcome : Outcome) (makes : MakesFor old terms) → ChangesInput Params old mid → ChangesOutput MadeTrace mid new
-    → StopsMade MadeTrace (trace_text terms makes.disk) mid new outcome → MakeHasCause terms old new outcome
-stopped_trace terms old mid new (outcomes.Done run) makes first second h = absurd h
-stopped_trace terms old mid new (outcomes.Made n) makes first second h = absurd h
-stopped_trace terms old mid new (outcomes.Usage fault) makes first second h = absurd h
-stopped_trace terms old mid new (outcomes.Params fault) makes first second h = absurd h
-stopped_trace terms old mid new (outcomes.Trace fault) makes first second h = absurd h
-stopped_trace terms old mid new (outcomes.TooLong input) makes first second h = absurd h
-stopped_trace terms old mid new (outcomes.ReadFault input) makes first second h = absurd h
+pub stopped_trace : (terms : MakeTerms) (old mid new : DeskView) (outcome : Outcome) (makes : AcceptsDisk old terms.params) → ChangesInput Params old mid → ChangesOutput MadeTrace mid new
+    → StopsText MadeTrace (trace_text terms makes.disk) mid new outcome → MakeHasCause terms old new outcome
 stopped_trace terms old mid new (outcomes.WriteFault MadeTrace) makes first second h =
     (subst (λ (v : OutputView). Rose v.faults (new.outputs MadeTrace).faults) (first.outputs MadeTrace) h.1, cuts_trace terms old mid new makes first second h.2)
 stopped_trace terms old mid new (outcomes.WriteFault MadeCalls) makes first second h = absurd (calls_are_no_trace h.0)
@@ -120,29 +99,34 @@ stopped_trace terms old mid new (outcomes.WriteFault Fore) makes first second h 
 stopped_trace terms old mid new (outcomes.WriteFault Back) makes first second h = absurd (let other = h.0 in cc)
 stopped_trace terms old mid new (outcomes.WriteFault Note) makes first second h = absurd (let other = h.0 in cc)
 stopped_trace terms old mid new outcomes.NoMemory makes first second h = inr (inl (cuts_trace terms old mid new makes first second h))
+stopped_trace terms old mid new (outcomes.Done run) makes first second h = absurd h
+stopped_trace terms old mid new (outcomes.Made n) makes first second h = absurd h
+stopped_trace terms old mid new (outcomes.Usage fault) makes first second h = absurd h
+stopped_trace terms old mid new (outcomes.Params fault) makes first second h = absurd h
+stopped_trace terms old mid new (outcomes.Trace fault) makes first second h = absurd h
+stopped_trace terms old mid new (outcomes.Calls fault) makes first second h = absurd h
+stopped_trace terms old mid new (outcomes.TooLong input) makes first second h = absurd h
+stopped_trace terms old mid new (outcomes.ReadFault input) makes first second h = absurd h
 
-pub unmade : (old mid late new : DeskView) → ChangesInput Params old mid → ChangesOutput MadeTrace mid late → ChangesOutput MadeCalls late new → KeepsUnmade old new
-unmade old mid late new first second third = λ output no_trace no_calls no_note. third.outputs output no_calls ∙ second.outputs output no_trace ∙ first.outputs output
+-- no output but the trace and the script was written
+keeps_unmade : (old mid late new : DeskView) → ChangesInput Params old mid → ChangesOutput MadeTrace mid late → ChangesOutput MadeCalls late new → KeepsButBoth MadeTrace MadeCalls old new
+keeps_unmade old mid late new first second third = λ output no_trace no_calls no_note. third.outputs output no_calls ∙ second.outputs output no_trace ∙ first.outputs output
 
-cuts_calls : (terms : MakeTerms) (old mid late new : DeskView) (makes : MakesFor old terms) → ChangesInput Params old mid → ChangesOutput MadeTrace mid late → ChangesOutput MadeCalls late new
-    → HoldsWhole (late.outputs MadeTrace) terms.trace (trace_text terms makes.disk) → HoldsFrontOf (new.outputs MadeCalls) (script_text makes.disk.map) → CutsCalls old new terms
+-- the trace stands as it was written
+trace_stands : (terms : MakeTerms) (disk : Disk) (late new : DeskView) → ChangesOutput MadeCalls late new → HoldsWhole (late.outputs MadeTrace) terms.trace (trace_text terms disk)
+    → HoldsWhole (new.outputs MadeTrace) terms.trace (trace_text terms disk)
+trace_stands terms disk late new only whole = subst (λ (v : OutputView). HoldsWhole v terms.trace (trace_text terms disk)) (sym (only.outputs MadeTrace trace_is_no_calls)) whole
+
+cuts_calls : (terms : MakeTerms) (old mid late new : DeskView) (makes : AcceptsDisk old terms.params) → ChangesInput Params old mid → ChangesOutput MadeTrace mid late → ChangesOutput MadeCalls late new
+    → HoldsWhole (late.outputs MadeTrace) terms.trace (trace_text terms makes.disk) → HoldsFront (new.outputs MadeCalls) (script_text makes.disk.map) → CutsCalls old new terms
 cuts_calls terms old mid late new makes first second third trace front = record {
-  others = unmade old mid late new first second third;
   makes = makes;
-  trace = whole_still MadeTrace terms.trace (trace_text terms makes.disk) late new (third.outputs MadeTrace trace_is_no_calls) trace;
-  front = front;
+  cut = record { others = keeps_unmade old mid late new first second third; whole = trace_stands terms makes.disk late new third trace; front = front };
 }
 
 -- why the script was not written
-pub stopped_calls : (terms : MakeTerms) (old mid late new : DeskView) (outcome : Outcome) (makes : MakesFor old terms) → ChangesInput Params old mid → ChangesOutput MadeTrace mid late → ChangesOutput MadeCalls late new
-    → HoldsWhole (late.outputs MadeTrace) terms.trace (trace_text terms makes.disk) → StopsMade MadeCalls (script_text makes.disk.map) late new outcome → MakeHasCause terms old new outcome
-stopped_calls terms old mid late new (outcomes.Done run) makes first second third trace h = absurd h
-stopped_calls terms old mid late new (outcomes.Made n) makes first second third trace h = absurd h
-stopped_calls terms old mid late new (outcomes.Usage fault) makes first second third trace h = absurd h
-stopped_calls terms old mid late new (outcomes.Params fault) makes first second third trace h = absurd h
-stopped_calls terms old mid late new (outcomes.Trace fault) makes first second third trace h = absurd h
-stopped_calls terms old mid late new (outcomes.TooLong input) makes first second third trace h = absurd h
-stopped_calls terms old mid late new (outcomes.ReadFault input) makes first second third trace h = absurd h
+pub stopped_calls : (terms : MakeTerms) (old mid late new : DeskView) (outcome : Outcome) (makes : AcceptsDisk old terms.params) → ChangesInput Params old mid → ChangesOutput MadeTrace mid late → ChangesOutput MadeCalls late new
+    → HoldsWhole (late.outputs MadeTrace) terms.trace (trace_text terms makes.disk) → StopsText MadeCalls (script_text makes.disk.map) late new outcome → MakeHasCause terms old new outcome
 stopped_calls terms old mid late new (outcomes.WriteFault MadeCalls) makes first second third trace h =
     (subst (λ (v : OutputView). Rose v.faults (new.outputs MadeCalls).faults) (second.outputs MadeCalls calls_are_no_trace ∙ first.outputs MadeCalls) h.1, cuts_calls terms old mid late new makes first second third trace h.2)
 stopped_calls terms old mid late new (outcomes.WriteFault MadeTrace) makes first second third trace h = absurd (trace_is_no_calls h.0)
@@ -150,26 +134,30 @@ stopped_calls terms old mid late new (outcomes.WriteFault Fore) makes first seco
 stopped_calls terms old mid late new (outcomes.WriteFault Back) makes first second third trace h = absurd (let other = h.0 in cc)
 stopped_calls terms old mid late new (outcomes.WriteFault Note) makes first second third trace h = absurd (let other = h.0 in cc)
 stopped_calls terms old mid late new outcomes.NoMemory makes first second third trace h = inr (inr (cuts_calls terms old mid late new makes first second third trace h))
+stopped_calls terms old mid late new (outcomes.Done run) makes first second third trace h = absurd h
+stopped_calls terms old mid late new (outcomes.Made n) makes first second third trace h = absurd h
+stopped_calls terms old mid late new (outcomes.Usage fault) makes first second third trace h = absurd h
+stopped_calls terms old mid late new (outcomes.Params fault) makes first second third trace h = absurd h
+stopped_calls terms old mid late new (outcomes.Trace fault) makes first second third trace h = absurd h
+stopped_calls terms old mid late new (outcomes.Calls fault) makes first second third trace h = absurd h
+stopped_calls terms old mid late new (outcomes.TooLong input) makes first second third trace h = absurd h
+stopped_calls terms old mid late new (outcomes.ReadFault input) makes first second third trace h = absurd h
 
 -- both texts were written
-pub wrote_both : (terms : MakeTerms) (old mid late new : DeskView) (makes : MakesFor old terms) (n : ℕ) → n ≡ terms.requests → ChangesInput Params old mid → ChangesOutput MadeTrace mid late → ChangesOutput MadeCalls late new
+pub wrote_both : (terms : MakeTerms) (old mid late new : DeskView) (makes : AcceptsDisk old terms.params) (n : ℕ) → n ≡ terms.requests → ChangesInput Params old mid → ChangesOutput MadeTrace mid late → ChangesOutput MadeCalls late new
     → HoldsWhole (late.outputs MadeTrace) terms.trace (trace_text terms makes.disk) → HoldsWhole (new.outputs MadeCalls) terms.calls (script_text makes.disk.map)
     → (trace_of terms.device (sectors_of makes.disk) (trace_text terms makes.disk) ≡ Ok (record { requests = made_requests terms.number (sectors_of makes.disk) terms.requests; passed_over = 0 }))
     → (calls_of makes.disk.map terms.requests (script_text makes.disk.map) ≡ Ok (record { names = codes "scrub" ∷ codes "backup" ∷ []; calls = script_calls makes.disk.map }))
     → WritesBoth old new terms n
 wrote_both terms old mid late new makes n count first second third trace calls read script = record {
   count = count;
-  others = unmade old mid late new first second third;
+  others = keeps_unmade old mid late new first second third;
   makes = makes;
-  trace = whole_still MadeTrace terms.trace (trace_text terms makes.disk) late new (third.outputs MadeTrace trace_is_no_calls) trace;
+  trace = trace_stands terms makes.disk late new third trace;
   calls = calls;
   trace_read = read;
   calls_read = script;
 }
-
--- a name that stays
-pub same_named : (name : List ℕ) (old new : Option (List ℕ)) → new ≡ old → IfSome old (λ told. told ≡ name) → IfSome new (λ told. told ≡ name)
-same_named name old new same h = subst (λ (o : Option (List ℕ)). IfSome o (λ told. told ≡ name)) (sym same) h
 
 counted : (n i : ℕ) → i < n → slice_get (range_with_len 0 n) i ≡ Some i
 counted n i inside = slice_get-get_or (range_with_len 0 n) i 0 (omega (arith, length-range_with_len 0 n)) ∙ ap Some (get_or-range_with_len 0 n i 0 inside ∙ omega arith)
@@ -182,15 +170,6 @@ line_at number device sectors n i inside =
 
 pub lines_counted : (number device sectors n : ℕ) → length (made_lines number device sectors n) ≡ n
 lines_counted number device sectors n = length-map (made_requests number sectors n) (line_of device) ∙ length-map-range_with_len (request_at number sectors) 0 n
-
--- a text of which nothing was written, or a part
-pub nothing_yet : (now : Option (List ℕ)) (text : List ℕ) → IfSome now (λ bytes. bytes ≡ []) → IfSome now (λ bytes. IsFront bytes text)
-nothing_yet None text empty = tt
-nothing_yet (Some bytes) text empty = (text, ap (λ front. front ++ text) empty)
-
-pub cut_output : (old new : Option (List ℕ)) (bytes text : List ℕ) → IfSome old (λ held. held ≡ []) → bytes ≡ text → AppendsFront old new bytes → IfSome new (λ held. IsFront held text)
-cut_output None new bytes text empty is front = rw front.2 tt
-cut_output (Some held) new bytes text empty is front = rw front.2 (drop front.0 bytes, ap (λ xs. (xs ++ take front.0 bytes) ++ drop front.0 bytes) empty ∙ take-append-drop front.0 bytes ∙ is)
 
 first_data : (disk : Shape) (zone : Zone) → zone.first ≤ zone.last → length (data_list disk zone zone.first) ≤ length (zone_places disk zone)
 first_data disk zone some =

@@ -1,22 +1,26 @@
 -- Notes, and what stays where one is written.
-use Rattle.std.proofs.Common.{◌≡◌, ◌≢◌, true, ℕ, ◌+◌, ◌≤◌, List, [], ◌∷◌, ◌++◌, length, take, drop, sym, ap, ◌∙◌, inl, inr, append_assoc, append-nil, Option, Some, None, Result, Ok, Err, subst}
-use Rattle.std.specs.Prelude.{IfSome, OnOk, OnErr, codes, slice_get}
+use Rattle.std.proofs.Common.{◌≡◌, true, ℕ, ◌+◌, ◌≤◌, List, [], ◌∷◌, ◌++◌, length, take, drop, refl, sym, ap, ◌∙◌, inl, inr, append_assoc, append-nil, Option, Some, None, Result, Ok, Err, subst}
+use Rattle.std.specs.Prelude.{IfSome, OnOk, OnErr, slice_get}
 use Rattle.std.proofs.lemmas.List.{drop_more, drop_all, take-append-drop}
 use Rattle.std.proofs.lemmas.Option.{slice_get_within, get_or_from_slice_get}
 use Rattle.fb_words.specs.Command.{Terms, ReplayTerms, replays, makes}
 use Rattle.fb_words.specs.declared.fault.UsageFault.{UsageFault}
 use Rattle.fb_desk.specs.Calls.{ChangesOutput, Rose, behind}
 use Rattle.fb_desk.specs.View.{DeskView, InputView, OutputView}
-use Rattle.fb_desk.specs.declared.desk.Output.TheVariants.{Fore, Note}
+use Rattle.fb_desk.specs.declared.desk.Input.{Input}
+use Rattle.fb_desk.specs.declared.desk.Input.TheVariants.{Params, Trace, Calls}
+use Rattle.fb_desk.specs.declared.desk.Output.TheVariants.{Note}
 use Rattle.fb_top.specs.declared.outcome.Outcome.{Outcome}
 use Rattle.fb_top.specs.declared.outcome.Outcome.TheVariants as outcomes
 use Rattle.fb_top.specs.Streams.{AppendsFront, IsFront}
-use Rattle.fb_top.specs.Done.{IsCutOff, KeepsOthers, text_of}
-use Rattle.fb_top.specs.Causes.{HasCause, KeepsReports}
+use Rattle.fb_top.specs.Written.{KeepsReports}
+use Rattle.fb_top.specs.Done.{IsCutShort}
+use Rattle.fb_top.specs.Causes.{EndsAt, HasCause, KeepsLater}
 use Rattle.fb_top.specs.Answers.{AnswersWords}
-use Rattle.fb_top.proofs.Making.{make_cause_still}
 use Rattle.fb_top.specs.Noted.{IsNote}
 use Rattle.fb_top.proofs.Fronts.{rose_later}
+use Rattle.fb_top.proofs.Making.{keeps_reports, keeps_still, make_cause_still}
+use Rattle.fb_top.proofs.Moved.{holds_reports, stops_reports}
 
 next_byte : (key : List ℕ) (i byte : ℕ) → slice_get key i ≡ Some byte → drop i key ≡ byte ∷ drop (i + 1) key
 next_byte key i byte e = drop_more key i byte (slice_get_within key i byte e) ∙ ap (λ y. y ∷ drop (i + 1) key) (get_or_from_slice_get key i byte byte e)
@@ -52,47 +56,43 @@ pub note_written : {T E : Type 0} (result : Result T E) (first old new : OutputV
 note_written (Ok x) first old new text line empty is whole front rose = whole_note first new old.written new.written text line empty is whole
 note_written (Err e) first old new text line empty is whole front rose = cut_note first new old.written new.written text line empty is front rose
 
-pub note_is_other : Note ≢ Fore
-note_is_other e = cc
+later_still : (input : Input) (old mid new : DeskView) → KeepsLater input old mid → ChangesOutput Note mid new → KeepsLater input old new
+later_still Params old mid new later only = (only.inputs Trace ∙ later.0, only.inputs Calls ∙ later.1)
+later_still Trace old mid new later only = only.inputs Calls ∙ later
+later_still Calls old mid new later only = tt
 
-fore_is_other : Fore ≢ Note
-fore_is_other e = cc
+ends_still : (input : Input) (old mid new : DeskView) → EndsAt input old mid → ChangesOutput Note mid new → EndsAt input old new
+ends_still input old mid new ends only = record { later = later_still input old mid new ends.later only; reports = keeps_still old mid new ends.reports only }
 
-keeps_still : (old mid new : DeskView) → KeepsReports old mid → ChangesOutput Note mid new → KeepsReports old new
-keeps_still old mid new keeps only = λ output other. only.outputs output other ∙ keeps output other
+module _ (terms : ReplayTerms) (old mid new : DeskView) (only : ChangesOutput Note mid new) where
+  same : KeepsReports old old
+  same = λ output no_note. refl
 
-others_still : (old mid new : DeskView) → KeepsOthers old mid → ChangesOutput Note mid new → KeepsOthers old new
-others_still old mid new others only = λ output not_fore not_note. only.outputs output not_note ∙ others output not_fore not_note
+  cut_short_still : (outcome : Outcome) → IsCutShort old mid terms outcome → IsCutShort old new terms outcome
+  cut_short_still outcome cut = record {
+    run = cut.run;
+    is_run = cut.is_run;
+    stops = stops_reports old old mid new same (keeps_reports mid new only) terms cut.is_run.files cut.run outcome cut.stops;
+  }
 
-cut_off_still : (terms : ReplayTerms) (old mid new : DeskView) → IsCutOff old mid terms → ChangesOutput Note mid new → IsCutOff old new terms
-cut_off_still terms old mid new cut only = record {
-  others = others_still old mid new cut.others only;
-  run = cut.run;
-  is_run = cut.is_run;
-  front = subst (λ (v : OutputView). v.begun ≡ true → IfSome v.written (λ bytes. IsFront bytes (text_of old terms cut.run cut.is_run))) (sym (only.outputs Fore fore_is_other)) cut.front;
-}
-
-cause_still : (terms : ReplayTerms) (old mid new : DeskView) (outcome : Outcome) → ChangesOutput Note mid new → HasCause terms old mid outcome → HasCause terms old new outcome
-cause_still terms old mid new (outcomes.Done run) only h = record {
-  others = others_still old mid new h.others only;
-  is_run = h.is_run;
-  name = subst (λ (v : OutputView). IfSome v.name (λ name. name ≡ codes "-")) (sym (only.outputs Fore fore_is_other)) h.name;
-  written = subst (λ (v : OutputView). IfSome v.written (λ bytes. bytes ≡ text_of old terms run h.is_run)) (sym (only.outputs Fore fore_is_other)) h.written;
-}
-cause_still terms old mid new (outcomes.Made n) only h = absurd h
-cause_still terms old mid new (outcomes.Usage fault) only h = (h.0, keeps_still old mid new h.1 only)
-cause_still terms old mid new (outcomes.Params fault) only h = (h.0, keeps_still old mid new h.1 only)
-cause_still terms old mid new (outcomes.Trace fault) only h = (h.0, keeps_still old mid new h.1 only)
-cause_still terms old mid new (outcomes.TooLong input) only h = (h.0, h.1, keeps_still old mid new h.2 only)
-cause_still terms old mid new (outcomes.ReadFault input) only h =
-    (h.0, subst (λ (v : InputView). Rose (old.inputs input).faults v.faults) (sym (only.inputs input)) h.1, keeps_still old mid new h.2 only)
-cause_still terms old mid new (outcomes.WriteFault output) only h =
-    (h.0, subst (λ (v : OutputView). Rose (old.outputs output).faults v.faults) (sym (only.outputs output (λ e. fore_is_other (sym h.0 ∙ e)))) h.1, cut_off_still terms old mid new h.2 only)
-cause_still terms old mid new outcomes.NoMemory only (inl keeps) = inl (keeps_still old mid new keeps only)
-cause_still terms old mid new outcomes.NoMemory only (inr cut) = inr (cut_off_still terms old mid new cut only)
+  cause_still : (outcome : Outcome) → HasCause terms old mid outcome → HasCause terms old new outcome
+  cause_still (outcomes.Done run) h = record { is_run = h.is_run; reports = holds_reports old old mid new same (keeps_reports mid new only) terms h.is_run.files run h.reports }
+  cause_still (outcomes.Params fault) h = (h.0, ends_still Params old mid new h.1 only)
+  cause_still (outcomes.Trace fault) h = (h.0, ends_still Trace old mid new h.1 only)
+  cause_still (outcomes.Calls fault) h = (h.0, ends_still Calls old mid new h.1 only)
+  cause_still (outcomes.TooLong input) h = (h.0, ends_still input old mid new h.1 only)
+  cause_still (outcomes.ReadFault input) h = (
+    record { before = h.0.before; given = h.0.given; rose = subst (λ (v : InputView). Rose (old.inputs input).faults v.faults) (sym (only.inputs input)) h.0.rose },
+    ends_still input old mid new h.1 only,
+  )
+  cause_still (outcomes.WriteFault output) h = cut_short_still (outcomes.WriteFault output) h
+  cause_still outcomes.NoMemory (inl keeps) = inl (keeps_still old mid new keeps only)
+  cause_still outcomes.NoMemory (inr cut) = inr (cut_short_still outcomes.NoMemory cut)
+  cause_still (outcomes.Made n) h = absurd h
+  cause_still (outcomes.Usage fault) h = absurd h
 
 -- an answer keeps its cause where nothing but the note changes
 pub answer_still : (reading : Result Terms UsageFault) (old mid new : DeskView) (outcome : Outcome) → ChangesOutput Note mid new → AnswersWords reading old mid outcome → AnswersWords reading old new outcome
-answer_still (Ok (replays terms)) old mid new outcome only h = cause_still terms old mid new outcome only h
-answer_still (Ok (makes terms)) old mid new outcome only h = make_cause_still terms old mid new outcome only h
+answer_still (Ok (replays terms)) old mid new outcome only h = cause_still terms old mid new only outcome h
+answer_still (Ok (makes terms)) old mid new outcome only h = make_cause_still terms old mid new only outcome h
 answer_still (Err fault) old mid new outcome only h = (h.0, keeps_still old mid new h.1 only)

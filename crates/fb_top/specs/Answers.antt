@@ -5,7 +5,8 @@ use Rattle.fb_words.specs.Command.{Terms, replays, makes}
 use Rattle.fb_words.specs.declared.fault.UsageFault.{UsageFault}
 use Rattle.fb_top.specs.declared.outcome.Outcome.{Outcome}
 use Rattle.fb_top.specs.declared.outcome.Outcome.TheVariants as outcomes
-use Rattle.fb_top.specs.Causes.{HasCause, KeepsReports}
+use Rattle.fb_top.specs.Written.{KeepsReports}
+use Rattle.fb_top.specs.Causes.{HasCause}
 use Rattle.fb_top.specs.Make.{MakeHasCause}
 
 -- words that are refused are a usage fault, unless memory is wanting

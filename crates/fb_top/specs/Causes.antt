@@ -1,26 +1,26 @@
 -- Why a command has its answer.
-use Rattle.std.specs.Prelude.{◌≡◌, ◌≢◌, ◌⊎◌, ℕ, ◌^◌, List, [], true, IfSome}
+use Rattle.std.specs.Prelude.{◌≡◌, ◌⊎◌, ℕ, ◌^◌, List, length, true, Option, Some, is_some}
 use Rattle.fb_service.specs.declared.disk.Disk.{Disk}
 use Rattle.fb_desk.specs.Calls.{Rose}
 use Rattle.fb_desk.specs.View.{DeskView}
 use Rattle.fb_desk.specs.declared.desk.Input.{Input}
 use Rattle.fb_desk.specs.declared.desk.Input.TheVariants.{Params, Trace, Calls}
-use Rattle.fb_desk.specs.declared.desk.Output.{Output}
-use Rattle.fb_desk.specs.declared.desk.Output.TheVariants.{Fore, Note}
 use Rattle.fb_words.specs.Command.{ReplayTerms}
+use Rattle.fb_trace.specs.Reading.{Accepted}
+use Rattle.fb_trace.specs.declared.trace.TraceFault.{TraceFault}
+use Rattle.fb_calls.specs.declared.fault.CallsFault.{CallsFault}
 use Rattle.fb_top.specs.declared.outcome.Outcome.{Outcome}
 use Rattle.fb_top.specs.declared.outcome.Outcome.TheVariants as outcomes
-use Rattle.fb_top.specs.Read.{ReadsDisk, RefusesDisk, RefusesTrace}
-use Rattle.fb_trace.specs.declared.trace.TraceFault.{TraceFault}
-use Rattle.fb_top.specs.Streams.{IsLonger, IsFront}
-use Rattle.fb_top.specs.Built.{IsUnbuilt}
-use Rattle.fb_top.specs.Done.{IsDone, IsCutOff}
+use Rattle.fb_top.specs.Read.{ReadsDisk, ReadsTrace, RefusesDisk, RefusesTrace, RefusesCalls}
+use Rattle.fb_top.specs.Streams.{IsLonger}
+use Rattle.fb_top.specs.Written.{KeepsReports}
+use Rattle.fb_top.specs.Done.{IsDone, IsCutShort}
 
--- the name under which the words give an input; the calls have none yet
-abbrev pub name_of : ReplayTerms → Input → List ℕ
-name_of terms Params = terms.params
-name_of terms Trace = terms.trace
-name_of terms Calls = []
+-- the name under which the words give an input, if they give it
+abbrev pub name_of : ReplayTerms → Input → Option (List ℕ)
+name_of terms Params = Some terms.params
+name_of terms Trace = Some terms.trace
+name_of terms Calls = terms.calls
 
 -- how many bytes an input may have
 abbrev pub limit_of : Input → ℕ
@@ -28,38 +28,76 @@ limit_of Params = 2 ^ 20
 limit_of Trace = 2 ^ 28
 limit_of Calls = 2 ^ 26
 
--- no output but the note has changed
-abbrev pub KeepsReports : DeskView → DeskView → Type 0
-KeepsReports old new = (output : Output) → output ≢ Note → new.outputs output ≡ old.outputs output
-
 -- a count of faults rose
 abbrev pub FaultsRose : DeskView → DeskView → Input → Type 0
 FaultsRose old new input = Rose (old.inputs input).faults (new.inputs input).faults
 
--- an accepted disk, and a trace that is refused for it
-pub record RefusesInTurn (desk : DeskView) (terms : ReplayTerms) (fault : TraceFault) : Type 0 where
+-- an accepted parameter file
+pub record AcceptsDisk (desk : DeskView) (name : List ℕ) : Type 0 where
   pub disk : Disk
   pub latent : List ℕ
-  pub reads_disk : ReadsDisk desk terms.params disk latent
-  pub refuses : RefusesTrace desk terms.trace terms.device disk fault
+  pub reads_disk : ReadsDisk desk name disk latent
 
--- the words give the input
-abbrev pub IsGiven : Input → Type 0
-IsGiven Params = Unit {0}
-IsGiven Trace = Unit {0}
-IsGiven Calls = ⊥
+-- and a trace that is accepted for it
+pub record AcceptsTrace (desk : DeskView) (terms : ReplayTerms) : Type 0 where
+  pub params : AcceptsDisk desk terms.params
+  pub trace : Accepted
+  pub reads_trace : ReadsTrace desk terms.trace terms.device params.disk trace
+
+-- the inputs that come before this one are accepted
+abbrev pub AcceptsBefore : DeskView → ReplayTerms → Input → Type 0
+AcceptsBefore desk terms Params = Unit {0}
+AcceptsBefore desk terms Trace = AcceptsDisk desk terms.params
+AcceptsBefore desk terms Calls = AcceptsTrace desk terms
+
+-- no input that comes behind this one was touched
+abbrev pub KeepsLater : Input → DeskView → DeskView → Type 0
+KeepsLater Params old new = (new.inputs Trace ≡ old.inputs Trace) × (new.inputs Calls ≡ old.inputs Calls)
+KeepsLater Trace old new = new.inputs Calls ≡ old.inputs Calls
+KeepsLater Calls old new = Unit {0}
+
+-- neither an input behind this one nor an output but the note was touched
+pub record EndsAt (input : Input) (old new : DeskView) : Type 0 where
+  pub later : KeepsLater input old new
+  pub reports : KeepsReports old new
+
+-- an accepted disk, and a trace that is refused for it
+pub record RefusesTraceInTurn (desk : DeskView) (terms : ReplayTerms) (fault : TraceFault) : Type 0 where
+  pub before : AcceptsDisk desk terms.params
+  pub refuses : RefusesTrace desk terms.trace terms.device before.disk fault
+
+-- an accepted disk and an accepted trace, and a script that is refused for them
+pub record RefusesCallsInTurn (desk : DeskView) (terms : ReplayTerms) (fault : CallsFault) : Type 0 where
+  pub before : AcceptsTrace desk terms
+  pub name : List ℕ
+  pub given : terms.calls ≡ Some name
+  pub refuses : RefusesCalls desk name before.params.disk (length before.trace.requests) fault
+
+-- an input that the words give has more bytes than it may have
+pub record IsTooLong (desk : DeskView) (terms : ReplayTerms) (input : Input) : Type 0 where
+  pub before : AcceptsBefore desk terms input
+  pub name : List ℕ
+  pub given : name_of terms input ≡ Some name
+  pub longer : IsLonger desk name (limit_of input)
+
+-- a call that reads an input that the words give has failed
+pub record IsUnread (old new : DeskView) (terms : ReplayTerms) (input : Input) : Type 0 where
+  pub before : AcceptsBefore old terms input
+  pub given : is_some (name_of terms input) ≡ true
+  pub rose : FaultsRose old new input
 
 -- the cause of each answer to the terms of a replay
 abbrev pub HasCause : ReplayTerms → DeskView → DeskView → Outcome → Type 0
 HasCause terms old new (outcomes.Done run) = IsDone old new terms run
 HasCause terms old new (outcomes.Made n) = ⊥
-HasCause terms old new (outcomes.Usage fault) = IsUnbuilt old terms fault × KeepsReports old new
-HasCause terms old new (outcomes.Params fault) = RefusesDisk old terms.params fault × KeepsReports old new
-HasCause terms old new (outcomes.Trace fault) = RefusesInTurn old terms fault × KeepsReports old new
-HasCause terms old new (outcomes.TooLong input) = IsGiven input × IsLonger old (name_of terms input) (limit_of input) × KeepsReports old new
-HasCause terms old new (outcomes.ReadFault input) = IsGiven input × FaultsRose old new input × KeepsReports old new
-HasCause terms old new (outcomes.WriteFault output) = (output ≡ Fore) × Rose (old.outputs output).faults (new.outputs output).faults × IsCutOff old new terms
-HasCause terms old new outcomes.NoMemory = KeepsReports old new ⊎ IsCutOff old new terms
+HasCause terms old new (outcomes.Usage fault) = ⊥
+HasCause terms old new (outcomes.Params fault) = RefusesDisk old terms.params fault × EndsAt Params old new
+HasCause terms old new (outcomes.Trace fault) = RefusesTraceInTurn old terms fault × EndsAt Trace old new
+HasCause terms old new (outcomes.Calls fault) = RefusesCallsInTurn old terms fault × EndsAt Calls old new
+HasCause terms old new (outcomes.TooLong input) = IsTooLong old terms input × EndsAt input old new
+HasCause terms old new (outcomes.ReadFault input) = IsUnread old new terms input × EndsAt input old new
+HasCause terms old new (outcomes.WriteFault output) = IsCutShort old new terms (outcomes.WriteFault output)
+HasCause terms old new outcomes.NoMemory = KeepsReports old new ⊎ IsCutShort old new terms outcomes.NoMemory
 
 -- why no disk was read
 abbrev pub StopsDisk : List ℕ → DeskView → DeskView → Outcome → Type 0
@@ -77,12 +115,14 @@ StopsTrace name device disk old new (outcomes.ReadFault Trace) = FaultsRose old 
 StopsTrace name device disk old new outcomes.NoMemory = Unit {0}
 StopsTrace name device disk old new _ = ⊥
 
--- what the foreground holds, if it is begun, is a front of the text
-abbrev pub HoldsFront : DeskView → List ℕ → Type 0
-HoldsFront desk text = (desk.outputs Fore).begun ≡ true → IfSome (desk.outputs Fore).written (λ bytes. IsFront bytes text)
+-- why no script was read
+abbrev pub StopsCalls : List ℕ → Disk → ℕ → DeskView → DeskView → Outcome → Type 0
+StopsCalls name disk traced old new (outcomes.Calls fault) = RefusesCalls old name disk traced fault
+StopsCalls name disk traced old new (outcomes.TooLong Calls) = IsLonger old name (limit_of Calls)
+StopsCalls name disk traced old new (outcomes.ReadFault Calls) = FaultsRose old new Calls
+StopsCalls name disk traced old new outcomes.NoMemory = Unit {0}
+StopsCalls name disk traced old new _ = ⊥
 
--- why the foreground was not written whole
-abbrev pub StopsFore : List ℕ → DeskView → DeskView → Outcome → Type 0
-StopsFore text old new (outcomes.WriteFault Fore) = Rose (old.outputs Fore).faults (new.outputs Fore).faults × HoldsFront new text
-StopsFore text old new outcomes.NoMemory = HoldsFront new text
-StopsFore text old new _ = ⊥
+-- why no script was read where one is given
+abbrev pub StopsScript : Option (List ℕ) → Disk → ℕ → DeskView → DeskView → Outcome → Type 0
+StopsScript given disk traced old new outcome = (name : List ℕ) × (given ≡ Some name) × StopsCalls name disk traced old new outcome

@@ -1,26 +1,27 @@
 -- What goes well is done.
-use Rattle.std.specs.Prelude.{◌≡◌, true, is_some, Result, Ok, Err}
-use Rattle.fb_desk.specs.Calls.{Rose}
+use Rattle.std.specs.Prelude.{◌≡◌, true, is_some, IfSome, Result, Ok, Err}
 use Rattle.fb_desk.specs.View.{DeskView}
 use Rattle.fb_desk.specs.declared.desk.Input.{Input}
-use Rattle.fb_desk.specs.declared.desk.Output.TheVariants.{Fore}
+use Rattle.fb_desk.specs.declared.desk.Output.TheVariants.{Fore, Back}
 use Rattle.fb_words.specs.Command.{Terms, ReplayTerms, replays, makes}
 use Rattle.fb_words.specs.declared.fault.UsageFault.{UsageFault}
 use Rattle.fb_top.specs.declared.outcome.Outcome.{Outcome}
 use Rattle.fb_top.specs.declared.outcome.Outcome.TheVariants as outcomes
-use Rattle.fb_top.specs.Read.{Accepts}
-use Rattle.fb_top.specs.Built.{is_built}
+use Rattle.fb_top.specs.Read.{Files, Accepts}
+use Rattle.fb_top.specs.Written.{OutputFaultsRose}
 use Rattle.fb_top.specs.Causes.{FaultsRose}
 use Rattle.fb_top.specs.Make.{MakeGoesWell, MakesAll}
 
--- what is held is told and accepted, the foreground alone is wanted, and no count of faults rises but perhaps the note's
+-- what is held is told and accepted, and no count of faults rises but perhaps the note's
 pub record GoesWell (old new : DeskView) (terms : ReplayTerms) : Type 0 where
-  pub built : is_built terms ≡ true
-  pub accepts : Accepts old terms
+  pub files : Files
+  pub accepts : Accepts old terms files
   pub params_told : is_some (old.held terms.params) ≡ true
   pub trace_told : is_some (old.held terms.trace) ≡ true
+  pub calls_told : IfSome terms.calls (λ name. is_some (old.held name) ≡ true)
   pub inputs : (input : Input) → FaultsRose old new input → ⊥
-  pub fore : Rose (old.outputs Fore).faults (new.outputs Fore).faults → ⊥
+  pub fore : OutputFaultsRose old new Fore → ⊥
+  pub back : OutputFaultsRose old new Back → ⊥
 
 -- the replay was made, unless memory was wanting
 abbrev pub IsMade : Outcome → Type 0

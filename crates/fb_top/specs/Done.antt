@@ -1,50 +1,74 @@
 -- What a replay has written.
-use Rattle.std.specs.Prelude.{◌≡◌, ◌≢◌, ℕ, List, true, IfSome, codes, if◌then◌else◌}
+use Rattle.std.specs.Prelude.{◌≡◌, ◌⊎◌, ℕ, List, true, Option, Some, None, is_some, codes, if◌then◌else◌}
+use Rattle.std.specs.List.{AllByRecursion}
 use Rattle.fb_rows.specs.declared.run.Run.{Run}
-use Rattle.fb_model.specs.Inputs.{Inputs}
-use Rattle.fb_model.specs.Content.{fore_rows}
+use Rattle.fb_rows.specs.Ranges.{HasRanges, HasBackRanges}
+use Rattle.fb_rows.specs.Tasks.{HasNamedTask}
+use Rattle.fb_model.specs.FullRun.{IsFull}
+use Rattle.fb_report.specs.Back.{back_text}
 use Rattle.fb_report.specs.Fore.{fore_text}
 use Rattle.fb_report.specs.Summary.{summary_text}
-use Rattle.fb_desk.specs.View.{DeskView}
-use Rattle.fb_desk.specs.declared.desk.Output.{Output}
-use Rattle.fb_desk.specs.declared.desk.Output.TheVariants.{Fore, Note}
+use Rattle.fb_desk.specs.View.{DeskView, OutputView}
+use Rattle.fb_desk.specs.declared.desk.Output.TheVariants.{Fore, Back}
 use Rattle.fb_words.specs.Command.{ReplayTerms}
-use Rattle.fb_top.specs.Read.{Accepts, inputs_of}
-use Rattle.fb_top.specs.Built.{is_built}
-use Rattle.fb_top.specs.Streams.{IsFront}
+use Rattle.fb_top.specs.declared.outcome.Outcome.{Outcome}
+use Rattle.fb_top.specs.declared.outcome.Outcome.TheVariants as outcomes
+use Rattle.fb_top.specs.Read.{Files, Accepts, inputs_of, key_of}
+use Rattle.fb_top.specs.Written.{HoldsWhole, KeepsButBoth, CutsOff, CutsSecond, OutputFaultsRose}
 
--- the run's foreground is the plain replay of these inputs
-pub record IsPlainRun (inputs : Inputs) (run : Run) : Type 0 where
-  pub fore : run.fore ≡ fore_rows inputs
-  pub passed_over : run.passed_over ≡ inputs.passed_over
-
--- the run of the accepted inputs, whose foreground alone is wanted
+-- the full run of the accepted files
 pub record IsRunOf (desk : DeskView) (terms : ReplayTerms) (run : Run) : Type 0 where
-  pub built : is_built terms ≡ true
-  pub accepts : Accepts desk terms
-  pub plain : IsPlainRun (inputs_of terms accepts.disk accepts.latent accepts.trace) run
+  pub files : Files
+  pub accepts : Accepts desk terms files
+  pub full : IsFull (inputs_of files (key_of terms.policy) terms.until) run
 
--- what the words want to be told of a run: its summary, or the text of its foreground
-abbrev pub told_of : ReplayTerms → ℕ → Run → List ℕ
-told_of terms sector_bytes run = if terms.summary then summary_text run else fore_text sector_bytes terms.bytes run
+-- rows whose contents and tasks can be told
+pub record CanBeTold (names : List (List ℕ)) (run : Run) : Type 0 where
+  pub fore : AllByRecursion HasRanges run.fore
+  pub back : AllByRecursion HasBackRanges run.back
+  pub named : AllByRecursion (HasNamedTask names) run.back
 
-abbrev pub text_of : (desk : DeskView) (terms : ReplayTerms) (run : Run) → IsRunOf desk terms run → List ℕ
-text_of desk terms run is_run = told_of terms is_run.accepts.disk.sector_bytes run
+-- what the words want to be told of a run's foreground: its text, or the summary of the run
+abbrev pub fore_told : ReplayTerms → Files → Run → List ℕ
+fore_told terms files run = if terms.summary then summary_text run else fore_text files.disk.sector_bytes terms.bytes run
 
--- no output but the foreground and the note has changed
-abbrev pub KeepsOthers : DeskView → DeskView → Type 0
-KeepsOthers old new = (output : Output) → output ≢ Fore → output ≢ Note → new.outputs output ≡ old.outputs output
+-- the text of its background
+abbrev pub back_told : ReplayTerms → Files → Run → List ℕ
+back_told terms files run = back_text files.script.names files.disk.sector_bytes terms.bytes run
 
--- the run is that of the inputs that were read, its text is what the foreground holds, and nothing else was written
+-- the text under the name that is given; without one the output is as it was
+abbrev pub HoldsWanted : Option (List ℕ) → List ℕ → OutputView → OutputView → Type 0
+HoldsWanted None text old new = new ≡ old
+HoldsWanted (Some name) text old new = HoldsWhole new name text
+
+-- the foreground is told under the name `-`, the background under the name that the words give, if they give one, and nothing else was written
+pub record HoldsReports (terms : ReplayTerms) (files : Files) (run : Run) (old new : DeskView) : Type 0 where
+  pub others : KeepsButBoth Fore Back old new
+  pub fore : HoldsWhole (new.outputs Fore) (codes "-") (fore_told terms files run)
+  pub back : HoldsWanted terms.back (back_told terms files run) (old.outputs Back) (new.outputs Back)
+
+-- the foreground was cut off
+abbrev pub CutsFore : ReplayTerms → Files → Run → DeskView → DeskView → Type 0
+CutsFore terms files run old new = CutsOff Fore (fore_told terms files run) old new
+
+-- or the background, which the words want, behind the whole foreground
+abbrev pub CutsBack : ReplayTerms → Files → Run → DeskView → DeskView → Type 0
+CutsBack terms files run old new = (is_some terms.back ≡ true) × CutsSecond Fore Back (codes "-") (fore_told terms files run) (back_told terms files run) old new
+
+-- why the reports of a run were not written whole
+abbrev pub StopsReports : ReplayTerms → Files → Run → DeskView → DeskView → Outcome → Type 0
+StopsReports terms files run old new (outcomes.WriteFault Fore) = OutputFaultsRose old new Fore × CutsFore terms files run old new
+StopsReports terms files run old new (outcomes.WriteFault Back) = OutputFaultsRose old new Back × CutsBack terms files run old new
+StopsReports terms files run old new outcomes.NoMemory = CutsFore terms files run old new ⊎ CutsBack terms files run old new
+StopsReports terms files run old new _ = ⊥
+
+-- the run is that of the files that were accepted, and its reports are written
 pub record IsDone (old new : DeskView) (terms : ReplayTerms) (run : Run) : Type 0 where
-  pub others : KeepsOthers old new
   pub is_run : IsRunOf old terms run
-  pub name : IfSome (new.outputs Fore).name (λ name. name ≡ codes "-")
-  pub written : IfSome (new.outputs Fore).written (λ bytes. bytes ≡ text_of old terms run is_run)
+  pub reports : HoldsReports terms is_run.files run old new
 
--- the foreground holds a front of the text of that run, if it is begun, and nothing else was written
-pub record IsCutOff (old new : DeskView) (terms : ReplayTerms) : Type 0 where
-  pub others : KeepsOthers old new
+-- there is such a run, and its reports were not written whole
+pub record IsCutShort (old new : DeskView) (terms : ReplayTerms) (outcome : Outcome) : Type 0 where
   pub run : Run
   pub is_run : IsRunOf old terms run
-  pub front : (new.outputs Fore).begun ≡ true → IfSome (new.outputs Fore).written (λ bytes. IsFront bytes (text_of old terms run is_run))
+  pub stops : StopsReports terms is_run.files run old new outcome

@@ -1,11 +1,12 @@
 pub mod Streams
+pub mod Written
 pub mod Read
-pub mod Built
 pub mod Done
 pub mod Causes
 pub mod Make
 pub mod Answers
 pub mod Complete
+pub mod Untouched
 pub mod Status
 pub mod Notes
 pub mod Noted

@@ -9,6 +9,8 @@ use Rattle.fb_params.specs.declared.fault.ParamsFault.{ParamsFault}
 use Rattle.fb_params.specs.declared.fault.ParamsFault.TheVariants as params
 use Rattle.fb_trace.specs.declared.trace.TraceReason.{TraceReason}
 use Rattle.fb_trace.specs.declared.trace.TraceReason.TheVariants as trace
+use Rattle.fb_calls.specs.declared.fault.CallsReason.{CallsReason}
+use Rattle.fb_calls.specs.declared.fault.CallsReason.TheVariants as calls
 use Rattle.fb_report.specs.Lines.{track_text}
 use Rattle.fb_words.specs.declared.fault.UsageReason.{UsageReason}
 use Rattle.fb_words.specs.declared.fault.UsageReason.TheVariants as usage
@@ -37,7 +39,6 @@ usage_reason usage.OptionTwice = codes "OptionTwice"
 usage_reason usage.BadValue = codes "BadValue"
 usage_reason (usage.MissingOption number) = valued (codes "MissingOption") (decimal number)
 usage_reason usage.CallsAndBack = codes "CallsAndBack"
-usage_reason usage.NotYet = codes "NotYet"
 
 -- why a line of a trace is refused
 abbrev pub trace_reason : TraceReason → List ℕ
@@ -49,6 +50,27 @@ trace_reason trace.Empty = codes "Empty"
 trace_reason trace.TooLarge = codes "TooLarge"
 trace_reason trace.BeyondDisk = codes "BeyondDisk"
 trace_reason trace.TooMany = codes "TooMany"
+
+-- why a line of a script is refused
+abbrev pub calls_reason : CallsReason → List ℕ
+calls_reason calls.BadLine = codes "BadLine"
+calls_reason calls.BadTime = codes "BadTime"
+calls_reason (calls.BadNumber field) = valued (codes "BadNumber") (decimal field)
+calls_reason calls.OutOfOrder = codes "OutOfOrder"
+calls_reason calls.UnknownVerb = codes "UnknownVerb"
+calls_reason calls.UnknownKind = codes "UnknownKind"
+calls_reason calls.TaskTaken = codes "TaskTaken"
+calls_reason calls.UnknownTask = codes "UnknownTask"
+calls_reason calls.Closed = codes "Closed"
+calls_reason calls.WrongKind = codes "WrongKind"
+calls_reason calls.WantedTwice = codes "WantedTwice"
+calls_reason calls.Empty = codes "Empty"
+calls_reason calls.BeyondDisk = codes "BeyondDisk"
+calls_reason calls.TooLarge = codes "TooLarge"
+calls_reason calls.WeightOutOfRange = codes "WeightOutOfRange"
+calls_reason calls.BlockOutOfRange = codes "BlockOutOfRange"
+calls_reason calls.TooManyBlocks = codes "TooManyBlocks"
+calls_reason calls.TooMany = codes "TooMany"
 
 -- why an outline is no disk
 abbrev pub geometry_fault : GeometryFault → List ℕ
@@ -107,6 +129,7 @@ cause_text (outcomes.Made n) = []
 cause_text (outcomes.Usage fault) = numbered (codes "usage: word ") fault.place ++ usage_reason fault.reason
 cause_text (outcomes.Params fault) = codes "params: " ++ params_fault fault
 cause_text (outcomes.Trace fault) = numbered (codes "trace: line ") fault.line ++ trace_reason fault.reason
+cause_text (outcomes.Calls fault) = numbered (codes "calls: line ") fault.line ++ calls_reason fault.reason
 cause_text (outcomes.TooLong input) = codes "too long: " ++ input_text input
 cause_text (outcomes.ReadFault input) = codes "read fault: " ++ input_text input
 cause_text (outcomes.WriteFault output) = codes "write fault: " ++ output_text output

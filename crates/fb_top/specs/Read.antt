@@ -1,17 +1,22 @@
 -- What the accepted inputs of a replay mean.
-use Rattle.std.specs.Prelude.{◌≡◌, ℕ, ◌≤◌, ◌^◌, List, [], length, Ok, Err}
+use Rattle.std.specs.Prelude.{◌≡◌, ℕ, ◌≤◌, ◌^◌, List, [], length, Option, Some, None, Ok, Err}
 use Rattle.fb_geometry.specs.Places.{places}
 use Rattle.fb_service.specs.declared.disk.Disk.{Disk}
 use Rattle.fb_params.specs.Reading.{params_of}
 use Rattle.fb_params.specs.declared.fault.ParamsFault.{ParamsFault}
 use Rattle.fb_trace.specs.Reading.{Accepted, trace_of}
+use Rattle.fb_trace.specs.Verdict.{accepted}
 use Rattle.fb_trace.specs.declared.trace.TraceFault.{TraceFault}
+use Rattle.fb_calls.specs.Reading.{Accepted as Script, calls_of}
+use Rattle.fb_calls.specs.Verdict.{accepted as accepted_calls}
+use Rattle.fb_calls.specs.declared.fault.CallsFault.{CallsFault}
 use Rattle.fb_model.specs.Inputs.{Inputs}
 use Rattle.fb_model.specs.PlainReplay.{Key, fcfs, sstf, clook, sptf}
 use Rattle.fb_desk.specs.View.{DeskView}
 use Rattle.fb_words.specs.declared.command.Policy.{Policy}
 use Rattle.fb_words.specs.declared.command.Policy.TheVariants.{Fcfs, Sstf, Clook, Sptf}
 use Rattle.fb_words.specs.Command.{ReplayTerms}
+use Rattle.fb_top.specs.declared.reading.ReplayFiles.{ReplayFiles}
 use Rattle.fb_top.specs.Streams.{IsHeld}
 
 -- the parameter file under a name is accepted, with this disk and these latent sectors
@@ -42,6 +47,46 @@ pub record RefusesTrace (desk : DeskView) (name : List ℕ) (device : ℕ) (disk
   pub within : length bytes ≤ 2 ^ 28
   pub spells : trace_of device (length (places disk.map)) bytes ≡ Err fault
 
+-- the script under a name is accepted for the disk and a trace of so many requests, with these names and calls
+pub record ReadsCalls (desk : DeskView) (name : List ℕ) (disk : Disk) (traced : ℕ) (script : Script) : Type 0 where
+  pub bytes : List ℕ
+  pub held : IsHeld desk name bytes
+  pub within : length bytes ≤ 2 ^ 26
+  pub spells : calls_of disk.map traced bytes ≡ Ok script
+
+-- or refused, with this fault
+pub record RefusesCalls (desk : DeskView) (name : List ℕ) (disk : Disk) (traced : ℕ) (fault : CallsFault) : Type 0 where
+  pub bytes : List ℕ
+  pub held : IsHeld desk name bytes
+  pub within : length bytes ≤ 2 ^ 26
+  pub spells : calls_of disk.map traced bytes ≡ Err fault
+
+-- the script under the name that is given; without one there are no names and no calls
+abbrev pub ReadsScript : DeskView → Option (List ℕ) → Disk → ℕ → Script → Type 0
+ReadsScript desk None disk traced script = script ≡ record { names = []; calls = [] }
+ReadsScript desk (Some name) disk traced script = ReadsCalls desk name disk traced script
+
+-- what the files of a replay say
+pub record Files : Type 0 where
+  pub disk : Disk
+  pub latent : List ℕ
+  pub trace : Accepted
+  pub script : Script
+
+abbrev pub files_of : ReplayFiles → Files
+files_of read = record {
+  disk = read.params.disk;
+  latent = read.params.latent.items;
+  trace = accepted read.trace;
+  script = accepted_calls read.calls;
+}
+
+-- all files that the words name are accepted, each for those before it, and say this
+pub record Accepts (desk : DeskView) (terms : ReplayTerms) (files : Files) : Type 0 where
+  pub disk : ReadsDisk desk terms.params files.disk files.latent
+  pub trace : ReadsTrace desk terms.trace terms.device files.disk files.trace
+  pub script : ReadsScript desk terms.calls files.disk (length files.trace.requests) files.script
+
 -- the key of a policy
 abbrev pub key_of : Policy → Key
 key_of Fcfs = fcfs
@@ -49,22 +94,14 @@ key_of Sstf = sstf
 key_of Clook = clook
 key_of Sptf = sptf
 
--- what a run is made from; there are no calls
-abbrev pub inputs_of : ReplayTerms → Disk → List ℕ → Accepted → Inputs
-inputs_of terms disk latent trace = record {
-  disk = disk;
-  latent = latent;
-  trace = trace.requests;
-  passed_over = trace.passed_over;
-  calls = [];
-  key = key_of terms.policy;
-  until = terms.until;
+-- what a run is made from
+abbrev pub inputs_of : Files → Key → ℕ → Inputs
+inputs_of files key until = record {
+  disk = files.disk;
+  latent = files.latent;
+  trace = files.trace.requests;
+  passed_over = files.trace.passed_over;
+  calls = files.script.calls;
+  key = key;
+  until = until;
 }
-
--- all inputs that the words name are accepted
-pub record Accepts (desk : DeskView) (terms : ReplayTerms) : Type 0 where
-  pub disk : Disk
-  pub latent : List ℕ
-  pub trace : Accepted
-  pub reads_disk : ReadsDisk desk terms.params disk latent
-  pub reads_trace : ReadsTrace desk terms.trace terms.device disk trace

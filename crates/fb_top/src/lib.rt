@@ -1,12 +1,17 @@
-//! The top call: it reads the words, then the inputs that they name, replays, and writes the report.
+//! The top call: it reads the words, then the inputs that they name, replays, and writes the reports.
 //!
 //! `run_command` answers with an outcome, and each outcome has its cause among what was read and
-//! among the desk's counts of faults; what was written is the text of the very run that it answers.
+//! among the desk's counts of faults; what was written are the texts of the very run that it answers.
 #![tactic(auto)]
 
+#[cfg(test)]
+mod back_tests;
+#[cfg(test)]
+mod calls_tests;
 mod command;
 #[cfg(test)]
 mod fault_tests;
+mod lines;
 mod make;
 #[cfg(test)]
 mod make_tests;
@@ -24,8 +29,10 @@ mod report;
 mod streams;
 #[cfg(test)]
 mod test_desk;
+mod untouched;
 mod writing;
 
 pub use command::run_command;
 pub use note::note_text;
 pub use outcome::{Outcome, status};
+pub use untouched::scripts_leave_the_foreground;

@@ -8,7 +8,8 @@ ghost use Rattle.fb_words.specs.Limits.{IsWithinLimits};
 ghost use Rattle.fb_words.specs.Verdict.{make_terms};
 ghost use Rattle.fb_maker.specs.Trace.{made_trace};
 ghost use Rattle.fb_maker.specs.Script.{script_text};
-ghost use Rattle.fb_top.specs.Make.{MakeHasCause, HoldsWhole, StopsMade};
+ghost use Rattle.fb_top.specs.Make.{MakeHasCause};
+ghost use Rattle.fb_top.specs.Written.{HoldsWhole, StopsText};
 
 use crate::Outcome;
 use crate::reading::read_disk;
@@ -58,7 +59,7 @@ fn write_trace<D: Desk>(
     requires few { sectors ≤ 10 ^ 12 }
     ensures only { ChangesOutput Output.MadeTrace (D.seen desk.old) (D.seen desk.new) }
     ensures whole { OnOk result (HoldsWhole ((D.seen desk.new).outputs Output.MadeTrace) (string_bytes words.now.trace) (made_trace words.now.number words.now.device sectors words.now.requests)) }
-    ensures stops { IfErr result (StopsMade Output.MadeTrace (made_trace words.now.number words.now.device sectors words.now.requests) (D.seen desk.old) (D.seen desk.new)) }
+    ensures stops { IfErr result (StopsText Output.MadeTrace (made_trace words.now.number words.now.device sectors words.now.requests) (D.seen desk.old) (D.seen desk.new)) }
 {
     match desk.begin_output(Output::MadeTrace, words.trace.as_str()) {
         Ok(()) => {}
@@ -88,7 +89,7 @@ fn write_calls<D: Desk>(
     requires fresh { ((D.seen desk.old).outputs Output.MadeCalls).begun ≡ false }
     ensures only { ChangesOutput Output.MadeCalls (D.seen desk.old) (D.seen desk.new) }
     ensures whole { OnOk result (HoldsWhole ((D.seen desk.new).outputs Output.MadeCalls) name.now (script_text map.now)) }
-    ensures stops { IfErr result (StopsMade Output.MadeCalls (script_text map.now) (D.seen desk.old) (D.seen desk.new)) }
+    ensures stops { IfErr result (StopsText Output.MadeCalls (script_text map.now) (D.seen desk.old) (D.seen desk.new)) }
 {
     match desk.begin_output(Output::MadeCalls, name) {
         Ok(()) => {}

@@ -3,7 +3,9 @@ ghost use Rattle.std.specs.Prelude.{◌≡◌, ◌++◌, IfOk, OnOk};
 ghost use Rattle.fb_top.specs.Notes.{cause_text, input_text, note_of, output_text};
 
 use crate::Outcome;
-use crate::note_faults::{push_params_fault, push_trace_reason, push_usage_reason};
+use crate::note_faults::{
+    push_calls_reason, push_params_fault, push_trace_reason, push_usage_reason,
+};
 use crate::note_words::{push_numbered, push_words};
 use fb_desk::{Input, Output};
 use fb_units::NoMemory;
@@ -45,6 +47,10 @@ fn push_cause(text: &mut Vec<u8>, outcome: &Outcome) -> Result<(), NoMemory>
         Outcome::Trace(fault) => {
             push_numbered(text, "trace: line ", fault.line)?;
             push_trace_reason(text, fault.reason)
+        }
+        Outcome::Calls(fault) => {
+            push_numbered(text, "calls: line ", fault.line)?;
+            push_calls_reason(text, fault.reason)
         }
         Outcome::TooLong(input) => push_input(text, "too long: ", *input),
         Outcome::ReadFault(input) => push_input(text, "read fault: ", *input),

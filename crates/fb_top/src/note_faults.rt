@@ -1,10 +1,11 @@
 // Faults in the words of a note.
 ghost use Rattle.std.specs.Prelude.{◌≡◌, ◌++◌, OnOk};
-ghost use Rattle.fb_top.specs.Notes.{usage_reason, trace_reason, geometry_fault, seek_fault, params_fault};
+ghost use Rattle.fb_top.specs.Notes.{usage_reason, trace_reason, calls_reason, geometry_fault, seek_fault, params_fault};
 
 use crate::note_words::{
     push_with_key, push_with_number, push_with_place, push_with_track, push_words,
 };
+use fb_calls::CallsReason;
 use fb_geometry::GeometryFault;
 use fb_params::ParamsFault;
 use fb_seek::SeekFault;
@@ -27,7 +28,6 @@ pub fn push_usage_reason(text: &mut Vec<u8>, reason: UsageReason) -> Result<(), 
             push_with_number(text, "MissingOption", u64::from(number))
         }
         UsageReason::CallsAndBack => push_words(text, "CallsAndBack"),
-        UsageReason::NotYet => push_words(text, "NotYet"),
     }
 }
 
@@ -44,6 +44,32 @@ pub fn push_trace_reason(text: &mut Vec<u8>, reason: TraceReason) -> Result<(), 
         TraceReason::TooLarge => push_words(text, "TooLarge"),
         TraceReason::BeyondDisk => push_words(text, "BeyondDisk"),
         TraceReason::TooMany => push_words(text, "TooMany"),
+    }
+}
+
+// Adds why a line of a script is refused.
+pub fn push_calls_reason(text: &mut Vec<u8>, reason: CallsReason) -> Result<(), NoMemory>
+    ensures { OnOk result (text.new.items ≡ text.old.items ++ calls_reason reason) }
+{
+    match reason {
+        CallsReason::BadLine => push_words(text, "BadLine"),
+        CallsReason::BadTime => push_words(text, "BadTime"),
+        CallsReason::BadNumber(field) => push_with_number(text, "BadNumber", u64::from(field)),
+        CallsReason::OutOfOrder => push_words(text, "OutOfOrder"),
+        CallsReason::UnknownVerb => push_words(text, "UnknownVerb"),
+        CallsReason::UnknownKind => push_words(text, "UnknownKind"),
+        CallsReason::TaskTaken => push_words(text, "TaskTaken"),
+        CallsReason::UnknownTask => push_words(text, "UnknownTask"),
+        CallsReason::Closed => push_words(text, "Closed"),
+        CallsReason::WrongKind => push_words(text, "WrongKind"),
+        CallsReason::WantedTwice => push_words(text, "WantedTwice"),
+        CallsReason::Empty => push_words(text, "Empty"),
+        CallsReason::BeyondDisk => push_words(text, "BeyondDisk"),
+        CallsReason::TooLarge => push_words(text, "TooLarge"),
+        CallsReason::WeightOutOfRange => push_words(text, "WeightOutOfRange"),
+        CallsReason::BlockOutOfRange => push_words(text, "BlockOutOfRange"),
+        CallsReason::TooManyBlocks => push_words(text, "TooManyBlocks"),
+        CallsReason::TooMany => push_words(text, "TooMany"),
     }
 }
 

@@ -2,6 +2,7 @@
 ghost use Rattle.std.specs.Prelude.{◌≡◌};
 ghost use Rattle.fb_top.specs.Status.{status_of};
 
+use fb_calls::CallsFault;
 use fb_desk::{Input, Output};
 use fb_params::ParamsFault;
 use fb_rows::Run;
@@ -11,7 +12,7 @@ use fb_words::UsageFault;
 /// How a command ended.
 #[derive(Drop)]
 pub enum Outcome {
-    /// The replay was made and its report written whole.
+    /// The replay was made and its reports written whole.
     Done(Run),
     /// A trace of so many requests and a call script were made and written whole.
     Made(u64),
@@ -21,6 +22,8 @@ pub enum Outcome {
     Params(ParamsFault),
     /// The trace is refused.
     Trace(TraceFault),
+    /// The call script is refused.
+    Calls(CallsFault),
     /// The input has more bytes than it may have.
     TooLong(Input),
     /// A call that reads the input failed.
@@ -41,6 +44,7 @@ pub fn status(outcome: &Outcome) -> u8
         Outcome::Usage(_) => 2,
         Outcome::Params(_) => 3,
         Outcome::Trace(_) => 4,
+        Outcome::Calls(_) => 5,
         Outcome::ReadFault(_) => 6,
         Outcome::WriteFault(_) => 7,
         Outcome::NoMemory => 8,

@@ -1,72 +1,65 @@
 // The replay by the policy that the words name.
-ghost use Rattle.std.specs.Prelude.{◌≡◌, [], ◌≤◌, ◌^◌, length, IfOk};
-ghost use Rattle.std.specs.List.{AllByRecursion};
-ghost use Rattle.fb_rows.specs.Ranges.{HasRanges};
+ghost use Rattle.std.specs.Prelude.{◌≡◌, [], length, IfOk};
+ghost use Rattle.fb_calls.specs.Allowed.{tasks};
 ghost use Rattle.fb_model.specs.Accepted.{IsAccepted};
-ghost use Rattle.fb_model.specs.Content.{fore_rows};
-ghost use Rattle.fb_top.specs.Read.{key_of};
+ghost use Rattle.fb_model.specs.FullRun.{IsFull};
+ghost use Rattle.fb_top.specs.Done.{CanBeTold};
+ghost use Rattle.fb_top.specs.Read.{files_of, inputs_of, key_of};
 
-use fb_calls::{Calls, Names};
+use crate::reading::ReplayFiles;
+use fb_detour::IndexedPlanner;
 use fb_engine::replay;
 use fb_fastq::{ClookMap, FcfsRing, SptfBuckets, SstfMap};
-use fb_params::Parameters;
-use fb_plan::SlowPlanner;
 use fb_queue::Queue;
 use fb_rows::Run;
-use fb_trace::Trace;
 use fb_units::{NoMemory, Ns};
 use fb_words::Policy;
 use std::alloc::Global;
 
-// The run of a trace on the disk of a parameter file.
+// The full run of what files say.
 pub fn replay_by(
     alloc: Global,
     policy: Policy,
-    params: &Parameters,
-    trace: &Trace,
+    files: &ReplayFiles,
     until: Ns,
 ) -> Result<Run, NoMemory>
-    requires accepted { IsAccepted (record { disk = params.now.disk; latent = params.now.latent.items; trace = trace.now.requests.items; passed_over = trace.now.passed_over; calls = []; key = key_of policy; until = until }) }
-    ensures fore { IfOk result (λ run. run.fore ≡ fore_rows (record { disk = params.now.disk; latent = params.now.latent.items; trace = trace.now.requests.items; passed_over = trace.now.passed_over; calls = []; key = key_of policy; until = until })) }
-    ensures ranges { IfOk result (λ run. AllByRecursion HasRanges run.fore) }
-    ensures passed_over { IfOk result (λ run. run.passed_over ≡ trace.now.passed_over) }
+    requires fit { IsAccepted (inputs_of (files_of files.now) (key_of policy) until) }
+    requires names { length files.now.calls.names ≡ length (tasks files.now.calls.calls.items) }
+    ensures full { IfOk result (IsFull (inputs_of (files_of files.now) (key_of policy) until)) }
+    ensures told { IfOk result (CanBeTold files.now.calls.names) }
 {
     match policy {
-        Policy::Fcfs => replay_in(alloc, params, trace, FcfsRing::new(alloc), until),
-        Policy::Sstf => replay_in(alloc, params, trace, SstfMap::new(alloc), until),
-        Policy::Clook => replay_in(alloc, params, trace, ClookMap::new(alloc), until),
-        Policy::Sptf => replay_in(alloc, params, trace, SptfBuckets::new(alloc), until),
+        Policy::Fcfs => replay_in(alloc, FcfsRing::new(alloc), files, until),
+        Policy::Sstf => replay_in(alloc, SstfMap::new(alloc), files, until),
+        Policy::Clook => replay_in(alloc, ClookMap::new(alloc), files, until),
+        Policy::Sptf => replay_in(alloc, SptfBuckets::new(alloc), files, until),
     }
 }
 
-// The run in the order of a new queue, without calls.
+// The full run in the order of a new queue.
 pub fn replay_in<Q: Queue>(
     alloc: Global,
-    params: &Parameters,
-    trace: &Trace,
     queue: Q,
+    files: &ReplayFiles,
     until: Ns,
 ) -> Result<Run, NoMemory>
     requires empty { Q.pending queue ≡ [] }
     requires fresh { Q.joined queue ≡ 0 }
-    requires accepted { IsAccepted (record { disk = params.now.disk; latent = params.now.latent.items; trace = trace.now.requests.items; passed_over = trace.now.passed_over; calls = []; key = Q.key; until = until }) }
-    ensures fore { IfOk result (λ run. run.fore ≡ fore_rows (record { disk = params.now.disk; latent = params.now.latent.items; trace = trace.now.requests.items; passed_over = trace.now.passed_over; calls = []; key = Q.key; until = until })) }
-    ensures ranges { IfOk result (λ run. AllByRecursion HasRanges run.fore) }
-    ensures passed_over { IfOk result (λ run. run.passed_over ≡ trace.now.passed_over) }
+    requires fit { IsAccepted (inputs_of (files_of files.now) Q.key until) }
+    requires names { length files.now.calls.names ≡ length (tasks files.now.calls.calls.items) }
+    ensures full { IfOk result (IsFull (inputs_of (files_of files.now) Q.key until)) }
+    ensures told { IfOk result (CanBeTold files.now.calls.names) }
 {
-    let calls = Calls {
-        names: Names::new(alloc),
-        calls: Vec::new(alloc),
-    };
-    let latent = params.latent.as_slice();
+    let disk = &files.params.disk;
+    let latent = files.params.latent.as_slice();
     replay(
         alloc,
-        &params.disk,
+        disk,
         latent,
-        trace,
-        &calls,
+        &files.trace,
+        &files.calls,
         queue,
-        &SlowPlanner,
+        &IndexedPlanner,
         until,
     )
 }

@@ -1,24 +1,85 @@
 // The inputs of a replay, each read whole and judged before the next.
-ghost use Rattle.std.specs.Prelude.{◌≡◌, ◌<◌, false, length, IfOk, IfErr};
+ghost use Rattle.std.specs.Prelude.{◌≡◌, ℕ, ◌<◌, ◌≤◌, ◌^◌, [], false, length, IfOk, IfErr};
 ghost use Rattle.std.specs.List.{AllByRecursion};
+ghost use Rattle.std.specs.Option.{option_map};
+ghost use Rattle.std.specs.String.{string_bytes};
 ghost use Rattle.fb_geometry.specs.Places.{places};
 ghost use Rattle.fb_desk.specs.Calls.{ChangesInput};
+ghost use Rattle.fb_desk.specs.View.{IsUnused};
+ghost use Rattle.fb_desk.specs.declared.desk.Output.{Output};
 ghost use Rattle.fb_trace.specs.Servable.{IsTraceOf};
 ghost use Rattle.fb_trace.specs.Verdict.{accepted};
-ghost use Rattle.fb_top.specs.Read.{ReadsDisk, ReadsTrace};
-ghost use Rattle.fb_top.specs.Causes.{StopsDisk, StopsTrace};
+ghost use Rattle.fb_calls.specs.Allowed.{IsScript, tasks};
+ghost use Rattle.fb_calls.specs.Verdict.{accepted as accepted_calls};
+ghost use Rattle.fb_model.specs.Accepted.{IsAccepted};
+ghost use Rattle.fb_model.specs.PlainReplay.{Key};
+ghost use Rattle.fb_words.specs.Verdict.{replay_terms};
+ghost use Rattle.fb_top.specs.Read.{Accepts, ReadsCalls, ReadsDisk, ReadsScript, ReadsTrace, files_of, inputs_of};
+ghost use Rattle.fb_top.specs.Causes.{HasCause, StopsCalls, StopsDisk, StopsScript, StopsTrace};
 
 use crate::Outcome;
 use crate::streams::{InputError, read_whole};
+use fb_calls::{Calls, CallsError, Names, read_calls};
 use fb_desk::{Desk, Input};
 use fb_params::{Parameters, ParamsError, read_params};
 use fb_service::Disk;
 use fb_trace::{Trace, TraceError, read_trace};
+use fb_words::ReplayWords;
 use std::alloc::Global;
 
 const PARAMS_LIMIT: usize = 1 << 20;
 
 const TRACE_LIMIT: usize = 1 << 28;
+
+const CALLS_LIMIT: usize = 1 << 26;
+
+/// What the files of a replay say.
+#[derive(Drop)]
+pub struct ReplayFiles {
+    pub params: Parameters,
+    pub trace: Trace,
+    pub calls: Calls,
+}
+
+// The files that the words name: the parameter file, then the trace, then the script, where they
+// name one.
+pub fn read_inputs<D: Desk>(
+    alloc: Global,
+    desk: &mut D,
+    words: &ReplayWords,
+) -> Result<ReplayFiles, Outcome>
+    requires { IsUnused (D.seen desk.old) }
+    ensures outputs { (output : Output) → (D.seen desk.new).outputs output ≡ (D.seen desk.old).outputs output }
+    ensures accepts { IfOk result (λ files. Accepts (D.seen desk.old) (replay_terms words.now) (files_of files)) }
+    ensures fit { IfOk result (λ files. (key : Key) (until : ℕ) → until ≤ 10 ^ 15 → IsAccepted (inputs_of (files_of files) key until)) }
+    ensures names { IfOk result (λ files. length files.calls.names ≡ length (tasks files.calls.calls.items)) }
+    ensures cause { IfErr result (HasCause (replay_terms words.now) (D.seen desk.old) (D.seen desk.new)) }
+{
+    let params = match read_disk(alloc, desk, words.params.as_str()) {
+        Ok(params) => params,
+        Err(outcome) => return Err(outcome),
+    };
+    let trace = match read_requests(
+        alloc,
+        desk,
+        words.trace.as_str(),
+        words.device,
+        &params.disk,
+    ) {
+        Ok(trace) => trace,
+        Err(outcome) => return Err(outcome),
+    };
+    let requests = trace.requests.as_slice();
+    let traced = requests.len() as u64;
+    match read_script(alloc, desk, &words.calls, &params.disk, traced) {
+        Ok(calls) => Ok(ReplayFiles {
+            params,
+            trace,
+            calls,
+        }),
+        Err(outcome) => Err(outcome),
+    }
+}
 
 // The parameter file under this name.
 pub fn read_disk<D: Desk>(alloc: Global, desk: &mut D, name: &str) -> Result<Parameters, Outcome>
@@ -42,7 +103,7 @@ pub fn read_disk<D: Desk>(alloc: Global, desk: &mut D, name: &str) -> Result<Par
 }
 
 // The trace under this name, of one device.
-pub fn read_requests<D: Desk>(
+fn read_requests<D: Desk>(
     alloc: Global,
     desk: &mut D,
     name: &str,
@@ -65,5 +126,65 @@ pub fn read_requests<D: Desk>(
         Ok(trace) => Ok(trace),
         Err(TraceError::Fault(fault)) => Err(Outcome::Trace(fault)),
         Err(TraceError::NoMemory) => Err(Outcome::NoMemory),
+    }
+}
+
+// The script under the name that is given, or an empty one without a name.
+fn read_script<D: Desk>(
+    alloc: Global,
+    desk: &mut D,
+    name: &Option<String>,
+    disk: &Disk,
+    traced: u64,
+) -> Result<Calls, Outcome>
+    requires { ((D.seen desk.old).inputs Input.Calls).opened ≡ false }
+    ensures only { ChangesInput Input.Calls (D.seen desk.old) (D.seen desk.new) }
+    ensures script { IfOk result (λ calls. ReadsScript (D.seen desk.old) (option_map string_bytes name.now) disk.now traced (accepted_calls calls)) }
+    ensures fit { IfOk result (λ calls. IsScript disk.now.map traced calls.calls.items) }
+    ensures names { IfOk result (λ calls. length calls.names ≡ length (tasks calls.calls.items)) }
+    ensures stops { IfErr result (StopsScript (option_map string_bytes name.now) disk.now traced (D.seen desk.old) (D.seen desk.new)) }
+{
+    match name {
+        Some(name) => read_named_script(alloc, desk, name.as_str(), disk, traced),
+        None => Ok(no_calls(alloc)),
+    }
+}
+
+// The script under this name, behind a trace of so many requests.
+fn read_named_script<D: Desk>(
+    alloc: Global,
+    desk: &mut D,
+    name: &str,
+    disk: &Disk,
+    traced: u64,
+) -> Result<Calls, Outcome>
+    requires { ((D.seen desk.old).inputs Input.Calls).opened ≡ false }
+    ensures only { ChangesInput Input.Calls (D.seen desk.old) (D.seen desk.new) }
+    ensures script { IfOk result (λ calls. ReadsCalls (D.seen desk.old) name.now disk.now traced (accepted_calls calls)) }
+    ensures fit { IfOk result (λ calls. IsScript disk.now.map traced calls.calls.items) }
+    ensures names { IfOk result (λ calls. length calls.names ≡ length (tasks calls.calls.items)) }
+    ensures stops { IfErr result (StopsCalls name.now disk.now traced (D.seen desk.old) (D.seen desk.new)) }
+{
+    let bytes = match read_whole(alloc, desk, Input::Calls, name, CALLS_LIMIT) {
+        Ok(bytes) => bytes,
+        Err(InputError::Failed) => return Err(Outcome::ReadFault(Input::Calls)),
+        Err(InputError::TooLong) => return Err(Outcome::TooLong(Input::Calls)),
+        Err(InputError::NoMemory) => return Err(Outcome::NoMemory),
+    };
+    match read_calls(alloc, bytes.as_slice(), &disk.map, traced) {
+        Ok(calls) => Ok(calls),
+        Err(CallsError::Fault(fault)) => Err(Outcome::Calls(fault)),
+        Err(CallsError::NoMemory) => Err(Outcome::NoMemory),
+    }
+}
+
+// The script without calls.
+pub fn no_calls(alloc: Global) -> Calls
+    ensures names { result.names ≡ [] }
+    ensures calls { result.calls.items ≡ [] }
+{
+    Calls {
+        names: Names::new(alloc),
+        calls: Vec::new(alloc),
     }
 }

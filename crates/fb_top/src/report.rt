@@ -1,53 +1,82 @@
 // What the words want to be told of a run.
-ghost use Rattle.std.specs.Prelude.{◌≡◌, ◌%◌, false, codes, IfErr, IfSome, OnOk};
-ghost use Rattle.std.specs.List.{AllByRecursion};
-ghost use Rattle.fb_rows.specs.Ranges.{HasRanges};
+ghost use Rattle.std.specs.Prelude.{◌≡◌, false, codes, IfErr, OnOk};
+ghost use Rattle.fb_report.specs.Back.{back_text};
 ghost use Rattle.fb_report.specs.Summary.{summary_text};
 ghost use Rattle.fb_desk.specs.Calls.{ChangesOutput};
 ghost use Rattle.fb_words.specs.Verdict.{replay_terms};
-ghost use Rattle.fb_top.specs.Causes.{StopsFore};
-ghost use Rattle.fb_top.specs.Done.{told_of};
+ghost use Rattle.fb_top.specs.Read.{files_of};
+ghost use Rattle.fb_top.specs.Written.{HoldsWhole, StopsText};
+ghost use Rattle.fb_top.specs.Done.{CanBeTold, HoldsReports, StopsReports, fore_told};
 
 use crate::Outcome;
+use crate::lines::{BackLines, ForeLines};
+use crate::reading::ReplayFiles;
 use crate::streams::write_whole;
-use crate::writing::write_fore;
+use crate::writing::write_lines;
 use fb_desk::{Desk, Failed, Output};
-use fb_report::summary_text;
+use fb_report::{Bytes, summary_text};
 use fb_rows::Run;
 use fb_units::NoMemory;
 use fb_words::ReplayWords;
 use std::alloc::Global;
 
-// Writes the report of a run, or its summary, to the foreground, under the name `-`.
-pub fn write_report<D: Desk>(
+// Writes the foreground report of a run, or its summary, and behind it the background report, where
+// one is wanted.
+pub fn write_reports<D: Desk>(
     alloc: Global,
     desk: &mut D,
     words: &ReplayWords,
+    files: &ReplayFiles,
     run: &Run,
-    sector_bytes: u32,
+) -> Result<(), Outcome>
+    requires fresh_fore { ((D.seen desk.old).outputs Output.Fore).begun ≡ false }
+    requires fresh_back { ((D.seen desk.old).outputs Output.Back).begun ≡ false }
+    requires told { CanBeTold files.now.calls.names run.now }
+    ensures whole { OnOk result (HoldsReports (replay_terms words.now) (files_of files.now) run.now (D.seen desk.old) (D.seen desk.new)) }
+    ensures stops { IfErr result (StopsReports (replay_terms words.now) (files_of files.now) run.now (D.seen desk.old) (D.seen desk.new)) }
+    ensures no_note { (D.seen desk.new).outputs Output.Note ≡ (D.seen desk.old).outputs Output.Note }
+{
+    match write_fore(alloc, desk, words, files, run) {
+        Ok(()) => {}
+        Err(outcome) => return Err(outcome),
+    }
+    match &words.back {
+        Some(name) => write_back(alloc, desk, name.as_str(), words.bytes, files, run),
+        None => Ok(()),
+    }
+}
+
+// Writes the foreground report of a run, or its summary, under the name `-`.
+fn write_fore<D: Desk>(
+    alloc: Global,
+    desk: &mut D,
+    words: &ReplayWords,
+    files: &ReplayFiles,
+    run: &Run,
 ) -> Result<(), Outcome>
     requires fresh { ((D.seen desk.old).outputs Output.Fore).begun ≡ false }
-    requires whole { sector_bytes % 16 ≡ 0 }
-    requires ranges { AllByRecursion HasRanges run.now.fore }
+    requires told { CanBeTold files.now.calls.names run.now }
     ensures only { ChangesOutput Output.Fore (D.seen desk.old) (D.seen desk.new) }
-    ensures name { OnOk result (IfSome ((D.seen desk.new).outputs Output.Fore).name (λ name. name ≡ codes "-")) }
-    ensures written { OnOk result (IfSome ((D.seen desk.new).outputs Output.Fore).written (λ text. text ≡ told_of (replay_terms words.now) sector_bytes run.now)) }
-    ensures stops { IfErr result (StopsFore (told_of (replay_terms words.now) sector_bytes run.now) (D.seen desk.old) (D.seen desk.new)) }
+    ensures whole { OnOk result (HoldsWhole ((D.seen desk.new).outputs Output.Fore) (codes "-") (fore_told (replay_terms words.now) (files_of files.now) run.now)) }
+    ensures stops { IfErr result (StopsText Output.Fore (fore_told (replay_terms words.now) (files_of files.now) run.now) (D.seen desk.old) (D.seen desk.new)) }
 {
     if words.summary {
-        write_summary(alloc, desk, run)
-    } else {
-        write_fore(alloc, desk, run, sector_bytes, words.bytes)
+        return write_summary(alloc, desk, run);
     }
+    let lines = ForeLines {
+        run,
+        sector_bytes: files.params.disk.sector_bytes,
+        bytes: words.bytes,
+    };
+    write_lines(alloc, desk, Output::Fore, "-", &lines)
 }
 
 // Writes the summary of a run to the foreground, under the name `-`.
 fn write_summary<D: Desk>(alloc: Global, desk: &mut D, run: &Run) -> Result<(), Outcome>
     requires fresh { ((D.seen desk.old).outputs Output.Fore).begun ≡ false }
     ensures only { ChangesOutput Output.Fore (D.seen desk.old) (D.seen desk.new) }
-    ensures name { OnOk result (IfSome ((D.seen desk.new).outputs Output.Fore).name (λ name. name ≡ codes "-")) }
-    ensures written { OnOk result (IfSome ((D.seen desk.new).outputs Output.Fore).written (λ text. text ≡ summary_text run.now)) }
-    ensures stops { IfErr result (StopsFore (summary_text run.now) (D.seen desk.old) (D.seen desk.new)) }
+    ensures whole { OnOk result (HoldsWhole ((D.seen desk.new).outputs Output.Fore) (codes "-") (summary_text run.now)) }
+    ensures stops { IfErr result (StopsText Output.Fore (summary_text run.now) (D.seen desk.old) (D.seen desk.new)) }
 {
     match desk.begin_output(Output::Fore, "-") {
         Ok(()) => {}
@@ -61,4 +90,28 @@ fn write_summary<D: Desk>(alloc: Global, desk: &mut D, run: &Run) -> Result<(), 
         Ok(()) => Ok(()),
         Err(Failed) => Err(Outcome::WriteFault(Output::Fore)),
     }
+}
+
+// Writes the background report of a run under a name.
+fn write_back<D: Desk>(
+    alloc: Global,
+    desk: &mut D,
+    name: &str,
+    bytes: Bytes,
+    files: &ReplayFiles,
+    run: &Run,
+) -> Result<(), Outcome>
+    requires fresh { ((D.seen desk.old).outputs Output.Back).begun ≡ false }
+    requires told { CanBeTold files.now.calls.names run.now }
+    ensures only { ChangesOutput Output.Back (D.seen desk.old) (D.seen desk.new) }
+    ensures whole { OnOk result (HoldsWhole ((D.seen desk.new).outputs Output.Back) name.now (back_text files.now.calls.names files.now.params.disk.sector_bytes bytes run.now)) }
+    ensures stops { IfErr result (StopsText Output.Back (back_text files.now.calls.names files.now.params.disk.sector_bytes bytes run.now) (D.seen desk.old) (D.seen desk.new)) }
+{
+    let lines = BackLines {
+        run,
+        names: &files.calls.names,
+        sector_bytes: files.params.disk.sector_bytes,
+        bytes,
+    };
+    write_lines(alloc, desk, Output::Back, name, &lines)
 }

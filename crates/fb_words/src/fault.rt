@@ -22,8 +22,6 @@ pub enum UsageReason {
     MissingOption(u32),
     /// A replay has a call script and no background report, or the report and no script.
     CallsAndBack,
-    /// The words are a command that isn't built yet.
-    NotYet,
 }
 
 /// The first faulty word, by its place from 0, or the number of words where something is missing.

@@ -1,79 +1,110 @@
-use Rattle.std.proofs.Common.{◌≡◌, ◌+◌, ◌-◌, ◌≤◌, ◌++◌, ◌∷◌, [], suc, length, refl, sym, ap, subst, ◌∙◌, arith}
-use Rattle.std.specs.List.{AllByRecursion}
-use Rattle.std.proofs.lemmas.List.{length-append}
-use Rattle.fb_rows.specs.Ranges.{HasRanges}
-use Rattle.fb_model.specs.PlainReplay.{plain, plain_replay}
-use Rattle.fb_model.specs.Accepted.{IsRequestOf}
-use Rattle.fb_engine.specs.Waiting.{left}
-use Rattle.fb_engine.proofs.Readiness.{first_left, none_left, all_join}
-use Rattle.fb_engine.proofs.Passed.{written_after}
-use Rattle.fb_engine.proofs.Replayed.{Replayed, replayed_more, whole_fore, is_trace}
+use Rattle.std.proofs.Common.{length, sym, ap, subst, ◌∙◌}
+use Rattle.fb_rows.specs.Ranges.{HasBackRanges}
+use Rattle.fb_rows.specs.Tasks.{HasNamedTask}
+use Rattle.fb_calls.specs.Allowed.{tasks}
+use Rattle.fb_model.specs.Foreground.{foreground_list}
+use Rattle.fb_model.specs.Course.{history}
+use Rattle.fb_engine.specs.Waiting.{IsTraceOf}
+use Rattle.fb_engine.proofs.Passed.{all_weaker}
+use Rattle.fb_engine.proofs.FittingRows.{RowFits}
+use Rattle.fb_engine.proofs.Begun.{begins}
+use Rattle.fb_engine.proofs.Looping.{known_inputs, going, over, now_waits, now_come, now_stands, now_early, now_called, come_further, fewer_left}
+use Rattle.fb_engine.proofs.Ended.{is_full, rows_fit}
 use Rattle.fb_engine.proofs.engine.replay.Goals as goal
 
-pub loop-init : goal.loop-init
-loop-init g c =
-    let requests = c.as_slice-requests.result.now in
-    let key = g.Q.Queue.key in
-    let all : left requests 0 (g.Q.Queue.pending c.args.queue) ≡ requests = first_left requests (g.Q.Queue.pending c.args.queue) c.requires.empty in
-    let trace = is_trace _ c.args.disk.now requests refl c.as_slice-requests.ensures.value c.requires.accepted in
-    record {
-      so_far = (
-        [],
-        record {
-          all = ap (plain (length requests - 0) c.args.disk.now key (record { cylinder = 0; head = 0 }) 0) all ∙ ap (λ n. plain n c.args.disk.now key (record { cylinder = 0; head = 0 }) 0 requests) (omega arith);
-          rows_are = c.new-rows.ensures;
-          ended = tt;
-          holds = c.in_ok-store.ensures;
-        },
-      );
-      waiting = record {
-        within = omega arith;
-        counted = c.requires.fresh;
-        arrived = subst (AllByRecursion (λ r. r.arrival ≤ 0)) (sym c.requires.empty) tt;
-        on_disk = subst (AllByRecursion (IsRequestOf c.args.disk.now.map)) (sym all) trace.on_disk;
-      };
-      count = omega (arith, ap length all);
-      head = record { cylinder = c.args.disk.now.some_cylinders; head = c.args.disk.now.some_heads };
-      ranges = subst (AllByRecursion HasRanges) (sym c.new-rows.ensures) tt;
-      made = ap length c.new-rows.ensures;
-      soon = omega arith;
-    }
+pub loop-goes_on-init : goal.loop-goes_on-init
+loop-goes_on-init g c =
+    begins _ c.in_ok-course.course (g.Q.Queue.pending c.args.queue) (g.Q.Queue.joined c.args.queue)
+    (known_inputs _ c.requires.accepted c.foreground_lists_ascend.ensures c.disk_is_sound.ensures.sound c.disk_is_sound.ensures.takes_time) c.in_ok-course.ensures c.requires.empty c.requires.fresh
 
-pub decide-requires-clause-trace : goal.decide-requires-clause-trace
-decide-requires-clause-trace g c = is_trace _ c.args.disk.now c.as_slice-requests.result.now refl c.as_slice-requests.ensures.value c.requires.accepted
+pub decide-requires-clause-list : goal.decide-requires-clause-list
+decide-requires-clause-list g c =
+    subst (IsTraceOf c.args.disk.now) (sym (c.as_slice-requests.ensures.value ∙ c.in_ok-requests.ensures ∙ ap (λ trace. foreground_list trace c.args.calls.now.calls.items) c.as_slice.ensures.value))
+    (known_inputs _ c.requires.accepted c.foreground_lists_ascend.ensures c.disk_is_sound.ensures.sound c.disk_is_sound.ensures.takes_time).list
 
-pub loop-preserved : goal.loop-preserved
-loop-preserved g c =
-    let l = c.loop in
-    let made = c.in_ok-decision.ensures in
-    let decision = c.in_ok-decision.decision in
-    let requests = c.as_slice-requests.result.now in
-    let rest = left requests decision.next (g.Q.Queue.pending c.decide.new.queue) in
-    let n = length requests - (l.counter + 1) in
-    record {
-      so_far = (
-        _,
-        replayed_more c.args.disk.now c.args.latent.now _ l.invariant.so_far.0 _ (plain n c.args.disk.now g.Q.Queue.key decision.head decision.row.finish rest) l.head l.now
-            decision.row.start decision.row.finish decision.row.request l.rows c.push.new.self decision.row l.store c.decide.new.store
-            l.invariant.so_far.1 (ap (λ m. plain m c.args.disk.now g.Q.Queue.key l.head l.now (left requests l.next (g.Q.Queue.pending l.queue))) (omega arith) ∙ made.next n) c.in_ok-push.ensures.ok
-            made.row made.from (omega (arith, made.later)) made.row.finish made.each
-            (written_after n c.args.disk.now g.Q.Queue.key decision.head decision.row.finish rest) made.leaves,
-      );
-      waiting = made.waiting;
-      count = omega (arith, made.count);
-      head = made.head;
-      ranges = subst (AllByRecursion HasRanges) (sym c.in_ok-push.ensures.ok) (all_join HasRanges l.rows (decision.row ∷ []) l.invariant.ranges (made.ranges, tt));
-      made = omega (arith, ap length c.in_ok-push.ensures.ok, length-append l.rows (decision.row ∷ []));
-      soon = omega (arith, made.soon);
-    }
+pub decide-requires-clause-waiting : goal.decide-requires-clause-waiting
+decide-requires-clause-waiting g c =
+    now_waits _ c.as_slice-requests.result.now
+    (c.as_slice-requests.ensures.value ∙ c.in_ok-requests.ensures ∙ ap (λ trace. foreground_list trace c.args.calls.now.calls.items) c.as_slice.ensures.value)
+    c.loop-goes_on.course (g.Q.Queue.pending c.loop-goes_on.queue) (g.Q.Queue.joined c.loop-goes_on.queue)
+    (going _ c.loop-goes_on.goes_on c.loop-goes_on.course (g.Q.Queue.pending c.loop-goes_on.queue) (g.Q.Queue.joined c.loop-goes_on.queue) c.loop-goes_on-test.true c.loop-goes_on.invariant)
 
-pub returns-clause-fore : goal.returns-clause-fore
-returns-clause-fore g c =
-    let l = c.loop in
-    let requests = c.as_slice-requests.result.now in
-    let rest = left requests l.next (g.Q.Queue.pending l.queue) in
-    let none : plain (length requests - l.counter) c.args.disk.now g.Q.Queue.key l.head l.now rest ≡ [] =
-    none_left (length requests - l.counter) c.args.disk.now g.Q.Queue.key l.head l.now rest (omega arith) in
-    whole_fore _ l.rows l.invariant.so_far.0 (plain (length requests - l.counter) c.args.disk.now g.Q.Queue.key l.head l.now rest) l.now l.store c.requires.no_calls none
-    (subst (λ rs. Replayed c.args.disk.now c.args.latent.now (plain_replay c.args.disk.now g.Q.Queue.key rs) (plain (length requests - l.counter) c.args.disk.now g.Q.Queue.key l.head l.now rest) l.rows l.now l.store l.invariant.so_far.0)
-    c.as_slice-requests.ensures.value l.invariant.so_far.1)
+pub decide-requires-clause-come : goal.decide-requires-clause-come
+decide-requires-clause-come g c =
+    now_come _ c.as_slice-requests.result.now
+    (c.as_slice-requests.ensures.value ∙ c.in_ok-requests.ensures ∙ ap (λ trace. foreground_list trace c.args.calls.now.calls.items) c.as_slice.ensures.value)
+    c.loop-goes_on.course (g.Q.Queue.pending c.loop-goes_on.queue) (g.Q.Queue.joined c.loop-goes_on.queue)
+    (going _ c.loop-goes_on.goes_on c.loop-goes_on.course (g.Q.Queue.pending c.loop-goes_on.queue) (g.Q.Queue.joined c.loop-goes_on.queue) c.loop-goes_on-test.true c.loop-goes_on.invariant)
+
+pub decide-requires-clause-head : goal.decide-requires-clause-head
+decide-requires-clause-head g c =
+    now_stands _ c.as_slice-requests.result.now
+    (c.as_slice-requests.ensures.value ∙ c.in_ok-requests.ensures ∙ ap (λ trace. foreground_list trace c.args.calls.now.calls.items) c.as_slice.ensures.value)
+    c.loop-goes_on.course (g.Q.Queue.pending c.loop-goes_on.queue) (g.Q.Queue.joined c.loop-goes_on.queue)
+    (going _ c.loop-goes_on.goes_on c.loop-goes_on.course (g.Q.Queue.pending c.loop-goes_on.queue) (g.Q.Queue.joined c.loop-goes_on.queue) c.loop-goes_on-test.true c.loop-goes_on.invariant)
+
+pub decide-requires-clause-now : goal.decide-requires-clause-now
+decide-requires-clause-now g c =
+    now_early _ c.as_slice-requests.result.now
+    (c.as_slice-requests.ensures.value ∙ c.in_ok-requests.ensures ∙ ap (λ trace. foreground_list trace c.args.calls.now.calls.items) c.as_slice.ensures.value)
+    c.loop-goes_on.course (g.Q.Queue.pending c.loop-goes_on.queue) (g.Q.Queue.joined c.loop-goes_on.queue)
+    (going _ c.loop-goes_on.goes_on c.loop-goes_on.course (g.Q.Queue.pending c.loop-goes_on.queue) (g.Q.Queue.joined c.loop-goes_on.queue) c.loop-goes_on-test.true c.loop-goes_on.invariant)
+    (known_inputs _ c.requires.accepted c.foreground_lists_ascend.ensures c.disk_is_sound.ensures.sound c.disk_is_sound.ensures.takes_time)
+
+pub decide-requires-clause-called : goal.decide-requires-clause-called
+decide-requires-clause-called g c =
+    now_called _ c.as_slice-requests.result.now
+    (c.as_slice-requests.ensures.value ∙ c.in_ok-requests.ensures ∙ ap (λ trace. foreground_list trace c.args.calls.now.calls.items) c.as_slice.ensures.value)
+    c.loop-goes_on.course (g.Q.Queue.pending c.loop-goes_on.queue) (g.Q.Queue.joined c.loop-goes_on.queue)
+    (going _ c.loop-goes_on.goes_on c.loop-goes_on.course (g.Q.Queue.pending c.loop-goes_on.queue) (g.Q.Queue.joined c.loop-goes_on.queue) c.loop-goes_on-test.true c.loop-goes_on.invariant)
+
+pub loop-goes_on-preserved : goal.loop-goes_on-preserved
+loop-goes_on-preserved g c =
+    come_further _ c.as_slice-requests.result.now
+    (c.as_slice-requests.ensures.value ∙ c.in_ok-requests.ensures ∙ ap (λ trace. foreground_list trace c.args.calls.now.calls.items) c.as_slice.ensures.value)
+    c.loop-goes_on.course (g.Q.Queue.pending c.loop-goes_on.queue) (g.Q.Queue.joined c.loop-goes_on.queue)
+    (going _ c.loop-goes_on.goes_on c.loop-goes_on.course (g.Q.Queue.pending c.loop-goes_on.queue) (g.Q.Queue.joined c.loop-goes_on.queue) c.loop-goes_on-test.true c.loop-goes_on.invariant)
+    c.in_ok-goes_on.goes_on c.decide.new.course (g.Q.Queue.pending c.decide.new.queue) (g.Q.Queue.joined c.decide.new.queue)
+    (known_inputs _ c.requires.accepted c.foreground_lists_ascend.ensures c.disk_is_sound.ensures.sound c.disk_is_sound.ensures.takes_time)
+    c.in_ok-goes_on.ensures.decided c.in_ok-goes_on.ensures.waiting
+
+pub loop-goes_on-smaller : goal.loop-goes_on-smaller
+loop-goes_on-smaller g c =
+    fewer_left _ c.as_slice-requests.result.now
+    (c.as_slice-requests.ensures.value ∙ c.in_ok-requests.ensures ∙ ap (λ trace. foreground_list trace c.args.calls.now.calls.items) c.as_slice.ensures.value)
+    c.loop-goes_on.course (g.Q.Queue.pending c.loop-goes_on.queue) (g.Q.Queue.joined c.loop-goes_on.queue)
+    (going _ c.loop-goes_on.goes_on c.loop-goes_on.course (g.Q.Queue.pending c.loop-goes_on.queue) (g.Q.Queue.joined c.loop-goes_on.queue) c.loop-goes_on-test.true c.loop-goes_on.invariant)
+    c.in_ok-goes_on.goes_on c.decide.new.course (g.Q.Queue.pending c.decide.new.queue) (g.Q.Queue.joined c.decide.new.queue)
+    (known_inputs _ c.requires.accepted c.foreground_lists_ascend.ensures c.disk_is_sound.ensures.sound c.disk_is_sound.ensures.takes_time)
+    c.in_ok-goes_on.ensures.decided c.in_ok-goes_on.ensures.waiting
+    c.loop-goes_on.goes_on c.loop-goes_on-test.true
+
+pub task_rows-requires : goal.task_rows-requires
+task_rows-requires g c =
+    let ended = (over _ c.loop-goes_on.goes_on c.loop-goes_on.course (g.Q.Queue.pending c.loop-goes_on.queue) (g.Q.Queue.joined c.loop-goes_on.queue) c.loop-goes_on-test.false c.loop-goes_on.invariant) in
+    (c.args.disk.now.map, history _ ended.0, ended.1.run.tells)
+
+pub returns-clause-full : goal.returns-clause-full
+returns-clause-full g c =
+    let ended = (over _ c.loop-goes_on.goes_on c.loop-goes_on.course (g.Q.Queue.pending c.loop-goes_on.queue) (g.Q.Queue.joined c.loop-goes_on.queue) c.loop-goes_on-test.false c.loop-goes_on.invariant) in
+    is_full _ (known_inputs _ c.requires.accepted c.foreground_lists_ascend.ensures c.disk_is_sound.ensures.sound c.disk_is_sound.ensures.takes_time) c.loop-goes_on.course ended.0 ended.1 c.task_rows.new.rows (c.in_ok-task_rows.ensures c.args.disk.now.map (history _ ended.0) ended.1.run.tells)
+
+pub returns-clause-ranges : goal.returns-clause-ranges
+returns-clause-ranges g c =
+    let ended = (over _ c.loop-goes_on.goes_on c.loop-goes_on.course (g.Q.Queue.pending c.loop-goes_on.queue) (g.Q.Queue.joined c.loop-goes_on.queue) c.loop-goes_on-test.false c.loop-goes_on.invariant) in ended.1.run.ranges
+
+pub returns-clause-few : goal.returns-clause-few
+returns-clause-few g c =
+    let ended = (over _ c.loop-goes_on.goes_on c.loop-goes_on.course (g.Q.Queue.pending c.loop-goes_on.queue) (g.Q.Queue.joined c.loop-goes_on.queue) c.loop-goes_on-test.false c.loop-goes_on.invariant) in ended.1.few
+
+pub returns-clause-back_ranges : goal.returns-clause-back_ranges
+returns-clause-back_ranges g c =
+    let ended = (over _ c.loop-goes_on.goes_on c.loop-goes_on.course (g.Q.Queue.pending c.loop-goes_on.queue) (g.Q.Queue.joined c.loop-goes_on.queue) c.loop-goes_on-test.false c.loop-goes_on.invariant) in
+    all_weaker (RowFits (length (tasks c.args.calls.now.calls.items))) HasBackRanges (λ row fits. fits.ranges) c.task_rows.new.rows
+    (rows_fit _ (known_inputs _ c.requires.accepted c.foreground_lists_ascend.ensures c.disk_is_sound.ensures.sound c.disk_is_sound.ensures.takes_time) c.loop-goes_on.course ended.0 ended.1 c.task_rows.new.rows (c.in_ok-task_rows.ensures c.args.disk.now.map (history _ ended.0) ended.1.run.tells))
+
+pub returns-clause-named : goal.returns-clause-named
+returns-clause-named g c =
+    λ names e. let ended = (over _ c.loop-goes_on.goes_on c.loop-goes_on.course (g.Q.Queue.pending c.loop-goes_on.queue) (g.Q.Queue.joined c.loop-goes_on.queue) c.loop-goes_on-test.false c.loop-goes_on.invariant) in
+    all_weaker (RowFits (length (tasks c.args.calls.now.calls.items))) (HasNamedTask names) (λ row fits. fits.named names e) c.task_rows.new.rows
+    (rows_fit _ (known_inputs _ c.requires.accepted c.foreground_lists_ascend.ensures c.disk_is_sound.ensures.sound c.disk_is_sound.ensures.takes_time) c.loop-goes_on.course ended.0 ended.1 c.task_rows.new.rows (c.in_ok-task_rows.ensures c.args.disk.now.map (history _ ended.0) ended.1.run.tells))

@@ -1,4 +1,4 @@
-use Rattle.std.proofs.Common.{◌≡◌, ◌≤◌, ◌-◌, length}
+use Rattle.std.proofs.Common.{◌≡◌, ◌≤◌, ◌-◌, length, take}
 use Rattle.std.specs.List.{AllByRecursion}
 use Rattle.fb_engine.specs.Waiting.{left}
 use Rattle.fb_engine.proofs.joining.join_arrived.Given as goal
@@ -9,6 +9,7 @@ invariant-loop-next g l = record {
   counted : g.Q.Queue.joined l.queue ≡ l.next;
   same : left l.requests l.next (g.Q.Queue.pending l.queue) ≡ left l.requests l.fn.next (g.Q.Queue.pending l.fn.queue);
   arrived : AllByRecursion (λ r. r.arrival ≤ l.now) (g.Q.Queue.pending l.queue);
+  come : AllByRecursion (λ r. r.arrival ≤ l.now) (take l.next l.requests);
 }
 
 abbrev pub decreases-loop-next : goal.decreases-loop-next

@@ -6,7 +6,8 @@ use Rattle.fb_maker.specs.Script.{script_text}
 use Rattle.fb_words.specs.Verdict.{make_terms}
 use Rattle.fb_desk.specs.declared.desk.Output.TheVariants.{MadeTrace, MadeCalls}
 use Rattle.fb_top.specs.Read.{ReadsDisk}
-use Rattle.fb_top.specs.Make.{MakesFor, HoldsWhole, StopsMade}
+use Rattle.fb_top.specs.Causes.{AcceptsDisk}
+use Rattle.fb_top.specs.Written.{HoldsWhole, StopsText}
 use Rattle.fb_top.proofs.Making.{some_sectors, stopped_trace, stopped_calls, wrote_both}
 use Rattle.fb_top.proofs.make.run_make.Goals as goal
 
@@ -20,13 +21,13 @@ returns-in-Err-write_trace-clause-cause g c =
     let mid = g.D.Desk.seen c.read_disk.new.desk in
     let new = g.D.Desk.seen c.write_trace.new.desk in
     let terms = make_terms c.args.words.now in
-    let makes : MakesFor old terms = record {
+    let makes : AcceptsDisk old terms.params = record {
       disk = c.in-Ok.params.disk;
       latent = c.in-Ok.params.latent.items;
       reads_disk = subst (λ (name : List ℕ). ReadsDisk old name c.in-Ok.params.disk c.in-Ok.params.latent.items) c.as_str.ensures.value c.in-Ok.ensures.disk;
     } in
     stopped_trace terms old mid new c.in-Err-write_trace.outcome makes c.in-Ok.ensures.only c.in-Err-write_trace.ensures.only
-    (subst (λ (n : ℕ). StopsMade MadeTrace (made_trace terms.number terms.device n terms.requests) mid new c.in-Err-write_trace.outcome) c.count.ensures.value c.in-Err-write_trace.ensures.stops)
+    (subst (λ (n : ℕ). StopsText MadeTrace (made_trace terms.number terms.device n terms.requests) mid new c.in-Err-write_trace.outcome) c.count.ensures.value c.in-Err-write_trace.ensures.stops)
 
 pub returns-in-Ok-write_calls-clause-cause : goal.returns-in-Ok-write_calls-clause-cause
 returns-in-Ok-write_calls-clause-cause g c =
@@ -36,7 +37,7 @@ returns-in-Ok-write_calls-clause-cause g c =
     let new = g.D.Desk.seen c.write_calls.new.desk in
     let terms = make_terms c.args.words.now in
     let disk = c.in-Ok.params.disk in
-    let makes : MakesFor old terms = record {
+    let makes : AcceptsDisk old terms.params = record {
       disk = disk;
       latent = c.in-Ok.params.latent.items;
       reads_disk = subst (λ (name : List ℕ). ReadsDisk old name disk c.in-Ok.params.latent.items) c.as_str.ensures.value c.in-Ok.ensures.disk;
@@ -56,7 +57,7 @@ returns-clause-cause g c =
     let new = g.D.Desk.seen c.write_calls.new.desk in
     let terms = make_terms c.args.words.now in
     let disk = c.in-Ok.params.disk in
-    let makes : MakesFor old terms = record {
+    let makes : AcceptsDisk old terms.params = record {
       disk = disk;
       latent = c.in-Ok.params.latent.items;
       reads_disk = subst (λ (name : List ℕ). ReadsDisk old name disk c.in-Ok.params.latent.items) c.as_str.ensures.value c.in-Ok.ensures.disk;

@@ -1,8 +1,7 @@
 use Rattle.std.proofs.Common.{refl, ◌∙◌}
 use Rattle.fb_desk.specs.declared.desk.Output.TheVariants.{MadeCalls}
 use Rattle.fb_maker.specs.Script.{script_text}
-use Rattle.fb_top.proofs.Fronts.{rose_later}
-use Rattle.fb_top.proofs.Making.{nothing_yet, cut_output}
+use Rattle.fb_top.proofs.Fronts.{nothing_yet, cut_text, rose_later}
 use Rattle.fb_top.proofs.make.write_calls.Goals as goal
 
 pub returns-in-Err-made_calls-clause-stops : goal.returns-in-Err-made_calls-clause-stops
@@ -15,5 +14,5 @@ returns-clause-stops g c =
     let new = (g.D.Desk.seen c.write_whole.new.desk).outputs MadeCalls in (
       refl,
       rose_later old.faults now.faults new.faults c.in-Ok.ensures.cause.later c.in-Err-write_whole.ensures.cause.failed,
-      λ begun. cut_output now.written new.written c.as_slice.result.now (script_text c.args.map.now) c.in-Ok.ensures.empty (c.as_slice.ensures.value ∙ c.in-Ok-made_calls.ensures) c.in-Err-write_whole.ensures.front,
+      λ begun. cut_text now.written new.written c.as_slice.result.now (script_text c.args.map.now) c.in-Ok.ensures.empty (c.as_slice.ensures.value ∙ c.in-Ok-made_calls.ensures) c.in-Err-write_whole.ensures.front,
     )

@@ -5,8 +5,8 @@ use Rattle.fb_desk.specs.declared.desk.Output.TheVariants.{MadeTrace}
 use Rattle.fb_maker.specs.Making.{Making, line_made}
 use Rattle.fb_maker.specs.Trace.{made_lines}
 use Rattle.fb_top.proofs.Pieces.{output_on}
-use Rattle.fb_top.proofs.Fronts.{front_of, front_more, holds_more, holds_all, rose_later}
-use Rattle.fb_top.proofs.Making.{line_at, same_named, lines_counted}
+use Rattle.fb_top.proofs.Fronts.{front_of, front_more, holds_more, holds_all, rose_later, same_name}
+use Rattle.fb_top.proofs.Making.{line_at, lines_counted}
 use Rattle.fb_top.proofs.make.write_trace.Goals as goal
 
 pub returns-in-Err-next_line-clause-stops : goal.returns-in-Err-next_line-clause-stops
@@ -47,7 +47,7 @@ loop-place-preserved g c =
       only = output_on MadeTrace old now new c.loop-place.invariant.only told.only;
       later = omega (arith, c.loop-place.invariant.later, told.cause.later);
       begun = told.begun;
-      name = same_named (string_bytes words.trace) (now.outputs MadeTrace).name (new.outputs MadeTrace).name told.name c.loop-place.invariant.name;
+      name = same_name (string_bytes words.trace) (now.outputs MadeTrace).name (new.outputs MadeTrace).name told.name c.loop-place.invariant.name;
       lines = holds_more (now.outputs MadeTrace).written (new.outputs MadeTrace).written lines place c.as_slice.result.now c.loop-place.invariant.lines line told.whole;
       maker = c.in-Ok-next_line.ensures.ok ∙ ap (λ (making : Making). record making { made = making.made + 1 }) c.loop-place.invariant.maker;
     }
@@ -57,6 +57,7 @@ returns-clause-whole g c =
     let words = c.args.words.now in
     let lines = made_lines words.number words.device c.args.sectors words.requests in
     record {
+      begun = c.loop-place.invariant.begun;
       named = c.loop-place.invariant.name;
       written = holds_all ((g.D.Desk.seen c.loop-place.desk).outputs MadeTrace).written lines c.loop-place.place c.loop-place.invariant.lines
           (omega (arith, lines_counted words.number words.device c.args.sectors words.requests, c.loop-place-test.false));

@@ -1,8 +1,7 @@
-use Rattle.std.proofs.Common.{◌∙◌}
+use Rattle.std.proofs.Common.{◌∙◌, refl}
 use Rattle.fb_desk.specs.declared.desk.Output.TheVariants.{Fore}
 use Rattle.fb_report.specs.Summary.{summary_text}
-use Rattle.fb_top.proofs.Fronts.{rose_later}
-use Rattle.fb_top.proofs.Making.{nothing_yet, cut_output}
+use Rattle.fb_top.proofs.Fronts.{nothing_yet, cut_text, rose_later}
 use Rattle.fb_top.proofs.report.write_summary.Goals as goal
 
 pub returns-in-Err-summary_text-clause-stops : goal.returns-in-Err-summary_text-clause-stops
@@ -13,6 +12,7 @@ returns-clause-stops g c =
     let old = (g.D.Desk.seen c.args.desk.now).outputs Fore in
     let now = (g.D.Desk.seen c.begin_output.new.self).outputs Fore in
     let new = (g.D.Desk.seen c.write_whole.new.desk).outputs Fore in (
+      refl,
       rose_later old.faults now.faults new.faults c.in-Ok.ensures.cause.later c.in-Err-write_whole.ensures.cause.failed,
-      λ begun. cut_output now.written new.written c.as_slice.result.now (summary_text c.args.run.now) c.in-Ok.ensures.empty (c.as_slice.ensures.value ∙ c.in-Ok-summary_text.ensures) c.in-Err-write_whole.ensures.front,
+      λ begun. cut_text now.written new.written c.as_slice.result.now (summary_text c.args.run.now) c.in-Ok.ensures.empty (c.as_slice.ensures.value ∙ c.in-Ok-summary_text.ensures) c.in-Err-write_whole.ensures.front,
     )

@@ -1,4 +1,5 @@
 use Rattle.std.proofs.Common.{◌∙◌, inl}
+use Rattle.std.specs.Prelude.{codes}
 use Rattle.fb_desk.specs.declared.desk.Output.TheVariants.{Note}
 use Rattle.fb_top.specs.Notes.{note_of}
 use Rattle.fb_top.proofs.Fronts.{same_name}
@@ -13,7 +14,7 @@ returns-clause-note g c =
     let told = c.write_whole.ensures in
     record {
       begun = inl told.begun;
-      name = λ begun. same_name now.name new.name told.name c.in-Ok.ensures.named;
+      name = λ begun. same_name (codes "-") now.name new.name told.name c.in-Ok.ensures.named;
       written = λ begun. note_written c.write_whole.result old now new c.as_slice.result.now (note_of c.args.outcome.now) c.in-Ok.ensures.empty (c.as_slice.ensures.value ∙ c.in-Ok-note_text.ensures) told.whole told.front
           (rose_on c.write_whole.result old.faults now.faults new.faults c.in-Ok.ensures.cause.later told.cause.failed);
     }

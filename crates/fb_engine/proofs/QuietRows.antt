@@ -1,0 +1,113 @@
+-- Rows that say nothing of where the head is: tests of completion, findings, deliveries and tasks.
+use Rattle.std.proofs.Common.{◌≡◌, ℕ, true, false, List, [], ◌∷◌, ◌++◌, map, refl, sym, subst}
+use Rattle.std.specs.Prelude.{Bool, ◌&&◌, not, filter, if◌then◌else◌}
+use Rattle.std.specs.List.{AllByRecursion, flat_map}
+use Rattle.fb_service.specs.declared.disk.Disk.{Disk}
+use Rattle.fb_rows.specs.declared.fore.ForeRow.{ForeRow}
+use Rattle.fb_rows.specs.declared.back.BackRow.{BackRow}
+use Rattle.fb_rows.specs.declared.back.BackRow.TheVariants.{Gap as GapLine, Idle as IdleLine, Got as GotLine, Bad as BadLine, Seal as SealLine, Segment as SegmentLine, Complete as CompleteLine}
+use Rattle.fb_rows.specs.declared.back.DeliveryRow.{DeliveryRow}
+use Rattle.fb_model.specs.Inputs.{Inputs}
+use Rattle.fb_model.specs.Content.{Medium}
+use Rattle.fb_model.specs.Timeline.{timeline}
+use Rattle.fb_model.specs.Decisions.{Decision, instant_of}
+use Rattle.fb_model.specs.History.{Past, delivered, task_numbers, terms_of, is_open_backup}
+use Rattle.fb_model.specs.Completion.{Choice, choices, is_complete, was_complete}
+use Rattle.fb_model.specs.Segments.{live_count}
+use Rattle.fb_model.specs.Images.{Sources, bad_sectors, is_scrub, findings, is_newly_cleaned, on_disk, segment_rows, seal_rows, complete_rows, test_rows}
+use Rattle.fb_model.specs.Course.{Delivery, Part, with_delivery, tested_past, settled_past, task_row, task_rows}
+use Rattle.fb_model.specs.SoundRun.{AreFollowed, IsTested}
+use Rattle.fb_engine.proofs.Passed.{all_append}
+
+-- no gap row and no idle row
+abbrev pub IsQuiet : BackRow → Type 0
+IsQuiet (GapLine row) = ⊥
+IsQuiet (IdleLine dwell) = ⊥
+IsQuiet _ = Unit {0}
+
+-- they leave the timeline as it is
+pub quiet_before : (disk : Disk) (rows back : List BackRow) (fore : List ForeRow) → AllByRecursion IsQuiet rows → timeline disk (rows ++ back) fore ≡ timeline disk back fore
+unfolding timeline
+quiet_before disk [] back fore all = refl
+quiet_before disk (GapLine row ∷ rows) back fore all = absurd all.0
+quiet_before disk (IdleLine dwell ∷ rows) back fore all = absurd all.0
+quiet_before disk (_ ∷ rows) back fore all = quiet_before disk rows back fore all.1
+
+pub all_quiet : (disk : Disk) (rows : List BackRow) (fore : List ForeRow) → AllByRecursion IsQuiet rows → timeline disk rows fore ≡ []
+unfolding timeline
+all_quiet disk [] fore all = refl
+all_quiet disk (GapLine row ∷ rows) fore all = absurd all.0
+all_quiet disk (IdleLine dwell ∷ rows) fore all = absurd all.0
+all_quiet disk (_ ∷ rows) fore all = all_quiet disk rows fore all.1
+
+-- ---- which rows are so
+
+abbrev segment_line : Sources → Past → ℕ → ℕ → Choice → BackRow
+segment_line sources past now task choice =
+    SegmentLine (record { task = task; segment = choice.segment.number; instant = now; live = live_count choice.segment; content = sources.packed_for past choice })
+
+lists_quiet : {X : Type 0} (f : X → List BackRow) (xs : List X) → ((x : X) → AllByRecursion IsQuiet (f x)) → AllByRecursion IsQuiet (flat_map f xs)
+lists_quiet f [] quiet = tt
+lists_quiet f (x ∷ xs) quiet = all_append IsQuiet (f x) (flat_map f xs) (quiet x) (lists_quiet f xs quiet)
+
+segments_quiet : (sources : Sources) (past : Past) (now task : ℕ) (found : List Choice) → AllByRecursion IsQuiet (map (segment_line sources past now task) found)
+segments_quiet sources past now task [] = tt
+segments_quiet sources past now task (choice ∷ found) = (tt, segments_quiet sources past now task found)
+
+one_quiet : (b : Bool) (row : BackRow) → IsQuiet row → AllByRecursion IsQuiet (if b then row ∷ [] else [])
+one_quiet true row quiet = (quiet, tt)
+one_quiet false row quiet = tt
+
+pub test_quiet : (sources : Sources) (past : Past) (now : ℕ) → AllByRecursion IsQuiet (test_rows sources past now)
+unfolding test_rows
+test_quiet sources past now =
+    all_append IsQuiet (flat_map (segment_rows sources past now) (task_numbers past)) (flat_map (λ task. seal_rows sources past now task ++ complete_rows past now task) (task_numbers past))
+    (lists_quiet (segment_rows sources past now) (task_numbers past) (λ task. segments_quiet sources past now task (filter (is_newly_cleaned past task) (choices past task))))
+    (lists_quiet (λ task. seal_rows sources past now task ++ complete_rows past now task) (task_numbers past) (λ task.
+    all_append IsQuiet (seal_rows sources past now task) (complete_rows past now task)
+    (one_quiet (is_open_backup past task && is_complete past task) (SealLine (record { task = task; instant = now; content = sources.image_at past task now })) tt)
+    (one_quiet (is_complete past task && not (was_complete past task)) (CompleteLine (record { task = task; instant = now })) tt)))
+
+sectors_quiet : (task : ℕ) (lbns : List ℕ) → AllByRecursion IsQuiet (map (λ lbn. BadLine (record { task = task; lbn = lbn })) lbns)
+sectors_quiet task [] = tt
+sectors_quiet task (lbn ∷ lbns) = (tt, sectors_quiet task lbns)
+
+found_quiet : (b : Bool) (task : ℕ) (lbns : List ℕ) → AllByRecursion IsQuiet (if b then map (λ lbn. BadLine (record { task = task; lbn = lbn })) lbns else [])
+found_quiet true task lbns = sectors_quiet task lbns
+found_quiet false task lbns = tt
+
+findings_quiet : (past : Past) (row : DeliveryRow) → AllByRecursion IsQuiet (findings past row)
+findings_quiet past row = found_quiet (is_scrub (terms_of past row.block.task).kind) row.block.task (bad_sectors row.content)
+
+counts_quiet : (past : Past) (numbers : List ℕ) → AllByRecursion IsQuiet (map (task_row past) numbers)
+counts_quiet past [] = tt
+counts_quiet past (task ∷ numbers) = (tt, counts_quiet past numbers)
+
+pub tasks_quiet : (past : Past) → AllByRecursion IsQuiet (task_rows past)
+unfolding task_rows
+tasks_quiet past = counts_quiet past (task_numbers past)
+
+-- ---- a decision's rows beside the one that opens it
+
+abbrev pub delivered_rows : List Delivery → List BackRow
+delivered_rows deliveries = flat_map (λ delivery. GotLine delivery.got ∷ delivery.after) deliveries
+
+pub record IsQuietPart (part : Part) : Type 0 where
+  pub settled : AllByRecursion IsQuiet part.settled
+  pub delivered : AllByRecursion IsQuiet (delivered_rows part.deliveries)
+
+followed_quiet : (medium : Medium) (past : Past) (deliveries : List Delivery) → AreFollowed medium past deliveries → AllByRecursion IsQuiet (delivered_rows deliveries)
+followed_quiet medium past [] followed = tt
+followed_quiet medium past (delivery ∷ deliveries) followed = (
+  tt,
+  all_append IsQuiet delivery.after (delivered_rows deliveries)
+      (subst (AllByRecursion IsQuiet) (sym followed.0) (all_append IsQuiet (findings past delivery.got) (test_rows (on_disk medium) (delivered delivery.got ∷ past) delivery.got.end)
+      (findings_quiet past delivery.got) (test_quiet (on_disk medium) (delivered delivery.got ∷ past) delivery.got.end)))
+      (followed_quiet medium (with_delivery past delivery) deliveries followed.1),
+)
+
+pub quiet_part : (inputs : Inputs) (medium : Medium) (past : Past) (step : Decision × Part) → IsTested inputs medium past step → IsQuietPart step.1
+quiet_part inputs medium past step tested = record {
+  settled = subst (AllByRecursion IsQuiet) (sym tested.settled) (test_quiet (on_disk medium) (settled_past inputs past step.0) (instant_of step.0));
+  delivered = followed_quiet medium (tested_past inputs past step) step.1.deliveries tested.followed;
+}

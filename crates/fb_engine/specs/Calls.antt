@@ -1,0 +1,57 @@
+-- The calls between two decisions, and what a decision settles before its plan.
+use Rattle.std.specs.Prelude.{◌≡◌, ◌≤◌, ◌<◌, ◌+◌, ◌*◌, ◌^◌, ℕ, List, [], ◌∷◌, ◌++◌, length, map, take, drop, IfSome, slice_get}
+use Rattle.std.specs.List.{fold}
+use Rattle.fb_units.specs.Rising.{IsRising}
+use Rattle.fb_geometry.specs.Shape.{Shape}
+use Rattle.fb_calls.specs.declared.call.Call.{Call}
+use Rattle.fb_calls.specs.Allowed.{AreAllowed, blocks_from}
+use Rattle.fb_rows.specs.declared.gap.Plan.{Plan}
+use Rattle.fb_rows.specs.declared.back.DeliveryRow.{DeliveryRow}
+use Rattle.fb_rows.specs.declared.back.BackRow.{BackRow}
+use Rattle.fb_model.specs.History.{Past, tested, registered}
+use Rattle.fb_model.specs.Course.{Part, take_call, calls_due}
+use Rattle.fb_model.specs.Segments.{with_choices}
+use Rattle.fb_model.specs.Images.{test_rows}
+use Rattle.fb_tasks.specs.Taken.{by_deliveries}
+use Rattle.fb_tasks.specs.Telling.{calls_of, choosable}
+use Rattle.fb_engine.specs.declared.background.Background.{Background}
+use Rattle.fb_engine.specs.Deliveries.{IsCurrent, followed}
+
+-- calls that keep the rules one after another, by instant
+pub record IsScriptOf (disk : Shape) (calls : List Call) : Type 0 where
+  pub instants : IsRising (map (λ call. call.instant) calls)
+  pub allowed : AreAllowed disk [] calls
+  pub few : length calls < 2 ^ 32
+
+-- the first calls have taken effect, and what all of them can register fits
+pub record IsCalled (disk : Shape) (calls : List Call) (past : Past) (next : ℕ) : Type 0 where
+  pub within : next ≤ length calls
+  pub taken : calls_of past ≡ take next calls
+  pub few : length (registered past) + choosable disk past + blocks_from disk (take next calls) (drop next calls) ≤ 16 * 10 ^ 6
+
+-- after the calls and choices of an instant
+abbrev pub settled_by : Shape → List Call → Past → ℕ → Past
+settled_by disk calls past now = with_choices disk (fold (take_call disk) past (calls_due calls past now))
+
+-- the rows of its test
+abbrev pub settling_rows : Shape → List Call → Past → ℕ → List BackRow
+settling_rows disk calls past now = test_rows by_deliveries (settled_by disk calls past now) now
+
+-- after its test
+abbrev pub past_settled : Shape → List Call → Past → ℕ → Past
+past_settled disk calls past now = tested (settling_rows disk calls past now) ∷ settled_by disk calls past now
+
+-- the part of a decision that has this plan and these deliveries
+abbrev pub part_by : Shape → List Call → Past → ℕ → Plan → List DeliveryRow → Part
+part_by disk calls past now plan gots = record {
+  settled = settling_rows disk calls past now;
+  plan = plan;
+  deliveries = followed (past_settled disk calls past now) gots;
+}
+
+-- all calls up to now have taken effect, tasks have chosen, and all was tested
+pub record HasSettled (disk : Shape) (calls : List Call) (past : Past) (now later : ℕ) (rows : List BackRow) (after : Background) : Type 0 where
+  pub current : IsCurrent disk (past_settled disk calls past now) after
+  pub called : IsCalled disk calls (past_settled disk calls past now) later
+  pub rows_after : after.rows ≡ rows ++ settling_rows disk calls past now
+  pub ahead : IfSome (slice_get calls later) (λ call. now < call.instant)

@@ -1,0 +1,48 @@
+// The foreground list.
+ghost use Rattle.std.specs.Prelude.{◌≡◌, ◌≤◌, ◌<◌, ◌++◌, map, length, drop, IfOk, IfSome, OnOk, slice_get};
+ghost use Rattle.std.specs.List.{AllByRecursion};
+ghost use Rattle.fb_units.specs.Rising.{IsRising};
+ghost use Rattle.fb_model.specs.Foreground.{foreground_list};
+
+use fb_calls::{Calls, promoted};
+use fb_units::{NoMemory, Ns, Request};
+use std::alloc::Global;
+
+// The requests of the trace and the reads that calls ask for, in order of arrival; where two arrive together the
+// trace's come first.
+pub fn foreground(alloc: Global, trace: &[Request], calls: &Calls) -> Result<Vec<Request>, NoMemory>
+    requires arrivals { IsRising (map (λ request. request.arrival) trace.now) }
+    requires instants { IsRising (map (λ call. call.instant) calls.now.calls.items) }
+    ensures { IfOk result (λ requests. requests.items ≡ foreground_list trace.now calls.now.calls.items) }
+{
+    let mut requests = Vec::new(alloc);
+    let mut next = 0;
+    for read in &promoted(alloc, calls)? {
+        next = push_arrived(&mut requests, trace, next, read.arrival)?;
+        requests.push(*read)?;
+    }
+    requests.extend_from_slice(&trace[next..])?;
+    Ok(requests)
+}
+
+// Adds the requests of the trace that have arrived, and answers which is next.
+fn push_arrived(
+    requests: &mut Vec<Request>,
+    trace: &[Request],
+    next: usize,
+    now: Ns,
+) -> Result<usize, NoMemory>
+    requires within { next ≤ length trace.now }
+    requires come { AllByRecursion (λ request. request.arrival ≤ now) requests.old.items }
+    ensures within { IfOk result (λ later. later ≤ length trace.now) }
+    ensures same { IfOk result (λ later. requests.new.items ++ drop later trace.now ≡ requests.old.items ++ drop next trace.now) }
+    ensures come { OnOk result (AllByRecursion (λ request. request.arrival ≤ now) requests.new.items) }
+    ensures ahead { IfOk result (λ later. IfSome (slice_get trace.now later) (λ request. now < request.arrival)) }
+{
+    let mut next = next;
+    while next < trace.len() && trace[next].arrival <= now {
+        requests.push(trace[next])?;
+        next += 1;
+    }
+    Ok(next)
+}

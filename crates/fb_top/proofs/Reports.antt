@@ -1,0 +1,87 @@
+-- Two reports, written one behind the other.
+use Rattle.std.proofs.Common.{◌≡◌, ◌≢◌, ℕ, List, true, Option, Some, None, refl, sym, subst, ◌∙◌, inl, inr}
+use Rattle.std.specs.Prelude.{is_some, codes}
+use Rattle.fb_rows.specs.declared.run.Run.{Run}
+use Rattle.fb_desk.specs.Calls.{Rose, ChangesOutput}
+use Rattle.fb_desk.specs.View.{DeskView, OutputView}
+use Rattle.fb_desk.specs.declared.desk.Output.TheVariants.{Fore, Back, Note, MadeTrace, MadeCalls}
+use Rattle.fb_words.specs.Command.{ReplayTerms}
+use Rattle.fb_top.specs.declared.outcome.Outcome.{Outcome}
+use Rattle.fb_top.specs.declared.outcome.Outcome.TheVariants as outcomes
+use Rattle.fb_top.specs.Read.{Files}
+use Rattle.fb_top.specs.Written.{HoldsWhole, HoldsFront, StopsText}
+use Rattle.fb_top.specs.Done.{CutsFore, CutsBack, HoldsReports, HoldsWanted, StopsReports, fore_told, back_told}
+
+fore_is_no_back : Fore ≢ Back
+fore_is_no_back e = cc
+
+back_is_no_fore : Back ≢ Fore
+back_is_no_fore e = cc
+
+pub note_is_no_fore : Note ≢ Fore
+note_is_no_fore e = cc
+
+pub note_is_no_back : Note ≢ Back
+note_is_no_back e = cc
+
+module _ (terms : ReplayTerms) (files : Files) (run : Run) where
+  cuts_fore : (old new : DeskView) → ChangesOutput Fore old new → HoldsFront (new.outputs Fore) (fore_told terms files run) → CutsFore terms files run old new
+  cuts_fore old new only front = record { others = λ output not_fore no_note. only.outputs output not_fore; front = front }
+
+  -- why the foreground was not written
+  pub stopped_fore : (old new : DeskView) (outcome : Outcome) → ChangesOutput Fore old new → StopsText Fore (fore_told terms files run) old new outcome → StopsReports terms files run old new outcome
+  stopped_fore old new (outcomes.WriteFault Fore) only h = (h.1, cuts_fore old new only h.2)
+  stopped_fore old new outcomes.NoMemory only h = inl (cuts_fore old new only h)
+  stopped_fore old new (outcomes.WriteFault Back) only h = absurd (back_is_no_fore h.0)
+  stopped_fore old new (outcomes.WriteFault Note) only h = absurd (note_is_no_fore h.0)
+  stopped_fore old new (outcomes.WriteFault MadeTrace) only h = absurd (let other = h.0 in cc)
+  stopped_fore old new (outcomes.WriteFault MadeCalls) only h = absurd (let other = h.0 in cc)
+  stopped_fore old new (outcomes.Done other) only h = absurd h
+  stopped_fore old new (outcomes.Made n) only h = absurd h
+  stopped_fore old new (outcomes.Usage fault) only h = absurd h
+  stopped_fore old new (outcomes.Params fault) only h = absurd h
+  stopped_fore old new (outcomes.Trace fault) only h = absurd h
+  stopped_fore old new (outcomes.Calls fault) only h = absurd h
+  stopped_fore old new (outcomes.TooLong input) only h = absurd h
+  stopped_fore old new (outcomes.ReadFault input) only h = absurd h
+
+  module _ (old mid new : DeskView) (first : ChangesOutput Fore old mid) (second : ChangesOutput Back mid new) (whole : HoldsWhole (mid.outputs Fore) (codes "-") (fore_told terms files run)) where
+    fore_stands : HoldsWhole (new.outputs Fore) (codes "-") (fore_told terms files run)
+    fore_stands = subst (λ (v : OutputView). HoldsWhole v (codes "-") (fore_told terms files run)) (sym (second.outputs Fore fore_is_no_back)) whole
+
+    cuts_back : is_some terms.back ≡ true → HoldsFront (new.outputs Back) (back_told terms files run) → CutsBack terms files run old new
+    cuts_back given front =
+        (given, record { others = λ output not_fore not_back no_note. second.outputs output not_back ∙ first.outputs output not_fore; whole = fore_stands; front = front })
+
+    -- why the background was not written
+    pub stopped_back : (outcome : Outcome) → is_some terms.back ≡ true → StopsText Back (back_told terms files run) mid new outcome → StopsReports terms files run old new outcome
+    stopped_back (outcomes.WriteFault Back) given h = (subst (λ (v : OutputView). Rose v.faults (new.outputs Back).faults) (first.outputs Back back_is_no_fore) h.1, cuts_back given h.2)
+    stopped_back outcomes.NoMemory given h = inr (cuts_back given h)
+    stopped_back (outcomes.WriteFault Fore) given h = absurd (fore_is_no_back h.0)
+    stopped_back (outcomes.WriteFault Note) given h = absurd (note_is_no_back h.0)
+    stopped_back (outcomes.WriteFault MadeTrace) given h = absurd (let other = h.0 in cc)
+    stopped_back (outcomes.WriteFault MadeCalls) given h = absurd (let other = h.0 in cc)
+    stopped_back (outcomes.Done other) given h = absurd h
+    stopped_back (outcomes.Made n) given h = absurd h
+    stopped_back (outcomes.Usage fault) given h = absurd h
+    stopped_back (outcomes.Params fault) given h = absurd h
+    stopped_back (outcomes.Trace fault) given h = absurd h
+    stopped_back (outcomes.Calls fault) given h = absurd h
+    stopped_back (outcomes.TooLong input) given h = absurd h
+    stopped_back (outcomes.ReadFault input) given h = absurd h
+
+    -- both were written
+    pub wrote_both : (name : List ℕ) → terms.back ≡ Some name → HoldsWhole (new.outputs Back) name (back_told terms files run) → HoldsReports terms files run old new
+    wrote_both name given back = record {
+      others = λ output not_fore not_back no_note. second.outputs output not_back ∙ first.outputs output not_fore;
+      fore = fore_stands;
+      back = subst (λ (told : Option (List ℕ)). HoldsWanted told (back_told terms files run) (old.outputs Back) (new.outputs Back)) (sym given) back;
+    }
+
+  -- the foreground alone was wanted
+  pub wrote_fore : (old new : DeskView) → ChangesOutput Fore old new → HoldsWhole (new.outputs Fore) (codes "-") (fore_told terms files run) → terms.back ≡ None → HoldsReports terms files run old new
+  wrote_fore old new only whole given = record {
+    others = λ output not_fore not_back no_note. only.outputs output not_fore;
+    fore = whole;
+    back = subst (λ (told : Option (List ℕ)). HoldsWanted told (back_told terms files run) (old.outputs Back) (new.outputs Back)) (sym given) (only.outputs Back back_is_no_fore);
+  }

@@ -1,0 +1,17 @@
+use Rattle.std.proofs.Common.{◌≡◌, ◌≤◌, true}
+use Rattle.std.specs.Prelude.{IfSome}
+use Rattle.fb_desk.specs.Calls.{ChangesOutput}
+use Rattle.fb_top.proofs.Fronts.{HoldsLines}
+use Rattle.fb_top.proofs.writing.write_lines.Given as goal
+
+abbrev pub invariant-loop-place : goal.invariant-loop-place
+invariant-loop-place g l =
+    let old = g.D.Desk.seen l.fn.desk in
+    let new = g.D.Desk.seen l.desk in
+    record {
+      only : ChangesOutput l.which old new;
+      later : (old.outputs l.which).faults ≤ (new.outputs l.which).faults;
+      begun : (new.outputs l.which).begun ≡ true;
+      name : IfSome (new.outputs l.which).name (λ told. told ≡ l.name);
+      lines : HoldsLines (new.outputs l.which).written (g.L.Lines.lines l.lines) l.place;
+    }

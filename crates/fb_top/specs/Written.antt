@@ -1,0 +1,57 @@
+-- What outputs hold.
+use Rattle.std.specs.Prelude.{◌≡◌, ◌≢◌, ◌⊎◌, ℕ, List, true, IfSome}
+use Rattle.std.specs.List.{flat_map}
+use Rattle.fb_desk.specs.Calls.{Rose}
+use Rattle.fb_desk.specs.View.{DeskView, OutputView}
+use Rattle.fb_desk.specs.declared.desk.Output.{Output}
+use Rattle.fb_desk.specs.declared.desk.Output.TheVariants.{Note}
+use Rattle.fb_top.specs.declared.outcome.Outcome.{Outcome}
+use Rattle.fb_top.specs.declared.outcome.Outcome.TheVariants as outcomes
+use Rattle.fb_top.specs.Streams.{IsFront}
+
+-- lines one after another
+abbrev pub joined : List (List ℕ) → List ℕ
+joined lines = flat_map (λ line. line) lines
+
+-- the output is begun, with this name and this text where the desk tells them
+pub record HoldsWhole (output : OutputView) (name text : List ℕ) : Type 0 where
+  pub begun : output.begun ≡ true
+  pub named : IfSome output.name (λ told. told ≡ name)
+  pub written : IfSome output.written (λ bytes. bytes ≡ text)
+
+-- a front of the text, if the output is begun
+abbrev pub HoldsFront : OutputView → List ℕ → Type 0
+HoldsFront output text = output.begun ≡ true → IfSome output.written (λ bytes. IsFront bytes text)
+
+-- no output but the note has changed
+abbrev pub KeepsReports : DeskView → DeskView → Type 0
+KeepsReports old new = (output : Output) → output ≢ Note → new.outputs output ≡ old.outputs output
+
+-- no output but this one and the note has changed
+abbrev pub KeepsBut : Output → DeskView → DeskView → Type 0
+KeepsBut which old new = (output : Output) → output ≢ which → output ≢ Note → new.outputs output ≡ old.outputs output
+
+-- no output but these two and the note has changed
+abbrev pub KeepsButBoth : Output → Output → DeskView → DeskView → Type 0
+KeepsButBoth first second old new = (output : Output) → output ≢ first → output ≢ second → output ≢ Note → new.outputs output ≡ old.outputs output
+
+-- the text of an output was cut off, and nothing else was written
+pub record CutsOff (which : Output) (text : List ℕ) (old new : DeskView) : Type 0 where
+  pub others : KeepsBut which old new
+  pub front : HoldsFront (new.outputs which) text
+
+-- the first output holds its text whole, that of the second was cut off, and nothing else was written
+pub record CutsSecond (first second : Output) (name text other : List ℕ) (old new : DeskView) : Type 0 where
+  pub others : KeepsButBoth first second old new
+  pub whole : HoldsWhole (new.outputs first) name text
+  pub front : HoldsFront (new.outputs second) other
+
+-- a count of faults rose
+abbrev pub OutputFaultsRose : DeskView → DeskView → Output → Type 0
+OutputFaultsRose old new output = Rose (old.outputs output).faults (new.outputs output).faults
+
+-- why a text was not written whole
+abbrev pub StopsText : Output → List ℕ → DeskView → DeskView → Outcome → Type 0
+StopsText which text old new (outcomes.WriteFault output) = (output ≡ which) × OutputFaultsRose old new which × HoldsFront (new.outputs which) text
+StopsText which text old new outcomes.NoMemory = HoldsFront (new.outputs which) text
+StopsText which text old new _ = ⊥
