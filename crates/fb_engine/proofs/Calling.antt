@@ -26,7 +26,7 @@ use Rattle.fb_tasks.specs.Taken.{delivery_of}
 use Rattle.fb_tasks.specs.Telling.{Tells, MayTake, MaySettle}
 use Rattle.fb_engine.specs.Calls.{IsScriptOf, IsCalled}
 use Rattle.fb_engine.specs.Deliveries.{past_with}
-use Rattle.fb_engine.proofs.Few.{choices_less, choosable_still, call_grows, call_registers, by_all}
+use Rattle.fb_tasks.proofs.Few.{choices_less, choosable_still, call_grows, call_registers, by_all}
 
 -- the calls of a history are those that have taken effect
 pub taken_count : (past : Past) → calls_taken past ≡ length (calls_of past)

@@ -36,7 +36,7 @@ use Rattle.fb_engine.specs.Deliveries.{IsRegistered}
 use Rattle.fb_engine.proofs.Readiness.{all_front}
 use Rattle.fb_engine.proofs.Passed.{all_weaker, all_append, all_map}
 use Rattle.fb_engine.proofs.Placing.{in_order-each}
-use Rattle.fb_engine.proofs.Few.{by_all}
+use Rattle.fb_tasks.proofs.Few.{by_all}
 use Rattle.fb_engine.proofs.RegisteredBlocks.{all_in, chosen_there}
 use Rattle.fb_engine.proofs.Stepping.{IsFullStep}
 

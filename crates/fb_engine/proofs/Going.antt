@@ -37,7 +37,7 @@ use Rattle.fb_engine.proofs.Instants.{IsAmong, all_of_both}
 use Rattle.fb_engine.proofs.Decided.{serves_now, stays_next, ends_now, plain_same, starts_from, StartsFrom}
 use Rattle.fb_engine.proofs.Mirroring.{held_until, mirrors_run, all_late, served_late}
 use Rattle.fb_engine.proofs.Coming.{HasCome, to_come, among_instants, apart_instants, left_later, passed_instants, none_left, rising_instants}
-use Rattle.fb_engine.proofs.Few.{by_all}
+use Rattle.fb_tasks.proofs.Few.{by_all}
 use Rattle.fb_engine.proofs.Stepping.{HasStepped, stepped, serves_done, stays_done, ends_done, has_served, served_gots, stayed_gots}
 use Rattle.fb_engine.proofs.Running.{HasRun, GoesOn, HasEnded, HasComeTo, AreKnown, decided_in, decisions_by, decisions_left, rest_by, rest_of, one_decided, run_more, called_more}
 

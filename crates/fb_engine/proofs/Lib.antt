@@ -13,7 +13,6 @@ pub mod Carrying
 pub mod Laying
 pub mod Rides
 pub mod Served
-pub mod Few
 pub mod Calling
 pub mod RegisteredBlocks
 pub mod DiskRows

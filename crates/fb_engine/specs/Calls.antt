@@ -1,19 +1,19 @@
 -- The calls between two decisions, and what a decision settles before its plan.
-use Rattle.std.specs.Prelude.{◌≡◌, ◌≤◌, ◌<◌, ◌+◌, ◌*◌, ◌^◌, ℕ, List, [], ◌∷◌, ◌++◌, length, map, take, drop, IfSome, slice_get}
+use Rattle.std.specs.Prelude.{◌≡◌, ◌<◌, ◌^◌, ℕ, List, [], ◌∷◌, ◌++◌, length, map, IfSome, slice_get}
 use Rattle.std.specs.List.{fold}
 use Rattle.fb_units.specs.Rising.{IsRising}
 use Rattle.fb_geometry.specs.Shape.{Shape}
 use Rattle.fb_calls.specs.declared.call.Call.{Call}
-use Rattle.fb_calls.specs.Allowed.{AreAllowed, blocks_from}
+use Rattle.fb_calls.specs.Allowed.{AreAllowed}
 use Rattle.fb_rows.specs.declared.gap.Plan.{Plan}
 use Rattle.fb_rows.specs.declared.back.DeliveryRow.{DeliveryRow}
 use Rattle.fb_rows.specs.declared.back.BackRow.{BackRow}
-use Rattle.fb_model.specs.History.{Past, tested, registered}
+use Rattle.fb_model.specs.History.{Past, tested}
 use Rattle.fb_model.specs.Course.{Part, take_call, calls_due}
 use Rattle.fb_model.specs.Segments.{with_choices}
 use Rattle.fb_model.specs.Images.{test_rows}
 use Rattle.fb_tasks.specs.Taken.{by_deliveries}
-use Rattle.fb_tasks.specs.Telling.{calls_of, choosable}
+pub use Rattle.fb_tasks.specs.Script.{IsCalled}
 use Rattle.fb_engine.specs.declared.background.Background.{Background}
 use Rattle.fb_engine.specs.Deliveries.{IsCurrent, followed}
 
@@ -22,12 +22,6 @@ pub record IsScriptOf (disk : Shape) (calls : List Call) : Type 0 where
   pub instants : IsRising (map (λ call. call.instant) calls)
   pub allowed : AreAllowed disk [] calls
   pub few : length calls < 2 ^ 32
-
--- the first calls have taken effect, and what all of them can register fits
-pub record IsCalled (disk : Shape) (calls : List Call) (past : Past) (next : ℕ) : Type 0 where
-  pub within : next ≤ length calls
-  pub taken : calls_of past ≡ take next calls
-  pub few : length (registered past) + choosable disk past + blocks_from disk (take next calls) (drop next calls) ≤ 16 * 10 ^ 6
 
 -- after the calls and choices of an instant
 abbrev pub settled_by : Shape → List Call → Past → ℕ → Past

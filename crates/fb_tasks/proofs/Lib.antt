@@ -33,4 +33,5 @@ pub mod Turns
 pub mod AllChoices
 pub mod Deliveries
 pub mod OwnDelivery
-pub mod WorkedCourse
+pub mod Few
+pub mod Script

@@ -1,4 +1,3 @@
-use Rattle.fb_tasks.proofs.WorkedCourse.{may_deliver}
 use Rattle.fb_tasks.proofs.Quiet.{read-tells}
 use Rattle.fb_tasks.proofs.sessions.reads_change_nothing.Goals as goal
 
