@@ -72,346 +72,9 @@ b gap 2 0.0 1.0 600 1200 direct 600
 b task a plain 1 0 0 1 open
 b end 1300
 
-# a detour that reaches the target sooner
-k version = 1
-k seek = [[1, 100], [2, 400], [3, 400]]
-z sectors = 12
-t 0 0 51 1 1
-c 0 open a plain 1 1
-c 0 want a 25 1
-f freeblock fore 1
-f 1 R 51 1 0 0 1500 1600 0 00000000000000000000000000000033
-f end 1 0
-b freeblock back 1
-b gap 1 0.0 2.0 0 1500 detour 1.0 200
-b got a 0 25 1 100 200 gap 0 00000000000000000000000000000019
-b done a 200
-b task a plain 1 1 0 0 complete
-b end 1600
-
-# a detour by a track without wanted blocks
-k version = 1
-k seek = [[1, 100], [2, 400], [3, 400]]
-z sectors = 12
-t 0 0 51 1 1
-c 0 open a plain 1 1
-c 0 want a 51 1
-f freeblock fore 1
-f 1 R 51 1 0 0 1500 1600 0 00000000000000000000000000000033
-f end 1 0
-b freeblock back 1
-b gap 1 0.0 2.0 0 1500 detour 1.0 100
-b got a 0 51 1 300 400 gap 0 00000000000000000000000000000033
-b done a 400
-b task a plain 1 1 0 0 complete
-b end 1600
-
-# a block in the idle time
-k version = 1
-k seek = [[1, 300], [3, 500]]
-z sectors = 12
-t 0.000600 0 24 1 1
-c 0 open a plain 1 1
-c 0 want a 5 1
-f freeblock fore 1
-f 1 R 24 1 600 600 1200 1300 0 00000000000000000000000000000018
-f end 1 0
-b freeblock back 1
-b idle 0.0 0 600
-b got a 0 5 1 500 600 idle 0 00000000000000000000000000000005
-b done a 600
-b gap 1 0.0 1.0 600 1200 direct 600
-b task a plain 1 1 0 0 complete
-b end 1300
-
-# a nanosecond too short
-k version = 1
-k seek = [[1, 300], [3, 500]]
-z sectors = 12
-t 0.000599 0 24 1 1
-c 0 open a plain 1 1
-c 0 want a 5 1
-f freeblock fore 1
-f 1 R 24 1 599 599 1200 1300 0 00000000000000000000000000000018
-f end 1 0
-b freeblock back 1
-b idle 0.0 0 599
-b gap 1 0.0 1.0 599 1200 direct 599
-b task a plain 1 0 0 1 open
-b end 1300
-
-# a block over the end of a track's slots
-k version = 1
-k seek = [[1, 300], [3, 500]]
-z sectors = 12
-z track_skew = 11
-t 0 0 14 1 1
-c 0 open a plain 1 2
-c 0 want a 12 2
-f freeblock fore 1
-f 1 R 14 1 0 0 1300 1400 0 0000000000000000000000000000000e
-f end 1 0
-b freeblock back 1
-b gap 1 0.0 0.1 0 1300 direct 0
-b got a 0 12 2 1100 1300 gap 0 0000000000000000000000000000000c0000000000000000000000000000000d
-b done a 1300
-b task a plain 1 1 0 0 complete
-b end 1400
-
 ";
 
-// Sessions beside writes, promoted reads and one another.
-const FOREGROUND: &str = "# blocks of a promoted read
-k version = 1
-k seek = [[1, 300], [3, 500]]
-z sectors = 12
-c 0 open a plain 1 1
-c 0 want a 5 2
-c 0.001700 want a 7 2
-c 0.001700 promote a 5 4
-f freeblock fore 1
-f P1 R 5 4 1700 1700 1700 2100 0 00000000000000000000000000000005000000000000000000000000000000060000000000000000000000000000000700000000000000000000000000000008
-f end 1 0
-b freeblock back 1
-b idle 0.0 0 1700
-b got a 0 5 1 500 600 idle 0 00000000000000000000000000000005
-b got a 1 6 1 600 700 idle 0 00000000000000000000000000000006
-b done a 700
-b gap P1 0.0 0.0 1700 1700 direct 1700
-b got a 2 7 1 1900 2000 ride 0 00000000000000000000000000000007
-b got a 3 8 1 2000 2100 ride 0 00000000000000000000000000000008
-b done a 2100
-b task a plain 4 4 0 0 complete
-b end 2100
-
-# what a sector holds before and after a write
-k version = 1
-k seek = [[1, 300], [3, 500]]
-z sectors = 12
-t 0.000700 0 6 1 0
-c 0 open a plain 1 1
-c 0 want a 6 1
-c 0.002000 want a 6 1
-o --until 0.004
-f freeblock fore 1
-f 1 W 6 1 700 700 1800 1900 0 -
-f end 1 0
-b freeblock back 1
-b idle 0.0 0 700
-b got a 0 6 1 600 700 idle 0 00000000000000000000000000000006
-b done a 700
-b gap 1 0.0 0.0 700 1800 direct 700
-b idle 0.0 1900 2000
-b idle 0.0 2000 4000
-b got a 1 6 1 3000 3100 idle 0 00000000000000010000000000000006
-b done a 3100
-b task a plain 2 2 0 0 complete
-b end 4000
-
-# a sector that can't be read before it is written
-k version = 1
-k seek = [[1, 300], [3, 500]]
-k latent = [6]
-z sectors = 12
-t 0.000700 0 6 1 0
-c 0 open a plain 1 1
-c 0 want a 6 1
-c 0.002000 want a 6 1
-o --until 0.004
-f freeblock fore 1
-f 1 W 6 1 700 700 1800 1900 0 -
-f end 1 0
-b freeblock back 1
-b idle 0.0 0 700
-b got a 0 6 1 600 700 idle 1 00000000000000000000000000000000
-b done a 700
-b gap 1 0.0 0.0 700 1800 direct 700
-b idle 0.0 1900 2000
-b idle 0.0 2000 4000
-b got a 1 6 1 3000 3100 idle 0 00000000000000010000000000000006
-b done a 3100
-b task a plain 2 2 0 0 complete
-b end 4000
-
-# a session of greater weight
-k version = 1
-k seek = [[1, 300], [3, 500]]
-z sectors = 12
-t 0 0 5 1 1
-t 0 0 24 1 1
-c 0 open a plain 1 1
-c 0 want a 6 2
-c 0 open b plain 5 1
-c 0 want b 33 1
-f freeblock fore 1
-f 1 R 5 1 0 0 500 600 0 00000000000000000000000000000005
-f 2 R 24 1 0 600 1200 1300 0 00000000000000000000000000000018
-f end 2 0
-b freeblock back 1
-b gap 1 0.0 0.0 0 500 direct 0
-b gap 2 0.0 1.0 600 1200 direct 600
-b got b 0 33 1 900 1000 gap 0 00000000000000000000000000000021
-b done b 1000
-b task a plain 2 0 0 2 open
-b task b plain 1 1 0 0 complete
-b end 1300
-
-";
-
-// Aborts, suspensions and closings.
-const ENDING: &str = "# an abort that comes after the delivery
-k version = 1
-k seek = [[1, 300], [3, 500]]
-z sectors = 12
-t 0 0 5 1 1
-t 0 0 24 1 1
-c 0 open a plain 1 1
-c 0 want a 6 2
-c 0 want a 35 1
-c 0.000650 abort a 7 1
-f freeblock fore 1
-f 1 R 5 1 0 0 500 600 0 00000000000000000000000000000005
-f 2 R 24 1 0 600 1200 1300 0 00000000000000000000000000000018
-f end 2 0
-b freeblock back 1
-b gap 1 0.0 0.0 0 500 direct 0
-b gap 2 0.0 1.0 600 1200 direct 800
-b got a 0 6 1 600 700 gap 0 00000000000000000000000000000006
-b got a 1 7 1 700 800 gap 0 00000000000000000000000000000007
-b got a 2 35 1 1100 1200 gap 0 00000000000000000000000000000023
-b done a 1200
-b task a plain 3 3 0 0 complete
-b end 1300
-
-# an abort that comes before it
-k version = 1
-k seek = [[1, 300], [3, 500]]
-z sectors = 12
-t 0 0 5 1 1
-t 0 0 24 1 1
-c 0 open a plain 1 1
-c 0 want a 6 2
-c 0 want a 35 1
-c 0.000600 abort a 7 1
-f freeblock fore 1
-f 1 R 5 1 0 0 500 600 0 00000000000000000000000000000005
-f 2 R 24 1 0 600 1200 1300 0 00000000000000000000000000000018
-f end 2 0
-b freeblock back 1
-b gap 1 0.0 0.0 0 500 direct 0
-b gap 2 0.0 1.0 600 1200 direct 700
-b got a 0 6 1 600 700 gap 0 00000000000000000000000000000006
-b got a 2 35 1 1100 1200 gap 0 00000000000000000000000000000023
-b done a 1200
-b task a plain 3 2 1 0 complete
-b end 1300
-
-# a suspended session
-k version = 1
-k seek = [[1, 300], [3, 500]]
-z sectors = 12
-t 0 0 5 1 1
-t 0 0 24 1 1
-c 0 open a plain 1 1
-c 0 want a 6 2
-c 0 want a 35 1
-c 0.000600 suspend a
-f freeblock fore 1
-f 1 R 5 1 0 0 500 600 0 00000000000000000000000000000005
-f 2 R 24 1 0 600 1200 1300 0 00000000000000000000000000000018
-f end 2 0
-b freeblock back 1
-b gap 1 0.0 0.0 0 500 direct 0
-b gap 2 0.0 1.0 600 1200 direct 600
-b task a plain 3 0 0 3 open
-b end 1300
-
-# a closed session
-k version = 1
-k seek = [[1, 300], [3, 500]]
-z sectors = 12
-t 0 0 5 1 1
-t 0 0 24 1 1
-c 0 open a plain 1 1
-c 0 want a 6 2
-c 0 want a 35 1
-c 0.000600 close a
-f freeblock fore 1
-f 1 R 5 1 0 0 500 600 0 00000000000000000000000000000005
-f 2 R 24 1 0 600 1200 1300 0 00000000000000000000000000000018
-f end 2 0
-b freeblock back 1
-b gap 1 0.0 0.0 0 500 direct 0
-b done a 600
-b gap 2 0.0 1.0 600 1200 direct 600
-b task a plain 3 0 3 0 complete
-b end 1300
-
-# one of two blocks is aborted
-k version = 1
-k seek = [[1, 300], [3, 500]]
-z sectors = 12
-t 0 0 5 1 1
-t 0 0 24 1 1
-c 0 open a plain 1 1
-c 0 want a 34 2
-c 0.000600 abort a 34 1
-f freeblock fore 1
-f 1 R 5 1 0 0 500 600 0 00000000000000000000000000000005
-f 2 R 24 1 0 600 1200 1300 0 00000000000000000000000000000018
-f end 2 0
-b freeblock back 1
-b gap 1 0.0 0.0 0 500 direct 0
-b gap 2 0.0 1.0 600 1200 direct 600
-b got a 1 35 1 1100 1200 gap 0 00000000000000000000000000000023
-b done a 1200
-b task a plain 2 1 1 0 complete
-b end 1300
-
-# or none, since the abort comes late
-k version = 1
-k seek = [[1, 300], [3, 500]]
-z sectors = 12
-t 0 0 5 1 1
-t 0 0 24 1 1
-c 0 open a plain 1 1
-c 0 want a 34 2
-c 0.000650 abort a 34 1
-f freeblock fore 1
-f 1 R 5 1 0 0 500 600 0 00000000000000000000000000000005
-f 2 R 24 1 0 600 1200 1300 0 00000000000000000000000000000018
-f end 2 0
-b freeblock back 1
-b gap 1 0.0 0.0 0 500 direct 0
-b gap 2 0.0 1.0 600 1200 direct 600
-b got a 0 34 1 1000 1100 gap 0 00000000000000000000000000000022
-b got a 1 35 1 1100 1200 gap 0 00000000000000000000000000000023
-b done a 1200
-b task a plain 2 2 0 0 complete
-b end 1300
-
-# or both wait, suspended
-k version = 1
-k seek = [[1, 300], [3, 500]]
-z sectors = 12
-t 0 0 5 1 1
-t 0 0 24 1 1
-c 0 open a plain 1 1
-c 0 want a 34 2
-c 0.000600 suspend a
-f freeblock fore 1
-f 1 R 5 1 0 0 500 600 0 00000000000000000000000000000005
-f 2 R 24 1 0 600 1200 1300 0 00000000000000000000000000000018
-f end 2 0
-b freeblock back 1
-b gap 1 0.0 0.0 0 500 direct 0
-b gap 2 0.0 1.0 600 1200 direct 600
-b task a plain 2 0 0 2 open
-b end 1300
-
-";
-
-// Backups, scrubs and cleaning.
+// Sessions of the other kinds.
 const KINDS: &str = "# a backup whose block is written again
 k version = 1
 k seek = [[1, 300], [3, 500]]
@@ -433,28 +96,6 @@ b got b 0 0 2 2400 2600 idle 0 0000000000000001000000000000000000000000000000000
 b seal b 2600 4 038572f48e729b3cc9c0d8bb3bc5eb1aebe0cef0f8aae410aa65f5ea8427e0d1
 b done b 2600
 b task b backup 2 2 0 0 complete
-b end 4000
-
-# a backup without its aborted block
-k version = 1
-k seek = [[1, 300], [3, 500]]
-z sectors = 12
-t 0.000250 0 0 1 0
-c 0 open b backup 1 2
-c 0 want b 0 4
-c 0 abort b 2 2
-o --until 0.004
-f freeblock fore 1
-f 1 W 0 1 250 250 1200 1300 0 -
-f end 1 0
-b freeblock back 1
-b idle 0.0 0 250
-b got b 0 0 2 0 200 idle 0 0000000000000000000000000000000000000000000000000000000000000001
-b seal b 200 2 ec4916dd28fc4c10d78e287ca5d9cc51ee1ae73cbfde08c6b37324cbfaac8bc5
-b done b 200
-b gap 1 0.0 0.0 250 1200 direct 250
-b idle 0.0 1300 4000
-b task b backup 2 1 1 0 complete
 b end 4000
 
 # segments by benefit and cost
@@ -482,20 +123,6 @@ b done c 1500
 b task c clean 3 3 0 0 complete
 b end 3000
 
-# a segment without live blocks
-k version = 1
-k seek = [[1, 300], [3, 500]]
-z sectors = 12
-c 0 open c clean 1 1
-c 0 segment c 0 4 10 0
-f freeblock fore 1
-f end 0 0
-b freeblock back 1
-b seg c 1 0 0 e3b0c44298fc1c149afbf4c8996fb92427ae41e4649b934ca495991b7852b855
-b done c 0
-b task c clean 0 0 0 0 complete
-b end 0
-
 # a scrub that finds a bad sector
 k version = 1
 k seek = [[1, 300], [3, 500]]
@@ -516,8 +143,28 @@ b end 1200
 
 ";
 
-// Replays that end later, and a disk with a sector that was moved.
-const WAITING: &str = "# the head stays behind the last request
+// Sessions that are held back, and the time behind the last request.
+const WAITING: &str = "# a suspended session
+k version = 1
+k seek = [[1, 300], [3, 500]]
+z sectors = 12
+t 0 0 5 1 1
+t 0 0 24 1 1
+c 0 open a plain 1 1
+c 0 want a 6 2
+c 0 want a 35 1
+c 0.000600 suspend a
+f freeblock fore 1
+f 1 R 5 1 0 0 500 600 0 00000000000000000000000000000005
+f 2 R 24 1 0 600 1200 1300 0 00000000000000000000000000000018
+f end 2 0
+b freeblock back 1
+b gap 1 0.0 0.0 0 500 direct 0
+b gap 2 0.0 1.0 600 1200 direct 600
+b task a plain 3 0 0 3 open
+b end 1300
+
+# the head stays behind the last request
 k version = 1
 k seek = [[1, 300], [3, 500]]
 z sectors = 12
@@ -541,74 +188,6 @@ b done a 1200
 b idle 1.0 1300 10000
 b task a plain 3 3 0 0 complete
 b end 10000
-
-# the same behind another request
-k version = 1
-k seek = [[1, 300], [3, 500]]
-z sectors = 12
-t 0 0 5 1 1
-t 0 0 24 1 1
-t 0.001260 0 72 1 1
-c 0 open a plain 1 1
-c 0 want a 6 2
-c 0 want a 35 1
-o --until 0.01
-f freeblock fore 1
-f 1 R 5 1 0 0 500 600 0 00000000000000000000000000000005
-f 2 R 24 1 0 600 1200 1300 0 00000000000000000000000000000018
-f 3 R 72 1 1260 1300 2400 2500 0 00000000000000000000000000000048
-f end 3 0
-b freeblock back 1
-b gap 1 0.0 0.0 0 500 direct 0
-b gap 2 0.0 1.0 600 1200 direct 800
-b got a 0 6 1 600 700 gap 0 00000000000000000000000000000006
-b got a 1 7 1 700 800 gap 0 00000000000000000000000000000007
-b got a 2 35 1 1100 1200 gap 0 00000000000000000000000000000023
-b done a 1200
-b gap 3 1.0 3.0 1300 2400 direct 1300
-b idle 3.0 2500 10000
-b task a plain 3 3 0 0 complete
-b end 10000
-
-# a range cut at a sector that was moved
-k version = 2
-k seek = [[1, 300], [3, 500]]
-k grown = [[0, 0, 3]]
-z sectors = 12
-z cylinder_spares = 2
-c 0 open a plain 1 8
-c 0 want a 2 3
-o --until 0.0012
-f freeblock fore 1
-f end 0 0
-b freeblock back 1
-b idle 0.0 0 1200
-b got a 0 2 1 200 300 idle 0 00000000000000000000000000000002
-b got a 2 4 1 400 500 idle 0 00000000000000000000000000000004
-b task a plain 3 2 0 1 open
-b end 1200
-
-# a block whose sectors don't pass in a row
-k version = 2
-k seek = [[1, 300], [3, 500]]
-k grown = [[0, 1, 4]]
-z sectors = 12
-z cylinder_spares = 2
-t 0 0 12 1 1
-c 0.001300 open a plain 1 20
-c 0.001300 want a 15 4
-o --until 0.004
-f freeblock fore 1
-f 1 R 12 1 0 0 1200 1300 0 0000000000000000000000000000000c
-f end 1 0
-b freeblock back 1
-b gap 1 0.0 0.1 0 1200 direct 0
-b idle 0.1 1300 4000
-b got a 1 17 2 1700 1900 idle 0 0000000000000000000000000000001100000000000000000000000000000012
-b got a 0 15 2 1500 2300 idle 0 0000000000000000000000000000000f00000000000000000000000000000010
-b done a 2300
-b task a plain 2 2 0 0 complete
-b end 4000
 
 ";
 
@@ -719,11 +298,9 @@ fn right_cases(alloc: Global, cases: &str) -> Result<usize, NoMemory> {
 #[test]
 fn both_reports(rt: HostRuntime) -> Result<(), Fail> {
     let alloc = rt.alloc();
-    assert_eq!(rt; right_cases(alloc, READING)?, 8);
-    assert_eq!(rt; right_cases(alloc, FOREGROUND)?, 4);
-    assert_eq!(rt; right_cases(alloc, ENDING)?, 7);
-    assert_eq!(rt; right_cases(alloc, KINDS)?, 5);
-    assert_eq!(rt; right_cases(alloc, WAITING)?, 4);
+    assert_eq!(rt; right_cases(alloc, READING)?, 3);
+    assert_eq!(rt; right_cases(alloc, KINDS)?, 3);
+    assert_eq!(rt; right_cases(alloc, WAITING)?, 2);
     Ok(())
 }
 
