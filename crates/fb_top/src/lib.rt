@@ -4,10 +4,6 @@
 //! among the desk's counts of faults; what was written are the texts of the very run that it answers.
 #![tactic(auto)]
 
-#[cfg(test)]
-mod back_tests;
-#[cfg(test)]
-mod calls_tests;
 mod command;
 #[cfg(test)]
 mod fault_tests;
