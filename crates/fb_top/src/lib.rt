@@ -16,8 +16,6 @@ mod note_faults;
 mod note_words;
 mod outcome;
 mod policy;
-#[cfg(test)]
-mod queue_tests;
 mod reading;
 #[cfg(test)]
 mod replay_tests;

@@ -8,17 +8,8 @@ use fb_desk::{MemoryDesk, Output};
 use fb_units::NoMemory;
 use std::alloc::Global;
 
-/// The version and the seek table of a disk.
-pub const STEADY: &str = "version = 1\nseek = [[1, 300], [3, 500]]\n";
-
-/// Those of a disk with short seeks.
-pub const QUICK: &str = "version = 1\nseek = [[1, 100], [2, 400], [3, 400]]\n";
-
-/// Those of a disk whose sectors may be moved to spare ones.
-pub const WITH_MOVED: &str = "version = 2\nseek = [[1, 300], [3, 500]]\n";
-
 const BEFORE_ZONE: &str =
-    "rotation_ns = 1200\nsector_bytes = 16\nheads = 2\nhead_switch_ns = 200\nwrite_settle_ns = 50\n";
+    "version = 1\nrotation_ns = 1200\nsector_bytes = 16\nheads = 2\nhead_switch_ns = 200\nwrite_settle_ns = 50\nseek = [[1, 300], [3, 500]]\n";
 
 const ZONE: &str = "[[zone]]\nfirst = 0\nlast = 3\n";
 
@@ -30,7 +21,6 @@ pub const TWELVE: &str = "sectors = 12\n";
 pub struct Ending {
     pub status: u8,
     pub fore: Vec<u8>,
-    pub back: Vec<u8>,
     pub note: Vec<u8>,
     pub made_trace: Vec<u8>,
     pub made_calls: Vec<u8>,
@@ -38,13 +28,7 @@ pub struct Ending {
 
 /// A small disk, with these lines before its zone and these in it.
 pub fn disk(alloc: Global, before: &str, within: &str) -> Result<String, NoMemory> {
-    outline(alloc, STEADY, before, within)
-}
-
-/// The same with these lines at the top.
-pub fn outline(alloc: Global, top: &str, before: &str, within: &str) -> Result<String, NoMemory> {
-    let mut text = String::from_str(alloc, top)?;
-    text.push_str(BEFORE_ZONE)?;
+    let mut text = String::from_str(alloc, BEFORE_ZONE)?;
     text.push_str(before)?;
     text.push_str(ZONE)?;
     text.push_str(within)?;
@@ -61,25 +45,9 @@ pub fn desk(
     requires { 0 < piece }
     ensures { IfOk result (λ desk. IsUnused (memory_view desk)) }
 {
-    let mut desk = MemoryDesk::new(alloc, piece, piece, 100_000)?;
+    let mut desk = MemoryDesk::new(alloc, piece, piece, 10_000)?;
     desk.hold("k", params)?;
     desk.hold("t", trace)?;
-    Ok(desk)
-}
-
-/// A desk that holds a script `c` too.
-pub fn scripted_desk(
-    alloc: Global,
-    piece: usize,
-    params: &[u8],
-    trace: &[u8],
-    calls: &[u8],
-) -> Result<MemoryDesk, NoMemory>
-    requires { 0 < piece }
-    ensures { IfOk result (λ desk. IsUnused (memory_view desk)) }
-{
-    let mut desk = desk(alloc, piece, params, trace)?;
-    desk.hold("c", calls)?;
     Ok(desk)
 }
 
@@ -92,7 +60,6 @@ pub fn end(alloc: Global, desk: &mut MemoryDesk, words: &str) -> Result<Ending, 
     Ok(Ending {
         status: status(&outcome),
         fore: copied(alloc, desk.written(Output::Fore))?,
-        back: copied(alloc, desk.written(Output::Back))?,
         note: copied(alloc, desk.written(Output::Note))?,
         made_trace: copied(alloc, desk.written(Output::MadeTrace))?,
         made_calls: copied(alloc, desk.written(Output::MadeCalls))?,
