@@ -1,3 +1,4 @@
 pub mod Live
 pub mod Chosen
 pub mod Kept
+pub mod Greatest

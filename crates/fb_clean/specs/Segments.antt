@@ -33,9 +33,17 @@ after_add first blocks age live before = record before {
   taken = before.taken ++ [] ∷ [];
 }
 
--- greater benefit, (N - L) * age / (N + L)
+-- what its cleaning gains, its free blocks by its age, (N - L) * age
+abbrev pub gain : LogSegment → ℕ
+gain segment = (segment.blocks - length segment.live) * segment.age
+
+-- and what it costs, its blocks read and its live ones written again, N + L
+abbrev pub cost : LogSegment → ℕ
+cost segment = segment.blocks + length segment.live
+
+-- greater benefit, gain over cost
 abbrev pub is_better : LogSegment → LogSegment → Bool
-is_better a b = nat_lt ((b.blocks - length b.live) * b.age * (a.blocks + length a.live)) ((a.blocks - length a.live) * a.age * (b.blocks + length b.live))
+is_better a b = nat_lt (gain b * cost a) (gain a * cost b)
 
 -- the first of greatest benefit
 abbrev pub first_best : List LogSegment → Option LogSegment

@@ -5,6 +5,7 @@ ghost use Rattle.fb_store.specs.declared.content.Content.{Content};
 ghost use Rattle.fb_store.specs.Index.{held_at};
 ghost use Rattle.fb_store.specs.Pieces.{Gives, after_take, held_in};
 ghost use Rattle.fb_store.specs.Runs.{runs_of};
+ghost use Rattle.fb_clean.specs.Greatest.{IsChoice};
 ghost use Rattle.fb_clean.specs.Segments.{live_blocks, left_out, after_add, choice_of, after_choice, after_drop, live_of, taken_for, packed_sectors};
 
 use crate::choice::best_waiting;
@@ -109,6 +110,7 @@ impl Segments {
     /// Chooses the segment of greatest benefit, and answers its number: none where a chosen segment is unfinished or none is left.
     pub fn choose(&mut self) -> Option<u32>
         ensures choice { result ≡ choice_of self.old }
+        ensures greatest { IsChoice self.old result }
         ensures state { self.new ≡ after_choice result self.old }
         ensures known { IfSome result (λ number. (0 < number) × (number ≤ length self.new.segments)) }
     {

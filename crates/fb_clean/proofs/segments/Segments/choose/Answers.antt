@@ -1,7 +1,9 @@
 use Rattle.std.proofs.Common.{◌≡◌, ◌+◌, ◌<◌, Some, ap, sym, ◌∙◌, arith, length, subst, slice_get}
 use Rattle.std.proofs.lemmas.List.{length-set}
 use Rattle.fb_clean.specs.Segments.{choice_of, without, left_out, first_best, waiting}
+use Rattle.fb_clean.specs.Numbers.{AreNumbered}
 use Rattle.fb_clean.proofs.Chosen.{some_at}
+use Rattle.fb_clean.proofs.Greatest.{choice_is_greatest}
 use Rattle.fb_clean.proofs.Kept.{left_at, sound_chosen, none_unfinished, number_chosen}
 use Rattle.fb_clean.proofs.segments.Segments.choose.Goals as goal
 
@@ -23,6 +25,9 @@ returns-clause-choice c =
     number_chosen segments c.self.inside.unfinished c.in_ok-best.best here.0 c.self.invariant.numbered here.1 (none_unfinished c.self.inside.unfinished (sym c.is_some.ensures ∙ c.if-is_some.false))
     (subst (λ xs. slice_get xs c.in_ok-best.best ≡ first_best (waiting xs)) c.deref.ensures.value c.in_ok-best.ensures.some)
     ∙ ap choice_of c.self.view_is
+
+pub returns-clause-greatest : goal.returns-clause-greatest
+returns-clause-greatest c = choice_is_greatest c.args.self.now (Some (c.in_ok-best.best + 1)) (subst (λ v. AreNumbered 1 v.segments) c.self.view_is c.self.invariant.numbered) (returns-clause-choice c)
 
 pub returns-clause-state : goal.returns-clause-state
 returns-clause-state c =
