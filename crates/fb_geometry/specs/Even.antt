@@ -5,7 +5,7 @@ use Rattle.fb_geometry.specs.declared.layout.Layout.{Layout}
 use Rattle.fb_geometry.specs.declared.layout.Layout.TheVariants.{PerTrack, PerCylinder}
 use Rattle.fb_geometry.specs.declared.zone.Zone.{Zone}
 use Rattle.fb_geometry.specs.declared.cylinder.Cylinder.{Cylinder}
-use Rattle.fb_geometry.specs.Shape.{Shape, cylinders_of, is_among}
+use Rattle.fb_geometry.specs.Shape.{Shape, cylinders_of, slots_at, is_among}
 use Rattle.fb_geometry.specs.Places.{data_list_at, by_head, good_track}
 use Rattle.fb_geometry.specs.Turns.{cylinder_slots}
 use Rattle.fb_geometry.specs.Slips.{indexes}
@@ -28,9 +28,10 @@ pub record IsEven (disk : Shape) (on : Cylinder) : Type 0 where
   pub heads : (j : ℕ) → j < length (data_list_at disk on.number) → j / on.sectors < 64
   pub each : (j : ℕ) → j < length (data_list_at disk on.number) → slice_get (data_list_at disk on.number) j ≡ Some (even_place on j)
 
--- the cylinder is the disk's, and its sectors stand so if none of its slots is bad
+-- the cylinder is the disk's, with so many slots on each track, and its sectors stand so if none of its slots is bad
 pub record IsLookedUp (disk : Shape) (on : Cylinder) : Type 0 where
   pub on_disk : on.number < cylinders_of disk.zones
+  pub slots : on.slots ≡ slots_at disk.zones on.number
   pub even : on.even ≡ true → IsEven disk on
 
 -- no slot of the cylinder is bad

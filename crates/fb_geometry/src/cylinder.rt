@@ -1,12 +1,13 @@
 // A cylinder that is looked up once, for the places of many of its sectors.
 ghost use Rattle.std.specs.Prelude.{◌≡◌, ◌<◌, length, slice_get, Some, true};
-ghost use Rattle.fb_geometry.specs.Shape.{cylinders_of};
+ghost use Rattle.fb_geometry.specs.Shape.{cylinders_of, slots_at};
+ghost use Rattle.fb_geometry.specs.Angles.{slot_begin};
 ghost use Rattle.fb_geometry.specs.Places.{data_list_at};
 ghost use Rattle.fb_geometry.specs.Turns.{IsZoneAt};
 ghost use Rattle.fb_geometry.specs.Even.{even_place, IsEven, IsLookedUp, HasNoBad, sectors_by};
 
 use crate::{Geometry, Layout, Zone};
-use fb_units::{Place, Track};
+use fb_units::{Ns, Place, Track};
 
 /// A cylinder, looked up once for the places of many of its sectors.
 #[derive(Clone, Copy, Debug, PartialEq, Eq)]
@@ -74,6 +75,16 @@ impl Geometry {
         } else {
             self.sector_place(on.number, j)
         }
+    }
+
+    /// The angle at which a slot of a cylinder that was looked up begins.
+    pub fn begin_on(&self, on: &Cylinder, slot: u32) -> Ns
+        requires looked_up { IsLookedUp self.now on.now }
+        requires slot { slot < slots_at self.now.zones on.now.number }
+        ensures value { result ≡ slot_begin self.now.rotation (slots_at self.now.zones on.now.number) slot }
+        ensures bound { result < self.now.rotation }
+    {
+        slot as u64 * self.rotation() / on.slots as u64
     }
 
     // The place of a sector where no slot of the cylinder is bad.

@@ -3,12 +3,12 @@ use Rattle.std.proofs.Common.{◌≡◌, ℕ, ◌+◌, ◌-◌, ◌*◌, ◌^◌
 use Rattle.std.specs.Prelude.{slice_get}
 use Rattle.std.proofs.lemmas.Option.{slice_get_within}
 use Rattle.fb_units.specs.declared.types.Place.{Place}
-use Rattle.fb_geometry.specs.Shape.{Shape, slots_at, IsTrackOf}
+use Rattle.fb_geometry.specs.Shape.{Shape, slots_at, cylinders_of, IsTrackOf}
 use Rattle.fb_geometry.specs.Places.{places, data_list_at}
 use Rattle.fb_geometry.specs.Sound.{IsSound}
 use Rattle.fb_sectormap.specs.declared.run.Run.{Run}
 use Rattle.fb_sectormap.specs.Lookup.{place_at, track_at}
-use Rattle.fb_sectormap.specs.Cylinders.{IsSectorOf}
+use Rattle.fb_sectormap.specs.Cylinders.{IsSectorOf, sectors_before}
 use Rattle.fb_sectormap.specs.Runs.{IsRun}
 use Rattle.fb_sectormap.proofs.ByCylinder.{placed, place_is, own-at, size-few, count-few, some_get}
 
@@ -51,3 +51,12 @@ module _ (disk : Shape) (sound : IsSound disk) (cylinder j lbn : ℕ) (is : IsSe
 
   pub end_fits : (sectors : ℕ) → sectors ≡ length (data_list_at disk cylinder) → lbn - j + sectors ≤ 2 * 10 ^ 12
   end_fits sectors e = omega (arith, e, size-few disk sound cylinder is.on_disk, count-few disk sound)
+
+module _ (disk : Shape) (sound : IsSound disk) (cylinder first end : ℕ) (on : cylinder < cylinders_of disk.zones) (starts : first ≡ sectors_before disk cylinder)
+    (ends : end ≡ first + length (data_list_at disk cylinder)) (lbn : ℕ) (from : first ≤ lbn) (before : lbn < end) where
+  pub on_cylinder : (lbn < length (places disk)) × ((track_at disk lbn).cylinder ≡ cylinder)
+  on_cylinder =
+      let sector : IsSectorOf disk cylinder (lbn - first) lbn = record { on_disk = on; inside = omega (arith, ends); number = omega (arith, starts) } in
+      let place = some_get disk sound (data_list_at disk cylinder) (lbn - first) sector.inside in
+      let below = slice_get_within (places disk) lbn place.0 (placed disk sound cylinder (lbn - first) lbn place.0 sector place.1) in
+      (below, cylinder_of_sector disk sound cylinder (lbn - first) lbn sector below)
