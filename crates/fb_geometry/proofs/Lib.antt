@@ -15,3 +15,4 @@ pub mod Judging
 pub mod Once
 pub mod Rotation
 pub mod Stretched
+pub mod Even

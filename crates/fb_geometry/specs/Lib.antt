@@ -8,3 +8,4 @@ pub mod Marks
 pub mod Index
 pub mod Turns
 pub mod Stretches
+pub mod Even

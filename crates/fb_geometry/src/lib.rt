@@ -1,6 +1,7 @@
 //! The outline of a disk: zones, skews, spares, defects and angles.
 #![tactic(auto)]
 
+mod cylinder;
 mod fault;
 mod geometry;
 mod layout;
@@ -11,6 +12,7 @@ mod stretch;
 mod tests;
 mod zone;
 
+pub use cylinder::Cylinder;
 pub use fault::{GeometryError, GeometryFault};
 pub use geometry::Geometry;
 pub use layout::Layout;

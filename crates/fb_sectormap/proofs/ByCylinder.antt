@@ -80,7 +80,7 @@ module _ (disk : Shape) (sound : IsSound disk) where
       let by = by_zone cylinder h in
       sound.own by.index by.zone cylinder j place by.holds (ap (λ xs. slice_get xs j) (sym (list-by_zone by.index by.zone cylinder by.holds)) ∙ at)
 
-  size-few : (cylinder : ℕ) → cylinder < cylinders_of disk.zones → length (data_list_at disk cylinder) ≤ 640000
+  pub size-few : (cylinder : ℕ) → cylinder < cylinders_of disk.zones → length (data_list_at disk cylinder) ≤ 640000
   size-few cylinder h =
       let by = by_zone cylinder h in
       omega (arith, size-by_zone by.index by.zone cylinder by.holds, size_most disk.layout disk by.zone sound.few_heads (sound.few_slots by.index by.zone by.holds.zone_is))
@@ -108,7 +108,7 @@ module _ (disk : Shape) (sound : IsSound disk) where
     pub lies : LiesOn disk cylinder place
     pub placed_at : place_at disk lbn ≡ place
 
-  some_get : {X : Type 0} (xs : List X) (i : ℕ) → i < length xs → (x : X) × (slice_get xs i ≡ Some x)
+  pub some_get : {X : Type 0} (xs : List X) (i : ℕ) → i < length xs → (x : X) × (slice_get xs i ≡ Some x)
   some_get [] i h = absurd (omega arith)
   some_get (x ∷ xs) zero h = (x, refl)
   some_get (x ∷ xs) (suc i) h = some_get xs i (omega arith)

@@ -7,3 +7,4 @@ pub mod Cutting
 pub mod Computed
 pub mod Stretching
 pub mod Turns
+pub mod Running

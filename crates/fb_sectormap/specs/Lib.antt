@@ -2,3 +2,4 @@ pub mod Lookup
 pub mod Cutting
 pub mod Cylinders
 pub mod Worked
+pub mod Runs

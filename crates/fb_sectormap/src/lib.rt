@@ -8,10 +8,12 @@
 mod cut;
 mod map;
 mod numbering;
+mod run;
 #[cfg(test)]
 mod tests;
 mod worked;
 
 pub use cut::Cut;
 pub use map::SectorMap;
+pub use run::Run;
 pub use worked::small_disks;

@@ -2,9 +2,11 @@
 ghost use Rattle.std.specs.Prelude.{◌≡◌, ℕ, ◌+◌, ◌<◌, ◌≤◌, ◌^◌, length, map, IfOk, MatchOption};
 ghost use Rattle.fb_geometry.specs.Shape.{slots_at, cylinders_of, turn_position, IsTrackOf};
 ghost use Rattle.fb_geometry.specs.Places.{places};
-ghost use Rattle.fb_sectormap.specs.Lookup.{IsAt, place_at, neighbour};
+ghost use Rattle.fb_sectormap.specs.Lookup.{IsAt, place_at, track_at, neighbour};
+ghost use Rattle.fb_sectormap.specs.Runs.{IsRun};
 ghost use Rattle.fb_sectormap.specs.Cylinders.{IsFirstOf, CylindersRise, IsSectorOf, TellsSector, TellsFirst};
 
+use crate::Run;
 use crate::numbering::{CylinderSector, ZoneStart};
 use fb_geometry::{Geometry, Stretch};
 use fb_units::{NoMemory, Place, Track};
@@ -97,6 +99,37 @@ impl SectorMap {
     {
         let at = self.by_cylinder(lbn);
         self.geometry.stretch(at.cylinder, at.sector)
+    }
+
+    /// The sectors of the cylinder on which a sector is, for the places of many of them.
+    pub fn run_of(&self, lbn: u64) -> Run
+        requires { lbn < length (places self.now) }
+        ensures run { IsRun self.now result }
+        ensures cylinder { result.on.number ≡ (track_at self.now lbn).cylinder }
+        ensures from { result.first ≤ lbn }
+        ensures before { lbn < result.end }
+    {
+        let at = self.by_cylinder(lbn);
+        let first = lbn - at.sector as u64;
+        Run {
+            on: self.geometry.cylinder(at.cylinder),
+            first,
+            end: first + self.geometry.cylinder_sectors(at.cylinder) as u64,
+        }
+    }
+
+    /// The place of a sector of a run.
+    pub fn place_in(&self, run: &Run, lbn: u64) -> Place
+        requires run { IsRun self.now run.now }
+        requires from { run.now.first ≤ lbn }
+        requires before { lbn < run.now.end }
+        ensures value { result ≡ place_at self.now lbn }
+        ensures cylinder { result.track.cylinder ≡ run.now.on.number }
+        ensures track { IsTrackOf self.now result.track }
+        ensures slot { result.slot < slots_at self.now.zones result.track.cylinder }
+        ensures on_disk { lbn < length (places self.now) }
+    {
+        self.geometry.place_on(&run.on, (lbn - run.first) as u32)
     }
 
     /// The sector at a place. None where the slot holds no data.

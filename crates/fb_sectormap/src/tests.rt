@@ -40,6 +40,14 @@ fn place_of(map: &SectorMap, lbn: u64) -> Option<Place> {
     Some(map.place(lbn))
 }
 
+// The same by the run of the sector's cylinder.
+fn place_in_run(map: &SectorMap, lbn: u64) -> Option<Place> {
+    if lbn >= map.count() {
+        return None;
+    }
+    Some(map.place_in(&map.run_of(lbn), lbn))
+}
+
 // How many sectors from this one on stand in neighbouring slots; 0 where there is none.
 fn neighbours(map: &SectorMap, lbn: u64) -> u32 {
     if lbn >= map.count() {
@@ -60,10 +68,12 @@ fn finds_sectors_that_moved(rt: HostRuntime) -> Result<(), Fail> {
         (&[], &moved, 15, place(0, 1, 3), 1),
         (&[], &moved, 16, place(0, 1, 10), 1),
         (&[], &moved, 17, place(0, 1, 5), 5),
+        (&[], &[], 15, place(0, 1, 3), 7),
     ] {
         let map = disk(rt.alloc(), defects, grown)?;
         assert_eq!(rt; map.count(), 88);
         assert_eq!(rt; place_of(&map, lbn), Some(at));
+        assert_eq!(rt; place_in_run(&map, lbn), Some(at));
         assert_eq!(rt; neighbours(&map, lbn), count);
     }
     Ok(())

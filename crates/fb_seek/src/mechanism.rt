@@ -1,7 +1,7 @@
 // The moving parts of a disk.
 ghost use Rattle.std.specs.Prelude.{◌≡◌, ◌+◌, ◌-◌, ◌*◌, ◌/◌, ◌<◌, ◌≤◌, ◌^◌};
 ghost use Rattle.fb_seek.specs.Mechanics.{Mechanics};
-ghost use Rattle.fb_seek.specs.Positioning.{seek, pos};
+ghost use Rattle.fb_seek.specs.Positioning.{seek, pos, distance_of};
 ghost use Rattle.fb_seek.specs.Rising.{SeeksRise};
 ghost use Rattle.fb_seek.specs.Faults.{Judges};
 
@@ -78,10 +78,21 @@ impl Mechanism {
     }
 
     /// The time, in nanoseconds, from one track to another, settled there if it is for a write.
-    #[tactic(auto, unfolding(crate::specs::Positioning::pos))]
     pub fn pos(&self, source: Track, target: Track, write: bool) -> Ns
         requires source { source.cylinder < self.now.cylinders }
         requires target { target.cylinder < self.now.cylinders }
+        ensures value { result ≡ pos self.now source target write }
+        ensures bound { result ≤ 2 * 10 ^ 9 }
+    {
+        let seek_time = self.seek(source.cylinder.abs_diff(target.cylinder));
+        self.pos_with(seek_time, source, target, write)
+    }
+
+    /// The same, where the time of the seek between the two cylinders is known.
+    #[tactic(auto, unfolding(crate::specs::Positioning::pos))]
+    pub fn pos_with(&self, seek_time: Ns, source: Track, target: Track, write: bool) -> Ns
+        requires seek { seek_time ≡ seek self.now (distance_of source.cylinder target.cylinder) }
+        requires short { seek_time ≤ 10 ^ 9 }
         ensures value { result ≡ pos self.now source target write }
         ensures bound { result ≤ 2 * 10 ^ 9 }
     {
@@ -94,9 +105,7 @@ impl Mechanism {
             self.head_switch
         };
         let settle = if write { self.write_settle } else { 0 };
-        self.seek(source.cylinder.abs_diff(target.cylinder))
-            .max(switch)
-            + settle
+        seek_time.max(switch) + settle
     }
 }
 

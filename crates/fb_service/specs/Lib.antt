@@ -1,3 +1,4 @@
 pub mod Passing
 pub mod Service
 pub mod Extents
+pub mod Approaching

@@ -2,7 +2,10 @@
 ghost use Rattle.std.specs.Prelude.{◌≡◌, ◌+◌, ◌<◌, ◌≤◌, length, true};
 ghost use Rattle.fb_geometry.specs.Places.{places};
 
-use crate::{Disk, Passage, nth_passage, serve};
+use crate::{
+    Disk, Passage, approach_on, approach_to, departure_from, first_pass, nth_passage, serve,
+    wait_on,
+};
 use fb_geometry::{Geometry, Layout, Zone};
 use fb_sectormap::SectorMap;
 use fb_seek::{Mechanism, SeekPoint};
@@ -277,6 +280,41 @@ fn extents_stand_for_single_sectors(rt: HostRuntime) -> Result<(), Fail> {
     ] {
         let disk = small_disk(rt.alloc(), layout, zone, defects, grown)?;
         assert!(rt; agrees(rt.alloc(), &disk, lbn, count, write)?);
+    }
+    Ok(())
+}
+
+// Whether the waits by the way to a cylinder end at the first passages.
+fn agrees_on_cylinder(disk: &Disk, now: Ns, write: bool) -> bool {
+    if now > LATE || disk.map.count() == 0 {
+        return false;
+    }
+    let from = departure_from(disk, SOURCE, now);
+    let mut near = approach_to(disk, from, 0);
+    for lbn in 0..disk.map.count() {
+        near = approach_on(disk, from, near, lbn);
+        if first_pass(disk, SOURCE, now, lbn, write) - now
+            != wait_on(disk, from, &near, lbn, write)
+        {
+            return false;
+        }
+    }
+    true
+}
+
+#[test]
+fn waits_on_cylinders_end_at_passages(rt: HostRuntime) -> Result<(), Fail> {
+    let bad = [place(0, 0, 3), place(1, 1, 0), place(2, 0, 11)];
+    for (layout, zone, defects, now) in [
+        (Layout::PerTrack, SKEWED, [].as_slice(), 0),
+        (Layout::PerTrack, UNEVEN, &[], 350),
+        (Layout::PerTrack, SPARED, &bad, 1234),
+        (Layout::PerCylinder, FOUR_SPARES, &[], 5999),
+        (Layout::PerCylinder, FOUR_SPARES, &bad, 100_000_007),
+    ] {
+        let disk = small_disk(rt.alloc(), layout, zone, defects, &[])?;
+        assert!(rt; agrees_on_cylinder(&disk, now, false));
+        assert!(rt; agrees_on_cylinder(&disk, now, true));
     }
     Ok(())
 }

@@ -1,4 +1,5 @@
 use Rattle.std.proofs.Common.{◌≤◌}
+use Rattle.fb_service.specs.Approaching.{IsApproach}
 use Rattle.fb_fastq.proofs.Walks.{IsWalk}
 use Rattle.fb_fastq.proofs.soonest.soonest_above.Given as goal
 
@@ -7,4 +8,5 @@ abbrev pub invariant-loop-key : goal.invariant-loop-key
 invariant-loop-key l =
     (goal.iterator-loop-key).can_next l.key-iterator ×
     (goal.iterator-loop-key).is_finite l.key-iterator ×
-    IsWalk l.disk l.head l.now l.waiting l.fn.first (λ w. l.start ≤ w.0.0) l.best l.key-iterator
+    IsApproach l.disk l.from l.near ×
+    IsWalk l.disk l.from.track l.from.instant l.waiting l.fn.first (λ w. l.start ≤ w.0.0) l.best l.key-iterator

@@ -1,0 +1,106 @@
+// A cylinder that is looked up once, for the places of many of its sectors.
+ghost use Rattle.std.specs.Prelude.{◌≡◌, ◌<◌, length, slice_get, Some, true};
+ghost use Rattle.fb_geometry.specs.Shape.{cylinders_of, slots_at};
+ghost use Rattle.fb_geometry.specs.Angles.{slot_begin};
+ghost use Rattle.fb_geometry.specs.Places.{data_list_at};
+ghost use Rattle.fb_geometry.specs.Turns.{IsZoneAt};
+ghost use Rattle.fb_geometry.specs.Even.{even_place, IsEven, IsLookedUp, HasNoBad, sectors_by};
+
+use crate::{Geometry, Layout, Zone};
+use fb_units::{Ns, Place, Track};
+
+/// A cylinder, looked up once for the places of many of its sectors.
+#[derive(Clone, Copy, Debug, PartialEq, Eq)]
+pub struct Cylinder {
+    /// Its number.
+    pub number: u32,
+    /// Whether none of its slots is bad.
+    pub even: bool,
+    /// The sectors of each of its tracks, where none is bad.
+    pub sectors: u32,
+    /// The slots of each of its tracks.
+    pub slots: u32,
+    /// The slot from which its first track is counted.
+    pub offset: u32,
+    /// The slots by which each track is counted later than the one before it.
+    pub skew: u32,
+}
+
+impl Geometry {
+    /// A cylinder, for the places of many of its sectors.
+    pub fn cylinder(&self, cylinder: u32) -> Cylinder
+        requires { cylinder < cylinders_of self.now.zones }
+        ensures number { result.number ≡ cylinder }
+        ensures looked_up { IsLookedUp self.now result }
+    {
+        let zone = self.zone_of(cylinder);
+        Cylinder {
+            number: cylinder,
+            even: self.has_no_bad(zone, cylinder),
+            sectors: self.track_sectors(zone, cylinder),
+            slots: zone.sectors,
+            offset: zone.offset(self.heads(), Track { cylinder, head: 0 }),
+            skew: zone.track_skew,
+        }
+    }
+
+    // Whether no slot of a cylinder is bad.
+    fn has_no_bad(&self, zone: Zone, cylinder: u32) -> bool
+        requires { IsZoneAt self.now cylinder zone }
+        ensures { result ≡ true → HasNoBad self.now zone cylinder }
+    {
+        self.defects_on(zone, cylinder).is_empty() && self.grown_on(zone, cylinder).is_empty()
+    }
+
+    // How many sectors stand on each track of a cylinder of which no slot is bad.
+    fn track_sectors(&self, zone: Zone, cylinder: u32) -> u32
+        requires { IsZoneAt self.now cylinder zone }
+        ensures { result ≡ sectors_by self.now.layout zone }
+    {
+        let _ = cylinder;
+        match self.layout() {
+            Layout::PerTrack => zone.sectors - zone.spares,
+            Layout::PerCylinder => zone.sectors,
+        }
+    }
+
+    /// The place of a sector of a cylinder that was looked up, from 0 in the order of their numbers.
+    pub fn place_on(&self, on: &Cylinder, j: u32) -> Place
+        requires looked_up { IsLookedUp self.now on.now }
+        requires sector { j < length (data_list_at self.now on.now.number) }
+        ensures { slice_get (data_list_at self.now on.now.number) j ≡ Some result }
+    {
+        if on.even {
+            self.even_place(on, j)
+        } else {
+            self.sector_place(on.number, j)
+        }
+    }
+
+    /// The angle at which a slot of a cylinder that was looked up begins.
+    pub fn begin_on(&self, on: &Cylinder, slot: u32) -> Ns
+        requires looked_up { IsLookedUp self.now on.now }
+        requires slot { slot < slots_at self.now.zones on.now.number }
+        ensures value { result ≡ slot_begin self.now.rotation (slots_at self.now.zones on.now.number) slot }
+        ensures bound { result < self.now.rotation }
+    {
+        slot as u64 * self.rotation() / on.slots as u64
+    }
+
+    // The place of a sector where no slot of the cylinder is bad.
+    fn even_place(&self, on: &Cylinder, j: u32) -> Place
+        requires even { IsEven self.now on.now }
+        requires sector { j < length (data_list_at self.now on.now.number) }
+        ensures { result ≡ even_place on.now j }
+    {
+        let head = j / on.sectors;
+        let turned = on.offset + head * on.skew + j % on.sectors;
+        Place {
+            track: Track {
+                cylinder: on.number,
+                head,
+            },
+            slot: turned % on.slots,
+        }
+    }
+}

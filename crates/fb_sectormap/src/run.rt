@@ -1,0 +1,12 @@
+use fb_geometry::Cylinder;
+
+/// The sectors of a cylinder, looked up once for the places of many of them.
+#[derive(Clone, Copy, Debug, PartialEq, Eq)]
+pub struct Run {
+    /// The cylinder.
+    pub on: Cylinder,
+    /// Its first sector.
+    pub first: u64,
+    /// The sector behind its last one.
+    pub end: u64,
+}

@@ -1,0 +1,20 @@
+-- The head leaves a track for a cylinder.
+use Rattle.std.specs.Prelude.{◌≡◌, ◌*◌, ◌%◌, ◌≤◌, ◌^◌}
+use Rattle.fb_geometry.specs.Shape.{IsTrackOf}
+use Rattle.fb_sectormap.specs.Runs.{IsRun}
+use Rattle.fb_seek.specs.Positioning.{seek, distance_of}
+use Rattle.fb_service.specs.declared.disk.Disk.{Disk}
+use Rattle.fb_service.specs.declared.approach.Departure.{Departure}
+use Rattle.fb_service.specs.declared.approach.Approach.{Approach}
+
+-- the head is on a track of the disk, and the platter at its angle of that instant
+pub record IsDeparture (disk : Disk) (from : Departure) : Type 0 where
+  pub track : IsTrackOf disk.map from.track
+  pub early : from.instant ≤ 9 * 10 ^ 18
+  pub angle : from.angle ≡ from.instant % disk.map.rotation
+
+-- the sectors are all of a cylinder, and the seek is the one to it
+pub record IsApproach (disk : Disk) (from : Departure) (approach : Approach) : Type 0 where
+  pub run : IsRun disk.map approach.run
+  pub seek_is : approach.seek ≡ seek disk.mechanism (distance_of from.track.cylinder approach.run.on.number)
+  pub short : approach.seek ≤ 10 ^ 9
