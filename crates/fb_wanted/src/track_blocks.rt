@@ -33,7 +33,7 @@ impl<'a> Model for TrackBlocks<'a> {
 
 impl<'a> TrackBlocks<'a> {
     /// Those of the track among all, where their places are known.
-    pub fn new(track: Track, entries: &'a [Entry], at: &'a [u32]) -> Self
+    pub(crate) fn new(track: Track, entries: &'a [Entry], at: &'a [u32]) -> Self
         requires its { at.now ≡ places (of_track track) entries.now }
         requires few { length entries.now ≤ 16000000 }
         ensures { result ≡ on_track track entries.now }
