@@ -1,10 +1,10 @@
 -- What is read of a task and of a track.
-use Rattle.std.proofs.Common.{◌≡◌, ℕ, ◌+◌, ◌<◌, ◌≤◌, inl, inr, List, [], ◌∷◌, Option, Some, None, true, length, filter, slice_get, get_or, IsSome, IfSome, IfNone, true≢false, ◌*◌, refl, ap, sym, ◌∙◌, arith, subst, option_map}
+use Rattle.std.proofs.Common.{◌≡◌, ℕ, ◌+◌, ◌<◌, ◌≤◌, inl, inr, List, [], ◌∷◌, Option, Some, None, true, length, filter, slice_get, get_or, IsSome, IfSome, IfNone, true≢false, ◌*◌, refl, ap, sym, ◌∙◌, arith, subst}
 use Rattle.std.specs.BTreeMap.{BTreeMap, get, ContainsKey}
 use Rattle.std.proofs.lemmas.Bool.{cases_lt}
 use Rattle.std.proofs.lemmas.Bool.Decides.{nat_tests}
 use Rattle.std.proofs.lemmas.List.{get_or_past}
-use Rattle.std.proofs.lemmas.Option.{slice_get-map, slice_get_within}
+use Rattle.std.proofs.lemmas.Option.{slice_get_within}
 use Rattle.fb_units.specs.declared.types.Track.{Track}
 use Rattle.fb_wanted.specs.declared.block.Entry.{Entry}
 use Rattle.fb_wanted.specs.declared.block.Counts.{Counts}
@@ -12,10 +12,9 @@ use Rattle.fb_wanted.specs.declared.tasks.OfTask.{OfTask}
 use Rattle.fb_wanted.specs.declared.tracks.OnTrack.{OnTrack}
 use Rattle.fb_wanted.specs.Counting.{counts_of, sum_of, AreNoMore, Fit}
 use Rattle.fb_wanted.specs.States.{on_track}
-use Rattle.fb_wanted.specs.Numbering.{blocks_of}
 use Rattle.fb_wanted.specs.Tracks.{wanted_weight, HasBlock, IsTrackBefore, IsNextTrack}
 use Rattle.fb_wanted.specs.Index.{places, of_task, of_track, kept_from, track_cmp, IsKept, no_blocks}
-use Rattle.fb_wanted.proofs.Standing.{length-places, at_place, among}
+use Rattle.fb_wanted.proofs.Standing.{length-places, among}
 use Rattle.fb_wanted.proofs.Counted.{filter-le, counts_at, counts-few}
 use Rattle.fb_wanted.proofs.Kept.{kept_some, kept_none}
 use Rattle.fb_wanted.proofs.Weights.{weight_none, weight_at, weight-le}
@@ -84,11 +83,6 @@ module _ (es : List Entry) (tasks : List OfTask) (tracks : BTreeMap Track OnTrac
   pub track_kept : (t : Track) (on : OnTrack) → Some on ≡ get track_cmp tracks t → (on.places ≡ places (of_track t) es) × (on.weight ≡ wanted_weight t es)
   track_kept t on at = kept_some (places (of_track t) es) (wanted_weight t es) on (sym (at ∙ h.index.by_track t))
 
-  pub track_count : (t : Track) (on : OnTrack) (n : ℕ) → Some on ≡ get track_cmp tracks t → n ≡ length on.places → (n ≤ 16000000) × (n ≡ length (on_track t es))
-  track_count t on n at is =
-      let same : n ≡ length (on_track t es) = is ∙ (ap length (track_kept t on at).0 ∙ length-places (of_track t) es) in
-      (omega (arith, same, filter-le (of_track t) es, h.few), same)
-
   pub no_track : (t : Track) → None ≡ get track_cmp tracks t → (0 ≡ length (on_track t es)) × (0 ≡ wanted_weight t es)
   no_track t at =
       let none = kept_none (places (of_track t) es) (wanted_weight t es) (sym (at ∙ h.index.by_track t)) in
@@ -127,9 +121,3 @@ module _ (es : List Entry) (tasks : List OfTask) (tracks : BTreeMap Track OnTrac
   pub next_none : (from : Track) (next : Option Track) → IfNone next ((k : Track) → ContainsKey track_cmp tracks k → IsTrackBefore k from) → IfNone next ((t : Track) → HasBlock es t → IsTrackBefore t from)
   next_none from None none = λ t has. none t (kept_has t has)
   next_none from (Some t) none = tt
-
--- the block at a place of a track
-pub block_there : (t : Track) (es : List Entry) (ps : List ℕ) (i p : ℕ) (e : Entry) → ps ≡ places (of_track t) es → slice_get ps i ≡ Some p → slice_get es p ≡ Some e
-    → slice_get (blocks_of (on_track t es)) i ≡ Some e.block
-block_there t es ps i p e same at is =
-    slice_get-map (λ x. x.block) (on_track t es) i ∙ ap (option_map (λ x. x.block)) (at_place (of_track t) es i p (ap (λ l. slice_get l i) (sym same) ∙ at) ∙ is)

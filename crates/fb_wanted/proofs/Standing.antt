@@ -1,9 +1,9 @@
 -- Where blocks stand among the registered ones.
-use Rattle.std.proofs.Common.{◌≡◌, ℕ, zero, suc, ◌+◌, ◌<◌, ◌≤◌, inl, inr, List, [], ◌∷◌, ◌++◌, Bool, true, false, Some, if◌then◌else◌, set, take, length, length-append, filter, map, slice_get, refl, ap, sym, ◌∙◌, arith, subst}
+use Rattle.std.proofs.Common.{◌≡◌, ℕ, zero, suc, ◌+◌, ◌<◌, ◌≤◌, inl, inr, List, [], ◌∷◌, ◌++◌, Bool, true, false, Some, if◌then◌else◌, set, take, length, length-append, filter, map, slice_get, get_or, refl, ap, sym, ◌∙◌, arith, subst}
 use Rattle.std.proofs.lemmas.Bool.{cases_Bool}
 use Rattle.std.proofs.lemmas.List.{length-map, map-append, take_all, append-nil}
 use Rattle.std.proofs.lemmas.List.Elements.{filter_more}
-use Rattle.std.proofs.lemmas.Option.{same_Some, none-some, slice_get_within, get_or_from_slice_get}
+use Rattle.std.proofs.lemmas.Option.{same_Some, none-some, slice_get_within, slice_get-get_or, get_or_from_slice_get}
 use Rattle.fb_wanted.specs.declared.block.Entry.{Entry}
 use Rattle.fb_wanted.specs.declared.block.Block.{Block}
 use Rattle.fb_wanted.specs.declared.block.State.{State}
@@ -70,6 +70,19 @@ place_within p es k j h =
     let inside : k < length (filter p es) = omega (arith, lt, length-places p es) in
     let e = get_some (filter p es) k inside in
     slice_get_within es j e.0 (sym (at_place p es k j h) ∙ e.1)
+
+-- a list that holds just these places
+pub place_there : (p : Entry → Bool) (es : List Entry) (ps : List ℕ) (k : ℕ) → ps ≡ places p es → k < length (filter p es) → k < length ps
+place_there p es ps k same lt = omega (arith, lt, ap length same, length-places p es)
+
+pub place_at : (p : Entry → Bool) (es : List Entry) (ps : List ℕ) (k : ℕ) → ps ≡ places p es → k < length (filter p es) → slice_get (places p es) k ≡ Some (get_or ps k 0)
+place_at p es ps k same lt = ap (λ l. slice_get l k) (sym same) ∙ slice_get-get_or ps k 0 (place_there p es ps k same lt)
+
+-- what is read at such a place
+pub read_at : (p : Entry → Bool) (es : List Entry) (ps : List ℕ) (k : ℕ) (d : Entry) → ps ≡ places p es → k < length (filter p es) → slice_get (filter p es) k ≡ Some (get_or es (get_or ps k 0) d)
+read_at p es ps k d same lt =
+    let at = place_at p es ps k same lt in
+    at_place p es k (get_or ps k 0) at ∙ slice_get-get_or es (get_or ps k 0) d (place_within p es k (get_or ps k 0) at)
 
 -- where an entry that passes comes among those that pass
 pub among : (p : Entry → Bool) (es : List Entry) (j : ℕ) (e : Entry) → slice_get es j ≡ Some e → p e ≡ true → (k : ℕ) × (slice_get (places p es) k ≡ Some j) × (slice_get (filter p es) k ≡ Some e)

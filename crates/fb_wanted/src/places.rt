@@ -59,4 +59,11 @@ impl Places {
     {
         self.items[i]
     }
+
+    /// All of them.
+    pub fn as_slice(&self) -> &[u32]
+        ensures { result.now ≡ self.now }
+    {
+        self.items.as_slice()
+    }
 }

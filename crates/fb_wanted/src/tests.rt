@@ -72,6 +72,7 @@ fn a_range_reaches_blocks_of_two_wants(rt: HostRuntime) -> Result<(), Fail> {
         (3, 0, 2)
     );
     assert_eq!(rt; wanted.next_registered_track(FAR), None);
+    assert_eq!(rt; wanted.on(FAR).len(), 0);
     Ok(())
 }
 
@@ -103,6 +104,10 @@ fn blocks_of_two_tasks(rt: HostRuntime) -> Result<(), Fail> {
     assert_eq!(rt; wanted.wanted_weight_on(NEAR), 0);
     assert_eq!(rt; wanted.registered_on(NEAR), 2);
     assert_eq!(rt; wanted.block_on(NEAR, 1), SECOND);
+    let blocks = wanted.on(NEAR);
+    assert_eq!(rt; blocks.len(), 2);
+    assert_eq!(rt; blocks.get(0).block, FIRST);
+    assert_eq!(rt; blocks.get(0).state, State::Aborted);
     assert_eq!(rt; wanted.next_registered_track(SECOND.track), Some(NEAR));
     Ok(())
 }

@@ -16,7 +16,7 @@ use crate::counting::{counts_of, no_counts};
 use crate::falls::{next_fall, note_fall};
 use crate::tasks::{OfTask, add_place, recount, take_place_back};
 use crate::tracks::{OnTrack, add_to_track, next_track, reweigh, weight_of};
-use crate::{Block, Change, Counts, Entry, State};
+use crate::{Block, Change, Counts, Entry, State, TrackBlocks};
 use fb_units::{NoMemory, Track};
 use std::alloc::Global;
 use std::collections::{BTreeMap, BTreeSet};
@@ -427,15 +427,22 @@ impl Wanted {
         let _ = &self.entries;
     }
 
+    /// The registered blocks of the track, looked up once.
+    pub fn on(&self, track: Track) -> TrackBlocks<'_>
+        ensures { result ≡ on_track track self.now }
+    {
+        match self.tracks.get(&track) {
+            Some(on) => TrackBlocks::new(track, self.entries.as_slice(), on.places.as_slice()),
+            None => TrackBlocks::new(track, self.entries.as_slice(), &[]),
+        }
+    }
+
     /// How many blocks of the track are registered.
     pub fn registered_on(&self, track: Track) -> u32
         ensures count { result ≡ length (on_track track self.now) }
         ensures few { result ≤ 16000000 }
     {
-        match self.tracks.get(&track) {
-            Some(on) => on.places.len() as u32,
-            None => 0,
-        }
+        self.on(track).len()
     }
 
     /// The i-th registered block of the track.
@@ -443,10 +450,7 @@ impl Wanted {
         requires { i < length (on_track track self.now) }
         ensures { slice_get (blocks_of (on_track track self.now)) i ≡ Some result }
     {
-        match self.tracks.get(&track) {
-            Some(on) => self.entries[on.places.get(i as usize) as usize].block,
-            None => unreachable!(),
-        }
+        self.on(track).get(i).block
     }
 
     /// Weight times sectors of the track's wanted blocks.

@@ -1,0 +1,59 @@
+// The registered blocks of a track, looked up once.
+ghost use Rattle.std.specs.Prelude.{◌≡◌, ◌≤◌, ◌<◌, List, Some, length, slice_get};
+ghost use Rattle.fb_wanted.specs.States.{on_track};
+ghost use Rattle.fb_wanted.specs.Index.{places, of_track};
+
+use crate::Entry;
+use fb_units::Track;
+use std::marker::Model;
+
+/// The registered blocks of a track, in order of registration.
+///
+/// To look at one of them costs the same whatever their number.
+#[derive(Drop)]
+pub struct TrackBlocks<'a> {
+    track: Track,
+    entries: &'a [Entry],
+    // Where they stand.
+    at: &'a [u32],
+}
+
+impl<'a> Model for TrackBlocks<'a> {
+    ghost use Rattle.std.specs.Prelude.{◌≡◌, ◌≤◌, List, length};
+    ghost use Rattle.fb_wanted.specs.declared.block.Entry.{Entry};
+    ghost use Rattle.fb_wanted.specs.States.{on_track};
+    ghost use Rattle.fb_wanted.specs.Index.{places, of_track};
+
+    ghost Value = { List Entry };
+
+    ghost view = { λ t. on_track t.track t.entries.now };
+
+    ghost invariant = { λ t. (t.at.now ≡ places (of_track t.track) t.entries.now) × (length t.entries.now ≤ 16000000) };
+}
+
+impl<'a> TrackBlocks<'a> {
+    /// Those of the track among all, where their places are known.
+    pub fn new(track: Track, entries: &'a [Entry], at: &'a [u32]) -> Self
+        requires its { at.now ≡ places (of_track track) entries.now }
+        requires few { length entries.now ≤ 16000000 }
+        ensures { result ≡ on_track track entries.now }
+    {
+        TrackBlocks { track, entries, at }
+    }
+
+    /// How many there are.
+    pub fn len(&self) -> u32
+        ensures count { result ≡ length self.now }
+        ensures few { result ≤ 16000000 }
+    {
+        self.at.len() as u32
+    }
+
+    /// The i-th, with its state.
+    pub fn get(&self, i: u32) -> Entry
+        requires { i < length self.now }
+        ensures { slice_get self.now i ≡ Some result }
+    {
+        self.entries[self.at[i as usize] as usize]
+    }
+}
