@@ -19,9 +19,9 @@ pub end-here : (disk : Disk) (block : Block) (r t p q here angle w v : ℕ) → 
 unfolding begin_from
 end-here disk block r t p q here angle w v rotation first last h a x y =
     let begin : t + w ≡ block_begin disk.map block t =
-        ap (λ n. t + n) (x ∙ (ap (λ n. wait n here t) rotation ∙ ap (λ n. wait disk.map.rotation n t) (h ∙ ap (λ n. begin_angle disk.map (place_at disk.map n)) first))) in
+    ap (λ n. t + n) (x ∙ (ap (λ n. wait n here t) rotation ∙ ap (λ n. wait disk.map.rotation n t) (h ∙ ap (λ n. begin_angle disk.map (place_at disk.map n)) first))) in
     let turn : v ≡ wait disk.map.rotation (end_angle disk.map (place_at disk.map (block.lbn + block.count - 1)) % disk.map.rotation) (t + w + 1) =
-        y ∙ (ap (λ n. wait n angle (t + w + 1)) rotation
-        ∙ ap (λ n. wait disk.map.rotation n (t + w + 1)) (a ∙ ap (λ n. end_angle disk.map (place_at disk.map n) % disk.map.rotation) last)) in
+    y ∙ (ap (λ n. wait n angle (t + w + 1)) rotation
+    ∙ ap (λ n. wait disk.map.rotation n (t + w + 1)) (a ∙ ap (λ n. end_angle disk.map (place_at disk.map n) % disk.map.rotation) last)) in
     ap (λ n. t + w + 1 + n) turn
     ∙ ap (λ n. n + 1 + wait disk.map.rotation (end_angle disk.map (place_at disk.map (block.lbn + block.count - 1)) % disk.map.rotation) (n + 1)) begin

@@ -6,7 +6,7 @@ ghost use Rattle.fb_geometry.specs.Places.{places};
 ghost use Rattle.fb_sectormap.specs.Lookup.{place_at};
 ghost use Rattle.fb_service.specs.Passing.{begin_angle, end_angle};
 ghost use Rattle.fb_model.specs.Plans.{block_begin, block_end, catches};
-ghost use Rattle.fb_plan.specs.Ways.{FitsDisk};
+ghost use Rattle.fb_plan.specs.Ways.{FitsDisk, AreOnDisk};
 ghost use Rattle.fb_plan.specs.Turns.{IsTurning};
 
 use crate::passing::{block_begin, block_end};
@@ -14,7 +14,7 @@ use fb_geometry::Stretch;
 use fb_rows::Dwell;
 use fb_service::Disk;
 use fb_units::{Ns, Place, Track};
-use fb_wanted::Block;
+use fb_wanted::{Block, TrackBlocks};
 
 /// How blocks pass from an instant on: neighbouring sectors by their slots, all others by their places.
 #[derive(Clone, Copy)]
@@ -65,8 +65,39 @@ fn angle_of(rotation: Ns, n: u64, slot: u64) -> Ns
 }
 
 impl Turning {
-    /// From an instant on, with the neighbours of a sector.
-    pub fn new(disk: &Disk, lbn: u64, from: Ns) -> Turning
+    /// How the blocks of a track pass from an instant on.
+    pub fn new(disk: &Disk, blocks: &TrackBlocks, from: Ns) -> Turning
+        requires blocks { AreOnDisk disk.now blocks.now }
+        requires early { from ≤ 9 * 10 ^ 18 }
+        ensures turning { IsTurning disk.now result }
+        ensures from { result.from ≡ from }
+    {
+        if blocks.len() == 0 {
+            return Turning::alone(disk, from);
+        }
+        Turning::near(disk, blocks.get(0).block.lbn, from)
+    }
+
+    /// The same from another instant on.
+    pub fn again(&self, disk: &Disk, from: Ns) -> Turning
+        requires turning { IsTurning disk.now self.now }
+        requires early { from ≤ 9 * 10 ^ 18 }
+        ensures turning { IsTurning disk.now result }
+        ensures from { result.from ≡ from }
+    {
+        let _ = disk;
+        Turning {
+            from,
+            lbn: self.lbn,
+            stretch: self.stretch,
+            slots: self.slots,
+            rotation: self.rotation,
+            at: from % self.rotation,
+        }
+    }
+
+    // From an instant on, with the neighbours of a sector.
+    fn near(disk: &Disk, lbn: u64, from: Ns) -> Turning
         requires sector { lbn < length (places disk.now.map) }
         requires early { from ≤ 9 * 10 ^ 18 }
         ensures turning { IsTurning disk.now result }
@@ -85,8 +116,8 @@ impl Turning {
         }
     }
 
-    /// The same with no neighbours.
-    pub fn alone(disk: &Disk, from: Ns) -> Turning
+    // The same with no neighbours.
+    fn alone(disk: &Disk, from: Ns) -> Turning
         requires early { from ≤ 9 * 10 ^ 18 }
         ensures turning { IsTurning disk.now result }
         ensures from { result.from ≡ from }
