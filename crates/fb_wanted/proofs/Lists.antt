@@ -1,5 +1,5 @@
 -- Lists of lists, and tracks as keys.
-use Rattle.std.proofs.Common.{◌≡◌, ℕ, zero, suc, ◌≤◌, ◌⊎◌, inl, inr, ◌==◌, List, [], ◌∷◌, ◌++◌, true, false, Result, Ok, Err, OnErr, if◌then◌else◌, get_or, refl, ap, ◌∙◌, arith}
+use Rattle.std.proofs.Common.{◌≡◌, ℕ, ◌≤◌, ◌⊎◌, inl, inr, ◌==◌, List, [], ◌∷◌, true, false, Result, Ok, Err, OnErr, if◌then◌else◌, get_or, refl, ap, ◌∙◌, arith}
 use Rattle.std.specs.Ordering.{is_eq, is_gt}
 use Rattle.std.proofs.lemmas.Bool.{cases_Bool, cases_lt}
 use Rattle.std.proofs.lemmas.Bool.Decides.{nat_tests}
@@ -15,13 +15,6 @@ use Rattle.fb_wanted.specs.Tracks.{IsTrackBefore}
 pub on_err : {T E P : Type 0} (r : Result T E) → P → OnErr r P
 on_err (Ok x) p = tt
 on_err (Err e) p = p
-
--- a task with no block more
-pub one_empty : (xs : List OfTask) (k : ℕ) → get_or (xs ++ no_blocks ∷ []) k no_blocks ≡ get_or xs k no_blocks
-one_empty [] zero = refl
-one_empty [] (suc k) = refl
-one_empty (x ∷ xs) zero = refl
-one_empty (x ∷ xs) (suc k) = one_empty xs k
 
 pub at_track : (a b : Track) → is_eq (track_cmp a b) ≡ same_track a b
 at_track a b = grind (arith, nat_tests)

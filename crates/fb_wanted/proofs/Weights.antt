@@ -1,5 +1,5 @@
--- The weight of a track's wanted blocks.
-use Rattle.std.proofs.Common.{◌≡◌, ℕ, suc, ◌+◌, ◌*◌, ◌≤◌, inl, inr, List, [], ◌∷◌, ◌++◌, Some, Bool, if◌then◌else◌, true, false, length, map, slice_get, refl, ap, ◌∙◌, arith}
+-- The weight of the wanted blocks of a track, or of any that pass a test.
+use Rattle.std.proofs.Common.{◌≡◌, ℕ, suc, ◌+◌, ◌*◌, ◌≤◌, inl, inr, List, [], ◌∷◌, ◌++◌, Some, Bool, if◌then◌else◌, true, false, length, map, filter, slice_get, refl, ap, ◌∙◌, arith}
 use Rattle.std.specs.List.{sum_by}
 use Rattle.std.proofs.lemmas.Bool.{cases_Bool}
 use Rattle.std.proofs.lemmas.List.Elements.{filter-append}
@@ -10,7 +10,7 @@ use Rattle.fb_units.specs.Tracks.{same_track}
 use Rattle.fb_wanted.specs.declared.block.Block.{Block}
 use Rattle.fb_wanted.specs.declared.block.Entry.{Entry}
 use Rattle.fb_wanted.specs.declared.block.State.{State}
-use Rattle.fb_wanted.specs.States.{on_track, is_wanted, wanted_of}
+use Rattle.fb_wanted.specs.States.{is_wanted, wanted_of}
 use Rattle.fb_wanted.specs.Numbering.{AreSmall, blocks_of}
 use Rattle.fb_wanted.specs.Tracks.{wanted_weight}
 use Rattle.fb_wanted.specs.Index.{places, of_track, with_state}
@@ -23,22 +23,64 @@ wanted-append (x ∷ xs) ys = elim (cases_Bool (is_wanted x.state)) [
   | inr no' ↦ rw no' (wanted-append xs ys)
 ]
 
+-- weight times sectors of the wanted ones of those that pass
+abbrev pub weight_by : (Entry → Bool) → List Entry → ℕ
+weight_by p es = sum_by (λ (b : Block). b.weight * b.count) (wanted_of (filter p es))
+
+module _ (p : Entry → Bool) where
+  pub by-append : (xs ys : List Entry) → weight_by p (xs ++ ys) ≡ weight_by p xs + weight_by p ys
+  by-append xs ys =
+      let weigh = sum_by (λ (b : Block). b.weight * b.count) in
+      ap (λ l. weigh (wanted_of l)) (filter-append p xs ys)
+      ∙ (ap weigh (wanted-append (filter p xs) (filter p ys)) ∙ sum_by-append (λ (b : Block). b.weight * b.count) (wanted_of (filter p xs)) (wanted_of (filter p ys)))
+
+  pub by-cons : (e : Entry) (es : List Entry) → weight_by p (e ∷ es) ≡ weight_by p (e ∷ []) + weight_by p es
+  by-cons e es = by-append (e ∷ []) es
+
+  -- the weight of one block goes, and the other comes
+  pub by-with_state : (s : State) (n : ℕ) (e : Entry) (es : List Entry) → slice_get es n ≡ Some e
+      → weight_by p (with_state s n es) + weight_by p (e ∷ []) ≡ weight_by p es + weight_by p (record { block = e.block; state = s } ∷ [])
+  by-with_state s n e es at = sum-with_state (weight_by p) by-cons s n e es at
+
+  pub by_elsewhere : (e : Entry) → p e ≡ false → weight_by p (e ∷ []) ≡ 0
+  by_elsewhere e other = rw other refl
+
+  pub by_at : (n : ℕ) (e : Entry) (es : List Entry) → slice_get es n ≡ Some e → weight_by p (e ∷ []) ≤ weight_by p es
+  by_at n e es at = sum_at (weight_by p) by-cons n e es at
+
+  by_small : (e : Entry) → e.block.weight ≤ 1000 → e.block.count ≤ 2048 → weight_by p (e ∷ []) ≤ 2048000
+  by_small e light short = elim (cases_Bool (p e)) [
+    | inl on ↦ elim (cases_Bool (is_wanted e.state)) [
+      | inl yes' ↦ rw (on, yes') (omega (arith, mul-le e.block.weight e.block.count 1000 2048 light short))
+      | inr no' ↦ rw (on, no') (omega arith)
+    ]
+    | inr off ↦ rw off (omega arith)
+  ]
+
+  pub by-le : (es : List Entry) → AreSmall (blocks_of es) → weight_by p es ≤ 2048000 * length es
+  by-le [] h = omega arith
+  by-le (e ∷ es) h =
+      let small = h 0 e.block refl in
+      let one = by_small e small.0 small.1 in
+      let rest = by-le es (λ i b at. h (suc i) b at) in
+      omega (arith, by-cons e es, one, rest)
+
+-- the weight of a track
 pub weight-append : (t : Track) (xs ys : List Entry) → wanted_weight t (xs ++ ys) ≡ wanted_weight t xs + wanted_weight t ys
-weight-append t xs ys =
-    let weigh = sum_by (λ (b : Block). b.weight * b.count) in
-    ap (λ l. weigh (wanted_of l)) (filter-append (λ x. same_track t x.block.track) xs ys)
-    ∙ (ap weigh (wanted-append (on_track t xs) (on_track t ys)) ∙ sum_by-append (λ (b : Block). b.weight * b.count) (wanted_of (on_track t xs)) (wanted_of (on_track t ys)))
+weight-append t xs ys = by-append (of_track t) xs ys
 
-weight-cons : (t : Track) (e : Entry) (es : List Entry) → wanted_weight t (e ∷ es) ≡ wanted_weight t (e ∷ []) + wanted_weight t es
-weight-cons t e es = weight-append t (e ∷ []) es
-
--- the weight of one block goes, and the other comes
 pub weight-with_state : (t : Track) (s : State) (n : ℕ) (e : Entry) (es : List Entry) → slice_get es n ≡ Some e
     → wanted_weight t (with_state s n es) + wanted_weight t (e ∷ []) ≡ wanted_weight t es + wanted_weight t (record { block = e.block; state = s } ∷ [])
-weight-with_state t s n e es at = sum-with_state (wanted_weight t) (weight-cons t) s n e es at
+weight-with_state t s n e es at = by-with_state (of_track t) s n e es at
 
 pub weight_elsewhere : (t : Track) (e : Entry) → same_track t e.block.track ≡ false → wanted_weight t (e ∷ []) ≡ 0
-weight_elsewhere t e other = rw other refl
+weight_elsewhere t e other = by_elsewhere (of_track t) e other
+
+pub weight_at : (t : Track) (n : ℕ) (e : Entry) (es : List Entry) → slice_get es n ≡ Some e → wanted_weight t (e ∷ []) ≤ wanted_weight t es
+weight_at t n e es at = by_at (of_track t) n e es at
+
+pub weight-le : (t : Track) (es : List Entry) → AreSmall (blocks_of es) → wanted_weight t es ≤ 2048000 * length es
+weight-le t es h = by-le (of_track t) es h
 
 none_pass : (b : Bool) (ps : List ℕ) → (if b then 0 ∷ map (λ n. suc n) ps else map (λ n. suc n) ps) ≡ [] → (b ≡ false) × (ps ≡ [])
 none_pass true ps h = let more : ◌≡◌ {A = ℕ} (suc (length (map (λ n. suc n) ps))) 0 = ap length h in absurd (omega (arith, more))
@@ -49,24 +91,4 @@ pub weight_none : (t : Track) (es : List Entry) → places (of_track t) es ≡ [
 weight_none t [] h = refl
 weight_none t (e ∷ es) h =
     let none = none_pass (same_track t e.block.track) (places (of_track t) es) h in
-    omega (arith, weight-cons t e es, weight_elsewhere t e none.0, weight_none t es none.1)
-
-pub weight_at : (t : Track) (n : ℕ) (e : Entry) (es : List Entry) → slice_get es n ≡ Some e → wanted_weight t (e ∷ []) ≤ wanted_weight t es
-weight_at t n e es at = sum_at (wanted_weight t) (weight-cons t) n e es at
-
-weight_small : (t : Track) (e : Entry) → e.block.weight ≤ 1000 → e.block.count ≤ 2048 → wanted_weight t (e ∷ []) ≤ 2048000
-weight_small t e light short = elim (cases_Bool (same_track t e.block.track)) [
-  | inl on ↦ elim (cases_Bool (is_wanted e.state)) [
-    | inl yes' ↦ rw (on, yes') (omega (arith, mul-le e.block.weight e.block.count 1000 2048 light short))
-    | inr no' ↦ rw (on, no') (omega arith)
-  ]
-  | inr off ↦ rw off (omega arith)
-]
-
-pub weight-le : (t : Track) (es : List Entry) → AreSmall (blocks_of es) → wanted_weight t es ≤ 2048000 * length es
-weight-le t [] h = omega arith
-weight-le t (e ∷ es) h =
-    let small = h 0 e.block refl in
-    let one = weight_small t e small.0 small.1 in
-    let rest = weight-le t es (λ i b at. h (suc i) b at) in
-    omega (arith, weight-cons t e es, one, rest)
+    omega (arith, by-cons (of_track t) e es, weight_elsewhere t e none.0, weight_none t es none.1)

@@ -16,7 +16,7 @@ use Rattle.fb_wanted.specs.declared.tracks.OnTrack.{OnTrack}
 use Rattle.fb_wanted.specs.Counting.{counts_of, no_counts, recounted}
 use Rattle.fb_wanted.specs.States.{shares, state_after}
 use Rattle.fb_wanted.specs.Numbering.{AreInOrder, AreSmall, blocks_of}
-use Rattle.fb_wanted.specs.Tracks.{wanted_weight}
+use Rattle.fb_wanted.specs.Tracks.{wanted_weight, band_of, band_weight}
 
 -- by cylinder, then by head
 abbrev pub track_cmp : Track → Track → Ordering
@@ -86,6 +86,11 @@ fall_cmp a b = ordering_then (nat_cmp a.0 b.0) (nat_cmp a.1 b.1)
 -- each block whose LBN is less than that of its task's block before it is noted
 abbrev pub AreNoted : List Entry → BTreeSet (ℕ × ℕ) → Type 0
 AreNoted entries falls = (task i a b : ℕ) → slice_get (lbns task entries) i ≡ Some a → slice_get (lbns task entries) (suc i) ≡ Some b → b < a → contains fall_cmp falls (task, suc i) ≡ true
+
+-- the weight of each band, where each block has its band
+pub record AreWeighed (entries : List Entry) (bands : List ℕ) : Type 0 where
+  pub weights : (band : ℕ) → get_or bands band 0 ≡ band_weight band entries
+  pub there : (i : ℕ) (block : Block) → slice_get (blocks_of entries) i ≡ Some block → band_of block < length bands
 
 -- the numbers from one on don't fall before an end
 abbrev pub Rises : List ℕ → ℕ → ℕ → Type 0

@@ -1,5 +1,5 @@
 // Each call once, over blocks of a task, the last of them before the first on the disk, and one of another.
-use crate::{Block, State, Wanted};
+use crate::{BAND, Block, State, Wanted};
 use fb_units::Track;
 use std::test::Fail;
 
@@ -9,7 +9,7 @@ const NEAR: Track = Track {
 };
 
 const FAR: Track = Track {
-    cylinder: 2,
+    cylinder: 64,
     head: 0,
 };
 
@@ -81,8 +81,10 @@ fn a_block_is_delivered(rt: HostRuntime) -> Result<(), Fail> {
     let mut wanted = Wanted::new(rt.alloc());
     wanted.register(FIRST, false)?;
     assert_eq!(rt; wanted.state(0, 0), State::Wanted);
+    assert_eq!(rt; wanted.wanted_weight_in(0), 4);
     wanted.deliver(0, 0);
     assert_eq!(rt; wanted.wanted_weight_on(NEAR), 0);
+    assert_eq!(rt; wanted.wanted_weight_in(0), 0);
     wanted.rewant(0, 15, 9, true);
     assert_eq!(rt; wanted.wanted_weight_on(NEAR), 0);
     wanted.resume(0);
@@ -96,8 +98,17 @@ fn blocks_of_two_tasks(rt: HostRuntime) -> Result<(), Fail> {
     wanted.register(FIRST, false)?;
     wanted.register(SECOND, true)?;
     wanted.register(OTHER, false)?;
+    assert_eq!(rt; wanted.wanted_weight_in(0), 4);
     wanted.resume(0);
     assert_eq!(rt; wanted.wanted_weight_on(NEAR), 12);
+    assert_eq!(rt;
+        (
+            wanted.wanted_weight_in(NEAR.cylinder / BAND),
+            wanted.wanted_weight_in(FAR.cylinder / BAND),
+            wanted.wanted_weight_in(2)
+        ),
+        (12, 12, 0)
+    );
     assert_eq!(rt; wanted.abort(0, 8, 5), 1);
     assert_eq!(rt; wanted.wanted_weight_on(NEAR), 8);
     wanted.suspend(0);

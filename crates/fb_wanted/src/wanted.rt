@@ -1,16 +1,17 @@
-// The registered blocks, in order of registration, and beside them what is kept of each task and of each track.
-ghost use Rattle.std.specs.Prelude.{◌≡◌, List, suc, true, false, take, ◌⊎◌, ◌+◌, ◌<◌, ◌≤◌, ℕ, [], ◌∷◌, ◌++◌, ◌*◌, length, filter, map, OnOk, OnErr, IfSome, IfNone, Some, slice_get, get_or, ◌==◌, if◌then◌else◌};
+// The registered blocks, in order of registration, and beside them what is kept of each task, of each track and of each band of cylinders.
+ghost use Rattle.std.specs.Prelude.{◌≡◌, List, suc, true, false, take, ◌⊎◌, ◌+◌, ◌<◌, ◌≤◌, ℕ, [], ◌∷◌, ◌++◌, ◌*◌, ◌/◌, length, filter, map, OnOk, OnErr, IfSome, IfNone, Some, slice_get, get_or, ◌==◌, if◌then◌else◌};
 ghost use Rattle.std.specs.BTreeMap.{get};
 ghost use Rattle.fb_wanted.specs.declared.block.Block.{Block};
 ghost use Rattle.fb_wanted.specs.declared.block.Entry.{Entry};
 ghost use Rattle.fb_wanted.specs.States.{after, shares, entry_after, is_abortable, is_wanted, wanted_unless, on_track, is_block};
 ghost use Rattle.fb_wanted.specs.Numbering.{AreInOrder, blocks_of, registered};
 ghost use Rattle.fb_wanted.specs.Counting.{counts_of, sum_of, Fit};
-ghost use Rattle.fb_wanted.specs.Tracks.{wanted_weight, HasBlock, IsTrackBefore, IsNextTrack};
+ghost use Rattle.fb_wanted.specs.Tracks.{wanted_weight, band_weight, HasBlock, IsTrackBefore, IsNextTrack};
 ghost use Rattle.fb_wanted.specs.Index.{places, of_task, lbns, Rises, IsWithin, with_state, change_nth, change_first, track_cmp, grown, no_blocks, grown_task};
 ghost use Rattle.fb_units.specs.declared.types.Track.{Track};
 ghost use Rattle.fb_units.specs.Tracks.{same_track};
 
+use crate::bands::{add_bands, band_of, reweigh_band, weight_in};
 use crate::changes::{is_abortable, state_after, wanted_unless};
 use crate::counting::{counts_of, no_counts};
 use crate::falls::{next_fall, note_fall};
@@ -28,7 +29,7 @@ use std::marker::Model;
 /// the counts of a task cost the same however many blocks it has.
 /// To suspend or to resume costs as much for each block of the task, and to abort or to want again
 /// as much for each of its blocks near the range and for each time that its LBNs fall.
-/// A task takes room for each number below its own.
+/// A task takes room for each number below its own, and a block for each band of cylinders below its own.
 #[derive(Drop)]
 pub struct Wanted {
     alloc: Global,
@@ -36,6 +37,7 @@ pub struct Wanted {
     tasks: Vec<OfTask>,
     tracks: BTreeMap<Track, OnTrack>,
     falls: BTreeSet<(u32, u32)>,
+    bands: Vec<u64>,
 }
 
 // Blocks of a task from one number to another, whose LBNs rise.
@@ -48,13 +50,13 @@ struct Rise {
 impl Model for Wanted {
     ghost use Rattle.std.specs.Prelude.{List};
     ghost use Rattle.fb_wanted.specs.declared.block.Entry.{Entry};
-    ghost use Rattle.fb_wanted.specs.Index.{IsKept, AreNoted};
+    ghost use Rattle.fb_wanted.specs.Index.{IsKept, AreNoted, AreWeighed};
 
     ghost Value = { List Entry };
 
     ghost view = { λ w. w.entries.items };
 
-    ghost invariant = { λ w. IsKept w.entries.items w.tasks.items w.tracks × AreNoted w.entries.items w.falls };
+    ghost invariant = { λ w. IsKept w.entries.items w.tasks.items w.tracks × AreNoted w.entries.items w.falls × AreWeighed w.entries.items w.bands.items };
 }
 
 // Notes where a block that is to be registered will stand, and counts it; where memory is wanting all stays.
@@ -140,12 +142,10 @@ impl Wanted {
             counts_of(entry),
             counts_of(turned),
         );
-        reweigh(
-            &mut self.tracks,
-            entry.block.track,
-            weight_of(entry),
-            weight_of(turned),
-        );
+        let lost = weight_of(entry);
+        let gained = weight_of(turned);
+        reweigh(&mut self.tracks, entry.block.track, lost, gained);
+        reweigh_band(&mut self.bands, band_of(entry.block), lost, gained);
     }
 
     // Changes the k-th block of the task.
@@ -320,6 +320,7 @@ impl Wanted {
             tasks: Vec::new(alloc),
             tracks: BTreeMap::new(alloc),
             falls: BTreeSet::new(alloc),
+            bands: Vec::new(alloc),
         }
     }
 
@@ -336,9 +337,12 @@ impl Wanted {
         let entry = Entry { block, state };
         let is_fall = self.is_fall(block);
         let place = self.entries.len() as u32;
+        let band = band_of(block);
         self.entries.reserve(1)?;
         note_fall(&mut self.falls, block.task, block.index, is_fall)?;
+        add_bands(&mut self.bands, band)?;
         add_to_index(&mut self.tasks, &mut self.tracks, self.alloc, place, entry)?;
+        reweigh_band(&mut self.bands, band, 0, weight_of(entry));
         self.entries.push(entry)?;
         Ok(())
     }
@@ -462,6 +466,15 @@ impl Wanted {
             Some(on) => on.weight,
             None => 0,
         }
+    }
+
+    /// Weight times sectors of the wanted blocks on the band's cylinders; no track of it has more.
+    pub fn wanted_weight_in(&self, band: u32) -> u64
+        ensures sum { result ≡ band_weight band self.now }
+        ensures small { result ≤ 16000000 * 2048000 }
+        ensures tracks { (track : Track) → track.cylinder / 64 ≡ band → wanted_weight track self.now ≤ result }
+    {
+        weight_in(&self.bands, band)
     }
 
     /// The least track not before this one on which a block is registered.

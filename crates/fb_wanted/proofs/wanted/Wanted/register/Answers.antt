@@ -7,6 +7,7 @@ use Rattle.fb_wanted.proofs.Numbers.{task-blocks}
 use Rattle.fb_wanted.proofs.Reading.{track_room, counts_room}
 use Rattle.fb_wanted.proofs.Kept.{kept_pushed}
 use Rattle.fb_wanted.proofs.Ranges.{noted-more, noted_still}
+use Rattle.fb_wanted.proofs.Weighed.{weighed_still, band_room, weighed_pushed}
 use Rattle.fb_wanted.proofs.wanted.Wanted.register.Goals as goal
 
 pub is_fall-is_fall-requires : goal.is_fall-is_fall-requires
@@ -18,6 +19,13 @@ add_to_index-requires-clause-room c = track_room c.self.inside.entries.items c.s
 
 pub add_to_index-requires-clause-few : goal.add_to_index-requires-clause-few
 add_to_index-requires-clause-few c = counts_room c.self.inside.entries.items c.self.inside.tasks.items c.self.inside.tracks c.self.invariant.0 c.args.block.task (record { block = c.args.block; state = c.wanted_unless-state.result }) _ refl
+
+pub reweigh_band-requires-clause-room : goal.reweigh_band-requires-clause-room
+reweigh_band-requires-clause-room c =
+    let items = c.self.inside.entries.items in
+    let kept = weighed_still items c.self.inside.bands.items c.self.invariant.2 c.add_bands.new.bands.items c.in_ok-add_bands.ensures.stay c.in_ok-add_bands.ensures.longer in
+    let entry : Entry = record { block = c.args.block; state = c.wanted_unless-state.result } in
+    band_room items c.add_bands.new.bands.items kept entry c.band_of-band.result c.band_of-band.ensures c.weight_of.result c.self.invariant.0.small c.self.invariant.0.few c.weight_of.ensures.small
 
 pub invariant_of-self-2 : goal.invariant_of-self-2
 invariant_of-self-2 c =
@@ -35,4 +43,7 @@ invariant_of-self-2 c =
       subst (λ l. AreNoted l c.note_fall.new.falls) (sym list)
           (noted-more items entry c.note_fall.new.falls noted next (λ i a before at less.
           c.in_ok-note_fall.ensures.noted (c.is_fall-is_fall.ensures i a before (ap (λ es. slice_get (lbns task es) i) (sym c.self.view_is) ∙ at) less))),
+      weighed_pushed items c.add_bands.new.bands.items (weighed_still items c.self.inside.bands.items c.self.invariant.2 c.add_bands.new.bands.items c.in_ok-add_bands.ensures.stay c.in_ok-add_bands.ensures.longer)
+          entry c.band_of-band.result c.band_of-band.ensures c.push.new.self.items c.reweigh_band.new.bands.items 0 c.weight_of.result list refl c.weight_of.ensures.value c.in_ok-add_bands.ensures.there
+          c.reweigh_band.ensures.weights c.reweigh_band.ensures.length,
     )

@@ -6,17 +6,18 @@ use Rattle.fb_wanted.proofs.Numbers.{small_at}
 use Rattle.fb_wanted.proofs.Reading.{its_task_there, counts_part, counts_room, weight_room}
 use Rattle.fb_wanted.proofs.Kept.{kept_set}
 use Rattle.fb_wanted.proofs.Ranges.{noted-with_state}
+use Rattle.fb_wanted.proofs.Weighed.{band_there, band_part, band_room, weighed_set}
 use Rattle.fb_wanted.proofs.wanted.Wanted.set_state.Goals as goal
 
-pub weight_of-requires : goal.weight_of-requires
-weight_of-requires c =
+pub weight_of-lost-requires : goal.weight_of-lost-requires
+weight_of-lost-requires c =
     let items = c.self.inside.entries.items in
     let there = subst (λ es. c.args.place < length es) (sym c.self.view_is) c.requires in
     let small = small_at items c.args.place c.index-entry.result.now c.self.invariant.0.small (slice_get_read items (length items) c.args.place c.index-entry.result.now refl there c.index-entry.ensures) in
     record { light = small.0; short = small.1 }
 
-pub weight_of-requires-2 : goal.weight_of-requires-2
-weight_of-requires-2 c =
+pub weight_of-gained-requires : goal.weight_of-gained-requires
+weight_of-gained-requires c =
     let items = c.self.inside.entries.items in
     let there = subst (λ es. c.args.place < length es) (sym c.self.view_is) c.requires in
     let small = small_at items c.args.place c.index-entry.result.now c.self.invariant.0.small (slice_get_read items (length items) c.args.place c.index-entry.result.now refl there c.index-entry.ensures) in
@@ -38,7 +39,20 @@ reweigh-requires c =
     let items = c.self.inside.entries.items in
     let there = subst (λ es. c.args.place < length es) (sym c.self.view_is) c.requires in
     let here = slice_get_read items (length items) c.args.place c.index-entry.result.now refl there c.index-entry.ensures in
-    weight_room c.self.inside.entries.items c.self.inside.tasks.items c.self.inside.tracks c.self.invariant.0 c.args.place c.index-entry.result.now c.weight_of.result c.weight_of-2.result here c.weight_of.ensures.value c.weight_of-2.ensures.small
+    weight_room c.self.inside.entries.items c.self.inside.tasks.items c.self.inside.tracks c.self.invariant.0 c.args.place c.index-entry.result.now c.weight_of-lost.result c.weight_of-gained.result here c.weight_of-lost.ensures.value c.weight_of-gained.ensures.small
+
+pub reweigh_band-requires : goal.reweigh_band-requires
+reweigh_band-requires c =
+    let items = c.self.inside.entries.items in
+    let bands = c.self.inside.bands.items in
+    let there = subst (λ es. c.args.place < length es) (sym c.self.view_is) c.requires in
+    let entry = c.index-entry.result.now in
+    let here = slice_get_read items (length items) c.args.place entry refl there c.index-entry.ensures in
+    record {
+      there = band_there items bands c.self.invariant.2 entry c.band_of.result c.band_of.ensures c.args.place here;
+      part = band_part items bands c.self.invariant.2 entry c.band_of.result c.band_of.ensures c.args.place c.weight_of-lost.result here c.weight_of-lost.ensures.value;
+      room = band_room items bands c.self.invariant.2 entry c.band_of.result c.band_of.ensures c.weight_of-gained.result c.self.invariant.0.small c.self.invariant.0.few c.weight_of-gained.ensures.small;
+    }
 
 pub invariant_of-self : goal.invariant_of-self
 invariant_of-self c =
@@ -46,9 +60,11 @@ invariant_of-self c =
     let there = subst (λ es. c.args.place < length es) (sym c.self.view_is) c.requires in
     let here = slice_get_read items (length items) c.args.place c.index-entry.result.now refl there c.index-entry.ensures in
     let same = items-with_state c.args.state c.args.place c.index-entry.result.now items here in (
-      kept_set c.args.state c.args.place c.index-entry.result.now items c.self.inside.tracks c.reweigh.new.tracks here c.self.inside.tasks.items c.recount.new.tasks.items c.counts_of.result c.counts_of-2.result c.weight_of.result c.weight_of-2.result
-          c.self.invariant.0 c.counts_of.ensures c.counts_of-2.ensures c.weight_of.ensures.value c.weight_of-2.ensures.value c.recount.ensures c.reweigh.ensures,
+      kept_set c.args.state c.args.place c.index-entry.result.now items c.self.inside.tracks c.reweigh.new.tracks here c.self.inside.tasks.items c.recount.new.tasks.items c.counts_of.result c.counts_of-2.result c.weight_of-lost.result c.weight_of-gained.result
+          c.self.invariant.0 c.counts_of.ensures c.counts_of-2.ensures c.weight_of-lost.ensures.value c.weight_of-gained.ensures.value c.recount.ensures c.reweigh.ensures,
       subst (λ l. AreNoted l c.self.inside.falls) (sym same) (noted-with_state c.args.state c.args.place items c.self.inside.falls c.self.invariant.1),
+      weighed_set items c.self.inside.bands.items c.self.invariant.2 c.index-entry.result.now c.band_of.result c.band_of.ensures c.reweigh_band.new.bands.items c.args.state c.args.place c.weight_of-lost.result c.weight_of-gained.result here
+          c.weight_of-lost.ensures.value c.weight_of-gained.ensures.value c.reweigh_band.ensures.weights c.reweigh_band.ensures.length,
     )
 
 pub returns : goal.returns
