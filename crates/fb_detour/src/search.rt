@@ -38,7 +38,7 @@ fn is_hopeless(
         return true;
     }
     let blocks = blocks_on(disk, wanted, track);
-    let weight = wanted.wanted_weight_on(track);
+    let weight = blocks.wanted_weight();
     let after = late_at(late, arrive + move_on);
     if is_enough(best, weight + after, track) {
         return true;

@@ -1,19 +1,26 @@
-use Rattle.std.proofs.Common.{arith, ap, subst, ◌+◌, ◌-◌, ◌≤◌}
+use Rattle.std.proofs.Common.{arith, ap, sym, subst, ◌∙◌, ◌+◌, ◌-◌, ◌*◌, ◌≤◌}
+use Rattle.std.specs.List.{sum_by}
 use Rattle.fb_wanted.specs.States.{wanted_of}
+use Rattle.fb_wanted.specs.Tracks.{wanted_weight}
 use Rattle.fb_detour.specs.Bounds.{stay, early_to, IsEnough}
 use Rattle.fb_detour.proofs.Ways.{not_better, by_weight, by_stretch, late-part}
 use Rattle.fb_detour.proofs.Ranges.{not_itself}
 use Rattle.fb_detour.proofs.search.is_hopeless.Goals as goal
 
+pub misses_enough-requires-clause-weight : goal.misses_enough-requires-clause-weight
+misses_enough-requires-clause-weight c = c.wanted_weight-weight.ensures.sum ∙ (ap (λ xs. sum_by (λ b. b.weight * b.count) (wanted_of xs)) c.blocks_on-blocks.ensures.its
+    ∙ ap (λ t. wanted_weight t c.args.wanted.now) (sym c.stop_at-stop.ensures.track))
+
 pub returns-then-is_enough : goal.returns-then-is_enough
 returns-then-is_enough c = λ h leave is.
     let from = c.args.gap.now.now + c.pos.result + c.pos-move_on.result in
-    not_better c.args.disk.now c.args.gap.now (wanted_of c.args.wanted.now) c.args.best (c.wanted_weight_on-weight.result + c.late_at-after.result) c.args.track c.args.track leave
+    let weighs = c.wanted_weight-weight.ensures.sum ∙ ap (λ xs. sum_by (λ b. b.weight * b.count) (wanted_of xs)) c.blocks_on-blocks.ensures.its in
+    not_better c.args.disk.now c.args.gap.now (wanted_of c.args.wanted.now) c.args.best (c.wanted_weight-weight.result + c.late_at-after.result) c.args.track c.args.track leave
     c.requires.best (c.is_enough.ensures c.if-is_enough.true) (not_itself c.args.track)
     (omega (
       arith,
       by_weight c.args.disk.now c.args.gap.now c.args.wanted.now c.args.track leave is from (omega (arith, c.pos.ensures.value, c.pos-move_on.ensures.value)),
-      c.wanted_weight_on-weight.ensures.sum,
+      weighs,
       late-part c.args.disk.now c.args.gap.now c.args.wanted.now c.args.late.now from c.requires.late (omega arith),
       c.late_at-after.ensures.value,
     ))
