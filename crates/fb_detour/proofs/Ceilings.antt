@@ -6,6 +6,7 @@ use Rattle.std.proofs.lemmas.Bool.Decides.{nat_tests}
 use Rattle.std.proofs.lemmas.List.Sums.{sum_by-cons, sum_by_more}
 use Rattle.std.proofs.Math.Seq.{take-length}
 use Rattle.std.proofs.lemmas.Option.{slice_get_within, get_or_from_slice_get}
+use Rattle.fb_units.specs.declared.types.Track.{Track}
 use Rattle.fb_units.specs.Tracks.{same_track}
 use Rattle.fb_service.specs.declared.disk.Disk.{Disk}
 use Rattle.fb_wanted.specs.declared.block.Block.{Block}
@@ -30,9 +31,13 @@ stay-more disk dwell xs i sum more e at m s =
     omega (arith, sum_by_more (stay_gain disk dwell) xs i e (slice_get_within xs i e at), m, here, s)
 
 -- the sum of all
-pub stay-done : (disk : Disk) (dwell : Dwell) (es : List Entry) (n sum : ℕ) → n ≡ length (on_track dwell.track es) → sum ≡ sum_by (stay_gain disk dwell) (take n (on_track dwell.track es)) → sum ≡ stay disk dwell es
+pub stay-of : (disk : Disk) (dwell : Dwell) (es xs : List Entry) (sum : ℕ) → xs ≡ on_track dwell.track es → sum ≡ sum_by (stay_gain disk dwell) xs → sum ≡ stay disk dwell es
 unfolding stay
-stay-done disk dwell es n sum all s = s ∙ (ap (λ k. sum_by (stay_gain disk dwell) (take k (on_track dwell.track es))) all ∙ ap (sum_by (stay_gain disk dwell)) (take-length (on_track dwell.track es)))
+stay-of disk dwell es xs sum same s = s ∙ ap (sum_by (stay_gain disk dwell)) same
+
+pub stay-done : (disk : Disk) (dwell : Dwell) (es xs : List Entry) (n sum : ℕ) → xs ≡ on_track dwell.track es → n ≡ length xs → sum ≡ sum_by (stay_gain disk dwell) (take n xs) → sum ≡ stay disk dwell es
+stay-done disk dwell es xs n sum same all s = stay-of disk dwell es xs sum same
+    (s ∙ (ap (λ k. sum_by (stay_gain disk dwell) (take k xs)) all ∙ ap (sum_by (stay_gain disk dwell)) (take-length xs)))
 
 -- a sum of greater parts is no less
 sums-le : (f g : Entry → ℕ) → ((e : Entry) → f e ≤ g e) → (es : List Entry) → sum_by f es ≤ sum_by g es
@@ -124,6 +129,14 @@ none-sum f (e ∷ es) none = absurd (none (omega arith))
 pub bare_track : (disk : Disk) (dwell : Dwell) (es : List Entry) → (HasBlock es dwell.track → ⊥) → stay disk dwell es ≡ 0
 unfolding stay
 bare_track disk dwell es none = none-sum (stay_gain disk dwell) (on_track dwell.track es) none
+
+none-wanted : (es : List Entry) → (0 < length es → ⊥) → sum_by worth (wanted_of es) ≡ 0
+none-wanted [] none = refl
+none-wanted (e ∷ es) none = absurd (none (omega arith))
+
+-- a track without registered blocks weighs nothing
+pub bare-weight : (track : Track) (es : List Entry) → (HasBlock es track → ⊥) → wanted_weight track es ≡ 0
+bare-weight track es none = none-wanted (on_track track es) none
 
 gain_small : (disk : Disk) (dwell : Dwell) (e : Entry) → FitsDisk disk e.block → stay_gain disk dwell e ≤ 2048000
 gain_small disk dwell e fits = omega (arith, gain-worth disk dwell e, mul-le e.block.weight e.block.count 1000 2048 fits.light fits.few)

@@ -1,5 +1,5 @@
 -- What bounds the value of detours.
-use Rattle.std.specs.Prelude.{◌≡◌, ℕ, ◌+◌, ◌-◌, ◌*◌, ◌/◌, ◌<◌, ◌≤◌, ◌⊎◌, min, nat_lt, get_or, List, ◌&&◌, if◌then◌else◌}
+use Rattle.std.specs.Prelude.{◌≡◌, ℕ, ◌+◌, ◌-◌, ◌*◌, ◌/◌, ◌^◌, ◌<◌, ◌≤◌, ◌⊎◌, min, nat_lt, get_or, List, ◌&&◌, if◌then◌else◌}
 use Rattle.std.specs.List.{sum_by}
 use Rattle.fb_units.specs.declared.types.Track.{Track}
 use Rattle.fb_service.specs.declared.disk.Disk.{Disk}
@@ -13,7 +13,9 @@ use Rattle.fb_rows.specs.declared.gap.Plan.TheVariants.{Detour}
 use Rattle.fb_model.specs.Plans.{block_begin, catches, IsDetour, IsNoLater, IsTrackBefore}
 use Rattle.fb_plan.specs.declared.choice.Scored.{Scored}
 use Rattle.fb_detour.specs.declared.parts.LateParts.{LateParts}
-use Rattle.fb_plan.specs.Ways.{Beats}
+use Rattle.fb_detour.specs.declared.stop.Stop.{Stop}
+use Rattle.fb_plan.specs.Ways.{Beats, AreOnDisk}
+use Rattle.fb_plan.specs.Turns.{IsTurning}
 
 -- what a registered block adds to a stay of the head on its track
 abbrev pub stay_gain : Disk → Dwell → Entry → ℕ
@@ -49,6 +51,14 @@ pub record IsLate (disk : Disk) (gap : Gap) (entries : List Entry) (late : LateP
   pub from_now : late.begin ≤ gap.now
   pub each : (k : ℕ) → k < 32 → stay disk (late_most gap (late.begin + k * late.step)) entries ≤ get_or late.parts k 0
   pub small : (k : ℕ) → k < 32 → get_or late.parts k 0 ≤ 16000000 * 2048000
+
+-- the blocks of a track, and how they pass from the arrival on
+pub record IsStop (disk : Disk) (entries : List Entry) (stop : Stop) : Type 0 where
+  pub its : stop.blocks ≡ on_track stop.track entries
+  pub on_disk : AreOnDisk disk stop.blocks
+  pub early : stop.arrive ≤ 9 * 10 ^ 18
+  pub passing : IsTurning disk stop.passing
+  pub from : stop.passing.from ≡ stop.arrive
 
 -- how far a cylinder lies from those of a range
 abbrev pub distance_to : ℕ → ℕ → ℕ → ℕ

@@ -1,46 +1,48 @@
 // What bounds the value of detours.
-ghost use Rattle.std.specs.Prelude.{◌≡◌, ◌+◌, ◌*◌, ◌≤◌, ◌<◌, ◌^◌, ◌&&◌, ℕ, true, false, if◌then◌else◌};
+ghost use Rattle.std.specs.Prelude.{◌≡◌, ◌+◌, ◌*◌, ◌≤◌, ◌<◌, ◌^◌, ℕ, true, false};
+ghost use Rattle.std.specs.List.{sum_by};
 ghost use Rattle.fb_units.specs.declared.types.Track.{Track};
-ghost use Rattle.fb_units.specs.Tracks.{same_track};
 ghost use Rattle.fb_seek.specs.Positioning.{pos};
-ghost use Rattle.fb_model.specs.Plans.{catches, IsTrackBefore};
-ghost use Rattle.fb_wanted.specs.States.{is_wanted};
-ghost use Rattle.fb_wanted.specs.Tracks.{HasBlock};
+ghost use Rattle.fb_model.specs.Plans.{IsTrackBefore};
+ghost use Rattle.fb_wanted.specs.Tracks.{HasBlock, wanted_weight};
 ghost use Rattle.fb_plan.specs.Ways.{FitsDisk, AreOnDisk, IsGap};
-ghost use Rattle.fb_detour.specs.Bounds.{stay, distance_to, IsAhead, IsEnough};
+ghost use Rattle.fb_plan.specs.Turns.{IsTurning};
+ghost use Rattle.fb_detour.specs.Bounds.{stay_gain, distance_to, IsAhead, IsEnough};
 
-use fb_plan::{Scored, catches, entry_on, is_wanted};
+use fb_plan::{Scored, Turning, is_wanted};
 use fb_rows::{Dwell, Gap, Plan};
 use fb_service::Disk;
 use fb_units::{Ns, Track};
-use fb_wanted::{Entry, Wanted};
+use fb_wanted::{BAND, Entry, TrackBlocks, Wanted};
 
 // What the block adds to the stay.
-fn stay_gain(disk: &Disk, dwell: Dwell, entry: Entry) -> u64
+fn stay_gain(disk: &Disk, passing: &Turning, dwell: Dwell, entry: Entry) -> u64
     requires fits { FitsDisk disk.now entry.block }
-    requires early { dwell.begin ≤ 9 * 10 ^ 18 }
-    ensures value { result ≡ (if is_wanted entry.state && catches disk.now dwell entry.block then entry.block.weight * entry.block.count else 0) }
+    requires passing { IsTurning disk.now passing.now }
+    requires begin { passing.now.from ≡ dwell.begin }
+    ensures value { result ≡ stay_gain disk.now dwell entry }
     ensures small { result ≤ 2048000 }
 {
     if !is_wanted(entry.state) {
         return 0;
     }
-    if !catches(disk, dwell, entry.block) {
+    if !passing.catches(disk, dwell, entry.block) {
         return 0;
     }
     entry.block.weight as u64 * entry.block.count as u64
 }
 
-// What a stay catches of its track's blocks.
-pub fn stay_value(disk: &Disk, wanted: &Wanted, dwell: Dwell) -> u64
-    requires early { dwell.begin ≤ 9 * 10 ^ 18 }
-    requires blocks { AreOnDisk disk.now wanted.now }
-    ensures value { result ≡ stay disk.now dwell wanted.now }
+// What a stay catches of these blocks.
+pub fn stay_value(disk: &Disk, blocks: &TrackBlocks, passing: &Turning, dwell: Dwell) -> u64
+    requires blocks { AreOnDisk disk.now blocks.now }
+    requires passing { IsTurning disk.now passing.now }
+    requires begin { passing.now.from ≡ dwell.begin }
+    ensures value { result ≡ sum_by (stay_gain disk.now dwell) blocks.now }
     ensures small { result ≤ 16000000 * 2048000 }
 {
     let mut sum = 0;
-    for i in 0..wanted.registered_on(dwell.track) {
-        sum += stay_gain(disk, dwell, entry_on(wanted, dwell.track, i));
+    for i in 0..blocks.len() {
+        sum += stay_gain(disk, passing, dwell, blocks.get(i));
     }
     sum
 }
@@ -79,7 +81,7 @@ pub fn least_way(disk: &Disk, gap: &Gap, from: u32, end: u32) -> Ns
 }
 
 // Whether a block is registered on one of these cylinders.
-pub fn has_registered(wanted: &Wanted, from: u32, end: u32) -> bool
+fn has_registered(wanted: &Wanted, from: u32, end: u32) -> bool
     ensures { result ≡ false → (track : Track) → from ≤ track.cylinder → track.cylinder < end → HasBlock wanted.now track → ⊥ }
 {
     let first = Track {
@@ -90,6 +92,30 @@ pub fn has_registered(wanted: &Wanted, from: u32, end: u32) -> bool
         Some(track) => track.cylinder < end,
         None => false,
     }
+}
+
+// Whether a block is wanted on a band to which one of these cylinders belongs.
+fn has_wanted_band(wanted: &Wanted, from: u32, end: u32) -> bool
+    requires some { from < end }
+    ensures { result ≡ false → (track : Track) → from ≤ track.cylinder → track.cylinder < end → wanted_weight track wanted.now ≡ 0 }
+{
+    for band in from / BAND..(end - 1) / BAND + 1 {
+        if wanted.wanted_weight_in(band) > 0 {
+            return true;
+        }
+    }
+    false
+}
+
+// Whether a block may be wanted on one of these cylinders.
+pub fn may_want(wanted: &Wanted, from: u32, end: u32) -> bool
+    requires some { from < end }
+    ensures { result ≡ false → (track : Track) → from ≤ track.cylinder → track.cylinder < end → wanted_weight track wanted.now ≡ 0 }
+{
+    if !has_wanted_band(wanted, from, end) {
+        return false;
+    }
+    has_registered(wanted, from, end)
 }
 
 fn is_track_before(a: Track, b: Track) -> bool

@@ -1,4 +1,6 @@
 // The planner that passes over tracks which can't be better.
+ghost use Rattle.std.specs.Prelude.{◌≡◌};
+
 use crate::search::try_all;
 use fb_plan::{Planner, Way, scored, try_way};
 use fb_rows::{Gap, Plan};
@@ -11,7 +13,10 @@ use fb_wanted::Wanted;
 pub struct IndexedPlanner;
 
 impl IndexedPlanner {
-    pub fn new() -> IndexedPlanner {
+    /// The planner; it keeps nothing from one gap to the next.
+    pub fn new() -> IndexedPlanner
+        ensures { result ≡ record {} }
+    {
         IndexedPlanner
     }
 }

@@ -7,6 +7,7 @@ mod leaves;
 mod missing;
 mod parts;
 mod search;
+mod stop;
 #[cfg(test)]
 mod tests;
 

@@ -1,26 +1,27 @@
 // Tracks of which too many blocks begin to pass too late.
-ghost use Rattle.std.specs.Prelude.{◌≡◌, ◌+◌, ◌*◌, ◌≤◌, ◌<◌, ◌^◌, ◌&&◌, nat_lt, ℕ, true, if◌then◌else◌};
-ghost use Rattle.fb_model.specs.Plans.{block_begin};
-ghost use Rattle.fb_wanted.specs.States.{is_wanted};
-ghost use Rattle.fb_plan.specs.Ways.{FitsDisk, AreOnDisk};
-ghost use Rattle.fb_detour.specs.Bounds.{stay, early_to, IsEnough};
+ghost use Rattle.std.specs.Prelude.{◌≡◌, ◌+◌, ◌*◌, ◌≤◌, ℕ, true};
+ghost use Rattle.fb_wanted.specs.Tracks.{wanted_weight};
+ghost use Rattle.fb_plan.specs.Ways.{FitsDisk};
+ghost use Rattle.fb_plan.specs.Turns.{IsTurning};
+ghost use Rattle.fb_detour.specs.Bounds.{stay, missed, early_to, IsEnough, IsStop};
 
 use crate::bounds::is_enough;
-use fb_plan::{Scored, block_begin, entry_on, is_wanted};
+use crate::stop::Stop;
+use fb_plan::{Scored, Turning, is_wanted};
 use fb_service::Disk;
-use fb_units::{Ns, Track};
+use fb_units::Ns;
 use fb_wanted::{Entry, Wanted};
 
 // What the block weighs, where its passage doesn't begin by the latest instant.
-fn missed(disk: &Disk, entry: Entry, arrive: Ns, latest: Ns) -> u64
+fn missed(disk: &Disk, passing: &Turning, entry: Entry, latest: Ns) -> u64
     requires fits { FitsDisk disk.now entry.block }
-    requires early { arrive ≤ 9 * 10 ^ 18 }
-    ensures { result ≡ (if is_wanted entry.state && nat_lt latest (block_begin disk.now.map entry.block arrive) then entry.block.weight * entry.block.count else 0) }
+    requires passing { IsTurning disk.now passing.now }
+    ensures { result ≡ missed disk.now passing.now.from latest entry }
 {
     if !is_wanted(entry.state) {
         return 0;
     }
-    if block_begin(disk, entry.block, arrive) <= latest {
+    if passing.begin(disk, entry.block) <= latest {
         return 0;
     }
     entry.block.weight as u64 * entry.block.count as u64
@@ -31,21 +32,22 @@ fn missed(disk: &Disk, entry: Entry, arrive: Ns, latest: Ns) -> u64
 pub fn misses_enough(
     disk: &Disk,
     wanted: &Wanted,
-    track: Track,
-    arrive: Ns,
+    stop: &Stop,
+    weight: u64,
     latest: Ns,
     late: u64,
     best: Scored,
 ) -> bool
-    requires blocks { AreOnDisk disk.now wanted.now }
-    requires early { arrive ≤ 9 * 10 ^ 18 }
-    requires small { late ≤ 16000000 * 2048000 }
-    ensures { result ≡ true → (most : ℕ) × (stay disk.now (early_to track arrive latest) wanted.now ≤ most) × IsEnough best (most + late) track }
+    requires stop { IsStop disk.now wanted.now stop.now }
+    requires weight { weight ≡ wanted_weight stop.now.track wanted.now }
+    requires small { weight + late ≤ 32000000 * 2048000 }
+    ensures { result ≡ true → (most : ℕ) × (stay disk.now (early_to stop.now.track stop.now.arrive latest) wanted.now ≤ most) × IsEnough best (most + late) stop.now.track }
 {
-    let mut most = wanted.wanted_weight_on(track);
-    for i in 0..wanted.registered_on(track) {
-        most -= missed(disk, entry_on(wanted, track, i), arrive, latest);
-        if is_enough(best, most + late, track) {
+    let _ = wanted;
+    let mut most = weight;
+    for i in 0..stop.blocks.len() {
+        most -= missed(disk, &stop.passing, stop.blocks.get(i), latest);
+        if is_enough(best, most + late, stop.track) {
             return true;
         }
     }

@@ -2,14 +2,16 @@
 ghost use Rattle.std.specs.Prelude.{◌≡◌, ◌+◌, ◌-◌, ◌*◌, ◌/◌, ◌≤◌, ◌<◌, ◌^◌, ℕ, get_or, nat_le, if◌then◌else◌};
 ghost use Rattle.fb_wanted.specs.States.{on_track};
 ghost use Rattle.fb_plan.specs.Ways.{FitsDisk, AreOnDisk, IsGap};
-ghost use Rattle.fb_detour.specs.Bounds.{stay, stay_gain, early_to, late_most, IsLate, part_at};
+ghost use Rattle.fb_plan.specs.Turns.{IsTurning};
+ghost use Rattle.fb_detour.specs.Bounds.{stay, stay_gain, early_to, late_most, IsLate, IsStop, part_at};
 
 use crate::bounds::stay_value;
-use fb_plan::{block_end, entry_on, is_same, is_wanted};
+use crate::stop::Stop;
+use fb_plan::{Turning, blocks_on, is_same, is_wanted};
 use fb_rows::{Dwell, Gap};
 use fb_service::Disk;
-use fb_units::{Ns, Track};
-use fb_wanted::{Entry, Wanted};
+use fb_units::Ns;
+use fb_wanted::{Entry, TrackBlocks, Wanted};
 
 // How many parts the time of the gap has.
 const LATE: usize = 32;
@@ -23,16 +25,27 @@ pub struct LateParts {
 }
 
 // What the target can still give to a head that comes there then.
-fn late_value(disk: &Disk, wanted: &Wanted, gap: &Gap, from: Ns) -> u64
+fn late_value(
+    disk: &Disk,
+    wanted: &Wanted,
+    gap: &Gap,
+    blocks: &TrackBlocks,
+    passing: &Turning,
+    from: Ns,
+) -> u64
     requires early { from ≤ gap.now.deadline }
     requires gap { IsGap disk.now gap.now }
-    requires blocks { AreOnDisk disk.now wanted.now }
+    requires its { blocks.now ≡ on_track gap.now.target wanted.now }
+    requires on_disk { AreOnDisk disk.now blocks.now }
+    requires passing { IsTurning disk.now passing.now }
     ensures value { result ≡ stay disk.now (late_most gap.entry.now from) wanted.now }
     ensures small { result ≤ 16000000 * 2048000 }
 {
+    let _ = wanted;
     stay_value(
         disk,
-        wanted,
+        blocks,
+        &passing.again(disk, from),
         Dwell {
             track: gap.target,
             begin: from,
@@ -47,11 +60,13 @@ pub fn late_parts(disk: &Disk, wanted: &Wanted, gap: &Gap) -> LateParts
     requires blocks { AreOnDisk disk.now wanted.now }
     ensures late { IsLate disk.now gap.entry.now wanted.now result }
 {
+    let blocks = blocks_on(disk, wanted, gap.target);
+    let passing = Turning::new(disk, &blocks, gap.now);
     let step = (gap.deadline - gap.now) / LATE as u64 + 1;
     let mut parts = [0; LATE];
     for k in 0..LATE {
         let from = gap.deadline.min(gap.now + k as u64 * step);
-        parts[k] = late_value(disk, wanted, gap, from);
+        parts[k] = late_value(disk, wanted, gap, &blocks, &passing, from);
     }
     LateParts {
         begin: gap.now,
@@ -97,54 +112,37 @@ fn add_passage(end: Ns, worth: u64, arrive: Ns, step: Ns, parts: &mut [u64; EARL
 }
 
 // Adds the block to each part up to which it has passed.
-fn add_entry(
-    disk: &Disk,
-    track: Track,
-    arrive: Ns,
-    step: Ns,
-    entry: Entry,
-    parts: &mut [u64; EARLY],
-)
+fn add_entry(disk: &Disk, stop: &Stop, step: Ns, entry: Entry, parts: &mut [u64; EARLY])
     requires fits { FitsDisk disk.now entry.block }
-    requires arrive { arrive ≤ 9 * 10 ^ 18 }
+    requires passing { IsTurning disk.now stop.now.passing }
+    requires begin { stop.now.passing.from ≡ stop.now.arrive }
+    requires arrive { stop.now.arrive ≤ 9 * 10 ^ 18 }
     requires step { step ≤ 57 * 10 ^ 16 }
     requires room { (k : ℕ) → k < 16 → get_or parts.old k 0 ≤ 16000000 * 2048000 }
-    ensures { (k : ℕ) → k < 16 → get_or parts.new k 0 ≡ get_or parts.old k 0 + stay_gain disk.now (early_to track arrive (arrive + (k + 1) * step)) entry }
+    ensures { (k : ℕ) → k < 16 → get_or parts.new k 0 ≡ get_or parts.old k 0 + stay_gain disk.now (early_to stop.now.track stop.now.arrive (stop.now.arrive + (k + 1) * step)) entry }
 {
     if !is_wanted(entry.state) {
         return;
     }
-    if !is_same(track, entry.block.track) {
+    if !is_same(stop.track, entry.block.track) {
         return;
     }
     let worth = entry.block.weight as u64 * entry.block.count as u64;
-    add_passage(
-        block_end(disk, entry.block, arrive),
-        worth,
-        arrive,
-        step,
-        parts,
-    );
+    let end = stop.passing.end(disk, entry.block);
+    add_passage(end, worth, stop.arrive, step, parts);
 }
 
 // What a track gives from the arrival up to the end of each stretch.
-pub fn early_parts(disk: &Disk, wanted: &Wanted, track: Track, arrive: Ns, step: Ns) -> [u64; EARLY]
-    requires blocks { AreOnDisk disk.now wanted.now }
-    requires arrive { arrive ≤ 9 * 10 ^ 18 }
+pub fn early_parts(disk: &Disk, wanted: &Wanted, stop: &Stop, step: Ns) -> [u64; EARLY]
+    requires stop { IsStop disk.now wanted.now stop.now }
     requires step { step ≤ 57 * 10 ^ 16 }
-    ensures each { (k : ℕ) → k < 16 → get_or result k 0 ≡ stay disk.now (early_to track arrive (arrive + (k + 1) * step)) wanted.now }
+    ensures each { (k : ℕ) → k < 16 → get_or result k 0 ≡ stay disk.now (early_to stop.now.track stop.now.arrive (stop.now.arrive + (k + 1) * step)) wanted.now }
     ensures small { (k : ℕ) → k < 16 → get_or result k 0 ≤ 16000000 * 2048000 }
 {
+    let _ = wanted;
     let mut parts = [0; EARLY];
-    for i in 0..wanted.registered_on(track) {
-        add_entry(
-            disk,
-            track,
-            arrive,
-            step,
-            entry_on(wanted, track, i),
-            &mut parts,
-        );
+    for i in 0..stop.blocks.len() {
+        add_entry(disk, stop, step, stop.blocks.get(i), &mut parts);
     }
     parts
 }

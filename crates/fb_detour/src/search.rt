@@ -5,11 +5,12 @@ ghost use Rattle.fb_wanted.specs.States.{wanted_of};
 ghost use Rattle.fb_plan.specs.Ways.{AreOnDisk, IsGap, IsScored, Beats};
 ghost use Rattle.fb_detour.specs.Bounds.{BeatsOver, BeatsRange, IsLate};
 
-use crate::bounds::{has_registered, is_enough, least_way};
+use crate::bounds::{is_enough, least_way, may_want};
 use crate::leaves::leaves_beaten;
 use crate::missing::misses_enough;
 use crate::parts::{LateParts, late_at, late_parts};
-use fb_plan::{Scored, Way, is_same, try_way};
+use crate::stop::stop_at;
+use fb_plan::{Scored, Way, blocks_on, is_same, try_way};
 use fb_rows::Gap;
 use fb_service::Disk;
 use fb_units::Track;
@@ -36,16 +37,18 @@ fn is_hopeless(
     if gap.deadline < arrive + move_on {
         return true;
     }
-    let weight = wanted.wanted_weight_on(track);
+    let blocks = blocks_on(disk, wanted, track);
+    let weight = blocks.wanted_weight();
     let after = late_at(late, arrive + move_on);
     if is_enough(best, weight + after, track) {
         return true;
     }
+    let stop = stop_at(disk, wanted, blocks, track, arrive);
     let latest = gap.deadline - move_on;
-    if misses_enough(disk, wanted, track, arrive, latest, after, best) {
+    if misses_enough(disk, wanted, &stop, weight, latest, after, best) {
         return true;
     }
-    leaves_beaten(disk, wanted, gap, late, track, arrive, move_on, best)
+    leaves_beaten(disk, wanted, gap, late, &stop, move_on, best)
 }
 
 // Tries the plans over a track, unless none can be better than the best so far.
@@ -125,7 +128,7 @@ fn can_skip(
     if gap.deadline < arrive {
         return true;
     }
-    if has_registered(wanted, from, end) {
+    if may_want(wanted, from, end) {
         return false;
     }
     let first = Track {

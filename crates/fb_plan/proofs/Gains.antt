@@ -1,5 +1,5 @@
 -- The value of a plan is what the blocks of its two tracks add.
-use Rattle.std.proofs.Common.{◌≡◌, inl, inr, ℕ, ◌+◌, ◌*◌, ◌<◌, take, List, [], ◌∷◌, Bool, true, false, ◌&&◌, ◌||◌, Some, slice_get, zero, suc, get_or, filter, length, option_map, refl, arith, sym, ap, ◌∙◌, if◌then◌else◌, subst}
+use Rattle.std.proofs.Common.{◌≡◌, inl, inr, ℕ, ◌+◌, ◌*◌, ◌<◌, take, List, [], ◌∷◌, Bool, true, false, ◌&&◌, Some, slice_get, zero, suc, get_or, filter, length, option_map, refl, arith, sym, ap, ◌∙◌, if◌then◌else◌, subst}
 use Rattle.std.specs.List.{sum_by}
 use Rattle.std.proofs.lemmas.Bool.{cases_Bool, true≢false}
 use Rattle.std.proofs.lemmas.Bool.Decides.{nat_tests}
@@ -18,8 +18,9 @@ use Rattle.fb_rows.specs.declared.gap.Gap.{Gap}
 use Rattle.fb_rows.specs.declared.gap.Plan.{Plan}
 use Rattle.fb_rows.specs.declared.gap.Plan.TheVariants.{Direct, Detour}
 use Rattle.fb_rows.specs.declared.gap.Dwell.{Dwell}
-use Rattle.fb_model.specs.Plans.{is_caught, value, catches, early_dwell, late_dwell}
+use Rattle.fb_model.specs.Plans.{is_caught, value, early_dwell, late_dwell}
 use Rattle.fb_plan.specs.Ways.{gain, track_of}
+use Rattle.fb_plan.specs.Turns.{gain_by}
 
 some-one : {X : Type 0} (x y : X) → Some x ≡ Some y → x ≡ y
 some-one x y h = grind arith
@@ -148,12 +149,32 @@ sum-two disk gap plan es track sum other e apart s o =
     omega (arith, two, first, o)
 
 -- the sum so far and one more block
-pub sum-more : (disk : Disk) (gap : Gap) (plan : Plan) (xs : List Entry) (i sum more : ℕ) (early late : Dwell) (e : Entry) → early ≡ early_dwell disk gap plan → late ≡ late_dwell disk gap plan
-    → slice_get xs i ≡ Some e → more ≡ (if is_wanted e.state && (catches disk early e.block || catches disk late e.block) then e.block.weight * e.block.count else 0)
-    → sum ≡ sum_by (gain disk gap plan) (take i xs) → sum + more ≡ sum_by (gain disk gap plan) (take (i + 1) xs)
-sum-more disk gap plan xs i sum more early late e p q at m s =
-    let one : more ≡ gain disk gap plan e = m
-    ∙ (ap (λ d. if is_wanted e.state && (catches disk d e.block || catches disk late e.block) then e.block.weight * e.block.count else 0) p
-    ∙ ap (λ d. if is_wanted e.state && (catches disk (early_dwell disk gap plan) e.block || catches disk d e.block) then e.block.weight * e.block.count else 0) q) in
-    let here = ap (gain disk gap plan) (get_or_from_slice_get xs i e e at) in
-    omega (arith, sum_by_more (gain disk gap plan) xs i e (slice_get_within xs i e at), one, here, s)
+pub sum-more : (f : Entry → ℕ) (xs : List Entry) (i sum more : ℕ) (e : Entry) → slice_get xs i ≡ Some e → more ≡ f e
+    → sum ≡ sum_by f (take i xs) → sum + more ≡ sum_by f (take (i + 1) xs)
+sum-more f xs i sum more e at m s =
+    let here = ap f (get_or_from_slice_get xs i e e at) in
+    omega (arith, sum_by_more f xs i e (slice_get_within xs i e at), m, here, s)
+
+own-track : (disk : Disk) (gap : Gap) (plan : Plan) → (early_dwell disk gap plan).track ≡ track_of gap plan
+own-track disk gap (Direct u) = refl
+own-track disk gap (Detour c u) = refl
+
+module _ (disk : Disk) (gap : Gap) (plan : Plan) (es : List Entry) (early late : Dwell) (p : early ≡ early_dwell disk gap plan) (q : late ≡ late_dwell disk gap plan) where
+  by-dwells : (xs ys : List Entry) (sum : ℕ) → xs ≡ ys → sum ≡ sum_by (gain_by disk early late) xs → sum ≡ sum_by (gain disk gap plan) ys
+  by-dwells xs ys sum same s = s ∙ (ap (λ d. sum_by (gain_by disk d late) xs) p ∙ (ap (λ d. sum_by (gain_by disk (early_dwell disk gap plan) d) xs) q ∙ ap (sum_by (gain disk gap plan)) same))
+
+  its-track : early.track ≡ track_of gap plan
+  its-track = ap (λ (d : Dwell). d.track) p ∙ own-track disk gap plan
+
+  its-blocks : (xs : List Entry) → xs ≡ on_track (early_dwell disk gap plan).track es → xs ≡ on_track early.track es
+  its-blocks xs same = same ∙ ap (λ (d : Dwell). on_track d.track es) (sym p)
+
+  -- a plan's value by the blocks of one track, or of both
+  pub value-by-one : (xs : List Entry) (sum : ℕ) → xs ≡ on_track (early_dwell disk gap plan).track es → same_track early.track gap.target ≡ true
+      → sum ≡ sum_by (gain_by disk early late) xs → sum ≡ value disk gap (wanted_of es) plan
+  value-by-one xs sum same one s = sum-one disk gap plan es early.track sum its-track one (by-dwells xs (on_track early.track es) sum (its-blocks xs same) s)
+
+  pub value-by-two : (xs ys : List Entry) (sum other : ℕ) → xs ≡ on_track (early_dwell disk gap plan).track es → ys ≡ on_track gap.target es → same_track early.track gap.target ≡ false
+      → sum ≡ sum_by (gain_by disk early late) xs → other ≡ sum_by (gain_by disk early late) ys → sum + other ≡ value disk gap (wanted_of es) plan
+  value-by-two xs ys sum other same target two s o = sum-two disk gap plan es early.track sum other its-track two
+      (by-dwells xs (on_track early.track es) sum (its-blocks xs same) s) (by-dwells ys (on_track gap.target es) other target o)

@@ -59,7 +59,7 @@ entry-more disk dwell xs i e old new at n o =
     n ∙ (ap (λ a. with_entry disk dwell a e) o ∙ (ap (with_entry disk dwell (fold (with_entry disk dwell) [] (take i xs))) (sym (get_or_from_slice_get xs i e e at))
     ∙ sym (fold_more (with_entry disk dwell) [] xs i e (slice_get_within xs i e at))))
 
-pub entries-all : (disk : Disk) (dwell : Dwell) (es : List Entry) (found : List Catch) (n : ℕ) → n ≡ length (on_track dwell.track es)
-    → found ≡ fold (with_entry disk dwell) [] (take n (on_track dwell.track es)) → found ≡ caught_of disk dwell (wanted_of es)
-entries-all disk dwell es found n e f = f ∙ (ap (λ k. fold (with_entry disk dwell) [] (take k (on_track dwell.track es))) e
-    ∙ (ap (fold (with_entry disk dwell) []) (take-length (on_track dwell.track es)) ∙ sym (on_its_track disk dwell es)))
+pub entries-all : (disk : Disk) (dwell : Dwell) (es xs : List Entry) (found : List Catch) (n : ℕ) → xs ≡ on_track dwell.track es → n ≡ length xs
+    → found ≡ fold (with_entry disk dwell) [] (take n xs) → found ≡ caught_of disk dwell (wanted_of es)
+entries-all disk dwell es xs found n same e f = f ∙ (ap (λ k. fold (with_entry disk dwell) [] (take k xs)) e
+    ∙ (ap (fold (with_entry disk dwell) []) (take-length xs ∙ same) ∙ sym (on_its_track disk dwell es)))

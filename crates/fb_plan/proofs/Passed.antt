@@ -14,11 +14,13 @@ use Rattle.fb_wanted.proofs.Numbers.{filter_at}
 use Rattle.fb_rows.specs.declared.gap.Gap.{Gap}
 use Rattle.fb_rows.specs.declared.gap.Plan.{Plan}
 use Rattle.fb_rows.specs.declared.gap.Plan.TheVariants.{Direct, Detour}
-use Rattle.fb_model.specs.Plans.{block_end, value, IsPlan, IsDetour}
+use Rattle.fb_model.specs.Plans.{block_end, value, early_dwell, IsPlan, IsDetour}
 use Rattle.fb_plan.specs.declared.choice.Scored.{Scored}
 use Rattle.fb_plan.specs.declared.way.Way.{Way}
 use Rattle.fb_plan.specs.declared.way.Way.TheVariants.{Source, Over}
 use Rattle.fb_plan.specs.Ways.{plan_by, early_track, arrival, move_on, Beats, IsOver, IsScored, IsWay}
+use Rattle.fb_plan.specs.declared.sides.Sides.{Sides}
+use Rattle.fb_plan.specs.Turns.{AreSides, stay_of}
 use Rattle.fb_plan.proofs.Enough.{enough}
 use Rattle.fb_plan.proofs.Gains.{in_filter}
 use Rattle.fb_plan.proofs.Ties.{later-leave, beats-trans}
@@ -132,3 +134,13 @@ pub all_plans : (disk : Disk) (gap : Gap) (wanted : List Block) (best : Plan) (n
     → (q : Plan) → IsPlan disk gap q → Beats disk gap wanted best q
 all_plans disk gap wanted best n all direct detour (Direct leave) is = direct leave is
 all_plans disk gap wanted best n all direct detour (Detour track leave) is = detour track.cylinder track.head leave (omega (arith, is.on_disk.cylinder)) is
+
+-- the sides of a way are those of each of its plans
+sides-way : (disk : Disk) (gap : Gap) (way : Way) (leave : ℕ) (es : List Entry) (sides : Sides) → AreSides disk gap.target es (stay_of disk gap way) sides
+    → AreSides disk gap.target es (early_dwell disk gap (plan_by way leave)) sides
+sides-way disk gap Source leave es sides h = record { early = h.early; late = h.late; passing = h.passing; from = h.from; passing_late = h.passing_late }
+sides-way disk gap (Over track) leave es sides h = record { early = h.early; late = h.late; passing = h.passing; from = h.from; passing_late = h.passing_late }
+
+pub sides-by : (disk : Disk) (gap : Gap) (way : Way) (leave : ℕ) (plan : Plan) (es : List Entry) (sides : Sides) → plan ≡ plan_by way leave → AreSides disk gap.target es (stay_of disk gap way) sides
+    → AreSides disk gap.target es (early_dwell disk gap plan) sides
+sides-by disk gap way leave plan es sides same h = subst (λ p. AreSides disk gap.target es (early_dwell disk gap p) sides) (sym same) (sides-way disk gap way leave es sides h)

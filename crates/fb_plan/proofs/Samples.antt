@@ -1,5 +1,5 @@
 -- One more block of the first task.
-use Rattle.std.proofs.Common.{◌≡◌, ℕ, ◌+◌, ◌==◌, List, [], ◌∷◌, ◌++◌, inl, inr, refl, ap, sym, subst, arith, length, length-append}
+use Rattle.std.proofs.Common.{◌≡◌, ℕ, ◌+◌, ◌==◌, List, [], ◌∷◌, ◌++◌, inl, inr, refl, sym, subst, arith, length, length-append}
 use Rattle.std.proofs.lemmas.Bool.{cases_Bool}
 use Rattle.fb_service.specs.declared.disk.Disk.{Disk}
 use Rattle.fb_wanted.specs.declared.block.Entry.{Entry}

@@ -1,9 +1,9 @@
 // When blocks pass, and what a dwell catches.
-ghost use Rattle.std.specs.Prelude.{◌≡◌, ◌+◌, ◌*◌, ◌≤◌, ◌<◌, ◌^◌, ◌||◌};
+ghost use Rattle.std.specs.Prelude.{◌≡◌, ◌+◌, ◌*◌, ◌≤◌, ◌<◌, ◌^◌};
 ghost use Rattle.fb_units.specs.Wait.{wait};
 ghost use Rattle.fb_geometry.specs.Shape.{slots_at, IsTrackOf};
 ghost use Rattle.fb_geometry.specs.Angles.{slot_begin};
-ghost use Rattle.fb_model.specs.Plans.{block_begin, block_end, catches, early_dwell, late_dwell, IsPlan};
+ghost use Rattle.fb_model.specs.Plans.{block_begin, block_end, early_dwell, late_dwell, IsPlan};
 ghost use Rattle.fb_plan.specs.Ways.{FitsDisk, IsGap};
 
 use fb_rows::{Dwell, Gap, Plan};
@@ -58,18 +58,6 @@ pub fn block_end(disk: &Disk, block: Block, t: Ns) -> Ns
     let last = disk.map.place(block.lbn + (block.count as u64 - 1));
     let angle = angle_of(disk, last.track, last.slot as u64 + 1);
     next_at(disk, angle % disk.map.geometry().rotation(), begin + 1)
-}
-
-/// Whether the block passes whole while the head stays.
-pub fn catches(disk: &Disk, dwell: Dwell, block: Block) -> bool
-    requires fits { FitsDisk disk.now block }
-    requires early { dwell.begin ≤ 9 * 10 ^ 18 }
-    ensures { result ≡ catches disk.now dwell block }
-{
-    if dwell.track != block.track {
-        return false;
-    }
-    block_end(disk, block, dwell.begin) <= dwell.end
 }
 
 /// The two dwells of a plan.

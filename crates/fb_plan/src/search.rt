@@ -1,15 +1,16 @@
 // The search over leaves, ways and tracks: the best so far is at least as good as each plan that was passed.
 ghost use Rattle.std.specs.Prelude.{◌≡◌, ◌+◌, ◌*◌, ◌≤◌, ◌<◌, ◌^◌, ℕ, true};
 ghost use Rattle.fb_geometry.specs.Shape.{IsTrackOf};
-ghost use Rattle.fb_model.specs.Plans.{IsPlan, block_end};
+ghost use Rattle.fb_model.specs.Plans.{IsPlan, block_end, early_dwell};
 ghost use Rattle.fb_wanted.specs.States.{is_wanted, wanted_of};
 ghost use Rattle.fb_plan.specs.Ways.{FitsDisk, AreOnDisk, IsGap, IsWay, IsScored, Beats, plan_by, early_track, arrival, move_on};
+ghost use Rattle.fb_plan.specs.Turns.{AreSides, stay_of};
 
 use crate::choice::choose;
-use crate::passing::block_end;
-use crate::sums::{entry_on, is_same, is_wanted, plan_value};
+use crate::sides::{Sides, sides_of};
+use crate::sums::{is_same, is_wanted, plan_value, value_by};
 use crate::{Scored, Way};
-use fb_rows::{Gap, Plan};
+use fb_rows::{Dwell, Gap, Plan};
 use fb_service::Disk;
 use fb_units::{Ns, Track};
 use fb_wanted::{Entry, Wanted};
@@ -68,17 +69,42 @@ pub fn scored(disk: &Disk, wanted: &Wanted, gap: &Gap, plan: Plan) -> Scored
     }
 }
 
-// The better of the best so far and a plan.
-fn try_plan(disk: &Disk, wanted: &Wanted, gap: &Gap, plan: Plan, best: Scored) -> Scored
+// The same by the blocks of its two tracks.
+fn scored_by(disk: &Disk, wanted: &Wanted, gap: &Gap, sides: &Sides, plan: Plan) -> Scored
     requires plan { IsPlan disk.now gap.now plan }
     requires gap { IsGap disk.now gap.now }
-    requires blocks { AreOnDisk disk.now wanted.now }
+    requires sides { AreSides disk.now gap.now.target wanted.now (early_dwell disk.now gap.now plan) sides.now }
+    requires early { AreOnDisk disk.now sides.now.early }
+    requires late { AreOnDisk disk.now sides.now.late }
+    ensures scored { IsScored disk.now gap.entry.now (wanted_of wanted.now) result }
+    ensures plan { result.plan ≡ plan }
+{
+    Scored {
+        plan,
+        value: value_by(disk, wanted, gap, sides, plan),
+    }
+}
+
+// The better of the best so far and a plan.
+fn try_plan(
+    disk: &Disk,
+    wanted: &Wanted,
+    gap: &Gap,
+    sides: &Sides,
+    plan: Plan,
+    best: Scored,
+) -> Scored
+    requires plan { IsPlan disk.now gap.now plan }
+    requires gap { IsGap disk.now gap.now }
+    requires sides { AreSides disk.now gap.now.target wanted.now (early_dwell disk.now gap.now plan) sides.now }
+    requires early { AreOnDisk disk.now sides.now.early }
+    requires late { AreOnDisk disk.now sides.now.late }
     requires best { IsScored disk.now gap.now (wanted_of wanted.now) best }
     ensures scored { IsScored disk.now gap.entry.now (wanted_of wanted.now) result }
     ensures keeps { Beats disk.now gap.entry.now (wanted_of wanted.now) result.plan best.plan }
     ensures tried { Beats disk.now gap.entry.now (wanted_of wanted.now) result.plan plan }
 {
-    choose(best, scored(disk, wanted, gap, plan))
+    choose(best, scored_by(disk, wanted, gap, sides, plan))
 }
 
 // Tries to leave when the passage of a wanted block ends.
@@ -87,31 +113,45 @@ fn try_entry(
     wanted: &Wanted,
     gap: &Gap,
     way: Way,
-    arrive: Ns,
+    sides: &Sides,
     entry: Entry,
     best: Scored,
 ) -> Scored
     requires way { IsWay disk.now gap.now way }
     requires track { IsTrackOf disk.now.map (early_track gap.now way) }
-    requires arrive { arrive ≡ arrival disk.now gap.now way }
-    requires early { arrive ≤ 9 * 10 ^ 18 }
     requires fits { FitsDisk disk.now entry.block }
     requires gap { IsGap disk.now gap.now }
-    requires blocks { AreOnDisk disk.now wanted.now }
+    requires sides { AreSides disk.now gap.now.target wanted.now (stay_of disk.now gap.now way) sides.now }
+    requires early { AreOnDisk disk.now sides.now.early }
+    requires late { AreOnDisk disk.now sides.now.late }
     requires best { IsScored disk.now gap.now (wanted_of wanted.now) best }
     ensures scored { IsScored disk.now gap.entry.now (wanted_of wanted.now) result }
     ensures keeps { Beats disk.now gap.entry.now (wanted_of wanted.now) result.plan best.plan }
-    ensures tried { is_wanted entry.state ≡ true → block_end disk.now.map entry.block arrive + move_on disk.now gap.entry.now way ≤ gap.entry.now.deadline
-        → Beats disk.now gap.entry.now (wanted_of wanted.now) result.plan (plan_by way (block_end disk.now.map entry.block arrive)) }
+    ensures tried { is_wanted entry.state ≡ true → block_end disk.now.map entry.block (arrival disk.now gap.entry.now way) + move_on disk.now gap.entry.now way ≤ gap.entry.now.deadline
+        → Beats disk.now gap.entry.now (wanted_of wanted.now) result.plan (plan_by way (block_end disk.now.map entry.block (arrival disk.now gap.entry.now way))) }
 {
     if !is_wanted(entry.state) {
         return best;
     }
-    let end = block_end(disk, entry.block, arrive);
+    let end = sides.passing.end(disk, entry.block);
     if gap.deadline < end + move_on(disk, gap, way) {
         return best;
     }
-    try_plan(disk, wanted, gap, plan_by(way, end), best)
+    try_plan(disk, wanted, gap, sides, plan_by(way, end), best)
+}
+
+// Where the head waits on this way, until the deadline at the latest.
+fn stay_of(disk: &Disk, gap: &Gap, way: Way) -> Dwell
+    requires gap { IsGap disk.now gap.now }
+    requires track { IsTrackOf disk.now.map (early_track gap.now way) }
+    ensures value { result ≡ stay_of disk.now gap.entry.now way }
+    ensures soon { result.begin ≤ 9 * 10 ^ 18 + 2 * 10 ^ 9 }
+{
+    Dwell {
+        track: early_track(gap, way),
+        begin: arrival(disk, gap, way),
+        end: gap.deadline,
+    }
 }
 
 /// Tries all plans of a way.
@@ -125,22 +165,14 @@ pub fn try_way(disk: &Disk, wanted: &Wanted, gap: &Gap, way: Way, start: Scored)
     ensures keeps { Beats disk.now gap.entry.now (wanted_of wanted.now) result.plan start.plan }
     ensures tried { (leave : ℕ) → IsPlan disk.now gap.entry.now (plan_by way leave) → Beats disk.now gap.entry.now (wanted_of wanted.now) result.plan (plan_by way leave) }
 {
-    let arrive = arrival(disk, gap, way);
-    if gap.deadline < arrive + move_on(disk, gap, way) {
+    let stay = stay_of(disk, gap, way);
+    if gap.deadline < stay.begin + move_on(disk, gap, way) {
         return start;
     }
-    let mut best = try_plan(disk, wanted, gap, plan_by(way, arrive), start);
-    let track = early_track(gap, way);
-    for i in 0..wanted.registered_on(track) {
-        best = try_entry(
-            disk,
-            wanted,
-            gap,
-            way,
-            arrive,
-            entry_on(wanted, track, i),
-            best,
-        );
+    let both = sides_of(disk, wanted, gap.target, stay);
+    let mut best = try_plan(disk, wanted, gap, &both, plan_by(way, stay.begin), start);
+    for i in 0..both.early.len() {
+        best = try_entry(disk, wanted, gap, way, &both, both.early.get(i), best);
     }
     best
 }

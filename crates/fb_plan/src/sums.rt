@@ -2,17 +2,18 @@
 ghost use Rattle.std.specs.Prelude.{◌≡◌, ◌+◌, ◌*◌, ◌≤◌, ◌<◌, ◌^◌, ◌||◌, ◌&&◌, ℕ, Some, slice_get, length, if◌then◌else◌};
 ghost use Rattle.std.specs.List.{sum_by};
 ghost use Rattle.fb_units.specs.Tracks.{same_track};
-ghost use Rattle.fb_model.specs.Plans.{catches, value, IsPlan};
+ghost use Rattle.fb_model.specs.Plans.{catches, value, early_dwell, IsPlan};
 ghost use Rattle.fb_wanted.specs.declared.block.Entry.{Entry};
 ghost use Rattle.fb_wanted.specs.States.{on_track, is_wanted, wanted_of};
-ghost use Rattle.fb_plan.specs.Ways.{FitsDisk, AreOnDisk, IsGap, gain, track_of};
+ghost use Rattle.fb_plan.specs.Ways.{FitsDisk, AreOnDisk, IsGap};
+ghost use Rattle.fb_plan.specs.Turns.{IsTurning, AreSides, gain_by};
 
-use crate::passing::catches;
-use crate::{DwellPair, dwells};
+use crate::sides::{Sides, sides_of};
+use crate::{DwellPair, Turning, dwells};
 use fb_rows::{Gap, Plan};
 use fb_service::Disk;
 use fb_units::Track;
-use fb_wanted::{Entry, State, Wanted};
+use fb_wanted::{Entry, State, TrackBlocks, Wanted};
 
 /// The i-th registered block of the track and its state.
 pub fn entry_on(wanted: &Wanted, track: Track, i: u32) -> Entry
@@ -40,20 +41,22 @@ pub fn is_wanted(state: State) -> bool
 }
 
 // What the block adds to a plan with these dwells.
-fn gain(disk: &Disk, pair: DwellPair, entry: Entry) -> u64
+fn gain(disk: &Disk, pair: DwellPair, passing: &Turning, late: &Turning, entry: Entry) -> u64
     requires fits { FitsDisk disk.now entry.block }
-    requires early { pair.early.begin ≤ 9 * 10 ^ 18 }
-    requires late { pair.late.begin ≤ 9 * 10 ^ 18 }
-    ensures value { result ≡ (if is_wanted entry.state && (catches disk.now pair.early entry.block || catches disk.now pair.late entry.block) then entry.block.weight * entry.block.count else 0) }
+    requires early { IsTurning disk.now passing.now }
+    requires early_begin { passing.now.from ≡ pair.early.begin }
+    requires late { IsTurning disk.now late.now }
+    requires late_begin { late.now.from ≡ pair.late.begin }
+    ensures value { result ≡ gain_by disk.now pair.early pair.late entry }
     ensures small { result ≤ 2048000 }
 {
     if !is_wanted(entry.state) {
         return 0;
     }
-    if catches(disk, pair.early, entry.block) {
+    if passing.catches(disk, pair.early, entry.block) {
         return worth(disk, entry);
     }
-    if catches(disk, pair.late, entry.block) {
+    if late.catches(disk, pair.late, entry.block) {
         return worth(disk, entry);
     }
     0
@@ -67,20 +70,46 @@ fn worth(disk: &Disk, entry: Entry) -> u64
     entry.block.weight as u64 * entry.block.count as u64
 }
 
-// What the blocks of a track add to a plan.
-fn value_on(disk: &Disk, wanted: &Wanted, gap: &Gap, plan: Plan, track: Track) -> u64
-    requires plan { IsPlan disk.now gap.now plan }
-    requires gap { IsGap disk.now gap.now }
-    requires blocks { AreOnDisk disk.now wanted.now }
-    ensures value { result ≡ sum_by (gain disk.now gap.entry.now plan) (on_track track wanted.now) }
+// What the blocks of a track add to a plan with these dwells.
+fn value_on(
+    disk: &Disk,
+    blocks: &TrackBlocks,
+    pair: DwellPair,
+    passing: &Turning,
+    late: &Turning,
+) -> u64
+    requires blocks { AreOnDisk disk.now blocks.now }
+    requires early { IsTurning disk.now passing.now }
+    requires early_begin { passing.now.from ≡ pair.early.begin }
+    requires late { IsTurning disk.now late.now }
+    requires late_begin { late.now.from ≡ pair.late.begin }
+    ensures value { result ≡ sum_by (gain_by disk.now pair.early pair.late) blocks.now }
     ensures small { result ≤ 16000000 * 2048000 }
 {
-    let pair = dwells(disk, plan, gap);
     let mut sum = 0;
-    for i in 0..wanted.registered_on(track) {
-        sum += gain(disk, pair, entry_on(wanted, track, i));
+    for i in 0..blocks.len() {
+        sum += gain(disk, pair, passing, late, blocks.get(i));
     }
     sum
+}
+
+// The value of a plan, by the blocks of its two tracks.
+pub fn value_by(disk: &Disk, wanted: &Wanted, gap: &Gap, sides: &Sides, plan: Plan) -> u64
+    requires plan { IsPlan disk.now gap.now plan }
+    requires gap { IsGap disk.now gap.now }
+    requires sides { AreSides disk.now gap.now.target wanted.now (early_dwell disk.now gap.now plan) sides.now }
+    requires early { AreOnDisk disk.now sides.now.early }
+    requires late { AreOnDisk disk.now sides.now.late }
+    ensures { result ≡ value disk.now gap.entry.now (wanted_of wanted.now) plan }
+{
+    let _ = wanted;
+    let pair = dwells(disk, plan, gap);
+    let late = sides.passing_late.again(disk, pair.late.begin);
+    let sum = value_on(disk, &sides.early, pair, &sides.passing, &late);
+    if is_same(pair.early.track, gap.target) {
+        return sum;
+    }
+    sum + value_on(disk, &sides.late, pair, &sides.passing, &late)
 }
 
 /// The value of a plan.
@@ -90,22 +119,14 @@ pub fn plan_value(disk: &Disk, wanted: &Wanted, gap: &Gap, plan: Plan) -> u64
     requires blocks { AreOnDisk disk.now wanted.now }
     ensures { result ≡ value disk.now gap.entry.now (wanted_of wanted.now) plan }
 {
-    let early = track_of(gap, plan);
-    let sum = value_on(disk, wanted, gap, plan, early);
-    if is_same(early, gap.target) {
-        return sum;
-    }
-    sum + value_on(disk, wanted, gap, plan, gap.target)
-}
-
-// The track of a plan's early dwell.
-fn track_of(gap: &Gap, plan: Plan) -> Track
-    ensures { result ≡ track_of gap.entry.now plan }
-{
-    match plan {
-        Plan::Direct { leave: _ } => gap.source,
-        Plan::Detour { track, leave: _ } => track,
-    }
+    let pair = dwells(disk, plan, gap);
+    value_by(
+        disk,
+        wanted,
+        gap,
+        &sides_of(disk, wanted, gap.target, pair.early),
+        plan,
+    )
 }
 
 /// Whether the two are one track.

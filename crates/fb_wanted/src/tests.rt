@@ -117,6 +117,7 @@ fn blocks_of_two_tasks(rt: HostRuntime) -> Result<(), Fail> {
     assert_eq!(rt; wanted.block_on(NEAR, 1), SECOND);
     let blocks = wanted.on(NEAR);
     assert_eq!(rt; blocks.len(), 2);
+    assert_eq!(rt; blocks.wanted_weight(), 0);
     assert_eq!(rt; blocks.get(0).block, FIRST);
     assert_eq!(rt; blocks.get(0).state, State::Aborted);
     assert_eq!(rt; wanted.next_registered_track(SECOND.track), Some(NEAR));

@@ -1,6 +1,8 @@
 // The registered blocks of a track, looked up once.
-ghost use Rattle.std.specs.Prelude.{◌≡◌, ◌≤◌, ◌<◌, List, Some, length, slice_get};
-ghost use Rattle.fb_wanted.specs.States.{on_track};
+ghost use Rattle.std.specs.Prelude.{◌≡◌, ◌*◌, ◌≤◌, ◌<◌, List, Some, length, slice_get};
+ghost use Rattle.std.specs.List.{sum_by};
+ghost use Rattle.fb_wanted.specs.States.{on_track, wanted_of};
+ghost use Rattle.fb_wanted.specs.Tracks.{wanted_weight};
 ghost use Rattle.fb_wanted.specs.Index.{places, of_track};
 
 use crate::Entry;
@@ -16,29 +18,39 @@ pub struct TrackBlocks<'a> {
     entries: &'a [Entry],
     // Where they stand.
     at: &'a [u32],
+    // Weight times sectors of the wanted ones.
+    weight: u64,
 }
 
 impl<'a> Model for TrackBlocks<'a> {
-    ghost use Rattle.std.specs.Prelude.{◌≡◌, ◌≤◌, List, length};
+    ghost use Rattle.std.specs.Prelude.{◌≡◌, ◌*◌, ◌≤◌, List, length};
     ghost use Rattle.fb_wanted.specs.declared.block.Entry.{Entry};
     ghost use Rattle.fb_wanted.specs.States.{on_track};
+    ghost use Rattle.fb_wanted.specs.Tracks.{wanted_weight};
     ghost use Rattle.fb_wanted.specs.Index.{places, of_track};
 
     ghost Value = { List Entry };
 
     ghost view = { λ t. on_track t.track t.entries.now };
 
-    ghost invariant = { λ t. (t.at.now ≡ places (of_track t.track) t.entries.now) × (length t.entries.now ≤ 16000000) };
+    ghost invariant = { λ t. (t.at.now ≡ places (of_track t.track) t.entries.now) × (length t.entries.now ≤ 16000000) × (t.weight ≡ wanted_weight t.track t.entries.now) × (t.weight ≤ 16000000 * 2048000) };
 }
 
 impl<'a> TrackBlocks<'a> {
-    /// Those of the track among all, where their places are known.
-    pub(crate) fn new(track: Track, entries: &'a [Entry], at: &'a [u32]) -> Self
+    /// Those of the track among all, where their places and their weight are known.
+    pub(crate) fn new(track: Track, entries: &'a [Entry], at: &'a [u32], weight: u64) -> Self
         requires its { at.now ≡ places (of_track track) entries.now }
         requires few { length entries.now ≤ 16000000 }
+        requires weight { weight ≡ wanted_weight track entries.now }
+        requires small { weight ≤ 16000000 * 2048000 }
         ensures { result ≡ on_track track entries.now }
     {
-        TrackBlocks { track, entries, at }
+        TrackBlocks {
+            track,
+            entries,
+            at,
+            weight,
+        }
     }
 
     /// How many there are.
@@ -55,5 +67,14 @@ impl<'a> TrackBlocks<'a> {
         ensures { slice_get self.now i ≡ Some result }
     {
         self.entries[self.at[i as usize] as usize]
+    }
+
+    /// Weight times sectors of the wanted ones.
+    pub fn wanted_weight(&self) -> u64
+        ensures sum { result ≡ sum_by (λ block. block.weight * block.count) (wanted_of self.now) }
+        ensures small { result ≤ 16000000 * 2048000 }
+    {
+        let _ = &self.entries;
+        self.weight
     }
 }

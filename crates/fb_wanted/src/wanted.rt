@@ -436,8 +436,13 @@ impl Wanted {
         ensures { result ≡ on_track track self.now }
     {
         match self.tracks.get(&track) {
-            Some(on) => TrackBlocks::new(track, self.entries.as_slice(), on.places.as_slice()),
-            None => TrackBlocks::new(track, self.entries.as_slice(), &[]),
+            Some(on) => TrackBlocks::new(
+                track,
+                self.entries.as_slice(),
+                on.places.as_slice(),
+                on.weight,
+            ),
+            None => TrackBlocks::new(track, self.entries.as_slice(), &[], 0),
         }
     }
 

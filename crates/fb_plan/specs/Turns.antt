@@ -1,0 +1,42 @@
+-- How blocks pass from an instant on.
+use Rattle.std.specs.Prelude.{◌≡◌, ℕ, ◌+◌, ◌*◌, ◌%◌, ◌<◌, ◌≤◌, ◌^◌, List, ◌&&◌, ◌||◌, if◌then◌else◌}
+use Rattle.fb_units.specs.declared.types.Track.{Track}
+use Rattle.fb_geometry.specs.Shape.{slots_at}
+use Rattle.fb_sectormap.specs.Lookup.{place_at, neighbour}
+use Rattle.fb_service.specs.declared.disk.Disk.{Disk}
+use Rattle.fb_wanted.specs.declared.block.Entry.{Entry}
+use Rattle.fb_wanted.specs.States.{is_wanted, on_track}
+use Rattle.fb_rows.specs.declared.gap.Dwell.{Dwell}
+use Rattle.fb_rows.specs.declared.gap.Gap.{Gap}
+use Rattle.fb_model.specs.Plans.{catches}
+use Rattle.fb_plan.specs.declared.way.Way.{Way}
+use Rattle.fb_plan.specs.Ways.{early_track, arrival}
+use Rattle.fb_plan.specs.declared.turning.Turning.{Turning}
+use Rattle.fb_plan.specs.declared.sides.Sides.{Sides}
+
+-- where the platter stands at the instant, and the sectors of the stretch in neighbouring slots of one turn
+pub record IsTurning (disk : Disk) (turning : Turning) : Type 0 where
+  pub rotation : turning.rotation ≡ disk.map.rotation
+  pub early : turning.from ≤ 9 * 10 ^ 18
+  pub at : turning.at ≡ turning.from % disk.map.rotation
+  pub few : turning.slots ≤ 10000
+  pub slot : turning.stretch.place.slot < turning.slots
+  pub one_turn : turning.stretch.count ≤ turning.slots
+  pub slots : 0 < turning.stretch.count → turning.slots ≡ slots_at disk.map.zones turning.stretch.place.track.cylinder
+  pub next : (i : ℕ) → i < turning.stretch.count → place_at disk.map (turning.lbn + i) ≡ neighbour disk.map turning.stretch.place i
+
+-- the blocks of a track from an instant on, and those of the target
+pub record AreSides (disk : Disk) (target : Track) (entries : List Entry) (dwell : Dwell) (sides : Sides) : Type 0 where
+  pub early : sides.early ≡ on_track dwell.track entries
+  pub late : sides.late ≡ on_track target entries
+  pub passing : IsTurning disk sides.passing
+  pub from : sides.passing.from ≡ dwell.begin
+  pub passing_late : IsTurning disk sides.passing_late
+
+-- what a registered block adds to two dwells
+abbrev pub gain_by : Disk → Dwell → Dwell → Entry → ℕ
+gain_by disk early late entry = if is_wanted entry.state && (catches disk early entry.block || catches disk late entry.block) then entry.block.weight * entry.block.count else 0
+
+-- where the head waits on a way, until the deadline at the latest
+abbrev pub stay_of : Disk → Gap → Way → Dwell
+stay_of disk gap way = record { track = early_track gap way; begin = arrival disk gap way; end = gap.deadline }

@@ -1,0 +1,50 @@
+// The blocks that plans may catch, looked up once.
+ghost use Rattle.std.specs.Prelude.{◌≡◌, ◌*◌, ◌≤◌, ◌^◌};
+ghost use Rattle.fb_wanted.specs.States.{on_track};
+ghost use Rattle.fb_plan.specs.Ways.{AreOnDisk};
+ghost use Rattle.fb_plan.specs.Turns.{IsTurning, AreSides};
+
+use crate::Turning;
+use fb_rows::Dwell;
+use fb_service::Disk;
+use fb_units::Track;
+use fb_wanted::{TrackBlocks, Wanted};
+
+// The blocks of the track where the head waits, and those of the target.
+#[derive(Drop)]
+pub struct Sides<'a> {
+    pub early: TrackBlocks<'a>,
+    pub passing: Turning,
+    pub late: TrackBlocks<'a>,
+    pub passing_late: Turning,
+}
+
+/// The registered blocks of the track.
+pub fn blocks_on<'a>(disk: &Disk, wanted: &'a Wanted, track: Track) -> TrackBlocks<'a>
+    requires blocks { AreOnDisk disk.now wanted.now }
+    ensures its { result ≡ on_track track wanted.now }
+    ensures on_disk { AreOnDisk disk.now result }
+{
+    let _ = disk;
+    wanted.on(track)
+}
+
+// Those of a dwell's track from its begin on, and those of the target.
+pub fn sides_of<'a>(disk: &Disk, wanted: &'a Wanted, target: Track, dwell: Dwell) -> Sides<'a>
+    requires blocks { AreOnDisk disk.now wanted.now }
+    requires early { dwell.begin ≤ 9 * 10 ^ 18 }
+    ensures sides { AreSides disk.now target wanted.now dwell result }
+    ensures early { AreOnDisk disk.now result.early }
+    ensures late { AreOnDisk disk.now result.late }
+{
+    let early = blocks_on(disk, wanted, dwell.track);
+    let passing = Turning::new(disk, &early, dwell.begin);
+    let late = blocks_on(disk, wanted, target);
+    let passing_late = Turning::new(disk, &late, dwell.begin);
+    Sides {
+        early,
+        passing,
+        late,
+        passing_late,
+    }
+}
