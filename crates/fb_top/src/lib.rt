@@ -4,6 +4,8 @@
 //! among the desk's counts of faults; what was written are the texts of the very run that it answers.
 #![tactic(auto)]
 
+#[cfg(test)]
+mod calls_tests;
 mod command;
 #[cfg(test)]
 mod fault_tests;
