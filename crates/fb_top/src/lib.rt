@@ -5,6 +5,8 @@
 #![tactic(auto)]
 
 #[cfg(test)]
+mod back_tests;
+#[cfg(test)]
 mod calls_tests;
 mod command;
 #[cfg(test)]
@@ -18,6 +20,8 @@ mod note_faults;
 mod note_words;
 mod outcome;
 mod policy;
+#[cfg(test)]
+mod queue_tests;
 mod reading;
 #[cfg(test)]
 mod replay_tests;

@@ -123,8 +123,8 @@ fn end_over(
     written(alloc, desk, status_of(outcome))
 }
 
-// Puts the files in their places.
-fn fill(desk: &mut MemoryDesk, scene: &Scene) -> Result<(), NoMemory>
+/// Puts the files of a scene in their places.
+pub fn fill(desk: &mut MemoryDesk, scene: &Scene) -> Result<(), NoMemory>
     requires { IsUnused (memory_view desk.old) }
     ensures { IsUnused (memory_view desk.new) }
 {
