@@ -86,8 +86,8 @@ const REFUSED: &[(&str, &str)] = &[
 fn refused_scripts(rt: HostRuntime) -> Result<(), Fail> {
     let alloc = rt.alloc();
     let params = disk(alloc, "", TWELVE)?;
-    let mut scene = beside_empty_script(params.as_bytes(), b"0 0 5 1 1\n");
     for (calls, note) in REFUSED {
+        let mut scene = beside_empty_script(params.as_bytes(), b"0 0 5 1 1\n");
         scene.calls = calls.as_bytes();
         check_refused(&rt, alloc, &scene, WORDS, 5, note)?;
     }

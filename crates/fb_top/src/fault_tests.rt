@@ -147,8 +147,35 @@ fn check_call(rt: &impl Abort, ending: &Ending, fault: &Fault, well: &Ending, ca
     assert!(rt; fault.status == 7 || ending.is_silent(), "call {call}");
 }
 
-// Lets each call of these faults fail in turn, and then the one behind the last of them.
-fn check_calls(
+// How a command ends whose call of this number fails.
+fn end_failing(alloc: Global, scene: &Scene, words: &str, call: u64) -> Result<Ending, NoMemory>
+    requires { 0 < scene.now.piece }
+{
+    let mut scene = *scene;
+    scene.failing = call;
+    end(alloc, &scene, words)
+}
+
+// Lets each call of a fault fail in turn.
+fn check_fault(
+    rt: &impl Abort,
+    alloc: Global,
+    scene: &Scene,
+    words: &str,
+    fault: &Fault,
+    well: &Ending,
+) -> Result<(), Fail>
+    requires { 0 < scene.now.piece }
+{
+    for call in fault.first..=fault.last {
+        let ending = end_failing(alloc, scene, words, call)?;
+        check_call(rt, &ending, fault, well, call);
+    }
+    Ok(())
+}
+
+// Lets the calls of these faults fail, and then the one behind the last of them.
+fn check_faults(
     rt: &impl Abort,
     alloc: Global,
     scene: &Scene,
@@ -159,16 +186,12 @@ fn check_calls(
 {
     let well = end(alloc, scene, words)?;
     assert_eq!(rt; well.status, 0);
-    let mut scene = *scene;
+    let mut calls: u64 = 0;
     for fault in faults {
-        for call in fault.first..=fault.last {
-            scene.failing = call;
-            let ending = end(alloc, &scene, words)?;
-            check_call(rt, &ending, fault, &well, call);
-        }
-        scene.failing = fault.last.saturating_add(1);
+        check_fault(rt, alloc, scene, words, fault, &well)?;
+        calls = fault.last;
     }
-    let ending = end(alloc, &scene, words)?;
+    let ending = end_failing(alloc, scene, words, calls.saturating_add(1))?;
     assert_eq!(rt; ending.status, 0);
     Ok(())
 }
@@ -178,9 +201,9 @@ fn each_failing_call_is_told(rt: HostRuntime) -> Result<(), Fail> {
     let alloc = rt.alloc();
     let params = disk(alloc, "", TWELVE)?;
     let scene = beside_empty_script(params.as_bytes(), ONE_READ);
-    check_calls(&rt, alloc, &scene, FORE, FAULTS_OF_ONE_READ)?;
+    check_faults(&rt, alloc, &scene, FORE, FAULTS_OF_ONE_READ)?;
     let scene = beside_empty_script(params.as_bytes(), WRITE_AND_READ);
-    check_calls(&rt, alloc, &scene, FORE, FAULTS_OF_WRITE_AND_READ)
+    check_faults(&rt, alloc, &scene, FORE, FAULTS_OF_WRITE_AND_READ)
 }
 
 #[test]
@@ -189,7 +212,7 @@ fn each_failing_call_of_both_reports_is_told(rt: HostRuntime) -> Result<(), Fail
     let params = disk(alloc, "", TWELVE)?;
     let mut scene = beside_empty_script(params.as_bytes(), TWO_READS);
     scene.calls = THREE_BLOCKS;
-    check_calls(&rt, alloc, &scene, BOTH, FAULTS_OF_BOTH)
+    check_faults(&rt, alloc, &scene, BOTH, FAULTS_OF_BOTH)
 }
 
 #[test]
@@ -197,7 +220,7 @@ fn each_failing_call_of_a_make_is_told(rt: HostRuntime) -> Result<(), Fail> {
     let alloc = rt.alloc();
     let params = disk(alloc, "", TWELVE)?;
     let scene = beside_empty_script(params.as_bytes(), b"");
-    check_calls(&rt, alloc, &scene, MAKE, FAULTS_OF_A_MAKE)
+    check_faults(&rt, alloc, &scene, MAKE, FAULTS_OF_A_MAKE)
 }
 
 #[test]

@@ -5,7 +5,7 @@ ghost use Rattle.fb_desk.specs.View.{IsUnused};
 ghost use Rattle.fb_desk.specs.Memory.{memory_view};
 ghost use Rattle.fb_model.specs.Accepted.{IsAccepted};
 ghost use Rattle.fb_model.specs.PlainReplay.{Key};
-ghost use Rattle.fb_top.specs.Read.{files_of, inputs_of};
+ghost use Rattle.fb_top.specs.Read.{files_of, inputs_of, key_of};
 
 use crate::policy::{replay_by, replay_in};
 use crate::reading::{ReplayFiles, read_inputs};
@@ -51,6 +51,8 @@ const LARGE: &str = "version = 1\n\
 
 // Requests that come faster than they are served.
 const MAKE: &str = "freeblock make --params k --trace t --calls c --number 7 --requests 2000";
+
+const POLICIES: &[Policy] = &[Policy::Fcfs, Policy::Sstf, Policy::Clook, Policy::Sptf];
 
 // Words that name the files of a scene but no script.
 fn replay_words(alloc: Global) -> Result<ReplayWords, NoMemory>
@@ -106,7 +108,7 @@ fn fore_in<Q: Queue>(alloc: Global, queue: Q, files: &ReplayFiles) -> Result<Vec
 
 // The foreground report of a replay in the order of a plain queue.
 fn plain_fore(alloc: Global, policy: Policy, files: &ReplayFiles) -> Result<Vec<u8>, NoMemory>
-    requires fit { (key : Key) → IsAccepted (inputs_of (files_of files.now) key 0) }
+    requires fit { IsAccepted (inputs_of (files_of files.now) (key_of policy) 0) }
     requires names { length files.now.calls.names ≡ length (tasks files.now.calls.calls.items) }
 {
     match policy {
@@ -119,7 +121,7 @@ fn plain_fore(alloc: Global, policy: Policy, files: &ReplayFiles) -> Result<Vec<
 
 // The same in the order of the queue over an index, which serves the program.
 fn indexed_fore(alloc: Global, policy: Policy, files: &ReplayFiles) -> Result<Vec<u8>, NoMemory>
-    requires fit { (key : Key) → IsAccepted (inputs_of (files_of files.now) key 0) }
+    requires fit { IsAccepted (inputs_of (files_of files.now) (key_of policy) 0) }
     requires names { length files.now.calls.names ≡ length (tasks files.now.calls.calls.items) }
 {
     let run = replay_by(alloc, policy, files, 0)?;
@@ -133,13 +135,24 @@ fn check_queues(
     policy: Policy,
     files: &ReplayFiles,
 ) -> Result<(), Fail>
-    requires fit { (key : Key) → IsAccepted (inputs_of (files_of files.now) key 0) }
+    requires fit { IsAccepted (inputs_of (files_of files.now) (key_of policy) 0) }
     requires names { length files.now.calls.names ≡ length (tasks files.now.calls.calls.items) }
 {
     let plain = plain_fore(alloc, policy, files)?;
     let indexed = indexed_fore(alloc, policy, files)?;
     assert!(rt; plain.as_slice().ends_with(b"\nend 2000 0\n"));
     assert!(rt; plain.as_slice() == indexed.as_slice());
+    Ok(())
+}
+
+// Checks the queues of each policy.
+fn check_policies(rt: &impl Abort, alloc: Global, files: &ReplayFiles) -> Result<(), Fail>
+    requires fit { (key : Key) → IsAccepted (inputs_of (files_of files.now) key 0) }
+    requires names { length files.now.calls.names ≡ length (tasks files.now.calls.calls.items) }
+{
+    for policy in POLICIES {
+        check_queues(rt, alloc, *policy, files)?;
+    }
     Ok(())
 }
 
@@ -150,8 +163,5 @@ fn indexed_queues_serve_as_plain_ones(rt: HostRuntime) -> Result<(), Fail> {
     let made = end(alloc, &scene, MAKE)?;
     let scene = beside_empty_script(LARGE.as_bytes(), made.made_trace.as_slice());
     let files = files(alloc, &scene)?;
-    check_queues(&rt, alloc, Policy::Fcfs, &files)?;
-    check_queues(&rt, alloc, Policy::Sstf, &files)?;
-    check_queues(&rt, alloc, Policy::Clook, &files)?;
-    check_queues(&rt, alloc, Policy::Sptf, &files)
+    check_policies(&rt, alloc, &files)
 }
