@@ -4,6 +4,10 @@
 //! among the desk's counts of faults; what was written are the texts of the very run that it answers.
 #![tactic(auto)]
 
+#[cfg(test)]
+mod back_tests;
+#[cfg(test)]
+mod calls_tests;
 mod command;
 #[cfg(test)]
 mod fault_tests;
@@ -16,6 +20,8 @@ mod note_faults;
 mod note_words;
 mod outcome;
 mod policy;
+#[cfg(test)]
+mod queue_tests;
 mod reading;
 #[cfg(test)]
 mod replay_tests;

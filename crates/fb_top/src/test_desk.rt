@@ -1,12 +1,19 @@
-// Desks in memory for tests, and how commands end over them.
-ghost use Rattle.std.specs.Prelude.{◌<◌, IfOk};
+// What commands find in tests, and how they end.
+ghost use Rattle.std.specs.Prelude.{◌<◌};
 ghost use Rattle.fb_desk.specs.View.{IsUnused};
 ghost use Rattle.fb_desk.specs.Memory.{memory_view};
 
-use crate::{run_command, status};
+use crate::{Outcome, run_command, status};
 use fb_desk::{MemoryDesk, Output};
 use fb_units::NoMemory;
 use std::alloc::Global;
+use std::process::Abort;
+use std::test::Fail;
+
+// A desk is changed where it is borrowed and let go where it is made, so that few functions have to
+// let go of one.
+
+const ROOM: usize = 200_000;
 
 const BEFORE_ZONE: &str =
     "version = 1\nrotation_ns = 1200\nsector_bytes = 16\nheads = 2\nhead_switch_ns = 200\nwrite_settle_ns = 50\nseek = [[1, 300], [3, 500]]\n";
@@ -16,14 +23,40 @@ const ZONE: &str = "[[zone]]\nfirst = 0\nlast = 3\n";
 /// A line of the zone of a disk of 96 sectors.
 pub const TWELVE: &str = "sectors = 12\n";
 
+/// What a command finds.
+#[derive(Clone, Copy)]
+pub struct Scene<'a> {
+    /// The parameter file `k`.
+    pub params: &'a [u8],
+    /// The trace `t`.
+    pub trace: &'a [u8],
+    /// The call script `c`.
+    pub calls: &'a [u8],
+    /// How many bytes a call of the desk moves.
+    pub piece: usize,
+    /// The number of the call that fails, or 0.
+    pub failing: u64,
+}
+
 /// How a command ended, and what it wrote.
 #[derive(Drop)]
 pub struct Ending {
     pub status: u8,
     pub fore: Vec<u8>,
+    pub back: Vec<u8>,
     pub note: Vec<u8>,
     pub made_trace: Vec<u8>,
     pub made_calls: Vec<u8>,
+}
+
+impl Ending {
+    /// Whether nothing was written but a note.
+    pub fn is_silent(&self) -> bool {
+        self.fore.is_empty()
+            && self.back.is_empty()
+            && self.made_trace.is_empty()
+            && self.made_calls.is_empty()
+    }
 }
 
 /// A small disk, with these lines before its zone and these in it.
@@ -35,31 +68,82 @@ pub fn disk(alloc: Global, before: &str, within: &str) -> Result<String, NoMemor
     Ok(text)
 }
 
-/// A desk that holds a parameter file `k` and a trace `t`, and moves so many bytes a call.
-pub fn desk(
-    alloc: Global,
-    piece: usize,
-    params: &[u8],
-    trace: &[u8],
-) -> Result<MemoryDesk, NoMemory>
-    requires { 0 < piece }
-    ensures { IfOk result (λ desk. IsUnused (memory_view desk)) }
+/// A parameter file and a trace beside an empty script, on a desk that moves many bytes a call and
+/// doesn't fail.
+pub fn beside_empty_script<'a>(params: &'a [u8], trace: &'a [u8]) -> Scene<'a>
+    ensures { 0 < result.piece }
 {
-    let mut desk = MemoryDesk::new(alloc, piece, piece, 10_000)?;
-    desk.hold("k", params)?;
-    desk.hold("t", trace)?;
-    Ok(desk)
+    Scene {
+        params,
+        trace,
+        calls: b"",
+        piece: 4096,
+        failing: 0,
+    }
 }
 
-/// How these words end over a desk.
-pub fn end(alloc: Global, desk: &mut MemoryDesk, words: &str) -> Result<Ending, NoMemory>
+/// How these words end.
+pub fn end(alloc: Global, scene: &Scene, words: &str) -> Result<Ending, NoMemory>
+    requires { 0 < scene.now.piece }
+{
+    let mut desk = MemoryDesk::new(alloc, scene.piece, scene.piece, ROOM)?;
+    end_over(alloc, &mut desk, scene, words)
+}
+
+/// Checks that these words are refused with this status and note, and write nothing else.
+pub fn check_refused(
+    rt: &impl Abort,
+    alloc: Global,
+    scene: &Scene,
+    words: &str,
+    status: u8,
+    note: &str,
+) -> Result<(), Fail>
+    requires { 0 < scene.now.piece }
+{
+    let ending = end(alloc, scene, words)?;
+    assert_eq!(rt; ending.note.as_slice(), note.as_bytes());
+    assert_eq!(rt; ending.status, status, "{note}");
+    assert!(rt; ending.is_silent(), "{note}");
+    Ok(())
+}
+
+// How these words end over an empty desk.
+fn end_over(
+    alloc: Global,
+    desk: &mut MemoryDesk,
+    scene: &Scene,
+    words: &str,
+) -> Result<Ending, NoMemory>
     requires { IsUnused (memory_view desk.old) }
 {
+    fill(desk, scene)?;
     let words = split(alloc, words)?;
     let outcome = run_command(alloc, desk, words.as_slice());
+    written(alloc, desk, status_of(outcome))
+}
+
+/// Puts the files of a scene in their places.
+pub fn fill(desk: &mut MemoryDesk, scene: &Scene) -> Result<(), NoMemory>
+    requires { IsUnused (memory_view desk.old) }
+    ensures { IsUnused (memory_view desk.new) }
+{
+    desk.hold("k", scene.params)?;
+    desk.hold("t", scene.trace)?;
+    desk.hold("c", scene.calls)?;
+    desk.fail(scene.failing)
+}
+
+fn status_of(outcome: Outcome) -> u8 {
+    status(&outcome)
+}
+
+// What was written to a desk.
+fn written(alloc: Global, desk: &MemoryDesk, status: u8) -> Result<Ending, NoMemory> {
     Ok(Ending {
-        status: status(&outcome),
+        status,
         fore: copied(alloc, desk.written(Output::Fore))?,
+        back: copied(alloc, desk.written(Output::Back))?,
         note: copied(alloc, desk.written(Output::Note))?,
         made_trace: copied(alloc, desk.written(Output::MadeTrace))?,
         made_calls: copied(alloc, desk.written(Output::MadeCalls))?,
