@@ -10,8 +10,8 @@ use std::alloc::Global;
 use std::process::Abort;
 use std::test::Fail;
 
-// A desk is changed where it is borrowed and let go where it is made, so that few functions have to
-// let go of one.
+// All functions but the one that makes a desk borrow it, and none has a `?` while it holds one: to let
+// go of a desk takes long to prove, at each of a function's ends.
 
 const ROOM: usize = 200_000;
 
