@@ -1,22 +1,22 @@
 // Whole reports of small replays with call scripts.
 ghost use Rattle.std.specs.Prelude.{◌<◌};
 
-use crate::test_desk::{Ending, TWELVE, beside_empty_script, disk, end};
+use crate::test_desk::{Ending, TWELVE, disk, end, scripted};
 use fb_units::NoMemory;
 use std::alloc::Global;
 use std::process::Abort;
 use std::test::Fail;
 
 // A replay on a disk of 96 sectors, and what it has to write.
-struct Case<'a> {
-    shows: &'a str,
+struct Case {
+    shows: &'static str,
     // Lines of the parameter file before its zone.
-    before: &'a str,
-    trace: &'a str,
-    calls: &'a str,
-    options: &'a str,
-    fore: &'a str,
-    back: &'a str,
+    before: &'static str,
+    trace: &'static str,
+    calls: &'static str,
+    options: &'static str,
+    fore: &'static str,
+    back: &'static str,
 }
 
 // Sessions that read blocks.
@@ -307,8 +307,11 @@ fn end_of(alloc: Global, case: &Case, options: &str, piece: usize) -> Result<End
     let params = disk(alloc, case.before, TWELVE)?;
     let mut words = String::from_str(alloc, WORDS)?;
     words.push_str(options)?;
-    let mut scene = beside_empty_script(params.as_bytes(), case.trace.as_bytes());
-    scene.calls = case.calls.as_bytes();
+    let mut scene = scripted(
+        params.as_bytes(),
+        case.trace.as_bytes(),
+        case.calls.as_bytes(),
+    );
     scene.piece = piece;
     end(alloc, &scene, words.as_str())
 }

@@ -1,7 +1,7 @@
 // Call scripts that are refused, and scripts that ask for the same reads.
 ghost use Rattle.std.specs.Prelude.{◌<◌};
 
-use crate::test_desk::{Scene, TWELVE, beside_empty_script, check_refused, disk, end};
+use crate::test_desk::{Scene, TWELVE, check_refused, disk, end, scripted, unscripted};
 use std::alloc::Global;
 use std::process::Abort;
 use std::test::Fail;
@@ -87,8 +87,7 @@ fn refused_scripts(rt: HostRuntime) -> Result<(), Fail> {
     let alloc = rt.alloc();
     let params = disk(alloc, "", TWELVE)?;
     for (calls, note) in REFUSED {
-        let mut scene = beside_empty_script(params.as_bytes(), b"0 0 5 1 1\n");
-        scene.calls = calls.as_bytes();
+        let scene = scripted(params.as_bytes(), b"0 0 5 1 1\n", calls.as_bytes());
         check_refused(&rt, alloc, &scene, WORDS, 5, note)?;
     }
     Ok(())
@@ -141,9 +140,9 @@ fn check_foreground(rt: &impl Abort, alloc: Global, scene: &Scene, policy: &str)
 fn scripts_leave_the_foreground(rt: HostRuntime) -> Result<(), Fail> {
     let alloc = rt.alloc();
     let params = disk(alloc, "", TWELVE)?;
-    let scene = beside_empty_script(params.as_bytes(), b"");
+    let scene = unscripted(params.as_bytes(), b"");
     let made = end(alloc, &scene, MAKE)?;
-    let scene = beside_empty_script(params.as_bytes(), made.made_trace.as_slice());
+    let scene = unscripted(params.as_bytes(), made.made_trace.as_slice());
     for policy in POLICIES {
         check_foreground(&rt, alloc, &scene, policy)?;
     }

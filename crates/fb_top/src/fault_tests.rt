@@ -1,7 +1,7 @@
 // Outsides that fail, and inputs that are too long.
 ghost use Rattle.std.specs.Prelude.{◌<◌};
 
-use crate::test_desk::{Ending, Scene, TWELVE, beside_empty_script, disk, end};
+use crate::test_desk::{Ending, Scene, TWELVE, disk, end, scripted, unscripted};
 use fb_units::NoMemory;
 use std::alloc::Global;
 use std::process::Abort;
@@ -25,11 +25,11 @@ const THREE_BLOCKS: &[u8] = b"0 open a plain 1 1\n0 want a 6 2\n0 want a 35 1\n"
 const PARAMS_LIMIT: usize = 1_048_576;
 
 // Calls of a desk of which each may fail, and how it ends then.
-struct Fault<'a> {
+struct Fault {
     first: u64,
     last: u64,
     status: u8,
-    note: &'a str,
+    note: &'static str,
 }
 
 const FAULTS_OF_ONE_READ: &[Fault] = &[
@@ -200,9 +200,9 @@ fn check_faults(
 fn each_failing_call_is_told(rt: HostRuntime) -> Result<(), Fail> {
     let alloc = rt.alloc();
     let params = disk(alloc, "", TWELVE)?;
-    let scene = beside_empty_script(params.as_bytes(), ONE_READ);
+    let scene = unscripted(params.as_bytes(), ONE_READ);
     check_faults(&rt, alloc, &scene, FORE, FAULTS_OF_ONE_READ)?;
-    let scene = beside_empty_script(params.as_bytes(), WRITE_AND_READ);
+    let scene = unscripted(params.as_bytes(), WRITE_AND_READ);
     check_faults(&rt, alloc, &scene, FORE, FAULTS_OF_WRITE_AND_READ)
 }
 
@@ -210,8 +210,7 @@ fn each_failing_call_is_told(rt: HostRuntime) -> Result<(), Fail> {
 fn each_failing_call_of_both_reports_is_told(rt: HostRuntime) -> Result<(), Fail> {
     let alloc = rt.alloc();
     let params = disk(alloc, "", TWELVE)?;
-    let mut scene = beside_empty_script(params.as_bytes(), TWO_READS);
-    scene.calls = THREE_BLOCKS;
+    let scene = scripted(params.as_bytes(), TWO_READS, THREE_BLOCKS);
     check_faults(&rt, alloc, &scene, BOTH, FAULTS_OF_BOTH)
 }
 
@@ -219,7 +218,7 @@ fn each_failing_call_of_both_reports_is_told(rt: HostRuntime) -> Result<(), Fail
 fn each_failing_call_of_a_make_is_told(rt: HostRuntime) -> Result<(), Fail> {
     let alloc = rt.alloc();
     let params = disk(alloc, "", TWELVE)?;
-    let scene = beside_empty_script(params.as_bytes(), b"");
+    let scene = unscripted(params.as_bytes(), b"");
     check_faults(&rt, alloc, &scene, MAKE, FAULTS_OF_A_MAKE)
 }
 
@@ -227,7 +226,7 @@ fn each_failing_call_of_a_make_is_told(rt: HostRuntime) -> Result<(), Fail> {
 fn a_failing_write_leaves_what_was_written(rt: HostRuntime) -> Result<(), Fail> {
     let alloc = rt.alloc();
     let params = disk(alloc, "", TWELVE)?;
-    let mut scene = beside_empty_script(params.as_bytes(), ONE_READ);
+    let mut scene = unscripted(params.as_bytes(), ONE_READ);
     scene.piece = 16;
     scene.failing = 19;
     let ending = end(alloc, &scene, FORE)?;
@@ -249,7 +248,7 @@ fn repeated(alloc: Global, byte: u8, count: usize) -> Result<Vec<u8>, NoMemory> 
 fn a_parameter_file_may_be_too_long(rt: HostRuntime) -> Result<(), Fail> {
     let alloc = rt.alloc();
     let params = repeated(alloc, b'#', PARAMS_LIMIT + 1)?;
-    let mut scene = beside_empty_script(params.as_slice(), b"");
+    let mut scene = unscripted(params.as_slice(), b"");
     scene.piece = 65_536;
     let ending = end(alloc, &scene, FORE)?;
     assert_eq!(rt; ending.status, 9);

@@ -1,7 +1,7 @@
 // Traces and scripts that are made, and replayed.
 ghost use Rattle.std.specs.Prelude.{◌<◌};
 
-use crate::test_desk::{Scene, TWELVE, beside_empty_script, disk, end};
+use crate::test_desk::{Scene, TWELVE, disk, end, scripted, unscripted};
 use std::alloc::Global;
 use std::process::Abort;
 use std::test::Fail;
@@ -53,7 +53,7 @@ fn check_made(
 fn traces_and_scripts_are_made(rt: HostRuntime) -> Result<(), Fail> {
     let alloc = rt.alloc();
     let params = disk(alloc, "", TWELVE)?;
-    let scene = beside_empty_script(params.as_bytes(), b"");
+    let scene = unscripted(params.as_bytes(), b"");
     for (words, trace) in MADE {
         check_made(&rt, alloc, &scene, words, trace)?;
     }
@@ -85,9 +85,12 @@ fn check_replays(rt: &impl Abort, alloc: Global, scene: &Scene) -> Result<(), Fa
 fn a_made_trace_is_replayed(rt: HostRuntime) -> Result<(), Fail> {
     let alloc = rt.alloc();
     let params = disk(alloc, "", TWELVE)?;
-    let scene = beside_empty_script(params.as_bytes(), b"");
+    let scene = unscripted(params.as_bytes(), b"");
     let made = end(alloc, &scene, MAKE)?;
-    let mut scene = beside_empty_script(params.as_bytes(), made.made_trace.as_slice());
-    scene.calls = made.made_calls.as_slice();
+    let scene = scripted(
+        params.as_bytes(),
+        made.made_trace.as_slice(),
+        made.made_calls.as_slice(),
+    );
     check_replays(&rt, alloc, &scene)
 }

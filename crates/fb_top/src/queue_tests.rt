@@ -9,7 +9,7 @@ ghost use Rattle.fb_top.specs.Read.{files_of, inputs_of, key_of};
 
 use crate::policy::{replay_by, replay_in};
 use crate::reading::{ReplayFiles, read_inputs};
-use crate::test_desk::{Scene, beside_empty_script, end, fill};
+use crate::test_desk::{Scene, end, fill, unscripted};
 use fb_desk::MemoryDesk;
 use fb_queue::{Clook, Fcfs, Queue, Sptf, Sstf};
 use fb_report::{Bytes, fore_text};
@@ -159,9 +159,9 @@ fn check_policies(rt: &impl Abort, alloc: Global, files: &ReplayFiles) -> Result
 #[test]
 fn indexed_queues_serve_as_plain_ones(rt: HostRuntime) -> Result<(), Fail> {
     let alloc = rt.alloc();
-    let scene = beside_empty_script(LARGE.as_bytes(), b"");
+    let scene = unscripted(LARGE.as_bytes(), b"");
     let made = end(alloc, &scene, MAKE)?;
-    let scene = beside_empty_script(LARGE.as_bytes(), made.made_trace.as_slice());
+    let scene = unscripted(LARGE.as_bytes(), made.made_trace.as_slice());
     let files = files(alloc, &scene)?;
     check_policies(&rt, alloc, &files)
 }

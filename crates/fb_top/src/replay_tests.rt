@@ -1,19 +1,19 @@
 // Whole reports of small replays, and whole notes.
 ghost use Rattle.std.specs.Prelude.{◌<◌};
 
-use crate::test_desk::{Scene, TWELVE, beside_empty_script, check_refused, disk, end};
+use crate::test_desk::{Scene, TWELVE, check_refused, disk, end, unscripted};
 use std::alloc::Global;
 use std::process::Abort;
 use std::test::Fail;
 
 // A replay of requests as they come, and what it has to write.
-struct Replay<'a> {
-    shows: &'a str,
+struct Replay {
+    shows: &'static str,
     // Lines of the parameter file before its zone, and in it.
-    before: &'a str,
-    within: &'a str,
-    trace: &'a str,
-    fore: &'a str,
+    before: &'static str,
+    within: &'static str,
+    trace: &'static str,
+    fore: &'static str,
 }
 
 const REPLAYS: &[Replay] = &[
@@ -115,7 +115,7 @@ const HEX: &str = "freeblock replay --params k --trace t --policy fcfs --bytes h
 // Checks a whole report, written by one byte a call.
 fn check_replay(rt: &impl Abort, alloc: Global, replay: &Replay) -> Result<(), Fail> {
     let params = disk(alloc, replay.before, replay.within)?;
-    let mut scene = beside_empty_script(params.as_bytes(), replay.trace.as_bytes());
+    let mut scene = unscripted(params.as_bytes(), replay.trace.as_bytes());
     scene.piece = 1;
     let ending = end(alloc, &scene, HEX)?;
     let shows = replay.shows;
@@ -176,7 +176,7 @@ fn check_words(
 fn orders_of_service(rt: HostRuntime) -> Result<(), Fail> {
     let alloc = rt.alloc();
     let params = disk(alloc, "", TWELVE)?;
-    let scene = beside_empty_script(params.as_bytes(), CROWD.as_bytes());
+    let scene = unscripted(params.as_bytes(), CROWD.as_bytes());
     for (words, fore) in ORDERS {
         check_words(&rt, alloc, &scene, words, fore)?;
     }
@@ -187,7 +187,7 @@ fn orders_of_service(rt: HostRuntime) -> Result<(), Fail> {
 fn a_digest(rt: HostRuntime) -> Result<(), Fail> {
     let alloc = rt.alloc();
     let params = disk(alloc, "", TWELVE)?;
-    let scene = beside_empty_script(params.as_bytes(), b"0 0 5 1 1\n");
+    let scene = unscripted(params.as_bytes(), b"0 0 5 1 1\n");
     let words = "freeblock replay --params k --trace t --policy fcfs --bytes sha256";
     let fore =
         "freeblock fore 1\n1 R 5 1 0 0 500 600 0 cb9a02f579da3ffa03dc3ed340e0162018c4c446875d8b15d9f4e23152b25822\nend 1 0\n";
@@ -198,7 +198,7 @@ fn a_digest(rt: HostRuntime) -> Result<(), Fail> {
 fn a_summary(rt: HostRuntime) -> Result<(), Fail> {
     let alloc = rt.alloc();
     let params = disk(alloc, "", TWELVE)?;
-    let mut scene = beside_empty_script(params.as_bytes(), b"0 0 5 1 1\n0 0 24 1 1\n");
+    let mut scene = unscripted(params.as_bytes(), b"0 0 5 1 1\n0 0 24 1 1\n");
     scene.piece = 1;
     let words = "freeblock replay --params k --trace t --policy fcfs --summary";
     let ending = end(alloc, &scene, words)?;
@@ -232,7 +232,7 @@ fn refused_traces(rt: HostRuntime) -> Result<(), Fail> {
     let params = disk(alloc, "", TWELVE)?;
     let words = "freeblock replay --params k --trace t --policy fcfs --calls c --back b";
     for (trace, note) in REFUSED_TRACES {
-        let scene = beside_empty_script(params.as_bytes(), trace.as_bytes());
+        let scene = unscripted(params.as_bytes(), trace.as_bytes());
         check_refused(&rt, alloc, &scene, words, 4, note)?;
     }
     Ok(())
@@ -274,7 +274,7 @@ const REFUSED_WORDS: &[(&str, &str)] = &[
 #[test]
 fn refused_words(rt: HostRuntime) -> Result<(), Fail> {
     let alloc = rt.alloc();
-    let scene = beside_empty_script(b"", b"");
+    let scene = unscripted(b"", b"");
     for (words, note) in REFUSED_WORDS {
         check_refused(&rt, alloc, &scene, words, 2, note)?;
     }

@@ -10,8 +10,8 @@ use std::alloc::Global;
 use std::process::Abort;
 use std::test::Fail;
 
-// A desk is changed where it is borrowed and let go where it is made, so that few functions have to
-// let go of one.
+// All functions but the one that makes a desk borrow it, and none has a `?` while it holds one: to let
+// go of a desk takes long to prove, at each of a function's ends.
 
 const ROOM: usize = 200_000;
 
@@ -68,18 +68,24 @@ pub fn disk(alloc: Global, before: &str, within: &str) -> Result<String, NoMemor
     Ok(text)
 }
 
-/// A parameter file and a trace beside an empty script, on a desk that moves many bytes a call and
-/// doesn't fail.
-pub fn beside_empty_script<'a>(params: &'a [u8], trace: &'a [u8]) -> Scene<'a>
+/// These files, on a desk that moves many bytes a call and doesn't fail.
+pub fn scripted<'a>(params: &'a [u8], trace: &'a [u8], calls: &'a [u8]) -> Scene<'a>
     ensures { 0 < result.piece }
 {
     Scene {
         params,
         trace,
-        calls: b"",
+        calls,
         piece: 4096,
         failing: 0,
     }
+}
+
+/// The same with an empty script.
+pub fn unscripted<'a>(params: &'a [u8], trace: &'a [u8]) -> Scene<'a>
+    ensures { 0 < result.piece }
+{
+    scripted(params, trace, b"")
 }
 
 /// How these words end.
