@@ -11,6 +11,8 @@ mod calls_tests;
 mod command;
 #[cfg(test)]
 mod fault_tests;
+#[cfg(test)]
+mod large_tests;
 mod lines;
 mod make;
 #[cfg(test)]

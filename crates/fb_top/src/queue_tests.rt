@@ -9,7 +9,7 @@ ghost use Rattle.fb_top.specs.Read.{files_of, inputs_of, key_of};
 
 use crate::policy::{replay_by, replay_in};
 use crate::reading::{ReplayFiles, read_inputs};
-use crate::test_desk::{Scene, end, fill, unscripted};
+use crate::test_desk::{LARGE, Scene, end, fill, unscripted};
 use fb_desk::MemoryDesk;
 use fb_queue::{Clook, Fcfs, Queue, Sptf, Sstf};
 use fb_report::{Bytes, fore_text};
@@ -18,36 +18,6 @@ use fb_words::{Policy, ReplayWords};
 use std::alloc::Global;
 use std::process::Abort;
 use std::test::Fail;
-
-// A disk of 10,000 rotations a minute with 16,739,688 sectors.
-const LARGE: &str = "version = 1\n\
-    rotation_ns = 6000000\n\
-    sector_bytes = 512\n\
-    heads = 6\n\
-    head_switch_ns = 1000000\n\
-    write_settle_ns = 300000\n\
-    seek = [[1, 1200000], [100, 2500000], [1000, 5000000], [9999, 10500000]]\n\
-    [[zone]]\n\
-    first = 0\n\
-    last = 3332\n\
-    sectors = 334\n\
-    track_skew = 56\n\
-    cylinder_skew = 67\n\
-    spares = 2\n\
-    [[zone]]\n\
-    first = 3333\n\
-    last = 6665\n\
-    sectors = 280\n\
-    track_skew = 47\n\
-    cylinder_skew = 56\n\
-    spares = 2\n\
-    [[zone]]\n\
-    first = 6666\n\
-    last = 9999\n\
-    sectors = 229\n\
-    track_skew = 39\n\
-    cylinder_skew = 46\n\
-    spares = 2\n";
 
 // Requests that come faster than they are served.
 const MAKE: &str = "freeblock make --params k --trace t --calls c --number 7 --requests 2000";

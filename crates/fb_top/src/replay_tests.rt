@@ -199,12 +199,19 @@ fn a_summary(rt: HostRuntime) -> Result<(), Fail> {
     let alloc = rt.alloc();
     let params = disk(alloc, "", TWELVE)?;
     let mut scene = unscripted(params.as_bytes(), b"0 0 5 1 1\n0 0 24 1 1\n");
+    scene.calls = b"0 open a plain 1 1\n0 want a 6 2\n0 want a 35 1\n";
     scene.piece = 1;
-    let words = "freeblock replay --params k --trace t --policy fcfs --summary";
+    let words = "freeblock replay --params k --trace t --policy fcfs --summary --calls c --back b";
     let ending = end(alloc, &scene, words)?;
-    let lines = b"requests 2\npassed 0\nsectors 2\nfinish 1300\nresponse 1900\n";
-    assert!(rt; ending.fore.as_slice().starts_with(lines));
     assert_eq!(rt; ending.status, 0);
+    let lines =
+        "requests 2\npassed 0\nsectors 2\nfinish 1300\nresponse 1900\ngaps 2\ndelivered 3 3\nbad 0\ncomplete 1 1\nend 1300\n";
+    assert_eq!(rt; ending.fore.as_slice(), lines.as_bytes());
+    assert!(rt;
+        ending.back.as_slice().ends_with(
+            b"\ndone a 1200\ntask a plain 3 3 0 0 complete\nend 1300\n"
+        )
+    );
     Ok(())
 }
 

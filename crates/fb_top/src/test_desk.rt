@@ -13,7 +13,7 @@ use std::test::Fail;
 // All functions but the one that makes a desk borrow it, and none has a `?` while it holds one: to let
 // go of a desk takes long to prove, at each of a function's ends.
 
-const ROOM: usize = 200_000;
+const ROOM: usize = 10_000_000;
 
 const BEFORE_ZONE: &str =
     "version = 1\nrotation_ns = 1200\nsector_bytes = 16\nheads = 2\nhead_switch_ns = 200\nwrite_settle_ns = 50\nseek = [[1, 300], [3, 500]]\n";
@@ -22,6 +22,36 @@ const ZONE: &str = "[[zone]]\nfirst = 0\nlast = 3\n";
 
 /// A line of the zone of a disk of 96 sectors.
 pub const TWELVE: &str = "sectors = 12\n";
+
+/// A disk of 10,000 rotations a minute with 16,739,688 sectors.
+pub const LARGE: &str = "version = 1\n\
+    rotation_ns = 6000000\n\
+    sector_bytes = 512\n\
+    heads = 6\n\
+    head_switch_ns = 1000000\n\
+    write_settle_ns = 300000\n\
+    seek = [[1, 1200000], [100, 2500000], [1000, 5000000], [9999, 10500000]]\n\
+    [[zone]]\n\
+    first = 0\n\
+    last = 3332\n\
+    sectors = 334\n\
+    track_skew = 56\n\
+    cylinder_skew = 67\n\
+    spares = 2\n\
+    [[zone]]\n\
+    first = 3333\n\
+    last = 6665\n\
+    sectors = 280\n\
+    track_skew = 47\n\
+    cylinder_skew = 56\n\
+    spares = 2\n\
+    [[zone]]\n\
+    first = 6666\n\
+    last = 9999\n\
+    sectors = 229\n\
+    track_skew = 39\n\
+    cylinder_skew = 46\n\
+    spares = 2\n";
 
 /// What a command finds.
 #[derive(Clone, Copy)]
@@ -156,7 +186,8 @@ fn written(alloc: Global, desk: &MemoryDesk, status: u8) -> Result<Ending, NoMem
     })
 }
 
-fn split(alloc: Global, text: &str) -> Result<Vec<String>, NoMemory> {
+/// Words with a space between them.
+pub fn split(alloc: Global, text: &str) -> Result<Vec<String>, NoMemory> {
     let mut words = Vec::new(alloc);
     for word in text.split(' ') {
         words.push(String::from_str(alloc, word)?)?;
