@@ -19,11 +19,15 @@ use fb_wanted::{Block, TrackBlocks};
 /// How blocks pass from an instant on: neighbouring sectors by their slots, all others by their places.
 #[derive(Clone, Copy)]
 pub struct Turning {
+    /// The instant.
     pub from: Ns,
+    // Sectors in neighbouring slots, from this one on.
     lbn: u64,
     stretch: Stretch,
+    // How many slots their track has.
     slots: u64,
     rotation: Ns,
+    // The angle at which the platter stands at the instant.
     at: Ns,
 }
 

@@ -1,5 +1,5 @@
 -- What was read or written later, told of the desk at the start.
-use Rattle.std.proofs.Common.{◌≡◌, ◌≢◌, ℕ, ◌<◌, ◌≤◌, ◌^◌, List, [], ◌∷◌, length, Option, Some, None, true, refl, subst, ◌∙◌, inl, inr, arith}
+use Rattle.std.proofs.Common.{◌≡◌, ◌≢◌, ℕ, ◌<◌, ◌≤◌, ◌^◌, List, [], ◌∷◌, length, Option, Some, None, true, refl, subst, ◌∙◌, inl, inr}
 use Rattle.std.specs.Prelude.{IfSome, is_some}
 use Rattle.std.specs.List.{AllByRecursion}
 use Rattle.fb_units.specs.declared.types.Request.{Request}
@@ -18,19 +18,19 @@ use Rattle.fb_desk.specs.declared.desk.Input.TheVariants.{Params, Trace, Calls}
 use Rattle.fb_words.specs.Command.{ReplayTerms}
 use Rattle.fb_top.specs.declared.outcome.Outcome.{Outcome}
 use Rattle.fb_top.specs.declared.outcome.Outcome.TheVariants as outcomes
-use Rattle.fb_top.specs.Read.{ReadsDisk, ReadsTrace, ReadsCalls, ReadsScript, Files, inputs_of}
+use Rattle.fb_top.specs.Read.{ReadsTrace, ReadsScript, Files, inputs_of}
 use Rattle.fb_top.specs.Written.{KeepsReports}
 use Rattle.fb_top.specs.Done.{IsRunOf, StopsReports}
 use Rattle.fb_top.specs.Causes.{AcceptsDisk, AcceptsTrace, EndsAt, HasCause, StopsDisk, StopsTrace, StopsCalls, StopsScript}
 use Rattle.fb_top.proofs.Moved.{stops_reports}
 
-trace_is_no_params : Trace ≢ Params
+pub trace_is_no_params : Trace ≢ Params
 trace_is_no_params e = cc
 
-calls_are_no_params : Calls ≢ Params
+pub calls_are_no_params : Calls ≢ Params
 calls_are_no_params e = cc
 
-calls_are_no_trace : Calls ≢ Trace
+pub calls_are_no_trace : Calls ≢ Trace
 calls_are_no_trace e = cc
 
 ends_at_params : (old new : DeskView) → ChangesInput Params old new → EndsAt Params old new

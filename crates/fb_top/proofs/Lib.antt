@@ -8,3 +8,4 @@ pub mod Reports
 pub mod Making
 pub mod Notes
 pub mod Completeness
+pub mod Unnamed

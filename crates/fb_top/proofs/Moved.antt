@@ -1,6 +1,5 @@
 -- What outputs hold, where the desks before and after differ from others in the note alone.
-use Rattle.std.proofs.Common.{◌≡◌, ◌≢◌, ℕ, List, true, Option, Some, None, sym, subst, ◌∙◌, inl, inr}
-use Rattle.std.specs.Prelude.{IfSome}
+use Rattle.std.proofs.Common.{◌≢◌, ℕ, List, Option, Some, None, sym, subst, ◌∙◌, inl, inr}
 use Rattle.fb_rows.specs.declared.run.Run.{Run}
 use Rattle.fb_desk.specs.Calls.{Rose}
 use Rattle.fb_desk.specs.View.{DeskView, OutputView}

@@ -1,5 +1,5 @@
 -- Notes, and what stays where one is written.
-use Rattle.std.proofs.Common.{◌≡◌, true, ℕ, ◌+◌, ◌≤◌, List, [], ◌∷◌, ◌++◌, length, take, drop, refl, sym, ap, ◌∙◌, inl, inr, append_assoc, append-nil, Option, Some, None, Result, Ok, Err, subst}
+use Rattle.std.proofs.Common.{◌≡◌, ℕ, ◌+◌, ◌≤◌, List, [], ◌∷◌, ◌++◌, length, take, drop, refl, sym, ap, ◌∙◌, inl, inr, append_assoc, append-nil, Option, Some, None, Result, Ok, Err, subst}
 use Rattle.std.specs.Prelude.{IfSome, OnOk, OnErr, slice_get}
 use Rattle.std.proofs.lemmas.List.{drop_more, drop_all, take-append-drop}
 use Rattle.std.proofs.lemmas.Option.{slice_get_within, get_or_from_slice_get}
@@ -12,7 +12,7 @@ use Rattle.fb_desk.specs.declared.desk.Input.TheVariants.{Params, Trace, Calls}
 use Rattle.fb_desk.specs.declared.desk.Output.TheVariants.{Note}
 use Rattle.fb_top.specs.declared.outcome.Outcome.{Outcome}
 use Rattle.fb_top.specs.declared.outcome.Outcome.TheVariants as outcomes
-use Rattle.fb_top.specs.Streams.{AppendsFront, IsFront}
+use Rattle.fb_top.specs.Streams.{AppendsFront}
 use Rattle.fb_top.specs.Written.{KeepsReports}
 use Rattle.fb_top.specs.Done.{IsCutShort}
 use Rattle.fb_top.specs.Causes.{EndsAt, HasCause, KeepsLater}

@@ -3,6 +3,7 @@ pub mod Written
 pub mod Read
 pub mod Done
 pub mod Causes
+pub mod Unnamed
 pub mod Make
 pub mod Answers
 pub mod Complete

@@ -1,5 +1,5 @@
 -- What background work leaves as it is.
-use Rattle.std.specs.Prelude.{◌≡◌, ℕ}
+use Rattle.std.specs.Prelude.{◌≡◌}
 use Rattle.fb_rows.specs.declared.run.Run.{Run}
 use Rattle.fb_model.specs.Foreground.{promoted}
 use Rattle.fb_report.specs.declared.bytes.Bytes.{Bytes}

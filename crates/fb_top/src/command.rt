@@ -8,6 +8,7 @@ ghost use Rattle.fb_top.specs.Answers.{AnswersWords};
 ghost use Rattle.fb_top.specs.Causes.{HasCause};
 ghost use Rattle.fb_top.specs.Complete.{IsComplete};
 ghost use Rattle.fb_top.specs.Noted.{LeavesNote};
+ghost use Rattle.fb_top.specs.Unnamed.{LeavesUnnamed, KeepsUnnamed};
 
 use crate::Outcome;
 use crate::make::run_make;
@@ -34,6 +35,7 @@ pub fn run_command<D: Desk>(alloc: Global, desk: &mut D, words: &[String]) -> Ou
     requires { IsUnused (D.seen desk.old) }
     ensures answers { AnswersWords (command_of (map string_bytes words.now)) (D.seen desk.old) (D.seen desk.new) result }
     ensures complete { IsComplete (command_of (map string_bytes words.now)) (D.seen desk.old) (D.seen desk.new) result }
+    ensures unnamed { LeavesUnnamed (command_of (map string_bytes words.now)) (D.seen desk.old) (D.seen desk.new) }
     ensures note { LeavesNote result ((D.seen desk.old).outputs Output.Note) ((D.seen desk.new).outputs Output.Note) }
 {
     let outcome = answer_words(alloc, desk, words);
@@ -45,6 +47,7 @@ pub fn run_command<D: Desk>(alloc: Global, desk: &mut D, words: &[String]) -> Ou
 fn answer_words<D: Desk>(alloc: Global, desk: &mut D, words: &[String]) -> Outcome
     requires { IsUnused (D.seen desk.old) }
     ensures answers { AnswersWords (command_of (map string_bytes words.now)) (D.seen desk.old) (D.seen desk.new) result }
+    ensures unnamed { LeavesUnnamed (command_of (map string_bytes words.now)) (D.seen desk.old) (D.seen desk.new) }
     ensures no_note { (D.seen desk.new).outputs Output.Note ≡ (D.seen desk.old).outputs Output.Note }
 {
     match read_words(alloc, words) {
@@ -60,6 +63,7 @@ fn run_replay<D: Desk>(alloc: Global, desk: &mut D, words: &ReplayWords) -> Outc
     requires unused { IsUnused (D.seen desk.old) }
     requires until { words.now.until ≤ 10 ^ 15 }
     ensures cause { HasCause (replay_terms words.now) (D.seen desk.old) (D.seen desk.new) result }
+    ensures unnamed { KeepsUnnamed (replay_terms words.now) (D.seen desk.old) (D.seen desk.new) }
     ensures no_note { (D.seen desk.new).outputs Output.Note ≡ (D.seen desk.old).outputs Output.Note }
 {
     let files = match read_inputs(alloc, desk, words) {

@@ -8,6 +8,8 @@ ghost use Rattle.fb_words.specs.Limits.{IsWithinLimits};
 ghost use Rattle.fb_words.specs.Verdict.{make_terms};
 ghost use Rattle.fb_maker.specs.Trace.{made_trace};
 ghost use Rattle.fb_maker.specs.Script.{script_text};
+ghost use Rattle.fb_desk.specs.declared.desk.Input.{Input};
+ghost use Rattle.fb_top.specs.Causes.{KeepsLater};
 ghost use Rattle.fb_top.specs.Make.{MakeHasCause};
 ghost use Rattle.fb_top.specs.Written.{HoldsWhole, StopsText};
 
@@ -26,6 +28,7 @@ pub fn run_make<D: Desk>(alloc: Global, desk: &mut D, words: &MakeWords) -> Outc
     requires unused { IsUnused (D.seen desk.old) }
     requires limits { IsWithinLimits (makes (make_terms words.now)) }
     ensures cause { MakeHasCause (make_terms words.now) (D.seen desk.old) (D.seen desk.new) result }
+    ensures unnamed { KeepsLater Input.Params (D.seen desk.old) (D.seen desk.new) }
     ensures no_note { (D.seen desk.new).outputs Output.Note ≡ (D.seen desk.old).outputs Output.Note }
 {
     let params = match read_disk(alloc, desk, words.params.as_str()) {

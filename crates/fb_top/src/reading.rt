@@ -1,5 +1,5 @@
 // The inputs of a replay, each read whole and judged before the next.
-ghost use Rattle.std.specs.Prelude.{◌≡◌, ℕ, ◌<◌, ◌≤◌, ◌^◌, [], false, length, IfOk, IfErr};
+ghost use Rattle.std.specs.Prelude.{◌≡◌, ℕ, ◌<◌, ◌≤◌, ◌^◌, [], None, false, length, IfOk, IfErr};
 ghost use Rattle.std.specs.List.{AllByRecursion};
 ghost use Rattle.std.specs.Option.{option_map};
 ghost use Rattle.std.specs.String.{string_bytes};
@@ -16,6 +16,7 @@ ghost use Rattle.fb_model.specs.PlainReplay.{Key};
 ghost use Rattle.fb_words.specs.Verdict.{replay_terms};
 ghost use Rattle.fb_top.specs.Read.{Accepts, ReadsCalls, ReadsDisk, ReadsScript, ReadsTrace, files_of, inputs_of};
 ghost use Rattle.fb_top.specs.Causes.{HasCause, StopsCalls, StopsDisk, StopsScript, StopsTrace};
+ghost use Rattle.fb_top.specs.Unnamed.{KeepsUnnamed};
 
 use crate::Outcome;
 use crate::streams::{InputError, read_whole};
@@ -54,6 +55,7 @@ pub fn read_inputs<D: Desk>(
     ensures fit { IfOk result (λ files. (key : Key) (until : ℕ) → until ≤ 10 ^ 15 → IsAccepted (inputs_of (files_of files) key until)) }
     ensures names { IfOk result (λ files. length files.calls.names ≡ length (tasks files.calls.calls.items)) }
     ensures cause { IfErr result (HasCause (replay_terms words.now) (D.seen desk.old) (D.seen desk.new)) }
+    ensures unnamed { KeepsUnnamed (replay_terms words.now) (D.seen desk.old) (D.seen desk.new) }
 {
     let params = match read_disk(alloc, desk, words.params.as_str()) {
         Ok(params) => params,
@@ -139,6 +141,7 @@ fn read_script<D: Desk>(
 ) -> Result<Calls, Outcome>
     requires { ((D.seen desk.old).inputs Input.Calls).opened ≡ false }
     ensures only { ChangesInput Input.Calls (D.seen desk.old) (D.seen desk.new) }
+    ensures unnamed { option_map string_bytes name.now ≡ None → (D.seen desk.new).inputs Input.Calls ≡ (D.seen desk.old).inputs Input.Calls }
     ensures script { IfOk result (λ calls. ReadsScript (D.seen desk.old) (option_map string_bytes name.now) disk.now traced (accepted_calls calls)) }
     ensures fit { IfOk result (λ calls. IsScript disk.now.map traced calls.calls.items) }
     ensures names { IfOk result (λ calls. length calls.names ≡ length (tasks calls.calls.items)) }

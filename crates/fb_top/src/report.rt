@@ -7,6 +7,7 @@ ghost use Rattle.fb_words.specs.Verdict.{replay_terms};
 ghost use Rattle.fb_top.specs.Read.{files_of};
 ghost use Rattle.fb_top.specs.Written.{HoldsWhole, StopsText};
 ghost use Rattle.fb_top.specs.Done.{CanBeTold, HoldsReports, StopsReports, fore_told};
+ghost use Rattle.fb_top.specs.Unnamed.{KeepsInputs};
 
 use crate::Outcome;
 use crate::lines::{BackLines, ForeLines};
@@ -35,6 +36,7 @@ pub fn write_reports<D: Desk>(
     ensures whole { OnOk result (HoldsReports (replay_terms words.now) (files_of files.now) run.now (D.seen desk.old) (D.seen desk.new)) }
     ensures stops { IfErr result (StopsReports (replay_terms words.now) (files_of files.now) run.now (D.seen desk.old) (D.seen desk.new)) }
     ensures no_note { (D.seen desk.new).outputs Output.Note ≡ (D.seen desk.old).outputs Output.Note }
+    ensures inputs { KeepsInputs (D.seen desk.old) (D.seen desk.new) }
 {
     match write_fore(alloc, desk, words, files, run) {
         Ok(()) => {}

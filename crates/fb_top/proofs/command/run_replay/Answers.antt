@@ -5,6 +5,7 @@ use Rattle.fb_top.specs.Read.{files_of, key_of}
 use Rattle.fb_top.specs.Done.{IsRunOf}
 use Rattle.fb_top.proofs.Later.{at_reports}
 use Rattle.fb_top.proofs.Moved.{holds_reports}
+use Rattle.fb_top.proofs.Unnamed.{unnamed_written}
 use Rattle.fb_top.proofs.command.run_replay.Goals as goal
 
 pub replay_by-requires : goal.replay_by-requires
@@ -38,3 +39,13 @@ returns-in-Ok-write_reports-clause-no_note g c = c.in-Ok-write_reports.ensures.n
 
 pub returns-clause-no_note : goal.returns-clause-no_note
 returns-clause-no_note g c = c.in-Err-write_reports.ensures.no_note ∙ c.in-Ok.ensures.outputs Note
+
+pub returns-in-Ok-write_reports-clause-unnamed : goal.returns-in-Ok-write_reports-clause-unnamed
+returns-in-Ok-write_reports-clause-unnamed g c =
+    unnamed_written (replay_terms c.args.words.now) (g.D.Desk.seen c.args.desk.now) (g.D.Desk.seen c.read_inputs.new.desk) (g.D.Desk.seen c.write_reports.new.desk)
+    c.in-Ok.ensures.unnamed c.in-Ok-write_reports.ensures.inputs
+
+pub returns-clause-unnamed : goal.returns-clause-unnamed
+returns-clause-unnamed g c =
+    unnamed_written (replay_terms c.args.words.now) (g.D.Desk.seen c.args.desk.now) (g.D.Desk.seen c.read_inputs.new.desk) (g.D.Desk.seen c.write_reports.new.desk)
+    c.in-Ok.ensures.unnamed c.in-Err-write_reports.ensures.inputs

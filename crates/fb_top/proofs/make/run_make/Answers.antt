@@ -9,6 +9,7 @@ use Rattle.fb_top.specs.Read.{ReadsDisk}
 use Rattle.fb_top.specs.Causes.{AcceptsDisk}
 use Rattle.fb_top.specs.Written.{HoldsWhole, StopsText}
 use Rattle.fb_top.proofs.Making.{some_sectors, stopped_trace, stopped_calls, wrote_both}
+use Rattle.fb_top.proofs.Unnamed.{later_at_params, later_after}
 use Rattle.fb_top.proofs.make.run_make.Goals as goal
 
 pub write_trace-requires-clause-some : goal.write_trace-requires-clause-some
@@ -65,3 +66,23 @@ returns-clause-cause g c =
     stopped_calls terms old mid late new c.in-Err-write_calls.outcome makes c.in-Ok.ensures.only c.in-Ok-write_trace.ensures.only c.in-Err-write_calls.ensures.only
     (subst (λ (n : ℕ). HoldsWhole (late.outputs MadeTrace) terms.trace (made_trace terms.number terms.device n terms.requests)) c.count.ensures.value c.in-Ok-write_trace.ensures.whole)
     c.in-Err-write_calls.ensures.stops
+
+pub returns-in-Err-write_trace-clause-unnamed : goal.returns-in-Err-write_trace-clause-unnamed
+returns-in-Err-write_trace-clause-unnamed g c =
+    let old = g.D.Desk.seen c.args.desk.now in
+    let mid = g.D.Desk.seen c.read_disk.new.desk in
+    later_after MadeTrace old mid (g.D.Desk.seen c.write_trace.new.desk) (later_at_params old mid c.in-Ok.ensures.only) c.in-Err-write_trace.ensures.only
+
+pub returns-in-Ok-write_calls-clause-unnamed : goal.returns-in-Ok-write_calls-clause-unnamed
+returns-in-Ok-write_calls-clause-unnamed g c =
+    let old = g.D.Desk.seen c.args.desk.now in
+    let mid = g.D.Desk.seen c.read_disk.new.desk in
+    let late = g.D.Desk.seen c.write_trace.new.desk in
+    later_after MadeCalls old late (g.D.Desk.seen c.write_calls.new.desk) (later_after MadeTrace old mid late (later_at_params old mid c.in-Ok.ensures.only) c.in-Ok-write_trace.ensures.only) c.in-Ok-write_calls.ensures.only
+
+pub returns-clause-unnamed : goal.returns-clause-unnamed
+returns-clause-unnamed g c =
+    let old = g.D.Desk.seen c.args.desk.now in
+    let mid = g.D.Desk.seen c.read_disk.new.desk in
+    let late = g.D.Desk.seen c.write_trace.new.desk in
+    later_after MadeCalls old late (g.D.Desk.seen c.write_calls.new.desk) (later_after MadeTrace old mid late (later_at_params old mid c.in-Ok.ensures.only) c.in-Ok-write_trace.ensures.only) c.in-Err-write_calls.ensures.only

@@ -6,6 +6,7 @@ use Rattle.fb_calls.specs.Allowed.{IsScript}
 use Rattle.fb_top.specs.Read.{ReadsDisk, ReadsScript, ReadsTrace, files_of}
 use Rattle.fb_top.specs.Causes.{AcceptsDisk, AcceptsTrace, StopsDisk, StopsScript, StopsTrace}
 use Rattle.fb_top.proofs.Later.{at_params, at_trace, at_script, is_accepted, script_before, trace_before}
+use Rattle.fb_top.proofs.Unnamed.{unnamed_at_params, unnamed_at_trace, unnamed_at_calls}
 use Rattle.fb_top.proofs.reading.read_inputs.Goals as goal
 
 pub returns-in-Err-clause-cause : goal.returns-in-Err-clause-cause
@@ -72,3 +73,21 @@ returns-in-Err-read_script-clause-cause g c =
     } in
     at_script words old mid late new c.in-Err-read_script.outcome before c.in-Ok.ensures.only c.in-Ok-read_requests.ensures.only c.in-Err-read_script.ensures.only
     (subst (λ (traced : ℕ). StopsScript words.calls params.disk traced late new c.in-Err-read_script.outcome) (ap length c.as_slice-requests.ensures.value) c.in-Err-read_script.ensures.stops)
+
+pub returns-in-Err-clause-unnamed : goal.returns-in-Err-clause-unnamed
+returns-in-Err-clause-unnamed g c = unnamed_at_params (replay_terms c.args.words.now) (g.D.Desk.seen c.args.desk.now) (g.D.Desk.seen c.read_disk.new.desk) c.in-Err.ensures.only
+
+pub returns-in-Err-read_requests-clause-unnamed : goal.returns-in-Err-read_requests-clause-unnamed
+returns-in-Err-read_requests-clause-unnamed g c =
+    unnamed_at_trace (replay_terms c.args.words.now) (g.D.Desk.seen c.args.desk.now) (g.D.Desk.seen c.read_disk.new.desk) (g.D.Desk.seen c.read_requests.new.desk)
+    c.in-Ok.ensures.only c.in-Err-read_requests.ensures.only
+
+pub returns-in-Ok-read_script-clause-unnamed : goal.returns-in-Ok-read_script-clause-unnamed
+returns-in-Ok-read_script-clause-unnamed g c =
+    unnamed_at_calls (replay_terms c.args.words.now) (g.D.Desk.seen c.args.desk.now) (g.D.Desk.seen c.read_disk.new.desk) (g.D.Desk.seen c.read_requests.new.desk) (g.D.Desk.seen c.read_script.new.desk)
+    c.in-Ok.ensures.only c.in-Ok-read_requests.ensures.only c.in-Ok-read_script.ensures.unnamed
+
+pub returns-in-Err-read_script-clause-unnamed : goal.returns-in-Err-read_script-clause-unnamed
+returns-in-Err-read_script-clause-unnamed g c =
+    unnamed_at_calls (replay_terms c.args.words.now) (g.D.Desk.seen c.args.desk.now) (g.D.Desk.seen c.read_disk.new.desk) (g.D.Desk.seen c.read_requests.new.desk) (g.D.Desk.seen c.read_script.new.desk)
+    c.in-Ok.ensures.only c.in-Ok-read_requests.ensures.only c.in-Err-read_script.ensures.unnamed
