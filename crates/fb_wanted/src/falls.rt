@@ -14,6 +14,7 @@ pub fn note_fall(
     is_fall: bool,
 ) -> Result<(), NoMemory>
     ensures stay { (k : ℕ × ℕ) → contains fall_cmp falls.old k ≡ true → contains fall_cmp falls.new k ≡ true }
+    ensures only { is_fall ≡ false → falls.new ≡ falls.old }
     ensures noted { OnOk result (is_fall ≡ true → contains fall_cmp falls.new (task, index) ≡ true) }
 {
     if is_fall {
@@ -24,6 +25,7 @@ pub fn note_fall(
 
 /// The first noted number of the task from one on.
 pub fn next_fall(falls: &BTreeSet<(u32, u32)>, task: u32, from: u32) -> Option<u32>
+    ensures found { IfSome result (λ i. contains fall_cmp falls.now (task, i) ≡ true) }
     ensures from { IfSome result (λ i. from ≤ i) }
     ensures first { IfSome result (λ i. (j : ℕ) → from ≤ j → j < i → contains fall_cmp falls.now (task, j) ≡ false) }
     ensures none { IfNone result ((j : ℕ) → from ≤ j → contains fall_cmp falls.now (task, j) ≡ false) }
