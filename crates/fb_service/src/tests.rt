@@ -290,9 +290,9 @@ fn agrees_on_cylinder(disk: &Disk, now: Ns, write: bool) -> bool {
         return false;
     }
     let from = departure_from(disk, SOURCE, now);
-    let mut near = approach_to(disk, from, 0);
+    let first = approach_to(disk, from, 0);
     for lbn in 0..disk.map.count() {
-        near = approach_on(disk, from, near, lbn);
+        let near = approach_on(disk, from, first, lbn);
         if first_pass(disk, SOURCE, now, lbn, write) - now
             != wait_on(disk, from, &near, lbn, write)
         {
