@@ -9,7 +9,7 @@ ghost use Rattle.fb_top.specs.Read.{files_of, inputs_of, key_of};
 
 use crate::policy::{replay_by, replay_in};
 use crate::reading::{ReplayFiles, read_inputs};
-use crate::test_desk::{LARGE, Scene, end, fill, unscripted};
+use crate::test_desk::{LARGE, Scene, TWELVE, disk, end, fill, unscripted};
 use fb_desk::MemoryDesk;
 use fb_queue::{Clook, Fcfs, Queue, Sptf, Sstf};
 use fb_report::{Bytes, fore_text};
@@ -134,4 +134,65 @@ fn indexed_queues_serve_as_plain_ones(rt: HostRuntime) -> Result<(), Fail> {
     let scene = unscripted(LARGE.as_bytes(), made.made_trace.as_slice());
     let files = files(alloc, &scene)?;
     check_policies(&rt, alloc, &files)
+}
+
+// Four requests of which three wait at once, one of them on each side of the head and two on one.
+const CROWD: &str = "0 0 48 1 1\n0.0001 0 24 1 1\n0.0001 0 72 1 1\n0.0001 0 24 1 1\n";
+
+// What the crowd's foreground report is in each order of service.
+const ORDERS: &[(Policy, &str)] = &[
+    (
+        Policy::Fcfs,
+        "freeblock fore 1\n1 R 48 1 0 0 1200 1300 0 -\n2 R 24 1 100 1300 2400 2500 0 -\n3 R 72 1 100 2500 3600 3700 0 -\n4 R 24 1 100 3700 4800 4900 0 -\nend 4 0\n",
+    ),
+    (
+        Policy::Sstf,
+        "freeblock fore 1\n1 R 48 1 0 0 1200 1300 0 -\n2 R 24 1 100 1300 2400 2500 0 -\n4 R 24 1 100 2500 3600 3700 0 -\n3 R 72 1 100 3700 4800 4900 0 -\nend 4 0\n",
+    ),
+    (
+        Policy::Clook,
+        "freeblock fore 1\n1 R 48 1 0 0 1200 1300 0 -\n3 R 72 1 100 1300 2400 2500 0 -\n2 R 24 1 100 2500 3600 3700 0 -\n4 R 24 1 100 3700 4800 4900 0 -\nend 4 0\n",
+    ),
+    (
+        Policy::Sptf,
+        "freeblock fore 1\n1 R 48 1 0 0 1200 1300 0 -\n2 R 24 1 100 1300 2400 2500 0 -\n3 R 72 1 100 2500 3600 3700 0 -\n4 R 24 1 100 3700 4800 4900 0 -\nend 4 0\n",
+    ),
+];
+
+// Checks what both queues of a policy make of some requests.
+fn check_order(
+    rt: &impl Abort,
+    alloc: Global,
+    policy: Policy,
+    files: &ReplayFiles,
+    fore: &str,
+) -> Result<(), Fail>
+    requires fit { IsAccepted (inputs_of (files_of files.now) (key_of policy) 0) }
+    requires names { length files.now.calls.names ≡ length (tasks files.now.calls.calls.items) }
+{
+    let plain = plain_fore(alloc, policy, files)?;
+    assert_eq!(rt; plain.as_slice(), fore.as_bytes());
+    let indexed = indexed_fore(alloc, policy, files)?;
+    assert_eq!(rt; indexed.as_slice(), fore.as_bytes());
+    Ok(())
+}
+
+// Checks each order of service.
+fn check_orders(rt: &impl Abort, alloc: Global, files: &ReplayFiles) -> Result<(), Fail>
+    requires fit { (key : Key) → IsAccepted (inputs_of (files_of files.now) key 0) }
+    requires names { length files.now.calls.names ≡ length (tasks files.now.calls.calls.items) }
+{
+    for (policy, fore) in ORDERS {
+        check_order(rt, alloc, *policy, files, fore)?;
+    }
+    Ok(())
+}
+
+#[test]
+fn orders_of_service(rt: HostRuntime) -> Result<(), Fail> {
+    let alloc = rt.alloc();
+    let params = disk(alloc, "", TWELVE)?;
+    let scene = unscripted(params.as_bytes(), CROWD.as_bytes());
+    let files = files(alloc, &scene)?;
+    check_orders(&rt, alloc, &files)
 }

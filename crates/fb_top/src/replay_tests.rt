@@ -133,29 +133,6 @@ fn reports(rt: HostRuntime) -> Result<(), Fail> {
     Ok(())
 }
 
-// Four requests of which three wait at once, one of them on each side of the head and two on one.
-const CROWD: &str = "0 0 48 1 1\n0.0001 0 24 1 1\n0.0001 0 72 1 1\n0.0001 0 24 1 1\n";
-
-// Words, and what they have to write of the crowd.
-const ORDERS: &[(&str, &str)] = &[
-    (
-        "freeblock replay --params k --trace t --policy fcfs --bytes hex",
-        "freeblock fore 1\n1 R 48 1 0 0 1200 1300 0 00000000000000000000000000000030\n2 R 24 1 100 1300 2400 2500 0 00000000000000000000000000000018\n3 R 72 1 100 2500 3600 3700 0 00000000000000000000000000000048\n4 R 24 1 100 3700 4800 4900 0 00000000000000000000000000000018\nend 4 0\n",
-    ),
-    (
-        "freeblock replay --params k --trace t --policy sstf --bytes hex",
-        "freeblock fore 1\n1 R 48 1 0 0 1200 1300 0 00000000000000000000000000000030\n2 R 24 1 100 1300 2400 2500 0 00000000000000000000000000000018\n4 R 24 1 100 2500 3600 3700 0 00000000000000000000000000000018\n3 R 72 1 100 3700 4800 4900 0 00000000000000000000000000000048\nend 4 0\n",
-    ),
-    (
-        "freeblock replay --params k --trace t --policy clook --bytes hex",
-        "freeblock fore 1\n1 R 48 1 0 0 1200 1300 0 00000000000000000000000000000030\n3 R 72 1 100 1300 2400 2500 0 00000000000000000000000000000048\n2 R 24 1 100 2500 3600 3700 0 00000000000000000000000000000018\n4 R 24 1 100 3700 4800 4900 0 00000000000000000000000000000018\nend 4 0\n",
-    ),
-    (
-        "freeblock replay --params k --trace t --policy sptf --bytes hex",
-        "freeblock fore 1\n1 R 48 1 0 0 1200 1300 0 00000000000000000000000000000030\n2 R 24 1 100 1300 2400 2500 0 00000000000000000000000000000018\n3 R 72 1 100 2500 3600 3700 0 00000000000000000000000000000048\n4 R 24 1 100 3700 4800 4900 0 00000000000000000000000000000018\nend 4 0\n",
-    ),
-];
-
 // Checks the whole report for which these words ask.
 fn check_words(
     rt: &impl Abort,
@@ -169,17 +146,6 @@ fn check_words(
     let ending = end(alloc, scene, words)?;
     assert_eq!(rt; ending.fore.as_slice(), fore.as_bytes(), "{words}");
     assert_eq!(rt; ending.status, 0, "{words}");
-    Ok(())
-}
-
-#[test]
-fn orders_of_service(rt: HostRuntime) -> Result<(), Fail> {
-    let alloc = rt.alloc();
-    let params = disk(alloc, "", TWELVE)?;
-    let scene = unscripted(params.as_bytes(), CROWD.as_bytes());
-    for (words, fore) in ORDERS {
-        check_words(&rt, alloc, &scene, words, fore)?;
-    }
     Ok(())
 }
 
