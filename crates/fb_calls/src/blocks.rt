@@ -19,11 +19,15 @@ pub fn count_cuts(map: &SectorMap, block: u32, first: u64, count: u64, most: u64
     if count / block as u64 > most {
         return None;
     }
+    if count == 0 {
+        return Some(0);
+    }
+    let mut span = map.span(first);
     let mut lbn = first;
     let mut left = count;
     let mut cuts = 0;
     while left > 0 {
-        let cut = map.first_cut(lbn, left, block);
+        let cut = map.next_cut(&mut span, lbn, left, block);
         if cuts == most {
             return None;
         }

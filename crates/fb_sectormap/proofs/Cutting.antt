@@ -8,7 +8,7 @@ use Rattle.fb_units.specs.Tracks.{same_track}
 use Rattle.fb_geometry.specs.Shape.{Shape, turn_position}
 use Rattle.fb_sectormap.specs.declared.cut.Cut.{Cut}
 use Rattle.fb_sectormap.specs.Lookup.{place_at, track_at}
-use Rattle.fb_sectormap.specs.Cutting.{cutting, with_sector, is_cut_before, is_later}
+use Rattle.fb_sectormap.specs.Cutting.{IsOneTurn, cutting, with_sector, is_cut_before, is_later}
 
 same_tracks : (a b : Track) → same_track a b ≡ true → a ≡ b
 same_tracks a b h =
@@ -89,3 +89,10 @@ first_cut-is disk block first count most k some_block within small whole some bo
       | inl early ↦ or_right ((first + k) % block == 0) (not (is_later disk (place_at disk (first + k - 1)) (place_at disk (first + k)))) (ap not (ends early))
       | inr late ↦ or_left ((first + k) % block == 0) (not (is_later disk (place_at disk (first + k - 1)) (place_at disk (first + k)))) (at_block block first k some_block (omega (arith, whole (omega arith))))
     ])
+
+-- the same of a turn, with the sector behind each
+pub one_turn-from : (disk : Shape) (first count : ℕ) → ((i : ℕ) → 0 < i → i < count → is_later disk (place_at disk (first + i - 1)) (place_at disk (first + i)) ≡ true) → IsOneTurn disk first count
+one_turn-from disk first count goes_on i less =
+    let here : first + i ≡ first + (i + 1) - 1 = omega arith in
+    let next : first + i + 1 ≡ first + (i + 1) = omega arith in
+    ap (λ at. is_later disk (place_at disk at) (place_at disk (first + i + 1))) here ∙ ap (λ at. is_later disk (place_at disk (first + (i + 1) - 1)) (place_at disk at)) next ∙ goes_on (i + 1) (omega arith) (omega arith)

@@ -64,3 +64,11 @@ module _ (disk : Shape) (lbn : ℕ) (place : Place) (count : ℕ) (slot : place.
           ∙ here
     ]
   ]
+
+  -- from one of its sectors on, too
+  pub later-inside : (first : ℕ) → lbn ≤ first → (i : ℕ) → 0 < i → first - lbn + i < count → is_later disk (place_at disk (first + i - 1)) (place_at disk (first + i)) ≡ true
+  later-inside first from i some less =
+      let before : first + i - 1 ≡ lbn + (first - lbn + i) - 1 = omega arith in
+      let here : first + i ≡ lbn + (first - lbn + i) = omega arith in
+      ap (λ x. is_later disk (place_at disk x) (place_at disk (first + i))) before ∙ ap (λ x. is_later disk (place_at disk (lbn + (first - lbn + i) - 1)) (place_at disk x)) here
+      ∙ later-within (first - lbn + i) (omega arith) less

@@ -1,5 +1,5 @@
 -- A range cut into blocks that each pass whole on one track.
-use Rattle.std.specs.Prelude.{ℕ, zero, suc, ◌+◌, ◌-◌, ◌%◌, List, [], ◌∷◌, Bool, ◌&&◌, ◌||◌, not, ◌==◌, nat_lt, if◌then◌else◌}
+use Rattle.std.specs.Prelude.{◌≡◌, ℕ, zero, suc, ◌+◌, ◌-◌, ◌%◌, ◌<◌, List, [], ◌∷◌, Bool, true, ◌&&◌, ◌||◌, not, ◌==◌, nat_lt, if◌then◌else◌}
 use Rattle.fb_units.specs.declared.types.Place.{Place}
 use Rattle.fb_units.specs.Tracks.{same_track}
 use Rattle.fb_geometry.specs.Shape.{Shape, turn_position}
@@ -9,6 +9,10 @@ use Rattle.fb_sectormap.specs.Lookup.{place_at, track_at}
 -- a place comes by later in the same turn of the same track
 abbrev pub is_later : Shape → Place → Place → Bool
 is_later disk before place = same_track before.track place.track && nat_lt (turn_position disk before) (turn_position disk place)
+
+-- so many sectors from lbn on come by one after another in one turn of a track
+abbrev pub IsOneTurn : Shape → ℕ → ℕ → Type 0
+IsOneTurn disk lbn count = (i : ℕ) → i + 1 < count → is_later disk (place_at disk (lbn + i)) (place_at disk (lbn + i + 1)) ≡ true
 
 -- a block begins here: at a multiple of the block size, or where the turn of the sector before doesn't go on
 abbrev pub is_cut_before : Shape → ℕ → ℕ → Bool

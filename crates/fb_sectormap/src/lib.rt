@@ -9,6 +9,7 @@ mod cut;
 mod map;
 mod numbering;
 mod run;
+mod span;
 #[cfg(test)]
 mod tests;
 mod worked;
@@ -16,4 +17,5 @@ mod worked;
 pub use cut::Cut;
 pub use map::SectorMap;
 pub use run::Run;
+pub use span::Span;
 pub use worked::small_disks;

@@ -1,7 +1,7 @@
 // Sectors worked out by hand, for small disks of four cylinders with two heads and twelve slots a track.
 use crate::{Cut, SectorMap};
 use fb_geometry::{Geometry, Layout, Zone};
-use fb_units::{Place, Track};
+use fb_units::{NoMemory, Place, Track};
 use std::alloc::Global;
 use std::test::Fail;
 
@@ -98,5 +98,51 @@ fn cuts_behind_a_sector_that_moved(rt: HostRuntime) -> Result<(), Fail> {
             Some(Cut { lbn, count, track })
         );
     }
+    Ok(())
+}
+
+// The blocks of a range, cut one after another; None where it is no range of the disk.
+fn cuts(
+    alloc: Global,
+    map: &SectorMap,
+    first: u64,
+    count: u64,
+    block: u32,
+) -> Result<Option<Vec<Cut>>, NoMemory> {
+    let sectors = map.count();
+    if count == 0 || block == 0 || first > sectors || count > sectors - first {
+        return Ok(None);
+    }
+    let mut cuts = Vec::new(alloc);
+    let mut span = map.span(first);
+    let mut lbn = first;
+    let mut left = count;
+    while left > 0 {
+        let cut = map.next_cut(&mut span, lbn, left, block);
+        cuts.push(cut)?;
+        lbn += cut.count as u64;
+        left -= cut.count as u64;
+    }
+    Ok(Some(cuts))
+}
+
+#[test]
+fn cuts_through_a_bad_slot_and_a_tracks_end(rt: HostRuntime) -> Result<(), Fail> {
+    let map = disk(rt.alloc(), &[place(0, 0, 3)], &[place(0, 1, 4)])?;
+    let mut expected = Vec::new(rt.alloc());
+    for (lbn, left, count, head) in [
+        (1, 20, 5, 0),
+        (6, 15, 5, 0),
+        (11, 10, 1, 1),
+        (12, 9, 4, 1),
+        (16, 5, 2, 1),
+        (18, 3, 3, 1),
+    ] {
+        let track = place(0, head, 0).track;
+        let cut = Cut { lbn, count, track };
+        assert_eq!(rt; first_cut(&map, lbn, left, 6), Some(cut));
+        expected.push(cut)?;
+    }
+    assert_eq!(rt; cuts(rt.alloc(), &map, 1, 20, 6)?, Some(expected));
     Ok(())
 }

@@ -134,7 +134,7 @@ module _ (disk : Shape) (past : Past) (call : Call) (kind : Kind) (weight block 
     entries = h.entries ∙ (map_same (entry_of past) (entry_of (called call [] ∷ past)) (registered past) (all_any (λ b. entry_of past b ≡ entry_of (called call [] ∷ past) b) entry_same (registered past))
         ∙ ap (map (entry_of (called call [] ∷ past))) (sym (append-nil (registered past))));
     on_disk = subst (AllByRecursion (IsBlockOf disk (length (tasks (called call [] ∷ past))))) (sym (append-nil (registered past)))
-        (all_weaker (IsBlockOf disk (length (tasks past))) (IsBlockOf disk (length (tasks (called call [] ∷ past)))) (λ b on. record { task = omega (arith, on.task, more_tasks); some = on.some; few = on.few; weight = on.weight; on_disk = on.on_disk; within = on.within; track = on.track }) (registered past) h.on_disk);
+        (all_weaker (IsBlockOf disk (length (tasks past))) (IsBlockOf disk (length (tasks (called call [] ∷ past)))) (λ b on. record { task = omega (arith, on.task, more_tasks); some = on.some; few = on.few; weight = on.weight; on_disk = on.on_disk; within = on.within; track = on.track; one_turn = on.one_turn }) (registered past) h.on_disk);
     indexed = λ task. subst (λ bs. AreIndexed 0 (filter (λ b. b.task == task) bs)) (sym (append-nil (registered past))) (h.indexed task);
     unopened = λ task more. called-untouched past call [] task (leaves task) (h.unopened task (omega (arith, more, more_tasks)));
     segments = λ task. subst (AllByRecursion (IsSegmentOf disk (terms_of (called call [] ∷ past) task).block)) (sym (given_same task)) (elim (cases_lt task (length (tasks past))) [

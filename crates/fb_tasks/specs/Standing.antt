@@ -4,6 +4,7 @@ use Rattle.std.specs.List.{AllByRecursion, flat_map, range_with_len, list_any, s
 use Rattle.fb_geometry.specs.Shape.{Shape}
 use Rattle.fb_geometry.specs.Places.{places}
 use Rattle.fb_sectormap.specs.Lookup.{track_at}
+use Rattle.fb_sectormap.specs.Cutting.{IsOneTurn}
 use Rattle.fb_calls.specs.declared.call.Call.{Call}
 use Rattle.fb_calls.specs.Allowed.{has_want}
 use Rattle.fb_calls.specs.Blocks.{live_cuts}
@@ -39,7 +40,7 @@ calls_of (event ∷ past) = calls_of past ++ calls_by event
 abbrev pub entry_of : Past → Block → Entry
 entry_of past block = record { block = block; state = state past block }
 
--- a block lies on its disk, whole on its track
+-- a block lies on its disk, whole in one turn of its track
 pub record IsBlockOf (disk : Shape) (tasks : ℕ) (block : Block) : Type 0 where
   pub task : block.task < tasks
   pub some : 0 < block.count
@@ -48,6 +49,7 @@ pub record IsBlockOf (disk : Shape) (tasks : ℕ) (block : Block) : Type 0 where
   pub on_disk : block.lbn + block.count ≤ length (places disk)
   pub within : block.lbn + block.count ≤ 10 ^ 12
   pub track : block.track ≡ track_at disk block.lbn
+  pub one_turn : IsOneTurn disk block.lbn block.count
 
 -- blocks are numbered on from n
 abbrev pub AreIndexed : ℕ → List Block → Type 0

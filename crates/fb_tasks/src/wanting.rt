@@ -28,12 +28,16 @@ pub fn want_range(
     requires few { length wanted.old + length (cutting map.now session.now.block first count) ≤ 16000000 }
     ensures { OnOk result (wanted.new ≡ wanted.old ++ new_entries session.now (numbered task session.now.weight (registered task (blocks_of wanted.old)) (cutting map.now session.now.block first count))) }
 {
+    if count == 0 {
+        return Ok(());
+    }
     let _sectors = map.count();
+    let mut span = map.span(first);
     let mut lbn = first;
     let mut left = count;
     let mut index = wanted.counts(task).registered;
     while left > 0 {
-        let cut = map.first_cut(lbn, left, session.block);
+        let cut = map.next_cut(&mut span, lbn, left, session.block);
         wanted.register(block_of(session, task, index, cut), session.suspended)?;
         index += 1;
         lbn += cut.count as u64;

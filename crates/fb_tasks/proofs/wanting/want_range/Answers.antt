@@ -1,9 +1,21 @@
-use Rattle.std.proofs.Common.{◌≡◌, ◌++◌, refl, ap, sym, ◌∙◌, append-nil, arith}
+use Rattle.std.proofs.Common.{◌≡◌, ℕ, List, ◌++◌, refl, ap, sym, ◌∙◌, append-nil, arith}
+use Rattle.fb_geometry.specs.Shape.{Shape}
 use Rattle.fb_sectormap.specs.Cutting.{cutting}
+use Rattle.fb_wanted.specs.Numbering.{registered, blocks_of}
+use Rattle.fb_wanted.specs.declared.block.Entry.{Entry}
 use Rattle.fb_model.specs.Segments.{numbered}
+use Rattle.fb_tasks.specs.declared.session.Session.{Session}
 use Rattle.fb_tasks.specs.Keeping.{new_entries}
 use Rattle.fb_tasks.proofs.Counting.{registered_count, registered_few}
 use Rattle.fb_tasks.proofs.wanting.want_range.Goals as goal
+
+-- a range without sectors gives nothing
+none-new : (disk : Shape) (session : Session) (task index lbn left : ℕ) (wanted : List Entry) → left ≡ 0 → wanted ≡ wanted ++ new_entries session (numbered task session.weight index (cutting disk session.block lbn left))
+unfolding cutting
+none-new disk session task index lbn left wanted none = sym (append-nil wanted) ∙ ap (λ n. wanted ++ new_entries session (numbered task session.weight index (cutting disk session.block lbn n))) (sym none)
+
+pub returns-then-count-eq0 : goal.returns-then-count-eq0
+returns-then-count-eq0 c = none-new c.args.map.now c.args.session.now c.args.task (registered c.args.task (blocks_of c.args.wanted.now)) c.args.first c.args.count c.args.wanted.now (omega arith)
 
 pub loop-left-init : goal.loop-left-init
 loop-left-init c =
@@ -12,6 +24,7 @@ loop-left-init c =
       all = ap (λ n. c.args.wanted.now ++ new_entries c.args.session.now (numbered c.args.task c.args.session.now.weight n (cutting c.args.map.now c.args.session.now.block c.args.first c.args.count))) first;
       next = first;
       within = refl;
+      span = c.span-span.ensures.span;
       few = c.requires.few;
     }
 
@@ -19,7 +32,4 @@ pub overflow_add-index : goal.overflow_add-index
 overflow_add-index c = omega (arith, c.loop-left.invariant.next, c.loop-left.invariant.few, registered_few c.args.task c.loop-left.wanted)
 
 pub returns : goal.returns
-unfolding cutting
-returns c =
-    let none : c.loop-left.left ≡ 0 = omega (arith, c.loop-left-test.false) in
-    sym (append-nil c.loop-left.wanted) ∙ (ap (λ n. c.loop-left.wanted ++ new_entries c.args.session.now (numbered c.args.task c.args.session.now.weight c.loop-left.index (cutting c.args.map.now c.args.session.now.block c.loop-left.lbn n))) (sym none) ∙ c.loop-left.invariant.all)
+returns c = none-new c.args.map.now c.args.session.now c.args.task c.loop-left.index c.loop-left.lbn c.loop-left.left c.loop-left.wanted (omega (arith, c.loop-left-test.false)) ∙ c.loop-left.invariant.all

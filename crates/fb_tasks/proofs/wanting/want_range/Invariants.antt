@@ -1,5 +1,6 @@
 use Rattle.std.proofs.Common.{◌≡◌, ◌+◌, ◌≤◌, ◌++◌, length}
 use Rattle.fb_sectormap.specs.Cutting.{cutting}
+use Rattle.fb_sectormap.specs.Runs.{IsSpan}
 use Rattle.fb_wanted.specs.Numbering.{registered, blocks_of}
 use Rattle.fb_model.specs.Segments.{numbered}
 use Rattle.fb_tasks.specs.Keeping.{new_entries}
@@ -12,6 +13,7 @@ invariant-loop-left l = record {
       ≡ l.initial.wanted ++ new_entries l.session (numbered l.task l.session.weight (registered l.task (blocks_of l.initial.wanted)) (cutting l.map l.session.block l.first l.count));
   next : l.index ≡ registered l.task (blocks_of l.wanted);
   within : l.lbn + l.left ≡ l.first + l.count;
+  span : IsSpan l.map l.span;
   few : length l.wanted + length (cutting l.map l.session.block l.lbn l.left) ≤ 16000000;
 }
 

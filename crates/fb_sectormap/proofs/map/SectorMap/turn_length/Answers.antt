@@ -1,28 +1,37 @@
-use Rattle.std.proofs.Common.{◌+◌, ap, sym, ◌∙◌, refl, arith}
+use Rattle.std.proofs.Common.{◌≡◌, ◌+◌, ◌-◌, ap, sym, ◌∙◌, arith}
 use Rattle.fb_sectormap.specs.Lookup.{place_at}
 use Rattle.fb_sectormap.specs.Cutting.{is_later}
-use Rattle.fb_sectormap.proofs.Turns.{later-within, later-through}
+use Rattle.fb_sectormap.proofs.Turns.{later-inside, later-through}
 use Rattle.fb_sectormap.proofs.map.SectorMap.turn_length.Goals as goal
 
 pub loop-length-init : goal.loop-length-init
 loop-length-init c =
-    let s = c.stretch in
+    let span = c.args.span.now in
+    let is = c.requires.span in
     record {
-      some = omega (arith, c.min-length.ensures, s.ensures.some);
+      some = omega (arith, c.min-length.ensures, c.requires.before);
       bound = omega (arith, c.min-length.ensures);
-      goes_on = λ i some less. later-within c.args.self.now c.args.first s.result.place s.result.count s.ensures.slot s.ensures.next s.ensures.one_turn i some (omega (arith, c.min-length.ensures));
+      span = is;
+      end = λ less. omega (arith, c.min-length.ensures, c.requires.from, c.requires.before);
+      goes_on = λ i some less. later-inside c.args.self.now span.first span.stretch.place span.stretch.count is.slot is.next is.one_turn c.args.first c.requires.from i some (omega (arith, c.min-length.ensures));
     }
 
 pub loop-length-preserved : goal.loop-length-preserved
 loop-length-preserved c =
-    let s = c.stretch-next in
     let disk = c.args.self.now in
     let l = c.loop-length in
-    let end = c.args.first + l.length in
+    let next = c.span.result in
+    let is = c.span.ensures.span in
+    let end = l.invariant.end c.loop-length-test.true in
     record {
       some = omega (arith, l.invariant.some);
       bound = omega (arith, c.min-length-in-loop-length.ensures, c.loop-length-test.true);
-      goes_on = later-through disk end s.result.place s.result.count s.ensures.slot s.ensures.next s.ensures.one_turn c.args.first l.length c.min-length-in-loop-length.result
-          refl (omega (arith, c.min-length-in-loop-length.ensures)) l.invariant.goes_on
-          (ap (λ p. is_later disk p (place_at disk end)) (sym c.place.ensures.value) ∙ ap (is_later disk c.place.result) (sym s.ensures.first) ∙ sym c.is_later.ensures ∙ c.if-not-is_later.false);
+      span = is;
+      end = λ less. omega (arith, c.min-length-in-loop-length.ensures, c.span.ensures.first);
+      goes_on = later-through disk next.first next.stretch.place next.stretch.count is.slot is.next is.one_turn c.args.first l.length c.min-length-in-loop-length.result
+          (sym c.span.ensures.first) (omega (arith, c.min-length-in-loop-length.ensures)) l.invariant.goes_on
+          (ap (λ at. is_later disk (place_at disk at) (place_at disk next.first)) (let last : next.first - 1 ≡ l.span.first + l.span.stretch.count - 1 = omega (arith, end, c.span.ensures.first) in last)
+          ∙ ap (λ p. is_later disk p (place_at disk next.first)) (sym c.last_place-before.ensures.value)
+          ∙ ap (is_later disk c.last_place-before.result) (sym is.first)
+          ∙ sym c.is_later.ensures ∙ c.if-not-is_later.false);
     }
