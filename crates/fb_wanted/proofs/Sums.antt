@@ -22,3 +22,9 @@ module _ (sum : List Entry → ℕ) (cons : (x : Entry) (xs : List Entry) → su
   sum_at n e [] at = absurd (none-some e at)
   sum_at zero e (x ∷ es) at = let one = ap (λ y. sum (y ∷ [])) (same_Some x e at) in omega (arith, cons x es, one)
   sum_at (suc n) e (x ∷ es) at = omega (arith, cons x es, sum_at n e es at)
+
+-- a sum of parts that are no more is no more
+pub sum-le : (sum other : List Entry → ℕ) → ((x : Entry) (xs : List Entry) → sum (x ∷ xs) ≡ sum (x ∷ []) + sum xs) → ((x : Entry) (xs : List Entry) → other (x ∷ xs) ≡ other (x ∷ []) + other xs)
+    → sum [] ≤ other [] → ((x : Entry) → sum (x ∷ []) ≤ other (x ∷ [])) → (es : List Entry) → sum es ≤ other es
+sum-le sum other cons cons_other none one [] = none
+sum-le sum other cons cons_other none one (e ∷ es) = omega (arith, cons e es, cons_other e es, one e, sum-le sum other cons cons_other none one es)

@@ -10,6 +10,7 @@ use Rattle.fb_wanted.specs.declared.block.State.{State}
 use Rattle.fb_wanted.specs.Numbering.{AreSmall, blocks_of}
 use Rattle.fb_wanted.specs.Tracks.{wanted_weight, band_of, band_weight}
 use Rattle.fb_wanted.specs.Index.{of_track, with_state, AreWeighed}
+use Rattle.fb_wanted.proofs.Sums.{sum-le}
 use Rattle.fb_wanted.proofs.Standing.{blocks-with_state, items-with_state}
 use Rattle.fb_wanted.proofs.Numbers.{in_either, blocks-more}
 use Rattle.fb_wanted.proofs.Kept.{same_one, same_itself}
@@ -40,8 +41,7 @@ one_le t e = elim (cases_Bool (same_track t e.block.track)) [
 ]
 
 pub track-le_band : (t : Track) (es : List Entry) → wanted_weight t es ≤ band_weight (t.cylinder / 64) es
-track-le_band t [] = omega arith
-track-le_band t (e ∷ es) = omega (arith, by-cons (of_track t) e es, by-cons (of_band (t.cylinder / 64)) e es, one_le t e, track-le_band t es)
+track-le_band t es = sum-le (wanted_weight t) (band_weight (t.cylinder / 64)) (by-cons (of_track t)) (by-cons (of_band (t.cylinder / 64))) (omega arith) (one_le t) es
 
 module _ (es : List Entry) (bands : List ℕ) (h : AreWeighed es bands) where
   -- with bands more, on which nothing weighs

@@ -15,14 +15,14 @@ pub fn band_of(block: Block) -> u32
     block.track.cylinder / BAND
 }
 
-/// Makes room for all bands up to this one, with no weight on those that come; no weight is changed.
-pub fn add_bands(bands: &mut Vec<u64>, band: u32) -> Result<(), NoMemory>
-    ensures stay { (k : ℕ) → get_or bands.new.items k 0 ≡ get_or bands.old.items k 0 }
+/// Makes room for all bands up to this one, with nothing on those that come; what is kept of a band stays.
+pub fn add_bands<T: Copy>(bands: &mut Vec<T>, band: u32, nothing: T) -> Result<(), NoMemory>
+    ensures stay { (k : ℕ) → get_or bands.new.items k nothing ≡ get_or bands.old.items k nothing }
     ensures longer { length bands.old.items ≤ length bands.new.items }
     ensures there { OnOk result (band < length bands.new.items) }
 {
     for _ in bands.len()..band as usize + 1 {
-        bands.push(0)?;
+        bands.push(nothing)?;
     }
     Ok(())
 }
@@ -40,8 +40,8 @@ pub fn reweigh_band(bands: &mut Vec<u64>, band: u32, lost: u64, gained: u64)
 }
 
 /// The weight of a band: none where no block has one.
-pub fn weight_in(bands: &Vec<u64>, band: u32) -> u64
-    ensures { result ≡ get_or bands.now.items band 0 }
+pub fn weight_in(bands: &[u64], band: u32) -> u64
+    ensures { result ≡ get_or bands.now band 0 }
 {
     match bands.get(band as usize) {
         Some(weight) => *weight,

@@ -49,6 +49,28 @@ const BEFORE: Block = Block {
     weight: 1,
 };
 
+// Another task wants the first block too.
+const AGAIN: Block = Block {
+    task: 1,
+    index: 0,
+    lbn: 12,
+    count: 4,
+    track: NEAR,
+    weight: 3,
+};
+
+const LAST: Block = Block {
+    task: 2,
+    index: 0,
+    lbn: 40,
+    count: 4,
+    track: Track {
+        cylinder: 63,
+        head: 1,
+    },
+    weight: 3,
+};
+
 #[test]
 fn a_range_reaches_blocks_of_two_wants(rt: HostRuntime) -> Result<(), Fail> {
     let mut wanted = Wanted::new(rt.alloc());
@@ -121,5 +143,20 @@ fn blocks_of_two_tasks(rt: HostRuntime) -> Result<(), Fail> {
     assert_eq!(rt; blocks.get(0).block, FIRST);
     assert_eq!(rt; blocks.get(0).state, State::Aborted);
     assert_eq!(rt; wanted.next_registered_track(SECOND.track), Some(NEAR));
+    Ok(())
+}
+
+#[test]
+fn a_sector_lies_in_blocks_of_two_tasks(rt: HostRuntime) -> Result<(), Fail> {
+    let mut wanted = Wanted::new(rt.alloc());
+    assert_eq!(rt; wanted.depth_in(0), 0);
+    wanted.register(FIRST, false)?;
+    wanted.deliver(0, 0);
+    assert_eq!(rt; wanted.depth_in(0), 1);
+    wanted.register(AGAIN, true)?;
+    assert_eq!(rt; wanted.depth_in(0), 4);
+    wanted.register(SECOND, false)?;
+    wanted.register(LAST, false)?;
+    assert_eq!(rt; (wanted.depth_in(0), wanted.depth_in(1)), (4, 0));
     Ok(())
 }

@@ -7,6 +7,7 @@ ghost use Rattle.fb_wanted.specs.States.{after, shares, entry_after, is_abortabl
 ghost use Rattle.fb_wanted.specs.Numbering.{AreInOrder, blocks_of, registered};
 ghost use Rattle.fb_wanted.specs.Counting.{counts_of, sum_of, Fit};
 ghost use Rattle.fb_wanted.specs.Tracks.{wanted_weight, band_weight, HasBlock, IsTrackBefore, IsNextTrack};
+ghost use Rattle.fb_wanted.specs.Depth.{depth_at};
 ghost use Rattle.fb_wanted.specs.Index.{places, of_task, lbns, Rises, IsWithin, with_state, change_nth, change_first, track_cmp, grown, no_blocks, grown_task};
 ghost use Rattle.fb_units.specs.declared.types.Track.{Track};
 ghost use Rattle.fb_units.specs.Tracks.{same_track};
@@ -14,6 +15,7 @@ ghost use Rattle.fb_units.specs.Tracks.{same_track};
 use crate::bands::{add_bands, band_of, reweigh_band, weight_in};
 use crate::changes::{is_abortable, state_after, wanted_unless};
 use crate::counting::{counts_of, no_counts};
+use crate::depths::{Depth, NO_DEPTH, deepen, most_in};
 use crate::falls::{next_fall, note_fall};
 use crate::tasks::{OfTask, add_place, recount, take_place_back};
 use crate::tracks::{OnTrack, add_to_track, next_track, reweigh, weight_of};
@@ -26,7 +28,7 @@ use std::marker::Model;
 /// Registered blocks, each with its state, in order of registration.
 ///
 /// To register, to deliver or to look up costs a logarithm of the number of tracks or blocks;
-/// the counts of a task cost the same however many blocks it has.
+/// the counts of a task and what is kept of a band cost the same however many blocks there are.
 /// To suspend or to resume costs as much for each block of the task, and to abort or to want again
 /// as much for each of its blocks near the range and for each time that its LBNs fall.
 /// A task takes room for each number below its own, and a block for each band of cylinders below its own.
@@ -38,6 +40,7 @@ pub struct Wanted {
     tracks: BTreeMap<Track, OnTrack>,
     falls: BTreeSet<(u32, u32)>,
     bands: Vec<u64>,
+    depths: Vec<Depth>,
 }
 
 // Blocks of a task from one number to another, whose LBNs rise.
@@ -51,12 +54,13 @@ impl Model for Wanted {
     ghost use Rattle.std.specs.Prelude.{List};
     ghost use Rattle.fb_wanted.specs.declared.block.Entry.{Entry};
     ghost use Rattle.fb_wanted.specs.Index.{IsKept, AreNoted, AreWeighed};
+    ghost use Rattle.fb_wanted.specs.Depth.{AreDeep};
 
     ghost Value = { List Entry };
 
     ghost view = { λ w. w.entries.items };
 
-    ghost invariant = { λ w. IsKept w.entries.items w.tasks.items w.tracks × AreNoted w.entries.items w.falls × AreWeighed w.entries.items w.bands.items };
+    ghost invariant = { λ w. IsKept w.entries.items w.tasks.items w.tracks × AreNoted w.entries.items w.falls × AreWeighed w.entries.items w.bands.items × AreDeep w.entries.items w.depths.items };
 }
 
 // Notes where a block that is to be registered will stand, and counts it; where memory is wanting all stays.
@@ -321,6 +325,7 @@ impl Wanted {
             tracks: BTreeMap::new(alloc),
             falls: BTreeSet::new(alloc),
             bands: Vec::new(alloc),
+            depths: Vec::new(alloc),
         }
     }
 
@@ -340,9 +345,11 @@ impl Wanted {
         let band = band_of(block);
         self.entries.reserve(1)?;
         note_fall(&mut self.falls, block.task, block.index, is_fall)?;
-        add_bands(&mut self.bands, band)?;
+        add_bands(&mut self.bands, band, 0)?;
+        add_bands(&mut self.depths, band, NO_DEPTH)?;
         add_to_index(&mut self.tasks, &mut self.tracks, self.alloc, place, entry)?;
         reweigh_band(&mut self.bands, band, 0, weight_of(entry));
+        deepen(&mut self.depths, band, block);
         self.entries.push(entry)?;
         Ok(())
     }
@@ -467,10 +474,7 @@ impl Wanted {
         ensures sum { result ≡ wanted_weight track self.now }
         ensures small { result ≤ 16000000 * 2048000 }
     {
-        match self.tracks.get(&track) {
-            Some(on) => on.weight,
-            None => 0,
-        }
+        self.on(track).wanted_weight()
     }
 
     /// Weight times sectors of the wanted blocks on the band's cylinders; no track of it has more.
@@ -480,6 +484,14 @@ impl Wanted {
         ensures tracks { (track : Track) → track.cylinder / 64 ≡ band → wanted_weight track self.now ≤ result }
     {
         weight_in(&self.bands, band)
+    }
+
+    /// No sector of the band's cylinders lies in registered blocks of more weight together.
+    pub fn depth_in(&self, band: u32) -> u64
+        ensures deep { (track : Track) (lbn : ℕ) → track.cylinder / 64 ≡ band → depth_at track lbn self.now ≤ result }
+        ensures small { result ≤ 16000000 * 1000 }
+    {
+        most_in(&self.depths, band)
     }
 
     /// The least track not before this one on which a block is registered.

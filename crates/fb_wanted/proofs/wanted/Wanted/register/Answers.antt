@@ -8,6 +8,7 @@ use Rattle.fb_wanted.proofs.Reading.{track_room, counts_room}
 use Rattle.fb_wanted.proofs.Kept.{kept_pushed}
 use Rattle.fb_wanted.proofs.Ranges.{noted-more, noted_still}
 use Rattle.fb_wanted.proofs.Weighed.{weighed_still, band_room, weighed_pushed}
+use Rattle.fb_wanted.proofs.Deep.{deep_room, deep_still, deep_pushed}
 use Rattle.fb_wanted.proofs.wanted.Wanted.register.Goals as goal
 
 pub is_fall-is_fall-requires : goal.is_fall-is_fall-requires
@@ -26,6 +27,13 @@ reweigh_band-requires-clause-room c =
     let kept = weighed_still items c.self.inside.bands.items c.self.invariant.2 c.add_bands.new.bands.items c.in_ok-add_bands.ensures.stay c.in_ok-add_bands.ensures.longer in
     let entry : Entry = record { block = c.args.block; state = c.wanted_unless-state.result } in
     band_room items c.add_bands.new.bands.items kept entry c.band_of-band.result c.band_of-band.ensures c.weight_of.result c.self.invariant.0.small c.self.invariant.0.few c.weight_of.ensures.small
+
+pub deepen-requires-clause-room : goal.deepen-requires-clause-room
+deepen-requires-clause-room c =
+    let items = c.self.inside.entries.items in
+    let kept = deep_still items c.self.inside.depths.items c.add_bands-2.new.bands.items c.self.invariant.3 c.in_ok-add_bands-2.ensures.stay in
+    let room = subst (λ es. length es < 16000000) (sym c.self.view_is) c.requires.room in
+    deep_room items c.add_bands-2.new.bands.items c.band_of-band.result c.args.block.weight kept room c.requires.light
 
 pub invariant_of-self-2 : goal.invariant_of-self-2
 invariant_of-self-2 c =
@@ -46,4 +54,6 @@ invariant_of-self-2 c =
       weighed_pushed items c.add_bands.new.bands.items (weighed_still items c.self.inside.bands.items c.self.invariant.2 c.add_bands.new.bands.items c.in_ok-add_bands.ensures.stay c.in_ok-add_bands.ensures.longer)
           entry c.band_of-band.result c.band_of-band.ensures c.push.new.self.items c.reweigh_band.new.bands.items 0 c.weight_of.result list refl c.weight_of.ensures.value c.in_ok-add_bands.ensures.there
           c.reweigh_band.ensures.weights c.reweigh_band.ensures.length,
+      deep_pushed items c.push.new.self.items entry c.band_of-band.result c.add_bands-2.new.bands.items c.deepen.new.depths.items list c.band_of-band.ensures c.requires.light
+          (deep_still items c.self.inside.depths.items c.add_bands-2.new.bands.items c.self.invariant.3 c.in_ok-add_bands-2.ensures.stay) c.deepen.ensures,
     )

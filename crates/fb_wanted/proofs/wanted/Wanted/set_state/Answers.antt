@@ -7,6 +7,7 @@ use Rattle.fb_wanted.proofs.Reading.{its_task_there, counts_part, counts_room, w
 use Rattle.fb_wanted.proofs.Kept.{kept_set}
 use Rattle.fb_wanted.proofs.Ranges.{noted-with_state}
 use Rattle.fb_wanted.proofs.Weighed.{band_there, band_part, band_room, weighed_set}
+use Rattle.fb_wanted.proofs.Deep.{deep_set}
 use Rattle.fb_wanted.proofs.wanted.Wanted.set_state.Goals as goal
 
 pub weight_of-lost-requires : goal.weight_of-lost-requires
@@ -65,6 +66,7 @@ invariant_of-self c =
       subst (λ l. AreNoted l c.self.inside.falls) (sym same) (noted-with_state c.args.state c.args.place items c.self.inside.falls c.self.invariant.1),
       weighed_set items c.self.inside.bands.items c.self.invariant.2 c.index-entry.result.now c.band_of.result c.band_of.ensures c.reweigh_band.new.bands.items c.args.state c.args.place c.weight_of-lost.result c.weight_of-gained.result here
           c.weight_of-lost.ensures.value c.weight_of-gained.ensures.value c.reweigh_band.ensures.weights c.reweigh_band.ensures.length,
+      deep_set c.args.state c.args.place c.index-entry.result.now items c.self.inside.depths.items here c.self.invariant.3,
     )
 
 pub returns : goal.returns

@@ -1,0 +1,117 @@
+-- The bounds that are kept of what is wanted of one sector of each band.
+use Rattle.std.proofs.Common.{◌≡◌, ℕ, ◌+◌, ◌/◌, ◌<◌, ◌≤◌, inl, inr, ◌==◌, List, [], ◌∷◌, ◌++◌, Some, Bool, nat_le, true, false, if◌then◌else◌, length, length-append, filter, slice_get, get_or, set, refl, ap, sym, ◌∙◌, arith, subst}
+use Rattle.std.specs.List.{sum_by}
+use Rattle.std.proofs.lemmas.Bool.{cases_Bool}
+use Rattle.std.proofs.lemmas.Bool.Decides.{nat_tests}
+use Rattle.std.proofs.lemmas.List.Elements.{filter-append}
+use Rattle.std.proofs.lemmas.List.Sums.{sum_by-append}
+use Rattle.fb_units.specs.declared.types.Track.{Track}
+use Rattle.fb_units.specs.Tracks.{same_track}
+use Rattle.fb_wanted.specs.declared.block.Entry.{Entry}
+use Rattle.fb_wanted.specs.declared.block.State.{State}
+use Rattle.fb_wanted.specs.declared.depths.Depth.{Depth}
+use Rattle.fb_wanted.specs.Tracks.{band_of}
+use Rattle.fb_wanted.specs.Depth.{is_in, weight_on, depth_at, band_depth, no_depth, spare_for, deepened, IsDeep, AreDeep}
+use Rattle.fb_wanted.specs.Index.{of_track, with_state}
+use Rattle.fb_wanted.proofs.Sums.{sum-with_state, sum-le}
+use Rattle.fb_wanted.proofs.Standing.{length-with_state, items-with_state}
+use Rattle.fb_wanted.proofs.Kept.{same_one}
+use Rattle.fb_wanted.proofs.Weighed.{of_band}
+
+-- what the blocks that pass weigh for a sector
+module _ (p : Entry → Bool) (lbn : ℕ) where
+  depth-append : (xs ys : List Entry) → sum_by (weight_on lbn) (filter p (xs ++ ys)) ≡ sum_by (weight_on lbn) (filter p xs) + sum_by (weight_on lbn) (filter p ys)
+  depth-append xs ys = ap (sum_by (weight_on lbn)) (filter-append p xs ys) ∙ sum_by-append (weight_on lbn) (filter p xs) (filter p ys)
+
+  depth-cons : (e : Entry) (es : List Entry) → sum_by (weight_on lbn) (filter p (e ∷ es)) ≡ sum_by (weight_on lbn) (filter p (e ∷ [])) + sum_by (weight_on lbn) (filter p es)
+  depth-cons e es = depth-append (e ∷ []) es
+
+  depth_there : (e : Entry) → p e ≡ true → sum_by (weight_on lbn) (filter p (e ∷ [])) ≡ weight_on lbn e
+  depth_there e its = rw its (omega arith)
+
+  depth_elsewhere : (e : Entry) → p e ≡ false → sum_by (weight_on lbn) (filter p (e ∷ [])) ≡ 0
+  depth_elsewhere e other = rw other refl
+
+-- no more is wanted of a sector on a track than on its band
+one_le : (t : Track) (lbn : ℕ) (e : Entry) → depth_at t lbn (e ∷ []) ≤ band_depth (t.cylinder / 64) lbn (e ∷ [])
+one_le t lbn e = elim (cases_Bool (same_track t e.block.track)) [
+  | inl here ↦
+      let same = same_one t e.block.track here in
+      let its : band_of e.block ≡ t.cylinder / 64 = ap (λ u. u.cylinder / 64) (sym same) in
+      let band : of_band (t.cylinder / 64) e ≡ true = grind (arith, nat_tests) in
+      rw (here, band) (omega arith)
+  | inr off ↦ omega (arith, depth_elsewhere (of_track t) lbn e off)
+]
+
+pub depth-le_band : (t : Track) (lbn : ℕ) (es : List Entry) → depth_at t lbn es ≤ band_depth (t.cylinder / 64) lbn es
+depth-le_band t lbn es = sum-le (depth_at t lbn) (band_depth (t.cylinder / 64) lbn) (depth-cons (of_track t) lbn) (depth-cons (of_band (t.cylinder / 64)) lbn) (omega arith) (one_le t lbn) es
+
+-- as a block comes into another state
+depth-with_state : (band lbn : ℕ) (s : State) (n : ℕ) (e : Entry) (es : List Entry) → slice_get es n ≡ Some e → band_depth band lbn (with_state s n es) ≡ band_depth band lbn es
+depth-with_state band lbn s n e es at =
+    let same : band_depth band lbn (record { block = e.block; state = s } ∷ []) ≡ band_depth band lbn (e ∷ [])
+    = elim (cases_Bool (of_band band e)) [ inl here ↦ rw here refl | inr other ↦ rw other refl ] in
+    omega (arith, same, sum-with_state (band_depth band lbn) (depth-cons (of_band band) lbn) s n e es at)
+
+pub deep_set : (s : State) (n : ℕ) (e : Entry) (es : List Entry) (depths : List Depth) → slice_get es n ≡ Some e → AreDeep es depths → AreDeep (set es n (record { block = e.block; state = s })) depths
+deep_set s n e es depths at h = subst (λ l. AreDeep l depths) (sym (items-with_state s n e es at)) (record {
+  bounds = λ band.
+      let bound = h.bounds band in
+      record {
+        most = λ lbn. omega (arith, depth-with_state band lbn s n e es at, bound.most lbn);
+        behind = λ lbn past. omega (arith, depth-with_state band lbn s n e es at, bound.behind lbn past);
+        small = omega (arith, length-with_state s n es, bound.small);
+      };
+})
+
+-- with bands more, on which no block lies
+pub deep_still : (es : List Entry) (depths new : List Depth) → AreDeep es depths → ((k : ℕ) → get_or new k no_depth ≡ get_or depths k no_depth) → AreDeep es new
+deep_still es depths new h stay = record { bounds = λ band. subst (IsDeep band es) (sym (stay band)) (h.bounds band) }
+
+-- another block's weight fits
+pub deep_room : (es : List Entry) (depths : List Depth) (band weight : ℕ) → AreDeep es depths → length es < 16000000 → weight ≤ 1000 → (get_or depths band no_depth).most + weight < 18446744073709551616
+deep_room es depths band weight h few light = omega (arith, (h.bounds band).small, few, light)
+
+-- as a block is registered
+module _ (band : ℕ) (es : List Entry) (e : Entry) (d : Depth) (h : IsDeep band es d) where
+  room : (lbn : ℕ) → e.block.lbn ≤ lbn → band_depth band lbn es + spare_for e.block d ≤ d.most
+  room lbn from = elim (cases_Bool (nat_le (d.first + d.count) e.block.lbn)) [
+    | inl behind ↦ let past : d.first + d.count ≤ e.block.lbn = grind (arith, nat_tests) in rw behind (h.behind lbn (omega (arith, past, from)))
+    | inr other ↦ rw other (omega (arith, h.most lbn))
+  ]
+
+  deep_here : of_band band e ≡ true → e.block.weight ≤ 1000 → IsDeep band (es ++ e ∷ []) (deepened e.block d)
+  deep_here its light =
+      let more : (lbn w : ℕ) → weight_on lbn e ≡ w → band_depth band lbn (es ++ e ∷ []) ≡ band_depth band lbn es + w
+      = λ lbn w is. depth-append (of_band band) lbn es (e ∷ []) ∙ ap (λ x. band_depth band lbn es + x) (depth_there (of_band band) lbn e its ∙ is) in
+      record {
+        most = λ lbn. elim (cases_Bool (is_in lbn e.block)) [
+          | inl inside ↦ let from : e.block.lbn ≤ lbn = grind (arith, nat_tests) in omega (arith, more lbn e.block.weight (rw inside refl), room lbn from)
+          | inr outside ↦ omega (arith, more lbn 0 (rw outside refl), h.most lbn)
+        ];
+        behind = λ lbn past.
+            let outside : is_in lbn e.block ≡ false = grind (arith, nat_tests) in
+            let from : e.block.lbn ≤ lbn = omega (arith, past) in
+            omega (arith, more lbn 0 (rw outside refl), room lbn from);
+        small = omega (arith, length-append es (e ∷ []), h.small, light);
+      }
+
+  deep_elsewhere : of_band band e ≡ false → IsDeep band (es ++ e ∷ []) d
+  deep_elsewhere other =
+      let same : (lbn : ℕ) → band_depth band lbn (es ++ e ∷ []) ≡ band_depth band lbn es
+      = λ lbn. omega (arith, depth-append (of_band band) lbn es (e ∷ []), depth_elsewhere (of_band band) lbn e other) in
+      record {
+        most = λ lbn. omega (arith, same lbn, h.most lbn);
+        behind = λ lbn past. omega (arith, same lbn, h.behind lbn past);
+        small = omega (arith, length-append es (e ∷ []), h.small);
+      }
+
+pub deep_pushed : (es items : List Entry) (e : Entry) (band : ℕ) (depths new : List Depth) → items ≡ es ++ e ∷ [] → band ≡ band_of e.block → e.block.weight ≤ 1000 → AreDeep es depths
+    → ((k : ℕ) → get_or new k no_depth ≡ (if band == k then deepened e.block (get_or depths k no_depth) else get_or depths k no_depth))
+    → AreDeep items new
+deep_pushed es items e band depths new list its light h changed = subst (λ l. AreDeep l new) (sym list) (record {
+  bounds = λ k. subst (IsDeep k (es ++ e ∷ [])) (sym (changed k)) (elim (cases_Bool (band == k)) [
+    | inl here ↦ rw here (deep_here k es e (get_or depths k no_depth) (h.bounds k) (ap (λ b. b == k) (sym its) ∙ here) light)
+    | inr other ↦ rw other (deep_elsewhere k es e (get_or depths k no_depth) (h.bounds k) (ap (λ b. b == k) (sym its) ∙ other))
+  ]);
+})
