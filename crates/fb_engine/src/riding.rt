@@ -13,7 +13,7 @@ ghost use Rattle.fb_engine.specs.Carried.{carried_of, ride_of, begins_in, begun_
 ghost use Rattle.fb_engine.specs.Deliveries.{IsCurrent, HasDelivered, AreDistinct, rides_in};
 
 use crate::background::Background;
-use fb_plan::{Catch, entry_on, is_wanted, place_in};
+use fb_plan::{Catch, is_wanted, place_in};
 use fb_rows::How;
 use fb_service::{Disk, Extent, Passage, nth_passage};
 use fb_store::Store;
@@ -86,9 +86,9 @@ fn add_carried(
     requires registered { AreWholeBlocks disk.now.map wanted.now }
     ensures { OnOk result (found.new.items ≡ fold place_in found.old.items (map (ride_of (all_passages_of disk.now.map extents.now)) (begun_in extent.now request (wanted_of (on_track extent.now.track wanted.now))))) }
 {
-    for i in 0..wanted.registered_on(extent.track) {
-        let entry = entry_on(wanted, extent.track, i);
-        add_ride(disk, request, extents, extent, entry, found)?;
+    let blocks = wanted.on(extent.track);
+    for i in 0..blocks.len() {
+        add_ride(disk, request, extents, extent, blocks.get(i), found)?;
     }
     Ok(())
 }

@@ -39,23 +39,6 @@ in_filter p (y ∷ ys) i x h = elim (cases_Bool (p y)) [
   | inr f ↦ let r = in_filter p ys i x (rw f at h) in (suc r.0, r.1, r.2)
 ]
 
-pub entry_at : (track : Track) (es : List Entry) (i : ℕ) (b : Block) → slice_get (blocks_of (on_track track es)) i ≡ Some b → i < length (on_track track es)
-    → (e : Entry) × (j : ℕ) × (slice_get (on_track track es) i ≡ Some e) × (slice_get es j ≡ Some e) × (e.block ≡ b)
-entry_at track es i b h lt =
-    let e = get_or (on_track track es) i (record { block = b; state = Wanted }) in
-    let at = slice_get-get_or (on_track track es) i (record { block = b; state = Wanted }) lt in
-    let j = in_filter (λ x. same_track track x.block.track) es i e at in
-    (e, j.0, at, j.1, some-one e.block b (sym (slice_get-map (λ x. x.block) (on_track track es) i ∙ ap (option_map (λ x. x.block)) at) ∙ h))
-
-same_itself : (n m : ℕ) (e : Entry) → e.block.task ≡ n → e.block.index ≡ m → is_block n m e ≡ true
-same_itself n m e p q = grind (arith, nat_tests)
-
-pub own_block : (b : Block) (e : Entry) → e.block ≡ b → is_block b.task b.index e ≡ true
-own_block b e h = same_itself b.task b.index e (ap (λ x. x.task) h) (ap (λ x. x.index) h)
-
-pub whole : (e : Entry) (b : Block) (s : State) → e.block ≡ b → e.state ≡ s → e ≡ record { block = b; state = s }
-whole e b s p q = ap (λ x. let y : Entry = record { block = x; state = e.state } in y) p ∙ ap (λ x. let y : Entry = record { block = b; state = x } in y) q
-
 abbrev worth : Block → ℕ
 worth b = b.weight * b.count
 

@@ -15,7 +15,8 @@ use fb_service::Disk;
 use fb_units::{Ns, Track};
 use fb_wanted::{Entry, Wanted};
 
-fn plan_by(way: Way, leave: Ns) -> Plan
+/// The plan of this way that leaves then.
+pub fn plan_by(way: Way, leave: Ns) -> Plan
     ensures { result ≡ plan_by way leave }
 {
     match way {
@@ -45,7 +46,8 @@ fn arrival(disk: &Disk, gap: &Gap, way: Way) -> Ns
     }
 }
 
-fn move_on(disk: &Disk, gap: &Gap, way: Way) -> Ns
+/// How long the head then moves to the target.
+pub fn move_on(disk: &Disk, gap: &Gap, way: Way) -> Ns
     requires gap { IsGap disk.now gap.now }
     requires track { IsTrackOf disk.now.map (early_track gap.now way) }
     ensures value { result ≡ move_on disk.now gap.entry.now way }
@@ -85,8 +87,8 @@ fn scored_by(disk: &Disk, wanted: &Wanted, gap: &Gap, sides: &Sides, plan: Plan)
     }
 }
 
-// The better of the best so far and a plan.
-fn try_plan(
+/// The better of the best so far and a plan.
+pub fn try_plan(
     disk: &Disk,
     wanted: &Wanted,
     gap: &Gap,
@@ -107,8 +109,8 @@ fn try_plan(
     choose(best, scored_by(disk, wanted, gap, sides, plan))
 }
 
-// Tries to leave when the passage of a wanted block ends.
-fn try_entry(
+/// Tries to leave when the passage of a wanted block ends.
+pub fn try_entry(
     disk: &Disk,
     wanted: &Wanted,
     gap: &Gap,
@@ -140,8 +142,8 @@ fn try_entry(
     try_plan(disk, wanted, gap, sides, plan_by(way, end), best)
 }
 
-// Where the head waits on this way, until the deadline at the latest.
-fn stay_of(disk: &Disk, gap: &Gap, way: Way) -> Dwell
+/// Where the head waits on this way, until the deadline at the latest.
+pub fn stay_of(disk: &Disk, gap: &Gap, way: Way) -> Dwell
     requires gap { IsGap disk.now gap.now }
     requires track { IsTrackOf disk.now.map (early_track gap.now way) }
     ensures value { result ≡ stay_of disk.now gap.entry.now way }

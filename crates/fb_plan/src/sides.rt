@@ -10,12 +10,16 @@ use fb_service::Disk;
 use fb_units::Track;
 use fb_wanted::{TrackBlocks, Wanted};
 
-// The blocks of the track where the head waits, and those of the target.
+/// The blocks of the track where the head waits, and those of the target, and how they pass.
 #[derive(Drop)]
 pub struct Sides<'a> {
+    /// Those of the track where the head waits.
     pub early: TrackBlocks<'a>,
+    /// How they pass from its arrival on.
     pub passing: Turning,
+    /// Those of the target.
     pub late: TrackBlocks<'a>,
+    /// How they pass from an instant on.
     pub passing_late: Turning,
 }
 
@@ -29,7 +33,7 @@ pub fn blocks_on<'a>(disk: &Disk, wanted: &'a Wanted, track: Track) -> TrackBloc
     wanted.on(track)
 }
 
-// Those of a dwell's track from its begin on, and those of the target.
+/// Those of a dwell's track from its begin on, and those of the target.
 pub fn sides_of<'a>(disk: &Disk, wanted: &'a Wanted, target: Track, dwell: Dwell) -> Sides<'a>
     requires blocks { AreOnDisk disk.now wanted.now }
     requires early { dwell.begin ≤ 9 * 10 ^ 18 }

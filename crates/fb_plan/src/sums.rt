@@ -1,10 +1,10 @@
 // The value of a plan.
-ghost use Rattle.std.specs.Prelude.{◌≡◌, ◌+◌, ◌*◌, ◌≤◌, ◌<◌, ◌^◌, ◌||◌, ◌&&◌, ℕ, Some, slice_get, length, if◌then◌else◌};
+ghost use Rattle.std.specs.Prelude.{◌≡◌, ◌+◌, ◌*◌, ◌≤◌, ◌<◌, ◌^◌, ◌||◌, ◌&&◌, ℕ, if◌then◌else◌};
 ghost use Rattle.std.specs.List.{sum_by};
 ghost use Rattle.fb_units.specs.Tracks.{same_track};
 ghost use Rattle.fb_model.specs.Plans.{catches, value, early_dwell, IsPlan};
 ghost use Rattle.fb_wanted.specs.declared.block.Entry.{Entry};
-ghost use Rattle.fb_wanted.specs.States.{on_track, is_wanted, wanted_of};
+ghost use Rattle.fb_wanted.specs.States.{is_wanted, wanted_of};
 ghost use Rattle.fb_plan.specs.Ways.{FitsDisk, AreOnDisk, IsGap};
 ghost use Rattle.fb_plan.specs.Turns.{IsTurning, AreSides, gain_by};
 
@@ -14,19 +14,6 @@ use fb_rows::{Gap, Plan};
 use fb_service::Disk;
 use fb_units::Track;
 use fb_wanted::{Entry, State, TrackBlocks, Wanted};
-
-/// The i-th registered block of the track and its state.
-pub fn entry_on(wanted: &Wanted, track: Track, i: u32) -> Entry
-    requires { i < length (on_track track wanted.now) }
-    ensures here { slice_get (on_track track wanted.now) i ≡ Some result }
-    ensures registered { (j : ℕ) × (slice_get wanted.now j ≡ Some result) }
-{
-    let block = wanted.block_on(track, i);
-    Entry {
-        block,
-        state: wanted.state(block.task, block.index),
-    }
-}
 
 /// Whether the state is that of a wanted block.
 pub fn is_wanted(state: State) -> bool

@@ -112,16 +112,13 @@ fn disk_of(alloc: Global, seek: &[SeekPoint], track_skew: u32) -> Result<Option<
     }
 }
 
-// The task's next block, unless it isn't on the disk.
+// The task's next block, unless it isn't one block of the disk.
 fn block_of(disk: &Disk, index: u32, wish: (u64, u32, u32)) -> Option<Block>
     ensures fits { IfSome result (λ block. FitsDisk disk.now block) }
     ensures numbered { IfSome result (λ block. (block.task ≡ 0) × (block.index ≡ index)) }
 {
     let (lbn, count, weight) = wish;
     if count == 0 {
-        return None;
-    }
-    if count > 2048 {
         return None;
     }
     if weight > 1000 {
@@ -133,17 +130,21 @@ fn block_of(disk: &Disk, index: u32, wish: (u64, u32, u32)) -> Option<Block>
     if disk.map.count() - (count as u64) < lbn {
         return None;
     }
+    let cut = disk.map.first_cut(lbn, count as u64, 2048);
+    if cut.count < count {
+        return None;
+    }
     Some(Block {
         task: 0,
         index,
-        lbn,
-        count,
-        track: disk.map.place(lbn).track,
+        lbn: cut.lbn,
+        count: cut.count,
+        track: cut.track,
         weight,
     })
 }
 
-// The blocks of one task, unless one of them isn't on the disk.
+// The blocks of one task, unless one of them isn't one of the disk.
 fn wanted_of(
     alloc: Global,
     disk: &Disk,
