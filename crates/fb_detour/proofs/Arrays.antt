@@ -1,10 +1,16 @@
 -- Arrays whose parts are written one after another.
-use Rattle.std.proofs.Common.{◌≡◌, ℕ, ◌+◌, ◌*◌, ◌/◌, ◌<◌, ◌≤◌, inl, inr, List, get_or, length, arith, sym, subst}
-use Rattle.std.specs.List.{slice_set}
-use Rattle.std.proofs.lemmas.Bool.{cases_lt}
+use Rattle.std.proofs.Common.{◌≡◌, ℕ, ◌+◌, ◌*◌, ◌/◌, ◌<◌, ◌≤◌, inl, inr, List, [], ◌∷◌, true, ◌==◌, zero, suc, get_or, length, refl, arith, sym, subst}
+use Rattle.std.specs.List.{slice_set, list_all}
+use Rattle.std.proofs.lemmas.Bool.{cases_lt, and_parts, eqb-true}
 use Rattle.std.proofs.lemmas.List.{get_or-set_same, get_or-set_other}
 use Rattle.std.proofs.lemmas.Nat.{div-add-mod'}
 use Rattle.std.proofs.Math.Nat.{mod-lt}
+
+-- parts that are all zero
+pub zeros : (xs : List ℕ) → list_all (λ x. x == 0) xs ≡ true → (k : ℕ) → get_or xs k 0 ≡ 0
+zeros [] all k = refl
+zeros (x ∷ xs) all zero = eqb-true x 0 (and_parts (x == 0) (list_all (λ x. x == 0) xs) all).0
+zeros (x ∷ xs) all (suc k) = zeros xs (and_parts (x == 0) (list_all (λ x. x == 0) xs) all).1 k
 
 module _ (P : ℕ → ℕ → Type 0) (xs : List ℕ) (k v : ℕ) where
   -- the parts so far and one more

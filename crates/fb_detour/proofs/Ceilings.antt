@@ -40,7 +40,7 @@ stay-done disk dwell es xs n sum same all s = stay-of disk dwell es xs sum same
     (s ∙ (ap (λ k. sum_by (stay_gain disk dwell) (take k xs)) all ∙ ap (sum_by (stay_gain disk dwell)) (take-length xs)))
 
 -- a sum of greater parts is no less
-sums-le : (f g : Entry → ℕ) → ((e : Entry) → f e ≤ g e) → (es : List Entry) → sum_by f es ≤ sum_by g es
+pub sums-le : (f g : Entry → ℕ) → ((e : Entry) → f e ≤ g e) → (es : List Entry) → sum_by f es ≤ sum_by g es
 sums-le f g le [] = omega arith
 sums-le f g le (e ∷ es) = omega (arith, sum_by-cons f e es, sum_by-cons g e es, le e, sums-le f g le es)
 

@@ -3,3 +3,12 @@ pub mod Ways
 pub mod Ranges
 pub mod Arrays
 pub mod Missed
+pub mod Leaving
+pub mod Counted
+pub mod Spread
+pub mod Within
+pub mod Rounds
+pub mod Packing
+pub mod Shares
+pub mod InTime
+pub mod Slots

@@ -16,7 +16,7 @@ use Rattle.fb_model.specs.Plans.{catches, block_begin, block_end}
 use Rattle.fb_detour.specs.Bounds.{stay_gain, stay, early_to, wanted_worth, missed}
 use Rattle.fb_detour.proofs.Ceilings.{worth, gain-worth, no_gain, and_false}
 
-if-le-n : (b : Bool) (n : ℕ) → (if b then n else 0) ≤ n
+pub if-le-n : (b : Bool) (n : ℕ) → (if b then n else 0) ≤ n
 if-le-n true n = omega arith
 if-le-n false n = omega arith
 

@@ -5,16 +5,18 @@ use Rattle.fb_units.specs.declared.types.Track.{Track}
 use Rattle.fb_service.specs.declared.disk.Disk.{Disk}
 use Rattle.fb_wanted.specs.declared.block.Block.{Block}
 use Rattle.fb_wanted.specs.declared.block.Entry.{Entry}
-use Rattle.fb_wanted.specs.States.{is_wanted, on_track}
+use Rattle.fb_wanted.specs.States.{is_wanted, on_track, wanted_of}
 use Rattle.fb_rows.specs.declared.gap.Dwell.{Dwell}
 use Rattle.fb_rows.specs.declared.gap.Gap.{Gap}
 use Rattle.fb_rows.specs.declared.gap.Plan.{Plan}
 use Rattle.fb_rows.specs.declared.gap.Plan.TheVariants.{Detour}
-use Rattle.fb_model.specs.Plans.{block_begin, catches, IsDetour, IsNoLater, IsTrackBefore}
+use Rattle.fb_model.specs.Plans.{block_begin, catches, value, IsPlan, IsDetour, IsNoLater, IsTrackBefore}
 use Rattle.fb_plan.specs.declared.choice.Scored.{Scored}
+use Rattle.fb_plan.specs.declared.way.Way.{Way}
+use Rattle.fb_detour.specs.declared.stretches.Ceilings.{Ceilings}
 use Rattle.fb_detour.specs.declared.parts.LateParts.{LateParts}
 use Rattle.fb_detour.specs.declared.stop.Stop.{Stop}
-use Rattle.fb_plan.specs.Ways.{Beats, AreOnDisk}
+use Rattle.fb_plan.specs.Ways.{Beats, AreOnDisk, plan_by, arrival, move_on}
 use Rattle.fb_plan.specs.Turns.{IsTurning}
 
 -- what a registered block adds to a stay of the head on its track
@@ -52,6 +54,20 @@ pub record IsLate (disk : Disk) (gap : Gap) (entries : List Entry) (late : LateP
   pub each : (k : ℕ) → k < 32 → stay disk (late_most gap (late.begin + k * late.step)) entries ≤ get_or late.parts k 0
   pub small : (k : ℕ) → k < 32 → get_or late.parts k 0 ≤ 16000000 * 2048000
 
+-- the ceiling of the plan that leaves then: what the track gives up to the end of the leave's stretch, and what the target gives after the move
+abbrev pub ceiling_at : Ceilings → ℕ → ℕ
+ceiling_at ceilings leave = get_or ceilings.early (min ((leave - ceilings.begin) / ceilings.step) 15) 0 + part_at ceilings.late (leave + ceilings.move_on)
+
+-- no plan of the way is worth more than its ceiling
+pub record AreCeilings (disk : Disk) (gap : Gap) (entries : List Entry) (way : Way) (ceilings : Ceilings) : Type 0 where
+  pub some : 0 < ceilings.step
+  pub begin : ceilings.begin ≡ arrival disk gap way
+  pub on : ceilings.move_on ≡ move_on disk gap way
+  pub soon : ceilings.move_on ≤ 2 * 10 ^ 9
+  pub late : IsLate disk gap entries ceilings.late
+  pub small : (k : ℕ) → k < 16 → get_or ceilings.early k 0 ≤ 16000000 * 2048000
+  pub most : (leave : ℕ) → IsPlan disk gap (plan_by way leave) → value disk gap (wanted_of entries) (plan_by way leave) ≤ ceiling_at ceilings leave
+
 -- the blocks of a track, and how they pass from the arrival on
 pub record IsStop (disk : Disk) (entries : List Entry) (stop : Stop) : Type 0 where
   pub its : stop.blocks ≡ on_track stop.track entries
@@ -79,3 +95,7 @@ IsAhead plan track = (other : Track) (leave : ℕ) → (IsTrackBefore other trac
 -- no detour of this value, over this track or a later one, is better than the best so far
 abbrev pub IsEnough : Scored → ℕ → Track → Type 0
 IsEnough best ceiling track = (ceiling < best.value) ⊎ ((ceiling ≡ best.value) × IsAhead best.plan track)
+
+-- no more slots of a track of n than this begin and end in so much time
+abbrev pub slots_within : ℕ → ℕ → ℕ → ℕ
+slots_within rotation n time = time / (rotation / n) + 1

@@ -1,19 +1,26 @@
 // What bounds the value of detours.
-ghost use Rattle.std.specs.Prelude.{◌≡◌, ◌+◌, ◌*◌, ◌≤◌, ◌<◌, ◌^◌, ℕ, true, false};
+ghost use Rattle.std.specs.Prelude.{◌≡◌, ◌+◌, ◌*◌, ◌≤◌, ◌<◌, ◌^◌, ℕ, true, false, nat_le, if◌then◌else◌};
 ghost use Rattle.std.specs.List.{sum_by};
 ghost use Rattle.fb_units.specs.declared.types.Track.{Track};
+ghost use Rattle.fb_geometry.specs.Shape.{IsTrackOf, slots_at};
 ghost use Rattle.fb_seek.specs.Positioning.{pos};
-ghost use Rattle.fb_model.specs.Plans.{IsTrackBefore};
+ghost use Rattle.fb_model.specs.Plans.{value, IsDetour, IsTrackBefore};
+ghost use Rattle.fb_wanted.specs.Depth.{depth_at};
+ghost use Rattle.fb_wanted.specs.States.{wanted_of};
 ghost use Rattle.fb_wanted.specs.Tracks.{HasBlock, wanted_weight};
 ghost use Rattle.fb_plan.specs.Ways.{FitsDisk, AreOnDisk, IsGap};
 ghost use Rattle.fb_plan.specs.Turns.{IsTurning};
 ghost use Rattle.fb_detour.specs.Bounds.{stay_gain, distance_to, IsAhead, IsEnough};
 
+use fb_geometry::Zone;
 use fb_plan::{Scored, Turning, is_wanted};
 use fb_rows::{Dwell, Gap, Plan};
 use fb_service::Disk;
 use fb_units::{Ns, Track};
 use fb_wanted::{BAND, Entry, TrackBlocks, Wanted};
+
+// Where more time is left, more may pass in it than a number holds.
+pub const LONG: Ns = 1_000_000_000;
 
 // What the block adds to the stay.
 fn stay_gain(disk: &Disk, passing: &Turning, dwell: Dwell, entry: Entry) -> u64
@@ -116,6 +123,73 @@ pub fn may_want(wanted: &Wanted, from: u32, end: u32) -> bool
         return false;
     }
     has_registered(wanted, from, end)
+}
+
+// No block of these cylinders, or of the target, has a sector of which more is wanted.
+fn most_depth(wanted: &Wanted, from: u32, end: u32, target: Track) -> u64
+    requires some { from < end }
+    ensures each { (track : Track) (lbn : ℕ) → from ≤ track.cylinder → track.cylinder < end → depth_at track lbn wanted.now ≤ result }
+    ensures target { (lbn : ℕ) → depth_at target lbn wanted.now ≤ result }
+    ensures small { result ≤ 16000000 * 1000 }
+{
+    let mut depth = wanted.depth_in(target.cylinder / BAND);
+    for band in from / BAND..(end - 1) / BAND + 1 {
+        depth = depth.max(wanted.depth_in(band));
+    }
+    depth
+}
+
+// The slots of a track of the zone, if it doesn't end before the cylinder.
+fn slots_from(zone: Zone, cylinder: u32) -> u32
+    ensures { result ≡ (if nat_le cylinder zone.last then zone.sectors else 0) }
+{
+    if cylinder <= zone.last {
+        zone.sectors
+    } else {
+        0
+    }
+}
+
+// No track of these cylinders has more slots, nor has the target.
+fn most_slots(disk: &Disk, from: u32, end: u32, target: Track) -> u32
+    requires some { from < end }
+    requires target { IsTrackOf disk.now.map target }
+    ensures each { (cylinder : ℕ) → from ≤ cylinder → cylinder < end → slots_at disk.now.map.zones cylinder ≤ result }
+    ensures target { slots_at disk.now.map.zones target.cylinder ≤ result }
+    ensures some { 0 < result }
+    ensures room { result ≤ disk.now.map.rotation }
+{
+    let geometry = disk.map.geometry();
+    geometry.sound();
+    let mut slots = geometry.slots(target);
+    for i in 0..geometry.zones() {
+        let zone = geometry.zone(i);
+        slots = slots.max(slots_from(zone, from));
+        if end - 1 <= zone.last {
+            return slots;
+        }
+    }
+    slots
+}
+
+// No detour over a track of these cylinders is worth more: no more sectors pass in the time that is
+// left than slots do, and none lies in blocks of more weight.
+pub fn most_in_time(disk: &Disk, wanted: &Wanted, gap: &Gap, from: u32, end: u32, left: Ns) -> u64
+    requires some { from < end }
+    requires gap { IsGap disk.now gap.now }
+    requires blocks { AreOnDisk disk.now wanted.now }
+    requires short { left ≤ 10 ^ 9 }
+    requires left { (track : Track) → from ≤ track.cylinder → track.cylinder < end
+        → gap.now.deadline ≤ gap.now.now + left + (pos disk.now.mechanism gap.now.source track false + pos disk.now.mechanism track gap.now.target gap.now.write) }
+    ensures { (track : Track) (leave : ℕ) → from ≤ track.cylinder → track.cylinder < end → IsDetour disk.now gap.entry.now track leave
+        → value disk.now gap.entry.now (wanted_of wanted.now) (Plan.Detour track leave) ≤ result }
+{
+    let geometry = disk.map.geometry();
+    geometry.sound();
+    geometry.own_places();
+    let slots = most_slots(disk, from, end, gap.target);
+    let share = geometry.rotation() / slots as u64;
+    most_depth(wanted, from, end, gap.target) * (left / share + 2)
 }
 
 fn is_track_before(a: Track, b: Track) -> bool

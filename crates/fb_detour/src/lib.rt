@@ -2,12 +2,14 @@
 #![tactic(auto)]
 
 mod bounds;
+mod candidates;
 mod indexed;
 mod leaves;
 mod missing;
 mod parts;
 mod search;
 mod stop;
+mod stretches;
 #[cfg(test)]
 mod tests;
 

@@ -1,6 +1,5 @@
 // Tracks of which too many blocks begin to pass too late.
 ghost use Rattle.std.specs.Prelude.{◌≡◌, ◌+◌, ◌*◌, ◌≤◌, ℕ, true};
-ghost use Rattle.fb_wanted.specs.Tracks.{wanted_weight};
 ghost use Rattle.fb_plan.specs.Ways.{FitsDisk};
 ghost use Rattle.fb_plan.specs.Turns.{IsTurning};
 ghost use Rattle.fb_detour.specs.Bounds.{stay, missed, early_to, IsEnough, IsStop};
@@ -33,18 +32,16 @@ pub fn misses_enough(
     disk: &Disk,
     wanted: &Wanted,
     stop: &Stop,
-    weight: u64,
     latest: Ns,
     late: u64,
     best: Scored,
 ) -> bool
     requires stop { IsStop disk.now wanted.now stop.now }
-    requires weight { weight ≡ wanted_weight stop.now.track wanted.now }
-    requires small { weight + late ≤ 32000000 * 2048000 }
+    requires small { late ≤ 16000000 * 2048000 }
     ensures { result ≡ true → (most : ℕ) × (stay disk.now (early_to stop.now.track stop.now.arrive latest) wanted.now ≤ most) × IsEnough best (most + late) stop.now.track }
 {
     let _ = wanted;
-    let mut most = weight;
+    let mut most = stop.blocks.wanted_weight();
     for i in 0..stop.blocks.len() {
         most -= missed(disk, &stop.passing, stop.blocks.get(i), latest);
         if is_enough(best, most + late, stop.track) {

@@ -1,17 +1,16 @@
 // What a track, or the target, gives by one instant after another, in one array.
-ghost use Rattle.std.specs.Prelude.{◌≡◌, ◌+◌, ◌-◌, ◌*◌, ◌/◌, ◌≤◌, ◌<◌, ◌^◌, ℕ, get_or, nat_le, if◌then◌else◌};
-ghost use Rattle.fb_wanted.specs.States.{on_track};
+ghost use Rattle.std.specs.Prelude.{◌≡◌, ◌+◌, ◌-◌, ◌*◌, ◌/◌, ◌≤◌, ◌<◌, ◌^◌, ℕ, get_or, nat_le, if◌then◌else◌, IfSome, IfNone};
+ghost use Rattle.fb_model.specs.Plans.{block_end};
 ghost use Rattle.fb_plan.specs.Ways.{FitsDisk, AreOnDisk, IsGap};
 ghost use Rattle.fb_plan.specs.Turns.{IsTurning};
 ghost use Rattle.fb_detour.specs.Bounds.{stay, stay_gain, early_to, late_most, IsLate, IsStop, part_at};
 
-use crate::bounds::stay_value;
 use crate::stop::Stop;
 use fb_plan::{Turning, blocks_on, is_same, is_wanted};
-use fb_rows::{Dwell, Gap};
+use fb_rows::Gap;
 use fb_service::Disk;
 use fb_units::Ns;
-use fb_wanted::{Entry, TrackBlocks, Wanted};
+use fb_wanted::{Block, Entry, Wanted};
 
 // How many parts the time of the gap has.
 const LATE: usize = 32;
@@ -24,34 +23,71 @@ pub struct LateParts {
     pub parts: [u64; LATE],
 }
 
-// What the target can still give to a head that comes there then.
-fn late_value(
-    disk: &Disk,
-    wanted: &Wanted,
-    gap: &Gap,
-    blocks: &TrackBlocks,
-    passing: &Turning,
-    from: Ns,
-) -> u64
-    requires early { from ≤ gap.now.deadline }
-    requires gap { IsGap disk.now gap.now }
-    requires its { blocks.now ≡ on_track gap.now.target wanted.now }
-    requires on_disk { AreOnDisk disk.now blocks.now }
-    requires passing { IsTurning disk.now passing.now }
-    ensures value { result ≡ stay disk.now (late_most gap.entry.now from) wanted.now }
-    ensures small { result ≤ 16000000 * 2048000 }
+// The worth, where the instant comes by then.
+fn worth_by(instant: Ns, upto: Ns, worth: u64) -> u64
+    ensures value { result ≡ (if nat_le instant upto then worth else 0) }
+    ensures small { result ≤ worth }
 {
-    let _ = wanted;
-    stay_value(
-        disk,
-        blocks,
-        &passing.again(disk, from),
-        Dwell {
-            track: gap.target,
-            begin: from,
-            end: gap.deadline,
-        },
-    )
+    if instant <= upto { worth } else { 0 }
+}
+
+// The last instant from which a head on the target still catches the block: it comes round once a
+// rotation. None where it doesn't pass whole before the deadline.
+fn last_catch(disk: &Disk, gap: &Gap, passing: &Turning, block: Block) -> Option<Ns>
+    requires gap { IsGap disk.now gap.now }
+    requires fits { FitsDisk disk.now block }
+    requires passing { IsTurning disk.now passing.now }
+    requires from { passing.now.from ≡ gap.now.now }
+    ensures some { IfSome result (λ last. (from : ℕ) → gap.entry.now.now ≤ from → block_end disk.now.map block from ≤ gap.entry.now.deadline → from ≤ last) }
+    ensures none { IfNone result ((from : ℕ) → gap.entry.now.now ≤ from → gap.entry.now.deadline < block_end disk.now.map block from) }
+{
+    let end = passing.end(disk, block);
+    if gap.deadline < end {
+        return None;
+    }
+    let rotation = disk.map.geometry().rotation();
+    let turns = (gap.deadline - end) / rotation;
+    Some(passing.begin(disk, block) + turns * rotation)
+}
+
+// Adds the worth to each part that begins by the last instant.
+fn add_last(last: Ns, worth: u64, begin: Ns, step: Ns, parts: &mut [u64; LATE])
+    requires begin { begin ≤ 9 * 10 ^ 18 }
+    requires step { step ≤ 29 * 10 ^ 16 }
+    requires worth { worth ≤ 2048000 }
+    requires room { (k : ℕ) → k < 32 → get_or parts.old k 0 ≤ 16000000 * 2048000 }
+    ensures { (k : ℕ) → k < 32 → get_or parts.new k 0 ≡ get_or parts.old k 0 + (if nat_le (begin + k * step) last then worth else 0) }
+{
+    for k in 0..LATE {
+        parts[k] += worth_by(begin + k as u64 * step, last, worth);
+    }
+}
+
+// Adds the block to each part from whose begin the target still catches it.
+fn add_late(
+    disk: &Disk,
+    gap: &Gap,
+    passing: &Turning,
+    step: Ns,
+    entry: Entry,
+    parts: &mut [u64; LATE],
+)
+    requires gap { IsGap disk.now gap.now }
+    requires fits { FitsDisk disk.now entry.block }
+    requires passing { IsTurning disk.now passing.now }
+    requires from { passing.now.from ≡ gap.now.now }
+    requires step { step ≤ 29 * 10 ^ 16 }
+    requires room { (k : ℕ) → k < 32 → get_or parts.old k 0 ≤ 16000000 * 2048000 }
+    ensures most { (k : ℕ) → k < 32 → get_or parts.old k 0 + stay_gain disk.now (late_most gap.entry.now (gap.entry.now.now + k * step)) entry ≤ get_or parts.new k 0 }
+    ensures small { (k : ℕ) → k < 32 → get_or parts.new k 0 ≤ get_or parts.old k 0 + 2048000 }
+{
+    if !is_wanted(entry.state) {
+        return;
+    }
+    if let Some(last) = last_catch(disk, gap, passing, entry.block) {
+        let worth = entry.block.weight as u64 * entry.block.count as u64;
+        add_last(last, worth, gap.now, step, parts);
+    }
 }
 
 // What the target can still give at each part of the gap.
@@ -64,9 +100,8 @@ pub fn late_parts(disk: &Disk, wanted: &Wanted, gap: &Gap) -> LateParts
     let passing = Turning::new(disk, &blocks, gap.now);
     let step = (gap.deadline - gap.now) / LATE as u64 + 1;
     let mut parts = [0; LATE];
-    for k in 0..LATE {
-        let from = gap.deadline.min(gap.now + k as u64 * step);
-        parts[k] = late_value(disk, wanted, gap, &blocks, &passing, from);
+    for i in 0..blocks.len() {
+        add_late(disk, gap, &passing, step, blocks.get(i), &mut parts);
     }
     LateParts {
         begin: gap.now,
@@ -90,14 +125,6 @@ pub fn late_at(late: &LateParts, from: Ns) -> u64
 // How many stretches the time on a track has.
 pub const EARLY: usize = 16;
 
-// What a passage that ends then adds up to an instant.
-fn passed_by(end: Ns, upto: Ns, worth: u64) -> u64
-    ensures value { result ≡ (if nat_le end upto then worth else 0) }
-    ensures small { result ≤ worth }
-{
-    if end <= upto { worth } else { 0 }
-}
-
 // Adds a passage to each part up to which it has ended.
 fn add_passage(end: Ns, worth: u64, arrive: Ns, step: Ns, parts: &mut [u64; EARLY])
     requires arrive { arrive ≤ 9 * 10 ^ 18 }
@@ -107,7 +134,7 @@ fn add_passage(end: Ns, worth: u64, arrive: Ns, step: Ns, parts: &mut [u64; EARL
     ensures { (k : ℕ) → k < 16 → get_or parts.new k 0 ≡ get_or parts.old k 0 + (if nat_le end (arrive + (k + 1) * step) then worth else 0) }
 {
     for k in 0..EARLY {
-        parts[k] += passed_by(end, arrive + (k as u64 + 1) * step, worth);
+        parts[k] += worth_by(end, arrive + (k as u64 + 1) * step, worth);
     }
 }
 

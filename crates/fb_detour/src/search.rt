@@ -1,19 +1,22 @@
 // The search over tracks: a track is passed over where no detour over it is better than the best so far.
-ghost use Rattle.std.specs.Prelude.{◌≡◌, ◌+◌, ◌≤◌, ◌<◌, true};
+ghost use Rattle.std.specs.Prelude.{◌≡◌, ◌+◌, ◌≤◌, ◌<◌, true, false};
+ghost use Rattle.fb_units.specs.declared.types.Track.{Track};
 ghost use Rattle.fb_geometry.specs.Shape.{IsTrackOf};
+ghost use Rattle.fb_seek.specs.Positioning.{pos};
 ghost use Rattle.fb_wanted.specs.States.{wanted_of};
 ghost use Rattle.fb_plan.specs.Ways.{AreOnDisk, IsGap, IsScored, Beats};
 ghost use Rattle.fb_detour.specs.Bounds.{BeatsOver, BeatsRange, IsLate};
 
-use crate::bounds::{is_enough, least_way, may_want};
-use crate::leaves::leaves_beaten;
+use crate::bounds::{LONG, is_enough, least_way, may_want, most_in_time};
+use crate::candidates::try_leaves;
+use crate::leaves::{leaves_beaten, time_beaten};
 use crate::missing::misses_enough;
-use crate::parts::{LateParts, late_at, late_parts};
+use crate::parts::{LateParts, late_at};
 use crate::stop::stop_at;
-use fb_plan::{Scored, Way, blocks_on, is_same, try_way};
+use fb_plan::{Scored, Way, blocks_on, is_same};
 use fb_rows::Gap;
 use fb_service::Disk;
-use fb_units::Track;
+use fb_units::{Ns, Track};
 use fb_wanted::Wanted;
 
 // Whether no detour over the track is better than the best so far.
@@ -43,9 +46,12 @@ fn is_hopeless(
     if is_enough(best, weight + after, track) {
         return true;
     }
+    if time_beaten(disk, wanted, gap, late, track, arrive, move_on, best) {
+        return true;
+    }
     let stop = stop_at(disk, wanted, blocks, track, arrive);
     let latest = gap.deadline - move_on;
-    if misses_enough(disk, wanted, &stop, weight, latest, after, best) {
+    if misses_enough(disk, wanted, &stop, latest, after, best) {
         return true;
     }
     leaves_beaten(disk, wanted, gap, late, &stop, move_on, best)
@@ -78,7 +84,7 @@ fn try_track(
     if is_hopeless(disk, wanted, gap, late, track, start) {
         return start;
     }
-    try_way(disk, wanted, gap, Way::Over(track), start)
+    try_leaves(disk, wanted, gap, late, Way::Over(track), start)
 }
 
 // Tries the tracks of a cylinder.
@@ -106,6 +112,39 @@ fn try_cylinder(
     best
 }
 
+// Whether so little time is left that no detour over a track of these cylinders is better than the
+// best so far.
+fn is_too_short(
+    disk: &Disk,
+    wanted: &Wanted,
+    gap: &Gap,
+    from: u32,
+    end: u32,
+    left: Ns,
+    best: Scored,
+) -> bool
+    requires some { from < end }
+    requires gap { IsGap disk.now gap.now }
+    requires blocks { AreOnDisk disk.now wanted.now }
+    requires left { (track : Track) → from ≤ track.cylinder → track.cylinder < end
+        → gap.now.deadline ≤ gap.now.now + left + (pos disk.now.mechanism gap.now.source track false + pos disk.now.mechanism track gap.now.target gap.now.write) }
+    requires best { IsScored disk.now gap.now (wanted_of wanted.now) best }
+    ensures { result ≡ true → BeatsRange disk.now gap.entry.now (wanted_of wanted.now) best.plan from end }
+{
+    if LONG < left {
+        return false;
+    }
+    let first = Track {
+        cylinder: from,
+        head: 0,
+    };
+    is_enough(
+        best,
+        most_in_time(disk, wanted, gap, from, end, left),
+        first,
+    )
+}
+
 // Whether no detour over a track of these cylinders is better than the best so far.
 fn can_skip(
     disk: &Disk,
@@ -126,6 +165,9 @@ fn can_skip(
 {
     let arrive = gap.now + least_way(disk, gap, from, end);
     if gap.deadline < arrive {
+        return true;
+    }
+    if is_too_short(disk, wanted, gap, from, end, gap.deadline - arrive, best) {
         return true;
     }
     if may_want(wanted, from, end) {
@@ -161,27 +203,111 @@ fn skip(disk: &Disk, wanted: &Wanted, gap: &Gap, late: &LateParts, from: u32, be
     next
 }
 
-// Tries the tracks of all cylinders.
-pub fn try_all(disk: &Disk, wanted: &Wanted, gap: &Gap, start: Scored) -> Scored
+// The cylinders from this one on, before one, can be passed over: twice as many at each step.
+fn skip_down(
+    disk: &Disk,
+    wanted: &Wanted,
+    gap: &Gap,
+    late: &LateParts,
+    end: u32,
+    best: Scored,
+) -> u32
+    requires within { end ≤ disk.now.mechanism.cylinders }
     requires gap { IsGap disk.now gap.now }
     requires blocks { AreOnDisk disk.now wanted.now }
+    requires late { IsLate disk.now gap.now wanted.now late.now }
+    requires best { IsScored disk.now gap.now (wanted_of wanted.now) best }
+    ensures before { result ≤ end }
+    ensures passed { BeatsRange disk.now gap.entry.now (wanted_of wanted.now) best.plan result end }
+{
+    let mut low = end;
+    while low > 0 {
+        let from = low - low.min(end - low + 1);
+        if !can_skip(disk, wanted, gap, late, from, low, best) {
+            return low;
+        }
+        low = from;
+    }
+    low
+}
+
+// Tries the tracks of the cylinders from one on, upwards.
+fn try_upwards(
+    disk: &Disk,
+    wanted: &Wanted,
+    gap: &Gap,
+    late: &LateParts,
+    first: u32,
+    start: Scored,
+) -> Scored
+    requires within { first ≤ disk.now.mechanism.cylinders }
+    requires gap { IsGap disk.now gap.now }
+    requires blocks { AreOnDisk disk.now wanted.now }
+    requires late { IsLate disk.now gap.now wanted.now late.now }
+    requires best { IsScored disk.now gap.now (wanted_of wanted.now) start }
+    ensures scored { IsScored disk.now gap.entry.now (wanted_of wanted.now) result }
+    ensures keeps { Beats disk.now gap.entry.now (wanted_of wanted.now) result.plan start.plan }
+    ensures tried { BeatsRange disk.now gap.entry.now (wanted_of wanted.now) result.plan first disk.now.mechanism.cylinders }
+{
+    let end = disk.map.geometry().cylinders();
+    let mut best = start;
+    let mut from = first;
+    while from < end {
+        let next = skip(disk, wanted, gap, late, from, best);
+        if from < next {
+            from = next;
+        } else {
+            best = try_cylinder(disk, wanted, gap, late, from, best);
+            from += 1;
+        }
+    }
+    best
+}
+
+// Tries the tracks of the cylinders before one, downwards.
+fn try_downwards(
+    disk: &Disk,
+    wanted: &Wanted,
+    gap: &Gap,
+    late: &LateParts,
+    end: u32,
+    start: Scored,
+) -> Scored
+    requires within { end ≤ disk.now.mechanism.cylinders }
+    requires gap { IsGap disk.now gap.now }
+    requires blocks { AreOnDisk disk.now wanted.now }
+    requires late { IsLate disk.now gap.now wanted.now late.now }
+    requires best { IsScored disk.now gap.now (wanted_of wanted.now) start }
+    ensures scored { IsScored disk.now gap.entry.now (wanted_of wanted.now) result }
+    ensures keeps { Beats disk.now gap.entry.now (wanted_of wanted.now) result.plan start.plan }
+    ensures tried { BeatsRange disk.now gap.entry.now (wanted_of wanted.now) result.plan 0 end }
+{
+    let mut best = start;
+    let mut low = end;
+    while low > 0 {
+        let next = skip_down(disk, wanted, gap, late, low, best);
+        if next < low {
+            low = next;
+        } else {
+            low -= 1;
+            best = try_cylinder(disk, wanted, gap, late, low, best);
+        }
+    }
+    best
+}
+
+// Tries the tracks of all cylinders, from that of the source upwards and then downwards: what is near
+// promises most.
+pub fn try_all(disk: &Disk, wanted: &Wanted, gap: &Gap, late: &LateParts, start: Scored) -> Scored
+    requires gap { IsGap disk.now gap.now }
+    requires blocks { AreOnDisk disk.now wanted.now }
+    requires late { IsLate disk.now gap.now wanted.now late.now }
     requires best { IsScored disk.now gap.now (wanted_of wanted.now) start }
     ensures scored { IsScored disk.now gap.entry.now (wanted_of wanted.now) result }
     ensures keeps { Beats disk.now gap.entry.now (wanted_of wanted.now) result.plan start.plan }
     ensures tried { BeatsRange disk.now gap.entry.now (wanted_of wanted.now) result.plan 0 disk.now.mechanism.cylinders }
 {
-    let late = late_parts(disk, wanted, gap);
-    let end = disk.map.geometry().cylinders();
-    let mut best = start;
-    let mut from = 0;
-    while from < end {
-        let next = skip(disk, wanted, gap, &late, from, best);
-        if from < next {
-            from = next;
-        } else {
-            best = try_cylinder(disk, wanted, gap, &late, from, best);
-            from += 1;
-        }
-    }
-    best
+    let source = gap.source.cylinder;
+    let above = try_upwards(disk, wanted, gap, late, source, start);
+    try_downwards(disk, wanted, gap, late, source, above)
 }

@@ -149,15 +149,12 @@ fn disk_of(
     }
 }
 
-// The task's next block, unless it isn't on the disk.
+// The task's next block, unless it isn't one block of the disk.
 fn block_of(disk: &Disk, index: u32, wish: Wish) -> Option<Block>
     ensures fits { IfSome result (λ block. FitsDisk disk.now block) }
     ensures numbered { IfSome result (λ block. (block.task ≡ 0) × (block.index ≡ index)) }
 {
     if wish.count == 0 {
-        return None;
-    }
-    if wish.count > 2048 {
         return None;
     }
     if wish.weight > 1000 {
@@ -169,17 +166,21 @@ fn block_of(disk: &Disk, index: u32, wish: Wish) -> Option<Block>
     if disk.map.count() - (wish.count as u64) < wish.lbn {
         return None;
     }
+    let cut = disk.map.first_cut(wish.lbn, wish.count as u64, 2048);
+    if cut.count < wish.count {
+        return None;
+    }
     Some(Block {
         task: 0,
         index,
-        lbn: wish.lbn,
-        count: wish.count,
-        track: disk.map.place(wish.lbn).track,
+        lbn: cut.lbn,
+        count: cut.count,
+        track: cut.track,
         weight: wish.weight,
     })
 }
 
-// The blocks of one task, unless one of them isn't on the disk.
+// The blocks of one task, unless one of them isn't one of the disk.
 fn wanted_of(alloc: Global, disk: &Disk, wishes: &[Wish]) -> Result<Option<Wanted>, NoMemory>
     ensures { IfOk result (λ some. IfSome some (λ wanted. AreOnDisk disk.now wanted)) }
 {
@@ -332,9 +333,15 @@ fn made_track(number: u64, cylinders: u32) -> Track
 fn made_wish(number: u64, cylinders: u32) -> Wish
     requires { 0 < cylinders }
 {
+    let lbn = part(number, 10, 24 * cylinders as u64);
+    let is_last_of_track = lbn % 12 == 11;
     Wish {
-        lbn: part(number, 10, 24 * cylinders as u64 - 1),
-        count: 1 + part(number, 24, 2) as u32,
+        lbn,
+        count: if is_last_of_track {
+            1
+        } else {
+            1 + part(number, 24, 2) as u32
+        },
         weight: 1 + part(number, 32, 3) as u32,
         suspended: part(number, 40, 4) == 0,
     }

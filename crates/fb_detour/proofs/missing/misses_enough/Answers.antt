@@ -1,7 +1,12 @@
-use Rattle.std.proofs.Common.{arith, ap, sym, subst, ◌∙◌, ◌≤◌, ◌+◌, ◌-◌, slice_get}
+use Rattle.std.proofs.Common.{arith, ap, sym, subst, ◌∙◌, ◌≤◌, ◌+◌, ◌-◌, ◌*◌, slice_get}
+use Rattle.std.specs.List.{sum_by}
+use Rattle.fb_wanted.specs.States.{wanted_of}
 use Rattle.fb_detour.specs.Bounds.{stay, early_to}
 use Rattle.fb_detour.proofs.Missed.{missed-more, missed-so-far}
 use Rattle.fb_detour.proofs.missing.misses_enough.Goals as goal
+
+pub loop-i-init : goal.loop-i-init
+loop-i-init c = omega (arith, c.wanted_weight-most.ensures.sum, ap (λ xs. sum_by (λ b. b.weight * b.count) (wanted_of xs)) c.requires.stop.its)
 
 pub overflow_sub-most : goal.overflow_sub-most
 overflow_sub-most c =
@@ -27,3 +32,6 @@ loop-i-preserved c =
     let stop = c.args.stop.now in
     (missed-more c.args.disk.now stop.track stop.passing.from c.args.latest c.loop-i.i c.loop-i.most c.missed-most.result c.args.wanted.now c.get.result
     (ap (λ xs. slice_get xs c.loop-i.i) (sym c.requires.stop.its) ∙ c.get.ensures) c.missed-most.ensures c.loop-i.invariant).1
+
+pub missed-most-requires-clause-fits : goal.missed-most-requires-clause-fits
+missed-most-requires-clause-fits c = c.requires.stop.on_disk c.loop-i.i c.get.result c.get.ensures

@@ -5,9 +5,9 @@ use Rattle.fb_detour.proofs.parts.add_passage.Goals as goal
 
 pub loop-k-preserved : goal.loop-k-preserved
 loop-k-preserved c =
-    let sum = get_or c.loop-k.parts c.loop-k.k 0 + c.passed_by.result in (
+    let sum = get_or c.loop-k.parts c.loop-k.k 0 + c.worth_by.result in (
       length-set c.loop-k.parts c.loop-k.k sum ∙ c.loop-k.invariant.0,
       set-below (λ j part. part ≡ get_or c.args.parts.now j 0 + (if nat_le c.args.end (c.args.arrive + (j + 1) * c.args.step) then c.args.worth else 0)) c.loop-k.parts c.loop-k.k sum
-          (omega (arith, c.loop-k.invariant.0, c.loop-k-test.true)) c.loop-k.invariant.1 (omega (arith, c.loop-k.invariant.2 c.loop-k.k (omega arith), c.passed_by.ensures.value)),
+          (omega (arith, c.loop-k.invariant.0, c.loop-k-test.true)) c.loop-k.invariant.1 (omega (arith, c.loop-k.invariant.2 c.loop-k.k (omega arith), c.worth_by.ensures.value)),
       set-above (λ j part. part ≡ get_or c.args.parts.now j 0) c.loop-k.parts c.loop-k.k sum c.loop-k.invariant.2,
     )

@@ -14,3 +14,6 @@ returns-clause-each c = λ k less.
     let stop = c.args.stop.now in
     stay-done c.args.disk.now (early_to stop.track stop.arrive (stop.arrive + (k + 1) * c.args.step)) c.args.wanted.now stop.blocks c.loop-i.i _ c.requires.stop.its
     (omega (arith, c.loop-i-test.false, c.loop-i.auto.i-end, c.len-i-end.ensures.count)) (c.loop-i.invariant k less).1
+
+pub add_entry-requires-clause-fits : goal.add_entry-requires-clause-fits
+add_entry-requires-clause-fits c = c.requires.stop.on_disk c.loop-i.i c.get.result c.get.ensures

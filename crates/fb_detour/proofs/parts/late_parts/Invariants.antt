@@ -1,6 +1,8 @@
-use Rattle.std.proofs.Common.{◌≡◌, ◌+◌, ◌*◌, ◌<◌, ◌≤◌, ℕ, get_or, length}
-use Rattle.fb_detour.specs.Bounds.{stay, late_most}
+use Rattle.std.proofs.Common.{◌+◌, ◌*◌, ◌<◌, ◌≤◌, ℕ, get_or, take}
+use Rattle.std.specs.List.{sum_by}
+use Rattle.fb_detour.specs.Bounds.{stay_gain, late_most}
 use Rattle.fb_detour.proofs.parts.late_parts.Given as goal
 
-abbrev pub invariant-loop-k : goal.invariant-loop-k
-invariant-loop-k l = (length l.parts ≡ 32) × ((j : ℕ) → j < l.k → (stay l.disk (late_most l.gap (l.gap.now + j * l.step)) l.wanted ≤ get_or l.parts j 0) × (get_or l.parts j 0 ≤ 16000000 * 2048000))
+abbrev pub invariant-loop-i : goal.invariant-loop-i
+invariant-loop-i l = (k : ℕ) → k < 32
+    → (sum_by (stay_gain l.disk (late_most l.gap (l.gap.now + k * l.step))) (take l.i l.blocks) ≤ get_or l.parts k 0) × (get_or l.parts k 0 ≤ 2048000 * l.i)

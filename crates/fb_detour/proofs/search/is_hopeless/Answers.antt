@@ -1,15 +1,10 @@
-use Rattle.std.proofs.Common.{arith, ap, sym, subst, ◌∙◌, ◌+◌, ◌-◌, ◌*◌, ◌≤◌}
+use Rattle.std.proofs.Common.{arith, ap, subst, ◌∙◌, ◌+◌, ◌-◌, ◌*◌, ◌≤◌}
 use Rattle.std.specs.List.{sum_by}
 use Rattle.fb_wanted.specs.States.{wanted_of}
-use Rattle.fb_wanted.specs.Tracks.{wanted_weight}
 use Rattle.fb_detour.specs.Bounds.{stay, early_to, IsEnough}
 use Rattle.fb_detour.proofs.Ways.{not_better, by_weight, by_stretch, late-part}
 use Rattle.fb_detour.proofs.Ranges.{not_itself}
 use Rattle.fb_detour.proofs.search.is_hopeless.Goals as goal
-
-pub misses_enough-requires-clause-weight : goal.misses_enough-requires-clause-weight
-misses_enough-requires-clause-weight c = c.wanted_weight-weight.ensures.sum ∙ (ap (λ xs. sum_by (λ b. b.weight * b.count) (wanted_of xs)) c.blocks_on-blocks.ensures.its
-    ∙ ap (λ t. wanted_weight t c.args.wanted.now) (sym c.stop_at-stop.ensures.track))
 
 pub returns-then-is_enough : goal.returns-then-is_enough
 returns-then-is_enough c = λ h leave is.

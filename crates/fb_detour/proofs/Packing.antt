@@ -1,0 +1,113 @@
+-- A stay catches no more than the sectors that can pass while it lasts.
+use Rattle.std.proofs.Common.{◌≡◌, ℕ, zero, suc, ◌+◌, ◌-◌, ◌*◌, ◌/◌, ◌<◌, ◌≤◌, inl, inr, List, [], ◌∷◌, true, ◌&&◌, Some, slice_get, length, refl, arith, ap, sym, subst, ◌∙◌, if◌then◌else◌}
+use Rattle.std.specs.Prelude.{nat_le}
+use Rattle.std.specs.List.{AllByRecursion}
+use Rattle.std.proofs.lemmas.Bool.{cases_Bool, and_parts, leb-true}
+use Rattle.std.proofs.lemmas.Option.{slice_get-get_or}
+use Rattle.std.proofs.lemmas.Nat.{le-div}
+use Rattle.std.proofs.Math.Nat.{div-mul-le_self}
+use Rattle.fb_units.specs.declared.types.Place.{Place}
+use Rattle.fb_units.specs.declared.types.Track.{Track}
+use Rattle.fb_units.specs.Tracks.{same_track}
+use Rattle.fb_geometry.specs.Shape.{Shape, slots_at}
+use Rattle.fb_geometry.specs.Places.{places}
+use Rattle.fb_geometry.specs.Sound.{IsSound, HasOwnPlaces}
+use Rattle.fb_geometry.proofs.Laws.{all-filter}
+use Rattle.fb_sectormap.specs.Lookup.{IsAt, place_at}
+use Rattle.fb_service.specs.declared.disk.Disk.{Disk}
+use Rattle.fb_service.specs.Passing.{begin_from}
+use Rattle.fb_service.proofs.Joining.{same_tracks}
+use Rattle.fb_wanted.specs.declared.block.Entry.{Entry}
+use Rattle.fb_wanted.specs.States.{is_wanted, on_track}
+use Rattle.fb_wanted.specs.Depth.{depth_at}
+use Rattle.fb_model.specs.Plans.{catches, block_end}
+use Rattle.fb_plan.specs.Ways.{FitsDisk, AreOnDisk}
+use Rattle.fb_detour.specs.Bounds.{stay, stay_gain, early_to, slots_within}
+use Rattle.fb_detour.proofs.Ceilings.{sums-le}
+use Rattle.fb_detour.proofs.Counted.{no_more}
+use Rattle.fb_detour.proofs.Within.{its_track, place_of, sectors_pass}
+use Rattle.fb_detour.proofs.Spread.{same_share}
+
+div-rises : (a b n : ℕ) → a ≤ b → a / n ≤ b / n
+div-rises a b zero le = omega arith
+div-rises a b (suc n) le = le-div (a / suc n) b (suc n) (omega arith) (omega (arith, div-mul-le_self a (suc n), le))
+
+all_of : (P : Entry → Type 0) (es : List Entry) → ((k : ℕ) (e : Entry) → slice_get es k ≡ Some e → P e) → AllByRecursion P es
+all_of P [] each = tt
+all_of P (e ∷ es) each = (each 0 e refl, all_of P es (λ k. each (suc k)))
+
+is_at : (disk : Shape) (lbn : ℕ) → lbn < length (places disk) → IsAt disk lbn (place_at disk lbn)
+unfolding place_at
+is_at disk lbn inside = slice_get-get_or (places disk) lbn _ inside
+
+module _ (disk : Disk) (track : Track) (from upto : ℕ) where
+  -- so many sectors of a block count, all or none
+  caught : Entry → ℕ
+  caught e = if is_wanted e.state && catches disk (early_to track from upto) e.block then e.block.count else 0
+
+  -- in which least length of a slot after the begin a sector begins to pass
+  abbrev share : ℕ → ℕ
+  share lbn = (begin_from disk.map (place_at disk.map lbn) from - from) / (disk.map.rotation / slots_at disk.map.zones track.cylinder)
+
+  -- the sector is on the track and begins to pass in time
+  record Passes (lbn : ℕ) : Type 0 where
+    on_disk : lbn < length (places disk.map)
+    its : (place_at disk.map lbn).track ≡ track
+    in_time : begin_from disk.map (place_at disk.map lbn) from < upto
+
+  gain-caught : (e : Entry) → stay_gain disk (early_to track from upto) e ≤ e.block.weight * caught e
+  unfolding caught
+  gain-caught e = elim (cases_Bool (is_wanted e.state && catches disk (early_to track from upto) e.block)) [
+    | inl yes' ↦ rw yes' (omega arith)
+    | inr no' ↦ rw no' (omega arith)
+  ]
+
+  few : (e : Entry) → caught e ≤ e.block.count
+  unfolding caught
+  few e = elim (cases_Bool (is_wanted e.state && catches disk (early_to track from upto) e.block)) [
+    | inl yes' ↦ rw yes' (omega arith)
+    | inr no' ↦ rw no' (omega arith)
+  ]
+
+  module _ (sound : IsSound disk.map) where
+    in_passing : (e : Entry) → FitsDisk disk e.block → catches disk (early_to track from upto) e.block ≡ true → (i : ℕ) → i < e.block.count → Passes (e.block.lbn + i)
+    in_passing e fits caught' i inside =
+        let both = and_parts (same_track track e.block.track) (nat_le (block_end disk.map e.block from) upto) caught' in record {
+          on_disk = omega (arith, fits.on_disk, inside);
+          its = its_track disk e.block i fits inside ∙ sym (same_tracks track e.block.track both.0);
+          in_time = sectors_pass disk e.block from upto i sound fits inside (leb-true (block_end disk.map e.block from) upto both.1);
+        }
+
+    each_passes : (e : Entry) → FitsDisk disk e.block → (i : ℕ) → i < caught e → Passes (e.block.lbn + i)
+    unfolding caught
+    each_passes e fits i = elim (cases_Bool (is_wanted e.state && catches disk (early_to track from upto) e.block)) [
+      | inl yes' ↦ rw yes' (in_passing e fits (and_parts (is_wanted e.state) (catches disk (early_to track from upto) e.block) yes').1 i)
+      | inr no' ↦ rw no' (λ less. absurd (omega (arith, less)))
+    ]
+
+    own_share : HasOwnPlaces disk.map → (a b : ℕ) → Passes a → Passes b → share a ≡ share b → a ≡ b
+    own_share own a b in_a in_b same =
+        let place = place_at disk.map in
+        let shares : Track → Type 0 = λ t. (begin_from disk.map (place a) from - from) / (disk.map.rotation / slots_at disk.map.zones t.cylinder)
+        ≡ (begin_from disk.map (place b) from - from) / (disk.map.rotation / slots_at disk.map.zones t.cylinder) in
+        let one = same_share disk (place a) (place b) from sound (in_a.its ∙ sym in_b.its) (place_of disk.map a sound in_a.on_disk).slot (place_of disk.map b sound in_b.on_disk).slot
+        (subst shares (sym in_a.its) same) in
+        own.once a b (place a) (is_at disk.map a in_a.on_disk) (is_at disk.map b in_b.on_disk ∙ ap (λ (p : Place). Some p) (sym one))
+
+    in_share : (lbn : ℕ) → Passes lbn → share lbn < slots_within disk.map.rotation (slots_at disk.map.zones track.cylinder) (upto - from)
+    in_share lbn is =
+        omega (arith, div-rises (begin_from disk.map (place_at disk.map lbn) from - from) (upto - from) (disk.map.rotation / slots_at disk.map.zones track.cylinder) (omega (arith, is.in_time)))
+
+    -- a stay catches no more than the sectors that can pass, each in blocks of so much weight
+    pub packing : (entries : List Entry) (depth : ℕ) → HasOwnPlaces disk.map → AreOnDisk disk entries → ((lbn : ℕ) → depth_at track lbn entries ≤ depth)
+        → stay disk (early_to track from upto) entries ≤ depth * slots_within disk.map.rotation (slots_at disk.map.zones track.cylinder) (upto - from)
+    unfolding stay
+    packing entries depth own on_disk deep =
+        let its = on_track track entries in
+        let all = all-filter (λ e. (i : ℕ) → i < caught e → Passes (e.block.lbn + i)) (λ e. same_track track e.block.track) entries
+        (all_of (λ e. (i : ℕ) → i < caught e → Passes (e.block.lbn + i)) entries (λ k e at. each_passes e (on_disk k e at))) in
+        omega (
+          arith,
+          sums-le (stay_gain disk (early_to track from upto)) (λ e. e.block.weight * caught e) gain-caught its,
+          no_more caught share Passes (own_share own) few depth (slots_within disk.map.rotation (slots_at disk.map.zones track.cylinder) (upto - from)) its all in_share deep,
+        )

@@ -1,0 +1,9 @@
+use Rattle.std.proofs.Common.{◌*◌, ◌/◌, ◌<◌, ◌≤◌, ℕ}
+use Rattle.fb_units.specs.declared.types.Track.{Track}
+use Rattle.fb_wanted.specs.Depth.{depth_at}
+use Rattle.fb_detour.proofs.bounds.most_depth.Given as goal
+
+abbrev pub invariant-loop-band : goal.invariant-loop-band
+invariant-loop-band l = ((track : Track) (lbn : ℕ) → l.from ≤ track.cylinder → track.cylinder / 64 < l.band → depth_at track lbn l.wanted ≤ l.depth)
+    × (l.initial.depth ≤ l.depth)
+    × (l.depth ≤ 16000000 * 1000)

@@ -1,0 +1,97 @@
+// The plans of a way that can be better than the best so far.
+ghost use Rattle.std.specs.Prelude.{◌≡◌, ◌+◌, ◌≤◌, ℕ, true};
+ghost use Rattle.fb_geometry.specs.Shape.{IsTrackOf};
+ghost use Rattle.fb_model.specs.Plans.{IsPlan, block_end};
+ghost use Rattle.fb_wanted.specs.States.{is_wanted, wanted_of};
+ghost use Rattle.fb_plan.specs.Ways.{FitsDisk, AreOnDisk, IsGap, IsWay, IsScored, Beats, plan_by, early_track, arrival, move_on};
+ghost use Rattle.fb_plan.specs.Turns.{AreSides, stay_of};
+ghost use Rattle.fb_detour.specs.Bounds.{IsLate, AreCeilings};
+
+use crate::parts::LateParts;
+use crate::stretches::{Ceilings, ceiling_at, ceilings_of};
+use fb_plan::{
+    Scored, Sides, Way, is_wanted, move_on, plan_by, sides_of, stay_of, try_entry, try_plan,
+};
+use fb_rows::Gap;
+use fb_service::Disk;
+use fb_wanted::{Entry, Wanted};
+
+// Tries to leave when the passage of a wanted block ends, unless the ceiling says that it isn't better.
+fn try_leave(
+    disk: &Disk,
+    wanted: &Wanted,
+    gap: &Gap,
+    way: Way,
+    sides: &Sides,
+    ceilings: &Ceilings,
+    entry: Entry,
+    best: Scored,
+) -> Scored
+    requires way { IsWay disk.now gap.now way }
+    requires track { IsTrackOf disk.now.map (early_track gap.now way) }
+    requires fits { FitsDisk disk.now entry.block }
+    requires gap { IsGap disk.now gap.now }
+    requires sides { AreSides disk.now gap.now.target wanted.now (stay_of disk.now gap.now way) sides.now }
+    requires early { AreOnDisk disk.now sides.now.early }
+    requires late { AreOnDisk disk.now sides.now.late }
+    requires ceilings { AreCeilings disk.now gap.now wanted.now way ceilings.now }
+    requires best { IsScored disk.now gap.now (wanted_of wanted.now) best }
+    ensures scored { IsScored disk.now gap.entry.now (wanted_of wanted.now) result }
+    ensures keeps { Beats disk.now gap.entry.now (wanted_of wanted.now) result.plan best.plan }
+    ensures tried { is_wanted entry.state ≡ true → block_end disk.now.map entry.block (arrival disk.now gap.entry.now way) + move_on disk.now gap.entry.now way ≤ gap.entry.now.deadline
+        → Beats disk.now gap.entry.now (wanted_of wanted.now) result.plan (plan_by way (block_end disk.now.map entry.block (arrival disk.now gap.entry.now way))) }
+{
+    if !is_wanted(entry.state) {
+        return best;
+    }
+    let end = sides.passing.end(disk, entry.block);
+    if gap.deadline < end + ceilings.move_on {
+        return best;
+    }
+    if ceiling_at(ceilings, end) < best.value {
+        return best;
+    }
+    try_entry(disk, wanted, gap, way, sides, entry, best)
+}
+
+// Tries all plans of a way.
+pub fn try_leaves(
+    disk: &Disk,
+    wanted: &Wanted,
+    gap: &Gap,
+    late: &LateParts,
+    way: Way,
+    start: Scored,
+) -> Scored
+    requires way { IsWay disk.now gap.now way }
+    requires track { IsTrackOf disk.now.map (early_track gap.now way) }
+    requires gap { IsGap disk.now gap.now }
+    requires blocks { AreOnDisk disk.now wanted.now }
+    requires late { IsLate disk.now gap.now wanted.now late.now }
+    requires best { IsScored disk.now gap.now (wanted_of wanted.now) start }
+    ensures scored { IsScored disk.now gap.entry.now (wanted_of wanted.now) result }
+    ensures keeps { Beats disk.now gap.entry.now (wanted_of wanted.now) result.plan start.plan }
+    ensures tried { (leave : ℕ) → IsPlan disk.now gap.entry.now (plan_by way leave) → Beats disk.now gap.entry.now (wanted_of wanted.now) result.plan (plan_by way leave) }
+{
+    let stay = stay_of(disk, gap, way);
+    let on = move_on(disk, gap, way);
+    if gap.deadline < stay.begin + on {
+        return start;
+    }
+    let both = sides_of(disk, wanted, gap.target, stay);
+    let ceilings = ceilings_of(disk, wanted, gap, late, way, stay, on);
+    let mut best = try_plan(disk, wanted, gap, &both, plan_by(way, stay.begin), start);
+    for i in 0..both.early.len() {
+        best = try_leave(
+            disk,
+            wanted,
+            gap,
+            way,
+            &both,
+            &ceilings,
+            both.early.get(i),
+            best,
+        );
+    }
+    best
+}
