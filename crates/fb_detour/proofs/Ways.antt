@@ -58,10 +58,6 @@ module _ (disk : Disk) (gap : Gap) (es : List Entry) (track : Track) (leave : �
       → (HasBlock es track → ⊥) → value disk gap (wanted_of es) (Detour track leave) ≤ stay disk (late_most gap from) es
   bare_stay from le none = omega (arith, both, bare_track disk (early_dwell disk gap (Detour track leave)) es none, late-le from le)
 
--- a head that comes to the target sooner gets no less
-pub late-sooner : (disk : Disk) (gap : Gap) (es : List Entry) (sooner later value' : ℕ) → sooner ≤ later → value' ≡ stay disk (late_most gap sooner) es → stay disk (late_most gap later) es ≤ value'
-late-sooner disk gap es sooner later value' le v = omega (arith, longer_stay disk (late_most gap later) (late_most gap sooner) es disk.some_rotation refl le (omega arith), v)
-
 min-below : (n : ℕ) → min n 31 ≤ n
 min-below n = omega arith
 

@@ -1,6 +1,5 @@
 // What bounds the value of detours.
 ghost use Rattle.std.specs.Prelude.{◌≡◌, ◌+◌, ◌*◌, ◌≤◌, ◌<◌, ◌^◌, ℕ, true, false, nat_le, if◌then◌else◌};
-ghost use Rattle.std.specs.List.{sum_by};
 ghost use Rattle.fb_units.specs.declared.types.Track.{Track};
 ghost use Rattle.fb_geometry.specs.Shape.{IsTrackOf, slots_at};
 ghost use Rattle.fb_seek.specs.Positioning.{pos};
@@ -8,51 +7,18 @@ ghost use Rattle.fb_model.specs.Plans.{value, IsDetour, IsTrackBefore};
 ghost use Rattle.fb_wanted.specs.Depth.{depth_at};
 ghost use Rattle.fb_wanted.specs.States.{wanted_of};
 ghost use Rattle.fb_wanted.specs.Tracks.{HasBlock, wanted_weight};
-ghost use Rattle.fb_plan.specs.Ways.{FitsDisk, AreOnDisk, IsGap};
-ghost use Rattle.fb_plan.specs.Turns.{IsTurning};
-ghost use Rattle.fb_detour.specs.Bounds.{stay_gain, distance_to, IsAhead, IsEnough};
+ghost use Rattle.fb_plan.specs.Ways.{AreOnDisk, IsGap};
+ghost use Rattle.fb_detour.specs.Bounds.{distance_to, IsAhead, IsEnough};
 
 use fb_geometry::Zone;
-use fb_plan::{Scored, Turning, is_wanted};
-use fb_rows::{Dwell, Gap, Plan};
+use fb_plan::Scored;
+use fb_rows::{Gap, Plan};
 use fb_service::Disk;
 use fb_units::{Ns, Track};
-use fb_wanted::{BAND, Entry, TrackBlocks, Wanted};
+use fb_wanted::{BAND, Wanted};
 
 // Where more time is left, more may pass in it than a number holds.
 pub const LONG: Ns = 1_000_000_000;
-
-// What the block adds to the stay.
-fn stay_gain(disk: &Disk, passing: &Turning, dwell: Dwell, entry: Entry) -> u64
-    requires fits { FitsDisk disk.now entry.block }
-    requires passing { IsTurning disk.now passing.now }
-    requires begin { passing.now.from ≡ dwell.begin }
-    ensures value { result ≡ stay_gain disk.now dwell entry }
-    ensures small { result ≤ 2048000 }
-{
-    if !is_wanted(entry.state) {
-        return 0;
-    }
-    if !passing.catches(disk, dwell, entry.block) {
-        return 0;
-    }
-    entry.block.weight as u64 * entry.block.count as u64
-}
-
-// What a stay catches of these blocks.
-pub fn stay_value(disk: &Disk, blocks: &TrackBlocks, passing: &Turning, dwell: Dwell) -> u64
-    requires blocks { AreOnDisk disk.now blocks.now }
-    requires passing { IsTurning disk.now passing.now }
-    requires begin { passing.now.from ≡ dwell.begin }
-    ensures value { result ≡ sum_by (stay_gain disk.now dwell) blocks.now }
-    ensures small { result ≤ 16000000 * 2048000 }
-{
-    let mut sum = 0;
-    for i in 0..blocks.len() {
-        sum += stay_gain(disk, passing, dwell, blocks.get(i));
-    }
-    sum
-}
 
 // How far the cylinder lies from those of a range.
 fn distance_to(from: u32, end: u32, cylinder: u32) -> u32

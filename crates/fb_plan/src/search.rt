@@ -156,7 +156,7 @@ pub fn stay_of(disk: &Disk, gap: &Gap, way: Way) -> Dwell
     }
 }
 
-/// Tries all plans of a way.
+// Tries all plans of a way.
 pub fn try_way(disk: &Disk, wanted: &Wanted, gap: &Gap, way: Way, start: Scored) -> Scored
     requires way { IsWay disk.now gap.now way }
     requires track { IsTrackOf disk.now.map (early_track gap.now way) }
