@@ -16,7 +16,9 @@ use Rattle.fb_wanted.specs.Index.{of_track, with_state}
 use Rattle.fb_wanted.proofs.Sums.{sum-with_state, sum-le}
 use Rattle.fb_wanted.proofs.Standing.{length-with_state, items-with_state}
 use Rattle.fb_wanted.proofs.Kept.{same_one}
-use Rattle.fb_wanted.proofs.Weighed.{of_band}
+
+abbrev of_band : ℕ → Entry → Bool
+of_band band entry = band_of entry.block == band
 
 -- what the blocks that pass weigh for a sector
 module _ (p : Entry → Bool) (lbn : ℕ) where

@@ -1,6 +1,7 @@
 -- Lists of lists, and tracks as keys.
 use Rattle.std.proofs.Common.{◌≡◌, ℕ, ◌≤◌, ◌⊎◌, inl, inr, ◌==◌, List, [], ◌∷◌, true, false, Result, Ok, Err, OnErr, if◌then◌else◌, get_or, refl, ap, ◌∙◌, arith}
 use Rattle.std.specs.Ordering.{is_eq, is_gt}
+use Rattle.std.specs.declared.cmp.Ordering.TheVariants.{Less}
 use Rattle.std.proofs.lemmas.Bool.{cases_Bool, cases_lt}
 use Rattle.std.proofs.lemmas.Bool.Decides.{nat_tests}
 use Rattle.fb_units.specs.declared.types.Track.{Track}
@@ -24,6 +25,12 @@ from_track a b h = grind (arith, nat_tests)
 
 pub not_behind : (a b : Track) → is_gt (track_cmp a b) ≡ false → IsTrackBefore b a → ⊥
 not_behind a b le h = grind (arith, nat_tests)
+
+pub behind_track : (a b : Track) → IsTrackBefore a b → track_cmp a b ≡ Less
+behind_track a b h = grind (arith, nat_tests)
+
+pub between_heads : (a b t : Track) → track_cmp a b ≡ Less → is_gt (track_cmp b t) ≡ false → t.cylinder ≡ a.cylinder → b.cylinder ≡ a.cylinder
+between_heads a b t behind up its = grind (arith, nat_tests)
 
 pub before_or_not : (a b : Track) → IsTrackBefore a b ⊎ (IsTrackBefore a b → ⊥)
 before_or_not a b = elim (cases_lt a.cylinder b.cylinder) [

@@ -13,10 +13,10 @@ use Rattle.fb_wanted.specs.declared.tracks.OnTrack.{OnTrack}
 use Rattle.fb_wanted.specs.Counting.{counts_of, sum_of, AreNoMore, Fit}
 use Rattle.fb_wanted.specs.States.{on_track}
 use Rattle.fb_wanted.specs.Tracks.{wanted_weight, HasBlock, IsTrackBefore, IsNextTrack}
-use Rattle.fb_wanted.specs.Index.{places, of_task, of_track, kept_from, track_cmp, IsKept, no_blocks}
+use Rattle.fb_wanted.specs.Index.{places, of_task, of_track, kept_from, track_cmp, weight_of_kept, weight_kept, IsKept, no_blocks}
 use Rattle.fb_wanted.proofs.Standing.{length-places, among}
 use Rattle.fb_wanted.proofs.Counted.{filter-le, counts_at, counts-few}
-use Rattle.fb_wanted.proofs.Kept.{kept_some, kept_none}
+use Rattle.fb_wanted.proofs.Kept.{kept_some, kept_none, same_itself}
 use Rattle.fb_wanted.proofs.Weights.{weight_none, weight_at, weight-le}
 
 some_kept : (ps : List ℕ) (w : ℕ) → 0 < length ps → IsSome (kept_from ps w)
@@ -34,6 +34,10 @@ room_kept (p ∷ ps) w lost gained part all small = (part, omega arith)
 le_kept : (ps : List ℕ) (w : ℕ) → w ≤ 32768000000000 → IfSome (kept_from ps w) (λ on. on.weight ≤ 16000000 * 2048000)
 le_kept [] w all = tt
 le_kept (p ∷ ps) w all = all
+
+weight_of-kept : (ps : List ℕ) (w : ℕ) → (ps ≡ [] → w ≡ 0) → weight_of_kept (kept_from ps w) ≡ w
+weight_of-kept [] w none = sym (none refl)
+weight_of-kept (p ∷ ps) w none = refl
 
 module _ (es : List Entry) (tasks : List OfTask) (tracks : BTreeMap Track OnTrack) (h : IsKept es tasks tracks) where
   task_length : (task : ℕ) (blocks : OfTask) → blocks ≡ get_or tasks task no_blocks → length blocks.places ≡ length (filter (of_task task) es)
@@ -111,6 +115,18 @@ module _ (es : List Entry) (tasks : List OfTask) (tracks : BTreeMap Track OnTrac
 
   pub kept_has : (t : Track) → HasBlock es t → ContainsKey track_cmp tracks t
   kept_has t has = subst IsSome (sym (h.index.by_track t)) (some_kept (places (of_track t) es) (wanted_weight t es) (omega (arith, has, length-places (of_track t) es)))
+
+  pub weight_read : (t : Track) → weight_kept tracks t ≡ wanted_weight t es
+  weight_read t = ap weight_of_kept (h.index.by_track t) ∙ weight_of-kept (places (of_track t) es) (wanted_weight t es) (weight_none t es)
+
+  pub weight_small : (t : Track) → weight_kept tracks t ≤ 16000000 * 2048000
+  weight_small t = omega (arith, weight_read t, weight-le t es h.small, h.few)
+
+  -- something is kept of a registered block's track
+  pub its_track_there : (n : ℕ) (e : Entry) → slice_get es n ≡ Some e → ContainsKey track_cmp tracks e.block.track
+  its_track_there n e at =
+      let place = among (of_track e.block.track) es n e at (same_itself e.block.track) in
+      kept_has e.block.track (omega (arith, slice_get_within (on_track e.block.track es) place.0 e place.2))
 
   pub next_some : (from : Track) (next : Option Track) → IfSome next (λ t. ContainsKey track_cmp tracks t) → IfSome next (λ t. IsTrackBefore t from → ⊥)
       → IfSome next (λ t. (k : Track) → ContainsKey track_cmp tracks k → (IsTrackBefore k from → ⊥) → IsTrackBefore k t → ⊥)

@@ -24,28 +24,28 @@ wanted-append (x ∷ xs) ys = elim (cases_Bool (is_wanted x.state)) [
 ]
 
 -- weight times sectors of the wanted ones of those that pass
-abbrev pub weight_by : (Entry → Bool) → List Entry → ℕ
+abbrev weight_by : (Entry → Bool) → List Entry → ℕ
 weight_by p es = sum_by (λ (b : Block). b.weight * b.count) (wanted_of (filter p es))
 
 module _ (p : Entry → Bool) where
-  pub by-append : (xs ys : List Entry) → weight_by p (xs ++ ys) ≡ weight_by p xs + weight_by p ys
+  by-append : (xs ys : List Entry) → weight_by p (xs ++ ys) ≡ weight_by p xs + weight_by p ys
   by-append xs ys =
       let weigh = sum_by (λ (b : Block). b.weight * b.count) in
       ap (λ l. weigh (wanted_of l)) (filter-append p xs ys)
       ∙ (ap weigh (wanted-append (filter p xs) (filter p ys)) ∙ sum_by-append (λ (b : Block). b.weight * b.count) (wanted_of (filter p xs)) (wanted_of (filter p ys)))
 
-  pub by-cons : (e : Entry) (es : List Entry) → weight_by p (e ∷ es) ≡ weight_by p (e ∷ []) + weight_by p es
+  by-cons : (e : Entry) (es : List Entry) → weight_by p (e ∷ es) ≡ weight_by p (e ∷ []) + weight_by p es
   by-cons e es = by-append (e ∷ []) es
 
   -- the weight of one block goes, and the other comes
-  pub by-with_state : (s : State) (n : ℕ) (e : Entry) (es : List Entry) → slice_get es n ≡ Some e
+  by-with_state : (s : State) (n : ℕ) (e : Entry) (es : List Entry) → slice_get es n ≡ Some e
       → weight_by p (with_state s n es) + weight_by p (e ∷ []) ≡ weight_by p es + weight_by p (record { block = e.block; state = s } ∷ [])
   by-with_state s n e es at = sum-with_state (weight_by p) by-cons s n e es at
 
-  pub by_elsewhere : (e : Entry) → p e ≡ false → weight_by p (e ∷ []) ≡ 0
+  by_elsewhere : (e : Entry) → p e ≡ false → weight_by p (e ∷ []) ≡ 0
   by_elsewhere e other = rw other refl
 
-  pub by_at : (n : ℕ) (e : Entry) (es : List Entry) → slice_get es n ≡ Some e → weight_by p (e ∷ []) ≤ weight_by p es
+  by_at : (n : ℕ) (e : Entry) (es : List Entry) → slice_get es n ≡ Some e → weight_by p (e ∷ []) ≤ weight_by p es
   by_at n e es at = sum_at (weight_by p) by-cons n e es at
 
   by_small : (e : Entry) → e.block.weight ≤ 1000 → e.block.count ≤ 2048 → weight_by p (e ∷ []) ≤ 2048000
@@ -57,7 +57,7 @@ module _ (p : Entry → Bool) where
     | inr off ↦ rw off (omega arith)
   ]
 
-  pub by-le : (es : List Entry) → AreSmall (blocks_of es) → weight_by p es ≤ 2048000 * length es
+  by-le : (es : List Entry) → AreSmall (blocks_of es) → weight_by p es ≤ 2048000 * length es
   by-le [] h = omega arith
   by-le (e ∷ es) h =
       let small = h 0 e.block refl in

@@ -1,8 +1,8 @@
 -- What is kept beside the list of registered blocks.
-use Rattle.std.specs.Prelude.{◌≡◌, ℕ, zero, suc, ◌+◌, ◌-◌, ◌≤◌, ◌<◌, ◌==◌, Bool, true, false, List, [], ◌∷◌, ◌++◌, Option, Some, None, length, map, filter, get_or, slice_get, if◌then◌else◌}
+use Rattle.std.specs.Prelude.{◌≡◌, ℕ, zero, suc, ◌+◌, ◌-◌, ◌*◌, ◌/◌, ◌≤◌, ◌<◌, ◌==◌, Bool, true, false, List, [], ◌∷◌, ◌++◌, Option, Some, None, length, map, filter, get_or, slice_get, if◌then◌else◌}
 use Rattle.std.specs.Ordering.{nat_cmp, ordering_then}
 use Rattle.std.specs.declared.cmp.Ordering.{Ordering}
-use Rattle.std.specs.BTreeMap.{BTreeMap, get}
+use Rattle.std.specs.BTreeMap.{BTreeMap, get, ContainsKey}
 use Rattle.std.specs.BTreeSet.{BTreeSet, contains}
 use Rattle.fb_units.specs.declared.types.Track.{Track}
 use Rattle.fb_units.specs.Tracks.{same_track}
@@ -16,7 +16,7 @@ use Rattle.fb_wanted.specs.declared.tracks.OnTrack.{OnTrack}
 use Rattle.fb_wanted.specs.Counting.{counts_of, no_counts, recounted}
 use Rattle.fb_wanted.specs.States.{shares, state_after}
 use Rattle.fb_wanted.specs.Numbering.{AreInOrder, AreSmall, blocks_of}
-use Rattle.fb_wanted.specs.Tracks.{wanted_weight, band_of, band_weight}
+use Rattle.fb_wanted.specs.Tracks.{wanted_weight}
 
 -- by cylinder, then by head
 abbrev pub track_cmp : Track → Track → Ordering
@@ -87,10 +87,24 @@ fall_cmp a b = ordering_then (nat_cmp a.0 b.0) (nat_cmp a.1 b.1)
 abbrev pub AreNoted : List Entry → BTreeSet (ℕ × ℕ) → Type 0
 AreNoted entries falls = (task i a b : ℕ) → slice_get (lbns task entries) i ≡ Some a → slice_get (lbns task entries) (suc i) ≡ Some b → b < a → contains fall_cmp falls (task, suc i) ≡ true
 
--- the weight of each band, where each block has its band
-pub record AreWeighed (entries : List Entry) (bands : List ℕ) : Type 0 where
-  pub weights : (band : ℕ) → get_or bands band 0 ≡ band_weight band entries
-  pub there : (i : ℕ) (block : Block) → slice_get (blocks_of entries) i ≡ Some block → band_of block < length bands
+-- what the wanted blocks of a track weigh: nothing where it has no block
+abbrev pub weight_of_kept : Option OnTrack → ℕ
+weight_of_kept None = 0
+weight_of_kept (Some on) = on.weight
+
+abbrev pub weight_kept : BTreeMap Track OnTrack → Track → ℕ
+weight_kept tracks track = weight_of_kept (get track_cmp tracks track)
+
+-- no track has more weight than is kept of its cylinder, and each with a block has its cylinder among them
+pub record AreGreatest (tracks : BTreeMap Track OnTrack) (greatest : List ℕ) : Type 0 where
+  pub weights : (t : Track) → weight_kept tracks t ≤ get_or greatest t.cylinder 0
+  pub there : (t : Track) → ContainsKey track_cmp tracks t → t.cylinder < length greatest
+
+-- no cylinder has more than its band, where each has its band, and no band has more than all blocks may weigh
+pub record AreBands (cylinders bands : List ℕ) : Type 0 where
+  pub each : (c : ℕ) → get_or cylinders c 0 ≤ get_or bands (c / 64) 0
+  pub small : (band : ℕ) → get_or bands band 0 ≤ 16000000 * 2048000
+  pub there : (c : ℕ) → c < length cylinders → c / 64 < length bands
 
 -- the numbers from one on don't fall before an end
 abbrev pub Rises : List ℕ → ℕ → ℕ → Type 0

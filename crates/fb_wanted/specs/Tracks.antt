@@ -1,5 +1,5 @@
 -- The tracks on which blocks are registered.
-use Rattle.std.specs.Prelude.{◌≡◌, ℕ, ◌<◌, ◌⊎◌, ◌*◌, ◌/◌, ◌==◌, List, Option, Some, None, length, filter}
+use Rattle.std.specs.Prelude.{◌≡◌, ℕ, ◌<◌, ◌⊎◌, ◌*◌, ◌/◌, List, Option, Some, None, length}
 use Rattle.std.specs.List.{sum_by}
 use Rattle.fb_units.specs.declared.types.Track.{Track}
 use Rattle.fb_wanted.specs.declared.block.Block.{Block}
@@ -13,10 +13,6 @@ wanted_weight track entries = sum_by (λ block. block.weight * block.count) (wan
 -- the band of 64 cylinders on which the block lies
 abbrev pub band_of : Block → ℕ
 band_of block = block.track.cylinder / 64
-
--- weight times sectors of the wanted blocks on the band's cylinders
-abbrev pub band_weight : ℕ → List Entry → ℕ
-band_weight band entries = sum_by (λ block. block.weight * block.count) (wanted_of (filter (λ entry. band_of entry.block == band) entries))
 
 -- by cylinder, then by head
 abbrev pub IsTrackBefore : Track → Track → Type 0

@@ -49,6 +49,19 @@ const BEFORE: Block = Block {
     weight: 1,
 };
 
+// Of another track of the first cylinder.
+const BESIDE: Block = Block {
+    task: 1,
+    index: 0,
+    lbn: 4,
+    count: 4,
+    track: Track {
+        cylinder: 0,
+        head: 3,
+    },
+    weight: 5,
+};
+
 // Another task wants the first block too.
 const AGAIN: Block = Block {
     task: 1,
@@ -103,10 +116,10 @@ fn a_block_is_delivered(rt: HostRuntime) -> Result<(), Fail> {
     let mut wanted = Wanted::new(rt.alloc());
     wanted.register(FIRST, false)?;
     assert_eq!(rt; wanted.state(0, 0), State::Wanted);
-    assert_eq!(rt; wanted.wanted_weight_in(0), 4);
+    assert_eq!(rt; wanted.greatest_weight_in(0, 1), 4);
     wanted.deliver(0, 0);
     assert_eq!(rt; wanted.wanted_weight_on(NEAR), 0);
-    assert_eq!(rt; wanted.wanted_weight_in(0), 0);
+    assert_eq!(rt; wanted.greatest_weight_in(0, 1), 0);
     wanted.rewant(0, 15, 9, true);
     assert_eq!(rt; wanted.wanted_weight_on(NEAR), 0);
     wanted.resume(0);
@@ -120,16 +133,17 @@ fn blocks_of_two_tasks(rt: HostRuntime) -> Result<(), Fail> {
     wanted.register(FIRST, false)?;
     wanted.register(SECOND, true)?;
     wanted.register(OTHER, false)?;
-    assert_eq!(rt; wanted.wanted_weight_in(0), 4);
+    assert_eq!(rt; wanted.greatest_weight_in(0, BAND), 4);
     wanted.resume(0);
     assert_eq!(rt; wanted.wanted_weight_on(NEAR), 12);
     assert_eq!(rt;
         (
-            wanted.wanted_weight_in(NEAR.cylinder / BAND),
-            wanted.wanted_weight_in(FAR.cylinder / BAND),
-            wanted.wanted_weight_in(2)
+            wanted.greatest_weight_in(0, BAND),
+            wanted.greatest_weight_in(1, BAND),
+            wanted.greatest_weight_in(BAND, BAND + 1),
+            wanted.greatest_weight_in(2 * BAND, 4 * BAND)
         ),
-        (12, 12, 0)
+        (12, 0, 12, 0)
     );
     assert_eq!(rt; wanted.abort(0, 8, 5), 1);
     assert_eq!(rt; wanted.wanted_weight_on(NEAR), 8);
@@ -143,6 +157,32 @@ fn blocks_of_two_tasks(rt: HostRuntime) -> Result<(), Fail> {
     assert_eq!(rt; blocks.get(0).block, FIRST);
     assert_eq!(rt; blocks.get(0).state, State::Aborted);
     assert_eq!(rt; wanted.next_registered_track(SECOND.track), Some(NEAR));
+    Ok(())
+}
+
+#[test]
+fn the_greatest_of_a_cylinder_falls(rt: HostRuntime) -> Result<(), Fail> {
+    let mut wanted = Wanted::new(rt.alloc());
+    wanted.register(FIRST, false)?;
+    wanted.register(BESIDE, false)?;
+    wanted.register(LAST, false)?;
+    assert_eq!(rt; wanted.greatest_weight_in(0, 1), 20);
+    assert_eq!(rt; wanted.greatest_weight_in(0, 200), 20);
+    wanted.deliver(1, 0);
+    assert_eq!(rt; wanted.greatest_weight_in(0, 1), 4);
+    assert_eq!(rt;
+        (
+            wanted.greatest_weight_in(0, 63),
+            wanted.greatest_weight_in(0, 64),
+            wanted.greatest_weight_in(1, 200),
+            wanted.greatest_weight_in(64, 200)
+        ),
+        (4, 12, 12, 0)
+    );
+    wanted.suspend(2);
+    assert_eq!(rt; wanted.greatest_weight_in(1, 200), 4);
+    wanted.rewant(1, 4, 1, false);
+    assert_eq!(rt; wanted.greatest_weight_in(0, 1), 20);
     Ok(())
 }
 

@@ -1,10 +1,10 @@
 // What is kept of the tracks on which blocks are registered.
-ghost use Rattle.std.specs.Prelude.{◌≡◌, ◌≤◌, ◌<◌, ◌+◌, ◌-◌, ◌^◌, ◌∷◌, ◌++◌, [], List, Option, Some, IfSome, IfNone, OnOk, OnErr, if◌then◌else◌};
+ghost use Rattle.std.specs.Prelude.{◌≡◌, ℕ, ◌≤◌, ◌<◌, ◌+◌, ◌-◌, ◌^◌, ◌∷◌, ◌++◌, [], List, Option, Some, IfSome, IfNone, OnOk, OnErr, if◌then◌else◌};
 ghost use Rattle.std.specs.Option.{option_map};
 ghost use Rattle.std.specs.BTreeMap.{get, ContainsKey};
 ghost use Rattle.fb_units.specs.declared.types.Track.{Track};
 ghost use Rattle.fb_units.specs.Tracks.{same_track};
-ghost use Rattle.fb_wanted.specs.Index.{track_cmp, grown, reweighed};
+ghost use Rattle.fb_wanted.specs.Index.{track_cmp, grown, reweighed, weight_kept};
 ghost use Rattle.fb_wanted.specs.Tracks.{wanted_weight, IsTrackBefore};
 
 use crate::places::Places;
@@ -12,6 +12,7 @@ use crate::{Entry, State};
 use fb_units::{NoMemory, Track};
 use std::alloc::Global;
 use std::collections::BTreeMap;
+use std::ops::Bound;
 
 /// The registered blocks of a track.
 #[derive(Drop)]
@@ -84,4 +85,49 @@ pub fn next_track(tracks: &BTreeMap<Track, OnTrack>, from: Track) -> Option<Trac
         Some((track, _)) => Some(*track),
         None => None,
     }
+}
+
+/// The weight that is kept of a track: none where it has no block.
+pub fn weight_on(tracks: &BTreeMap<Track, OnTrack>, track: Track) -> u64
+    ensures { result ≡ weight_kept tracks.now track }
+{
+    match tracks.get(&track) {
+        Some(on) => on.weight,
+        None => 0,
+    }
+}
+
+// The least head behind the track's, on its cylinder, of which something is kept.
+fn next_head(tracks: &BTreeMap<Track, OnTrack>, track: Track) -> Option<u32>
+    ensures behind { IfSome result (λ h. track.head < h) }
+    ensures least { IfSome result (λ h. (t : Track) → t.cylinder ≡ track.cylinder → track.head < t.head → t.head < h → weight_kept tracks.now t ≡ 0) }
+    ensures none { IfNone result ((t : Track) → t.cylinder ≡ track.cylinder → track.head < t.head → weight_kept tracks.now t ≡ 0) }
+{
+    match tracks
+        .range((Bound::Excluded(track), Bound::Unbounded))
+        .next()
+    {
+        Some((next, _)) => {
+            if next.cylinder == track.cylinder {
+                Some(next.head)
+            } else {
+                None
+            }
+        }
+        None => None,
+    }
+}
+
+/// The greatest weight of the cylinder's tracks.
+pub fn greatest_on(tracks: &BTreeMap<Track, OnTrack>, cylinder: u32) -> u64
+    ensures each { (t : Track) → t.cylinder ≡ cylinder → weight_kept tracks.now t ≤ result }
+    ensures least { (most : ℕ) → ((t : Track) → weight_kept tracks.now t ≤ most) → result ≤ most }
+{
+    let mut head = 0;
+    let mut greatest = weight_on(tracks, Track { cylinder, head });
+    while let Some(next) = next_head(tracks, Track { cylinder, head }) {
+        head = next;
+        greatest = greatest.max(weight_on(tracks, Track { cylinder, head }));
+    }
+    greatest
 }

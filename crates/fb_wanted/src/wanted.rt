@@ -1,4 +1,4 @@
-// The registered blocks, in order of registration, and beside them what is kept of each task, of each track and of each band of cylinders.
+// The registered blocks, in order of registration, and beside them what is kept of each task, of each track, of each cylinder and of each band of cylinders.
 ghost use Rattle.std.specs.Prelude.{◌≡◌, List, suc, true, false, take, ◌⊎◌, ◌+◌, ◌<◌, ◌≤◌, ℕ, [], ◌∷◌, ◌++◌, ◌*◌, ◌/◌, length, filter, map, OnOk, OnErr, IfSome, IfNone, Some, slice_get, get_or, ◌==◌, if◌then◌else◌};
 ghost use Rattle.std.specs.BTreeMap.{get};
 ghost use Rattle.fb_wanted.specs.declared.block.Block.{Block};
@@ -6,17 +6,18 @@ ghost use Rattle.fb_wanted.specs.declared.block.Entry.{Entry};
 ghost use Rattle.fb_wanted.specs.States.{after, shares, entry_after, is_abortable, is_wanted, wanted_unless, on_track, is_block};
 ghost use Rattle.fb_wanted.specs.Numbering.{AreInOrder, blocks_of, registered};
 ghost use Rattle.fb_wanted.specs.Counting.{counts_of, sum_of, Fit};
-ghost use Rattle.fb_wanted.specs.Tracks.{wanted_weight, band_weight, HasBlock, IsTrackBefore, IsNextTrack};
+ghost use Rattle.fb_wanted.specs.Tracks.{wanted_weight, HasBlock, IsTrackBefore, IsNextTrack};
 ghost use Rattle.fb_wanted.specs.Depth.{depth_at};
 ghost use Rattle.fb_wanted.specs.Index.{places, of_task, lbns, Rises, IsWithin, with_state, change_nth, change_first, track_cmp, grown, no_blocks, grown_task};
 ghost use Rattle.fb_units.specs.declared.types.Track.{Track};
 ghost use Rattle.fb_units.specs.Tracks.{same_track};
 
-use crate::bands::{add_bands, band_of, reweigh_band, weight_in};
+use crate::bands::{add_bands, band_of};
 use crate::changes::{is_abortable, state_after, wanted_unless};
 use crate::counting::{counts_of, no_counts};
 use crate::depths::{Depth, NO_DEPTH, deepen, most_in};
 use crate::falls::{next_fall, note_fall};
+use crate::greatest::{Greatest, settle};
 use crate::tasks::{OfTask, add_place, recount, take_place_back};
 use crate::tracks::{OnTrack, add_to_track, next_track, reweigh, weight_of};
 use crate::{Block, Change, Counts, Entry, State, TrackBlocks};
@@ -31,7 +32,9 @@ use std::marker::Model;
 /// the counts of a task and what is kept of a band cost the same however many blocks there are.
 /// To suspend or to resume costs as much for each block of the task, and to abort or to want again
 /// as much for each of its blocks near the range and for each time that its LBNs fall.
-/// A task takes room for each number below its own, and a block for each band of cylinders below its own.
+/// A task takes room for each number below its own, and a block for each cylinder below its own.
+/// Where the heaviest track of a cylinder loses weight, each of its tracks is looked at, and so is each cylinder of a band
+/// whose heaviest does.
 #[derive(Drop)]
 pub struct Wanted {
     alloc: Global,
@@ -39,7 +42,7 @@ pub struct Wanted {
     tasks: Vec<OfTask>,
     tracks: BTreeMap<Track, OnTrack>,
     falls: BTreeSet<(u32, u32)>,
-    bands: Vec<u64>,
+    greatest: Greatest,
     depths: Vec<Depth>,
 }
 
@@ -53,14 +56,14 @@ struct Rise {
 impl Model for Wanted {
     ghost use Rattle.std.specs.Prelude.{List};
     ghost use Rattle.fb_wanted.specs.declared.block.Entry.{Entry};
-    ghost use Rattle.fb_wanted.specs.Index.{IsKept, AreNoted, AreWeighed};
+    ghost use Rattle.fb_wanted.specs.Index.{IsKept, AreNoted, AreGreatest};
     ghost use Rattle.fb_wanted.specs.Depth.{AreDeep};
 
     ghost Value = { List Entry };
 
     ghost view = { λ w. w.entries.items };
 
-    ghost invariant = { λ w. IsKept w.entries.items w.tasks.items w.tracks × AreNoted w.entries.items w.falls × AreWeighed w.entries.items w.bands.items × AreDeep w.entries.items w.depths.items };
+    ghost invariant = { λ w. IsKept w.entries.items w.tasks.items w.tracks × AreNoted w.entries.items w.falls × AreGreatest w.tracks w.greatest × AreDeep w.entries.items w.depths.items };
 }
 
 // Notes where a block that is to be registered will stand, and counts it; where memory is wanting all stays.
@@ -149,7 +152,7 @@ impl Wanted {
         let lost = weight_of(entry);
         let gained = weight_of(turned);
         reweigh(&mut self.tracks, entry.block.track, lost, gained);
-        reweigh_band(&mut self.bands, band_of(entry.block), lost, gained);
+        settle(&mut self.greatest, &self.tracks, entry.block.track, lost);
     }
 
     // Changes the k-th block of the task.
@@ -324,7 +327,7 @@ impl Wanted {
             tasks: Vec::new(alloc),
             tracks: BTreeMap::new(alloc),
             falls: BTreeSet::new(alloc),
-            bands: Vec::new(alloc),
+            greatest: Greatest::new(alloc),
             depths: Vec::new(alloc),
         }
     }
@@ -345,10 +348,10 @@ impl Wanted {
         let band = band_of(block);
         self.entries.reserve(1)?;
         note_fall(&mut self.falls, block.task, block.index, is_fall)?;
-        add_bands(&mut self.bands, band, 0)?;
+        self.greatest.add_room(block.track.cylinder)?;
         add_bands(&mut self.depths, band, NO_DEPTH)?;
         add_to_index(&mut self.tasks, &mut self.tracks, self.alloc, place, entry)?;
-        reweigh_band(&mut self.bands, band, 0, weight_of(entry));
+        settle(&mut self.greatest, &self.tracks, block.track, 0);
         deepen(&mut self.depths, band, block);
         self.entries.push(entry)?;
         Ok(())
@@ -477,13 +480,15 @@ impl Wanted {
         self.on(track).wanted_weight()
     }
 
-    /// Weight times sectors of the wanted blocks on the band's cylinders; no track of it has more.
-    pub fn wanted_weight_in(&self, band: u32) -> u64
-        ensures sum { result ≡ band_weight band self.now }
+    /// No track of these cylinders has more wanted weight.
+    ///
+    /// Of fewer than 64 cylinders each is looked at, of more each band that they touch.
+    pub fn greatest_weight_in(&self, from: u32, end: u32) -> u64
+        requires some { from < end }
+        ensures each { (track : Track) → from ≤ track.cylinder → track.cylinder < end → wanted_weight track self.now ≤ result }
         ensures small { result ≤ 16000000 * 2048000 }
-        ensures tracks { (track : Track) → track.cylinder / 64 ≡ band → wanted_weight track self.now ≤ result }
     {
-        weight_in(&self.bands, band)
+        self.greatest.among(from, end)
     }
 
     /// No sector of the band's cylinders lies in registered blocks of more weight together.

@@ -1,12 +1,12 @@
-use Rattle.std.proofs.Common.{◌<◌, ◌∙◌, ap, sym, subst, refl, length}
+use Rattle.std.proofs.Common.{◌<◌, ◌∙◌, ap, sym, subst, refl, length, option_map}
 use Rattle.std.proofs.lemmas.Option.{slice_get_read}
-use Rattle.fb_wanted.specs.Index.{with_state, AreNoted}
+use Rattle.fb_wanted.specs.Index.{with_state, reweighed, AreNoted}
 use Rattle.fb_wanted.proofs.Standing.{items-with_state}
 use Rattle.fb_wanted.proofs.Numbers.{small_at}
-use Rattle.fb_wanted.proofs.Reading.{its_task_there, counts_part, counts_room, weight_room}
+use Rattle.fb_wanted.proofs.Reading.{its_task_there, its_track_there, weight_small, counts_part, counts_room, weight_room}
 use Rattle.fb_wanted.proofs.Kept.{kept_set}
 use Rattle.fb_wanted.proofs.Ranges.{noted-with_state}
-use Rattle.fb_wanted.proofs.Weighed.{band_there, band_part, band_room, weighed_set}
+use Rattle.fb_wanted.proofs.Cylinders.{others_within, greatest_settled}
 use Rattle.fb_wanted.proofs.Deep.{deep_set}
 use Rattle.fb_wanted.proofs.wanted.Wanted.set_state.Goals as goal
 
@@ -42,17 +42,17 @@ reweigh-requires c =
     let here = slice_get_read items (length items) c.args.place c.index-entry.result.now refl there c.index-entry.ensures in
     weight_room c.self.inside.entries.items c.self.inside.tasks.items c.self.inside.tracks c.self.invariant.0 c.args.place c.index-entry.result.now c.weight_of-lost.result c.weight_of-gained.result here c.weight_of-lost.ensures.value c.weight_of-gained.ensures.small
 
-pub reweigh_band-requires : goal.reweigh_band-requires
-reweigh_band-requires c =
+pub settle-requires : goal.settle-requires
+settle-requires c =
     let items = c.self.inside.entries.items in
-    let bands = c.self.inside.bands.items in
     let there = subst (λ es. c.args.place < length es) (sym c.self.view_is) c.requires in
-    let entry = c.index-entry.result.now in
-    let here = slice_get_read items (length items) c.args.place entry refl there c.index-entry.ensures in
+    let here = slice_get_read items (length items) c.args.place c.index-entry.result.now refl there c.index-entry.ensures in
+    let kept = kept_set c.args.state c.args.place c.index-entry.result.now items c.self.inside.tracks c.reweigh.new.tracks here c.self.inside.tasks.items c.recount.new.tasks.items c.counts_of.result c.counts_of-2.result c.weight_of-lost.result c.weight_of-gained.result
+    c.self.invariant.0 c.counts_of.ensures c.counts_of-2.ensures c.weight_of-lost.ensures.value c.weight_of-gained.ensures.value c.recount.ensures c.reweigh.ensures in
     record {
-      there = band_there items bands c.self.invariant.2 entry c.band_of.result c.band_of.ensures c.args.place here;
-      part = band_part items bands c.self.invariant.2 entry c.band_of.result c.band_of.ensures c.args.place c.weight_of-lost.result here c.weight_of-lost.ensures.value;
-      room = band_room items bands c.self.invariant.2 entry c.band_of.result c.band_of.ensures c.weight_of-gained.result c.self.invariant.0.small c.self.invariant.0.few c.weight_of-gained.ensures.small;
+      there = c.self.invariant.2.there c.index-entry.result.now.block.track (its_track_there items c.self.inside.tasks.items c.self.inside.tracks c.self.invariant.0 c.args.place c.index-entry.result.now here);
+      small = weight_small _ c.recount.new.tasks.items c.reweigh.new.tracks kept;
+      others = others_within c.self.inside.tracks c.reweigh.new.tracks c.index-entry.result.now.block.track (option_map (reweighed c.weight_of-lost.result c.weight_of-gained.result)) c.self.inside.greatest c.self.invariant.2 c.reweigh.ensures;
     }
 
 pub invariant_of-self : goal.invariant_of-self
@@ -64,8 +64,9 @@ invariant_of-self c =
       kept_set c.args.state c.args.place c.index-entry.result.now items c.self.inside.tracks c.reweigh.new.tracks here c.self.inside.tasks.items c.recount.new.tasks.items c.counts_of.result c.counts_of-2.result c.weight_of-lost.result c.weight_of-gained.result
           c.self.invariant.0 c.counts_of.ensures c.counts_of-2.ensures c.weight_of-lost.ensures.value c.weight_of-gained.ensures.value c.recount.ensures c.reweigh.ensures,
       subst (λ l. AreNoted l c.self.inside.falls) (sym same) (noted-with_state c.args.state c.args.place items c.self.inside.falls c.self.invariant.1),
-      weighed_set items c.self.inside.bands.items c.self.invariant.2 c.index-entry.result.now c.band_of.result c.band_of.ensures c.reweigh_band.new.bands.items c.args.state c.args.place c.weight_of-lost.result c.weight_of-gained.result here
-          c.weight_of-lost.ensures.value c.weight_of-gained.ensures.value c.reweigh_band.ensures.weights c.reweigh_band.ensures.length,
+      greatest_settled c.self.inside.tracks c.reweigh.new.tracks c.index-entry.result.now.block.track (option_map (reweighed c.weight_of-lost.result c.weight_of-gained.result)) c.self.inside.greatest c.self.invariant.2 c.reweigh.ensures
+          c.settle.new.greatest (c.self.invariant.2.there c.index-entry.result.now.block.track (its_track_there items c.self.inside.tasks.items c.self.inside.tracks c.self.invariant.0 c.args.place c.index-entry.result.now here))
+          c.settle.ensures.length c.settle.ensures.weights,
       deep_set c.args.state c.args.place c.index-entry.result.now items c.self.inside.depths.items here c.self.invariant.3,
     )
 

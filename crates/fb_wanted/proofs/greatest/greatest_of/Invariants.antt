@@ -1,0 +1,6 @@
+use Rattle.std.proofs.Common.{◌<◌, ◌≤◌, ℕ, get_or}
+use Rattle.fb_wanted.proofs.greatest.greatest_of.Given as goal
+
+-- the greatest of those seen
+abbrev pub invariant-loop-i : goal.invariant-loop-i
+invariant-loop-i l = ((j : ℕ) → l.from ≤ j → j < l.i → get_or l.numbers j 0 ≤ l.greatest) × ((most : ℕ) → ((j : ℕ) → get_or l.numbers j 0 ≤ most) → l.greatest ≤ most)

@@ -1,0 +1,131 @@
+// The greatest weight of a track, for each cylinder and for each band of neighbouring cylinders.
+ghost use Rattle.std.specs.Prelude.{◌≡◌, ℕ, false, ◌⊎◌, ◌≤◌, ◌<◌, ◌*◌, ◌/◌, [], length, get_or, set, OnOk};
+ghost use Rattle.fb_units.specs.declared.types.Track.{Track};
+ghost use Rattle.fb_units.specs.Tracks.{same_track};
+ghost use Rattle.fb_wanted.specs.Index.{weight_kept};
+
+use crate::bands::{BAND, add_bands};
+use crate::tracks::{OnTrack, greatest_on, weight_on};
+use fb_units::{NoMemory, Track};
+use std::alloc::Global;
+use std::collections::BTreeMap;
+use std::marker::Model;
+
+/// For each cylinder the greatest weight of a track, and for each band the greatest of its cylinders.
+#[derive(Drop)]
+pub struct Greatest {
+    cylinders: Vec<u64>,
+    bands: Vec<u64>,
+}
+
+impl Model for Greatest {
+    ghost use Rattle.std.specs.Prelude.{List, ℕ};
+    ghost use Rattle.fb_wanted.specs.Index.{AreBands};
+
+    ghost Value = { List ℕ };
+
+    ghost view = { λ g. g.cylinders.items };
+
+    ghost invariant = { λ g. AreBands g.cylinders.items g.bands.items };
+}
+
+// The greatest of these numbers: 0 where there is none.
+fn greatest_of(numbers: &[u64], from: usize, end: usize) -> u64
+    ensures each { (i : ℕ) → from ≤ i → i < end → get_or numbers.now i 0 ≤ result }
+    ensures least { (most : ℕ) → ((i : ℕ) → get_or numbers.now i 0 ≤ most) → result ≤ most }
+{
+    let mut greatest: u64 = 0;
+    for i in from..end.min(numbers.len()) {
+        greatest = greatest.max(numbers[i]);
+    }
+    greatest
+}
+
+// The greatest of a band, where one of its cylinders had another.
+fn greatest_anew(cylinders: &[u64], band: u32, greatest: u64, was: u64, now: u64) -> u64
+    requires { (c : ℕ) → c / 64 ≡ band → (get_or cylinders.now c 0 ≤ greatest) ⊎ (get_or cylinders.now c 0 ≤ now) }
+    ensures each { (c : ℕ) → c / 64 ≡ band → get_or cylinders.now c 0 ≤ result }
+    ensures least { (most : ℕ) → greatest ≤ most → now ≤ most → ((c : ℕ) → get_or cylinders.now c 0 ≤ most) → result ≤ most }
+{
+    if now >= greatest {
+        return now;
+    }
+    if was < greatest {
+        return greatest;
+    }
+    let from = band as usize * BAND as usize;
+    greatest_of(cylinders, from, from + BAND as usize)
+}
+
+impl Greatest {
+    /// Of no cylinder.
+    pub fn new(alloc: Global) -> Self
+        ensures { result ≡ [] }
+    {
+        Greatest {
+            cylinders: Vec::new(alloc),
+            bands: Vec::new(alloc),
+        }
+    }
+
+    /// Makes room for all cylinders up to this one.
+    pub fn add_room(&mut self, cylinder: u32) -> Result<(), NoMemory>
+        ensures stay { (c : ℕ) → get_or self.new c 0 ≡ get_or self.old c 0 }
+        ensures longer { length self.old ≤ length self.new }
+        ensures there { OnOk result (cylinder < length self.new) }
+    {
+        add_bands(&mut self.bands, cylinder / BAND, 0)?;
+        add_bands(&mut self.cylinders, cylinder, 0)
+    }
+
+    /// The greatest of a cylinder.
+    pub fn at(&self, cylinder: u32) -> u64
+        requires { cylinder < length self.now }
+        ensures { result ≡ get_or self.now cylinder 0 }
+    {
+        self.cylinders[cylinder as usize]
+    }
+
+    /// Changes the greatest of a cylinder.
+    pub fn set(&mut self, cylinder: u32, weight: u64)
+        requires there { cylinder < length self.old }
+        requires small { weight ≤ 16000000 * 2048000 }
+        ensures { self.new ≡ set self.old cylinder weight }
+    {
+        let band = cylinder / BAND;
+        let was = self.cylinders[cylinder as usize];
+        let greatest = self.bands[band as usize];
+        self.cylinders[cylinder as usize] = weight;
+        self.bands[band as usize] = greatest_anew(&self.cylinders, band, greatest, was, weight);
+    }
+
+    /// The greatest of some cylinders, or of all the bands that they touch.
+    pub fn among(&self, from: u32, end: u32) -> u64
+        requires some { from < end }
+        ensures each { (c : ℕ) → from ≤ c → c < end → get_or self.now c 0 ≤ result }
+        ensures small { result ≤ 16000000 * 2048000 }
+    {
+        if end - from < BAND {
+            return greatest_of(&self.cylinders, from as usize, end as usize);
+        }
+        let last = (end - 1) / BAND;
+        greatest_of(&self.bands, (from / BAND) as usize, last as usize + 1)
+    }
+}
+
+/// Brings the greatest of its cylinder up to date after a track has gained weight, or has lost no more than this.
+pub fn settle(greatest: &mut Greatest, tracks: &BTreeMap<Track, OnTrack>, track: Track, lost: u64)
+    requires there { track.cylinder < length greatest.old }
+    requires small { (t : Track) → weight_kept tracks.now t ≤ 16000000 * 2048000 }
+    requires others { (t : Track) → same_track track t ≡ false → weight_kept tracks.now t ≤ get_or greatest.old t.cylinder 0 }
+    ensures weights { (t : Track) → weight_kept tracks.now t ≤ get_or greatest.new t.cylinder 0 }
+    ensures length { length greatest.new ≡ length greatest.old }
+{
+    let was = greatest.at(track.cylinder);
+    let weight = weight_on(tracks, track);
+    if weight >= was {
+        greatest.set(track.cylinder, weight);
+    } else if was - weight <= lost {
+        greatest.set(track.cylinder, greatest_on(tracks, track.cylinder));
+    }
+}
