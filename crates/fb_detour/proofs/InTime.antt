@@ -1,5 +1,5 @@
 -- No detour catches more than what can pass in the time that is left.
-use Rattle.std.proofs.Common.{◌≡◌, ℕ, zero, suc, ◌+◌, ◌-◌, ◌*◌, ◌/◌, ◌<◌, ◌≤◌, List, false, arith}
+use Rattle.std.proofs.Common.{◌≡◌, ℕ, zero, suc, ◌+◌, ◌-◌, ◌*◌, ◌/◌, ◌<◌, ◌≤◌, min, List, false, arith}
 use Rattle.std.proofs.lemmas.Nat.{le-div, mul-le}
 use Rattle.std.proofs.Math.Nat.{div-mul-le_self}
 use Rattle.fb_units.specs.declared.types.Track.{Track}
@@ -10,13 +10,16 @@ use Rattle.fb_service.specs.declared.disk.Disk.{Disk}
 use Rattle.fb_wanted.specs.declared.block.Entry.{Entry}
 use Rattle.fb_wanted.specs.Depth.{depth_at}
 use Rattle.fb_wanted.specs.States.{wanted_of}
+use Rattle.fb_wanted.specs.Tracks.{wanted_weight}
 use Rattle.fb_rows.specs.declared.gap.Gap.{Gap}
 use Rattle.fb_rows.specs.declared.gap.Plan.TheVariants.{Detour}
 use Rattle.fb_model.specs.Plans.{value, IsDetour}
 use Rattle.fb_plan.specs.Ways.{AreOnDisk}
-use Rattle.fb_detour.specs.Bounds.{slots_within}
-use Rattle.fb_detour.proofs.Ceilings.{two_stays}
-use Rattle.fb_detour.proofs.Packing.{packing}
+use Rattle.fb_detour.specs.declared.parts.LateParts.{LateParts}
+use Rattle.fb_detour.specs.Bounds.{early_to, slots_within, IsLate, part_at}
+use Rattle.fb_detour.proofs.Ceilings.{two_stays, weight_of_stay}
+use Rattle.fb_detour.proofs.Packing.{div-rises, packing}
+use Rattle.fb_detour.proofs.Ways.{late-from, late-part}
 
 pub some_share : (rotation slots : ℕ) → 0 < slots → slots ≤ rotation → 0 < rotation / slots
 some_share rotation slots some room = le-div 1 rotation slots some (omega (arith, room))
@@ -59,4 +62,29 @@ worth_in_time disk gap es track leave depth slots left sound own on_disk is deep
       packing disk track arrive leave sound es depth own on_disk deep,
       packing disk gap.target back gap.deadline sound es depth own on_disk deep_target,
       mul-le depth (early + late) depth (left / (rotation / slots) + 2) (omega arith) passing,
+    )
+
+-- nor is one that leaves in a stretch worth more than what passes by the stretch's end, and what the target gives after a leave at its begin
+pub worth_by_stretch : (disk : Disk) (gap : Gap) (es : List Entry) (late : LateParts) (track : Track) (leave depth slots weight arrive on from time : ℕ) → IsSound disk.map → HasOwnPlaces disk.map → AreOnDisk disk es → IsLate disk gap es late
+    → IsDetour disk gap track leave → ((lbn : ℕ) → depth_at track lbn es ≤ depth) → slots_at disk.map.zones track.cylinder ≤ slots → 0 < disk.map.rotation / slots → wanted_weight track es ≤ weight
+    → arrive ≤ gap.now + pos disk.mechanism gap.source track false → on ≤ pos disk.mechanism track gap.target gap.write → gap.now ≤ from → from ≤ leave → leave ≤ arrive + time
+    → value disk gap (wanted_of es) (Detour track leave) ≤ min weight (depth * (time / (disk.map.rotation / slots) + 1)) + part_at late (from + on)
+worth_by_stretch disk gap es late track leave depth slots weight arrive on from time sound own on_disk is-late is deep few some light there back now low high =
+    let begin = gap.now + pos disk.mechanism gap.source track false in
+    let rotation = disk.map.rotation in
+    let passing = slots_within rotation (slots_at disk.map.zones track.cylinder) (leave - begin) in
+    let most : passing ≤ time / (rotation / slots) + 1 = omega (
+      arith,
+      more_pass rotation (slots_at disk.map.zones track.cylinder) slots (leave - begin) few some,
+      div-rises (leave - begin) time (rotation / slots) (omega (arith, there, high)),
+    ) in
+    omega (
+      arith,
+      two_stays disk gap (Detour track leave) es,
+      packing disk track begin leave sound es depth own on_disk deep,
+      mul-le depth passing depth (time / (rotation / slots) + 1) (omega arith) most,
+      weight_of_stay disk (early_to track begin leave) es,
+      light,
+      late-from disk gap es track leave is (from + on) (omega (arith, low, back)),
+      late-part disk gap es late (from + on) is-late (omega (arith, now)),
     )

@@ -28,7 +28,7 @@ use Rattle.fb_detour.proofs.Counted.{no_more}
 use Rattle.fb_detour.proofs.Within.{its_track, place_of, sectors_pass}
 use Rattle.fb_detour.proofs.Spread.{same_share}
 
-div-rises : (a b n : ℕ) → a ≤ b → a / n ≤ b / n
+pub div-rises : (a b n : ℕ) → a ≤ b → a / n ≤ b / n
 div-rises a b zero le = omega arith
 div-rises a b (suc n) le = le-div (a / suc n) b (suc n) (omega arith) (omega (arith, div-mul-le_self a (suc n), le))
 

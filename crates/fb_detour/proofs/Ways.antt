@@ -29,7 +29,7 @@ module _ (disk : Disk) (gap : Gap) (es : List Entry) (track : Track) (leave : �
       → stay disk (early_dwell disk gap (Detour track leave)) es ≤ stay disk (early_to track arrive upto) es
   early-le arrive upto a le = longer_stay disk (early_dwell disk gap (Detour track leave)) (early_to track arrive upto) es disk.some_rotation refl (omega (arith, a)) le
 
-  late-from : (from : ℕ) → from ≤ leave + pos disk.mechanism track gap.target gap.write → stay disk (late_dwell disk gap (Detour track leave)) es ≤ stay disk (late_most gap from) es
+  pub late-from : (from : ℕ) → from ≤ leave + pos disk.mechanism track gap.target gap.write → stay disk (late_dwell disk gap (Detour track leave)) es ≤ stay disk (late_most gap from) es
   late-from from le = longer_stay disk (late_dwell disk gap (Detour track leave)) (late_most gap from) es disk.some_rotation refl le (omega arith)
 
   both : value disk gap (wanted_of es) (Detour track leave) ≤ stay disk (early_dwell disk gap (Detour track leave)) es + stay disk (late_dwell disk gap (Detour track leave)) es

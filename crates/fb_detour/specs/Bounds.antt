@@ -1,7 +1,8 @@
 -- What bounds the value of detours.
-use Rattle.std.specs.Prelude.{◌≡◌, ℕ, ◌+◌, ◌-◌, ◌*◌, ◌/◌, ◌^◌, ◌<◌, ◌≤◌, ◌⊎◌, min, nat_lt, get_or, List, ◌&&◌, if◌then◌else◌}
+use Rattle.std.specs.Prelude.{◌≡◌, ℕ, false, ◌+◌, ◌-◌, ◌*◌, ◌/◌, ◌^◌, ◌<◌, ◌≤◌, ◌⊎◌, min, nat_lt, get_or, List, ◌&&◌, if◌then◌else◌}
 use Rattle.std.specs.List.{sum_by}
 use Rattle.fb_units.specs.declared.types.Track.{Track}
+use Rattle.fb_seek.specs.Positioning.{pos}
 use Rattle.fb_service.specs.declared.disk.Disk.{Disk}
 use Rattle.fb_wanted.specs.declared.block.Block.{Block}
 use Rattle.fb_wanted.specs.declared.block.Entry.{Entry}
@@ -13,6 +14,7 @@ use Rattle.fb_rows.specs.declared.gap.Plan.TheVariants.{Detour}
 use Rattle.fb_model.specs.Plans.{block_begin, catches, value, IsPlan, IsDetour, IsNoLater, IsTrackBefore}
 use Rattle.fb_plan.specs.declared.choice.Scored.{Scored}
 use Rattle.fb_plan.specs.declared.way.Way.{Way}
+use Rattle.fb_detour.specs.declared.bounds.Moves.{Moves}
 use Rattle.fb_detour.specs.declared.stretches.Ceilings.{Ceilings}
 use Rattle.fb_detour.specs.declared.parts.LateParts.{LateParts}
 use Rattle.fb_detour.specs.declared.stop.Stop.{Stop}
@@ -95,6 +97,15 @@ IsAhead plan track = (other : Track) (leave : ℕ) → (IsTrackBefore other trac
 -- no detour of this value, over this track or a later one, is better than the best so far
 abbrev pub IsEnough : Scored → ℕ → Track → Type 0
 IsEnough best ceiling track = (ceiling < best.value) ⊎ ((ceiling ≡ best.value) × IsAhead best.plan track)
+
+-- no detour over a track of these cylinders moves for less time
+abbrev pub AreLeast : Disk → Gap → ℕ → ℕ → Moves → Type 0
+AreLeast disk gap from end moves = (track : Track) → from ≤ track.cylinder → track.cylinder < end
+    → (moves.there ≤ pos disk.mechanism gap.source track false) × (moves.on ≤ pos disk.mechanism track gap.target gap.write)
+
+-- no less than what the target gives after the way over the track
+abbrev pub IsAfter : Disk → Gap → List Entry → Track → ℕ → Type 0
+IsAfter disk gap entries track most = stay disk (late_most gap (gap.now + pos disk.mechanism gap.source track false + pos disk.mechanism track gap.target gap.write)) entries ≤ most
 
 -- no more slots of a track of n than this begin and end in so much time
 abbrev pub slots_within : ℕ → ℕ → ℕ → ℕ

@@ -6,9 +6,8 @@ ghost use Rattle.fb_seek.specs.Positioning.{pos};
 ghost use Rattle.fb_model.specs.Plans.{value, IsDetour, IsTrackBefore};
 ghost use Rattle.fb_wanted.specs.Depth.{depth_at};
 ghost use Rattle.fb_wanted.specs.States.{wanted_of};
-ghost use Rattle.fb_wanted.specs.Tracks.{HasBlock, wanted_weight};
 ghost use Rattle.fb_plan.specs.Ways.{AreOnDisk, IsGap};
-ghost use Rattle.fb_detour.specs.Bounds.{distance_to, IsAhead, IsEnough};
+ghost use Rattle.fb_detour.specs.Bounds.{distance_to, AreLeast, IsAhead, IsEnough};
 
 use fb_geometry::Zone;
 use fb_plan::Scored;
@@ -34,14 +33,20 @@ fn distance_to(from: u32, end: u32, cylinder: u32) -> u32
     cylinder - (end - 1)
 }
 
-// No detour over a track of these cylinders takes less time.
-pub fn least_way(disk: &Disk, gap: &Gap, from: u32, end: u32) -> Ns
+// How long the head moves to a track, and from it on to the target, at least.
+#[derive(Clone, Copy)]
+pub struct Moves {
+    pub there: Ns,
+    pub on: Ns,
+}
+
+// No detour over a track of these cylinders moves for less time.
+pub fn least_moves(disk: &Disk, gap: &Gap, from: u32, end: u32) -> Moves
     requires gap { IsGap disk.now gap.now }
     requires some { from < end }
     requires cylinders { end ≤ disk.now.mechanism.cylinders }
-    ensures least { (track : Track) → from ≤ track.cylinder → track.cylinder < end
-        → result ≤ pos disk.now.mechanism gap.entry.now.source track false + pos disk.now.mechanism track gap.entry.now.target gap.entry.now.write }
-    ensures small { result ≤ 2 * 10 ^ 9 }
+    ensures least { AreLeast disk.now gap.entry.now from end result }
+    ensures small { (result.there ≤ 10 ^ 9) × (result.on ≤ 10 ^ 9) }
 {
     disk.mechanism.seeks_rise();
     let there = disk
@@ -50,55 +55,17 @@ pub fn least_way(disk: &Disk, gap: &Gap, from: u32, end: u32) -> Ns
     let on = disk
         .mechanism
         .seek(distance_to(from, end, gap.target.cylinder));
-    there + on
+    Moves { there, on }
 }
 
-// Whether a block is registered on one of these cylinders.
-fn has_registered(wanted: &Wanted, from: u32, end: u32) -> bool
-    ensures { result ≡ false → (track : Track) → from ≤ track.cylinder → track.cylinder < end → HasBlock wanted.now track → ⊥ }
-{
-    let first = Track {
-        cylinder: from,
-        head: 0,
-    };
-    match wanted.next_registered_track(first) {
-        Some(track) => track.cylinder < end,
-        None => false,
-    }
-}
-
-// Whether a block is wanted on a band to which one of these cylinders belongs.
-fn has_wanted_band(wanted: &Wanted, from: u32, end: u32) -> bool
-    requires some { from < end }
-    ensures { result ≡ false → (track : Track) → from ≤ track.cylinder → track.cylinder < end → wanted_weight track wanted.now ≡ 0 }
-{
-    for band in from / BAND..(end - 1) / BAND + 1 {
-        if wanted.wanted_weight_in(band) > 0 {
-            return true;
-        }
-    }
-    false
-}
-
-// Whether a block may be wanted on one of these cylinders.
-pub fn may_want(wanted: &Wanted, from: u32, end: u32) -> bool
-    requires some { from < end }
-    ensures { result ≡ false → (track : Track) → from ≤ track.cylinder → track.cylinder < end → wanted_weight track wanted.now ≡ 0 }
-{
-    if !has_wanted_band(wanted, from, end) {
-        return false;
-    }
-    has_registered(wanted, from, end)
-}
-
-// No block of these cylinders, or of the target, has a sector of which more is wanted.
-fn most_depth(wanted: &Wanted, from: u32, end: u32, target: Track) -> u64
+// No block of these cylinders, or of another track, has a sector of which more is wanted.
+pub fn most_depth(wanted: &Wanted, from: u32, end: u32, other: Track) -> u64
     requires some { from < end }
     ensures each { (track : Track) (lbn : ℕ) → from ≤ track.cylinder → track.cylinder < end → depth_at track lbn wanted.now ≤ result }
-    ensures target { (lbn : ℕ) → depth_at target lbn wanted.now ≤ result }
+    ensures other { (lbn : ℕ) → depth_at other lbn wanted.now ≤ result }
     ensures small { result ≤ 16000000 * 1000 }
 {
-    let mut depth = wanted.depth_in(target.cylinder / BAND);
+    let mut depth = wanted.depth_in(other.cylinder / BAND);
     for band in from / BAND..(end - 1) / BAND + 1 {
         depth = depth.max(wanted.depth_in(band));
     }
@@ -116,18 +83,18 @@ fn slots_from(zone: Zone, cylinder: u32) -> u32
     }
 }
 
-// No track of these cylinders has more slots, nor has the target.
-fn most_slots(disk: &Disk, from: u32, end: u32, target: Track) -> u32
+// No track of these cylinders has more slots, nor has another track.
+pub fn most_slots(disk: &Disk, from: u32, end: u32, other: Track) -> u32
     requires some { from < end }
-    requires target { IsTrackOf disk.now.map target }
+    requires other { IsTrackOf disk.now.map other }
     ensures each { (cylinder : ℕ) → from ≤ cylinder → cylinder < end → slots_at disk.now.map.zones cylinder ≤ result }
-    ensures target { slots_at disk.now.map.zones target.cylinder ≤ result }
+    ensures other { slots_at disk.now.map.zones other.cylinder ≤ result }
     ensures some { 0 < result }
     ensures room { result ≤ disk.now.map.rotation }
 {
     let geometry = disk.map.geometry();
     geometry.sound();
-    let mut slots = geometry.slots(target);
+    let mut slots = geometry.slots(other);
     for i in 0..geometry.zones() {
         let zone = geometry.zone(i);
         slots = slots.max(slots_from(zone, from));

@@ -1,15 +1,15 @@
 // The search over tracks: a track is passed over where no detour over it is better than the best so far.
-ghost use Rattle.std.specs.Prelude.{◌≡◌, ◌+◌, ◌≤◌, ◌<◌, true, false};
+ghost use Rattle.std.specs.Prelude.{◌≡◌, ◌+◌, ◌*◌, ◌≤◌, ◌<◌, true, false};
 ghost use Rattle.fb_units.specs.declared.types.Track.{Track};
 ghost use Rattle.fb_geometry.specs.Shape.{IsTrackOf};
 ghost use Rattle.fb_seek.specs.Positioning.{pos};
 ghost use Rattle.fb_wanted.specs.States.{wanted_of};
 ghost use Rattle.fb_plan.specs.Ways.{AreOnDisk, IsGap, IsScored, Beats};
-ghost use Rattle.fb_detour.specs.Bounds.{BeatsOver, BeatsRange, IsLate};
+ghost use Rattle.fb_detour.specs.Bounds.{BeatsOver, BeatsRange, IsAfter, IsLate};
 
-use crate::bounds::{LONG, is_enough, least_way, may_want, most_in_time};
+use crate::bounds::{LONG, is_enough, least_moves, most_in_time};
 use crate::candidates::try_leaves;
-use crate::leaves::{leaves_beaten, time_beaten};
+use crate::leaves::{leaves_beaten, stretches_beaten};
 use crate::missing::misses_enough;
 use crate::parts::{LateParts, late_at};
 use crate::stop::stop_at;
@@ -40,21 +40,47 @@ fn is_hopeless(
     if gap.deadline < arrive + move_on {
         return true;
     }
-    let blocks = blocks_on(disk, wanted, track);
-    let weight = blocks.wanted_weight();
-    let after = late_at(late, arrive + move_on);
-    if is_enough(best, weight + after, track) {
-        return true;
-    }
-    if time_beaten(disk, wanted, gap, late, track, arrive, move_on, best) {
-        return true;
-    }
-    let stop = stop_at(disk, wanted, blocks, track, arrive);
+    let stop = stop_at(disk, wanted, blocks_on(disk, wanted, track), track, arrive);
     let latest = gap.deadline - move_on;
+    let after = late_at(late, arrive + move_on);
     if misses_enough(disk, wanted, &stop, latest, after, best) {
         return true;
     }
     leaves_beaten(disk, wanted, gap, late, &stop, move_on, best)
+}
+
+// Whether the track's blocks, with what the target then gives, weigh too little for a better detour.
+fn is_too_light(
+    disk: &Disk,
+    wanted: &Wanted,
+    gap: &Gap,
+    track: Track,
+    after: u64,
+    best: Scored,
+) -> bool
+    requires gap { IsGap disk.now gap.now }
+    requires best { IsScored disk.now gap.now (wanted_of wanted.now) best }
+    requires after { IsAfter disk.now gap.now wanted.now track after }
+    requires small { after ≤ 16000000 * 2048000 }
+    ensures { result ≡ true → BeatsOver disk.now gap.entry.now (wanted_of wanted.now) best.plan track }
+{
+    let _ = disk;
+    let _ = gap;
+    is_enough(best, wanted.wanted_weight_on(track) + after, track)
+}
+
+// No less than what the target gives after the way over a track of the cylinder.
+fn most_after(disk: &Disk, wanted: &Wanted, gap: &Gap, late: &LateParts, cylinder: u32) -> u64
+    requires cylinder { cylinder < disk.now.mechanism.cylinders }
+    requires gap { IsGap disk.now gap.now }
+    requires late { IsLate disk.now gap.now wanted.now late.now }
+    ensures each { (track : Track) → track.cylinder ≡ cylinder → IsAfter disk.now gap.entry.now wanted.now track result }
+    ensures small { result ≤ 16000000 * 2048000 }
+{
+    let _ = wanted;
+    let _cylinders = disk.map.geometry().cylinders();
+    let moves = least_moves(disk, gap, cylinder, cylinder + 1);
+    late_at(late, gap.now + moves.there + moves.on)
 }
 
 // Tries the plans over a track, unless none can be better than the best so far.
@@ -64,9 +90,12 @@ fn try_track(
     gap: &Gap,
     late: &LateParts,
     track: Track,
+    after: u64,
     start: Scored,
 ) -> Scored
     requires track { IsTrackOf disk.now.map track }
+    requires after { IsAfter disk.now gap.now wanted.now track after }
+    requires small { after ≤ 16000000 * 2048000 }
     requires gap { IsGap disk.now gap.now }
     requires blocks { AreOnDisk disk.now wanted.now }
     requires late { IsLate disk.now gap.now wanted.now late.now }
@@ -79,6 +108,9 @@ fn try_track(
         return start;
     }
     if is_same(track, gap.target) {
+        return start;
+    }
+    if is_too_light(disk, wanted, gap, track, after, start) {
         return start;
     }
     if is_hopeless(disk, wanted, gap, late, track, start) {
@@ -105,9 +137,11 @@ fn try_cylinder(
     ensures keeps { Beats disk.now gap.entry.now (wanted_of wanted.now) result.plan start.plan }
     ensures tried { BeatsRange disk.now gap.entry.now (wanted_of wanted.now) result.plan cylinder (cylinder + 1) }
 {
+    let after = most_after(disk, wanted, gap, late, cylinder);
     let mut best = start;
     for head in 0..disk.map.geometry().heads() {
-        best = try_track(disk, wanted, gap, late, Track { cylinder, head }, best);
+        let track = Track { cylinder, head };
+        best = try_track(disk, wanted, gap, late, track, after, best);
     }
     best
 }
@@ -163,21 +197,23 @@ fn can_skip(
     requires best { IsScored disk.now gap.now (wanted_of wanted.now) best }
     ensures { result ≡ true → BeatsRange disk.now gap.entry.now (wanted_of wanted.now) best.plan from end }
 {
-    let arrive = gap.now + least_way(disk, gap, from, end);
-    if gap.deadline < arrive {
+    let moves = least_moves(disk, gap, from, end);
+    let back = gap.now + moves.there + moves.on;
+    if gap.deadline < back {
         return true;
     }
-    if is_too_short(disk, wanted, gap, from, end, gap.deadline - arrive, best) {
+    if is_too_short(disk, wanted, gap, from, end, gap.deadline - back, best) {
         return true;
     }
-    if may_want(wanted, from, end) {
-        return false;
-    }
+    let weight = wanted.greatest_weight_in(from, end);
     let first = Track {
         cylinder: from,
         head: 0,
     };
-    is_enough(best, late_at(late, arrive), first)
+    if is_enough(best, weight + late_at(late, back), first) {
+        return true;
+    }
+    stretches_beaten(disk, wanted, gap, late, from, end, moves, weight, best)
 }
 
 // The cylinders before this one, from one on, can be passed over: twice as many at each step.

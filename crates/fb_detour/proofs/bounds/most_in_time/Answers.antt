@@ -18,5 +18,5 @@ returns c = λ track leave low high is.
     let rotation : c.rotation.result ≡ disk.map.rotation = c.rotation.ensures.value ∙ ap (λ (d : Shape). d.rotation) c.geometry-geometry.ensures in
     subst (λ r. value disk gap (wanted_of entries) (Detour track leave) ≤ depth.result * (left / (r / slots.result) + 2)) (sym rotation)
     (worth_in_time disk gap entries track leave depth.result slots.result left (subst IsSound c.geometry-geometry.ensures c.sound.ensures) (subst HasOwnPlaces c.geometry-geometry.ensures c.own_places.ensures) c.requires.blocks is
-    (λ lbn. depth.ensures.each track lbn low high) depth.ensures.target (slots.ensures.each track.cylinder low high) slots.ensures.target (some_share disk.map.rotation slots.result slots.ensures.some slots.ensures.room)
+    (λ lbn. depth.ensures.each track lbn low high) depth.ensures.other (slots.ensures.each track.cylinder low high) slots.ensures.other (some_share disk.map.rotation slots.result slots.ensures.some slots.ensures.room)
     (c.requires.left track low high))

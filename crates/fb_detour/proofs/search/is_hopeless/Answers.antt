@@ -1,24 +1,10 @@
 use Rattle.std.proofs.Common.{arith, ap, subst, ◌∙◌, ◌+◌, ◌-◌, ◌*◌, ◌≤◌}
 use Rattle.std.specs.List.{sum_by}
 use Rattle.fb_wanted.specs.States.{wanted_of}
-use Rattle.fb_detour.specs.Bounds.{stay, early_to, IsEnough}
+use Rattle.fb_detour.specs.Bounds.{stay, early_to, BeatsOver, IsEnough}
 use Rattle.fb_detour.proofs.Ways.{not_better, by_weight, by_stretch, late-part}
 use Rattle.fb_detour.proofs.Ranges.{not_itself}
 use Rattle.fb_detour.proofs.search.is_hopeless.Goals as goal
-
-pub returns-then-is_enough : goal.returns-then-is_enough
-returns-then-is_enough c = λ h leave is.
-    let from = c.args.gap.now.now + c.pos.result + c.pos-move_on.result in
-    let weighs = c.wanted_weight-weight.ensures.sum ∙ ap (λ xs. sum_by (λ b. b.weight * b.count) (wanted_of xs)) c.blocks_on-blocks.ensures.its in
-    not_better c.args.disk.now c.args.gap.now (wanted_of c.args.wanted.now) c.args.best (c.wanted_weight-weight.result + c.late_at-after.result) c.args.track c.args.track leave
-    c.requires.best (c.is_enough.ensures c.if-is_enough.true) (not_itself c.args.track)
-    (omega (
-      arith,
-      by_weight c.args.disk.now c.args.gap.now c.args.wanted.now c.args.track leave is from (omega (arith, c.pos.ensures.value, c.pos-move_on.ensures.value)),
-      weighs,
-      late-part c.args.disk.now c.args.gap.now c.args.wanted.now c.args.late.now from c.requires.late (omega arith),
-      c.late_at-after.ensures.value,
-    ))
 
 pub returns-then-misses_enough : goal.returns-then-misses_enough
 returns-then-misses_enough c = λ h leave is.
@@ -39,3 +25,6 @@ returns-then-misses_enough c = λ h leave is.
       late-part c.args.disk.now c.args.gap.now c.args.wanted.now c.args.late.now from c.requires.late (omega arith),
       c.late_at-after.ensures.value,
     ))
+
+pub returns : goal.returns
+returns c = λ h. subst (λ t. BeatsOver c.args.disk.now c.args.gap.now (wanted_of c.args.wanted.now) c.args.best.plan t) c.stop_at-stop.ensures.track (c.leaves_beaten.ensures h)
