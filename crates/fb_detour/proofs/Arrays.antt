@@ -29,3 +29,7 @@ module _ (P : ℕ → ℕ → Type 0) (xs : List ℕ) (k v : ℕ) where
 -- sixteen steps of a bit more than a sixteenth go over the whole
 pub over_all : (n : ℕ) → n < 16 * (n / 16 + 1)
 over_all n = let whole = div-add-mod' n 16 in let rest = mod-lt n {m = 16} (omega arith) in omega (arith, whole, rest)
+
+-- and end soon behind it
+pub sixteen : (n : ℕ) → 16 * (n / 16 + 1) ≤ n + 16
+sixteen n = omega (arith, div-add-mod' n 16)

@@ -1,5 +1,5 @@
--- Blocks whose passage begins too late for a stay.
-use Rattle.std.proofs.Common.{◌≡◌, ℕ, zero, suc, ◌+◌, ◌-◌, ◌<◌, ◌≤◌, inl, inr, take, List, [], ◌∷◌, Bool, true, false, Some, slice_get, refl, arith, ap, if◌then◌else◌}
+-- Blocks whose passage ends too late for a stay.
+use Rattle.std.proofs.Common.{◌≡◌, ℕ, zero, suc, ◌+◌, ◌-◌, ◌<◌, ◌≤◌, inl, inr, take, List, [], ◌∷◌, Bool, true, false, Some, slice_get, refl, arith, ap, ◌∙◌, if◌then◌else◌}
 use Rattle.std.specs.Prelude.{nat_lt}
 use Rattle.std.specs.List.{sum_by}
 use Rattle.std.proofs.lemmas.Bool.{cases_Bool, cases_lt}
@@ -12,7 +12,9 @@ use Rattle.fb_wanted.specs.declared.block.Block.{Block}
 use Rattle.fb_wanted.specs.declared.block.Entry.{Entry}
 use Rattle.fb_wanted.specs.States.{is_wanted, on_track, wanted_of}
 use Rattle.fb_wanted.specs.Tracks.{wanted_weight}
-use Rattle.fb_model.specs.Plans.{catches, block_begin, block_end}
+use Rattle.fb_model.specs.Plans.{catches, block_end}
+use Rattle.fb_plan.specs.declared.turning.Turning.{Turning}
+use Rattle.fb_plan.specs.declared.turning.Until.{Until}
 use Rattle.fb_detour.specs.Bounds.{stay_gain, stay, early_to, wanted_worth, missed}
 use Rattle.fb_detour.proofs.Ceilings.{worth, gain-worth, no_gain, and_false}
 
@@ -42,19 +44,19 @@ take-le f zero es = omega arith
 take-le f (suc n) [] = omega arith
 take-le f (suc n) (e ∷ es) = omega (arith, sum_by-cons f e (take n es), sum_by-cons f e es, take-le f n es)
 
-later_end : (disk : Disk) (track : Track) (arrive latest : ℕ) (b : Block) → latest < block_begin disk.map b arrive → catches disk (early_to track arrive latest) b ≡ false
-later_end disk track arrive latest b late = let after : block_begin disk.map b arrive ≤ block_end disk.map b arrive = omega arith in grind (arith, nat_tests)
+later_end : (disk : Disk) (track : Track) (arrive latest : ℕ) (b : Block) → latest < block_end disk.map b arrive → catches disk (early_to track arrive latest) b ≡ false
+later_end disk track arrive latest b late = grind (arith, nat_tests)
 
 gain-or-missed : (disk : Disk) (track : Track) (arrive latest : ℕ) (e : Entry) → stay_gain disk (early_to track arrive latest) e + missed disk arrive latest e ≤ wanted_worth e
 gain-or-missed disk track arrive latest e = elim (cases_Bool (is_wanted e.state)) [
-  | inl y ↦ elim (cases_lt latest (block_begin disk.map e.block arrive)) [
+  | inl y ↦ elim (cases_lt latest (block_end disk.map e.block arrive)) [
     | inl late ↦
         let gain : stay_gain disk (early_to track arrive latest) e ≡ 0 = rw (later_end disk track arrive latest e.block late, and_false (is_wanted e.state)) refl in
         let miss : missed disk arrive latest e ≤ worth e.block = if-le-n _ (worth e.block) in
         let whole : wanted_worth e ≡ worth e.block = rw y refl in
         omega (arith, gain, miss, whole)
     | inr soon ↦
-        let not : nat_lt latest (block_begin disk.map e.block arrive) ≡ false = grind (arith, nat_tests) in
+        let not : nat_lt latest (block_end disk.map e.block arrive) ≡ false = grind (arith, nat_tests) in
         let miss : missed disk arrive latest e ≡ 0 = rw (not, and_false (is_wanted e.state)) refl in
         let whole : wanted_worth e ≡ worth e.block = rw y refl in
         omega (arith, miss, whole, gain-worth disk (early_to track arrive latest) e)
@@ -83,3 +85,9 @@ missed-more disk track arrive latest i most less es e at l h =
     let next = sum_by_more (missed disk arrive latest) xs i e (slice_get_within xs i e at) in
     let all = missed-so-far disk track arrive latest (i + 1) es in
     (omega (arith, here, next, all, l, h), omega (arith, here, next, all, l, h))
+
+-- what is known to pass by an instant is not missed by it
+pub missed-until : (disk : Disk) (until : Until) (passing : Turning) (latest less : ℕ) (e : Entry) → until.passing ≡ passing → until.latest ≡ latest
+    → less ≡ missed disk until.passing.from until.latest e → less ≡ missed disk passing.from latest e
+missed-until disk until passing latest less e p l m =
+    m ∙ (ap (λ (t : Turning). missed disk t.from until.latest e) p ∙ ap (λ n. missed disk passing.from n e) l)

@@ -11,14 +11,14 @@ use Rattle.fb_rows.specs.declared.gap.Dwell.{Dwell}
 use Rattle.fb_rows.specs.declared.gap.Gap.{Gap}
 use Rattle.fb_rows.specs.declared.gap.Plan.{Plan}
 use Rattle.fb_rows.specs.declared.gap.Plan.TheVariants.{Detour}
-use Rattle.fb_model.specs.Plans.{block_begin, catches, value, IsPlan, IsDetour, IsNoLater, IsTrackBefore}
+use Rattle.fb_model.specs.Plans.{block_end, catches, value, IsPlan, IsDetour, IsNoLater, IsTrackBefore}
 use Rattle.fb_plan.specs.declared.choice.Scored.{Scored}
 use Rattle.fb_plan.specs.declared.way.Way.{Way}
 use Rattle.fb_detour.specs.declared.bounds.Moves.{Moves}
 use Rattle.fb_detour.specs.declared.stretches.Ceilings.{Ceilings}
 use Rattle.fb_detour.specs.declared.parts.LateParts.{LateParts}
 use Rattle.fb_detour.specs.declared.stop.Stop.{Stop}
-use Rattle.fb_plan.specs.Ways.{Beats, AreOnDisk, plan_by, arrival, move_on}
+use Rattle.fb_plan.specs.Ways.{Beats, AreOnDisk, plan_by, early_track, arrival, move_on}
 use Rattle.fb_plan.specs.Turns.{IsTurning}
 
 -- what a registered block adds to a stay of the head on its track
@@ -29,9 +29,9 @@ stay_gain disk dwell entry = if is_wanted entry.state && catches disk dwell entr
 abbrev pub wanted_worth : Entry → ℕ
 wanted_worth entry = if is_wanted entry.state then entry.block.weight * entry.block.count else 0
 
--- what no stay from an instant up to another can catch, since its passage doesn't begin by then
+-- what a stay from an instant up to another doesn't catch, since it hasn't passed whole by then
 abbrev pub missed : Disk → ℕ → ℕ → Entry → ℕ
-missed disk arrive latest entry = if is_wanted entry.state && nat_lt latest (block_begin disk.map entry.block arrive) then entry.block.weight * entry.block.count else 0
+missed disk arrive latest entry = if is_wanted entry.state && nat_lt latest (block_end disk.map entry.block arrive) then entry.block.weight * entry.block.count else 0
 
 -- what a stay catches of its track's blocks
 unfoldable pub stay : Disk → Dwell → List Entry → ℕ
@@ -58,7 +58,7 @@ pub record IsLate (disk : Disk) (gap : Gap) (entries : List Entry) (late : LateP
 
 -- the ceiling of the plan that leaves then: what the track gives up to the end of the leave's stretch, and what the target gives after the move
 abbrev pub ceiling_at : Ceilings → ℕ → ℕ
-ceiling_at ceilings leave = get_or ceilings.early (min ((leave - ceilings.begin) / ceilings.step) 15) 0 + part_at ceilings.late (leave + ceilings.move_on)
+ceiling_at ceilings leave = get_or ceilings.early (min ((leave - ceilings.begin) / ceilings.step) 15) 0 + part_at ceilings.late.now (leave + ceilings.move_on)
 
 -- no plan of the way is worth more than its ceiling
 pub record AreCeilings (disk : Disk) (gap : Gap) (entries : List Entry) (way : Way) (ceilings : Ceilings) : Type 0 where
@@ -66,7 +66,10 @@ pub record AreCeilings (disk : Disk) (gap : Gap) (entries : List Entry) (way : W
   pub begin : ceilings.begin ≡ arrival disk gap way
   pub on : ceilings.move_on ≡ move_on disk gap way
   pub soon : ceilings.move_on ≤ 2 * 10 ^ 9
-  pub late : IsLate disk gap entries ceilings.late
+  pub late : IsLate disk gap entries ceilings.late.now
+  pub each : (k : ℕ) → k < 16 → stay disk (early_to (early_track gap way) ceilings.begin (ceilings.begin + (k + 1) * ceilings.step)) entries ≤ get_or ceilings.early k 0
+  pub upto : gap.deadline < ceilings.begin + ceilings.move_on + 16 * ceilings.step
+  pub close : ceilings.begin + ceilings.move_on + 16 * ceilings.step ≤ gap.deadline + 16
   pub small : (k : ℕ) → k < 16 → get_or ceilings.early k 0 ≤ 16000000 * 2048000
   pub most : (leave : ℕ) → IsPlan disk gap (plan_by way leave) → value disk gap (wanted_of entries) (plan_by way leave) ≤ ceiling_at ceilings leave
 

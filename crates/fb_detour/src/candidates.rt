@@ -1,6 +1,7 @@
 // The plans of a way that can be better than the best so far.
 ghost use Rattle.std.specs.Prelude.{◌≡◌, ◌+◌, ◌≤◌, ℕ, true};
 ghost use Rattle.fb_geometry.specs.Shape.{IsTrackOf};
+ghost use Rattle.fb_rows.specs.declared.gap.Plan.{Plan};
 ghost use Rattle.fb_model.specs.Plans.{IsPlan, block_end};
 ghost use Rattle.fb_wanted.specs.States.{is_wanted, wanted_of};
 ghost use Rattle.fb_plan.specs.Ways.{FitsDisk, AreOnDisk, IsGap, IsWay, IsScored, Beats, plan_by, early_track, arrival, move_on};
@@ -8,9 +9,11 @@ ghost use Rattle.fb_plan.specs.Turns.{AreSides, stay_of};
 ghost use Rattle.fb_detour.specs.Bounds.{IsLate, AreCeilings};
 
 use crate::parts::LateParts;
+use crate::stop::stop_at;
 use crate::stretches::{Ceilings, ceiling_at, ceilings_of};
 use fb_plan::{
-    Scored, Sides, Way, is_wanted, move_on, plan_by, sides_of, stay_of, try_entry, try_plan,
+    Scored, Sides, Way, blocks_on, is_wanted, move_on, plan_by, sides_of, stay_of, try_entry,
+    try_plan,
 };
 use fb_rows::Gap;
 use fb_service::Disk;
@@ -59,39 +62,51 @@ pub fn try_leaves(
     disk: &Disk,
     wanted: &Wanted,
     gap: &Gap,
-    late: &LateParts,
     way: Way,
+    ceilings: &Ceilings,
     start: Scored,
 ) -> Scored
     requires way { IsWay disk.now gap.now way }
     requires track { IsTrackOf disk.now.map (early_track gap.now way) }
     requires gap { IsGap disk.now gap.now }
     requires blocks { AreOnDisk disk.now wanted.now }
-    requires late { IsLate disk.now gap.now wanted.now late.now }
+    requires ceilings { AreCeilings disk.now gap.now wanted.now way ceilings.now }
+    requires in_time { ceilings.now.begin + ceilings.now.move_on ≤ gap.now.deadline }
     requires best { IsScored disk.now gap.now (wanted_of wanted.now) start }
     ensures scored { IsScored disk.now gap.entry.now (wanted_of wanted.now) result }
     ensures keeps { Beats disk.now gap.entry.now (wanted_of wanted.now) result.plan start.plan }
     ensures tried { (leave : ℕ) → IsPlan disk.now gap.entry.now (plan_by way leave) → Beats disk.now gap.entry.now (wanted_of wanted.now) result.plan (plan_by way leave) }
 {
     let stay = stay_of(disk, gap, way);
-    let on = move_on(disk, gap, way);
-    if gap.deadline < stay.begin + on {
-        return start;
-    }
     let both = sides_of(disk, wanted, gap.target, stay);
-    let ceilings = ceilings_of(disk, wanted, gap, late, way, stay, on);
-    let mut best = try_plan(disk, wanted, gap, &both, plan_by(way, stay.begin), start);
+    let first = plan_by(way, stay.begin);
+    let mut best = try_plan(disk, wanted, gap, &both, first, start);
     for i in 0..both.early.len() {
-        best = try_leave(
-            disk,
-            wanted,
-            gap,
-            way,
-            &both,
-            &ceilings,
-            both.early.get(i),
-            best,
-        );
+        let entry = both.early.get(i);
+        best = try_leave(disk, wanted, gap, way, &both, ceilings, entry, best);
     }
     best
+}
+
+// Tries all plans that wait at the source.
+pub fn try_source(
+    disk: &Disk,
+    wanted: &Wanted,
+    gap: &Gap,
+    late: &LateParts,
+    start: Scored,
+) -> Scored
+    requires gap { IsGap disk.now gap.now }
+    requires blocks { AreOnDisk disk.now wanted.now }
+    requires late { IsLate disk.now gap.now wanted.now late.now }
+    requires best { IsScored disk.now gap.now (wanted_of wanted.now) start }
+    ensures scored { IsScored disk.now gap.entry.now (wanted_of wanted.now) result }
+    ensures keeps { Beats disk.now gap.entry.now (wanted_of wanted.now) result.plan start.plan }
+    ensures tried { (leave : ℕ) → IsPlan disk.now gap.entry.now (Plan.Direct leave) → Beats disk.now gap.entry.now (wanted_of wanted.now) result.plan (Plan.Direct leave) }
+{
+    let blocks = blocks_on(disk, wanted, gap.source);
+    let stop = stop_at(disk, wanted, blocks, gap.source, gap.now);
+    let on = move_on(disk, gap, Way::Source);
+    let ceilings = ceilings_of(disk, wanted, gap, late, Way::Source, &stop, on);
+    try_leaves(disk, wanted, gap, Way::Source, &ceilings, start)
 }

@@ -1,10 +1,10 @@
 // The planner that passes over tracks which can't be better.
 ghost use Rattle.std.specs.Prelude.{◌≡◌};
 
-use crate::candidates::try_leaves;
+use crate::candidates::try_source;
 use crate::parts::late_parts;
 use crate::search::try_all;
-use fb_plan::{Planner, Way, scored};
+use fb_plan::{Planner, scored};
 use fb_rows::{Gap, Plan};
 use fb_service::Disk;
 use fb_wanted::Wanted;
@@ -27,7 +27,7 @@ impl Planner for IndexedPlanner {
     fn best(&self, disk: &Disk, wanted: &Wanted, gap: &Gap) -> Plan {
         let late = late_parts(disk, wanted, gap);
         let first = scored(disk, wanted, gap, Plan::Direct { leave: gap.now });
-        let direct = try_leaves(disk, wanted, gap, &late, Way::Source, first);
+        let direct = try_source(disk, wanted, gap, &late, first);
         try_all(disk, wanted, gap, &late, direct).plan
     }
 }

@@ -1,20 +1,19 @@
 // When the head leaves a track: stretches of time in which no leave is better than the best so far.
 ghost use Rattle.std.specs.Prelude.{◌≡◌, ◌+◌, ◌*◌, ◌≤◌, ◌<◌, true, false};
 ghost use Rattle.fb_units.specs.declared.types.Track.{Track};
-ghost use Rattle.fb_geometry.specs.Shape.{IsTrackOf};
-ghost use Rattle.fb_seek.specs.Positioning.{pos};
 ghost use Rattle.fb_wanted.specs.States.{wanted_of};
 ghost use Rattle.fb_wanted.specs.Tracks.{wanted_weight};
+ghost use Rattle.fb_plan.specs.declared.way.Way.{Way};
 ghost use Rattle.fb_plan.specs.Ways.{AreOnDisk, IsGap, IsScored};
-ghost use Rattle.fb_detour.specs.Bounds.{BeatsOver, BeatsRange, AreLeast, IsLate, IsStop};
+ghost use Rattle.fb_detour.specs.Bounds.{BeatsOver, BeatsRange, AreCeilings, AreLeast, IsLate};
 
 use crate::bounds::{LONG, Moves, is_enough, most_depth, most_slots};
-use crate::parts::{EARLY, LateParts, early_parts, late_at};
-use crate::stop::Stop;
+use crate::parts::{EARLY, LateParts, late_at};
+use crate::stretches::Ceilings;
 use fb_plan::Scored;
 use fb_rows::Gap;
 use fb_service::Disk;
-use fb_units::{Ns, Track};
+use fb_units::Track;
 use fb_wanted::Wanted;
 
 // Whether no detour over the track is better than the best so far. In each stretch of leaves the
@@ -23,30 +22,26 @@ pub fn leaves_beaten(
     disk: &Disk,
     wanted: &Wanted,
     gap: &Gap,
-    late: &LateParts,
-    stop: &Stop,
-    move_on: Ns,
+    ceilings: &Ceilings,
+    track: Track,
     best: Scored,
 ) -> bool
-    requires track { IsTrackOf disk.now.map stop.now.track }
     requires gap { IsGap disk.now gap.now }
-    requires late { IsLate disk.now gap.now wanted.now late.now }
+    requires ceilings { AreCeilings disk.now gap.now wanted.now (Way.Over track) ceilings.now }
     requires best { IsScored disk.now gap.now (wanted_of wanted.now) best }
-    requires stop { IsStop disk.now wanted.now stop.now }
-    requires arrive { stop.now.arrive ≡ gap.now.now + pos disk.now.mechanism gap.now.source stop.now.track false }
-    requires move_on { move_on ≡ pos disk.now.mechanism stop.now.track gap.now.target gap.now.write }
-    requires in_time { stop.now.arrive + move_on ≤ gap.now.deadline }
-    ensures { result ≡ true → BeatsOver disk.now gap.entry.now (wanted_of wanted.now) best.plan stop.now.track }
+    requires in_time { ceilings.now.begin + ceilings.now.move_on ≤ gap.now.deadline }
+    ensures { result ≡ true → BeatsOver disk.now gap.entry.now (wanted_of wanted.now) best.plan track }
 {
-    let latest = gap.deadline - move_on;
-    let step = (latest - stop.arrive) / EARLY as u64 + 1;
-    let parts = early_parts(disk, wanted, stop, step);
+    let _ = disk;
+    let _ = wanted;
+    let latest = gap.deadline - ceilings.move_on;
     for k in 0..EARLY {
-        let from = stop.arrive + k as u64 * step;
+        let from = ceilings.begin + k as u64 * ceilings.step;
         if latest < from {
             return true;
         }
-        if !is_enough(best, parts[k] + late_at(late, from + move_on), stop.track) {
+        let after = late_at(ceilings.late, from + ceilings.move_on);
+        if !is_enough(best, ceilings.early[k] + after, track) {
             return false;
         }
     }

@@ -1,32 +1,32 @@
-// Tracks of which too many blocks begin to pass too late.
+// Tracks of which too many blocks pass too late.
 ghost use Rattle.std.specs.Prelude.{◌≡◌, ◌+◌, ◌*◌, ◌≤◌, ℕ, true};
 ghost use Rattle.fb_plan.specs.Ways.{FitsDisk};
-ghost use Rattle.fb_plan.specs.Turns.{IsTurning};
+ghost use Rattle.fb_plan.specs.Turns.{IsUntil};
 ghost use Rattle.fb_detour.specs.Bounds.{stay, missed, early_to, IsEnough, IsStop};
 
 use crate::bounds::is_enough;
 use crate::stop::Stop;
-use fb_plan::{Scored, Turning, is_wanted};
+use fb_plan::{Scored, Until, is_wanted};
 use fb_service::Disk;
 use fb_units::Ns;
 use fb_wanted::{Entry, Wanted};
 
-// What the block weighs, where its passage doesn't begin by the latest instant.
-fn missed(disk: &Disk, passing: &Turning, entry: Entry, latest: Ns) -> u64
+// What the block weighs, where it doesn't pass whole up to the latest instant.
+fn missed(disk: &Disk, until: &Until, entry: Entry) -> u64
     requires fits { FitsDisk disk.now entry.block }
-    requires passing { IsTurning disk.now passing.now }
-    ensures { result ≡ missed disk.now passing.now.from latest entry }
+    requires until { IsUntil disk.now until.now }
+    ensures { result ≡ missed disk.now until.now.passing.from until.now.latest entry }
 {
     if !is_wanted(entry.state) {
         return 0;
     }
-    if passing.begin(disk, entry.block) <= latest {
+    if until.passes(disk, entry.block) {
         return 0;
     }
     entry.block.weight as u64 * entry.block.count as u64
 }
 
-// Whether the track can't give enough, since so many of its blocks begin to pass after the latest
+// Whether the track can't give enough, since so many of its blocks don't pass up to the latest
 // leave. It takes their weights off that of the track, until what is left is no more than enough.
 pub fn misses_enough(
     disk: &Disk,
@@ -37,13 +37,15 @@ pub fn misses_enough(
     best: Scored,
 ) -> bool
     requires stop { IsStop disk.now wanted.now stop.now }
+    requires order { stop.now.arrive ≤ latest }
     requires small { late ≤ 16000000 * 2048000 }
     ensures { result ≡ true → (most : ℕ) × (stay disk.now (early_to stop.now.track stop.now.arrive latest) wanted.now ≤ most) × IsEnough best (most + late) stop.now.track }
 {
     let _ = wanted;
+    let until = stop.passing.until(disk, latest);
     let mut most = stop.blocks.wanted_weight();
     for i in 0..stop.blocks.len() {
-        most -= missed(disk, &stop.passing, stop.blocks.get(i), latest);
+        most -= missed(disk, &until, stop.blocks.get(i));
         if is_enough(best, most + late, stop.track) {
             return true;
         }

@@ -1,9 +1,10 @@
 // The search over tracks: a track is passed over where no detour over it is better than the best so far.
 ghost use Rattle.std.specs.Prelude.{◌≡◌, ◌+◌, ◌*◌, ◌≤◌, ◌<◌, true, false};
 ghost use Rattle.fb_units.specs.declared.types.Track.{Track};
+ghost use Rattle.fb_units.specs.Tracks.{same_track};
 ghost use Rattle.fb_geometry.specs.Shape.{IsTrackOf};
 ghost use Rattle.fb_seek.specs.Positioning.{pos};
-ghost use Rattle.fb_wanted.specs.States.{wanted_of};
+ghost use Rattle.fb_wanted.specs.States.{on_track, wanted_of};
 ghost use Rattle.fb_plan.specs.Ways.{AreOnDisk, IsGap, IsScored, Beats};
 ghost use Rattle.fb_detour.specs.Bounds.{BeatsOver, BeatsRange, IsAfter, IsLate};
 
@@ -13,41 +14,12 @@ use crate::leaves::{leaves_beaten, stretches_beaten};
 use crate::missing::misses_enough;
 use crate::parts::{LateParts, late_at};
 use crate::stop::stop_at;
+use crate::stretches::ceilings_of;
 use fb_plan::{Scored, Way, blocks_on, is_same};
 use fb_rows::Gap;
 use fb_service::Disk;
 use fb_units::{Ns, Track};
-use fb_wanted::Wanted;
-
-// Whether no detour over the track is better than the best so far.
-fn is_hopeless(
-    disk: &Disk,
-    wanted: &Wanted,
-    gap: &Gap,
-    late: &LateParts,
-    track: Track,
-    best: Scored,
-) -> bool
-    requires track { IsTrackOf disk.now.map track }
-    requires gap { IsGap disk.now gap.now }
-    requires blocks { AreOnDisk disk.now wanted.now }
-    requires late { IsLate disk.now gap.now wanted.now late.now }
-    requires best { IsScored disk.now gap.now (wanted_of wanted.now) best }
-    ensures { result ≡ true → BeatsOver disk.now gap.entry.now (wanted_of wanted.now) best.plan track }
-{
-    let arrive = gap.now + disk.mechanism.pos(gap.source, track, false);
-    let move_on = disk.mechanism.pos(track, gap.target, gap.write);
-    if gap.deadline < arrive + move_on {
-        return true;
-    }
-    let stop = stop_at(disk, wanted, blocks_on(disk, wanted, track), track, arrive);
-    let latest = gap.deadline - move_on;
-    let after = late_at(late, arrive + move_on);
-    if misses_enough(disk, wanted, &stop, latest, after, best) {
-        return true;
-    }
-    leaves_beaten(disk, wanted, gap, late, &stop, move_on, best)
-}
+use fb_wanted::{TrackBlocks, Wanted};
 
 // Whether the track's blocks, with what the target then gives, weigh too little for a better detour.
 fn is_too_light(
@@ -55,18 +27,21 @@ fn is_too_light(
     wanted: &Wanted,
     gap: &Gap,
     track: Track,
+    blocks: &TrackBlocks,
     after: u64,
     best: Scored,
 ) -> bool
     requires gap { IsGap disk.now gap.now }
+    requires its { blocks.now ≡ on_track track wanted.now }
     requires best { IsScored disk.now gap.now (wanted_of wanted.now) best }
     requires after { IsAfter disk.now gap.now wanted.now track after }
     requires small { after ≤ 16000000 * 2048000 }
     ensures { result ≡ true → BeatsOver disk.now gap.entry.now (wanted_of wanted.now) best.plan track }
 {
     let _ = disk;
+    let _ = wanted;
     let _ = gap;
-    is_enough(best, wanted.wanted_weight_on(track) + after, track)
+    is_enough(best, blocks.wanted_weight() + after, track)
 }
 
 // No less than what the target gives after the way over a track of the cylinder.
@@ -81,6 +56,47 @@ fn most_after(disk: &Disk, wanted: &Wanted, gap: &Gap, late: &LateParts, cylinde
     let _cylinders = disk.map.geometry().cylinders();
     let moves = least_moves(disk, gap, cylinder, cylinder + 1);
     late_at(late, gap.now + moves.there + moves.on)
+}
+
+// Tries the plans that stop at a track with these blocks, unless none can be better than the best so far.
+fn try_stop(
+    disk: &Disk,
+    wanted: &Wanted,
+    gap: &Gap,
+    late: &LateParts,
+    track: Track,
+    blocks: TrackBlocks,
+    start: Scored,
+) -> Scored
+    requires track { IsTrackOf disk.now.map track }
+    requires detour { same_track track gap.now.source ≡ false }
+    requires elsewhere { same_track track gap.now.target ≡ false }
+    requires its { blocks ≡ on_track track wanted.now }
+    requires on_disk { AreOnDisk disk.now blocks }
+    requires gap { IsGap disk.now gap.now }
+    requires blocks { AreOnDisk disk.now wanted.now }
+    requires late { IsLate disk.now gap.now wanted.now late.now }
+    requires best { IsScored disk.now gap.now (wanted_of wanted.now) start }
+    ensures scored { IsScored disk.now gap.entry.now (wanted_of wanted.now) result }
+    ensures keeps { Beats disk.now gap.entry.now (wanted_of wanted.now) result.plan start.plan }
+    ensures tried { BeatsOver disk.now gap.entry.now (wanted_of wanted.now) result.plan track }
+{
+    let arrive = gap.now + disk.mechanism.pos(gap.source, track, false);
+    let on = disk.mechanism.pos(track, gap.target, gap.write);
+    if gap.deadline < arrive + on {
+        return start;
+    }
+    let stop = stop_at(disk, wanted, blocks, track, arrive);
+    let after = late_at(late, arrive + on);
+    if misses_enough(disk, wanted, &stop, gap.deadline - on, after, start) {
+        return start;
+    }
+    let way = Way::Over(track);
+    let ceilings = ceilings_of(disk, wanted, gap, late, way, &stop, on);
+    if leaves_beaten(disk, wanted, gap, &ceilings, track, start) {
+        return start;
+    }
+    try_leaves(disk, wanted, gap, way, &ceilings, start)
 }
 
 // Tries the plans over a track, unless none can be better than the best so far.
@@ -110,13 +126,11 @@ fn try_track(
     if is_same(track, gap.target) {
         return start;
     }
-    if is_too_light(disk, wanted, gap, track, after, start) {
+    let blocks = blocks_on(disk, wanted, track);
+    if is_too_light(disk, wanted, gap, track, &blocks, after, start) {
         return start;
     }
-    if is_hopeless(disk, wanted, gap, late, track, start) {
-        return start;
-    }
-    try_leaves(disk, wanted, gap, late, Way::Over(track), start)
+    try_stop(disk, wanted, gap, late, track, blocks, start)
 }
 
 // Tries the tracks of a cylinder.

@@ -2,6 +2,7 @@
 use Rattle.std.specs.Prelude.{◌≡◌, ℕ, ◌+◌, ◌*◌, ◌%◌, ◌<◌, ◌≤◌, ◌^◌, List, ◌&&◌, ◌||◌, if◌then◌else◌}
 use Rattle.fb_units.specs.declared.types.Track.{Track}
 use Rattle.fb_geometry.specs.Shape.{slots_at}
+use Rattle.fb_geometry.specs.Angles.{slot_begin}
 use Rattle.fb_sectormap.specs.Lookup.{place_at, neighbour}
 use Rattle.fb_service.specs.declared.disk.Disk.{Disk}
 use Rattle.fb_wanted.specs.declared.block.Entry.{Entry}
@@ -12,6 +13,7 @@ use Rattle.fb_model.specs.Plans.{catches}
 use Rattle.fb_plan.specs.declared.way.Way.{Way}
 use Rattle.fb_plan.specs.Ways.{early_track, arrival}
 use Rattle.fb_plan.specs.declared.turning.Turning.{Turning}
+use Rattle.fb_plan.specs.declared.turning.Until.{Until}
 use Rattle.fb_plan.specs.declared.sides.Sides.{Sides}
 
 -- where the platter stands at the instant, and the sectors of the stretch in neighbouring slots of one turn
@@ -20,10 +22,23 @@ pub record IsTurning (disk : Disk) (turning : Turning) : Type 0 where
   pub early : turning.from ≤ 9 * 10 ^ 18
   pub at : turning.at ≡ turning.from % disk.map.rotation
   pub few : turning.slots ≤ 10000
+  pub room : turning.slots ≤ disk.map.rotation
+  pub shares : disk.map.rotation ≡ turning.share * turning.slots + turning.rest
+  pub rest : turning.rest < turning.slots
+  pub before : (slot : ℕ) → slot < turning.first → slot_begin disk.map.rotation turning.slots slot < turning.at
+  pub behind : (slot : ℕ) → turning.first ≤ slot → turning.at ≤ slot_begin disk.map.rotation turning.slots slot
+  pub turn : turning.first ≤ turning.slots
   pub slot : turning.stretch.place.slot < turning.slots
   pub one_turn : turning.stretch.count ≤ turning.slots
   pub slots : 0 < turning.stretch.count → turning.slots ≡ slots_at disk.map.zones turning.stretch.place.track.cylinder
   pub next : (i : ℕ) → i < turning.stretch.count → place_at disk.map (turning.lbn + i) ≡ neighbour disk.map turning.stretch.place i
+
+-- the slots before this one begin by the latest instant, and those from it on later, as far as a block reaches that comes by next
+pub record IsUntil (disk : Disk) (until : Until) : Type 0 where
+  pub passing : IsTurning disk until.passing
+  pub by : (slot : ℕ) → slot < until.slots → until.passing.from + slot_begin disk.map.rotation until.passing.slots slot ≤ until.latest + until.passing.at
+  pub later : (slot : ℕ) → until.slots ≤ slot → slot < until.passing.first + 2 * until.passing.slots
+      → until.latest + until.passing.at < until.passing.from + slot_begin disk.map.rotation until.passing.slots slot
 
 -- the blocks of a track from an instant on, and those of the target
 pub record AreSides (disk : Disk) (target : Track) (entries : List Entry) (dwell : Dwell) (sides : Sides) : Type 0 where

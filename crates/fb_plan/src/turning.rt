@@ -1,13 +1,12 @@
 // How the blocks of a track pass from an instant on.
-ghost use Rattle.std.specs.Prelude.{◌≡◌, ◌+◌, ◌*◌, ◌%◌, ◌≤◌, ◌<◌, ◌^◌, ℕ, IfSome, length};
-ghost use Rattle.fb_units.specs.Wait.{wait};
+ghost use Rattle.std.specs.Prelude.{◌≡◌, ◌+◌, ◌*◌, ◌%◌, ◌≤◌, ◌<◌, ◌^◌, ℕ, IfSome, length, nat_le};
 ghost use Rattle.fb_geometry.specs.Angles.{slot_begin};
 ghost use Rattle.fb_geometry.specs.Places.{places};
-ghost use Rattle.fb_sectormap.specs.Lookup.{place_at};
-ghost use Rattle.fb_service.specs.Passing.{begin_angle, end_angle};
+ghost use Rattle.fb_geometry.specs.Shape.{slots_at};
+ghost use Rattle.fb_sectormap.specs.Lookup.{place_at, neighbour};
 ghost use Rattle.fb_model.specs.Plans.{block_begin, block_end, catches};
 ghost use Rattle.fb_plan.specs.Ways.{FitsDisk, AreOnDisk};
-ghost use Rattle.fb_plan.specs.Turns.{IsTurning};
+ghost use Rattle.fb_plan.specs.Turns.{IsTurning, IsUntil};
 
 use crate::passing::{block_begin, block_end};
 use fb_geometry::Stretch;
@@ -17,6 +16,8 @@ use fb_units::{Ns, Place, Track};
 use fb_wanted::{Block, TrackBlocks};
 
 /// How blocks pass from an instant on: neighbouring sectors by their slots, all others by their places.
+///
+/// Slots are counted on over the turns: the slot behind the last of a turn is the first of the next turn.
 #[derive(Clone, Copy)]
 pub struct Turning {
     /// The instant.
@@ -24,30 +25,19 @@ pub struct Turning {
     // Sectors in neighbouring slots, from this one on.
     lbn: u64,
     stretch: Stretch,
-    // How many slots their track has.
-    slots: u64,
     rotation: Ns,
+    // How many slots their track has, the time that each has of a rotation, and what is then left of it.
+    slots: u32,
+    share: u32,
+    rest: u32,
     // The angle at which the platter stands at the instant.
     at: Ns,
-}
-
-// The time from one angle on until the platter stands at another.
-fn turn_to(rotation: Ns, angle: Ns, here: Ns) -> Ns
-    requires angle { angle < rotation }
-    requires here { here < rotation }
-    ensures value { (t : ℕ) → t % rotation ≡ here → result ≡ wait rotation angle t }
-    ensures reaches { (t : ℕ) → t % rotation ≡ here → (t + result) % rotation ≡ angle }
-    ensures short { result < rotation }
-{
-    if here <= angle {
-        angle - here
-    } else {
-        rotation - here + angle
-    }
+    // The first slot that begins at that angle or behind it.
+    first: u32,
 }
 
 // The number, less than twice n, without n.
-fn wrapped(number: u64, n: u64) -> u64
+fn wrapped(number: u32, n: u32) -> u32
     requires { number < 2 * n }
     ensures value { result ≡ number % n }
     ensures below { result < n }
@@ -55,17 +45,19 @@ fn wrapped(number: u64, n: u64) -> u64
     if number < n { number } else { number - n }
 }
 
-// The angle at which a slot of n begins.
-fn angle_of(rotation: Ns, n: u64, slot: u64) -> Ns
-    requires rotation { rotation ≤ 10 ^ 9 }
-    requires some { 0 < n }
+// How many slots of n begin before the angle.
+fn slots_before(rotation: Ns, n: u32, angle: Ns) -> u32
+    requires some { 0 < rotation }
+    requires short { rotation ≤ 10 ^ 9 }
+    requires many { 0 < n }
     requires few { n ≤ 10000 }
-    requires slot { slot ≤ n }
-    ensures value { result ≡ slot_begin rotation n slot }
-    ensures bound { result ≤ rotation }
-    ensures inner { 0 < rotation → slot < n → result < rotation }
+    requires angle { angle ≤ 3 * rotation }
+    ensures before { (slot : ℕ) → slot < result → slot_begin rotation n slot < angle }
+    ensures behind { (slot : ℕ) → result ≤ slot → angle ≤ slot_begin rotation n slot }
+    ensures within { result ≤ 3 * n }
+    ensures turn { angle ≤ rotation → result ≤ n }
 {
-    slot * rotation / n
+    (angle * n as u64).div_ceil(rotation) as u32
 }
 
 impl Turning {
@@ -90,13 +82,39 @@ impl Turning {
         ensures from { result.from ≡ from }
     {
         let _ = disk;
+        let at = from % self.rotation;
         Turning {
             from,
-            lbn: self.lbn,
-            stretch: self.stretch,
-            slots: self.slots,
-            rotation: self.rotation,
-            at: from % self.rotation,
+            at,
+            first: slots_before(self.rotation, self.slots, at),
+            ..*self
+        }
+    }
+
+    // From an instant on, with the sectors of a stretch.
+    fn over(disk: &Disk, from: Ns, lbn: u64, stretch: Stretch, slots: u32) -> Turning
+        requires early { from ≤ 9 * 10 ^ 18 }
+        requires few { slots ≤ 10000 }
+        requires room { slots ≤ disk.now.map.rotation }
+        requires slot { stretch.place.slot < slots }
+        requires one_turn { stretch.count ≤ slots }
+        requires slots { 0 < stretch.count → slots ≡ slots_at disk.now.map.zones stretch.place.track.cylinder }
+        requires next { (i : ℕ) → i < stretch.count → place_at disk.now.map (lbn + i) ≡ neighbour disk.now.map stretch.place i }
+        ensures turning { IsTurning disk.now result }
+        ensures from { result.from ≡ from }
+    {
+        let rotation = disk.map.geometry().rotation();
+        let at = from % rotation;
+        Turning {
+            from,
+            lbn,
+            stretch,
+            rotation,
+            slots,
+            share: (rotation / slots as u64) as u32,
+            rest: (rotation % slots as u64) as u32,
+            at,
+            first: slots_before(rotation, slots, at),
         }
     }
 
@@ -107,17 +125,9 @@ impl Turning {
         ensures turning { IsTurning disk.now result }
         ensures from { result.from ≡ from }
     {
-        let geometry = disk.map.geometry();
-        let rotation = geometry.rotation();
         let stretch = disk.map.stretch(lbn);
-        Turning {
-            from,
-            lbn,
-            stretch,
-            slots: geometry.slots(stretch.place.track) as u64,
-            rotation,
-            at: from % rotation,
-        }
+        let slots = disk.map.geometry().slots(stretch.place.track);
+        Turning::over(disk, from, lbn, stretch, slots)
     }
 
     // The same with no neighbours.
@@ -126,22 +136,15 @@ impl Turning {
         ensures turning { IsTurning disk.now result }
         ensures from { result.from ≡ from }
     {
-        let rotation = disk.map.geometry().rotation();
         let track = Track {
             cylinder: 0,
             head: 0,
         };
-        Turning {
-            from,
-            lbn: 0,
-            stretch: Stretch {
-                place: Place { track, slot: 0 },
-                count: 0,
-            },
-            slots: 1,
-            rotation,
-            at: from % rotation,
-        }
+        let nothing = Stretch {
+            place: Place { track, slot: 0 },
+            count: 0,
+        };
+        Turning::over(disk, from, 0, nothing, 1)
     }
 
     // Where the block begins in the stretch. None where it doesn't lie in it.
@@ -163,40 +166,38 @@ impl Turning {
         Some(first)
     }
 
-    // The slot of a sector of the stretch.
-    fn slot_of(&self, disk: &Disk, i: u64) -> u64
+    // The first slot from the instant on in which a sector of the stretch comes by.
+    fn coming(&self, disk: &Disk, i: u64) -> u32
         requires turning { IsTurning disk.now self.now }
         requires inside { i < self.now.stretch.count }
-        ensures value { result ≡ (self.now.stretch.place.slot + i) % self.now.slots }
-        ensures below { result < self.now.slots }
+        ensures slot { result % self.now.slots ≡ (self.now.stretch.place.slot + i) % self.now.slots }
+        ensures from { self.now.first ≤ result }
+        ensures soon { result < self.now.first + self.now.slots }
     {
         let _ = disk;
-        wrapped(self.stretch.place.slot as u64 + i, self.slots)
+        let slot = wrapped(self.stretch.place.slot + i as u32, self.slots);
+        if slot < self.first {
+            slot + self.slots
+        } else {
+            slot
+        }
     }
 
-    // The angle at which a sector of the stretch begins.
-    fn begin_angle(&self, disk: &Disk, i: u64) -> Ns
+    // The instant at which a slot begins.
+    fn begin_of(&self, disk: &Disk, slot: u32) -> Ns
         requires turning { IsTurning disk.now self.now }
-        requires inside { i < self.now.stretch.count }
-        ensures value { result ≡ begin_angle disk.now.map (place_at disk.now.map (self.now.lbn + i)) }
-        ensures below { result < self.now.rotation }
+        requires from { self.now.first ≤ slot }
+        requires soon { slot ≤ 3 * self.now.slots }
+        ensures value { result + self.now.at ≡ self.now.from + slot_begin self.now.rotation self.now.slots slot }
+        ensures soon { result ≤ self.now.from + 3 * 10 ^ 9 }
     {
-        angle_of(self.rotation, self.slots, self.slot_of(disk, i))
-    }
-
-    // The angle at which it ends.
-    fn end_angle(&self, disk: &Disk, i: u64) -> Ns
-        requires turning { IsTurning disk.now self.now }
-        requires inside { i < self.now.stretch.count }
-        ensures value { result ≡ end_angle disk.now.map (place_at disk.now.map (self.now.lbn + i)) % disk.now.map.rotation }
-        ensures below { result < self.now.rotation }
-    {
-        let angle = angle_of(self.rotation, self.slots, self.slot_of(disk, i) + 1);
-        wrapped(angle, self.rotation)
+        let _ = disk;
+        let shares = slot as u64 * self.share as u64;
+        let rests = slot * self.rest / self.slots;
+        self.from + (shares + rests as u64 - self.at)
     }
 
     // When the passage of a block of the stretch begins.
-    #[tactic(auto, unfolding(fb_service::specs::Passing::begin_from))]
     fn begin_in(&self, disk: &Disk, block: Block, i: u64) -> Ns
         requires turning { IsTurning disk.now self.now }
         requires fits { FitsDisk disk.now block }
@@ -205,7 +206,7 @@ impl Turning {
         ensures value { result ≡ block_begin disk.now.map block self.now.from }
         ensures soon { result ≤ self.now.from + 10 ^ 9 }
     {
-        self.from + turn_to(self.rotation, self.begin_angle(disk, i), self.at)
+        self.begin_of(disk, self.coming(disk, i))
     }
 
     // When it ends.
@@ -217,10 +218,7 @@ impl Turning {
         ensures value { result ≡ block_end disk.now.map block self.now.from }
         ensures soon { result ≤ self.now.from + 3 * 10 ^ 9 }
     {
-        let here = self.begin_angle(disk, i);
-        let begin = self.from + turn_to(self.rotation, here, self.at);
-        let angle = self.end_angle(disk, i + (block.count as u64 - 1));
-        begin + 1 + turn_to(self.rotation, angle, wrapped(here + 1, self.rotation))
+        self.begin_of(disk, self.coming(disk, i) + block.count)
     }
 
     /// When the block's passage begins.
@@ -260,5 +258,48 @@ impl Turning {
             return false;
         }
         self.end(disk, block) <= dwell.end
+    }
+
+    /// Which blocks pass whole up to an instant.
+    pub fn until(&self, disk: &Disk, latest: Ns) -> Until
+        requires turning { IsTurning disk.now self.now }
+        requires order { self.now.from ≤ latest }
+        ensures until { IsUntil disk.now result }
+        ensures passing { result.passing ≡ self.now }
+        ensures latest { result.latest ≡ latest }
+    {
+        let _ = disk;
+        let left = (latest - self.from).min(2 * self.rotation - 1);
+        Until {
+            passing: *self,
+            latest,
+            slots: slots_before(self.rotation, self.slots, self.at + left + 1),
+        }
+    }
+}
+
+/// Which blocks pass whole up to an instant: neighbouring sectors are known by their slots.
+#[derive(Clone, Copy)]
+pub struct Until {
+    /// How they pass.
+    pub passing: Turning,
+    /// The instant.
+    pub latest: Ns,
+    // The first slot that begins later.
+    slots: u32,
+}
+
+impl Until {
+    /// Whether the block's passage ends by the instant.
+    pub fn passes(&self, disk: &Disk, block: Block) -> bool
+        requires until { IsUntil disk.now self.now }
+        requires fits { FitsDisk disk.now block }
+        ensures { result ≡ nat_le (block_end disk.now.map block self.now.passing.from) self.now.latest }
+    {
+        let passing = &self.passing;
+        match passing.offset_of(block) {
+            Some(i) => passing.coming(disk, i) + block.count < self.slots,
+            None => block_end(disk, block, passing.from) <= self.latest,
+        }
     }
 }

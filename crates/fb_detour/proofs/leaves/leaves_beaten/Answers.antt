@@ -1,23 +1,35 @@
-use Rattle.std.proofs.Common.{arith, ap, ◌≡◌, ◌+◌, ◌*◌, ◌/◌, ◌-◌, get_or}
+use Rattle.std.proofs.Common.{arith, ap, ◌≡◌, ◌+◌, ◌*◌, get_or}
+use Rattle.std.proofs.lemmas.Nat.{mul-le}
 use Rattle.fb_detour.proofs.Ways.{stretch_beaten, late-part}
-use Rattle.fb_detour.proofs.Arrays.{over_all}
 use Rattle.fb_detour.proofs.leaves.leaves_beaten.Goals as goal
 
 pub loop-k-preserved : goal.loop-k-preserved
 loop-k-preserved c = λ leave less is.
-    let step = (c.args.gap.now.deadline - c.args.move_on - c.args.stop.now.arrive) / 16 + 1 in
-    let from = c.args.stop.now.arrive + c.loop-k.k * step in
-    stretch_beaten c.args.disk.now c.args.gap.now c.args.wanted.now c.args.best c.args.stop.now.track c.args.stop.now.arrive c.args.move_on from (c.args.stop.now.arrive + (c.loop-k.k + 1) * step)
-    (get_or c.early_parts-parts.result c.loop-k.k 0) c.late_at.result
-    c.requires.best (c.is_enough.ensures c.if-not-is_enough.false) c.requires.arrive c.requires.move_on
-    (omega (arith, c.early_parts-parts.ensures.each c.loop-k.k (omega (arith, c.loop-k-test.true))))
-    (omega (arith, late-part c.args.disk.now c.args.gap.now c.args.wanted.now c.args.late.now (from + c.args.move_on) c.requires.late (omega (arith, c.requires.arrive)), c.late_at.ensures.value))
+    let its = c.requires.ceilings in
+    let ceilings = c.args.ceilings.now in
+    let from = ceilings.begin + c.loop-k.k * ceilings.step in
+    stretch_beaten c.args.disk.now c.args.gap.now c.args.wanted.now c.args.best c.args.track ceilings.begin ceilings.move_on from (ceilings.begin + (c.loop-k.k + 1) * ceilings.step)
+    (get_or ceilings.early c.loop-k.k 0) c.late_at-after.result
+    c.requires.best (c.is_enough.ensures c.if-not-is_enough.false) its.begin its.on
+    (its.each c.loop-k.k (omega (arith, c.loop-k-test.true)))
+    (omega (arith, late-part c.args.disk.now c.args.gap.now c.args.wanted.now ceilings.late.now (from + ceilings.move_on) its.late (omega (arith, its.begin)), c.late_at-after.ensures.value))
     c.loop-k.invariant leave (omega (arith, less)) is
 
 pub returns : goal.returns
 returns c = λ h leave is.
-    let n = c.args.gap.now.deadline - c.args.move_on - c.args.stop.now.arrive in
+    let its = c.requires.ceilings in
     let all : c.loop-k.k ≡ 16 = omega (arith, c.loop-k-test.false, c.loop-k.auto.k-end) in
-    let over = over_all n in
-    let steps = ap (λ x. x * (n / 16 + 1)) all in
-    c.loop-k.invariant leave (omega (arith, over, steps, is.in_time, c.requires.move_on, c.requires.in_time)) is
+    let steps = ap (λ x. x * c.args.ceilings.now.step) all in
+    c.loop-k.invariant leave (omega (arith, its.upto, steps, is.in_time, its.on)) is
+
+pub loop-k-init : goal.loop-k-init
+loop-k-init c = λ leave less is. absurd (omega (arith, less, is.after_arrival, c.requires.ceilings.begin))
+
+pub returns-then-latest-from : goal.returns-then-latest-from
+returns-then-latest-from c = λ h leave is. c.loop-k.invariant leave (omega (arith, c.if-latest-from.true, is.in_time, c.requires.ceilings.on)) is
+
+pub overflow_mul-from : goal.overflow_mul-from
+overflow_mul-from c = omega (arith, mul-le c.loop-k.k c.args.ceilings.now.step 16 c.args.ceilings.now.step (omega (arith, c.loop-k-test.true)) (omega arith), c.requires.ceilings.close, c.requires.gap.early_enough)
+
+pub overflow_add-from : goal.overflow_add-from
+overflow_add-from c = omega (arith, mul-le c.loop-k.k c.args.ceilings.now.step 16 c.args.ceilings.now.step (omega (arith, c.loop-k-test.true)) (omega arith), c.requires.ceilings.close, c.requires.gap.early_enough)

@@ -1,4 +1,3 @@
-use Rattle.fb_wanted.specs.declared.block.Entry.{Entry}
 use Rattle.fb_wanted.specs.declared.block.State.TheVariants.{Wanted}
 use Rattle.fb_plan.proofs.Samples.{sample-more}
 use Rattle.fb_plan.proofs.tests.wanted_of.Goals as goal
