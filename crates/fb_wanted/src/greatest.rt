@@ -1,11 +1,11 @@
 // The greatest weight of a track, for each cylinder and for each band of neighbouring cylinders.
-ghost use Rattle.std.specs.Prelude.{◌≡◌, ℕ, false, ◌⊎◌, ◌≤◌, ◌<◌, ◌*◌, ◌/◌, [], length, get_or, set, OnOk};
+ghost use Rattle.std.specs.Prelude.{◌≡◌, ℕ, false, ◌⊎◌, ◌≤◌, ◌<◌, ◌+◌, ◌*◌, ◌/◌, [], length, get_or, set, OnOk};
 ghost use Rattle.fb_units.specs.declared.types.Track.{Track};
 ghost use Rattle.fb_units.specs.Tracks.{same_track};
 ghost use Rattle.fb_wanted.specs.Index.{weight_kept};
 
 use crate::bands::{BAND, add_bands};
-use crate::tracks::{OnTrack, greatest_on, weight_on};
+use crate::tracks::{OnTrack, greatest_on};
 use fb_units::{NoMemory, Track};
 use std::alloc::Global;
 use std::collections::BTreeMap;
@@ -32,7 +32,7 @@ impl Model for Greatest {
 // The greatest of these numbers: 0 where there is none.
 fn greatest_of(numbers: &[u64], from: usize, end: usize) -> u64
     ensures each { (i : ℕ) → from ≤ i → i < end → get_or numbers.now i 0 ≤ result }
-    ensures least { (most : ℕ) → ((i : ℕ) → get_or numbers.now i 0 ≤ most) → result ≤ most }
+    ensures least { (most : ℕ) → ((i : ℕ) → from ≤ i → i < end → get_or numbers.now i 0 ≤ most) → result ≤ most }
 {
     let mut greatest: u64 = 0;
     for i in from..end.min(numbers.len()) {
@@ -45,7 +45,7 @@ fn greatest_of(numbers: &[u64], from: usize, end: usize) -> u64
 fn greatest_anew(cylinders: &[u64], band: u32, greatest: u64, was: u64, now: u64) -> u64
     requires { (c : ℕ) → c / 64 ≡ band → (get_or cylinders.now c 0 ≤ greatest) ⊎ (get_or cylinders.now c 0 ≤ now) }
     ensures each { (c : ℕ) → c / 64 ≡ band → get_or cylinders.now c 0 ≤ result }
-    ensures least { (most : ℕ) → greatest ≤ most → now ≤ most → ((c : ℕ) → get_or cylinders.now c 0 ≤ most) → result ≤ most }
+    ensures least { (most : ℕ) → now ≤ most → (was < greatest → greatest ≤ most) → ((c : ℕ) → c / 64 ≡ band → get_or cylinders.now c 0 ≤ most) → result ≤ most }
 {
     if now >= greatest {
         return now;
@@ -103,6 +103,7 @@ impl Greatest {
     pub fn among(&self, from: u32, end: u32) -> u64
         requires some { from < end }
         ensures each { (c : ℕ) → from ≤ c → c < end → get_or self.now c 0 ≤ result }
+        ensures least { end < from + 64 → (most : ℕ) → ((c : ℕ) → from ≤ c → c < end → get_or self.now c 0 ≤ most) → result ≤ most }
         ensures small { result ≤ 16000000 * 2048000 }
     {
         if end - from < BAND {
@@ -113,16 +114,24 @@ impl Greatest {
     }
 }
 
-/// Brings the greatest of its cylinder up to date after a track has gained weight, or has lost no more than this.
-pub fn settle(greatest: &mut Greatest, tracks: &BTreeMap<Track, OnTrack>, track: Track, lost: u64)
+/// Brings the greatest of its cylinder up to date after a track has come to a weight, by a gain or by losing no more than this.
+pub fn settle(
+    greatest: &mut Greatest,
+    tracks: &BTreeMap<Track, OnTrack>,
+    track: Track,
+    weight: u64,
+    lost: u64,
+)
+    requires weight { weight ≡ weight_kept tracks.now track }
     requires there { track.cylinder < length greatest.old }
     requires small { (t : Track) → weight_kept tracks.now t ≤ 16000000 * 2048000 }
     requires others { (t : Track) → same_track track t ≡ false → weight_kept tracks.now t ≤ get_or greatest.old t.cylinder 0 }
     ensures weights { (t : Track) → weight_kept tracks.now t ≤ get_or greatest.new t.cylinder 0 }
+    ensures least { get_or greatest.old track.cylinder 0 ≤ weight + lost → (most : ℕ) → ((t : Track) → t.cylinder ≡ track.cylinder → weight_kept tracks.now t ≤ most) → get_or greatest.new track.cylinder 0 ≤ most }
+    ensures elsewhere { (c : ℕ) → (c ≡ track.cylinder → ⊥) → get_or greatest.new c 0 ≡ get_or greatest.old c 0 }
     ensures length { length greatest.new ≡ length greatest.old }
 {
     let was = greatest.at(track.cylinder);
-    let weight = weight_on(tracks, track);
     if weight >= was {
         greatest.set(track.cylinder, weight);
     } else if was - weight <= lost {

@@ -1,5 +1,5 @@
 // What is kept of the tracks on which blocks are registered.
-ghost use Rattle.std.specs.Prelude.{◌≡◌, ℕ, ◌≤◌, ◌<◌, ◌+◌, ◌-◌, ◌^◌, ◌∷◌, ◌++◌, [], List, Option, Some, IfSome, IfNone, OnOk, OnErr, if◌then◌else◌};
+ghost use Rattle.std.specs.Prelude.{◌≡◌, ℕ, ◌≤◌, ◌<◌, ◌+◌, ◌-◌, ◌^◌, ◌∷◌, ◌++◌, [], List, Option, Some, IfSome, IfNone, IfOk, OnOk, OnErr, if◌then◌else◌};
 ghost use Rattle.std.specs.Option.{option_map};
 ghost use Rattle.std.specs.BTreeMap.{get, ContainsKey};
 ghost use Rattle.fb_units.specs.declared.types.Track.{Track};
@@ -36,41 +36,46 @@ pub fn weight_of(entry: Entry) -> u64
     }
 }
 
-/// Adds a block to a track; where memory is wanting all stays.
+/// Adds a block to a track, and answers the weight that is then kept of it; where memory is wanting all stays.
 pub fn add_to_track(
     tracks: &mut BTreeMap<Track, OnTrack>,
     alloc: Global,
     track: Track,
     place: u32,
     weight: u64,
-) -> Result<(), NoMemory>
+) -> Result<u64, NoMemory>
     requires { IfSome (get track_cmp tracks.old track) (λ on. on.weight + weight < 2 ^ 64) }
     ensures ok { OnOk result ((t : Track) → get track_cmp tracks.new t ≡ (if same_track track t then Some (grown place weight (get track_cmp tracks.old t)) else get track_cmp tracks.old t)) }
+    ensures weight { IfOk result (λ kept. kept ≡ weight_kept tracks.new track) }
     ensures err { OnErr result ((t : Track) → get track_cmp tracks.new t ≡ get track_cmp tracks.old t) }
 {
     match tracks.get_mut(&track) {
         Some(on) => {
             on.places.push(place)?;
             on.weight += weight;
-            Ok(())
+            Ok(on.weight)
         }
         None => {
             let mut places = Places::new(alloc);
             places.push(place)?;
             tracks.insert(track, OnTrack { places, weight })?;
-            Ok(())
+            Ok(weight)
         }
     }
 }
 
-/// Changes the weight of a track.
-pub fn reweigh(tracks: &mut BTreeMap<Track, OnTrack>, track: Track, lost: u64, gained: u64)
+/// Changes the weight of a track, and answers the weight that is then kept of it: none where it has no block.
+pub fn reweigh(tracks: &mut BTreeMap<Track, OnTrack>, track: Track, lost: u64, gained: u64) -> u64
     requires { IfSome (get track_cmp tracks.old track) (λ on. (lost ≤ on.weight) × (on.weight + gained < 2 ^ 64)) }
-    ensures { (t : Track) → get track_cmp tracks.new t ≡ (if same_track track t then option_map (reweighed lost gained) (get track_cmp tracks.old t) else get track_cmp tracks.old t) }
+    ensures tracks { (t : Track) → get track_cmp tracks.new t ≡ (if same_track track t then option_map (reweighed lost gained) (get track_cmp tracks.old t) else get track_cmp tracks.old t) }
+    ensures weight { result ≡ weight_kept tracks.new track }
 {
     match tracks.get_mut(&track) {
-        Some(on) => on.weight = on.weight - lost + gained,
-        None => {}
+        Some(on) => {
+            on.weight = on.weight - lost + gained;
+            on.weight
+        }
+        None => 0,
     }
 }
 
@@ -121,7 +126,7 @@ fn next_head(tracks: &BTreeMap<Track, OnTrack>, track: Track) -> Option<u32>
 /// The greatest weight of the cylinder's tracks.
 pub fn greatest_on(tracks: &BTreeMap<Track, OnTrack>, cylinder: u32) -> u64
     ensures each { (t : Track) → t.cylinder ≡ cylinder → weight_kept tracks.now t ≤ result }
-    ensures least { (most : ℕ) → ((t : Track) → weight_kept tracks.now t ≤ most) → result ≤ most }
+    ensures least { (most : ℕ) → ((t : Track) → t.cylinder ≡ cylinder → weight_kept tracks.now t ≤ most) → result ≤ most }
 {
     let mut head = 0;
     let mut greatest = weight_on(tracks, Track { cylinder, head });

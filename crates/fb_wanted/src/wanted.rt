@@ -1,5 +1,5 @@
 // The registered blocks, in order of registration, and beside them what is kept of each task, of each track, of each cylinder and of each band of cylinders.
-ghost use Rattle.std.specs.Prelude.{◌≡◌, List, suc, true, false, take, ◌⊎◌, ◌+◌, ◌<◌, ◌≤◌, ℕ, [], ◌∷◌, ◌++◌, ◌*◌, ◌/◌, length, filter, map, OnOk, OnErr, IfSome, IfNone, Some, slice_get, get_or, ◌==◌, if◌then◌else◌};
+ghost use Rattle.std.specs.Prelude.{◌≡◌, List, suc, true, false, take, ◌⊎◌, ◌+◌, ◌<◌, ◌≤◌, ℕ, [], ◌∷◌, ◌++◌, ◌*◌, ◌/◌, length, filter, map, IfOk, OnOk, OnErr, IfSome, IfNone, Some, slice_get, get_or, ◌==◌, if◌then◌else◌};
 ghost use Rattle.std.specs.BTreeMap.{get};
 ghost use Rattle.fb_wanted.specs.declared.block.Block.{Block};
 ghost use Rattle.fb_wanted.specs.declared.block.Entry.{Entry};
@@ -8,7 +8,7 @@ ghost use Rattle.fb_wanted.specs.Numbering.{AreInOrder, blocks_of, registered};
 ghost use Rattle.fb_wanted.specs.Counting.{counts_of, sum_of, Fit};
 ghost use Rattle.fb_wanted.specs.Tracks.{wanted_weight, HasBlock, IsTrackBefore, IsNextTrack};
 ghost use Rattle.fb_wanted.specs.Depth.{depth_at};
-ghost use Rattle.fb_wanted.specs.Index.{places, of_task, lbns, Rises, IsWithin, with_state, change_nth, change_first, track_cmp, grown, no_blocks, grown_task};
+ghost use Rattle.fb_wanted.specs.Index.{places, of_task, lbns, Rises, IsWithin, with_state, change_nth, change_first, track_cmp, grown, weight_kept, no_blocks, grown_task};
 ghost use Rattle.fb_units.specs.declared.types.Track.{Track};
 ghost use Rattle.fb_units.specs.Tracks.{same_track};
 
@@ -66,29 +66,30 @@ impl Model for Wanted {
     ghost invariant = { λ w. IsKept w.entries.items w.tasks.items w.tracks × AreNoted w.entries.items w.falls × AreGreatest w.tracks w.greatest × AreDeep w.entries.items w.depths.items };
 }
 
-// Notes where a block that is to be registered will stand, and counts it; where memory is wanting all stays.
+// Notes where a block that is to be registered will stand, and counts it, and answers the weight that is then kept of its track; where memory is wanting all stays.
 fn add_to_index(
     tasks: &mut Vec<OfTask>,
     tracks: &mut BTreeMap<Track, OnTrack>,
     alloc: Global,
     place: u32,
     entry: Entry,
-) -> Result<(), NoMemory>
+) -> Result<u64, NoMemory>
     requires light { entry.block.weight ≤ 1000 }
     requires short { entry.block.count ≤ 2048 }
     requires room { IfSome (get track_cmp tracks.old entry.block.track) (λ on. on.weight ≤ 16000000 * 2048000) }
     requires few { Fit (sum_of (get_or tasks.old.items entry.block.task no_blocks).counts (counts_of entry.block.task (entry ∷ []))) }
     ensures tasks { OnOk result ((k : ℕ) → get_or tasks.new.items k no_blocks ≡ (if entry.block.task == k then grown_task place entry (get_or tasks.old.items k no_blocks) else get_or tasks.old.items k no_blocks)) }
     ensures tracks { OnOk result ((t : Track) → get track_cmp tracks.new t ≡ (if same_track entry.block.track t then Some (grown place (wanted_weight entry.block.track (entry ∷ [])) (get track_cmp tracks.old t)) else get track_cmp tracks.old t)) }
+    ensures weight { IfOk result (λ kept. kept ≡ weight_kept tracks.new entry.block.track) }
     ensures tasks_stay { OnErr result ((k : ℕ) → get_or tasks.new.items k no_blocks ≡ get_or tasks.old.items k no_blocks) }
     ensures tracks_stay { OnErr result ((t : Track) → get track_cmp tracks.new t ≡ get track_cmp tracks.old t) }
 {
     let block = entry.block;
     add_place(tasks, alloc, block.task, place)?;
     match add_to_track(tracks, alloc, block.track, place, weight_of(entry)) {
-        Ok(()) => {
+        Ok(weight) => {
             recount(tasks, block.task, no_counts(), counts_of(entry));
-            Ok(())
+            Ok(weight)
         }
         Err(error) => {
             take_place_back(tasks, block.task);
@@ -151,8 +152,14 @@ impl Wanted {
         );
         let lost = weight_of(entry);
         let gained = weight_of(turned);
-        reweigh(&mut self.tracks, entry.block.track, lost, gained);
-        settle(&mut self.greatest, &self.tracks, entry.block.track, lost);
+        let weight = reweigh(&mut self.tracks, entry.block.track, lost, gained);
+        settle(
+            &mut self.greatest,
+            &self.tracks,
+            entry.block.track,
+            weight,
+            lost,
+        );
     }
 
     // Changes the k-th block of the task.
@@ -350,8 +357,8 @@ impl Wanted {
         note_fall(&mut self.falls, block.task, block.index, is_fall)?;
         self.greatest.add_room(block.track.cylinder)?;
         add_bands(&mut self.depths, band, NO_DEPTH)?;
-        add_to_index(&mut self.tasks, &mut self.tracks, self.alloc, place, entry)?;
-        settle(&mut self.greatest, &self.tracks, block.track, 0);
+        let weight = add_to_index(&mut self.tasks, &mut self.tracks, self.alloc, place, entry)?;
+        settle(&mut self.greatest, &self.tracks, block.track, weight, 0);
         deepen(&mut self.depths, band, block);
         self.entries.push(entry)?;
         Ok(())

@@ -1,4 +1,4 @@
-use Rattle.std.proofs.Common.{◌≡◌, arith, inl, inr}
+use Rattle.std.proofs.Common.{◌≡◌, refl, arith, inl, inr}
 use Rattle.std.proofs.lemmas.Bool.{cases_lt}
 use Rattle.fb_wanted.proofs.Cylinders.{weight_there}
 use Rattle.fb_wanted.proofs.tracks.greatest_on.Goals as goal
@@ -13,5 +13,5 @@ loop-next-preserved c =
         ]
         | inr seen ↦ omega (arith, c.loop-next.invariant.0 t its seen, c.max-greatest.ensures)
       ],
-      λ most h. omega (arith, c.loop-next.invariant.1 most h, h (record { cylinder = c.args.cylinder; head = next }), c.weight_on.ensures, c.max-greatest.ensures),
+      λ most h. omega (arith, c.loop-next.invariant.1 most h, h (record { cylinder = c.args.cylinder; head = next }) refl, c.weight_on.ensures, c.max-greatest.ensures),
     )

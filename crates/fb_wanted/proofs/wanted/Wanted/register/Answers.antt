@@ -32,11 +32,12 @@ settle-requires c =
     let place = c.len-place.ensures ∙ c.self.inside.entries.ok.0 in
     let roomy = greatest_still c.self.inside.tracks c.self.inside.greatest c.add_room.new.self c.self.invariant.2 c.in_ok-add_room.ensures.stay c.in_ok-add_room.ensures.longer in
     let kept = kept_pushed entry items c.self.inside.tasks.items c.add_to_index.new.tasks.items c.self.inside.tracks c.add_to_index.new.tracks (items ++ entry ∷ []) c.len-place.result refl place c.self.invariant.0 free room c.requires.light c.requires.short
-    c.in_ok-add_to_index.ensures.tasks c.in_ok-add_to_index.ensures.tracks in
+    c.in_ok-weight.ensures.tasks c.in_ok-weight.ensures.tracks in
     record {
+      weight = c.in_ok-weight.ensures.weight;
       there = c.in_ok-add_room.ensures.there;
       small = weight_small (items ++ entry ∷ []) c.add_to_index.new.tasks.items c.add_to_index.new.tracks kept;
-      others = others_within c.self.inside.tracks c.add_to_index.new.tracks c.args.block.track (λ on. Some (grown c.len-place.result (wanted_weight c.args.block.track (entry ∷ [])) on)) c.add_room.new.self roomy c.in_ok-add_to_index.ensures.tracks;
+      others = others_within c.self.inside.tracks c.add_to_index.new.tracks c.args.block.track (λ on. Some (grown c.len-place.result (wanted_weight c.args.block.track (entry ∷ [])) on)) c.add_room.new.self roomy c.in_ok-weight.ensures.tracks;
     }
 
 pub deepen-requires-clause-room : goal.deepen-requires-clause-room
@@ -58,12 +59,12 @@ invariant_of-self-2 c =
     let next = free ∙ (ap length (task-blocks task items) ∙ length-map (filter (of_task task) items) (λ e. e.block)) in
     let noted = noted_still items c.self.inside.falls c.note_fall.new.falls c.self.invariant.1 c.in_ok-note_fall.ensures.stay in (
       kept_pushed entry items c.self.inside.tasks.items c.add_to_index.new.tasks.items c.self.inside.tracks c.add_to_index.new.tracks c.push.new.self.items c.len-place.result list place c.self.invariant.0 free room c.requires.light c.requires.short
-          c.in_ok-add_to_index.ensures.tasks c.in_ok-add_to_index.ensures.tracks,
+          c.in_ok-weight.ensures.tasks c.in_ok-weight.ensures.tracks,
       subst (λ l. AreNoted l c.note_fall.new.falls) (sym list)
           (noted-more items entry c.note_fall.new.falls noted next (λ i a before at less.
           c.in_ok-note_fall.ensures.noted (c.is_fall-is_fall.ensures i a before (ap (λ es. slice_get (lbns task es) i) (sym c.self.view_is) ∙ at) less))),
       greatest_settled c.self.inside.tracks c.add_to_index.new.tracks c.args.block.track (λ on. Some (grown c.len-place.result (wanted_weight c.args.block.track (entry ∷ [])) on)) c.add_room.new.self
-          (greatest_still c.self.inside.tracks c.self.inside.greatest c.add_room.new.self c.self.invariant.2 c.in_ok-add_room.ensures.stay c.in_ok-add_room.ensures.longer) c.in_ok-add_to_index.ensures.tracks
+          (greatest_still c.self.inside.tracks c.self.inside.greatest c.add_room.new.self c.self.invariant.2 c.in_ok-add_room.ensures.stay c.in_ok-add_room.ensures.longer) c.in_ok-weight.ensures.tracks
           c.settle.new.greatest c.in_ok-add_room.ensures.there c.settle.ensures.length c.settle.ensures.weights,
       deep_pushed items c.push.new.self.items entry c.band_of-band.result c.add_bands.new.bands.items c.deepen.new.depths.items list c.band_of-band.ensures c.requires.light
           (deep_still items c.self.inside.depths.items c.add_bands.new.bands.items c.self.invariant.3 c.in_ok-add_bands.ensures.stay) c.deepen.ensures,

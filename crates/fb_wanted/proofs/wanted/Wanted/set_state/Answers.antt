@@ -35,8 +35,8 @@ recount-requires c =
       room = counts_room items c.self.inside.tasks.items c.self.inside.tracks c.self.invariant.0 c.index-entry.result.now.block.task (record { block = c.index-entry.result.now.block; state = c.args.state }) c.counts_of-2.result c.counts_of-2.ensures;
     }
 
-pub reweigh-requires : goal.reweigh-requires
-reweigh-requires c =
+pub reweigh-weight-requires : goal.reweigh-weight-requires
+reweigh-weight-requires c =
     let items = c.self.inside.entries.items in
     let there = subst (λ es. c.args.place < length es) (sym c.self.view_is) c.requires in
     let here = slice_get_read items (length items) c.args.place c.index-entry.result.now refl there c.index-entry.ensures in
@@ -47,12 +47,13 @@ settle-requires c =
     let items = c.self.inside.entries.items in
     let there = subst (λ es. c.args.place < length es) (sym c.self.view_is) c.requires in
     let here = slice_get_read items (length items) c.args.place c.index-entry.result.now refl there c.index-entry.ensures in
-    let kept = kept_set c.args.state c.args.place c.index-entry.result.now items c.self.inside.tracks c.reweigh.new.tracks here c.self.inside.tasks.items c.recount.new.tasks.items c.counts_of.result c.counts_of-2.result c.weight_of-lost.result c.weight_of-gained.result
-    c.self.invariant.0 c.counts_of.ensures c.counts_of-2.ensures c.weight_of-lost.ensures.value c.weight_of-gained.ensures.value c.recount.ensures c.reweigh.ensures in
+    let kept = kept_set c.args.state c.args.place c.index-entry.result.now items c.self.inside.tracks c.reweigh-weight.new.tracks here c.self.inside.tasks.items c.recount.new.tasks.items c.counts_of.result c.counts_of-2.result c.weight_of-lost.result c.weight_of-gained.result
+    c.self.invariant.0 c.counts_of.ensures c.counts_of-2.ensures c.weight_of-lost.ensures.value c.weight_of-gained.ensures.value c.recount.ensures c.reweigh-weight.ensures.tracks in
     record {
+      weight = c.reweigh-weight.ensures.weight;
       there = c.self.invariant.2.there c.index-entry.result.now.block.track (its_track_there items c.self.inside.tasks.items c.self.inside.tracks c.self.invariant.0 c.args.place c.index-entry.result.now here);
-      small = weight_small _ c.recount.new.tasks.items c.reweigh.new.tracks kept;
-      others = others_within c.self.inside.tracks c.reweigh.new.tracks c.index-entry.result.now.block.track (option_map (reweighed c.weight_of-lost.result c.weight_of-gained.result)) c.self.inside.greatest c.self.invariant.2 c.reweigh.ensures;
+      small = weight_small _ c.recount.new.tasks.items c.reweigh-weight.new.tracks kept;
+      others = others_within c.self.inside.tracks c.reweigh-weight.new.tracks c.index-entry.result.now.block.track (option_map (reweighed c.weight_of-lost.result c.weight_of-gained.result)) c.self.inside.greatest c.self.invariant.2 c.reweigh-weight.ensures.tracks;
     }
 
 pub invariant_of-self : goal.invariant_of-self
@@ -61,10 +62,10 @@ invariant_of-self c =
     let there = subst (λ es. c.args.place < length es) (sym c.self.view_is) c.requires in
     let here = slice_get_read items (length items) c.args.place c.index-entry.result.now refl there c.index-entry.ensures in
     let same = items-with_state c.args.state c.args.place c.index-entry.result.now items here in (
-      kept_set c.args.state c.args.place c.index-entry.result.now items c.self.inside.tracks c.reweigh.new.tracks here c.self.inside.tasks.items c.recount.new.tasks.items c.counts_of.result c.counts_of-2.result c.weight_of-lost.result c.weight_of-gained.result
-          c.self.invariant.0 c.counts_of.ensures c.counts_of-2.ensures c.weight_of-lost.ensures.value c.weight_of-gained.ensures.value c.recount.ensures c.reweigh.ensures,
+      kept_set c.args.state c.args.place c.index-entry.result.now items c.self.inside.tracks c.reweigh-weight.new.tracks here c.self.inside.tasks.items c.recount.new.tasks.items c.counts_of.result c.counts_of-2.result c.weight_of-lost.result c.weight_of-gained.result
+          c.self.invariant.0 c.counts_of.ensures c.counts_of-2.ensures c.weight_of-lost.ensures.value c.weight_of-gained.ensures.value c.recount.ensures c.reweigh-weight.ensures.tracks,
       subst (λ l. AreNoted l c.self.inside.falls) (sym same) (noted-with_state c.args.state c.args.place items c.self.inside.falls c.self.invariant.1),
-      greatest_settled c.self.inside.tracks c.reweigh.new.tracks c.index-entry.result.now.block.track (option_map (reweighed c.weight_of-lost.result c.weight_of-gained.result)) c.self.inside.greatest c.self.invariant.2 c.reweigh.ensures
+      greatest_settled c.self.inside.tracks c.reweigh-weight.new.tracks c.index-entry.result.now.block.track (option_map (reweighed c.weight_of-lost.result c.weight_of-gained.result)) c.self.inside.greatest c.self.invariant.2 c.reweigh-weight.ensures.tracks
           c.settle.new.greatest (c.self.invariant.2.there c.index-entry.result.now.block.track (its_track_there items c.self.inside.tasks.items c.self.inside.tracks c.self.invariant.0 c.args.place c.index-entry.result.now here))
           c.settle.ensures.length c.settle.ensures.weights,
       deep_set c.args.state c.args.place c.index-entry.result.now items c.self.inside.depths.items here c.self.invariant.3,
