@@ -1,10 +1,14 @@
 -- Arrays whose parts are written one after another.
-use Rattle.std.proofs.Common.{◌≡◌, ℕ, ◌+◌, ◌*◌, ◌/◌, ◌<◌, ◌≤◌, inl, inr, List, [], ◌∷◌, true, ◌==◌, zero, suc, get_or, length, refl, arith, sym, subst}
+use Rattle.std.proofs.Common.{◌≡◌, ℕ, ◌+◌, ◌*◌, ◌/◌, ◌<◌, ◌≤◌, inl, inr, take, if◌then◌else◌, List, [], ◌∷◌, true, false, ◌==◌, zero, suc, get_or, length, refl, arith, ap, ◌∙◌, sym, subst}
+use Rattle.std.specs.Prelude.{nat_lt}
 use Rattle.std.specs.List.{slice_set, list_all}
 use Rattle.std.proofs.lemmas.Bool.{cases_lt, and_parts, eqb-true}
 use Rattle.std.proofs.lemmas.List.{get_or-set_same, get_or-set_other}
 use Rattle.std.proofs.lemmas.Nat.{div-add-mod'}
+use Rattle.std.proofs.lemmas.Bool.Decides.{nat_tests}
+use Rattle.std.proofs.lemmas.List.Sums.{sum_by-cons}
 use Rattle.std.proofs.Math.Nat.{mod-lt}
+use Rattle.fb_detour.specs.Bounds.{sum_of_first}
 
 -- parts that are all zero
 pub zeros : (xs : List ℕ) → list_all (λ x. x == 0) xs ≡ true → (k : ℕ) → get_or xs k 0 ≡ 0
@@ -33,3 +37,22 @@ over_all n = let whole = div-add-mod' n 16 in let rest = mod-lt n {m = 16} (omeg
 -- and end soon behind it
 pub sixteen : (n : ℕ) → 16 * (n / 16 + 1) ≤ n + 16
 sixteen n = omega (arith, div-add-mod' n 16)
+
+-- the sum of the first numbers begins with the first one
+sum-cons : (x : ℕ) (xs : List ℕ) (n : ℕ) → sum_of_first (suc n) (x ∷ xs) ≡ x + sum_of_first n xs
+sum-cons x xs n = sum_by-cons (λ number. number) x (take n xs)
+
+-- what one number gains, each sum gains that reaches over it
+pub sum-set : (xs : List ℕ) (i n v more : ℕ) → i < length xs → v ≡ get_or xs i 0 + more → sum_of_first n (slice_set xs i v) ≡ sum_of_first n xs + (if nat_lt i n then more else 0)
+sum-set [] i n v more within value = absurd (omega (arith, within))
+sum-set (x ∷ xs) i zero v more within value = let none : nat_lt i 0 ≡ false = grind (arith, nat_tests) in rw none (omega arith)
+sum-set (x ∷ xs) zero (suc n) v more within value =
+    let here : v ≡ x + more = value in
+    let all : v + sum_of_first n xs ≡ x + sum_of_first n xs + more = omega (arith, here) in
+    let by : nat_lt 0 (suc n) ≡ true = grind (arith, nat_tests) in
+    rw by (sum-cons v xs n ∙ (all ∙ ap (λ sum. sum + more) (sym (sum-cons x xs n))))
+sum-set (x ∷ xs) (suc i) (suc n) v more within value =
+    let gained = if nat_lt i n then more else 0 in
+    let rest : x + sum_of_first n (slice_set xs i v) ≡ x + sum_of_first n xs + gained = omega (arith, sum-set xs i n v more (omega (arith, within)) value) in
+    let by : nat_lt (suc i) (suc n) ≡ nat_lt i n = grind (arith, nat_tests) in
+    rw by (sum-cons x (slice_set xs i v) n ∙ (rest ∙ ap (λ sum. sum + gained) (sym (sum-cons x xs n))))

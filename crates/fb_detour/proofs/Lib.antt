@@ -10,5 +10,6 @@ pub mod Within
 pub mod Rounds
 pub mod Packing
 pub mod Shares
+pub mod InStretch
 pub mod InTime
 pub mod Slots

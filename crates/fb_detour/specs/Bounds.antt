@@ -1,5 +1,5 @@
 -- What bounds the value of detours.
-use Rattle.std.specs.Prelude.{◌≡◌, ℕ, false, ◌+◌, ◌-◌, ◌*◌, ◌/◌, ◌^◌, ◌<◌, ◌≤◌, ◌⊎◌, min, nat_lt, get_or, List, ◌&&◌, if◌then◌else◌}
+use Rattle.std.specs.Prelude.{◌≡◌, ℕ, false, ◌+◌, ◌-◌, ◌*◌, ◌/◌, ◌^◌, ◌<◌, ◌≤◌, ◌⊎◌, min, nat_lt, get_or, take, List, ◌&&◌, if◌then◌else◌}
 use Rattle.std.specs.List.{sum_by}
 use Rattle.fb_units.specs.declared.types.Track.{Track}
 use Rattle.fb_seek.specs.Positioning.{pos}
@@ -40,6 +40,10 @@ stay disk dwell entries = sum_by (stay_gain disk dwell) (on_track dwell.track en
 -- the stay on the target of a head that comes there then
 abbrev pub late_most : Gap → ℕ → Dwell
 late_most gap from = record { track = gap.target; begin = from; end = gap.deadline }
+
+-- the sum of the first n numbers of a list
+abbrev pub sum_of_first : ℕ → List ℕ → ℕ
+sum_of_first n numbers = sum_by (λ number. number) (take n numbers)
 
 -- the stay on a track up to an instant
 abbrev pub early_to : Track → ℕ → ℕ → Dwell

@@ -3,7 +3,7 @@ ghost use Rattle.std.specs.Prelude.{◌≡◌, ◌+◌, ◌-◌, ◌*◌, ◌/�
 ghost use Rattle.fb_model.specs.Plans.{block_end};
 ghost use Rattle.fb_plan.specs.Ways.{FitsDisk, AreOnDisk, IsGap};
 ghost use Rattle.fb_plan.specs.Turns.{IsTurning};
-ghost use Rattle.fb_detour.specs.Bounds.{stay, stay_gain, early_to, late_most, IsLate, IsStop, part_at};
+ghost use Rattle.fb_detour.specs.Bounds.{stay, stay_gain, early_to, late_most, IsLate, IsStop, part_at, sum_of_first};
 
 use crate::stop::Stop;
 use fb_plan::{Turning, blocks_on, is_same, is_wanted};
@@ -125,28 +125,14 @@ pub fn late_at(late: &LateParts, from: Ns) -> u64
 // How many stretches the time on a track has.
 pub const EARLY: usize = 16;
 
-// Adds a passage to each part up to which it has ended.
-fn add_passage(end: Ns, worth: u64, arrive: Ns, step: Ns, parts: &mut [u64; EARLY])
-    requires arrive { arrive ≤ 9 * 10 ^ 18 }
-    requires step { step ≤ 57 * 10 ^ 16 }
-    requires worth { worth ≤ 2048000 }
-    requires room { (k : ℕ) → k < 16 → get_or parts.old k 0 ≤ 16000000 * 2048000 }
-    ensures { (k : ℕ) → k < 16 → get_or parts.new k 0 ≡ get_or parts.old k 0 + (if nat_le end (arrive + (k + 1) * step) then worth else 0) }
-{
-    for k in 0..EARLY {
-        parts[k] += worth_by(end, arrive + (k as u64 + 1) * step, worth);
-    }
-}
-
-// Adds the block to each part up to which it has passed.
-fn add_entry(disk: &Disk, stop: &Stop, step: Ns, entry: Entry, parts: &mut [u64; EARLY])
+// Adds the block to the first stretch up to whose end it has passed.
+fn add_entry(disk: &Disk, stop: &Stop, step: Ns, entry: Entry, stretches: &mut [u64; EARLY])
     requires fits { FitsDisk disk.now entry.block }
     requires passing { IsTurning disk.now stop.now.passing }
     requires begin { stop.now.passing.from ≡ stop.now.arrive }
-    requires arrive { stop.now.arrive ≤ 9 * 10 ^ 18 }
-    requires step { step ≤ 57 * 10 ^ 16 }
-    requires room { (k : ℕ) → k < 16 → get_or parts.old k 0 ≤ 16000000 * 2048000 }
-    ensures { (k : ℕ) → k < 16 → get_or parts.new k 0 ≡ get_or parts.old k 0 + stay_gain disk.now (early_to stop.now.track stop.now.arrive (stop.now.arrive + (k + 1) * step)) entry }
+    requires some { 0 < step }
+    requires room { (k : ℕ) → k < 16 → sum_of_first (k + 1) stretches.old ≤ 16000000 * 2048000 }
+    ensures { (k : ℕ) → k < 16 → sum_of_first (k + 1) stretches.new ≡ sum_of_first (k + 1) stretches.old + stay_gain disk.now (early_to stop.now.track stop.now.arrive (stop.now.arrive + (k + 1) * step)) entry }
 {
     if !is_wanted(entry.state) {
         return;
@@ -156,13 +142,26 @@ fn add_entry(disk: &Disk, stop: &Stop, step: Ns, entry: Entry, parts: &mut [u64;
     }
     let worth = entry.block.weight as u64 * entry.block.count as u64;
     let end = stop.passing.end(disk, entry.block);
-    add_passage(end, worth, stop.arrive, step, parts);
+    let first = (end - stop.arrive - 1) / step;
+    if first < EARLY as u64 {
+        stretches[first as usize] += worth;
+    }
+}
+
+// Makes each number the sum of itself and all before it.
+fn add_up(stretches: &mut [u64; EARLY])
+    requires room { (k : ℕ) → k < 16 → sum_of_first (k + 1) stretches.old ≤ 16000000 * 2048000 }
+    ensures { (k : ℕ) → k < 16 → get_or stretches.new k 0 ≡ sum_of_first (k + 1) stretches.old }
+{
+    for k in 1..EARLY {
+        stretches[k] += stretches[k - 1];
+    }
 }
 
 // What a track gives from the arrival up to the end of each stretch.
 pub fn early_parts(disk: &Disk, wanted: &Wanted, stop: &Stop, step: Ns) -> [u64; EARLY]
     requires stop { IsStop disk.now wanted.now stop.now }
-    requires step { step ≤ 57 * 10 ^ 16 }
+    requires some { 0 < step }
     ensures each { (k : ℕ) → k < 16 → get_or result k 0 ≡ stay disk.now (early_to stop.now.track stop.now.arrive (stop.now.arrive + (k + 1) * step)) wanted.now }
     ensures small { (k : ℕ) → k < 16 → get_or result k 0 ≤ 16000000 * 2048000 }
 {
@@ -171,5 +170,6 @@ pub fn early_parts(disk: &Disk, wanted: &Wanted, stop: &Stop, step: Ns) -> [u64;
     for i in 0..stop.blocks.len() {
         add_entry(disk, stop, step, stop.blocks.get(i), &mut parts);
     }
+    add_up(&mut parts);
     parts
 }

@@ -231,17 +231,25 @@ fn can_skip(
 }
 
 // The cylinders before this one, from one on, can be passed over: twice as many at each step.
-fn skip(disk: &Disk, wanted: &Wanted, gap: &Gap, late: &LateParts, from: u32, best: Scored) -> u32
-    requires within { from ≤ disk.now.mechanism.cylinders }
+fn skip(
+    disk: &Disk,
+    wanted: &Wanted,
+    gap: &Gap,
+    late: &LateParts,
+    from: u32,
+    end: u32,
+    best: Scored,
+) -> u32
+    requires order { from ≤ end }
+    requires within { end ≤ disk.now.mechanism.cylinders }
     requires gap { IsGap disk.now gap.now }
     requires blocks { AreOnDisk disk.now wanted.now }
     requires late { IsLate disk.now gap.now wanted.now late.now }
     requires best { IsScored disk.now gap.now (wanted_of wanted.now) best }
     ensures after { from ≤ result }
-    ensures within { result ≤ disk.now.mechanism.cylinders }
+    ensures within { result ≤ end }
     ensures passed { BeatsRange disk.now gap.entry.now (wanted_of wanted.now) best.plan from result }
 {
-    let end = disk.map.geometry().cylinders();
     let mut next = from;
     while next < end {
         let upto = next + (end - next).min(next - from + 1);
@@ -253,57 +261,30 @@ fn skip(disk: &Disk, wanted: &Wanted, gap: &Gap, late: &LateParts, from: u32, be
     next
 }
 
-// The cylinders from this one on, before one, can be passed over: twice as many at each step.
-fn skip_down(
-    disk: &Disk,
-    wanted: &Wanted,
-    gap: &Gap,
-    late: &LateParts,
-    end: u32,
-    best: Scored,
-) -> u32
-    requires within { end ≤ disk.now.mechanism.cylinders }
-    requires gap { IsGap disk.now gap.now }
-    requires blocks { AreOnDisk disk.now wanted.now }
-    requires late { IsLate disk.now gap.now wanted.now late.now }
-    requires best { IsScored disk.now gap.now (wanted_of wanted.now) best }
-    ensures before { result ≤ end }
-    ensures passed { BeatsRange disk.now gap.entry.now (wanted_of wanted.now) best.plan result end }
-{
-    let mut low = end;
-    while low > 0 {
-        let from = low - low.min(end - low + 1);
-        if !can_skip(disk, wanted, gap, late, from, low, best) {
-            return low;
-        }
-        low = from;
-    }
-    low
-}
-
-// Tries the tracks of the cylinders from one on, upwards.
-fn try_upwards(
+// Tries the tracks of the cylinders from one on, before another.
+fn try_cylinders(
     disk: &Disk,
     wanted: &Wanted,
     gap: &Gap,
     late: &LateParts,
     first: u32,
+    end: u32,
     start: Scored,
 ) -> Scored
-    requires within { first ≤ disk.now.mechanism.cylinders }
+    requires order { first ≤ end }
+    requires within { end ≤ disk.now.mechanism.cylinders }
     requires gap { IsGap disk.now gap.now }
     requires blocks { AreOnDisk disk.now wanted.now }
     requires late { IsLate disk.now gap.now wanted.now late.now }
     requires best { IsScored disk.now gap.now (wanted_of wanted.now) start }
     ensures scored { IsScored disk.now gap.entry.now (wanted_of wanted.now) result }
     ensures keeps { Beats disk.now gap.entry.now (wanted_of wanted.now) result.plan start.plan }
-    ensures tried { BeatsRange disk.now gap.entry.now (wanted_of wanted.now) result.plan first disk.now.mechanism.cylinders }
+    ensures tried { BeatsRange disk.now gap.entry.now (wanted_of wanted.now) result.plan first end }
 {
-    let end = disk.map.geometry().cylinders();
     let mut best = start;
     let mut from = first;
     while from < end {
-        let next = skip(disk, wanted, gap, late, from, best);
+        let next = skip(disk, wanted, gap, late, from, end, best);
         if from < next {
             from = next;
         } else {
@@ -314,40 +295,8 @@ fn try_upwards(
     best
 }
 
-// Tries the tracks of the cylinders before one, downwards.
-fn try_downwards(
-    disk: &Disk,
-    wanted: &Wanted,
-    gap: &Gap,
-    late: &LateParts,
-    end: u32,
-    start: Scored,
-) -> Scored
-    requires within { end ≤ disk.now.mechanism.cylinders }
-    requires gap { IsGap disk.now gap.now }
-    requires blocks { AreOnDisk disk.now wanted.now }
-    requires late { IsLate disk.now gap.now wanted.now late.now }
-    requires best { IsScored disk.now gap.now (wanted_of wanted.now) start }
-    ensures scored { IsScored disk.now gap.entry.now (wanted_of wanted.now) result }
-    ensures keeps { Beats disk.now gap.entry.now (wanted_of wanted.now) result.plan start.plan }
-    ensures tried { BeatsRange disk.now gap.entry.now (wanted_of wanted.now) result.plan 0 end }
-{
-    let mut best = start;
-    let mut low = end;
-    while low > 0 {
-        let next = skip_down(disk, wanted, gap, late, low, best);
-        if next < low {
-            low = next;
-        } else {
-            low -= 1;
-            best = try_cylinder(disk, wanted, gap, late, low, best);
-        }
-    }
-    best
-}
-
-// Tries the tracks of all cylinders, from that of the source upwards and then downwards: what is near
-// promises most.
+// Tries the tracks of all cylinders: from that of the source on, since what is near promises most, and then those before
+// it. Each time upwards, so that of plans of one value the first in the order of ties is soon found.
 pub fn try_all(disk: &Disk, wanted: &Wanted, gap: &Gap, late: &LateParts, start: Scored) -> Scored
     requires gap { IsGap disk.now gap.now }
     requires blocks { AreOnDisk disk.now wanted.now }
@@ -358,6 +307,7 @@ pub fn try_all(disk: &Disk, wanted: &Wanted, gap: &Gap, late: &LateParts, start:
     ensures tried { BeatsRange disk.now gap.entry.now (wanted_of wanted.now) result.plan 0 disk.now.mechanism.cylinders }
 {
     let source = gap.source.cylinder;
-    let above = try_upwards(disk, wanted, gap, late, source, start);
-    try_downwards(disk, wanted, gap, late, source, above)
+    let end = disk.map.geometry().cylinders();
+    let above = try_cylinders(disk, wanted, gap, late, source, end, start);
+    try_cylinders(disk, wanted, gap, late, 0, source, above)
 }

@@ -40,6 +40,12 @@ pub record IsUntil (disk : Disk) (until : Until) : Type 0 where
   pub later : (slot : ℕ) → until.slots ≤ slot → slot < until.passing.first + 2 * until.passing.slots
       → until.latest + until.passing.at < until.passing.from + slot_begin disk.map.rotation until.passing.slots slot
 
+-- those that pass whole while the head stays
+pub record IsOfDwell (disk : Disk) (dwell : Dwell) (until : Until) : Type 0 where
+  pub tells : IsUntil disk until
+  pub begin : until.passing.from ≡ dwell.begin
+  pub end : until.latest ≡ dwell.end
+
 -- the blocks of a track from an instant on, and those of the target
 pub record AreSides (disk : Disk) (target : Track) (entries : List Entry) (dwell : Dwell) (sides : Sides) : Type 0 where
   pub early : sides.early ≡ on_track dwell.track entries

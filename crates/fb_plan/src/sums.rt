@@ -2,14 +2,14 @@
 ghost use Rattle.std.specs.Prelude.{◌≡◌, ◌+◌, ◌*◌, ◌≤◌, ◌<◌, ◌^◌, ◌||◌, ◌&&◌, ℕ, if◌then◌else◌};
 ghost use Rattle.std.specs.List.{sum_by};
 ghost use Rattle.fb_units.specs.Tracks.{same_track};
-ghost use Rattle.fb_model.specs.Plans.{catches, value, early_dwell, IsPlan};
+ghost use Rattle.fb_model.specs.Plans.{value, early_dwell, IsPlan};
 ghost use Rattle.fb_wanted.specs.declared.block.Entry.{Entry};
 ghost use Rattle.fb_wanted.specs.States.{is_wanted, wanted_of};
 ghost use Rattle.fb_plan.specs.Ways.{FitsDisk, AreOnDisk, IsGap};
-ghost use Rattle.fb_plan.specs.Turns.{IsTurning, AreSides, gain_by};
+ghost use Rattle.fb_plan.specs.Turns.{IsOfDwell, AreSides, gain_by};
 
 use crate::sides::{Sides, sides_of};
-use crate::{DwellPair, Turning, dwells};
+use crate::{DwellPair, Until, dwells};
 use fb_rows::{Gap, Plan};
 use fb_service::Disk;
 use fb_units::Track;
@@ -28,19 +28,17 @@ pub fn is_wanted(state: State) -> bool
 }
 
 // What the block adds to a plan with these dwells.
-fn gain(disk: &Disk, pair: DwellPair, passing: &Turning, late: &Turning, entry: Entry) -> u64
+fn gain(disk: &Disk, pair: DwellPair, early: &Until, late: &Until, entry: Entry) -> u64
     requires fits { FitsDisk disk.now entry.block }
-    requires early { IsTurning disk.now passing.now }
-    requires early_begin { passing.now.from ≡ pair.early.begin }
-    requires late { IsTurning disk.now late.now }
-    requires late_begin { late.now.from ≡ pair.late.begin }
+    requires early { IsOfDwell disk.now pair.early early.now }
+    requires late { IsOfDwell disk.now pair.late late.now }
     ensures value { result ≡ gain_by disk.now pair.early pair.late entry }
     ensures small { result ≤ 2048000 }
 {
     if !is_wanted(entry.state) {
         return 0;
     }
-    if passing.catches(disk, pair.early, entry.block) {
+    if early.catches(disk, pair.early, entry.block) {
         return worth(disk, entry);
     }
     if late.catches(disk, pair.late, entry.block) {
@@ -58,24 +56,16 @@ fn worth(disk: &Disk, entry: Entry) -> u64
 }
 
 // What the blocks of a track add to a plan with these dwells.
-fn value_on(
-    disk: &Disk,
-    blocks: &TrackBlocks,
-    pair: DwellPair,
-    passing: &Turning,
-    late: &Turning,
-) -> u64
+fn value_on(disk: &Disk, blocks: &TrackBlocks, pair: DwellPair, early: &Until, late: &Until) -> u64
     requires blocks { AreOnDisk disk.now blocks.now }
-    requires early { IsTurning disk.now passing.now }
-    requires early_begin { passing.now.from ≡ pair.early.begin }
-    requires late { IsTurning disk.now late.now }
-    requires late_begin { late.now.from ≡ pair.late.begin }
+    requires early { IsOfDwell disk.now pair.early early.now }
+    requires late { IsOfDwell disk.now pair.late late.now }
     ensures value { result ≡ sum_by (gain_by disk.now pair.early pair.late) blocks.now }
     ensures small { result ≤ 16000000 * 2048000 }
 {
     let mut sum = 0;
     for i in 0..blocks.len() {
-        sum += gain(disk, pair, passing, late, blocks.get(i));
+        sum += gain(disk, pair, early, late, blocks.get(i));
     }
     sum
 }
@@ -91,12 +81,16 @@ pub fn value_by(disk: &Disk, wanted: &Wanted, gap: &Gap, sides: &Sides, plan: Pl
 {
     let _ = wanted;
     let pair = dwells(disk, plan, gap);
-    let late = sides.passing_late.again(disk, pair.late.begin);
-    let sum = value_on(disk, &sides.early, pair, &sides.passing, &late);
+    let early = sides.passing.until(disk, pair.early.end);
+    let late = sides
+        .passing_late
+        .again(disk, pair.late.begin)
+        .until(disk, pair.late.end);
+    let sum = value_on(disk, &sides.early, pair, &early, &late);
     if is_same(pair.early.track, gap.target) {
         return sum;
     }
-    sum + value_on(disk, &sides.late, pair, &sides.passing, &late)
+    sum + value_on(disk, &sides.late, pair, &early, &late)
 }
 
 /// The value of a plan.

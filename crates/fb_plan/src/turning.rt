@@ -6,7 +6,7 @@ ghost use Rattle.fb_geometry.specs.Shape.{slots_at};
 ghost use Rattle.fb_sectormap.specs.Lookup.{place_at, neighbour};
 ghost use Rattle.fb_model.specs.Plans.{block_begin, block_end, catches};
 ghost use Rattle.fb_plan.specs.Ways.{FitsDisk, AreOnDisk};
-ghost use Rattle.fb_plan.specs.Turns.{IsTurning, IsUntil};
+ghost use Rattle.fb_plan.specs.Turns.{IsTurning, IsUntil, IsOfDwell};
 
 use crate::passing::{block_begin, block_end};
 use fb_geometry::Stretch;
@@ -301,5 +301,17 @@ impl Until {
             Some(i) => passing.coming(disk, i) + block.count < self.slots,
             None => block_end(disk, block, passing.from) <= self.latest,
         }
+    }
+
+    /// Whether the block passes whole while the head stays.
+    pub fn catches(&self, disk: &Disk, dwell: Dwell, block: Block) -> bool
+        requires dwell { IsOfDwell disk.now dwell self.now }
+        requires fits { FitsDisk disk.now block }
+        ensures { result ≡ catches disk.now dwell block }
+    {
+        if dwell.track != block.track {
+            return false;
+        }
+        self.passes(disk, block)
     }
 }

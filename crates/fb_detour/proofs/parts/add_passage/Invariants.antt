@@ -1,6 +1,0 @@
-use Rattle.std.proofs.Common.{◌≡◌, ◌+◌, ◌*◌, ◌<◌, ◌≤◌, ℕ, get_or, length, nat_le, if◌then◌else◌}
-use Rattle.fb_detour.proofs.parts.add_passage.Given as goal
-
-abbrev pub invariant-loop-k : goal.invariant-loop-k
-invariant-loop-k l = (length l.parts ≡ 16) × ((j : ℕ) → j < l.k → get_or l.parts j 0 ≡ get_or l.initial.parts j 0 + (if nat_le l.end (l.arrive + (j + 1) * l.step) then l.worth else 0))
-    × ((j : ℕ) → l.k ≤ j → get_or l.parts j 0 ≡ get_or l.initial.parts j 0)
