@@ -15,6 +15,7 @@ use fb_service::Disk;
 use fb_units::{NoMemory, Ns, Track};
 use fb_wanted::{Block, Wanted};
 use std::alloc::Global;
+use std::process::Abort;
 use std::test::Fail;
 
 const LINEAR: [SeekPoint; 2] = [
@@ -77,6 +78,13 @@ fn single(lbn: u64) -> Wish {
         count: 1,
         weight: 1,
         suspended: false,
+    }
+}
+
+fn suspended(lbn: u64) -> Wish {
+    Wish {
+        suspended: true,
+        ..single(lbn)
     }
 }
 
@@ -249,38 +257,33 @@ fn answers(
     Ok(Some((slow, indexed)))
 }
 
-#[test]
-fn best_plans(rt: HostRuntime) -> Result<(), Fail> {
-    let here = gap(track(0, 0), 0, 500);
-    let next = gap(track(1, 0), 600, 1200);
-    let next_write = Gap {
-        write: true,
-        ..next
-    };
-    let far = gap(track(2, 0), 0, 1500);
-    let three = [single(6), single(7), single(35)];
-    let one = [single(20)];
-    let over = [single(25)];
-    let behind = [single(51)];
-    let fifth = Wish {
-        weight: 5,
-        ..single(33)
-    };
-    let heavy = [single(6), single(7), fifth];
-    let rows = [
-        (LINEAR.as_slice(), here, three.as_slice(), direct(0)),
-        (&LINEAR, next, &three, direct(800)),
-        (&LINEAR, next, &one, detour(0, 1, 900)),
-        (&LINEAR, next_write, &one, direct(600)),
-        (&STEEP, far, &over, detour(1, 0, 200)),
-        (&STEEP, far, &behind, detour(1, 0, 100)),
-        (&LINEAR, next, &heavy, direct(600)),
-    ];
-    for (seek, gap, wishes, plan) in rows {
-        match answers(rt.alloc(), seek, 3, 0, wishes, &gap)? {
+// A gap on a disk, what is wanted there, and the best plan.
+#[derive(Clone, Copy)]
+struct WorkedGap<'a> {
+    seek: &'a [SeekPoint],
+    track_skew: u32,
+    gap: Gap,
+    wishes: &'a [Wish],
+    plan: Plan,
+}
+
+fn worked<'a>(seek: &'a [SeekPoint], gap: Gap, wishes: &'a [Wish], plan: Plan) -> WorkedGap<'a> {
+    WorkedGap {
+        seek,
+        track_skew: 0,
+        gap,
+        wishes,
+        plan,
+    }
+}
+
+// Both planners answer the plans.
+fn check_plans(rt: &impl Abort, alloc: Global, rows: &[WorkedGap]) -> Result<(), Fail> {
+    for row in rows {
+        match answers(alloc, row.seek, 3, row.track_skew, row.wishes, &row.gap)? {
             Some((slow, indexed)) => {
-                assert_eq!(rt; slow, plan);
-                assert_eq!(rt; indexed, plan);
+                assert_eq!(rt; slow, row.plan);
+                assert_eq!(rt; indexed, row.plan);
             }
             None => assert!(rt; false, "refused"),
         }
@@ -289,20 +292,70 @@ fn best_plans(rt: HostRuntime) -> Result<(), Fail> {
 }
 
 #[test]
-fn block_round_the_end_of_the_track(rt: HostRuntime) -> Result<(), Fail> {
-    let gap = gap(track(0, 1), 0, 1300);
-    let pair = Wish {
+fn best_plans(rt: HostRuntime) -> Result<(), Fail> {
+    let own = track(0, 0);
+    let next = gap(track(1, 0), 600, 1200);
+    let write = Gap {
+        write: true,
+        ..next
+    };
+    let far = gap(track(2, 0), 0, 1500);
+    let three = [single(6), single(7), single(35)];
+    let held = [suspended(6), suspended(7), suspended(35)];
+    let heavy = [
+        single(6),
+        single(7),
+        Wish {
+            weight: 5,
+            ..single(33)
+        },
+    ];
+    let pair = [Wish {
         count: 2,
         ..single(12)
+    }];
+    let skewed = WorkedGap {
+        track_skew: 11,
+        ..worked(&LINEAR, gap(track(0, 1), 0, 1300), &pair, direct(0))
     };
-    match answers(rt.alloc(), &LINEAR, 3, 11, &[pair], &gap)? {
-        Some((slow, indexed)) => {
-            assert_eq!(rt; slow, direct(0));
-            assert_eq!(rt; indexed, direct(0));
-        }
-        None => assert!(rt; false, "refused"),
-    }
-    Ok(())
+    check_plans(
+        &rt,
+        rt.alloc(),
+        &[
+            worked(&LINEAR, gap(own, 0, 500), &three, direct(0)),
+            worked(&LINEAR, next, &three, direct(800)),
+            worked(&LINEAR, next, &[single(20)], detour(0, 1, 900)),
+            worked(&LINEAR, write, &[single(20)], direct(600)),
+            worked(&STEEP, far, &[single(25)], detour(1, 0, 200)),
+            worked(&STEEP, far, &[single(51)], detour(1, 0, 100)),
+            worked(&LINEAR, next, &[], direct(600)),
+            worked(
+                &LINEAR,
+                gap(track(1, 0), 599, 1200),
+                &[single(5)],
+                direct(599),
+            ),
+            skewed,
+            worked(&LINEAR, next, &[single(6), single(35)], direct(700)),
+            worked(
+                &LINEAR,
+                gap(own, 1700, 1700),
+                &[single(7), single(8)],
+                direct(1700),
+            ),
+            worked(
+                &LINEAR,
+                Gap {
+                    write: true,
+                    ..gap(own, 700, 1800)
+                },
+                &[],
+                direct(700),
+            ),
+            worked(&LINEAR, next, &held, direct(600)),
+            worked(&LINEAR, next, &heavy, direct(600)),
+        ],
+    )
 }
 
 // The next number of a series that looks random.
