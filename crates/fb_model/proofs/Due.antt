@@ -1,6 +1,6 @@
 -- What is due at a decision: each row is of a wanted block, passes whole, and has the bytes of its beginning; none stands twice.
 use Rattle.std.proofs.Common.{◌≡◌, ℕ, ◌+◌, ◌≤◌, List, [], ◌∷◌, ◌++◌, refl, lit≤, true, false, map, filter, Bool, cond, if◌then◌else◌, ◌-◌, not, arith, ap, ◌⊎◌, inl, inr}
-use Rattle.std.specs.List.{AllByRecursion, fold, flat_map}
+use Rattle.std.specs.List.{AllByRecursion, fold}
 use Rattle.fb_store.specs.Runs.{runs_of, bad_of}
 use Rattle.fb_wanted.specs.declared.block.Block.{Block}
 use Rattle.fb_rows.specs.declared.gap.Gap.{Gap}

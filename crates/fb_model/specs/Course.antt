@@ -15,8 +15,8 @@ use Rattle.fb_rows.specs.declared.back.BackRow.{BackRow}
 use Rattle.fb_rows.specs.declared.back.BackRow.TheVariants.{Gap as GapLine, Idle as IdleLine, Got as GotLine, Task as TaskLine}
 use Rattle.fb_model.specs.Inputs.{Inputs}
 use Rattle.fb_model.specs.Decisions.{Decision, serves, idles, ends, instant_of, decisions}
-use Rattle.fb_model.specs.History.{Event, called, tested, delivered, finished, Past, task_numbers, terms_of, blocks_of, bare_state, is_aborted}
-use Rattle.fb_model.specs.Completion.{is_complete}
+use Rattle.fb_model.specs.History.{Event, called, tested, delivered, finished, Past, task_numbers, terms_of, is_aborted}
+use Rattle.fb_model.specs.Completion.{work, is_complete}
 use Rattle.fb_model.specs.Segments.{next_blocks, with_choices}
 use Rattle.fb_model.specs.Rides.{gap_of}
 
@@ -98,13 +98,13 @@ part_rows disk step = step.1.settled ++ opening disk step.0 step.1.plan
 -- how a task stands
 abbrev pub task_row : Past → ℕ → BackRow
 task_row past task =
-    let blocks = blocks_of past task in
+    let now = work past task in
     TaskLine (record {
       task = task;
-      kind = (terms_of past task).kind;
-      registered = length blocks;
-      delivered = count_by (λ block. is_delivered (bare_state past block)) blocks;
-      aborted = count_by (λ block. is_aborted (bare_state past block)) blocks;
+      kind = now.terms.kind;
+      registered = length now.blocks;
+      delivered = count_by (λ block. is_delivered (now.bare block)) now.blocks;
+      aborted = count_by (λ block. is_aborted (now.bare block)) now.blocks;
       complete = is_complete past task;
     })
 

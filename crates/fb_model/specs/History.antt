@@ -1,13 +1,14 @@
 -- What has happened in a run, and what it says of tasks and blocks. The latest event comes first.
-use Rattle.std.specs.Prelude.{ℕ, List, [], ◌∷◌, ◌++◌, length, Bool, true, false, ◌&&◌, not, ◌==◌, filter, if◌then◌else◌}
+use Rattle.std.specs.Prelude.{ℕ, List, [], ◌∷◌, ◌++◌, length, Bool, true, false, ◌&&◌, ◌||◌, not, ◌==◌, filter, if◌then◌else◌}
 use Rattle.std.specs.List.{list_any, range_with_len, slice_index_or}
 use Rattle.fb_units.specs.declared.types.Request.{Request}
 use Rattle.fb_calls.specs.declared.call.Kind.TheVariants.{Plain}
 use Rattle.fb_calls.specs.Sessions.{is_backup}
-pub use Rattle.fb_calls.specs.Allowed.{Terms, terms_in}
+pub use Rattle.fb_calls.specs.Allowed.{Terms}
 use Rattle.fb_calls.specs.declared.call.Action.{Action}
-use Rattle.fb_calls.specs.declared.call.Action.TheVariants.{Abort, Suspend, Resume, Close}
+use Rattle.fb_calls.specs.declared.call.Action.TheVariants.{Open, Abort, Suspend, Resume, Close}
 use Rattle.fb_calls.specs.declared.call.Call.{Call}
+use Rattle.fb_store.specs.declared.content.ContentRun.{ContentRun}
 use Rattle.fb_wanted.specs.declared.block.Block.{Block}
 use Rattle.fb_wanted.specs.declared.block.State.{State}
 use Rattle.fb_wanted.specs.declared.block.State.TheVariants.{Wanted, Suspended, Delivered, Aborted}
@@ -36,15 +37,21 @@ pub data Event : Type 0 where
 abbrev pub Past : Type 0
 Past = List Event
 
--- what a task is opened with by an event
-abbrev pub opened_by : Event → List Terms
-opened_by (called call blocks) = terms_in call.action
-opened_by _ = []
+-- the calls that have taken effect, in order
+abbrev pub calls_of : Past → List Call
+calls_of [] = []
+calls_of (called call blocks ∷ past) = calls_of past ++ call ∷ []
+calls_of (_ ∷ past) = calls_of past
 
 -- the tasks in order of opening
+abbrev pub opened_by : Action → List Terms → List Terms
+opened_by (Open kind weight block) before = before ++ record { kind = kind; weight = weight; block = block } ∷ []
+opened_by _ before = before
+
 abbrev pub tasks : Past → List Terms
 tasks [] = []
-tasks (event ∷ past) = tasks past ++ opened_by event
+tasks (called call blocks ∷ past) = opened_by call.action (tasks past)
+tasks (_ ∷ past) = tasks past
 
 abbrev pub task_numbers : Past → List ℕ
 task_numbers past = range_with_len 0 (length (tasks past))
@@ -60,7 +67,9 @@ registered_by _ = []
 
 abbrev pub registered : Past → List Block
 registered [] = []
-registered (event ∷ past) = registered past ++ registered_by event
+registered (called call blocks ∷ past) = registered past ++ blocks
+registered (chose task segment blocks ∷ past) = registered past ++ blocks
+registered (_ ∷ past) = registered past
 
 abbrev pub blocks_of : Past → ℕ → List Block
 blocks_of past task = filter (λ block. block.task == task) (registered past)
@@ -94,12 +103,10 @@ abbrev pub is_seal_of : ℕ → BackRow → Bool
 is_seal_of task (SealLine row) = row.task == task
 is_seal_of task _ = false
 
-abbrev pub seals : ℕ → Event → Bool
-seals task (tested rows) = list_any (is_seal_of task) rows
-seals task _ = false
-
 abbrev pub is_sealed : Past → ℕ → Bool
-is_sealed past task = list_any (seals task) past
+is_sealed [] task = false
+is_sealed (tested rows ∷ past) task = list_any (is_seal_of task) rows || is_sealed past task
+is_sealed (_ ∷ past) task = is_sealed past task
 
 abbrev pub is_open_backup : Past → ℕ → Bool
 is_open_backup past task = is_backup (terms_of past task).kind && not (is_sealed past task)
@@ -118,20 +125,23 @@ unfoldable pub bare_state : Past → Block → State
 bare_state [] block = Wanted
 bare_state (event ∷ past) block = state_after past event block (bare_state past block)
 
+-- what the last delivery of a block found
+unfoldable pub content_of : Past → Block → List ContentRun
+content_of [] block = []
+content_of (delivered row ∷ past) block = if same_block row.block block then row.content else content_of past block
+content_of (_ ∷ past) block = content_of past block
+
 -- what a call of the task makes of its suspension
 abbrev pub suspended_after : Action → Bool → Bool
 suspended_after Suspend before = true
 suspended_after Resume before = false
 suspended_after _ before = before
 
-abbrev pub suspension_after : Event → ℕ → Bool → Bool
-suspension_after (called call blocks) task before = if call.task == task then suspended_after call.action before else before
-suspension_after _ task before = before
-
 -- the task's last suspend or resume was a suspend
 abbrev pub is_suspended : Past → ℕ → Bool
 is_suspended [] task = false
-is_suspended (event ∷ past) task = suspension_after event task (is_suspended past task)
+is_suspended (called call blocks ∷ past) task = if call.task == task then suspended_after call.action (is_suspended past task) else is_suspended past task
+is_suspended (_ ∷ past) task = is_suspended past task
 
 -- the state of a registered block
 abbrev pub state : Past → Block → State

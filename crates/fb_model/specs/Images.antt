@@ -1,6 +1,6 @@
 -- The rows that a delivery or a test of completion gives: findings, seals with their images, segments with their bytes, completions.
-use Rattle.std.specs.Prelude.{ℕ, List, [], ◌∷◌, ◌++◌, Bool, true, false, ◌&&◌, not, ◌==◌, filter, map, if◌then◌else◌}
-use Rattle.std.specs.List.{list_any, flat_map, range_with_len}
+use Rattle.std.specs.Prelude.{ℕ, List, [], ◌∷◌, ◌++◌, Bool, true, false, ◌&&◌, not, filter, map, if◌then◌else◌}
+use Rattle.std.specs.List.{flat_map, range_with_len}
 use Rattle.fb_calls.specs.declared.call.Kind.{Kind}
 use Rattle.fb_calls.specs.declared.call.Kind.TheVariants.{Scrub}
 use Rattle.fb_store.specs.declared.content.Content.TheVariants.{Unreadable}
@@ -12,8 +12,8 @@ use Rattle.fb_rows.specs.declared.back.BackRow.{BackRow}
 use Rattle.fb_rows.specs.declared.back.BackRow.TheVariants.{Bad as BadLine, Seal as SealLine, Segment as SegmentLine, Complete as CompleteLine}
 use Rattle.fb_model.specs.Content.{Medium, contents_at}
 use Rattle.fb_wanted.specs.States.{is_delivered}
-use Rattle.fb_model.specs.History.{Event, tested, delivered, Past, terms_of, task_numbers, blocks_of, same_block, is_open_backup, bare_state}
-use Rattle.fb_model.specs.Completion.{Choice, choices, is_cleaned, is_complete, was_complete}
+use Rattle.fb_model.specs.History.{Event, delivered, Past, terms_of, task_numbers, blocks_of, same_block, is_open_backup}
+use Rattle.fb_model.specs.Completion.{Choice, choices, Work, work, is_cleaned, is_complete, was_complete}
 use Rattle.fb_model.specs.Segments.{live_count}
 
 -- the sectors that can't be read
@@ -43,32 +43,24 @@ delivery_begin (event ∷ past) block = begin_by event block (delivery_begin pas
 abbrev pub packed : Medium → Past → Choice → List ContentRun
 packed medium past choice = runs_of (flat_map (λ block. contents_at medium block.lbn block.count (delivery_begin past block)) choice.blocks)
 
-abbrev pub is_segment_of : ℕ → ℕ → BackRow → Bool
-is_segment_of task number (SegmentLine row) = (row.task == task) && (row.segment == number)
-is_segment_of task number _ = false
-
-abbrev pub reports : ℕ → ℕ → Event → Bool
-reports task number (tested rows) = list_any (is_segment_of task number) rows
-reports task number _ = false
-
 -- cleaned, and without a row as yet
-abbrev pub is_newly_cleaned : Past → ℕ → Choice → Bool
-is_newly_cleaned past task choice = is_cleaned past choice && not (list_any (reports task choice.segment.number) past)
+abbrev pub is_newly_cleaned : Work → Choice → Bool
+is_newly_cleaned work choice = is_cleaned work choice && not (work.reported choice.segment.number)
 
 -- where the contents of seal and segment rows come from
 pub record Sources : Type 0 where
   pub image_at : Past → ℕ → ℕ → List ContentRun
-  pub packed_for : Past → Choice → List ContentRun
+  pub packed_for : Past → ℕ → Choice → List ContentRun
 
 abbrev pub segment_rows : Sources → Past → ℕ → ℕ → List BackRow
 segment_rows sources past now task = map
-    (λ choice. SegmentLine (record { task = task; segment = choice.segment.number; instant = now; live = live_count choice.segment; content = sources.packed_for past choice }))
-    (filter (is_newly_cleaned past task) (choices past task))
+    (λ choice. SegmentLine (record { task = task; segment = choice.segment.number; instant = now; live = live_count choice.segment; content = sources.packed_for past task choice }))
+    (filter (is_newly_cleaned (work past task)) (choices past task))
 
 -- the contents at one instant of the blocks that are delivered
 abbrev pub image : Medium → Past → ℕ → ℕ → List ContentRun
 image medium past task now = runs_of (flat_map (λ block. contents_at medium block.lbn block.count now)
-    (filter (λ block. is_delivered (bare_state past block)) (blocks_of past task)))
+    (filter (λ block. is_delivered ((work past task).bare block)) (blocks_of past task)))
 
 -- a backup is sealed at the first test at which it is complete
 abbrev pub seal_rows : Sources → Past → ℕ → ℕ → List BackRow
@@ -89,4 +81,4 @@ test_rows sources past now = flat_map (segment_rows sources past now) (task_numb
 
 -- the disk's own contents
 abbrev pub on_disk : Medium → Sources
-on_disk medium = record { image_at = image medium; packed_for = packed medium }
+on_disk medium = record { image_at = image medium; packed_for = λ past task. packed medium past }

@@ -7,7 +7,7 @@ use Rattle.fb_calls.specs.Sessions.{is_clean}
 use Rattle.fb_sectormap.specs.declared.cut.Cut.{Cut}
 use Rattle.fb_wanted.specs.declared.block.Block.{Block}
 use Rattle.fb_model.specs.History.{chose, Past, LogSegment, terms_of, task_numbers, blocks_of}
-use Rattle.fb_model.specs.Completion.{segments, choices, is_choice_of, is_closed, is_cleaned}
+use Rattle.fb_model.specs.Completion.{Choice, Work, work, segments, is_choice_of, is_closed, is_cleaned}
 
 -- blocks for cut ranges, numbered from n on
 abbrev pub numbered : ℕ → ℕ → ℕ → List Cut → List Block
@@ -28,15 +28,15 @@ abbrev pub is_better : LogSegment → LogSegment → Bool
 is_better a b = nat_lt ((b.blocks - live_count b) * b.age * (a.blocks + live_count a)) ((a.blocks - live_count a) * a.age * (b.blocks + live_count b))
 
 -- the segments that a task has not chosen
-abbrev pub is_chosen : Past → ℕ → LogSegment → Bool
-is_chosen past task segment = list_any (is_choice_of segment) (choices past task)
+abbrev pub is_chosen : List Choice → LogSegment → Bool
+is_chosen choices segment = list_any (is_choice_of segment) choices
 
-abbrev pub unchosen : Past → ℕ → List LogSegment
-unchosen past task = filter (λ segment. not (is_chosen past task segment)) (segments past task)
+abbrev pub unchosen : Work → List LogSegment
+unchosen work = filter (λ segment. not (is_chosen work.choices segment)) work.segments
 
 -- a chosen segment is unfinished
-abbrev pub is_busy : Past → ℕ → Bool
-is_busy past task = list_any (λ choice. not (is_cleaned past choice)) (choices past task)
+abbrev pub is_busy : Work → Bool
+is_busy work = list_any (λ choice. not (is_cleaned work choice)) work.choices
 
 -- the task chooses the first segment of greatest benefit
 abbrev pub choose_best : Shape → ℕ → Past → List LogSegment → Past
@@ -46,7 +46,7 @@ choose_best disk task past (segment ∷ segments) =
     chose task best (next_blocks past task (live_cuts disk (terms_of past task).block best.first best.live)) ∷ past
 
 abbrev pub choose_once : Shape → ℕ → Past → Past
-choose_once disk task past = if is_busy past task then past else choose_best disk task past (unchosen past task)
+choose_once disk task past = if is_busy (work past task) then past else choose_best disk task past (unchosen (work past task))
 
 -- at most n times
 abbrev pub choose_up_to : ℕ → Shape → ℕ → Past → Past

@@ -11,7 +11,7 @@ use Rattle.fb_calls.specs.declared.call.Kind.{Kind}
 use Rattle.fb_calls.specs.Sessions.{is_clean}
 use Rattle.std.specs.Option.{option_map}
 use Rattle.fb_rows.specs.declared.back.BackRow.{BackRow}
-use Rattle.fb_rows.specs.declared.back.BackRow.TheVariants.{Bad as BadLine, Got as GotLine, Seal as SealLine, Segment as SegmentLine, Complete as CompleteLine}
+use Rattle.fb_rows.specs.declared.back.BackRow.TheVariants.{Bad as BadLine, Got as GotLine, Seal as SealLine, Complete as CompleteLine}
 use Rattle.fb_rows.specs.declared.back.DeliveryRow.{DeliveryRow}
 use Rattle.fb_wanted.specs.declared.block.Change.TheVariants.{Deliver}
 use Rattle.fb_wanted.specs.declared.block.Entry.{Entry}
@@ -20,23 +20,24 @@ use Rattle.fb_wanted.specs.States.{after, is_block}
 use Rattle.fb_store.specs.declared.content.Content.{Content}
 use Rattle.fb_store.specs.Pieces.{Gives}
 use Rattle.fb_model.specs.History.{Past, tested, delivered, tasks, terms_of, registered, is_open_backup, is_seal_of}
-use Rattle.fb_model.specs.Completion.{Choice, choices, is_cleaned, is_complete}
-use Rattle.fb_model.specs.Segments.{live_count}
-use Rattle.fb_model.specs.Images.{reports, test_rows, segment_rows, seal_rows, complete_rows, is_newly_cleaned, findings, is_scrub, bad_sectors}
+use Rattle.fb_model.specs.Completion.{Choice, TaskView, view, delivered_view, is_unsealed, is_done, is_cleaned, is_complete}
+use Rattle.fb_model.proofs.Views.{delivered-silent, delivered-view, tested-view}
+use Rattle.fb_model.specs.Images.{test_rows, segment_rows, seal_rows, complete_rows, is_newly_cleaned, findings, is_scrub, bad_sectors}
 use Rattle.fb_tasks.specs.declared.session.Session.{Session}
-use Rattle.fb_tasks.specs.Taken.{by_deliveries, rows_after, found_for}
+use Rattle.fb_tasks.specs.Taken.{by_deliveries, rows_after}
 use Rattle.fb_tasks.specs.Keeping.{HasTaken}
 use Rattle.fb_tasks.specs.Standing.{entry_of, choice_in, AreReported, MayFinish, IsBlockOf, IsAtWork, HoldsBlocks, Stands, Told}
 use Rattle.fb_tasks.specs.Telling.{Tells, IsSettled, MayDeliver}
-use Rattle.fb_tasks.proofs.Lists.{all_at, number_same, same_number, other_number, filter_none, some_at, map_at}
-use Rattle.fb_tasks.proofs.Same.{told-same, open-same}
-use Rattle.fb_tasks.proofs.Calls.{get_set, get_own}
+use Rattle.fb_tasks.proofs.Lists.{all_at, number_other, number_same, same_number, other_number, some_at, map_at}
+use Rattle.fb_tasks.proofs.Frames.{get_set, get_own}
 use Rattle.fb_tasks.proofs.RowsOf.{rows-given, seals_given, findings-mute}
-use Rattle.fb_tasks.proofs.Tested.{once, stands-tested, at_work-tested, settled-tested}
+use Rattle.fb_tasks.proofs.Tested.{IsTested, once, stands-tested, at_work-tested, settled-tested}
 use Rattle.fb_tasks.proofs.AllTested.{AreAllRows, tells-tested}
-use Rattle.fb_tasks.proofs.Deliveries.{delivered-same, delivered-entries}
+use Rattle.fb_tasks.proofs.Deliveries.{delivered-entries}
 use Rattle.fb_tasks.proofs.OwnDelivery.{WasWanted, was_wanted, delivered-holds, delivered-stands, at_work_now}
-use Rattle.fb_tasks.proofs.Delivered.{complete-other}
+use Rattle.fb_tasks.proofs.Complete.{done_is, was_is}
+use Rattle.fb_tasks.proofs.Sealed.{open_is}
+use Rattle.fb_tasks.proofs.Turns.{reported_rows}
 
 flat_empty : {X : Type 0} (f : ℕ → List X) (a n : ℕ) → ((j : ℕ) → a ≤ j → j < a + n → f j ≡ []) → flat_map f (range_with_len a n) ≡ []
 flat_empty f a zero h = refl
@@ -57,9 +58,6 @@ flat_one f k a (suc n) from to others = elim (cases_Bool (a == k)) [
   further : (a k : ℕ) → a ≤ k → (a ≡ k → ⊥) → a + 1 ≤ k
   further a k from differ = grind (arith, nat_tests)
 
-pub holds : {disk : Shape} {past : Past} {sessions : List Session} {held : List Entry} → Tells disk past sessions held → HoldsBlocks disk past held
-holds h = record { entries = h.entries; on_disk = h.on_disk; indexed = h.indexed; unopened = h.unopened; segments = h.segments }
-
 pub joined : {X : Type 0} (old : List X) (got : X) (f s a b : List X) → ((((old ++ got ∷ []) ++ f) ++ s) ++ a) ++ b ≡ old ++ got ∷ (f ++ (s ++ (a ++ b)))
 joined old got f s a b = append_assoc (((old ++ got ∷ []) ++ f) ++ s) a b ∙ (append_assoc ((old ++ got ∷ []) ++ f) s (a ++ b) ∙ (append_assoc (old ++ got ∷ []) f (s ++ (a ++ b)) ∙ append_assoc old (got ∷ []) (f ++ (s ++ (a ++ b)))))
 
@@ -71,23 +69,25 @@ module _ {disk : Shape} {past : Past} {sessions : List Session} {held : List Ent
   opened = (all_at (IsBlockOf disk (length (tasks past))) (registered past) placed.place got.block may.tells.on_disk placed.registered_there).task
 
   module _ (task : ℕ) (other : got.block.task ≡ task → ⊥) (less : task < length (tasks past)) where
-    told-other : (session : Session) → slice_get sessions task ≡ Some session → Told (delivered got ∷ past) task session
-    told-other session at = told-same (delivered-same past got task other) session (may.tells.each task session at)
+    silent : view (delivered got ∷ past) task ≡ view past task
+    silent = delivered-silent past got task (number_other got.block.task task other)
+
+    told-other : (session : Session) → slice_get sessions task ≡ Some session → Told (view (delivered got ∷ past) task) session
+    told-other session at = rw silent (may.tells.each task session at)
 
     found : (session : Session) × (slice_get sessions task ≡ Some session)
     found = some_at sessions task (subst (λ n. task < n) (sym may.tells.as_many) less)
 
     still-complete : is_complete (delivered got ∷ past) task ≡ is_complete past task
-    still-complete = complete-other past got task other found.0 (may.tells.each task found.0 found.1).stands
+    still-complete = sym (done_is (delivered got ∷ past) task) ∙ (ap (λ v. is_done v.work) silent ∙ done_is past task)
 
     unsealed-other : (is_open_backup (delivered got ∷ past) task && is_complete (delivered got ∷ past) task) ≡ false
     unsealed-other =
-        ap₂ (λ a b. a && b) (sym (open-same (delivered-same past got task other).work.base)) still-complete
+        ap₂ (λ a b. a && b) (sym (open_is (delivered got ∷ past) task) ∙ (ap is_unsealed silent ∙ open_is past task)) still-complete
         ∙ (sym (seals_given by_deliveries past 0 task) ∙ ap (list_any (is_seal_of task)) (may.settled.no_rows by_deliveries 0))
 
     no_segments : (now : ℕ) → segment_rows by_deliveries (delivered got ∷ past) now task ≡ []
-    no_segments now = ap (map (λ (choice : Choice). SegmentLine (record { task = task; segment = choice.segment.number; instant = now; live = live_count choice.segment; content = found_for (delivered got ∷ past) choice.blocks })))
-        (filter_none (is_newly_cleaned (delivered got ∷ past) task) (choices (delivered got ∷ past) task) (told-other found.0 found.1).reported)
+    no_segments now = reported_rows (delivered got ∷ past) now task (told-other found.0 found.1).reported
 
     no_ends : (now : ℕ) → (seal_rows by_deliveries (delivered got ∷ past) now task ++ complete_rows (delivered got ∷ past) now task) ≡ []
     no_ends now =
@@ -99,8 +99,7 @@ module _ {disk : Shape} {past : Past} {sessions : List Session} {held : List Ent
   pub own-rows : (now : ℕ) → test_rows by_deliveries (delivered got ∷ past) now
       ≡ segment_rows by_deliveries (delivered got ∷ past) now got.block.task ++ (seal_rows by_deliveries (delivered got ∷ past) now got.block.task ++ complete_rows (delivered got ∷ past) now got.block.task)
   unfolding test_rows
-  own-rows now = ap (λ ts. flat_map (segment_rows by_deliveries (delivered got ∷ past) now) (range_with_len 0 (length ts)) ++ flat_map (λ task. seal_rows by_deliveries (delivered got ∷ past) now task ++ complete_rows (delivered got ∷ past) now task) (range_with_len 0 (length ts))) (append-nil (tasks past))
-      ∙ ap₂ (λ a b. a ++ b)
+  own-rows now = ap₂ (λ a b. a ++ b)
       (flat_one (segment_rows by_deliveries (delivered got ∷ past) now) got.block.task 0 (length (tasks past)) (omega arith) (omega (arith, opened)) (λ j from less differ. no_segments j (λ e. differ (sym e)) (omega (arith, less)) now))
       (flat_one (λ task. seal_rows by_deliveries (delivered got ∷ past) now task ++ complete_rows (delivered got ∷ past) now task) got.block.task 0 (length (tasks past)) (omega arith) (omega (arith, opened)) (λ j from less differ. no_ends j (λ e. differ (sym e)) (omega (arith, less)) now))
 
@@ -125,55 +124,59 @@ module _ {disk : Shape} {past : Past} {sessions : List Session} {held : List Ent
     settled-delivered = settled-tested (delivered got ∷ past) (rows_after past got) (λ task less. all-given task)
 
     other-tested : (task : ℕ) (session : Session) → (got.block.task ≡ task → ⊥) → slice_get sessions task ≡ Some session
-        → (Stands (tested (rows_after past got) ∷ delivered got ∷ past) task session) × (IsAtWork (tested (rows_after past got) ∷ delivered got ∷ past) task session)
+        → (Stands (view (tested (rows_after past got) ∷ delivered got ∷ past) task) session) × (IsAtWork (view (tested (rows_after past got) ∷ delivered got ∷ past) task).work session)
     other-tested task session other at =
         let less : task < length (tasks past) = subst (λ n. task < n) may.tells.as_many (slice_get_within sessions task session at) in
         let told = told-other task other less session at in
-        let none = unsealed-other task other less in (
-          stands-tested (delivered got ∷ past) (rows_after past got) task (all-given task) session session
-              (record { kind = refl; weight = refl; block = refl; suspended = refl; closed = refl; sealed = sym (ap (λ b. b || session.sealed) none); log = refl; image = λ _ lbn. refl })
-              ((may.tells.each task session at).stands.complete ∙ (may.settled.tested task ∙ sym (still-complete task other less))) told.stands told.at_work,
-          at_work-tested (delivered got ∷ past) (rows_after past got) task session session refl refl told.at_work,
+        let none : (is_unsealed (view (delivered got ∷ past) task) && is_done (view (delivered got ∷ past) task).work) ≡ false = ap₂ (λ a b. a && b) (open_is (delivered got ∷ past) task) (done_is (delivered got ∷ past) task) ∙ unsealed-other task other less in
+        let is_same : IsTested (is_unsealed (view (delivered got ∷ past) task) && is_done (view (delivered got ∷ past) task).work) session session = record { kind = refl; weight = refl; block = refl; suspended = refl; closed = refl; sealed = sym (ap (λ b. b || session.sealed) none); log = refl; image = λ _ lbn. refl } in
+        let complete : session.complete ≡ is_done (view (delivered got ∷ past) task).work = (may.tells.each task session at).complete ∙ (was_is past task ∙ (may.settled.tested task ∙ (sym (still-complete task other less) ∙ sym (done_is (delivered got ∷ past) task)))) in (
+          rw (tested-view (delivered got ∷ past) (rows_after past got) task) (stands-tested task (view (delivered got ∷ past) task) (rows_after past got) (all-given task) session session is_same complete told.stands told.at_work),
+          rw (tested-view (delivered got ∷ past) (rows_after past got) task) (at_work-tested task (view (delivered got ∷ past) task) (rows_after past got) (all-given task) session session is_same complete told.at_work),
         )
 
     -- the sessions tell the history with its delivery and its test
-    pub tells-delivered : (new : Session) → (Stands (tested (rows_after past got) ∷ delivered got ∷ past) got.block.task new) × (IsAtWork (tested (rows_after past got) ∷ delivered got ∷ past) got.block.task new)
+    pub tells-delivered : (new : Session) → (Stands (view (tested (rows_after past got) ∷ delivered got ∷ past) got.block.task) new) × (IsAtWork (view (tested (rows_after past got) ∷ delivered got ∷ past) got.block.task).work new)
         → Tells disk (tested (rows_after past got) ∷ delivered got ∷ past) (set sessions got.block.task new) now
-    tells-delivered new own = tells-tested (rows_after past got) (set sessions got.block.task new) h (length-set sessions got.block.task new ∙ (may.tells.as_many ∙ ap length (sym (append-nil (tasks past))))) all-given
+    tells-delivered new own = tells-tested (rows_after past got) (set sessions got.block.task new) h (length-set sessions got.block.task new ∙ may.tells.as_many) all-given
         (λ task session at. elim (cases_Bool (got.block.task == task)) [
           | inl mine ↦
               let e = same_number got.block.task task mine in
-              subst (λ t. (Stands (tested (rows_after past got) ∷ delivered got ∷ past) t session) × (IsAtWork (tested (rows_after past got) ∷ delivered got ∷ past) t session)) e
-              (subst (λ s. (Stands (tested (rows_after past got) ∷ delivered got ∷ past) got.block.task s) × (IsAtWork (tested (rows_after past got) ∷ delivered got ∷ past) got.block.task s))
+              subst (λ t. (Stands (view (tested (rows_after past got) ∷ delivered got ∷ past) t) session) × (IsAtWork (view (tested (rows_after past got) ∷ delivered got ∷ past) t).work session)) e
+              (subst (λ s. (Stands (view (tested (rows_after past got) ∷ delivered got ∷ past) got.block.task) s) × (IsAtWork (view (tested (rows_after past got) ∷ delivered got ∷ past) got.block.task).work s))
               (sym (get_own sessions got.block.task new session (ap (slice_get (set sessions got.block.task new)) e ∙ at))) own)
           | inr other ↦ other-tested task session (other_number got.block.task task other) (get_set sessions got.block.task task new session at (other_number got.block.task task other))
         ])
 
+terms_is : (past : Past) (task : ℕ) → (terms_of past task).kind ≡ (view past task).terms.kind
+unfolding view
+terms_is past task = refl
+
 -- before the test each cleaned segment but the chosen one has its row
-module _ (past : Past) (got : DeliveryRow) (task : ℕ) (old mid : Session) (stands : Stands past task old) (reported : AreReported past task) (same : mid.log.unfinished ≡ old.log.unfinished) where
+module _ (v : TaskView) (got : DeliveryRow) (old mid : Session) (stands : Stands v old) (reported : AreReported v.work) (same : mid.log.unfinished ≡ old.log.unfinished) where
   abbrev IsSilent : Choice → Type 0
-  IsSilent choice = (mid.log.unfinished ≡ Some choice.segment.number → ⊥) → is_newly_cleaned (delivered got ∷ past) task choice ≡ false
+  IsSilent choice = (mid.log.unfinished ≡ Some choice.segment.number → ⊥) → is_newly_cleaned (delivered_view got v).work choice ≡ false
 
-  silent : (choice : Choice) → is_cleaned past choice ≡ true → is_newly_cleaned past task choice ≡ false → IsSilent choice
-  silent choice cleaned none = λ _. ap (λ b. is_cleaned (delivered got ∷ past) choice && b) (sym (ap (λ b. b && not (list_any (reports task choice.segment.number) past)) cleaned) ∙ none) ∙ and-false (is_cleaned (delivered got ∷ past) choice)
+  silent_one : (choice : Choice) → is_cleaned v.work choice ≡ true → is_newly_cleaned v.work choice ≡ false → IsSilent choice
+  silent_one choice cleaned none = λ _. ap (λ b. is_cleaned (delivered_view got v).work choice && b) (sym (ap (λ b. b && not (v.reported choice.segment.number)) cleaned) ∙ none) ∙ and-false (is_cleaned (delivered_view got v).work choice)
 
-  chosen-silent : (done : List Choice) (current : Option Choice) → old.log.unfinished ≡ option_map (λ choice. choice.segment.number) current → AllByRecursion (λ choice. is_cleaned past choice ≡ true) done
-      → AllByRecursion (λ choice. is_newly_cleaned past task choice ≡ false) (done ++ choice_in current) → AllByRecursion IsSilent (done ++ choice_in current)
+  chosen-silent : (done : List Choice) (current : Option Choice) → old.log.unfinished ≡ option_map (λ choice. choice.segment.number) current → AllByRecursion (λ choice. is_cleaned v.work choice ≡ true) done
+      → AllByRecursion (λ choice. is_newly_cleaned v.work choice ≡ false) (done ++ choice_in current) → AllByRecursion IsSilent (done ++ choice_in current)
   chosen-silent [] None unfinished cleaned none = tt
   chosen-silent [] (Some current) unfinished cleaned none = ((λ not_it. absurd (not_it (same ∙ unfinished))), tt)
-  chosen-silent (c ∷ cs) current unfinished cleaned none = (silent c cleaned.0 none.0, chosen-silent cs current unfinished cleaned.1 none.1)
+  chosen-silent (c ∷ cs) current unfinished cleaned none = (silent_one c cleaned.0 none.0, chosen-silent cs current unfinished cleaned.1 none.1)
 
-  pub others-silent : AllByRecursion IsSilent (choices (delivered got ∷ past) task)
-  others-silent = subst (AllByRecursion IsSilent) (sym (append-nil (choices past task))) (elim (cases_Bool (is_clean old.kind)) [
+  pub others-silent : AllByRecursion IsSilent v.choices
+  others-silent = elim (cases_Bool (is_clean old.kind)) [
     | inl cleans ↦
         let log = stands.log cleans in
-        subst (AllByRecursion IsSilent) (sym log.chosen) (chosen-silent log.done log.current log.unfinished log.cleaned (subst (AllByRecursion (λ choice. is_newly_cleaned past task choice ≡ false)) log.chosen reported))
+        subst (AllByRecursion IsSilent) (sym log.chosen) (chosen-silent log.done log.current log.unfinished log.cleaned (subst (AllByRecursion (λ choice. is_newly_cleaned v.work choice ≡ false)) log.chosen reported))
     | inr other ↦ subst (AllByRecursion IsSilent) (sym (stands.unchosen other)) tt
-  ])
+  ]
 
 module _ {disk : Shape} {past : Past} {sessions : List Session} {held : List Entry} (got : DeliveryRow) (may : MayDeliver disk past sessions held got) where
   pub held-now : (now : List Entry) → now ≡ after got.block.task (Deliver got.block.index) held → HoldsBlocks disk (delivered got ∷ past) now
-  held-now now is = delivered-holds disk past got (placed got may) held now (delivered-entries past got held now may.tells.entries is) (holds may.tells)
+  held-now now is = delivered-holds disk past got held now (delivered-entries past got held now may.tells.entries is) may.tells.blocks
 
   pub wanted-entry : (e : Entry) × (i : ℕ) × (slice_get held i ≡ Some e) × (is_block got.block.task got.block.index e ≡ true) × (e.state ≡ Wanted)
   wanted-entry =
@@ -186,22 +189,22 @@ module _ {disk : Shape} {past : Past} {sessions : List Session} {held : List Ent
       )
 
   module _ (old : Session) (at : slice_get sessions got.block.task ≡ Some old) where
-    told-own : Told past got.block.task old
+    told-own : Told (view past got.block.task) old
     told-own = may.tells.each got.block.task old at
 
     pub busy-own : is_clean old.kind ≡ true → old.log.unfinished ≡ None → ⊥
-    busy-own cleans idle = at_work_now disk past got (placed got may) old.log (told-own.stands.log cleans) idle
+    busy-own cleans idle = at_work_now (view past got.block.task) got (placed got may).own_place (placed got may).own_there (placed got may).bare old.log (told-own.stands.log cleans) idle
 
     pub kind-own : (terms_of past got.block.task).kind ≡ old.kind
-    kind-own = ap (λ t. t.kind) told-own.stands.terms
+    kind-own = terms_is past got.block.task ∙ ap (λ t. t.kind) told-own.stands.terms
 
     pub may-finish : (now : List Entry) (mid : Session) → now ≡ after got.block.task (Deliver got.block.index) held → ((content_at : ℕ → Content) → Gives got.content content_at got.block.lbn got.block.count → HasTaken content_at got.block old mid)
         → MayFinish disk (delivered got ∷ past) got.block.task mid now
     may-finish now mid is takes =
         let taken = takes may.content_at may.content in record {
           blocks = held-now now is;
-          stands = delivered-stands disk past got (placed got may) may.content_at old mid (may.tells.indexed got.block.task) may.content taken told-own.stands;
-          reported = others-silent past got got.block.task old mid told-own.stands told-own.reported taken.same.unfinished;
+          stands = rw (delivered-view past got got.block.task refl) (delivered-stands (view past got.block.task) got (placed got may).own_place (placed got may).own_there (placed got may).bare may.content_at old mid (may.tells.placed got.block.task).indexed may.content taken told-own.stands);
+          reported = rw (delivered-view past got got.block.task refl) (others-silent (view past got.block.task) got old mid told-own.stands told-own.reported taken.same.unfinished);
         }
 
   -- the session of the delivered block

@@ -1,97 +1,62 @@
 -- The choices of all sessions, one session after another.
-use Rattle.std.proofs.Common.{◌≡◌, ℕ, zero, suc, ◌+◌, ◌-◌, ◌*◌, ◌^◌, ◌<◌, ◌≤◌, ◌==◌, ◌&&◌, not, if◌then◌else◌, List, [], ◌∷◌, ◌++◌, Bool, true, false, Some, inl, inr, length, filter, set, get_or, slice_get, append-nil, append_assoc, refl, ap, sym, ◌∙◌, arith, subst}
-use Rattle.std.specs.List.{AllByRecursion, flat_map, fold, list_any, range_with_len, sum_by, best_of}
+use Rattle.std.proofs.Common.{◌≡◌, ℕ, zero, suc, ◌+◌, ◌-◌, ◌*◌, ◌^◌, ◌<◌, ◌≤◌, ◌==◌, ◌&&◌, not, if◌then◌else◌, List, [], ◌∷◌, ◌++◌, Bool, true, false, Some, inl, inr, length, set, slice_get, append-nil, append_assoc, refl, ap, sym, ◌∙◌, arith, subst}
+use Rattle.std.specs.List.{AllByRecursion, flat_map, fold, range_with_len, sum_by, best_of}
 use Rattle.std.proofs.lemmas.Bool.{cases_Bool}
 use Rattle.std.proofs.lemmas.List.Sums.{sum_by-cons}
 use Rattle.std.proofs.lemmas.List.Concat.{flat_map-append}
 use Rattle.std.proofs.lemmas.List.{length-set}
-use Rattle.std.proofs.lemmas.Option.{slice_get_within, slice_get-get_or}
+use Rattle.std.proofs.lemmas.Option.{slice_get_within}
 use Rattle.fb_geometry.specs.Shape.{Shape}
-use Rattle.fb_calls.specs.Blocks.{live_cuts}
 use Rattle.fb_calls.specs.Sessions.{is_clean}
-use Rattle.fb_store.specs.Runs.{runs_of, sectors_of}
 use Rattle.fb_wanted.specs.declared.block.Entry.{Entry}
 use Rattle.fb_rows.specs.declared.back.BackRow.{BackRow}
-use Rattle.fb_rows.specs.declared.back.BackRow.TheVariants.{Segment as SegmentLine}
-use Rattle.fb_model.specs.History.{Past, LogSegment, chose, tasks, task_numbers, terms_of, registered}
-use Rattle.fb_model.specs.Completion.{Choice, segments, choices, is_closed, is_choice_of}
-use Rattle.fb_model.specs.Segments.{live_count, is_better, is_busy, is_chosen, unchosen, choose_best, choose_once, choose_up_to, choose_in, with_choices}
-use Rattle.fb_model.specs.Images.{segment_rows, is_newly_cleaned}
+use Rattle.fb_model.specs.History.{Past, LogSegment, chose, tasks, task_numbers, registered}
+use Rattle.fb_model.specs.Completion.{view}
+use Rattle.fb_model.proofs.Views.{chosen-silent}
+use Rattle.fb_model.specs.Segments.{is_better, is_busy, unchosen, choose_once, choose_up_to, choose_in, with_choices}
+use Rattle.fb_model.specs.Images.{segment_rows}
 use Rattle.fb_tasks.specs.declared.session.Session.{Session}
-use Rattle.fb_tasks.specs.Taken.{content_of, by_deliveries}
+use Rattle.fb_tasks.specs.Taken.{by_deliveries}
 use Rattle.fb_tasks.specs.Standing.{Stands, HoldsBlocks, IsAtWork, AreReported, IsSegmentOf, MayChoose, HasChosen, HaveChosen, choosable_by}
 use Rattle.fb_tasks.specs.Telling.{MaySettle}
-use Rattle.fb_tasks.proofs.Lists.{all_weaker, all_filter, filter_same, map_same, flat_same, same_number, other_number}
-use Rattle.fb_tasks.proofs.Same.{Same, SameBlocks, IsOwn, chosen_own, newly-same, stands-same, at_work-same, reported-same}
-use Rattle.fb_tasks.proofs.Calls.{get_set, get_own}
+use Rattle.fb_tasks.proofs.Lists.{flat_same, number_other, same_number, other_number}
+use Rattle.fb_tasks.proofs.Frames.{get_set, get_own}
 use Rattle.fb_tasks.proofs.Rows.{range_more}
-use Rattle.fb_tasks.proofs.ChosenSegment.{best_left, chosen_blocks, chose-same, terms_same}
-use Rattle.fb_tasks.proofs.ChoiceSteps.{segment_row_of, segment_rows_of, few_less}
-
-same_itself : (past : Past) (task : ℕ) → Same past past task
-same_itself past task = record {
-  work = record {
-    base = record { terms = refl; sealed = refl; blocks = refl; done = λ block mine. refl; content = λ block mine. refl; chosen = refl; reports = λ number. refl };
-    closed = refl;
-    given = refl;
-    over = λ block mine h. h;
-  };
-  suspended = refl;
-  complete = refl;
-  want = refl;
-}
-
-same_both : (a b c : Past) (task : ℕ) → Same a b task → Same b c task → Same a c task
-same_both a b c task p q = record {
-  work = record {
-    base = record {
-      terms = q.work.base.terms ∙ p.work.base.terms;
-      sealed = q.work.base.sealed ∙ p.work.base.sealed;
-      blocks = q.work.base.blocks ∙ p.work.base.blocks;
-      done = λ block mine. q.work.base.done block mine ∙ p.work.base.done block mine;
-      content = λ block mine. q.work.base.content block mine ∙ p.work.base.content block mine;
-      chosen = q.work.base.chosen ∙ p.work.base.chosen;
-      reports = λ number. q.work.base.reports number ∙ p.work.base.reports number;
-    };
-    closed = q.work.closed ∙ p.work.closed;
-    given = q.work.given ∙ p.work.given;
-    over = λ block mine h. q.work.over block mine (p.work.over block mine h);
-  };
-  suspended = q.suspended ∙ p.suspended;
-  complete = q.complete ∙ p.complete;
-  want = q.want ∙ p.want;
-}
+use Rattle.fb_tasks.proofs.ChosenSegment.{best_left, chosen_blocks, added_own}
+use Rattle.fb_tasks.proofs.ChoiceSteps.{segment_rows_of, segment_rows_is, few_less, next_view, numbered_is, once_is, best_of_left}
+use Rattle.fb_tasks.proofs.Turns.{in_is}
 
 -- what holds of a history and of each choice from it holds after a turn
-once_any : (P : Past → Type 0) (disk : Shape) (task : ℕ) (past : Past) → P past → ((s : LogSegment) (ss : List LogSegment) → unchosen past task ≡ s ∷ ss → P (chose task (best_of is_better s ss) (chosen_blocks disk past task (best_of is_better s ss)) ∷ past)) → P (choose_once disk task past)
-once_any P disk task past here there = by_busy (is_busy past task) refl where
-  by_left : (left : List LogSegment) → unchosen past task ≡ left → P (choose_best disk task past left)
+once_any : (P : Past → Type 0) (disk : Shape) (task : ℕ) (past : Past) → P past → ((s : LogSegment) (ss : List LogSegment) → unchosen (view past task).work ≡ s ∷ ss → P (chose task (best_of is_better s ss) (chosen_blocks disk task (view past task) (best_of is_better s ss)) ∷ past)) → P (choose_once disk task past)
+once_any P disk task past here there = subst P (sym (once_is disk past task)) (by_busy (is_busy (view past task).work)) where
+  by_left : (left : List LogSegment) → unchosen (view past task).work ≡ left → P (best_of_left disk task past left)
   by_left [] are = here
   by_left (s ∷ ss) are = there s ss are
 
-  by_busy : (b : Bool) → is_busy past task ≡ b → P (choose_once disk task past)
-  by_busy true busy = subst P (ap (λ x. if x then past else choose_best disk task past (unchosen past task)) (sym busy)) here
-  by_busy false free = subst P (ap (λ x. if x then past else choose_best disk task past (unchosen past task)) (sym free)) (by_left (unchosen past task) refl)
+  by_busy : (b : Bool) → P (if b then past else best_of_left disk task past (unchosen (view past task).work))
+  by_busy true = here
+  by_busy false = by_left (unchosen (view past task).work) refl
 
-once_same : (disk : Shape) (task other : ℕ) (past : Past) → (task ≡ other → ⊥) → Same past (choose_once disk task past) other
-once_same disk task other past differ = once_any (λ p. Same past p other) disk task past (same_itself past other) (λ s ss are. chose-same disk past task (best_of is_better s ss) other differ)
+once_same : (disk : Shape) (task other : ℕ) (past : Past) → (task ≡ other → ⊥) → view (choose_once disk task past) other ≡ view past other
+once_same disk task other past differ = once_any (λ p. view p other ≡ view past other) disk task past refl
+    (λ s ss are. chosen-silent past task (best_of is_better s ss) (chosen_blocks disk task (view past task) (best_of is_better s ss)) (added_own disk task (view past task) (best_of is_better s ss)) other (number_other task other differ))
 
-up_to_same : (n : ℕ) (disk : Shape) (task other : ℕ) (past : Past) → (task ≡ other → ⊥) → Same past (choose_up_to n disk task past) other
-up_to_same zero disk task other past differ = same_itself past other
-up_to_same (suc n) disk task other past differ = same_both past (choose_once disk task past) (choose_up_to n disk task (choose_once disk task past)) other (once_same disk task other past differ) (up_to_same n disk task other (choose_once disk task past) differ)
+up_to_same : (n : ℕ) (disk : Shape) (task other : ℕ) (past : Past) → (task ≡ other → ⊥) → view (choose_up_to n disk task past) other ≡ view past other
+up_to_same zero disk task other past differ = refl
+up_to_same (suc n) disk task other past differ = up_to_same n disk task other (choose_once disk task past) differ ∙ once_same disk task other past differ
 
 in_any : (P : Past → Type 0) (disk : Shape) (task : ℕ) (past : Past) → P past → ((n : ℕ) → P (choose_up_to n disk task past)) → P (choose_in disk past task)
-in_any P disk task past here there = elim (cases_Bool (is_clean (terms_of past task).kind && not (is_closed past task))) [
-  | inl may ↦ subst P (ap (λ b. if b then choose_up_to (length (segments past task)) disk task past else past) (sym may)) (there (length (segments past task)))
-  | inr not_may ↦ subst P (ap (λ b. if b then choose_up_to (length (segments past task)) disk task past else past) (sym not_may)) here
-]
+in_any P disk task past here there = subst P (sym (in_is disk past task)) (by (is_clean (view past task).terms.kind && not (view past task).closed)) where
+  by : (b : Bool) → P (if b then choose_up_to (length (view past task).segments) disk task past else past)
+  by true = there (length (view past task).segments)
+  by false = here
 
 -- another task's choices leave a task as it was
-pub in_same : (disk : Shape) (task other : ℕ) (past : Past) → (task ≡ other → ⊥) → Same past (choose_in disk past task) other
-in_same disk task other past differ = in_any (λ p. Same past p other) disk task past (same_itself past other) (λ n. up_to_same n disk task other past differ)
+pub in_same : (disk : Shape) (task other : ℕ) (past : Past) → (task ≡ other → ⊥) → view (choose_in disk past task) other ≡ view past other
+in_same disk task other past differ = in_any (λ p. view p other ≡ view past other) disk task past refl (λ n. up_to_same n disk task other past differ)
 
 once_tasks : (disk : Shape) (task : ℕ) (past : Past) → tasks (choose_once disk task past) ≡ tasks past
-once_tasks disk task past = once_any (λ p. tasks p ≡ tasks past) disk task past refl (λ s ss are. append-nil (tasks past))
+once_tasks disk task past = once_any (λ p. tasks p ≡ tasks past) disk task past refl (λ s ss are. refl)
 
 up_to_tasks : (n : ℕ) (disk : Shape) (task : ℕ) (past : Past) → tasks (choose_up_to n disk task past) ≡ tasks past
 up_to_tasks zero disk task past = refl
@@ -102,18 +67,16 @@ in_tasks disk task past = in_any (λ p. tasks p ≡ tasks past) disk task past r
 
 -- choices don't register more than they could
 Fewer : Shape → Past → Past → ℕ → Type 0
-Fewer disk past new task = AllByRecursion (IsSegmentOf disk (terms_of new task).block) (segments new task) × (length (registered new) + choosable_by disk new task ≤ length (registered past) + choosable_by disk past task)
+Fewer disk past new task = AllByRecursion (IsSegmentOf disk (view new task).terms.block) (view new task).segments × (length (registered new) + choosable_by disk new task ≤ length (registered past) + choosable_by disk past task)
 
-once_fewer : (disk : Shape) (task : ℕ) (past : Past) → AllByRecursion (IsSegmentOf disk (terms_of past task).block) (segments past task) → Fewer disk past (choose_once disk task past) task
+once_fewer : (disk : Shape) (task : ℕ) (past : Past) → AllByRecursion (IsSegmentOf disk (view past task).terms.block) (view past task).segments → Fewer disk past (choose_once disk task past) task
 unfolding Fewer
 once_fewer disk task past on_disk = once_any (λ p. Fewer disk past p task) disk task past (on_disk, omega arith)
     (λ s ss are.
-    let best = best_of is_better s ss in (
-      subst (λ t. AllByRecursion (IsSegmentOf disk t.block) (segments past task ++ [])) (sym (terms_same disk past task best task)) (subst (AllByRecursion (IsSegmentOf disk (terms_of past task).block)) (sym (append-nil (segments past task))) on_disk),
-      few_less disk past task best (best_left disk past task s ss on_disk are),
-    ))
+    let best = best_of is_better s ss in
+    (rw (next_view disk past task best) on_disk, few_less disk past task best (best_left disk (view past task) s ss (numbered_is past task) on_disk are)))
 
-up_to_fewer : (n : ℕ) (disk : Shape) (task : ℕ) (past : Past) → AllByRecursion (IsSegmentOf disk (terms_of past task).block) (segments past task) → Fewer disk past (choose_up_to n disk task past) task
+up_to_fewer : (n : ℕ) (disk : Shape) (task : ℕ) (past : Past) → AllByRecursion (IsSegmentOf disk (view past task).terms.block) (view past task).segments → Fewer disk past (choose_up_to n disk task past) task
 unfolding Fewer
 up_to_fewer zero disk task past on_disk = (on_disk, omega arith)
 up_to_fewer (suc n) disk task past on_disk =
@@ -121,31 +84,17 @@ up_to_fewer (suc n) disk task past on_disk =
     let rest = up_to_fewer n disk task (choose_once disk task past) one.0 in
     (rest.0, omega (arith, one.1, rest.1))
 
-pub in_fewer : (disk : Shape) (task : ℕ) (past : Past) → AllByRecursion (IsSegmentOf disk (terms_of past task).block) (segments past task) → length (registered (choose_in disk past task)) + choosable_by disk (choose_in disk past task) task ≤ length (registered past) + choosable_by disk past task
+pub in_fewer : (disk : Shape) (task : ℕ) (past : Past) → AllByRecursion (IsSegmentOf disk (view past task).terms.block) (view past task).segments → length (registered (choose_in disk past task)) + choosable_by disk (choose_in disk past task) task ≤ length (registered past) + choosable_by disk past task
 unfolding Fewer
 in_fewer disk task past on_disk = in_any (λ p. length (registered p) + choosable_by disk p task ≤ length (registered past) + choosable_by disk past task) disk task past (omega arith) (λ n. (up_to_fewer n disk task past on_disk).1)
 
--- where a history says the same of a task its segments give the same rows
-pub rows-same : (past new : Past) (task now : ℕ) (session : Session) → SameBlocks past new task → Stands past task session → segment_rows by_deliveries new now task ≡ segment_rows by_deliveries past now task
-rows-same past new task now session same stands = elim (cases_Bool (is_clean session.kind)) [
-  | inl cleans ↦
-      let mine = chosen_own past task (choices past task) (stands.log cleans).blocks in
-      ap (λ cs. segment_rows_of new now task (filter (is_newly_cleaned new task) cs)) same.chosen
-      ∙ (ap (segment_rows_of new now task) (filter_same (is_newly_cleaned new task) (is_newly_cleaned past task) (choices past task) (all_weaker (λ (c : Choice). AllByRecursion (IsOwn task) c.blocks) (λ c. is_newly_cleaned new task c ≡ is_newly_cleaned past task c) (λ c o. sym (newly-same same c o)) (choices past task) mine))
-      ∙ map_same (segment_row_of new now task) (segment_row_of past now task) (filter (is_newly_cleaned past task) (choices past task))
-      (all_filter (λ c. segment_row_of new now task c ≡ segment_row_of past now task c) (is_newly_cleaned past task) (choices past task) (all_weaker (λ (c : Choice). AllByRecursion (IsOwn task) c.blocks) (λ c. segment_row_of new now task c ≡ segment_row_of past now task c) row_same (choices past task) mine)))
-  | inr other ↦ ap (λ cs. segment_rows_of new now task (filter (is_newly_cleaned new task) cs)) (same.chosen ∙ stands.unchosen other) ∙ sym (ap (λ cs. segment_rows_of past now task (filter (is_newly_cleaned past task) cs)) (stands.unchosen other))
-] where
-  row_same : (c : Choice) → AllByRecursion (IsOwn task) c.blocks → segment_row_of new now task c ≡ segment_row_of past now task c
-  row_same c mine = ap (λ content. SegmentLine (record { task = task; segment = c.segment.number; instant = now; live = live_count c.segment; content = content }))
-      (ap runs_of (flat_same (λ block. sectors_of (content_of new block)) (λ block. sectors_of (content_of past block)) c.blocks (all_weaker (IsOwn task) (λ block. sectors_of (content_of new block) ≡ sectors_of (content_of past block)) (λ block own_block. ap sectors_of (same.content block own_block)) c.blocks mine)))
+-- a task that stays gives the same rows
+pub rows-same : (past new : Past) (task now : ℕ) → view new task ≡ view past task → segment_rows by_deliveries new now task ≡ segment_rows by_deliveries past now task
+rows-same past new task now same = segment_rows_is new now task ∙ (ap (λ v. segment_rows_of v.work now task) same ∙ sym (segment_rows_is past now task))
 
 -- and it can choose the same
-choosable-same : (disk : Shape) (past new : Past) (task : ℕ) → Same past new task → choosable_by disk new task ≡ choosable_by disk past task
-choosable-same disk past new task same =
-    ap (λ b. sum_by (λ (s : LogSegment). length (live_cuts disk b s.first s.live)) (unchosen new task)) (ap (λ t. t.block) same.work.base.terms)
-    ∙ ap (λ ss. sum_by (λ (s : LogSegment). length (live_cuts disk (terms_of past task).block s.first s.live)) ss)
-    (ap (λ cs. filter (λ s. not (list_any (is_choice_of s) cs)) (segments new task)) same.work.base.chosen ∙ ap (filter (λ s. not (is_chosen past task s))) same.work.given)
+choosable-same : (disk : Shape) (past new : Past) (task : ℕ) → view new task ≡ view past task → choosable_by disk new task ≡ choosable_by disk past task
+choosable-same disk past new task same = rw same refl
 
 -- what holds of each number of a range
 pub all_range : (P : ℕ → Type 0) (a n : ℕ) → ((k : ℕ) → a ≤ k → k < a + n → P k) → AllByRecursion P (range_with_len a n)
@@ -173,9 +122,9 @@ fold_tasks disk (n ∷ ns) past = fold_tasks disk ns (choose_in disk past n) ∙
 
 pub record Partly (disk : Shape) (past : Past) (sessions : List Session) (held : List Entry) (n : ℕ) : Type 0 where
   pub as_many : length sessions ≡ length (tasks past)
-  pub each : (task : ℕ) (session : Session) → slice_get sessions task ≡ Some session → Stands (past_at disk past n) task session
-  pub at_work : (task : ℕ) (session : Session) → slice_get sessions task ≡ Some session → IsAtWork (past_at disk past n) task session
-  pub later : (task : ℕ) (session : Session) → n ≤ task → slice_get sessions task ≡ Some session → AreReported (past_at disk past n) task
+  pub each : (task : ℕ) (session : Session) → slice_get sessions task ≡ Some session → Stands (view (past_at disk past n) task) session
+  pub at_work : (task : ℕ) (session : Session) → slice_get sessions task ≡ Some session → IsAtWork (view (past_at disk past n) task).work session
+  pub later : (task : ℕ) (session : Session) → n ≤ task → slice_get sessions task ≡ Some session → AreReported (view (past_at disk past n) task).work
   pub blocks : HoldsBlocks disk (past_at disk past n) held
   pub few : length (registered (past_at disk past n)) + sum_by (choosable_by disk (past_at disk past n)) (range_with_len n (length (tasks past) - n)) ≤ 16 * 10 ^ 6
 
@@ -185,7 +134,7 @@ partly-start disk past sessions held h = let tells = h.tells in record {
   each = λ task session at. (tells.each task session at).stands;
   at_work = λ task session at. (tells.each task session at).at_work;
   later = λ task session le at. (tells.each task session at).reported;
-  blocks = record { entries = tells.entries; on_disk = tells.on_disk; indexed = tells.indexed; unopened = tells.unopened; segments = tells.segments };
+  blocks = tells.blocks;
   few = subst (λ k. length (registered past) + sum_by (choosable_by disk past) (range_with_len 0 k) ≤ 16 * 10 ^ 6) (let e : length (tasks past) ≡ length (tasks past) - 0 = omega arith in e) h.few;
 }
 
@@ -207,22 +156,22 @@ partly-more disk past sessions held now n session new at h chosen =
     let same = λ (other : ℕ) (differ : n ≡ other → ⊥). in_same disk n other before differ in
     let within : n < length (tasks past) = omega (arith, slice_get_within sessions n session at, h.as_many) in
     let split : range_with_len n (length (tasks past) - n) ≡ n ∷ range_with_len (n + 1) (length (tasks past) - (n + 1)) = ap (range_with_len n) (let e : length (tasks past) - n ≡ suc (length (tasks past) - (n + 1)) = omega arith in e) in
-    let fewer = in_fewer disk n before (h.blocks.segments n) in
+    let fewer = in_fewer disk n before (h.blocks.placed n).segments in
     let rest = sum_range (choosable_by disk (choose_in disk before n)) (choosable_by disk before) (n + 1) (length (tasks past) - (n + 1)) (λ k le. choosable-same disk before (choose_in disk before n) k (same k (λ e. absurd (omega arith)))) in
     record {
       as_many = length-set sessions n new ∙ h.as_many;
-      each = λ task s there. subst (λ p. Stands p task s) (sym (past_more disk past n)) (elim (cases_Bool (n == task)) [
+      each = λ task s there. subst (λ p. Stands (view p task) s) (sym (past_more disk past n)) (elim (cases_Bool (n == task)) [
         | inl mine ↦ let e = same_number n task mine in
-            subst (λ t. Stands (choose_in disk before n) t s) e (subst (Stands (choose_in disk before n) n) (sym (get_own sessions n new s (subst (λ t. slice_get (set sessions n new) t ≡ Some s) (sym e) there))) chosen.stands)
-        | inr other ↦ let differ = other_number n task other in stands-same (same task differ) s (h.each task s (get_set sessions n task new s there differ))
+            subst (λ t. Stands (view (choose_in disk before n) t) s) e (subst (Stands (view (choose_in disk before n) n)) (sym (get_own sessions n new s (subst (λ t. slice_get (set sessions n new) t ≡ Some s) (sym e) there))) chosen.stands)
+        | inr other ↦ let differ = other_number n task other in rw (same task differ) (h.each task s (get_set sessions n task new s there differ))
       ]);
-      at_work = λ task s there. subst (λ p. IsAtWork p task s) (sym (past_more disk past n)) (elim (cases_Bool (n == task)) [
+      at_work = λ task s there. subst (λ p. IsAtWork (view p task).work s) (sym (past_more disk past n)) (elim (cases_Bool (n == task)) [
         | inl mine ↦ let e = same_number n task mine in
-            subst (λ t. IsAtWork (choose_in disk before n) t s) e (subst (IsAtWork (choose_in disk before n) n) (sym (get_own sessions n new s (subst (λ t. slice_get (set sessions n new) t ≡ Some s) (sym e) there))) chosen.at_work)
-        | inr other ↦ let differ = other_number n task other in let old = get_set sessions n task new s there differ in at_work-same (same task differ).work.base s (h.each task s old) (h.at_work task s old)
+            subst (λ t. IsAtWork (view (choose_in disk before n) t).work s) e (subst (IsAtWork (view (choose_in disk before n) n).work) (sym (get_own sessions n new s (subst (λ t. slice_get (set sessions n new) t ≡ Some s) (sym e) there))) chosen.at_work)
+        | inr other ↦ let differ = other_number n task other in rw (same task differ) (h.at_work task s (get_set sessions n task new s there differ))
       ]);
-      later = λ task s le there. subst (λ p. AreReported p task) (sym (past_more disk past n))
-          (let differ : n ≡ task → ⊥ = λ e. absurd (omega arith) in let old = get_set sessions n task new s there differ in reported-same (same task differ).work.base s (h.each task s old) (h.later task s (omega arith) old));
+      later = λ task s le there. subst (λ p. AreReported (view p task).work) (sym (past_more disk past n))
+          (let differ : n ≡ task → ⊥ = λ e. absurd (omega arith) in rw (same task differ) (h.later task s (omega arith) (get_set sessions n task new s there differ)));
       blocks = subst (λ p. HoldsBlocks disk p now) (sym (past_more disk past n)) chosen.blocks;
       few = subst (λ p. length (registered p) + sum_by (choosable_by disk p) (range_with_len (n + 1) (length (tasks past) - (n + 1))) ≤ 16 * 10 ^ 6) (sym (past_more disk past n))
           (omega (arith, h.few, fewer, rest, ap (sum_by (choosable_by disk before)) split, sum_by-cons (choosable_by disk before) n (range_with_len (n + 1) (length (tasks past) - (n + 1)))));
@@ -244,9 +193,7 @@ rows-more disk past sessions held n instant session before rows more at h so_far
     ∙ (ap (λ ns. before ++ flat_map (segment_rows by_deliveries new instant) ns) (sym (range_more n))
     ∙ ap (λ p. before ++ flat_map (segment_rows by_deliveries p instant) (range_with_len 0 (n + 1))) (sym (past_more disk past n)))))))) where
       earlier : (k : ℕ) → k < 0 + n → segment_rows by_deliveries (choose_in disk (past_at disk past n) n) instant k ≡ segment_rows by_deliveries (past_at disk past n) instant k
-      earlier k lt =
-          let there = slice_get-get_or sessions k session (omega (arith, slice_get_within sessions n session at)) in
-          rows-same (past_at disk past n) (choose_in disk (past_at disk past n) n) k instant (get_or sessions k session) (in_same disk n k (past_at disk past n) (λ e. absurd (omega arith))).work.base (h.each k (get_or sessions k session) there)
+      earlier k lt = rows-same (past_at disk past n) (choose_in disk (past_at disk past n) n) k instant (in_same disk n k (past_at disk past n) (λ e. absurd (omega arith)))
 
 -- after the choices of all tasks
 pub all-chosen : (disk : Shape) (past : Past) (sessions : List Session) (held : List Entry) (n : ℕ) → n ≡ length (tasks past) → Partly disk past sessions held n → HaveChosen disk (with_choices disk past) sessions held

@@ -11,11 +11,11 @@ use Rattle.fb_wanted.specs.declared.block.State.TheVariants.{Wanted, Suspended, 
 use Rattle.fb_wanted.specs.States.{is_delivered, is_aborted}
 use Rattle.fb_wanted.specs.Numbering as numbering
 use Rattle.fb_wanted.specs.Counting.{of_task, counts_of}
-use Rattle.fb_model.specs.History.{Past, blocks_of, registered, bare_state, state, is_suspended}
-use Rattle.fb_model.specs.Completion.{is_over}
-use Rattle.fb_tasks.specs.Standing.{entry_of}
-use Rattle.fb_tasks.proofs.Lists.{number_same, number_other}
-use Rattle.fb_tasks.proofs.States.{shown_delivered, shown_aborted}
+use Rattle.fb_model.specs.History.{Past, blocks_of, registered}
+use Rattle.fb_model.specs.Completion.{Work, TaskView, view, state_in, is_over}
+use Rattle.fb_tasks.specs.Standing.{entry_by, entry_of}
+use Rattle.fb_tasks.proofs.Lists.{number_same, number_other, same_number}
+use Rattle.fb_tasks.proofs.States.{shown, shown_delivered, shown_aborted}
 
 pub filter-le : {X : Type 0} (p : X → Bool) (xs : List X) → length (filter p xs) ≤ length xs
 filter-le p [] = omega arith
@@ -32,44 +32,37 @@ pub registered_few : (task : ℕ) (es : List Entry) → numbering.registered tas
 registered_few task es = omega (arith, filter-le (λ (block : Block). block.task == task) (numbering.blocks_of es), length-map es (λ e. e.block))
 
 -- the wanted set's blocks of a task are the history's
-of_task_same : (past : Past) (task : ℕ) (bs : List Block) → of_task task (map (entry_of past) bs) ≡ map (entry_of past) (filter (λ b. b.task == task) bs)
-of_task_same past task [] = refl
-of_task_same past task (b ∷ bs) = elim (cases_Bool (b.task == task)) [
-  | inl own ↦ rw own (ap (λ xs. entry_of past b ∷ xs) (of_task_same past task bs))
-  | inr other ↦ rw other (of_task_same past task bs)
+abbrev entry_at : TaskView → Block → Entry
+entry_at v block = record { block = block; state = state_in v block }
+
+of_task_same : (views : ℕ → TaskView) (task : ℕ) (bs : List Block) → of_task task (map (entry_by views) bs) ≡ map (entry_at (views task)) (filter (λ b. b.task == task) bs)
+of_task_same views task [] = refl
+of_task_same views task (b ∷ bs) = elim (cases_Bool (b.task == task)) [
+  | inl own ↦ rw own (ap (λ t. record { block = b; state = state_in (views t) b } ∷ of_task task (map (entry_by views) bs)) (same_number b.task task own) ∙ ap (λ xs. entry_at (views task) b ∷ xs) (of_task_same views task bs))
+  | inr other ↦ rw other (of_task_same views task bs)
 ]
 
-delivered_same : (past : Past) (bs : List Block) → length (filter (λ e. is_delivered e.state) (map (entry_of past) bs)) ≡ length (filter (λ b. is_delivered (bare_state past b)) bs)
-delivered_same past [] = refl
-delivered_same past (b ∷ bs) = let same : is_delivered (state past b) ≡ is_delivered (bare_state past b) = shown_delivered (bare_state past b) (is_suspended past b.task) in
-    elim (cases_Bool (is_delivered (bare_state past b))) [
-      | inl done ↦ let e : is_delivered (state past b) ≡ true = same ∙ done in rw (e, done) (ap suc (delivered_same past bs))
-      | inr not_done ↦ let e : is_delivered (state past b) ≡ false = same ∙ not_done in rw (e, not_done) (delivered_same past bs)
-    ]
+-- a block's state passes where its state without suspension does
+shown_count : (p : State → Bool) → ((bare : State) (held_back : Bool) → p (shown bare held_back) ≡ p bare) → (v : TaskView) (bs : List Block) → length (filter (λ e. p e.state) (map (entry_at v) bs)) ≡ length (filter (λ b. p (v.bare b)) bs)
+shown_count p same v [] = refl
+shown_count p same v (b ∷ bs) = let e = same (v.bare b) v.suspended in elim (cases_Bool (p (v.bare b))) [
+  | inl pass ↦ rw (e ∙ pass, pass) (ap suc (shown_count p same v bs))
+  | inr fail ↦ rw (e ∙ fail, fail) (shown_count p same v bs)
+]
 
-aborted_same : (past : Past) (bs : List Block) → length (filter (λ e. is_aborted e.state) (map (entry_of past) bs)) ≡ length (filter (λ b. is_aborted (bare_state past b)) bs)
-aborted_same past [] = refl
-aborted_same past (b ∷ bs) = let same : is_aborted (state past b) ≡ is_aborted (bare_state past b) = shown_aborted (bare_state past b) (is_suspended past b.task) in
-    elim (cases_Bool (is_aborted (bare_state past b))) [
-      | inl done ↦ let e : is_aborted (state past b) ≡ true = same ∙ done in rw (e, done) (ap suc (aborted_same past bs))
-      | inr not_done ↦ let e : is_aborted (state past b) ≡ false = same ∙ not_done in rw (e, not_done) (aborted_same past bs)
-    ]
-
--- how many blocks of a task are registered, delivered and aborted by the history
-abbrev pub counts_in : Past → ℕ → Counts
-counts_in past task = record {
-  registered = length (blocks_of past task);
-  delivered = length (filter (λ b. is_delivered (bare_state past b)) (blocks_of past task));
-  aborted = length (filter (λ b. is_aborted (bare_state past b)) (blocks_of past task));
+-- how many blocks of a task are registered, delivered and aborted
+abbrev pub counts_in : Work → Counts
+counts_in work = record {
+  registered = length work.blocks;
+  delivered = length (filter (λ b. is_delivered (work.bare b)) work.blocks);
+  aborted = length (filter (λ b. is_aborted (work.bare b)) work.blocks);
 }
 
-pub counts_same : (past : Past) (task : ℕ) (held : List Entry) → held ≡ map (entry_of past) (registered past) → counts_of task held ≡ counts_in past task
+pub counts_same : (past : Past) (task : ℕ) (held : List Entry) → held ≡ map (entry_of past) (registered past) → counts_of task held ≡ counts_in (view past task).work
+unfolding view
 counts_same past task held entries =
-    ap (counts_of task) entries
-    ∙ (ap (λ es. let c : Counts = record { registered = length es; delivered = length (filter (λ e. is_delivered e.state) es); aborted = length (filter (λ e. is_aborted e.state) es) } in c) (of_task_same past task (registered past))
-    ∙ (ap (λ n. let c : Counts = record { registered = n; delivered = length (filter (λ e. is_delivered e.state) (map (entry_of past) (blocks_of past task))); aborted = length (filter (λ e. is_aborted e.state) (map (entry_of past) (blocks_of past task))) } in c) (length-map (blocks_of past task) (entry_of past))
-    ∙ (ap (λ n. let c : Counts = record { registered = length (blocks_of past task); delivered = n; aborted = length (filter (λ e. is_aborted e.state) (map (entry_of past) (blocks_of past task))) } in c) (delivered_same past (blocks_of past task))
-    ∙ ap (λ n. let c : Counts = record { registered = length (blocks_of past task); delivered = length (filter (λ b. is_delivered (bare_state past b)) (blocks_of past task)); aborted = n } in c) (aborted_same past (blocks_of past task)))))
+    let v = view past task in
+    rw (entries, of_task_same (view past) task (registered past), length-map (blocks_of past task) (entry_at v), shown_count is_delivered shown_delivered v (blocks_of past task), shown_count is_aborted shown_aborted v (blocks_of past task)) refl
 
 -- a state is one of them at most
 either_once : (s : State) → is_delivered s ≡ true → is_aborted s ≡ true → ⊥
@@ -96,13 +89,13 @@ over_counts f (b ∷ bs) =
       ]
     ]
 
-pub counts_fit : (past : Past) (task : ℕ) → (counts_in past task).delivered + (counts_in past task).aborted ≤ (counts_in past task).registered
-counts_fit past task = (over_counts (bare_state past) (blocks_of past task)).2
+pub counts_fit : (work : Work) → (counts_in work).delivered + (counts_in work).aborted ≤ (counts_in work).registered
+counts_fit work = (over_counts work.bare work.blocks).2
 
-pub over_same : (past : Past) (task : ℕ) → ((counts_in past task).delivered + (counts_in past task).aborted == (counts_in past task).registered) ≡ list_all (λ b. is_over (bare_state past b)) (blocks_of past task)
-over_same past task =
-    let counts = over_counts (bare_state past) (blocks_of past task) in
-    elim (cases_Bool (list_all (λ b. is_over (bare_state past b)) (blocks_of past task))) [
-      | inl all ↦ number_same ((counts_in past task).delivered + (counts_in past task).aborted) (counts_in past task).registered (counts.0 all) ∙ sym all
-      | inr some ↦ number_other ((counts_in past task).delivered + (counts_in past task).aborted) (counts_in past task).registered (λ e. absurd (omega (arith, counts.1 some))) ∙ sym some
+pub over_same : (work : Work) → ((counts_in work).delivered + (counts_in work).aborted == (counts_in work).registered) ≡ list_all (λ b. is_over (work.bare b)) work.blocks
+over_same work =
+    let counts = over_counts work.bare work.blocks in
+    elim (cases_Bool (list_all (λ b. is_over (work.bare b)) work.blocks)) [
+      | inl all ↦ number_same ((counts_in work).delivered + (counts_in work).aborted) (counts_in work).registered (counts.0 all) ∙ sym all
+      | inr some ↦ number_other ((counts_in work).delivered + (counts_in work).aborted) (counts_in work).registered (λ e. absurd (omega (arith, counts.1 some))) ∙ sym some
     ]

@@ -9,11 +9,12 @@ use Rattle.fb_wanted.specs.declared.block.Entry.{Entry}
 use Rattle.fb_wanted.specs.declared.block.State.TheVariants.{Wanted}
 use Rattle.fb_wanted.specs.States.{wanted_unless}
 use Rattle.fb_wanted.specs.Numbering as numbering
-use Rattle.fb_model.specs.History.{Past, blocks_of, registered, bare_state, is_suspended, same_block}
+use Rattle.fb_model.specs.History.{Past, blocks_of, registered, same_block}
+use Rattle.fb_model.specs.Completion.{view, own_of, state_in}
 use Rattle.fb_tasks.specs.declared.session.Session.{Session}
 use Rattle.fb_tasks.specs.Keeping.{new_entries}
 use Rattle.fb_tasks.specs.Standing.{entry_of, AreIndexed}
-use Rattle.fb_tasks.proofs.Lists.{all_weaker, all_with, map_same, number_same, number_other, same_number, other_number}
+use Rattle.fb_tasks.proofs.Lists.{all_weaker, all_pass, all_with, map_same, number_same, number_other, same_number, other_number}
 use Rattle.fb_tasks.proofs.States.{shown}
 
 itself : (block : Block) → same_block block block ≡ true
@@ -25,7 +26,7 @@ all_member [] = tt
 all_member (b ∷ bs) = (rw (itself b) refl, all_weaker (λ block. list_any (same_block block) bs ≡ true) (λ block. list_any (same_block block) (b ∷ bs) ≡ true) (λ block h. rw h (or-true (same_block block b))) bs (all_member bs))
 
 -- blocks that are numbered on from n have no smaller number
-no_smaller : (block : Block) (n : ℕ) (added : List Block) → block.index < n → AreIndexed n added → list_any (same_block block) added ≡ false
+pub no_smaller : (block : Block) (n : ℕ) (added : List Block) → block.index < n → AreIndexed n added → list_any (same_block block) added ≡ false
 no_smaller block n [] less h = refl
 no_smaller block n (b ∷ bs) less h =
     let other : (block.index == b.index) ≡ false = number_other block.index b.index (λ e. absurd (omega (arith, h.0))) in
@@ -64,6 +65,15 @@ none_again past task added before after own =
       | inr other ↦ no_own block task added (other_number block.task task other) own
     ]) (registered past) (indexed_below task 0 (length (blocks_of past task)) (registered past) (omega arith) before)
 
+pub blocks_in : (past : Past) (task : ℕ) → (view past task).blocks ≡ blocks_of past task
+unfolding view
+blocks_in past task = refl
+
+-- the blocks of a task are its own
+pub own : (past : Past) (task : ℕ) → AllByRecursion (λ block. block.task ≡ task) (view past task).blocks
+unfolding view
+own past task = all_weaker (λ block. (block.task == task) ≡ true) (λ block. block.task ≡ task) (λ block. same_number block.task task) (blocks_of past task) (all_pass (λ block. block.task == task) (registered past))
+
 pub indexed_append : (n : ℕ) (xs ys : List Block) → AreIndexed n xs → AreIndexed (n + length xs) ys → AreIndexed n (xs ++ ys)
 indexed_append n [] ys p q = subst (λ k. AreIndexed k ys) (let e : n + 0 ≡ n = omega arith in e) q
 indexed_append n (x ∷ xs) ys p q = (p.0, indexed_append (n + 1) xs ys p.1 (subst (λ k. AreIndexed k ys) (let e : n + suc (length xs) ≡ n + 1 + length xs = omega arith in e) q))
@@ -77,29 +87,33 @@ pub all_own : (task : ℕ) (added : List Block) → AllByRecursion (λ b. b.task
 all_own task [] h = refl
 all_own task (b ∷ bs) h = let own : (b.task == task) ≡ true = number_same b.task task h.0 in rw own (ap (λ xs. b ∷ xs) (all_own task bs h.1))
 
--- an event registers blocks of a task, and does nothing else to blocks
+-- an event registers blocks of a task, and suspends or resumes nothing
 module _ (past new : Past) (task : ℕ) (added : List Block)
-    (bare : (block : Block) → bare_state new block ≡ (if list_any (same_block block) added then Wanted else bare_state past block))
-    (before : AreIndexed 0 (blocks_of past task)) (after : AreIndexed (length (blocks_of past task)) added) (own : AllByRecursion (λ b. b.task ≡ task) added) where
-  pub old_bare : AllByRecursion (λ block. bare_state new block ≡ bare_state past block) (registered past)
-  old_bare = all_weaker (λ block. list_any (same_block block) added ≡ false) (λ block. bare_state new block ≡ bare_state past block)
-      (λ block none. bare block ∙ ap (λ b. if b then Wanted else bare_state past block) none) (registered past) (none_again past task added before after own)
+    (others : (t : ℕ) → (task == t) ≡ false → view new t ≡ view past t)
+    (bare : (block : Block) → (view new task).bare block ≡ (if list_any (same_block (own_of task block)) added then Wanted else (view past task).bare block))
+    (still : (view new task).suspended ≡ (view past task).suspended)
+    (before : AreIndexed 0 (view past task).blocks) (after : AreIndexed (length (view past task).blocks) added) (own : AllByRecursion (λ b. b.task ≡ task) added) where
+  pub new_bare : AllByRecursion (λ block. (view new task).bare block ≡ Wanted) added
+  new_bare = all_with (λ block. list_any (same_block block) added ≡ true) (λ b. b.task ≡ task) (λ block. (view new task).bare block ≡ Wanted)
+      (λ block one mine. bare block ∙ rw (ap (λ t. list_any (same_block (own_of t block)) added) (sym mine) ∙ one) refl) added (all_member added) own
 
-  pub new_bare : AllByRecursion (λ block. bare_state new block ≡ Wanted) added
-  new_bare = all_weaker (λ block. list_any (same_block block) added ≡ true) (λ block. bare_state new block ≡ Wanted)
-      (λ block one. bare block ∙ ap (λ b. if b then Wanted else bare_state past block) one) added (all_member added)
+  pub old_bare : AllByRecursion (λ block. block.task ≡ task → (view new task).bare block ≡ (view past task).bare block) (registered past)
+  old_bare = all_weaker (λ block. list_any (same_block block) added ≡ false) (λ block. block.task ≡ task → (view new task).bare block ≡ (view past task).bare block)
+      (λ block none mine. bare block ∙ rw (ap (λ t. list_any (same_block (own_of t block)) added) (sym mine) ∙ none) refl) (registered past) (none_again past task added (rw (sym (blocks_in past task)) before) (rw (sym (blocks_in past task)) after) own)
 
-  pub registered-entries : (session : Session) (held now : List Entry) → ((t : ℕ) → is_suspended new t ≡ is_suspended past t) → session.suspended ≡ is_suspended past task
+  pub registered-entries : (session : Session) (held now : List Entry) → session.suspended ≡ (view past task).suspended
       → held ≡ map (entry_of past) (registered past) → now ≡ held ++ new_entries session added → now ≡ map (entry_of new) (registered past ++ added)
-  registered-entries session held now same says entries pushed =
-      pushed ∙ (ap (λ es. es ++ new_entries session added) entries
-      ∙ (ap (λ es. es ++ new_entries session added) (map_same (entry_of past) (entry_of new) (registered past) (all_weaker (λ block. bare_state new block ≡ bare_state past block) (λ block. entry_of past block ≡ entry_of new block) old_entry (registered past) old_bare))
+  registered-entries session held now says entries pushed =
+      pushed ∙ (ap (λ es. es ++ new_entries session added) (entries ∙ map_same (entry_of past) (entry_of new) (registered past) (all_weaker (λ block. block.task ≡ task → (view new task).bare block ≡ (view past task).bare block) (λ block. entry_of past block ≡ entry_of new block) old_entry (registered past) old_bare))
       ∙ (ap (λ es. map (entry_of new) (registered past) ++ es) (map_same (λ block. record { block = block; state = wanted_unless session.suspended }) (entry_of new) added
-      (all_with (λ block. bare_state new block ≡ Wanted) (λ b. b.task ≡ task) (λ block. ◌≡◌ {A = Entry} (record { block = block; state = wanted_unless session.suspended }) (entry_of new block)) new_entry added new_bare own))
-      ∙ sym (map-append (entry_of new) (registered past) added)))) where
-        old_entry : (block : Block) → bare_state new block ≡ bare_state past block → entry_of past block ≡ entry_of new block
-        old_entry block e = ap (λ s. record { block = block; state = s }) (ap (λ s. shown s (is_suspended past block.task)) (sym e) ∙ ap (shown (bare_state new block)) (sym (same block.task)))
+      (all_with (λ block. (view new task).bare block ≡ Wanted) (λ b. b.task ≡ task) (λ block. ◌≡◌ {A = Entry} (record { block = block; state = wanted_unless session.suspended }) (entry_of new block)) new_entry added new_bare own))
+      ∙ sym (map-append (entry_of new) (registered past) added))) where
+        old_entry : (block : Block) → (block.task ≡ task → (view new task).bare block ≡ (view past task).bare block) → entry_of past block ≡ entry_of new block
+        old_entry block same = ap (λ s. record { block = block; state = s }) (elim (cases_Bool (task == block.task)) [
+          | inl mine ↦ let e = same_number task block.task mine in
+              ap (λ t. state_in (view past t) block) (sym e) ∙ (ap (λ s. shown s (view past task).suspended) (sym (same (sym e))) ∙ (ap (shown ((view new task).bare block)) (sym still) ∙ ap (λ t. state_in (view new t) block) e))
+          | inr other ↦ ap (λ v. state_in v block) (sym (others block.task other))
+        ])
 
-        new_entry : (block : Block) → bare_state new block ≡ Wanted → block.task ≡ task → ◌≡◌ {A = Entry} (record { block = block; state = wanted_unless session.suspended }) (entry_of new block)
-        new_entry block e mine = ap (λ s. record { block = block; state = s })
-            (ap wanted_unless (says ∙ (ap (is_suspended past) (sym mine) ∙ sym (same block.task))) ∙ ap (λ s. shown s (is_suspended new block.task)) (sym e))
+        new_entry : (block : Block) → (view new task).bare block ≡ Wanted → block.task ≡ task → ◌≡◌ {A = Entry} (record { block = block; state = wanted_unless session.suspended }) (entry_of new block)
+        new_entry block wanted mine = ap (λ s. record { block = block; state = s }) (ap wanted_unless (says ∙ sym still) ∙ (ap (λ s. shown s (view new task).suspended) (sym wanted) ∙ ap (λ t. state_in (view new t) block) (sym mine)))

@@ -13,12 +13,12 @@ use Rattle.fb_rows.specs.declared.back.CompleteRow.{CompleteRow}
 use Rattle.fb_rows.specs.declared.back.DeliveryRow.{DeliveryRow}
 use Rattle.fb_rows.specs.declared.back.SealRow.{SealRow}
 use Rattle.fb_model.specs.History.{Past, tasks, task_numbers, terms_of, is_seal_of, is_sealed, is_open_backup}
-use Rattle.fb_model.specs.Completion.{Choice, choices, is_complete, was_complete}
+use Rattle.fb_model.specs.Completion.{Choice, view, work, choices, is_complete, was_complete, is_segment_of}
 use Rattle.fb_model.specs.Segments.{live_count}
-use Rattle.fb_model.specs.Images.{Sources, test_rows, segment_rows, seal_rows, complete_rows, is_segment_of, is_newly_cleaned, findings, bad_sectors, is_scrub}
+use Rattle.fb_model.specs.Images.{Sources, test_rows, segment_rows, seal_rows, complete_rows, is_newly_cleaned, findings, bad_sectors, is_scrub}
 use Rattle.fb_tasks.specs.Standing.{AreRowsOf}
 use Rattle.fb_tasks.proofs.Lists.{all_any, any_same, number_other, same_number}
-use Rattle.fb_tasks.proofs.Quiet.{default_terms}
+use Rattle.fb_calls.specs.declared.call.Kind.TheVariants.{Plain}
 
 -- a test of what lists are made of
 pub any_flat : {X Y : Type 0} (p : Y → Bool) (f : X → List Y) (xs : List X) → list_any p (flat_map f xs) ≡ list_any (λ x. list_any p (f x)) xs
@@ -72,7 +72,7 @@ module _ (sources : Sources) (past : Past) (now : ℕ) where
       ∙ seal_part task (is_open_backup past t && is_complete past t) (record { task = t; instant = now; content = sources.image_at past t now })))
 
   no_seals : (task t : ℕ) → list_any (is_seal_of task) (segment_rows sources past now t) ≡ false
-  no_seals task t = any_mapped_none (is_seal_of task) (λ (choice : Choice). SegmentLine (record { task = t; segment = choice.segment.number; instant = now; live = live_count choice.segment; content = sources.packed_for past choice })) (λ choice. refl) (filter (is_newly_cleaned past t) (choices past t))
+  no_seals task t = any_mapped_none (is_seal_of task) (λ (choice : Choice). SegmentLine (record { task = t; segment = choice.segment.number; instant = now; live = live_count choice.segment; content = sources.packed_for past t choice })) (λ choice. refl) (filter (is_newly_cleaned (work past t)) (choices past t))
 
   -- a test seals a backup that is complete
   pub seals_given : (task : ℕ) → list_any (is_seal_of task) (test_rows sources past now) ≡ (is_open_backup past task && is_complete past task)
@@ -84,11 +84,11 @@ module _ (sources : Sources) (past : Past) (now : ℕ) where
       ∙ (any_flat (is_seal_of task) (λ t. seal_rows sources past now t ++ complete_rows past now t) (task_numbers past)
       ∙ (any_by (λ t. list_any (is_seal_of task) (seal_rows sources past now t ++ complete_rows past now t)) (λ t. (t == task) && (is_open_backup past t && is_complete past t)) (seals_by task) (task_numbers past)
       ∙ any_one (λ t. is_open_backup past t && is_complete past t) task 0 (length (tasks past)) (omega arith)
-      (λ more. let beyond : length (tasks past) ≤ task = omega (arith, more) in ap (λ t. (is_backup t.kind && not (is_sealed past task)) && is_complete past task) (get_or_past (tasks past) task default_terms beyond)))))
+      (λ more. let beyond : length (tasks past) ≤ task = omega (arith, more) in ap (λ t. (is_backup t.kind && not (is_sealed past task)) && is_complete past task) (get_or_past (tasks past) task (record { kind = Plain; weight = 1; block = 1 }) beyond)))))
 
   -- segments
   segments_by : (task t number : ℕ) (p : Choice → Bool) (cs : List Choice)
-      → list_any (is_segment_of task number) (map (λ (choice : Choice). SegmentLine (record { task = t; segment = choice.segment.number; instant = now; live = live_count choice.segment; content = sources.packed_for past choice })) (filter p cs))
+      → list_any (is_segment_of task number) (map (λ (choice : Choice). SegmentLine (record { task = t; segment = choice.segment.number; instant = now; live = live_count choice.segment; content = sources.packed_for past t choice })) (filter p cs))
       ≡ ((t == task) && list_any (λ choice. (choice.segment.number == number) && p choice) cs)
   segments_by task t number p [] = sym (and-false (t == task))
   segments_by task t number p (c ∷ cs) = elim (cases_Bool (p c)) [
@@ -116,7 +116,7 @@ module _ (sources : Sources) (past : Past) (now : ℕ) where
 
   -- a test reports the segments that are newly cleaned
   pub segments_given : (task number : ℕ) → (length (tasks past) ≤ task → choices past task ≡ [])
-      → list_any (is_segment_of task number) (test_rows sources past now) ≡ list_any (λ choice. (choice.segment.number == number) && is_newly_cleaned past task choice) (choices past task)
+      → list_any (is_segment_of task number) (test_rows sources past now) ≡ list_any (λ choice. (choice.segment.number == number) && is_newly_cleaned (work past task) choice) (choices past task)
   unfolding test_rows
   segments_given task number unopened =
       list_any-append (is_segment_of task number) (flat_map (segment_rows sources past now) (task_numbers past)) (flat_map (λ t. seal_rows sources past now t ++ complete_rows past now t) (task_numbers past))
@@ -125,10 +125,10 @@ module _ (sources : Sources) (past : Past) (now : ℕ) where
       ∙ (any_by (λ t. list_any (is_segment_of task number) (seal_rows sources past now t ++ complete_rows past now t)) (λ t. false) (no_segments task number) (task_numbers past) ∙ any_nothing (task_numbers past)))
       ∙ (or-false (list_any (is_segment_of task number) (flat_map (segment_rows sources past now) (task_numbers past)))
       ∙ (any_flat (is_segment_of task number) (segment_rows sources past now) (task_numbers past)
-      ∙ (any_by (λ t. list_any (is_segment_of task number) (segment_rows sources past now t)) (λ t. (t == task) && list_any (λ choice. (choice.segment.number == number) && is_newly_cleaned past t choice) (choices past t))
-      (λ t. segments_by task t number (is_newly_cleaned past t) (choices past t)) (task_numbers past)
-      ∙ any_one (λ t. list_any (λ choice. (choice.segment.number == number) && is_newly_cleaned past t choice) (choices past t)) task 0 (length (tasks past)) (omega arith)
-      (λ more. let beyond : length (tasks past) ≤ task = omega (arith, more) in ap (list_any (λ choice. (choice.segment.number == number) && is_newly_cleaned past task choice)) (unopened beyond))))))
+      ∙ (any_by (λ t. list_any (is_segment_of task number) (segment_rows sources past now t)) (λ t. (t == task) && list_any (λ choice. (choice.segment.number == number) && is_newly_cleaned (work past t) choice) (choices past t))
+      (λ t. segments_by task t number (is_newly_cleaned (work past t)) (choices past t)) (task_numbers past)
+      ∙ any_one (λ t. list_any (λ choice. (choice.segment.number == number) && is_newly_cleaned (work past t) choice) (choices past t)) task 0 (length (tasks past)) (omega arith)
+      (λ more. let beyond : length (tasks past) ≤ task = omega (arith, more) in ap (list_any (λ choice. (choice.segment.number == number) && is_newly_cleaned (work past task) choice)) (unopened beyond))))))
 
 -- rows that neither seal a task nor report a segment
 pub record AreMute (rows : List BackRow) : Type 0 where
@@ -148,7 +148,8 @@ findings-mute past got = for (is_scrub (terms_of past got.block.task).kind) wher
   for false = nothing-mute
 
 -- a test's rows are such as a test has to give
-pub rows-given : (sources : Sources) (past : Past) (now : ℕ) (before : List BackRow) → AreMute before → (task : ℕ) → (length (tasks past) ≤ task → choices past task ≡ []) → AreRowsOf past task (before ++ test_rows sources past now)
+pub rows-given : (sources : Sources) (past : Past) (now : ℕ) (before : List BackRow) → AreMute before → (task : ℕ) → (length (tasks past) ≤ task → (view past task).choices ≡ []) → AreRowsOf task (view past task) (before ++ test_rows sources past now)
+unfolding view is_complete
 rows-given sources past now before mute task unopened = record {
   seals = list_any-append (is_seal_of task) before (test_rows sources past now) ∙ (ap (λ b. b || list_any (is_seal_of task) (test_rows sources past now)) (mute.seals task) ∙ seals_given sources past now task);
   segments = λ number. list_any-append (is_segment_of task number) before (test_rows sources past now) ∙ (ap (λ b. b || list_any (is_segment_of task number) (test_rows sources past now)) (mute.segments task number) ∙ segments_given sources past now task number unopened);

@@ -1,5 +1,5 @@
 -- A backup is sealed: its image has the delivered blocks alone.
-use Rattle.std.proofs.Common.{◌≡◌, ℕ, zero, suc, ◌+◌, ◌-◌, ◌<◌, ◌≤◌, ◌==◌, ◌&&◌, ◌||◌, ◌^◌, not, nat_lt, if◌then◌else◌, List, [], ◌∷◌, ◌++◌, Bool, true, false, Some, None, Option, length, filter, take, slice_get, refl, ap, ap₂, sym, ◌∙◌, arith, subst}
+use Rattle.std.proofs.Common.{append-nil, ◌≡◌, ℕ, zero, suc, ◌+◌, ◌-◌, ◌<◌, ◌≤◌, ◌==◌, ◌&&◌, ◌||◌, ◌^◌, not, nat_lt, if◌then◌else◌, List, [], ◌∷◌, ◌++◌, Bool, true, false, Some, None, Option, length, filter, take, slice_get, refl, ap, ap₂, sym, ◌∙◌, arith, subst}
 use Rattle.std.proofs.Math.Bool.{and-false, and_comm}
 use Rattle.std.proofs.lemmas.Option.{slice_get_within, get_or_from_slice_get}
 use Rattle.std.proofs.lemmas.List.{take_more}
@@ -22,17 +22,18 @@ use Rattle.fb_wanted.specs.declared.block.State.TheVariants.{Wanted, Suspended, 
 use Rattle.fb_wanted.specs.declared.block.Entry.{Entry}
 use Rattle.fb_wanted.specs.States.{is_delivered, is_aborted, is_block}
 use Rattle.fb_wanted.specs.Counting.{counts_of}
-use Rattle.fb_model.specs.History.{Past, tasks, terms_of, registered, blocks_of, bare_state, is_suspended, is_open_backup, is_sealed}
-use Rattle.fb_model.specs.Completion.{is_over, is_complete, is_complete_as}
+use Rattle.fb_model.specs.History.{Past, tasks, registered, is_open_backup}
+use Rattle.fb_model.specs.Completion.{Work, TaskView, view, is_unsealed, is_over, is_complete, is_complete_as, is_done}
 use Rattle.fb_tasks.specs.Keeping.{without_aborted}
 use Rattle.fb_rows.specs.declared.back.BackRow.TheVariants.{Seal as SealLine}
 use Rattle.fb_model.specs.Images.{seal_rows}
-use Rattle.fb_tasks.specs.Taken.{content_of, found_for, by_deliveries}
-use Rattle.fb_tasks.specs.Standing.{entry_of, Ascend, AreIndexed, IsBlockOf, HoldsBlock, HoldsBlocks, HoldsImage, Stands}
+use Rattle.fb_rows.specs.declared.back.BackRow.{BackRow}
+use Rattle.fb_tasks.specs.Taken.{found_for, by_deliveries}
+use Rattle.fb_tasks.specs.Standing.{entry_of, entry_in, Ascend, AreIndexed, IsBlockOf, HoldsBlock, HoldsBlocks, HoldsImage, Stands}
 use Rattle.fb_tasks.specs.declared.session.Session.{Session}
 use Rattle.fb_tasks.proofs.Counting.{counts_same}
 use Rattle.fb_tasks.proofs.Lists.{all_weaker, all_with, all_filter, all_at, some_same, number_same, filter_from, map_at, some_at, list_all_each}
-use Rattle.fb_tasks.proofs.Same.{own}
+use Rattle.fb_tasks.proofs.Registered.{blocks_in, own}
 use Rattle.fb_tasks.proofs.States.{shown_aborted}
 use Rattle.fb_tasks.proofs.Sectors.{held_same, within, before_it, behind_it, ascend_from}
 
@@ -55,29 +56,29 @@ held_none : (now : ℕ → Option Content) (a n : ℕ) → ((k : ℕ) → a ≤ 
 held_none now a n none = held_same now (λ lbn. None) a n none ∙ nothing_in (range_with_len a n)
 
 -- what a sector holds after the sectors of aborted blocks were dropped, block by block
-abbrev pub dropped : Past → ℕ → Option Content → List Block → Option Content
-dropped past lbn held [] = held
-dropped past lbn held (block ∷ blocks) = dropped past lbn (without_aborted (entry_of past block) lbn held) blocks
+abbrev pub dropped : TaskView → ℕ → Option Content → List Block → Option Content
+dropped v lbn held [] = held
+dropped v lbn held (block ∷ blocks) = dropped v lbn (without_aborted (entry_in v block) lbn held) blocks
 
-pub dropped_more : (past : Past) (lbn : ℕ) (held : Option Content) (blocks : List Block) (block : Block) → dropped past lbn held (blocks ++ block ∷ []) ≡ without_aborted (entry_of past block) lbn (dropped past lbn held blocks)
-dropped_more past lbn held [] block = refl
-dropped_more past lbn held (b ∷ bs) block = dropped_more past lbn (without_aborted (entry_of past b) lbn held) bs block
+pub dropped_more : (v : TaskView) (lbn : ℕ) (held : Option Content) (blocks : List Block) (block : Block) → dropped v lbn held (blocks ++ block ∷ []) ≡ without_aborted (entry_in v block) lbn (dropped v lbn held blocks)
+dropped_more v lbn held [] block = refl
+dropped_more v lbn held (b ∷ bs) block = dropped_more v lbn (without_aborted (entry_in v b) lbn held) bs block
 
-pub dropped_next : (past : Past) (lbn : ℕ) (held : Option Content) (blocks : List Block) (i : ℕ) (block : Block) → slice_get blocks i ≡ Some block → without_aborted (entry_of past block) lbn (dropped past lbn held (take i blocks)) ≡ dropped past lbn held (take (i + 1) blocks)
-dropped_next past lbn held blocks i block at = sym (
-    ap (dropped past lbn held) (take_more blocks i block (slice_get_within blocks i block at) ∙ ap (λ x. take i blocks ++ x ∷ []) (get_or_from_slice_get blocks i block block at))
-    ∙ dropped_more past lbn held (take i blocks) block)
+pub dropped_next : (v : TaskView) (lbn : ℕ) (held : Option Content) (blocks : List Block) (i : ℕ) (block : Block) → slice_get blocks i ≡ Some block → without_aborted (entry_in v block) lbn (dropped v lbn held (take i blocks)) ≡ dropped v lbn held (take (i + 1) blocks)
+dropped_next v lbn held blocks i block at = sym (
+    ap (dropped v lbn held) (take_more blocks i block (slice_get_within blocks i block at) ∙ ap (λ x. take i blocks ++ x ∷ []) (get_or_from_slice_get blocks i block block at))
+    ∙ dropped_more v lbn held (take i blocks) block)
 
 -- a sector lies in an aborted block
-abbrev is_hit : Past → ℕ → Block → Bool
-is_hit past lbn block = is_aborted (bare_state past block) && is_within block.lbn block.count lbn
+abbrev is_hit : TaskView → ℕ → Block → Bool
+is_hit v lbn block = is_aborted (v.bare block) && is_within block.lbn block.count lbn
 
-dropped_is : (past : Past) (lbn : ℕ) (held : Option Content) (blocks : List Block) → dropped past lbn held blocks ≡ (if list_any (is_hit past lbn) blocks then None else held)
-dropped_is past lbn held [] = refl
-dropped_is past lbn held (b ∷ bs) =
-    dropped_is past lbn (without_aborted (entry_of past b) lbn held) bs
-    ∙ (ap (λ a. if list_any (is_hit past lbn) bs then None else (if a && is_within b.lbn b.count lbn then None else held)) (shown_aborted (bare_state past b) (is_suspended past b.task))
-    ∙ either (is_hit past lbn b) (list_any (is_hit past lbn) bs)) where
+dropped_is : (v : TaskView) (lbn : ℕ) (held : Option Content) (blocks : List Block) → dropped v lbn held blocks ≡ (if list_any (is_hit v lbn) blocks then None else held)
+dropped_is v lbn held [] = refl
+dropped_is v lbn held (b ∷ bs) =
+    dropped_is v lbn (without_aborted (entry_in v b) lbn held) bs
+    ∙ (ap (λ a. if list_any (is_hit v lbn) bs then None else (if a && is_within b.lbn b.count lbn then None else held)) (shown_aborted (v.bare b) v.suspended)
+    ∙ either (is_hit v lbn b) (list_any (is_hit v lbn) bs)) where
       either : (one more : Bool) → (if more then None else (if one then None else held)) ≡ (if one || more then None else held)
       either true true = refl
       either true false = refl
@@ -108,15 +109,15 @@ module _ (p : Block → Bool) where
   )
 
 -- what is held of a block: all of a delivered one, and nothing of another
-abbrev HoldsPart : Past → (ℕ → Option Content) → Block → Type 0
-HoldsPart past held block = held_in held (range_with_len block.lbn block.count) ≡ (if is_delivered (bare_state past block) then sectors_of (content_of past block) else [])
+abbrev HoldsPart : TaskView → (ℕ → Option Content) → Block → Type 0
+HoldsPart v held block = held_in held (range_with_len block.lbn block.count) ≡ (if is_delivered (v.bare block) then sectors_of (v.found block) else [])
 
 -- what is held of ascending blocks, where nothing is held beside them
-held_parts : (past : Past) (held : ℕ → Option Content) (from end : ℕ) (blocks : List Block) → Ascend from blocks → AllByRecursion (λ block. block.lbn + block.count ≤ end) blocks → AllByRecursion (HoldsPart past held) blocks
+held_parts : (v : TaskView) (held : ℕ → Option Content) (from end : ℕ) (blocks : List Block) → Ascend from blocks → AllByRecursion (λ block. block.lbn + block.count ≤ end) blocks → AllByRecursion (HoldsPart v held) blocks
     → ((lbn : ℕ) → from ≤ lbn → list_any (λ block. is_within block.lbn block.count lbn) blocks ≡ false → held lbn ≡ None)
-    → held_in held (range_with_len from (end - from)) ≡ flat_map (λ block. sectors_of (content_of past block)) (filter (λ block. is_delivered (bare_state past block)) blocks)
-held_parts past held from end [] ascend within parts none = held_none held from (end - from) (λ k first last. none k first refl)
-held_parts past held from end (b ∷ bs) ascend within parts none =
+    → held_in held (range_with_len from (end - from)) ≡ flat_map (λ block. sectors_of (v.found block)) (filter (λ block. is_delivered (v.bare block)) blocks)
+held_parts v held from end [] ascend within parts none = held_none held from (end - from) (λ k first last. none k first refl)
+held_parts v held from end (b ∷ bs) ascend within parts none =
     let first : from ≤ b.lbn = ascend.0 in
     let last : b.lbn + b.count ≤ end = within.0 in
     let whole : end - from ≡ (b.lbn - from) + (b.count + (end - (b.lbn + b.count))) = omega arith in
@@ -127,54 +128,53 @@ held_parts past held from end (b ∷ bs) ascend within parts none =
     ∙ (ap (λ xs. xs ++ held_in held (range_with_len b.lbn (b.count + (end - (b.lbn + b.count))))) (held_none held from (b.lbn - from) (λ k at_least less. let gap : k < b.lbn = omega arith in none k at_least (gap_none k gap)))
     ∙ (ap (held_in held) (range_append b.lbn b.count (end - (b.lbn + b.count)))
     ∙ (flat_map-append (λ lbn. held_sector lbn (held lbn)) (range_with_len b.lbn b.count) (range_with_len (b.lbn + b.count) (end - (b.lbn + b.count)))
-    ∙ (ap₂ (λ xs ys. xs ++ ys) parts.0 (held_parts past held (b.lbn + b.count) end bs ascend.1 within.1 parts.1 (λ lbn from_it other. none lbn (omega arith) (rw (behind_it b.lbn b.count lbn from_it) other)))
-    ∙ by_state (is_delivered (bare_state past b)))))))) where
+    ∙ (ap₂ (λ xs ys. xs ++ ys) parts.0 (held_parts v held (b.lbn + b.count) end bs ascend.1 within.1 parts.1 (λ lbn from_it other. none lbn (omega arith) (rw (behind_it b.lbn b.count lbn from_it) other)))
+    ∙ by_state (is_delivered (v.bare b)))))))) where
       gap_none : (k : ℕ) → k < b.lbn → list_any (λ (block : Block). is_within block.lbn block.count k) (b ∷ bs) ≡ false
       gap_none k less =
           let follow : k < b.lbn + b.count = omega arith in
           rw (before_it b.lbn b.count k less) (before_all (λ block. true) (b.lbn + b.count) k bs follow (ascend_from (b.lbn + b.count) bs ascend.1))
 
-      by_state : (done : Bool) → (if done then sectors_of (content_of past b) else []) ++ flat_map (λ block. sectors_of (content_of past block)) (filter (λ block. is_delivered (bare_state past block)) bs)
-          ≡ flat_map (λ block. sectors_of (content_of past block)) (if done then b ∷ filter (λ block. is_delivered (bare_state past block)) bs else filter (λ block. is_delivered (bare_state past block)) bs)
+      by_state : (done : Bool) → (if done then sectors_of (v.found b) else []) ++ flat_map (λ block. sectors_of (v.found block)) (filter (λ block. is_delivered (v.bare block)) bs)
+          ≡ flat_map (λ block. sectors_of (v.found block)) (if done then b ∷ filter (λ block. is_delivered (v.bare block)) bs else filter (λ block. is_delivered (v.bare block)) bs)
       by_state true = refl
       by_state false = refl
 
-module _ (past : Past) (blocks : List Block) (ascend : Ascend 0 blocks) (over : AllByRecursion (λ block. is_over (bare_state past block) ≡ true) blocks)
-    (held now : ℕ → Option Content) (holds : HoldsImage past blocks held) (drops : (lbn : ℕ) → now lbn ≡ dropped past lbn (held lbn) blocks) where
-  parts_now : AllByRecursion (HoldsPart past now) blocks
-  parts_now = all_with (λ block. is_over (bare_state past block) ≡ true) (λ block. HoldsBlock past held block × ((lbn : ℕ) → block.lbn ≤ lbn → lbn < block.lbn + block.count → list_any (is_hit past lbn) blocks ≡ is_aborted (bare_state past block))) (HoldsPart past now)
-      (λ block is_over both. part block (bare_state past block) refl is_over both.0 both.1) blocks over
-      (all_with (HoldsBlock past held) (λ (block : Block). (lbn : ℕ) → block.lbn ≤ lbn → lbn < block.lbn + block.count → list_any (is_hit past lbn) blocks ≡ is_aborted (bare_state past block)) (λ block. HoldsBlock past held block × ((lbn : ℕ) → block.lbn ≤ lbn → lbn < block.lbn + block.count → list_any (is_hit past lbn) blocks ≡ is_aborted (bare_state past block)))
-      (λ block a b. (a, b)) blocks holds.each (in_one (λ block. is_aborted (bare_state past block)) 0 blocks ascend)) where
-        part : (block : Block) (s : State) → bare_state past block ≡ s → is_over (bare_state past block) ≡ true → HoldsBlock past held block → ((lbn : ℕ) → block.lbn ≤ lbn → lbn < block.lbn + block.count → list_any (is_hit past lbn) blocks ≡ is_aborted (bare_state past block)) → HoldsPart past now block
+module _ (v : TaskView) (ascend : Ascend 0 v.blocks) (over : AllByRecursion (λ block. is_over (v.bare block) ≡ true) v.blocks)
+    (held now : ℕ → Option Content) (holds : HoldsImage v.work held) (drops : (lbn : ℕ) → now lbn ≡ dropped v lbn (held lbn) v.blocks) where
+  parts_now : AllByRecursion (HoldsPart v now) v.blocks
+  parts_now = all_with (λ block. is_over (v.bare block) ≡ true) (λ block. HoldsBlock v.work held block × ((lbn : ℕ) → block.lbn ≤ lbn → lbn < block.lbn + block.count → list_any (is_hit v lbn) v.blocks ≡ is_aborted (v.bare block))) (HoldsPart v now)
+      (λ block is_over both. part block (v.bare block) refl is_over both.0 both.1) v.blocks over
+      (all_with (HoldsBlock v.work held) (λ (block : Block). (lbn : ℕ) → block.lbn ≤ lbn → lbn < block.lbn + block.count → list_any (is_hit v lbn) v.blocks ≡ is_aborted (v.bare block)) (λ block. HoldsBlock v.work held block × ((lbn : ℕ) → block.lbn ≤ lbn → lbn < block.lbn + block.count → list_any (is_hit v lbn) v.blocks ≡ is_aborted (v.bare block)))
+      (λ block a b. (a, b)) v.blocks holds.each (in_one (λ block. is_aborted (v.bare block)) 0 v.blocks ascend)) where
+        part : (block : Block) (s : State) → v.bare block ≡ s → is_over (v.bare block) ≡ true → HoldsBlock v.work held block → ((lbn : ℕ) → block.lbn ≤ lbn → lbn < block.lbn + block.count → list_any (is_hit v lbn) v.blocks ≡ is_aborted (v.bare block)) → HoldsPart v now block
         part block Wanted e is h hit = absurd (true≢false (sym is ∙ ap is_over e))
         part block Suspended e is h hit = absurd (true≢false (sym is ∙ ap is_over e))
         part block Delivered e is h hit =
-            held_same now held block.lbn block.count (λ k from to. drops k ∙ (dropped_is past k (held k) blocks ∙ ap (λ b. if b then None else held k) (hit k from to ∙ ap is_aborted e)))
-            ∙ (h (ap is_delivered e) ∙ ap (λ s. if is_delivered s then sectors_of (content_of past block) else []) (sym e))
+            held_same now held block.lbn block.count (λ k from to. drops k ∙ (dropped_is v k (held k) v.blocks ∙ ap (λ b. if b then None else held k) (hit k from to ∙ ap is_aborted e)))
+            ∙ (h (ap is_delivered e) ∙ ap (λ s. if is_delivered s then sectors_of (v.found block) else []) (sym e))
         part block Aborted e is h hit =
-            held_none now block.lbn block.count (λ k from to. drops k ∙ (dropped_is past k (held k) blocks ∙ ap (λ b. if b then None else held k) (hit k from to ∙ ap is_aborted e)))
-            ∙ ap (λ s. if is_delivered s then sectors_of (content_of past block) else []) (sym e)
+            held_none now block.lbn block.count (λ k from to. drops k ∙ (dropped_is v k (held k) v.blocks ∙ ap (λ b. if b then None else held k) (hit k from to ∙ ap is_aborted e)))
+            ∙ ap (λ s. if is_delivered s then sectors_of (v.found block) else []) (sym e)
 
-  nothing_beside : (lbn : ℕ) → 0 ≤ lbn → list_any (λ block. is_within block.lbn block.count lbn) blocks ≡ false → now lbn ≡ None
-  nothing_beside lbn from other = drops lbn ∙ (dropped_is past lbn (held lbn) blocks ∙ (ap (λ h. if list_any (is_hit past lbn) blocks then None else h) (holds.only lbn other) ∙ none_either (list_any (is_hit past lbn) blocks))) where
+  nothing_beside : (lbn : ℕ) → 0 ≤ lbn → list_any (λ block. is_within block.lbn block.count lbn) v.blocks ≡ false → now lbn ≡ None
+  nothing_beside lbn from other = drops lbn ∙ (dropped_is v lbn (held lbn) v.blocks ∙ (ap (λ h. if list_any (is_hit v lbn) v.blocks then None else h) (holds.only lbn other) ∙ none_either (list_any (is_hit v lbn) v.blocks))) where
     none_either : (b : Bool) → (let n : Option Content = None in if b then n else None) ≡ None
     none_either true = refl
     none_either false = refl
 
-  -- the image has what the delivered blocks' last deliveries found
-  pub sealed_held : (end : ℕ) → AllByRecursion (λ block. block.lbn + block.count ≤ end) blocks → held_in now (range_with_len 0 end) ≡ flat_map (λ block. sectors_of (content_of past block)) (filter (λ block. is_delivered (bare_state past block)) blocks)
+  -- the image has what the delivered v.blocks' last deliveries found
+  pub sealed_held : (end : ℕ) → AllByRecursion (λ block. block.lbn + block.count ≤ end) v.blocks → held_in now (range_with_len 0 end) ≡ flat_map (λ block. sectors_of (v.found block)) (filter (λ block. is_delivered (v.bare block)) v.blocks)
   sealed_held end within =
       let whole : end ≡ end - 0 = omega arith in
-      ap (λ n. held_in now (range_with_len 0 n)) whole ∙ held_parts past now 0 end blocks ascend within parts_now nothing_beside
+      ap (λ n. held_in now (range_with_len 0 n)) whole ∙ held_parts v now 0 end v.blocks ascend within parts_now nothing_beside
 
 -- all is over where a backup is complete
-pub backup_over : (past : Past) (task : ℕ) → is_backup (terms_of past task).kind ≡ true → is_complete past task ≡ true → AllByRecursion (λ block. is_over (bare_state past block) ≡ true) (blocks_of past task)
-unfolding is_complete
-backup_over past task backup complete = by (terms_of past task).kind backup complete where
-  by : (kind : Kind) → is_backup kind ≡ true → is_complete_as kind past task ≡ true → AllByRecursion (λ block. is_over (bare_state past block) ≡ true) (blocks_of past task)
+pub backup_over : (w : Work) → is_backup w.terms.kind ≡ true → is_done w ≡ true → AllByRecursion (λ block. is_over (w.bare block) ≡ true) w.blocks
+backup_over w backup complete = by w.terms.kind backup complete where
+  by : (kind : Kind) → is_backup kind ≡ true → is_complete_as w kind ≡ true → AllByRecursion (λ block. is_over (w.bare block) ≡ true) w.blocks
   by Plain is h = absurd (true≢false (sym is))
-  by Backup is h = list_all_each (λ block. is_over (bare_state past block)) (blocks_of past task) (and_parts (nat_lt 0 (length (blocks_of past task))) (list_all (λ block. is_over (bare_state past block)) (blocks_of past task)) h).1
+  by Backup is h = list_all_each (λ block. is_over (w.bare block)) w.blocks (and_parts (nat_lt 0 (length w.blocks)) (list_all (λ block. is_over (w.bare block)) w.blocks) h).1
   by Scrub is h = absurd (true≢false (sym is))
   by Clean is h = absurd (true≢false (sym is))
 
@@ -192,47 +192,60 @@ pub record HasEntry (held : List Entry) (task index : ℕ) (entry : Entry) : Typ
   pub within : entry.block.lbn + entry.block.count ≤ 10 ^ 12
 
 module _ {disk : Shape} {past : Past} {held : List Entry} (h : HoldsBlocks disk past held) (task : ℕ) where
-  pub entry_at : (index : ℕ) (block : Block) → slice_get (blocks_of past task) index ≡ Some block → HasEntry held task index (entry_of past block)
+  pub entry_at : (index : ℕ) (block : Block) → slice_get (view past task).blocks index ≡ Some block → HasEntry held task index (entry_in (view past task) block)
   entry_at index block at =
-      let place = filter_from (λ (b : Block). b.task == task) (registered past) index block at in
-      record {
+      let place = filter_from (λ (b : Block). b.task == task) (registered past) index block (ap (λ bs. slice_get bs index) (sym (blocks_in past task)) ∙ at) in
+      let mine = all_at (λ (b : Block). b.task ≡ task) (view past task).blocks index block (own past task) at in
+      ap-entry (ap (λ t. entry_in (view past t) block) mine) (record {
         place = place.0;
         at = ap (λ es. slice_get es place.0) h.entries ∙ map_at (entry_of past) (registered past) place.0 block place.1;
-        is_block = ap₂ (λ a b. a && b) (number_same block.task task (all_at (λ (b : Block). b.task ≡ task) (blocks_of past task) index block (own past task) at)) (number_same block.index index (let from_none : 0 + index ≡ index = omega arith in indexed_at 0 index (blocks_of past task) block (h.indexed task) at ∙ from_none));
+        is_block = ap₂ (λ a b. a && b) (number_same block.task task mine) (number_same block.index index (let from_none : 0 + index ≡ index = omega arith in indexed_at 0 index (view past task).blocks block (h.placed task).indexed at ∙ from_none));
         within = (all_at (IsBlockOf disk (length (tasks past))) (registered past) place.0 block h.on_disk place.1).within;
-      }
+      }) where
+        ap-entry : {a b : Entry} → a ≡ b → HasEntry held task index a → HasEntry held task index b
+        ap-entry e x = subst (HasEntry held task index) e x
 
-  pub block_at : (index n : ℕ) → n ≡ (counts_of task held).registered → index < n → (block : Block) × (slice_get (blocks_of past task) index ≡ Some block)
-  block_at index n is less = some_at (blocks_of past task) index (subst (λ k. index < k) (is ∙ ap (λ c. c.registered) (counts_same past task held h.entries)) less)
+  pub block_at : (index n : ℕ) → n ≡ (counts_of task held).registered → index < n → (block : Block) × (slice_get (view past task).blocks index ≡ Some block)
+  block_at index n is less = some_at (view past task).blocks index (subst (λ k. index < k) (is ∙ ap (λ c. c.registered) (counts_same past task held h.entries)) less)
 
-  pub all_blocks : (n : ℕ) → n ≡ (counts_of task held).registered → take n (blocks_of past task) ≡ blocks_of past task
-  all_blocks n is = ap (λ k. take k (blocks_of past task)) (is ∙ ap (λ c. c.registered) (counts_same past task held h.entries)) ∙ take_whole (blocks_of past task) where
+  pub all_blocks : (n : ℕ) → n ≡ (counts_of task held).registered → take n (view past task).blocks ≡ (view past task).blocks
+  all_blocks n is = ap (λ k. take k (view past task).blocks) (is ∙ ap (λ c. c.registered) (counts_same past task held h.entries)) ∙ take_whole (view past task).blocks where
     take_whole : (xs : List Block) → take (length xs) xs ≡ xs
     take_whole [] = refl
     take_whole (x ∷ xs) = ap (λ ys. x ∷ ys) (take_whole xs)
 
   -- the seal's content
-  pub sealed_content : (session : Session) (now : ℕ → Option Content) (content : List ContentRun) → Stands past task session → is_open_backup past task ≡ true → is_complete past task ≡ true
-      → ((lbn : ℕ) → now lbn ≡ dropped past lbn (held_at session.image lbn) (blocks_of past task))
+  pub sealed_content : (session : Session) (now : ℕ → Option Content) (content : List ContentRun) → Stands (view past task) session → is_unsealed (view past task) ≡ true → is_done (view past task).work ≡ true
+      → ((lbn : ℕ) → now lbn ≡ dropped (view past task) lbn (held_at session.image lbn) (view past task).blocks)
       → EndsBy now (10 ^ 12) → ((end : ℕ) → EndsBy now end → content ≡ runs_of (held_in now (range_with_len 0 end)))
-      → content ≡ found_for past (filter (λ block. is_delivered (bare_state past block)) (blocks_of past task))
-  sealed_content session now content stands is_open complete drops ends gives = by (10 ^ 12) ends (all_weaker (IsBlockOf disk (length (tasks past))) (λ (block : Block). block.lbn + block.count ≤ 10 ^ 12) (λ block on_disk. on_disk.within) (blocks_of past task) (all_filter (IsBlockOf disk (length (tasks past))) (λ (b : Block). b.task == task) (registered past) h.on_disk)) where
-    backup : is_backup (terms_of past task).kind ≡ true
-    backup = (and_parts (is_backup (terms_of past task).kind) (not (is_sealed past task)) is_open).0
+      → content ≡ found_for (view past task).work (filter (λ block. is_delivered ((view past task).bare block)) (view past task).blocks)
+  sealed_content session now content stands is_open complete drops ends gives = by (10 ^ 12) ends (all_weaker (IsBlockOf disk (length (tasks past))) (λ (block : Block). block.lbn + block.count ≤ 10 ^ 12) (λ block on_disk. on_disk.within) (view past task).blocks (subst (AllByRecursion (IsBlockOf disk (length (tasks past)))) (sym (blocks_in past task)) (all_filter (IsBlockOf disk (length (tasks past))) (λ (b : Block). b.task == task) (registered past) h.on_disk))) where
+    backup : is_backup (view past task).terms.kind ≡ true
+    backup = (and_parts (is_backup (view past task).terms.kind) (not (view past task).sealed) is_open).0
 
-    by : (end : ℕ) → EndsBy now end → AllByRecursion (λ (block : Block). block.lbn + block.count ≤ end) (blocks_of past task) → content ≡ found_for past (filter (λ block. is_delivered (bare_state past block)) (blocks_of past task))
-    by end ends within = gives end ends ∙ ap runs_of (sealed_held past (blocks_of past task) (stands.ascend (ap (λ t. is_backup t.kind) (sym stands.terms) ∙ backup)) (backup_over past task backup complete) (held_at session.image) now (stands.image is_open) drops end within)
+    by : (end : ℕ) → EndsBy now end → AllByRecursion (λ (block : Block). block.lbn + block.count ≤ end) (view past task).blocks → content ≡ found_for (view past task).work (filter (λ block. is_delivered ((view past task).bare block)) (view past task).blocks)
+    by end ends within = gives end ends ∙ ap runs_of (sealed_held (view past task) (stands.ascend (ap (λ t. is_backup t.kind) (sym stands.terms) ∙ backup)) (backup_over (view past task).work backup complete) (held_at session.image) now (stands.image is_open) drops end within)
 
 -- a session tells whether its task is a backup that has not been sealed
-pub open_same : {past : Past} {task : ℕ} (session : Session) → Stands past task session → is_open_backup past task ≡ (is_backup session.kind && not session.sealed)
-open_same {past} {task} session stands = ap₂ (λ t s. is_backup t.kind && not s) stands.terms (sym stands.sealed)
+pub open_same : {v : TaskView} (session : Session) → Stands v session → is_unsealed v ≡ (is_backup session.kind && not session.sealed)
+open_same session stands = rw (stands.terms, stands.sealed) refl
 
-pub seal_row : (past : Past) (now task : ℕ) (content : List ContentRun) → is_open_backup past task ≡ true → is_complete past task ≡ true
-    → content ≡ found_for past (filter (λ block. is_delivered (bare_state past block)) (blocks_of past task)) → SealLine (record { task = task; instant = now; content = content }) ∷ [] ≡ seal_rows by_deliveries past now task
-seal_row past now task content is_open complete is =
-    ap (λ found. SealLine (record { task = task; instant = now; content = found }) ∷ []) is
-    ∙ sym (ap₂ (λ a b. if a && b then SealLine (record { task = task; instant = now; content = found_for past (filter (λ block. is_delivered (bare_state past block)) (blocks_of past task)) }) ∷ [] else []) is_open complete)
+pub open_is : (past : Past) (task : ℕ) → is_unsealed (view past task) ≡ is_open_backup past task
+unfolding view
+open_is past task = refl
+
+seal_rows_is : (past : Past) (now task : ℕ) → seal_rows by_deliveries past now task ≡ (if is_unsealed (view past task) && is_done (view past task).work
+    then SealLine (record { task = task; instant = now; content = found_for (view past task).work (filter (λ block. is_delivered ((view past task).bare block)) (view past task).blocks) }) ∷ [] else [])
+unfolding view is_complete
+seal_rows_is past now task = refl
+
+pub seal_row : (past : Past) (now task : ℕ) (content : List ContentRun) → is_unsealed (view past task) ≡ true → is_done (view past task).work ≡ true
+    → content ≡ found_for (view past task).work (filter (λ block. is_delivered ((view past task).bare block)) (view past task).blocks) → SealLine (record { task = task; instant = now; content = content }) ∷ [] ≡ seal_rows by_deliveries past now task
+seal_row past now task content is_open complete is = rw is (sym (seal_rows_is past now task ∙ rw (is_open, complete) refl))
 
 -- the seal of a session is that of its task
-pub seals_same : {past : Past} {task : ℕ} (session : Session) (complete : Bool) → Stands past task session → complete ≡ is_complete past task → (complete && (is_backup session.kind && not session.sealed)) ≡ (is_open_backup past task && is_complete past task)
-seals_same {past} {task} session complete stands says = ap₂ (λ a b. a && b) says (sym (open_same session stands)) ∙ and_comm (is_complete past task) (is_open_backup past task)
+pub seals_same : {v : TaskView} (session : Session) (complete : Bool) → Stands v session → complete ≡ is_done v.work → (complete && (is_backup session.kind && not session.sealed)) ≡ (is_unsealed v && is_done v.work)
+seals_same {v} session complete stands says = ap₂ (λ a b. a && b) says (sym (open_same session stands)) ∙ and_comm (is_done v.work) (is_unsealed v)
+
+pub no-seal : (past : Past) (now task : ℕ) (rows : List BackRow) → (is_unsealed (view past task) && is_done (view past task).work) ≡ false → rows ≡ rows ++ seal_rows by_deliveries past now task
+no-seal past now task rows none = sym (append-nil rows) ∙ ap (λ xs. rows ++ xs) (sym (seal_rows_is past now task ∙ rw none refl))

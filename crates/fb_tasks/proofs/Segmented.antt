@@ -1,5 +1,5 @@
 -- The segments of a log, as the history and as the session have them.
-use Rattle.std.proofs.Common.{◌≡◌, ℕ, zero, suc, ◌+◌, ◌-◌, ◌*◌, ◌^◌, ◌<◌, ◌≤◌, ◌==◌, ◌&&◌, not, if◌then◌else◌, List, [], ◌∷◌, ◌++◌, Bool, true, false, Some, None, Option, inl, inr, length, filter, map, slice_get, append-nil, length-append, refl, ap, sym, ◌∙◌, arith, subst}
+use Rattle.std.proofs.Common.{◌≡◌, ℕ, zero, suc, ◌+◌, ◌-◌, ◌*◌, ◌^◌, ◌<◌, ◌≤◌, ◌==◌, ◌&&◌, not, if◌then◌else◌, List, [], ◌∷◌, ◌++◌, Bool, true, false, Some, None, Option, inl, inr, length, filter, map, slice_get, length-append, refl, ap, sym, ◌∙◌, arith, subst}
 use Rattle.std.proofs.Math.Bool.{and-true}
 use Rattle.std.specs.List.{AllByRecursion, flat_map, range_with_len, slice_index_or, sum_by, best_of}
 use Rattle.std.proofs.lemmas.Bool.{cases_Bool}
@@ -15,8 +15,8 @@ use Rattle.fb_calls.specs.declared.call.Action.TheVariants.{Segment}
 use Rattle.fb_calls.specs.Blocks.{live_cuts}
 use Rattle.fb_wanted.specs.declared.block.Block.{Block}
 use Rattle.fb_clean.specs.Segments as clean
-use Rattle.fb_model.specs.History.{Past, called, chose, tested, delivered, finished, LogSegment, terms_of}
-use Rattle.fb_model.specs.Completion.{segments, segment_in, is_closed}
+use Rattle.fb_model.specs.History.{Past, LogSegment, called, chose, tested, delivered, finished}
+use Rattle.fb_model.specs.Completion.{Work, segments, segment_by}
 use Rattle.fb_model.specs.Segments.{numbered, live_count, is_better, is_chosen, unchosen}
 use Rattle.fb_tasks.specs.Keeping.{cuts_of}
 use Rattle.fb_tasks.specs.Standing.{kept_segment, Ascend, IsBlockOf}
@@ -37,15 +37,15 @@ pub numbered_given : (past : Past) (task : ℕ) → NumberedFrom 1 (segments pas
 numbered_given [] task = tt
 numbered_given (called call blocks ∷ past) task = elim (cases_Bool (call.task == task)) [
   | inl own ↦ rw own (by_action call.action (numbered_given past task))
-  | inr other ↦ rw (other, append-nil (segments past task)) (numbered_given past task)
+  | inr other ↦ rw other (numbered_given past task)
 ] where
-  by_action : (a : Action) → NumberedFrom 1 (segments past task) → NumberedFrom 1 (segments past task ++ segment_in (length (segments past task) + 1) a)
+  by_action : (a : Action) → NumberedFrom 1 (segments past task) → NumberedFrom 1 (segment_by a (segments past task))
   by_action (Segment first blocks age live) before = numbered_push 1 (segments past task) (record { number = length (segments past task) + 1; first = first; blocks = blocks; age = age; live = live }) before (omega arith)
-  by_action _ before = subst (NumberedFrom 1) (sym (append-nil (segments past task))) before
-numbered_given (chose chooser segment blocks ∷ past) task = subst (NumberedFrom 1) (sym (append-nil (segments past task))) (numbered_given past task)
-numbered_given (tested rows ∷ past) task = subst (NumberedFrom 1) (sym (append-nil (segments past task))) (numbered_given past task)
-numbered_given (delivered got ∷ past) task = subst (NumberedFrom 1) (sym (append-nil (segments past task))) (numbered_given past task)
-numbered_given (finished request ∷ past) task = subst (NumberedFrom 1) (sym (append-nil (segments past task))) (numbered_given past task)
+  by_action _ before = before
+numbered_given (chose chooser segment blocks ∷ past) task = numbered_given past task
+numbered_given (tested rows ∷ past) task = numbered_given past task
+numbered_given (delivered got ∷ past) task = numbered_given past task
+numbered_given (finished request ∷ past) task = numbered_given past task
 
 -- a segment stands at its number
 pub at_number : (n : ℕ) (ss : List LogSegment) → NumberedFrom n ss → AllByRecursion (λ s. (n ≤ s.number) × (slice_get ss (s.number - n) ≡ Some s)) ss
@@ -57,12 +57,12 @@ at_number n (x ∷ ss) h = (
 )
 
 -- where a session finds the live blocks of a segment
-pub live_there : (past : Past) (task : ℕ) (ss : List LogSegment) (s : LogSegment) → slice_get ss (s.number - 1) ≡ Some s
-    → slice_index_or (map (λ (x : clean.LogSegment). x.live) (map (kept_segment past task) ss)) (s.number - 1) [] ≡ clean.live_blocks (terms_of past task).block s.first s.live
-live_there past task ss s at = get_or_from_slice_get (map (λ (x : clean.LogSegment). x.live) (map (kept_segment past task) ss)) (s.number - 1) (clean.live_blocks (terms_of past task).block s.first s.live) [] (through ss (s.number - 1) at) where
-  through : (xs : List LogSegment) (i : ℕ) → slice_get xs i ≡ Some s → slice_get (map (λ (x : clean.LogSegment). x.live) (map (kept_segment past task) xs)) i ≡ Some (clean.live_blocks (terms_of past task).block s.first s.live)
+pub live_there : (w : Work) (ss : List LogSegment) (s : LogSegment) → slice_get ss (s.number - 1) ≡ Some s
+    → slice_index_or (map (λ (x : clean.LogSegment). x.live) (map (kept_segment w) ss)) (s.number - 1) [] ≡ clean.live_blocks w.terms.block s.first s.live
+live_there w ss s at = get_or_from_slice_get (map (λ (x : clean.LogSegment). x.live) (map (kept_segment w) ss)) (s.number - 1) (clean.live_blocks w.terms.block s.first s.live) [] (through ss (s.number - 1) at) where
+  through : (xs : List LogSegment) (i : ℕ) → slice_get xs i ≡ Some s → slice_get (map (λ (x : clean.LogSegment). x.live) (map (kept_segment w) xs)) i ≡ Some (clean.live_blocks w.terms.block s.first s.live)
   through [] i h = absurd (grind arith)
-  through (x ∷ xs) zero h = ap (λ (y : LogSegment). Some (clean.live_blocks (terms_of past task).block y.first y.live)) (some_same x s h)
+  through (x ∷ xs) zero h = ap (λ (y : LogSegment). Some (clean.live_blocks w.terms.block y.first y.live)) (some_same x s h)
   through (x ∷ xs) (suc i) h = through xs i h
 
 -- a test that is the same gives the same best one
@@ -87,37 +87,37 @@ abbrev pub number_of_best : List LogSegment → Option ℕ
 number_of_best [] = None
 number_of_best (s ∷ ss) = Some (best_of is_better s ss).number
 
-module _ (past : Past) (task : ℕ) (going : is_closed past task ≡ false) (lives : (block first : ℕ) (live : List Bool) → length (clean.live_blocks block first live) ≡ length (filter (λ is_live. is_live) live)) where
-  waits_same : (s : LogSegment) → (kept_segment past task s).waits ≡ not (is_chosen past task s)
-  waits_same s = ap (λ b. not (is_chosen past task s) && not b) going ∙ and-true (not (is_chosen past task s))
+module _ (w : Work) (going : w.closed ≡ false) (lives : (block first : ℕ) (live : List Bool) → length (clean.live_blocks block first live) ≡ length (filter (λ is_live. is_live) live)) where
+  waits_same : (s : LogSegment) → (kept_segment w s).waits ≡ not (is_chosen w.choices s)
+  waits_same s = ap (λ b. not (is_chosen w.choices s) && not b) going ∙ and-true (not (is_chosen w.choices s))
 
-  pub waiting_kept : (ss : List LogSegment) → clean.waiting (map (kept_segment past task) ss) ≡ map (kept_segment past task) (filter (λ s. not (is_chosen past task s)) ss)
+  pub waiting_kept : (ss : List LogSegment) → clean.waiting (map (kept_segment w) ss) ≡ map (kept_segment w) (filter (λ s. not (is_chosen w.choices s)) ss)
   waiting_kept [] = refl
   waiting_kept (s ∷ ss) =
       let rest = waiting_kept ss in
-      elim (cases_Bool (is_chosen past task s)) [
-        | inl chosen ↦ ap (λ b. if b then kept_segment past task s ∷ clean.waiting (map (kept_segment past task) ss) else clean.waiting (map (kept_segment past task) ss)) (waits_same s ∙ ap not chosen)
-            ∙ (rest ∙ ap (λ b. map (kept_segment past task) (if not b then s ∷ filter (λ x. not (is_chosen past task x)) ss else filter (λ x. not (is_chosen past task x)) ss)) (sym chosen))
-        | inr left ↦ ap (λ b. if b then kept_segment past task s ∷ clean.waiting (map (kept_segment past task) ss) else clean.waiting (map (kept_segment past task) ss)) (waits_same s ∙ ap not left)
-            ∙ (ap (λ xs. kept_segment past task s ∷ xs) rest ∙ ap (λ b. map (kept_segment past task) (if not b then s ∷ filter (λ x. not (is_chosen past task x)) ss else filter (λ x. not (is_chosen past task x)) ss)) (sym left))
+      elim (cases_Bool (is_chosen w.choices s)) [
+        | inl chosen ↦ ap (λ b. if b then kept_segment w s ∷ clean.waiting (map (kept_segment w) ss) else clean.waiting (map (kept_segment w) ss)) (waits_same s ∙ ap not chosen)
+            ∙ (rest ∙ ap (λ b. map (kept_segment w) (if not b then s ∷ filter (λ x. not (is_chosen w.choices x)) ss else filter (λ x. not (is_chosen w.choices x)) ss)) (sym chosen))
+        | inr left ↦ ap (λ b. if b then kept_segment w s ∷ clean.waiting (map (kept_segment w) ss) else clean.waiting (map (kept_segment w) ss)) (waits_same s ∙ ap not left)
+            ∙ (ap (λ xs. kept_segment w s ∷ xs) rest ∙ ap (λ b. map (kept_segment w) (if not b then s ∷ filter (λ x. not (is_chosen w.choices x)) ss else filter (λ x. not (is_chosen w.choices x)) ss)) (sym left))
       ]
 
-  better_same : (a b : LogSegment) → clean.is_better (kept_segment past task a) (kept_segment past task b) ≡ is_better a b
+  better_same : (a b : LogSegment) → clean.is_better (kept_segment w a) (kept_segment w b) ≡ is_better a b
   better_same a b =
-      let x : length (kept_segment past task a).live ≡ live_count a = lives (terms_of past task).block a.first a.live in
-      let y : length (kept_segment past task b).live ≡ live_count b = lives (terms_of past task).block b.first b.live in
+      let x : length (kept_segment w a).live ≡ live_count a = lives w.terms.block a.first a.live in
+      let y : length (kept_segment w b).live ≡ live_count b = lives w.terms.block b.first b.live in
       rw (x, y) refl
 
-  pub best_kept : (s : LogSegment) (ss : List LogSegment) → best_of clean.is_better (kept_segment past task s) (map (kept_segment past task) ss) ≡ kept_segment past task (best_of is_better s ss)
-  best_kept s ss = best_map (kept_segment past task) is_better clean.is_better better_same s ss
+  pub best_kept : (s : LogSegment) (ss : List LogSegment) → best_of clean.is_better (kept_segment w s) (map (kept_segment w) ss) ≡ kept_segment w (best_of is_better s ss)
+  best_kept s ss = best_map (kept_segment w) is_better clean.is_better better_same s ss
 
   -- the session's choice is the history's
-  pub choice_kept : (log : clean.Cleaning) → log.segments ≡ map (kept_segment past task) (segments past task) → log.unfinished ≡ None → (left : List LogSegment) → unchosen past task ≡ left → clean.choice_of log ≡ number_of_best left
+  pub choice_kept : (log : clean.Cleaning) → log.segments ≡ map (kept_segment w) w.segments → log.unfinished ≡ None → (left : List LogSegment) → unchosen w ≡ left → clean.choice_of log ≡ number_of_best left
   choice_kept log all idle left is_left =
       ap (λ u. clean.choice_while u log.segments) idle
       ∙ (ap (λ ss. clean.number_of (clean.first_best (clean.waiting ss))) all
-      ∙ (ap (λ ss. clean.number_of (clean.first_best ss)) (waiting_kept (segments past task) ∙ ap (map (kept_segment past task)) is_left) ∙ of_left left)) where
-        of_left : (xs : List LogSegment) → clean.number_of (clean.first_best (map (kept_segment past task) xs)) ≡ number_of_best xs
+      ∙ (ap (λ ss. clean.number_of (clean.first_best ss)) (waiting_kept w.segments ∙ ap (map (kept_segment w)) is_left) ∙ of_left left)) where
+        of_left : (xs : List LogSegment) → clean.number_of (clean.first_best (map (kept_segment w) xs)) ≡ number_of_best xs
         of_left [] = refl
         of_left (s ∷ ss) = ap (λ (x : clean.LogSegment). Some x.number) (best_kept s ss)
 

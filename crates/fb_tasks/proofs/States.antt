@@ -1,15 +1,19 @@
 -- The states of registered blocks, suspended or not.
-use Rattle.std.proofs.Common.{◌≡◌, ℕ, ◌==◌, ◌&&◌, not, if◌then◌else◌, List, [], ◌∷◌, Bool, true, false, inl, inr, map, refl, ap, ◌∙◌}
+use Rattle.std.proofs.Common.{◌≡◌, ℕ, ◌&&◌, not, if◌then◌else◌, List, [], ◌∷◌, Bool, true, false, Option, inl, inr, refl, sym, ◌∙◌}
 use Rattle.std.specs.List.{AllByRecursion}
 use Rattle.std.proofs.lemmas.Bool.{cases_Bool, true≢false}
 use Rattle.fb_wanted.specs.declared.block.Block.{Block}
-use Rattle.fb_wanted.specs.declared.block.Change.{Change}
-use Rattle.fb_wanted.specs.declared.block.Entry.{Entry}
 use Rattle.fb_wanted.specs.declared.block.State.{State}
 use Rattle.fb_wanted.specs.declared.block.State.TheVariants.{Wanted, Suspended, Delivered, Aborted}
-use Rattle.fb_wanted.specs.States.{is_wanted, is_delivered, is_suspended, is_open, is_aborted, wanted_unless, state_after, after}
-use Rattle.fb_model.specs.History.{Past, bare_state, state, registered, registers, delivers, aborts, overwrites, is_open_backup}
-use Rattle.fb_tasks.specs.Standing.{entry_of}
+use Rattle.fb_wanted.specs.States.{is_wanted, is_delivered, is_suspended, is_open, is_aborted, wanted_unless}
+use Rattle.fb_model.specs.History.{Past, bare_state, registers, delivers, aborts, overwrites, is_open_backup}
+use Rattle.fb_model.specs.Completion.{Work, TaskView, view, own_of, ended, with_states}
+use Rattle.fb_store.specs.declared.content.Content.{Content}
+use Rattle.fb_tasks.specs.Standing.{HoldsBlock, Told}
+use Rattle.fb_tasks.specs.declared.session.Session.{Session}
+use Rattle.fb_calls.specs.Sessions.{is_clean}
+use Rattle.fb_store.specs.Index.{held_at}
+use Rattle.fb_tasks.proofs.Lists.{all_weaker}
 
 -- a block of a task that is held back is suspended where it would be wanted
 abbrev pub shown : State → Bool → State
@@ -87,13 +91,32 @@ never_suspended (event ∷ past) block = elim (cases_Bool (registers event block
   ])
 ]
 
--- where each block is changed as the history says, the wanted set holds the blocks as the history leaves them
-pub after_changed : (past new : Past) (task : ℕ) (change : Change) (held : List Entry) → held ≡ map (entry_of past) (registered past)
-    → AllByRecursion (λ block. (if block.task == task then state_after change block (state past block) else state past block) ≡ state new block) (registered past)
-    → after task change held ≡ map (entry_of new) (registered past)
-after_changed past new task change held same each =
-    ap (after task change) same ∙ changed_each (registered past) each where
-      changed_each : (bs : List Block) → AllByRecursion (λ block. (if block.task == task then state_after change block (state past block) else state past block) ≡ state new block) bs
-          → after task change (map (entry_of past) bs) ≡ map (entry_of new) bs
-      changed_each [] h = refl
-      changed_each (b ∷ bs) h = rw (h.0, changed_each bs h.1) refl
+pub never_held_back : (past : Past) (task : ℕ) (block : Block) → is_suspended ((view past task).bare block) ≡ false
+unfolding view
+never_held_back past task block = never_suspended past (own_of task block)
+
+-- what is aborted was not delivered
+pub ended-done : (hit : Bool) (before : State) → is_delivered (ended hit before) ≡ is_delivered before
+ended-done true Wanted = refl
+ended-done true Suspended = refl
+ended-done true Delivered = refl
+ended-done true Aborted = refl
+ended-done false before = refl
+
+-- where no more is delivered than before, what is held is as it was
+pub holds-fewer : (work : Work) (change : Block → State → State) → ((block : Block) (before : State) → is_delivered (change block before) ≡ true → is_delivered before ≡ true) → (held : ℕ → Option Content) (blocks : List Block)
+    → AllByRecursion (HoldsBlock work held) blocks → AllByRecursion (HoldsBlock (record work { bare = λ block. change block (work.bare block) }) held) blocks
+holds-fewer work change fewer held blocks = all_weaker (HoldsBlock work held) (HoldsBlock (record work { bare = λ block. change block (work.bare block) }) held) (λ block holds done. holds (fewer block (work.bare block) done)) blocks
+
+-- the states of a session change that cleans no log, and no more is delivered than before
+pub states-told : (change : Block → State → State) → ((block : Block) (before : State) → is_delivered (change block before) ≡ true → is_delivered before ≡ true) → (v : TaskView) (session : Session) → is_clean session.kind ≡ false
+    → Told v session → Told (with_states change v) session
+states-told change fewer v session other h = record {
+  stands = record {
+    terms = h.terms; weight = h.weight; block = h.block; suspended = h.suspended; closed = h.closed; complete = h.complete; sealed = h.sealed; ascend = h.ascend; unwanted = h.unwanted; unchosen = h.unchosen;
+    image = λ is_open. let image = h.image is_open in record { each = holds-fewer v.work change fewer (held_at session.image) v.blocks image.each; only = image.only };
+    log = λ cleans. absurd (true≢false (sym cleans ∙ other));
+  };
+  at_work = λ cleans. absurd (true≢false (sym cleans ∙ other));
+  reported = rw (h.unchosen other) tt;
+}

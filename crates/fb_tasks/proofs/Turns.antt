@@ -6,14 +6,13 @@ use Rattle.fb_geometry.specs.Shape.{Shape}
 use Rattle.fb_calls.specs.Sessions.{is_clean}
 use Rattle.fb_wanted.specs.declared.block.Entry.{Entry}
 use Rattle.fb_rows.specs.declared.back.BackRow.{BackRow}
-use Rattle.fb_model.specs.History.{Past, terms_of}
-use Rattle.fb_model.specs.Completion.{segments, choices, is_closed}
+use Rattle.fb_model.specs.History.{Past}
+use Rattle.fb_model.specs.Completion.{view}
 use Rattle.fb_model.specs.Segments.{choose_once, choose_up_to, choose_in}
 use Rattle.fb_model.specs.Images.{segment_rows, is_newly_cleaned}
 use Rattle.fb_tasks.specs.declared.session.Session.{Session}
 use Rattle.fb_tasks.specs.Taken.{by_deliveries}
 use Rattle.fb_tasks.specs.Standing.{Stands, MayChoose, HasChosen, AreReported, kept_segment}
-use Rattle.fb_tasks.proofs.ChoiceSteps.{segment_rows_of}
 use Rattle.fb_tasks.proofs.Lists.{filter_none}
 
 pub up_to_more : (n : ℕ) (disk : Shape) (task : ℕ) (past : Past) → choose_up_to (n + 1) disk task past ≡ choose_once disk task (choose_up_to n disk task past)
@@ -32,19 +31,21 @@ up_to_split (suc k) m disk task past = ap (λ n. choose_up_to n disk task past) 
 up_to_rest : (k n : ℕ) (disk : Shape) (task : ℕ) (past : Past) → k ≤ n → choose_once disk task (choose_up_to k disk task past) ≡ choose_up_to k disk task past → choose_up_to n disk task past ≡ choose_up_to k disk task past
 up_to_rest k n disk task past le still = ap (λ i. choose_up_to i disk task past) (let e : n ≡ k + (n - k) = omega arith in e) ∙ (up_to_split k (n - k) disk task past ∙ up_to_still (n - k) disk task (choose_up_to k disk task past) still)
 
-may_same : (past : Past) (task : ℕ) (session : Session) → Stands past task session → (is_clean (terms_of past task).kind && not (is_closed past task)) ≡ (is_clean session.kind && not session.closed)
-may_same past task session stands = ap (λ t. is_clean t.kind && not (is_closed past task)) stands.terms ∙ ap (λ b. is_clean session.kind && not b) (sym stands.closed)
+pub in_is : (disk : Shape) (past : Past) (task : ℕ) → choose_in disk past task ≡ (if is_clean (view past task).terms.kind && not (view past task).closed then choose_up_to (length (view past task).segments) disk task past else past)
+unfolding view
+in_is disk past task = refl
 
 -- a task that doesn't choose stays
-not_in : (disk : Shape) (past : Past) (task : ℕ) (session : Session) → Stands past task session → (is_clean session.kind && not session.closed) ≡ false → choose_in disk past task ≡ past
-not_in disk past task session stands h = ap (λ b. if b then choose_up_to (length (segments past task)) disk task past else past) (may_same past task session stands ∙ h)
+not_in : (disk : Shape) (past : Past) (task : ℕ) (session : Session) → Stands (view past task) session → (is_clean session.kind && not session.closed) ≡ false → choose_in disk past task ≡ past
+not_in disk past task session stands h = in_is disk past task ∙ rw (stands.terms, sym stands.closed, h) refl
 
-all_in : (disk : Shape) (past : Past) (task : ℕ) (session : Session) → Stands past task session → (is_clean session.kind && not session.closed) ≡ true → choose_in disk past task ≡ choose_up_to (length (segments past task)) disk task past
-all_in disk past task session stands h = ap (λ b. if b then choose_up_to (length (segments past task)) disk task past else past) (may_same past task session stands ∙ h)
+all_in : (disk : Shape) (past : Past) (task : ℕ) (session : Session) → Stands (view past task) session → (is_clean session.kind && not session.closed) ≡ true → choose_in disk past task ≡ choose_up_to (length (view past task).segments) disk task past
+all_in disk past task session stands h = in_is disk past task ∙ rw (stands.terms, sym stands.closed, h) refl
 
 -- where each segment has its row none is given
-pub reported_rows : (past : Past) (now task : ℕ) → AreReported past task → segment_rows by_deliveries past now task ≡ []
-reported_rows past now task h = ap (segment_rows_of past now task) (filter_none (is_newly_cleaned past task) (choices past task) h)
+pub reported_rows : (past : Past) (now task : ℕ) → AreReported (view past task).work → segment_rows by_deliveries past now task ≡ []
+unfolding view
+reported_rows past now task h = rw (filter_none (is_newly_cleaned (view past task).work) (view past task).choices h) refl
 
 has_of : (disk : Shape) (past : Past) (task : ℕ) (session : Session) (held : List Entry) → MayChoose disk past task session held → HasChosen disk past task session held
 has_of disk past task session held h = record { blocks = h.blocks; stands = h.stands; at_work = h.at_work }
@@ -52,7 +53,7 @@ has_of disk past task session held h = record { blocks = h.blocks; stands = h.st
 pub idle-chosen : (disk : Shape) (past : Past) (task : ℕ) (session : Session) (held : List Entry) → (is_clean session.kind && not session.closed) ≡ false → MayChoose disk past task session held → HasChosen disk (choose_in disk past task) task session held
 idle-chosen disk past task session held none may = subst (λ p. HasChosen disk p task session held) (sym (not_in disk past task session may.stands none)) (has_of disk past task session held may)
 
-pub idle-rows : (disk : Shape) (past : Past) (now task : ℕ) (session : Session) (held : List Entry) (rows : List BackRow) → (is_clean session.kind && not session.closed) ≡ false → MayChoose disk past task session held → AreReported past task
+pub idle-rows : (disk : Shape) (past : Past) (now task : ℕ) (session : Session) (held : List Entry) (rows : List BackRow) → (is_clean session.kind && not session.closed) ≡ false → MayChoose disk past task session held → AreReported (view past task).work
     → rows ≡ rows ++ segment_rows by_deliveries (choose_in disk past task) now task
 idle-rows disk past now task session held rows none may reported =
     sym (append-nil rows) ∙ (ap (λ rs. rows ++ rs) (sym (reported_rows past now task reported)) ∙ ap (λ p. rows ++ segment_rows by_deliveries p now task) (sym (not_in disk past task session may.stands none)))
@@ -62,14 +63,14 @@ pub turns_in : (disk : Shape) (past : Past) (task k n : ℕ) (session : Session)
     → choose_once disk task (choose_up_to k disk task past) ≡ choose_up_to k disk task past → choose_in disk past task ≡ choose_up_to k disk task past
 turns_in disk past task k n session held may_be count may le still =
     all_in disk past task session may.stands may_be
-    ∙ (ap (λ i. choose_up_to i disk task past) (sym (ap length ((may.stands.log (and_parts (is_clean session.kind) (not session.closed) may_be).0).segments) ∙ length-map (segments past task) (kept_segment past task)))
+    ∙ (ap (λ i. choose_up_to i disk task past) (sym (ap length ((may.stands.log (and_parts (is_clean session.kind) (not session.closed) may_be).0).segments) ∙ length-map (view past task).segments (kept_segment (view past task).work)))
     ∙ up_to_rest k (length session.log.segments) disk task past (omega (arith, le, count)) still)
 
 pub turns_all : (disk : Shape) (past : Past) (task n : ℕ) (session : Session) (held : List Entry) → (is_clean session.kind && not session.closed) ≡ true → n ≡ length session.log.segments → MayChoose disk past task session held
     → choose_in disk past task ≡ choose_up_to n disk task past
 turns_all disk past task n session held may_be count may =
     all_in disk past task session may.stands may_be
-    ∙ ap (λ i. choose_up_to i disk task past) (sym (count ∙ (ap length ((may.stands.log (and_parts (is_clean session.kind) (not session.closed) may_be).0).segments) ∙ length-map (segments past task) (kept_segment past task))))
+    ∙ ap (λ i. choose_up_to i disk task past) (sym (count ∙ (ap length ((may.stands.log (and_parts (is_clean session.kind) (not session.closed) may_be).0).segments) ∙ length-map (view past task).segments (kept_segment (view past task).work))))
 
 pub turned-chosen : (disk : Shape) (past next : Past) (task : ℕ) (session : Session) (held : List Entry) → choose_in disk past task ≡ next → MayChoose disk next task session held → HasChosen disk (choose_in disk past task) task session held
 turned-chosen disk past next task session held e may = subst (λ p. HasChosen disk p task session held) (sym e) (has_of disk next task session held may)

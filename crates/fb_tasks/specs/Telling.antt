@@ -1,6 +1,6 @@
 -- The sessions and the wanted set tell what a history has made of tasks and blocks.
-use Rattle.std.specs.Prelude.{◌≡◌, ◌≤◌, ◌<◌, ◌^◌, ◌*◌, ◌+◌, ◌-◌, ℕ, List, [], ◌∷◌, Some, length, map, slice_get}
-use Rattle.std.specs.List.{AllByRecursion, sum_by}
+use Rattle.std.specs.Prelude.{◌≡◌, ◌≤◌, ◌<◌, ◌^◌, ◌*◌, ◌+◌, ◌-◌, ℕ, List, [], ◌∷◌, Some, length, slice_get}
+use Rattle.std.specs.List.{sum_by}
 use Rattle.fb_geometry.specs.Shape.{Shape}
 use Rattle.fb_calls.specs.declared.call.Action.{Action}
 use Rattle.fb_calls.specs.declared.call.Call.{Call}
@@ -10,25 +10,23 @@ use Rattle.fb_rows.specs.declared.back.DeliveryRow.{DeliveryRow}
 use Rattle.fb_rows.specs.Ranges.{AreRanges}
 use Rattle.fb_store.specs.declared.content.Content.{Content}
 use Rattle.fb_store.specs.Pieces.{Gives}
-use Rattle.fb_model.specs.History.{tested, Past, tasks, task_numbers, terms_of, registered, blocks_of, wanted}
-use Rattle.fb_model.specs.Completion.{is_complete, was_complete, segments}
+use Rattle.fb_model.specs.History.{tested, Past, tasks, task_numbers, registered, wanted}
+use Rattle.fb_model.specs.Completion.{is_complete, was_complete, view}
 use Rattle.fb_model.specs.Segments.{with_choices}
 use Rattle.fb_model.specs.Course.{blocks_by}
 use Rattle.fb_model.specs.Images.{Sources, test_rows}
 use Rattle.fb_tasks.specs.declared.session.Session.{Session}
-pub use Rattle.fb_tasks.specs.Standing.{calls_by, calls_of, entry_of, IsBlockOf}
-use Rattle.fb_tasks.specs.Standing.{Told, AreIndexed, IsUntouched, IsSegmentOf, choosable_by}
+pub use Rattle.fb_model.specs.History.{calls_of}
+pub use Rattle.fb_tasks.specs.Standing.{entry_of, IsBlockOf}
+use Rattle.fb_tasks.specs.Standing.{HoldsBlocks, Told, choosable_by}
 use Rattle.fb_tasks.specs.Taken.{by_deliveries}
 
 -- one session for each task, in order of opening, and each registered block in its state, in order of registration
 pub record Tells (disk : Shape) (past : Past) (sessions : List Session) (held : List Entry) : Type 0 where
   pub as_many : length sessions ≡ length (tasks past)
-  pub each : (task : ℕ) (session : Session) → slice_get sessions task ≡ Some session → Told past task session
-  pub entries : held ≡ map (entry_of past) (registered past)
-  pub on_disk : AllByRecursion (IsBlockOf disk (length (tasks past))) (registered past)
-  pub indexed : (task : ℕ) → AreIndexed 0 (blocks_of past task)
-  pub unopened : (task : ℕ) → length (tasks past) ≤ task → IsUntouched past task
-  pub segments : (task : ℕ) → AllByRecursion (IsSegmentOf disk (terms_of past task).block) (segments past task)
+  pub each : (task : ℕ) (session : Session) → slice_get sessions task ≡ Some session → Told (view past task) session
+  pub blocks : HoldsBlocks disk past held
+  pub open blocks use *
 
 -- how many blocks the choices of the segments not yet chosen can register
 abbrev pub choosable : Shape → Past → ℕ

@@ -5,6 +5,7 @@ ghost use Rattle.fb_rows.specs.declared.back.BackRow.{BackRow as Row};
 ghost use Rattle.fb_model.specs.History.{Past};
 ghost use Rattle.fb_model.specs.Segments.{choose_once, choose_in};
 ghost use Rattle.fb_model.specs.Images.{segment_rows};
+ghost use Rattle.fb_model.specs.Completion.{view};
 ghost use Rattle.fb_tasks.specs.Taken.{by_deliveries};
 ghost use Rattle.fb_tasks.specs.Standing.{MayChoose, HasChosen, AreReported};
 
@@ -32,7 +33,7 @@ impl Session {
     ) -> Result<(), NoMemory>
         requires { (past : Past) × MayChoose map.now past task self.old wanted.old }
         ensures chosen { OnOk result ((past : Past) → MayChoose map.now past task self.old wanted.old → HasChosen map.now (choose_in map.now past task) task self.new wanted.new) }
-        ensures rows { OnOk result ((past : Past) → MayChoose map.now past task self.old wanted.old → AreReported past task → rows.new ≡ rows.old ++ segment_rows by_deliveries (choose_in map.now past task) now task) }
+        ensures rows { OnOk result ((past : Past) → MayChoose map.now past task self.old wanted.old → AreReported (view past task).work → rows.new ≡ rows.old ++ segment_rows by_deliveries (choose_in map.now past task) now task) }
     {
         if !self.may_choose() {
             return Ok(());

@@ -9,8 +9,8 @@ ghost use Rattle.fb_wanted.specs.States.{is_block, is_delivered};
 ghost use Rattle.fb_clean.specs.Segments.{live_of};
 ghost use Rattle.fb_rows.specs.declared.back.BackRow.{BackRow as Row};
 ghost use Rattle.fb_rows.specs.declared.back.BackRow.TheVariants.{Segment as SegmentLine, Complete as CompleteLine};
-ghost use Rattle.fb_model.specs.History.{Past, tested, blocks_of, bare_state, is_open_backup};
-ghost use Rattle.fb_model.specs.Completion.{is_complete};
+ghost use Rattle.fb_model.specs.History.{Past, tested, is_open_backup};
+ghost use Rattle.fb_model.specs.Completion.{view, is_complete};
 ghost use Rattle.fb_model.specs.Images.{segment_rows, seal_rows, complete_rows};
 ghost use Rattle.fb_tasks.specs.Keeping.{IsSameButImage, IsSealed, without_aborted};
 ghost use Rattle.fb_tasks.specs.Taken.{by_deliveries, found_for};
@@ -35,7 +35,7 @@ impl Session {
         rows: &mut BackRows,
     ) -> Result<(), NoMemory>
         ensures { OnOk result ((disk : Shape) (past : Past) → MayFinish disk past task self.old wanted.now
-            → (Stands past task self.new) × (IsAtWork past task self.new) × (rows.new ≡ rows.old ++ segment_rows by_deliveries past now task)) }
+            → (Stands (view past task) self.new) × (IsAtWork (view past task).work self.new) × (rows.new ≡ rows.old ++ segment_rows by_deliveries past now task)) }
     {
         let counts = wanted.counts(task);
         if counts.delivered != counts.registered {
@@ -96,8 +96,8 @@ impl Session {
         rows: &mut BackRows,
     ) -> Result<(), NoMemory>
         requires { (disk : Shape) × (past : Past) × HasChosen disk past task self.old wanted.now }
-        ensures session { OnOk result ((disk : Shape) (past : Past) (all : List Row) → HasChosen disk past task self.old wanted.now → AreRowsOf past task all
-            → (Stands (tested all ∷ past) task self.new) × (IsAtWork (tested all ∷ past) task self.new)) }
+        ensures session { OnOk result ((disk : Shape) (past : Past) (all : List Row) → HasChosen disk past task self.old wanted.now → AreRowsOf task (view past task) all
+            → (Stands (view (tested all ∷ past) task) self.new) × (IsAtWork (view (tested all ∷ past) task).work self.new)) }
         ensures rows { OnOk result ((disk : Shape) (past : Past) → HasChosen disk past task self.old wanted.now
             → rows.new ≡ rows.old ++ seal_rows by_deliveries past now task ++ complete_rows past now task) }
     {
@@ -118,7 +118,7 @@ impl Session {
     ) -> Result<(), NoMemory>
         requires { (disk : Shape) × (past : Past) × HoldsBlocks disk past wanted.now }
         ensures session { OnOk result (IsSealed (complete && (is_backup self.old.kind && not self.old.sealed)) self.old self.new) }
-        ensures rows { OnOk result ((disk : Shape) (past : Past) → HoldsBlocks disk past wanted.now → Stands past task self.old → complete ≡ is_complete past task
+        ensures rows { OnOk result ((disk : Shape) (past : Past) → HoldsBlocks disk past wanted.now → Stands (view past task) self.old → complete ≡ is_complete past task
             → rows.new ≡ rows.old ++ seal_rows by_deliveries past now task) }
     {
         if !complete || !self.is_open_backup() {
@@ -163,8 +163,8 @@ impl Session {
         requires blocks { (disk : Shape) × (past : Past) × HoldsBlocks disk past wanted.now }
         requires registered { registered ≡ (counts_of task wanted.now).registered }
         ensures session { OnOk result (IsSealed true self.old self.new) }
-        ensures content { IfOk result (λ content. (disk : Shape) (past : Past) → HoldsBlocks disk past wanted.now → Stands past task self.old → is_open_backup past task ≡ true → is_complete past task ≡ true
-            → content ≡ found_for past (filter (λ block. is_delivered (bare_state past block)) (blocks_of past task))) }
+        ensures content { IfOk result (λ content. (disk : Shape) (past : Past) → HoldsBlocks disk past wanted.now → Stands (view past task) self.old → is_open_backup past task ≡ true → is_complete past task ≡ true
+            → content ≡ found_for (view past task).work (filter (λ block. is_delivered ((view past task).bare block)) (view past task).blocks)) }
     {
         self.sealed = true;
         for index in 0..registered {

@@ -1,5 +1,8 @@
-use Rattle.fb_tasks.proofs.Quiet.{read-tells}
+use Rattle.std.proofs.Common.{refl}
+use Rattle.fb_model.specs.History.{finished}
+use Rattle.fb_model.proofs.Views.{read-silent}
+use Rattle.fb_tasks.proofs.Frames.{silent-tells}
 use Rattle.fb_tasks.proofs.sessions.reads_change_nothing.Goals as goal
 
 pub returns : goal.returns
-returns c = λ disk past request sessions entries read h. read-tells past request read disk sessions entries h
+returns c = λ disk past request sessions entries read h. silent-tells disk past (finished request) sessions entries (λ task. read-silent past request task read) refl refl h

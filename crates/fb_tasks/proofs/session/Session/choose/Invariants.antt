@@ -4,6 +4,7 @@ use Rattle.fb_model.specs.History.{Past}
 use Rattle.fb_model.specs.Segments.{choose_up_to}
 use Rattle.fb_model.specs.Images.{segment_rows}
 use Rattle.fb_tasks.specs.Taken.{by_deliveries}
+use Rattle.fb_model.specs.Completion.{view}
 use Rattle.fb_tasks.specs.Standing.{MayChoose, AreReported}
 use Rattle.fb_tasks.proofs.session.Session.choose.Given as goal
 
@@ -12,5 +13,5 @@ abbrev pub invariant-loop-turn : goal.invariant-loop-turn
 invariant-loop-turn l = record {
   cleans : (is_clean l.self.kind ≡ true) × (l.self.closed ≡ false);
   chosen : (past : Past) → MayChoose l.map past l.task l.initial.self l.initial.wanted → MayChoose l.map (choose_up_to l._turn l.map l.task past) l.task l.self l.wanted;
-  rows : (past : Past) → MayChoose l.map past l.task l.initial.self l.initial.wanted → AreReported past l.task → l.rows ≡ l.initial.rows ++ segment_rows by_deliveries (choose_up_to l._turn l.map l.task past) l.now l.task;
+  rows : (past : Past) → MayChoose l.map past l.task l.initial.self l.initial.wanted → AreReported (view past l.task).work → l.rows ≡ l.initial.rows ++ segment_rows by_deliveries (choose_up_to l._turn l.map l.task past) l.now l.task;
 }

@@ -7,12 +7,13 @@ use Rattle.fb_geometry.specs.Shape.{Shape}
 use Rattle.fb_store.specs.Pieces.{held_in, EndsBy}
 use Rattle.fb_store.specs.Runs.{runs_of}
 use Rattle.fb_wanted.specs.States.{is_delivered}
-use Rattle.fb_model.specs.History.{Past, blocks_of, bare_state, is_open_backup}
-use Rattle.fb_model.specs.Completion.{is_complete}
+use Rattle.fb_model.specs.History.{Past, is_open_backup}
+use Rattle.fb_model.specs.Completion.{view, is_complete}
 use Rattle.fb_tasks.specs.Taken.{found_for}
 use Rattle.fb_tasks.specs.Keeping.{without_aborted}
-use Rattle.fb_tasks.specs.Standing.{entry_of, HoldsBlocks, Stands}
-use Rattle.fb_tasks.proofs.Sealed.{entry_at, block_at, all_blocks, dropped, dropped_next, sealed_content}
+use Rattle.fb_tasks.specs.Standing.{entry_in, HoldsBlocks, Stands}
+use Rattle.fb_tasks.proofs.Complete.{done_is}
+use Rattle.fb_tasks.proofs.Sealed.{entry_at, open_is, block_at, all_blocks, dropped, dropped_next, sealed_content}
 use Rattle.fb_tasks.proofs.session.Session.seal.Goals as goal
 
 pub drop_aborted-requires : goal.drop_aborted-requires
@@ -21,7 +22,7 @@ drop_aborted-requires c =
     let holds = c.requires.blocks.2 in
     let block = block_at holds c.args.task c.loop-index.index c.args.registered c.requires.registered c.loop-index-test.true in
     let entry = entry_at holds c.args.task c.loop-index.index block.0 block.1 in
-    (entry_of past block.0, entry.place, entry.at, entry.is_block, entry.within)
+    (entry_in (view past c.args.task) block.0, entry.place, entry.at, entry.is_block, entry.within)
 
 pub loop-index-preserved : goal.loop-index-preserved
 loop-index-preserved c = record {
@@ -39,18 +40,18 @@ loop-index-preserved c = record {
   image = λ disk past holds lbn.
       let block = block_at holds c.args.task c.loop-index.index c.args.registered c.requires.registered c.loop-index-test.true in
       let entry = entry_at holds c.args.task c.loop-index.index block.0 block.1 in
-      c.in_ok-drop_aborted.ensures.image (entry_of past block.0) entry.place lbn entry.at entry.is_block
-      ∙ (ap (without_aborted (entry_of past block.0) lbn) (c.loop-index.invariant.image disk past holds lbn)
-      ∙ dropped_next past lbn (held_at c.args.self.now.image lbn) (blocks_of past c.args.task) c.loop-index.index block.0 block.1);
+      c.in_ok-drop_aborted.ensures.image (entry_in (view past c.args.task) block.0) entry.place lbn entry.at entry.is_block
+      ∙ (ap (without_aborted (entry_in (view past c.args.task) block.0) lbn) (c.loop-index.invariant.image disk past holds lbn)
+      ∙ dropped_next (view past c.args.task) lbn (held_at c.args.self.now.image lbn) (view past c.args.task).blocks c.loop-index.index block.0 block.1);
 }
 
 pub returns-clause-content : goal.returns-clause-content
 returns-clause-content c = IfOk-weaker c.contents.result
     (λ runs. (end : ℕ) → EndsBy (held_at c.loop-index.self.image) end → runs ≡ runs_of (held_in (held_at c.loop-index.self.image) (range_with_len 0 end)))
-    (λ content. (disk : Shape) (past : Past) → HoldsBlocks disk past c.args.wanted.now → Stands past c.args.task c.args.self.now → is_open_backup past c.args.task ≡ true → is_complete past c.args.task ≡ true
-    → content ≡ found_for past (filter (λ block. is_delivered (bare_state past block)) (blocks_of past c.args.task)))
+    (λ content. (disk : Shape) (past : Past) → HoldsBlocks disk past c.args.wanted.now → Stands (view past c.args.task) c.args.self.now → is_open_backup past c.args.task ≡ true → is_complete past c.args.task ≡ true
+    → content ≡ found_for (view past c.args.task).work (filter (λ block. is_delivered ((view past c.args.task).bare block)) (view past c.args.task).blocks))
     (λ content gives disk past holds stands is_open complete.
     let whole : c.loop-index.index ≡ c.args.registered = omega (arith, c.loop-index-test.false, c.loop-index.auto.index-end) in
-    sealed_content holds c.args.task c.args.self.now (held_at c.loop-index.self.image) content stands is_open complete
-    (λ lbn. c.loop-index.invariant.image disk past holds lbn ∙ ap (dropped past lbn (held_at c.args.self.now.image lbn)) (all_blocks holds c.args.task c.loop-index.index (whole ∙ c.requires.registered)))
+    sealed_content holds c.args.task c.args.self.now (held_at c.loop-index.self.image) content stands (open_is past c.args.task ∙ is_open) (done_is past c.args.task ∙ complete)
+    (λ lbn. c.loop-index.invariant.image disk past holds lbn ∙ ap (dropped (view past c.args.task) lbn (held_at c.args.self.now.image lbn)) (all_blocks holds c.args.task c.loop-index.index (whole ∙ c.requires.registered)))
     c.contents.ensures.ends gives) c.contents.ensures.fewest

@@ -1,7 +1,8 @@
 use Rattle.std.proofs.Common.{◌≡◌, ℕ, take, true}
 use Rattle.fb_geometry.specs.Shape.{Shape}
 use Rattle.fb_store.specs.Index.{held_at}
-use Rattle.fb_model.specs.History.{Past, blocks_of}
+use Rattle.fb_model.specs.History.{Past}
+use Rattle.fb_model.specs.Completion.{view}
 use Rattle.fb_tasks.specs.Keeping.{IsSealed}
 use Rattle.fb_tasks.specs.Standing.{HoldsBlocks}
 use Rattle.fb_tasks.proofs.Sealed.{dropped}
@@ -11,5 +12,5 @@ use Rattle.fb_tasks.proofs.session.Session.seal.Given as goal
 abbrev pub invariant-loop-index : goal.invariant-loop-index
 invariant-loop-index l = record {
   sealed : IsSealed true l.fn.self l.self;
-  image : (disk : Shape) (past : Past) → HoldsBlocks disk past l.wanted → (lbn : ℕ) → held_at l.self.image lbn ≡ dropped past lbn (held_at l.fn.self.image lbn) (take l.index (blocks_of past l.task));
+  image : (disk : Shape) (past : Past) → HoldsBlocks disk past l.wanted → (lbn : ℕ) → held_at l.self.image lbn ≡ dropped (view past l.task) lbn (held_at l.fn.self.image lbn) (take l.index (view past l.task).blocks);
 }

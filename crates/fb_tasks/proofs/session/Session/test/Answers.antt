@@ -1,10 +1,12 @@
 use Rattle.std.proofs.Common.{ap, ap₂, ◌∙◌, ◌++◌, ◌∷◌, [], ◌&&◌, not, if◌then◌else◌, subst, rules}
 use Rattle.std.proofs.lemmas.Result.{on_ok_weaker}
 use Rattle.fb_rows.specs.declared.back.BackRow.TheVariants.{Complete as CompleteLine}
+use Rattle.fb_model.specs.Completion.{view}
+use Rattle.fb_model.proofs.Views.{tested-view}
 use Rattle.fb_model.specs.Images.{seal_rows}
 use Rattle.fb_tasks.specs.Keeping.{complete_by, IsSealed}
 use Rattle.fb_tasks.specs.Taken.{by_deliveries}
-use Rattle.fb_tasks.proofs.Complete.{complete_same, counts_small}
+use Rattle.fb_tasks.proofs.Complete.{done_same, done_is, was_is, counts_small}
 use Rattle.fb_tasks.proofs.Sealed.{seals_same}
 use Rattle.fb_tasks.proofs.Tested.{stands-tested, at_work-tested, noted}
 use Rattle.fb_tasks.proofs.session.Session.test.Goals as goal
@@ -14,17 +16,17 @@ is_complete-complete-requires c = counts_small c.requires.1 c.args.task c.args.w
 
 pub returns-clause-session : goal.returns-clause-session
 returns-clause-session c = on_ok_weaker c.add_completion.result (λ _ disk past all may given.
-    let says = c.is_complete-complete.ensures ∙ (ap (complete_by c.args.self.now) c.counts.ensures ∙ complete_same past c.args.task c.args.self.now c.args.wanted.now may.stands may.at_work may.blocks.entries) in
+    let says = c.is_complete-complete.ensures ∙ (ap (complete_by c.args.self.now) c.counts.ensures ∙ done_same past c.args.task c.args.self.now c.args.wanted.now may.stands may.at_work may.blocks.entries) in
     let sealed = subst (λ b. IsSealed b c.args.self.now c.add_seal.new.self) (seals_same c.args.self.now c.is_complete-complete.result may.stands says) c.in_ok-add_seal.ensures.session in
     let is = noted c.add_seal.new.self c.add_completion.new.self c.is_complete-complete.result c.add_completion.ensures.session sealed in (
-      stands-tested past all c.args.task given c.args.self.now c.add_completion.new.self is (ap (λ s. s.complete) c.add_completion.ensures.session ∙ says) may.stands may.at_work,
-      at_work-tested past all c.args.task c.args.self.now c.add_completion.new.self is.kind is.log may.at_work,
+      rw (tested-view past all c.args.task) (stands-tested c.args.task (view past c.args.task) all given c.args.self.now c.add_completion.new.self is (ap (λ s. s.complete) c.add_completion.ensures.session ∙ says) may.stands may.at_work),
+      rw (tested-view past all c.args.task) (at_work-tested c.args.task (view past c.args.task) all given c.args.self.now c.add_completion.new.self is (ap (λ s. s.complete) c.add_completion.ensures.session ∙ says) may.at_work),
     )) c.add_completion.ensures.rows
 
 pub returns-clause-rows : goal.returns-clause-rows
 returns-clause-rows c = on_ok_weaker c.add_completion.result (λ pushed disk past may.
-    let says = c.is_complete-complete.ensures ∙ (ap (complete_by c.args.self.now) c.counts.ensures ∙ complete_same past c.args.task c.args.self.now c.args.wanted.now may.stands may.at_work may.blocks.entries) in
+    let says = c.is_complete-complete.ensures ∙ (ap (complete_by c.args.self.now) c.counts.ensures ∙ done_same past c.args.task c.args.self.now c.args.wanted.now may.stands may.at_work may.blocks.entries) in
     let was = c.in_ok-add_seal.ensures.session.complete ∙ may.stands.complete in
     pushed
-    ∙ (ap (λ rows. rows ++ (if c.is_complete-complete.result && not c.add_seal.new.self.complete then CompleteLine (record { task = c.args.task; instant = c.args.now }) ∷ [] else [])) (c.in_ok-add_seal.ensures.rows disk past may.blocks may.stands says)
-    ∙ ap₂ (λ a b. (c.args.rows.now ++ seal_rows by_deliveries past c.args.now c.args.task) ++ (if a && not b then CompleteLine (record { task = c.args.task; instant = c.args.now }) ∷ [] else [])) says was)) c.add_completion.ensures.rows
+    ∙ (ap (λ rows. rows ++ (if c.is_complete-complete.result && not c.add_seal.new.self.complete then CompleteLine (record { task = c.args.task; instant = c.args.now }) ∷ [] else [])) (c.in_ok-add_seal.ensures.rows disk past may.blocks may.stands (says ∙ done_is past c.args.task))
+    ∙ ap₂ (λ a b. (c.args.rows.now ++ seal_rows by_deliveries past c.args.now c.args.task) ++ (if a && not b then CompleteLine (record { task = c.args.task; instant = c.args.now }) ∷ [] else [])) (says ∙ done_is past c.args.task) (was ∙ was_is past c.args.task))) c.add_completion.ensures.rows

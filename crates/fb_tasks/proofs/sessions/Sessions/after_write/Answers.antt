@@ -5,6 +5,7 @@ use Rattle.fb_wanted.specs.declared.block.Change.TheVariants.{Rewant}
 use Rattle.fb_wanted.specs.States.{after}
 use Rattle.fb_model.specs.History.{registered}
 use Rattle.fb_tasks.specs.Telling.{IsBlockOf}
+use Rattle.fb_model.specs.Completion.{view}
 use Rattle.fb_tasks.proofs.Writes.{none_until, all_until, until_wanted, until_left, written-tells, open_by}
 use Rattle.fb_tasks.proofs.sessions.Sessions.after_write.Goals as goal
 use Rattle.fb_tasks.proofs.sessions.Sessions.after_write.Goals.{then-is_open_backup, else-is_open_backup}
@@ -18,7 +19,7 @@ loop-task-preserved c = λ disk past request write first count h.
     let within : c.loop-task.task < length c.self.inside.sessions.items = omega (arith, c.loop-task-test.true, c.len-task-end.ensures, c.self.inside.sessions.ok.0) in
     let there = ap (λ xs. slice_get xs c.loop-task.task) (sym c.self.view_is) ∙ (slice_get-get_or c.self.inside.sessions.items c.loop-task.task session within ∙ ap Some (sym c.index-session.ensures)) in
     let stands = (h.each c.loop-task.task session there).stands in
-    let is_open = open_by past c.loop-task.task session stands ∙ sym c.is_open_backup.ensures in
+    let is_open = open_by (view past c.loop-task.task) session stands ∙ sym c.is_open_backup.ensures in
     elim c.if-is_open_backup.branch [
       | then-is_open_backup w ↦ w.wanted-is ∙ until_wanted disk past request write c.loop-task.task session c.loop-task.wanted w.rewant.new.self (is_open ∙ w.if-is_open_backup.true) stands.suspended (c.loop-task.invariant disk past request write first count h)
           (w.rewant.ensures ∙ (ap (λ f. after c.loop-task.task (Rewant f c.args.count session.suspended) c.loop-task.wanted) (sym first) ∙ ap (λ n. after c.loop-task.task (Rewant request.lbn n session.suspended) c.loop-task.wanted) (sym count)))

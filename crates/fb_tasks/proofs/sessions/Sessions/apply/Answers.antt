@@ -1,10 +1,10 @@
-use Rattle.std.proofs.Common.{◌<◌, ap, subst, refl}
+use Rattle.std.proofs.Common.{ap, subst, refl}
 use Rattle.std.proofs.lemmas.Result.{on_ok_weaker}
 use Rattle.fb_calls.specs.Allowed.{MayAsk}
 use Rattle.fb_model.specs.Course.{blocks_by}
-use Rattle.fb_tasks.specs.Standing.{calls_of}
-use Rattle.fb_tasks.proofs.Aborts.{promoted-tells, aborted-tells}
-use Rattle.fb_tasks.proofs.Applied.{room_for_one, session_there, takes_none}
+use Rattle.fb_tasks.specs.Telling.{calls_of}
+use Rattle.fb_tasks.proofs.Aborts.{promoted-tells, asked-aborts}
+use Rattle.fb_tasks.proofs.Asked.{room_for_one, session_there, takes_none}
 use Rattle.fb_tasks.proofs.sessions.Sessions.apply.Goals as goal
 
 pub open-requires : goal.open-requires
@@ -25,8 +25,7 @@ returns-in-Open c = record { ok = on_ok_weaker c.open.result (λ says past h. ta
 pub returns-in-Abort : goal.returns-in-Abort
 returns-in-Abort c = record {
   ok = λ past h. takes_none c.args.map.now past c.args.call.now c.args.self.now c.abort.new.self (ap (blocks_by c.args.map.now past c.args.call.now.task) c.in-Abort.is)
-      (aborted-tells c.args.map.now past c.args.call.now c.in-Abort.first c.in-Abort.count c.args.self.now c.args.wanted.now c.abort.new.self c.in-Abort.is
-      (subst (λ n. c.args.call.now.task < n) h.tells.as_many (session_there c.args.map.now past c.args.self.now c.args.wanted.now c.args.call.now (λ a. (subst (λ x. MayAsk c.args.map.now (calls_of past) c.args.call.now.task x) c.in-Abort.is a).0) h)) c.abort.ensures.states h.tells);
+      (asked-aborts c.args.map.now past c.args.call.now c.in-Abort.first c.in-Abort.count c.args.self.now c.args.wanted.now c.abort.new.self c.in-Abort.is c.abort.ensures.states h);
 }
 
 pub returns-in-Promote : goal.returns-in-Promote

@@ -1,0 +1,117 @@
+-- One task changes, and the others stay.
+use Rattle.std.proofs.Common.{◌≡◌, ℕ, zero, suc, ◌<◌, ◌≤◌, ◌==◌, if◌then◌else◌, List, [], ◌∷◌, false, Some, inl, inr, length, map, set, get_or, slice_get, append-nil, refl, ap, sym, ◌∙◌, arith, subst}
+use Rattle.std.specs.List.{AllByRecursion}
+use Rattle.std.proofs.lemmas.Bool.{cases_Bool}
+use Rattle.std.proofs.lemmas.List.{length-set}
+use Rattle.std.proofs.lemmas.Option.{slice_get-get_or}
+use Rattle.fb_geometry.specs.Shape.{Shape}
+use Rattle.fb_calls.specs.declared.call.Call.{Call}
+use Rattle.fb_wanted.specs.declared.block.Block.{Block}
+use Rattle.fb_wanted.specs.declared.block.Change.{Change}
+use Rattle.fb_wanted.specs.declared.block.Entry.{Entry}
+use Rattle.fb_wanted.specs.States.{after, state_after}
+use Rattle.fb_model.specs.History.{Event, Past, called, tasks, registered}
+use Rattle.fb_model.specs.Completion.{TaskView, view, state_in}
+use Rattle.fb_model.proofs.Views.{called-silent}
+use Rattle.fb_tasks.specs.declared.session.Session.{Session}
+use Rattle.fb_tasks.specs.Standing.{entry_by, entry_of, Told, IsPlaced, IsBlockOf}
+use Rattle.fb_tasks.specs.Telling.{Tells}
+use Rattle.fb_tasks.proofs.Lists.{some_same, all_weaker, number_other, same_number, other_number}
+
+pub get_set : {X : Type 0} (xs : List X) (i k : ℕ) (y z : X) → slice_get (set xs i y) k ≡ Some z → (i ≡ k → ⊥) → slice_get xs k ≡ Some z
+get_set [] i k y z h other = h
+get_set (x ∷ xs) zero zero y z h other = absurd (other refl)
+get_set (x ∷ xs) zero (suc k) y z h other = h
+get_set (x ∷ xs) (suc i) zero y z h other = h
+get_set (x ∷ xs) (suc i) (suc k) y z h other = get_set xs i k y z h (λ e. other (ap suc e))
+
+pub get_own : {X : Type 0} (xs : List X) (i : ℕ) (y z : X) → slice_get (set xs i y) i ≡ Some z → z ≡ y
+get_own [] i y z h = absurd (grind arith)
+get_own (x ∷ xs) zero y z h = sym (some_same y z h)
+get_own (x ∷ xs) (suc i) y z h = get_own xs i y z h
+
+pub set_same : {X : Type 0} (xs : List X) (i : ℕ) (x : X) → slice_get xs i ≡ Some x → set xs i x ≡ xs
+set_same [] i x h = refl
+set_same (y ∷ ys) zero x h = ap (λ z. z ∷ ys) (sym (some_same y x h))
+set_same (y ∷ ys) (suc i) x h = ap (λ zs. y ∷ zs) (set_same ys i x h)
+
+-- no block changes its state
+pub kept-entries : (old new : ℕ → TaskView) → ((t : ℕ) (block : Block) → state_in (old t) block ≡ state_in (new t) block) → (bs : List Block) → map (entry_by old) bs ≡ map (entry_by new) bs
+kept-entries old new same [] = refl
+kept-entries old new same (b ∷ bs) = ap (λ s. record { block = b; state = s } ∷ map (entry_by old) bs) (same b.task b) ∙ ap (λ es. entry_by new b ∷ es) (kept-entries old new same bs)
+
+-- the blocks of one task are changed, as far as its new view says
+pub changed-entries : (task : ℕ) (change : Change) (old new : ℕ → TaskView) (bs : List Block)
+    → ((t : ℕ) → (task == t) ≡ false → new t ≡ old t)
+    → AllByRecursion (λ block. state_after change block (state_in (old task) block) ≡ state_in (new task) block) bs
+    → after task change (map (entry_by old) bs) ≡ map (entry_by new) bs
+changed-entries task change old new [] others own = refl
+changed-entries task change old new (b ∷ bs) others own = ap (λ s. record { block = b; state = s } ∷ after task change (map (entry_by old) bs)) here
+    ∙ ap (λ es. entry_by new b ∷ es) (changed-entries task change old new bs others own.1) where
+      here : (if b.task == task then state_after change b (state_in (old b.task) b) else state_in (old b.task) b) ≡ state_in (new b.task) b
+      here = elim (cases_Bool (b.task == task)) [
+        | inl mine ↦ ap (λ t. if t then state_after change b (state_in (old b.task) b) else state_in (old b.task) b) mine
+            ∙ (ap (λ t. state_after change b (state_in (old t) b)) (same_number b.task task mine) ∙ (own.0 ∙ ap (λ t. state_in (new t) b) (sym (same_number b.task task mine))))
+        | inr other ↦ rw (other, others b.task (number_other task b.task (λ e. other_number b.task task other (sym e)))) refl
+      ]
+
+-- an event of one task that opens none
+module _ (disk : Shape) (past : Past) (event : Event) (task : ℕ) (others : (t : ℕ) → (task == t) ≡ false → view (event ∷ past) t ≡ view past t) (kept : tasks (event ∷ past) ≡ tasks past) where
+  pub one-tells : (sessions : List Session) (new : Session) (held now : List Entry) → task < length (tasks past)
+      → AllByRecursion (IsBlockOf disk (length (tasks past))) (registered (event ∷ past))
+      → now ≡ map (entry_of (event ∷ past)) (registered (event ∷ past))
+      → IsPlaced disk (view (event ∷ past) task).work
+      → Told (view (event ∷ past) task) new
+      → Tells disk past sessions held → Tells disk (event ∷ past) (set sessions task new) now
+  one-tells sessions new held now opened on_disk entries placed told h = record {
+    as_many = length-set sessions task new ∙ (h.as_many ∙ ap length (sym kept));
+    each = λ t session at. elim (cases_Bool (task == t)) [
+      | inl own ↦ let e = same_number task t own in subst (λ k. Told (view (event ∷ past) k) session) e
+          (rw (get_own sessions task new session (ap (slice_get (set sessions task new)) e ∙ at)) told)
+      | inr other ↦ rw (others t other) (h.each t session (get_set sessions task t new session at (other_number task t other)))
+    ];
+    blocks = record {
+      entries = entries;
+      on_disk = rw kept on_disk;
+      placed = λ t. elim (cases_Bool (task == t)) [
+        | inl own ↦ subst (λ k. IsPlaced disk (view (event ∷ past) k).work) (same_number task t own) placed
+        | inr other ↦ rw (others t other) (h.placed t)
+      ];
+      unopened = λ t more. let beyond : length (tasks past) ≤ t = subst (λ ts. length ts ≤ t) kept more in
+          rw (others t (number_other task t (λ e. absurd (omega arith)))) (h.unopened t beyond);
+    };
+  }
+
+-- an event that changes no task
+pub silent-tells : (disk : Shape) (past : Past) (event : Event) (sessions : List Session) (held : List Entry) → ((t : ℕ) → view (event ∷ past) t ≡ view past t) → tasks (event ∷ past) ≡ tasks past → registered (event ∷ past) ≡ registered past
+    → Tells disk past sessions held → Tells disk (event ∷ past) sessions held
+silent-tells disk past event sessions held same kept blocks h = record {
+  as_many = h.as_many ∙ ap length (sym kept);
+  each = λ t session at. rw (same t) (h.each t session at);
+  blocks = record {
+    entries = h.entries ∙ rw blocks (kept-entries (view past) (view (event ∷ past)) (λ t b. rw (same t) refl) (registered past));
+    on_disk = rw (kept, blocks) h.on_disk;
+    placed = λ t. rw (same t) (h.placed t);
+    unopened = λ t more. rw (same t) (h.unopened t (subst (λ ts. length ts ≤ t) kept more));
+  };
+}
+
+-- a call of an opened task that registers nothing: its session and its blocks change as its view does
+pub call-tells : (disk : Shape) (past : Past) (call : Call) (items seen : List Session) (task : ℕ) (session new : Session) (held now : List Entry) (change : Change) (changed : TaskView)
+    → tasks (called call [] ∷ past) ≡ tasks past → call.task ≡ task → view (called call [] ∷ past) task ≡ changed
+    → items ≡ seen → task < length seen → session ≡ get_or items task session → now ≡ after task change held
+    → (IsPlaced disk (view past task).work → IsPlaced disk changed.work)
+    → (Told (view past task) session → Told changed new)
+    → ((block : Block) → IsBlockOf disk (length (tasks past)) block → state_after change block (state_in (view past task) block) ≡ state_in changed block)
+    → Tells disk past seen held → Tells disk (called call [] ∷ past) (set items task new) now
+call-tells disk past call items seen task session new held now change changed kept own is_now same opened at is_after places tells states h =
+    let within : task < length (tasks past) = omega (arith, h.as_many) in
+    let there : slice_get seen task ≡ Some session = subst (λ xs. slice_get xs task ≡ Some session) same (slice_get-get_or items task session (rw same opened) ∙ ap Some (sym at)) in
+    let others = λ (t : ℕ) (other : (task == t) ≡ false). called-silent past call kept t (ap (λ k. k == t) own ∙ other) in
+    rw same (one-tells disk past (called call []) task others kept seen new held now within
+    (rw append-nil h.on_disk)
+    (is_after ∙ (ap (after task change) h.entries ∙ (changed-entries task change (view past) (view (called call [] ∷ past)) (registered past) others
+    (rw is_now (all_weaker (IsBlockOf disk (length (tasks past))) (λ block. state_after change block (state_in (view past task) block) ≡ state_in changed block) states (registered past) h.on_disk))
+    ∙ ap (map (entry_of (called call [] ∷ past))) (sym (append-nil (registered past))))))
+    (rw is_now (places (h.placed task)))
+    (rw is_now (tells (h.each task session there))) h)
