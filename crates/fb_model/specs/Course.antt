@@ -36,6 +36,7 @@ abbrev pub blocks_by : Shape → Past → ℕ → Action → List Block
 blocks_by disk past task (Want first count) = next_blocks past task (cutting disk (terms_of past task).block first count)
 blocks_by disk past task _ = []
 
+-- a call takes effect
 abbrev pub take_call : Shape → Past → Call → Past
 take_call disk past call = called call (blocks_by disk past call.task call.action) ∷ past
 
@@ -47,7 +48,7 @@ is_call _ = false
 abbrev pub calls_taken : Past → ℕ
 calls_taken past = length (filter is_call past)
 
--- the calls whose instant has come, but for those that have taken effect
+-- the calls after the decision before and not after this one: those whose instant has come, but for those that have taken effect
 abbrev pub calls_due : List Call → Past → ℕ → List Call
 calls_due calls past now = drop (calls_taken past) (filter (λ call. nat_le call.instant now) calls)
 
@@ -56,9 +57,11 @@ unfoldable pub settled_past : Inputs → Past → Decision → Past
 settled_past inputs past decision = with_choices inputs.disk.map
     (fold (take_call inputs.disk.map) past (calls_due inputs.calls past (instant_of decision)))
 
+-- after a delivery and its test
 abbrev pub with_delivery : Past → Delivery → Past
 with_delivery past delivery = tested delivery.after ∷ delivered delivery.got ∷ past
 
+-- after the finish of the request that was served
 abbrev pub with_finish : Past → Decision → Past
 with_finish past (serves served) = finished served.request ∷ past
 with_finish past _ = past

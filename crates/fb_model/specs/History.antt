@@ -43,34 +43,39 @@ calls_of [] = []
 calls_of (called call blocks ∷ past) = calls_of past ++ call ∷ []
 calls_of (_ ∷ past) = calls_of past
 
--- the tasks in order of opening
+-- an open adds a task
 abbrev pub opened_by : Action → List Terms → List Terms
 opened_by (Open kind weight block) before = before ++ record { kind = kind; weight = weight; block = block } ∷ []
 opened_by _ before = before
 
+-- the tasks in order of opening
 abbrev pub tasks : Past → List Terms
 tasks [] = []
 tasks (called call blocks ∷ past) = opened_by call.action (tasks past)
 tasks (_ ∷ past) = tasks past
 
+-- their numbers
 abbrev pub task_numbers : Past → List ℕ
 task_numbers past = range_with_len 0 (length (tasks past))
 
+-- what a task was opened with; asked of opened tasks alone, so the last argument stands for nothing
 abbrev pub terms_of : Past → ℕ → Terms
 terms_of past task = slice_index_or (tasks past) task (record { kind = Plain; weight = 1; block = 1 })
 
--- the blocks of all tasks in order of registration
+-- the blocks that an event registers
 abbrev pub registered_by : Event → List Block
 registered_by (called call blocks) = blocks
 registered_by (chose task segment blocks) = blocks
 registered_by _ = []
 
+-- the blocks of all tasks in order of registration
 abbrev pub registered : Past → List Block
 registered [] = []
 registered (called call blocks ∷ past) = registered past ++ blocks
 registered (chose task segment blocks ∷ past) = registered past ++ blocks
 registered (_ ∷ past) = registered past
 
+-- those of one task
 abbrev pub blocks_of : Past → ℕ → List Block
 blocks_of past task = filter (λ block. block.task == task) (registered past)
 
@@ -98,11 +103,12 @@ abbrev pub overwrites : Event → Block → Bool
 overwrites (finished request) block = request.write && shares request.lbn request.count block
 overwrites _ block = false
 
--- a backup's seal row has been given
+-- the row is the task's seal
 abbrev pub is_seal_of : ℕ → BackRow → Bool
 is_seal_of task (SealLine row) = row.task == task
 is_seal_of task _ = false
 
+-- the seal row of a backup has been given
 abbrev pub is_sealed : Past → ℕ → Bool
 is_sealed [] task = false
 is_sealed (tested rows ∷ past) task = list_any (is_seal_of task) rows || is_sealed past task
@@ -120,12 +126,12 @@ state_after past event block before =
     else if overwrites event block && is_delivered before && is_open_backup past block.task then Wanted
     else before
 
--- the state of a registered block, suspended or not
+-- the state of a registered block, but for suspension; asked of registered blocks alone, so what stands for the beginning says nothing of a block
 unfoldable pub bare_state : Past → Block → State
 bare_state [] block = Wanted
 bare_state (event ∷ past) block = state_after past event block (bare_state past block)
 
--- what the last delivery of a block found
+-- what the last delivery of a block found; asked of delivered blocks alone
 unfoldable pub content_of : Past → Block → List ContentRun
 content_of [] block = []
 content_of (delivered row ∷ past) block = if same_block row.block block then row.content else content_of past block

@@ -30,11 +30,17 @@ findings past row = if is_scrub (terms_of past row.block.task).kind
     then map (λ lbn. BadLine (record { task = row.block.task; lbn = lbn })) (bad_sectors row.content)
     else []
 
--- when the last delivery of a block began
+-- the contents at one instant of the blocks that are delivered
+abbrev pub image : Medium → Past → ℕ → ℕ → List ContentRun
+image medium past task now = runs_of (flat_map (λ block. contents_at medium block.lbn block.count now)
+    (filter (λ block. is_delivered ((work past task).bare block)) (blocks_of past task)))
+
+-- a delivery of the block begins
 abbrev pub begin_by : Event → Block → ℕ → ℕ
 begin_by (delivered row) block before = if same_block row.block block then row.begin else before
 begin_by _ block before = before
 
+-- when the last delivery of a block began; asked of delivered blocks alone, so what stands for the beginning says nothing of a block
 abbrev pub delivery_begin : Past → Block → ℕ
 delivery_begin [] block = 0
 delivery_begin (event ∷ past) block = begin_by event block (delivery_begin past block)
@@ -43,24 +49,24 @@ delivery_begin (event ∷ past) block = begin_by event block (delivery_begin pas
 abbrev pub packed : Medium → Past → Choice → List ContentRun
 packed medium past choice = runs_of (flat_map (λ block. contents_at medium block.lbn block.count (delivery_begin past block)) choice.blocks)
 
--- cleaned, and without a row as yet
-abbrev pub is_newly_cleaned : Work → Choice → Bool
-is_newly_cleaned work choice = is_cleaned work choice && not (work.reported choice.segment.number)
-
--- where the contents of seal and segment rows come from
+-- where the contents of seal and segment rows come from: the medium in a sound run, and the same again from what deliveries found
 pub record Sources : Type 0 where
   pub image_at : Past → ℕ → ℕ → List ContentRun
   pub packed_for : Past → ℕ → Choice → List ContentRun
 
+-- a sound run takes them from the disk
+abbrev pub on_disk : Medium → Sources
+on_disk medium = record { image_at = image medium; packed_for = λ past task. packed medium past }
+
+-- cleaned, and without a row as yet
+abbrev pub is_newly_cleaned : Work → Choice → Bool
+is_newly_cleaned work choice = is_cleaned work choice && not (work.reported choice.segment.number)
+
+-- a segment's row stands at the first test at which it is cleaned
 abbrev pub segment_rows : Sources → Past → ℕ → ℕ → List BackRow
 segment_rows sources past now task = map
     (λ choice. SegmentLine (record { task = task; segment = choice.segment.number; instant = now; live = live_count choice.segment; content = sources.packed_for past task choice }))
     (filter (is_newly_cleaned (work past task)) (choices past task))
-
--- the contents at one instant of the blocks that are delivered
-abbrev pub image : Medium → Past → ℕ → ℕ → List ContentRun
-image medium past task now = runs_of (flat_map (λ block. contents_at medium block.lbn block.count now)
-    (filter (λ block. is_delivered ((work past task).bare block)) (blocks_of past task)))
 
 -- a backup is sealed at the first test at which it is complete
 abbrev pub seal_rows : Sources → Past → ℕ → ℕ → List BackRow
@@ -78,7 +84,3 @@ complete_rows past now task = if is_complete past task && not (was_complete past
 unfoldable pub test_rows : Sources → Past → ℕ → List BackRow
 test_rows sources past now = flat_map (segment_rows sources past now) (task_numbers past)
     ++ flat_map (λ task. seal_rows sources past now task ++ complete_rows past now task) (task_numbers past)
-
--- the disk's own contents
-abbrev pub on_disk : Medium → Sources
-on_disk medium = record { image_at = image medium; packed_for = λ past task. packed medium past }

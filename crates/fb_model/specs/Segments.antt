@@ -27,10 +27,11 @@ live_count segment = length (filter (λ live. live) segment.live)
 abbrev pub is_better : LogSegment → LogSegment → Bool
 is_better a b = nat_lt ((b.blocks - live_count b) * b.age * (a.blocks + live_count a)) ((a.blocks - live_count a) * a.age * (b.blocks + live_count b))
 
--- the segments that a task has not chosen
+-- the segment has been chosen
 abbrev pub is_chosen : List Choice → LogSegment → Bool
 is_chosen choices segment = list_any (is_choice_of segment) choices
 
+-- the segments that a task has not chosen
 abbrev pub unchosen : Work → List LogSegment
 unchosen work = filter (λ segment. not (is_chosen work.choices segment)) work.segments
 
@@ -45,6 +46,7 @@ choose_best disk task past (segment ∷ segments) =
     let best = best_of is_better segment segments in
     chose task best (next_blocks past task (live_cuts disk (terms_of past task).block best.first best.live)) ∷ past
 
+-- if none that it has chosen is unfinished
 abbrev pub choose_once : Shape → ℕ → Past → Past
 choose_once disk task past = if is_busy (work past task) then past else choose_best disk task past (unchosen (work past task))
 

@@ -49,7 +49,18 @@ next_segment v first blocks age live = record { number = length v.segments + 1; 
 module _ (v : TaskView) (first blocks age : ℕ) (live : List Bool) (going : v.closed ≡ false) where
   added-cleans : (log : clean.Cleaning) → Cleans v.work log → Cleans (added_view (next_segment v first blocks age live) v).work (clean.after_add first blocks age live log)
   added-cleans log h = record {
-    block = h.block; done = h.done; current = h.current; chosen = h.chosen; cleaned = h.cleaned; unfinished = h.unfinished; blocks = h.blocks; cut = h.cut; distinct = h.distinct; ascend = h.ascend; unreported = h.unreported; reported = h.reported;
+    block = h.block;
+    done = h.done;
+    current = h.current;
+    chosen = h.chosen;
+    cleaned = h.cleaned;
+    unfinished = h.unfinished;
+    blocks = h.blocks;
+    cut = h.cut;
+    distinct = h.distinct;
+    ascend = h.ascend;
+    unreported = h.unreported;
+    reported = h.reported;
     taken = all_weaker (HoldsChoice v.work log) (HoldsChoice v.work (clean.after_add first blocks age live log)) (λ choice d. subst (λ held. AllByRecursion (HoldsBlock v.work held) choice.blocks) (ap (λ ranges. λ lbn. held_at ranges lbn) (sym (taken_same log.taken (choice.segment.number - 1)))) d) (choice_in h.current) h.taken;
     numbers = all_weaker (λ (choice : Choice). choice.segment.number ≤ length v.segments) (λ choice. choice.segment.number ≤ length (v.segments ++ next_segment v first blocks age live ∷ []))
         (λ choice le. omega (arith, le, length-append v.segments (next_segment v first blocks age live ∷ []))) v.choices h.numbers;
@@ -64,7 +75,16 @@ module _ (v : TaskView) (first blocks age : ℕ) (live : List Bool) (going : v.c
   added-told : (session : Session) → Told v session → Told (added_view (next_segment v first blocks age live) v) (record session { log = clean.after_add first blocks age live session.log })
   added-told session h = record {
     stands = record {
-      terms = h.terms; weight = h.weight; block = h.block; suspended = h.suspended; closed = h.closed; complete = h.complete; sealed = h.sealed; ascend = h.ascend; unwanted = h.unwanted; unchosen = h.unchosen;
+      terms = h.terms;
+      weight = h.weight;
+      block = h.block;
+      suspended = h.suspended;
+      closed = h.closed;
+      complete = h.complete;
+      sealed = h.sealed;
+      ascend = h.ascend;
+      unwanted = h.unwanted;
+      unchosen = h.unchosen;
       image = λ is_open. let image = h.image is_open in record { each = image.each; only = image.only };
       log = λ cleans. added-cleans session.log (h.log cleans);
     };
@@ -104,7 +124,6 @@ may_add disk past call task first blocks age live sessions session held is at h 
       log = subst (λ b. first + blocks * b ≤ length (places disk)) (sym (log.block ∙ ap (λ t. t.block) stands.terms)) on_disk;
       room = omega (arith, ap length log.segments, length-map (view past task).segments (kept_segment (view past task).work), segments_few past task, h.few_calls);
     }
-
 
 pub added-tells : (disk : Shape) (past : Past) (call : Call) (task first blocks age : ℕ) (live : List Bool) (items seen : List Session) (session : Session) (log : clean.Cleaning) (held : List Entry) → IsCall task (Segment first blocks age live) call → items ≡ seen → task < length items → session ≡ get_or items task session
     → log ≡ clean.after_add first blocks age live session.log → MayTake disk past seen held call → Tells disk (called call [] ∷ past) (set items task (record session { log = log })) held

@@ -8,6 +8,7 @@ use Rattle.std.proofs.lemmas.List.{length-set}
 use Rattle.std.proofs.lemmas.Option.{slice_get_within}
 use Rattle.fb_geometry.specs.Shape.{Shape}
 use Rattle.fb_calls.specs.Sessions.{is_clean}
+use Rattle.fb_wanted.specs.declared.block.Block.{Block}
 use Rattle.fb_wanted.specs.declared.block.Entry.{Entry}
 use Rattle.fb_rows.specs.declared.back.BackRow.{BackRow}
 use Rattle.fb_model.specs.History.{Past, LogSegment, chose, tasks, task_numbers, registered}
@@ -55,15 +56,26 @@ in_any P disk task past here there = subst P (sym (in_is disk past task)) (by (i
 pub in_same : (disk : Shape) (task other : ℕ) (past : Past) → (task ≡ other → ⊥) → view (choose_in disk past task) other ≡ view past other
 in_same disk task other past differ = in_any (λ p. view p other ≡ view past other) disk task past refl (λ n. up_to_same n disk task other past differ)
 
-once_tasks : (disk : Shape) (task : ℕ) (past : Past) → tasks (choose_once disk task past) ≡ tasks past
-once_tasks disk task past = once_any (λ p. tasks p ≡ tasks past) disk task past refl (λ s ss are. refl)
+-- what holds after each choice holds after all
+module _ (P : Past → Type 0) (disk : Shape) (kept : (past : Past) (task : ℕ) (segment : LogSegment) (blocks : List Block) → P past → P (chose task segment blocks ∷ past)) where
+  by_up_to : (n task : ℕ) (past : Past) → P past → P (choose_up_to n disk task past)
+  by_up_to zero task past h = h
+  by_up_to (suc n) task past h = by_up_to n task (choose_once disk task past)
+      (once_any P disk task past h (λ s ss are. kept past task (best_of is_better s ss) (chosen_blocks disk task (view past task) (best_of is_better s ss)) h))
 
-up_to_tasks : (n : ℕ) (disk : Shape) (task : ℕ) (past : Past) → tasks (choose_up_to n disk task past) ≡ tasks past
-up_to_tasks zero disk task past = refl
-up_to_tasks (suc n) disk task past = up_to_tasks n disk task (choose_once disk task past) ∙ once_tasks disk task past
+  pub by_task : (task : ℕ) (past : Past) → P past → P (choose_in disk past task)
+  by_task task past h = in_any P disk task past h (λ n. by_up_to n task past h)
+
+  by_tasks : (ns : List ℕ) (past : Past) → P past → P (fold (choose_in disk) past ns)
+  by_tasks [] past h = h
+  by_tasks (n ∷ ns) past h = by_tasks ns (choose_in disk past n) (by_task n past h)
+
+  pub by_all : (past : Past) → P past → P (with_choices disk past)
+  unfolding with_choices
+  by_all past h = by_tasks (task_numbers past) past h
 
 pub in_tasks : (disk : Shape) (task : ℕ) (past : Past) → tasks (choose_in disk past task) ≡ tasks past
-in_tasks disk task past = in_any (λ p. tasks p ≡ tasks past) disk task past refl (λ n. up_to_tasks n disk task past)
+in_tasks disk task past = by_task (λ p. tasks p ≡ tasks past) disk (λ p chooser segment blocks same. same) task past refl
 
 -- choices don't register more than they could
 Fewer : Shape → Past → Past → ℕ → Type 0
@@ -93,7 +105,7 @@ pub rows-same : (past new : Past) (task now : ℕ) → view new task ≡ view pa
 rows-same past new task now same = segment_rows_is new now task ∙ (ap (λ v. segment_rows_of v.work now task) same ∙ sym (segment_rows_is past now task))
 
 -- and it can choose the same
-choosable-same : (disk : Shape) (past new : Past) (task : ℕ) → view new task ≡ view past task → choosable_by disk new task ≡ choosable_by disk past task
+pub choosable-same : (disk : Shape) (past new : Past) (task : ℕ) → view new task ≡ view past task → choosable_by disk new task ≡ choosable_by disk past task
 choosable-same disk past new task same = rw same refl
 
 -- what holds of each number of a range
@@ -101,9 +113,11 @@ pub all_range : (P : ℕ → Type 0) (a n : ℕ) → ((k : ℕ) → a ≤ k → 
 all_range P a zero f = tt
 all_range P a (suc n) f = (f a (omega arith) (omega arith), all_range P (a + 1) n (λ k le lt. f k (omega arith) (omega arith)))
 
-sum_range : (f g : ℕ → ℕ) (a n : ℕ) → ((k : ℕ) → a ≤ k → f k ≡ g k) → sum_by f (range_with_len a n) ≡ sum_by g (range_with_len a n)
+pub sum_range : (f g : ℕ → ℕ) (a n : ℕ) → ((k : ℕ) → a ≤ k → k < a + n → f k ≡ g k) → sum_by f (range_with_len a n) ≡ sum_by g (range_with_len a n)
 sum_range f g a zero same = refl
-sum_range f g a (suc n) same = sum_by-cons f a (range_with_len (a + 1) n) ∙ (ap (λ k. k + sum_by f (range_with_len (a + 1) n)) (same a (omega arith)) ∙ (ap (λ k. g a + k) (sum_range f g (a + 1) n (λ k le. same k (omega arith))) ∙ sym (sum_by-cons g a (range_with_len (a + 1) n))))
+sum_range f g a (suc n) same =
+    let rest = sum_range f g (a + 1) n (λ k from to. same k (omega arith) (omega arith)) in
+    omega (arith, sum_by-cons f a (range_with_len (a + 1) n), sum_by-cons g a (range_with_len (a + 1) n), rest, same a (omega arith) (omega arith))
 
 fold_append : (f : Past → ℕ → Past) (past : Past) (xs ys : List ℕ) → fold f past (xs ++ ys) ≡ fold f (fold f past xs) ys
 fold_append f past [] ys = refl
@@ -117,8 +131,7 @@ past_more : (disk : Shape) (past : Past) (n : ℕ) → past_at disk past (n + 1)
 past_more disk past n = ap (fold (choose_in disk) past) (range_more n) ∙ fold_append (choose_in disk) past (range_with_len 0 n) (n ∷ [])
 
 fold_tasks : (disk : Shape) (ns : List ℕ) (past : Past) → tasks (fold (choose_in disk) past ns) ≡ tasks past
-fold_tasks disk [] past = refl
-fold_tasks disk (n ∷ ns) past = fold_tasks disk ns (choose_in disk past n) ∙ in_tasks disk n past
+fold_tasks disk ns past = by_tasks (λ p. tasks p ≡ tasks past) disk (λ p chooser segment blocks same. same) ns past refl
 
 pub record Partly (disk : Shape) (past : Past) (sessions : List Session) (held : List Entry) (n : ℕ) : Type 0 where
   pub as_many : length sessions ≡ length (tasks past)
@@ -157,7 +170,7 @@ partly-more disk past sessions held now n session new at h chosen =
     let within : n < length (tasks past) = omega (arith, slice_get_within sessions n session at, h.as_many) in
     let split : range_with_len n (length (tasks past) - n) ≡ n ∷ range_with_len (n + 1) (length (tasks past) - (n + 1)) = ap (range_with_len n) (let e : length (tasks past) - n ≡ suc (length (tasks past) - (n + 1)) = omega arith in e) in
     let fewer = in_fewer disk n before (h.blocks.placed n).segments in
-    let rest = sum_range (choosable_by disk (choose_in disk before n)) (choosable_by disk before) (n + 1) (length (tasks past) - (n + 1)) (λ k le. choosable-same disk before (choose_in disk before n) k (same k (λ e. absurd (omega arith)))) in
+    let rest = sum_range (choosable_by disk (choose_in disk before n)) (choosable_by disk before) (n + 1) (length (tasks past) - (n + 1)) (λ k from to. choosable-same disk before (choose_in disk before n) k (same k (λ e. absurd (omega arith)))) in
     record {
       as_many = length-set sessions n new ∙ h.as_many;
       each = λ task s there. subst (λ p. Stands (view p task) s) (sym (past_more disk past n)) (elim (cases_Bool (n == task)) [

@@ -84,7 +84,10 @@ no_terms past task beyond = get_or_past (tasks past) task (record { kind = Plain
 
 pub untouched-tested : (disk : Shape) (past : Past) (held : List Entry) (h : HoldsBlocks disk past held) (task : ℕ) → length (tasks past) ≤ task → (rows : List BackRow) → AreRowsOf task (view past task) rows → IsUntouched (tested_view task rows (view past task))
 untouched-tested disk past held h task beyond rows given = let was = h.unopened task beyond in record {
-  suspended = was.suspended; closed = was.closed; segments = was.segments; choices = was.choices;
+  suspended = was.suspended;
+  closed = was.closed;
+  segments = was.segments;
+  choices = was.choices;
   complete = never;
   sealed = rw (given.seals, terms) was.sealed;
   reported = λ number. rw (given.segments number, was.choices) (was.reported number);

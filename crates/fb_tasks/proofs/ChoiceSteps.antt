@@ -200,7 +200,13 @@ module _ (disk : Shape) (past : Past) (task : ℕ) (session : Session) (held : L
   -- a chosen session stands as it did, but for its log
   chosen-stands : (best : LogSegment) (log : clean.Cleaning) → Cleans (after best).work log → Stands (after best) (record session { log = log })
   chosen-stands best log now = let h = may.stands in record {
-    terms = h.terms; weight = h.weight; block = h.block; suspended = h.suspended; closed = h.closed; complete = h.complete; sealed = h.sealed;
+    terms = h.terms;
+    weight = h.weight;
+    block = h.block;
+    suspended = h.suspended;
+    closed = h.closed;
+    complete = h.complete;
+    sealed = h.sealed;
     ascend = λ backup. absurd (no_backup session.kind cleans backup);
     unwanted = λ backup. absurd (no_backup session.kind cleans backup);
     image = λ is_open. absurd (no_backup session.kind cleans (ap (λ t. is_backup t.kind) (sym h.terms) ∙ (and_parts (is_backup (view past task).terms.kind) (not (view past task).sealed) is_open).0));

@@ -129,11 +129,21 @@ module _ (disk : Shape) (task : ℕ) (v : TaskView) (best : LogSegment) where
     -- the chosen segment is being cleaned
     pub chosen-cleans : Cleans (chosen_view task (chosen_for disk task v best) v).work (clean.after_choice (Some best.number) log)
     chosen-cleans = record {
-      block = h.block; done = h.done; unfinished = refl; blocks = blocks_all; cut = cut_all; numbers = numbers_all; reported = reported_all; cleaned = cleaned_all;
+      block = h.block;
+      done = h.done;
+      unfinished = refl;
+      blocks = blocks_all;
+      cut = cut_all;
+      numbers = numbers_all;
+      reported = reported_all;
+      cleaned = cleaned_all;
       current = Some (chosen_for disk task v best);
       chosen = ap (λ cs. cs ++ chosen_for disk task v best ∷ []) all_done;
-      taken = (all_weaker (λ b. (chosen_view task (chosen_for disk task v best) v).bare b ≡ Wanted) (HoldsBlock (chosen_view task (chosen_for disk task v best) v).work (clean.taken_for (clean.after_choice (Some best.number) log) best.number))
-          (λ b e done. absurd (true≢false (sym done ∙ ap is_delivered e))) (chosen_blocks disk task v best) new_bare, tt);
+      taken = (
+        all_weaker (λ b. (chosen_view task (chosen_for disk task v best) v).bare b ≡ Wanted) (HoldsBlock (chosen_view task (chosen_for disk task v best) v).work (clean.taken_for (clean.after_choice (Some best.number) log) best.number))
+            (λ b e done. absurd (true≢false (sym done ∙ ap is_delivered e))) (chosen_blocks disk task v best) new_bare,
+        tt,
+      );
       distinct = (subst (AllByRecursion (λ choice. (choice.segment.number == best.number) ≡ false)) all_done (none_has v.choices is_left.left), tt);
       ascend = (live_ascend disk task v.terms.weight v.terms.block (length v.blocks) best.first 0 best.live some (omega arith), tt);
       known = (is_left.there, tt);
@@ -145,7 +155,18 @@ module _ (disk : Shape) (task : ℕ) (v : TaskView) (best : LogSegment) where
     -- a segment without live blocks is cleaned at once
     pub emptied-cleans : chosen_blocks disk task v best ≡ [] → Cleans (chosen_view task (chosen_for disk task v best) v).work (record (clean.after_choice (Some best.number) log) { unfinished = None })
     emptied-cleans empty = record {
-      block = h.block; current = None; unfinished = refl; blocks = blocks_all; cut = cut_all; numbers = numbers_all; reported = reported_all; taken = tt; distinct = tt; ascend = tt; known = tt; unreported = tt;
+      block = h.block;
+      current = None;
+      unfinished = refl;
+      blocks = blocks_all;
+      cut = cut_all;
+      numbers = numbers_all;
+      reported = reported_all;
+      taken = tt;
+      distinct = tt;
+      ascend = tt;
+      known = tt;
+      unreported = tt;
       done = h.done ++ chosen_for disk task v best ∷ [];
       chosen = ap (λ cs. cs ++ chosen_for disk task v best ∷ []) all_done ∙ sym (append-nil (h.done ++ chosen_for disk task v best ∷ []));
       cleaned = all_append (λ choice. is_cleaned (chosen_view task (chosen_for disk task v best) v).work choice ≡ true) h.done (chosen_for disk task v best ∷ []) cleaned_all (ap (list_all (λ block. is_delivered ((chosen_view task (chosen_for disk task v best) v).bare block))) empty, tt);
@@ -169,8 +190,9 @@ chosen-holds disk past task best session held now opened light some short small 
       on_disk = all_append (IsBlockOf disk (length (tasks past))) (registered past) blocks h.on_disk (live_placed disk (length (tasks past)) task v.terms.weight v.terms.block (length v.blocks) best.first best.live opened light some short whole (omega (arith, whole, small)));
       placed = λ t. elim (cases_Bool (task == t)) [
         | inl mine ↦ subst (λ u. IsPlaced disk (view (chose task best blocks ∷ past) u).work) (same_number task t mine) (rw own_now (record {
-            indexed = indexed_append 0 v.blocks blocks placed.indexed (let e : length (view past task).blocks ≡ 0 + length (view past task).blocks = omega arith in subst (λ n. AreIndexed n (chosen_blocks disk task (view past task) best)) e (added_indexed disk task v best));
-            segments = placed.segments }))
+          indexed = indexed_append 0 v.blocks blocks placed.indexed (let e : length (view past task).blocks ≡ 0 + length (view past task).blocks = omega arith in subst (λ n. AreIndexed n (chosen_blocks disk task (view past task) best)) e (added_indexed disk task v best));
+          segments = placed.segments;
+        }))
         | inr other ↦ rw (others t other) (h.placed t)
       ];
       unopened = λ t more. rw (others t (number_other task t (λ e. absurd (omega arith)))) (h.unopened t more);

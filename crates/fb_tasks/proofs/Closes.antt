@@ -43,8 +43,19 @@ left_all v (x ∷ xs) = rw (left_all v xs) (simp and-false)
 
 closed-cleans : (v : TaskView) (log : clean.Cleaning) → Cleans v.work log → Cleans (closed_view v).work (clean.after_drop log)
 closed-cleans v log h = record {
-  block = h.block; done = h.done; current = h.current; chosen = h.chosen; unfinished = h.unfinished; blocks = h.blocks; cut = h.cut; numbers = h.numbers;
-  distinct = h.distinct; ascend = h.ascend; known = h.known; unreported = h.unreported; reported = h.reported;
+  block = h.block;
+  done = h.done;
+  current = h.current;
+  chosen = h.chosen;
+  unfinished = h.unfinished;
+  blocks = h.blocks;
+  cut = h.cut;
+  numbers = h.numbers;
+  distinct = h.distinct;
+  ascend = h.ascend;
+  known = h.known;
+  unreported = h.unreported;
+  reported = h.reported;
   cleaned = simp ended-done h.cleaned;
   taken = all_weaker (HoldsChoice v.work log) (HoldsChoice (closed_view v).work log) (λ choice. holds-fewer v.work (λ _. ended true) fewer (clean.taken_for log choice.segment.number) choice.blocks) (choice_in h.current) h.taken;
   over = λ closed. all_any (λ block. is_over (ended true (v.bare block)) ≡ true) (λ block. ended_over (v.bare block)) v.blocks;
@@ -54,7 +65,16 @@ closed-cleans v log h = record {
 closed-told : (v : TaskView) (session : Session) → Told v session → Told (closed_view v) (record session { closed = true; log = clean.after_drop session.log })
 closed-told v session h = record {
   stands = record {
-    terms = h.terms; weight = h.weight; block = h.block; suspended = h.suspended; closed = refl; complete = h.complete; sealed = h.sealed; ascend = h.ascend; unwanted = h.unwanted; unchosen = h.unchosen;
+    terms = h.terms;
+    weight = h.weight;
+    block = h.block;
+    suspended = h.suspended;
+    closed = refl;
+    complete = h.complete;
+    sealed = h.sealed;
+    ascend = h.ascend;
+    unwanted = h.unwanted;
+    unchosen = h.unchosen;
     image = λ is_open. let image = h.image is_open in record { each = holds-fewer v.work (λ _. ended true) fewer (held_at session.image) v.blocks image.each; only = image.only };
     log = λ cleans. closed-cleans v session.log (h.log cleans);
   };
@@ -70,4 +90,4 @@ closed-tells disk past call items seen task n session log held now is same opene
     rw dropped (call-tells disk past call items seen task session (record session { closed = true; log = clean.after_drop session.log }) held now (AbortRange 0 n) (closed_view (view past task)) kept is.task
     (closed-view past call kept task is.task is.action) same opened at is_after (λ placed. record { indexed = placed.indexed; segments = placed.segments }) (closed-told (view past task) session)
     (λ block on. let shared : shares 0 n block ≡ true = rw count (all_shared (length (places disk)) block.lbn block.count on.some on.on_disk) in
-        show_aborted ((view past task).bare block) (view past task).suspended (shares 0 n block) ∙ rw shared refl) h)
+    show_aborted ((view past task).bare block) (view past task).suspended (shares 0 n block) ∙ rw shared refl) h)

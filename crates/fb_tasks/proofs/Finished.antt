@@ -132,8 +132,21 @@ module _ {disk : Shape} {past : Past} {task : ℕ} {held : List Entry} (session 
           (unreported : (view past task).reported current.segment.number ≡ false) where
         finished-cleans : Cleans (view past task).work (record session.log { unfinished = None })
         finished-cleans = record {
-          block = log.block; done = log.done ++ current ∷ []; current = None; unfinished = refl; blocks = log.blocks; cut = log.cut; taken = tt; numbers = log.numbers; ascend = tt; distinct = tt; known = tt; unreported = tt;
-          reported = log.reported; over = log.over; segments = log.segments;
+          block = log.block;
+          done = log.done ++ current ∷ [];
+          current = None;
+          unfinished = refl;
+          blocks = log.blocks;
+          cut = log.cut;
+          taken = tt;
+          numbers = log.numbers;
+          ascend = tt;
+          distinct = tt;
+          known = tt;
+          unreported = tt;
+          reported = log.reported;
+          over = log.over;
+          segments = log.segments;
           chosen = chosen ∙ sym (append-nil (log.done ++ current ∷ []));
           cleaned = all_append (IsCleanedIn (view past task).work) log.done (current ∷ []) log.cleaned (cleaned, tt);
         }
@@ -160,8 +173,18 @@ module _ {disk : Shape} {past : Past} {task : ℕ} {held : List Entry} (session 
         unfolding view
         finished_tested new segment content is says gives = subst (λ s. IsSegmentTested past task now s (SegmentLine (record { task = task; segment = segment; instant = now; live = length (clean.live_of session.log segment); content = content }) ∷ [])) (sym is) (record {
           stands = record {
-            terms = h.stands.terms; weight = h.stands.weight; block = h.stands.block; suspended = h.stands.suspended; closed = h.stands.closed; complete = h.stands.complete; sealed = h.stands.sealed;
-            ascend = h.stands.ascend; unwanted = h.stands.unwanted; image = h.stands.image; unchosen = h.stands.unchosen; log = λ _. finished-cleans;
+            terms = h.stands.terms;
+            weight = h.stands.weight;
+            block = h.stands.block;
+            suspended = h.stands.suspended;
+            closed = h.stands.closed;
+            complete = h.stands.complete;
+            sealed = h.stands.sealed;
+            ascend = h.stands.ascend;
+            unwanted = h.stands.unwanted;
+            image = h.stands.image;
+            unchosen = h.stands.unchosen;
+            log = λ _. finished-cleans;
           };
           at_work = λ _. ap not (sym (busy_is true cleaned));
           rows = row ∙ sym (ap (map (λ (choice : Choice). SegmentLine (record { task = task; segment = choice.segment.number; instant = now; live = live_count choice.segment; content = found_for (view past task).work choice.blocks })))

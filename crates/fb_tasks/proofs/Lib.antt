@@ -30,3 +30,6 @@ pub mod Turns
 pub mod ChosenSegment
 pub mod ChoiceSteps
 pub mod AllChoices
+pub mod Few
+pub mod Calls
+pub mod Script

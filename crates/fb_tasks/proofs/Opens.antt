@@ -47,7 +47,17 @@ pub record IsFresh (kind : Kind) (weight block : ℕ) (session : Session) : Type
 -- a task of which no event has spoken but for its opening
 fresh-cleans : (v : TaskView) (block : ℕ) → v.terms.block ≡ block → IsUntouched v → v.blocks ≡ [] → Cleans v.work (record { block = block; segments = []; unfinished = None; taken = [] })
 fresh-cleans v block size now none = record {
-  block = sym size; done = []; current = None; chosen = now.choices; cleaned = tt; unfinished = refl; taken = tt; distinct = tt; ascend = tt; known = tt; unreported = tt;
+  block = sym size;
+  done = [];
+  current = None;
+  chosen = now.choices;
+  cleaned = tt;
+  unfinished = refl;
+  taken = tt;
+  distinct = tt;
+  ascend = tt;
+  known = tt;
+  unreported = tt;
   blocks = rw (none, now.choices) refl;
   cut = rw now.choices tt;
   numbers = rw now.choices tt;

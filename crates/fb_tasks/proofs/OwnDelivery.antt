@@ -96,7 +96,16 @@ module _ (v : TaskView) (got : DeliveryRow) (place : ℕ) (there : slice_get v.b
       → ((number lbn : ℕ) → old.unfinished ≡ Some number → clean.taken_for new number lbn ≡ after_take content_at got.block.lbn got.block.count lbn (clean.taken_for old number lbn))
       → Cleans v.work old → Cleans (delivered_view got v).work new
   delivered-cleans content_at old new indexed gives block given unfinished takes h = record {
-    done = h.done; current = h.current; chosen = h.chosen; blocks = h.blocks; numbers = h.numbers; distinct = h.distinct; ascend = h.ascend; known = h.known; unreported = h.unreported; reported = h.reported;
+    done = h.done;
+    current = h.current;
+    chosen = h.chosen;
+    blocks = h.blocks;
+    numbers = h.numbers;
+    distinct = h.distinct;
+    ascend = h.ascend;
+    known = h.known;
+    unreported = h.unreported;
+    reported = h.reported;
     block = block ∙ h.block;
     cleaned = cleaned_still h.done h.cleaned;
     unfinished = unfinished ∙ h.unfinished;
@@ -117,7 +126,6 @@ module _ (v : TaskView) (got : DeliveryRow) (place : ℕ) (there : slice_get v.b
               (ap (λ bs. slice_get bs now.0) (sym (append-nil choice.blocks)) ∙ now.1) all.0 holds.0,
           tt,
         )
-
 
   pub delivered-stands : (content_at : ℕ → Content) (old new : Session) → AreIndexed 0 v.blocks → Gives got.content content_at got.block.lbn got.block.count → HasTaken content_at got.block old new → Stands v old → Stands (delivered_view got v) new
   delivered-stands content_at old new indexed gives takes h =

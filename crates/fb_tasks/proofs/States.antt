@@ -113,7 +113,16 @@ pub states-told : (change : Block → State → State) → ((block : Block) (bef
     → Told v session → Told (with_states change v) session
 states-told change fewer v session other h = record {
   stands = record {
-    terms = h.terms; weight = h.weight; block = h.block; suspended = h.suspended; closed = h.closed; complete = h.complete; sealed = h.sealed; ascend = h.ascend; unwanted = h.unwanted; unchosen = h.unchosen;
+    terms = h.terms;
+    weight = h.weight;
+    block = h.block;
+    suspended = h.suspended;
+    closed = h.closed;
+    complete = h.complete;
+    sealed = h.sealed;
+    ascend = h.ascend;
+    unwanted = h.unwanted;
+    unchosen = h.unchosen;
     image = λ is_open. let image = h.image is_open in record { each = holds-fewer v.work change fewer (held_at session.image) v.blocks image.each; only = image.only };
     log = λ cleans. absurd (true≢false (sym cleans ∙ other));
   };

@@ -18,8 +18,18 @@ use Rattle.fb_tasks.proofs.States.{show_suspended, show_resumed, never_held_back
 suspension-told : (held_back : Bool) (v : TaskView) (session : Session) → Told v session → Told (record v { suspended = held_back }) (record session { suspended = held_back })
 suspension-told held_back v session h = record {
   stands = record {
-    terms = h.terms; weight = h.weight; block = h.block; suspended = refl; closed = h.closed; complete = h.complete; sealed = h.sealed;
-    ascend = h.ascend; unwanted = h.unwanted; image = h.image; log = h.log; unchosen = h.unchosen;
+    terms = h.terms;
+    weight = h.weight;
+    block = h.block;
+    suspended = refl;
+    closed = h.closed;
+    complete = h.complete;
+    sealed = h.sealed;
+    ascend = h.ascend;
+    unwanted = h.unwanted;
+    image = h.image;
+    log = h.log;
+    unchosen = h.unchosen;
   };
   at_work = h.at_work;
   reported = h.reported;

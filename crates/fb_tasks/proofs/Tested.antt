@@ -104,8 +104,21 @@ module _ (task : ℕ) (v : TaskView) (rows : List BackRow) (given : AreRowsOf ta
 
   cleans-tested : (log : clean.Cleaning) → is_none log.unfinished ≡ not (is_busy v.work) → Cleans v.work log → Cleans (tested_view task rows v).work log
   cleans-tested log work h = record {
-    block = h.block; done = h.done; current = h.current; chosen = h.chosen; cleaned = h.cleaned; unfinished = h.unfinished; blocks = h.blocks; cut = h.cut; taken = h.taken;
-    numbers = h.numbers; distinct = h.distinct; ascend = h.ascend; known = h.known; over = h.over; segments = h.segments;
+    block = h.block;
+    done = h.done;
+    current = h.current;
+    chosen = h.chosen;
+    cleaned = h.cleaned;
+    unfinished = h.unfinished;
+    blocks = h.blocks;
+    cut = h.cut;
+    taken = h.taken;
+    numbers = h.numbers;
+    distinct = h.distinct;
+    ascend = h.ascend;
+    known = h.known;
+    over = h.over;
+    segments = h.segments;
     unreported = unfinished-unreported log h work;
     reported = reported-known log h;
   }
@@ -152,12 +165,12 @@ pub record IsTested (seals : Bool) (old new : Session) : Type 0 where
 module _ (task : ℕ) (v : TaskView) (rows : List BackRow) (given : AreRowsOf task v rows) (old new : Session) (is : IsTested (is_unsealed v && is_done v.work) old new) (complete : new.complete ≡ is_done v.work) where
   open_was : is_unsealed (tested_view task rows v) ≡ true → (is_unsealed v ≡ true) × ((is_unsealed v && is_done v.work) ≡ false)
   open_was h = by (is_backup v.terms.kind) v.sealed (is_done v.work) (rw (sym given.seals) h) where
-        by : (backup sealed complete : Bool) → (backup && not (((backup && not sealed) && complete) || sealed)) ≡ true → ((backup && not sealed) ≡ true) × (((backup && not sealed) && complete) ≡ false)
-        by false sealed complete h = absurd (true≢false (sym h))
-        by true true false h = absurd (true≢false (sym h))
-        by true true true h = absurd (true≢false (sym h))
-        by true false true h = absurd (true≢false (sym h))
-        by true false false h = (refl, refl)
+    by : (backup sealed complete : Bool) → (backup && not (((backup && not sealed) && complete) || sealed)) ≡ true → ((backup && not sealed) ≡ true) × (((backup && not sealed) && complete) ≡ false)
+    by false sealed complete h = absurd (true≢false (sym h))
+    by true true false h = absurd (true≢false (sym h))
+    by true true true h = absurd (true≢false (sym h))
+    by true false true h = absurd (true≢false (sym h))
+    by true false false h = (refl, refl)
 
   holds_still : (held now : ℕ → Option Content) → ((lbn : ℕ) → now lbn ≡ held lbn) → HoldsImage v.work held → HoldsImage v.work now
   holds_still held now same h = record {

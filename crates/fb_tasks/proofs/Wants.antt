@@ -39,7 +39,14 @@ wanted-told : (task : ℕ) (added : List Block) (v : TaskView) (session : Sessio
     → Told v session → Told (wanted_view task added v) session
 wanted-told task added v session other once ascends own h = record {
   stands = record {
-    terms = h.terms; weight = h.weight; block = h.block; suspended = h.suspended; closed = h.closed; complete = h.complete; sealed = h.sealed; unchosen = h.unchosen;
+    terms = h.terms;
+    weight = h.weight;
+    block = h.block;
+    suspended = h.suspended;
+    closed = h.closed;
+    complete = h.complete;
+    sealed = h.sealed;
+    unchosen = h.unchosen;
     ascend = λ backup. rw (none_before backup) ascends;
     unwanted = λ backup none. absurd (true≢false none);
     image = λ is_open. let none = none_before (ap (λ t. is_backup t.kind) (sym h.terms) ∙ (and_parts (is_backup v.terms.kind) (not v.sealed) is_open).0) in record {
@@ -89,7 +96,6 @@ may_want disk past call task first count sessions session held is at h =
       taken = taken;
       stands = stands;
     }
-
 
 module _ (disk : Shape) (past : Past) (call : Call) (task first count : ℕ) (is : IsCall task (Want first count) call) (added : List Block) (own : AllByRecursion (λ b. b.task ≡ task) added) where
   mine : AllByRecursion (λ b. b.task ≡ call.task) added

@@ -1,0 +1,129 @@
+-- The course of a script: what happens in it may happen, and it goes on.
+use Rattle.std.proofs.Common.{◌≡◌, ℕ, zero, suc, ◌+◌, ◌^◌, ◌≤◌, List, [], ◌∷◌, Bool, true, false, Some, length, map, refl, ap, sym, ◌∙◌, arith, subst}
+use Rattle.std.specs.Prelude.{slice_get, Result, Ok, Err, OnOk}
+use Rattle.std.proofs.lemmas.List.FromFn.{length-map-range_with_len}
+use Rattle.std.proofs.lemmas.Bool.{true≢false}
+use Rattle.fb_units.specs.declared.types.Request.{Request}
+use Rattle.fb_geometry.specs.Shape.{Shape}
+use Rattle.fb_calls.specs.declared.call.Call.{Call}
+use Rattle.fb_calls.specs.Allowed.{IsScript}
+use Rattle.fb_store.specs.declared.content.Content.{Content}
+use Rattle.fb_store.specs.Pieces.{Gives}
+use Rattle.fb_wanted.specs.declared.block.Block.{Block}
+use Rattle.fb_wanted.specs.declared.block.Entry.{Entry}
+use Rattle.fb_wanted.specs.declared.block.State.TheVariants.{Wanted}
+use Rattle.fb_wanted.specs.States.{is_wanted}
+use Rattle.fb_rows.specs.Ranges.{AreRanges}
+use Rattle.fb_rows.specs.declared.back.BackRow.{BackRow}
+use Rattle.fb_rows.specs.declared.back.DeliveryRow.{DeliveryRow}
+use Rattle.fb_model.specs.History.{Past, finished, registered, state, tasks, wanted}
+use Rattle.fb_model.specs.Completion.{view}
+use Rattle.fb_model.specs.Segments.{with_choices}
+use Rattle.fb_model.specs.Images.{test_rows}
+use Rattle.fb_model.specs.Course.{take_call, with_delivery, task_row, task_rows}
+use Rattle.fb_tasks.specs.declared.session.Session.{Session}
+use Rattle.fb_tasks.specs.Taken.{by_deliveries, delivery_of}
+use Rattle.fb_tasks.specs.Telling.{Tells, MayTake, MaySettle, MayDeliver, IsSettled, settled_at, IsBlockOf, entry_of}
+use Rattle.fb_tasks.specs.Script.{Follows}
+use Rattle.fb_tasks.proofs.Calls.{may-take, called-more, called-tested, called-chosen, called-delivered, called-finished}
+use Rattle.fb_tasks.proofs.Lists.{all_at, filter_to, some_same}
+
+module _ {settled : Bool} {disk : Shape} {calls : List Call} {next : ℕ} {sessions : List Session} {held : List Entry} (h : Follows settled disk calls next sessions held) where
+  -- whether or not all was tested
+  pub follows-untested : Follows false disk calls next sessions held
+  follows-untested = record { script = h.script; past = h.past; called = h.called; tells = h.tells; tested = λ never. absurd (true≢false (sym never)) }
+
+  -- the next call takes effect
+  module _ (call : Call) (at : slice_get calls next ≡ Some call) where
+    pub follows-may : MayTake disk h.past sessions held call
+    follows-may = may-take disk calls h.script.allowed h.script.few_calls h.past next h.called call at sessions held h.tells
+
+    pub follows-more : (now : List Session) (after : List Entry) → Tells disk (take_call disk h.past call) now after → Follows false disk calls (next + 1) now after
+    follows-more now after tells = record {
+      script = h.script;
+      past = take_call disk h.past call;
+      called = called-more disk calls h.script.allowed h.script.few_calls h.past next h.called call at sessions held h.tells;
+      tells = tells;
+      tested = λ never. absurd (true≢false (sym never));
+    }
+
+  -- all is settled
+  pub follows-may-settle : MaySettle disk h.past sessions held
+  follows-may-settle = record { tells = h.tells; few = omega (arith, h.called.few) }
+
+  pub follows-settled : (instant : ℕ) (now : List Session) (after : List Entry) → Tells disk (settled_at disk h.past instant) now after → IsSettled (settled_at disk h.past instant) → Follows true disk calls next now after
+  follows-settled instant now after tells all = record {
+    script = h.script;
+    past = settled_at disk h.past instant;
+    called = called-tested disk calls (with_choices disk h.past) next (called-chosen disk calls h.past next h.called sessions held h.tells) (test_rows by_deliveries (with_choices disk h.past) instant);
+    tells = tells;
+    tested = λ is. all;
+  }
+
+  -- a block is delivered
+  pub follows-delivered : (got : DeliveryRow) (now : List Session) (after : List Entry) → Tells disk (with_delivery h.past (delivery_of h.past got)) now after → IsSettled (with_delivery h.past (delivery_of h.past got)) → (b : Bool) → Follows b disk calls next now after
+  follows-delivered got now after tells all b = record {
+    script = h.script;
+    past = with_delivery h.past (delivery_of h.past got);
+    called = called-delivered disk calls h.past next got h.called;
+    tells = tells;
+    tested = λ is. all;
+  }
+
+  -- a write passes
+  pub follows-finished : (request : Request) (now : List Session) (after : List Entry) → Tells disk (finished request ∷ h.past) now after → Follows false disk calls next now after
+  follows-finished request now after tells = record {
+    script = h.script;
+    past = finished request ∷ h.past;
+    called = called-finished disk calls h.past next h.called request;
+    tells = tells;
+    tested = λ never. absurd (true≢false (sym never));
+  }
+
+-- nothing has happened yet
+pub follows-first : (disk : Shape) (calls : List Call) (sessions : List Session) → IsScript disk 0 calls → Tells disk [] sessions [] → Follows false disk calls 0 sessions []
+follows-first disk calls sessions script tells = record {
+  script = script;
+  past = [];
+  called = record { within = omega arith; taken = refl; few = omega (arith, script.few_blocks) };
+  tells = tells;
+  tested = λ never. absurd (true≢false (sym never));
+}
+
+-- a registered block stands where its entry does, in the entry's state
+pub registered-at : {disk : Shape} {past : Past} {sessions : List Session} {held : List Entry} (tells : Tells disk past sessions held) (place : ℕ) (entry : Entry) → slice_get held place ≡ Some entry
+    → (slice_get (registered past) place ≡ Some entry.block) × (state past entry.block ≡ entry.state)
+unfolding view
+registered-at {past} tells place entry at = back (registered past) place (ap (λ es. slice_get es place) (sym tells.entries) ∙ at) where
+  back : (blocks : List Block) (n : ℕ) → slice_get (map (entry_of past) blocks) n ≡ Some entry → (slice_get blocks n ≡ Some entry.block) × (state past entry.block ≡ entry.state)
+  back [] n there = absurd (grind arith)
+  back (b ∷ bs) zero there = subst (λ (e : Entry). (Some b ≡ Some e.block) × (state past e.block ≡ e.state)) (some_same (entry_of past b) entry there) (refl, refl)
+  back (b ∷ bs) (suc n) there = back bs n there
+
+pub within-at : {disk : Shape} {past : Past} {sessions : List Session} {held : List Entry} (tells : Tells disk past sessions held) (place : ℕ) (entry : Entry) → slice_get held place ≡ Some entry → entry.block.lbn + entry.block.count ≤ 10 ^ 12
+within-at {disk} {past} tells place entry at = (all_at (IsBlockOf disk (length (tasks past))) (registered past) place entry.block tells.on_disk (registered-at tells place entry at).0).within
+
+-- a block is wanted where its entry says so
+wanted-at : {disk : Shape} {past : Past} {sessions : List Session} {held : List Entry} (tells : Tells disk past sessions held) (place : ℕ) (entry : Entry) → slice_get held place ≡ Some entry → entry.state ≡ Wanted
+    → (i : ℕ) × (slice_get (wanted past) i ≡ Some entry.block)
+unfolding wanted
+wanted-at {past} tells place entry at is =
+    let there = registered-at tells place entry at in
+    filter_to (λ block. is_wanted (state past block)) (registered past) place entry.block there.0 (ap is_wanted (there.1 ∙ is))
+
+-- and may be delivered then
+pub follows-may-deliver : {disk : Shape} {calls : List Call} {next : ℕ} {sessions : List Session} {held : List Entry} (h : Follows true disk calls next sessions held) (got : DeliveryRow) (place : ℕ) (content_at : ℕ → Content)
+    → slice_get held place ≡ Some (record { block = got.block; state = Wanted }) → Gives got.content content_at got.block.lbn got.block.count → AreRanges got.content → MayDeliver disk h.past sessions held got
+follows-may-deliver h got place content_at at gives ranges =
+    let there = wanted-at h.tells place (record { block = got.block; state = Wanted }) at refl in
+    record { tells = h.tells; settled = h.tested refl; place = there.0; wanted = there.1; content_at = content_at; content = gives; ranges = ranges }
+
+-- what a call says in two clauses, where it succeeds
+pub on_ok_both : {T E : Type 0} (P Q : Type 0) (r : Result T E) → OnOk r P → OnOk r Q → OnOk r (P × Q)
+on_ok_both P Q (Ok x) p q = (p, q)
+on_ok_both P Q (Err e) p q = tt
+
+-- each task has its row
+pub rows-there : {disk : Shape} {past : Past} {sessions : List Session} {held : List Entry} (tells : Tells disk past sessions held) → (rows : List BackRow) → rows ≡ task_rows past → length rows ≡ length sessions
+unfolding task_rows
+rows-there {past} tells rows is = ap length is ∙ (length-map-range_with_len (task_row past) 0 (length (tasks past)) ∙ sym tells.as_many)
