@@ -1,5 +1,6 @@
 -- Blocks of a task are aborted, and requests are promoted.
-use Rattle.std.proofs.Common.{◌≡◌, ℕ, zero, suc, arith, subst, ◌<◌, List, [], ◌∷◌, false, length, Some, get_or, slice_get, append-nil, refl, ap, sym, ◌∙◌}
+use Rattle.std.proofs.Common.{◌≡◌, ℕ, zero, suc, arith, subst, ◌<◌, List, [], ◌∷◌, true, false, length, Some, set, get_or, slice_get, append-nil, refl, ap, sym, ◌∙◌}
+use Rattle.std.proofs.lemmas.Bool.{true≢false}
 use Rattle.fb_geometry.specs.Shape.{Shape}
 use Rattle.fb_calls.specs.declared.call.Action.TheVariants.{Abort, Promote}
 use Rattle.fb_calls.specs.declared.call.Call.{Call}
@@ -15,7 +16,7 @@ use Rattle.fb_tasks.specs.declared.session.Session.{Session}
 use Rattle.fb_tasks.specs.Telling.{Tells, MayTake}
 use Rattle.fb_tasks.proofs.Asked.{open_there, terms_there}
 use Rattle.fb_tasks.proofs.Lists.{some_at, some_same}
-use Rattle.fb_tasks.proofs.Frames.{call-tells, silent-tells, set_same}
+use Rattle.fb_tasks.proofs.Frames.{call-tells, silent-tells}
 use Rattle.fb_tasks.proofs.States.{show_aborted, ended-done, states-told}
 
 pub promoted-tells : (disk : Shape) (past : Past) (call : Call) (first count : ℕ) (sessions : List Session) (held : List Entry) → call.action ≡ Promote first count
@@ -24,9 +25,10 @@ promoted-tells disk past call first count sessions held is h =
     let kept : tasks (called call [] ∷ past) ≡ tasks past = ap (λ a. opened_by a (tasks past)) is in
     silent-tells disk past (called call []) sessions held (λ t. promoted-silent past call kept t first count is) kept (append-nil (registered past)) h
 
-pub asked-aborts : (disk : Shape) (past : Past) (call : Call) (first count : ℕ) (sessions : List Session) (held now : List Entry) → call.action ≡ Abort first count → now ≡ after call.task (AbortRange first count) held
-    → MayTake disk past sessions held call → Tells disk (called call [] ∷ past) sessions now
-asked-aborts disk past call first count sessions held now is is_after may =
+pub asked-aborts : (disk : Shape) (past : Past) (call : Call) (first count : ℕ) (sessions touched : List Session) (held now : List Entry) → call.action ≡ Abort first count → now ≡ after call.task (AbortRange first count) held
+    → ((session : Session) → slice_get sessions call.task ≡ Some session → touched ≡ set sessions call.task (record session { touched = true }))
+    → MayTake disk past sessions held call → Tells disk (called call [] ∷ past) touched now
+asked-aborts disk past call first count sessions touched held now is is_after flagged may =
     let h = may.tells in
     let asks = subst (MayAsk disk (calls_of past) call.task) is may.asks in
     let opened : call.task < length sessions = omega (arith, (open_there past call.task asks.0).0, h.as_many) in
@@ -35,10 +37,10 @@ asked-aborts disk past call first count sessions held now is is_after may =
     let told = h.each call.task session found.1 in
     let other : is_clean session.kind ≡ false = ap (λ t. is_clean t.kind) (sym (terms_there past call.task ∙ told.terms)) ∙ asks.1 in
     let kept : tasks (called call [] ∷ past) ≡ tasks past = ap (λ a. opened_by a (tasks past)) is in
-    subst (λ xs. Tells disk (called call [] ∷ past) xs now) (set_same sessions call.task session found.1)
-    (call-tells disk past call sessions sessions call.task session session held now (AbortRange first count) (aborted_view first count (view past call.task)) kept refl
+    subst (λ xs. Tells disk (called call [] ∷ past) xs now) (sym (flagged session found.1))
+    (call-tells disk past call sessions sessions call.task session (record session { touched = true }) held now (AbortRange first count) (aborted_view first count (view past call.task)) kept refl
     (aborted-view past call kept call.task first count refl is) refl opened (sym (get_at sessions call.task session found.1)) is_after (λ placed. record { indexed = placed.indexed; segments = placed.segments })
-    (states-told (λ block. ended (shares first count block)) (λ block before done. sym (ended-done (shares first count block) before) ∙ done) (view past call.task) session other)
+    (states-told (λ block. ended (shares first count block)) (λ block before done. sym (ended-done (shares first count block) before) ∙ done) (view past call.task) session true (λ untouched. absurd (true≢false untouched)) other)
     (λ block on. show_aborted ((view past call.task).bare block) (view past call.task).suspended (shares first count block)) h) where
       get_at : (xs : List Session) (i : ℕ) (x : Session) → slice_get xs i ≡ Some x → get_or xs i x ≡ x
       get_at [] i x at = refl

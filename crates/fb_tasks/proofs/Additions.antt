@@ -72,7 +72,7 @@ module _ (v : TaskView) (first blocks age : ℕ) (live : List Bool) (going : v.c
     last_kept : record { number = length log.segments + 1; blocks = blocks; age = age; live = clean.live_blocks log.block first live; waits = true } ≡ kept_segment v.work (next_segment v first blocks age live)
     last_kept = rw (ap length h.segments ∙ length-map v.segments (kept_segment v.work), h.block, none_numbered (length v.segments) v.choices h.numbers, going) refl
 
-  added-told : (session : Session) → Told v session → Told (added_view (next_segment v first blocks age live) v) (record session { log = clean.after_add first blocks age live session.log })
+  added-told : (session : Session) → Told v session → Told (added_view (next_segment v first blocks age live) v) (record session { touched = true; log = clean.after_add first blocks age live session.log })
   added-told session h = record {
     stands = record {
       terms = h.terms;
@@ -90,6 +90,7 @@ module _ (v : TaskView) (first blocks age : ℕ) (live : List Bool) (going : v.c
     };
     at_work = h.at_work;
     reported = h.reported;
+    quiet = λ untouched. absurd (true≢false untouched);
   }
 
 -- what a segment call may ask for, of its session
@@ -126,7 +127,7 @@ may_add disk past call task first blocks age live sessions session held is at h 
     }
 
 pub added-tells : (disk : Shape) (past : Past) (call : Call) (task first blocks age : ℕ) (live : List Bool) (items seen : List Session) (session : Session) (log : clean.Cleaning) (held : List Entry) → IsCall task (Segment first blocks age live) call → items ≡ seen → task < length items → session ≡ get_or items task session
-    → log ≡ clean.after_add first blocks age live session.log → MayTake disk past seen held call → Tells disk (called call [] ∷ past) (set items task (record session { log = log })) held
+    → log ≡ clean.after_add first blocks age live session.log → MayTake disk past seen held call → Tells disk (called call [] ∷ past) (set items task (record session { touched = true; log = log })) held
 added-tells disk past call task first blocks age live items seen session log held is same within at added h =
     let there : slice_get seen task ≡ Some session = subst (λ xs. slice_get xs task ≡ Some session) same (slice_get-get_or items task session within ∙ ap Some (sym at)) in
     let may = may_add disk past call task first blocks age live seen session held is there h in
@@ -135,7 +136,7 @@ added-tells disk past call task first blocks age live items seen session log hel
     let others = λ (t : ℕ) (other : (task == t) ≡ false). called-silent past call kept t (ap (λ k. k == t) is.task ∙ other) in
     let placed = h.tells.placed task in
     let told = h.tells.each task session there in
-    rw (added, same) (one-tells disk past (called call []) task others kept seen (record session { log = clean.after_add first blocks age live session.log }) held held may.opened
+    rw (added, same) (one-tells disk past (called call []) task others kept seen (record session { touched = true; log = clean.after_add first blocks age live session.log }) held held may.opened
     (rw append-nil h.tells.on_disk)
     (h.tells.entries ∙ (kept-entries (view past) (view (called call [] ∷ past)) (λ t b. elim (cases_Bool (task == t)) [
       | inl own ↦ subst (λ k. state_in (view past k) b ≡ state_in (view (called call [] ∷ past) k) b) (same_number task t own) (rw own_now refl)

@@ -1,8 +1,8 @@
 -- The rows that follow a delivery, and the sessions after them.
-use Rattle.std.proofs.Common.{◌≡◌, ℕ, zero, suc, ◌+◌, ◌<◌, ◌≤◌, ◌==◌, ◌&&◌, ◌||◌, not, if◌then◌else◌, List, [], ◌∷◌, ◌++◌, Bool, true, false, Some, None, Option, inl, inr, length, map, set, get_or, slice_get, append-nil, append_assoc, refl, ap, ap₂, sym, ◌∙◌, arith, subst}
+use Rattle.std.proofs.Common.{◌≡◌, ℕ, zero, suc, ◌+◌, ◌<◌, ◌≤◌, ◌==◌, ◌&&◌, not, if◌then◌else◌, List, [], ◌∷◌, ◌++◌, Bool, true, false, Some, None, Option, inl, inr, length, map, set, get_or, slice_get, append-nil, append_assoc, refl, ap, ap₂, sym, ◌∙◌, arith, subst}
 use Rattle.std.proofs.Math.Bool.{and-false}
 use Rattle.std.specs.List.{AllByRecursion, flat_map, list_any, range_with_len}
-use Rattle.std.proofs.lemmas.Bool.{cases_Bool}
+use Rattle.std.proofs.lemmas.Bool.{cases_Bool, true≢false}
 use Rattle.std.proofs.lemmas.Bool.Decides.{nat_tests}
 use Rattle.std.proofs.lemmas.List.{length-set}
 use Rattle.std.proofs.lemmas.Option.{slice_get_within, slice_get-get_or}
@@ -11,7 +11,7 @@ use Rattle.fb_calls.specs.declared.call.Kind.{Kind}
 use Rattle.fb_calls.specs.Sessions.{is_clean}
 use Rattle.std.specs.Option.{option_map}
 use Rattle.fb_rows.specs.declared.back.BackRow.{BackRow}
-use Rattle.fb_rows.specs.declared.back.BackRow.TheVariants.{Bad as BadLine, Got as GotLine, Seal as SealLine, Complete as CompleteLine}
+use Rattle.fb_rows.specs.declared.back.BackRow.TheVariants.{Bad as BadLine, Got as GotLine}
 use Rattle.fb_rows.specs.declared.back.DeliveryRow.{DeliveryRow}
 use Rattle.fb_wanted.specs.declared.block.Change.TheVariants.{Deliver}
 use Rattle.fb_wanted.specs.declared.block.Entry.{Entry}
@@ -31,8 +31,9 @@ use Rattle.fb_tasks.specs.Telling.{Tells, IsSettled, MayDeliver}
 use Rattle.fb_tasks.proofs.Lists.{all_at, number_other, number_same, same_number, other_number, some_at, map_at}
 use Rattle.fb_tasks.proofs.Frames.{get_set, get_own}
 use Rattle.fb_tasks.proofs.RowsOf.{rows-given, seals_given, findings-mute}
-use Rattle.fb_tasks.proofs.Tested.{IsTested, once, stands-tested, at_work-tested, settled-tested}
-use Rattle.fb_tasks.proofs.AllTested.{AreAllRows, tells-tested}
+use Rattle.fb_tasks.proofs.Tested.{settled-tested}
+use Rattle.fb_tasks.proofs.States.{flagged-stands}
+use Rattle.fb_tasks.proofs.AllTested.{AreAllRows, tells-tested, still-stands, no-ends}
 use Rattle.fb_tasks.proofs.Deliveries.{delivered-entries}
 use Rattle.fb_tasks.proofs.OwnDelivery.{WasWanted, was_wanted, delivered-holds, delivered-stands, at_work_now}
 use Rattle.fb_tasks.proofs.Complete.{done_is, was_is}
@@ -90,10 +91,7 @@ module _ {disk : Shape} {past : Past} {sessions : List Session} {held : List Ent
     no_segments now = reported_rows (delivered got ∷ past) now task (told-other found.0 found.1).reported
 
     no_ends : (now : ℕ) → (seal_rows by_deliveries (delivered got ∷ past) now task ++ complete_rows (delivered got ∷ past) now task) ≡ []
-    no_ends now =
-        ap (λ b. (if b then SealLine (record { task = task; instant = now; content = by_deliveries.image_at (delivered got ∷ past) task now }) ∷ [] else []) ++ complete_rows (delivered got ∷ past) now task) unsealed-other
-        ∙ (ap₂ (λ a b. if a && not b then CompleteLine (record { task = task; instant = now }) ∷ [] else []) still-complete (may.settled.tested task)
-        ∙ ap (λ b. if b then CompleteLine (record { task = task; instant = now }) ∷ [] else []) (once (is_complete past task)))
+    no_ends now = no-ends (delivered got ∷ past) now task unsealed-other (may.settled.tested task ∙ sym still-complete)
 
   -- the block's own task alone gives rows
   pub own-rows : (now : ℕ) → test_rows by_deliveries (delivered got ∷ past) now
@@ -129,23 +127,31 @@ module _ {disk : Shape} {past : Past} {sessions : List Session} {held : List Ent
         let less : task < length (tasks past) = subst (λ n. task < n) may.tells.as_many (slice_get_within sessions task session at) in
         let told = told-other task other less session at in
         let none : (is_unsealed (view (delivered got ∷ past) task) && is_done (view (delivered got ∷ past) task).work) ≡ false = ap₂ (λ a b. a && b) (open_is (delivered got ∷ past) task) (done_is (delivered got ∷ past) task) ∙ unsealed-other task other less in
-        let is_same : IsTested (is_unsealed (view (delivered got ∷ past) task) && is_done (view (delivered got ∷ past) task).work) session session = record { kind = refl; weight = refl; block = refl; suspended = refl; closed = refl; sealed = sym (ap (λ b. b || session.sealed) none); log = refl; image = λ _ lbn. refl } in
-        let complete : session.complete ≡ is_done (view (delivered got ∷ past) task).work = (may.tells.each task session at).complete ∙ (was_is past task ∙ (may.settled.tested task ∙ (sym (still-complete task other less) ∙ sym (done_is (delivered got ∷ past) task)))) in (
-          rw (tested-view (delivered got ∷ past) (rows_after past got) task) (stands-tested task (view (delivered got ∷ past) task) (rows_after past got) (all-given task) session session is_same complete told.stands told.at_work),
-          rw (tested-view (delivered got ∷ past) (rows_after past got) task) (at_work-tested task (view (delivered got ∷ past) task) (rows_after past got) (all-given task) session session is_same complete told.at_work),
-        )
+        let complete : session.complete ≡ is_done (view (delivered got ∷ past) task).work = (may.tells.each task session at).complete ∙ (was_is past task ∙ (may.settled.tested task ∙ (sym (still-complete task other less) ∙ sym (done_is (delivered got ∷ past) task)))) in
+        let still = still-stands task (view (delivered got ∷ past) task) (rows_after past got) (all-given task) session none complete told.stands told.at_work in
+        (rw (tested-view (delivered got ∷ past) (rows_after past got) task) still.0, rw (tested-view (delivered got ∷ past) (rows_after past got) task) still.1)
 
     -- the sessions tell the history with its delivery and its test
     pub tells-delivered : (new : Session) → (Stands (view (tested (rows_after past got) ∷ delivered got ∷ past) got.block.task) new) × (IsAtWork (view (tested (rows_after past got) ∷ delivered got ∷ past) got.block.task).work new)
-        → Tells disk (tested (rows_after past got) ∷ delivered got ∷ past) (set sessions got.block.task new) now
-    tells-delivered new own = tells-tested (rows_after past got) (set sessions got.block.task new) h (length-set sessions got.block.task new ∙ may.tells.as_many) all-given
+        → Tells disk (tested (rows_after past got) ∷ delivered got ∷ past) (set sessions got.block.task (record new { touched = true })) now
+    tells-delivered new own =
+        let touched = record new { touched = true } in
+        let own_there = λ (task : ℕ) (session : Session) (mine : (got.block.task == task) ≡ true) (at : slice_get (set sessions got.block.task touched) task ≡ Some session).
+        get_own sessions got.block.task touched session (ap (slice_get (set sessions got.block.task touched)) (same_number got.block.task task mine) ∙ at) in
+        tells-tested (rows_after past got) (set sessions got.block.task touched) h (length-set sessions got.block.task touched ∙ may.tells.as_many) all-given
         (λ task session at. elim (cases_Bool (got.block.task == task)) [
           | inl mine ↦
-              let e = same_number got.block.task task mine in
-              subst (λ t. (Stands (view (tested (rows_after past got) ∷ delivered got ∷ past) t) session) × (IsAtWork (view (tested (rows_after past got) ∷ delivered got ∷ past) t).work session)) e
+              subst (λ t. (Stands (view (tested (rows_after past got) ∷ delivered got ∷ past) t) session) × (IsAtWork (view (tested (rows_after past got) ∷ delivered got ∷ past) t).work session)) (same_number got.block.task task mine)
               (subst (λ s. (Stands (view (tested (rows_after past got) ∷ delivered got ∷ past) got.block.task) s) × (IsAtWork (view (tested (rows_after past got) ∷ delivered got ∷ past) got.block.task).work s))
-              (sym (get_own sessions got.block.task new session (ap (slice_get (set sessions got.block.task new)) e ∙ at))) own)
-          | inr other ↦ other-tested task session (other_number got.block.task task other) (get_set sessions got.block.task task new session at (other_number got.block.task task other))
+              (sym (own_there task session mine at)) (flagged-stands true (view (tested (rows_after past got) ∷ delivered got ∷ past) got.block.task) new own.0, own.1))
+          | inr other ↦ other-tested task session (other_number got.block.task task other) (get_set sessions got.block.task task touched session at (other_number got.block.task task other))
+        ])
+        (λ task session at untouched. elim (cases_Bool (got.block.task == task)) [
+          | inl mine ↦ absurd (true≢false (sym (ap (λ (s : Session). s.touched) (own_there task session mine at)) ∙ untouched))
+          | inr other ↦
+              let there = get_set sessions got.block.task task touched session at (other_number got.block.task task other) in
+              let less : task < length (tasks past) = subst (λ n. task < n) may.tells.as_many (slice_get_within sessions task session there) in
+              ((told-other task (other_number got.block.task task other) less session there).quiet untouched).chosen
         ])
 
 terms_is : (past : Past) (task : ℕ) → (terms_of past task).kind ≡ (view past task).terms.kind

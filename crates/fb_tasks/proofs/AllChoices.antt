@@ -2,6 +2,7 @@
 use Rattle.std.proofs.Common.{◌≡◌, ℕ, zero, suc, ◌+◌, ◌-◌, ◌*◌, ◌^◌, ◌<◌, ◌≤◌, ◌==◌, ◌&&◌, not, if◌then◌else◌, List, [], ◌∷◌, ◌++◌, Bool, true, false, Some, inl, inr, length, set, slice_get, append-nil, append_assoc, refl, ap, sym, ◌∙◌, arith, subst}
 use Rattle.std.specs.List.{AllByRecursion, flat_map, fold, range_with_len, sum_by, best_of}
 use Rattle.std.proofs.lemmas.Bool.{cases_Bool}
+use Rattle.std.proofs.lemmas.Bool.Decides.{nat_tests}
 use Rattle.std.proofs.lemmas.List.Sums.{sum_by-cons}
 use Rattle.std.proofs.lemmas.List.Concat.{flat_map-append}
 use Rattle.std.proofs.lemmas.List.{length-set}
@@ -18,14 +19,15 @@ use Rattle.fb_model.specs.Segments.{is_better, is_busy, unchosen, choose_once, c
 use Rattle.fb_model.specs.Images.{segment_rows}
 use Rattle.fb_tasks.specs.declared.session.Session.{Session}
 use Rattle.fb_tasks.specs.Taken.{by_deliveries}
-use Rattle.fb_tasks.specs.Standing.{Stands, HoldsBlocks, IsAtWork, AreReported, IsSegmentOf, MayChoose, HasChosen, HaveChosen, choosable_by}
+use Rattle.fb_tasks.specs.Standing.{Stands, HoldsBlocks, IsQuiet, HasNoChoice, IsAtWork, AreReported, IsSegmentOf, MayChoose, HasChosen, HaveChosen, choosable_by}
 use Rattle.fb_tasks.specs.Telling.{MaySettle}
-use Rattle.fb_tasks.proofs.Lists.{flat_same, number_other, same_number, other_number}
+use Rattle.fb_tasks.proofs.Lists.{flat_same, some_at, number_other, same_number, other_number}
 use Rattle.fb_tasks.proofs.Frames.{get_set, get_own}
 use Rattle.fb_tasks.proofs.Rows.{range_more}
 use Rattle.fb_tasks.proofs.ChosenSegment.{best_left, chosen_blocks, added_own}
 use Rattle.fb_tasks.proofs.ChoiceSteps.{segment_rows_of, segment_rows_is, few_less, next_view, numbered_is, once_is, best_of_left}
-use Rattle.fb_tasks.proofs.Turns.{in_is}
+use Rattle.fb_tasks.proofs.Turns.{in_is, reported_rows}
+use Rattle.fb_tasks.proofs.LastChoice.{stays, no-choice-left}
 
 -- what holds of a history and of each choice from it holds after a turn
 once_any : (P : Past → Type 0) (disk : Shape) (task : ℕ) (past : Past) → P past → ((s : LogSegment) (ss : List LogSegment) → unchosen (view past task).work ≡ s ∷ ss → P (chose task (best_of is_better s ss) (chosen_blocks disk task (view past task) (best_of is_better s ss)) ∷ past)) → P (choose_once disk task past)
@@ -139,6 +141,8 @@ pub record Partly (disk : Shape) (past : Past) (sessions : List Session) (held :
   pub at_work : (task : ℕ) (session : Session) → slice_get sessions task ≡ Some session → IsAtWork (view (past_at disk past n) task).work session
   pub later : (task : ℕ) (session : Session) → n ≤ task → slice_get sessions task ≡ Some session → AreReported (view (past_at disk past n) task).work
   pub blocks : HoldsBlocks disk (past_at disk past n) held
+  pub chosen : (task : ℕ) → task < n → HasNoChoice (view (past_at disk past n) task)
+  pub quiet : (task : ℕ) (session : Session) → slice_get sessions task ≡ Some session → session.touched ≡ false → IsQuiet (view (past_at disk past n) task)
   pub few : length (registered (past_at disk past n)) + sum_by (choosable_by disk (past_at disk past n)) (range_with_len n (length (tasks past) - n)) ≤ 16 * 10 ^ 6
 
 pub partly-start : (disk : Shape) (past : Past) (sessions : List Session) (held : List Entry) → MaySettle disk past sessions held → Partly disk past sessions held 0
@@ -148,6 +152,8 @@ partly-start disk past sessions held h = let tells = h.tells in record {
   at_work = λ task session at. (tells.each task session at).at_work;
   later = λ task session le at. (tells.each task session at).reported;
   blocks = tells.blocks;
+  chosen = λ task less. absurd (omega (arith, less));
+  quiet = λ task session at untouched. (tells.each task session at).quiet untouched;
   few = subst (λ k. length (registered past) + sum_by (choosable_by disk past) (range_with_len 0 k) ≤ 16 * 10 ^ 6) (let e : length (tasks past) ≡ length (tasks past) - 0 = omega arith in e) h.few;
 }
 
@@ -162,9 +168,9 @@ partly-may disk past sessions held n session at h =
       few = omega (arith, h.few, ap (sum_by (choosable_by disk (past_at disk past n))) split, sum_by-cons (choosable_by disk (past_at disk past n)) n (range_with_len (n + 1) (length (tasks past) - (n + 1))));
     }
 
-pub partly-more : (disk : Shape) (past : Past) (sessions : List Session) (held now : List Entry) (n : ℕ) (session new : Session) → slice_get sessions n ≡ Some session → Partly disk past sessions held n
+pub partly-more : (disk : Shape) (past : Past) (sessions : List Session) (held now : List Entry) (n : ℕ) (session new : Session) → slice_get sessions n ≡ Some session → new.touched ≡ session.touched → Partly disk past sessions held n
     → HasChosen disk (choose_in disk (past_at disk past n) n) n new now → Partly disk past (set sessions n new) now (n + 1)
-partly-more disk past sessions held now n session new at h chosen =
+partly-more disk past sessions held now n session new at flag h chosen =
     let before = past_at disk past n in
     let same = λ (other : ℕ) (differ : n ≡ other → ⊥). in_same disk n other before differ in
     let within : n < length (tasks past) = omega (arith, slice_get_within sessions n session at, h.as_many) in
@@ -186,9 +192,22 @@ partly-more disk past sessions held now n session new at h chosen =
       later = λ task s le there. subst (λ p. AreReported (view p task).work) (sym (past_more disk past n))
           (let differ : n ≡ task → ⊥ = λ e. absurd (omega arith) in rw (same task differ) (h.later task s (omega arith) (get_set sessions n task new s there differ)));
       blocks = subst (λ p. HoldsBlocks disk p now) (sym (past_more disk past n)) chosen.blocks;
+      chosen = λ task less. subst (λ p. HasNoChoice (view p task)) (sym (past_more disk past n)) (elim (cases_Bool (n == task)) [
+        | inl mine ↦ subst (λ t. HasNoChoice (view (choose_in disk before n) t)) (same_number n task mine) (no-choice-left disk n before (h.blocks.placed n).segments)
+        | inr other ↦ rw (same task (other_number n task other)) (h.chosen task (earlier n task less (other_number n task other)))
+      ]);
+      quiet = λ task s there untouched. subst (λ p. IsQuiet (view p task)) (sym (past_more disk past n)) (elim (cases_Bool (n == task)) [
+        | inl mine ↦
+            let e = same_number n task mine in
+            let was = h.quiet n session at (sym flag ∙ (ap (λ (x : Session). x.touched) (sym (get_own sessions n new s (subst (λ t. slice_get (set sessions n new) t ≡ Some s) (sym e) there))) ∙ untouched)) in
+            subst (λ t. IsQuiet (view (choose_in disk before n) t)) e (subst (λ p. IsQuiet (view p n)) (sym (stays disk n before was.chosen)) was)
+        | inr other ↦ let differ = other_number n task other in rw (same task differ) (h.quiet task s (get_set sessions n task new s there differ) untouched)
+      ]);
       few = subst (λ p. length (registered p) + sum_by (choosable_by disk p) (range_with_len (n + 1) (length (tasks past) - (n + 1))) ≤ 16 * 10 ^ 6) (sym (past_more disk past n))
           (omega (arith, h.few, fewer, rest, ap (sum_by (choosable_by disk before)) split, sum_by-cons (choosable_by disk before) n (range_with_len (n + 1) (length (tasks past) - (n + 1)))));
-    }
+    } where
+      earlier : (n k : ℕ) → k < n + 1 → (n ≡ k → ⊥) → k < n
+      earlier n k less other = grind (arith, nat_tests)
 
 pub rows-more : (disk : Shape) (past : Past) (sessions : List Session) (held : List Entry) (n instant : ℕ) (session : Session) (before rows more : List BackRow) → slice_get sessions n ≡ Some session → Partly disk past sessions held n
     → rows ≡ before ++ flat_map (segment_rows by_deliveries (past_at disk past n) instant) (range_with_len 0 n)
@@ -208,6 +227,54 @@ rows-more disk past sessions held n instant session before rows more at h so_far
       earlier : (k : ℕ) → k < 0 + n → segment_rows by_deliveries (choose_in disk (past_at disk past n) n) instant k ≡ segment_rows by_deliveries (past_at disk past n) instant k
       earlier k lt = rows-same (past_at disk past n) (choose_in disk (past_at disk past n) n) k instant (in_same disk n k (past_at disk past n) (λ e. absurd (omega arith)))
 
+-- sessions that were not touched have nothing to choose
+partly-skip : (disk : Shape) (past : Past) (sessions : List Session) (held : List Entry) (n : ℕ) (session : Session) → slice_get sessions n ≡ Some session → session.touched ≡ false → Partly disk past sessions held n
+    → (choose_in disk (past_at disk past n) n ≡ past_at disk past n) × Partly disk past sessions held (n + 1)
+partly-skip disk past sessions held n session at untouched h =
+    let still = stays disk n (past_at disk past n) (h.quiet n session at untouched).chosen in
+    let same : past_at disk past n ≡ past_at disk past (n + 1) = sym (past_more disk past n ∙ still) in
+    let may = partly-may disk past sessions held n session at h in
+    let within : n < length (tasks past) = omega (arith, slice_get_within sessions n session at, h.as_many) in
+    let split : range_with_len n (length (tasks past) - n) ≡ n ∷ range_with_len (n + 1) (length (tasks past) - (n + 1)) = ap (range_with_len n) (let e : length (tasks past) - n ≡ suc (length (tasks past) - (n + 1)) = omega arith in e) in (
+      still,
+      record {
+        as_many = h.as_many;
+        each = λ task s there. subst (λ p. Stands (view p task) s) same (h.each task s there);
+        at_work = λ task s there. subst (λ p. IsAtWork (view p task).work s) same (h.at_work task s there);
+        later = λ task s le there. subst (λ p. AreReported (view p task).work) same (h.later task s (omega arith) there);
+        blocks = subst (λ p. HoldsBlocks disk p held) same h.blocks;
+        chosen = λ task less. subst (λ p. HasNoChoice (view p task)) same (elim (cases_Bool (n == task)) [
+          | inl mine ↦ subst (λ t. HasNoChoice (view (past_at disk past n) t)) (same_number n task mine) (h.quiet n session at untouched).chosen
+          | inr other ↦ h.chosen task (before_it n task less (other_number n task other))
+        ]);
+        quiet = λ task s there none. subst (λ p. IsQuiet (view p task)) same (h.quiet task s there none);
+        few = subst (λ p. length (registered p) + sum_by (choosable_by disk p) (range_with_len (n + 1) (length (tasks past) - (n + 1))) ≤ 16 * 10 ^ 6) same
+            (omega (arith, h.few, ap (sum_by (choosable_by disk (past_at disk past n))) split, sum_by-cons (choosable_by disk (past_at disk past n)) n (range_with_len (n + 1) (length (tasks past) - (n + 1)))));
+      },
+    ) where
+      before_it : (n k : ℕ) → k < n + 1 → (n ≡ k → ⊥) → k < n
+      before_it n k less other = grind (arith, nat_tests)
+
+abbrev pub HasRows : Shape → Past → ℕ → List BackRow → List BackRow → ℕ → Type 0
+HasRows disk past instant before rows n = rows ≡ before ++ flat_map (segment_rows by_deliveries (past_at disk past n) instant) (range_with_len 0 n)
+
+partly_rest : (disk : Shape) (past : Past) (sessions : List Session) (held : List Entry) (instant : ℕ) (before rows : List BackRow) (d n : ℕ) → n + d ≤ length sessions → ((k : ℕ) (session : Session) → n ≤ k → k < n + d → slice_get sessions k ≡ Some session → session.touched ≡ false)
+    → Partly disk past sessions held n → HasRows disk past instant before rows n → Partly disk past sessions held (n + d) × HasRows disk past instant before rows (n + d)
+partly_rest disk past sessions held instant before rows zero n within untouched h so_far = subst (λ m. Partly disk past sessions held m × HasRows disk past instant before rows m) (let e : n ≡ n + 0 = omega arith in e) (h, so_far)
+partly_rest disk past sessions held instant before rows (suc d) n within untouched h so_far =
+    let found = some_at sessions n (omega (arith, within)) in
+    let skip = partly-skip disk past sessions held n found.0 found.1 (untouched n found.0 (omega arith) (omega arith) found.1) h in
+    let none : segment_rows by_deliveries (choose_in disk (past_at disk past n) n) instant n ≡ [] = ap (λ p. segment_rows by_deliveries p instant n) skip.0 ∙ reported_rows (past_at disk past n) instant n (h.later n found.0 (omega arith) found.1) in
+    let now = rows-more disk past sessions held n instant found.0 before rows rows found.1 h so_far (sym (append-nil rows) ∙ ap (λ rs. rows ++ rs) (sym none)) in
+    subst (λ m. Partly disk past sessions held m × HasRows disk past instant before rows m) (let e : n + 1 + d ≡ n + suc d = omega arith in e)
+    (partly_rest disk past sessions held instant before rows d (n + 1) (omega (arith, within)) (λ k session from to. untouched k session (omega arith) (omega arith)) skip.1 now)
+
+pub partly-to : (disk : Shape) (past : Past) (sessions : List Session) (held : List Entry) (instant : ℕ) (before rows : List BackRow) (n m : ℕ) → n ≤ m → m ≤ length sessions → ((k : ℕ) (session : Session) → n ≤ k → k < m → slice_get sessions k ≡ Some session → session.touched ≡ false)
+    → Partly disk past sessions held n → HasRows disk past instant before rows n → Partly disk past sessions held m × HasRows disk past instant before rows m
+partly-to disk past sessions held instant before rows n m le within untouched h so_far =
+    subst (λ k. Partly disk past sessions held k × HasRows disk past instant before rows k) (let e : n + (m - n) ≡ m = omega arith in e)
+    (partly_rest disk past sessions held instant before rows (m - n) n (omega (arith, le, within)) (λ k session from to. untouched k session from (omega (arith, le))) h so_far)
+
 -- after the choices of all tasks
 pub all-chosen : (disk : Shape) (past : Past) (sessions : List Session) (held : List Entry) (n : ℕ) → n ≡ length (tasks past) → Partly disk past sessions held n → HaveChosen disk (with_choices disk past) sessions held
 unfolding with_choices
@@ -216,6 +283,8 @@ all-chosen disk past sessions held n all h =
       as_many = h.as_many ∙ ap length (sym (fold_tasks disk (range_with_len 0 n) past));
       each = h.each;
       at_work = h.at_work;
+      chosen = λ task session at. h.chosen task (omega (arith, slice_get_within sessions task session at, h.as_many, all));
+      quiet = h.quiet;
       blocks = h.blocks;
     })
 

@@ -67,23 +67,25 @@ not_busy past task u idle work = not-true (is_busy (view past task).work) (sym w
 pub next_view : (disk : Shape) (past : Past) (task : ℕ) (best : LogSegment) → view (chose task best (chosen_blocks disk task (view past task) best) ∷ past) task ≡ chosen_view task (chosen_for disk task (view past task) best) (view past task)
 next_view disk past task best = chosen-view past task best (chosen_blocks disk task (view past task) best) (added_own disk task (view past task) best) task refl
 
+-- of what is left to choose the choice takes its segment
+pub left_less : (f : LogSegment → ℕ) (disk : Shape) (task : ℕ) (v : TaskView) (best : LogSegment) → IsLeft disk v best → sum_by f (unchosen (chosen_view task (chosen_for disk task v best) v).work) + f best ≤ sum_by f (unchosen v.work)
+left_less f disk task v best left = sum_without f (λ s. not (is_chosen v.choices s)) (λ s. not (is_chosen (v.choices ++ chosen_for disk task v best ∷ []) s)) still_left v.segments (best.number - 1) best left.there (ap not left.left) (ap not chosen_now) where
+  chosen_now : is_chosen (v.choices ++ chosen_for disk task v best ∷ []) best ≡ true
+  chosen_now = rw (list_any-append (is_choice_of best) v.choices (chosen_for disk task v best ∷ []), number_same best.number best.number refl) (or-true (is_chosen v.choices best))
+
+  still_left : (s : LogSegment) → not (is_chosen (v.choices ++ chosen_for disk task v best ∷ []) s) ≡ true → not (is_chosen v.choices s) ≡ true
+  still_left s h = elim (cases_Bool (is_chosen v.choices s)) [
+    | inl chosen ↦ absurd (true≢false (sym h ∙ ap not (list_any-append (is_choice_of s) v.choices (chosen_for disk task v best ∷ []) ∙ ap (λ b. b || ((best.number == s.number) || false)) chosen)))
+    | inr left_still ↦ ap not left_still
+  ]
+
 pub few_less : (disk : Shape) (past : Past) (task : ℕ) (best : LogSegment) → IsLeft disk (view past task) best
     → length (registered past ++ chosen_blocks disk task (view past task) best) + choosable_by disk (chose task best (chosen_blocks disk task (view past task) best) ∷ past) task ≤ length (registered past) + choosable_by disk past task
 few_less disk past task best left =
     let v = view past task in
-    let f = λ (s : LogSegment). length (live_cuts disk (view past task).terms.block s.first s.live) in
-    let after = λ (s : LogSegment). is_chosen ((view past task).choices ++ chosen_for disk task (view past task) best ∷ []) s in
-    let fewer = sum_without f (λ s. not (is_chosen (view past task).choices s)) (λ s. not (is_chosen ((view past task).choices ++ chosen_for disk task (view past task) best ∷ []) s)) still_left v.segments (best.number - 1) best left.there (ap not left.left) (ap not chosen_now) in
-    let given : choosable_by disk (chose task best (chosen_blocks disk task (view past task) best) ∷ past) task ≡ sum_by (λ (s : LogSegment). length (live_cuts disk (view past task).terms.block s.first s.live)) (filter (λ s. not (is_chosen ((view past task).choices ++ chosen_for disk task (view past task) best ∷ []) s)) (view past task).segments) = rw (next_view disk past task best) refl in
-    omega (arith, fewer, given, length-append (registered past) (chosen_blocks disk task v best), cuts_count task v.terms.weight (length v.blocks) (live_cuts disk v.terms.block best.first best.live)) where
-      chosen_now : is_chosen ((view past task).choices ++ chosen_for disk task (view past task) best ∷ []) best ≡ true
-      chosen_now = rw (list_any-append (is_choice_of best) (view past task).choices (chosen_for disk task (view past task) best ∷ []), number_same best.number best.number refl) (or-true (is_chosen (view past task).choices best))
-
-      still_left : (s : LogSegment) → not (is_chosen ((view past task).choices ++ chosen_for disk task (view past task) best ∷ []) s) ≡ true → not (is_chosen (view past task).choices s) ≡ true
-      still_left s h = elim (cases_Bool (is_chosen (view past task).choices s)) [
-        | inl chosen ↦ absurd (true≢false (sym h ∙ ap not (list_any-append (is_choice_of s) (view past task).choices (chosen_for disk task (view past task) best ∷ []) ∙ ap (λ b. b || ((best.number == s.number) || false)) chosen)))
-        | inr left_still ↦ ap not left_still
-      ]
+    let fewer = left_less (λ (s : LogSegment). length (live_cuts disk (view past task).terms.block s.first s.live)) disk task v best left in
+    let given : choosable_by disk (chose task best (chosen_blocks disk task (view past task) best) ∷ past) task ≡ sum_by (λ (s : LogSegment). length (live_cuts disk (view past task).terms.block s.first s.live)) (unchosen (chosen_view task (chosen_for disk task (view past task) best) (view past task)).work) = rw (next_view disk past task best) refl in
+    omega (arith, fewer, given, length-append (registered past) (chosen_blocks disk task v best), cuts_count task v.terms.weight (length v.blocks) (live_cuts disk v.terms.block best.first best.live))
 
 -- the row of a cleaned segment
 abbrev pub segment_row_of : Work → ℕ → ℕ → Choice → BackRow

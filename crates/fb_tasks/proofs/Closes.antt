@@ -1,6 +1,7 @@
 -- A session is closed.
 use Rattle.std.proofs.Common.{◌≡◌, ℕ, ◌+◌, ◌<◌, ◌≤◌, min, max, nat_lt, List, [], ◌∷◌, true, length, map, set, get_or, refl, ap, sym, ◌∙◌, arith}
 use Rattle.std.proofs.Math.Bool.{and-false}
+use Rattle.std.proofs.lemmas.Bool.{true≢false}
 use Rattle.std.proofs.lemmas.Bool.Decides.{nat_tests}
 use Rattle.fb_geometry.specs.Shape.{Shape}
 use Rattle.fb_geometry.specs.Places.{places}
@@ -62,7 +63,7 @@ closed-cleans v log h = record {
   segments = ap (map clean.left_out) h.segments ∙ left_all v v.segments;
 }
 
-closed-told : (v : TaskView) (session : Session) → Told v session → Told (closed_view v) (record session { closed = true; log = clean.after_drop session.log })
+closed-told : (v : TaskView) (session : Session) → Told v session → Told (closed_view v) (record session { closed = true; touched = true; log = clean.after_drop session.log })
 closed-told v session h = record {
   stands = record {
     terms = h.terms;
@@ -80,14 +81,15 @@ closed-told v session h = record {
   };
   at_work = λ cleans. simp ended-done (h.at_work cleans);
   reported = simp ended-done h.reported;
+  quiet = λ untouched. absurd (true≢false untouched);
 }
 
 pub closed-tells : (disk : Shape) (past : Past) (call : Call) (items seen : List Session) (task n : ℕ) (session : Session) (log : clean.Cleaning) (held now : List Entry) → IsCall task Close call → items ≡ seen → task < length seen → session ≡ get_or items task session
     → n ≡ length (places disk) → now ≡ after task (AbortRange 0 n) held → log ≡ clean.after_drop session.log → Tells disk past seen held
-    → Tells disk (called call [] ∷ past) (set items task (record session { closed = true; log = log })) now
+    → Tells disk (called call [] ∷ past) (set items task (record session { closed = true; touched = true; log = log })) now
 closed-tells disk past call items seen task n session log held now is same opened at count is_after dropped h =
     let kept : tasks (called call [] ∷ past) ≡ tasks past = ap (λ a. opened_by a (tasks past)) is.action in
-    rw dropped (call-tells disk past call items seen task session (record session { closed = true; log = clean.after_drop session.log }) held now (AbortRange 0 n) (closed_view (view past task)) kept is.task
+    rw dropped (call-tells disk past call items seen task session (record session { closed = true; touched = true; log = clean.after_drop session.log }) held now (AbortRange 0 n) (closed_view (view past task)) kept is.task
     (closed-view past call kept task is.task is.action) same opened at is_after (λ placed. record { indexed = placed.indexed; segments = placed.segments }) (closed-told (view past task) session)
     (λ block on. let shared : shares 0 n block ≡ true = rw count (all_shared (length (places disk)) block.lbn block.count on.some on.on_disk) in
     show_aborted ((view past task).bare block) (view past task).suspended (shares 0 n block) ∙ rw shared refl) h)

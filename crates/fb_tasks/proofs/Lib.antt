@@ -7,6 +7,7 @@ pub mod Writes
 pub mod Asked
 pub mod Aborts
 pub mod Opens
+pub mod Listed
 pub mod Additions
 pub mod Counting
 pub mod Registered
@@ -27,6 +28,7 @@ pub mod Deliveries
 pub mod OwnDelivery
 pub mod AfterDelivery
 pub mod Turns
+pub mod LastChoice
 pub mod ChosenSegment
 pub mod ChoiceSteps
 pub mod AllChoices

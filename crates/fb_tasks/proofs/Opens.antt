@@ -1,18 +1,20 @@
 -- A session is opened.
-use Rattle.std.proofs.Common.{◌≡◌, ℕ, zero, suc, ◌+◌, ◌<◌, ◌≤◌, ◌==◌, ◌⊎◌, List, [], ◌∷◌, ◌++◌, false, None, Some, inl, inr, length, map, slice_get, filter, append-nil, length-append, refl, ap, sym, ◌∙◌, arith, subst}
+use Rattle.std.proofs.Common.{◌≡◌, ℕ, zero, suc, ◌+◌, ◌<◌, ◌≤◌, ◌==◌, ◌⊎◌, not, List, [], ◌∷◌, ◌++◌, false, None, Some, inl, inr, length, map, slice_get, filter, append-nil, length-append, refl, ap, sym, ◌∙◌, arith, subst}
+use Rattle.std.proofs.Math.Bool.{and-false}
 use Rattle.std.specs.List.{AllByRecursion, slice_index_or}
 use Rattle.std.proofs.lemmas.Bool.{cases_Bool, true≢false}
 use Rattle.fb_geometry.specs.Shape.{Shape}
 use Rattle.fb_calls.specs.declared.call.Action.TheVariants.{Open}
 use Rattle.fb_calls.specs.declared.call.Call.{Call}
 use Rattle.fb_calls.specs.declared.call.Kind.{Kind}
-use Rattle.fb_calls.specs.declared.call.Kind.TheVariants.{Plain}
+use Rattle.fb_calls.specs.declared.call.Kind.TheVariants.{Plain, Backup, Scrub, Clean}
 use Rattle.fb_calls.specs.Allowed.{MayAsk}
 use Rattle.fb_store.specs.Index.{held_at}
 use Rattle.fb_wanted.specs.declared.block.Block.{Block}
 use Rattle.fb_wanted.specs.declared.block.Entry.{Entry}
 use Rattle.fb_model.specs.History.{Past, Terms, called, calls_of, tasks, terms_of, opened_by, registered}
-use Rattle.fb_model.specs.Completion.{TaskView, view}
+use Rattle.fb_model.specs.Completion.{Work, TaskView, view, is_complete_as, is_unsealed}
+use Rattle.fb_model.specs.Segments.{is_chosen}
 use Rattle.fb_model.proofs.Views.{opened-silent, opened-view}
 use Rattle.fb_tasks.specs.declared.session.Session.{Session}
 use Rattle.fb_tasks.specs.Standing.{entry_of, Told, Cleans, IsUntouched, IsPlaced, IsBlockOf}
@@ -25,7 +27,7 @@ none_own : (n : ℕ) (bs : List Block) → AllByRecursion (λ block. block.task 
 none_own n [] h = refl
 none_own n (b ∷ bs) h = let other : (b.task == n) ≡ false = number_other b.task n (λ e. absurd (omega (arith, h.0))) in rw other (none_own n bs h.1)
 
-in_either : {X : Type 0} (xs : List X) (y x : X) (i : ℕ) → slice_get (xs ++ y ∷ []) i ≡ Some x → ((i < length xs) × (slice_get xs i ≡ Some x)) ⊎ ((i ≡ length xs) × (x ≡ y))
+pub in_either : {X : Type 0} (xs : List X) (y x : X) (i : ℕ) → slice_get (xs ++ y ∷ []) i ≡ Some x → ((i < length xs) × (slice_get xs i ≡ Some x)) ⊎ ((i ≡ length xs) × (x ≡ y))
 in_either [] y x zero h = inr (refl, sym (some_same y x h))
 in_either [] y x (suc i) h = absurd (grind arith)
 in_either (z ∷ zs) y x zero h = inl (omega arith, h)
@@ -66,6 +68,13 @@ fresh-cleans v block size now none = record {
   segments = rw now.segments refl;
 }
 
+-- a task with neither blocks nor segments is not complete
+undone : (w : Work) (kind : Kind) → w.blocks ≡ [] → w.segments ≡ [] → is_complete_as w kind ≡ false
+undone w Plain none given = rw none refl
+undone w Backup none given = rw none refl
+undone w Scrub none given = rw none refl
+undone w Clean none given = rw given refl
+
 fresh-told : (v : TaskView) (kind : Kind) (weight block : ℕ) (session : Session) → v.terms ≡ record { kind = kind; weight = weight; block = block } → IsFresh kind weight block session → weight ≤ 1000 → (0 < block) × (block ≤ 2048) → IsUntouched v → v.blocks ≡ [] → Told v session
 fresh-told v kind weight block session terms fresh light size now none = record {
   stands = record {
@@ -84,6 +93,11 @@ fresh-told v kind weight block session terms fresh light size now none = record 
   };
   at_work = λ cleans. rw (fresh.log, now.choices) refl;
   reported = rw now.choices tt;
+  quiet = λ _. let never = undone v.work v.terms.kind none now.segments in record {
+    tested = now.complete ∙ sym never;
+    sealed = rw never (and-false (is_unsealed v));
+    chosen = λ chooses free. ap (filter (λ s. not (is_chosen v.choices s))) now.segments;
+  };
 }
 
 pub none-yet : (disk : Shape) (past : Past) (n : ℕ) → length (tasks past) ≤ n → AllByRecursion (IsBlockOf disk (length (tasks past))) (registered past) → (view past n).blocks ≡ []

@@ -9,7 +9,7 @@ use Rattle.fb_wanted.specs.States.{is_wanted, is_delivered, is_suspended, is_ope
 use Rattle.fb_model.specs.History.{Past, bare_state, registers, delivers, aborts, overwrites, is_open_backup}
 use Rattle.fb_model.specs.Completion.{Work, TaskView, view, own_of, ended, with_states}
 use Rattle.fb_store.specs.declared.content.Content.{Content}
-use Rattle.fb_tasks.specs.Standing.{HoldsBlock, Told}
+use Rattle.fb_tasks.specs.Standing.{HoldsBlock, Stands, Told, IsQuiet}
 use Rattle.fb_tasks.specs.declared.session.Session.{Session}
 use Rattle.fb_calls.specs.Sessions.{is_clean}
 use Rattle.fb_store.specs.Index.{held_at}
@@ -108,10 +108,27 @@ pub holds-fewer : (work : Work) (change : Block → State → State) → ((block
     → AllByRecursion (HoldsBlock work held) blocks → AllByRecursion (HoldsBlock (record work { bare = λ block. change block (work.bare block) }) held) blocks
 holds-fewer work change fewer held blocks = all_weaker (HoldsBlock work held) (HoldsBlock (record work { bare = λ block. change block (work.bare block) }) held) (λ block holds done. holds (fewer block (work.bare block) done)) blocks
 
+-- a session stands as it does whether it is touched or not
+pub flagged-stands : (flag : Bool) (v : TaskView) (session : Session) → Stands v session → Stands v (record session { touched = flag })
+flagged-stands flag v session h = record {
+  terms = h.terms;
+  weight = h.weight;
+  block = h.block;
+  suspended = h.suspended;
+  closed = h.closed;
+  complete = h.complete;
+  sealed = h.sealed;
+  ascend = h.ascend;
+  unwanted = h.unwanted;
+  image = h.image;
+  log = h.log;
+  unchosen = h.unchosen;
+}
+
 -- the states of a session change that cleans no log, and no more is delivered than before
-pub states-told : (change : Block → State → State) → ((block : Block) (before : State) → is_delivered (change block before) ≡ true → is_delivered before ≡ true) → (v : TaskView) (session : Session) → is_clean session.kind ≡ false
-    → Told v session → Told (with_states change v) session
-states-told change fewer v session other h = record {
+pub states-told : (change : Block → State → State) → ((block : Block) (before : State) → is_delivered (change block before) ≡ true → is_delivered before ≡ true) → (v : TaskView) (session : Session) (flag : Bool) → (flag ≡ false → IsQuiet (with_states change v)) → is_clean session.kind ≡ false
+    → Told v session → Told (with_states change v) (record session { touched = flag })
+states-told change fewer v session flag quiet other h = record {
   stands = record {
     terms = h.terms;
     weight = h.weight;
@@ -128,4 +145,5 @@ states-told change fewer v session other h = record {
   };
   at_work = λ cleans. absurd (true≢false (sym cleans ∙ other));
   reported = rw (h.unchosen other) tt;
+  quiet = quiet;
 }

@@ -33,6 +33,7 @@ suspension-told held_back v session h = record {
   };
   at_work = h.at_work;
   reported = h.reported;
+  quiet = λ untouched. let quiet = h.quiet untouched in record { tested = quiet.tested; sealed = quiet.sealed; chosen = quiet.chosen };
 }
 
 module _ (disk : Shape) (past : Past) (call : Call) (items seen : List Session) (task : ℕ) (session : Session) (held now : List Entry) where

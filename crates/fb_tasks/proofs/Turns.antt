@@ -19,7 +19,7 @@ pub up_to_more : (n : ℕ) (disk : Shape) (task : ℕ) (past : Past) → choose_
 up_to_more zero disk task past = refl
 up_to_more (suc n) disk task past = ap (λ k. choose_up_to k disk task past) (let e : suc n + 1 ≡ suc (n + 1) = omega arith in e) ∙ up_to_more n disk task (choose_once disk task past)
 
-up_to_still : (n : ℕ) (disk : Shape) (task : ℕ) (past : Past) → choose_once disk task past ≡ past → choose_up_to n disk task past ≡ past
+pub up_to_still : (n : ℕ) (disk : Shape) (task : ℕ) (past : Past) → choose_once disk task past ≡ past → choose_up_to n disk task past ≡ past
 up_to_still zero disk task past still = refl
 up_to_still (suc n) disk task past still = ap (choose_up_to n disk task) still ∙ up_to_still n disk task past still
 

@@ -1,5 +1,5 @@
 -- A range is wanted for a task that cleans no log.
-use Rattle.std.proofs.Common.{◌≡◌, ℕ, ◌+◌, ◌*◌, ◌^◌, ◌<◌, ◌≤◌, ◌==◌, ◌&&◌, not, if◌then◌else◌, List, [], ◌∷◌, ◌++◌, true, false, Some, length, get_or, slice_get, refl, ap, sym, ◌∙◌, arith, subst}
+use Rattle.std.proofs.Common.{◌≡◌, ℕ, ◌+◌, ◌*◌, ◌^◌, ◌<◌, ◌≤◌, ◌==◌, ◌&&◌, not, if◌then◌else◌, List, [], ◌∷◌, ◌++◌, true, false, Some, length, set, get_or, slice_get, refl, ap, sym, ◌∙◌, arith, subst}
 use Rattle.std.specs.List.{AllByRecursion, list_any}
 use Rattle.std.proofs.lemmas.Bool.{and_parts, true≢false}
 use Rattle.std.proofs.lemmas.List.{length-map}
@@ -29,14 +29,14 @@ use Rattle.fb_tasks.specs.Keeping.{new_entries}
 use Rattle.fb_tasks.specs.Standing.{entry_of, Told, Stands, HoldsBlock, AreIndexed, Ascend, IsBlockOf}
 use Rattle.fb_tasks.specs.Telling.{Tells, MayTake, IsCall}
 use Rattle.fb_tasks.proofs.Lists.{all_with, all_append}
-use Rattle.fb_tasks.proofs.Frames.{one-tells, set_same}
+use Rattle.fb_tasks.proofs.Frames.{one-tells}
 use Rattle.fb_tasks.proofs.Asked.{open_there, terms_there}
 use Rattle.fb_tasks.proofs.Registered.{named_same, indexed_append, all_member, registered-entries}
 use Rattle.fb_tasks.proofs.Cuts.{cuts_are, cuts_placed, cuts_ascend, cuts_indexed, cuts_own, cuts_count}
 
 -- an open backup holds nothing as yet, and no other session is an image
 wanted-told : (task : ℕ) (added : List Block) (v : TaskView) (session : Session) → is_clean session.kind ≡ false → is_backup session.kind && v.wants ≡ false → Ascend 0 added → AllByRecursion (λ b. b.task ≡ task) added
-    → Told v session → Told (wanted_view task added v) session
+    → Told v session → Told (wanted_view task added v) (record session { touched = true })
 wanted-told task added v session other once ascends own h = record {
   stands = record {
     terms = h.terms;
@@ -58,6 +58,7 @@ wanted-told task added v session other once ascends own h = record {
   };
   at_work = λ cleans. absurd (true≢false (sym cleans ∙ other));
   reported = rw (h.unchosen other) tt;
+  quiet = λ untouched. absurd (true≢false untouched);
 } where
   none_before : is_backup session.kind ≡ true → v.blocks ≡ []
   none_before backup = h.unwanted backup (subst (λ b. b && v.wants ≡ false) backup once)
@@ -103,23 +104,24 @@ module _ (disk : Shape) (past : Past) (call : Call) (task first count : ℕ) (is
 
   pub wanting-tells : (sessions : List Session) (session : Session) (held now : List Entry) → slice_get sessions task ≡ Some session → task < length (tasks past) → is_clean session.kind ≡ false → is_backup session.kind && (view past task).wants ≡ false
       → Ascend 0 added → AreIndexed (length (view past task).blocks) added → AllByRecursion (IsBlockOf disk (length (tasks past))) added
-      → now ≡ held ++ new_entries session added → Tells disk past sessions held → Tells disk (called call added ∷ past) sessions now
+      → now ≡ held ++ new_entries session added → Tells disk past sessions held → Tells disk (called call added ∷ past) (set sessions task (record session { touched = true })) now
   wanting-tells sessions session held now there opened other once ascends after on_disk pushed h =
       let kept : tasks (called call added ∷ past) ≡ tasks past = ap (λ a. opened_by a (tasks past)) is.action in
       let own_now = wanted-view past call first count is.action added mine task is.task in
       let others = λ (t : ℕ) (far : (task == t) ≡ false). wanted-silent past call first count is.action added mine t (ap (λ k. k == t) is.task ∙ far) in
       let told = h.each task session there in
       let placed = h.placed task in
-      rw (sym (set_same sessions task session there)) (one-tells disk past (called call added) task others kept sessions session held now opened
+      one-tells disk past (called call added) task others kept sessions (record session { touched = true }) held now opened
       (all_append (IsBlockOf disk (length (tasks past))) (registered past) added h.on_disk on_disk)
       (registered-entries past (called call added ∷ past) task added others (λ block. ap (λ v. v.bare block) own_now) (ap (λ v. v.suspended) own_now) placed.indexed after own session held now told.suspended h.entries pushed)
       (rw own_now (record { indexed = indexed_append 0 (view past task).blocks added placed.indexed (let e : length (view past task).blocks ≡ 0 + length (view past task).blocks = omega arith in subst (λ n. AreIndexed n added) e after); segments = placed.segments }))
-      (rw own_now (wanted-told task added (view past task) session other once ascends own told)) h)
+      (rw own_now (wanted-told task added (view past task) session other once ascends own told)) h
 
-pub wanted-tells : (disk : Shape) (past : Past) (call : Call) (task first count : ℕ) (items seen : List Session) (session : Session) (held now : List Entry) → length (places disk) ≤ 10 ^ 12 → IsCall task (Want first count) call → items ≡ seen → task < length items → session ≡ get_or items task session
+pub wanted-tells : (disk : Shape) (past : Past) (call : Call) (task first count : ℕ) (items seen touched : List Session) (session : Session) (held now : List Entry) → length (places disk) ≤ 10 ^ 12 → IsCall task (Want first count) call → items ≡ seen → task < length items → session ≡ get_or items task session
     → now ≡ held ++ new_entries session (numbered task session.weight (numbering.registered task (numbering.blocks_of held)) (cutting disk session.block first count))
-    → MayTake disk past seen held call → Tells disk (take_call disk past call) items now
-wanted-tells disk past call task first count items seen session held now small is same within at pushed h =
+    → ((s : Session) → slice_get seen task ≡ Some s → touched ≡ set seen task (record s { touched = true }))
+    → MayTake disk past seen held call → Tells disk (take_call disk past call) touched now
+wanted-tells disk past call task first count items seen touched session held now small is same within at pushed flagged h =
     let there : slice_get seen task ≡ Some session = subst (λ xs. slice_get xs task ≡ Some session) same (slice_get-get_or items task session within ∙ ap Some (sym at)) in
     let may = may_want disk past call task first count seen session held is there h in
     let told = h.tells.each task session there in
@@ -129,7 +131,7 @@ wanted-tells disk past call task first count items seen session held now small i
     let cuts = cutting disk session.block first count in
     let are = cuts_are disk session.block first count may.stands.block.0 in
     let added_are : numbered task session.weight (numbering.registered task (numbering.blocks_of held)) cuts ≡ numbered task session.weight next cuts = ap (λ n. numbered task session.weight n cuts) may.next in
-    rw (taken, same) (wanting-tells disk past call task first count is (numbered task session.weight next cuts) (cuts_own task session.weight next cuts) seen session held now there may.opened may.other may.once
+    rw (taken, flagged session there) (wanting-tells disk past call task first count is (numbered task session.weight next cuts) (cuts_own task session.weight next cuts) seen session held now there may.opened may.other may.once
     (cuts_ascend disk task session.weight session.block next first (first + count) 0 cuts (omega arith) are) (cuts_indexed task session.weight next cuts)
     (cuts_placed disk (length (tasks past)) task session.weight session.block next first (first + count) cuts may.opened may.stands.weight may.stands.block.1 may.on_disk (omega (arith, may.on_disk, small)) are)
     (pushed ∙ ap (λ bs. held ++ new_entries session bs) added_are) h.tells)

@@ -1,7 +1,7 @@
 -- A write has passed.
-use Rattle.std.proofs.Common.{◌≡◌, ℕ, ◌+◌, ◌<◌, ◌==◌, ◌&&◌, not, if◌then◌else◌, nat_lt, List, ◌∷◌, Bool, true, false, inl, inr, map, refl, ap, sym, ◌∙◌, arith}
-use Rattle.std.specs.List.{AllByRecursion}
-use Rattle.std.proofs.lemmas.Bool.{cases_Bool, and_parts}
+use Rattle.std.proofs.Common.{◌≡◌, ℕ, ◌+◌, ◌<◌, ◌==◌, ◌&&◌, not, if◌then◌else◌, nat_lt, List, ◌∷◌, Bool, true, false, inl, inr, length, map, refl, ap, sym, ◌∙◌, arith}
+use Rattle.std.specs.List.{AllByRecursion, list_all}
+use Rattle.std.proofs.lemmas.Bool.{cases_Bool, and_parts, true≢false}
 use Rattle.std.proofs.lemmas.Bool.Decides.{nat_tests}
 use Rattle.fb_geometry.specs.Shape.{Shape}
 use Rattle.fb_units.specs.declared.types.Request.{Request}
@@ -15,12 +15,12 @@ use Rattle.fb_wanted.specs.declared.block.State.{State}
 use Rattle.fb_wanted.specs.declared.block.State.TheVariants.{Wanted, Suspended, Delivered, Aborted}
 use Rattle.fb_wanted.specs.States.{after, shares, is_delivered}
 use Rattle.fb_model.specs.History.{Past, finished, registered}
-use Rattle.fb_model.specs.Completion.{TaskView, view, is_unsealed, written_view, rewanted}
+use Rattle.fb_model.specs.Completion.{TaskView, view, is_over, is_complete_as, is_done, is_unsealed, written_view, rewanted}
 use Rattle.fb_model.proofs.Views.{written-view, written-silent}
 use Rattle.fb_tasks.specs.declared.session.Session.{Session}
-use Rattle.fb_tasks.specs.Standing.{entry_by, entry_of, Told, Stands, IsPlaced, IsUntouched, IsBlockOf}
+use Rattle.fb_tasks.specs.Standing.{entry_by, entry_of, Told, Stands, IsQuiet, IsPlaced, IsUntouched, IsBlockOf}
 use Rattle.fb_tasks.specs.Telling.{Tells}
-use Rattle.fb_tasks.proofs.Lists.{all_any, all_weaker, map_same, same_number}
+use Rattle.fb_tasks.proofs.Lists.{all_any, all_weaker, map_same, same_number, list_all_each, each_all}
 use Rattle.fb_tasks.proofs.Frames.{changed-entries}
 use Rattle.fb_tasks.proofs.States.{show_rewanted, states-told}
 
@@ -42,9 +42,45 @@ backup_other Clean e = sym e
 pub open_by : (v : TaskView) (session : Session) → Stands v session → is_unsealed v ≡ (is_backup session.kind && not session.sealed)
 open_by v session h = rw (h.terms, h.sealed) refl
 
+-- what is over was over before
+rewanted_over : (hit : Bool) (before : State) → is_over (rewanted hit before) ≡ true → is_over before ≡ true
+rewanted_over true Delivered h = refl
+rewanted_over true Wanted h = h
+rewanted_over true Suspended h = h
+rewanted_over true Aborted h = h
+rewanted_over false before h = h
+
+done_before : (request : Request) (v : TaskView) (kind : Kind) → is_backup kind ≡ true → is_complete_as (written_view request v).work kind ≡ true → is_complete_as v.work kind ≡ true
+done_before request v Plain backup h = absurd (true≢false (sym backup))
+done_before request v Scrub backup h = absurd (true≢false (sym backup))
+done_before request v Clean backup h = absurd (true≢false (sym backup))
+done_before request v Backup backup h =
+    let now = λ (block : Block). rewanted (shares request.lbn request.count block) (v.bare block) in
+    let parts = and_parts (nat_lt 0 (length v.blocks)) (list_all (λ block. is_over (now block)) v.blocks) h in
+    rw (
+      parts.0,
+      each_all (λ block. is_over (v.bare block)) v.blocks (all_weaker (λ block. is_over (now block) ≡ true) (λ block. is_over (v.bare block) ≡ true)
+          (λ block. rewanted_over (shares request.lbn request.count block) (v.bare block)) v.blocks (list_all_each (λ block. is_over (now block)) v.blocks parts.1)),
+    ) refl
+
+-- a write completes nothing: a backup that isn't sealed wasn't complete, and still isn't
+written-quiet : (request : Request) (v : TaskView) → is_unsealed v ≡ true → IsQuiet v → IsQuiet (written_view request v)
+written-quiet request v is_open h =
+    let backup = (and_parts (is_backup v.terms.kind) (not v.sealed) is_open).0 in
+    let undone : is_done v.work ≡ false = ap (λ b. b && is_done v.work) (sym is_open) ∙ h.sealed in
+    let still : is_done (written_view request v).work ≡ false = elim (cases_Bool (is_done (written_view request v).work)) [
+      | inl done ↦ absurd (true≢false (sym (done_before request v v.terms.kind backup done) ∙ undone))
+      | inr not_yet ↦ not_yet
+    ] in
+    record {
+      tested = h.tested ∙ (undone ∙ sym still);
+      sealed = rw (is_open, still) refl;
+      chosen = λ chooses free. absurd (true≢false (sym (and_parts (is_clean v.terms.kind) (not v.closed) chooses).0 ∙ backup_other v.terms.kind backup));
+    }
+
 -- an open backup's image holds less, if anything else
 written-told : (request : Request) (v : TaskView) (session : Session) → is_unsealed v ≡ true → Told v session → Told (written_view request v) session
-written-told request v session is_open = λ h. states-told (λ block. rewanted (shares request.lbn request.count block)) (λ block. rewanted_done (shares request.lbn request.count block)) v session
+written-told request v session is_open = λ h. states-told (λ block. rewanted (shares request.lbn request.count block)) (λ block. rewanted_done (shares request.lbn request.count block)) v session session.touched (λ untouched. written-quiet request v is_open (h.quiet untouched))
     (backup_other session.kind (and_parts (is_backup session.kind) (not session.sealed) (sym (open_by v session h.stands) ∙ is_open)).0) h
 
 module _ (disk : Shape) (past : Past) (request : Request) (write : request.write ≡ true) where

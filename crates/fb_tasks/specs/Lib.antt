@@ -1,5 +1,6 @@
 pub mod Keeping
 pub mod Taken
+pub mod Listing
 pub mod Standing
 pub mod Telling
 pub mod Script

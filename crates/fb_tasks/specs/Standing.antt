@@ -159,12 +159,23 @@ AreReported work = AllByRecursion (λ choice. is_newly_cleaned work choice ≡ f
 abbrev pub IsAtWork : Work → Session → Type 0
 IsAtWork work session = is_clean session.kind ≡ true → is_none session.log.unfinished ≡ not (is_busy work)
 
--- a session is as its task stands, and all that happened to it was tested
+-- the task has no segment to choose
+abbrev pub HasNoChoice : TaskView → Type 0
+HasNoChoice view = (is_clean view.terms.kind && not view.closed) ≡ true → is_busy view.work ≡ false → unchosen view.work ≡ []
+
+-- neither a choice nor a test would find anything: the task is as its last test saw it
+pub record IsQuiet (view : TaskView) : Type 0 where
+  pub tested : view.was_complete ≡ is_done view.work
+  pub sealed : (is_unsealed view && is_done view.work) ≡ false
+  pub chosen : HasNoChoice view
+
+-- a session is as its task stands, its cleaned segments have their rows, and a choice or a test finds something only where it was touched
 pub record Told (view : TaskView) (session : Session) : Type 0 where
   pub stands : Stands view session
   pub open stands use *
   pub at_work : IsAtWork view.work session
   pub reported : AreReported view.work
+  pub quiet : session.touched ≡ false → IsQuiet view
 
 -- these rows seal the task, and report its segments, as a test has to
 pub record AreRowsOf (task : ℕ) (view : TaskView) (rows : List BackRow) : Type 0 where
@@ -199,4 +210,6 @@ pub record HaveChosen (disk : Shape) (past : Past) (sessions : List Session) (he
   pub as_many : length sessions ≡ length (tasks past)
   pub each : (task : ℕ) (session : Session) → slice_get sessions task ≡ Some session → Stands (view past task) session
   pub at_work : (task : ℕ) (session : Session) → slice_get sessions task ≡ Some session → IsAtWork (view past task).work session
+  pub chosen : (task : ℕ) (session : Session) → slice_get sessions task ≡ Some session → HasNoChoice (view past task)
+  pub quiet : (task : ℕ) (session : Session) → slice_get sessions task ≡ Some session → session.touched ≡ false → IsQuiet (view past task)
   pub blocks : HoldsBlocks disk past held

@@ -33,6 +33,7 @@ impl Session {
     ) -> Result<(), NoMemory>
         requires { (past : Past) × MayChoose map.now past task self.old wanted.old }
         ensures chosen { OnOk result ((past : Past) → MayChoose map.now past task self.old wanted.old → HasChosen map.now (choose_in map.now past task) task self.new wanted.new) }
+        ensures touched { OnOk result (self.new.touched ≡ self.old.touched) }
         ensures rows { OnOk result ((past : Past) → MayChoose map.now past task self.old wanted.old → AreReported (view past task).work → rows.new ≡ rows.old ++ segment_rows by_deliveries (choose_in map.now past task) now task) }
     {
         if !self.may_choose() {
@@ -69,7 +70,7 @@ impl Session {
         requires cleans { (is_clean self.old.kind ≡ true) × (self.old.closed ≡ false) }
         requires may { (past : Past) × MayChoose map.now past task self.old wanted.old }
         ensures chosen { IfOk result (λ some. (past : Past) → MayChoose map.now past task self.old wanted.old → MayChoose map.now (choose_once map.now task past) task self.new wanted.new) }
-        ensures same { (self.new.kind ≡ self.old.kind) × (self.new.closed ≡ self.old.closed) }
+        ensures same { (self.new.kind ≡ self.old.kind) × (self.new.closed ≡ self.old.closed) × (self.new.touched ≡ self.old.touched) }
         ensures none { IfOk result (λ some. some ≡ false → (past : Past) → MayChoose map.now past task self.old wanted.old → choose_once map.now task past ≡ past) }
         ensures rows { IfOk result (λ some. (past : Past) (before : List Row) → MayChoose map.now past task self.old wanted.old
             → rows.old ≡ before ++ segment_rows by_deliveries past now task → rows.new ≡ before ++ segment_rows by_deliveries (choose_once map.now task past) now task) }

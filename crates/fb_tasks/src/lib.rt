@@ -12,6 +12,7 @@ mod sessions;
 mod testing;
 #[cfg(test)]
 mod tests;
+mod touched;
 mod wanting;
 
 pub use sessions::{Sessions, reads_change_nothing};

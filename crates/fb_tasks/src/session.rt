@@ -23,6 +23,8 @@ pub struct Session {
     pub complete: bool,
     /// Whether a backup's seal row was given.
     pub sealed: bool,
+    /// Whether it was touched since its last test.
+    pub touched: bool,
     /// What the delivered blocks of a backup hold.
     pub image: Image,
     /// The segments that a clean session was given.
@@ -34,6 +36,7 @@ impl Session {
     pub fn new(alloc: Global, kind: Kind, weight: u32, block: u32) -> Session
         ensures terms { (result.kind ≡ kind) × (result.weight ≡ weight) × (result.block ≡ block) }
         ensures state { (result.suspended ≡ false) × (result.closed ≡ false) × (result.complete ≡ false) × (result.sealed ≡ false) }
+        ensures touched { result.touched ≡ false }
         ensures image { (lbn : ℕ) → held_at result.image lbn ≡ None }
         ensures log { result.log ≡ record { block = block; segments = []; unfinished = None; taken = [] } }
     {
@@ -45,6 +48,7 @@ impl Session {
             closed: false,
             complete: false,
             sealed: false,
+            touched: false,
             image: Image::new(alloc),
             log: Segments::new(alloc, block),
         }

@@ -1,5 +1,5 @@
 // The sessions of a run, and what calls, deliveries and writes make of them.
-ghost use Rattle.std.specs.Prelude.{◌≡◌, ◌≤◌, ◌<◌, ◌^◌, ◌*◌, ◌-◌, ℕ, List, [], ◌∷◌, ◌++◌, Bool, true, false, length, OnOk, OnErr};
+ghost use Rattle.std.specs.Prelude.{◌≡◌, ◌≤◌, ◌<◌, ◌^◌, ◌*◌, ◌-◌, ℕ, List, [], ◌∷◌, ◌++◌, Bool, true, false, length, set, slice_get, Some, OnOk, OnErr};
 ghost use Rattle.std.specs.List.{flat_map};
 ghost use Rattle.fb_geometry.specs.Shape.{Shape};
 ghost use Rattle.fb_units.specs.declared.types.Request.{Request};
@@ -19,6 +19,7 @@ ghost use Rattle.fb_tasks.specs.Telling.{Tells, MayTake, MaySettle, MayDeliver, 
 
 use crate::delivering::push_findings;
 use crate::session::Session;
+use crate::touched::{next_touched, note_touch};
 use crate::wanting::want_range;
 use fb_calls::{Action, Call, Kind, Live};
 use fb_rows::{BackRow, BackRows, DeliveryRow, TaskRow};
@@ -26,25 +27,30 @@ use fb_sectormap::SectorMap;
 use fb_units::{NoMemory, Ns};
 use fb_wanted::Wanted;
 use std::alloc::Global;
+use std::collections::BTreeSet;
 use std::marker::Model;
 
 /// The sessions in order of opening: a session's place is its task's number.
+///
+/// To settle costs as much for each task that was touched since, and a delivery or a call as much for its own task;
+/// a session at which nothing happens costs nothing, but that a write asks each session whether it is an open backup.
 #[derive(Drop)]
 pub struct Sessions {
     alloc: Global,
     sessions: Vec<Session>,
+    touched: BTreeSet<u32>,
 }
 
 impl Model for Sessions {
     ghost use Rattle.std.specs.Prelude.{List};
-    ghost use Rattle.std.specs.Prelude.{length, ◌<◌, ◌^◌};
     ghost use Rattle.fb_tasks.specs.declared.session.Session.{Session};
+    ghost use Rattle.fb_tasks.specs.Listing.{AreListed};
 
     ghost Value = { List Session };
 
     ghost view = { λ s. s.sessions.items };
 
-    ghost invariant = { λ s. length s.sessions.items < 2 ^ 32 };
+    ghost invariant = { λ s. AreListed s.sessions.items s.touched };
 }
 
 impl Sessions {
@@ -55,6 +61,7 @@ impl Sessions {
         Sessions {
             alloc,
             sessions: Vec::new(alloc),
+            touched: BTreeSet::new(alloc),
         }
     }
 
@@ -77,7 +84,7 @@ impl Sessions {
             Action::Want { first, count } => self.want(map, wanted, call.task, *first, *count),
             Action::Abort { first, count } => {
                 wanted.abort(call.task, *first, *count);
-                Ok(())
+                self.touch(call.task)
             }
             Action::Promote { .. } => Ok(()),
             Action::Suspend => {
@@ -88,10 +95,7 @@ impl Sessions {
                 self.resume(wanted, call.task);
                 Ok(())
             }
-            Action::Close => {
-                self.close(map, wanted, call.task);
-                Ok(())
-            }
+            Action::Close => self.close(map, wanted, call.task),
             Action::Segment {
                 first,
                 blocks,
@@ -132,6 +136,7 @@ impl Sessions {
     {
         let task = got.block.task;
         let end = got.end;
+        note_touch(&mut self.touched, task)?;
         wanted.deliver(task, got.block.index);
         let session = &mut self.sessions[task as usize];
         session.take(got.block, &got.content)?;
@@ -139,7 +144,9 @@ impl Sessions {
         rows.push(BackRow::Got(got))?;
         push_findings(rows, task, &findings)?;
         session.test_segment(self.alloc, wanted, task, end, rows)?;
-        session.test(self.alloc, wanted, task, end, rows)
+        session.test(self.alloc, wanted, task, end, rows)?;
+        session.touched = true;
+        Ok(())
     }
 
     /// A write has passed: blocks of open backups that it overwrote are wanted again.
@@ -217,7 +224,8 @@ impl Sessions {
             task,
             first,
             count,
-        )
+        )?;
+        self.touch(task)
     }
 
     fn suspend(&mut self, wanted: &mut Wanted, task: u32)
@@ -237,14 +245,17 @@ impl Sessions {
     }
 
     // Aborts what is left of the task, and drops the segments that it has not chosen.
-    fn close(&mut self, map: &SectorMap, wanted: &mut Wanted, task: u32)
+    fn close(&mut self, map: &SectorMap, wanted: &mut Wanted, task: u32) -> Result<(), NoMemory>
         requires { task < length self.old }
-        ensures { (past : Past) (call : Asked) → IsCall task Close call → Tells map.now past self.old wanted.old → Tells map.now (called call [] ∷ past) self.new wanted.new }
+        ensures { OnOk result ((past : Past) (call : Asked) → IsCall task Close call → Tells map.now past self.old wanted.old → Tells map.now (called call [] ∷ past) self.new wanted.new) }
     {
-        let session = &mut self.sessions[task as usize];
-        session.closed = true;
-        session.log.drop_rest();
+        note_touch(&mut self.touched, task)?;
+        let closing = &mut self.sessions[task as usize];
+        closing.closed = true;
+        closing.touched = true;
+        closing.log.drop_rest();
         wanted.abort(task, 0, map.count());
+        Ok(())
     }
 
     fn add_segment(
@@ -260,12 +271,23 @@ impl Sessions {
         ensures { OnOk result ((past : Past) (call : Asked) (held : List Entry) → IsCall task (Segment first blocks age live.now) call → MayTake map.now past self.old held call → Tells map.now (called call [] ∷ past) self.new held) }
     {
         let _sectors = map.count();
-        self.sessions[task as usize]
-            .log
-            .add(first, blocks, age, live)
+        note_touch(&mut self.touched, task)?;
+        let cleaner = &mut self.sessions[task as usize];
+        cleaner.touched = true;
+        cleaner.log.add(first, blocks, age, live)
     }
 
-    // Lets each session choose, in order of opening.
+    // Something was done to a task that a choice or a test may find.
+    fn touch(&mut self, task: u32) -> Result<(), NoMemory>
+        requires { task < length self.old }
+        ensures { OnOk result ((session : Session) → slice_get self.old task ≡ Some session → self.new ≡ set self.old task (record session { touched = true })) }
+    {
+        note_touch(&mut self.touched, task)?;
+        self.sessions[task as usize].touched = true;
+        Ok(())
+    }
+
+    // Lets each touched session choose, in order of opening: no other would.
     fn choose_all(
         &mut self,
         map: &SectorMap,
@@ -277,21 +299,28 @@ impl Sessions {
         ensures chosen { OnOk result ((past : Past) → MaySettle map.now past self.old wanted.old → HaveChosen map.now (with_choices map.now past) self.new wanted.new) }
         ensures rows { OnOk result ((past : Past) → MaySettle map.now past self.old wanted.old → rows.new ≡ rows.old ++ flat_map (segment_rows by_deliveries (with_choices map.now past) now) (task_numbers (with_choices map.now past))) }
     {
-        for task in 0..self.sessions.len() {
-            self.sessions[task].choose(self.alloc, map, wanted, task as u32, now, rows)?;
+        let mut from = 0;
+        while let Some(task) = next_touched(&self.touched, from) {
+            self.sessions[task as usize].choose(self.alloc, map, wanted, task, now, rows)?;
+            from = task + 1;
         }
         Ok(())
     }
 
-    // Tests each session, in order of opening.
+    // Tests each touched session, in order of opening: no other would give a row.
     fn test_all(&mut self, wanted: &Wanted, now: Ns, rows: &mut BackRows) -> Result<(), NoMemory>
         requires { (disk : Shape) × (past : Past) × HaveChosen disk past self.old wanted.now }
         ensures tells { OnOk result ((disk : Shape) (past : Past) → HaveChosen disk past self.old wanted.now → Tells disk (tested (test_rows by_deliveries past now) ∷ past) self.new wanted.now) }
         ensures rows { OnOk result ((disk : Shape) (past : Past) → HaveChosen disk past self.old wanted.now → rows.new ≡ rows.old ++ flat_map (λ task. seal_rows by_deliveries past now task ++ complete_rows past now task) (task_numbers past)) }
     {
-        for task in 0..self.sessions.len() {
-            self.sessions[task].test(self.alloc, wanted, task as u32, now, rows)?;
+        let mut from = 0;
+        while let Some(task) = next_touched(&self.touched, from) {
+            let session = &mut self.sessions[task as usize];
+            session.test(self.alloc, wanted, task, now, rows)?;
+            session.touched = false;
+            from = task + 1;
         }
+        self.touched.clear();
         Ok(())
     }
 }

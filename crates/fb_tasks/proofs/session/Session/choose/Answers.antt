@@ -26,6 +26,7 @@ loop-turn-init c =
     let may_be = and_parts (is_clean c.args.self.now.kind) (not c.args.self.now.closed) (sym c.may_choose.ensures ∙ c.if-not-may_choose.false) in
     record {
       cleans = (may_be.0, not_true c.args.self.now.closed may_be.1);
+      touched = refl;
       chosen = λ past may. may;
       rows = λ past may reported. sym (append-nil c.args.rows.now) ∙ ap (λ rs. c.args.rows.now ++ rs) (sym (reported_rows past c.args.now c.args.task reported));
     }
@@ -53,6 +54,7 @@ loop-turn-preserved c =
     let disk = c.args.map.now in
     record {
       cleans = (ap is_clean c.in_ok-choose_one.ensures.same.0 ∙ c.loop-turn.invariant.cleans.0, c.in_ok-choose_one.ensures.same.1 ∙ c.loop-turn.invariant.cleans.1);
+      touched = c.in_ok-choose_one.ensures.same.2 ∙ c.loop-turn.invariant.touched;
       chosen = λ past may. subst (λ p. MayChoose disk p c.args.task c.choose_one.new.self c.choose_one.new.wanted) (sym (up_to_more c.loop-turn._turn disk c.args.task past))
           (c.in_ok-choose_one.ensures.chosen (choose_up_to c.loop-turn._turn disk c.args.task past) (c.loop-turn.invariant.chosen past may));
       rows = λ past may reported. c.in_ok-choose_one.ensures.rows (choose_up_to c.loop-turn._turn disk c.args.task past) c.args.rows.now (c.loop-turn.invariant.chosen past may) (c.loop-turn.invariant.rows past may reported)

@@ -12,6 +12,7 @@ use Rattle.fb_tasks.proofs.session.Session.choose.Given as goal
 abbrev pub invariant-loop-turn : goal.invariant-loop-turn
 invariant-loop-turn l = record {
   cleans : (is_clean l.self.kind ≡ true) × (l.self.closed ≡ false);
+  touched : l.self.touched ≡ l.initial.self.touched;
   chosen : (past : Past) → MayChoose l.map past l.task l.initial.self l.initial.wanted → MayChoose l.map (choose_up_to l._turn l.map l.task past) l.task l.self l.wanted;
   rows : (past : Past) → MayChoose l.map past l.task l.initial.self l.initial.wanted → AreReported (view past l.task).work → l.rows ≡ l.initial.rows ++ segment_rows by_deliveries (choose_up_to l._turn l.map l.task past) l.now l.task;
 }

@@ -2,11 +2,12 @@ use Rattle.std.proofs.Common.{Some, ap, sym, ◌∙◌, subst, arith}
 use Rattle.std.proofs.lemmas.Option.{slice_get-get_or}
 use Rattle.std.proofs.lemmas.Result.{on_ok_weaker}
 use Rattle.fb_tasks.specs.Telling.{MayTake}
+use Rattle.fb_tasks.proofs.Listed.{listed-more, listed-noted}
 use Rattle.fb_tasks.proofs.Additions.{may_add, added-tells, asked_within}
 use Rattle.fb_tasks.proofs.sessions.Sessions.add_segment.Goals as goal
 
-pub index_mut-requires : goal.index_mut-requires
-index_mut-requires c =
+pub index_mut-cleaner-requires : goal.index_mut-cleaner-requires
+index_mut-cleaner-requires c =
     let r = c.requires in
     let within = asked_within c.args.map.now r.0 r.1 c.args.task c.args.first c.args.blocks c.args.age c.args.live.now c.self.inside.sessions.items c.args.self.now r.2 r.3 c.self.view_is r.4 in
     omega (arith, within, c.self.inside.sessions.ok.0)
@@ -15,16 +16,16 @@ pub add-requires-clause-range : goal.add-requires-clause-range
 add-requires-clause-range c =
     let r = c.requires in
     let within = asked_within c.args.map.now r.0 r.1 c.args.task c.args.first c.args.blocks c.args.age c.args.live.now c.self.inside.sessions.items c.args.self.now r.2 r.3 c.self.view_is r.4 in
-    let there = slice_get-get_or c.self.inside.sessions.items c.args.task c.index_mut.result.now within ∙ ap Some (sym c.index_mut.ensures.value) in
-    let may = may_add c.args.map.now r.0 r.1 c.args.task c.args.first c.args.blocks c.args.age c.args.live.now c.self.inside.sessions.items c.index_mut.result.now r.2 r.3 there (subst (λ xs. MayTake c.args.map.now r.0 xs r.2 r.1) (sym c.self.view_is) r.4) in
+    let there = slice_get-get_or c.self.inside.sessions.items c.args.task c.index_mut-cleaner.result.now within ∙ ap Some (sym c.index_mut-cleaner.ensures.value) in
+    let may = may_add c.args.map.now r.0 r.1 c.args.task c.args.first c.args.blocks c.args.age c.args.live.now c.self.inside.sessions.items c.index_mut-cleaner.result.now r.2 r.3 there (subst (λ xs. MayTake c.args.map.now r.0 xs r.2 r.1) (sym c.self.view_is) r.4) in
     omega (arith, may.log, c.count-sectors.ensures.value, c.count-sectors.ensures.bound)
 
 pub add-requires-clause-room : goal.add-requires-clause-room
 add-requires-clause-room c =
     let r = c.requires in
     let within = asked_within c.args.map.now r.0 r.1 c.args.task c.args.first c.args.blocks c.args.age c.args.live.now c.self.inside.sessions.items c.args.self.now r.2 r.3 c.self.view_is r.4 in
-    let there = slice_get-get_or c.self.inside.sessions.items c.args.task c.index_mut.result.now within ∙ ap Some (sym c.index_mut.ensures.value) in
-    let may = may_add c.args.map.now r.0 r.1 c.args.task c.args.first c.args.blocks c.args.age c.args.live.now c.self.inside.sessions.items c.index_mut.result.now r.2 r.3 there (subst (λ xs. MayTake c.args.map.now r.0 xs r.2 r.1) (sym c.self.view_is) r.4) in
+    let there = slice_get-get_or c.self.inside.sessions.items c.args.task c.index_mut-cleaner.result.now within ∙ ap Some (sym c.index_mut-cleaner.ensures.value) in
+    let may = may_add c.args.map.now r.0 r.1 c.args.task c.args.first c.args.blocks c.args.age c.args.live.now c.self.inside.sessions.items c.index_mut-cleaner.result.now r.2 r.3 there (subst (λ xs. MayTake c.args.map.now r.0 xs r.2 r.1) (sym c.self.view_is) r.4) in
     may.room
 
 pub returns : goal.returns
@@ -32,4 +33,16 @@ returns c =
     let r = c.requires in
     let within = asked_within c.args.map.now r.0 r.1 c.args.task c.args.first c.args.blocks c.args.age c.args.live.now c.self.inside.sessions.items c.args.self.now r.2 r.3 c.self.view_is r.4 in
     on_ok_weaker c.add.result (λ added past call held is h.
-    added-tells c.args.map.now past call c.args.task c.args.first c.args.blocks c.args.age c.args.live.now c.self.inside.sessions.items c.args.self.now c.index_mut.result.now c.add.new.self held is c.self.view_is within c.index_mut.ensures.value added h) c.add.ensures.ok
+    added-tells c.args.map.now past call c.args.task c.args.first c.args.blocks c.args.age c.args.live.now c.self.inside.sessions.items c.args.self.now c.index_mut-cleaner.result.now c.add.new.self held is c.self.view_is within c.index_mut-cleaner.ensures.value added h) c.add.ensures.ok
+
+pub invariant_of-self : goal.invariant_of-self
+invariant_of-self c =
+    let r = c.requires in
+    let within = asked_within c.args.map.now r.0 r.1 c.args.task c.args.first c.args.blocks c.args.age c.args.live.now c.self.inside.sessions.items c.args.self.now r.2 r.3 c.self.view_is r.4 in
+    listed-more c.self.invariant c.note_touch.new.touched c.args.task within c.note_touch.ensures.stay c.note_touch.ensures.only
+
+pub invariant_of-self-2 : goal.invariant_of-self-2
+invariant_of-self-2 c =
+    let r = c.requires in
+    let within = asked_within c.args.map.now r.0 r.1 c.args.task c.args.first c.args.blocks c.args.age c.args.live.now c.self.inside.sessions.items c.args.self.now r.2 r.3 c.self.view_is r.4 in
+    listed-noted c.self.invariant c.note_touch.new.touched c.args.task within c.note_touch.ensures.stay c.note_touch.ensures.only c.in_ok-note_touch.ensures.noted _

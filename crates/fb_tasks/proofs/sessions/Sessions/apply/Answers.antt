@@ -19,13 +19,16 @@ resume-requires c = session_there c.args.map.now c.requires.0 c.args.self.now c.
 pub close-requires : goal.close-requires
 close-requires c = session_there c.args.map.now c.requires.0 c.args.self.now c.args.wanted.now c.args.call.now (λ a. subst (λ x. MayAsk c.args.map.now (calls_of c.requires.0) c.args.call.now.task x) c.in-Close.is a) c.requires.1
 
+pub touch-requires : goal.touch-requires
+touch-requires c = session_there c.args.map.now c.requires.0 c.args.self.now c.args.wanted.now c.args.call.now (λ a. (subst (λ x. MayAsk c.args.map.now (calls_of c.requires.0) c.args.call.now.task x) c.in-Abort.is a).0) c.requires.1
+
 pub returns-in-Open : goal.returns-in-Open
 returns-in-Open c = record { ok = on_ok_weaker c.open.result (λ says past h. takes_none c.args.map.now past c.args.call.now c.open.new.self c.args.wanted.now (ap (blocks_by c.args.map.now past c.args.call.now.task) c.in-Open.is) (says c.args.map.now past c.args.call.now c.args.wanted.now c.in-Open.is h)) c.open.ensures }
 
 pub returns-in-Abort : goal.returns-in-Abort
 returns-in-Abort c = record {
-  ok = λ past h. takes_none c.args.map.now past c.args.call.now c.args.self.now c.abort.new.self (ap (blocks_by c.args.map.now past c.args.call.now.task) c.in-Abort.is)
-      (asked-aborts c.args.map.now past c.args.call.now c.in-Abort.first c.in-Abort.count c.args.self.now c.args.wanted.now c.abort.new.self c.in-Abort.is c.abort.ensures.states h);
+  ok = on_ok_weaker c.touch.result (λ flagged past h. takes_none c.args.map.now past c.args.call.now c.touch.new.self c.abort.new.self (ap (blocks_by c.args.map.now past c.args.call.now.task) c.in-Abort.is)
+      (asked-aborts c.args.map.now past c.args.call.now c.in-Abort.first c.in-Abort.count c.args.self.now c.touch.new.self c.args.wanted.now c.abort.new.self c.in-Abort.is c.abort.ensures.states flagged h)) c.touch.ensures;
 }
 
 pub returns-in-Promote : goal.returns-in-Promote
@@ -48,8 +51,8 @@ returns-in-Resume c = record {
 
 pub returns-in-Close : goal.returns-in-Close
 returns-in-Close c = record {
-  ok = λ past h. takes_none c.args.map.now past c.args.call.now c.close.new.self c.close.new.wanted (ap (blocks_by c.args.map.now past c.args.call.now.task) c.in-Close.is)
-      (c.close.ensures past c.args.call.now (record { task = refl; action = c.in-Close.is }) h.tells);
+  ok = on_ok_weaker c.close.result (λ says past h. takes_none c.args.map.now past c.args.call.now c.close.new.self c.close.new.wanted (ap (blocks_by c.args.map.now past c.args.call.now.task) c.in-Close.is)
+      (says past c.args.call.now (record { task = refl; action = c.in-Close.is }) h.tells)) c.close.ensures;
 }
 
 pub returns-in-Segment : goal.returns-in-Segment

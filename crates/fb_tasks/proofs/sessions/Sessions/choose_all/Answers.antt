@@ -1,49 +1,71 @@
 use Rattle.std.proofs.Common.{◌<◌, Some, length, append-nil, ap, sym, ◌∙◌, subst, arith}
 use Rattle.std.proofs.lemmas.List.{length-set}
 use Rattle.std.proofs.lemmas.Option.{slice_get-get_or}
+use Rattle.fb_model.specs.History.{Past}
 use Rattle.fb_tasks.specs.Telling.{MaySettle}
-use Rattle.fb_tasks.proofs.AllChoices.{partly-start, partly-may, partly-more, rows-more, all-chosen, all-rows, past_at}
+use Rattle.fb_tasks.proofs.Listed.{listed-set, untouched-there}
+use Rattle.fb_tasks.proofs.AllChoices.{partly-start, partly-may, partly-more, partly-to, rows-more, all-chosen, all-rows, past_at}
 use Rattle.fb_tasks.proofs.sessions.Sessions.choose_all.Goals as goal
 
 pub loop-task-init : goal.loop-task-init
 loop-task-init c = record {
-  size = sym (c.len-task-end.ensures ∙ c.self.inside.sessions.ok.0);
+  kept = c.self.invariant;
+  within = omega arith;
   partly = λ past h. partly-start c.args.map.now past c.self.inside.sessions.items c.args.wanted.now (subst (λ xs. MaySettle c.args.map.now past xs c.args.wanted.now) (sym c.self.view_is) h);
   rows = λ past h. sym (append-nil c.args.rows.now);
 }
 
+pub index_mut-requires : goal.index_mut-requires
+index_mut-requires c = omega (arith, c.loop-task.invariant.kept.within c.in-Some.task c.in-Some.ensures.found, c.loop-task.self-inside.sessions.ok.0)
+
 pub choose-requires : goal.choose-requires
 choose-requires c =
-    let within : c.loop-task.task < length c.loop-task.self-inside.sessions.items = omega (arith, c.loop-task-test.true, c.loop-task.invariant.size) in
-    let there = slice_get-get_or c.loop-task.self-inside.sessions.items c.loop-task.task c.index_mut.result.now within ∙ ap Some (sym c.index_mut.ensures.value) in
-    (past_at c.args.map.now c.requires.0 c.loop-task.task, partly-may c.args.map.now c.requires.0 c.loop-task.self-inside.sessions.items c.loop-task.wanted c.loop-task.task c.index_mut.result.now there (c.loop-task.invariant.partly c.requires.0 c.requires.1))
+    let disk = c.args.map.now in
+    let inv = c.loop-task.invariant in
+    let items = c.loop-task.self-inside.sessions.items in
+    let n = c.in-Some.task in
+    let within : n < length items = inv.kept.within n c.in-Some.ensures.found in
+    let there = slice_get-get_or items n c.index_mut.result.now within ∙ ap Some (sym c.index_mut.ensures.value) in
+    let to = λ (past : Past) (h : MaySettle disk past c.args.self.now c.args.wanted.now). partly-to disk past items c.loop-task.wanted c.args.now c.args.rows.now c.loop-task.rows c.loop-task.from n c.in-Some.ensures.from (omega (arith, within))
+    (λ k s low high at. untouched-there inv.kept k s (c.in-Some.ensures.first k low high) at) (inv.partly past h) (inv.rows past h) in
+    (past_at disk c.requires.0 n, partly-may disk c.requires.0 items c.loop-task.wanted n c.index_mut.result.now there (to c.requires.0 c.requires.1).0)
+
+pub invariant_of-self : goal.invariant_of-self
+invariant_of-self c = listed-set c.loop-task.invariant.kept c.in-Some.task c.choose.new.self (λ _. c.in-Some.ensures.found)
 
 pub loop-task-preserved : goal.loop-task-preserved
 loop-task-preserved c =
-    let within : c.loop-task.task < length c.loop-task.self-inside.sessions.items = omega (arith, c.loop-task-test.true, c.loop-task.invariant.size) in
-    let there = slice_get-get_or c.loop-task.self-inside.sessions.items c.loop-task.task c.index_mut.result.now within ∙ ap Some (sym c.index_mut.ensures.value) in
-    let n = c.loop-task.task in
     let disk = c.args.map.now in
+    let inv = c.loop-task.invariant in
+    let items = c.loop-task.self-inside.sessions.items in
+    let n = c.in-Some.task in
+    let within : n < length items = inv.kept.within n c.in-Some.ensures.found in
+    let there = slice_get-get_or items n c.index_mut.result.now within ∙ ap Some (sym c.index_mut.ensures.value) in
+    let to = λ (past : Past) (h : MaySettle disk past c.args.self.now c.args.wanted.now). partly-to disk past items c.loop-task.wanted c.args.now c.args.rows.now c.loop-task.rows c.loop-task.from n c.in-Some.ensures.from (omega (arith, within))
+    (λ k s low high at. untouched-there inv.kept k s (c.in-Some.ensures.first k low high) at) (inv.partly past h) (inv.rows past h) in
+    let may = λ (past : Past) (h : MaySettle disk past c.args.self.now c.args.wanted.now). partly-may disk past items c.loop-task.wanted n c.index_mut.result.now there (to past h).0 in
     record {
-      size = length-set c.loop-task.self-inside.sessions.items n c.choose.new.self ∙ c.loop-task.invariant.size;
-      partly = λ past h.
-          let before = c.loop-task.invariant.partly past h in
-          partly-more disk past c.loop-task.self-inside.sessions.items c.loop-task.wanted c.choose.new.wanted n c.index_mut.result.now c.choose.new.self there before
-          (c.in_ok-choose.ensures.chosen (past_at disk past n) (partly-may disk past c.loop-task.self-inside.sessions.items c.loop-task.wanted n c.index_mut.result.now there before));
-      rows = λ past h.
-          let before = c.loop-task.invariant.partly past h in
-          rows-more disk past c.loop-task.self-inside.sessions.items c.loop-task.wanted n c.args.now c.index_mut.result.now c.args.rows.now c.loop-task.rows c.choose.new.rows there before (c.loop-task.invariant.rows past h)
-          (c.in_ok-choose.ensures.rows (past_at disk past n) (partly-may disk past c.loop-task.self-inside.sessions.items c.loop-task.wanted n c.index_mut.result.now there before) (before.later n c.index_mut.result.now (omega arith) there));
+      kept = listed-set inv.kept n c.choose.new.self (λ _. c.in-Some.ensures.found);
+      within = omega (arith, within, length-set items n c.choose.new.self);
+      partly = λ past h. partly-more disk past items c.loop-task.wanted c.choose.new.wanted n c.index_mut.result.now c.choose.new.self there c.in_ok-choose.ensures.touched (to past h).0 (c.in_ok-choose.ensures.chosen (past_at disk past n) (may past h));
+      rows = λ past h. rows-more disk past items c.loop-task.wanted n c.args.now c.index_mut.result.now c.args.rows.now c.loop-task.rows c.choose.new.rows there (to past h).0 (to past h).1
+          (c.in_ok-choose.ensures.rows (past_at disk past n) (may past h) ((to past h).0.later n c.index_mut.result.now (omega arith) there));
     }
 
 pub returns-clause-chosen : goal.returns-clause-chosen
 returns-clause-chosen c = λ past h.
-    let partly = c.loop-task.invariant.partly past h in
-    all-chosen c.args.map.now past c.loop-task.self-inside.sessions.items c.loop-task.wanted c.loop-task.task
-    (omega (arith, c.loop-task-test.false, c.loop-task.auto.task-end, c.loop-task.invariant.size, partly.as_many)) partly
+    let disk = c.args.map.now in
+    let inv = c.loop-task.invariant in
+    let items = c.loop-task.self-inside.sessions.items in
+    let to = partly-to disk past items c.loop-task.wanted c.args.now c.args.rows.now c.loop-task.rows c.loop-task.from (length items) inv.within (omega arith)
+    (λ k s low high at. untouched-there inv.kept k s (c.in_default.ensures.none k low) at) (inv.partly past h) (inv.rows past h) in
+    all-chosen disk past items c.loop-task.wanted (length items) to.0.as_many to.0
 
 pub returns-clause-rows : goal.returns-clause-rows
 returns-clause-rows c = λ past h.
-    let partly = c.loop-task.invariant.partly past h in
-    all-rows c.args.map.now past c.args.rows.now c.loop-task.rows c.loop-task.task c.args.now
-    (omega (arith, c.loop-task-test.false, c.loop-task.auto.task-end, c.loop-task.invariant.size, partly.as_many)) (c.loop-task.invariant.rows past h)
+    let disk = c.args.map.now in
+    let inv = c.loop-task.invariant in
+    let items = c.loop-task.self-inside.sessions.items in
+    let to = partly-to disk past items c.loop-task.wanted c.args.now c.args.rows.now c.loop-task.rows c.loop-task.from (length items) inv.within (omega arith)
+    (λ k s low high at. untouched-there inv.kept k s (c.in_default.ensures.none k low) at) (inv.partly past h) (inv.rows past h) in
+    all-rows disk past c.args.rows.now c.loop-task.rows (length items) c.args.now to.0.as_many to.1

@@ -1,8 +1,8 @@
-use Rattle.std.proofs.Common.{◌∷◌, sym, ◌∙◌, subst, arith}
-use Rattle.std.proofs.lemmas.Result.{on_ok_weaker}
+use Rattle.std.proofs.Common.{◌∷◌, ◌<◌, length, sym, ◌∙◌, subst, arith}
 use Rattle.fb_model.specs.History.{delivered}
 use Rattle.fb_tasks.specs.Taken.{rows_after}
 use Rattle.fb_tasks.specs.Telling.{MayDeliver}
+use Rattle.fb_tasks.proofs.Listed.{listed-more, listed-noted}
 use Rattle.fb_tasks.proofs.AfterDelivery.{opened, own-there, wanted-entry, busy-own, kind-own, held-now, may-finish, all-given, tells-delivered, settled-delivered, rows-one_by_one}
 use Rattle.fb_tasks.proofs.sessions.Sessions.delivered.Goals as goal
 
@@ -27,27 +27,75 @@ test-requires c =
     let finished = c.in_ok-test_segment.ensures c.requires.0 new (may-finish c.args.got may c.index_mut-session.result.now there c.deliver.new.self c.take.new.self c.deliver.ensures c.in_ok-take.ensures) in
     (c.requires.0, new, record { blocks = held-now c.args.got may c.deliver.new.self c.deliver.ensures; stands = finished.0; at_work = finished.1 })
 
+pub invariant_of-self : goal.invariant_of-self
+invariant_of-self c =
+    let may = subst (λ xs. MayDeliver c.requires.0 c.requires.1 xs c.args.wanted.now c.args.got) (sym c.self.view_is) c.requires.2 in
+    let within : c.args.got.block.task < length c.self.inside.sessions.items = omega (arith, opened c.args.got may, may.tells.as_many) in
+    listed-more c.self.invariant c.note_touch.new.touched c.args.got.block.task within c.note_touch.ensures.stay c.note_touch.ensures.only
+
+pub invariant_of-self-in_err-take : goal.invariant_of-self-in_err-take
+invariant_of-self-in_err-take c =
+    let may = subst (λ xs. MayDeliver c.requires.0 c.requires.1 xs c.args.wanted.now c.args.got) (sym c.self.view_is) c.requires.2 in
+    let within : c.args.got.block.task < length c.self.inside.sessions.items = omega (arith, opened c.args.got may, may.tells.as_many) in
+    listed-noted c.self.invariant c.note_touch.new.touched c.args.got.block.task within c.note_touch.ensures.stay c.note_touch.ensures.only c.in_ok-note_touch.ensures.noted _
+
+pub invariant_of-self-in_err-findings : goal.invariant_of-self-in_err-findings
+invariant_of-self-in_err-findings c =
+    let may = subst (λ xs. MayDeliver c.requires.0 c.requires.1 xs c.args.wanted.now c.args.got) (sym c.self.view_is) c.requires.2 in
+    let within : c.args.got.block.task < length c.self.inside.sessions.items = omega (arith, opened c.args.got may, may.tells.as_many) in
+    listed-noted c.self.invariant c.note_touch.new.touched c.args.got.block.task within c.note_touch.ensures.stay c.note_touch.ensures.only c.in_ok-note_touch.ensures.noted _
+
+pub invariant_of-self-in_err-push : goal.invariant_of-self-in_err-push
+invariant_of-self-in_err-push c =
+    let may = subst (λ xs. MayDeliver c.requires.0 c.requires.1 xs c.args.wanted.now c.args.got) (sym c.self.view_is) c.requires.2 in
+    let within : c.args.got.block.task < length c.self.inside.sessions.items = omega (arith, opened c.args.got may, may.tells.as_many) in
+    listed-noted c.self.invariant c.note_touch.new.touched c.args.got.block.task within c.note_touch.ensures.stay c.note_touch.ensures.only c.in_ok-note_touch.ensures.noted _
+
+pub invariant_of-self-in_err-push_findings : goal.invariant_of-self-in_err-push_findings
+invariant_of-self-in_err-push_findings c =
+    let may = subst (λ xs. MayDeliver c.requires.0 c.requires.1 xs c.args.wanted.now c.args.got) (sym c.self.view_is) c.requires.2 in
+    let within : c.args.got.block.task < length c.self.inside.sessions.items = omega (arith, opened c.args.got may, may.tells.as_many) in
+    listed-noted c.self.invariant c.note_touch.new.touched c.args.got.block.task within c.note_touch.ensures.stay c.note_touch.ensures.only c.in_ok-note_touch.ensures.noted _
+
+pub invariant_of-self-in_err-test_segment : goal.invariant_of-self-in_err-test_segment
+invariant_of-self-in_err-test_segment c =
+    let may = subst (λ xs. MayDeliver c.requires.0 c.requires.1 xs c.args.wanted.now c.args.got) (sym c.self.view_is) c.requires.2 in
+    let within : c.args.got.block.task < length c.self.inside.sessions.items = omega (arith, opened c.args.got may, may.tells.as_many) in
+    listed-noted c.self.invariant c.note_touch.new.touched c.args.got.block.task within c.note_touch.ensures.stay c.note_touch.ensures.only c.in_ok-note_touch.ensures.noted _
+
+pub invariant_of-self-in_err-test : goal.invariant_of-self-in_err-test
+invariant_of-self-in_err-test c =
+    let may = subst (λ xs. MayDeliver c.requires.0 c.requires.1 xs c.args.wanted.now c.args.got) (sym c.self.view_is) c.requires.2 in
+    let within : c.args.got.block.task < length c.self.inside.sessions.items = omega (arith, opened c.args.got may, may.tells.as_many) in
+    listed-noted c.self.invariant c.note_touch.new.touched c.args.got.block.task within c.note_touch.ensures.stay c.note_touch.ensures.only c.in_ok-note_touch.ensures.noted _
+
+pub invariant_of-self-2 : goal.invariant_of-self-2
+invariant_of-self-2 c =
+    let may = subst (λ xs. MayDeliver c.requires.0 c.requires.1 xs c.args.wanted.now c.args.got) (sym c.self.view_is) c.requires.2 in
+    let within : c.args.got.block.task < length c.self.inside.sessions.items = omega (arith, opened c.args.got may, may.tells.as_many) in
+    listed-noted c.self.invariant c.note_touch.new.touched c.args.got.block.task within c.note_touch.ensures.stay c.note_touch.ensures.only c.in_ok-note_touch.ensures.noted _
+
 pub returns-clause-tells : goal.returns-clause-tells
-returns-clause-tells c = on_ok_weaker c.test.result (λ tests disk past outer.
+returns-clause-tells c = λ disk past outer.
     let may = subst (λ xs. MayDeliver disk past xs c.args.wanted.now c.args.got) (sym c.self.view_is) outer in
     let there = own-there c.args.got may c.index_mut-session.result.now c.index_mut-session.ensures.value in
     let new = delivered c.args.got ∷ past in
     let held = held-now c.args.got may c.deliver.new.self c.deliver.ensures in
     let finished = c.in_ok-test_segment.ensures disk new (may-finish c.args.got may c.index_mut-session.result.now there c.deliver.new.self c.take.new.self c.deliver.ensures c.in_ok-take.ensures) in
     tells-delivered c.args.got may c.deliver.new.self held c.test.new.self
-    (tests disk new (rows_after past c.args.got) (record { blocks = held; stands = finished.0; at_work = finished.1 }) (all-given c.args.got may c.deliver.new.self held c.args.got.block.task))) c.test.ensures.session
+    (c.in_ok-test.ensures.session disk new (rows_after past c.args.got) (record { blocks = held; stands = finished.0; at_work = finished.1 }) (all-given c.args.got may c.deliver.new.self held c.args.got.block.task))
 
 pub returns-clause-settled : goal.returns-clause-settled
-returns-clause-settled c = on_ok_weaker c.test.result (λ tests disk past outer.
+returns-clause-settled c = λ disk past outer.
     let may = subst (λ xs. MayDeliver disk past xs c.args.wanted.now c.args.got) (sym c.self.view_is) outer in
-    settled-delivered c.args.got may c.deliver.new.self (held-now c.args.got may c.deliver.new.self c.deliver.ensures)) c.test.ensures.session
+    settled-delivered c.args.got may c.deliver.new.self (held-now c.args.got may c.deliver.new.self c.deliver.ensures)
 
 pub returns-clause-rows : goal.returns-clause-rows
-returns-clause-rows c = on_ok_weaker c.test.result (λ ends disk past outer.
+returns-clause-rows c = λ disk past outer.
     let may = subst (λ xs. MayDeliver disk past xs c.args.wanted.now c.args.got) (sym c.self.view_is) outer in
     let there = own-there c.args.got may c.index_mut-session.result.now c.index_mut-session.ensures.value in
     let new = delivered c.args.got ∷ past in
     let finished = c.in_ok-test_segment.ensures disk new (may-finish c.args.got may c.index_mut-session.result.now there c.deliver.new.self c.take.new.self c.deliver.ensures c.in_ok-take.ensures) in
     let kind = kind-own c.args.got may c.index_mut-session.result.now there ∙ sym (c.in_ok-take.ensures may.content_at may.content).same.kind in
     rows-one_by_one c.args.got may c.args.rows.now c.push.new.self c.push_findings.new.rows c.test_segment.new.rows c.test.new.rows c.take.new.self.kind c.deref.result.now kind (c.deref.ensures.value ∙ c.in_ok-findings.ensures)
-    c.in_ok-push.ensures.ok c.in_ok-push_findings.ensures finished.2 (ends disk new (record { blocks = held-now c.args.got may c.deliver.new.self c.deliver.ensures; stands = finished.0; at_work = finished.1 }))) c.test.ensures.rows
+    c.in_ok-push.ensures.ok c.in_ok-push_findings.ensures finished.2 (c.in_ok-test.ensures.rows disk new (record { blocks = held-now c.args.got may c.deliver.new.self c.deliver.ensures; stands = finished.0; at_work = finished.1 }))

@@ -1,53 +1,94 @@
-use Rattle.std.proofs.Common.{◌≡◌, ◌<◌, ◌++◌, [], Some, length, ap, sym, ◌∙◌, subst, arith, refl, append_assoc}
+use Rattle.std.proofs.Common.{◌≡◌, ◌<◌, ◌≤◌, ◌++◌, ℕ, [], Some, false, length, slice_get, append-nil, ap, sym, ◌∙◌, subst, arith, refl, append_assoc}
+use Rattle.std.proofs.lemmas.Bool.{true≢false}
+use Rattle.std.proofs.lemmas.List.{length-set}
 use Rattle.std.proofs.lemmas.Option.{slice_get-get_or, slice_get_within}
 use Rattle.std.specs.List.{flat_map, range_with_len}
-use Rattle.fb_model.specs.History.{tasks}
 use Rattle.fb_model.specs.Images.{test_rows, seal_rows, complete_rows}
+use Rattle.fb_tasks.specs.declared.session.Session.{Session}
 use Rattle.fb_tasks.specs.Taken.{by_deliveries}
 use Rattle.fb_tasks.specs.Standing.{HaveChosen}
-use Rattle.fb_tasks.proofs.AllTested.{AreAllRows, chosen_at, one_tested, rows_more, ends_of, tells-tested}
+use Rattle.fb_tasks.proofs.Lists.{some_at}
+use Rattle.fb_tasks.proofs.Listed.{listed-set, none-listed, untouched-there}
+use Rattle.fb_tasks.proofs.AllTested.{AreAllRows, none_tested, chosen_at, one_tested, rows_more, ends_of, tested-to, rows-to, tells-tested}
 use Rattle.fb_tasks.proofs.RowsOf.{rows-given, nothing-mute}
 use Rattle.fb_tasks.proofs.sessions.Sessions.test_all.Goals as goal
+
+pub loop-task-init : goal.loop-task-init
+loop-task-init c = record {
+  kept = c.self.invariant;
+  within = omega arith;
+  sessions = none_tested c.args.wanted.now c.self.inside.sessions.items;
+  rows = λ disk past chosen. sym (append-nil c.args.rows.now);
+}
+
+pub index_mut-session-requires : goal.index_mut-session-requires
+index_mut-session-requires c = omega (arith, c.loop-task.invariant.kept.within c.in-Some.task c.in-Some.ensures.found, c.loop-task.self-inside.sessions.ok.0)
 
 pub test-requires : goal.test-requires
 test-requires c =
     let chosen = subst (λ xs. HaveChosen c.requires.0 c.requires.1 xs c.args.wanted.now) (sym c.self.view_is) c.requires.2 in
-    let is = c.loop-task.invariant.sessions in
-    let as_many = is.as_many in
-    let end : c.len-task-end.result ≡ length c.self.inside.sessions.items = c.len-task-end.ensures ∙ c.self.inside.sessions.ok.0 in
-    let within : c.loop-task.task < length c.loop-task.self-inside.sessions.items = omega (arith, c.loop-task-test.true, end, as_many) in
-    let there = slice_get-get_or c.loop-task.self-inside.sessions.items c.loop-task.task c.index_mut.result.now within ∙ ap Some (sym c.index_mut.ensures.value) in
-    (c.requires.0, c.requires.1, chosen_at chosen c.loop-task.task c.index_mut.result.now (sym (is.later c.loop-task.task (omega arith)) ∙ there))
+    let inv = c.loop-task.invariant in
+    let olds = c.self.inside.sessions.items in
+    let items = c.loop-task.self-inside.sessions.items in
+    let n = c.in-Some.task in
+    let within : n < length items = inv.kept.within n c.in-Some.ensures.found in
+    let there = slice_get-get_or items n c.index_mut-session.result.now within ∙ ap Some (sym c.index_mut-session.ensures.value) in
+    let between = λ (k : ℕ) (s : Session) (low : c.loop-task.from ≤ k) (high : k < n) (at : slice_get items k ≡ Some s). untouched-there inv.kept k s (c.in-Some.ensures.first k low high) at in
+    let is = tested-to c.args.wanted.now olds items c.loop-task.from n c.in-Some.ensures.from (omega (arith, within)) between inv.sessions in
+    (c.requires.0, c.requires.1, chosen_at chosen n c.index_mut-session.result.now (sym (is.later n (omega arith)) ∙ there))
+
+pub invariant_of-self : goal.invariant_of-self
+invariant_of-self c = listed-set c.loop-task.invariant.kept c.in-Some.task c.test.new.self (λ _. c.in-Some.ensures.found)
 
 pub loop-task-preserved : goal.loop-task-preserved
 loop-task-preserved c =
-    let is = c.loop-task.invariant.sessions in
-    let as_many = is.as_many in
-    let end : c.len-task-end.result ≡ length c.self.inside.sessions.items = c.len-task-end.ensures ∙ c.self.inside.sessions.ok.0 in
-    let within : c.loop-task.task < length c.loop-task.self-inside.sessions.items = omega (arith, c.loop-task-test.true, end, as_many) in
-    let there = slice_get-get_or c.loop-task.self-inside.sessions.items c.loop-task.task c.index_mut.result.now within ∙ ap Some (sym c.index_mut.ensures.value) in
+    let inv = c.loop-task.invariant in
+    let olds = c.self.inside.sessions.items in
+    let items = c.loop-task.self-inside.sessions.items in
+    let n = c.in-Some.task in
+    let within : n < length items = inv.kept.within n c.in-Some.ensures.found in
+    let there = slice_get-get_or items n c.index_mut-session.result.now within ∙ ap Some (sym c.index_mut-session.ensures.value) in
+    let between = λ (k : ℕ) (s : Session) (low : c.loop-task.from ≤ k) (high : k < n) (at : slice_get items k ≡ Some s). untouched-there inv.kept k s (c.in-Some.ensures.first k low high) at in
+    let is = tested-to c.args.wanted.now olds items c.loop-task.from n c.in-Some.ensures.from (omega (arith, within)) between inv.sessions in
     record {
-      sessions = one_tested c.args.wanted.now c.self.inside.sessions.items c.loop-task.self-inside.sessions.items c.loop-task.task c.index_mut.result.now c.test.new.self is there c.in_ok-test.ensures.session;
+      kept = listed-set inv.kept n (record c.test.new.self { touched = false }) (λ is_touched. absurd (true≢false (sym is_touched)));
+      within = omega (arith, within, length-set items n (record c.test.new.self { touched = false }));
+      sessions = one_tested c.args.wanted.now olds items n c.index_mut-session.result.now c.test.new.self is there c.in_ok-test.ensures.session;
       rows = λ disk past chosen.
-          rows_more (ends_of past c.args.now) c.args.rows.now c.loop-task.rows c.test.new.rows (ends_of past c.args.now c.loop-task.task) c.loop-task.task (c.loop-task.invariant.rows disk past chosen)
-          (c.in_ok-test.ensures.rows disk past (chosen_at chosen c.loop-task.task c.index_mut.result.now (sym (is.later c.loop-task.task (omega arith)) ∙ there)) ∙ append_assoc c.loop-task.rows (seal_rows by_deliveries past c.args.now c.loop-task.task) (complete_rows past c.args.now c.loop-task.task)) refl;
+          rows_more (ends_of past c.args.now) c.args.rows.now c.loop-task.rows c.test.new.rows (ends_of past c.args.now n) n
+          (rows-to c.args.wanted.now olds items c.loop-task.from n c.in-Some.ensures.from (omega (arith, within)) between inv.sessions disk past c.args.now c.args.rows.now c.loop-task.rows chosen (inv.rows disk past chosen))
+          (c.in_ok-test.ensures.rows disk past (chosen_at chosen n c.index_mut-session.result.now (sym (is.later n (omega arith)) ∙ there)) ∙ append_assoc c.loop-task.rows (seal_rows by_deliveries past c.args.now n) (complete_rows past c.args.now n)) refl;
     }
+
+pub invariant_of-self-2 : goal.invariant_of-self-2
+invariant_of-self-2 c =
+    let inv = c.loop-task.invariant in
+    let olds = c.self.inside.sessions.items in
+    let items = c.loop-task.self-inside.sessions.items in
+    let between = λ (k : ℕ) (s : Session) (low : c.loop-task.from ≤ k) (high : k < length items) (at : slice_get items k ≡ Some s). untouched-there inv.kept k s (c.in_default.ensures.none k low) at in
+    let is = tested-to c.args.wanted.now olds items c.loop-task.from (length items) inv.within (omega arith) between inv.sessions in
+    none-listed items c.clear.new.self inv.kept.room c.clear.ensures.empty (λ k s at. is.clear k s (slice_get_within items k s at) at)
 
 pub returns-clause-tells : goal.returns-clause-tells
 returns-clause-tells c = λ disk past now_chosen.
     let chosen = subst (λ xs. HaveChosen disk past xs c.args.wanted.now) (sym c.self.view_is) now_chosen in
-    let is = c.loop-task.invariant.sessions in
-    let as_many = is.as_many in
-    let end : c.len-task-end.result ≡ length c.self.inside.sessions.items = c.len-task-end.ensures ∙ c.self.inside.sessions.ok.0 in
+    let inv = c.loop-task.invariant in
+    let olds = c.self.inside.sessions.items in
+    let items = c.loop-task.self-inside.sessions.items in
+    let between = λ (k : ℕ) (s : Session) (low : c.loop-task.from ≤ k) (high : k < length items) (at : slice_get items k ≡ Some s). untouched-there inv.kept k s (c.in_default.ensures.none k low) at in
+    let is = tested-to c.args.wanted.now olds items c.loop-task.from (length items) inv.within (omega arith) between inv.sessions in
     let given : AreAllRows past (test_rows by_deliveries past c.args.now) = λ task. rows-given by_deliveries past c.args.now [] nothing-mute task (λ more. (chosen.blocks.unopened task more).choices) in
-    tells-tested (test_rows by_deliveries past c.args.now) c.loop-task.self-inside.sessions.items chosen.blocks (as_many ∙ chosen.as_many) given (λ task session at.
-    let within = slice_get_within c.loop-task.self-inside.sessions.items task session at in
-    is.earlier disk past (test_rows by_deliveries past c.args.now) chosen given task session (omega (arith, c.loop-task-test.false, end, as_many, within)) at)
+    tells-tested (test_rows by_deliveries past c.args.now) items chosen.blocks (is.as_many ∙ chosen.as_many) given
+    (λ task session at. is.earlier disk past (test_rows by_deliveries past c.args.now) chosen given task session (slice_get_within items task session at) at)
+    (λ task session at untouched. let found = some_at olds task (omega (arith, slice_get_within items task session at, is.as_many)) in chosen.chosen task found.0 found.1)
 
 pub returns-clause-rows : goal.returns-clause-rows
 returns-clause-rows c = λ disk past now_chosen.
     let chosen = subst (λ xs. HaveChosen disk past xs c.args.wanted.now) (sym c.self.view_is) now_chosen in
-    let end : c.len-task-end.result ≡ length c.self.inside.sessions.items = c.len-task-end.ensures ∙ c.self.inside.sessions.ok.0 in
-    let as_many = chosen.as_many in
-    let whole : c.loop-task.task ≡ length (tasks past) = omega (arith, c.loop-task-test.false, c.loop-task.auto.task-end, end, as_many) in
-    c.loop-task.invariant.rows disk past chosen ∙ ap (λ n. c.args.rows.now ++ flat_map (ends_of past c.args.now) (range_with_len 0 n)) whole
+    let inv = c.loop-task.invariant in
+    let olds = c.self.inside.sessions.items in
+    let items = c.loop-task.self-inside.sessions.items in
+    let between = λ (k : ℕ) (s : Session) (low : c.loop-task.from ≤ k) (high : k < length items) (at : slice_get items k ≡ Some s). untouched-there inv.kept k s (c.in_default.ensures.none k low) at in
+    let is = tested-to c.args.wanted.now olds items c.loop-task.from (length items) inv.within (omega arith) between inv.sessions in
+    rows-to c.args.wanted.now olds items c.loop-task.from (length items) inv.within (omega arith) between inv.sessions disk past c.args.now c.args.rows.now c.loop-task.rows chosen (inv.rows disk past chosen)
+    ∙ ap (λ n. c.args.rows.now ++ flat_map (ends_of past c.args.now) (range_with_len 0 n)) (is.as_many ∙ chosen.as_many)

@@ -1,14 +1,20 @@
-use Rattle.std.proofs.Common.{◌≡◌, ◌++◌}
+use Rattle.std.proofs.Common.{◌≡◌, ◌≤◌, ◌-◌, ◌++◌, length}
 use Rattle.std.specs.List.{flat_map, range_with_len}
 use Rattle.fb_geometry.specs.Shape.{Shape}
 use Rattle.fb_model.specs.History.{Past}
 use Rattle.fb_tasks.specs.Standing.{HaveChosen}
+use Rattle.fb_tasks.specs.Listing.{AreListed}
 use Rattle.fb_tasks.proofs.AllTested.{AreTested, ends_of}
 use Rattle.fb_tasks.proofs.sessions.Sessions.test_all.Given as goal
 
 -- the sessions before this one are tested, and their rows stand
 abbrev pub invariant-loop-task : goal.invariant-loop-task
 invariant-loop-task l = record {
-  sessions : AreTested l.wanted l.initial.self-inside.sessions.items l.task l.self-inside.sessions.items;
-  rows : (disk : Shape) (past : Past) → HaveChosen disk past l.initial.self-inside.sessions.items l.wanted → l.rows ≡ l.initial.rows ++ flat_map (ends_of past l.now) (range_with_len 0 l.task);
+  kept : AreListed l.self-inside.sessions.items l.self-inside.touched;
+  within : l.from ≤ length l.self-inside.sessions.items;
+  sessions : AreTested l.wanted l.initial.self-inside.sessions.items l.from l.self-inside.sessions.items;
+  rows : (disk : Shape) (past : Past) → HaveChosen disk past l.initial.self-inside.sessions.items l.wanted → l.rows ≡ l.initial.rows ++ flat_map (ends_of past l.now) (range_with_len 0 l.from);
 }
+
+abbrev pub decreases-loop-task : goal.decreases-loop-task
+decreases-loop-task l = length l.self-inside.sessions.items - l.from

@@ -1,8 +1,7 @@
-use Rattle.std.proofs.Common.{Some, ap, sym, ◌∙◌, subst, arith}
+use Rattle.std.proofs.Common.{◌<◌, Some, length, ap, sym, ◌∙◌, subst, arith}
 use Rattle.std.proofs.lemmas.Option.{slice_get-get_or}
 use Rattle.std.proofs.lemmas.Result.{on_ok_weaker}
-use Rattle.fb_tasks.specs.Telling.{Tells, MayTake}
-use Rattle.fb_model.specs.Course.{take_call}
+use Rattle.fb_tasks.specs.Telling.{MayTake}
 use Rattle.fb_tasks.proofs.Wants.{may_want, wanted-tells, want_within}
 use Rattle.fb_tasks.proofs.sessions.Sessions.want.Goals as goal
 
@@ -39,11 +38,15 @@ want_range-requires-clause-few c =
     let there = slice_get-get_or c.self.inside.sessions.items c.args.task c.index.result.now within ∙ ap Some (sym c.index.ensures) in
     (may_want c.args.map.now r.0 r.1 c.args.task c.args.first c.args.count c.self.inside.sessions.items c.index.result.now c.args.wanted.now r.2 there (subst (λ xs. MayTake c.args.map.now r.0 xs c.args.wanted.now r.1) (sym c.self.view_is) r.3)).few
 
+pub touch-requires : goal.touch-requires
+touch-requires c =
+    let r = c.requires in
+    subst (λ xs. c.args.task < length xs) c.self.view_is (want_within c.args.map.now r.0 r.1 c.args.task c.args.first c.args.count c.self.inside.sessions.items c.args.self.now c.args.wanted.now r.2 c.self.view_is r.3)
+
 pub returns : goal.returns
 returns c =
     let r = c.requires in
     let within = want_within c.args.map.now r.0 r.1 c.args.task c.args.first c.args.count c.self.inside.sessions.items c.args.self.now c.args.wanted.now r.2 c.self.view_is r.3 in
-    on_ok_weaker c.want_range.result (λ pushed past call is h.
-    subst (λ xs. Tells c.args.map.now (take_call c.args.map.now past call) xs c.want_range.new.wanted) c.self.view_is
-    (wanted-tells c.args.map.now past call c.args.task c.args.first c.args.count c.self.inside.sessions.items c.args.self.now c.index.result.now c.args.wanted.now c.want_range.new.wanted
-    (omega (arith, c.count-sectors.ensures.value, c.count-sectors.ensures.bound)) is c.self.view_is within c.index.ensures pushed h)) c.want_range.ensures
+    on_ok_weaker c.touch.result (λ flagged past call is h.
+    wanted-tells c.args.map.now past call c.args.task c.args.first c.args.count c.self.inside.sessions.items c.args.self.now c.touch.new.self c.index.result.now c.args.wanted.now c.want_range.new.wanted
+    (omega (arith, c.count-sectors.ensures.value, c.count-sectors.ensures.bound)) is c.self.view_is within c.index.ensures c.in_ok-want_range.ensures flagged h) c.touch.ensures

@@ -1,0 +1,23 @@
+use Rattle.std.proofs.Common.{◌<◌, Some, length, ap, sym, ◌∙◌, subst, true, set, slice_get}
+use Rattle.std.proofs.lemmas.Option.{slice_get-get_or}
+use Rattle.fb_tasks.specs.declared.session.Session.{Session}
+use Rattle.fb_tasks.proofs.Lists.{some_same}
+use Rattle.fb_tasks.proofs.Listed.{listed-more, listed-noted}
+use Rattle.fb_tasks.proofs.sessions.Sessions.touch.Goals as goal
+
+pub invariant_of-self : goal.invariant_of-self
+invariant_of-self c =
+    let within : c.args.task < length c.self.inside.sessions.items = subst (λ xs. c.args.task < length xs) (sym c.self.view_is) c.requires in
+    listed-more c.self.invariant c.note_touch.new.touched c.args.task within c.note_touch.ensures.stay c.note_touch.ensures.only
+
+pub invariant_of-self-2 : goal.invariant_of-self-2
+invariant_of-self-2 c =
+    let within : c.args.task < length c.self.inside.sessions.items = subst (λ xs. c.args.task < length xs) (sym c.self.view_is) c.requires in
+    listed-noted c.self.invariant c.note_touch.new.touched c.args.task within c.note_touch.ensures.stay c.note_touch.ensures.only c.in_ok-note_touch.ensures.noted _
+
+pub returns : goal.returns
+returns c = λ session at.
+    let within : c.args.task < length c.self.inside.sessions.items = subst (λ xs. c.args.task < length xs) (sym c.self.view_is) c.requires in
+    let there = slice_get-get_or c.self.inside.sessions.items c.args.task c.index_mut.result.now within ∙ ap Some (sym c.index_mut.ensures.value) in
+    let same = some_same c.index_mut.result.now session (sym there ∙ (ap (λ xs. slice_get xs c.args.task) c.self.view_is ∙ at)) in
+    ap (λ (s : Session). set c.self.inside.sessions.items c.args.task (record s { touched = true })) same ∙ ap (λ xs. set xs c.args.task (record session { touched = true })) c.self.view_is
