@@ -22,6 +22,7 @@ use Rattle.fb_store.specs.Index.{Holding, content_in}
 use Rattle.fb_store.specs.Pieces.{Gives}
 use Rattle.fb_store.specs.Runs.{runs_of, bad_of}
 use Rattle.fb_model.specs.History.{Past, tasks, same_block, bare_state, is_suspended, state, registered, wanted}
+use Rattle.fb_model.specs.Completion.{view}
 use Rattle.fb_model.specs.Course.{Delivery, with_delivery}
 use Rattle.fb_plan.specs.Ways.{FitsDisk, AreOnDisk}
 use Rattle.fb_tasks.specs.declared.session.Session.{Session}
@@ -33,6 +34,7 @@ use Rattle.fb_engine.specs.Deliveries.{IsCurrent, HasDelivered, IsRegistered, Ar
 
 -- the wanted set gives the blocks that are wanted
 wanted_by : (past : Past) (bs : List Block) → wanted_of (map (entry_of past) bs) ≡ filter (λ b. is_wanted (state past b)) bs
+unfolding view
 wanted_by past [] = refl
 wanted_by past (b ∷ bs) = elim (cases_Bool (is_wanted (state past b))) [
   | inl is ↦ rw is (ap (λ xs. b ∷ xs) (wanted_by past bs))
@@ -82,7 +84,7 @@ filter_again p q r same (x ∷ xs) = elim (cases_Bool (p x)) [
 ]
 
 same_registered : (past : Past) (delivery : Delivery) → registered (with_delivery past delivery) ≡ registered past
-same_registered past delivery = append-nil (registered past ++ []) ∙ append-nil (registered past)
+same_registered past delivery = refl
 
 -- the wanted blocks but for the delivered one
 pub wanted-after : (past : Past) (got : DeliveryRow) → wanted (with_delivery past (delivery_of past got)) ≡ filter (λ block. not (same_block got.block block)) (wanted past)

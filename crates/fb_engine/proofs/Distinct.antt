@@ -8,6 +8,7 @@ use Rattle.fb_wanted.specs.declared.block.Block.{Block}
 use Rattle.fb_wanted.specs.declared.block.Entry.{Entry}
 use Rattle.fb_wanted.specs.States.{is_wanted}
 use Rattle.fb_model.specs.History.{Past, same_block, registered, state, wanted}
+use Rattle.fb_model.specs.Completion.{view}
 use Rattle.fb_tasks.specs.declared.session.Session.{Session}
 use Rattle.fb_tasks.specs.Standing.{AreIndexed}
 use Rattle.fb_tasks.specs.Telling.{Tells}
@@ -74,5 +75,5 @@ filter-distinct p (b ∷ bs) h = elim (cases_Bool (p b)) [
 ]
 
 pub wanted-distinct : {disk : Shape} {past : Past} {sessions : List Session} {held : List Entry} → Tells disk past sessions held → AreDistinct (wanted past)
-unfolding wanted
-wanted-distinct {past} tells = filter-distinct (λ b. is_wanted (state past b)) (registered past) (numbered-distinct (registered past) (λ task. (0, tells.indexed task)))
+unfolding wanted view
+wanted-distinct {past} tells = filter-distinct (λ b. is_wanted (state past b)) (registered past) (numbered-distinct (registered past) (λ task. (0, (tells.placed task).indexed)))

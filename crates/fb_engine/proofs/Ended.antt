@@ -19,7 +19,7 @@ use Rattle.fb_model.specs.FullRun.{HasBestPlan, IsBestPlanned, IsAllDelivered, I
 use Rattle.fb_calls.specs.declared.call.Call.{Call}
 use Rattle.fb_calls.specs.Allowed as allowed
 use Rattle.fb_tasks.specs.Telling.{IsBlockOf}
-use Rattle.fb_tasks.proofs.Opens.{opened_same}
+use Rattle.fb_tasks.proofs.Asked.{opened_same}
 use Rattle.fb_engine.specs.declared.engine.Course.{Course}
 use Rattle.fb_engine.proofs.Passed.{all_weaker, all_append}
 use Rattle.fb_engine.proofs.FittingRows.{RowFits, BlockFits, PastFits, steps_fit, tasks_fit}

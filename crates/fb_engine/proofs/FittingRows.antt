@@ -1,8 +1,7 @@
 -- The background rows of a run cover sectors of the disk, and their tasks are the script's.
-use Rattle.std.proofs.Common.{◌≡◌, ℕ, ◌+◌, ◌<◌, ◌≤◌, ◌^◌, List, [], ◌∷◌, ◌++◌, length, map, refl, ap, sym, subst, arith, inl, inr, append-nil}
+use Rattle.std.proofs.Common.{◌≡◌, ℕ, ◌+◌, ◌<◌, ◌≤◌, ◌^◌, List, [], ◌∷◌, ◌++◌, length, map, sym, subst, arith, inl, inr}
 use Rattle.std.specs.Prelude.{◌&&◌, ◌==◌, not, filter}
 use Rattle.std.specs.List.{AllByRecursion, flat_map, fold, range_with_len}
-use Rattle.std.proofs.lemmas.List.{length-append}
 use Rattle.std.proofs.lemmas.Bool.{cases_Bool}
 use Rattle.std.proofs.lemmas.Bool.Decides.{nat_tests}
 use Rattle.fb_service.specs.declared.disk.Disk.{Disk}
@@ -25,19 +24,18 @@ use Rattle.fb_model.specs.Content.{Medium, medium_of, content, contents_at}
 use Rattle.fb_model.specs.Plans.{catches, early_dwell, late_dwell}
 use Rattle.fb_model.specs.Rides.{delivery, caught, rides, missed, lies_in, gap_of, due}
 use Rattle.fb_model.specs.Decisions.{Decision, serves, idles, ends, instant_of}
-use Rattle.fb_model.specs.History.{Event, delivered, tested, Past, tasks, task_numbers, terms_of, opened_by, registered, registered_by, blocks_of, wanted, state, bare_state, is_open_backup}
-use Rattle.fb_model.specs.Completion.{Choice, choices, is_complete, was_complete}
+use Rattle.fb_model.specs.History.{Event, delivered, tested, Past, tasks, task_numbers, terms_of, registered, registered_by, blocks_of, wanted, state, is_open_backup}
+use Rattle.fb_model.specs.Completion.{Choice, choices, work, is_complete, was_complete}
 use Rattle.fb_model.specs.Images.{findings, is_scrub, bad_sectors, segment_rows, seal_rows, complete_rows, is_newly_cleaned, image, on_disk, test_rows, delivery_begin}
 use Rattle.fb_model.specs.Course.{Delivery, Part, take_call, calls_due, with_delivery, with_finish, settled_past, past_after, AtEach, opening, part_rows, task_row, task_rows}
 use Rattle.fb_model.specs.SoundRun.{AreFollowed}
 use Rattle.fb_tasks.proofs.Lists.{all_any, all_filter, flat_all}
-use Rattle.fb_tasks.proofs.AllChoices.{all_range}
+use Rattle.fb_tasks.proofs.AllChoices.{all_range, by_all}
 use Rattle.fb_engine.specs.Deliveries.{IsRegistered}
 use Rattle.fb_engine.proofs.Readiness.{all_front}
 use Rattle.fb_engine.proofs.Passed.{all_weaker, all_append, all_map}
 use Rattle.fb_engine.proofs.Placing.{in_order-each}
-use Rattle.fb_tasks.proofs.Few.{by_all}
-use Rattle.fb_engine.proofs.RegisteredBlocks.{all_in, chosen_there}
+use Rattle.fb_engine.proofs.RegisteredBlocks.{all_in, registered_after, tasks_more, chosen_there}
 use Rattle.fb_engine.proofs.Stepping.{IsFullStep}
 
 -- ---- contents of sectors of the disk
@@ -86,14 +84,8 @@ pub record PastFits (n : ℕ) (past : Past) : Type 0 where
 module _ (n : ℕ) where
   fits_before : (past : Past) (event : Event) → PastFits n (event ∷ past) → PastFits n past
   fits_before past event fits = record {
-    blocks = all_front (BlockFits n) (registered past) (registered_by event) fits.blocks;
-    few = (let few = fits.few in omega (arith, few, length-append (tasks past) (opened_by event)));
-  }
-
-  fits_quiet : (past : Past) (event : Event) → registered_by event ≡ [] → opened_by event ≡ [] → PastFits n past → PastFits n (event ∷ past)
-  fits_quiet past event none closed fits = record {
-    blocks = subst (λ added. AllByRecursion (BlockFits n) (registered past ++ added)) (sym none) (subst (AllByRecursion (BlockFits n)) (sym (append-nil (registered past))) fits.blocks);
-    few = (let few = fits.few in omega (arith, few, length-append (tasks past) (opened_by event), ap length closed));
+    blocks = all_front (BlockFits n) (registered past) (registered_by event) (subst (AllByRecursion (BlockFits n)) (registered_after past event) fits.blocks);
+    few = (let few = fits.few in omega (arith, few, tasks_more past event));
   }
 
   fits_calls : (disk : Disk) (past : Past) (calls : List Call) → PastFits n (fold (take_call disk.map) past calls) → PastFits n past
@@ -138,18 +130,18 @@ module _ (n : ℕ) where
         (λ choice all. all_weaker (IsRegistered past) (BlockFits n) (λ block there. all_in (BlockFits n) (registered past) block fits.blocks there) choice.blocks all) (choices past task) (chosen_there past task)
 
     segments_fit : (task : ℕ) → task < n → AllByRecursion (RowFits n) (segment_rows (on_disk medium) past now task)
-    segments_fit task below = all_map (RowFits n) _ (filter (is_newly_cleaned past task) (choices past task))
+    segments_fit task below = all_map (RowFits n) _ (filter (is_newly_cleaned (work past task)) (choices past task))
         (all_weaker (λ (choice : Choice). AllByRecursion (BlockFits n) choice.blocks) _
         (λ choice all. record {
           ranges = runs_within _ (blocks_within medium (delivery_begin past) choice.blocks (all_weaker (BlockFits n) (λ block. block.lbn + block.count ≤ 10 ^ 12) (λ block h. h.within) choice.blocks all));
           named = λ names e. omega (arith, e, below);
         })
-        (filter (is_newly_cleaned past task) (choices past task)) (all_filter _ (is_newly_cleaned past task) (choices past task) (chosen_fits task)))
+        (filter (is_newly_cleaned (work past task)) (choices past task)) (all_filter _ (is_newly_cleaned (work past task)) (choices past task) (chosen_fits task)))
 
     image_within : (task : ℕ) → AreRanges (image medium past task now)
-    image_within task = runs_within _ (blocks_within medium (λ block. now) (filter (λ block. is_delivered (bare_state past block)) (blocks_of past task))
-        (all_weaker (BlockFits n) (λ block. block.lbn + block.count ≤ 10 ^ 12) (λ block h. h.within) (filter (λ block. is_delivered (bare_state past block)) (blocks_of past task))
-        (all_filter (BlockFits n) (λ block. is_delivered (bare_state past block)) (blocks_of past task) (all_filter (BlockFits n) (λ block. block.task == task) (registered past) fits.blocks))))
+    image_within task = runs_within _ (blocks_within medium (λ block. now) (filter (λ block. is_delivered ((work past task).bare block)) (blocks_of past task))
+        (all_weaker (BlockFits n) (λ block. block.lbn + block.count ≤ 10 ^ 12) (λ block h. h.within) (filter (λ block. is_delivered ((work past task).bare block)) (blocks_of past task))
+        (all_filter (BlockFits n) (λ block. is_delivered ((work past task).bare block)) (blocks_of past task) (all_filter (BlockFits n) (λ block. block.task == task) (registered past) fits.blocks))))
 
     seals_fit : (task : ℕ) → task < n → AllByRecursion (RowFits n) (seal_rows (on_disk medium) past now task)
     seals_fit task below = elim (cases_Bool (is_open_backup past task && is_complete past task)) [
@@ -220,12 +212,12 @@ module _ (n : ℕ) where
   followed_fit medium past [] fits gots follows = tt
   followed_fit medium past (delivery ∷ deliveries) fits gots follows =
       let got = gots.0 in
-      let now = fits_quiet past (delivered delivery.got) refl refl fits in (
+      let now : PastFits n (delivered delivery.got ∷ past) = record { blocks = fits.blocks; few = fits.few } in (
         record { ranges = got.ranges; named = λ names e. (let below = got.task in omega (arith, e, below)) },
         all_append (RowFits n) delivery.after (flat_map (λ (delivery : Delivery). GotLine delivery.got ∷ delivery.after) deliveries)
             (subst (AllByRecursion (RowFits n)) (sym follows.0) (all_append (RowFits n) (findings past delivery.got) (test_rows (on_disk medium) (delivered delivery.got ∷ past) delivery.got.end)
             (findings_fit past delivery.got got) (tests_fit medium (delivered delivery.got ∷ past) delivery.got.end now)))
-            (followed_fit medium (with_delivery past delivery) deliveries (fits_quiet (delivered delivery.got ∷ past) (tested delivery.after) refl refl now) gots.1 follows.1),
+            (followed_fit medium (with_delivery past delivery) deliveries (record { blocks = fits.blocks; few = fits.few }) gots.1 follows.1),
       )
 
   -- ---- the rows of decisions

@@ -26,7 +26,7 @@ use Rattle.fb_tasks.specs.Telling.{calls_of}
 use Rattle.fb_engine.specs.declared.background.Background.{Background}
 use Rattle.fb_engine.specs.declared.engine.Course.{Course}
 use Rattle.fb_engine.specs.Waiting.{left, IsWaiting, IsInOrder}
-use Rattle.fb_engine.specs.Calls.{settled_by, past_settled, part_by}
+use Rattle.fb_engine.specs.Calls.{past_settled, part_by}
 use Rattle.fb_engine.specs.Standing.{Mirrors}
 use Rattle.fb_engine.specs.Deciding.{next_of, stay_of, prepared, HasServedNext, HasStayed, HasActed, serves_pick, stays_on, stays_last, ends_here, HasPrepared, HasDecided}
 use Rattle.fb_engine.proofs.Readiness.{all_front, all_join, all_back, taken, taken_ready, start_waiting, ahead_of, plain_next, order_dropped}
@@ -37,7 +37,7 @@ use Rattle.fb_engine.proofs.Instants.{IsAmong, all_of_both}
 use Rattle.fb_engine.proofs.Decided.{serves_now, stays_next, ends_now, plain_same, starts_from, StartsFrom}
 use Rattle.fb_engine.proofs.Mirroring.{held_until, mirrors_run, all_late, served_late}
 use Rattle.fb_engine.proofs.Coming.{HasCome, to_come, among_instants, apart_instants, left_later, passed_instants, none_left, rising_instants}
-use Rattle.fb_tasks.proofs.Few.{by_all}
+use Rattle.fb_tasks.proofs.AllChoices.{by_all}
 use Rattle.fb_engine.proofs.Stepping.{HasStepped, stepped, serves_done, stays_done, ends_done, has_served, served_gots, stayed_gots}
 use Rattle.fb_engine.proofs.Running.{HasRun, GoesOn, HasEnded, HasComeTo, AreKnown, decided_in, decisions_by, decisions_left, rest_by, rest_of, one_decided, run_more, called_more}
 
@@ -50,8 +50,7 @@ calls_after disk past (call ∷ calls) = calls_after disk (take_call disk past c
 calls_settled : (disk : Shape) (calls : List Call) (past : Past) (now : ℕ) → calls_of (past_settled disk calls past now) ≡ calls_of past ++ calls_due calls past now
 calls_settled disk calls past now =
     let called = fold (take_call disk) past (calls_due calls past now) in
-    append-nil (calls_of (settled_by disk calls past now))
-    ∙ by_all (λ p. calls_of p ≡ calls_of called) disk (λ p task segment blocks e. append-nil (calls_of p) ∙ e) called refl
+    by_all (λ p. calls_of p ≡ calls_of called) disk (λ p task segment blocks e. e) called refl
     ∙ calls_after disk past (calls_due calls past now)
 
 all_dropped : {X : Type 0} (P : X → Type 0) (n : ℕ) (xs : List X) → AllByRecursion P xs → AllByRecursion P (drop n xs)

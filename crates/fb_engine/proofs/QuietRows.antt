@@ -12,7 +12,7 @@ use Rattle.fb_model.specs.Content.{Medium}
 use Rattle.fb_model.specs.Timeline.{timeline}
 use Rattle.fb_model.specs.Decisions.{Decision, instant_of}
 use Rattle.fb_model.specs.History.{Past, delivered, task_numbers, terms_of, is_open_backup}
-use Rattle.fb_model.specs.Completion.{Choice, choices, is_complete, was_complete}
+use Rattle.fb_model.specs.Completion.{Choice, choices, work, is_complete, was_complete}
 use Rattle.fb_model.specs.Segments.{live_count}
 use Rattle.fb_model.specs.Images.{Sources, bad_sectors, is_scrub, findings, is_newly_cleaned, on_disk, segment_rows, seal_rows, complete_rows, test_rows}
 use Rattle.fb_model.specs.Course.{Delivery, Part, with_delivery, tested_past, settled_past, task_row, task_rows}
@@ -44,7 +44,7 @@ all_quiet disk (_ ∷ rows) fore all = all_quiet disk rows fore all.1
 
 abbrev segment_line : Sources → Past → ℕ → ℕ → Choice → BackRow
 segment_line sources past now task choice =
-    SegmentLine (record { task = task; segment = choice.segment.number; instant = now; live = live_count choice.segment; content = sources.packed_for past choice })
+    SegmentLine (record { task = task; segment = choice.segment.number; instant = now; live = live_count choice.segment; content = sources.packed_for past task choice })
 
 lists_quiet : {X : Type 0} (f : X → List BackRow) (xs : List X) → ((x : X) → AllByRecursion IsQuiet (f x)) → AllByRecursion IsQuiet (flat_map f xs)
 lists_quiet f [] quiet = tt
@@ -62,7 +62,7 @@ pub test_quiet : (sources : Sources) (past : Past) (now : ℕ) → AllByRecursio
 unfolding test_rows
 test_quiet sources past now =
     all_append IsQuiet (flat_map (segment_rows sources past now) (task_numbers past)) (flat_map (λ task. seal_rows sources past now task ++ complete_rows past now task) (task_numbers past))
-    (lists_quiet (segment_rows sources past now) (task_numbers past) (λ task. segments_quiet sources past now task (filter (is_newly_cleaned past task) (choices past task))))
+    (lists_quiet (segment_rows sources past now) (task_numbers past) (λ task. segments_quiet sources past now task (filter (is_newly_cleaned (work past task)) (choices past task))))
     (lists_quiet (λ task. seal_rows sources past now task ++ complete_rows past now task) (task_numbers past) (λ task.
     all_append IsQuiet (seal_rows sources past now task) (complete_rows past now task)
     (one_quiet (is_open_backup past task && is_complete past task) (SealLine (record { task = task; instant = now; content = sources.image_at past task now })) tt)

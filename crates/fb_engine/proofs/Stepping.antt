@@ -1,6 +1,5 @@
 -- What one decision adds to a run.
 use Rattle.std.proofs.Common.{◌≡◌, ℕ, ◌<◌, ◌≤◌, List, [], ◌∷◌, ◌++◌, length, map, refl, ap, sym, subst, ◌∙◌, arith, append_assoc, append-nil}
-use Rattle.std.specs.Prelude.{filter}
 use Rattle.std.specs.List.{AllByRecursion}
 use Rattle.fb_units.specs.declared.types.Request.{Request}
 use Rattle.fb_wanted.specs.declared.block.Block.{Block}
@@ -30,7 +29,8 @@ use Rattle.fb_engine.specs.Standing.{Mirrors, IsFoundIn, IsTrue}
 use Rattle.fb_engine.specs.Deciding.{HasServedNext, HasStayed, stay_of, prepared}
 use Rattle.fb_tasks.proofs.Lists.{all_filter}
 use Rattle.fb_engine.proofs.Passed.{all_weaker}
-use Rattle.fb_engine.proofs.Calling.{called_delivered, called_finished}
+use Rattle.fb_tasks.proofs.Calls.{called-finished}
+use Rattle.fb_engine.proofs.Calling.{called_delivered}
 use Rattle.fb_engine.proofs.TestedTrue.{LeftBy, decision_true, after_true}
 use Rattle.fb_engine.proofs.Mirroring.{held_until, held_between, media_held, media_before, finish_held}
 use Rattle.fb_engine.proofs.Due.{due_found, due_same, caught_found, caught_same}
@@ -54,7 +54,7 @@ pub record HasStepped (inputs : Inputs) (past : Past) (before : Course) (step : 
 
 pub wanted_tested : (past : Past) (rows : List BackRow) → wanted (tested rows ∷ past) ≡ wanted past
 unfolding wanted bare_state
-wanted_tested past rows = ap (filter (λ block. is_wanted (state past block))) (append-nil (registered past))
+wanted_tested past rows = refl
 
 pub gots_followed : (past : Past) (gots : List DeliveryRow) → map (λ (delivery : Delivery). delivery.got) (followed past gots) ≡ gots
 gots_followed past [] = refl
@@ -106,7 +106,7 @@ module _ (inputs : Inputs) (past : Past) (before : Course) (background : Backgro
     after_is = refl
 
     finished_called : (d : Decision) → IsCalled inputs.disk.map inputs.calls (with_finish (past_with then gots) d) called
-    finished_called (serves served) = called_finished inputs.disk.map inputs.calls (past_with then gots) called served.request (called_delivered inputs.disk.map inputs.calls then called gots settled.called)
+    finished_called (serves served) = called-finished inputs.disk.map inputs.calls (past_with then gots) called (called_delivered inputs.disk.map inputs.calls then called gots settled.called) served.request
     finished_called (idles dwell) = called_delivered inputs.disk.map inputs.calls then called gots settled.called
     finished_called (ends now) = called_delivered inputs.disk.map inputs.calls then called gots settled.called
 

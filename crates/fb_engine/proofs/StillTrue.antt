@@ -3,8 +3,11 @@ use Rattle.std.proofs.Common.{◌≡◌, ℕ, zero, suc, ◌<◌, ◌≤◌, ◌
 use Rattle.std.specs.List.{fold, list_any, slice_index_or}
 use Rattle.std.proofs.lemmas.Bool.{true≢false}
 use Rattle.fb_geometry.specs.Shape.{Shape}
+use Rattle.fb_calls.specs.declared.call.Action.{Action}
+use Rattle.fb_calls.specs.declared.call.Action.TheVariants.{Open}
 use Rattle.fb_calls.specs.declared.call.Call.{Call}
-use Rattle.fb_calls.specs.Sessions.{is_backup, is_clean}
+use Rattle.fb_calls.specs.declared.call.Kind.TheVariants.{Plain}
+use Rattle.fb_calls.specs.Sessions.{is_backup}
 use Rattle.fb_store.specs.Runs.{runs_of}
 use Rattle.fb_store.specs.Index.{Holding}
 use Rattle.fb_wanted.specs.declared.block.Block.{Block}
@@ -13,16 +16,14 @@ use Rattle.fb_wanted.specs.declared.block.State.TheVariants.{Wanted, Aborted}
 use Rattle.fb_wanted.specs.States.{is_delivered}
 use Rattle.fb_rows.specs.declared.back.BackRow.{BackRow}
 use Rattle.fb_model.specs.Content.{Medium, contents_at}
-use Rattle.fb_model.specs.History.{Event, called, chose, tested, Past, LogSegment, Terms, tasks, task_numbers, terms_of, registered, bare_state, is_sealed, seals, is_open_backup, ends_block, same_block, opened_by}
-use Rattle.fb_model.specs.Completion.{segments, is_closed}
-use Rattle.fb_model.specs.Segments.{choose_best, choose_once, choose_up_to, choose_in, with_choices, is_busy, unchosen}
+use Rattle.fb_model.specs.History.{Event, called, chose, tested, Past, LogSegment, Terms, tasks, terms_of, registered, bare_state, content_of, is_sealed, is_seal_of, is_open_backup, ends_block, same_block, opened_by}
+use Rattle.fb_model.specs.Segments.{with_choices}
 use Rattle.fb_model.specs.Course.{take_call, calls_due}
 use Rattle.fb_model.specs.Images.{delivery_begin}
-use Rattle.fb_tasks.specs.Taken.{content_of}
 use Rattle.fb_engine.specs.Calls.{settled_by}
 use Rattle.fb_engine.specs.Deliveries.{IsRegistered}
 use Rattle.fb_engine.specs.Standing.{IsTrue}
-use Rattle.fb_tasks.proofs.Quiet.{default_terms}
+use Rattle.fb_tasks.proofs.AllChoices.{by_all}
 use Rattle.fb_engine.proofs.RegisteredBlocks.{AreOpened, all_in, there_before, tasks_more}
 
 -- a delivered block was in none of the cases that end otherwise
@@ -71,10 +72,14 @@ still-if true past x y first second = first
 still-if false past x y first second = second
 
 -- the first tasks keep their terms
-first_terms : (before added : List Terms) (task : ℕ) → task < length before → slice_index_or (before ++ added) task default_terms ≡ slice_index_or before task default_terms
-first_terms [] added task less = absurd (omega arith)
-first_terms (terms ∷ before) added zero less = refl
-first_terms (terms ∷ before) added (suc task) less = first_terms before added task (omega (arith, less))
+first_terms : (before : List Terms) (terms d : Terms) (task : ℕ) → task < length before → slice_index_or (before ++ terms ∷ []) task d ≡ slice_index_or before task d
+first_terms [] terms d task less = absurd (omega arith)
+first_terms (t ∷ before) terms d zero less = refl
+first_terms (t ∷ before) terms d (suc task) less = first_terms before terms d task (omega (arith, less))
+
+terms_kept : (past : Past) (action : Action) (task : ℕ) → task < length (tasks past) → slice_index_or (opened_by action (tasks past)) task (record { kind = Plain; weight = 1; block = 1 }) ≡ terms_of past task
+terms_kept past (Open kind weight block) task less = first_terms (tasks past) _ _ task less
+terms_kept past _ task less = refl
 
 unsealed : (backup now before : Bool) → (backup && not (now || before)) ≡ true → (backup && not before) ≡ true
 unsealed true true before h = absurd (true≢false (sym h))
@@ -83,8 +88,9 @@ unsealed false now before h = h
 
 -- a task that was open, and is an open backup after an event, was so before it
 open_before : (past : Past) (event : Event) (task : ℕ) → task < length (tasks past) → is_open_backup (event ∷ past) task ≡ true → is_open_backup past task ≡ true
-open_before past event task less is_open = unsealed (is_backup (terms_of past task).kind) (seals task event) (is_sealed past task)
-    (ap (λ terms. is_backup terms.kind && not (seals task event || is_sealed past task)) (sym (first_terms (tasks past) (opened_by event) task less)) ∙ is_open)
+open_before past (called call blocks) task less is_open = ap (λ (terms : Terms). is_backup terms.kind && not (is_sealed past task)) (sym (terms_kept past call.action task less)) ∙ is_open
+open_before past (tested rows) task less is_open = unsealed (is_backup (terms_of past task).kind) (list_any (is_seal_of task) rows) (is_sealed past task) is_open
+open_before past (_) task less is_open = is_open
 
 pub called-still : (past : Past) (call : Call) (blocks : List Block) → IsStill past (called call blocks ∷ past)
 unfolding bare_state content_of
@@ -125,27 +131,8 @@ pub calls-still : (disk : Shape) (past : Past) (calls : List Call) → IsStill p
 calls-still disk past [] = still-same past
 calls-still disk past (call ∷ calls) = still-then past (take_call disk past call) _ (called-still past call _) (calls-still disk (take_call disk past call) calls)
 
-best-still : (disk : Shape) (task : ℕ) (past : Past) (left : List LogSegment) → IsStill past (choose_best disk task past left)
-best-still disk task past [] = still-same past
-best-still disk task past (segment ∷ segments) = chosen-still past task _ _
-
-once-still : (disk : Shape) (task : ℕ) (past : Past) → IsStill past (choose_once disk task past)
-once-still disk task past = still-if (is_busy past task) past past _ (still-same past) (best-still disk task past (unchosen past task))
-
-up_to-still : (n : ℕ) (disk : Shape) (task : ℕ) (past : Past) → IsStill past (choose_up_to n disk task past)
-up_to-still zero disk task past = still-same past
-up_to-still (suc n) disk task past = still-then past (choose_once disk task past) _ (once-still disk task past) (up_to-still n disk task (choose_once disk task past))
-
-in-still : (disk : Shape) (past : Past) (task : ℕ) → IsStill past (choose_in disk past task)
-in-still disk past task = still-if (is_clean (terms_of past task).kind && not (is_closed past task)) past _ past (up_to-still (length (segments past task)) disk task past) (still-same past)
-
-each-still : (disk : Shape) (past : Past) (numbers : List ℕ) → IsStill past (fold (choose_in disk) past numbers)
-each-still disk past [] = still-same past
-each-still disk past (task ∷ numbers) = still-then past (choose_in disk past task) _ (in-still disk past task) (each-still disk (choose_in disk past task) numbers)
-
 pub choices-still : (disk : Shape) (past : Past) → IsStill past (with_choices disk past)
-unfolding with_choices
-choices-still disk past = each-still disk past (task_numbers past)
+choices-still disk past = by_all (IsStill past) disk (λ p task segment blocks h. still-then past p _ h (chosen-still p task segment blocks)) past (still-same past)
 
 -- the calls and choices of an instant
 pub settled-still : (disk : Shape) (calls : List Call) (past : Past) (now : ℕ) → IsStill past (settled_by disk calls past now)

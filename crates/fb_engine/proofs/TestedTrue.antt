@@ -17,7 +17,7 @@ use Rattle.fb_engine.specs.Calls.{past_settled, part_by}
 use Rattle.fb_engine.specs.Contents.{left_by}
 use Rattle.fb_engine.specs.Deliveries.{IsRegistered, past_with}
 use Rattle.fb_engine.specs.Standing.{Mirrors, IsFoundIn, IsTrue}
-use Rattle.fb_engine.proofs.RegisteredBlocks.{opened-told, distinct-told}
+use Rattle.fb_engine.proofs.RegisteredBlocks.{opened-told, own-told, distinct-told}
 use Rattle.fb_engine.proofs.Truth.{settled_true, followed_true, finished_true}
 
 -- what a decision leaves on the disk
@@ -38,9 +38,10 @@ module _ (inputs : Inputs) (medium : Medium) (holding : Holding) (past : Past) (
   decision_true plan =
       let now = instant_of decision in
       let settled = past_settled inputs.disk.map inputs.calls past now in
-      let first = settled_true medium holding inputs.disk.map inputs.calls past now end before mirrors order (opened-told inputs.disk.map past sessions held tells) in
+      let own = own-told inputs.disk.map settled settled_sessions settled_held tells_settled in
+      let first = settled_true medium holding inputs.disk.map inputs.calls past now end before mirrors order (opened-told inputs.disk.map past sessions held tells) own in
       let second = followed_true medium holding now end mirrors settled gots found there
-      (opened-told inputs.disk.map settled settled_sessions settled_held tells_settled) (distinct-told inputs.disk.map settled settled_sessions settled_held tells_settled) first.1 in
+      (opened-told inputs.disk.map settled settled_sessions settled_held tells_settled) own (distinct-told inputs.disk.map settled settled_sessions settled_held tells_settled) first.1 in
       (record { settled = first.0; followed = second.0 }, second.1)
 
 -- and after the decision

@@ -1,12 +1,11 @@
 -- What deliveries found is true from decision to decision, and the rows of a decision are the disk's own.
-use Rattle.std.proofs.Common.{◌≡◌, ℕ, zero, suc, ◌+◌, ◌<◌, ◌≤◌, ◌&&◌, not, if◌then◌else◌, List, [], ◌∷◌, ◌++◌, ◌⊎◌, Option, Some, None, Bool, true, false, inl, inr, map, append-nil, refl, ap, ap₂, sym, ◌∙◌, arith, subst}
-use Rattle.std.specs.List.{AllByRecursion, range_with_len, slice_index_or}
+use Rattle.std.proofs.Common.{◌≡◌, ℕ, zero, suc, ◌+◌, ◌<◌, ◌≤◌, ◌&&◌, if◌then◌else◌, List, [], ◌∷◌, ◌++◌, ◌⊎◌, Option, Some, None, Bool, true, false, inl, inr, map, refl, ap, ap₂, sym, ◌∙◌, arith, subst}
+use Rattle.std.specs.List.{AllByRecursion, range_with_len}
 use Rattle.std.proofs.lemmas.Bool.{cases_Bool, true≢false}
 use Rattle.std.proofs.lemmas.Bool.Decides.{nat_tests}
 use Rattle.fb_units.specs.declared.types.Request.{Request}
 use Rattle.fb_geometry.specs.Shape.{Shape}
 use Rattle.fb_calls.specs.declared.call.Call.{Call}
-use Rattle.fb_calls.specs.Sessions.{is_backup}
 use Rattle.fb_store.specs.declared.content.Content.{Content}
 use Rattle.fb_store.specs.declared.content.Content.TheVariants.{Filled}
 use Rattle.fb_store.specs.Runs.{runs_of}
@@ -17,18 +16,17 @@ use Rattle.fb_wanted.specs.declared.block.State.TheVariants.{Wanted, Delivered}
 use Rattle.fb_wanted.specs.States.{shares, is_delivered}
 use Rattle.fb_rows.specs.declared.back.DeliveryRow.{DeliveryRow}
 use Rattle.fb_model.specs.Content.{Medium, contents_at, number_of}
-use Rattle.fb_model.specs.History.{Past, tested, delivered, finished, tasks, bare_state, is_sealed, is_open_backup, same_block}
+use Rattle.fb_model.specs.History.{Past, tested, delivered, finished, bare_state, content_of, is_open_backup, same_block}
 use Rattle.fb_model.specs.Images.{delivery_begin, test_rows, on_disk, findings}
 use Rattle.fb_model.specs.Course.{with_delivery}
 use Rattle.fb_model.specs.SoundRun.{AreFollowed}
-use Rattle.fb_tasks.specs.Taken.{content_of, delivery_of, rows_after}
+use Rattle.fb_tasks.specs.Taken.{delivery_of, rows_after}
 use Rattle.fb_engine.specs.Calls.{settled_by, settling_rows, past_settled}
 use Rattle.fb_engine.specs.Contents.{left_by}
 use Rattle.fb_engine.specs.Deliveries.{IsRegistered, followed, past_with}
 use Rattle.fb_engine.specs.Standing.{Mirrors, IsFoundIn, IsTrue}
 use Rattle.fb_tasks.proofs.Lists.{all_weaker, map_same}
-use Rattle.fb_tasks.proofs.Quiet.{default_terms}
-use Rattle.fb_engine.proofs.RegisteredBlocks.{AreOpened, AreDistinct, there_before, still_there, distinct-kept, opened-kept}
+use Rattle.fb_engine.proofs.RegisteredBlocks.{AreOpened, AreOwn, AreDistinct, there_before, still_there, distinct-kept, opened-kept}
 use Rattle.fb_engine.proofs.DiskRows.{mirrored, rows-true}
 use Rattle.fb_engine.proofs.StillTrue.{if_delivered, still-true, still-then, settled-still, tested-still}
 
@@ -47,12 +45,12 @@ mirrors_within medium holding from to begin end mirrors after before lbn t late 
 
 -- after calls and choices of an instant and their test
 pub settled_true : (medium : Medium) (holding : Holding) (disk : Shape) (calls : List Call) (past : Past) (now end : ℕ)
-    → IsTrue medium holding past → Mirrors medium holding now end → now ≤ end → AreOpened past
+    → IsTrue medium holding past → Mirrors medium holding now end → now ≤ end → AreOpened past → AreOwn (settled_by disk calls past now)
     → (settling_rows disk calls past now ≡ test_rows (on_disk medium) (settled_by disk calls past now) now) × IsTrue medium holding (past_settled disk calls past now)
-settled_true medium holding disk calls past now end before mirrors order opened =
+settled_true medium holding disk calls past now end before mirrors order opened own =
     let settled = settled_by disk calls past now in
     let still = settled-still disk calls past now in (
-      rows-true medium holding settled (still-true medium holding past settled still opened before) now (mirrors_within medium holding now end now now mirrors (let e : now ≤ now = omega arith in e) order),
+      rows-true medium holding settled (still-true medium holding past settled still opened before) own now (mirrors_within medium holding now end now now mirrors (let e : now ≤ now = omega arith in e) order),
       still-true medium holding past (past_settled disk calls past now) (still-then past settled (past_settled disk calls past now) still (tested-still settled (settling_rows disk calls past now))) opened before,
     )
 
@@ -78,9 +76,6 @@ module _ (medium : Medium) (holding : Holding) (from to : ℕ) (mirrors : Mirror
     unfolding bare_state
     own_state block own e = ap (λ b. if b then Delivered else bare_state past block) e
 
-    same_open : (task : ℕ) → is_open_backup (delivered got ∷ past) task ≡ is_open_backup past task
-    same_open task = ap (λ ts. is_backup (slice_index_or ts task default_terms).kind && not (is_sealed past task)) (append-nil (tasks past))
-
     pub delivered_true : IsTrue medium holding past → IsTrue medium holding (delivered got ∷ past)
     delivered_true before = record {
       found = λ block known done. elim (cases_Bool (same_block got.block block)) [
@@ -95,15 +90,15 @@ module _ (medium : Medium) (holding : Holding) (from to : ℕ) (mirrors : Mirror
         | inl own ↦ own_content block true own
             ∙ subst (λ (b : Block). got.content ≡ runs_of (map (λ lbn. (lbn, content_in holding lbn)) (range_with_len b.lbn b.count))) (distinct got.block block there (known_before block known) own) got_content
         | inr other ↦ own_content block false other
-            ∙ before.kept block (known_before block known) (ap is_delivered (sym (own_state block false other)) ∙ done) (sym (same_open block.task) ∙ is_open)
+            ∙ before.kept block (known_before block known) (ap is_delivered (sym (own_state block false other)) ∙ done) is_open
       ];
     }
 
     -- the rows behind a delivery are the disk's own
-    pub delivery_rows : IsTrue medium holding past → rows_after past got ≡ findings past got ++ test_rows (on_disk medium) (delivered got ∷ past) got.end
-    delivery_rows before =
+    pub delivery_rows : AreOwn past → IsTrue medium holding past → rows_after past got ≡ findings past got ++ test_rows (on_disk medium) (delivered got ∷ past) got.end
+    delivery_rows own before =
         let begin = found.begin in let order = found.order in let end = found.end in
-        ap (λ rows. findings past got ++ rows) (rows-true medium holding (delivered got ∷ past) (delivered_true before) got.end
+        ap (λ rows. findings past got ++ rows) (rows-true medium holding (delivered got ∷ past) (delivered_true before) own got.end
         (mirrors_within medium holding from to got.end got.end mirrors (omega (arith, begin, order)) end))
 
     pub delivery_true : AreOpened past → IsTrue medium holding past → IsTrue medium holding (with_delivery past (delivery_of past got))
@@ -112,18 +107,18 @@ module _ (medium : Medium) (holding : Holding) (from to : ℕ) (mirrors : Mirror
 
   -- after these deliveries, one after another
   pub followed_true : (past : Past) (gots : List DeliveryRow) → AllByRecursion (IsFoundIn holding from to) gots → AllByRecursion (λ got. IsRegistered past got.block) gots
-      → AreOpened past → AreDistinct past → IsTrue medium holding past
+      → AreOpened past → AreOwn past → AreDistinct past → IsTrue medium holding past
       → AreFollowed medium past (followed past gots) × IsTrue medium holding (past_with past gots)
-  followed_true past [] found there opened distinct before = (tt, before)
-  followed_true past (got ∷ gots) found there opened distinct before =
+  followed_true past [] found there opened own distinct before = (tt, before)
+  followed_true past (got ∷ gots) found there opened own distinct before =
       let new = delivered got ∷ past in
       let after = with_delivery past (delivery_of past got) in
       let rest = followed_true after gots found.1
       (all_weaker (λ got. IsRegistered past got.block) (λ got. IsRegistered after got.block) (λ row known. still_there new (tested (rows_after past got)) row.block (still_there past (delivered got) row.block known)) gots there.1)
-      (opened-kept new (tested (rows_after past got)) refl (opened-kept past (delivered got) refl opened))
+      (opened-kept new (tested (rows_after past got)) refl (opened-kept past (delivered got) refl opened)) own
       (distinct-kept new (tested (rows_after past got)) refl (distinct-kept past (delivered got) refl distinct))
       (delivery_true past got found.0 there.0 distinct opened before) in
-      ((delivery_rows past got found.0 there.0 distinct before, rest.0), rest.1)
+      ((delivery_rows past got found.0 there.0 distinct own before, rest.0), rest.1)
 
 -- a sector that a range has not is none that a write of the range passes
 apart : (lbn first n : ℕ) (block : Block) → shares first n block ≡ false → block.lbn ≤ lbn → lbn < block.lbn + block.count → is_within first n lbn ≡ false
@@ -152,9 +147,6 @@ module _ (medium : Medium) (holding left : Holding) (past : Past) (request : Req
     either true e = e
     either false e = refl
 
-  finished_open : (task : ℕ) → is_open_backup (finished request ∷ past) task ≡ is_open_backup past task
-  finished_open task = ap (λ ts. is_backup (slice_index_or ts task default_terms).kind && not (is_sealed past task)) (append-nil (tasks past))
-
   finished_content : (block : Block) → content_of (finished request ∷ past) block ≡ content_of past block
   unfolding content_of
   finished_content block = refl
@@ -164,10 +156,9 @@ module _ (medium : Medium) (holding left : Holding) (past : Past) (request : Req
   finished_true before = record {
     found = λ block known done. finished_content block ∙ before.found block (there_before past (finished request) block refl known) (not_overwritten block done).1;
     kept = λ block known done is_open.
-        let free = sym (finished_open block.task) ∙ is_open in
         let was = not_overwritten block done in
-        let spared = not_rewanted request.write (shares request.lbn request.count block) (is_delivered (bare_state past block)) (is_open_backup past block.task) was.1 free was.0 in
-        finished_content block ∙ (before.kept block (there_before past (finished request) block refl known) was.1 free
+        let spared = not_rewanted request.write (shares request.lbn request.count block) (is_delivered (bare_state past block)) (is_open_backup past block.task) was.1 is_open was.0 in
+        finished_content block ∙ (before.kept block (there_before past (finished request) block refl known) was.1 is_open
         ∙ ap runs_of (map_same (λ lbn. (lbn, content_in holding lbn)) (λ lbn. (lbn, content_in left lbn)) (range_with_len block.lbn block.count)
         (in_range (λ lbn. ◌≡◌ {A = ℕ × Content} (lbn, content_in holding lbn) (lbn, content_in left lbn)) block.lbn block.count (λ lbn from end. ap (λ c. (lbn, c)) (left_in block spared lbn from end)))));
   }

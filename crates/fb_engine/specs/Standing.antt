@@ -7,9 +7,8 @@ use Rattle.fb_wanted.specs.declared.block.Block.{Block}
 use Rattle.fb_wanted.specs.States.{is_delivered}
 use Rattle.fb_rows.specs.declared.back.DeliveryRow.{DeliveryRow}
 use Rattle.fb_model.specs.Content.{Medium, content, contents_at}
-use Rattle.fb_model.specs.History.{Past, bare_state, is_open_backup}
+use Rattle.fb_model.specs.History.{Past, bare_state, content_of, is_open_backup}
 use Rattle.fb_model.specs.Images.{delivery_begin}
-use Rattle.fb_tasks.specs.Taken.{content_of}
 use Rattle.fb_engine.specs.Deliveries.{IsRegistered, delivery_in}
 
 -- from one instant to another each sector holds what it holds now

@@ -3,7 +3,8 @@ use Rattle.std.specs.List.{fold}
 use Rattle.fb_model.specs.Course.{take_call, calls_due}
 use Rattle.fb_model.specs.Segments.{with_choices}
 use Rattle.fb_engine.specs.Calls.{settling_rows}
-use Rattle.fb_engine.proofs.Calling.{may-settle, called_chosen, called_tested}
+use Rattle.fb_tasks.proofs.Calls.{called-chosen, called-tested}
+use Rattle.fb_engine.proofs.Calling.{may-settle}
 use Rattle.fb_engine.proofs.background.Background.settle.Goals as goal
 
 pub settle-requires : goal.settle-requires
@@ -13,7 +14,7 @@ settle-requires c =
     let past = c.requires.called.0 in
     let taken = fold (take_call disk) past (calls_due calls past c.args.now) in (
       taken,
-      may-settle disk calls c.requires.script taken c.in_ok-next.next (c.in_ok-next.ensures.called past c.requires.called.1 c.requires.called.2) c.take_calls.new.self.sessions c.take_calls.new.self.wanted
+      may-settle disk calls c.requires.script taken c.in_ok-next.next c.take_calls.new.self.sessions c.take_calls.new.self.wanted (c.in_ok-next.ensures.called past c.requires.called.1 c.requires.called.2)
           (c.in_ok-next.ensures.tells past c.requires.called.1 c.requires.called.2),
     )
 
@@ -25,10 +26,10 @@ returns c = λ past called tells.
     let taken = fold (take_call disk) past (calls_due calls past c.args.now) in
     let taken_called = c.in_ok-next.ensures.called past called tells in
     let taken_tells = c.in_ok-next.ensures.tells past called tells in
-    let may = may-settle disk calls c.requires.script taken next taken_called c.take_calls.new.self.sessions c.take_calls.new.self.wanted taken_tells in
+    let may = may-settle disk calls c.requires.script taken next c.take_calls.new.self.sessions c.take_calls.new.self.wanted taken_called taken_tells in
     record {
       current = record { tells = c.in_ok-settle.ensures.tells taken may; settled = c.in_ok-settle.ensures.settled taken may };
-      called = called_tested disk calls (with_choices disk taken) next (settling_rows disk calls past c.args.now) (called_chosen disk calls taken next c.take_calls.new.self.sessions c.take_calls.new.self.wanted taken_tells taken_called);
+      called = called-tested disk calls (with_choices disk taken) next (called-chosen disk calls taken next taken_called c.take_calls.new.self.sessions c.take_calls.new.self.wanted taken_tells) (settling_rows disk calls past c.args.now);
       rows_after = c.in_ok-settle.ensures.rows taken may ∙ ap (λ rows. rows ++ settling_rows disk calls past c.args.now) c.in_ok-next.ensures.rows;
       ahead = c.in_ok-next.ensures.ahead;
     }
