@@ -39,7 +39,7 @@ all_choice : (P : DeliveryRow → Type 0) (b : Bool) (first row : DeliveryRow) (
 all_choice P true first row xs ys p q ps qs = (q, (p, qs))
 all_choice P false first row xs ys p q ps qs = (p, ps)
 
-all_placed : (P : DeliveryRow → Type 0) (rows : List DeliveryRow) (row : DeliveryRow) → AllByRecursion P rows → P row → AllByRecursion P (placed rows row)
+pub all_placed : (P : DeliveryRow → Type 0) (rows : List DeliveryRow) (row : DeliveryRow) → AllByRecursion P rows → P row → AllByRecursion P (placed rows row)
 all_placed P [] row ps q = (q, ps)
 all_placed P (first ∷ rows) row ps q = all_choice P (is_before row.end row.block first.end first.block) first row (placed rows row) rows ps.0 q (all_placed P rows row ps.1 q) ps.1
 

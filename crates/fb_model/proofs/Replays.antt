@@ -34,7 +34,7 @@ late_or now arrival c h = elim (cases_Bool (nat_le arrival now)) [
   | inr late ↦ grind (arith, nat_tests)
 ]
 
-start_from : (now : ℕ) (left : List Request) → now ≤ start_of now left
+pub start_from : (now : ℕ) (left : List Request) → now ≤ start_of now left
 start_from now [] = omega arith
 start_from now (request ∷ requests) = elim (cases_Bool (list_any (has_arrived now) (request ∷ requests))) [
   | inl some ↦ subst (λ b. now ≤ (if b then now else request.arrival)) (sym some) (let same : now ≤ now = omega arith in same)
@@ -147,18 +147,18 @@ turns_in_turn disk key head now left (served ∷ later) turns = (
 )
 
 -- a service doesn't end before it starts
-finish_from : (disk : Disk) (source : Track) (now : ℕ) (write : Bool) (lbn n : ℕ) → now ≤ finish_of now (passages disk source now write lbn n)
+pub finish_from : (disk : Disk) (source : Track) (now : ℕ) (write : Bool) (lbn n : ℕ) → now ≤ finish_of now (passages disk source now write lbn n)
 unfolding passages begin_from
 finish_from disk source now write lbn zero = omega arith
 finish_from disk source now write lbn (suc n) =
     let passage = passage_from disk.map lbn (now + pos disk.mechanism source (track_at disk.map lbn) write) in
     let later = finish_from disk (track_at disk.map lbn) passage.end write (lbn + 1) n in omega arith
 
-turns_end : (disk : Disk) (key : Key) (head : Track) (now : ℕ) (left others : List Request) (served : Served) → IsTurn disk key head now left served others → served.start ≤ finish served
+pub turns_end : (disk : Disk) (key : Key) (head : Track) (now : ℕ) (left others : List Request) (served : Served) → IsTurn disk key head now left served others → served.start ≤ finish served
 turns_end disk key head now left others served turn =
     subst (λ ps. served.start ≤ finish_of served.start ps) (sym (ap (λ s. s.passages) turn.passes)) (finish_from disk head served.start served.request.write served.request.lbn served.request.count)
 
-all_from : (disk : Disk) (key : Key) (head : Track) (t now : ℕ) (left : List Request) (replay : List Served) → AreTurns disk key head now left replay → t ≤ now → AllByRecursion (λ later. t ≤ later) (map (λ (served : Served). served.start) replay)
+pub all_from : (disk : Disk) (key : Key) (head : Track) (t now : ℕ) (left : List Request) (replay : List Served) → AreTurns disk key head now left replay → t ≤ now → AllByRecursion (λ later. t ≤ later) (map (λ (served : Served). served.start) replay)
 all_from disk key head t now left [] turns h = tt
 all_from disk key head t now left (served ∷ later) turns h = (
   omega (arith, start_from now left, turns.1.start),
@@ -192,13 +192,13 @@ rising_without : (front back : List Request) (pick : Request) → IsRising (map 
 rising_without [] back pick rising = rising.1
 rising_without (request ∷ front) back pick rising = (all_without (λ later. request.arrival ≤ later) front back pick rising.0, rising_without front back pick rising.1)
 
-abbrev Rises : List Request → Type 0
+abbrev pub Rises : List Request → Type 0
 Rises requests = IsRising (map (λ request. request.arrival) requests)
 
-rest_rises : (key : Request → ℕ) (now : ℕ) (left others : List Request) (pick : Request) → IsFirstReady key now left pick others → Rises left → Rises others
+pub rest_rises : (key : Request → ℕ) (now : ℕ) (left others : List Request) (pick : Request) → IsFirstReady key now left pick others → Rises left → Rises others
 rest_rises key now left others pick m rising = subst Rises (sym m.rest) (rising_without m.front m.back pick (subst Rises m.whole rising))
 
-turn_start : (key : Request → ℕ) (now start : ℕ) (left others : List Request) (pick : Request) → Rises left → start ≡ start_of now left → IsFirstReady key start left pick others → IsReadyAt now left start
+pub turn_start : (key : Request → ℕ) (now start : ℕ) (left others : List Request) (pick : Request) → Rises left → start ≡ start_of now left → IsFirstReady key start left pick others → IsReadyAt now left start
 turn_start key now start [] others pick rising e m = absurd (omega (arith, ap length m.whole, length-append m.front (pick ∷ m.back)))
 turn_start key now start (request ∷ requests) others pick rising e m = subst (λ t. IsReadyAt now (request ∷ requests) t) (sym e) (start_is now request requests rising)
 
