@@ -77,7 +77,7 @@ one_following medium past (x ∷ xs) (y ∷ ys) h k e =
     ∙ ap (λ ds. y ∷ ds) (one_following medium (with_delivery past y) xs ys (subst (λ d. AreFollowed medium (with_delivery past d) xs) same h.1) k.1 (same_tail x.got y.got (gots xs) (gots ys) e))
 
 -- only a request that is served has a plan
-abbrev SamePlan : Decision → Plan → Plan → Type 0
+abbrev pub SamePlan : Decision → Plan → Plan → Type 0
 SamePlan (serves served) a b = a ≡ b
 SamePlan (idles dwell) a b = Unit {0}
 SamePlan (ends now) a b = Unit {0}
@@ -99,18 +99,18 @@ same_opening disk (idles dwell) a b e = refl
 same_opening disk (ends now) a b e = refl
 
 -- two parts of a decision say the same
-record IsSamePart (decision : Decision) (a b : Part) : Type 0 where
+pub record IsSamePart (decision : Decision) (a b : Part) : Type 0 where
   pub settled : a.settled ≡ b.settled
   pub plan : SamePlan decision a.plan b.plan
   pub deliveries : a.deliveries ≡ b.deliveries
 
 -- what a full run's part at a decision has to be
-record IsFullPart (inputs : Inputs) (medium : Medium) (past : Past) (step : Decision × Part) : Type 0 where
+pub record IsFullPart (inputs : Inputs) (medium : Medium) (past : Past) (step : Decision × Part) : Type 0 where
   pub tests : IsTested inputs medium past step
   pub best : IsBestPlanned inputs medium past step
   pub all : IsAllDelivered inputs medium past step
 
-one_part : (inputs : Inputs) (medium : Medium) (past : Past) (decision : Decision) (a b : Part) → IsFullPart inputs medium past (decision, a) → IsFullPart inputs medium past (decision, b) → IsSamePart decision a b
+pub one_part : (inputs : Inputs) (medium : Medium) (past : Past) (decision : Decision) (a b : Part) → IsFullPart inputs medium past (decision, a) → IsFullPart inputs medium past (decision, b) → IsSamePart decision a b
 one_part inputs medium past decision a b h k =
     let settled : a.settled ≡ b.settled = h.tests.settled ∙ sym k.tests.settled in
     let plan = one_plan inputs.disk decision (wanted (settled_past inputs past decision)) a.plan b.plan h.best k.best in
@@ -122,13 +122,13 @@ one_part inputs medium past decision a b h k =
           (h.all ∙ same_due medium decision (wanted (settled_past inputs past decision)) a.plan b.plan plan ∙ sym k.all);
     }
 
-same_rows : (disk : Disk) (decision : Decision) (a b : Part) → IsSamePart decision a b → part_rows disk (decision, a) ≡ part_rows disk (decision, b)
+pub same_rows : (disk : Disk) (decision : Decision) (a b : Part) → IsSamePart decision a b → part_rows disk (decision, a) ≡ part_rows disk (decision, b)
 same_rows disk decision a b h =
     ap (λ rows. rows ++ opening disk decision a.plan ++ flat_map (λ delivery. GotLine delivery.got ∷ delivery.after) a.deliveries) h.settled
     ∙ ap (λ rows. b.settled ++ rows ++ flat_map (λ delivery. GotLine delivery.got ∷ delivery.after) a.deliveries) (same_opening disk decision a.plan b.plan h.plan)
     ∙ ap (λ deliveries. b.settled ++ opening disk decision b.plan ++ flat_map (λ delivery. GotLine delivery.got ∷ delivery.after) deliveries) h.deliveries
 
-same_after : (inputs : Inputs) (past : Past) (decision : Decision) (a b : Part) → IsSamePart decision a b → past_after inputs past (decision, a) ≡ past_after inputs past (decision, b)
+pub same_after : (inputs : Inputs) (past : Past) (decision : Decision) (a b : Part) → IsSamePart decision a b → past_after inputs past (decision, a) ≡ past_after inputs past (decision, b)
 unfolding past_after
 same_after inputs past decision a b h =
     ap (λ rows. with_finish (fold with_delivery (tested rows ∷ settled_past inputs past decision) a.deliveries) decision) h.settled
@@ -161,7 +161,7 @@ at_each : (inputs : Inputs) (medium : Medium) (past : Past) (steps : List (Decis
 at_each inputs medium past [] a b c = tt
 at_each inputs medium past (step ∷ steps) a b c = (record { tests = a.0; best = b.0; all = c.0 }, at_each inputs medium (past_after inputs past step) steps a.1 b.1 c.1)
 
-full_parts : (inputs : Inputs) (run : Run) (full : IsFull inputs run) → AtEach (IsFullPart inputs (medium_of inputs)) inputs [] (steps inputs full.parts)
+pub full_parts : (inputs : Inputs) (run : Run) (full : IsFull inputs run) → AtEach (IsFullPart inputs (medium_of inputs)) inputs [] (steps inputs full.parts)
 full_parts inputs run full = at_each inputs (medium_of inputs) [] (steps inputs full.parts) full.sound.tested full.best full.all
 
 same_run : (a b : Run) → a.fore ≡ b.fore → a.back ≡ b.back → a.passed_over ≡ b.passed_over → a.end ≡ b.end → a ≡ b

@@ -1,5 +1,6 @@
 -- What is known of a run by an instant.
 use Rattle.std.specs.Prelude.{◌≡◌, ℕ, ◌<◌, List, [], ◌∷◌, Bool, true, false, nat_le, filter}
+use Rattle.fb_geometry.specs.Sound.{IsSound}
 use Rattle.fb_rows.specs.declared.fore.ForeRow.{ForeRow}
 use Rattle.fb_rows.specs.declared.back.BackRow.{BackRow}
 use Rattle.fb_rows.specs.declared.back.BackRow.TheVariants.{Gap as GapLine, Idle as IdleLine, Got as GotLine, Bad as BadLine, Seal as SealLine, Segment as SegmentLine, Complete as CompleteLine, Task as TaskLine}
@@ -53,9 +54,9 @@ pub record SameKnown (t : ℕ) (a b : Run) : Type 0 where
   pub fore : fore_known t a.fore ≡ fore_known t b.fore
   pub back : back_known t a.back ≡ back_known t b.back
 
--- nothing before t depends on what comes after it
+-- on a disk without a fault nothing that is known by t depends on what comes after it
 abbrev pub NoLookAhead : Type 0
-NoLookAhead = (a b : Inputs) (run_a run_b : Run) (t : ℕ) → IsAccepted a → IsAccepted b → IsFull a run_a → IsFull b run_b
+NoLookAhead = (a b : Inputs) (run_a run_b : Run) (t : ℕ) → IsSound a.disk.map → IsAccepted a → IsAccepted b → IsFull a run_a → IsFull b run_b
     → t < run_a.end → t < run_b.end → AgreeUpTo t a b → SameKnown t run_a run_b
 
 -- accepted inputs have one full run at most

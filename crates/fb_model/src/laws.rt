@@ -1,6 +1,6 @@
 // Laws of the definitions.
 ghost use Rattle.fb_model.specs.Laws.{WaitsAreLeast, SlotsCoverRotation, AnglesHaveOneSlot, PassagesBeginFirst, PlacesAreOwn, SectorsByZone, PicksAreFirstLeast, ReadyPicksAreFirstLeast, OnePick, OneReadyPick, ForegroundListsAscend, ReplaysServeEachOnce, RequestsHaveOneRow, OnePlainReplay, OneBestPlan, ForegroundIsUntouched};
-ghost use Rattle.fb_model.specs.Known.{OneFullRun};
+ghost use Rattle.fb_model.specs.Known.{OneFullRun, NoLookAhead};
 
 /// The wait for an angle is the least one after which the platter stands there.
 pub fn waits_are_least()
@@ -71,4 +71,10 @@ pub fn one_full_run()
 /// foreground have the same foreground rows.
 pub fn foreground_is_untouched()
     ensures { ForegroundIsUntouched }
+{}
+
+/// No decision looks ahead: full runs of accepted inputs that agree up to an instant before both ends
+/// are the same in what is known by then, on a disk without a fault.
+pub fn no_look_ahead()
+    ensures { NoLookAhead }
 {}

@@ -1,0 +1,314 @@
+-- No decision looks ahead: what is known of a run by an instant depends only on what has come by then.
+use Rattle.std.proofs.Common.{◌≡◌, ℕ, ◌<◌, ◌≤◌, List, [], ◌∷◌, ◌++◌, length, map, refl, ap, ap₂, sym, subst, ◌∙◌, arith, append_assoc, false}
+use Rattle.std.specs.Prelude.{filter}
+use Rattle.std.specs.List.{AllByRecursion, fold, flat_map, zip}
+use Rattle.fb_units.specs.declared.types.Track.{Track}
+use Rattle.fb_units.specs.declared.types.Request.{Request}
+use Rattle.fb_geometry.specs.Sound.{IsSound}
+use Rattle.fb_calls.specs.declared.call.Call.{Call}
+use Rattle.fb_service.specs.declared.disk.Disk.{Disk}
+use Rattle.fb_wanted.specs.declared.block.Block.{Block}
+use Rattle.fb_rows.specs.declared.gap.Plan.{Plan}
+use Rattle.fb_rows.specs.declared.gap.How.TheVariants.{Idle as ByIdle}
+use Rattle.fb_rows.specs.declared.back.BackRow.{BackRow}
+use Rattle.fb_rows.specs.declared.back.BackRow.TheVariants.{Idle as IdleLine}
+use Rattle.fb_rows.specs.declared.back.DeliveryRow.{DeliveryRow}
+use Rattle.fb_rows.specs.declared.run.Run.{Run}
+use Rattle.fb_model.specs.PlainReplay.{Key, first_track, plain_replay}
+use Rattle.fb_model.specs.Inputs.{Inputs, requests, served}
+use Rattle.fb_model.specs.Content.{Medium, Written, medium_of, fore_row, fore_rows}
+use Rattle.fb_model.specs.Decisions.{Decision, serves, idles, ends, instant_of, end_of, decisions_from, decisions}
+use Rattle.fb_model.specs.History.{Past, tested, wanted}
+use Rattle.fb_model.specs.Images.{test_rows, on_disk}
+use Rattle.fb_model.specs.Rides.{due}
+use Rattle.fb_model.specs.Course.{Delivery, Part, settled_past, with_delivery, with_finish, tested_past, past_after, AtEach, opening, part_rows}
+use Rattle.fb_model.specs.Accepted.{IsAccepted}
+use Rattle.fb_model.specs.SoundRun.{HasPlan, AreFollowed}
+use Rattle.fb_model.specs.FullRun.{HasBestPlan, IsFull}
+use Rattle.fb_model.specs.Known.{only_if, known_from, fore_known, AgreeUpTo, SameKnown}
+use Rattle.fb_model.proofs.Lists.{all_weaker, after_is}
+use Rattle.fb_model.proofs.Joined.{in_order}
+use Rattle.fb_model.proofs.Due.{IsDueRow, due_true}
+use Rattle.fb_model.proofs.Replays.{plain_turns}
+use Rattle.fb_model.proofs.FullRuns.{IsFullPart, one_part, same_rows, same_after, full_parts}
+use Rattle.fb_model.proofs.ReplaysUpTo.{alike_turns}
+use Rattle.fb_model.proofs.Passages.{are_services, requests_lie, write_late}
+use Rattle.fb_model.proofs.ContentsUpTo.{medium_with, HoldSame, hold_same, same_fore}
+use Rattle.fb_model.proofs.Instants.{instants_from, rising_all_among, all_come, same_instants}
+use Rattle.fb_model.proofs.DecisionsUpTo.{IsMade, IsLater, AlikeDecisions, same, dwelling, later, end_from, alike_decisions}
+use Rattle.fb_model.proofs.HistoriesUpTo.{HasSector, AreFine, HasBegun, wanted_fine, settled_fine, after_fine, all_fine_weaker, calls_by, same_settled}
+use Rattle.fb_model.proofs.RowsUpTo.{AreUnknown, AreKnownAlike, IsUnknown, unknown_before, alike_behind, tests_unknown, tasks_unknown, delivered_rows, gots_of, deliveries_unknown, same_tests, same_followed, ends_by_then, RisingEnds, alike_deliveries}
+use Rattle.fb_model.proofs.DueUpTo.{LiesBetween, due_between, same_due, rising_caught, same_by_then}
+
+-- ---- one decision
+
+plan_of : (disk : Disk) (decision : Decision) (wanted : List Block) (plan : Plan) → HasBestPlan disk decision wanted plan → HasPlan disk decision plan
+plan_of disk (serves served) wanted plan best = best.is_plan
+plan_of disk (idles dwell) wanted plan best = tt
+plan_of disk (ends now) wanted plan best = tt
+
+gots_all : (P : DeliveryRow → Type 0) (deliveries : List Delivery) → AllByRecursion P (gots_of deliveries) → AllByRecursion (λ (d : Delivery). P d.got) deliveries
+gots_all P [] all = tt
+gots_all P (d ∷ ds) all = (all.0, gots_all P ds all.1)
+
+regroup : (settled opened got rest more : List BackRow) → (((settled ++ opened) ++ got) ++ rest) ++ more ≡ settled ++ (opened ++ (got ++ (rest ++ more)))
+regroup settled opened got rest more = simp append_assoc
+
+opening_unknown : (t : ℕ) (disk : Disk) (decision : Decision) (plan : Plan) → IsLater t disk decision → AllByRecursion (IsUnknown t) (opening disk decision plan)
+opening_unknown t disk (serves served) plan late = (λ follows. after_is served.start t late.from, tt)
+opening_unknown t disk (idles dwell) plan late = (λ follows. after_is dwell.end t late.upto, tt)
+opening_unknown t disk (ends now) plan late = tt
+
+module _ (disk : Disk) (latent : List ℕ) (key : Key) (trace : List Request) (passed_over : ℕ) (calls : List Call) (until : ℕ) (writes : List Written) where
+  abbrev inputs : Inputs
+  inputs = record { disk = disk; latent = latent; trace = trace; passed_over = passed_over; calls = calls; key = key; until = until }
+
+  abbrev medium : Medium
+  medium = record { disk = disk; latent = latent; writes = writes }
+
+  -- deliveries lie within their decision
+  part_between : (P : DeliveryRow → Type 0) (past : Past) (step : Decision × Part) → IsFullPart inputs medium past step → IsMade disk step.0 → AreFine P past
+      → AllByRecursion (LiesBetween (instant_of step.0) (end_of step.0)) (gots_of step.1.deliveries)
+  part_between P past step full made fine =
+      let blocks = wanted (settled_past inputs past step.0) in
+      subst (AllByRecursion (LiesBetween (instant_of step.0) (end_of step.0))) (sym full.all)
+      (all_weaker (IsDueRow medium step.0 step.1.plan HasSector) (LiesBetween (instant_of step.0) (end_of step.0))
+      (due_between medium step.0 step.1.plan made (plan_of disk step.0 blocks step.1.plan full.best)) (due medium step.0 step.1.plan blocks)
+      (due_true medium step.0 step.1.plan HasSector blocks (wanted_fine P (settled_past inputs past step.0) (settled_fine P inputs past step.0 fine))))
+
+  -- nothing of decisions after t is known
+  steps_unknown : (t : ℕ) (P : DeliveryRow → Type 0) → ((row : DeliveryRow) → P row) → (past : Past) (ds : List Decision) (parts : List Part) (more : List BackRow) → AllByRecursion (IsLater t disk) ds
+      → AtEach (IsFullPart inputs medium) inputs past (zip ds parts) → AreFine P past → AreUnknown t more → AreUnknown t (flat_map (part_rows disk) (zip ds parts) ++ more)
+  steps_unknown t P any past [] parts more late full fine unknown = unknown
+  steps_unknown t P any past (d ∷ ds) [] more late full fine unknown = unknown
+  steps_unknown t P any past (d ∷ ds) (part ∷ parts) more late full fine unknown =
+      let rest = flat_map (part_rows disk) (zip ds parts) in
+      let instant = late.0.from in
+      let between = part_between P past (d, part) full.0 late.0.made fine in
+      let others = steps_unknown t P any (past_after inputs past (d, part)) ds parts more late.1 full.1
+      (after_fine P inputs past (d, part) (gots_all P part.deliveries (all_weaker (LiesBetween (instant_of d) (end_of d)) P (λ row h. any row) (gots_of part.deliveries) between)) fine) unknown in
+      subst (AreUnknown t) (sym (regroup part.settled (opening disk d part.plan) (delivered_rows part.deliveries) rest more))
+      (unknown_before t part.settled (opening disk d part.plan ++ (delivered_rows part.deliveries ++ (rest ++ more)))
+      (subst (AllByRecursion (IsUnknown t)) (sym full.0.tests.settled) (tests_unknown t (on_disk medium) (settled_past inputs past d) (instant_of d) instant))
+      (unknown_before t (opening disk d part.plan) (delivered_rows part.deliveries ++ (rest ++ more)) (opening_unknown t disk d part.plan late.0)
+      (deliveries_unknown t medium (tested_past inputs past (d, part)) part.deliveries (rest ++ more) full.0.tests.followed
+      (all_weaker (LiesBetween (instant_of d) (end_of d)) (λ (row : DeliveryRow). t < row.end) (λ row h. let begins = h.begins in let in_turn = h.in_turn in omega (arith, begins, in_turn, instant)) (gots_of part.deliveries) between)
+      others)))
+
+-- ---- two runs
+
+any_delivery : DeliveryRow → Type 0
+any_delivery row = Unit {0}
+
+module _ (disk : Disk) (latent : List ℕ) (key : Key) (trace_a trace_b : List Request) (over_a over_b : ℕ) (calls_a calls_b : List Call) (until_a until_b : ℕ) (writes_a writes_b : List Written)
+    (t done : ℕ) (since : t ≤ done) (come : filter (calls_by t) calls_a ≡ filter (calls_by t) calls_b)
+    (hold : HoldSame done (record { disk = disk; latent = latent; writes = writes_a }) (record { disk = disk; latent = latent; writes = writes_b })) where
+  abbrev inputs_a : Inputs
+  inputs_a = record { disk = disk; latent = latent; trace = trace_a; passed_over = over_a; calls = calls_a; key = key; until = until_a }
+
+  abbrev inputs_b : Inputs
+  inputs_b = record { disk = disk; latent = latent; trace = trace_b; passed_over = over_b; calls = calls_b; key = key; until = until_b }
+
+  abbrev medium_a : Medium
+  medium_a = record { disk = disk; latent = latent; writes = writes_a }
+
+  abbrev medium_b : Medium
+  medium_b = record { disk = disk; latent = latent; writes = writes_b }
+
+  settles : (past : Past) (d e : Decision) → instant_of d ≤ t → instant_of d ≡ instant_of e → settled_past inputs_a past d ≡ settled_past inputs_b past e
+  settles past d e h at = same_settled inputs_a inputs_b t past d e refl come h at
+
+  -- a part of the one run's would do in the other
+  as_well : (past : Past) (d : Decision) (part : Part) → instant_of d ≤ t → end_of d ≤ done → IsMade disk d → AreFine (HasBegun done) past
+      → IsFullPart inputs_b medium_b past (d, part) → IsFullPart inputs_a medium_a past (d, part)
+  as_well past d part h ended made fine full =
+      let settled = settles past d d h refl in
+      let settled_a = settled_past inputs_a past d in
+      let blocks = wanted (settled_past inputs_b past d) in
+      let fine_a = settled_fine (HasBegun done) inputs_a past d fine in
+      let between = part_between disk latent key trace_b over_b calls_b until_b writes_b (HasBegun done) past (d, part) full made fine in
+      record {
+        tests = record {
+          settled = full.tests.settled ∙ (ap (λ past. test_rows (on_disk medium_b) past (instant_of d)) (sym settled) ∙ sym (same_tests done medium_a medium_b hold settled_a (instant_of d) fine_a (omega arith)));
+          followed = same_followed done medium_a medium_b hold (tested part.settled ∷ settled_a) part.deliveries (tt, fine_a)
+              (all_weaker (LiesBetween (instant_of d) (end_of d)) (λ (row : DeliveryRow). (row.begin ≤ done) × (row.end ≤ done)) (λ row lies. let in_turn = lies.in_turn in let over = lies.ends in (omega (arith, in_turn, over, ended), omega (arith, over, ended))) (gots_of part.deliveries) between)
+              (subst (λ past. AreFollowed medium_b (tested part.settled ∷ past) part.deliveries) (sym settled) full.tests.followed);
+        };
+        best = subst (λ past. HasBestPlan disk d (wanted past) part.plan) (sym settled) full.best;
+        all = full.all ∙ (ap (λ past. due medium_b d part.plan (wanted past)) (sym settled)
+            ∙ sym (same_due disk latent writes_a writes_b done hold d part.plan (wanted settled_a) made (plan_of disk d blocks part.plan full.best) ended));
+      }
+
+  goes_on : (past : Past) (d : Decision) (part : Part) → instant_of d ≤ t → past_after inputs_a past (d, part) ≡ past_after inputs_b past (d, part)
+  unfolding past_after
+  goes_on past d part h = ap (λ past. with_finish (fold with_delivery (tested part.settled ∷ past) part.deliveries) d) (settles past d d h refl)
+
+  -- a dwell that is under way
+  dwell_alike : (past : Past) (head : Track) (now end_a end_b : ℕ) (x y : Part) (rest_a rest_b more_a more_b : List BackRow) → now ≤ t → t < end_a → t < end_b → AreFine (HasBegun done) past
+      → IsFullPart inputs_a medium_a past (idles (record { track = head; begin = now; end = end_a }), x) → IsFullPart inputs_b medium_b past (idles (record { track = head; begin = now; end = end_b }), y)
+      → AreUnknown t (rest_a ++ more_a) → AreUnknown t (rest_b ++ more_b)
+      → AreKnownAlike t ((part_rows disk (idles (record { track = head; begin = now; end = end_a }), x) ++ rest_a) ++ more_a) ((part_rows disk (idles (record { track = head; begin = now; end = end_b }), y) ++ rest_b) ++ more_b)
+  unfolding due
+  dwell_alike past head now end_a end_b x y rest_a rest_b more_a more_b h late_a late_b fine full_a full_b unknown_a unknown_b =
+      let d_a = idles (record { track = head; begin = now; end = end_a }) in
+      let d_b = idles (record { track = head; begin = now; end = end_b }) in
+      let settled_a = settled_past inputs_a past d_a in
+      let settled_b = settled_past inputs_b past d_b in
+      let settled : settled_a ≡ settled_b = settles past d_a d_b h refl in
+      let fine_a = settled_fine (HasBegun done) inputs_a past d_a fine in
+      let rows : x.settled ≡ y.settled = full_a.tests.settled ∙ (same_tests done medium_a medium_b hold settled_a now fine_a (omega arith)
+      ∙ (ap (λ past. test_rows (on_disk medium_b) past now) settled ∙ sym full_b.tests.settled)) in
+      let pasts : tested x.settled ∷ settled_a ≡ tested y.settled ∷ settled_b = ap₂ (λ rows past. tested rows ∷ past) rows settled in
+      let between = part_between disk latent key trace_a over_a calls_a until_a writes_a (HasBegun done) past (d_a, x) full_a tt fine in
+      let kept : filter (ends_by_then t) (gots_of x.deliveries) ≡ filter (ends_by_then t) (gots_of y.deliveries) =
+      ap (filter (ends_by_then t)) full_a.all ∙ (same_by_then disk latent writes_a writes_b t done since hold ByIdle head now end_a end_b late_a late_b (wanted settled_a)
+      ∙ (ap (λ past. filter (ends_by_then t) (due medium_b d_b y.plan (wanted past))) settled ∙ sym (ap (filter (ends_by_then t)) full_b.all))) in
+      let alike = alike_deliveries t done since medium_a medium_b hold (tested x.settled ∷ settled_a) x.deliveries y.deliveries (rest_a ++ more_a) (rest_b ++ more_b) (tt, fine_a) full_a.tests.followed
+      (subst (λ past. AreFollowed medium_b past y.deliveries) (sym pasts) full_b.tests.followed)
+      (subst RisingEnds (sym full_a.all) (rising_caught medium_a ByIdle (record { track = head; begin = now; end = end_a }) (wanted settled_a)))
+      (subst RisingEnds (sym full_b.all) (rising_caught medium_b ByIdle (record { track = head; begin = now; end = end_b }) (wanted settled_b)))
+      (all_weaker (LiesBetween now end_a) (λ (row : DeliveryRow). row.begin ≤ row.end) (λ row lies. lies.in_turn) (gots_of x.deliveries) between)
+      kept unknown_a unknown_b in
+      let got_a = delivered_rows x.deliveries ++ (rest_a ++ more_a) in
+      let got_b = delivered_rows y.deliveries ++ (rest_b ++ more_b) in
+      let opened : AreKnownAlike t (IdleLine (record { track = head; begin = now; end = end_a }) ∷ got_a) (IdleLine (record { track = head; begin = now; end = end_b }) ∷ got_b) = λ follows.
+      ap (λ b. only_if b (IdleLine (record { track = head; begin = now; end = end_a })) (known_from t false got_a)) (after_is end_a t late_a)
+      ∙ (alike false ∙ sym (ap (λ b. only_if b (IdleLine (record { track = head; begin = now; end = end_b })) (known_from t false got_b)) (after_is end_b t late_b))) in
+      λ follows.
+      ap (known_from t follows) (regroup x.settled (opening disk d_a x.plan) (delivered_rows x.deliveries) rest_a more_a)
+      ∙ (alike_behind t x.settled (IdleLine (record { track = head; begin = now; end = end_a }) ∷ got_a) (IdleLine (record { track = head; begin = now; end = end_b }) ∷ got_b) opened follows
+      ∙ (ap (λ rows. known_from t follows (rows ++ (IdleLine (record { track = head; begin = now; end = end_b }) ∷ got_b))) rows
+      ∙ sym (ap (known_from t follows) (regroup y.settled (opening disk d_b y.plan) (delivered_rows y.deliveries) rest_b more_b))))
+
+  no_property : (past : Past) → AreFine (HasBegun done) past → AreFine any_delivery past
+  unfolding any_delivery
+  no_property past fine = all_fine_weaker (HasBegun done) any_delivery (λ row h. tt) past fine
+
+  any_is : (row : DeliveryRow) → any_delivery row
+  unfolding any_delivery
+  any_is row = tt
+
+  rest_unknown_a : (past : Past) (ds : List Decision) (parts : List Part) (more : List BackRow) → AllByRecursion (IsLater t disk) ds → AtEach (IsFullPart inputs_a medium_a) inputs_a past (zip ds parts)
+      → AreFine any_delivery past → AreUnknown t more → AreUnknown t (flat_map (part_rows disk) (zip ds parts) ++ more)
+  rest_unknown_a past ds parts more late full fine unknown = steps_unknown disk latent key trace_a over_a calls_a until_a writes_a t any_delivery any_is past ds parts more late full fine unknown
+
+  rest_unknown_b : (past : Past) (ds : List Decision) (parts : List Part) (more : List BackRow) → AllByRecursion (IsLater t disk) ds → AtEach (IsFullPart inputs_b medium_b) inputs_b past (zip ds parts)
+      → AreFine any_delivery past → AreUnknown t more → AreUnknown t (flat_map (part_rows disk) (zip ds parts) ++ more)
+  rest_unknown_b past ds parts more late full fine unknown = steps_unknown disk latent key trace_b over_b calls_b until_b writes_b t any_delivery any_is past ds parts more late full fine unknown
+
+  steps_alike : (past : Past) {ds es : List Decision} → AlikeDecisions t done disk ds es → (xs ys : List Part) (more_a more_b : List BackRow) → length xs ≡ length ds → length ys ≡ length es
+      → AtEach (IsFullPart inputs_a medium_a) inputs_a past (zip ds xs) → AtEach (IsFullPart inputs_b medium_b) inputs_b past (zip es ys) → AreFine (HasBegun done) past
+      → AreUnknown t more_a → AreUnknown t more_b → AreKnownAlike t (flat_map (part_rows disk) (zip ds xs) ++ more_a) (flat_map (part_rows disk) (zip es ys) ++ more_b)
+  steps_alike past (same {decision = d} {xs = ds} {ys = es} h ended made alike) [] ys more_a more_b len_x len_y full_a full_b fine unknown_a unknown_b = absurd (omega arith)
+  steps_alike past (same {decision = d} {xs = ds} {ys = es} h ended made alike) (x ∷ xs) [] more_a more_b len_x len_y full_a full_b fine unknown_a unknown_b = absurd (omega arith)
+  steps_alike past (same {decision = d} {xs = ds} {ys = es} h ended made alike) (x ∷ xs) (y ∷ ys) more_a more_b len_x len_y full_a full_b fine unknown_a unknown_b =
+      let one = one_part inputs_a medium_a past d x y full_a.0 (as_well past d y h ended made fine full_b.0) in
+      let rows = same_rows disk d x y one in
+      let after = same_after inputs_a past d x y one ∙ goes_on past d y h in
+      let rest_a = flat_map (part_rows disk) (zip ds xs) in
+      let rest_b = flat_map (part_rows disk) (zip es ys) in
+      let between = part_between disk latent key trace_a over_a calls_a until_a writes_a (HasBegun done) past (d, x) full_a.0 made fine in
+      let fine_after = after_fine (HasBegun done) inputs_a past (d, x)
+      (gots_all (HasBegun done) x.deliveries (all_weaker (LiesBetween (instant_of d) (end_of d)) (HasBegun done) (λ row lies. let in_turn = lies.in_turn in let over = lies.ends in omega (arith, in_turn, over, ended)) (gots_of x.deliveries) between)) fine in
+      let others = steps_alike (past_after inputs_a past (d, x)) alike xs ys more_a more_b (omega arith) (omega arith) full_a.1
+      (subst (λ past. AtEach (IsFullPart inputs_b medium_b) inputs_b past (zip es ys)) (sym after) full_b.1) fine_after unknown_a unknown_b in
+      λ follows.
+      ap (known_from t follows) (append_assoc (part_rows disk (d, x)) rest_a more_a)
+      ∙ (alike_behind t (part_rows disk (d, x)) (rest_a ++ more_a) (rest_b ++ more_b) others follows
+      ∙ (ap (λ rows. known_from t follows (rows ++ (rest_b ++ more_b))) rows ∙ sym (ap (known_from t follows) (append_assoc (part_rows disk (d, y)) rest_b more_b))))
+  steps_alike past (dwelling {head = head} {now = now} {until_a = end_a} {until_b = end_b} {xs = ds} {ys = es} h late_a late_b after_a after_b) [] ys more_a more_b len_x len_y full_a full_b fine unknown_a unknown_b = absurd (omega arith)
+  steps_alike past (dwelling {head = head} {now = now} {until_a = end_a} {until_b = end_b} {xs = ds} {ys = es} h late_a late_b after_a after_b) (x ∷ xs) [] more_a more_b len_x len_y full_a full_b fine unknown_a unknown_b = absurd (omega arith)
+  steps_alike past (dwelling {head = head} {now = now} {until_a = end_a} {until_b = end_b} {xs = ds} {ys = es} h late_a late_b after_a after_b) (x ∷ xs) (y ∷ ys) more_a more_b len_x len_y full_a full_b fine unknown_a unknown_b =
+      let d_a = idles (record { track = head; begin = now; end = end_a }) in
+      let d_b = idles (record { track = head; begin = now; end = end_b }) in
+      let any = no_property past fine in
+      let each = λ (deliveries : List Delivery). gots_all any_delivery deliveries (all_any (gots_of deliveries)) in
+      dwell_alike past head now end_a end_b x y (flat_map (part_rows disk) (zip ds xs)) (flat_map (part_rows disk) (zip es ys)) more_a more_b h late_a late_b fine full_a.0 full_b.0
+      (rest_unknown_a (past_after inputs_a past (d_a, x)) ds xs more_a after_a full_a.1 (after_fine any_delivery inputs_a past (d_a, x) (each x.deliveries) any) unknown_a)
+      (rest_unknown_b (past_after inputs_b past (d_b, y)) es ys more_b after_b full_b.1 (after_fine any_delivery inputs_b past (d_b, y) (each y.deliveries) any) unknown_b)
+    where
+      all_any : (rows : List DeliveryRow) → AllByRecursion any_delivery rows
+      all_any [] = tt
+      all_any (row ∷ rows) = (any_is row, all_any rows)
+  steps_alike past (later {xs = ds} {ys = es} late_a late_b) xs ys more_a more_b len_x len_y full_a full_b fine unknown_a unknown_b = λ follows.
+      rest_unknown_a past ds xs more_a late_a full_a (no_property past fine) unknown_a follows ∙ sym (rest_unknown_b past es ys more_b late_b full_b (no_property past fine) unknown_b follows)
+
+-- ---- whole runs
+
+-- a full run, from its plain replay
+record IsRunOf (t : ℕ) (inputs : Inputs) (run : Run) : Type 0 where
+  pub parts : List Part
+  pub tasks : List BackRow
+  pub fore : run.fore ≡ map (fore_row (medium_with inputs.disk inputs.latent (plain_replay inputs.disk inputs.key (requests inputs)))) (plain_replay inputs.disk inputs.key (requests inputs))
+  pub back : run.back ≡ flat_map (part_rows inputs.disk) (zip (decisions_from inputs.disk (instants_from (requests inputs) inputs.calls) inputs.until first_track 0 (plain_replay inputs.disk inputs.key (requests inputs))) parts) ++ tasks
+  pub end : run.end ≡ end_from 0 (decisions_from inputs.disk (instants_from (requests inputs) inputs.calls) inputs.until first_track 0 (plain_replay inputs.disk inputs.key (requests inputs)))
+  pub long : length parts ≡ length (decisions_from inputs.disk (instants_from (requests inputs) inputs.calls) inputs.until first_track 0 (plain_replay inputs.disk inputs.key (requests inputs)))
+  pub each : AtEach (IsFullPart inputs (medium_with inputs.disk inputs.latent (plain_replay inputs.disk inputs.key (requests inputs)))) inputs []
+      (zip (decisions_from inputs.disk (instants_from (requests inputs) inputs.calls) inputs.until first_track 0 (plain_replay inputs.disk inputs.key (requests inputs))) parts)
+  pub unknown : AreUnknown t tasks
+
+run_of : (t : ℕ) (inputs : Inputs) (run : Run) → IsFull inputs run → IsRunOf t inputs run
+unfolding decisions served medium_of fore_rows
+run_of t inputs run full = record {
+  parts = full.parts;
+  tasks = full.sound.tasks;
+  fore = full.sound.fore;
+  back = full.sound.back;
+  end = full.sound.end;
+  long = full.sound.part_each;
+  each = full_parts inputs run full;
+  unknown = subst (AreUnknown t) (sym full.sound.counted) (tasks_unknown t _);
+}
+
+runs_alike : (t : ℕ) (disk : Disk) (latent : List ℕ) (key : Key) (trace_a trace_b : List Request) (over_a over_b : ℕ) (calls_a calls_b : List Call) (until_a until_b : ℕ) (run_a run_b : Run)
+    → IsSound disk.map
+    → IsAccepted (record { disk = disk; latent = latent; trace = trace_a; passed_over = over_a; calls = calls_a; key = key; until = until_a })
+    → IsAccepted (record { disk = disk; latent = latent; trace = trace_b; passed_over = over_b; calls = calls_b; key = key; until = until_b })
+    → IsRunOf t (record { disk = disk; latent = latent; trace = trace_a; passed_over = over_a; calls = calls_a; key = key; until = until_a }) run_a
+    → IsRunOf t (record { disk = disk; latent = latent; trace = trace_b; passed_over = over_b; calls = calls_b; key = key; until = until_b }) run_b
+    → t < run_a.end → t < run_b.end
+    → AgreeUpTo t (record { disk = disk; latent = latent; trace = trace_a; passed_over = over_a; calls = calls_a; key = key; until = until_a })
+    (record { disk = disk; latent = latent; trace = trace_b; passed_over = over_b; calls = calls_b; key = key; until = until_b })
+    → SameKnown t run_a run_b
+runs_alike t disk latent key trace_a trace_b over_a over_b calls_a calls_b until_a until_b run_a run_b sound accepted_a accepted_b full_a full_b long_a long_b agree =
+    let inputs_a : Inputs = record { disk = disk; latent = latent; trace = trace_a; passed_over = over_a; calls = calls_a; key = key; until = until_a } in
+    let inputs_b : Inputs = record { disk = disk; latent = latent; trace = trace_b; passed_over = over_b; calls = calls_b; key = key; until = until_b } in
+    let list_a = requests inputs_a in
+    let list_b = requests inputs_b in
+    let replay_a = plain_replay disk key list_a in
+    let replay_b = plain_replay disk key list_b in
+    let rises_a = (in_order inputs_a accepted_a).ascend in
+    let rises_b = (in_order inputs_b accepted_b).ascend in
+    let turns_a = plain_turns (length list_a) disk key first_track 0 list_a (omega arith) in
+    let turns_b = plain_turns (length list_b) disk key first_track 0 list_b (omega arith) in
+    let alike = alike_turns t disk key first_track 0 list_a list_b replay_a replay_b agree.requests rises_a rises_b turns_a turns_b in
+    let late_a = write_late disk key sound first_track 0 list_a replay_a turns_a (requests_lie inputs_a accepted_a) in
+    let late_b = write_late disk key sound first_track 0 list_b replay_b turns_b (requests_lie inputs_b accepted_b) in
+    let hold = hold_same disk latent t alike.done replay_a replay_b alike.alike late_a late_b in
+    let medium_a = medium_with disk latent replay_a in
+    let medium_b = medium_with disk latent replay_b in
+    let instants_a = instants_from list_a calls_a in
+    let instants_b = instants_from list_b calls_b in
+    let decided = alike_decisions t alike.done disk key alike.from instants_a instants_b until_a until_b
+    (rising_all_among (map (λ (call : Call). call.instant) calls_a) (map (λ (r : Request). r.arrival) list_a) rises_a)
+    (rising_all_among (map (λ (call : Call). call.instant) calls_b) (map (λ (r : Request). r.arrival) list_b) rises_b)
+    (same_instants t list_a list_b calls_a calls_b rises_a rises_b agree.requests agree.calls)
+    first_track 0 list_a list_b 0 0 alike.alike turns_a turns_b (all_come list_a calls_a) (all_come list_b calls_b) (subst (λ e. t < e) full_a.end long_a) (subst (λ e. t < e) full_b.end long_b) in
+    record {
+      fore = ap (fore_known t) full_a.fore ∙ (same_fore t alike.done medium_a medium_b hold disk alike.alike (are_services disk key first_track 0 list_a replay_a turns_a) ∙ sym (ap (fore_known t) full_b.fore));
+      back = ap (known_from t false) full_a.back
+          ∙ (steps_alike disk latent key trace_a trace_b over_a over_b calls_a calls_b until_a until_b medium_a.writes medium_b.writes t alike.done alike.from agree.calls hold
+          [] decided full_a.parts full_b.parts full_a.tasks full_b.tasks full_a.long full_b.long full_a.each full_b.each tt full_a.unknown full_b.unknown false
+          ∙ sym (ap (known_from t false) full_b.back));
+    }
+
+same_inputs : (a b : Inputs) → a.disk ≡ b.disk → a.latent ≡ b.latent → a.key ≡ b.key → b ≡ record b { disk = a.disk; latent = a.latent; key = a.key }
+same_inputs a b disk latent key =
+    ap (λ x. record b { disk = x }) (sym disk)
+    ∙ (ap (λ x. record b { disk = a.disk; latent = x }) (sym latent) ∙ ap (λ x. record b { disk = a.disk; latent = a.latent; key = x }) (sym key))
+
+pub no_look_ahead : (a b : Inputs) (run_a run_b : Run) (t : ℕ) → IsSound a.disk.map → IsAccepted a → IsAccepted b → IsFull a run_a → IsFull b run_b → t < run_a.end → t < run_b.end → AgreeUpTo t a b → SameKnown t run_a run_b
+no_look_ahead a b run_a run_b t sound accepted_a accepted_b full_a full_b long_a long_b agree =
+    let is = same_inputs a b agree.disk agree.latent agree.key in
+    runs_alike t a.disk a.latent a.key a.trace b.trace a.passed_over b.passed_over a.calls b.calls a.until b.until run_a run_b sound accepted_a (subst IsAccepted is accepted_b)
+    (run_of t a run_a full_a) (run_of t (record b { disk = a.disk; latent = a.latent; key = a.key }) run_b (subst (λ inputs. IsFull inputs run_b) is full_b)) long_a long_b (subst (AgreeUpTo t a) is agree)
