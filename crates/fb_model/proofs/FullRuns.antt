@@ -21,6 +21,7 @@ use Rattle.fb_model.specs.Images.{findings, test_rows, on_disk}
 use Rattle.fb_model.specs.Course.{Delivery, Part, settled_past, with_delivery, with_finish, past_after, steps, AtEach, opening, part_rows, task_rows}
 use Rattle.fb_model.specs.SoundRun.{AreFollowed, IsTested}
 use Rattle.fb_model.specs.FullRun.{HasBestPlan, IsBestPlanned, IsAllDelivered, IsFull}
+use Rattle.fb_model.proofs.Lists.{same_first, same_rest, not_none}
 
 -- ---- the best plan
 
@@ -52,29 +53,20 @@ one_best disk gap wanted a b h k =
 
 -- ---- one decision
 
-abbrev gots : List Delivery → List DeliveryRow
+abbrev pub gots : List Delivery → List DeliveryRow
 gots deliveries = map (λ delivery. delivery.got) deliveries
-
-same_head : {A : Type 0} (x y : A) (xs ys : List A) → x ∷ xs ≡ y ∷ ys → x ≡ y
-same_head x y xs ys e = cc
-
-same_tail : {A : Type 0} (x y : A) (xs ys : List A) → x ∷ xs ≡ y ∷ ys → xs ≡ ys
-same_tail x y xs ys e = cc
-
-no_more : {A : Type 0} (x : A) (xs : List A) → [] ≡ x ∷ xs → ⊥
-no_more x xs e = cc
 
 -- what follows deliveries is determined
 one_following : (medium : Medium) (past : Past) (xs ys : List Delivery) → AreFollowed medium past xs → AreFollowed medium past ys → gots xs ≡ gots ys → xs ≡ ys
 one_following medium past [] [] h k e = refl
-one_following medium past [] (y ∷ ys) h k e = absurd (no_more y.got (gots ys) e)
-one_following medium past (x ∷ xs) [] h k e = absurd (no_more x.got (gots xs) (sym e))
+one_following medium past [] (y ∷ ys) h k e = absurd (not_none y.got (gots ys) (sym e))
+one_following medium past (x ∷ xs) [] h k e = absurd (not_none x.got (gots xs) e)
 one_following medium past (x ∷ xs) (y ∷ ys) h k e =
-    let got : x.got ≡ y.got = same_head x.got y.got (gots xs) (gots ys) e in
+    let got : x.got ≡ y.got = same_first x.got y.got (gots xs) (gots ys) e in
     let after : x.after ≡ y.after = h.0 ∙ ap (λ got. findings past got ++ test_rows (on_disk medium) (delivered got ∷ past) got.end) got ∙ sym k.0 in
     let same : x ≡ y = ap (λ g. record { got = g; after = x.after }) got ∙ ap (λ rows. record { got = y.got; after = rows }) after in
     ap (λ d. d ∷ xs) same
-    ∙ ap (λ ds. y ∷ ds) (one_following medium (with_delivery past y) xs ys (subst (λ d. AreFollowed medium (with_delivery past d) xs) same h.1) k.1 (same_tail x.got y.got (gots xs) (gots ys) e))
+    ∙ ap (λ ds. y ∷ ds) (one_following medium (with_delivery past y) xs ys (subst (λ d. AreFollowed medium (with_delivery past d) xs) same h.1) k.1 (same_rest x.got y.got (gots xs) (gots ys) e))
 
 -- only a request that is served has a plan
 abbrev pub SamePlan : Decision → Plan → Plan → Type 0

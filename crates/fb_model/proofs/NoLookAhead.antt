@@ -14,10 +14,10 @@ use Rattle.fb_rows.specs.declared.back.BackRow.{BackRow}
 use Rattle.fb_rows.specs.declared.back.BackRow.TheVariants.{Idle as IdleLine}
 use Rattle.fb_rows.specs.declared.back.DeliveryRow.{DeliveryRow}
 use Rattle.fb_rows.specs.declared.run.Run.{Run}
-use Rattle.fb_model.specs.PlainReplay.{Key, first_track, plain_replay}
+use Rattle.fb_model.specs.PlainReplay.{Key, has_arrived, first_track, plain_replay}
 use Rattle.fb_model.specs.Inputs.{Inputs, requests, served}
 use Rattle.fb_model.specs.Content.{Medium, Written, medium_of, fore_row, fore_rows}
-use Rattle.fb_model.specs.Decisions.{Decision, serves, idles, ends, instant_of, end_of, decisions_from, decisions}
+use Rattle.fb_model.specs.Decisions.{Decision, serves, idles, ends, instant_of, end_of, decisions_from, decisions, among}
 use Rattle.fb_model.specs.History.{Past, tested, wanted}
 use Rattle.fb_model.specs.Images.{test_rows, on_disk}
 use Rattle.fb_model.specs.Rides.{due}
@@ -25,19 +25,20 @@ use Rattle.fb_model.specs.Course.{Delivery, Part, settled_past, with_delivery, w
 use Rattle.fb_model.specs.Accepted.{IsAccepted}
 use Rattle.fb_model.specs.SoundRun.{HasPlan, AreFollowed}
 use Rattle.fb_model.specs.FullRun.{HasBestPlan, IsFull}
-use Rattle.fb_model.specs.Known.{only_if, known_from, fore_known, AgreeUpTo, SameKnown}
-use Rattle.fb_model.proofs.Lists.{all_weaker, after_is}
+use Rattle.fb_model.specs.Known.{only_if, known_from, fore_known, AgreeUpTo, SameKnown, without_line}
+use Rattle.fb_model.proofs.Lists.{all_weaker, after_is, kept_map}
 use Rattle.fb_model.proofs.Joined.{in_order}
 use Rattle.fb_model.proofs.Due.{IsDueRow, due_true}
-use Rattle.fb_model.proofs.Replays.{plain_turns}
-use Rattle.fb_model.proofs.FullRuns.{IsFullPart, one_part, same_rows, same_after, full_parts}
+use Rattle.fb_model.proofs.Replays.{Rises, plain_turns}
+use Rattle.fb_model.proofs.FullRuns.{gots, IsFullPart, one_part, same_rows, same_after, full_parts}
 use Rattle.fb_model.proofs.ReplaysUpTo.{alike_turns}
-use Rattle.fb_model.proofs.Passages.{are_services, requests_lie, write_late}
+use Rattle.fb_model.proofs.Passages.{LiesOnDisk, are_services, requests_lie, write_late}
 use Rattle.fb_model.proofs.ContentsUpTo.{medium_with, HoldSame, hold_same, same_fore}
 use Rattle.fb_model.proofs.Instants.{instants_from, rising_all_among, all_come, same_instants}
 use Rattle.fb_model.proofs.DecisionsUpTo.{IsMade, IsLater, AlikeDecisions, same, dwelling, later, end_from, alike_decisions}
 use Rattle.fb_model.proofs.HistoriesUpTo.{HasSector, AreFine, HasBegun, wanted_fine, settled_fine, after_fine, all_fine_weaker, calls_by, same_settled}
-use Rattle.fb_model.proofs.RowsUpTo.{AreUnknown, AreKnownAlike, IsUnknown, unknown_before, alike_behind, tests_unknown, tasks_unknown, delivered_rows, gots_of, deliveries_unknown, same_tests, same_followed, ends_by_then, RisingEnds, alike_deliveries}
+use Rattle.fb_model.proofs.RowsUpTo.{AreUnknown, AreKnownAlike, IsUnknown, unknown_before, alike_behind, tests_unknown, tasks_unknown, delivered_rows, deliveries_unknown, same_tests, same_followed, ends_by_then, RisingEnds, alike_deliveries}
+use Rattle.fb_model.proofs.Unlined.{unlined_inputs, parts_same, instants_same}
 use Rattle.fb_model.proofs.DueUpTo.{LiesBetween, due_between, same_due, rising_caught, same_by_then}
 
 -- ---- one decision
@@ -47,7 +48,7 @@ plan_of disk (serves served) wanted plan best = best.is_plan
 plan_of disk (idles dwell) wanted plan best = tt
 plan_of disk (ends now) wanted plan best = tt
 
-gots_all : (P : DeliveryRow → Type 0) (deliveries : List Delivery) → AllByRecursion P (gots_of deliveries) → AllByRecursion (λ (d : Delivery). P d.got) deliveries
+gots_all : (P : DeliveryRow → Type 0) (deliveries : List Delivery) → AllByRecursion P (gots deliveries) → AllByRecursion (λ (d : Delivery). P d.got) deliveries
 gots_all P [] all = tt
 gots_all P (d ∷ ds) all = (all.0, gots_all P ds all.1)
 
@@ -68,7 +69,7 @@ module _ (disk : Disk) (latent : List ℕ) (key : Key) (trace : List Request) (p
 
   -- deliveries lie within their decision
   part_between : (P : DeliveryRow → Type 0) (past : Past) (step : Decision × Part) → IsFullPart inputs medium past step → IsMade disk step.0 → AreFine P past
-      → AllByRecursion (LiesBetween (instant_of step.0) (end_of step.0)) (gots_of step.1.deliveries)
+      → AllByRecursion (LiesBetween (instant_of step.0) (end_of step.0)) (gots step.1.deliveries)
   part_between P past step full made fine =
       let blocks = wanted (settled_past inputs past step.0) in
       subst (AllByRecursion (LiesBetween (instant_of step.0) (end_of step.0))) (sym full.all)
@@ -86,13 +87,13 @@ module _ (disk : Disk) (latent : List ℕ) (key : Key) (trace : List Request) (p
       let instant = late.0.from in
       let between = part_between P past (d, part) full.0 late.0.made fine in
       let others = steps_unknown t P any (past_after inputs past (d, part)) ds parts more late.1 full.1
-      (after_fine P inputs past (d, part) (gots_all P part.deliveries (all_weaker (LiesBetween (instant_of d) (end_of d)) P (λ row h. any row) (gots_of part.deliveries) between)) fine) unknown in
+      (after_fine P inputs past (d, part) (gots_all P part.deliveries (all_weaker (LiesBetween (instant_of d) (end_of d)) P (λ row h. any row) (gots part.deliveries) between)) fine) unknown in
       subst (AreUnknown t) (sym (regroup part.settled (opening disk d part.plan) (delivered_rows part.deliveries) rest more))
       (unknown_before t part.settled (opening disk d part.plan ++ (delivered_rows part.deliveries ++ (rest ++ more)))
       (subst (AllByRecursion (IsUnknown t)) (sym full.0.tests.settled) (tests_unknown t (on_disk medium) (settled_past inputs past d) (instant_of d) instant))
       (unknown_before t (opening disk d part.plan) (delivered_rows part.deliveries ++ (rest ++ more)) (opening_unknown t disk d part.plan late.0)
       (deliveries_unknown t medium (tested_past inputs past (d, part)) part.deliveries (rest ++ more) full.0.tests.followed
-      (all_weaker (LiesBetween (instant_of d) (end_of d)) (λ (row : DeliveryRow). t < row.end) (λ row h. let begins = h.begins in let in_turn = h.in_turn in omega (arith, begins, in_turn, instant)) (gots_of part.deliveries) between)
+      (all_weaker (LiesBetween (instant_of d) (end_of d)) (λ (row : DeliveryRow). t < row.end) (λ row h. let begins = h.begins in let in_turn = h.in_turn in omega (arith, begins, in_turn, instant)) (gots part.deliveries) between)
       others)))
 
 -- ---- two runs
@@ -131,7 +132,7 @@ module _ (disk : Disk) (latent : List ℕ) (key : Key) (trace_a trace_b : List R
         tests = record {
           settled = full.tests.settled ∙ (ap (λ past. test_rows (on_disk medium_b) past (instant_of d)) (sym settled) ∙ sym (same_tests done medium_a medium_b hold settled_a (instant_of d) fine_a (omega arith)));
           followed = same_followed done medium_a medium_b hold (tested part.settled ∷ settled_a) part.deliveries (tt, fine_a)
-              (all_weaker (LiesBetween (instant_of d) (end_of d)) (λ (row : DeliveryRow). (row.begin ≤ done) × (row.end ≤ done)) (λ row lies. let in_turn = lies.in_turn in let over = lies.ends in (omega (arith, in_turn, over, ended), omega (arith, over, ended))) (gots_of part.deliveries) between)
+              (all_weaker (LiesBetween (instant_of d) (end_of d)) (λ (row : DeliveryRow). (row.begin ≤ done) × (row.end ≤ done)) (λ row lies. let in_turn = lies.in_turn in let over = lies.ends in (omega (arith, in_turn, over, ended), omega (arith, over, ended))) (gots part.deliveries) between)
               (subst (λ past. AreFollowed medium_b (tested part.settled ∷ past) part.deliveries) (sym settled) full.tests.followed);
         };
         best = subst (λ past. HasBestPlan disk d (wanted past) part.plan) (sym settled) full.best;
@@ -160,14 +161,14 @@ module _ (disk : Disk) (latent : List ℕ) (key : Key) (trace_a trace_b : List R
       ∙ (ap (λ past. test_rows (on_disk medium_b) past now) settled ∙ sym full_b.tests.settled)) in
       let pasts : tested x.settled ∷ settled_a ≡ tested y.settled ∷ settled_b = ap₂ (λ rows past. tested rows ∷ past) rows settled in
       let between = part_between disk latent key trace_a over_a calls_a until_a writes_a (HasBegun done) past (d_a, x) full_a tt fine in
-      let kept : filter (ends_by_then t) (gots_of x.deliveries) ≡ filter (ends_by_then t) (gots_of y.deliveries) =
+      let kept : filter (ends_by_then t) (gots x.deliveries) ≡ filter (ends_by_then t) (gots y.deliveries) =
       ap (filter (ends_by_then t)) full_a.all ∙ (same_by_then disk latent writes_a writes_b t done since hold ByIdle head now end_a end_b late_a late_b (wanted settled_a)
       ∙ (ap (λ past. filter (ends_by_then t) (due medium_b d_b y.plan (wanted past))) settled ∙ sym (ap (filter (ends_by_then t)) full_b.all))) in
       let alike = alike_deliveries t done since medium_a medium_b hold (tested x.settled ∷ settled_a) x.deliveries y.deliveries (rest_a ++ more_a) (rest_b ++ more_b) (tt, fine_a) full_a.tests.followed
       (subst (λ past. AreFollowed medium_b past y.deliveries) (sym pasts) full_b.tests.followed)
       (subst RisingEnds (sym full_a.all) (rising_caught medium_a ByIdle (record { track = head; begin = now; end = end_a }) (wanted settled_a)))
       (subst RisingEnds (sym full_b.all) (rising_caught medium_b ByIdle (record { track = head; begin = now; end = end_b }) (wanted settled_b)))
-      (all_weaker (LiesBetween now end_a) (λ (row : DeliveryRow). row.begin ≤ row.end) (λ row lies. lies.in_turn) (gots_of x.deliveries) between)
+      (all_weaker (LiesBetween now end_a) (λ (row : DeliveryRow). row.begin ≤ row.end) (λ row lies. lies.in_turn) (gots x.deliveries) between)
       kept unknown_a unknown_b in
       let got_a = delivered_rows x.deliveries ++ (rest_a ++ more_a) in
       let got_b = delivered_rows y.deliveries ++ (rest_b ++ more_b) in
@@ -209,7 +210,7 @@ module _ (disk : Disk) (latent : List ℕ) (key : Key) (trace_a trace_b : List R
       let rest_b = flat_map (part_rows disk) (zip es ys) in
       let between = part_between disk latent key trace_a over_a calls_a until_a writes_a (HasBegun done) past (d, x) full_a.0 made fine in
       let fine_after = after_fine (HasBegun done) inputs_a past (d, x)
-      (gots_all (HasBegun done) x.deliveries (all_weaker (LiesBetween (instant_of d) (end_of d)) (HasBegun done) (λ row lies. let in_turn = lies.in_turn in let over = lies.ends in omega (arith, in_turn, over, ended)) (gots_of x.deliveries) between)) fine in
+      (gots_all (HasBegun done) x.deliveries (all_weaker (LiesBetween (instant_of d) (end_of d)) (HasBegun done) (λ row lies. let in_turn = lies.in_turn in let over = lies.ends in omega (arith, in_turn, over, ended)) (gots x.deliveries) between)) fine in
       let others = steps_alike (past_after inputs_a past (d, x)) alike xs ys more_a more_b (omega arith) (omega arith) full_a.1
       (subst (λ past. AtEach (IsFullPart inputs_b medium_b) inputs_b past (zip es ys)) (sym after) full_b.1) fine_after unknown_a unknown_b in
       λ follows.
@@ -222,7 +223,7 @@ module _ (disk : Disk) (latent : List ℕ) (key : Key) (trace_a trace_b : List R
       let d_a = idles (record { track = head; begin = now; end = end_a }) in
       let d_b = idles (record { track = head; begin = now; end = end_b }) in
       let any = no_property past fine in
-      let each = λ (deliveries : List Delivery). gots_all any_delivery deliveries (all_any (gots_of deliveries)) in
+      let each = λ (deliveries : List Delivery). gots_all any_delivery deliveries (all_any (gots deliveries)) in
       dwell_alike past head now end_a end_b x y (flat_map (part_rows disk) (zip ds xs)) (flat_map (part_rows disk) (zip es ys)) more_a more_b h late_a late_b fine full_a.0 full_b.0
       (rest_unknown_a (past_after inputs_a past (d_a, x)) ds xs more_a after_a full_a.1 (after_fine any_delivery inputs_a past (d_a, x) (each x.deliveries) any) unknown_a)
       (rest_unknown_b (past_after inputs_b past (d_b, y)) es ys more_b after_b full_b.1 (after_fine any_delivery inputs_b past (d_b, y) (each y.deliveries) any) unknown_b)
@@ -235,19 +236,19 @@ module _ (disk : Disk) (latent : List ℕ) (key : Key) (trace_a trace_b : List R
 
 -- ---- whole runs
 
--- a full run, from its plain replay
-record IsRunOf (t : ℕ) (inputs : Inputs) (run : Run) : Type 0 where
+-- what the law needs of a full run: its rows, by its list of requests and the instants of arrivals and calls
+record IsRunOf (t : ℕ) (inputs : Inputs) (list : List Request) (instants : List ℕ) (run : Run) : Type 0 where
   pub parts : List Part
   pub tasks : List BackRow
-  pub fore : run.fore ≡ map (fore_row (medium_with inputs.disk inputs.latent (plain_replay inputs.disk inputs.key (requests inputs)))) (plain_replay inputs.disk inputs.key (requests inputs))
-  pub back : run.back ≡ flat_map (part_rows inputs.disk) (zip (decisions_from inputs.disk (instants_from (requests inputs) inputs.calls) inputs.until first_track 0 (plain_replay inputs.disk inputs.key (requests inputs))) parts) ++ tasks
-  pub end : run.end ≡ end_from 0 (decisions_from inputs.disk (instants_from (requests inputs) inputs.calls) inputs.until first_track 0 (plain_replay inputs.disk inputs.key (requests inputs)))
-  pub long : length parts ≡ length (decisions_from inputs.disk (instants_from (requests inputs) inputs.calls) inputs.until first_track 0 (plain_replay inputs.disk inputs.key (requests inputs)))
-  pub each : AtEach (IsFullPart inputs (medium_with inputs.disk inputs.latent (plain_replay inputs.disk inputs.key (requests inputs)))) inputs []
-      (zip (decisions_from inputs.disk (instants_from (requests inputs) inputs.calls) inputs.until first_track 0 (plain_replay inputs.disk inputs.key (requests inputs))) parts)
+  pub fore : run.fore ≡ map (fore_row (medium_with inputs.disk inputs.latent (plain_replay inputs.disk inputs.key list))) (plain_replay inputs.disk inputs.key list)
+  pub back : run.back ≡ flat_map (part_rows inputs.disk) (zip (decisions_from inputs.disk instants inputs.until first_track 0 (plain_replay inputs.disk inputs.key list)) parts) ++ tasks
+  pub end : run.end ≡ end_from 0 (decisions_from inputs.disk instants inputs.until first_track 0 (plain_replay inputs.disk inputs.key list))
+  pub long : length parts ≡ length (decisions_from inputs.disk instants inputs.until first_track 0 (plain_replay inputs.disk inputs.key list))
+  pub each : AtEach (IsFullPart inputs (medium_with inputs.disk inputs.latent (plain_replay inputs.disk inputs.key list))) inputs []
+      (zip (decisions_from inputs.disk instants inputs.until first_track 0 (plain_replay inputs.disk inputs.key list)) parts)
   pub unknown : AreUnknown t tasks
 
-run_of : (t : ℕ) (inputs : Inputs) (run : Run) → IsFull inputs run → IsRunOf t inputs run
+run_of : (t : ℕ) (inputs : Inputs) (run : Run) → IsFull inputs run → IsRunOf t inputs (requests inputs) (instants_from (requests inputs) inputs.calls) run
 unfolding decisions served medium_of fore_rows
 run_of t inputs run full = record {
   parts = full.parts;
@@ -260,44 +261,60 @@ run_of t inputs run full = record {
   unknown = subst (AreUnknown t) (sym full.sound.counted) (tasks_unknown t _);
 }
 
-runs_alike : (t : ℕ) (disk : Disk) (latent : List ℕ) (key : Key) (trace_a trace_b : List Request) (over_a over_b : ℕ) (calls_a calls_b : List Call) (until_a until_b : ℕ) (run_a run_b : Run)
-    → IsSound disk.map
-    → IsAccepted (record { disk = disk; latent = latent; trace = trace_a; passed_over = over_a; calls = calls_a; key = key; until = until_a })
-    → IsAccepted (record { disk = disk; latent = latent; trace = trace_b; passed_over = over_b; calls = calls_b; key = key; until = until_b })
-    → IsRunOf t (record { disk = disk; latent = latent; trace = trace_a; passed_over = over_a; calls = calls_a; key = key; until = until_a }) run_a
-    → IsRunOf t (record { disk = disk; latent = latent; trace = trace_b; passed_over = over_b; calls = calls_b; key = key; until = until_b }) run_b
-    → t < run_a.end → t < run_b.end
-    → AgreeUpTo t (record { disk = disk; latent = latent; trace = trace_a; passed_over = over_a; calls = calls_a; key = key; until = until_a })
-    (record { disk = disk; latent = latent; trace = trace_b; passed_over = over_b; calls = calls_b; key = key; until = until_b })
+-- it is one of the same calls on other lines
+unlined_run : (t : ℕ) (inputs : Inputs) (list : List Request) (run : Run) → IsRunOf t inputs list (instants_from list inputs.calls) run
+    → IsRunOf t (unlined_inputs inputs) list (instants_from list (map without_line inputs.calls)) run
+unlined_run t inputs list run is =
+    let instants = instants_from list inputs.calls in
+    let medium = medium_with inputs.disk inputs.latent (plain_replay inputs.disk inputs.key list) in
+    subst (λ instants. IsRunOf t (unlined_inputs inputs) list instants run) (sym (ap (fold among (map (λ (r : Request). r.arrival) list)) (instants_same inputs.calls)))
+    (record {
+      parts = is.parts;
+      tasks = is.tasks;
+      fore = is.fore;
+      back = is.back;
+      end = is.end;
+      long = is.long;
+      each = parts_same medium inputs [] (zip (decisions_from inputs.disk instants inputs.until first_track 0 (plain_replay inputs.disk inputs.key list)) is.parts) is.each;
+      unknown = is.unknown;
+    })
+
+-- requests of an accepted list
+record IsListOf (disk : Disk) (list : List Request) : Type 0 where
+  pub rises : Rises list
+  pub lie : AllByRecursion (LiesOnDisk disk.map) list
+
+list_of : (inputs : Inputs) → IsAccepted inputs → IsListOf inputs.disk (requests inputs)
+list_of inputs accepted = record { rises = (in_order inputs accepted).ascend; lie = requests_lie inputs accepted }
+
+runs_alike : (t : ℕ) (disk : Disk) (latent : List ℕ) (key : Key) (trace_a trace_b : List Request) (over_a over_b : ℕ) (calls_a calls_b : List Call) (until_a until_b : ℕ) (list_a list_b : List Request) (run_a run_b : Run)
+    → IsSound disk.map → IsListOf disk list_a → IsListOf disk list_b
+    → IsRunOf t (record { disk = disk; latent = latent; trace = trace_a; passed_over = over_a; calls = calls_a; key = key; until = until_a }) list_a (instants_from list_a calls_a) run_a
+    → IsRunOf t (record { disk = disk; latent = latent; trace = trace_b; passed_over = over_b; calls = calls_b; key = key; until = until_b }) list_b (instants_from list_b calls_b) run_b
+    → t < run_a.end → t < run_b.end → filter (has_arrived t) list_a ≡ filter (has_arrived t) list_b → filter (calls_by t) calls_a ≡ filter (calls_by t) calls_b
     → SameKnown t run_a run_b
-runs_alike t disk latent key trace_a trace_b over_a over_b calls_a calls_b until_a until_b run_a run_b sound accepted_a accepted_b full_a full_b long_a long_b agree =
-    let inputs_a : Inputs = record { disk = disk; latent = latent; trace = trace_a; passed_over = over_a; calls = calls_a; key = key; until = until_a } in
-    let inputs_b : Inputs = record { disk = disk; latent = latent; trace = trace_b; passed_over = over_b; calls = calls_b; key = key; until = until_b } in
-    let list_a = requests inputs_a in
-    let list_b = requests inputs_b in
+runs_alike t disk latent key trace_a trace_b over_a over_b calls_a calls_b until_a until_b list_a list_b run_a run_b sound accepted_a accepted_b full_a full_b long_a long_b arrived come =
     let replay_a = plain_replay disk key list_a in
     let replay_b = plain_replay disk key list_b in
-    let rises_a = (in_order inputs_a accepted_a).ascend in
-    let rises_b = (in_order inputs_b accepted_b).ascend in
     let turns_a = plain_turns (length list_a) disk key first_track 0 list_a (omega arith) in
     let turns_b = plain_turns (length list_b) disk key first_track 0 list_b (omega arith) in
-    let alike = alike_turns t disk key first_track 0 list_a list_b replay_a replay_b agree.requests rises_a rises_b turns_a turns_b in
-    let late_a = write_late disk key sound first_track 0 list_a replay_a turns_a (requests_lie inputs_a accepted_a) in
-    let late_b = write_late disk key sound first_track 0 list_b replay_b turns_b (requests_lie inputs_b accepted_b) in
+    let alike = alike_turns t disk key first_track 0 list_a list_b replay_a replay_b arrived accepted_a.rises accepted_b.rises turns_a turns_b in
+    let late_a = write_late disk key sound first_track 0 list_a replay_a turns_a accepted_a.lie in
+    let late_b = write_late disk key sound first_track 0 list_b replay_b turns_b accepted_b.lie in
     let hold = hold_same disk latent t alike.done replay_a replay_b alike.alike late_a late_b in
     let medium_a = medium_with disk latent replay_a in
     let medium_b = medium_with disk latent replay_b in
     let instants_a = instants_from list_a calls_a in
     let instants_b = instants_from list_b calls_b in
     let decided = alike_decisions t alike.done disk key alike.from instants_a instants_b until_a until_b
-    (rising_all_among (map (λ (call : Call). call.instant) calls_a) (map (λ (r : Request). r.arrival) list_a) rises_a)
-    (rising_all_among (map (λ (call : Call). call.instant) calls_b) (map (λ (r : Request). r.arrival) list_b) rises_b)
-    (same_instants t list_a list_b calls_a calls_b rises_a rises_b agree.requests agree.calls)
+    (rising_all_among (map (λ (call : Call). call.instant) calls_a) (map (λ (r : Request). r.arrival) list_a) accepted_a.rises)
+    (rising_all_among (map (λ (call : Call). call.instant) calls_b) (map (λ (r : Request). r.arrival) list_b) accepted_b.rises)
+    (same_instants t list_a list_b calls_a calls_b accepted_a.rises accepted_b.rises arrived come)
     first_track 0 list_a list_b 0 0 alike.alike turns_a turns_b (all_come list_a calls_a) (all_come list_b calls_b) (subst (λ e. t < e) full_a.end long_a) (subst (λ e. t < e) full_b.end long_b) in
     record {
       fore = ap (fore_known t) full_a.fore ∙ (same_fore t alike.done medium_a medium_b hold disk alike.alike (are_services disk key first_track 0 list_a replay_a turns_a) ∙ sym (ap (fore_known t) full_b.fore));
       back = ap (known_from t false) full_a.back
-          ∙ (steps_alike disk latent key trace_a trace_b over_a over_b calls_a calls_b until_a until_b medium_a.writes medium_b.writes t alike.done alike.from agree.calls hold
+          ∙ (steps_alike disk latent key trace_a trace_b over_a over_b calls_a calls_b until_a until_b medium_a.writes medium_b.writes t alike.done alike.from come hold
           [] decided full_a.parts full_b.parts full_a.tasks full_b.tasks full_a.long full_b.long full_a.each full_b.each tt full_a.unknown full_b.unknown false
           ∙ sym (ap (known_from t false) full_b.back));
     }
@@ -307,8 +324,16 @@ same_inputs a b disk latent key =
     ap (λ x. record b { disk = x }) (sym disk)
     ∙ (ap (λ x. record b { disk = a.disk; latent = x }) (sym latent) ∙ ap (λ x. record b { disk = a.disk; latent = a.latent; key = x }) (sym key))
 
+-- calls that are the same but for their lines are the same without them
+same_unlined : (t : ℕ) (calls_a calls_b : List Call) → map without_line (filter (calls_by t) calls_a) ≡ map without_line (filter (calls_by t) calls_b)
+    → filter (calls_by t) (map without_line calls_a) ≡ filter (calls_by t) (map without_line calls_b)
+same_unlined t calls_a calls_b e = kept_map (calls_by t) without_line calls_a ∙ (e ∙ sym (kept_map (calls_by t) without_line calls_b))
+
 pub no_look_ahead : (a b : Inputs) (run_a run_b : Run) (t : ℕ) → IsSound a.disk.map → IsAccepted a → IsAccepted b → IsFull a run_a → IsFull b run_b → t < run_a.end → t < run_b.end → AgreeUpTo t a b → SameKnown t run_a run_b
 no_look_ahead a b run_a run_b t sound accepted_a accepted_b full_a full_b long_a long_b agree =
     let is = same_inputs a b agree.disk agree.latent agree.key in
-    runs_alike t a.disk a.latent a.key a.trace b.trace a.passed_over b.passed_over a.calls b.calls a.until b.until run_a run_b sound accepted_a (subst IsAccepted is accepted_b)
-    (run_of t a run_a full_a) (run_of t (record b { disk = a.disk; latent = a.latent; key = a.key }) run_b (subst (λ inputs. IsFull inputs run_b) is full_b)) long_a long_b (subst (AgreeUpTo t a) is agree)
+    let like_a = record b { disk = a.disk; latent = a.latent; key = a.key } in
+    runs_alike t a.disk a.latent a.key a.trace b.trace a.passed_over b.passed_over (map without_line a.calls) (map without_line b.calls) a.until b.until (requests a) (requests b) run_a run_b sound
+    (list_of a accepted_a) (list_of like_a (subst IsAccepted is accepted_b))
+    (unlined_run t a (requests a) run_a (run_of t a run_a full_a)) (unlined_run t like_a (requests b) run_b (run_of t like_a run_b (subst (λ inputs. IsFull inputs run_b) is full_b)))
+    long_a long_b agree.requests (same_unlined t a.calls b.calls agree.calls)

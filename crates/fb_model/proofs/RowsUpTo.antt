@@ -18,6 +18,7 @@ use Rattle.fb_model.specs.Course.{Delivery, with_delivery, task_row, task_rows}
 use Rattle.fb_model.specs.SoundRun.{AreFollowed}
 use Rattle.fb_model.specs.Known.{is_known, follows_known, only_if, known_from}
 use Rattle.fb_model.proofs.Lists.{all_append, all_map, all_flat_map, all_dropped, same_map, same_flat_map, is_by, is_after, after_is, same_first, same_rest, not_none}
+use Rattle.fb_model.proofs.FullRuns.{gots}
 use Rattle.fb_model.proofs.ContentsUpTo.{HoldSame, same_contents}
 use Rattle.fb_model.proofs.HistoriesUpTo.{AreFine, HasBegun, has_begun}
 
@@ -100,11 +101,8 @@ module _ (t : ℕ) where
 abbrev pub delivered_rows : List Delivery → List BackRow
 delivered_rows deliveries = flat_map (λ delivery. GotLine delivery.got ∷ delivery.after) deliveries
 
-abbrev pub gots_of : List Delivery → List DeliveryRow
-gots_of deliveries = map (λ delivery. delivery.got) deliveries
-
 module _ (t : ℕ) (medium : Medium) where
-  pub deliveries_unknown : (past : Past) (deliveries : List Delivery) (more : List BackRow) → AreFollowed medium past deliveries → AllByRecursion (λ (row : DeliveryRow). t < row.end) (gots_of deliveries)
+  pub deliveries_unknown : (past : Past) (deliveries : List Delivery) (more : List BackRow) → AreFollowed medium past deliveries → AllByRecursion (λ (row : DeliveryRow). t < row.end) (gots deliveries)
       → AreUnknown t more → AreUnknown t (delivered_rows deliveries ++ more)
   deliveries_unknown past [] more followed late h = h
   deliveries_unknown past (d ∷ ds) more followed late h =
@@ -149,7 +147,7 @@ module _ (done : ℕ) (a b : Medium) (same : HoldSame done a b) where
       → findings past got ++ test_rows (on_disk a) (delivered got ∷ past) got.end ≡ findings past got ++ test_rows (on_disk b) (delivered got ∷ past) got.end
   same_after past got fine over = ap (λ rows. findings past got ++ rows) (same_tests (delivered got ∷ past) got.end (over.0, fine) over.1)
 
-  pub same_followed : (past : Past) (deliveries : List Delivery) → AreFine (HasBegun done) past → AllByRecursion IsOver (gots_of deliveries) → AreFollowed b past deliveries → AreFollowed a past deliveries
+  pub same_followed : (past : Past) (deliveries : List Delivery) → AreFine (HasBegun done) past → AllByRecursion IsOver (gots deliveries) → AreFollowed b past deliveries → AreFollowed a past deliveries
   same_followed past [] fine over followed = tt
   same_followed past (d ∷ ds) fine over followed = (followed.0 ∙ sym (same_after past d.got fine over.0), same_followed (with_delivery past d) ds (tt, (over.0.0, fine)) over.1 followed.1)
 
@@ -180,20 +178,20 @@ late_kept t (row ∷ rows) all = rw (after_is row.end t all.0) (late_kept t rows
 
 module _ (t done : ℕ) (since : t ≤ done) (a b : Medium) (same : HoldSame done a b) where
   pub alike_deliveries : (past : Past) (xs ys : List Delivery) (more_x more_y : List BackRow) → AreFine (HasBegun done) past → AreFollowed a past xs → AreFollowed b past ys
-      → RisingEnds (gots_of xs) → RisingEnds (gots_of ys) → AllByRecursion (λ (row : DeliveryRow). row.begin ≤ row.end) (gots_of xs)
-      → filter (ends_by_then t) (gots_of xs) ≡ filter (ends_by_then t) (gots_of ys) → AreUnknown t more_x → AreUnknown t more_y
+      → RisingEnds (gots xs) → RisingEnds (gots ys) → AllByRecursion (λ (row : DeliveryRow). row.begin ≤ row.end) (gots xs)
+      → filter (ends_by_then t) (gots xs) ≡ filter (ends_by_then t) (gots ys) → AreUnknown t more_x → AreUnknown t more_y
       → AreKnownAlike t (delivered_rows xs ++ more_x) (delivered_rows ys ++ more_y)
   alike_deliveries past [] ys more_x more_y fine follow_x follow_y rising_x rising_y order e unknown_x unknown_y = λ follows.
-      unknown_x follows ∙ sym (deliveries_unknown t b past ys more_y follow_y (ends_late t (gots_of ys) (all_dropped (ends_by_then t) (gots_of ys) (sym e))) unknown_y follows)
+      unknown_x follows ∙ sym (deliveries_unknown t b past ys more_y follow_y (ends_late t (gots ys) (all_dropped (ends_by_then t) (gots ys) (sym e))) unknown_y follows)
   alike_deliveries past (x ∷ xs) [] more_x more_y fine follow_x follow_y rising_x rising_y order e unknown_x unknown_y = λ follows.
-      deliveries_unknown t a past (x ∷ xs) more_x follow_x (ends_late t (gots_of (x ∷ xs)) (all_dropped (ends_by_then t) (gots_of (x ∷ xs)) e)) unknown_x follows ∙ sym (unknown_y follows)
+      deliveries_unknown t a past (x ∷ xs) more_x follow_x (ends_late t (gots (x ∷ xs)) (all_dropped (ends_by_then t) (gots (x ∷ xs)) e)) unknown_x follows ∙ sym (unknown_y follows)
   alike_deliveries past (x ∷ xs) (y ∷ ys) more_x more_y fine follow_x follow_y rising_x rising_y order e unknown_x unknown_y = elim (cases_Bool (ends_by_then t x.got)) [
     | inl by_x ↦
-        let kept : x.got ∷ filter (ends_by_then t) (gots_of xs) ≡ filter (ends_by_then t) (gots_of (y ∷ ys)) = rw by_x at e in
+        let kept : x.got ∷ filter (ends_by_then t) (gots xs) ≡ filter (ends_by_then t) (gots (y ∷ ys)) = rw by_x at e in
         elim (cases_Bool (ends_by_then t y.got)) [
           | inl by_y ↦
-              let both : x.got ∷ filter (ends_by_then t) (gots_of xs) ≡ y.got ∷ filter (ends_by_then t) (gots_of ys) = rw by_y at kept in
-              let got = same_first x.got y.got (filter (ends_by_then t) (gots_of xs)) (filter (ends_by_then t) (gots_of ys)) both in
+              let both : x.got ∷ filter (ends_by_then t) (gots xs) ≡ y.got ∷ filter (ends_by_then t) (gots ys) = rw by_y at kept in
+              let got = same_first x.got y.got (filter (ends_by_then t) (gots xs)) (filter (ends_by_then t) (gots ys)) both in
               let end : x.got.end ≤ t = is_by x.got.end t by_x in
               let over : IsOver done a b same x.got = (let from = order.0 in omega arith, omega arith) in
               let after : x.after ≡ y.after = follow_x.0 ∙ (same_after done a b same past x.got fine over
@@ -203,14 +201,14 @@ module _ (t done : ℕ) (since : t ≤ done) (a b : Medium) (same : HoldSame don
               (λ follows. ap (known_from t follows) (append_assoc (GotLine x.got ∷ x.after) (delivered_rows xs) more_x)
               ∙ (alike_behind t (GotLine x.got ∷ x.after) (delivered_rows xs ++ more_x) (delivered_rows ys ++ more_y)
               (alike_deliveries (with_delivery past x) xs ys more_x more_y (tt, (over.0, fine)) follow_x.1 (subst (λ d. AreFollowed b (with_delivery past d) ys) (sym one) follow_y.1)
-              rising_x.1 rising_y.1 order.1 (same_rest x.got y.got (filter (ends_by_then t) (gots_of xs)) (filter (ends_by_then t) (gots_of ys)) both) unknown_x unknown_y) follows
+              rising_x.1 rising_y.1 order.1 (same_rest x.got y.got (filter (ends_by_then t) (gots xs)) (filter (ends_by_then t) (gots ys)) both) unknown_x unknown_y) follows
               ∙ sym (ap (known_from t follows) (append_assoc (GotLine x.got ∷ x.after) (delivered_rows ys) more_y))))
-          | inr late_y ↦ absurd (not_none x.got (filter (ends_by_then t) (gots_of xs)) (kept ∙ late_kept t (gots_of (y ∷ ys)) (rest_late t y.got (gots_of ys) rising_y late_y)))
+          | inr late_y ↦ absurd (not_none x.got (filter (ends_by_then t) (gots xs)) (kept ∙ late_kept t (gots (y ∷ ys)) (rest_late t y.got (gots ys) rising_y late_y)))
         ]
     | inr late_x ↦
-        let late = rest_late t x.got (gots_of xs) rising_x late_x in
-        let none = late_kept t (gots_of (x ∷ xs)) late in
+        let late = rest_late t x.got (gots xs) rising_x late_x in
+        let none = late_kept t (gots (x ∷ xs)) late in
         λ follows.
         deliveries_unknown t a past (x ∷ xs) more_x follow_x late unknown_x follows
-        ∙ sym (deliveries_unknown t b past (y ∷ ys) more_y follow_y (ends_late t (gots_of (y ∷ ys)) (all_dropped (ends_by_then t) (gots_of (y ∷ ys)) (sym e ∙ none))) unknown_y follows)
+        ∙ sym (deliveries_unknown t b past (y ∷ ys) more_y follow_y (ends_late t (gots (y ∷ ys)) (all_dropped (ends_by_then t) (gots (y ∷ ys)) (sym e ∙ none))) unknown_y follows)
   ]

@@ -1,6 +1,7 @@
 -- What is known of a run by an instant.
-use Rattle.std.specs.Prelude.{◌≡◌, ℕ, ◌<◌, List, [], ◌∷◌, Bool, true, false, nat_le, filter}
+use Rattle.std.specs.Prelude.{◌≡◌, ℕ, ◌<◌, List, [], ◌∷◌, Bool, true, false, nat_le, filter, map}
 use Rattle.fb_geometry.specs.Sound.{IsSound}
+use Rattle.fb_calls.specs.declared.call.Call.{Call}
 use Rattle.fb_rows.specs.declared.fore.ForeRow.{ForeRow}
 use Rattle.fb_rows.specs.declared.back.BackRow.{BackRow}
 use Rattle.fb_rows.specs.declared.back.BackRow.TheVariants.{Gap as GapLine, Idle as IdleLine, Got as GotLine, Bad as BadLine, Seal as SealLine, Segment as SegmentLine, Complete as CompleteLine, Task as TaskLine}
@@ -41,13 +42,17 @@ known_from t follows (row ∷ rows) = only_if (is_known t follows row) row (know
 abbrev pub back_known : ℕ → List BackRow → List BackRow
 back_known t rows = known_from t false rows
 
+-- a call, on whatever line of its script it stands
+abbrev pub without_line : Call → Call
+without_line call = record call { line = 0 }
+
 -- the inputs agree up to t
 pub record AgreeUpTo (t : ℕ) (a b : Inputs) : Type 0 where
   pub disk : a.disk ≡ b.disk
   pub latent : a.latent ≡ b.latent
   pub key : a.key ≡ b.key
   pub requests : filter (λ request. nat_le request.arrival t) (requests a) ≡ filter (λ request. nat_le request.arrival t) (requests b)
-  pub calls : filter (λ call. nat_le call.instant t) a.calls ≡ filter (λ call. nat_le call.instant t) b.calls
+  pub calls : map without_line (filter (λ call. nat_le call.instant t) a.calls) ≡ map without_line (filter (λ call. nat_le call.instant t) b.calls)
 
 -- the parts known by t are equal
 pub record SameKnown (t : ℕ) (a b : Run) : Type 0 where
