@@ -136,6 +136,7 @@ fn decide<Q: Queue, P: Planner>(
 ) -> Result<bool, NoMemory>
     requires list { IsTraceOf disk.now requests.now }
     requires script { IsScriptOf disk.now.map calls.now.calls.items }
+    requires serves { Q.serves queue.old disk.now }
     requires waiting { IsWaiting disk.now requests.now course.old.now course.old.joined (Q.joined queue.old) (Q.pending queue.old) }
     requires come { AllByRecursion (λ r. r.arrival ≤ course.old.now) (take course.old.joined requests.now) }
     requires head { IsTrackOf disk.now.map course.old.head }
@@ -145,10 +146,11 @@ fn decide<Q: Queue, P: Planner>(
         → Tells disk.now.map past course.old.background.sessions course.old.background.wanted
         → HasDecided disk.now requests.now calls.now.calls.items Q.key until past course.old (Q.pending queue.old) goes_on course.new (Q.pending queue.new)) }
     ensures waiting { IfOk result (λ goes_on. goes_on ≡ true → IsWaiting disk.now requests.now course.new.now course.new.joined (Q.joined queue.new) (Q.pending queue.new)) }
+    ensures serves { OnOk result (Q.serves queue.new disk.now) }
 {
     let now = course.now;
     course.called = course.background.settle(disk, calls, course.called, now)?;
-    course.joined = join_arrived(requests, queue, course.joined, now)?;
+    course.joined = join_arrived(disk, requests, queue, course.joined, now)?;
     if !queue.is_empty() {
         serve_next(alloc, disk, planner, queue, course)?;
         return Ok(true);
@@ -188,6 +190,7 @@ fn serve_next<Q: Queue, P: Planner>(
     course: &mut Course,
 ) -> Result<(), NoMemory>
     requires some { 0 < length (Q.pending queue.old) }
+    requires serves { Q.serves queue.old disk.now }
     requires on_disk { AllByRecursion (IsRequestOf disk.now.map) (Q.pending queue.old) }
     requires head { IsTrackOf disk.now.map course.old.head }
     requires now { course.old.now ≤ 9 * 10 ^ 18 - 10 ^ 15 }
@@ -195,6 +198,7 @@ fn serve_next<Q: Queue, P: Planner>(
     ensures served { OnOk result ((request : Request) × (first_least (Q.key disk.now course.old.head course.old.now) (Q.pending queue.old) ≡ Some (request, Q.pending queue.new))
         × HasServedNext disk.now request course.old course.new) }
     ensures counted { OnOk result (Q.joined queue.new ≡ Q.joined queue.old) }
+    ensures serves { OnOk result (Q.serves queue.new disk.now) }
 {
     let request = queue.take(disk, course.head, course.now);
     let serving = serve_request(

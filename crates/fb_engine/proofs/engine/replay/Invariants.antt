@@ -2,8 +2,11 @@ use Rattle.fb_engine.proofs.Running.{HasComeTo, decisions_left}
 use Rattle.fb_engine.proofs.engine.replay.Given as goal
 
 abbrev pub invariant-loop-goes_on : goal.invariant-loop-goes_on
-invariant-loop-goes_on g l = HasComeTo (record { disk = l.disk; latent = l.latent; trace = l.trace.requests.items; passed_over = l.trace.passed_over; calls = l.calls.calls.items; key = g.Q.Queue.key; until = l.until })
-    l.goes_on l.course (g.Q.Queue.pending l.queue) (g.Q.Queue.joined l.queue)
+invariant-loop-goes_on g l = record {
+  come : HasComeTo (record { disk = l.disk; latent = l.latent; trace = l.trace.requests.items; passed_over = l.trace.passed_over; calls = l.calls.calls.items; key = g.Q.Queue.key; until = l.until })
+      l.goes_on l.course (g.Q.Queue.pending l.queue) (g.Q.Queue.joined l.queue);
+  serves : g.Q.Queue.serves l.queue l.disk;
+}
 
 abbrev pub decreases-loop-goes_on : goal.decreases-loop-goes_on
 decreases-loop-goes_on g l = decisions_left (record { disk = l.disk; latent = l.latent; trace = l.trace.requests.items; passed_over = l.trace.passed_over; calls = l.calls.calls.items; key = g.Q.Queue.key; until = l.until })
