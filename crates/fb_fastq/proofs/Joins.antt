@@ -54,7 +54,7 @@ in_order_insert l n r (w ∷ ws) h = at (in_order_insert l n r ws h.1) (order (l
 pub pending_insert : (l n : ℕ) (r : Request) (ws : List Waiting) → AllByRecursion (λ w. number_of w < n) ws → pending_of (insert_entry order ws (l, n) r) ≡ pending_of ws ++ r ∷ []
 pending_insert l n r ws h = ap (map (λ w. w.1)) (in_order_insert l n r ws h) ∙ map_last (in_order ws) ((l, n), r)
 
-all_insert : (P : Waiting → Type 0) (l n : ℕ) (r : Request) (ws : List Waiting) → AllByRecursion (λ w. number_of w < n) ws → P ((l, n), r) → AllByRecursion P ws → AllByRecursion P (insert_entry order ws (l, n) r)
+pub all_insert : (P : Waiting → Type 0) (l n : ℕ) (r : Request) (ws : List Waiting) → AllByRecursion (λ w. number_of w < n) ws → P ((l, n), r) → AllByRecursion P ws → AllByRecursion P (insert_entry order ws (l, n) r)
 all_insert P l n r [] h p all = (p, tt)
 all_insert P l n r (w ∷ ws) h p all = at (all_insert P l n r ws h.1 p all.1) (order (l, n) w.0) refl
   where
@@ -80,9 +80,8 @@ wider : (n : ℕ) (ws : List Waiting) → AllByRecursion (λ w. number_of w < n)
 wider n [] h = tt
 wider n (w ∷ ws) h = (let under : number_of w < n = h.0 in omega arith, wider n ws h.1)
 
-pub index_insert : (n : ℕ) (r : Request) (ws : List Waiting) → IsIndex ws n → IsIndex (insert_entry order ws (r.lbn, n) r) (n + 1)
-index_insert n r ws h = record {
-  sectors = all_insert (λ w. w.0.0 ≡ w.1.lbn) r.lbn n r ws h.given refl h.sectors;
-  given = all_insert (λ w. number_of w < n + 1) r.lbn n r ws h.given (omega arith) (wider n ws h.given);
-  numbered = numbered_insert r.lbn n r ws h.given h.numbered;
+pub index_insert : (l n : ℕ) (r : Request) (ws : List Waiting) → IsIndex ws n → IsIndex (insert_entry order ws (l, n) r) (n + 1)
+index_insert l n r ws h = record {
+  given = all_insert (λ w. number_of w < n + 1) l n r ws h.given (omega arith) (wider n ws h.given);
+  numbered = numbered_insert l n r ws h.given h.numbered;
 }

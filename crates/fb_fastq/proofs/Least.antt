@@ -3,15 +3,12 @@ use Rattle.std.proofs.Common.{◌≡◌, ◌≢◌, ℕ, zero, suc, ◌+◌, ◌
 use Rattle.std.specs.Prelude.{nat_lt, nat_le, ◌==◌, if◌then◌else◌, IfSome, cond}
 use Rattle.std.specs.List.{AllByRecursion}
 use Rattle.std.specs.Map.{lookup, remove_entry}
-use Rattle.std.specs.BTreeMap.{is_at}
+use Rattle.std.specs.BTreeMap.{BTreeMap, get, is_at}
 use Rattle.std.proofs.lemmas.Bool.{cases_Bool, true≢false}
 use Rattle.std.proofs.lemmas.Bool.Decides.{nat_tests}
 use Rattle.fb_units.specs.declared.types.Request.{Request}
-use Rattle.fb_geometry.specs.Shape.{Shape}
-use Rattle.fb_geometry.specs.Places.{places}
-use Rattle.fb_model.specs.Accepted.{IsRequestOf}
 use Rattle.fb_model.specs.PlainReplay.{first_least, better}
-use Rattle.fb_fastq.specs.Joining.{order, Waiting, number_of, join_in, in_order, pending_of, AreNumbered, StandAtSectors, IsIndex, IsNoLater, IsFirst}
+use Rattle.fb_fastq.specs.Joining.{order, Waits, Holds, AllHeld, Waiting, number_of, join_in, in_order, pending_of, AreNumbered, IsIndex, IsNoLater, IsFirst, IsFirstHeld}
 use Rattle.fb_fastq.proofs.Keys.{same_key, here_equal, equal_keys}
 use Rattle.fb_fastq.proofs.Joins.{all_join, all_in_order}
 
@@ -133,7 +130,7 @@ least_taken rank w ws apart there first =
     least_rising rank w (in_order ws) (in_order_rising ws apart) (in_in_order w ws there) (all_in_order (λ x. (rank w.1 < rank x.1) ⊎ ((rank w.1 ≡ rank x.1) × (number_of w ≤ number_of x))) ws first)
     ∙ ap (λ l. Some (w.1, map (λ x. x.1) l)) (sym (in_order_without w ws apart there))
 
-all_removed : (P : Waiting → Type 0) (k : ℕ × ℕ) (ws : List Waiting) → AllByRecursion P ws → AllByRecursion P (remove_entry (is_at (order k)) ws)
+pub all_removed : (P : Waiting → Type 0) (k : ℕ × ℕ) (ws : List Waiting) → AllByRecursion P ws → AllByRecursion P (remove_entry (is_at (order k)) ws)
 all_removed P k [] h = tt
 all_removed P k (w ∷ ws) h = elim (cases_Bool (is_at (order k) w.0)) [ inl here ↦ rw here h.1 | inr there ↦ rw there (h.0, all_removed P k ws h.1) ]
 
@@ -143,7 +140,6 @@ numbered_removed k (w ∷ ws) h = elim (cases_Bool (is_at (order k) w.0)) [ inl 
 
 pub index_removed : (joined : ℕ) (k : ℕ × ℕ) (ws : List Waiting) → IsIndex ws joined → IsIndex (remove_entry (is_at (order k)) ws) joined
 index_removed joined k ws h = record {
-  sectors = all_removed (λ w. w.0.0 ≡ w.1.lbn) k ws h.sectors;
   given = all_removed (λ w. number_of w < joined) k ws h.given;
   numbered = numbered_removed k ws h.numbered;
 }
@@ -173,10 +169,6 @@ pub is_held : (w : Waiting) (ws : List Waiting) → IsIn w ws → IsSome (lookup
 is_held w [] e = elim e [ ]
 is_held w (x ∷ ws) (inl e) = subst (λ y. IsSome (lookup (is_at (order w.0)) (y ∷ ws))) e (let t = here_equal w.0.0 w.0.1 in rw t refl)
 is_held w (x ∷ ws) (inr e) = elim (cases_Bool (is_at (order w.0) x.0)) [ inl here ↦ rw here refl | inr there ↦ rw there (is_held w ws e) ]
-
-pub first_held : (ws : List Waiting) → 0 < length ws → (w : Waiting) × IsIn w ws
-first_held [] h = absurd (omega arith)
-first_held (w ∷ ws) h = (w, inl refl)
 
 pub all_from : (P : Waiting → Type 0) (ws : List Waiting) → ((w : Waiting) → IsIn w ws → P w) → AllByRecursion P ws
 all_from P [] h = tt
@@ -217,24 +209,50 @@ at_key ws q has = go (lookup (is_at (order q)) ws) refl has
     go None e h = absurd (true≢false (sym h))
     go (Some r) e h = (r, held_is_in q.0 q.1 r ws e)
 
--- where the requests that wait can be served, their sectors are the disk's
-pub lies_on_disk : (disk : Shape) (ws : List Waiting) → StandAtSectors ws → AllByRecursion (λ w. IsRequestOf disk w.1) ws → (w : Waiting) → IsIn w ws → w.0.0 < length (places disk)
-lies_on_disk disk ws stand on_disk w there =
-    let range = (all_of (λ x. IsRequestOf disk x.1) w ws on_disk there).range in
-    let lies = all_of (λ x. x.0.0 ≡ x.1.lbn) w ws stand there in
-    omega (arith, range.some, range.inside, lies)
+-- two of one number are the same
+only_one : (a b : Waiting) (ws : List Waiting) → AreNumbered ws → IsIn a ws → IsIn b ws → number_of a ≡ number_of b → a ≡ b
+only_one a b [] h e f same = elim e [ ]
+only_one a b (w ∷ ws) h (inl e) (inl f) same = e ∙ sym f
+only_one a b (w ∷ ws) h (inl e) (inr f) same = let other = all_of (λ y. number_of y ≢ number_of w) b ws h.0 f in absurd (other (sym same ∙ ap number_of e))
+only_one a b (w ∷ ws) h (inr e) (inl f) same = let other = all_of (λ y. number_of y ≢ number_of w) a ws h.0 e in absurd (other (same ∙ ap number_of f))
+only_one a b (w ∷ ws) h (inr e) (inr f) same = only_one a b ws h.1 e f same
 
-pub lie_on_disk : (disk : Shape) (ws : List Waiting) → StandAtSectors ws → AllByRecursion (λ w. IsRequestOf disk w.1) ws → (q : ℕ × ℕ) → IsSome (lookup (is_at (order q)) ws) → q.0 < length (places disk)
-lie_on_disk disk ws stand on_disk q has =
-    let at = at_key ws q has in lies_on_disk disk ws stand on_disk (q, at.0) at.1
+-- the map holds what its entries say
+held_value : (w : Waiting) (ws : List Waiting) → AreNumbered ws → IsIn w ws → lookup (is_at (order w.0)) ws ≡ Some w.1
+held_value w ws apart there = go (lookup (is_at (order w.0)) ws) refl (is_held w ws there)
+  where
+    go : (o : Option Request) → lookup (is_at (order w.0)) ws ≡ o → IsSome o → o ≡ Some w.1
+    go None e h = absurd (true≢false (sym h))
+    go (Some r) e h = let same = only_one (w.0, r) w ws apart (held_is_in w.0.0 w.0.1 r ws e) there refl in ap (λ x. Some x.1) same
 
--- the first by sectors is the first by requests
-pub first_by_sector : (rank : ℕ → ℕ) (key : ℕ × ℕ) (r : Request) (ws : List Waiting) → StandAtSectors ws → lookup (is_at (order key)) ws ≡ Some r
-    → ((q : ℕ × ℕ) → IsSome (lookup (is_at (order q)) ws) → IsNoLater (rank key.0) key.1 (rank q.0) q.1)
-    → IsFirst (λ s. rank s.lbn) (key, r) ws
-first_by_sector rank key r ws stand e h =
-    let own : key.0 ≡ r.lbn = all_of (λ w. w.0.0 ≡ w.1.lbn) (key, r) ws stand (held_is_in key.0 key.1 r ws e) in
-    all_from (λ x. IsNoLater (rank r.lbn) key.1 (rank x.1.lbn) (number_of x)) ws (λ w there.
-    let at : w.0.0 ≡ w.1.lbn = all_of (λ x. x.0.0 ≡ x.1.lbn) w ws stand there in
-    subst (λ n. IsNoLater (rank r.lbn) key.1 (rank n) (number_of w)) at
-    (subst (λ n. IsNoLater (rank n) key.1 (rank w.0.0) (number_of w)) own (h w.0 (is_held w ws there))))
+-- the first of all that are held is the first of all entries
+pub first_listed : (rank : Request → ℕ) (key : ℕ × ℕ) (r : Request) (waiting : BTreeMap (ℕ × ℕ) Request) → AreNumbered waiting.entries → Holds waiting key r → IsFirstHeld rank waiting key → IsFirst rank (key, r) waiting.entries
+first_listed rank key r waiting apart e first =
+    all_from (λ x. IsNoLater (rank r) key.1 (rank x.1) (number_of x)) waiting.entries (λ w there. first r e w.0 w.1 (held_value w waiting.entries apart there))
+
+-- where any wait, one is held
+pub some_held : (waiting : BTreeMap (ℕ × ℕ) Request) → 0 < length waiting.entries → (key : ℕ × ℕ) × ((r : Request) × Holds waiting key r)
+some_held waiting some = at waiting.entries some (λ w there. is_held w waiting.entries there)
+  where
+    held : (w : Waiting) (o : Option Request) → get order waiting w.0 ≡ o → IsSome o → (key : ℕ × ℕ) × ((r : Request) × Holds waiting key r)
+    held w None e h = absurd (true≢false (sym h))
+    held w (Some r) e h = (w.0, (r, e))
+
+    at : (ws : List Waiting) → 0 < length ws → ((w : Waiting) → IsIn w ws → IsSome (get order waiting w.0)) → (key : ℕ × ℕ) × ((r : Request) × Holds waiting key r)
+    at [] some has = absurd (omega arith)
+    at (w ∷ ws) some has = held w (get order waiting w.0) refl (has w (inl refl))
+
+-- what holds of each entry holds of each request that is held
+pub all_held : (P : ℕ × ℕ → Request → Type 0) (waiting : BTreeMap (ℕ × ℕ) Request) → AllByRecursion (λ w. P w.0 w.1) waiting.entries → AllHeld P waiting
+all_held P waiting all = λ key r e. all_of (λ w. P w.0 w.1) (key, r) waiting.entries all (held_is_in key.0 key.1 r waiting.entries e)
+
+-- who holds a request has its key
+pub waits_there : (waiting : BTreeMap (ℕ × ℕ) Request) (key : ℕ × ℕ) (r : Request) → Holds waiting key r → Waits waiting key
+waits_there waiting key r e = subst IsSome (sym e) refl
+
+-- the first by spots is the first by requests
+pub first_by_spot : (rank : ℕ → ℕ) (spot_of : Request → ℕ) (waiting : BTreeMap (ℕ × ℕ) Request) (key : ℕ × ℕ) → AllHeld (λ k r. k.0 ≡ spot_of r) waiting
+    → ((k : ℕ × ℕ) → Waits waiting k → IsNoLater (rank key.0) key.1 (rank k.0) k.1) → IsFirstHeld (λ r. rank (spot_of r)) waiting key
+first_by_spot rank spot_of waiting key stand first = λ r e k s f.
+    subst (λ n. IsNoLater (rank n) key.1 (rank (spot_of s)) k.1) (stand key r e)
+    (subst (λ n. IsNoLater (rank key.0) key.1 (rank n) k.1) (stand k s f) (first k (waits_there waiting k s f)))

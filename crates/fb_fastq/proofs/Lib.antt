@@ -3,5 +3,6 @@ pub mod Joins
 pub mod Least
 pub mod Turns
 pub mod Far
-pub mod Walks
-pub mod Rows
+pub mod OnLanes
+pub mod Sweeps
+pub mod Alike

@@ -1,7 +1,11 @@
--- The turns of cylinders in the circular elevator.
-use Rattle.std.proofs.Common.{◌≡◌, ℕ, ◌+◌, ◌-◌, ◌%◌, ◌<◌, ◌≤◌, arith, inl, inr, ap, ◌∙◌}
+-- The turns of the spots of a ring.
+use Rattle.std.proofs.Common.{◌≡◌, ℕ, ◌+◌, ◌-◌, ◌%◌, ◌<◌, ◌≤◌, arith, inl, inr, ap, ◌∙◌, IfSome, Option, Some, None}
 use Rattle.std.proofs.lemmas.Bool.{cases_lt}
 use Rattle.std.proofs.Math.Nat.{add-mod_left, mod-eq_of_lt}
+use Rattle.std.specs.BTreeMap.{BTreeMap}
+use Rattle.fb_units.specs.declared.types.Request.{Request}
+use Rattle.fb_fastq.specs.Joining.{Waits, IsNoLater}
+use Rattle.fb_fastq.specs.Turns.{turn}
 
 ahead : (c h n : ℕ) → h ≤ c → c < n → (c + n - h) % n ≡ c - h
 ahead c h n le lt =
@@ -12,20 +16,52 @@ ahead c h n le lt =
 round : (c h n : ℕ) → c < h → h < n → (c + n - h) % n ≡ c + n - h
 round c h n lt below = let small : c + n - h < n = omega arith in mod-eq_of_lt small
 
--- the least cylinder from the head's one on comes first
-pub upwards_ahead : (h a b n : ℕ) → a < n → b < n → h < n → h ≤ a → (h ≤ b → a ≤ b) → (a + n - h) % n ≤ (b + n - h) % n
-upwards_ahead h a b n on_a on_b on_h from least = elim (cases_lt b h) [
+-- the least spot from the first one on comes first
+onwards_ahead : (h a b n : ℕ) → a < n → b < n → h < n → h ≤ a → (h ≤ b → a ≤ b) → (a + n - h) % n ≤ (b + n - h) % n
+onwards_ahead h a b n on_a on_b on_h from least = elim (cases_lt b h) [
   | inl behind ↦ omega (arith, ahead a h n from on_a, round b h n behind on_h)
   | inr front ↦ omega (arith, ahead a h n from on_a, ahead b h n front on_b, least front)
 ]
 
--- where there is none from the head's one on, the least of all comes first
-pub upwards_round : (h a b n : ℕ) → h < n → a < h → b < h → a ≤ b → (a + n - h) % n ≤ (b + n - h) % n
-upwards_round h a b n on_h under_a under_b least = omega (arith, least, round a h n under_a on_h, round b h n under_b on_h)
+-- where there is none from there on, the least of all comes first
+onwards_round : (h a b n : ℕ) → h < n → a < h → b < h → a ≤ b → (a + n - h) % n ≤ (b + n - h) % n
+onwards_round h a b n on_h under_a under_b least = omega (arith, least, round a h n under_a on_h, round b h n under_b on_h)
 
--- cylinders of the same turn are the same
-pub same_turn : (h a b n : ℕ) → a < n → b < n → h < n → (a + n - h) % n ≡ (b + n - h) % n → a ≡ b
+-- spots of the same turn are the same
+same_turn : (h a b n : ℕ) → a < n → b < n → h < n → (a + n - h) % n ≡ (b + n - h) % n → a ≡ b
 same_turn h a b n la lb lh e = elim (cases_lt a h) [
   | inl da ↦ elim (cases_lt b h) [ inl db ↦ omega (arith, e, round a h n da lh, round b h n db lh) | inr ub ↦ omega (arith, e, round a h n da lh, ahead b h n ub lb) ]
   | inr ua ↦ elim (cases_lt b h) [ inl db ↦ omega (arith, e, ahead a h n ua la, round b h n db lh) | inr ub ↦ omega (arith, e, ahead a h n ua la, ahead b h n ub lb) ]
 ]
+
+-- of two spots the one of no later turn comes first, and those at one spot in order of joining
+no_later : (n h a m b p : ℕ) → a < n → b < n → h < n → turn n h a ≤ turn n h b → (a ≡ b → m ≤ p) → IsNoLater (turn n h a) m (turn n h b) p
+no_later n h a m b p on_a on_b on_h least joined = elim (cases_lt (turn n h a) (turn n h b)) [
+  | inl less ↦ inl less
+  | inr tied ↦ let both : turn n h a ≡ turn n h b = omega (arith, least, tied) in inr (both, joined (same_turn h a b n on_a on_b on_h both))
+]
+
+-- a request comes first in a ring from this spot on
+abbrev pub ComesFirst : BTreeMap (ℕ × ℕ) Request → ℕ → ℕ → ℕ → (ℕ × ℕ) × Request → Type 0
+ComesFirst waiting start n h w = (k : ℕ × ℕ) → Waits waiting k → start ≤ k.0 → k.0 < start + n → IsNoLater (turn n h (w.0.0 - start)) w.0.1 (turn n h (k.0 - start)) k.1
+
+module _ (waiting : BTreeMap (ℕ × ℕ) Request) (start n h : ℕ) (on_h : h < n) where
+  pub next_ahead : (w : (ℕ × ℕ) × Request) → start + h ≤ w.0.0 → w.0.0 < start + n → ((k : ℕ × ℕ) → Waits waiting k → start + h ≤ k.0 → w.0.0 ≤ k.0)
+      → ((k : ℕ × ℕ) → Waits waiting k → k.0 ≡ w.0.0 → w.0.1 ≤ k.1) → ComesFirst waiting start n h w
+  next_ahead w from below least first = λ k has inside under.
+      no_later n h (w.0.0 - start) w.0.1 (k.0 - start) k.1 (omega arith) (omega arith) on_h
+      (onwards_ahead h (w.0.0 - start) (k.0 - start) n (omega arith) (omega arith) on_h (omega arith) (λ ahead. let le = least k has (omega arith) in omega (arith, le)))
+      (λ same. first k has (omega arith))
+
+  -- where none is ahead, the first before comes first
+  pub next_behind : (o : Option ((ℕ × ℕ) × Request)) → ((k : ℕ × ℕ) → Waits waiting k → start + h ≤ k.0 → start + n ≤ k.0) → IfSome o (λ w. (start ≤ w.0.0) × (w.0.0 < start + h))
+      → IfSome o (λ w. (k : ℕ × ℕ) → Waits waiting k → start ≤ k.0 → w.0.0 ≤ k.0) → IfSome o (λ w. (k : ℕ × ℕ) → Waits waiting k → k.0 ≡ w.0.0 → w.0.1 ≤ k.1) → IfSome o (ComesFirst waiting start n h)
+  next_behind None none inside least first = tt
+  next_behind (Some w) none inside least first = λ k has from below.
+      let in_front : w.0.0 < start + h = inside.1 in
+      let at_start : start ≤ w.0.0 = inside.0 in
+      let behind : k.0 < start + h = elim (cases_lt k.0 (start + h)) [ inl lt ↦ lt | inr ahead ↦ let over = none k has ahead in absurd (omega (arith, over, below)) ] in
+      let le = least k has from in
+      no_later n h (w.0.0 - start) w.0.1 (k.0 - start) k.1 (omega arith) (omega arith) on_h
+      (onwards_round h (w.0.0 - start) (k.0 - start) n on_h (omega arith) (omega arith) (omega arith))
+      (λ same. first k has (omega arith))

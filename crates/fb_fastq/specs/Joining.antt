@@ -1,12 +1,12 @@
--- Pending requests by sector and number of joining.
-use Rattle.std.specs.Prelude.{◌≡◌, ℕ, ◌<◌, ◌≤◌, ◌≢◌, List, [], ◌∷◌, nat_lt, map, if◌then◌else◌, ◌⊎◌}
+-- Pending requests by spot and number of joining.
+use Rattle.std.specs.Prelude.{◌≡◌, ℕ, ◌<◌, ◌≤◌, ◌≢◌, List, [], ◌∷◌, Some, nat_lt, map, if◌then◌else◌, ◌⊎◌}
 use Rattle.std.specs.List.{AllByRecursion}
 use Rattle.std.specs.Ordering.{nat_cmp, ordering_then}
 use Rattle.std.specs.declared.cmp.Ordering.{Ordering}
-use Rattle.std.specs.BTreeMap.{BTreeMap, ContainsKey}
+use Rattle.std.specs.BTreeMap.{BTreeMap, ContainsKey, get}
 use Rattle.fb_units.specs.declared.types.Request.{Request}
 
--- by sector, and of one sector by number of joining
+-- by spot, and of one spot by number of joining
 abbrev pub order : ℕ × ℕ → ℕ × ℕ → Ordering
 order a b = ordering_then (nat_cmp a.0 b.0) (nat_cmp a.1 b.1)
 
@@ -14,7 +14,15 @@ order a b = ordering_then (nat_cmp a.0 b.0) (nat_cmp a.1 b.1)
 abbrev pub Waits : BTreeMap (ℕ × ℕ) Request → ℕ × ℕ → Type 0
 Waits waiting key = ContainsKey order waiting key
 
--- a request that waits, behind its sector and its number of joining
+-- this request waits under this key
+abbrev pub Holds : BTreeMap (ℕ × ℕ) Request → ℕ × ℕ → Request → Type 0
+Holds waiting key request = get order waiting key ≡ Some request
+
+-- each request that waits, with its key, is so
+abbrev pub AllHeld : (ℕ × ℕ → Request → Type 0) → BTreeMap (ℕ × ℕ) Request → Type 0
+AllHeld P waiting = (key : ℕ × ℕ) (request : Request) → Holds waiting key request → P key request
+
+-- a request that waits, behind its spot and its number of joining
 abbrev pub Waiting : Type 0
 Waiting = (ℕ × ℕ) × Request
 
@@ -40,13 +48,8 @@ abbrev pub AreNumbered : List Waiting → Type 0
 AreNumbered [] = Unit {0}
 AreNumbered (w ∷ ws) = AllByRecursion (λ x. number_of x ≢ number_of w) ws × AreNumbered ws
 
--- each stands at its sector
-abbrev pub StandAtSectors : List Waiting → Type 0
-StandAtSectors ws = AllByRecursion (λ w. w.0.0 ≡ w.1.lbn) ws
-
--- each stands at its sector, with a number of its own that was given already
+-- each has a number of its own that was given already
 pub record IsIndex (ws : List Waiting) (joined : ℕ) : Type 0 where
-  pub sectors : StandAtSectors ws
   pub given : AllByRecursion (λ w. number_of w < joined) ws
   pub numbered : AreNumbered ws
 
@@ -57,6 +60,10 @@ IsNoLater rank number other_rank other_number = (rank < other_rank) ⊎ ((rank �
 -- no rank is less than that of this request, and none of its rank joined before it
 abbrev pub IsFirst : (Request → ℕ) → Waiting → List Waiting → Type 0
 IsFirst rank w ws = AllByRecursion (λ x. IsNoLater (rank w.1) (number_of w) (rank x.1) (number_of x)) ws
+
+-- the same of the request under a key among all that wait
+abbrev pub IsFirstHeld : (Request → ℕ) → BTreeMap (ℕ × ℕ) Request → ℕ × ℕ → Type 0
+IsFirstHeld rank waiting key = (request : Request) → Holds waiting key request → AllHeld (λ other_key other. IsNoLater (rank request) key.1 (rank other) other_key.1) waiting
 
 -- what a queue keeps: the requests that wait, and how many joined
 pub record Index : Type 0 where

@@ -1,4 +1,6 @@
 pub mod Joining
-pub mod Runs
+pub mod Spots
 pub mod Turns
+pub mod Lanes
 pub mod Candidates
+pub mod NonePending

@@ -1,7 +1,6 @@
--- The turn of a cylinder in the circular elevator.
+-- The turn of one of n spots in a ring.
 use Rattle.std.specs.Prelude.{ℕ, ◌+◌, ◌-◌, ◌%◌}
-use Rattle.fb_geometry.specs.Shape.{Shape, cylinders_of}
 
--- how many cylinders upwards from the head's one the cylinder is, round from the last to the first
-abbrev pub turn : Shape → ℕ → ℕ → ℕ
-turn disk head cylinder = (cylinder + cylinders_of disk.zones - head) % cylinders_of disk.zones
+-- how many spots onwards from this one another is, round from the last to the first
+abbrev pub turn : ℕ → ℕ → ℕ → ℕ
+turn n from spot = (spot + n - from) % n

@@ -1,23 +1,33 @@
 // What decides which request is taken.
-ghost use Rattle.std.specs.Prelude.{◌≡◌, ◌<◌, ◌≤◌, ◌^◌, ◌*◌, Some, length};
-ghost use Rattle.std.specs.List.{AllByRecursion};
-ghost use Rattle.std.specs.BTreeMap.{get};
+ghost use Rattle.std.specs.Prelude.{◌≡◌, ℕ, ◌<◌, ◌≤◌, ◌^◌, ◌*◌, length};
 ghost use Rattle.fb_units.specs.declared.types.Request.{Request};
+ghost use Rattle.fb_service.specs.declared.disk.Disk.{Disk};
 ghost use Rattle.fb_geometry.specs.Shape.{IsTrackOf};
 ghost use Rattle.fb_model.specs.Accepted.{IsRequestOf};
 ghost use Rattle.fb_model.specs.PlainReplay.{Key};
-ghost use Rattle.fb_fastq.specs.Joining.{order, Waits, StandAtSectors, IsFirst};
+ghost use Rattle.fb_fastq.specs.Joining.{Waits, AllHeld, IsFirstHeld};
 
 use fb_service::Disk;
 use fb_units::{Ns, Request, Track};
 use std::collections::BTreeMap;
 
 /// What decides which of the requests that wait is taken next.
+///
+/// Requests wait in an index: each at a spot that the choice gives it, and those at one spot in order
+/// of joining.
 pub trait Choice: Drop {
     /// The key, of which the least is taken.
     ghost key: { Key };
 
-    /// The sector and the number of joining of the request of least key, and of those the one that
+    /// A request stands at this spot.
+    ghost stands: { Disk → Request → ℕ → Type 0 };
+
+    /// The spot of a request.
+    fn spot_of(&self, disk: &Disk, request: &Request) -> u64
+        requires { IsRequestOf disk.now.map request.now }
+        ensures { stands disk.now request.now result };
+
+    /// The spot and the number of joining of the request of least key, and of those the one that
     /// joined first, when the head is on a track at a moment.
     fn choose(
         &self,
@@ -27,10 +37,10 @@ pub trait Choice: Drop {
         now: Ns,
     ) -> (u64, u64)
         requires some { 0 < length waiting.now.entries }
-        requires sectors { StandAtSectors waiting.now.entries }
-        requires on_disk { AllByRecursion (λ w. IsRequestOf disk.now.map w.1) waiting.now.entries }
+        requires spots { AllHeld (λ key request. stands disk.now request key.0) waiting.now }
+        requires on_disk { AllHeld (λ key request. IsRequestOf disk.now.map request) waiting.now }
         requires head { IsTrackOf disk.now.map head }
         requires now { now ≤ 9 * 10 ^ 18 }
         ensures found { Waits waiting.now result }
-        ensures first { (r : Request) → get order waiting.now result ≡ Some r → IsFirst (key disk.now head now) (result, r) waiting.now.entries };
+        ensures first { IsFirstHeld (key disk.now head now) waiting.now result };
 }

@@ -1,5 +1,6 @@
-// A queue over pending requests by sector.
+// A queue over pending requests by spot.
 ghost use Rattle.std.specs.Prelude.{◌≡◌, []};
+ghost use Rattle.std.specs.List.{AllByRecursion};
 ghost use Rattle.fb_fastq.specs.Joining.{pending_of};
 
 use crate::Choice;
@@ -11,8 +12,7 @@ use std::alloc::Global;
 use std::collections::BTreeMap;
 use std::marker::Model;
 
-/// Requests that wait, by sector and number of joining, of which a choice takes the first of least
-/// key.
+/// Requests that wait, by spot and number of joining, of which a choice takes the first of least key.
 #[derive(Drop)]
 pub struct Indexed<C: Choice> {
     choice: C,
@@ -51,8 +51,15 @@ impl<C: Choice> Queue for Indexed<C> {
 
     ghost key = { C.key };
 
-    fn add(&mut self, request: Request) -> Result<(), NoMemory> {
-        add(&mut self.waiting, self.joined, request)?;
+    ghost serves = { λ q disk. AllByRecursion (λ w. C.stands disk w.1 w.0.0) q.waiting };
+
+    ghost use Rattle.fb_fastq.specs.NonePending.{all_of_none};
+
+    ghost serves_any = { λ q disk none. all_of_none (λ w. C.stands disk w.1 w.0.0) q.waiting none };
+
+    fn add(&mut self, disk: &Disk, request: Request) -> Result<(), NoMemory> {
+        let spot = self.choice.spot_of(disk, &request);
+        add(&mut self.waiting, spot, self.joined, request)?;
         self.joined += 1;
         Ok(())
     }

@@ -1,27 +1,32 @@
 //! The order in which pending requests are served, found without a look at all that is pending.
 //!
 //! These queues keep the law of the plain ones: a queue takes the first request of least key, in
-//! order of joining. They keep a ring, or a map ordered by sector and number of joining, in which
-//! the requests of a cylinder stand together, since cylinders don't fall as sectors rise.
+//! order of joining. They keep a ring, or an index in which each request has a spot, and those at one
+//! spot stand in order of joining.
 //!
-//! `SstfMap` and `ClookMap` find the nearest cylinder or the next one, and look at the first request
-//! of each of its sectors. `SptfBuckets` values every request of the cylinders near the head, on each
-//! side until the arm's way alone takes longer than the shortest wait found.
+//! For `SstfMap` and `ClookMap` the spot is the cylinder, so that the first request of the nearest one
+//! or of the next one is found at once. For `SptfLanes` all tracks are laid end to end, each once for
+//! reads and once for writes, since a write has to settle. The spot is how far along these lanes the
+//! request's first sector begins, so that of each lane the next one from the angle of arrival on is
+//! found at once. The lanes are tried outwards from the head's cylinder, on each side until the arm's
+//! way alone takes longer than the shortest wait found.
 #![tactic(auto)]
 
 mod choice;
 mod cylinders;
 mod index;
 mod indexed;
+mod lanes;
 mod nearest;
 mod ring;
 mod soonest;
+#[cfg(test)]
+mod tests;
 mod upwards;
-mod waiting;
 
 pub use choice::Choice;
 pub use indexed::Indexed;
 pub use nearest::{Nearest, SstfMap};
 pub use ring::FcfsRing;
-pub use soonest::{Soonest, SptfBuckets};
+pub use soonest::{Soonest, SptfLanes};
 pub use upwards::{ClookMap, Upwards};

@@ -1,17 +1,17 @@
 // Shortest positioning time first.
-ghost use Rattle.std.specs.Prelude.{◌≡◌, ℕ, ◌-◌, ◌<◌, ◌≤◌, ◌^◌, ◌*◌, ◌⊎◌, length, true};
-ghost use Rattle.std.specs.List.{AllByRecursion};
+ghost use Rattle.std.specs.Prelude.{◌≡◌, ℕ, ◌+◌, ◌*◌, ◌%◌, ◌<◌, ◌≤◌, ◌^◌, ◌⊎◌, true};
 ghost use Rattle.fb_units.specs.declared.types.Request.{Request};
 ghost use Rattle.fb_sectormap.specs.Lookup.{track_at};
-ghost use Rattle.fb_seek.specs.Positioning.{distance_of};
+ghost use Rattle.fb_seek.specs.Positioning.{pos, distance_of};
 ghost use Rattle.fb_service.specs.Approaching.{IsDeparture, IsApproach};
 ghost use Rattle.fb_model.specs.Accepted.{IsRequestOf};
 ghost use Rattle.fb_model.specs.PlainReplay.{sptf};
-ghost use Rattle.fb_fastq.specs.Joining.{StandAtSectors};
-ghost use Rattle.fb_fastq.specs.Runs.{IsStartOf};
-ghost use Rattle.fb_fastq.specs.Candidates.{IsCandidate, IsBefore, Beats};
+ghost use Rattle.fb_fastq.specs.Joining.{AllHeld};
+ghost use Rattle.fb_fastq.specs.Lanes.{IsLane, IsAlong};
+ghost use Rattle.fb_fastq.specs.Candidates.{IsCandidate, IsBefore, BeatsFrom, BeatsBetween};
 
-use crate::cylinders::start_of;
+use crate::index::{last_before, next_from, next_round};
+use crate::lanes::{LANE, Lane, along, cylinder_start, lane_of};
 use crate::{Choice, Indexed};
 use fb_service::{Approach, Departure, Disk, approach_on, approach_to, departure_from, wait_on};
 use fb_units::{Ns, Request, Track};
@@ -21,8 +21,8 @@ use std::collections::BTreeMap;
 #[derive(Clone, Copy, Default)]
 pub struct Soonest;
 
-/// Shortest positioning time first, over an index whose buckets are the cylinders' runs.
-pub type SptfBuckets = Indexed<Soonest>;
+/// Shortest positioning time first, over an index by lane and angle.
+pub type SptfLanes = Indexed<Soonest>;
 
 /// A request that waits, and how long it is until its first sector passes.
 #[derive(Clone, Copy)]
@@ -31,22 +31,22 @@ pub struct Candidate {
     pub wait: Ns,
 }
 
-// The request of a key as a candidate, by the way to its cylinder.
+// The request of a key as a candidate, where the way to its cylinder may be one that is known.
 fn candidate_of(
     disk: &Disk,
     from: Departure,
-    near: &Approach,
+    near: Approach,
     key: (u64, u64),
     request: &Request,
 ) -> Candidate
     requires from { IsDeparture disk.now from }
-    requires near { IsApproach disk.now from near.now }
-    requires first { near.now.run.first ≤ request.now.lbn }
-    requires end { request.now.lbn < near.now.run.end }
+    requires near { IsApproach disk.now from near }
+    requires request { IsRequestOf disk.now.map request.now }
     ensures key { result.key ≡ key }
     ensures wait { result.wait ≡ sptf disk.now from.track from.instant request.now }
 {
-    let wait = wait_on(disk, from, near, request.lbn, request.write);
+    let near = approach_on(disk, from, near, request.lbn);
+    let wait = wait_on(disk, from, &near, request.lbn, request.write);
     Candidate { key, wait }
 }
 
@@ -72,7 +72,50 @@ fn is_too_far(disk: &Disk, from: Departure, near: &Approach, wait: Ns) -> bool
     wait < near.seek
 }
 
-// The soonest of a candidate and of the requests from a sector on, where the head's cylinder begins.
+// The angle at which the platter stands when the head comes to a lane.
+fn angle_on(disk: &Disk, from: Departure, near: &Approach, lane: Lane) -> Ns
+    requires from { IsDeparture disk.now from }
+    requires near { IsApproach disk.now from near.now }
+    requires cylinder { lane.track.cylinder ≡ near.now.run.on.number }
+    ensures value { result ≡ (from.instant + pos disk.now.mechanism from.track lane.track lane.write) % disk.now.map.rotation }
+    ensures bound { result < disk.now.map.rotation }
+{
+    let way = disk
+        .mechanism
+        .pos_with(near.seek, from.track, lane.track, lane.write);
+    (from.instant + way) % disk.map.geometry().rotation()
+}
+
+// The soonest of a candidate and of the requests of a lane.
+fn soonest_of_lane(
+    waiting: &BTreeMap<(u64, u64), Request>,
+    disk: &Disk,
+    from: Departure,
+    near: Approach,
+    lane: Lane,
+    best: Candidate,
+) -> Candidate
+    requires spots { AllHeld (λ key request. IsAlong disk.now request key.0) waiting.now }
+    requires on_disk { AllHeld (λ key request. IsRequestOf disk.now.map request) waiting.now }
+    requires from { IsDeparture disk.now from }
+    requires near { IsApproach disk.now from near }
+    requires cylinder { lane.track.cylinder ≡ near.run.on.number }
+    requires lane { IsLane lane }
+    requires best { IsCandidate disk.now from.track from.instant waiting.now best }
+    ensures found { IsCandidate disk.now from.track from.instant waiting.now result }
+    ensures first { IsBefore result best }
+    ensures least { BeatsBetween disk.now from.track from.instant waiting.now result lane.start (lane.start + 10 ^ 9) }
+{
+    let rotation = disk.map.geometry().rotation();
+    let angle = angle_on(disk, from, &near, lane);
+    match next_round(waiting, lane.start, rotation, angle) {
+        Some((key, request)) => sooner(best, candidate_of(disk, from, near, key, &request)),
+        None => best,
+    }
+}
+
+// The soonest of a candidate and of the requests on the head's cylinder, where its lanes start, and
+// above it.
 fn soonest_above(
     waiting: &BTreeMap<(u64, u64), Request>,
     disk: &Disk,
@@ -81,30 +124,32 @@ fn soonest_above(
     any: Approach,
     first: Candidate,
 ) -> Candidate
-    requires sectors { StandAtSectors waiting.now.entries }
-    requires on_disk { AllByRecursion (λ w. IsRequestOf disk.now.map w.1) waiting.now.entries }
+    requires spots { AllHeld (λ key request. IsAlong disk.now request key.0) waiting.now }
+    requires on_disk { AllHeld (λ key request. IsRequestOf disk.now.map request) waiting.now }
     requires from { IsDeparture disk.now from }
-    requires start { IsStartOf disk.now.map from.track.cylinder start }
+    requires start { start ≡ from.track.cylinder * (128 * 10 ^ 9) }
     requires any { IsApproach disk.now from any }
     requires first { IsCandidate disk.now from.track from.instant waiting.now first }
     ensures found { IsCandidate disk.now from.track from.instant waiting.now result }
     ensures first { IsBefore result first }
-    ensures least { AllByRecursion (λ w. start ≤ w.0.0 → Beats disk.now from.track from.instant result w) waiting.now.entries }
+    ensures least { BeatsFrom disk.now from.track from.instant waiting.now result start }
 {
-    disk.map.cylinders_rise();
     let mut best = first;
     let mut near = any;
-    for (key, request) in waiting.range((start, 0)..) {
+    let mut next = start;
+    while let Some((_, request)) = next_from(waiting, next) {
         near = approach_on(disk, from, near, request.lbn);
         if is_too_far(disk, from, &near, best.wait) {
             return best;
         }
-        best = sooner(best, candidate_of(disk, from, &near, *key, request));
+        let lane = lane_of(disk, &near, &request);
+        best = soonest_of_lane(waiting, disk, from, near, lane, best);
+        next = lane.start + LANE;
     }
     best
 }
 
-// The soonest of a candidate and of the requests below a sector, where the head's cylinder begins.
+// The soonest of a candidate and of the requests below the head's cylinder, where its lanes start.
 fn soonest_below(
     waiting: &BTreeMap<(u64, u64), Request>,
     disk: &Disk,
@@ -113,31 +158,39 @@ fn soonest_below(
     any: Approach,
     first: Candidate,
 ) -> Candidate
-    requires sectors { StandAtSectors waiting.now.entries }
-    requires on_disk { AllByRecursion (λ w. IsRequestOf disk.now.map w.1) waiting.now.entries }
+    requires spots { AllHeld (λ key request. IsAlong disk.now request key.0) waiting.now }
+    requires on_disk { AllHeld (λ key request. IsRequestOf disk.now.map request) waiting.now }
     requires from { IsDeparture disk.now from }
-    requires start { IsStartOf disk.now.map from.track.cylinder start }
+    requires start { start ≡ from.track.cylinder * (128 * 10 ^ 9) }
     requires any { IsApproach disk.now from any }
     requires first { IsCandidate disk.now from.track from.instant waiting.now first }
     ensures found { IsCandidate disk.now from.track from.instant waiting.now result }
     ensures first { IsBefore result first }
-    ensures least { AllByRecursion (λ w. w.0.0 < start → Beats disk.now from.track from.instant result w) waiting.now.entries }
+    ensures least { BeatsBetween disk.now from.track from.instant waiting.now result 0 start }
 {
-    disk.map.cylinders_rise();
     let mut best = first;
     let mut near = any;
-    for (key, request) in waiting.range(..(start, 0)).rev() {
+    let mut next = start;
+    while let Some((_, request)) = last_before(waiting, next) {
         near = approach_on(disk, from, near, request.lbn);
         if is_too_far(disk, from, &near, best.wait) {
             return best;
         }
-        best = sooner(best, candidate_of(disk, from, &near, *key, request));
+        let lane = lane_of(disk, &near, &request);
+        best = soonest_of_lane(waiting, disk, from, near, lane, best);
+        next = lane.start;
     }
     best
 }
 
 impl Choice for Soonest {
     ghost key = { sptf };
+
+    ghost stands = { IsAlong };
+
+    fn spot_of(&self, disk: &Disk, request: &Request) -> u64 {
+        along(disk, request)
+    }
 
     fn choose(
         &self,
@@ -147,12 +200,12 @@ impl Choice for Soonest {
         now: Ns,
     ) -> (u64, u64) {
         let from = departure_from(disk, head, now);
-        let start = start_of(&disk.map, head.cylinder);
-        let Some((key, request)) = waiting.first_key_value() else {
+        let start = cylinder_start(disk, head.cylinder);
+        let Some((key, request)) = next_from(waiting, 0) else {
             unreachable!()
         };
         let near = approach_to(disk, from, request.lbn);
-        let any = candidate_of(disk, from, &near, *key, request);
+        let any = candidate_of(disk, from, near, key, &request);
         let above = soonest_above(waiting, disk, from, start, near, any);
         soonest_below(waiting, disk, from, start, near, above).key
     }

@@ -34,7 +34,11 @@ impl Queue for Fcfs {
 
     ghost key = { fcfs };
 
-    fn add(&mut self, request: Request) -> Result<(), NoMemory> {
+    ghost serves = { λ queue disk. Unit {0} };
+
+    ghost serves_any = { λ queue disk none. tt };
+
+    fn add(&mut self, _disk: &Disk, request: Request) -> Result<(), NoMemory> {
         self.waiting.push(request)?;
         self.joined += 1;
         Ok(())

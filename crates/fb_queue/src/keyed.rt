@@ -65,7 +65,11 @@ impl<P: Policy> Queue for Keyed<P> {
 
     ghost key = { P.key };
 
-    fn add(&mut self, request: Request) -> Result<(), NoMemory> {
+    ghost serves = { λ queue disk. Unit {0} };
+
+    ghost serves_any = { λ queue disk none. tt };
+
+    fn add(&mut self, _disk: &Disk, request: Request) -> Result<(), NoMemory> {
         self.waiting.push(request)?;
         self.joined += 1;
         Ok(())

@@ -2,6 +2,7 @@
 ghost use Rattle.std.specs.Prelude.{◌≡◌, ◌==◌, ℕ, ◌+◌, ◌*◌, ◌<◌, ◌≤◌, ◌^◌, List, [], ◌∷◌, ◌++◌, length, OnOk, OnErr};
 ghost use Rattle.std.specs.List.{AllByRecursion};
 ghost use Rattle.fb_units.specs.declared.types.Request.{Request};
+ghost use Rattle.fb_service.specs.declared.disk.Disk.{Disk};
 ghost use Rattle.fb_geometry.specs.Shape.{IsTrackOf};
 ghost use Rattle.fb_model.specs.PlainReplay.{Key, first_least};
 ghost use Rattle.fb_model.specs.Accepted.{IsRequestOf};
@@ -20,21 +21,34 @@ pub trait Queue: Drop {
     /// What decides: the first request of least key is taken.
     ghost key: { Key };
 
-    fn add(&mut self, request: Request) -> Result<(), NoMemory>
-        requires { joined self.old < 2 ^ 32 }
+    /// What the queue keeps beside its requests holds on this disk.
+    ghost serves: { Self → Disk → Type 0 };
+
+    /// Adds a request behind all others. After `NoMemory` all is as before.
+    fn add(&mut self, disk: &Disk, request: Request) -> Result<(), NoMemory>
+        requires few { joined self.old < 2 ^ 32 }
+        requires serves { serves self.old disk.now }
+        requires on_disk { IsRequestOf disk.now.map request }
         ensures ok { OnOk result (pending self.new ≡ pending self.old ++ request ∷ []) }
         ensures counted { OnOk result (joined self.new ≡ joined self.old + 1) }
         ensures err { OnErr result (pending self.new ≡ pending self.old) }
-        ensures not_counted { OnErr result (joined self.new ≡ joined self.old) };
+        ensures not_counted { OnErr result (joined self.new ≡ joined self.old) }
+        ensures serves { serves self.new disk.now };
 
+    /// Takes out the first request of least key, when the head is on a track at a moment.
     fn take(&mut self, disk: &Disk, head: Track, now: Ns) -> Request
         requires some { 0 < length (pending self.old) }
+        requires serves { serves self.old disk.now }
         requires on_disk { AllByRecursion (IsRequestOf disk.now.map) (pending self.old) }
         requires head { IsTrackOf disk.now.map head }
         requires now { now ≤ 9 * 10 ^ 18 }
         ensures least { first_least (key disk.now head now) (pending self.old) ≡ Some (result, pending self.new) }
-        ensures counted { joined self.new ≡ joined self.old };
+        ensures counted { joined self.new ≡ joined self.old }
+        ensures serves { serves self.new disk.now };
 
     fn is_empty(&self) -> bool
         ensures { result ≡ (length (pending self.now) == 0) };
+
+    /// A queue in which none is pending serves any disk.
+    ghost serves_any: { (queue : Self) (disk : Disk) → pending queue ≡ [] → serves queue disk };
 }

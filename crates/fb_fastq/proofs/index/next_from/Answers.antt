@@ -3,18 +3,18 @@ use Rattle.std.specs.Prelude.{slice_get}
 use Rattle.std.specs.BTreeMap.Range.{IsLeBy}
 use Rattle.std.proofs.lemmas.Bool.{cases_lt}
 use Rattle.fb_fastq.specs.Joining.{order}
-use Rattle.fb_fastq.proofs.Keys.{at_sector, sectors_rise}
+use Rattle.fb_fastq.proofs.Keys.{at_spot, spots_rise}
 use Rattle.fb_fastq.proofs.index.next_from.Goals as goal
 
 pub returns-in-Some-clause-least : goal.returns-in-Some-clause-least
 returns-in-Some-clause-least c = λ k has from.
-    let lies = at_sector c.args.lbn k.0 k.1 from in
+    let lies = at_spot c.args.spot k.0 k.1 from in
     let first = (c.range.ensures.in_range tt).2 k (lies, tt) has in
     let here = subst (λ ws. IfSome (slice_get ws 0) (λ e. IsLeBy order e.0 k)) (c.in-Some.ensures.steps) first in
-    sectors_rise c.in-Some.key.now.0 c.in-Some.key.now.1 k.0 k.1 here
+    spots_rise c.in-Some.key.now.0 c.in-Some.key.now.1 k.0 k.1 here
 
 pub returns-in-None-clause-none : goal.returns-in-None-clause-none
-returns-in-None-clause-none c = λ k has. elim (cases_lt k.0 c.args.lbn) [
+returns-in-None-clause-none c = λ k has. elim (cases_lt k.0 c.args.spot) [
   | inl below ↦ below
-  | inr from ↦ absurd (true≢false (sym (subst IsSome ((c.range.ensures.in_range tt).5 c.in-None.ensures.steps.0 k (at_sector c.args.lbn k.0 k.1 from, tt)) has)))
+  | inr from ↦ absurd (true≢false (sym (subst IsSome ((c.range.ensures.in_range tt).5 c.in-None.ensures.steps.0 k (at_spot c.args.spot k.0 k.1 from, tt)) has)))
 ]

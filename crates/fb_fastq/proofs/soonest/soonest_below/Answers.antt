@@ -1,66 +1,46 @@
-use Rattle.std.specs.Iterator.Adapters.{rev_source}
-use Rattle.std.proofs.Common.{◌≡◌, ◌∙◌, ◌<◌, ◌≤◌, length, ap, sym, subst}
-use Rattle.fb_geometry.specs.Places.{places}
+use Rattle.std.proofs.Common.{◌≤◌, arith, inl, inr, sym, subst}
+use Rattle.std.proofs.lemmas.Bool.{cases_lt}
 use Rattle.fb_sectormap.specs.Lookup.{track_at}
 use Rattle.fb_seek.specs.Positioning.{distance_of}
-use Rattle.fb_fastq.specs.Joining.{Waiting}
-use Rattle.fb_fastq.proofs.Keys.{is_before, before_is}
-use Rattle.fb_fastq.proofs.Least.{IsIn, all_of, all_from, lies_on_disk}
-use Rattle.fb_fastq.proofs.Walks.{SectorsRise, sectors_rise, in_front, in_last, last_or_front, rise_front, nearest_last, farther_below, walk_begins, walk_goes_on, walk_stops, walk_ends}
+use Rattle.fb_fastq.proofs.Least.{waits_there}
+use Rattle.fb_fastq.proofs.Sweeps.{no_later_trans, in_room, beats_more, farther_below}
 use Rattle.fb_fastq.proofs.soonest.soonest_below.Goals as goal
 
-pub loop-key-init : goal.loop-key-init
-loop-key-init c = (
-  tt,
-  tt,
-  c.requires.any,
-  walk_begins c.args.disk.now c.args.from.track c.args.from.instant c.args.waiting.now c.args.first (λ w. w.0.0 < c.args.start) _ (rev_source c.into_iter-key-iterator.result)
-      c.requires.first (sectors_rise c.args.waiting.now.entries c.range.ensures.ordered) (ap rev_source c.into_iter-key-iterator.ensures.into_iter_gives ∙ (c.rev-key-items.ensures.source ∙ c.range.ensures.between tt))
-      (λ w t. is_before c.args.start w.0.0 w.0.1 t) (λ w h. before_is c.args.start w.0.0 w.0.1 h),
-)
-
-pub approach_on-near-requires-clause-sector : goal.approach_on-near-requires-clause-sector
-approach_on-near-requires-clause-sector c =
-    let x : Waiting = (c.in-Some.key.now, c.in-Some.request.now) in
-    let there : IsIn x (rev_source c.loop-key.key-iterator) = subst (IsIn x) (sym c.in-Some.ensures.steps) (in_last x (rev_source c.next.new.self)) in
-    subst (λ n. n < length (places c.args.disk.now.map)) (all_of (λ y. y.0.0 ≡ y.1.lbn) x c.args.waiting.now.entries c.requires.sectors (c.loop-key.invariant.3.inside x there).0)
-    (lies_on_disk c.args.disk.now.map c.args.waiting.now.entries c.requires.sectors c.requires.on_disk x (c.loop-key.invariant.3.inside x there).0)
+pub loop-request-preserved : goal.loop-request-preserved
+loop-request-preserved c =
+    let disk = c.args.disk.now in
+    let waiting = c.args.waiting.now in
+    let old = c.loop-request.best in
+    let new = c.soonest_of_lane-best.result in
+    let lane = c.lane_of-lane.result in
+    let here = c.lane_of-lane.ensures in
+    let room = in_room disk c.args.from.track c.args.from.instant waiting c.requires.spots lane here.lane c.in-Some.field-0-0 c.in-Some.request c.in-Some.ensures.found here.track here.write in
+    let before = c.in-Some.ensures.before in
+    let below = c.loop-request.invariant.below in record {
+      near = c.approach_on-near.ensures.approach;
+      found = c.soonest_of_lane-best.ensures.found;
+      before = no_later_trans new.wait new.key.1 old.wait old.key.1 c.args.first.wait c.args.first.key.1 c.soonest_of_lane-best.ensures.first c.loop-request.invariant.before;
+      below = omega (arith, room.0, before, below);
+      seen = λ k s e from under. elim (cases_lt k.0 c.loop-request.next) [
+        | inl left ↦ c.soonest_of_lane-best.ensures.least k s e from (let le = c.in-Some.ensures.greatest k (waits_there waiting k s e) left in omega (arith, le, room.1))
+        | inr seen ↦ beats_more disk c.args.from.track c.args.from.instant waiting c.requires.spots new old k s c.soonest_of_lane-best.ensures.first (c.loop-request.invariant.seen k s e seen under)
+      ];
+    }
 
 pub returns-then-is_too_far-clause-least : goal.returns-then-is_too_far-clause-least
-returns-then-is_too_far-clause-least c =
-    let entries = c.args.waiting.now.entries in
-    let map = c.args.disk.now.map in
-    let x : Waiting = (c.in-Some.key.now, c.in-Some.request.now) in
-    let rest = (rev_source c.next.new.self) in
-    let steps = c.in-Some.ensures.steps in
-    let walk = c.loop-key.invariant.3 in
-    let cylinder_of : x.0.0 ≡ x.1.lbn → (track_at map x.0.0).cylinder ≡ c.approach_on-near.result.run.on.number =
-    λ stands. ap (λ n. (track_at map n).cylinder) stands ∙ sym c.approach_on-near.ensures.cylinder in
-    let own = walk.inside x (subst (IsIn x) (sym c.in-Some.ensures.steps) (in_last x (rev_source c.next.new.self))) in
-    all_from _ entries (walk_stops c.args.disk.now c.args.from.track c.args.from.instant c.args.waiting.now c.args.first (λ w. w.0.0 < c.args.start) c.loop-key.best (rev_source c.loop-key.key-iterator) walk (λ w left.
-    let there = (walk.inside w left).0 in
-    c.is_too_far.ensures c.if-is_too_far.true c.args.from.instant w.1
-    (subst (λ n. distance_of c.args.from.track.cylinder n ≤ distance_of c.args.from.track.cylinder (track_at map w.1.lbn).cylinder) (cylinder_of (all_of (λ y. y.0.0 ≡ y.1.lbn) x entries c.requires.sectors own.0))
-    (farther_below map c.args.from.track.cylinder c.args.start x w c.cylinders_rise.ensures c.requires.start (all_of (λ y. y.0.0 ≡ y.1.lbn) w entries c.requires.sectors there)
-    (lies_on_disk map entries c.requires.sectors c.requires.on_disk x own.0) (lies_on_disk map entries c.requires.sectors c.requires.on_disk w there)
-    own.1 (nearest_last x w rest (subst SectorsRise steps walk.rise) (subst (IsIn w) steps left))))))
-
-pub loop-key-preserved : goal.loop-key-preserved
-loop-key-preserved c =
-    let x : Waiting = (c.in-Some.key.now, c.in-Some.request.now) in
-    let rest = (rev_source c.next.new.self) in
-    let steps = c.in-Some.ensures.steps in
-    let walk = c.loop-key.invariant.3 in (
-      tt,
-      tt,
-      c.approach_on-near.ensures.approach,
-      walk_goes_on c.args.disk.now c.args.from.track c.args.from.instant c.args.waiting.now c.args.first (λ w. w.0.0 < c.args.start) c.loop-key.best c.candidate_of.result c.sooner-best.result x (rev_source c.loop-key.key-iterator) rest walk
-          c.range.ensures.ordered
-          (rise_front x rest (subst SectorsRise steps walk.rise)).0 (λ w e. subst (IsIn w) (sym steps) (in_front w x rest e)) (λ w e. last_or_front w x rest (subst (IsIn w) steps e))
-          (subst (IsIn x) (sym c.in-Some.ensures.steps) (in_last x (rev_source c.next.new.self)))
-          c.candidate_of.ensures.key c.candidate_of.ensures.wait c.sooner-best.ensures.one c.sooner-best.ensures.first c.sooner-best.ensures.second,
-    )
+returns-then-is_too_far-clause-least c = λ k s e from under. elim (cases_lt k.0 c.loop-request.next) [
+  | inl left ↦
+      let head = c.args.from.track in
+      let waiting = c.args.waiting.now in
+      let below = c.loop-request.invariant.below in
+      let next = c.in-Some.ensures.before in
+      let start = c.requires.start in
+      inl (c.is_too_far.ensures c.if-is_too_far.true c.args.from.instant s
+      (subst (λ n. distance_of head.cylinder n ≤ distance_of head.cylinder (track_at c.args.disk.now.map s.lbn).cylinder) (sym c.approach_on-near.ensures.cylinder)
+      (farther_below c.args.disk.now head c.args.from.instant waiting c.requires.spots c.in-Some.field-0-0 k c.in-Some.request s c.in-Some.ensures.found e
+      (omega (arith, below, next, start)) (c.in-Some.ensures.greatest k (waits_there waiting k s e) left))))
+  | inr seen ↦ c.loop-request.invariant.seen k s e seen under
+]
 
 pub returns-clause-least : goal.returns-clause-least
-returns-clause-least c =
-    all_from _ c.args.waiting.now.entries (walk_ends c.args.disk.now c.args.from.track c.args.from.instant c.args.waiting.now c.args.first (λ w. w.0.0 < c.args.start) c.loop-key.best (rev_source c.loop-key.key-iterator) c.loop-key.invariant.3 c.in-None.ensures.steps.0)
+returns-clause-least c = λ k s e from under. c.loop-request.invariant.seen k s e (c.in_default.ensures.none k (waits_there c.args.waiting.now k s e)) under

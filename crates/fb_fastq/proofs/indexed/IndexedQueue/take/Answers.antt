@@ -2,14 +2,20 @@ use Rattle.std.proofs.Common.{◌≡◌, ap, sym, subst, Some}
 use Rattle.std.specs.List.{AllByRecursion}
 use Rattle.fb_model.specs.Accepted.{IsRequestOf}
 use Rattle.fb_model.specs.PlainReplay.{first_least}
-use Rattle.fb_fastq.specs.Joining.{pending_of}
-use Rattle.fb_fastq.proofs.Least.{all_waiting}
+use Rattle.fb_fastq.specs.Joining.{Waiting, pending_of}
+use Rattle.fb_fastq.proofs.Least.{all_waiting, all_held, all_removed}
 use Rattle.fb_fastq.proofs.indexed.IndexedQueue.take.Goals as goal
 
 pub choose-key-requires-clause-on_disk : goal.choose-key-requires-clause-on_disk
 choose-key-requires-clause-on_disk g c =
     let on_disk = IsRequestOf c.args.disk.now.map in
-    all_waiting on_disk c.self.inside.waiting.entries (subst (λ es. AllByRecursion on_disk (pending_of es)) (sym (ap (λ v. v.waiting) c.self.view_is)) c.requires.on_disk)
+    all_held (λ key r. on_disk r) c.self.inside.waiting (all_waiting on_disk c.self.inside.waiting.entries
+    (subst (λ es. AllByRecursion on_disk (pending_of es)) (sym (ap (λ v. v.waiting) c.self.view_is)) c.requires.on_disk))
+
+pub choose-key-requires-clause-spots : goal.choose-key-requires-clause-spots
+choose-key-requires-clause-spots g c =
+    all_held (λ key r. g.C.Choice.stands c.args.disk.now r key.0) c.self.inside.waiting
+    (subst (AllByRecursion (λ (w : Waiting). g.C.Choice.stands c.args.disk.now w.1 w.0.0)) (sym (ap (λ v. v.waiting) c.self.view_is)) c.requires.serves)
 
 pub invariant_of-self : goal.invariant_of-self
 invariant_of-self g c = c.take_out.ensures.index c.self.inside.joined c.self.invariant
@@ -18,4 +24,10 @@ pub returns-clause-least : goal.returns-clause-least
 returns-clause-least g c =
     let rank = g.C.Choice.key c.args.disk.now c.args.head c.args.now in
     subst (λ es. first_least rank (pending_of es) ≡ Some (c.take_out.result, pending_of c.take_out.new.waiting.entries)) (ap (λ v. v.waiting) c.self.view_is)
-    (c.take_out.ensures.least c.self.inside.joined rank c.self.invariant (c.choose-key.ensures.first c.take_out.result c.take_out.ensures.value))
+    (c.take_out.ensures.least c.self.inside.joined rank c.self.invariant c.choose-key.ensures.first)
+
+pub returns-clause-serves : goal.returns-clause-serves
+returns-clause-serves g c =
+    let stands = λ (w : Waiting). g.C.Choice.stands c.args.disk.now w.1 w.0.0 in
+    subst (AllByRecursion stands) (sym c.take_out.ensures.entries)
+    (all_removed stands c.choose-key.result c.self.inside.waiting.entries (subst (AllByRecursion stands) (sym (ap (λ v. v.waiting) c.self.view_is)) c.requires.serves))

@@ -1,17 +1,27 @@
-use Rattle.std.proofs.Common.{ℕ, subst}
+use Rattle.std.proofs.Common.{ℕ, arith, subst}
 use Rattle.fb_units.specs.declared.types.Track.{Track}
 use Rattle.fb_model.specs.PlainReplay.{sptf}
-use Rattle.fb_fastq.specs.Joining.{IsFirst}
-use Rattle.fb_fastq.proofs.Walks.{soonest_is_first}
+use Rattle.fb_fastq.specs.Joining.{IsFirstHeld}
+use Rattle.fb_fastq.proofs.Least.{some_held, waits_there}
+use Rattle.fb_fastq.proofs.Sweeps.{soonest_is_first}
 use Rattle.fb_fastq.proofs.soonest.SoonestChoice.choose.Goals as goal
 
+pub returns-clause-found : goal.returns-clause-found
+returns-clause-found c = waits_there c.args.waiting.now c.soonest_below.result.key c.soonest_below.ensures.found.request c.soonest_below.ensures.found.waits
+
 pub returns-clause-first : goal.returns-clause-first
-returns-clause-first c = λ r e.
+returns-clause-first c =
     let disk = c.args.disk.now in
-    let entries = c.args.waiting.now.entries in
+    let waiting = c.args.waiting.now in
     let key = c.soonest_below.result.key in
     let from = c.departure_from-from.result in
-    subst (λ (track : Track). IsFirst (sptf disk track c.args.now) (key, r) entries) c.departure_from-from.ensures.track
-    (subst (λ (now : ℕ). IsFirst (sptf disk from.track now) (key, r) entries) c.departure_from-from.ensures.instant
-    (soonest_is_first disk from.track from.instant c.start_of-start.result c.args.waiting.now c.soonest_above-above.result c.soonest_below.result
-    c.soonest_below.ensures.found c.soonest_below.ensures.first c.soonest_above-above.ensures.least c.soonest_below.ensures.least r e))
+    subst (λ (track : Track). IsFirstHeld (sptf disk track c.args.now) waiting key) c.departure_from-from.ensures.track
+    (subst (λ (now : ℕ). IsFirstHeld (sptf disk from.track now) waiting key) c.departure_from-from.ensures.instant
+    (soonest_is_first disk from.track from.instant c.cylinder_start-start.result waiting c.soonest_above-above.result c.soonest_below.result
+    c.soonest_below.ensures.found c.soonest_below.ensures.first c.soonest_above-above.ensures.least c.soonest_below.ensures.least))
+
+pub unreachable-requires : goal.unreachable-requires
+unreachable-requires c =
+    let waiting = c.args.waiting.now in
+    let held = some_held waiting c.requires.some in
+    let none = c.in_default.ensures.none held.0 (waits_there waiting held.0 held.1.0 held.1.1) in absurd (omega (arith, none))

@@ -1,0 +1,115 @@
+-- A sweep over the lanes, from the head's cylinder outwards.
+use Rattle.std.proofs.Common.{◌≡◌, ℕ, ◌+◌, ◌-◌, ◌*◌, ◌%◌, ◌^◌, ◌<◌, ◌≤◌, sym, ap, subst, ◌∙◌, arith, inl, inr, ◌⊎◌}
+use Rattle.std.specs.BTreeMap.{BTreeMap}
+use Rattle.std.proofs.lemmas.Bool.{cases_lt}
+use Rattle.fb_units.specs.declared.types.Track.{Track}
+use Rattle.fb_units.specs.declared.types.Request.{Request}
+use Rattle.fb_sectormap.specs.Lookup.{track_at}
+use Rattle.fb_seek.specs.Positioning.{pos, distance_of}
+use Rattle.fb_service.specs.declared.disk.Disk.{Disk}
+use Rattle.fb_model.specs.PlainReplay.{sptf}
+use Rattle.fb_fastq.specs.declared.lanes.Lane.{Lane}
+use Rattle.fb_fastq.specs.declared.soonest.Candidate.{Candidate}
+use Rattle.fb_fastq.specs.Joining.{Waits, Holds, AllHeld, IsNoLater, IsFirstHeld}
+use Rattle.fb_fastq.specs.Turns.{turn}
+use Rattle.fb_fastq.specs.Lanes.{IsLane, IsAlong}
+use Rattle.fb_fastq.specs.Candidates.{IsCandidate, IsBefore, Beats, BeatsFrom, BeatsBetween}
+use Rattle.fb_fastq.proofs.Least.{some_injective, waits_there}
+use Rattle.fb_fastq.proofs.Turns.{ComesFirst}
+use Rattle.fb_fastq.proofs.OnLanes.{on_cylinder, on_lane, begins, waits_on_lane}
+
+pub no_later_trans : (a m b n c p : ℕ) → IsNoLater a m b n → IsNoLater b n c p → IsNoLater a m c p
+no_later_trans a m b n c p (inl less) (inl more) = inl (omega arith)
+no_later_trans a m b n c p (inl less) (inr tied) = let same = tied.0 in inl (omega (arith, same))
+no_later_trans a m b n c p (inr tied) (inl more) = let same = tied.0 in inl (omega (arith, same))
+no_later_trans a m b n c p (inr tied) (inr both) = inr (tied.0 ∙ both.0, let one = tied.1 in let other = both.1 in omega (arith, one, other))
+
+-- a longer way on both sides changes no order
+after_way : (way a m b n : ℕ) → IsNoLater a m b n → IsNoLater (way + a) m (way + b) n
+after_way way a m b n (inl less) = inl (omega arith)
+after_way way a m b n (inr tied) = inr (ap (λ x. way + x) tied.0, tied.1)
+
+-- one of two candidates is a candidate
+pub is_one : (disk : Disk) (head : Track) (now : ℕ) (waiting : BTreeMap (ℕ × ℕ) Request) (old next new : Candidate) (key : ℕ × ℕ) (r : Request) → IsCandidate disk head now waiting old
+    → Holds waiting key r → next.key ≡ key → next.wait ≡ sptf disk head now r → (new ≡ old) ⊎ (new ≡ next) → IsCandidate disk head now waiting new
+is_one disk head now waiting old next new key r found held at wait (inl is) = subst (IsCandidate disk head now waiting) (sym is) found
+is_one disk head now waiting old next new key r found held at wait (inr is) = subst (IsCandidate disk head now waiting) (sym is) (record {
+  request = r;
+  waits = subst (λ (k : ℕ × ℕ). Holds waiting k r) (sym at) held;
+  wait = wait;
+})
+
+module _ (disk : Disk) (head : Track) (now : ℕ) (waiting : BTreeMap (ℕ × ℕ) Request) (spots : AllHeld (λ key request. IsAlong disk request key.0) waiting) where
+  -- one that is sooner beats whatever is beaten
+  pub beats_more : (a b : Candidate) (key : ℕ × ℕ) (r : Request) → IsBefore a b → Beats disk head now b key r → Beats disk head now a key r
+  beats_more a b key r before beats = no_later_trans a.wait a.key.1 b.wait b.key.1 (sptf disk head now r) key.1 before beats
+
+  -- a request's spot is in the room of its lane
+  pub in_room : (lane : Lane) → IsLane lane → (key : ℕ × ℕ) (r : Request) → Holds waiting key r → lane.track ≡ track_at disk.map r.lbn → lane.write ≡ r.write → (lane.start ≤ key.0) × (key.0 < lane.start + 10 ^ 9)
+  in_room lane is_lane key r held track write =
+      let begin = begins disk r key.0 (spots key r held) lane is_lane (sym track) (sym write) in
+      let short = disk.short_rotation in
+      (omega (arith, begin.0), omega (arith, begin.1, short))
+
+  module _ (lane : Lane) (is_lane : IsLane lane) where
+    module _ (length : ℕ) (whole : length ≡ disk.map.rotation) where
+      -- what comes first round the lane from the angle of arrival on beats the whole lane
+      pub beats_lane : (angle : ℕ) (w : (ℕ × ℕ) × Request) (candidate : Candidate) → angle ≡ (now + pos disk.mechanism head lane.track lane.write) % disk.map.rotation
+          → Holds waiting w.0 w.1 → lane.start ≤ w.0.0 → w.0.0 < lane.start + length → ComesFirst waiting lane.start length angle w
+          → candidate.key ≡ w.0 → candidate.wait ≡ sptf disk head now w.1 → BeatsBetween disk head now waiting candidate lane.start (lane.start + 10 ^ 9)
+      beats_lane angle w candidate is held from below first key wait = λ k s other inside under.
+          let way = pos disk.mechanism head lane.track lane.write in
+          let short = disk.short_rotation in
+          let own = spots w.0 w.1 held in
+          let its = spots k s other in
+          let here = on_lane disk w.1 w.0.0 own lane is_lane from (omega (arith, below, short, whole)) in
+          let there = on_lane disk s k.0 its lane is_lane inside under in
+          let within = (begins disk s k.0 its lane is_lane there.0 there.1).1 in
+          let turned : (spot : ℕ) → turn disk.map.rotation ((now + way) % disk.map.rotation) (spot - lane.start) ≡ turn length angle (spot - lane.start) =
+          λ spot. ap (λ x. turn disk.map.rotation x (spot - lane.start)) (sym is) ∙ ap (λ n. turn n angle (spot - lane.start)) (sym whole) in
+          let value : candidate.wait ≡ way + turn length angle (w.0.0 - lane.start) =
+          wait ∙ (waits_on_lane disk w.1 w.0.0 own lane is_lane head now here.0 here.1 ∙ ap (λ x. way + x) (turned w.0.0)) in
+          let other_value : sptf disk head now s ≡ way + turn length angle (k.0 - lane.start) =
+          waits_on_lane disk s k.0 its lane is_lane head now there.0 there.1 ∙ ap (λ x. way + x) (turned k.0) in
+          let order = after_way way (turn length angle (w.0.0 - lane.start)) w.0.1 (turn length angle (k.0 - lane.start)) k.1
+          (first k (waits_there waiting k s other) inside (omega (arith, within, whole))) in
+          subst (λ (q : ℕ × ℕ). IsNoLater candidate.wait q.1 (sptf disk head now s) k.1) (sym key)
+          (subst (λ n. IsNoLater n w.0.1 (sptf disk head now s) k.1) (sym value) (subst (λ n. IsNoLater (way + turn length angle (w.0.0 - lane.start)) w.0.1 n k.1) (sym other_value) order))
+
+      -- where the ring has none, the lane has none
+      pub beats_none : (candidate : Candidate) → ((k : ℕ × ℕ) → Waits waiting k → lane.start ≤ k.0 → lane.start + length ≤ k.0)
+          → BeatsBetween disk head now waiting candidate lane.start (lane.start + 10 ^ 9)
+      beats_none candidate none = λ k s other inside under.
+          let its = spots k s other in
+          let there = on_lane disk s k.0 its lane is_lane inside under in
+          let past = none k (waits_there waiting k s other) inside in
+          let within = (begins disk s k.0 its lane is_lane there.0 there.1).1 in
+          absurd (omega (arith, past, within, whole))
+
+  -- outwards from the head's cylinder, spots that are farther lie on cylinders that are no nearer
+  module _ (x w : ℕ × ℕ) (r s : Request) (held : Holds waiting x r) (other : Holds waiting w s) where
+    pub farther_above : head.cylinder * (128 * 10 ^ 9) ≤ x.0 → x.0 ≤ w.0 → distance_of head.cylinder (track_at disk.map r.lbn).cylinder ≤ distance_of head.cylinder (track_at disk.map s.lbn).cylinder
+    farther_above from more = let here = on_cylinder disk r x.0 (spots x r held) in let there = on_cylinder disk s w.0 (spots w s other) in omega (arith, here.0, here.1, there.0, there.1, from, more)
+
+    pub farther_below : x.0 < head.cylinder * (128 * 10 ^ 9) → w.0 ≤ x.0 → distance_of head.cylinder (track_at disk.map r.lbn).cylinder ≤ distance_of head.cylinder (track_at disk.map s.lbn).cylinder
+    farther_below below less = let here = on_cylinder disk r x.0 (spots x r held) in let there = on_cylinder disk s w.0 (spots w s other) in omega (arith, here.0, here.1, there.0, there.1, below, less)
+
+  -- one row of spots after another
+  pub beats_both : (old new : Candidate) (start middle end : ℕ) → IsBefore new old → BeatsBetween disk head now waiting old start middle → BeatsBetween disk head now waiting new middle end → BeatsBetween disk head now waiting new start end
+  beats_both old new start middle end before seen more = λ k s e from below. elim (cases_lt k.0 middle) [
+    | inl lt ↦ beats_more new old k s before (seen k s e from lt)
+    | inr ge ↦ more k s e ge below
+  ]
+
+-- a candidate that beats all is the first of all
+pub soonest_is_first : (disk : Disk) (head : Track) (now start : ℕ) (waiting : BTreeMap (ℕ × ℕ) Request) (above best : Candidate) → IsCandidate disk head now waiting best → IsBefore best above
+    → BeatsFrom disk head now waiting above start → BeatsBetween disk head now waiting best 0 start → IsFirstHeld (sptf disk head now) waiting best.key
+soonest_is_first disk head now start waiting above best found before over under = λ r e k s other.
+    let rank = sptf disk head now in
+    let same : found.request ≡ r = some_injective found.request r (sym found.waits ∙ e) in
+    let wait : best.wait ≡ rank r = found.wait ∙ ap rank same in
+    subst (λ n. IsNoLater n best.key.1 (rank s) k.1) wait
+    (elim (cases_lt k.0 start) [
+      | inl below ↦ under k s other (omega arith) below
+      | inr from ↦ no_later_trans best.wait best.key.1 above.wait above.key.1 (rank s) k.1 before (over k s other from)
+    ])

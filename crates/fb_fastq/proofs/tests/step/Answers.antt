@@ -1,0 +1,9 @@
+use Rattle.std.proofs.Common.{sym, subst}
+use Rattle.std.specs.List.{AllByRecursion}
+use Rattle.fb_geometry.proofs.Laws.{all-append}
+use Rattle.fb_model.specs.Accepted.{IsRequestOf}
+use Rattle.fb_fastq.proofs.Alike.{all_others}
+use Rattle.fb_fastq.proofs.tests.step.Goals as goal
+
+pub returns-clause-on_disk : goal.returns-clause-on_disk
+returns-clause-on_disk g c = all_others (IsRequestOf c.args.disk.now.map) (g.Q.Queue.key c.args.disk.now c.track-head.result c.below-now.result) (g.Q.Queue.pending c.args.queue.now) _ _ c.take.ensures.least c.requires.on_disk

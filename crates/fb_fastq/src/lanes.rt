@@ -1,0 +1,87 @@
+// Lanes: the tracks laid end to end, each once for reads and once for writes.
+ghost use Rattle.std.specs.Prelude.{◌≡◌, ◌+◌, ◌*◌, ◌<◌, ◌≤◌, ◌^◌};
+ghost use Rattle.fb_geometry.specs.Shape.{IsTrackOf, cylinders_of};
+ghost use Rattle.fb_sectormap.specs.Lookup.{track_at};
+ghost use Rattle.fb_model.specs.Accepted.{IsRequestOf};
+ghost use Rattle.fb_sectormap.specs.Runs.{IsRun};
+ghost use Rattle.fb_fastq.specs.Lanes.{IsLane, IsAlong};
+
+use fb_service::{Approach, Disk};
+use fb_units::{Ns, Request, Track};
+
+/// The room of a lane along all lanes, in nanoseconds: the longest rotation.
+pub const LANE: Ns = 1_000_000_000;
+
+/// The room of a cylinder: for as many lanes as the most heads need.
+const CYLINDER: Ns = 128 * LANE;
+
+/// A track for reads or for writes.
+#[derive(Clone, Copy)]
+pub struct Lane {
+    pub track: Track,
+    pub write: bool,
+    /// Where the lane starts along all lanes, with the platter at angle 0.
+    pub start: Ns,
+}
+
+// A disk has few cylinders and heads.
+fn few_tracks(disk: &Disk)
+    ensures cylinders { cylinders_of disk.now.map.zones ≤ 10 ^ 6 }
+    ensures heads { disk.now.map.heads ≤ 64 }
+{
+    let geometry = disk.map.geometry();
+    let _cylinders = geometry.cylinders();
+    let _heads = geometry.heads();
+}
+
+/// Where the lanes of a cylinder start.
+pub fn cylinder_start(disk: &Disk, cylinder: u32) -> Ns
+    requires { cylinder < cylinders_of disk.now.map.zones }
+    ensures value { result ≡ cylinder * (128 * 10 ^ 9) }
+    ensures few { result ≤ 128 * 10 ^ 15 }
+{
+    few_tracks(disk);
+    cylinder as u64 * CYLINDER
+}
+
+// The lane of a track for reads or for writes.
+fn lane_at(disk: &Disk, track: Track, write: bool) -> Lane
+    requires { IsTrackOf disk.now.map track }
+    ensures lane { IsLane result }
+    ensures track { result.track ≡ track }
+    ensures write { result.write ≡ write }
+{
+    few_tracks(disk);
+    let for_reads = cylinder_start(disk, track.cylinder) + track.head as u64 * 2 * LANE;
+    let start = if write { for_reads + LANE } else { for_reads };
+    Lane {
+        track,
+        write,
+        start,
+    }
+}
+
+/// The lane of a request, by the way to its cylinder.
+pub fn lane_of(disk: &Disk, near: &Approach, request: &Request) -> Lane
+    requires near { IsRun disk.now.map near.now.run }
+    requires first { near.now.run.first ≤ request.now.lbn }
+    requires end { request.now.lbn < near.now.run.end }
+    ensures lane { IsLane result }
+    ensures track { result.track ≡ track_at disk.now.map request.now.lbn }
+    ensures cylinder { result.track.cylinder ≡ near.now.run.on.number }
+    ensures write { result.write ≡ request.now.write }
+{
+    let place = disk.map.place_in(&near.run, request.lbn);
+    lane_at(disk, place.track, request.write)
+}
+
+/// How far along all lanes a request's first sector begins.
+pub fn along(disk: &Disk, request: &Request) -> Ns
+    requires { IsRequestOf disk.now.map request.now }
+    ensures { IsAlong disk.now request.now result }
+{
+    few_tracks(disk);
+    let place = disk.map.place(request.lbn);
+    let begin = disk.map.geometry().slot_begin(place.track, place.slot);
+    lane_at(disk, place.track, request.write).start + begin
+}
