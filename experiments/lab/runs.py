@@ -13,7 +13,7 @@ from lab.study import EXPERIMENTS
 from lab.tables import Line
 from lab.workload import Mix, random_requests, write_trace
 
-REQUESTS = 10_000  # of a run, 40 to 80 simulated seconds
+REQUESTS = 6_000  # of a run, 20 to 50 simulated seconds where the disk is never idle
 BLOCK = 16  # sectors; 8 KB where a sector has 512 bytes
 
 

@@ -42,7 +42,7 @@ def draw(table: list[dict[str, Any]], path: str) -> None:
     """What gaps and idle time give, and beside it how long requests take."""
     from lab.drawing import GREEN, LOOKS, panels, save
 
-    figure, axes = panels(1, 3, 3.8, width_ratios=(1, 1, 1))
+    figure, axes = panels(1, 3, 3.8, width_ratios=(1, 1, 1.25))
     for panel, policy in zip(axes, ("fcfs", "sptf")):
         lines = [line for line in table if line["policy"] == policy]
         stack = panel.stackplot([line["a second"] for line in lines], [line["gap MB/s"] for line in lines],
@@ -53,7 +53,7 @@ def draw(table: list[dict[str, Any]], path: str) -> None:
         panel.set_xlim(0, 200)
         panel.set_ylim(0, 10)
         panel.legend(loc="upper right", fontsize=8)
-        times = {"mean": "response ms", "95th percentile": "95th percentile ms"}
+        times = {"mean": "response ms", "95 % below": "95th percentile ms"}
         for (label, name), filled in zip(times.items(), (True, False)):
             look = LOOKS[policy] | ({} if filled else {"markerfacecolor": "white"})
             axes[2].plot([line["a second"] for line in lines], [line[name] for line in lines], **look,
@@ -61,7 +61,7 @@ def draw(table: list[dict[str, Any]], path: str) -> None:
     axes[0].set_ylabel("MB/s read for the background")
     axes[2].set_xlabel("requests a second")
     axes[2].set_ylabel("response time (ms)")
-    axes[2].set_ylim(0, 120)
+    axes[2].set_ylim(0, 160)
     axes[2].legend(loc="upper left", fontsize=8)
     save(figure, path)
 

@@ -14,7 +14,7 @@ MINUTE = 60_000_000_000  # nanoseconds
 
 
 class Scan(NamedTuple):
-    """A loop that lasts until the disk is read."""
+    """A closed loop, which lasts until the disk is read where nothing else is said."""
 
     loop: Closed
     requests: int
@@ -25,7 +25,7 @@ RUNS = {
     "fcfs-2": Scan(Closed("fcfs", 2), 240_000),
     "sstf-20": Scan(Closed("sstf", 20), 300_000),
     "sptf-2": Scan(Closed("sptf", 2), 340_000),
-    "sptf-20": Scan(Closed("sptf", 20), 900_000),
+    "sptf-20": Scan(Closed("sptf", 20), 300_000),  # it would take 900,000 to read the whole disk
     "fcfs-2-hot": Scan(Closed("fcfs", 2), 300_000, Mix(hot=(0.8, 0.2))),
 }
 LABELS = {"fcfs-2": "fcfs, 2 outstanding", "sstf-20": "sstf, 20", "sptf-2": "sptf, 2", "sptf-20": "sptf, 20",
