@@ -1,1 +1,1 @@
-"""What the experiments are made of. Times are whole nanoseconds and places are sectors wherever nothing else is said."""
+"""What the experiments are made of. Times are whole nanoseconds and places are sectors unless they say otherwise."""

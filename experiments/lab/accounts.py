@@ -50,7 +50,7 @@ class Bookkeeper:
     def add(self, row: Row) -> None:
         """Counts a row; all rows are to come in their order, the run's `end` last."""
         if isinstance(row, Got):
-            self.accounts[-1].got[row.how] += row.count * self.disk.sector_bytes
+            self.accounts[-1].got[row.how] += row.length * self.disk.sector_bytes
             if row.how != "ride":
                 self._passages.append((row.begin, row.end))
         elif isinstance(row, Gap):
@@ -88,7 +88,7 @@ class Bookkeeper:
         account.spent[UNUSED] += gap.deadline - gap.now - moved
         account.spent[TRANSFER] += served.finish - served.media
         account.requests += 1
-        account.sectors += served.count
+        account.sectors += served.length
         account.responses += served.finish - served.arrival
         account.services += served.finish - served.start
 

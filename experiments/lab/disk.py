@@ -10,12 +10,12 @@ Track = tuple[int, int]  # cylinder, head
 
 
 class Stretch(NamedTuple):
-    """Sectors that pass one after another without a wait: `count` slots of a track from `slot` on, round the track."""
+    """Sectors that pass one after another without a wait: `length` slots of a track from `slot` on, round the track."""
 
     track: Track
     slot: int
     slots: int  # of the whole track
-    count: int
+    length: int
 
 
 @dataclass(frozen=True)
@@ -98,7 +98,7 @@ class Disk:
         return max(self.seek(abs(source[0] - target[0])), switch) + settle
 
     def stretch(self, sector: int, count: int) -> Stretch:
-        """Where `sector` lies, and how many of the `count` sectors from it on follow in the next slots of its track."""
+        """Where `sector` lies, and how many of the sectors from it on follow in the next slots of its track."""
         zone = self.zones[bisect_right(self._begins, sector) - 1]
         cylinder, index = divmod(sector - zone.begin, zone.data)
         cylinder += zone.first

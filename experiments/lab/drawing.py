@@ -1,4 +1,4 @@
-"""What all pictures share: colours that differ in grey too, sizes that are readable on a page, and the saving of a file."""
+"""What all pictures share: colours that differ in grey too, sizes for a page, and how they are saved."""
 
 import matplotlib
 
@@ -22,7 +22,8 @@ LOOKS: dict[str, dict[str, object]] = {
 
 plt.rcParams.update({
     "font.size": 10, "axes.spines.top": False, "axes.spines.right": False, "axes.grid": True, "grid.color": "#e6e6e6",
-    "axes.axisbelow": True, "legend.frameon": False, "legend.fontsize": 9, "lines.markersize": 4.5, "hatch.linewidth": 0.6,
+    "axes.axisbelow": True, "legend.frameon": False, "legend.fontsize": 9, "lines.markersize": 4.5,
+    "hatch.linewidth": 0.6,
 })
 
 

@@ -21,7 +21,7 @@ class Fit:
     sectors: int
     sector_bytes: int
     place: str = "keep"  # keep, scale or fold
-    source_bytes: int | None = None  # what the traced device holds; None: up to the last byte that was accessed
+    source_bytes: int = 0  # what the traced device holds; 0: up to the last byte that was accessed
     time_scale: float = 1.0  # times between arrivals are multiplied by it
 
 
@@ -76,10 +76,6 @@ def _placed(first: int, count: int, fit: Fit, source: int, losses: Losses) -> in
         losses["distances between accesses (places are scaled, sizes aren't)"] = 0
         return min(first * fit.sectors * fit.sector_bytes // source, last)
     if first > last:
-        raise DoesNotFit(f"an access at byte {access_text(first, fit)} lies beyond the disk: name --place scale or fold")
+        byte = first * fit.sector_bytes
+        raise DoesNotFit(f"an access at byte {byte} lies beyond the disk: name --place scale or fold")
     return first
-
-
-def access_text(first: int, fit: Fit) -> str:
-    """The byte at which a sector begins, for a note."""
-    return str(first * fit.sector_bytes)

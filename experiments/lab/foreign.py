@@ -23,7 +23,7 @@ LINUX_SECTOR = 512  # bytes; what the kernel's block layer counts in
 
 
 def fio_accesses(lines: Iterable[str], losses: Losses, _device: str | None, _unit: int) -> Iterator[Access]:
-    """A latency log with offsets: time in ms of the completion, latency in ns, direction, length and offset in bytes."""
+    """A latency log with offsets: completion in ms, latency in ns, direction, length in bytes, offset in bytes."""
     losses["completion times are whole milliseconds, so arrivals are that exact at most"] = 0
     for number, line in enumerate(lines, 1):
         fields = [field.strip() for field in line.split(",")]

@@ -1,4 +1,4 @@
-"""The foreground by itself, request by request: when each is served, so that closed loops can be computed beforehand."""
+"""The foreground by itself, request by request: when each is served, so that closed loops can be computed."""
 
 from typing import Callable
 
@@ -22,18 +22,18 @@ class Arm:
 
     def serve(self, request: Request) -> None:
         """Serves the request whole: the arm stands on its last track afterwards, and is free at its finish."""
-        sector, left = request.sector, request.count
+        sector, left = request.sector, request.length
         while left:
             stretch = self.disk.stretch(sector, left)
             self.now += self.until_first(stretch, request.is_read)
             self.now += self._passage(stretch)
             self.track = stretch.track
-            sector, left = sector + stretch.count, left - stretch.count
+            sector, left = sector + stretch.length, left - stretch.length
 
     def _passage(self, stretch: Stretch) -> int:
         """How long the stretch takes from the beginning of its first slot to the end of its last."""
         begin = stretch.slot * self.disk.turn // stretch.slots
-        last = stretch.slot + stretch.count
+        last = stretch.slot + stretch.length
         return last // stretch.slots * self.disk.turn + last % stretch.slots * self.disk.turn // stretch.slots - begin
 
 
@@ -56,11 +56,11 @@ def closed_arrivals(disk: Disk, requests: list[Request], policy: str, outstandin
     arm = Arm(disk)
     key = key_of(policy, arm)
     arrivals = [0] * min(outstanding, len(requests))
-    waiting = [(disk.stretch(request.sector, request.count), request) for request in requests[:outstanding]]
+    waiting = [(disk.stretch(request.sector, request.length), request) for request in requests[:outstanding]]
     for request in requests[outstanding:]:
         chosen = min(waiting, key=key)
         waiting.remove(chosen)
         arm.serve(chosen[1])
         arrivals.append(arm.now)
-        waiting.append((disk.stretch(request.sector, request.count), request))
+        waiting.append((disk.stretch(request.sector, request.length), request))
     return arrivals

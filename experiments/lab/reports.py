@@ -11,7 +11,7 @@ class Served(NamedTuple):
     name: str
     is_read: bool
     sector: int
-    count: int
+    length: int
     arrival: int
     start: int
     media: int
@@ -42,9 +42,9 @@ class Got(NamedTuple):
     """A delivered block; `how` is gap, idle or ride."""
 
     task: str
-    index: int
+    number: int
     sector: int
-    count: int
+    length: int
     begin: int
     end: int
     how: str

@@ -1,4 +1,4 @@
-"""What the runs of the studies have in common: a foreground on a disk, a script beside it, and the columns of a table."""
+"""What the runs of the studies share: a foreground on a disk, a script beside it, and the columns of a table."""
 
 import os
 from typing import NamedTuple

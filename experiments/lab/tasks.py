@@ -29,8 +29,8 @@ class Task:
         """Counts a delivery."""
         self.first = got.end if self.first is None else self.first
         self.last = got.end
-        self.sectors += got.count
-        byte, bit = got.index // 8, 1 << got.index % 8
+        self.sectors += got.length
+        byte, bit = got.number // 8, 1 << got.number % 8
         if byte >= len(self._seen):
             self._seen.extend(bytes(byte + 1 - len(self._seen) + len(self._seen) // 2))
         self.again += self._seen[byte] & bit > 0

@@ -5,10 +5,10 @@ from typing import Iterable, NamedTuple
 
 
 class Request(NamedTuple):
-    """`count` sectors from `sector` on."""
+    """`length` sectors from `sector` on."""
 
     sector: int
-    count: int
+    length: int
     is_read: bool
 
 

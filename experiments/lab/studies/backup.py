@@ -60,17 +60,17 @@ class Image:
             self._write = row.served if isinstance(row, Gap) and not row.served.is_read else None
 
     def _take(self, got: Got) -> None:
-        for sector in range(got.sector, got.sector + got.count):
-            self._block_of[sector] = got.index
-        self.again += self._seen[got.index]
-        self._seen[got.index] = self._is_held[got.index] = 1
+        for sector in range(got.sector, got.sector + got.length):
+            self._block_of[sector] = got.number
+        self.again += self._seen[got.number]
+        self._seen[got.number] = self._is_held[got.number] = 1
         self.held += 1
 
     def _overwrite(self) -> None:
         """The delivered blocks that share a sector with the write are wanted again, unless the image is sealed."""
         if self._write is None or self.sealed:
             return
-        begin, end = self._write.sector, self._write.sector + self._write.count
+        begin, end = self._write.sector, self._write.sector + self._write.length
         for block in set(self._block_of[begin:end]) - {-1}:
             self.held -= self._is_held[block]
             self._is_held[block] = 0

@@ -18,8 +18,8 @@ class Size(NamedTuple):
 
 
 LOOPS = (Closed("fcfs", 2), Closed("sstf", 20), Closed("sptf", 20))
-VALUES = {"block": (4, 8, 16, 32, 64, 128, 256), "request": (8, 16, 32, 64, 128, 256),
-          "part": (0.5, 1, 2, 5, 10, 20, 50, 80, 100)}
+VALUES = {"block": (4, 16, 32, 64, 256), "request": (8, 32, 64, 128, 256),
+          "part": (1, 5, 20, 50, 80, 100)}
 RUNS = {f"{what}-{value}-{loop.policy}-{loop.outstanding}": Size(loop, what, value)
         for what, values in VALUES.items() for loop in LOOPS for value in values}
 NUMBERS = {"block": REQUESTS, "request": REQUESTS, "part": REQUESTS // 5}  # few requests, so that the part stays about

@@ -23,7 +23,8 @@ def _line(loop: Closed, folder: str, part: float, request: int, block: int) -> L
     disk = disk_named(loop.disk)
     script = wanted_range("plain", block, 0, disk.sectors)
     runs = closed_run(loop, disk, round(REQUESTS * part), Mix(size=request), script, folder)
-    return {"disk": loop.disk, "policy": loop.policy, "outstanding": loop.outstanding, **columns(account_of(disk, runs))}
+    names: Line = {"disk": loop.disk, "policy": loop.policy, "outstanding": loop.outstanding}
+    return names | columns(account_of(disk, runs))
 
 
 def measure(run: str, folder: str, part: float) -> list[Line]:
