@@ -17,9 +17,8 @@ class Size(NamedTuple):
     value: float
 
 
-LOOPS = (Closed("fcfs", 2), Closed("sstf", 20), Closed("sptf", 20))
-VALUES = {"block": (4, 16, 32, 64, 256), "request": (8, 32, 64, 128, 256),
-          "part": (1, 5, 20, 50, 80, 100)}
+LOOPS = (Closed("fcfs", 2), Closed("sptf", 20))
+VALUES = {"block": (4, 16, 64, 256), "request": (8, 32, 128, 256), "part": (1, 5, 20, 50, 100)}
 RUNS = {f"{what}-{value}-{loop.policy}-{loop.outstanding}": Size(loop, what, value)
         for what, values in VALUES.items() for loop in LOOPS for value in values}
 NUMBERS = {"block": REQUESTS, "request": REQUESTS, "part": REQUESTS // 5}  # few requests, so that the part stays about

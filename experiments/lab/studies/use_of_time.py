@@ -14,7 +14,7 @@ RUNS = {f"{policy}-{outstanding}": Closed(policy, outstanding)
         for outstanding in ((2,) if policy == "fcfs" else (2, 4, 8, 20, 64))}
 DISK_RUNS = {f"{disk}-{policy}-{outstanding}": Closed(policy, outstanding, disk)
              for disk in ("atlas10k", "fast-15000rpm", "large-7200rpm")
-             for policy, outstanding in (("fcfs", 2), ("sstf", 20), ("sptf", 20))}
+             for policy, outstanding in (("fcfs", 2), ("sptf", 20))}
 DISK_BLOCK = 65_536  # bytes
 
 

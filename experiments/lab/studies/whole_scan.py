@@ -24,11 +24,10 @@ class Scan(NamedTuple):
 RUNS = {
     "fcfs-2": Scan(Closed("fcfs", 2), 240_000),
     "sstf-20": Scan(Closed("sstf", 20), 300_000),
-    "sptf-2": Scan(Closed("sptf", 2), 340_000),
-    "sptf-20": Scan(Closed("sptf", 20), 200_000),  # it would take 900,000 to read the whole disk
-    "fcfs-2-hot": Scan(Closed("fcfs", 2), 200_000, Mix(hot=(0.8, 0.2))),
+    "sptf-20": Scan(Closed("sptf", 20), 150_000),  # it would take 900,000 to read the whole disk
+    "fcfs-2-hot": Scan(Closed("fcfs", 2), 150_000, Mix(hot=(0.8, 0.2))),
 }
-LABELS = {"fcfs-2": "fcfs, 2 outstanding", "sstf-20": "sstf, 20", "sptf-2": "sptf, 2", "sptf-20": "sptf, 20",
+LABELS = {"fcfs-2": "fcfs, 2 outstanding", "sstf-20": "sstf, 20", "sptf-20": "sptf, 20",
           "fcfs-2-hot": "fcfs, 2, four fifths of the\nrequests to a fifth of the disk"}
 
 
@@ -55,7 +54,7 @@ def draw(table: list[dict[str, Any]], path: str) -> None:
     for run, label in LABELS.items():
         lines = [line for line in table if line["run"] == run]
         look = dict(LOOKS[run.split("-")[0]], markevery=5)
-        if run in ("sptf-20", "fcfs-2-hot"):
+        if run == "fcfs-2-hot":
             look |= {"markerfacecolor": "white"}
         read = [100 - line["left %"] for line in lines]
         over_time.plot([line["minute"] for line in lines], read, **look, label=label)
