@@ -86,6 +86,8 @@ class Disk:
         before, time = self._seek_points[at - 1]
         if before == distance:
             return time
+        if at == len(self._seek_points):
+            raise ValueError(f"no seek over {distance} cylinders: are the reports of another disk?")
         behind, later = self._seek_points[at]
         return time + (distance - before) * (later - time) // (behind - before)
 

@@ -31,7 +31,7 @@ def fio_accesses(lines: Iterable[str], losses: Losses, _device: str | None, _uni
             continue
         if len(fields) < 5:
             raise LineError(f"line {number}: fewer than five fields; was the log written with log_offset=1?")
-        time, latency, direction, length, offset = map(int, fields[:5])
+        time, latency, direction, length, offset = _numbers(number, fields[:5])
         if length == 0:
             raise LineError(f"line {number}: an average and no single access; write the log without log_avg_msec")
         if direction not in (0, 1):
@@ -70,15 +70,30 @@ def disksim_accesses(lines: Iterable[str], losses: Losses, device: str | None, u
             continue
         if len(fields) < 5:
             raise LineError(f"line {number}: fewer than five fields")
-        flags = int(fields[4], 16)
+        begin, length = _numbers(number, fields[2:4])
+        flags, arrival = _flags_and_arrival(number, fields)
         losses["flags other than the read bit"] += flags > 1
         if device not in (None, fields[1]):
             losses["requests of other devices"] += 1
             continue
         seen = seen or fields[1]
         losses[OTHER_DEVICE] += fields[1] != seen
-        arrival = round(float(fields[0]) * 1_000_000)
-        yield Access(arrival, int(fields[2]) * unit, int(fields[3]) * unit, flags & 1 == 1)
+        yield Access(arrival, begin * unit, length * unit, flags & 1 == 1)
+
+
+def _numbers(line: int, fields: list[str]) -> list[int]:
+    try:
+        return [int(field) for field in fields]
+    except ValueError as fault:
+        raise LineError(f"line {line}: {fault}") from None
+
+
+def _flags_and_arrival(line: int, fields: list[str]) -> tuple[int, int]:
+    """The flags of a line of DiskSim's, and its arrival in nanoseconds."""
+    try:
+        return int(fields[4], 16), round(float(fields[0]) * 1_000_000)
+    except ValueError as fault:
+        raise LineError(f"line {line}: {fault}") from None
 
 
 Reader = Callable[[Iterable[str], Losses, str | None, int], Iterator[Access]]
