@@ -88,6 +88,7 @@ fn place_of(entries: &[Entry], name: &str) -> Option<usize>
 fn copy_front(from: &[u8], piece: usize, into: &mut [u8]) -> usize
     ensures count { result ≡ min piece (min (length from.now) (length into.old)) }
     ensures bytes { take result into.new ≡ take result from.now }
+    ensures rest { drop result into.new ≡ drop result into.old }
 {
     let count = piece.min(from.len()).min(into.len());
     into[..count].copy_from_slice(&from[..count]);
@@ -101,6 +102,7 @@ fn read_on(entries: &[Entry], reading: &mut Reading, piece: usize, into: &mut [u
         (λ left. result ≡ min piece (min (length left) (length into.old))) }
     ensures bytes { IfSome (left_of entries.now reading.old)
         (λ left. take result into.new ≡ take result left) }
+    ensures rest { drop result into.new ≡ drop result into.old }
     ensures left { left_of entries.now reading.new
         ≡ option_map (drop result) (left_of entries.now reading.old) }
     ensures within { IsWithin entries.now reading.new }
