@@ -40,7 +40,7 @@ not_longer (Some held) bytes limit is same within longer =
     let few : length held ≤ limit = subst (λ (x : List ℕ). length x ≤ limit) same within in absurd (omega arith)
 not_longer None bytes limit is same within longer = cc
 
-same_ok : {A E : Type 0} (verdict : Result A E) (a b : A) → verdict ≡ Ok a → verdict ≡ Ok b → a ≡ b
+pub same_ok : {A E : Type 0} (verdict : Result A E) (a b : A) → verdict ≡ Ok a → verdict ≡ Ok b → a ≡ b
 same_ok verdict a b e f = cc
 
 -- what is accepted is not refused

@@ -61,9 +61,9 @@ pub holds_none : (written : Option (List ℕ)) (lines : List (List ℕ)) → IfS
 holds_none None lines h = tt
 holds_none (Some bytes) lines h = h
 
--- a count that rose later has risen
-pub rose_later : (old now new : ℕ) → old ≤ now → Rose now new → Rose old new
-rose_later old now new le rose = omega arith
+-- a count that stayed, and then rose, has risen
+pub rose_since : (old now new : ℕ) → now ≡ old → Rose now new → Rose old new
+rose_since old now new same rose = subst (λ (count : ℕ). Rose count new) same rose
 
 -- a name that stays
 pub same_name : (name : List ℕ) (old new : Option (List ℕ)) → new ≡ old → IfSome old (λ told. told ≡ name) → IfSome new (λ told. told ≡ name)

@@ -68,7 +68,7 @@ pub at_params : (words : ReplayTerms) (old new : DeskView) (outcome : Outcome) �
 at_params words old new (outcomes.Params fault) only h = (h, ends_at_params old new only)
 at_params words old new (outcomes.TooLong Params) only h = (record { before = tt; name = words.params; given = refl; longer = h }, ends_at_params old new only)
 at_params words old new (outcomes.ReadFault Params) only h = (record { before = tt; given = refl; rose = h }, ends_at_params old new only)
-at_params words old new outcomes.NoMemory only h = inl (λ output no_note. only.outputs output)
+at_params words old new outcomes.NoMemory only h = inl (record { input = Params; before = tt; ends = ends_at_params old new only })
 at_params words old new (outcomes.Done run) only h = absurd h
 at_params words old new (outcomes.Made n) only h = absurd h
 at_params words old new (outcomes.Usage fault) only h = absurd h
@@ -108,7 +108,7 @@ at_trace words old mid new (outcomes.ReadFault Trace) before first second h = (
   record { before = before; given = refl; rose = subst (λ (v : InputView). Rose v.faults (new.inputs Trace).faults) (first.inputs Trace trace_is_no_params) h },
   ends_at_trace old mid new first second,
 )
-at_trace words old mid new outcomes.NoMemory before first second h = inl (λ output no_note. second.outputs output ∙ first.outputs output)
+at_trace words old mid new outcomes.NoMemory before first second h = inl (record { input = Trace; before = before; ends = ends_at_trace old mid new first second })
 at_trace words old mid new (outcomes.Done run) before first second h = absurd h
 at_trace words old mid new (outcomes.Made n) before first second h = absurd h
 at_trace words old mid new (outcomes.Usage fault) before first second h = absurd h
@@ -158,7 +158,7 @@ at_calls words old mid late new (outcomes.ReadFault Calls) before name given fir
   },
   ends_at_calls old mid late new first second third,
 )
-at_calls words old mid late new outcomes.NoMemory before name given first second third h = inl (λ output no_note. third.outputs output ∙ second.outputs output ∙ first.outputs output)
+at_calls words old mid late new outcomes.NoMemory before name given first second third h = inl (record { input = Calls; before = before; ends = ends_at_calls old mid late new first second third })
 at_calls words old mid late new (outcomes.Done run) before name given first second third h = absurd h
 at_calls words old mid late new (outcomes.Made n) before name given first second third h = absurd h
 at_calls words old mid late new (outcomes.Usage fault) before name given first second third h = absurd h

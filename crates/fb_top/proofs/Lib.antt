@@ -9,3 +9,5 @@ pub mod Making
 pub mod Notes
 pub mod Completeness
 pub mod Unnamed
+pub mod OneRun
+pub mod Opened

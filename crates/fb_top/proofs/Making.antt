@@ -45,12 +45,12 @@ module _ (terms : MakeTerms) (old mid new : DeskView) (only : ChangesOutput Note
   same = λ output no_note. refl
 
   cuts_trace_still : CutsTrace old mid terms → CutsTrace old new terms
-  cuts_trace_still h = record { makes = h.makes; cut = cuts_off old old mid new same (keeps_reports mid new only) MadeTrace (trace_text terms h.makes.disk) trace_is_no_note h.cut }
+  cuts_trace_still h = record { makes = h.makes; cut = cuts_off old old mid new same (keeps_reports mid new only) MadeTrace terms.trace (trace_text terms h.makes.disk) trace_is_no_note h.cut }
 
   cuts_calls_still : CutsCalls old mid terms → CutsCalls old new terms
   cuts_calls_still h = record {
     makes = h.makes;
-    cut = cuts_second old old mid new same (keeps_reports mid new only) MadeTrace MadeCalls terms.trace (trace_text terms h.makes.disk) (script_text h.makes.disk.map) trace_is_no_note calls_are_no_note h.cut;
+    cut = cuts_second old old mid new same (keeps_reports mid new only) MadeTrace MadeCalls terms.trace (trace_text terms h.makes.disk) terms.calls (script_text h.makes.disk.map) trace_is_no_note calls_are_no_note h.cut;
   }
 
   -- an answer keeps its cause where nothing but the note changes
@@ -85,13 +85,13 @@ module _ (terms : MakeTerms) (old mid new : DeskView) (only : ChangesOutput Note
   make_cause_still (outcomes.WriteFault Note) h = absurd h
 
 cuts_trace : (terms : MakeTerms) (old mid new : DeskView) (makes : AcceptsDisk old terms.params) → ChangesInput Params old mid → ChangesOutput MadeTrace mid new
-    → HoldsFront (new.outputs MadeTrace) (trace_text terms makes.disk) → CutsTrace old new terms
+    → HoldsFront (new.outputs MadeTrace) terms.trace (trace_text terms makes.disk) → CutsTrace old new terms
 cuts_trace terms old mid new makes first second front =
     record { makes = makes; cut = record { others = λ output no_trace no_note. second.outputs output no_trace ∙ first.outputs output; front = front } }
 
 -- why the trace was not written
 pub stopped_trace : (terms : MakeTerms) (old mid new : DeskView) (outcome : Outcome) (makes : AcceptsDisk old terms.params) → ChangesInput Params old mid → ChangesOutput MadeTrace mid new
-    → StopsText MadeTrace (trace_text terms makes.disk) mid new outcome → MakeHasCause terms old new outcome
+    → StopsText MadeTrace terms.trace (trace_text terms makes.disk) mid new outcome → MakeHasCause terms old new outcome
 stopped_trace terms old mid new (outcomes.WriteFault MadeTrace) makes first second h =
     (subst (λ (v : OutputView). Rose v.faults (new.outputs MadeTrace).faults) (first.outputs MadeTrace) h.1, cuts_trace terms old mid new makes first second h.2)
 stopped_trace terms old mid new (outcomes.WriteFault MadeCalls) makes first second h = absurd (calls_are_no_trace h.0)
@@ -118,7 +118,7 @@ trace_stands : (terms : MakeTerms) (disk : Disk) (late new : DeskView) → Chang
 trace_stands terms disk late new only whole = subst (λ (v : OutputView). HoldsWhole v terms.trace (trace_text terms disk)) (sym (only.outputs MadeTrace trace_is_no_calls)) whole
 
 cuts_calls : (terms : MakeTerms) (old mid late new : DeskView) (makes : AcceptsDisk old terms.params) → ChangesInput Params old mid → ChangesOutput MadeTrace mid late → ChangesOutput MadeCalls late new
-    → HoldsWhole (late.outputs MadeTrace) terms.trace (trace_text terms makes.disk) → HoldsFront (new.outputs MadeCalls) (script_text makes.disk.map) → CutsCalls old new terms
+    → HoldsWhole (late.outputs MadeTrace) terms.trace (trace_text terms makes.disk) → HoldsFront (new.outputs MadeCalls) terms.calls (script_text makes.disk.map) → CutsCalls old new terms
 cuts_calls terms old mid late new makes first second third trace front = record {
   makes = makes;
   cut = record { others = keeps_unmade old mid late new first second third; whole = trace_stands terms makes.disk late new third trace; front = front };
@@ -126,7 +126,7 @@ cuts_calls terms old mid late new makes first second third trace front = record 
 
 -- why the script was not written
 pub stopped_calls : (terms : MakeTerms) (old mid late new : DeskView) (outcome : Outcome) (makes : AcceptsDisk old terms.params) → ChangesInput Params old mid → ChangesOutput MadeTrace mid late → ChangesOutput MadeCalls late new
-    → HoldsWhole (late.outputs MadeTrace) terms.trace (trace_text terms makes.disk) → StopsText MadeCalls (script_text makes.disk.map) late new outcome → MakeHasCause terms old new outcome
+    → HoldsWhole (late.outputs MadeTrace) terms.trace (trace_text terms makes.disk) → StopsText MadeCalls terms.calls (script_text makes.disk.map) late new outcome → MakeHasCause terms old new outcome
 stopped_calls terms old mid late new (outcomes.WriteFault MadeCalls) makes first second third trace h =
     (subst (λ (v : OutputView). Rose v.faults (new.outputs MadeCalls).faults) (second.outputs MadeCalls calls_are_no_trace ∙ first.outputs MadeCalls) h.1, cuts_calls terms old mid late new makes first second third trace h.2)
 stopped_calls terms old mid late new (outcomes.WriteFault MadeTrace) makes first second third trace h = absurd (trace_is_no_calls h.0)

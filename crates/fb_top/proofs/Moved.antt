@@ -40,17 +40,17 @@ module _ (old mid late new : DeskView) (first : KeepsReports old mid) (last : Ke
   pub whole : (which : Output) (name text : List ℕ) → which ≢ Note → HoldsWhole (late.outputs which) name text → HoldsWhole (new.outputs which) name text
   whole which name text no_note holds = subst (λ (v : OutputView). HoldsWhole v name text) (sym (last which no_note)) holds
 
-  pub front : (which : Output) (text : List ℕ) → which ≢ Note → HoldsFront (late.outputs which) text → HoldsFront (new.outputs which) text
-  front which text no_note holds = subst (λ (v : OutputView). HoldsFront v text) (sym (last which no_note)) holds
+  pub front : (which : Output) (name text : List ℕ) → which ≢ Note → HoldsFront (late.outputs which) name text → HoldsFront (new.outputs which) name text
+  front which name text no_note holds = subst (λ (v : OutputView). HoldsFront v name text) (sym (last which no_note)) holds
 
-  pub cuts_off : (which : Output) (text : List ℕ) → which ≢ Note → CutsOff which text mid late → CutsOff which text old new
-  cuts_off which text no_note cut = record { others = keeps_but which cut.others; front = front which text no_note cut.front }
+  pub cuts_off : (which : Output) (name text : List ℕ) → which ≢ Note → CutsOff which name text mid late → CutsOff which name text old new
+  cuts_off which name text no_note cut = record { others = keeps_but which cut.others; front = front which name text no_note cut.front }
 
-  pub cuts_second : (one two : Output) (name text other : List ℕ) → one ≢ Note → two ≢ Note → CutsSecond one two name text other mid late → CutsSecond one two name text other old new
-  cuts_second one two name text other one_no_note two_no_note cut = record {
+  pub cuts_second : (one two : Output) (name text other_name other : List ℕ) → one ≢ Note → two ≢ Note → CutsSecond one two name text other_name other mid late → CutsSecond one two name text other_name other old new
+  cuts_second one two name text other_name other one_no_note two_no_note cut = record {
     others = keeps_but_both one two cut.others;
     whole = whole one name text one_no_note cut.whole;
-    front = front two other two_no_note cut.front;
+    front = front two other_name other two_no_note cut.front;
   }
 
   wanted : (given : Option (List ℕ)) (text : List ℕ) → HoldsWanted given text (mid.outputs Back) (late.outputs Back) → HoldsWanted given text (old.outputs Back) (new.outputs Back)
@@ -66,10 +66,10 @@ module _ (old mid late new : DeskView) (first : KeepsReports old mid) (last : Ke
   }
 
   cuts_fore : (terms : ReplayTerms) (files : Files) (run : Run) → CutsFore terms files run mid late → CutsFore terms files run old new
-  cuts_fore terms files run cut = cuts_off Fore (fore_told terms files run) fore_is_no_note cut
+  cuts_fore terms files run cut = cuts_off Fore _ (fore_told terms files run) fore_is_no_note cut
 
   cuts_back : (terms : ReplayTerms) (files : Files) (run : Run) → CutsBack terms files run mid late → CutsBack terms files run old new
-  cuts_back terms files run cut = (cut.0, cuts_second Fore Back _ (fore_told terms files run) (back_told terms files run) fore_is_no_note back_is_no_note cut.1)
+  cuts_back terms files run cut = (cut.0, cut.1, cuts_second Fore Back _ (fore_told terms files run) cut.0 (back_told terms files run) fore_is_no_note back_is_no_note cut.2)
 
   -- or were not
   pub stops_reports : (terms : ReplayTerms) (files : Files) (run : Run) (outcome : Outcome) → StopsReports terms files run mid late outcome → StopsReports terms files run old new outcome

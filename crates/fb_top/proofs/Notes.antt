@@ -18,7 +18,7 @@ use Rattle.fb_top.specs.Done.{IsCutShort}
 use Rattle.fb_top.specs.Causes.{EndsAt, HasCause, KeepsLater}
 use Rattle.fb_top.specs.Answers.{AnswersWords}
 use Rattle.fb_top.specs.Noted.{IsNote}
-use Rattle.fb_top.proofs.Fronts.{rose_later}
+use Rattle.fb_top.proofs.Fronts.{rose_since}
 use Rattle.fb_top.proofs.Making.{keeps_reports, keeps_still, make_cause_still}
 use Rattle.fb_top.proofs.Moved.{holds_reports, stops_reports}
 
@@ -44,10 +44,10 @@ cut_note first last None new text line empty is front rose = rw front.2 tt
 cut_note first last (Some bytes) new text line empty is front rose =
     rw front.2 (inr (inr ((drop front.0 text, ap (λ xs. (xs ++ take front.0 text) ++ drop front.0 text) empty ∙ take-append-drop front.0 text ∙ is), rose)))
 
--- a count that rose later has risen
-pub rose_on : {T E : Type 0} (result : Result T E) (old now new : ℕ) → old ≤ now → OnErr result (Rose now new) → OnErr result (Rose old new)
-rose_on (Ok x) old now new le rose = tt
-rose_on (Err e) old now new le rose = rose_later old now new le rose
+-- a count that stayed, and then rose, has risen
+pub rose_on : {T E : Type 0} (result : Result T E) (old now new : ℕ) → now ≡ old → OnErr result (Rose now new) → OnErr result (Rose old new)
+rose_on (Ok x) old now new same rose = tt
+rose_on (Err e) old now new same rose = rose_since old now new same rose
 
 -- a note that was written, or cut off
 pub note_written : {T E : Type 0} (result : Result T E) (first old new : OutputView) (text line : List ℕ) → IfSome old.written (λ bytes. bytes ≡ []) → text ≡ line
@@ -86,7 +86,7 @@ module _ (terms : ReplayTerms) (old mid new : DeskView) (only : ChangesOutput No
     ends_still input old mid new h.1 only,
   )
   cause_still (outcomes.WriteFault output) h = cut_short_still (outcomes.WriteFault output) h
-  cause_still outcomes.NoMemory (inl keeps) = inl (keeps_still old mid new keeps only)
+  cause_still outcomes.NoMemory (inl out) = inl (record { input = out.input; before = out.before; ends = ends_still out.input old mid new out.ends only })
   cause_still outcomes.NoMemory (inr cut) = inr (cut_short_still outcomes.NoMemory cut)
   cause_still (outcomes.Made n) h = absurd h
   cause_still (outcomes.Usage fault) h = absurd h

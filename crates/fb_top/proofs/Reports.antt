@@ -25,11 +25,11 @@ pub note_is_no_back : Note ≢ Back
 note_is_no_back e = cc
 
 module _ (terms : ReplayTerms) (files : Files) (run : Run) where
-  cuts_fore : (old new : DeskView) → ChangesOutput Fore old new → HoldsFront (new.outputs Fore) (fore_told terms files run) → CutsFore terms files run old new
+  cuts_fore : (old new : DeskView) → ChangesOutput Fore old new → HoldsFront (new.outputs Fore) (codes "-") (fore_told terms files run) → CutsFore terms files run old new
   cuts_fore old new only front = record { others = λ output not_fore no_note. only.outputs output not_fore; front = front }
 
   -- why the foreground was not written
-  pub stopped_fore : (old new : DeskView) (outcome : Outcome) → ChangesOutput Fore old new → StopsText Fore (fore_told terms files run) old new outcome → StopsReports terms files run old new outcome
+  pub stopped_fore : (old new : DeskView) (outcome : Outcome) → ChangesOutput Fore old new → StopsText Fore (codes "-") (fore_told terms files run) old new outcome → StopsReports terms files run old new outcome
   stopped_fore old new (outcomes.WriteFault Fore) only h = (h.1, cuts_fore old new only h.2)
   stopped_fore old new outcomes.NoMemory only h = inl (cuts_fore old new only h)
   stopped_fore old new (outcomes.WriteFault Back) only h = absurd (back_is_no_fore h.0)
@@ -49,26 +49,26 @@ module _ (terms : ReplayTerms) (files : Files) (run : Run) where
     fore_stands : HoldsWhole (new.outputs Fore) (codes "-") (fore_told terms files run)
     fore_stands = subst (λ (v : OutputView). HoldsWhole v (codes "-") (fore_told terms files run)) (sym (second.outputs Fore fore_is_no_back)) whole
 
-    cuts_back : is_some terms.back ≡ true → HoldsFront (new.outputs Back) (back_told terms files run) → CutsBack terms files run old new
-    cuts_back given front =
-        (given, record { others = λ output not_fore not_back no_note. second.outputs output not_back ∙ first.outputs output not_fore; whole = fore_stands; front = front })
+    cuts_back : (name : List ℕ) → terms.back ≡ Some name → HoldsFront (new.outputs Back) name (back_told terms files run) → CutsBack terms files run old new
+    cuts_back name given front =
+        (name, given, record { others = λ output not_fore not_back no_note. second.outputs output not_back ∙ first.outputs output not_fore; whole = fore_stands; front = front })
 
     -- why the background was not written
-    pub stopped_back : (outcome : Outcome) → is_some terms.back ≡ true → StopsText Back (back_told terms files run) mid new outcome → StopsReports terms files run old new outcome
-    stopped_back (outcomes.WriteFault Back) given h = (subst (λ (v : OutputView). Rose v.faults (new.outputs Back).faults) (first.outputs Back back_is_no_fore) h.1, cuts_back given h.2)
-    stopped_back outcomes.NoMemory given h = inr (cuts_back given h)
-    stopped_back (outcomes.WriteFault Fore) given h = absurd (fore_is_no_back h.0)
-    stopped_back (outcomes.WriteFault Note) given h = absurd (note_is_no_back h.0)
-    stopped_back (outcomes.WriteFault MadeTrace) given h = absurd (let other = h.0 in cc)
-    stopped_back (outcomes.WriteFault MadeCalls) given h = absurd (let other = h.0 in cc)
-    stopped_back (outcomes.Done other) given h = absurd h
-    stopped_back (outcomes.Made n) given h = absurd h
-    stopped_back (outcomes.Usage fault) given h = absurd h
-    stopped_back (outcomes.Params fault) given h = absurd h
-    stopped_back (outcomes.Trace fault) given h = absurd h
-    stopped_back (outcomes.Calls fault) given h = absurd h
-    stopped_back (outcomes.TooLong input) given h = absurd h
-    stopped_back (outcomes.ReadFault input) given h = absurd h
+    pub stopped_back : (outcome : Outcome) (name : List ℕ) → terms.back ≡ Some name → StopsText Back name (back_told terms files run) mid new outcome → StopsReports terms files run old new outcome
+    stopped_back (outcomes.WriteFault Back) name given h = (subst (λ (v : OutputView). Rose v.faults (new.outputs Back).faults) (first.outputs Back back_is_no_fore) h.1, cuts_back name given h.2)
+    stopped_back outcomes.NoMemory name given h = inr (cuts_back name given h)
+    stopped_back (outcomes.WriteFault Fore) name given h = absurd (fore_is_no_back h.0)
+    stopped_back (outcomes.WriteFault Note) name given h = absurd (note_is_no_back h.0)
+    stopped_back (outcomes.WriteFault MadeTrace) name given h = absurd (let other = h.0 in cc)
+    stopped_back (outcomes.WriteFault MadeCalls) name given h = absurd (let other = h.0 in cc)
+    stopped_back (outcomes.Done other) name given h = absurd h
+    stopped_back (outcomes.Made n) name given h = absurd h
+    stopped_back (outcomes.Usage fault) name given h = absurd h
+    stopped_back (outcomes.Params fault) name given h = absurd h
+    stopped_back (outcomes.Trace fault) name given h = absurd h
+    stopped_back (outcomes.Calls fault) name given h = absurd h
+    stopped_back (outcomes.TooLong input) name given h = absurd h
+    stopped_back (outcomes.ReadFault input) name given h = absurd h
 
     -- both were written
     pub wrote_both : (name : List ℕ) → terms.back ≡ Some name → HoldsWhole (new.outputs Back) name (back_told terms files run) → HoldsReports terms files run old new

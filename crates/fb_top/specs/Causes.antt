@@ -86,6 +86,12 @@ pub record IsUnread (old new : DeskView) (terms : ReplayTerms) (input : Input) :
   pub given : is_some (name_of terms input) ≡ true
   pub rose : FaultsRose old new input
 
+-- memory was wanting at an input, or behind all of them: those before it are accepted, and nothing behind it was touched
+pub record RunsOut (old new : DeskView) (terms : ReplayTerms) : Type 0 where
+  pub input : Input
+  pub before : AcceptsBefore old terms input
+  pub ends : EndsAt input old new
+
 -- the cause of each answer to the terms of a replay
 abbrev pub HasCause : ReplayTerms → DeskView → DeskView → Outcome → Type 0
 HasCause terms old new (outcomes.Done run) = IsDone old new terms run
@@ -97,7 +103,7 @@ HasCause terms old new (outcomes.Calls fault) = RefusesCallsInTurn old terms fau
 HasCause terms old new (outcomes.TooLong input) = IsTooLong old terms input × EndsAt input old new
 HasCause terms old new (outcomes.ReadFault input) = IsUnread old new terms input × EndsAt input old new
 HasCause terms old new (outcomes.WriteFault output) = IsCutShort old new terms (outcomes.WriteFault output)
-HasCause terms old new outcomes.NoMemory = KeepsReports old new ⊎ IsCutShort old new terms outcomes.NoMemory
+HasCause terms old new outcomes.NoMemory = RunsOut old new terms ⊎ IsCutShort old new terms outcomes.NoMemory
 
 -- why no disk was read
 abbrev pub StopsDisk : List ℕ → DeskView → DeskView → Outcome → Type 0

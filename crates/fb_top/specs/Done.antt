@@ -1,9 +1,10 @@
 -- What a replay has written.
-use Rattle.std.specs.Prelude.{◌≡◌, ◌⊎◌, ℕ, List, true, Option, Some, None, is_some, codes, if◌then◌else◌}
+use Rattle.std.specs.Prelude.{◌≡◌, ◌⊎◌, ℕ, List, Option, Some, None, codes, if◌then◌else◌}
 use Rattle.std.specs.List.{AllByRecursion}
 use Rattle.fb_rows.specs.declared.run.Run.{Run}
 use Rattle.fb_rows.specs.Ranges.{HasRanges, HasBackRanges}
 use Rattle.fb_rows.specs.Tasks.{HasNamedTask}
+use Rattle.fb_model.specs.Accepted.{IsAccepted}
 use Rattle.fb_model.specs.FullRun.{IsFull}
 use Rattle.fb_report.specs.Back.{back_text}
 use Rattle.fb_report.specs.Fore.{fore_text}
@@ -16,10 +17,11 @@ use Rattle.fb_top.specs.declared.outcome.Outcome.TheVariants as outcomes
 use Rattle.fb_top.specs.Read.{Files, Accepts, inputs_of, key_of}
 use Rattle.fb_top.specs.Written.{HoldsWhole, KeepsButBoth, CutsOff, CutsSecond, OutputFaultsRose}
 
--- the full run of the accepted files
+-- the full run of the accepted files, which keep the rules that every full run asks of its inputs
 pub record IsRunOf (desk : DeskView) (terms : ReplayTerms) (run : Run) : Type 0 where
   pub files : Files
   pub accepts : Accepts desk terms files
+  pub accepted : IsAccepted (inputs_of files (key_of terms.policy) terms.until)
   pub full : IsFull (inputs_of files (key_of terms.policy) terms.until) run
 
 -- rows whose contents and tasks can be told
@@ -49,11 +51,11 @@ pub record HoldsReports (terms : ReplayTerms) (files : Files) (run : Run) (old n
 
 -- the foreground was cut off
 abbrev pub CutsFore : ReplayTerms → Files → Run → DeskView → DeskView → Type 0
-CutsFore terms files run old new = CutsOff Fore (fore_told terms files run) old new
+CutsFore terms files run old new = CutsOff Fore (codes "-") (fore_told terms files run) old new
 
--- or the background, which the words want, behind the whole foreground
+-- or the background, under the name that the words give, behind the whole foreground
 abbrev pub CutsBack : ReplayTerms → Files → Run → DeskView → DeskView → Type 0
-CutsBack terms files run old new = (is_some terms.back ≡ true) × CutsSecond Fore Back (codes "-") (fore_told terms files run) (back_told terms files run) old new
+CutsBack terms files run old new = (name : List ℕ) × (terms.back ≡ Some name) × CutsSecond Fore Back (codes "-") (fore_told terms files run) name (back_told terms files run) old new
 
 -- why the reports of a run were not written whole
 abbrev pub StopsReports : ReplayTerms → Files → Run → DeskView → DeskView → Outcome → Type 0

@@ -4,6 +4,8 @@ pub mod Read
 pub mod Done
 pub mod Causes
 pub mod Unnamed
+pub mod Opened
+pub mod Calm
 pub mod Make
 pub mod Answers
 pub mod Complete
@@ -11,3 +13,4 @@ pub mod Untouched
 pub mod Status
 pub mod Notes
 pub mod Noted
+pub mod Ended

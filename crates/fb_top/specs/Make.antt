@@ -38,12 +38,12 @@ pub record WritesBoth (old new : DeskView) (terms : MakeTerms) (n : ℕ) : Type 
 -- the trace was cut off
 pub record CutsTrace (old new : DeskView) (terms : MakeTerms) : Type 0 where
   pub makes : AcceptsDisk old terms.params
-  pub cut : CutsOff MadeTrace (trace_text terms makes.disk) old new
+  pub cut : CutsOff MadeTrace terms.trace (trace_text terms makes.disk) old new
 
 -- or the script, behind the whole trace
 pub record CutsCalls (old new : DeskView) (terms : MakeTerms) : Type 0 where
   pub makes : AcceptsDisk old terms.params
-  pub cut : CutsSecond MadeTrace MadeCalls terms.trace (trace_text terms makes.disk) (script_text makes.disk.map) old new
+  pub cut : CutsSecond MadeTrace MadeCalls terms.trace (trace_text terms makes.disk) terms.calls (script_text makes.disk.map) old new
 
 -- the cause of each answer to the terms of a make
 abbrev pub MakeHasCause : MakeTerms → DeskView → DeskView → Outcome → Type 0

@@ -18,3 +18,7 @@ IsFront bytes text = (rest : List ℕ) × (bytes ++ rest ≡ text)
 -- a front of the text was appended
 abbrev pub AppendsFront : Option (List ℕ) → Option (List ℕ) → List ℕ → Type 0
 AppendsFront old new text = (n : ℕ) × (n ≤ length text) × (new ≡ behind old (take n text))
+
+-- the bytes left are an end of those held, where the desk tells both
+abbrev pub IsLeftOf : Option (List ℕ) → Option (List ℕ) → Type 0
+IsLeftOf held left = IfSome left (λ rest. IfSome held (λ bytes. (taken : List ℕ) × (taken ++ rest ≡ bytes)))

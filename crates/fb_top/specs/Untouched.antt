@@ -1,5 +1,5 @@
--- What background work leaves as it is.
-use Rattle.std.specs.Prelude.{◌≡◌}
+-- Laws of runs that were answered: what background work leaves as it is, and that inputs have one run.
+use Rattle.std.specs.Prelude.{◌≡◌, ℕ, List, Some, IfSome}
 use Rattle.fb_rows.specs.declared.run.Run.{Run}
 use Rattle.fb_model.specs.Foreground.{promoted}
 use Rattle.fb_report.specs.declared.bytes.Bytes.{Bytes}
@@ -21,3 +21,17 @@ abbrev pub ScriptsLeaveForeground : Type 0
 ScriptsLeaveForeground = (one other : DeskView) (terms others : ReplayTerms) (run run' : Run) (is_run : IsRunOf one terms run) (is_other : IsRunOf other others run') (bytes : Bytes)
     → terms.policy ≡ others.policy → AskForOneForeground is_run.files is_other.files
     → fore_text is_run.files.disk.sector_bytes bytes run ≡ fore_text is_other.files.disk.sector_bytes bytes run'
+
+-- both desks tell the same bytes under a name
+abbrev pub HoldAlike : DeskView → DeskView → List ℕ → Type 0
+HoldAlike one other name = (bytes : List ℕ) × (one.held name ≡ Some bytes) × (other.held name ≡ Some bytes)
+
+-- and so under each name that the words of a replay give to an input
+pub record HoldOneInput (one other : DeskView) (terms : ReplayTerms) : Type 0 where
+  pub params : HoldAlike one other terms.params
+  pub trace : HoldAlike one other terms.trace
+  pub calls : IfSome terms.calls (HoldAlike one other)
+
+-- the same words over the same bytes have one run
+abbrev pub InputsHaveOneRun : Type 0
+InputsHaveOneRun = (one other : DeskView) (terms : ReplayTerms) (run run' : Run) → HoldOneInput one other terms → IsRunOf one terms run → IsRunOf other terms run' → run ≡ run'

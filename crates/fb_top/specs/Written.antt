@@ -19,9 +19,14 @@ pub record HoldsWhole (output : OutputView) (name text : List ℕ) : Type 0 wher
   pub named : IfSome output.name (λ told. told ≡ name)
   pub written : IfSome output.written (λ bytes. bytes ≡ text)
 
--- a front of the text, if the output is begun
-abbrev pub HoldsFront : OutputView → List ℕ → Type 0
-HoldsFront output text = output.begun ≡ true → IfSome output.written (λ bytes. IsFront bytes text)
+-- the output has this name and a front of this text, where the desk tells them
+pub record IsCut (output : OutputView) (name text : List ℕ) : Type 0 where
+  pub named : IfSome output.name (λ told. told ≡ name)
+  pub written : IfSome output.written (λ bytes. IsFront bytes text)
+
+-- if the output is begun, then under this name, with a front of this text
+abbrev pub HoldsFront : OutputView → List ℕ → List ℕ → Type 0
+HoldsFront output name text = output.begun ≡ true → IsCut output name text
 
 -- no output but the note has changed
 abbrev pub KeepsReports : DeskView → DeskView → Type 0
@@ -36,22 +41,22 @@ abbrev pub KeepsButBoth : Output → Output → DeskView → DeskView → Type 0
 KeepsButBoth first second old new = (output : Output) → output ≢ first → output ≢ second → output ≢ Note → new.outputs output ≡ old.outputs output
 
 -- the text of an output was cut off, and nothing else was written
-pub record CutsOff (which : Output) (text : List ℕ) (old new : DeskView) : Type 0 where
+pub record CutsOff (which : Output) (name text : List ℕ) (old new : DeskView) : Type 0 where
   pub others : KeepsBut which old new
-  pub front : HoldsFront (new.outputs which) text
+  pub front : HoldsFront (new.outputs which) name text
 
 -- the first output holds its text whole, that of the second was cut off, and nothing else was written
-pub record CutsSecond (first second : Output) (name text other : List ℕ) (old new : DeskView) : Type 0 where
+pub record CutsSecond (first second : Output) (name text other_name other : List ℕ) (old new : DeskView) : Type 0 where
   pub others : KeepsButBoth first second old new
   pub whole : HoldsWhole (new.outputs first) name text
-  pub front : HoldsFront (new.outputs second) other
+  pub front : HoldsFront (new.outputs second) other_name other
 
 -- a count of faults rose
 abbrev pub OutputFaultsRose : DeskView → DeskView → Output → Type 0
 OutputFaultsRose old new output = Rose (old.outputs output).faults (new.outputs output).faults
 
 -- why a text was not written whole
-abbrev pub StopsText : Output → List ℕ → DeskView → DeskView → Outcome → Type 0
-StopsText which text old new (outcomes.WriteFault output) = (output ≡ which) × OutputFaultsRose old new which × HoldsFront (new.outputs which) text
-StopsText which text old new outcomes.NoMemory = HoldsFront (new.outputs which) text
-StopsText which text old new _ = ⊥
+abbrev pub StopsText : Output → List ℕ → List ℕ → DeskView → DeskView → Outcome → Type 0
+StopsText which name text old new (outcomes.WriteFault output) = (output ≡ which) × OutputFaultsRose old new which × HoldsFront (new.outputs which) name text
+StopsText which name text old new outcomes.NoMemory = HoldsFront (new.outputs which) name text
+StopsText which name text old new _ = ⊥

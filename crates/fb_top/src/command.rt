@@ -9,13 +9,16 @@ ghost use Rattle.fb_top.specs.Causes.{HasCause};
 ghost use Rattle.fb_top.specs.Complete.{IsComplete};
 ghost use Rattle.fb_top.specs.Noted.{LeavesNote};
 ghost use Rattle.fb_top.specs.Unnamed.{LeavesUnnamed, KeepsUnnamed};
+ghost use Rattle.fb_top.specs.Opened.{OpensNamed, OpensAsNamed};
+ghost use Rattle.fb_top.specs.Calm.{MeetsNoFault};
+ghost use Rattle.fb_top.specs.Ended.{EndsWith};
 
-use crate::Outcome;
 use crate::make::run_make;
 use crate::policy::replay_by;
 use crate::reading::read_inputs;
 use crate::report::write_reports;
 use crate::writing::write_note;
+use crate::{Outcome, status};
 use fb_desk::{Desk, Output};
 use fb_units::NoMemory;
 use fb_words::{Command, ReplayWords, WordsError, read_words};
@@ -36,6 +39,8 @@ pub fn run_command<D: Desk>(alloc: Global, desk: &mut D, words: &[String]) -> Ou
     ensures answers { AnswersWords (command_of (map string_bytes words.now)) (D.seen desk.old) (D.seen desk.new) result }
     ensures complete { IsComplete (command_of (map string_bytes words.now)) (D.seen desk.old) (D.seen desk.new) result }
     ensures unnamed { LeavesUnnamed (command_of (map string_bytes words.now)) (D.seen desk.old) (D.seen desk.new) }
+    ensures opened { OpensNamed (command_of (map string_bytes words.now)) (D.seen desk.old) (D.seen desk.new) }
+    ensures calm { MeetsNoFault result (D.seen desk.old) (D.seen desk.new) }
     ensures note { LeavesNote result ((D.seen desk.old).outputs Output.Note) ((D.seen desk.new).outputs Output.Note) }
 {
     let outcome = answer_words(alloc, desk, words);
@@ -43,11 +48,22 @@ pub fn run_command<D: Desk>(alloc: Global, desk: &mut D, words: &[String]) -> Ou
     outcome
 }
 
+/// Does what the words of a command line ask for, as `run_command` does, and answers the exit
+/// status of its outcome: 0 where all was written, and else 2 to 9.
+pub fn run<D: Desk>(alloc: Global, desk: &mut D, words: &[String]) -> u8
+    requires { IsUnused (D.seen desk.old) }
+    ensures { EndsWith (command_of (map string_bytes words.now)) (D.seen desk.old) (D.seen desk.new) result }
+{
+    status(&run_command(alloc, desk, words))
+}
+
 // Does what the words ask for, and writes no note.
 fn answer_words<D: Desk>(alloc: Global, desk: &mut D, words: &[String]) -> Outcome
     requires { IsUnused (D.seen desk.old) }
     ensures answers { AnswersWords (command_of (map string_bytes words.now)) (D.seen desk.old) (D.seen desk.new) result }
     ensures unnamed { LeavesUnnamed (command_of (map string_bytes words.now)) (D.seen desk.old) (D.seen desk.new) }
+    ensures opened { OpensNamed (command_of (map string_bytes words.now)) (D.seen desk.old) (D.seen desk.new) }
+    ensures calm { MeetsNoFault result (D.seen desk.old) (D.seen desk.new) }
     ensures no_note { (D.seen desk.new).outputs Output.Note ≡ (D.seen desk.old).outputs Output.Note }
 {
     match read_words(alloc, words) {
@@ -64,6 +80,8 @@ fn run_replay<D: Desk>(alloc: Global, desk: &mut D, words: &ReplayWords) -> Outc
     requires until { words.now.until ≤ 10 ^ 15 }
     ensures cause { HasCause (replay_terms words.now) (D.seen desk.old) (D.seen desk.new) result }
     ensures unnamed { KeepsUnnamed (replay_terms words.now) (D.seen desk.old) (D.seen desk.new) }
+    ensures opened { OpensAsNamed (replay_terms words.now) (D.seen desk.old) (D.seen desk.new) }
+    ensures calm { MeetsNoFault result (D.seen desk.old) (D.seen desk.new) }
     ensures no_note { (D.seen desk.new).outputs Output.Note ≡ (D.seen desk.old).outputs Output.Note }
 {
     let files = match read_inputs(alloc, desk, words) {

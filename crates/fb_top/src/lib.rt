@@ -34,7 +34,7 @@ mod test_desk;
 mod untouched;
 mod writing;
 
-pub use command::run_command;
+pub use command::{run, run_command};
 pub use note::note_text;
 pub use outcome::{Outcome, status};
-pub use untouched::scripts_leave_the_foreground;
+pub use untouched::{inputs_have_one_run, scripts_leave_the_foreground};

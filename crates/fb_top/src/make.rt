@@ -11,6 +11,8 @@ ghost use Rattle.fb_maker.specs.Script.{script_text};
 ghost use Rattle.fb_desk.specs.declared.desk.Input.{Input};
 ghost use Rattle.fb_top.specs.Causes.{KeepsLater};
 ghost use Rattle.fb_top.specs.Make.{MakeHasCause};
+ghost use Rattle.fb_top.specs.Opened.{IsOpenedAs};
+ghost use Rattle.fb_top.specs.Calm.{MeetsNoFault};
 ghost use Rattle.fb_top.specs.Written.{HoldsWhole, StopsText};
 
 use crate::Outcome;
@@ -29,6 +31,8 @@ pub fn run_make<D: Desk>(alloc: Global, desk: &mut D, words: &MakeWords) -> Outc
     requires limits { IsWithinLimits (makes (make_terms words.now)) }
     ensures cause { MakeHasCause (make_terms words.now) (D.seen desk.old) (D.seen desk.new) result }
     ensures unnamed { KeepsLater Input.Params (D.seen desk.old) (D.seen desk.new) }
+    ensures opened { IsOpenedAs (make_terms words.now).params (D.seen desk.old) ((D.seen desk.new).inputs Input.Params) }
+    ensures calm { MeetsNoFault result (D.seen desk.old) (D.seen desk.new) }
     ensures no_note { (D.seen desk.new).outputs Output.Note ≡ (D.seen desk.old).outputs Output.Note }
 {
     let params = match read_disk(alloc, desk, words.params.as_str()) {
@@ -62,7 +66,8 @@ fn write_trace<D: Desk>(
     requires few { sectors ≤ 10 ^ 12 }
     ensures only { ChangesOutput Output.MadeTrace (D.seen desk.old) (D.seen desk.new) }
     ensures whole { OnOk result (HoldsWhole ((D.seen desk.new).outputs Output.MadeTrace) (string_bytes words.now.trace) (made_trace words.now.number words.now.device sectors words.now.requests)) }
-    ensures stops { IfErr result (StopsText Output.MadeTrace (made_trace words.now.number words.now.device sectors words.now.requests) (D.seen desk.old) (D.seen desk.new)) }
+    ensures calm { OnOk result (((D.seen desk.new).outputs Output.MadeTrace).faults ≡ ((D.seen desk.old).outputs Output.MadeTrace).faults) }
+    ensures stops { IfErr result (StopsText Output.MadeTrace (string_bytes words.now.trace) (made_trace words.now.number words.now.device sectors words.now.requests) (D.seen desk.old) (D.seen desk.new)) }
 {
     match desk.begin_output(Output::MadeTrace, words.trace.as_str()) {
         Ok(()) => {}
@@ -92,7 +97,8 @@ fn write_calls<D: Desk>(
     requires fresh { ((D.seen desk.old).outputs Output.MadeCalls).begun ≡ false }
     ensures only { ChangesOutput Output.MadeCalls (D.seen desk.old) (D.seen desk.new) }
     ensures whole { OnOk result (HoldsWhole ((D.seen desk.new).outputs Output.MadeCalls) name.now (script_text map.now)) }
-    ensures stops { IfErr result (StopsText Output.MadeCalls (script_text map.now) (D.seen desk.old) (D.seen desk.new)) }
+    ensures calm { OnOk result (((D.seen desk.new).outputs Output.MadeCalls).faults ≡ ((D.seen desk.old).outputs Output.MadeCalls).faults) }
+    ensures stops { IfErr result (StopsText Output.MadeCalls name.now (script_text map.now) (D.seen desk.old) (D.seen desk.new)) }
 {
     match desk.begin_output(Output::MadeCalls, name) {
         Ok(()) => {}

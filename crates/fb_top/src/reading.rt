@@ -1,5 +1,5 @@
 // The inputs of a replay, each read whole and judged before the next.
-ghost use Rattle.std.specs.Prelude.{◌≡◌, ℕ, ◌<◌, ◌≤◌, ◌^◌, [], None, false, length, IfOk, IfErr};
+ghost use Rattle.std.specs.Prelude.{◌≡◌, ℕ, ◌<◌, ◌≤◌, ◌^◌, [], None, false, length, IfOk, IfErr, IfSome};
 ghost use Rattle.std.specs.List.{AllByRecursion};
 ghost use Rattle.std.specs.Option.{option_map};
 ghost use Rattle.std.specs.String.{string_bytes};
@@ -17,6 +17,8 @@ ghost use Rattle.fb_words.specs.Verdict.{replay_terms};
 ghost use Rattle.fb_top.specs.Read.{Accepts, ReadsCalls, ReadsDisk, ReadsScript, ReadsTrace, files_of, inputs_of};
 ghost use Rattle.fb_top.specs.Causes.{HasCause, StopsCalls, StopsDisk, StopsScript, StopsTrace};
 ghost use Rattle.fb_top.specs.Unnamed.{KeepsUnnamed};
+ghost use Rattle.fb_top.specs.Opened.{IsOpenedAs, OpensAsNamed};
+ghost use Rattle.fb_top.specs.Calm.{AreInputsCalm};
 
 use crate::Outcome;
 use crate::streams::{InputError, read_whole};
@@ -56,6 +58,8 @@ pub fn read_inputs<D: Desk>(
     ensures names { IfOk result (λ files. length files.calls.names ≡ length (tasks files.calls.calls.items)) }
     ensures cause { IfErr result (HasCause (replay_terms words.now) (D.seen desk.old) (D.seen desk.new)) }
     ensures unnamed { KeepsUnnamed (replay_terms words.now) (D.seen desk.old) (D.seen desk.new) }
+    ensures opened { OpensAsNamed (replay_terms words.now) (D.seen desk.old) (D.seen desk.new) }
+    ensures calm { IfOk result (λ _. AreInputsCalm (D.seen desk.old) (D.seen desk.new)) }
 {
     let params = match read_disk(alloc, desk, words.params.as_str()) {
         Ok(params) => params,
@@ -87,6 +91,8 @@ pub fn read_inputs<D: Desk>(
 pub fn read_disk<D: Desk>(alloc: Global, desk: &mut D, name: &str) -> Result<Parameters, Outcome>
     requires { ((D.seen desk.old).inputs Input.Params).opened ≡ false }
     ensures only { ChangesInput Input.Params (D.seen desk.old) (D.seen desk.new) }
+    ensures opened { IsOpenedAs name.now (D.seen desk.old) ((D.seen desk.new).inputs Input.Params) }
+    ensures calm { IfOk result (λ _. ((D.seen desk.new).inputs Input.Params).faults ≡ ((D.seen desk.old).inputs Input.Params).faults) }
     ensures disk { IfOk result (λ params. ReadsDisk (D.seen desk.old) name.now params.disk params.latent.items) }
     ensures latent { IfOk result (λ params. AllByRecursion (λ lbn. lbn < length (places params.disk.map)) params.latent.items) }
     ensures stops { IfErr result (StopsDisk name.now (D.seen desk.old) (D.seen desk.new)) }
@@ -114,6 +120,8 @@ fn read_requests<D: Desk>(
 ) -> Result<Trace, Outcome>
     requires { ((D.seen desk.old).inputs Input.Trace).opened ≡ false }
     ensures only { ChangesInput Input.Trace (D.seen desk.old) (D.seen desk.new) }
+    ensures opened { IsOpenedAs name.now (D.seen desk.old) ((D.seen desk.new).inputs Input.Trace) }
+    ensures calm { IfOk result (λ _. ((D.seen desk.new).inputs Input.Trace).faults ≡ ((D.seen desk.old).inputs Input.Trace).faults) }
     ensures trace { IfOk result (λ trace. ReadsTrace (D.seen desk.old) name.now device disk.now (accepted trace)) }
     ensures servable { IfOk result (λ trace. IsTraceOf (length (places disk.now.map)) trace.requests.items) }
     ensures stops { IfErr result (StopsTrace name.now device disk.now (D.seen desk.old) (D.seen desk.new)) }
@@ -141,6 +149,8 @@ fn read_script<D: Desk>(
 ) -> Result<Calls, Outcome>
     requires { ((D.seen desk.old).inputs Input.Calls).opened ≡ false }
     ensures only { ChangesInput Input.Calls (D.seen desk.old) (D.seen desk.new) }
+    ensures opened { IfSome (option_map string_bytes name.now) (λ given. IsOpenedAs given (D.seen desk.old) ((D.seen desk.new).inputs Input.Calls)) }
+    ensures calm { IfOk result (λ _. ((D.seen desk.new).inputs Input.Calls).faults ≡ ((D.seen desk.old).inputs Input.Calls).faults) }
     ensures unnamed { option_map string_bytes name.now ≡ None → (D.seen desk.new).inputs Input.Calls ≡ (D.seen desk.old).inputs Input.Calls }
     ensures script { IfOk result (λ calls. ReadsScript (D.seen desk.old) (option_map string_bytes name.now) disk.now traced (accepted_calls calls)) }
     ensures fit { IfOk result (λ calls. IsScript disk.now.map traced calls.calls.items) }
@@ -163,6 +173,8 @@ fn read_named_script<D: Desk>(
 ) -> Result<Calls, Outcome>
     requires { ((D.seen desk.old).inputs Input.Calls).opened ≡ false }
     ensures only { ChangesInput Input.Calls (D.seen desk.old) (D.seen desk.new) }
+    ensures opened { IsOpenedAs name.now (D.seen desk.old) ((D.seen desk.new).inputs Input.Calls) }
+    ensures calm { IfOk result (λ _. ((D.seen desk.new).inputs Input.Calls).faults ≡ ((D.seen desk.old).inputs Input.Calls).faults) }
     ensures script { IfOk result (λ calls. ReadsCalls (D.seen desk.old) name.now disk.now traced (accepted_calls calls)) }
     ensures fit { IfOk result (λ calls. IsScript disk.now.map traced calls.calls.items) }
     ensures names { IfOk result (λ calls. length calls.names ≡ length (tasks calls.calls.items)) }

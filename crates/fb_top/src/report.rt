@@ -8,6 +8,7 @@ ghost use Rattle.fb_top.specs.Read.{files_of};
 ghost use Rattle.fb_top.specs.Written.{HoldsWhole, StopsText};
 ghost use Rattle.fb_top.specs.Done.{CanBeTold, HoldsReports, StopsReports, fore_told};
 ghost use Rattle.fb_top.specs.Unnamed.{KeepsInputs};
+ghost use Rattle.fb_top.specs.Calm.{AreOutputsCalm};
 
 use crate::Outcome;
 use crate::lines::{BackLines, ForeLines};
@@ -35,6 +36,7 @@ pub fn write_reports<D: Desk>(
     requires told { CanBeTold files.now.calls.names run.now }
     ensures whole { OnOk result (HoldsReports (replay_terms words.now) (files_of files.now) run.now (D.seen desk.old) (D.seen desk.new)) }
     ensures stops { IfErr result (StopsReports (replay_terms words.now) (files_of files.now) run.now (D.seen desk.old) (D.seen desk.new)) }
+    ensures calm { OnOk result (AreOutputsCalm (D.seen desk.old) (D.seen desk.new)) }
     ensures no_note { (D.seen desk.new).outputs Output.Note ≡ (D.seen desk.old).outputs Output.Note }
     ensures inputs { KeepsInputs (D.seen desk.old) (D.seen desk.new) }
 {
@@ -60,7 +62,8 @@ fn write_fore<D: Desk>(
     requires told { CanBeTold files.now.calls.names run.now }
     ensures only { ChangesOutput Output.Fore (D.seen desk.old) (D.seen desk.new) }
     ensures whole { OnOk result (HoldsWhole ((D.seen desk.new).outputs Output.Fore) (codes "-") (fore_told (replay_terms words.now) (files_of files.now) run.now)) }
-    ensures stops { IfErr result (StopsText Output.Fore (fore_told (replay_terms words.now) (files_of files.now) run.now) (D.seen desk.old) (D.seen desk.new)) }
+    ensures calm { OnOk result (((D.seen desk.new).outputs Output.Fore).faults ≡ ((D.seen desk.old).outputs Output.Fore).faults) }
+    ensures stops { IfErr result (StopsText Output.Fore (codes "-") (fore_told (replay_terms words.now) (files_of files.now) run.now) (D.seen desk.old) (D.seen desk.new)) }
 {
     if words.summary {
         return write_summary(alloc, desk, run);
@@ -78,7 +81,8 @@ fn write_summary<D: Desk>(alloc: Global, desk: &mut D, run: &Run) -> Result<(), 
     requires fresh { ((D.seen desk.old).outputs Output.Fore).begun ≡ false }
     ensures only { ChangesOutput Output.Fore (D.seen desk.old) (D.seen desk.new) }
     ensures whole { OnOk result (HoldsWhole ((D.seen desk.new).outputs Output.Fore) (codes "-") (summary_text run.now)) }
-    ensures stops { IfErr result (StopsText Output.Fore (summary_text run.now) (D.seen desk.old) (D.seen desk.new)) }
+    ensures calm { OnOk result (((D.seen desk.new).outputs Output.Fore).faults ≡ ((D.seen desk.old).outputs Output.Fore).faults) }
+    ensures stops { IfErr result (StopsText Output.Fore (codes "-") (summary_text run.now) (D.seen desk.old) (D.seen desk.new)) }
 {
     match desk.begin_output(Output::Fore, "-") {
         Ok(()) => {}
@@ -107,7 +111,8 @@ fn write_back<D: Desk>(
     requires told { CanBeTold files.now.calls.names run.now }
     ensures only { ChangesOutput Output.Back (D.seen desk.old) (D.seen desk.new) }
     ensures whole { OnOk result (HoldsWhole ((D.seen desk.new).outputs Output.Back) name.now (back_text files.now.calls.names files.now.params.disk.sector_bytes bytes run.now)) }
-    ensures stops { IfErr result (StopsText Output.Back (back_text files.now.calls.names files.now.params.disk.sector_bytes bytes run.now) (D.seen desk.old) (D.seen desk.new)) }
+    ensures calm { OnOk result (((D.seen desk.new).outputs Output.Back).faults ≡ ((D.seen desk.old).outputs Output.Back).faults) }
+    ensures stops { IfErr result (StopsText Output.Back name.now (back_text files.now.calls.names files.now.params.disk.sector_bytes bytes run.now) (D.seen desk.old) (D.seen desk.new)) }
 {
     let lines = BackLines {
         run,

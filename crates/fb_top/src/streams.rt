@@ -1,6 +1,7 @@
 // Reads inputs whole, and writes outputs whole.
 ghost use Rattle.std.specs.Prelude.{◌≡◌, ◌<◌, ◌≤◌, ◌^◌, true, false, length, IfOk, OnOk, OnErr, IsErrOf};
 ghost use Rattle.fb_desk.specs.Calls.{Rose, HasCause, ChangesInput, ChangesOutput, behind};
+ghost use Rattle.fb_top.specs.Opened.{IsOpenedAs};
 ghost use Rattle.fb_top.specs.Streams.{AppendsFront, IsHeld, IsLonger};
 
 use fb_desk::{Desk, Failed, Input, Output};
@@ -50,7 +51,8 @@ pub fn read_whole<D: Desk>(
     requires fresh { ((D.seen desk.old).inputs which).opened ≡ false }
     requires room { limit < 2 ^ 40 }
     ensures only { ChangesInput which (D.seen desk.old) (D.seen desk.new) }
-    ensures later { ((D.seen desk.old).inputs which).faults ≤ ((D.seen desk.new).inputs which).faults }
+    ensures calm { IfOk result (λ _. ((D.seen desk.new).inputs which).faults ≡ ((D.seen desk.old).inputs which).faults) }
+    ensures opened { IsOpenedAs name.now (D.seen desk.old) ((D.seen desk.new).inputs which) }
     ensures whole { IfOk result (λ bytes. IsHeld (D.seen desk.old) name.now bytes.items) }
     ensures few { IfOk result (λ bytes. length bytes.items ≤ limit) }
     ensures failed { IsErrOf result InputError.Failed → Rose ((D.seen desk.old).inputs which).faults ((D.seen desk.new).inputs which).faults }

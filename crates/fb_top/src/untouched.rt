@@ -1,7 +1,7 @@
-// What background work leaves as it is.
-ghost use Rattle.fb_top.specs.Untouched.{ScriptsLeaveForeground};
+// Laws of the runs that are answered.
+ghost use Rattle.fb_top.specs.Untouched.{InputsHaveOneRun, ScriptsLeaveForeground};
 
-use fb_model::foreground_is_untouched;
+use fb_model::{foreground_is_untouched, one_full_run};
 
 /// Background work leaves the foreground report as it is: two runs of the same parameters and trace
 /// by one policy, whose scripts ask for the same reads, have the same foreground text, whatever else
@@ -10,4 +10,12 @@ pub fn scripts_leave_the_foreground()
     ensures { ScriptsLeaveForeground }
 {
     foreground_is_untouched();
+}
+
+/// The same words over the same bytes have one run: on two desks that tell the same bytes under the
+/// names that the words give to inputs, the run that is answered is the same to its last row.
+pub fn inputs_have_one_run()
+    ensures { InputsHaveOneRun }
+{
+    one_full_run();
 }

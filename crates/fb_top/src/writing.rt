@@ -25,7 +25,8 @@ pub fn write_lines<D: Desk, L: Lines>(
     requires told { L.can_be_told lines.now }
     ensures only { ChangesOutput which (D.seen desk.old) (D.seen desk.new) }
     ensures whole { OnOk result (HoldsWhole ((D.seen desk.new).outputs which) name.now (joined (L.lines lines.now))) }
-    ensures stops { IfErr result (StopsText which (joined (L.lines lines.now)) (D.seen desk.old) (D.seen desk.new)) }
+    ensures calm { OnOk result (((D.seen desk.new).outputs which).faults ≡ ((D.seen desk.old).outputs which).faults) }
+    ensures stops { IfErr result (StopsText which name.now (joined (L.lines lines.now)) (D.seen desk.old) (D.seen desk.new)) }
 {
     match desk.begin_output(which, name) {
         Ok(()) => {}

@@ -1,11 +1,13 @@
-use Rattle.std.proofs.Common.{◌∙◌, refl}
+use Rattle.std.proofs.Common.{◌∙◌, refl, inl}
 use Rattle.fb_words.specs.Verdict.{replay_terms}
+use Rattle.fb_desk.specs.declared.desk.Input.TheVariants.{Calls}
 use Rattle.fb_desk.specs.declared.desk.Output.TheVariants.{Note}
 use Rattle.fb_top.specs.Read.{files_of, key_of}
 use Rattle.fb_top.specs.Done.{IsRunOf}
 use Rattle.fb_top.proofs.Later.{at_reports}
 use Rattle.fb_top.proofs.Moved.{holds_reports}
 use Rattle.fb_top.proofs.Unnamed.{unnamed_written}
+use Rattle.fb_top.proofs.Opened.{calm_both, opened_written}
 use Rattle.fb_top.proofs.command.run_replay.Goals as goal
 
 pub replay_by-requires : goal.replay_by-requires
@@ -20,10 +22,25 @@ returns-in-Ok-write_reports-clause-cause g c =
     let mid = g.D.Desk.seen c.read_inputs.new.desk in
     let new = g.D.Desk.seen c.write_reports.new.desk in
     record {
-      is_run = record { files = files_of c.in-Ok.files; accepts = c.in-Ok.ensures.accepts; full = c.in-Ok-replay_by.ensures.full };
+      is_run = record {
+        files = files_of c.in-Ok.files;
+        accepts = c.in-Ok.ensures.accepts;
+        accepted = c.in-Ok.ensures.fit (key_of c.args.words.now.policy) c.args.words.now.until c.requires.until;
+        full = c.in-Ok-replay_by.ensures.full;
+      };
       reports = holds_reports old mid new new (λ output no_note. c.in-Ok.ensures.outputs output) (λ output no_note. refl) (replay_terms c.args.words.now) (files_of c.in-Ok.files) c.in-Ok-replay_by.run'
           c.in-Ok-write_reports.ensures.whole;
     }
+
+pub returns-in-Err-replay_by-clause-cause : goal.returns-in-Err-replay_by-clause-cause
+returns-in-Err-replay_by-clause-cause g c =
+    let files = files_of c.in-Ok.files in
+    let accepts = c.in-Ok.ensures.accepts in
+    inl (record {
+      input = Calls;
+      before = record { params = record { disk = files.disk; latent = files.latent; reads_disk = accepts.disk }; trace = files.trace; reads_trace = accepts.trace };
+      ends = record { later = tt; reports = λ output no_note. c.in-Ok.ensures.outputs output };
+    })
 
 pub returns-clause-cause : goal.returns-clause-cause
 returns-clause-cause g c =
@@ -31,7 +48,12 @@ returns-clause-cause g c =
     let mid = g.D.Desk.seen c.read_inputs.new.desk in
     let new = g.D.Desk.seen c.write_reports.new.desk in
     let words = replay_terms c.args.words.now in
-    let is_run : IsRunOf old words c.in-Ok-replay_by.run' = record { files = files_of c.in-Ok.files; accepts = c.in-Ok.ensures.accepts; full = c.in-Ok-replay_by.ensures.full } in
+    let is_run : IsRunOf old words c.in-Ok-replay_by.run' = record {
+      files = files_of c.in-Ok.files;
+      accepts = c.in-Ok.ensures.accepts;
+      accepted = c.in-Ok.ensures.fit (key_of c.args.words.now.policy) c.args.words.now.until c.requires.until;
+      full = c.in-Ok-replay_by.ensures.full;
+    } in
     at_reports words c.in-Ok-replay_by.run' old mid new c.in-Err-write_reports.outcome is_run (λ output no_note. c.in-Ok.ensures.outputs output) c.in-Err-write_reports.ensures.stops
 
 pub returns-in-Ok-write_reports-clause-no_note : goal.returns-in-Ok-write_reports-clause-no_note
@@ -49,3 +71,18 @@ pub returns-clause-unnamed : goal.returns-clause-unnamed
 returns-clause-unnamed g c =
     unnamed_written (replay_terms c.args.words.now) (g.D.Desk.seen c.args.desk.now) (g.D.Desk.seen c.read_inputs.new.desk) (g.D.Desk.seen c.write_reports.new.desk)
     c.in-Ok.ensures.unnamed c.in-Err-write_reports.ensures.inputs
+
+pub returns-in-Ok-write_reports-clause-opened : goal.returns-in-Ok-write_reports-clause-opened
+returns-in-Ok-write_reports-clause-opened g c =
+    opened_written (replay_terms c.args.words.now) (g.D.Desk.seen c.args.desk.now) (g.D.Desk.seen c.read_inputs.new.desk) (g.D.Desk.seen c.write_reports.new.desk)
+    c.in-Ok.ensures.opened c.in-Ok-write_reports.ensures.inputs
+
+pub returns-clause-opened : goal.returns-clause-opened
+returns-clause-opened g c =
+    opened_written (replay_terms c.args.words.now) (g.D.Desk.seen c.args.desk.now) (g.D.Desk.seen c.read_inputs.new.desk) (g.D.Desk.seen c.write_reports.new.desk)
+    c.in-Ok.ensures.opened c.in-Err-write_reports.ensures.inputs
+
+pub returns-in-Ok-write_reports-clause-calm : goal.returns-in-Ok-write_reports-clause-calm
+returns-in-Ok-write_reports-clause-calm g c =
+    calm_both (g.D.Desk.seen c.args.desk.now) (g.D.Desk.seen c.read_inputs.new.desk) (g.D.Desk.seen c.write_reports.new.desk)
+    c.in-Ok.ensures.calm c.in-Ok.ensures.outputs c.in-Ok-write_reports.ensures.inputs c.in-Ok-write_reports.ensures.calm

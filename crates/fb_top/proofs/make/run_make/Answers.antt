@@ -28,7 +28,7 @@ returns-in-Err-write_trace-clause-cause g c =
       reads_disk = subst (λ (name : List ℕ). ReadsDisk old name c.in-Ok.params.disk c.in-Ok.params.latent.items) c.as_str.ensures.value c.in-Ok.ensures.disk;
     } in
     stopped_trace terms old mid new c.in-Err-write_trace.outcome makes c.in-Ok.ensures.only c.in-Err-write_trace.ensures.only
-    (subst (λ (n : ℕ). StopsText MadeTrace (made_trace terms.number terms.device n terms.requests) mid new c.in-Err-write_trace.outcome) c.count.ensures.value c.in-Err-write_trace.ensures.stops)
+    (subst (λ (n : ℕ). StopsText MadeTrace terms.trace (made_trace terms.number terms.device n terms.requests) mid new c.in-Err-write_trace.outcome) c.count.ensures.value c.in-Err-write_trace.ensures.stops)
 
 pub returns-in-Ok-write_calls-clause-cause : goal.returns-in-Ok-write_calls-clause-cause
 returns-in-Ok-write_calls-clause-cause g c =
@@ -65,7 +65,7 @@ returns-clause-cause g c =
     } in
     stopped_calls terms old mid late new c.in-Err-write_calls.outcome makes c.in-Ok.ensures.only c.in-Ok-write_trace.ensures.only c.in-Err-write_calls.ensures.only
     (subst (λ (n : ℕ). HoldsWhole (late.outputs MadeTrace) terms.trace (made_trace terms.number terms.device n terms.requests)) c.count.ensures.value c.in-Ok-write_trace.ensures.whole)
-    c.in-Err-write_calls.ensures.stops
+    (subst (λ (name : List ℕ). StopsText MadeCalls name (script_text disk.map) late new c.in-Err-write_calls.outcome) c.as_str-2.ensures.value c.in-Err-write_calls.ensures.stops)
 
 pub returns-in-Err-write_trace-clause-unnamed : goal.returns-in-Err-write_trace-clause-unnamed
 returns-in-Err-write_trace-clause-unnamed g c =

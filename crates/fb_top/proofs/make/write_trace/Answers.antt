@@ -5,7 +5,7 @@ use Rattle.fb_desk.specs.declared.desk.Output.TheVariants.{MadeTrace}
 use Rattle.fb_maker.specs.Making.{Making, line_made}
 use Rattle.fb_maker.specs.Trace.{made_lines}
 use Rattle.fb_top.proofs.Pieces.{output_on}
-use Rattle.fb_top.proofs.Fronts.{front_of, front_more, holds_more, holds_all, rose_later, same_name}
+use Rattle.fb_top.proofs.Fronts.{front_of, front_more, holds_more, holds_all, rose_since, same_name}
 use Rattle.fb_top.proofs.Making.{line_at, lines_counted}
 use Rattle.fb_top.proofs.make.write_trace.Goals as goal
 
@@ -13,7 +13,7 @@ pub returns-in-Err-next_line-clause-stops : goal.returns-in-Err-next_line-clause
 returns-in-Err-next_line-clause-stops g c =
     let words = c.args.words.now in
     let lines = made_lines words.number words.device c.args.sectors words.requests in
-    λ begun. front_of ((g.D.Desk.seen c.loop-place.desk).outputs MadeTrace).written lines c.loop-place.place c.loop-place.invariant.lines
+    λ begun. record { named = c.loop-place.invariant.name; written = front_of ((g.D.Desk.seen c.loop-place.desk).outputs MadeTrace).written lines c.loop-place.place c.loop-place.invariant.lines }
 
 pub returns-in-Err-write_whole-clause-stops : goal.returns-in-Err-write_whole-clause-stops
 returns-in-Err-write_whole-clause-stops g c =
@@ -27,8 +27,11 @@ returns-in-Err-write_whole-clause-stops g c =
     line_at words.number words.device c.args.sectors words.requests place c.loop-place-test.true
     ∙ ap Some (sym (c.as_slice.ensures.value ∙ c.in-Ok-next_line.ensures.line ∙ ap line_made c.loop-place.invariant.maker)) in (
       refl,
-      rose_later (old.outputs MadeTrace).faults (now.outputs MadeTrace).faults (new.outputs MadeTrace).faults c.loop-place.invariant.later c.in-Err-write_whole.ensures.cause.failed,
-      λ begun. front_more (now.outputs MadeTrace).written (new.outputs MadeTrace).written lines place c.as_slice.result.now c.loop-place.invariant.lines line c.in-Err-write_whole.ensures.front,
+      rose_since (old.outputs MadeTrace).faults (now.outputs MadeTrace).faults (new.outputs MadeTrace).faults c.loop-place.invariant.calm c.in-Err-write_whole.ensures.cause.failed,
+      λ begun. record {
+        named = same_name (string_bytes words.trace) (now.outputs MadeTrace).name (new.outputs MadeTrace).name c.in-Err-write_whole.ensures.name c.loop-place.invariant.name;
+        written = front_more (now.outputs MadeTrace).written (new.outputs MadeTrace).written lines place c.as_slice.result.now c.loop-place.invariant.lines line c.in-Err-write_whole.ensures.front;
+      },
     )
 
 pub loop-place-preserved : goal.loop-place-preserved
@@ -45,7 +48,7 @@ loop-place-preserved g c =
     ∙ ap Some (sym (c.as_slice.ensures.value ∙ c.in-Ok-next_line.ensures.line ∙ ap line_made c.loop-place.invariant.maker)) in
     record {
       only = output_on MadeTrace old now new c.loop-place.invariant.only told.only;
-      later = omega (arith, c.loop-place.invariant.later, told.cause.later);
+      calm = told.cause.calm ∙ c.loop-place.invariant.calm;
       begun = told.begun;
       name = same_name (string_bytes words.trace) (now.outputs MadeTrace).name (new.outputs MadeTrace).name told.name c.loop-place.invariant.name;
       lines = holds_more (now.outputs MadeTrace).written (new.outputs MadeTrace).written lines place c.as_slice.result.now c.loop-place.invariant.lines line told.whole;

@@ -13,7 +13,7 @@ invariant-loop-place g l =
     let new = g.D.Desk.seen l.desk in
     record {
       only : ChangesOutput MadeTrace old new;
-      later : (old.outputs MadeTrace).faults ≤ (new.outputs MadeTrace).faults;
+      calm : (new.outputs MadeTrace).faults ≡ (old.outputs MadeTrace).faults;
       begun : (new.outputs MadeTrace).begun ≡ true;
       name : IfSome (new.outputs MadeTrace).name (λ told. told ≡ string_bytes l.words.trace);
       lines : HoldsLines (new.outputs MadeTrace).written (made_lines l.words.number l.words.device l.sectors l.words.requests) l.place;

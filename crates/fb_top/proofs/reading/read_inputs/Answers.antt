@@ -7,6 +7,9 @@ use Rattle.fb_top.specs.Read.{ReadsDisk, ReadsScript, ReadsTrace, files_of}
 use Rattle.fb_top.specs.Causes.{AcceptsDisk, AcceptsTrace, StopsDisk, StopsScript, StopsTrace}
 use Rattle.fb_top.proofs.Later.{at_params, at_trace, at_script, is_accepted, script_before, trace_before}
 use Rattle.fb_top.proofs.Unnamed.{unnamed_at_params, unnamed_at_trace, unnamed_at_calls}
+use Rattle.fb_top.proofs.Opened.{calm_inputs, opened_at_params, opened_at_trace, opened_at_calls}
+use Rattle.fb_top.specs.Opened.{IsOpenedAs}
+use Rattle.fb_desk.specs.declared.desk.Input.TheVariants.{Params, Trace}
 use Rattle.fb_top.proofs.reading.read_inputs.Goals as goal
 
 pub returns-in-Err-clause-cause : goal.returns-in-Err-clause-cause
@@ -91,3 +94,36 @@ pub returns-in-Err-read_script-clause-unnamed : goal.returns-in-Err-read_script-
 returns-in-Err-read_script-clause-unnamed g c =
     unnamed_at_calls (replay_terms c.args.words.now) (g.D.Desk.seen c.args.desk.now) (g.D.Desk.seen c.read_disk.new.desk) (g.D.Desk.seen c.read_requests.new.desk) (g.D.Desk.seen c.read_script.new.desk)
     c.in-Ok.ensures.only c.in-Ok-read_requests.ensures.only c.in-Err-read_script.ensures.unnamed
+
+pub returns-in-Err-clause-opened : goal.returns-in-Err-clause-opened
+returns-in-Err-clause-opened g c =
+    opened_at_params (replay_terms c.args.words.now) (g.D.Desk.seen c.args.desk.now) c.requires (g.D.Desk.seen c.read_disk.new.desk) c.in-Err.ensures.only
+    (subst (λ (name : List ℕ). IsOpenedAs name (g.D.Desk.seen c.args.desk.now) ((g.D.Desk.seen c.read_disk.new.desk).inputs Params)) c.as_str.ensures.value c.in-Err.ensures.opened)
+
+pub returns-in-Err-read_requests-clause-opened : goal.returns-in-Err-read_requests-clause-opened
+returns-in-Err-read_requests-clause-opened g c =
+    opened_at_trace (replay_terms c.args.words.now) (g.D.Desk.seen c.args.desk.now) c.requires (g.D.Desk.seen c.read_disk.new.desk) c.in-Ok.ensures.only
+    (subst (λ (name : List ℕ). IsOpenedAs name (g.D.Desk.seen c.args.desk.now) ((g.D.Desk.seen c.read_disk.new.desk).inputs Params)) c.as_str.ensures.value c.in-Ok.ensures.opened)
+    (g.D.Desk.seen c.read_requests.new.desk) c.in-Err-read_requests.ensures.only
+    (subst (λ (name : List ℕ). IsOpenedAs name (g.D.Desk.seen c.read_disk.new.desk) ((g.D.Desk.seen c.read_requests.new.desk).inputs Trace)) c.as_str-2.ensures.value c.in-Err-read_requests.ensures.opened)
+
+pub returns-in-Ok-read_script-clause-opened : goal.returns-in-Ok-read_script-clause-opened
+returns-in-Ok-read_script-clause-opened g c =
+    opened_at_calls (replay_terms c.args.words.now) (g.D.Desk.seen c.args.desk.now) c.requires (g.D.Desk.seen c.read_disk.new.desk) c.in-Ok.ensures.only
+    (subst (λ (name : List ℕ). IsOpenedAs name (g.D.Desk.seen c.args.desk.now) ((g.D.Desk.seen c.read_disk.new.desk).inputs Params)) c.as_str.ensures.value c.in-Ok.ensures.opened)
+    (g.D.Desk.seen c.read_requests.new.desk) (g.D.Desk.seen c.read_script.new.desk) c.in-Ok-read_requests.ensures.only
+    (subst (λ (name : List ℕ). IsOpenedAs name (g.D.Desk.seen c.read_disk.new.desk) ((g.D.Desk.seen c.read_requests.new.desk).inputs Trace)) c.as_str-2.ensures.value c.in-Ok-read_requests.ensures.opened)
+    c.in-Ok-read_script.ensures.only c.in-Ok-read_script.ensures.opened
+
+pub returns-in-Err-read_script-clause-opened : goal.returns-in-Err-read_script-clause-opened
+returns-in-Err-read_script-clause-opened g c =
+    opened_at_calls (replay_terms c.args.words.now) (g.D.Desk.seen c.args.desk.now) c.requires (g.D.Desk.seen c.read_disk.new.desk) c.in-Ok.ensures.only
+    (subst (λ (name : List ℕ). IsOpenedAs name (g.D.Desk.seen c.args.desk.now) ((g.D.Desk.seen c.read_disk.new.desk).inputs Params)) c.as_str.ensures.value c.in-Ok.ensures.opened)
+    (g.D.Desk.seen c.read_requests.new.desk) (g.D.Desk.seen c.read_script.new.desk) c.in-Ok-read_requests.ensures.only
+    (subst (λ (name : List ℕ). IsOpenedAs name (g.D.Desk.seen c.read_disk.new.desk) ((g.D.Desk.seen c.read_requests.new.desk).inputs Trace)) c.as_str-2.ensures.value c.in-Ok-read_requests.ensures.opened)
+    c.in-Err-read_script.ensures.only c.in-Err-read_script.ensures.opened
+
+pub returns-in-Ok-read_script-clause-calm : goal.returns-in-Ok-read_script-clause-calm
+returns-in-Ok-read_script-clause-calm g c =
+    calm_inputs (g.D.Desk.seen c.args.desk.now) (g.D.Desk.seen c.read_disk.new.desk) (g.D.Desk.seen c.read_requests.new.desk) (g.D.Desk.seen c.read_script.new.desk)
+    c.in-Ok.ensures.only c.in-Ok-read_requests.ensures.only c.in-Ok-read_script.ensures.only c.in-Ok.ensures.calm c.in-Ok-read_requests.ensures.calm c.in-Ok-read_script.ensures.calm

@@ -1,11 +1,12 @@
 use Rattle.std.proofs.Common.{◌∙◌, refl}
+use Rattle.std.specs.Prelude.{codes}
 use Rattle.fb_desk.specs.declared.desk.Output.TheVariants.{Fore}
 use Rattle.fb_report.specs.Summary.{summary_text}
-use Rattle.fb_top.proofs.Fronts.{nothing_yet, cut_text, rose_later}
+use Rattle.fb_top.proofs.Fronts.{nothing_yet, cut_text, rose_since, same_name}
 use Rattle.fb_top.proofs.report.write_summary.Goals as goal
 
 pub returns-in-Err-summary_text-clause-stops : goal.returns-in-Err-summary_text-clause-stops
-returns-in-Err-summary_text-clause-stops g c = λ begun. nothing_yet ((g.D.Desk.seen c.begin_output.new.self).outputs Fore).written (summary_text c.args.run.now) c.in-Ok.ensures.empty
+returns-in-Err-summary_text-clause-stops g c = λ begun. record { named = c.in-Ok.ensures.named; written = nothing_yet ((g.D.Desk.seen c.begin_output.new.self).outputs Fore).written (summary_text c.args.run.now) c.in-Ok.ensures.empty }
 
 pub returns-clause-stops : goal.returns-clause-stops
 returns-clause-stops g c =
@@ -13,6 +14,9 @@ returns-clause-stops g c =
     let now = (g.D.Desk.seen c.begin_output.new.self).outputs Fore in
     let new = (g.D.Desk.seen c.write_whole.new.desk).outputs Fore in (
       refl,
-      rose_later old.faults now.faults new.faults c.in-Ok.ensures.cause.later c.in-Err-write_whole.ensures.cause.failed,
-      λ begun. cut_text now.written new.written c.as_slice.result.now (summary_text c.args.run.now) c.in-Ok.ensures.empty (c.as_slice.ensures.value ∙ c.in-Ok-summary_text.ensures) c.in-Err-write_whole.ensures.front,
+      rose_since old.faults now.faults new.faults c.in-Ok.ensures.cause.calm c.in-Err-write_whole.ensures.cause.failed,
+      λ begun. record {
+        named = same_name (codes "-") now.name new.name c.in-Err-write_whole.ensures.name c.in-Ok.ensures.named;
+        written = cut_text now.written new.written c.as_slice.result.now (summary_text c.args.run.now) c.in-Ok.ensures.empty (c.as_slice.ensures.value ∙ c.in-Ok-summary_text.ensures) c.in-Err-write_whole.ensures.front;
+      },
     )

@@ -14,7 +14,7 @@ loop-done-preserved g c =
     record {
       within = omega (arith, told.fits);
       only = output_on c.args.which old now next kept.only told.only;
-      later = omega (arith, kept.later, told.cause.later);
+      calm = told.cause.calm ∙ kept.calm;
       begun = told.begun;
       name = told.named ∙ kept.name;
       written = written_more (old.outputs c.args.which).written (now.outputs c.args.which).written (next.outputs c.args.which).written c.args.text.now c.loop-done.done c.in_ok-done.field-0 kept.written

@@ -1,13 +1,13 @@
 use Rattle.std.proofs.Common.{◌≡◌, ◌∙◌, ap, arith, sym, refl}
 use Rattle.std.specs.Prelude.{Some, slice_get}
 use Rattle.fb_top.proofs.Pieces.{output_on}
-use Rattle.fb_top.proofs.Fronts.{front_of, front_more, holds_more, holds_all, holds_none, rose_later, same_name}
+use Rattle.fb_top.proofs.Fronts.{front_of, front_more, holds_more, holds_all, holds_none, rose_since, same_name}
 use Rattle.fb_top.proofs.writing.write_lines.Goals as goal
 
 pub loop-place-init : goal.loop-place-init
 loop-place-init g c = record {
   only = c.in-Ok.ensures.only;
-  later = c.in-Ok.ensures.cause.later;
+  calm = c.in-Ok.ensures.cause.calm;
   begun = c.in-Ok.ensures.begun;
   name = c.in-Ok.ensures.named;
   lines = holds_none ((g.D.Desk.seen c.begin_output.new.self).outputs c.args.which).written (g.L.Lines.lines c.args.lines.now) c.in-Ok.ensures.empty;
@@ -17,7 +17,11 @@ pub returns-in-Err-line : goal.returns-in-Err-line
 returns-in-Err-line g c = record {
   only = c.loop-place.invariant.only;
   whole = tt;
-  stops = λ begun. front_of ((g.D.Desk.seen c.loop-place.desk).outputs c.args.which).written (g.L.Lines.lines c.args.lines.now) c.loop-place.place c.loop-place.invariant.lines;
+  calm = tt;
+  stops = λ begun. record {
+    named = c.loop-place.invariant.name;
+    written = front_of ((g.D.Desk.seen c.loop-place.desk).outputs c.args.which).written (g.L.Lines.lines c.args.lines.now) c.loop-place.place c.loop-place.invariant.lines;
+  };
 }
 
 pub returns-in-Err-write_whole : goal.returns-in-Err-write_whole
@@ -31,10 +35,14 @@ returns-in-Err-write_whole g c =
     record {
       only = output_on which old now new c.loop-place.invariant.only c.in-Err-write_whole.ensures.only;
       whole = tt;
+      calm = tt;
       stops = (
         refl,
-        rose_later (old.outputs which).faults (now.outputs which).faults (new.outputs which).faults c.loop-place.invariant.later c.in-Err-write_whole.ensures.cause.failed,
-        λ begun. front_more (now.outputs which).written (new.outputs which).written lines c.loop-place.place c.as_slice.result.now c.loop-place.invariant.lines line c.in-Err-write_whole.ensures.front,
+        rose_since (old.outputs which).faults (now.outputs which).faults (new.outputs which).faults c.loop-place.invariant.calm c.in-Err-write_whole.ensures.cause.failed,
+        λ begun. record {
+          named = same_name c.args.name.now (now.outputs which).name (new.outputs which).name c.in-Err-write_whole.ensures.name c.loop-place.invariant.name;
+          written = front_more (now.outputs which).written (new.outputs which).written lines c.loop-place.place c.as_slice.result.now c.loop-place.invariant.lines line c.in-Err-write_whole.ensures.front;
+        },
       );
     }
 
@@ -49,7 +57,7 @@ loop-place-preserved g c =
     let line : slice_get lines c.loop-place.place ≡ Some c.as_slice.result.now = c.in-Ok-line.ensures ∙ ap Some (sym c.as_slice.ensures.value) in
     record {
       only = output_on which old now new c.loop-place.invariant.only told.only;
-      later = omega (arith, c.loop-place.invariant.later, told.cause.later);
+      calm = told.cause.calm ∙ c.loop-place.invariant.calm;
       begun = told.begun;
       name = same_name c.args.name.now (now.outputs which).name (new.outputs which).name told.name c.loop-place.invariant.name;
       lines = holds_more (now.outputs which).written (new.outputs which).written lines c.loop-place.place c.as_slice.result.now c.loop-place.invariant.lines line told.whole;
@@ -65,5 +73,6 @@ returns g c =
         named = c.loop-place.invariant.name;
         written = holds_all ((g.D.Desk.seen c.loop-place.desk).outputs c.args.which).written lines c.loop-place.place c.loop-place.invariant.lines (omega (arith, c.count-place-end.ensures, c.loop-place-test.false));
       };
+      calm = c.loop-place.invariant.calm;
       stops = tt;
     }

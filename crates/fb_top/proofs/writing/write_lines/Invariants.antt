@@ -10,7 +10,7 @@ invariant-loop-place g l =
     let new = g.D.Desk.seen l.desk in
     record {
       only : ChangesOutput l.which old new;
-      later : (old.outputs l.which).faults ≤ (new.outputs l.which).faults;
+      calm : (new.outputs l.which).faults ≡ (old.outputs l.which).faults;
       begun : (new.outputs l.which).begun ≡ true;
       name : IfSome (new.outputs l.which).name (λ told. told ≡ l.name);
       lines : HoldsLines (new.outputs l.which).written (g.L.Lines.lines l.lines) l.place;

@@ -1,0 +1,25 @@
+-- How the program ends.
+use Rattle.std.specs.Prelude.{◌≡◌, ℕ, Result}
+use Rattle.fb_desk.specs.View.{DeskView}
+use Rattle.fb_desk.specs.declared.desk.Output.TheVariants.{Note}
+use Rattle.fb_words.specs.Command.{Terms}
+use Rattle.fb_words.specs.declared.fault.UsageFault.{UsageFault}
+use Rattle.fb_top.specs.declared.outcome.Outcome.{Outcome}
+use Rattle.fb_top.specs.Answers.{AnswersWords}
+use Rattle.fb_top.specs.Calm.{MeetsNoFault}
+use Rattle.fb_top.specs.Complete.{IsComplete}
+use Rattle.fb_top.specs.Noted.{LeavesNote}
+use Rattle.fb_top.specs.Opened.{OpensNamed}
+use Rattle.fb_top.specs.Status.{status_of}
+use Rattle.fb_top.specs.Unnamed.{LeavesUnnamed}
+
+-- the exit status is that of an outcome which the top call may answer
+pub record EndsWith (reading : Result Terms UsageFault) (old new : DeskView) (status : ℕ) : Type 0 where
+  pub outcome : Outcome
+  pub ends : status ≡ status_of outcome
+  pub answers : AnswersWords reading old new outcome
+  pub complete : IsComplete reading old new outcome
+  pub unnamed : LeavesUnnamed reading old new
+  pub opened : OpensNamed reading old new
+  pub calm : MeetsNoFault outcome old new
+  pub note : LeavesNote outcome (old.outputs Note) (new.outputs Note)
