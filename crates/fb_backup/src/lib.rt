@@ -6,7 +6,5 @@
 #![tactic(auto)]
 
 mod image;
-#[cfg(test)]
-mod tests;
 
 pub use image::Image;

@@ -18,8 +18,6 @@ mod names;
 mod reader;
 mod reads;
 mod session;
-#[cfg(test)]
-mod tests;
 mod words;
 
 pub use call::{Action, Call, Calls, Kind};

@@ -8,7 +8,5 @@
 mod choice;
 mod segment;
 mod segments;
-#[cfg(test)]
-mod tests;
 
 pub use segments::{Segments, live_blocks_are_live};

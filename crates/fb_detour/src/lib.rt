@@ -10,7 +10,5 @@ mod parts;
 mod search;
 mod stop;
 mod stretches;
-#[cfg(test)]
-mod tests;
 
 pub use indexed::IndexedPlanner;

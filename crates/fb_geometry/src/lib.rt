@@ -8,8 +8,6 @@ mod layout;
 mod marks;
 mod outline;
 mod stretch;
-#[cfg(test)]
-mod tests;
 mod zone;
 
 pub use cylinder::Cylinder;

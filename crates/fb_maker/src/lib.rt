@@ -8,8 +8,6 @@
 mod line;
 mod maker;
 mod script;
-#[cfg(test)]
-mod tests;
 
 pub use maker::{Maker, made_traces_are_read};
 pub use script::{made_calls, made_scripts_are_read};

@@ -20,8 +20,6 @@ mod rule;
 mod search;
 mod seek;
 mod table;
-#[cfg(test)]
-mod tests;
 
 pub use fault::{ParamsError, ParamsFault};
 pub use parameters::Parameters;

@@ -10,8 +10,6 @@ mod map;
 mod numbering;
 mod run;
 mod span;
-#[cfg(test)]
-mod tests;
 mod worked;
 
 pub use cut::Cut;

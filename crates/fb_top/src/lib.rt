@@ -4,33 +4,17 @@
 //! among the desk's counts of faults; what was written are the texts of the very run that it answers.
 #![tactic(auto)]
 
-#[cfg(test)]
-mod back_tests;
-#[cfg(test)]
-mod calls_tests;
 mod command;
-#[cfg(test)]
-mod fault_tests;
-#[cfg(test)]
-mod large_tests;
 mod lines;
 mod make;
-#[cfg(test)]
-mod make_tests;
 mod note;
 mod note_faults;
 mod note_words;
 mod outcome;
 mod policy;
-#[cfg(test)]
-mod queue_tests;
 mod reading;
-#[cfg(test)]
-mod replay_tests;
 mod report;
 mod streams;
-#[cfg(test)]
-mod test_desk;
 mod untouched;
 mod writing;
 

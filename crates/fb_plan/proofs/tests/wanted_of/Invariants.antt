@@ -1,7 +1,0 @@
-use Rattle.std.proofs.Common.{◌≡◌, length}
-use Rattle.fb_wanted.specs.Numbering.{blocks_of, registered}
-use Rattle.fb_plan.specs.Ways.{AreOnDisk}
-use Rattle.fb_plan.proofs.tests.wanted_of.Given as goal
-
-abbrev pub invariant-loop-i : goal.invariant-loop-i
-invariant-loop-i l = (registered 0 (blocks_of l.wanted) ≡ l.i) × (length l.wanted ≡ l.i) × AreOnDisk l.disk l.wanted

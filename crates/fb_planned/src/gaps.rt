@@ -1,0 +1,231 @@
+// Gaps on small disks, what is wanted there, and what the planners answer.
+ghost use Rattle.std.specs.Prelude.{◌≡◌, ◌<◌, ◌≤◌, ◌+◌, true, length, IfOk, IfSome};
+ghost use Rattle.fb_geometry.specs.Shape.{IsTrackOf};
+ghost use Rattle.fb_geometry.specs.Places.{places};
+ghost use Rattle.fb_plan.specs.Ways.{IsGap, FitsDisk, AreOnDisk};
+
+use fb_detour::IndexedPlanner;
+use fb_geometry::{Geometry, Layout, Zone};
+use fb_plan::{Planner, SlowPlanner, caught, dwells};
+use fb_rows::{Gap, Plan};
+use fb_sectormap::SectorMap;
+use fb_seek::{Mechanism, SeekPoint};
+use fb_service::Disk;
+use fb_units::{NoMemory, Ns, Track};
+use fb_wanted::{Block, Wanted};
+use std::alloc::Global;
+
+/// Times that rise with the distance.
+pub const LINEAR: &[SeekPoint] = &[
+    SeekPoint {
+        distance: 1,
+        time: 300,
+    },
+    SeekPoint {
+        distance: 3,
+        time: 500,
+    },
+];
+
+/// Times by which a way in two parts is shorter.
+pub const STEEP: &[SeekPoint] = &[
+    SeekPoint {
+        distance: 1,
+        time: 100,
+    },
+    SeekPoint {
+        distance: 2,
+        time: 400,
+    },
+    SeekPoint {
+        distance: 3,
+        time: 400,
+    },
+];
+
+/// A block to be wanted, or to be suspended.
+#[derive(Clone, Copy)]
+pub struct Wish {
+    pub lbn: u64,
+    pub count: u32,
+    pub weight: u32,
+    pub suspended: bool,
+}
+
+/// A disk of four or of thirty cylinders with two heads and twelve slots a track, and a gap on it.
+#[derive(Clone, Copy)]
+pub struct Setting<'a> {
+    pub seek: &'a [SeekPoint],
+    pub last_cylinder: u32,
+    pub track_skew: u32,
+    pub gap: Gap,
+}
+
+/// The plan of each planner, and what the dwells of the slow one's catch: first sectors, and where
+/// the passages begin and end.
+#[derive(Drop)]
+pub struct Chosen {
+    pub slow: Plan,
+    pub indexed: Plan,
+    pub passages: Vec<(u64, Ns, Ns)>,
+}
+
+// The disk, unless it is refused.
+fn disk_of(alloc: Global, setting: &Setting) -> Result<Option<Disk>, NoMemory> {
+    let zone = Zone {
+        first: 0,
+        last: setting.last_cylinder,
+        sectors: 12,
+        track_skew: setting.track_skew,
+        cylinder_skew: 0,
+        spares: 0,
+        cylinder_spares: 0,
+    };
+    let mut zones = Vec::new(alloc);
+    zones.push(zone)?;
+    let none = Vec::new(alloc);
+    let map = match Geometry::new(
+        alloc,
+        Layout::PerTrack,
+        1200,
+        2,
+        zones,
+        none,
+        Vec::new(alloc),
+    ) {
+        Ok(geometry) => SectorMap::new(alloc, geometry)?,
+        Err(_) => return Ok(None),
+    };
+    let geometry = map.geometry();
+    geometry.sound();
+    let _count = map.count();
+    match Mechanism::new(setting.seek.to_vec(alloc)?, geometry.cylinders(), 200, 50) {
+        Ok(mechanism) => Ok(Some(Disk {
+            map,
+            mechanism,
+            sector_bytes: 16,
+        })),
+        Err(_) => Ok(None),
+    }
+}
+
+// The task's next block, unless it isn't one block of the disk.
+fn block_of(disk: &Disk, index: u32, wish: Wish) -> Option<Block>
+    ensures fits { IfSome result (λ block. FitsDisk disk.now block) }
+    ensures numbered { IfSome result (λ block. (block.task ≡ 0) × (block.index ≡ index)) }
+{
+    if wish.count == 0 {
+        return None;
+    }
+    if wish.weight > 1000 {
+        return None;
+    }
+    if disk.map.count() < wish.count as u64 {
+        return None;
+    }
+    if disk.map.count() - (wish.count as u64) < wish.lbn {
+        return None;
+    }
+    let cut = disk.map.first_cut(wish.lbn, wish.count as u64, 2048);
+    if cut.count < wish.count {
+        return None;
+    }
+    Some(Block {
+        task: 0,
+        index,
+        lbn: cut.lbn,
+        count: cut.count,
+        track: cut.track,
+        weight: wish.weight,
+    })
+}
+
+// The blocks of one task, unless one of them isn't one of the disk.
+fn wanted_of(alloc: Global, disk: &Disk, wishes: &[Wish]) -> Result<Option<Wanted>, NoMemory>
+    ensures { IfOk result (λ some. IfSome some (λ wanted. AreOnDisk disk.now wanted)) }
+{
+    let mut wanted = Wanted::new(alloc);
+    if wishes.len() > 100 {
+        return Ok(None);
+    }
+    for i in 0..wishes.len() {
+        match block_of(disk, i as u32, wishes[i]) {
+            Some(block) => wanted.register(block, wishes[i].suspended)?,
+            None => return Ok(None),
+        }
+    }
+    Ok(Some(wanted))
+}
+
+// Whether the gap is one of the disk's.
+fn is_gap(disk: &Disk, gap: &Gap) -> bool
+    ensures { result ≡ true → IsGap disk.now gap.entry.now }
+{
+    if !is_on_disk(disk, gap.source) {
+        return false;
+    }
+    if !is_on_disk(disk, gap.target) {
+        return false;
+    }
+    if gap.deadline > 9_000_000_000_000_000_000 {
+        return false;
+    }
+    if gap.deadline < gap.now {
+        return false;
+    }
+    disk.mechanism.pos(gap.source, gap.target, gap.write) <= gap.deadline - gap.now
+}
+
+fn is_on_disk(disk: &Disk, track: Track) -> bool
+    ensures { result ≡ true → IsTrackOf disk.now.map track }
+{
+    if track.cylinder < disk.map.geometry().cylinders() {
+        track.head < disk.map.geometry().heads()
+    } else {
+        false
+    }
+}
+
+/// What the planners answer, unless the disk, the blocks or the gap are refused.
+pub fn answers(
+    alloc: Global,
+    setting: &Setting,
+    wishes: &[Wish],
+) -> Result<Option<Chosen>, NoMemory> {
+    let Some(disk) = disk_of(alloc, setting)? else {
+        return Ok(None);
+    };
+    let Some(wanted) = wanted_of(alloc, &disk, wishes)? else {
+        return Ok(None);
+    };
+    answers_on(alloc, &disk, &wanted, &setting.gap)
+}
+
+// What they answer on this disk for these blocks, unless the gap is refused.
+fn answers_on(
+    alloc: Global,
+    disk: &Disk,
+    wanted: &Wanted,
+    gap: &Gap,
+) -> Result<Option<Chosen>, NoMemory>
+    requires { AreOnDisk disk.now wanted.now }
+{
+    if !is_gap(disk, gap) {
+        return Ok(None);
+    }
+    let slow = SlowPlanner.best(disk, wanted, gap);
+    let indexed = IndexedPlanner.best(disk, wanted, gap);
+    let pair = dwells(disk, slow, gap);
+    let mut passages = Vec::new(alloc);
+    for catch in &caught(alloc, disk, wanted, pair.early)? {
+        passages.push((catch.block.lbn, catch.begin, catch.end))?;
+    }
+    for catch in &caught(alloc, disk, wanted, pair.late)? {
+        passages.push((catch.block.lbn, catch.begin, catch.end))?;
+    }
+    Ok(Some(Chosen {
+        slow,
+        indexed,
+        passages,
+    }))
+}

@@ -1,0 +1,90 @@
+// A backup of four sectors in two blocks: the first block is delivered, overwritten by the first request and delivered again.
+ghost use Rattle.std.specs.Prelude.{◌≡◌, ◌≤◌, ◌+◌, ◌^◌, ℕ, IfOk, cond, ◌==◌};
+ghost use Rattle.std.specs.List.{AllByRecursion};
+ghost use Rattle.fb_store.specs.declared.content.Content.{Content};
+ghost use Rattle.fb_store.specs.Pieces.{Gives};
+
+use fb_backup::Image;
+use fb_store::{Content, ContentRun, Contents};
+use fb_units::{NoMemory, Track};
+use fb_wanted::Block;
+use std::alloc::Global;
+use std::test::Fail;
+
+// The contents of two neighbouring sectors.
+fn pair(alloc: Global, lbn: u32, content: Content, next: Content) -> Result<Contents, NoMemory>
+    ensures gives { IfOk result (λ contents. Gives contents (λ l. cond (l == lbn) content next) lbn 2) }
+    ensures ranges { IfOk result (λ contents. AllByRecursion (λ run. run.first + run.count ≤ 10 ^ 12) contents) }
+{
+    let first = lbn as u64;
+    let mut contents = Contents::new(alloc);
+    contents.push(ContentRun {
+        first,
+        count: 1,
+        content,
+    })?;
+    contents.push(ContentRun {
+        first: first + 1,
+        count: 1,
+        content: next,
+    })?;
+    Ok(contents)
+}
+
+fn block(lbn: u32) -> Block
+    ensures { (result.lbn ≡ lbn) × (result.count ≡ 2) }
+{
+    Block {
+        task: 0,
+        index: 0,
+        lbn: lbn as u64,
+        count: 2,
+        track: Track {
+            cylinder: 0,
+            head: 0,
+        },
+        weight: 1,
+    }
+}
+
+fn take(
+    alloc: Global,
+    image: &mut Image,
+    lbn: u32,
+    content: Content,
+    next: Content,
+) -> Result<(), NoMemory> {
+    let contents = pair(alloc, lbn, content, next)?;
+    image.take(block(lbn), &contents)
+}
+
+fn runs(alloc: Global, image: &Image) -> Result<Vec<(u64, u64, Content)>, NoMemory> {
+    let contents = image.contents(alloc)?;
+    let mut runs = Vec::new(alloc);
+    for i in 0..contents.len() {
+        let run = contents.get(i);
+        runs.push((run.first, run.count, run.content))?;
+    }
+    Ok(runs)
+}
+
+const OLD: Content = Content::Filled(0);
+
+const NEW: Content = Content::Filled(1);
+
+#[test]
+fn holds_what_was_delivered_last(rt: HostRuntime) -> Result<(), Fail> {
+    let alloc = rt.alloc();
+    let mut image = Image::new(alloc);
+    take(alloc, &mut image, 0, OLD, OLD)?;
+    assert_eq!(rt; runs(alloc, &image)?.as_slice(), [(0, 2, OLD)].as_slice());
+    image.drop_range(0, 2)?;
+    take(alloc, &mut image, 2, OLD, OLD)?;
+    assert_eq!(rt; runs(alloc, &image)?.as_slice(), [(2, 2, OLD)].as_slice());
+    take(alloc, &mut image, 0, NEW, OLD)?;
+    assert_eq!(rt;
+        runs(alloc, &image)?.as_slice(),
+        [(0, 1, NEW), (1, 3, OLD)].as_slice()
+    );
+    Ok(())
+}

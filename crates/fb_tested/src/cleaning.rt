@@ -1,0 +1,128 @@
+// A worked choice: the first segment has four blocks, two of them live, and age 10, the second four, one of them live, and age 9.
+ghost use Rattle.std.specs.Prelude.{◌≡◌, ◌≢◌, ◌≤◌, ◌+◌, ◌^◌, ℕ, None, length, IfOk};
+ghost use Rattle.std.specs.List.{AllByRecursion};
+ghost use Rattle.fb_store.specs.declared.content.Content.TheVariants.{Filled};
+ghost use Rattle.fb_store.specs.Pieces.{Gives};
+
+use fb_calls::Live;
+use fb_clean::Segments;
+use fb_store::{Content, ContentRun, Contents};
+use fb_units::{NoMemory, Track};
+use fb_wanted::Block;
+use std::alloc::Global;
+use std::test::Fail;
+
+const FIRST: [bool; 4] = [true, false, true, false];
+
+const SECOND: [bool; 4] = [false, true, false, false];
+
+fn live(alloc: Global, blocks: [bool; 4]) -> Result<Live, NoMemory>
+    ensures { IfOk result (λ live. length live ≡ 4) }
+{
+    let mut live = Live::new(alloc);
+    live.push(blocks[0])?;
+    live.push(blocks[1])?;
+    live.push(blocks[2])?;
+    live.push(blocks[3])?;
+    Ok(live)
+}
+
+// The content of one sector that nobody wrote.
+fn sector(alloc: Global, lbn: u32) -> Result<Contents, NoMemory>
+    ensures gives { IfOk result (λ contents. Gives contents (λ l. Filled 0) lbn 1) }
+    ensures ranges { IfOk result (λ contents. AllByRecursion (λ run. run.first + run.count ≤ 10 ^ 12) contents) }
+{
+    let mut contents = Contents::new(alloc);
+    contents.push(ContentRun {
+        first: lbn as u64,
+        count: 1,
+        content: Content::Filled(0),
+    })?;
+    Ok(contents)
+}
+
+fn block(lbn: u32) -> Block
+    ensures { (result.lbn ≡ lbn) × (result.count ≡ 1) }
+{
+    Block {
+        task: 0,
+        index: 0,
+        lbn: lbn as u64,
+        count: 1,
+        track: Track {
+            cylinder: 0,
+            head: 0,
+        },
+        weight: 1,
+    }
+}
+
+fn take_all(alloc: Global, segments: &mut Segments, blocks: &[u32]) -> Result<(), NoMemory>
+    requires { segments.old.unfinished ≢ None }
+    ensures { (segments.new.segments ≡ segments.old.segments) × (segments.new.unfinished ≡ segments.old.unfinished) }
+{
+    for lbn in blocks {
+        let content = sector(alloc, *lbn)?;
+        segments.take(block(*lbn), &content)?;
+    }
+    Ok(())
+}
+
+// Chooses a segment, takes these blocks for it and finishes it: its number and what is packed.
+fn clean_next(
+    alloc: Global,
+    segments: &mut Segments,
+    blocks: &[u32],
+) -> Result<Option<(u32, Contents)>, NoMemory> {
+    match segments.choose() {
+        None => Ok(None),
+        Some(number) => {
+            take_all(alloc, segments, blocks)?;
+            let packed = segments.packed(alloc, number)?;
+            segments.finish(number);
+            Ok(Some((number, packed)))
+        }
+    }
+}
+
+fn runs(alloc: Global, contents: &Contents) -> Result<Vec<(u64, u64)>, NoMemory> {
+    let mut runs = Vec::new(alloc);
+    for i in 0..contents.len() {
+        let run = contents.get(i);
+        runs.push((run.first, run.count))?;
+    }
+    Ok(runs)
+}
+
+#[test]
+fn cleans_the_second_segment_first(rt: HostRuntime) -> Result<(), Fail> {
+    let alloc = rt.alloc();
+    let mut segments = Segments::new(alloc, 1);
+    segments.add(0, 4, 10, &live(alloc, FIRST)?)?;
+    segments.add(4, 4, 9, &live(alloc, SECOND)?)?;
+    assert_eq!(rt; segments.live_count(1), 2);
+    for (blocks, number, packed) in [
+        ([5].as_slice(), 2, [(5, 1)].as_slice()),
+        (&[2, 0], 1, &[(0, 1), (2, 1)]),
+    ] {
+        match clean_next(alloc, &mut segments, blocks)? {
+            Some((chosen, contents)) => {
+                assert_eq!(rt; chosen, number);
+                assert_eq!(rt; runs(alloc, &contents)?.as_slice(), packed);
+            }
+            None => assert!(rt; false),
+        }
+    }
+    assert!(rt; segments.choose().is_none());
+    Ok(())
+}
+
+#[test]
+fn drops_what_is_not_chosen(rt: HostRuntime) -> Result<(), Fail> {
+    let alloc = rt.alloc();
+    let mut segments = Segments::new(alloc, 1);
+    segments.add(0, 4, 10, &live(alloc, FIRST)?)?;
+    segments.drop_rest();
+    assert!(rt; segments.choose().is_none());
+    Ok(())
+}

@@ -1,0 +1,29 @@
+//! Tests of the crates below the model, with values worked out by hand.
+//!
+//! They stand apart from the crates that they test, since a crate with tests is proved twice.
+#![tactic(auto)]
+
+#[cfg(test)]
+mod backups;
+#[cfg(test)]
+mod cleaning;
+#[cfg(test)]
+mod disks;
+#[cfg(test)]
+mod geometry;
+#[cfg(test)]
+mod making;
+#[cfg(test)]
+mod params;
+#[cfg(test)]
+mod scripts;
+#[cfg(test)]
+mod sectors;
+#[cfg(test)]
+mod services;
+#[cfg(test)]
+mod traces;
+#[cfg(test)]
+mod wishes;
+#[cfg(test)]
+mod words;
