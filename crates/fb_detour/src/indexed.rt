@@ -11,7 +11,7 @@ use fb_wanted::Wanted;
 
 /// Passes over the cylinders out of reach, those where too little can pass in the time that is left, and the
 /// tracks whose wanted blocks, together with what the target can still give, can't beat the best so far.
-#[derive(Clone, Copy, Debug, PartialEq, Eq)]
+#[derive(Clone, Copy)]
 pub struct IndexedPlanner;
 
 impl IndexedPlanner {

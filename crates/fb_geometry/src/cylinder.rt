@@ -10,7 +10,7 @@ use crate::{Geometry, Layout, Zone};
 use fb_units::{Ns, Place, Track};
 
 /// A cylinder, looked up once for the places of many of its sectors.
-#[derive(Clone, Copy, Debug, PartialEq, Eq)]
+#[derive(Clone, Copy)]
 pub struct Cylinder {
     /// Its number.
     pub number: u32,

@@ -2,7 +2,7 @@
 use fb_units::{NoMemory, Place, Track};
 
 /// Why an outline is no disk. Where several hold, the first of this order is answered.
-#[derive(Clone, Copy, Debug, PartialEq, Eq)]
+#[derive(Clone, Copy, Debug)]
 pub enum GeometryFault {
     /// A number lies outside its range.
     OutOfRange,
@@ -25,7 +25,7 @@ pub enum GeometryFault {
 }
 
 /// Why there is no geometry.
-#[derive(Clone, Copy, Debug, PartialEq, Eq)]
+#[derive(Clone, Copy, Debug)]
 pub enum GeometryError {
     Fault(GeometryFault),
     NoMemory,

@@ -10,7 +10,7 @@ use crate::{Geometry, Layout, Zone};
 use fb_units::Place;
 
 /// Sectors in slots that follow one another in one turn of a track.
-#[derive(Clone, Copy, Debug, PartialEq, Eq)]
+#[derive(Clone, Copy)]
 pub struct Stretch {
     /// Where the first sector is.
     pub place: Place,

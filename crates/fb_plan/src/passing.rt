@@ -61,7 +61,7 @@ pub fn block_end(disk: &Disk, block: Block, t: Ns) -> Ns
 }
 
 /// The two dwells of a plan.
-#[derive(Clone, Copy, Debug, PartialEq, Eq)]
+#[derive(Clone, Copy)]
 pub struct DwellPair {
     pub early: Dwell,
     pub late: Dwell,

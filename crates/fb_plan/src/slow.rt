@@ -18,7 +18,7 @@ pub trait Planner {
 }
 
 /// Tries every track, and on each the arrival and the ends of passages.
-#[derive(Clone, Copy, Debug, PartialEq, Eq)]
+#[derive(Clone, Copy)]
 pub struct SlowPlanner;
 
 impl Planner for SlowPlanner {

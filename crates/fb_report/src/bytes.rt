@@ -1,5 +1,5 @@
 /// How the bytes that a read or a delivery found are shown.
-#[derive(Clone, Copy, Debug, PartialEq, Eq)]
+#[derive(Clone, Copy)]
 pub enum Bytes {
     /// Not at all: a dash.
     Nothing,

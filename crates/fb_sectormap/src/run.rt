@@ -1,7 +1,7 @@
 use fb_geometry::Cylinder;
 
 /// The sectors of a cylinder, looked up once for the places of many of them.
-#[derive(Clone, Copy, Debug, PartialEq, Eq)]
+#[derive(Clone, Copy)]
 pub struct Run {
     /// The cylinder.
     pub on: Cylinder,

@@ -10,7 +10,7 @@ use fb_geometry::Stretch;
 use fb_units::Place;
 
 /// Sectors in neighbouring slots of one turn, looked up once for the blocks that are cut from them.
-#[derive(Clone, Copy, Debug, PartialEq, Eq)]
+#[derive(Clone, Copy)]
 pub struct Span {
     /// The first sector.
     pub first: u64,

@@ -1,5 +1,5 @@
 /// Why a seek table is refused. Where several hold, the first of this order is answered.
-#[derive(Clone, Copy, Debug, PartialEq, Eq)]
+#[derive(Clone, Copy, Debug)]
 pub enum SeekFault {
     /// The table is empty.
     NoPoints,

@@ -13,7 +13,7 @@ use fb_sectormap::Run;
 use fb_units::{Ns, Track};
 
 /// The head on a track at an instant, from which it leaves.
-#[derive(Clone, Copy, Debug, PartialEq, Eq)]
+#[derive(Clone, Copy)]
 pub struct Departure {
     /// The track.
     pub track: Track,
@@ -24,7 +24,7 @@ pub struct Departure {
 }
 
 /// The head's way to the sectors of a cylinder.
-#[derive(Clone, Copy, Debug, PartialEq, Eq)]
+#[derive(Clone, Copy)]
 pub struct Approach {
     /// The sectors of the cylinder.
     pub run: Run,

@@ -9,7 +9,7 @@ use fb_units::NoMemory;
 use std::alloc::{AllocError, Global};
 
 /// Why an input was not read to its end.
-#[derive(Clone, Copy, Debug, PartialEq, Eq)]
+#[derive(Clone, Copy)]
 pub enum InputError {
     Failed,
     TooLong,

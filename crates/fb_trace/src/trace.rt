@@ -10,7 +10,7 @@ pub struct Trace {
 }
 
 /// Why a line of a trace is refused.
-#[derive(Clone, Copy, Debug, PartialEq, Eq)]
+#[derive(Clone, Copy)]
 pub enum TraceReason {
     /// The line has fields, but fewer than five.
     TooFewFields,
@@ -31,14 +31,14 @@ pub enum TraceReason {
 }
 
 /// The first faulty line of a trace, counted from 1, and its first fault.
-#[derive(Clone, Copy, Debug, PartialEq, Eq)]
+#[derive(Clone, Copy)]
 pub struct TraceFault {
     pub line: u64,
     pub reason: TraceReason,
 }
 
 /// Why no trace was read.
-#[derive(Clone, Copy, Debug, PartialEq, Eq)]
+#[derive(Clone, Copy)]
 pub enum TraceError {
     Fault(TraceFault),
     NoMemory,

@@ -3,7 +3,7 @@ use fb_report::Bytes;
 use fb_units::Ns;
 
 /// In which order requests are served.
-#[derive(Clone, Copy, Debug, PartialEq, Eq)]
+#[derive(Clone, Copy)]
 pub enum Policy {
     Fcfs,
     Sstf,
@@ -12,7 +12,7 @@ pub enum Policy {
 }
 
 /// The terms of a replay. Files are named as the words name them.
-#[derive(Debug, PartialEq, Eq, Drop)]
+#[derive(Drop)]
 pub struct ReplayWords {
     pub params: String,
     pub trace: String,
@@ -31,7 +31,7 @@ pub struct ReplayWords {
 }
 
 /// The terms of a trace and a call script that are made up.
-#[derive(Debug, PartialEq, Eq, Drop)]
+#[derive(Drop)]
 pub struct MakeWords {
     pub params: String,
     /// The file to which the trace is written.
@@ -47,7 +47,7 @@ pub struct MakeWords {
 }
 
 /// What the program is to do: replay a trace, or make up a trace and a script.
-#[derive(Debug, PartialEq, Eq, Drop)]
+#[derive(Drop)]
 pub enum Command {
     Replay(ReplayWords),
     Make(MakeWords),

@@ -2,7 +2,7 @@
 use std::alloc::AllocError;
 
 /// Why a word is refused.
-#[derive(Clone, Copy, Debug, PartialEq, Eq)]
+#[derive(Clone, Copy)]
 pub enum UsageReason {
     /// There is no command.
     NoCommand,
@@ -26,14 +26,14 @@ pub enum UsageReason {
 
 /// The first faulty word, by its place from 0, or the number of words where something is missing.
 /// A place that doesn't fit is the last that does.
-#[derive(Clone, Copy, Debug, PartialEq, Eq)]
+#[derive(Clone, Copy)]
 pub struct UsageFault {
     pub place: u32,
     pub reason: UsageReason,
 }
 
 /// Why no command was read.
-#[derive(Clone, Copy, Debug, PartialEq, Eq)]
+#[derive(Clone, Copy)]
 pub enum WordsError {
     Fault(UsageFault),
     NoMemory,
