@@ -54,18 +54,26 @@ digest_text Digest size runs = encode_lower (sha256 (contents_bytes size runs))
 digest_text Dump size runs = encode_lower (sha256 (contents_bytes size runs))
 
 -- request, source, target, now, deadline and plan
+abbrev pub gap_fields : GapRow → List (List ℕ)
+gap_fields row = name_text row.name ∷ track_text row.gap.source ∷ track_text row.gap.target
+    ∷ decimal row.gap.now ∷ decimal row.gap.deadline ∷ plan_fields row.plan
+
+-- the line of a gap
 abbrev pub gap_line : GapRow → List ℕ
-gap_line row = line_of (codes "gap") (name_text row.name ∷ track_text row.gap.source ∷ track_text row.gap.target
-    ∷ decimal row.gap.now ∷ decimal row.gap.deadline ∷ plan_fields row.plan)
+gap_line row = line_of (codes "gap") (gap_fields row)
 
 -- track, begin and end
 abbrev pub idle_line : Dwell → List ℕ
 idle_line dwell = line_of (codes "idle") (track_text dwell.track ∷ decimal dwell.begin ∷ decimal dwell.end ∷ [])
 
--- task, index, first LBN, count, begin, end, how, bad sectors and bytes
+-- task, index, first LBN, count, begin, end, how, bad sectors and the bytes found
+abbrev pub got_fields : List (List ℕ) → DeliveryRow → List ℕ → List (List ℕ)
+got_fields names row found = task_text names row.block.task ∷ decimal row.block.index ∷ decimal row.block.lbn ∷ decimal row.block.count
+    ∷ decimal row.begin ∷ decimal row.end ∷ how_text row.how ∷ decimal row.bad ∷ found ∷ []
+
+-- the line of a delivery
 abbrev pub got_line : List (List ℕ) → ℕ → Bytes → DeliveryRow → List ℕ
-got_line names size bytes row = line_of (codes "got") (task_text names row.block.task ∷ decimal row.block.index ∷ decimal row.block.lbn ∷ decimal row.block.count
-    ∷ decimal row.begin ∷ decimal row.end ∷ how_text row.how ∷ decimal row.bad ∷ shown bytes size row.content ∷ [])
+got_line names size bytes row = line_of (codes "got") (got_fields names row (shown bytes size row.content))
 
 -- task, instant, sectors of the image and digest
 abbrev pub seal_line : List (List ℕ) → ℕ → Bytes → SealRow → List ℕ
@@ -73,17 +81,24 @@ seal_line names size bytes row = line_of (codes "seal") (task_text names row.tas
     ∷ decimal (sum_by (λ run. run.count) row.content) ∷ digest_text bytes size row.content ∷ [])
 
 -- task, segment, instant, live blocks and digest
+abbrev pub segment_fields : List (List ℕ) → SegmentRow → List ℕ → List (List ℕ)
+segment_fields names row digest = task_text names row.task ∷ decimal row.segment ∷ decimal row.instant ∷ decimal row.live ∷ digest ∷ []
+
+-- the line of a cleaned segment
 abbrev pub segment_line : List (List ℕ) → ℕ → Bytes → SegmentRow → List ℕ
-segment_line names size bytes row = line_of (codes "seg") (task_text names row.task ∷ decimal row.segment ∷ decimal row.instant
-    ∷ decimal row.live ∷ digest_text bytes size row.content ∷ [])
+segment_line names size bytes row = line_of (codes "seg") (segment_fields names row (digest_text bytes size row.content))
 
 abbrev pub is_complete_text : Bool → List ℕ
 is_complete_text complete = if complete then codes "complete" else codes "open"
 
 -- task, kind, how many blocks are registered, delivered, aborted and left, and whether it is complete
+abbrev pub task_fields : List (List ℕ) → TaskRow → List (List ℕ)
+task_fields names row = task_text names row.task ∷ task_kind_text row.kind ∷ decimal row.registered ∷ decimal row.delivered ∷ decimal row.aborted
+    ∷ decimal (row.registered - row.delivered - row.aborted) ∷ is_complete_text row.complete ∷ []
+
+-- the line of a task at the end
 abbrev pub task_line : List (List ℕ) → TaskRow → List ℕ
-task_line names row = line_of (codes "task") (task_text names row.task ∷ task_kind_text row.kind ∷ decimal row.registered ∷ decimal row.delivered ∷ decimal row.aborted
-    ∷ decimal (row.registered - row.delivered - row.aborted) ∷ is_complete_text row.complete ∷ [])
+task_line names row = line_of (codes "task") (task_fields names row)
 
 -- task and LBN
 abbrev pub bad_line : List (List ℕ) → BadRow → List ℕ

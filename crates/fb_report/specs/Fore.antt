@@ -19,11 +19,14 @@ row_bytes size bytes row = if row.request.write then codes "-" else shown bytes 
 abbrev pub bad_count : ForeRow → ℕ
 bad_count row = if row.request.write then 0 else row.bad
 
--- name, kind, first LBN, count, arrival, start, media, finish, bad sectors and bytes
+-- kind, first LBN, count, arrival, start, media, finish, bad sectors and the bytes found
+abbrev pub row_fields : ForeRow → List ℕ → List (List ℕ)
+row_fields row found = kind_text row.request.write ∷ decimal row.request.lbn ∷ decimal row.request.count ∷ decimal row.request.arrival
+    ∷ decimal row.start ∷ decimal row.media ∷ decimal row.finish ∷ decimal (bad_count row) ∷ found ∷ []
+
+-- the name, and then the fields of the row
 abbrev pub fore_line : ℕ → Bytes → ForeRow → List ℕ
-fore_line size bytes row = line_of (name_text row.request.name)
-    (kind_text row.request.write ∷ decimal row.request.lbn ∷ decimal row.request.count ∷ decimal row.request.arrival
-    ∷ decimal row.start ∷ decimal row.media ∷ decimal row.finish ∷ decimal (bad_count row) ∷ row_bytes size bytes row ∷ [])
+fore_line size bytes row = line_of (name_text row.request.name) (row_fields row (row_bytes size bytes row))
 
 abbrev pub first_line : List ℕ
 first_line = line_of (codes "freeblock") (codes "fore" ∷ codes "1" ∷ [])

@@ -1,7 +1,7 @@
 // The lines of the background's rows.
 ghost use Rattle.std.specs.Prelude.{◌≡◌, ◌<◌, ◌%◌, length, OnOk, IfOk};
 ghost use Rattle.fb_report.specs.Lines.{with_fields};
-ghost use Rattle.fb_report.specs.Back.{back_line, bad_line, complete_line, gap_line, got_line, how_text, idle_line, is_complete_text, plan_fields, seal_line, segment_line, task_kind_text, task_line};
+ghost use Rattle.fb_report.specs.Back.{back_line, bad_line, complete_line, gap_fields, gap_line, got_fields, got_line, how_text, idle_line, is_complete_text, plan_fields, seal_line, segment_fields, segment_line, task_fields, task_kind_text, task_line};
 ghost use Rattle.fb_rows.specs.Ranges.{AreRanges, HasBackRanges};
 ghost use Rattle.fb_rows.specs.Tasks.{HasNamedTask};
 
@@ -45,13 +45,19 @@ fn gap_line(alloc: Global, row: &GapRow) -> Result<Vec<u8>, NoMemory>
     ensures { IfOk result (λ line. line.items ≡ gap_line row.now) }
 {
     let mut line = Line::new(alloc, b"gap")?;
+    push_gap(&mut line, row)?;
+    line.end()
+}
+
+fn push_gap(line: &mut Line, row: &GapRow) -> Result<(), NoMemory>
+    ensures { OnOk result (line.new ≡ with_fields line.old (gap_fields row.now)) }
+{
     line.name(row.name)?;
     line.track(row.gap.source)?;
     line.track(row.gap.target)?;
     line.number(row.gap.now)?;
     line.number(row.gap.deadline)?;
-    push_plan(&mut line, row.plan)?;
-    line.end()
+    push_plan(line, row.plan)
 }
 
 fn push_plan(line: &mut Line, plan: Plan) -> Result<(), NoMemory>
@@ -94,6 +100,20 @@ fn got_line(
 {
     let found = shown(alloc, &row.content, sector_bytes, bytes)?;
     let mut line = Line::new(alloc, b"got")?;
+    push_delivery(&mut line, row, names, found.as_slice())?;
+    line.end()
+}
+
+// Adds the fields of a delivery, with the bytes that it found.
+fn push_delivery(
+    line: &mut Line,
+    row: &DeliveryRow,
+    names: &Names,
+    found: &[u8],
+) -> Result<(), NoMemory>
+    requires named { row.now.block.task < length names.now }
+    ensures { OnOk result (line.new ≡ with_fields line.old (got_fields names.now row.now found.now)) }
+{
     line.task(names, row.block.task)?;
     line.number(row.block.index as u64)?;
     line.number(row.block.lbn)?;
@@ -102,8 +122,7 @@ fn got_line(
     line.number(row.end)?;
     line.word(how(row.how))?;
     line.number(row.bad as u64)?;
-    line.word(found.as_slice())?;
-    line.end()
+    line.word(found)
 }
 
 fn how(how: How) -> &'static [u8]
@@ -161,12 +180,25 @@ fn segment_line(
 {
     let digest = shown_digest(alloc, &row.content, sector_bytes, bytes)?;
     let mut line = Line::new(alloc, b"seg")?;
+    push_segment(&mut line, row, names, digest.as_slice())?;
+    line.end()
+}
+
+// Adds the fields of a segment, with the digest of its contents.
+fn push_segment(
+    line: &mut Line,
+    row: &SegmentRow,
+    names: &Names,
+    digest: &[u8],
+) -> Result<(), NoMemory>
+    requires named { row.now.task < length names.now }
+    ensures { OnOk result (line.new ≡ with_fields line.old (segment_fields names.now row.now digest.now)) }
+{
     line.task(names, row.task)?;
     line.number(row.segment as u64)?;
     line.number(row.instant)?;
     line.number(row.live as u64)?;
-    line.word(digest.as_slice())?;
-    line.end()
+    line.word(digest)
 }
 
 fn complete_line(alloc: Global, row: &CompleteRow, names: &Names) -> Result<Vec<u8>, NoMemory>
@@ -183,19 +215,26 @@ fn task_line(alloc: Global, row: &TaskRow, names: &Names) -> Result<Vec<u8>, NoM
     requires named { row.now.task < length names.now }
     ensures { IfOk result (λ line. line.items ≡ task_line names.now row.now) }
 {
+    let mut line = Line::new(alloc, b"task")?;
+    push_task(&mut line, row, names)?;
+    line.end()
+}
+
+fn push_task(line: &mut Line, row: &TaskRow, names: &Names) -> Result<(), NoMemory>
+    requires named { row.now.task < length names.now }
+    ensures { OnOk result (line.new ≡ with_fields line.old (task_fields names.now row.now)) }
+{
     let left = row
         .registered
         .saturating_sub(row.delivered)
         .saturating_sub(row.aborted);
-    let mut line = Line::new(alloc, b"task")?;
     line.task(names, row.task)?;
     line.word(kind(row.kind))?;
     line.number(row.registered as u64)?;
     line.number(row.delivered as u64)?;
     line.number(row.aborted as u64)?;
     line.number(left as u64)?;
-    line.word(if_complete(row.complete))?;
-    line.end()
+    line.word(if_complete(row.complete))
 }
 
 fn kind(kind: Kind) -> &'static [u8]

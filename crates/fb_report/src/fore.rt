@@ -1,8 +1,9 @@
 // The foreground report.
-ghost use Rattle.std.specs.Prelude.{◌≡◌, ℕ, ◌+◌, ◌%◌, ◌<◌, length, Some, IfOk, slice_get};
+ghost use Rattle.std.specs.Prelude.{◌≡◌, ℕ, ◌+◌, ◌%◌, ◌<◌, length, Some, IfOk, OnOk, slice_get};
 ghost use Rattle.std.specs.List.{AllByRecursion};
 ghost use Rattle.fb_report.specs.declared.bytes.Bytes.{Bytes};
-ghost use Rattle.fb_report.specs.Fore.{bad_count, kind_text, row_bytes, fore_line, first_line, last_line, fore_lines, fore_text};
+ghost use Rattle.fb_report.specs.Lines.{with_fields};
+ghost use Rattle.fb_report.specs.Fore.{bad_count, kind_text, row_bytes, row_fields, fore_line, first_line, last_line, fore_lines, fore_text};
 ghost use Rattle.fb_rows.specs.Ranges.{HasRanges};
 
 use crate::Bytes;
@@ -95,9 +96,17 @@ fn fore_line(
     ensures { IfOk result (λ line. line.items ≡ fore_line sector_bytes bytes row.now) }
 {
     let found = row_bytes(alloc, row, sector_bytes, bytes)?;
+    let mut line = Line::named(alloc, row.request.name)?;
+    push_row(&mut line, row, found.as_slice())?;
+    line.end()
+}
+
+// Adds the fields of a row behind its name, with the bytes that it found.
+fn push_row(line: &mut Line, row: &ForeRow, found: &[u8]) -> Result<(), NoMemory>
+    ensures { OnOk result (line.new ≡ with_fields line.old (row_fields row.now found.now)) }
+{
     let count = row.request.count;
     let bad = bad_count(row);
-    let mut line = Line::named(alloc, row.request.name)?;
     line.word(kind(row.request.write))?;
     line.number(row.request.lbn)?;
     line.number(count as u64)?;
@@ -106,8 +115,7 @@ fn fore_line(
     line.number(row.media)?;
     line.number(row.finish)?;
     line.number(bad as u64)?;
-    line.word(found.as_slice())?;
-    line.end()
+    line.word(found)
 }
 
 // How many sectors of a read could not be read.

@@ -1,5 +1,5 @@
 // The summary of a run.
-ghost use Rattle.std.specs.Prelude.{◌≡◌, ◌≤◌, ◌-◌, ◌++◌, cond, max, map, length, decimal, OnOk, IfOk};
+ghost use Rattle.std.specs.Prelude.{◌≡◌, [], ◌≤◌, ◌-◌, ◌++◌, cond, max, map, length, decimal, OnOk, IfOk};
 ghost use Rattle.std.specs.List.{count_by, filter_map, fold, sum_by};
 ghost use Rattle.fb_report.specs.Lines.{line_of};
 ghost use Rattle.fb_report.specs.Summary.{delivery_in, gap_in, summary_text, task_in};
@@ -14,27 +14,36 @@ use std::alloc::Global;
 pub fn summary_text(alloc: Global, run: &Run) -> Result<Vec<u8>, NoMemory>
     ensures { IfOk result (λ text. text.items ≡ summary_text run.now) }
 {
+    let mut text = Vec::new(alloc);
+    push_lines(alloc, &mut text, run)?;
+    Ok(text)
+}
+
+// Adds the lines of the summary to an empty text.
+fn push_lines(alloc: Global, text: &mut Vec<u8>, run: &Run) -> Result<(), NoMemory>
+    requires { text.old.items ≡ [] }
+    ensures { OnOk result (text.new.items ≡ summary_text run.now) }
+{
     let served = Served::of(&run.fore);
     let gaps = gaps(&run.back);
     let delivered = Delivered::of(&run.back);
     let tasks = Tasks::of(&run.back);
-    let mut text = Vec::new(alloc);
-    push_line(alloc, &mut text, b"requests", &[run.fore.len() as u128])?;
-    push_line(alloc, &mut text, b"passed", &[run.passed_over as u128])?;
-    push_line(alloc, &mut text, b"sectors", &[served.sectors])?;
-    push_line(alloc, &mut text, b"finish", &[served.finish as u128])?;
-    push_line(alloc, &mut text, b"response", &[served.response])?;
-    push_line(alloc, &mut text, b"gaps", &[gaps])?;
+    push_line(alloc, text, b"requests", &[run.fore.len() as u128])?;
+    push_line(alloc, text, b"passed", &[run.passed_over as u128])?;
+    push_line(alloc, text, b"sectors", &[served.sectors])?;
+    push_line(alloc, text, b"finish", &[served.finish as u128])?;
+    push_line(alloc, text, b"response", &[served.response])?;
+    push_line(alloc, text, b"gaps", &[gaps])?;
     push_line(
         alloc,
-        &mut text,
+        text,
         b"delivered",
         &[delivered.blocks, delivered.sectors],
     )?;
-    push_line(alloc, &mut text, b"bad", &[delivered.bad])?;
-    push_line(alloc, &mut text, b"complete", &[tasks.complete, tasks.all])?;
-    push_line(alloc, &mut text, b"end", &[run.end as u128])?;
-    Ok(text)
+    push_line(alloc, text, b"bad", &[delivered.bad])?;
+    push_line(alloc, text, b"complete", &[tasks.complete, tasks.all])?;
+    push_line(alloc, text, b"end", &[run.end as u128])?;
+    Ok(())
 }
 
 // Adds a line of figures under their name.

@@ -3,7 +3,7 @@ use Rattle.std.specs.List.{count_by, filter_map, sum_by}
 use Rattle.fb_report.specs.Lines.{line_of}
 use Rattle.fb_report.specs.Summary.{delivery_in, gap_in, last_finish, summary_lines, task_in}
 use Rattle.fb_report.proofs.Sums.{ten_lines}
-use Rattle.fb_report.proofs.summary.summary_text.Goals as goal
+use Rattle.fb_report.proofs.summary.push_lines.Goals as goal
 
 pub returns : goal.returns
 unfolding summary_lines
@@ -23,7 +23,7 @@ returns c =
     (line_of (codes "complete") (decimal (count_by (λ row. row.complete) tasks) ∷ decimal (length tasks) ∷ []))
     (line_of (codes "end") (decimal run.end ∷ []))
     c.push_line.new.text.items c.push_line-2.new.text.items c.push_line-3.new.text.items c.push_line-4.new.text.items c.push_line-5.new.text.items c.push_line-6.new.text.items c.push_line-7.new.text.items c.push_line-8.new.text.items c.push_line-9.new.text.items c.push_line-10.new.text.items
-    (c.in_ok-push_line.ensures ∙ ap (λ x. c.new-text.result.items ++ line_of (codes "requests") (decimal x ∷ [])) c.len.ensures.value ∙ ap (λ xs. xs ++ line_of (codes "requests") (decimal (length run.fore) ∷ [])) c.new-text.ensures.items)
+    (c.in_ok-push_line.ensures ∙ ap (λ x. c.args.text.now.items ++ line_of (codes "requests") (decimal x ∷ [])) c.len.ensures.value ∙ ap (λ xs. xs ++ line_of (codes "requests") (decimal (length run.fore) ∷ [])) c.requires)
     c.in_ok-push_line-2.ensures
     (c.in_ok-push_line-3.ensures ∙ ap (λ x. c.push_line-2.new.text.items ++ line_of (codes "sectors") (decimal x ∷ [])) c.of-served.ensures.sectors)
     (c.in_ok-push_line-4.ensures ∙ ap (λ x. c.push_line-3.new.text.items ++ line_of (codes "finish") (decimal x ∷ [])) c.of-served.ensures.finish)
