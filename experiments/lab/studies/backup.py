@@ -24,9 +24,10 @@ class Writes(NamedTuple):
     hot: bool = False
 
 
-RUNS = {"0": Writes(0.0), "1": Writes(0.01), "5": Writes(0.05), "33": Writes(1 / 3), "33-hot": Writes(1 / 3, True)}
+RUNS = {"0": Writes(0.0), "1": Writes(0.01), "5": Writes(0.05), "33": Writes(1 / 3), "33-hot": Writes(1 / 3, True),
+        "100": Writes(1.0)}
 LABELS = {"0": "no writes", "1": "1 % writes", "5": "5 % writes", "33": "33 % writes",
-          "33-hot": "33 % writes, nine tenths of\nall requests to a tenth"}
+          "33-hot": "33 % writes, nine tenths of\nall requests to a tenth", "100": "writes only"}
 
 
 class Progress(NamedTuple):
@@ -114,23 +115,22 @@ def draw(table: list[dict[str, Any]], path: str) -> None:
     from lab.drawing import AMBER, GREEN, RED, panels, save
 
     looks = {"0": ("#222222", "-", "o"), "1": (GREEN, "--", "s"), "5": (AMBER, "-.", "^"), "33": (RED, ":", "D"),
-             "33-hot": ("#2f6fc0", (0, (5, 1)), "v")}
+             "33-hot": ("#2f6fc0", (0, (5, 1)), "v"), "100": ("#7a5a9a", (0, (1, 1)), "x")}
     figure, (left, again) = panels(1, 2, 4.2)
     for run, (colour, dashes, marker) in looks.items():
         lines = [line for line in table if str(line["run"]) == run]
         style = {"color": colour, "ls": dashes, "marker": marker, "markevery": 3}
         sealed = next((at for at, line in enumerate(lines) if line["sealed"]), len(lines) - 1)
         shown = lines[:sealed + 1]
-        left.plot([line["second"] for line in shown], [max(line["left %"], 0.01) for line in shown], **style,
-                  label=LABELS[run])
+        left.plot([line["second"] for line in shown], [max(line["left %"], 0.01) for line in shown], **style)
         if lines[sealed]["sealed"]:
             left.plot(lines[sealed]["second"], 0.01, marker="*", ms=13, color=colour, clip_on=False, zorder=5)
-        again.plot([line["second"] for line in shown], [line["read again %"] for line in shown], **style)
+        again.plot([line["second"] for line in shown], [line["read again %"] for line in shown], **style, label=LABELS[run])
     left.set_yscale("log")
     left.set_ylim(0.01, 120)
     left.set_ylabel("percent of the blocks left\n(a star: sealed)")
     again.set_ylabel("blocks read again, in percent of all")
-    left.legend(loc="lower left", fontsize=8)
+    again.legend(loc="upper left", fontsize=8)
     for panel in (left, again):
         panel.set_xlabel("time (seconds)")
     save(figure, path)
