@@ -45,13 +45,13 @@ def run_all(study: Study, jobs: int, part: float) -> list[Line]:
 
 
 def tidy(study: Study, lines: Iterable[Line]) -> list[Line]:
-    """Lines of all runs in the order of the runs; refuses what isn't of this study or isn't whole."""
+    """Lines of all runs in the order of the runs; says of which there are none."""
     by_run: dict[str, list[Line]] = {run: [] for run in study.runs}
     for line in lines:
         by_run[line["run"]].append(line)
     missing = [run for run, of_run in by_run.items() if not of_run]
     if missing:
-        raise KeyError(f"no lines of the runs {', '.join(missing)}")
+        print(f"{study.name}: no lines of {', '.join(missing)}", file=sys.stderr)
     return [line for of_run in by_run.values() for line in of_run]
 
 

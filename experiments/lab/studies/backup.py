@@ -117,7 +117,8 @@ def draw(table: list[dict[str, Any]], path: str) -> None:
     looks = {"0": ("#222222", "-", "o"), "1": (GREEN, "--", "s"), "5": (AMBER, "-.", "^"), "33": (RED, ":", "D"),
              "33-hot": ("#2f6fc0", (0, (5, 1)), "v"), "100": ("#7a5a9a", (0, (1, 1)), "x")}
     figure, (left, again) = panels(1, 2, 4.2)
-    for run, (colour, dashes, marker) in looks.items():
+    there = {str(line["run"]) for line in table}
+    for run, (colour, dashes, marker) in ((run, look) for run, look in looks.items() if run in there):
         lines = [line for line in table if str(line["run"]) == run]
         style = {"color": colour, "ls": dashes, "marker": marker, "markevery": 3}
         sealed = next((at for at, line in enumerate(lines) if line["sealed"]), len(lines) - 1)

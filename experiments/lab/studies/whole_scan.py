@@ -51,7 +51,8 @@ def draw(table: list[dict[str, Any]], path: str) -> None:
     from lab.drawing import LOOKS, panels, save
 
     figure, (over_time, by_left) = panels(1, 2, 4.2)
-    for run, label in LABELS.items():
+    there = {line["run"] for line in table}
+    for run, label in ((run, label) for run, label in LABELS.items() if run in there):
         lines = [line for line in table if line["run"] == run]
         look = dict(LOOKS[run.split("-")[0]], markevery=5)
         if run == "fcfs-2-hot":
