@@ -9,7 +9,7 @@ ghost use Rattle.fb_top.specs.Read.{files_of, inputs_of, key_of};
 use crate::reading::ReplayFiles;
 use fb_detour::IndexedPlanner;
 use fb_engine::replay;
-use fb_fastq::{ClookMap, FcfsRing, SptfBuckets, SstfMap};
+use fb_fastq::{ClookMap, FcfsRing, SptfLanes, SstfMap};
 use fb_queue::Queue;
 use fb_rows::Run;
 use fb_units::{NoMemory, Ns};
@@ -32,7 +32,7 @@ pub fn replay_by(
         Policy::Fcfs => replay_in(alloc, FcfsRing::new(alloc), files, until),
         Policy::Sstf => replay_in(alloc, SstfMap::new(alloc), files, until),
         Policy::Clook => replay_in(alloc, ClookMap::new(alloc), files, until),
-        Policy::Sptf => replay_in(alloc, SptfBuckets::new(alloc), files, until),
+        Policy::Sptf => replay_in(alloc, SptfLanes::new(alloc), files, until),
     }
 }
 
