@@ -19,6 +19,7 @@ use Rattle.fb_model.specs.History.{Past, wanted, state, registered}
 use Rattle.fb_model.specs.Course.{Part, settled_past}
 use Rattle.fb_model.specs.Rides.{gap_of, due, delivery, is_before, placed, in_order, caught, missed, lies_in, rides, due_in_gap, begin_at, end_at}
 use Rattle.fb_model.specs.SoundRun.{IsSublist, none, left_out, taken, IsDelivered}
+use Rattle.fb_model.proofs.Lists.{all_weaker, all_append, all_filter}
 
 -- a row has the bytes of its beginning
 pub record HasBytes (medium : Medium) (row : DeliveryRow) : Type 0 where
@@ -184,22 +185,6 @@ IsDueRow medium (serves served) plan Q row = IsCaughtIn medium ByGap (early_dwel
 IsDueRow medium (idles dwell) plan Q row = IsCaughtIn medium ByIdle dwell Q row
 IsDueRow medium (ends now) plan Q row = ⊥
 
-all_kept : (Q : Block → Type 0) (b : Bool) (block : Block) (xs : List Block) → Q block → AllByRecursion Q xs → AllByRecursion Q (cond b (block ∷ xs) xs)
-all_kept Q true block xs q qs = (q, qs)
-all_kept Q false block xs q qs = qs
-
-all_passing : (Q : Block → Type 0) (test : Block → Bool) (blocks : List Block) → AllByRecursion Q blocks → AllByRecursion Q (filter test blocks)
-all_passing Q test [] qs = tt
-all_passing Q test (block ∷ blocks) qs = all_kept Q (test block) block (filter test blocks) qs.0 (all_passing Q test blocks qs.1)
-
-all_weaker : (P R : DeliveryRow → Type 0) → ((row : DeliveryRow) → P row → R row) → (rows : List DeliveryRow) → AllByRecursion P rows → AllByRecursion R rows
-all_weaker P R f [] ps = tt
-all_weaker P R f (row ∷ rows) ps = (f row ps.0, all_weaker P R f rows ps.1)
-
-all_both : (P : DeliveryRow → Type 0) (xs ys : List DeliveryRow) → AllByRecursion P xs → AllByRecursion P ys → AllByRecursion P (xs ++ ys)
-all_both P [] ys ps qs = qs
-all_both P (x ∷ xs) ys ps qs = (ps.0, all_both P xs ys ps.1 qs)
-
 all_some : (P : DeliveryRow → Type 0) {xs ys : List DeliveryRow} → IsSublist xs ys → AllByRecursion P ys → AllByRecursion P xs
 all_some P none ps = ps
 all_some P (left_out p) ps = all_some P p ps.1
@@ -215,10 +200,10 @@ due_true medium (serves served) plan Q wanted qs =
     let late = late_dwell medium.disk gap plan in
     let left = missed medium.disk early wanted in
     let last = missed medium.disk late left in
-    let left_all = all_passing Q (λ block. not (catches medium.disk early block)) wanted qs in
-    let last_all = all_passing Q (λ block. not (catches medium.disk late block)) left left_all in
-    all_both (IsDueRow medium (serves served) plan Q) (caught medium ByGap early wanted ++ caught medium ByGap late left) (rides medium served last)
-    (all_both (IsDueRow medium (serves served) plan Q) (caught medium ByGap early wanted) (caught medium ByGap late left)
+    let left_all = all_filter Q (λ block. not (catches medium.disk early block)) wanted qs in
+    let last_all = all_filter Q (λ block. not (catches medium.disk late block)) left left_all in
+    all_append (IsDueRow medium (serves served) plan Q) (caught medium ByGap early wanted ++ caught medium ByGap late left) (rides medium served last)
+    (all_append (IsDueRow medium (serves served) plan Q) (caught medium ByGap early wanted) (caught medium ByGap late left)
     (all_weaker (IsCaughtIn medium ByGap early Q) (IsDueRow medium (serves served) plan Q) (λ row p. inl p) (caught medium ByGap early wanted) (caught_true medium ByGap early Q wanted qs))
     (all_weaker (IsCaughtIn medium ByGap late Q) (IsDueRow medium (serves served) plan Q) (λ row p. inr (inl p)) (caught medium ByGap late left) (caught_true medium ByGap late Q left left_all)))
     (all_weaker (IsCarriedBy medium served Q) (IsDueRow medium (serves served) plan Q) (λ row p. inr (inr p)) (rides medium served last) (rides_true medium served Q last last_all))

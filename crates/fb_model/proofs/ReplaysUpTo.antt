@@ -53,8 +53,8 @@ record IsSameTurn (t : ℕ) (a b : Served) (others_a others_b : List Request) : 
   pub others : filter (has_arrived t) others_a ≡ filter (has_arrived t) others_b
 
 module _ (t : ℕ) (disk : Disk) (key : Key) where
-  no_later : (head : Track) (now : ℕ) (left_a left_b : List Request) (a b : ℕ) → filter (has_arrived t) left_a ≡ filter (has_arrived t) left_b → a ≤ t → IsReadyAt now left_a a → IsReadyAt now left_b b → b ≤ a
-  no_later head now left_a left_b a b same h ready_a ready_b = ready_b.first a ready_a.from (any_same t a left_a left_b h same ready_a.arrived)
+  no_later : (now : ℕ) (left_a left_b : List Request) (a b : ℕ) → filter (has_arrived t) left_a ≡ filter (has_arrived t) left_b → a ≤ t → IsReadyAt now left_a a → IsReadyAt now left_b b → b ≤ a
+  no_later now left_a left_b a b same h ready_a ready_b = ready_b.first a ready_a.from (any_same t a left_a left_b h same ready_a.arrived)
 
   turn_ready : (head : Track) (now : ℕ) (left others : List Request) (served : Served) → Rises left → IsTurn disk key head now left served others → IsReadyAt now left served.start
   turn_ready head now left others served rises turn = turn_start (key disk head served.start) now served.start left others served.request rises turn.start turn.pick
@@ -64,8 +64,8 @@ module _ (t : ℕ) (disk : Disk) (key : Key) where
   same_turn head now left_a left_b others_a others_b a b same rises_a rises_b turn_a turn_b h =
       let ready_a = turn_ready head now left_a others_a a rises_a turn_a in
       let ready_b = turn_ready head now left_b others_b b rises_b turn_b in
-      let back = no_later head now left_a left_b a.start b.start same h ready_a ready_b in
-      let on = no_later head now left_b left_a b.start a.start (sym same) (omega arith) ready_b ready_a in
+      let back = no_later now left_a left_b a.start b.start same h ready_a ready_b in
+      let on = no_later now left_b left_a b.start a.start (sym same) (omega arith) ready_b ready_a in
       let start : a.start ≡ b.start = omega arith in
       let first_a = one_pick (key disk head a.start) a.start (filter (has_arrived t) left_a) (filter (has_arrived t) others_a) a.request (ready_kept t a.start (key disk head a.start) left_a others_a a.request h turn_a.pick) in
       let pick_b : IsFirstReady (key disk head a.start) a.start left_b b.request others_b = subst (λ u. IsFirstReady (key disk head u) u left_b b.request others_b) (sym start) turn_b.pick in
@@ -121,25 +121,25 @@ module _ (t : ℕ) (disk : Disk) (key : Key) where
         absurd (true≢false (sym some ∙ ap (list_any (has_arrived b.start)) none))
   ]
 
-  all_alike : (head : Track) (now : ℕ) (left_a left_b : List Request) (xs ys : List Served) → filter (has_arrived t) left_a ≡ filter (has_arrived t) left_b → Rises left_a → Rises left_b
+  pub alike_turns : (head : Track) (now : ℕ) (left_a left_b : List Request) (xs ys : List Served) → filter (has_arrived t) left_a ≡ filter (has_arrived t) left_b → Rises left_a → Rises left_b
       → AreTurns disk key head now left_a xs → AreTurns disk key head now left_b ys → AreAlike t now xs ys
-  all_alike head now left_a left_b [] [] same rises_a rises_b turns_a turns_b = record { done = max t now; from = omega arith; after = omega arith; alike = rest tt tt }
-  all_alike head now left_a left_b [] (b ∷ ys) same rises_a rises_b turns_a turns_b = record {
+  alike_turns head now left_a left_b [] [] same rises_a rises_b turns_a turns_b = record { done = max t now; from = omega arith; after = omega arith; alike = rest tt tt }
+  alike_turns head now left_a left_b [] (b ∷ ys) same rises_a rises_b turns_a turns_b = record {
     done = max t now;
     from = omega arith;
     after = omega arith;
     alike = rest tt (all_behind head now left_b b ys turns_b (none_come head now left_a left_b b ys turns_a same rises_b turns_b));
   }
-  all_alike head now left_a left_b (a ∷ xs) [] same rises_a rises_b turns_a turns_b = record {
+  alike_turns head now left_a left_b (a ∷ xs) [] same rises_a rises_b turns_a turns_b = record {
     done = max t now;
     from = omega arith;
     after = omega arith;
     alike = rest (all_behind head now left_a a xs turns_a (none_come head now left_b left_a a xs turns_b (sym same) rises_a turns_a)) tt;
   }
-  all_alike head now left_a left_b (a ∷ xs) (b ∷ ys) same rises_a rises_b turns_a turns_b = elim (cases_lt t a.start) [
+  alike_turns head now left_a left_b (a ∷ xs) (b ∷ ys) same rises_a rises_b turns_a turns_b = elim (cases_lt t a.start) [
     | inr by ↦
         let turn = same_turn t disk key head now left_a left_b turns_a.0 turns_b.0 a b same rises_a rises_b turns_a.1 turns_b.1 by in
-        let later = all_alike (last_track disk a) (finish a) turns_a.0 turns_b.0 xs ys turn.others
+        let later = alike_turns (last_track disk a) (finish a) turns_a.0 turns_b.0 xs ys turn.others
         (rest_rises (key disk head a.start) a.start left_a turns_a.0 a.request turns_a.1.pick rises_a)
         (rest_rises (key disk head b.start) b.start left_b turns_b.0 b.request turns_b.1.pick rises_b)
         turns_a.2 (subst (λ (s : Served). AreTurns disk key (last_track disk s) (finish s) turns_b.0 ys) (sym turn.served) turns_b.2) in
@@ -163,7 +163,3 @@ module _ (t : ℕ) (disk : Disk) (key : Key) where
       ]));
     }
   ]
-
-pub alike_turns : (t : ℕ) (disk : Disk) (key : Key) (head : Track) (now : ℕ) (left_a left_b : List Request) (xs ys : List Served) → filter (has_arrived t) left_a ≡ filter (has_arrived t) left_b
-    → Rises left_a → Rises left_b → AreTurns disk key head now left_a xs → AreTurns disk key head now left_b ys → AreAlike t now xs ys
-alike_turns t disk key head now left_a left_b xs ys same rises_a rises_b turns_a turns_b = all_alike t disk key head now left_a left_b xs ys same rises_a rises_b turns_a turns_b

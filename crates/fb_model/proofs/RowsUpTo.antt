@@ -113,6 +113,10 @@ module _ (t : ℕ) (medium : Medium) where
 
 -- ---- tests by then give the same rows where the disk holds the same
 
+-- the delivery begins and ends by then
+abbrev pub IsOver : ℕ → DeliveryRow → Type 0
+IsOver done row = (row.begin ≤ done) × (row.end ≤ done)
+
 module _ (done : ℕ) (a b : Medium) (same : HoldSame done a b) where
   same_packed : (past : Past) (choice : Choice) → AreFine (HasBegun done) past → packed a past choice ≡ packed b past choice
   same_packed past choice fine = ap runs_of (same_flat_map (λ (block : Block). contents_at a block.lbn block.count (delivery_begin past block)) (λ (block : Block). contents_at b block.lbn block.count (delivery_begin past block))
@@ -139,15 +143,11 @@ module _ (done : ℕ) (a b : Medium) (same : HoldSame done a b) where
       (same_flat_map (λ task. seal_rows (on_disk a) past now task ++ complete_rows past now task) (λ task. seal_rows (on_disk b) past now task ++ complete_rows past now task)
       (λ task. ap (λ rows. rows ++ complete_rows past now task) (same_seals past now task h)) (task_numbers past))
 
-  -- the delivery begins and ends by then
-  abbrev pub IsOver : DeliveryRow → Type 0
-  IsOver row = (row.begin ≤ done) × (row.end ≤ done)
-
-  same_after : (past : Past) (got : DeliveryRow) → AreFine (HasBegun done) past → IsOver got
+  same_after : (past : Past) (got : DeliveryRow) → AreFine (HasBegun done) past → IsOver done got
       → findings past got ++ test_rows (on_disk a) (delivered got ∷ past) got.end ≡ findings past got ++ test_rows (on_disk b) (delivered got ∷ past) got.end
   same_after past got fine over = ap (λ rows. findings past got ++ rows) (same_tests (delivered got ∷ past) got.end (over.0, fine) over.1)
 
-  pub same_followed : (past : Past) (deliveries : List Delivery) → AreFine (HasBegun done) past → AllByRecursion IsOver (gots deliveries) → AreFollowed b past deliveries → AreFollowed a past deliveries
+  pub same_followed : (past : Past) (deliveries : List Delivery) → AreFine (HasBegun done) past → AllByRecursion (IsOver done) (gots deliveries) → AreFollowed b past deliveries → AreFollowed a past deliveries
   same_followed past [] fine over followed = tt
   same_followed past (d ∷ ds) fine over followed = (followed.0 ∙ sym (same_after past d.got fine over.0), same_followed (with_delivery past d) ds (tt, (over.0.0, fine)) over.1 followed.1)
 
@@ -193,7 +193,7 @@ module _ (t done : ℕ) (since : t ≤ done) (a b : Medium) (same : HoldSame don
               let both : x.got ∷ filter (ends_by_then t) (gots xs) ≡ y.got ∷ filter (ends_by_then t) (gots ys) = rw by_y at kept in
               let got = same_first x.got y.got (filter (ends_by_then t) (gots xs)) (filter (ends_by_then t) (gots ys)) both in
               let end : x.got.end ≤ t = is_by x.got.end t by_x in
-              let over : IsOver done a b same x.got = (let from = order.0 in omega arith, omega arith) in
+              let over : IsOver done x.got = (let from = order.0 in omega arith, omega arith) in
               let after : x.after ≡ y.after = follow_x.0 ∙ (same_after done a b same past x.got fine over
               ∙ (ap (λ got. findings past got ++ test_rows (on_disk b) (delivered got ∷ past) got.end) got ∙ sym follow_y.0)) in
               let one : x ≡ y = ap₂ (λ got after. record { got = got; after = after }) got after in
