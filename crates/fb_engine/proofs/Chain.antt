@@ -13,7 +13,7 @@ use Rattle.fb_model.specs.Inputs.{Inputs, requests, served}
 use Rattle.fb_model.specs.Decisions.{Decision, serves, idles, ends, among, instants_of, idle_until, last_decision, decisions_from, decisions}
 use Rattle.fb_model.specs.Laws.{IsFirstReady, IsReadyPickOf}
 use Rattle.fb_model.proofs.Picks.{ready_pick}
-use Rattle.fb_engine.proofs.Passed.{all_weaker}
+use Rattle.fb_decide.proofs.Passed.{all_weaker}
 
 -- ---- a chain
 

@@ -1,116 +1,72 @@
-use Rattle.std.proofs.Common.{length, sym, ap, subst, ◌∙◌}
-use Rattle.fb_rows.specs.Ranges.{HasBackRanges}
+use Rattle.std.proofs.Common.{◌≤◌, ◌^◌, length, ap, subst, sym, ◌∙◌}
+use Rattle.fb_rows.specs.Ranges.{HasRanges, HasBackRanges}
 use Rattle.fb_rows.specs.Tasks.{HasNamedTask}
 use Rattle.fb_calls.specs.Allowed.{tasks}
-use Rattle.fb_model.specs.Foreground.{foreground_list}
-use Rattle.fb_model.specs.Course.{history}
-use Rattle.fb_engine.specs.Waiting.{IsTraceOf}
-use Rattle.fb_engine.proofs.Passed.{all_weaker}
-use Rattle.fb_engine.proofs.FittingRows.{RowFits}
-use Rattle.fb_engine.proofs.Begun.{begins}
-use Rattle.fb_engine.proofs.Looping.{known_inputs, going, over, now_waits, now_come, now_stands, now_early, now_called, come_further, fewer_left}
-use Rattle.fb_engine.proofs.Ended.{is_full, rows_fit}
+use Rattle.std.specs.List.{AllByRecursion}
+use Rattle.fb_decide.specs.Making.{RowFits}
+use Rattle.fb_decide.proofs.Passed.{all_weaker}
+use Rattle.fb_engine.proofs.Ended.{at-first, going, over, one-on, less-by, few, is_full, rows-fit}
 use Rattle.fb_engine.proofs.engine.replay.Goals as goal
+
+pub new-requires-clause-accepted : goal.new-requires-clause-accepted
+new-requires-clause-accepted g c = (c.args.until, c.requires.accepted)
 
 pub loop-goes_on-init : goal.loop-goes_on-init
 loop-goes_on-init g c = record {
-  come =
-      begins _ c.in_ok-course.course (g.Q.Queue.pending c.args.queue) (g.Q.Queue.joined c.args.queue)
-      (known_inputs _ c.requires.accepted c.foreground_lists_ascend.ensures c.disk_is_sound.ensures.sound c.disk_is_sound.ensures.takes_time) c.in_ok-course.ensures c.requires.empty c.requires.fresh;
-  serves = g.met.Q.Queue.serves_any c.args.queue c.args.disk.now c.requires.empty;
+  gone = at-first _ _ _ _ _ (c.in_ok-decider.ensures.made c.args.until c.requires.accepted) c.in_ok-decider.ensures.no_fore c.in_ok-decider.ensures.no_back;
+  serves = c.in_ok-decider.ensures.serves;
 }
 
-pub decide-requires-clause-list : goal.decide-requires-clause-list
-decide-requires-clause-list g c =
-    subst (IsTraceOf c.args.disk.now) (sym (c.as_slice-requests.ensures.value ∙ c.in_ok-requests.ensures ∙ ap (λ trace. foreground_list trace c.args.calls.now.calls.items) c.as_slice.ensures.value))
-    (known_inputs _ c.requires.accepted c.foreground_lists_ascend.ensures c.disk_is_sound.ensures.sound c.disk_is_sound.ensures.takes_time).list
-
-pub decide-requires-clause-waiting : goal.decide-requires-clause-waiting
-decide-requires-clause-waiting g c =
-    now_waits _ c.as_slice-requests.result.now
-    (c.as_slice-requests.ensures.value ∙ c.in_ok-requests.ensures ∙ ap (λ trace. foreground_list trace c.args.calls.now.calls.items) c.as_slice.ensures.value)
-    c.loop-goes_on.course (g.Q.Queue.pending c.loop-goes_on.queue) (g.Q.Queue.joined c.loop-goes_on.queue)
-    (going _ c.loop-goes_on.goes_on c.loop-goes_on.course (g.Q.Queue.pending c.loop-goes_on.queue) (g.Q.Queue.joined c.loop-goes_on.queue) c.loop-goes_on-test.true c.loop-goes_on.invariant.come)
-
-pub decide-requires-clause-come : goal.decide-requires-clause-come
-decide-requires-clause-come g c =
-    now_come _ c.as_slice-requests.result.now
-    (c.as_slice-requests.ensures.value ∙ c.in_ok-requests.ensures ∙ ap (λ trace. foreground_list trace c.args.calls.now.calls.items) c.as_slice.ensures.value)
-    c.loop-goes_on.course (g.Q.Queue.pending c.loop-goes_on.queue) (g.Q.Queue.joined c.loop-goes_on.queue)
-    (going _ c.loop-goes_on.goes_on c.loop-goes_on.course (g.Q.Queue.pending c.loop-goes_on.queue) (g.Q.Queue.joined c.loop-goes_on.queue) c.loop-goes_on-test.true c.loop-goes_on.invariant.come)
-
-pub decide-requires-clause-head : goal.decide-requires-clause-head
-decide-requires-clause-head g c =
-    now_stands _ c.as_slice-requests.result.now
-    (c.as_slice-requests.ensures.value ∙ c.in_ok-requests.ensures ∙ ap (λ trace. foreground_list trace c.args.calls.now.calls.items) c.as_slice.ensures.value)
-    c.loop-goes_on.course (g.Q.Queue.pending c.loop-goes_on.queue) (g.Q.Queue.joined c.loop-goes_on.queue)
-    (going _ c.loop-goes_on.goes_on c.loop-goes_on.course (g.Q.Queue.pending c.loop-goes_on.queue) (g.Q.Queue.joined c.loop-goes_on.queue) c.loop-goes_on-test.true c.loop-goes_on.invariant.come)
-
-pub decide-requires-clause-now : goal.decide-requires-clause-now
-decide-requires-clause-now g c =
-    now_early _ c.as_slice-requests.result.now
-    (c.as_slice-requests.ensures.value ∙ c.in_ok-requests.ensures ∙ ap (λ trace. foreground_list trace c.args.calls.now.calls.items) c.as_slice.ensures.value)
-    c.loop-goes_on.course (g.Q.Queue.pending c.loop-goes_on.queue) (g.Q.Queue.joined c.loop-goes_on.queue)
-    (going _ c.loop-goes_on.goes_on c.loop-goes_on.course (g.Q.Queue.pending c.loop-goes_on.queue) (g.Q.Queue.joined c.loop-goes_on.queue) c.loop-goes_on-test.true c.loop-goes_on.invariant.come)
-    (known_inputs _ c.requires.accepted c.foreground_lists_ascend.ensures c.disk_is_sound.ensures.sound c.disk_is_sound.ensures.takes_time)
-
-pub decide-requires-clause-called : goal.decide-requires-clause-called
-decide-requires-clause-called g c =
-    now_called _ c.as_slice-requests.result.now
-    (c.as_slice-requests.ensures.value ∙ c.in_ok-requests.ensures ∙ ap (λ trace. foreground_list trace c.args.calls.now.calls.items) c.as_slice.ensures.value)
-    c.loop-goes_on.course (g.Q.Queue.pending c.loop-goes_on.queue) (g.Q.Queue.joined c.loop-goes_on.queue)
-    (going _ c.loop-goes_on.goes_on c.loop-goes_on.course (g.Q.Queue.pending c.loop-goes_on.queue) (g.Q.Queue.joined c.loop-goes_on.queue) c.loop-goes_on-test.true c.loop-goes_on.invariant.come)
+pub decide-requires-clause-made : goal.decide-requires-clause-made
+decide-requires-clause-made g c =
+    let gone = going _ _ _ _ _ _ c.loop-goes_on-test.true c.loop-goes_on.invariant.gone in
+    (record { latent = c.args.latent.now; trace = c.args.trace.now.requests.items; passed_over = c.args.trace.now.passed_over }, gone.steps, gone.made)
 
 pub loop-goes_on-preserved : goal.loop-goes_on-preserved
-loop-goes_on-preserved g c = record {
-  come =
-      come_further _ c.as_slice-requests.result.now
-      (c.as_slice-requests.ensures.value ∙ c.in_ok-requests.ensures ∙ ap (λ trace. foreground_list trace c.args.calls.now.calls.items) c.as_slice.ensures.value)
-      c.loop-goes_on.course (g.Q.Queue.pending c.loop-goes_on.queue) (g.Q.Queue.joined c.loop-goes_on.queue)
-      (going _ c.loop-goes_on.goes_on c.loop-goes_on.course (g.Q.Queue.pending c.loop-goes_on.queue) (g.Q.Queue.joined c.loop-goes_on.queue) c.loop-goes_on-test.true c.loop-goes_on.invariant.come)
-      c.in_ok-goes_on.goes_on c.decide.new.course (g.Q.Queue.pending c.decide.new.queue) (g.Q.Queue.joined c.decide.new.queue)
-      (known_inputs _ c.requires.accepted c.foreground_lists_ascend.ensures c.disk_is_sound.ensures.sound c.disk_is_sound.ensures.takes_time)
-      c.in_ok-goes_on.ensures.decided c.in_ok-goes_on.ensures.waiting;
-  serves = c.in_ok-goes_on.ensures.serves;
-}
+loop-goes_on-preserved g c =
+    let gone = going _ _ _ _ _ _ c.loop-goes_on-test.true c.loop-goes_on.invariant.gone in
+    record {
+      gone = one-on _ _ _ _ _ _ _ _ _ _ gone (ap (λ v. v.items) c.in_ok-goes_on.ensures.requests)
+          (c.in_ok-goes_on.ensures.decided (record { latent = c.args.latent.now; trace = c.args.trace.now.requests.items; passed_over = c.args.trace.now.passed_over }) gone.steps gone.made);
+      serves = c.in_ok-goes_on.ensures.serves;
+    }
 
 pub loop-goes_on-smaller : goal.loop-goes_on-smaller
 loop-goes_on-smaller g c =
-    fewer_left _ c.as_slice-requests.result.now
-    (c.as_slice-requests.ensures.value ∙ c.in_ok-requests.ensures ∙ ap (λ trace. foreground_list trace c.args.calls.now.calls.items) c.as_slice.ensures.value)
-    c.loop-goes_on.course (g.Q.Queue.pending c.loop-goes_on.queue) (g.Q.Queue.joined c.loop-goes_on.queue)
-    (going _ c.loop-goes_on.goes_on c.loop-goes_on.course (g.Q.Queue.pending c.loop-goes_on.queue) (g.Q.Queue.joined c.loop-goes_on.queue) c.loop-goes_on-test.true c.loop-goes_on.invariant.come)
-    c.in_ok-goes_on.goes_on c.decide.new.course (g.Q.Queue.pending c.decide.new.queue) (g.Q.Queue.joined c.decide.new.queue)
-    (known_inputs _ c.requires.accepted c.foreground_lists_ascend.ensures c.disk_is_sound.ensures.sound c.disk_is_sound.ensures.takes_time)
-    c.in_ok-goes_on.ensures.decided c.in_ok-goes_on.ensures.waiting
-    c.loop-goes_on.goes_on c.loop-goes_on-test.true
+    let gone = going _ _ _ _ _ _ c.loop-goes_on-test.true c.loop-goes_on.invariant.gone in
+    less-by _ _ _ _ _ _ _ _ _ _ c.loop-goes_on-test.true
+    (c.in_ok-goes_on.ensures.decided (record { latent = c.args.latent.now; trace = c.args.trace.now.requests.items; passed_over = c.args.trace.now.passed_over }) gone.steps gone.made)
 
-pub task_rows-requires : goal.task_rows-requires
-task_rows-requires g c =
-    let ended = (over _ c.loop-goes_on.goes_on c.loop-goes_on.course (g.Q.Queue.pending c.loop-goes_on.queue) (g.Q.Queue.joined c.loop-goes_on.queue) c.loop-goes_on-test.false c.loop-goes_on.invariant.come) in
-    (c.args.disk.now.map, history _ ended.0, ended.1.run.tells)
+pub add_task_rows-requires : goal.add_task_rows-requires
+add_task_rows-requires g c =
+    let gone = over _ _ _ _ _ _ c.loop-goes_on-test.false c.loop-goes_on.invariant.gone in
+    (_, gone.steps, gone.made)
 
 pub returns-clause-full : goal.returns-clause-full
 returns-clause-full g c =
-    let ended = (over _ c.loop-goes_on.goes_on c.loop-goes_on.course (g.Q.Queue.pending c.loop-goes_on.queue) (g.Q.Queue.joined c.loop-goes_on.queue) c.loop-goes_on-test.false c.loop-goes_on.invariant.come) in
-    is_full _ (known_inputs _ c.requires.accepted c.foreground_lists_ascend.ensures c.disk_is_sound.ensures.sound c.disk_is_sound.ensures.takes_time) c.loop-goes_on.course ended.0 ended.1 c.task_rows.new.rows (c.in_ok-task_rows.ensures c.args.disk.now.map (history _ ended.0) ended.1.run.tells)
+    let gone = over _ _ _ _ _ _ c.loop-goes_on-test.false c.loop-goes_on.invariant.gone in
+    is_full _ _ _ _ _ gone c.take_rows-rows.result.back
+    (c.take_rows-rows.ensures.back ∙ c.in_ok-add_task_rows.ensures.rows _ gone.steps gone.made) c.take_rows-rows.result.fore c.instant-end.result
+    (c.take_rows-rows.ensures.fore ∙ c.in_ok-add_task_rows.ensures.fore) (c.instant-end.ensures.end _ gone.steps gone.made)
 
 pub returns-clause-ranges : goal.returns-clause-ranges
 returns-clause-ranges g c =
-    let ended = (over _ c.loop-goes_on.goes_on c.loop-goes_on.course (g.Q.Queue.pending c.loop-goes_on.queue) (g.Q.Queue.joined c.loop-goes_on.queue) c.loop-goes_on-test.false c.loop-goes_on.invariant.come) in ended.1.run.ranges
+    let gone = over _ _ _ _ _ _ c.loop-goes_on-test.false c.loop-goes_on.invariant.gone in
+    subst (AllByRecursion HasRanges) (sym (c.take_rows-rows.ensures.fore ∙ c.in_ok-add_task_rows.ensures.fore)) gone.so_far.ranges
 
 pub returns-clause-few : goal.returns-clause-few
 returns-clause-few g c =
-    let ended = (over _ c.loop-goes_on.goes_on c.loop-goes_on.course (g.Q.Queue.pending c.loop-goes_on.queue) (g.Q.Queue.joined c.loop-goes_on.queue) c.loop-goes_on-test.false c.loop-goes_on.invariant.come) in ended.1.few
+    let gone = over _ _ _ _ _ _ c.loop-goes_on-test.false c.loop-goes_on.invariant.gone in
+    subst (λ fore. length fore ≤ 10 ^ 6) (sym (c.take_rows-rows.ensures.fore ∙ c.in_ok-add_task_rows.ensures.fore)) (few _ _ _ _ _ gone)
 
 pub returns-clause-back_ranges : goal.returns-clause-back_ranges
 returns-clause-back_ranges g c =
-    let ended = (over _ c.loop-goes_on.goes_on c.loop-goes_on.course (g.Q.Queue.pending c.loop-goes_on.queue) (g.Q.Queue.joined c.loop-goes_on.queue) c.loop-goes_on-test.false c.loop-goes_on.invariant.come) in
-    all_weaker (RowFits (length (tasks c.args.calls.now.calls.items))) HasBackRanges (λ row fits. fits.ranges) c.task_rows.new.rows
-    (rows_fit _ (known_inputs _ c.requires.accepted c.foreground_lists_ascend.ensures c.disk_is_sound.ensures.sound c.disk_is_sound.ensures.takes_time) c.loop-goes_on.course ended.0 ended.1 c.task_rows.new.rows (c.in_ok-task_rows.ensures c.args.disk.now.map (history _ ended.0) ended.1.run.tells))
+    let gone = over _ _ _ _ _ _ c.loop-goes_on-test.false c.loop-goes_on.invariant.gone in
+    all_weaker (RowFits (length (tasks c.args.calls.now.calls.items))) HasBackRanges (λ row fits. fits.ranges) c.take_rows-rows.result.back
+    (rows-fit _ _ _ _ _ gone c.take_rows-rows.result.back (c.take_rows-rows.ensures.back ∙ c.in_ok-add_task_rows.ensures.rows _ gone.steps gone.made) (c.in_ok-add_task_rows.ensures.fits _ gone.steps gone.made))
 
 pub returns-clause-named : goal.returns-clause-named
-returns-clause-named g c =
-    λ names e. let ended = (over _ c.loop-goes_on.goes_on c.loop-goes_on.course (g.Q.Queue.pending c.loop-goes_on.queue) (g.Q.Queue.joined c.loop-goes_on.queue) c.loop-goes_on-test.false c.loop-goes_on.invariant.come) in
-    all_weaker (RowFits (length (tasks c.args.calls.now.calls.items))) (HasNamedTask names) (λ row fits. fits.named names e) c.task_rows.new.rows
-    (rows_fit _ (known_inputs _ c.requires.accepted c.foreground_lists_ascend.ensures c.disk_is_sound.ensures.sound c.disk_is_sound.ensures.takes_time) c.loop-goes_on.course ended.0 ended.1 c.task_rows.new.rows (c.in_ok-task_rows.ensures c.args.disk.now.map (history _ ended.0) ended.1.run.tells))
+returns-clause-named g c = λ names e.
+    let gone = over _ _ _ _ _ _ c.loop-goes_on-test.false c.loop-goes_on.invariant.gone in
+    all_weaker (RowFits (length (tasks c.args.calls.now.calls.items))) (HasNamedTask names) (λ row fits. fits.named names e) c.take_rows-rows.result.back
+    (rows-fit _ _ _ _ _ gone c.take_rows-rows.result.back (c.take_rows-rows.ensures.back ∙ c.in_ok-add_task_rows.ensures.rows _ gone.steps gone.made) (c.in_ok-add_task_rows.ensures.fits _ gone.steps gone.made))

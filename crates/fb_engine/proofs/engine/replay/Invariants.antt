@@ -1,13 +1,14 @@
-use Rattle.fb_engine.proofs.Running.{HasComeTo, decisions_left}
+use Rattle.fb_decide.specs.Making.{decisions_left}
+use Rattle.fb_engine.proofs.Ended.{HasGone}
 use Rattle.fb_engine.proofs.engine.replay.Given as goal
 
 abbrev pub invariant-loop-goes_on : goal.invariant-loop-goes_on
 invariant-loop-goes_on g l = record {
-  come : HasComeTo (record { disk = l.disk; latent = l.latent; trace = l.trace.requests.items; passed_over = l.trace.passed_over; calls = l.calls.calls.items; key = g.Q.Queue.key; until = l.until })
-      l.goes_on l.course (g.Q.Queue.pending l.queue) (g.Q.Queue.joined l.queue);
-  serves : g.Q.Queue.serves l.queue l.disk;
+  gone : HasGone (record { disk = l.disk; latent = l.latent; trace = l.trace.requests.items; passed_over = l.trace.passed_over; calls = l.calls.calls.items; key = g.Q.Queue.key; until = l.until })
+      l.goes_on l.decider.requests.items l.decider.course (g.Q.Queue.pending l.decider.queue) (g.Q.Queue.joined l.decider.queue);
+  serves : g.Q.Queue.serves l.decider.queue l.disk;
 }
 
 abbrev pub decreases-loop-goes_on : goal.decreases-loop-goes_on
 decreases-loop-goes_on g l = decisions_left (record { disk = l.disk; latent = l.latent; trace = l.trace.requests.items; passed_over = l.trace.passed_over; calls = l.calls.calls.items; key = g.Q.Queue.key; until = l.until })
-    l.goes_on l.course (g.Q.Queue.pending l.queue)
+    l.goes_on l.decider.course (g.Q.Queue.pending l.decider.queue)

@@ -1,0 +1,117 @@
+-- Calls take effect one after another, and other events leave them as they are.
+use Rattle.std.proofs.Common.{◌≡◌, ℕ, zero, suc, ◌+◌, ◌*◌, ◌^◌, ◌<◌, ◌≤◌, nat_le, Bool, List, [], ◌∷◌, true, false, Some, inl, inr, length, length-append, drop, filter, map, refl, ap, sym, ◌∙◌, arith, subst}
+use Rattle.std.specs.Prelude.{slice_get, IfSome}
+use Rattle.std.specs.List.{AllByRecursion, fold}
+use Rattle.std.proofs.lemmas.Bool.{cases_lt}
+use Rattle.std.proofs.lemmas.Bool.Decides.{nat_tests}
+use Rattle.fb_units.specs.Rising.{IsRising}
+use Rattle.fb_geometry.specs.Shape.{Shape}
+use Rattle.fb_calls.specs.declared.call.Call.{Call}
+use Rattle.fb_calls.specs.Allowed.{blocks_from}
+use Rattle.fb_wanted.specs.declared.block.Entry.{Entry}
+use Rattle.fb_rows.specs.declared.back.DeliveryRow.{DeliveryRow}
+use Rattle.fb_model.specs.History.{Past, calls_of, called}
+use Rattle.fb_model.specs.Course.{take_call, calls_taken, calls_due, with_delivery}
+use Rattle.fb_tasks.specs.declared.session.Session.{Session}
+use Rattle.fb_tasks.specs.Taken.{delivery_of}
+use Rattle.fb_tasks.specs.Telling.{Tells, MayTake, MaySettle}
+use Rattle.fb_tasks.proofs.Calls.{count-is, left-is, may-take, called-more, called-delivered}
+use Rattle.fb_decide.specs.Calls.{IsScriptOf, IsCalled}
+use Rattle.fb_decide.specs.Deliveries.{past_with}
+
+-- the calls of a history are those that have taken effect
+pub taken_count : (past : Past) → calls_taken past ≡ length (calls_of past)
+taken_count [] = refl
+taken_count (called call blocks ∷ past) = omega (arith, taken_count past, length-append (calls_of past) (call ∷ []))
+taken_count (_ ∷ past) = taken_count past
+
+-- calls by their instants
+abbrev come_by : ℕ → Call → Bool
+come_by now call = nat_le call.instant now
+
+come : (now : ℕ) (call : Call) → call.instant ≤ now → come_by now call ≡ true
+come now call h = grind (arith, nat_tests)
+
+not_come : (now : ℕ) (call : Call) → now < call.instant → come_by now call ≡ false
+not_come now call h = grind (arith, nat_tests)
+
+none_come : (now instant : ℕ) (calls : List Call) → now < instant → AllByRecursion (λ later. instant ≤ later) (map (λ call. call.instant) calls) → filter (come_by now) calls ≡ []
+none_come now instant [] late h = refl
+none_come now instant (call ∷ calls) late h = rw (not_come now call (omega (arith, h.0))) (none_come now instant calls late h.1)
+
+drop_none : (n : ℕ) → ◌≡◌ {A = List Call} (drop n []) []
+drop_none zero = refl
+drop_none (suc n) = refl
+
+-- of calls in order, those that have come and are not yet taken are those of the rest
+filter_dropped : (now n : ℕ) (calls : List Call) → IsRising (map (λ call. call.instant) calls) → drop n (filter (come_by now) calls) ≡ filter (come_by now) (drop n calls)
+filter_dropped now zero calls rising = refl
+filter_dropped now (suc n) [] rising = refl
+filter_dropped now (suc n) (call ∷ calls) rising = elim (cases_lt now call.instant) [
+  | inl late ↦
+      let none = none_come now call.instant calls late rising.0 in
+      rw (not_come now call late) (ap (drop (suc n)) none ∙ (sym (drop_none n) ∙ (ap (drop n) (sym none) ∙ filter_dropped now n calls rising.1)))
+  | inr here ↦ rw (come now call here) (filter_dropped now n calls rising.1)
+]
+
+none_ahead : (now n : ℕ) (calls : List Call) → IsRising (map (λ call. call.instant) calls) → IfSome (slice_get calls n) (λ call. now < call.instant) → filter (come_by now) (drop n calls) ≡ []
+none_ahead now n [] rising ahead = ap (filter (come_by now)) (drop_none n)
+none_ahead now zero (call ∷ calls) rising ahead = rw (not_come now call ahead) (none_come now call.instant calls ahead rising.0)
+none_ahead now (suc n) (call ∷ calls) rising ahead = none_ahead now n calls rising.1 ahead
+
+module _ (disk : Shape) (calls : List Call) (script : IsScriptOf disk calls) where
+  -- the calls that are due stand next
+  due_is : (past : Past) (next now : ℕ) → IsCalled disk calls past next → calls_due calls past now ≡ filter (come_by now) (drop next calls)
+  due_is past next now h = ap (λ n. drop n (filter (come_by now) calls)) (taken_count past ∙ count-is disk calls past next h) ∙ filter_dropped now next calls script.instants
+
+  pub none_due : (past : Past) (next now : ℕ) → IsCalled disk calls past next → IfSome (slice_get calls next) (λ call. now < call.instant) → calls_due calls past now ≡ []
+  none_due past next now h ahead = due_is past next now h ∙ none_ahead now next calls script.instants ahead
+
+  pub may-settle : (past : Past) (next : ℕ) (sessions : List Session) (held : List Entry) → IsCalled disk calls past next → Tells disk past sessions held → MaySettle disk past sessions held
+  may-settle past next sessions held h tells = record { tells = tells; few = omega (arith, h.few) }
+
+  module _ (past : Past) (next : ℕ) (h : IsCalled disk calls past next) (call : Call) (at : slice_get calls next ≡ Some call) (sessions : List Session) (held : List Entry) (tells : Tells disk past sessions held) where
+    pub taken-call : IsCalled disk calls (take_call disk past call) (next + 1)
+    taken-call = called-more disk calls script.allowed script.few past next h call at sessions held tells
+
+    pub due-more : (now : ℕ) → call.instant ≤ now → calls_due calls past now ≡ call ∷ calls_due calls (take_call disk past call) now
+    due-more now here = rw (due_is past next now h, due_is (take_call disk past call) (next + 1) now taken-call, left-is disk calls script.allowed script.few past next h call at, come now call here) refl
+
+-- some of the calls that are due have been taken, and the rest of them stands next
+pub record HasTaken (disk : Shape) (calls : List Call) (past : Past) (now next : ℕ) (sessions : List Session) (held : List Entry) : Type 0 where
+  pub taken : Past
+  pub called : IsCalled disk calls taken next
+  pub tells : Tells disk taken sessions held
+  pub rest : fold (take_call disk) past (calls_due calls past now) ≡ fold (take_call disk) taken (calls_due calls taken now)
+
+module _ (disk : Shape) (calls : List Call) (script : IsScriptOf disk calls) (past : Past) (now next : ℕ) (sessions : List Session) (held : List Entry) (h : HasTaken disk calls past now next sessions held) where
+  pub taken-may : (call : Call) → slice_get calls next ≡ Some call → MayTake disk h.taken sessions held call
+  taken-may call at = may-take disk calls script.allowed script.few h.taken next h.called call at sessions held h.tells
+
+  pub taken-more : (call : Call) (new : List Session) (now_held : List Entry) → slice_get calls next ≡ Some call → call.instant ≤ now → Tells disk (take_call disk h.taken call) new now_held → HasTaken disk calls past now (next + 1) new now_held
+  taken-more call new now_held at here tells = record {
+    taken = take_call disk h.taken call;
+    called = taken-call disk calls script h.taken next h.called call at sessions held h.tells;
+    tells = tells;
+    rest = h.rest ∙ ap (fold (take_call disk) h.taken) (due-more disk calls script h.taken next h.called call at sessions held h.tells now here);
+  }
+
+  -- all of them
+  module _ (ahead : IfSome (slice_get calls next) (λ call. now < call.instant)) where
+    all_taken : fold (take_call disk) past (calls_due calls past now) ≡ h.taken
+    all_taken = h.rest ∙ ap (fold (take_call disk) h.taken) (none_due disk calls script h.taken next now h.called ahead)
+
+    pub taken-tells : Tells disk (fold (take_call disk) past (calls_due calls past now)) sessions held
+    taken-tells = subst (λ p. Tells disk p sessions held) (sym all_taken) h.tells
+
+    pub taken-called : IsCalled disk calls (fold (take_call disk) past (calls_due calls past now)) next
+    taken-called = subst (λ p. IsCalled disk calls p next) (sym all_taken) h.called
+
+-- no call has taken effect at first
+pub called_first : (disk : Shape) (calls : List Call) → blocks_from disk [] calls ≤ 16 * 10 ^ 6 → IsCalled disk calls [] 0
+called_first disk calls few = record { within = omega arith; taken = refl; few = omega (arith, few) }
+
+-- deliveries and their tests
+pub called_delivered : (disk : Shape) (calls : List Call) (past : Past) (next : ℕ) (gots : List DeliveryRow) → IsCalled disk calls past next → IsCalled disk calls (past_with past gots) next
+called_delivered disk calls past next [] h = h
+called_delivered disk calls past next (got ∷ gots) h = called_delivered disk calls (with_delivery past (delivery_of past got)) next gots (called-delivered disk calls past next got h)

@@ -1,0 +1,222 @@
+-- What is due at a decision, from the disk as it is: each delivery lies within the decision, and the medium gives the same.
+use Rattle.std.proofs.Common.{◌≡◌, ℕ, zero, suc, ◌+◌, ◌-◌, ◌≤◌, ◌<◌, List, [], ◌∷◌, ◌++◌, map, filter, Bool, true, false, ◌==◌, inl, inr, refl, ap, ap₂, arith}
+use Rattle.std.specs.Prelude.{if◌then◌else◌}
+use Rattle.std.specs.List.{AllByRecursion}
+use Rattle.std.proofs.lemmas.Bool.{cases_Bool}
+use Rattle.std.proofs.lemmas.Bool.Decides.{nat_tests}
+use Rattle.fb_units.specs.declared.types.Track.{Track}
+use Rattle.fb_units.specs.declared.types.Request.{Request}
+use Rattle.fb_sectormap.specs.Lookup.{track_at}
+use Rattle.fb_seek.specs.Positioning.{pos}
+use Rattle.fb_service.specs.declared.disk.Disk.{Disk}
+use Rattle.fb_service.specs.declared.passage.Passage.{Passage}
+use Rattle.fb_service.specs.Passing.{begin_from}
+use Rattle.fb_service.specs.Service.{passages, passage_from, finish_of}
+use Rattle.fb_store.specs.Index.{Holding}
+use Rattle.fb_store.specs.Runs.{runs_of, bad_of}
+use Rattle.fb_wanted.specs.declared.block.Block.{Block}
+use Rattle.fb_rows.specs.declared.gap.Dwell.{Dwell}
+use Rattle.fb_rows.specs.declared.gap.How.{How}
+use Rattle.fb_rows.specs.declared.gap.How.TheVariants.{Gap as ByGap, Ride as ByRide}
+use Rattle.fb_rows.specs.declared.gap.Plan.{Plan}
+use Rattle.fb_rows.specs.declared.gap.Plan.TheVariants.{Direct, Detour}
+use Rattle.fb_rows.specs.declared.back.DeliveryRow.{DeliveryRow}
+use Rattle.fb_model.specs.Content.{Medium}
+use Rattle.fb_model.specs.Decisions.{serves}
+use Rattle.fb_model.specs.PlainReplay.{Served, service, media, finish}
+use Rattle.fb_model.specs.Plans.{IsPlan, block_begin, block_end, catches, early_dwell, late_dwell}
+use Rattle.fb_model.specs.Rides.{in_order, delivery, caught, missed, lies_in, begin_at, end_at, gap_of, due}
+use Rattle.fb_decide.specs.Deliveries.{delivery_in, caught_in, rides_in, due_in}
+use Rattle.fb_decide.specs.Standing.{Mirrors, IsFoundIn}
+use Rattle.fb_decide.proofs.Passed.{passed_between}
+use Rattle.fb_decide.proofs.DiskRows.{mirrored}
+use Rattle.fb_decide.proofs.Placing.{in_order-each}
+
+delivery_same : (medium : Medium) (holding : Holding) (from to : ℕ) → Mirrors medium holding from to → (how : How) (block : Block) (begin end : ℕ) → from ≤ begin → begin ≤ to
+    → delivery_in holding how block begin end ≡ delivery medium how block begin end
+delivery_same medium holding from to mirrors how block begin end after before =
+    ap (λ sectors. record { block = block; begin = begin; end = end; how = how; bad = bad_of (runs_of sectors); content = runs_of sectors })
+    (mirrored medium holding from to mirrors block.lbn block.count begin after before)
+
+begins_later : (disk : Disk) (block : Block) (t : ℕ) → t ≤ block_begin disk.map block t
+unfolding begin_from
+begins_later disk block t = omega arith
+
+begins_before_end : (disk : Disk) (block : Block) (t : ℕ) → block_begin disk.map block t ≤ block_end disk.map block t
+begins_before_end disk block t = omega arith
+
+ends_in_time : (disk : Disk) (dwell : Dwell) (block : Block) → catches disk dwell block ≡ true → block_end disk.map block dwell.begin ≤ dwell.end
+ends_in_time disk dwell block is_caught = grind (arith, nat_tests)
+
+abbrev caught_row : Disk → Holding → How → Dwell → Block → DeliveryRow
+caught_row disk holding how dwell block = delivery_in holding how block (block_begin disk.map block dwell.begin) (block_end disk.map block dwell.begin)
+
+caught_rows : (medium : Medium) (holding : Holding) (how : How) (dwell : Dwell) (from to : ℕ) → Mirrors medium holding from to → from ≤ dwell.begin → dwell.end ≤ to → (blocks : List Block)
+    → map (caught_row medium.disk holding how dwell) (filter (catches medium.disk dwell) blocks)
+    ≡ map (λ block. delivery medium how block (block_begin medium.disk.map block dwell.begin) (block_end medium.disk.map block dwell.begin)) (filter (catches medium.disk dwell) blocks)
+caught_rows medium holding how dwell from to mirrors after before [] = refl
+caught_rows medium holding how dwell from to mirrors after before (block ∷ blocks) = elim (cases_Bool (catches medium.disk dwell block)) [
+  | inl is_caught ↦
+      let ends = ends_in_time medium.disk dwell block is_caught in
+      let begins = begins_later medium.disk block dwell.begin in
+      let order = begins_before_end medium.disk block dwell.begin in
+      rw is_caught (ap₂ (λ row rows. row ∷ rows)
+      (delivery_same medium holding from to mirrors how block (block_begin medium.disk.map block dwell.begin) (block_end medium.disk.map block dwell.begin) (omega (arith, after, begins)) (omega (arith, before, ends, order)))
+      (caught_rows medium holding how dwell from to mirrors after before blocks))
+  | inr is_missed ↦ rw is_missed (caught_rows medium holding how dwell from to mirrors after before blocks)
+]
+
+pub caught_same : (medium : Medium) (holding : Holding) (how : How) (dwell : Dwell) (from to : ℕ) → Mirrors medium holding from to → from ≤ dwell.begin → dwell.end ≤ to → (blocks : List Block)
+    → caught_in medium.disk holding how dwell blocks ≡ caught medium how dwell blocks
+caught_same medium holding how dwell from to mirrors after before blocks = ap in_order (caught_rows medium holding how dwell from to mirrors after before blocks)
+
+-- what a dwell catches lies within it
+found_rows : (disk : Disk) (holding : Holding) (how : How) (dwell : Dwell) (from to : ℕ) → from ≤ dwell.begin → dwell.end ≤ to → (blocks : List Block)
+    → AllByRecursion (IsFoundIn holding from to) (map (caught_row disk holding how dwell) (filter (catches disk dwell) blocks))
+found_rows disk holding how dwell from to after before [] = tt
+found_rows disk holding how dwell from to after before (block ∷ blocks) = elim (cases_Bool (catches disk dwell block)) [
+  | inl is_caught ↦
+      let ends = ends_in_time disk dwell block is_caught in
+      let begins = begins_later disk block dwell.begin in
+      let order = begins_before_end disk block dwell.begin in
+      rw is_caught (record { row = refl; begin = omega (arith, after, begins); order = order; end = omega (arith, before, ends) }, found_rows disk holding how dwell from to after before blocks)
+  | inr is_missed ↦ rw is_missed (found_rows disk holding how dwell from to after before blocks)
+]
+
+pub caught_found : (disk : Disk) (holding : Holding) (how : How) (dwell : Dwell) (from to : ℕ) → from ≤ dwell.begin → dwell.end ≤ to → (blocks : List Block)
+    → AllByRecursion (IsFoundIn holding from to) (caught_in disk holding how dwell blocks)
+caught_found disk holding how dwell from to after before blocks = in_order-each (IsFoundIn holding from to) _ (found_rows disk holding how dwell from to after before blocks)
+
+-- the sectors of a service pass one after another, between its start and its finish
+abbrev pub IsPassedBetween : List Passage → ℕ → ℕ → ℕ → ℕ → Type 0
+IsPassedBetween ps from to x y = (from ≤ begin_at ps x) × (begin_at ps x ≤ end_at ps y) × (end_at ps y ≤ to)
+
+one_later : (disk : Disk) (lbn t : ℕ) → t ≤ (passage_from disk.map lbn t).begin
+unfolding begin_from
+one_later disk lbn t = omega arith
+
+sectors_pass : (disk : Disk) (source : Track) (now : ℕ) (write : Bool) (lbn n x y : ℕ) → lbn ≤ x → x ≤ y → y < lbn + n
+    → IsPassedBetween (passages disk source now write lbn n) now (finish_of now (passages disk source now write lbn n)) x y
+unfolding passages
+sectors_pass disk source now write lbn zero x y from order to = absurd (omega arith)
+sectors_pass disk source now write lbn (suc n) x y from order to =
+    let at = now + pos disk.mechanism source (track_at disk.map lbn) write in
+    let first = passage_from disk.map lbn at in
+    let later = one_later disk lbn at in
+    let rest = passed_between disk (track_at disk.map lbn) first.end write (lbn + 1) n in
+    elim (cases_Bool (lbn == x)) [
+      | inl here ↦ elim (cases_Bool (lbn == y)) [
+        | inl both ↦ rw (here, both) (omega (arith, later), omega arith, rest.0)
+        | inr behind ↦
+            let next = sectors_pass disk (track_at disk.map lbn) first.end write (lbn + 1) n y y (grind (arith, nat_tests)) (omega arith) (omega arith) in
+            rw (here, behind) (omega (arith, later), omega (arith, next.0, next.1), next.2)
+      ]
+      | inr behind ↦
+          let other : (lbn == y) ≡ false = grind (arith, nat_tests) in
+          let next = sectors_pass disk (track_at disk.map lbn) first.end write (lbn + 1) n x y (grind (arith, nat_tests)) order (omega arith) in
+          rw (behind, other) (omega (arith, later, next.0), next.1, next.2)
+    ]
+
+-- a block that lies in a request passes with it
+block_passes : (disk : Disk) (source : Track) (start : ℕ) (request : Request) (block : Block) → 0 < block.count → lies_in request block ≡ true
+    → IsPassedBetween (service disk source start request).passages start (finish (service disk source start request)) block.lbn (block.lbn + block.count - 1)
+block_passes disk source start request block some lies =
+    let from : request.lbn ≤ block.lbn = grind (arith, nat_tests) in
+    let to : block.lbn + block.count ≤ request.lbn + request.count = grind (arith, nat_tests) in
+    sectors_pass disk source start request.write request.lbn request.count block.lbn (block.lbn + block.count - 1) from (omega arith) (omega arith)
+
+abbrev ride_row : Holding → Served → Block → DeliveryRow
+ride_row holding served block = delivery_in holding ByRide block (begin_at served.passages block.lbn) (end_at served.passages (block.lbn + block.count - 1))
+
+module _ (medium : Medium) (holding : Holding) (source : Track) (start : ℕ) (request : Request) (to : ℕ) (ends : finish (service medium.disk source start request) ≤ to) where
+  abbrev served : Served
+  served = service medium.disk source start request
+
+  ride_rows : Mirrors medium holding start to → (blocks : List Block) → AllByRecursion (λ block. 0 < block.count) blocks
+      → map (ride_row holding served) (filter (lies_in request) blocks)
+      ≡ map (λ block. delivery medium ByRide block (begin_at served.passages block.lbn) (end_at served.passages (block.lbn + block.count - 1))) (filter (lies_in request) blocks)
+  ride_rows mirrors [] some = refl
+  ride_rows mirrors (block ∷ blocks) some = elim (cases_Bool (lies_in request block)) [
+    | inl lies ↦
+        let pass = block_passes medium.disk source start request block some.0 lies in
+        rw lies (ap₂ (λ row rows. row ∷ rows)
+        (delivery_same medium holding start to mirrors ByRide block (begin_at served.passages block.lbn) (end_at served.passages (block.lbn + block.count - 1)) pass.0 (omega (arith, pass.1, pass.2, ends)))
+        (ride_rows mirrors blocks some.1))
+    | inr other ↦ rw other (ride_rows mirrors blocks some.1)
+  ]
+
+  ride_found : (blocks : List Block) → AllByRecursion (λ block. 0 < block.count) blocks → AllByRecursion (IsFoundIn holding start to) (map (ride_row holding served) (filter (lies_in request) blocks))
+  ride_found [] some = tt
+  ride_found (block ∷ blocks) some = elim (cases_Bool (lies_in request block)) [
+    | inl lies ↦
+        let pass = block_passes medium.disk source start request block some.0 lies in
+        rw lies (record { row = refl; begin = pass.0; order = pass.1; end = omega (arith, pass.2, ends) }, ride_found blocks some.1)
+    | inr other ↦ rw other (ride_found blocks some.1)
+  ]
+
+same_unless : {A : Type 0} {xs ys : List A} (b : Bool) → (b ≡ false → xs ≡ ys) → (if b then [] else xs) ≡ (if b then [] else ys)
+same_unless true same = refl
+same_unless false same = same refl
+
+all_unless : {A : Type 0} (P : A → Type 0) (xs : List A) (b : Bool) → (b ≡ false → AllByRecursion P xs) → AllByRecursion P (if b then [] else xs)
+all_unless P xs true all = tt
+all_unless P xs false all = all refl
+
+all_missed : (P : Block → Type 0) (disk : Disk) (dwell : Dwell) (blocks : List Block) → AllByRecursion P blocks → AllByRecursion P (missed disk dwell blocks)
+all_missed P disk dwell [] all = tt
+all_missed P disk dwell (block ∷ blocks) all = elim (cases_Bool (catches disk dwell block)) [
+  | inl is_caught ↦ rw is_caught (all_missed P disk dwell blocks all.1)
+  | inr is_missed ↦ rw is_missed (all.0, all_missed P disk dwell blocks all.1)
+]
+
+all_three : (P : DeliveryRow → Type 0) (xs ys zs : List DeliveryRow) → AllByRecursion P xs → AllByRecursion P ys → AllByRecursion P zs → AllByRecursion P (xs ++ ys ++ zs)
+all_three P [] [] zs a b c = c
+all_three P [] (y ∷ ys) zs a b c = (b.0, all_three P [] ys zs a b.1 c)
+all_three P (x ∷ xs) ys zs a b c = (a.0, all_three P xs ys zs a.1 b c)
+
+-- the dwells of a gap's plan lie in the gap
+pub record LieWithin (disk : Disk) (served : Served) (plan : Plan) : Type 0 where
+  pub early_begin : served.start ≤ (early_dwell disk (gap_of disk served) plan).begin
+  pub early_end : (early_dwell disk (gap_of disk served) plan).end ≤ media served
+  pub late_begin : served.start ≤ (late_dwell disk (gap_of disk served) plan).begin
+  pub late_end : (late_dwell disk (gap_of disk served) plan).end ≤ media served
+
+dwells_within : (disk : Disk) (served : Served) (plan : Plan) → IsPlan disk (gap_of disk served) plan → LieWithin disk served plan
+dwells_within disk served (Direct leave) is_plan = record { early_begin = omega arith; early_end = omega (arith, is_plan.1); late_begin = omega (arith, is_plan.0); late_end = omega arith }
+dwells_within disk served (Detour track leave) is_plan = record { early_begin = omega arith; early_end = omega (arith, is_plan.in_time); late_begin = omega (arith, is_plan.after_arrival); late_end = omega arith }
+
+-- the deliveries that are due for a request are those that the disk gives as it is
+pub due_same : (medium : Medium) (holding : Holding) (source : Track) (start : ℕ) (request : Request) (plan : Plan) (to : ℕ) (blocks : List Block) → AllByRecursion (λ block. 0 < block.count) blocks
+    → IsPlan medium.disk (gap_of medium.disk (service medium.disk source start request)) plan → media (service medium.disk source start request) ≤ to
+    → (request.write ≡ false → finish (service medium.disk source start request) ≤ to) → Mirrors medium holding start to
+    → due_in medium.disk holding (service medium.disk source start request) plan blocks ≡ due medium (serves (service medium.disk source start request)) plan blocks
+unfolding due
+due_same medium holding source start request plan to blocks some is_plan media_by finish_by mirrors =
+    let served = service medium.disk source start request in
+    let early = early_dwell medium.disk (gap_of medium.disk served) plan in
+    let late = late_dwell medium.disk (gap_of medium.disk served) plan in
+    let within = dwells_within medium.disk served plan is_plan in
+    let left = missed medium.disk early blocks in
+    let some_left = all_missed (λ block. 0 < block.count) medium.disk late left (all_missed (λ block. 0 < block.count) medium.disk early blocks some) in
+    ap₂ (λ xs ys. xs ++ ys)
+    (ap₂ (λ xs ys. xs ++ ys)
+    (caught_same medium holding ByGap early start to mirrors within.early_begin (omega (arith, within.early_end, media_by)) blocks)
+    (caught_same medium holding ByGap late start to mirrors within.late_begin (omega (arith, within.late_end, media_by)) left))
+    (same_unless request.write (λ reads. ap in_order (ride_rows medium holding source start request to (finish_by reads) mirrors (missed medium.disk late left) some_left)))
+
+-- and each lies within the service
+pub due_found : (medium : Medium) (holding : Holding) (source : Track) (start : ℕ) (request : Request) (plan : Plan) (to : ℕ) (blocks : List Block) → AllByRecursion (λ block. 0 < block.count) blocks
+    → IsPlan medium.disk (gap_of medium.disk (service medium.disk source start request)) plan → media (service medium.disk source start request) ≤ to
+    → (request.write ≡ false → finish (service medium.disk source start request) ≤ to)
+    → AllByRecursion (IsFoundIn holding start to) (due_in medium.disk holding (service medium.disk source start request) plan blocks)
+due_found medium holding source start request plan to blocks some is_plan media_by finish_by =
+    let served = service medium.disk source start request in
+    let early = early_dwell medium.disk (gap_of medium.disk served) plan in
+    let late = late_dwell medium.disk (gap_of medium.disk served) plan in
+    let within = dwells_within medium.disk served plan is_plan in
+    let left = missed medium.disk early blocks in
+    let some_left = all_missed (λ block. 0 < block.count) medium.disk late left (all_missed (λ block. 0 < block.count) medium.disk early blocks some) in
+    all_three (IsFoundIn holding start to) (caught_in medium.disk holding ByGap early blocks) (caught_in medium.disk holding ByGap late left) (rides_in holding served (missed medium.disk late left))
+    (caught_found medium.disk holding ByGap early start to within.early_begin (omega (arith, within.early_end, media_by)) blocks)
+    (caught_found medium.disk holding ByGap late start to within.late_begin (omega (arith, within.late_end, media_by)) left)
+    (all_unless (IsFoundIn holding start to) _ request.write (λ reads. in_order-each (IsFoundIn holding start to) _ (ride_found medium holding source start request to (finish_by reads) (missed medium.disk late left) some_left)))

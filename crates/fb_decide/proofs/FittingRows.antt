@@ -1,0 +1,262 @@
+-- The background rows of a run cover sectors of the disk, and their tasks are the script's.
+use Rattle.std.proofs.Common.{◌≡◌, ℕ, ◌+◌, ◌<◌, ◌≤◌, ◌^◌, List, [], ◌∷◌, ◌++◌, length, map, take, drop, ap, sym, subst, ◌∙◌, arith, inl, inr}
+use Rattle.std.specs.Prelude.{◌&&◌, ◌==◌, not, filter}
+use Rattle.std.specs.List.{AllByRecursion, flat_map, fold, range_with_len}
+use Rattle.std.proofs.lemmas.List.{length-append, take-append-drop}
+use Rattle.std.proofs.lemmas.List.Concat.{flat_map-append}
+use Rattle.std.proofs.lemmas.Bool.{cases_Bool}
+use Rattle.std.proofs.lemmas.Bool.Decides.{nat_tests}
+use Rattle.fb_geometry.specs.Shape.{Shape}
+use Rattle.fb_service.specs.declared.disk.Disk.{Disk}
+use Rattle.fb_calls.specs.declared.call.Call.{Call}
+use Rattle.fb_calls.specs.Allowed as allowed
+use Rattle.fb_store.specs.declared.content.Content.{Content}
+use Rattle.fb_store.specs.declared.content.ContentRun.{ContentRun}
+use Rattle.fb_store.specs.Runs.{runs_of, with_content, same_content}
+use Rattle.fb_wanted.specs.declared.block.Block.{Block}
+use Rattle.fb_wanted.specs.declared.block.Entry.{Entry}
+use Rattle.fb_wanted.specs.States.{is_delivered, is_wanted}
+use Rattle.fb_rows.specs.Ranges.{AreRanges}
+use Rattle.fb_rows.specs.declared.gap.Plan.{Plan}
+use Rattle.fb_rows.specs.declared.gap.How.{How}
+use Rattle.fb_rows.specs.declared.back.DeliveryRow.{DeliveryRow}
+use Rattle.fb_rows.specs.declared.back.BackRow.TheVariants.{Got as GotLine}
+use Rattle.fb_model.specs.Inputs.{Inputs}
+use Rattle.fb_model.specs.PlainReplay.{Served}
+use Rattle.fb_model.specs.Content.{Medium, medium_of, content, contents_at}
+use Rattle.fb_model.specs.Plans.{catches, early_dwell, late_dwell}
+use Rattle.fb_model.specs.Rides.{delivery, caught, rides, missed, lies_in, gap_of, due}
+use Rattle.fb_model.specs.Decisions.{Decision, serves, idles, ends, instant_of}
+use Rattle.fb_model.specs.History.{Event, delivered, tested, Past, tasks, task_numbers, terms_of, registered, registered_by, blocks_of, wanted, state, is_open_backup}
+use Rattle.fb_model.specs.Completion.{Choice, choices, work, is_complete, was_complete}
+use Rattle.fb_model.specs.Images.{findings, is_scrub, bad_sectors, segment_rows, seal_rows, complete_rows, is_newly_cleaned, image, on_disk, test_rows, delivery_begin}
+use Rattle.fb_model.specs.Course.{Delivery, Part, take_call, calls_due, with_delivery, with_finish, settled_past, past_after, opening, part_rows, task_row, task_rows}
+use Rattle.fb_model.specs.SoundRun.{AreFollowed}
+use Rattle.fb_tasks.specs.declared.session.Session.{Session}
+use Rattle.fb_tasks.specs.Telling.{Tells, IsBlockOf, calls_of}
+use Rattle.fb_tasks.proofs.Asked.{opened_same}
+use Rattle.fb_tasks.proofs.Lists.{all_any, all_filter, flat_all}
+use Rattle.fb_tasks.proofs.AllChoices.{all_range, by_all}
+use Rattle.fb_decide.specs.Deliveries.{IsRegistered}
+use Rattle.fb_decide.proofs.Readiness.{all_front}
+use Rattle.fb_decide.proofs.Passed.{all_weaker, all_append, all_map}
+use Rattle.fb_decide.proofs.Placing.{in_order-each}
+use Rattle.fb_decide.proofs.RegisteredBlocks.{all_in, registered_after, tasks_more, chosen_there}
+use Rattle.fb_decide.specs.Making.{IsMade, RowFits}
+
+-- ---- contents of sectors of the disk
+
+abbrev IsOnDisk : ℕ × Content → Type 0
+IsOnDisk sector = sector.0 + 1 ≤ 10 ^ 12
+
+joins_within : (lbn : ℕ) (content : Content) (runs : List ContentRun) → lbn + 1 ≤ 10 ^ 12 → AreRanges runs → AreRanges (with_content lbn content runs)
+joins_within lbn content [] h all = (h, tt)
+joins_within lbn content (run ∷ runs) h all = elim (cases_Bool ((run.first == lbn + 1) && same_content content run.content)) [
+  | inl joins ↦ rw joins (let next : run.first ≡ lbn + 1 = grind (arith, nat_tests) in let inside = all.0 in (omega (arith, next, inside), all.1))
+  | inr apart ↦ rw apart (h, all)
+]
+
+runs_within : (sectors : List (ℕ × Content)) → AllByRecursion IsOnDisk sectors → AreRanges (runs_of sectors)
+runs_within [] all = tt
+runs_within (sector ∷ sectors) all = joins_within sector.0 sector.1 (runs_of sectors) all.0 (runs_within sectors all.1)
+
+contents_within : (medium : Medium) (lbn n t : ℕ) → lbn + n ≤ 10 ^ 12 → AllByRecursion IsOnDisk (contents_at medium lbn n t)
+contents_within medium lbn n t h = all_map IsOnDisk (λ sector. (sector, content medium sector t)) (range_with_len lbn n)
+    (all_range (λ sector. sector + 1 ≤ 10 ^ 12) lbn n (λ k from below. omega (arith, h, below)))
+
+blocks_within : (medium : Medium) (when : Block → ℕ) (blocks : List Block) → AllByRecursion (λ (block : Block). block.lbn + block.count ≤ 10 ^ 12) blocks
+    → AllByRecursion IsOnDisk (flat_map (λ block. contents_at medium block.lbn block.count (when block)) blocks)
+blocks_within medium when blocks all = flat_all IsOnDisk (λ block. contents_at medium block.lbn block.count (when block)) blocks
+    (all_weaker (λ (block : Block). block.lbn + block.count ≤ 10 ^ 12) (λ block. AllByRecursion IsOnDisk (contents_at medium block.lbn block.count (when block)))
+    (λ block h. contents_within medium block.lbn block.count (when block) h) blocks all)
+
+-- ---- rows and histories
+
+-- a block likewise
+pub record BlockFits (n : ℕ) (block : Block) : Type 0 where
+  pub within : block.lbn + block.count ≤ 10 ^ 12
+  pub task : block.task < n
+
+-- the blocks of a history likewise, and no more tasks were opened
+pub record PastFits (n : ℕ) (past : Past) : Type 0 where
+  pub blocks : AllByRecursion (BlockFits n) (registered past)
+  pub few : length (tasks past) ≤ n
+
+module _ (n : ℕ) where
+  fits_before : (past : Past) (event : Event) → PastFits n (event ∷ past) → PastFits n past
+  fits_before past event fits = record {
+    blocks = all_front (BlockFits n) (registered past) (registered_by event) (subst (AllByRecursion (BlockFits n)) (registered_after past event) fits.blocks);
+    few = (let few = fits.few in omega (arith, few, tasks_more past event));
+  }
+
+  fits_calls : (disk : Disk) (past : Past) (calls : List Call) → PastFits n (fold (take_call disk.map) past calls) → PastFits n past
+  fits_calls disk past [] fits = fits
+  fits_calls disk past (call ∷ calls) fits = fits_before past _ (fits_calls disk (take_call disk.map past call) calls fits)
+
+  fits_deliveries : (past : Past) (deliveries : List Delivery) → PastFits n (fold with_delivery past deliveries) → PastFits n past
+  fits_deliveries past [] fits = fits
+  fits_deliveries past (delivery ∷ deliveries) fits = fits_before past _ (fits_before (delivered delivery.got ∷ past) _ (fits_deliveries (with_delivery past delivery) deliveries fits))
+
+  fits_finish : (past : Past) (decision : Decision) → PastFits n (with_finish past decision) → PastFits n past
+  fits_finish past (serves served) fits = fits_before past _ fits
+  fits_finish past (idles dwell) fits = fits
+  fits_finish past (ends now) fits = fits
+
+  fits_settled : (inputs : Inputs) (past : Past) (decision : Decision) → PastFits n (settled_past inputs past decision) → PastFits n past
+  unfolding settled_past
+  fits_settled inputs past decision fits =
+      let called = fold (take_call inputs.disk.map) past (calls_due inputs.calls past (instant_of decision)) in
+      fits_calls inputs.disk past (calls_due inputs.calls past (instant_of decision))
+      (by_all (λ p. PastFits n p → PastFits n called) inputs.disk.map (λ p task segment blocks h now. h (fits_before p _ now)) called (λ h. h) fits)
+
+  fits_tested : (inputs : Inputs) (past : Past) (step : Decision × Part) → PastFits n (past_after inputs past step) → PastFits n (tested step.1.settled ∷ settled_past inputs past step.0)
+  unfolding past_after
+  fits_tested inputs past step fits = fits_deliveries (tested step.1.settled ∷ settled_past inputs past step.0) step.1.deliveries (fits_finish _ step.0 fits)
+
+  -- ---- the rows of tests
+
+  in_range : (past : Past) → PastFits n past → AllByRecursion (λ task. task < n) (task_numbers past)
+  in_range past fits = all_range (λ task. task < n) 0 (length (tasks past)) (λ k from below. let few = fits.few in omega (arith, below, few))
+
+  module _ (medium : Medium) (past : Past) (now : ℕ) (fits : PastFits n past) where
+    chosen_fits : (task : ℕ) → AllByRecursion (λ (choice : Choice). AllByRecursion (BlockFits n) choice.blocks) (choices past task)
+    chosen_fits task = all_weaker (λ (choice : Choice). AllByRecursion (IsRegistered past) choice.blocks) (λ choice. AllByRecursion (BlockFits n) choice.blocks)
+        (λ choice all. all_weaker (IsRegistered past) (BlockFits n) (λ block there. all_in (BlockFits n) (registered past) block fits.blocks there) choice.blocks all) (choices past task) (chosen_there past task)
+
+    segments_fit : (task : ℕ) → task < n → AllByRecursion (RowFits n) (segment_rows (on_disk medium) past now task)
+    segments_fit task below = all_map (RowFits n) _ (filter (is_newly_cleaned (work past task)) (choices past task))
+        (all_weaker (λ (choice : Choice). AllByRecursion (BlockFits n) choice.blocks) _
+        (λ choice all. record {
+          ranges = runs_within _ (blocks_within medium (delivery_begin past) choice.blocks (all_weaker (BlockFits n) (λ block. block.lbn + block.count ≤ 10 ^ 12) (λ block h. h.within) choice.blocks all));
+          named = λ names e. omega (arith, e, below);
+        })
+        (filter (is_newly_cleaned (work past task)) (choices past task)) (all_filter _ (is_newly_cleaned (work past task)) (choices past task) (chosen_fits task)))
+
+    image_within : (task : ℕ) → AreRanges (image medium past task now)
+    image_within task = runs_within _ (blocks_within medium (λ block. now) (filter (λ block. is_delivered ((work past task).bare block)) (blocks_of past task))
+        (all_weaker (BlockFits n) (λ block. block.lbn + block.count ≤ 10 ^ 12) (λ block h. h.within) (filter (λ block. is_delivered ((work past task).bare block)) (blocks_of past task))
+        (all_filter (BlockFits n) (λ block. is_delivered ((work past task).bare block)) (blocks_of past task) (all_filter (BlockFits n) (λ block. block.task == task) (registered past) fits.blocks))))
+
+    seals_fit : (task : ℕ) → task < n → AllByRecursion (RowFits n) (seal_rows (on_disk medium) past now task)
+    seals_fit task below = elim (cases_Bool (is_open_backup past task && is_complete past task)) [
+      | inl sealed ↦ rw sealed (record { ranges = image_within task; named = λ names e. omega (arith, e, below) }, tt)
+      | inr unsealed ↦ rw unsealed tt
+    ]
+
+    completes_fit : (task : ℕ) → task < n → AllByRecursion (RowFits n) (complete_rows past now task)
+    completes_fit task below = elim (cases_Bool (is_complete past task && not (was_complete past task))) [
+      | inl new ↦ rw new (record { ranges = tt; named = λ names e. omega (arith, e, below) }, tt)
+      | inr old ↦ rw old tt
+    ]
+
+    tests_fit : AllByRecursion (RowFits n) (test_rows (on_disk medium) past now)
+    unfolding test_rows
+    tests_fit = all_append (RowFits n) (flat_map (segment_rows (on_disk medium) past now) (task_numbers past)) (flat_map (λ task. seal_rows (on_disk medium) past now task ++ complete_rows past now task) (task_numbers past))
+        (flat_all (RowFits n) (segment_rows (on_disk medium) past now) (task_numbers past)
+        (all_weaker (λ task. task < n) (λ task. AllByRecursion (RowFits n) (segment_rows (on_disk medium) past now task)) segments_fit (task_numbers past) (in_range past fits)))
+        (flat_all (RowFits n) (λ task. seal_rows (on_disk medium) past now task ++ complete_rows past now task) (task_numbers past)
+        (all_weaker (λ task. task < n) (λ task. AllByRecursion (RowFits n) (seal_rows (on_disk medium) past now task ++ complete_rows past now task))
+        (λ task below. all_append (RowFits n) (seal_rows (on_disk medium) past now task) (complete_rows past now task) (seals_fit task below) (completes_fit task below)) (task_numbers past) (in_range past fits)))
+
+  -- ---- deliveries and what follows them
+
+  -- a delivery likewise
+  pub record GotFits (got : DeliveryRow) : Type 0 where
+    pub ranges : AreRanges got.content
+    pub task : got.block.task < n
+
+  delivery_fits : (medium : Medium) (how : How) (block : Block) (begin end : ℕ) → BlockFits n block → GotFits (delivery medium how block begin end)
+  delivery_fits medium how block begin end fits = record { ranges = runs_within _ (contents_within medium block.lbn block.count begin fits.within); task = fits.task }
+
+  caught_fits : (medium : Medium) (how : How) (dwell : _) (blocks : List Block) → AllByRecursion (BlockFits n) blocks → AllByRecursion GotFits (caught medium how dwell blocks)
+  caught_fits medium how dwell blocks all = in_order-each GotFits _ (all_map GotFits _ (filter (catches medium.disk dwell) blocks)
+      (all_weaker (BlockFits n) _ (λ block fits. delivery_fits medium how block _ _ fits) (filter (catches medium.disk dwell) blocks) (all_filter (BlockFits n) (catches medium.disk dwell) blocks all)))
+
+  rides_fit : (medium : Medium) (served : Served) (blocks : List Block) → AllByRecursion (BlockFits n) blocks → AllByRecursion GotFits (rides medium served blocks)
+  rides_fit medium served blocks all = elim (cases_Bool served.request.write) [
+    | inl writes ↦ rw writes tt
+    | inr reads ↦ rw reads (in_order-each GotFits _ (all_map GotFits _ (filter (lies_in served.request) blocks)
+        (all_weaker (BlockFits n) _ (λ block fits. delivery_fits medium _ block _ _ fits) (filter (lies_in served.request) blocks) (all_filter (BlockFits n) (lies_in served.request) blocks all))))
+  ]
+
+  missed_fit : (disk : Disk) (dwell : _) (blocks : List Block) → AllByRecursion (BlockFits n) blocks → AllByRecursion (BlockFits n) (missed disk dwell blocks)
+  missed_fit disk dwell blocks all = all_filter (BlockFits n) (λ block. not (catches disk dwell block)) blocks all
+
+  due_fits : (medium : Medium) (decision : Decision) (plan : Plan) (blocks : List Block) → AllByRecursion (BlockFits n) blocks → AllByRecursion GotFits (due medium decision plan blocks)
+  unfolding due
+  due_fits medium (serves served) plan blocks all =
+      let early = early_dwell medium.disk (gap_of medium.disk served) plan in
+      let late = late_dwell medium.disk (gap_of medium.disk served) plan in
+      let left = missed medium.disk early blocks in
+      let left_fit = missed_fit medium.disk early blocks all in
+      all_append GotFits _ (rides medium served (missed medium.disk late left))
+      (all_append GotFits (caught medium _ early blocks) (caught medium _ late left) (caught_fits medium _ early blocks all) (caught_fits medium _ late left left_fit))
+      (rides_fit medium served (missed medium.disk late left) (missed_fit medium.disk late left left_fit))
+  due_fits medium (idles dwell) plan blocks all = caught_fits medium _ dwell blocks all
+  due_fits medium (ends now) plan blocks all = tt
+
+  findings_fit : (past : Past) (got : DeliveryRow) → GotFits got → AllByRecursion (RowFits n) (findings past got)
+  findings_fit past got fits = elim (cases_Bool (is_scrub (terms_of past got.block.task).kind)) [
+    | inl scrubs ↦ rw scrubs (all_map (RowFits n) _ (bad_sectors got.content) (all_any _ (λ lbn. record { ranges = tt; named = λ names e. (let below = fits.task in omega (arith, e, below)) }) (bad_sectors got.content)))
+    | inr other ↦ rw other tt
+  ]
+
+  followed_fit : (medium : Medium) (past : Past) (deliveries : List Delivery) → PastFits n past → AllByRecursion GotFits (map (λ delivery. delivery.got) deliveries) → AreFollowed medium past deliveries
+      → AllByRecursion (RowFits n) (flat_map (λ (delivery : Delivery). GotLine delivery.got ∷ delivery.after) deliveries)
+  followed_fit medium past [] fits gots follows = tt
+  followed_fit medium past (delivery ∷ deliveries) fits gots follows =
+      let got = gots.0 in
+      let now : PastFits n (delivered delivery.got ∷ past) = record { blocks = fits.blocks; few = fits.few } in (
+        record { ranges = got.ranges; named = λ names e. (let below = got.task in omega (arith, e, below)) },
+        all_append (RowFits n) delivery.after (flat_map (λ (delivery : Delivery). GotLine delivery.got ∷ delivery.after) deliveries)
+            (subst (AllByRecursion (RowFits n)) (sym follows.0) (all_append (RowFits n) (findings past delivery.got) (test_rows (on_disk medium) (delivered delivery.got ∷ past) delivery.got.end)
+            (findings_fit past delivery.got got) (tests_fit medium (delivered delivery.got ∷ past) delivery.got.end now)))
+            (followed_fit medium (with_delivery past delivery) deliveries (record { blocks = fits.blocks; few = fits.few }) gots.1 follows.1),
+      )
+
+  -- ---- the rows of decisions
+
+  opening_fits : (disk : Disk) (decision : Decision) (plan : Plan) → AllByRecursion (RowFits n) (opening disk decision plan)
+  opening_fits disk (serves served) plan = (record { ranges = tt; named = λ names e. tt }, tt)
+  opening_fits disk (idles dwell) plan = (record { ranges = tt; named = λ names e. tt }, tt)
+  opening_fits disk (ends now) plan = tt
+
+  wanted_fit : (past : Past) → PastFits n past → AllByRecursion (BlockFits n) (wanted past)
+  unfolding wanted
+  wanted_fit past fits = all_filter (BlockFits n) (λ block. is_wanted (state past block)) (registered past) fits.blocks
+
+  pub step_fits : (inputs : Inputs) (past : Past) (step : Decision × Part) → IsMade inputs past step → PastFits n (past_after inputs past step) → AllByRecursion (RowFits n) (part_rows inputs.disk step)
+  step_fits inputs past step made fits =
+      let medium = medium_of inputs in
+      let tests = fits_tested inputs past step fits in
+      let settled = fits_before (settled_past inputs past step.0) (tested step.1.settled) tests in
+      all_append (RowFits n) (step.1.settled ++ opening inputs.disk step.0 step.1.plan) (flat_map (λ (delivery : Delivery). GotLine delivery.got ∷ delivery.after) step.1.deliveries)
+      (all_append (RowFits n) step.1.settled (opening inputs.disk step.0 step.1.plan)
+      (subst (AllByRecursion (RowFits n)) (sym made.tested.settled) (tests_fit medium (settled_past inputs past step.0) (instant_of step.0) settled)) (opening_fits inputs.disk step.0 step.1.plan))
+      (followed_fit medium (tested step.1.settled ∷ settled_past inputs past step.0) step.1.deliveries tests
+      (subst (AllByRecursion GotFits) (sym made.all) (due_fits medium step.0 step.1.plan (wanted (settled_past inputs past step.0)) (wanted_fit (settled_past inputs past step.0) settled))) made.tested.followed)
+
+  pub tasks_fit : (past : Past) → PastFits n past → AllByRecursion (RowFits n) (task_rows past)
+  unfolding task_rows
+  tasks_fit past fits = all_map (RowFits n) (task_row past) (task_numbers past)
+      (all_weaker (λ task. task < n) (λ task. RowFits n (task_row past task)) (λ task below. record { ranges = tt; named = λ names e. omega (arith, e, below) }) (task_numbers past) (in_range past fits))
+
+-- ---- of a history that is told
+
+-- its tasks are the script's
+few_tasks : (calls : List Call) (past : Past) (next : ℕ) → calls_of past ≡ take next calls → length (tasks past) ≤ length (allowed.tasks calls)
+few_tasks calls past next taken = omega (
+  arith,
+  ap length (sym (opened_same past) ∙ ap allowed.tasks taken),
+  length-append (allowed.tasks (take next calls)) (allowed.tasks (drop next calls)),
+  ap length (sym (flat_map-append (λ (call : Call). allowed.terms_in call.action) (take next calls) (drop next calls))),
+  ap (λ calls. length (allowed.tasks calls)) (take-append-drop next calls),
+)
+
+pub fits-told : (disk : Shape) (calls : List Call) (past : Past) (next : ℕ) (sessions : List Session) (held : List Entry) → Tells disk past sessions held → calls_of past ≡ take next calls → PastFits (length (allowed.tasks calls)) past
+fits-told disk calls past next sessions held tells taken =
+    let few = few_tasks calls past next taken in
+    record {
+      blocks = all_weaker (IsBlockOf disk (length (tasks past))) (BlockFits (length (allowed.tasks calls))) (λ block h. record { within = h.within; task = (let task = h.task in omega (arith, task, few)) }) (registered past) tells.on_disk;
+      few = few;
+    }

@@ -1,0 +1,437 @@
+-- A run goes on by one decision.
+use Rattle.std.proofs.Common.{◌≡◌, ℕ, zero, suc, ◌+◌, ◌<◌, ◌≤◌, ◌^◌, List, [], ◌∷◌, ◌++◌, Bool, true, false, None, Some, length, map, take, drop, refl, ap, sym, subst, ◌∙◌, arith, inl, inr, append_assoc, append-nil}
+use Rattle.std.specs.Prelude.{nat_lt, nat_le, slice_get, filter, if◌then◌else◌}
+use Rattle.std.specs.List.{AllByRecursion, fold}
+use Rattle.std.proofs.lemmas.List.{length-append}
+use Rattle.std.proofs.lemmas.Bool.{cases_Bool}
+use Rattle.std.proofs.lemmas.Bool.Decides.{nat_tests}
+use Rattle.fb_units.specs.declared.types.Request.{Request}
+use Rattle.fb_geometry.specs.Shape.{Shape, IsTrackOf}
+use Rattle.fb_calls.specs.declared.call.Call.{Call}
+use Rattle.fb_calls.specs.Allowed.{AreAllowed}
+use Rattle.fb_store.specs.Index.{Holding, content_in}
+use Rattle.fb_rows.specs.Ranges.{HasRanges}
+use Rattle.fb_rows.specs.declared.gap.Plan.{Plan}
+use Rattle.fb_rows.specs.declared.gap.Plan.TheVariants.{Direct}
+use Rattle.fb_model.specs.PlainReplay.{Served, service, finish, last_track, plain, first_least, start_of}
+use Rattle.fb_model.specs.Inputs.{Inputs, requests, served}
+use Rattle.fb_model.specs.Accepted.{IsRequestOf}
+use Rattle.fb_model.specs.Content.{Written, medium_of, fore_row}
+use Rattle.fb_model.specs.Decisions.{serves, idles, ends, instants_of, decisions_from, decisions, last_decision}
+use Rattle.fb_model.specs.History.{Past}
+use Rattle.fb_model.specs.Course.{history, take_call, calls_due}
+use Rattle.fb_tasks.specs.Telling.{calls_of}
+use Rattle.fb_decide.specs.declared.background.Background.{Background}
+use Rattle.fb_decide.specs.declared.deciding.Course.{Course}
+use Rattle.fb_decide.specs.Waiting.{left, IsWaiting, IsInOrder}
+use Rattle.fb_decide.specs.Calls.{past_settled, part_by}
+use Rattle.fb_decide.specs.Standing.{Mirrors}
+use Rattle.fb_decide.specs.Deciding.{next_of, stay_of, prepared, HasServedNext, HasStayed, HasActed, serves_pick, stays_on, stays_last, ends_here, HasPrepared, HasDecided}
+use Rattle.fb_decide.proofs.Readiness.{all_front, all_join, all_back, taken, taken_ready, start_waiting, ahead_of, plain_next, order_dropped}
+use Rattle.fb_decide.proofs.Readiness as readiness
+use Rattle.fb_decide.proofs.Passed.{all_weaker, all_append, all_map, written_after}
+use Rattle.fb_decide.specs.Making.{Step, Replayed, all_writes, fore_row_of, decided_in, HasRun, GoesOn, HasEnded, HasComeTo, AreKnown, decisions_by, decisions_left, rest_by, rest_of}
+use Rattle.fb_decide.proofs.Replayed.{row_made, replayed_more}
+use Rattle.fb_decide.proofs.Instants.{IsAmong, all_of_both}
+use Rattle.fb_decide.proofs.Decided.{serves_now, stays_next, ends_now, plain_same, starts_from, StartsFrom}
+use Rattle.fb_decide.proofs.Mirroring.{held_until, mirrors_run, all_late, served_late}
+use Rattle.fb_decide.proofs.Coming.{HasCome, to_come, among_instants, apart_instants, left_later, passed_instants, none_left, rising_instants}
+use Rattle.fb_tasks.proofs.AllChoices.{by_all}
+use Rattle.fb_decide.proofs.Stepping.{HasStepped, stepped, serves_done, stays_done, ends_done, has_served, served_gots, stayed_gots}
+use Rattle.fb_decide.proofs.Running.{one_decided, run_more, called_more}
+
+-- ---- the calls that have taken effect
+
+calls_after : (disk : Shape) (past : Past) (calls : List Call) → calls_of (fold (take_call disk) past calls) ≡ calls_of past ++ calls
+calls_after disk past [] = sym (append-nil (calls_of past))
+calls_after disk past (call ∷ calls) = calls_after disk (take_call disk past call) calls ∙ append_assoc (calls_of past) (call ∷ []) calls
+
+calls_settled : (disk : Shape) (calls : List Call) (past : Past) (now : ℕ) → calls_of (past_settled disk calls past now) ≡ calls_of past ++ calls_due calls past now
+calls_settled disk calls past now =
+    let called = fold (take_call disk) past (calls_due calls past now) in
+    by_all (λ p. calls_of p ≡ calls_of called) disk (λ p task segment blocks e. e) called refl
+    ∙ calls_after disk past (calls_due calls past now)
+
+all_dropped : {X : Type 0} (P : X → Type 0) (n : ℕ) (xs : List X) → AllByRecursion P xs → AllByRecursion P (drop n xs)
+all_dropped P zero xs all = all
+all_dropped P (suc n) [] all = tt
+all_dropped P (suc n) (x ∷ xs) all = all_dropped P n xs all.1
+
+all_come : (now : ℕ) (calls : List Call) → AllByRecursion (λ c. c.instant ≤ now) (filter (λ call. nat_le call.instant now) calls)
+all_come now [] = tt
+all_come now (call ∷ calls) = elim (cases_Bool (nat_le call.instant now)) [
+  | inl kept ↦ rw kept ((let h : call.instant ≤ now = grind (arith, nat_tests) in h), all_come now calls)
+  | inr dropped ↦ rw dropped (all_come now calls)
+]
+
+-- ---- every instant is early
+
+early_calls : (disk : Shape) (before calls : List Call) → AreAllowed disk before calls → AllByRecursion (λ c. c.instant ≤ 10 ^ 15) calls
+early_calls disk before [] allowed = tt
+early_calls disk before (call ∷ calls) allowed = (allowed.0, early_calls disk (before ++ call ∷ []) calls allowed.2)
+
+at_among : (P : ℕ → Type 0) (t : ℕ) (xs : List ℕ) → AllByRecursion P xs → IsAmong t xs → P t
+at_among P t [] all there = absurd there
+at_among P t (x ∷ xs) all there = elim there [
+  | inl here ↦ subst P here all.0
+  | inr rest ↦ at_among P t xs all.1 rest
+]
+
+early_instant : (inputs : Inputs) (t : ℕ) → AreKnown inputs → IsAmong t (instants_of inputs) → t ≤ 10 ^ 15
+early_instant inputs t known there = at_among (λ x. x ≤ 10 ^ 15) t (instants_of inputs)
+    (all_of_both (λ x. x ≤ 10 ^ 15) (map (λ c. c.instant) inputs.calls) (map (λ r. r.arrival) (requests inputs))
+    (all_map (λ x. x ≤ 10 ^ 15) (λ (r : Request). r.arrival) (requests inputs) (all_weaker (IsRequestOf inputs.disk.map) (λ (r : Request). r.arrival ≤ 10 ^ 15) (λ r h. h.arrival) (requests inputs) known.list.on_disk))
+    (all_map (λ x. x ≤ 10 ^ 15) (λ (c : Call). c.instant) inputs.calls (early_calls inputs.disk.map [] inputs.calls known.accepted.calls)))
+    there
+
+-- ---- a stay changes nothing of the foreground
+
+stays_replayed : (latent : List ℕ) (whole done rest : List Served) (now : ℕ) (holding : Holding) (later : List Served) (now' : ℕ) (holding' : Holding)
+    → Replayed latent whole rest now holding done → rest ≡ later → now ≤ now' → holding' ≡ holding → Replayed latent whole later now' holding' done
+stays_replayed latent whole done rest now holding later now' holding' so_far same from held = record {
+  all = ap (λ services. done ++ services) (sym same) ∙ so_far.all;
+  ended = all_weaker (λ (w : Written). w.passage.end ≤ now) (λ w. w.passage.end ≤ now') (λ w h. omega (arith, h, from)) (all_writes done) so_far.ended;
+  holds = λ lbn. ap (λ h. content_in h lbn) held ∙ so_far.holds lbn;
+}
+
+-- a decision leads on
+pub record LeadsOn (inputs : Inputs) (before : Course) (pending : List Request) (steps : List Step) (more : Bool) (after : Course) (pending_after : List Request) (count_after : ℕ) : Type 0 where
+  pub step : Step
+  pub stepped : HasStepped inputs (history inputs steps) before step after
+  pub fore : after.fore ≡ before.fore ++ fore_row_of (medium_of inputs) step.0
+  pub fore_ranges : AllByRecursion HasRanges (fore_row_of (medium_of inputs) step.0)
+  pub come_to : HasComeTo inputs more after pending_after count_after (steps ++ step ∷ [])
+  pub fewer : decisions_left inputs more after pending_after < decisions_left inputs true before pending
+
+-- ---- from one decision to the next
+
+module _ (inputs : Inputs) (known : AreKnown inputs) (before : Course) (pending : List Request) (count : ℕ) (steps : List Step) (so_far : GoesOn inputs before pending count steps)
+    (background : Background) (joined called : ℕ) (waiting : List Request)
+    (ready : HasPrepared inputs.disk (requests inputs) inputs.calls (history inputs steps) before pending background joined called waiting) where
+  -- those that have not arrived, and all that are left
+  abbrev ahead : List Request
+  ahead = drop joined (requests inputs)
+
+  abbrev all_left : List Request
+  all_left = left (requests inputs) joined waiting
+
+  abbrev rest : List Served
+  rest = rest_by inputs before all_left
+
+  same_rest : rest ≡ rest_of inputs before pending
+  same_rest = ap (rest_by inputs before) ready.same_left
+
+  abbrev run : HasRun inputs rest before steps
+  run = record {
+    done = so_far.run.done;
+    replayed = subst (λ rest. Replayed inputs.latent (served inputs) rest before.now before.store so_far.run.done) (sym same_rest) so_far.run.replayed;
+    tells = so_far.run.tells;
+    finds = so_far.run.finds;
+    ends_at = so_far.run.ends_at;
+  }
+
+  same_left : length (decisions_by inputs before rest) ≡ decisions_left inputs true before pending
+  same_left = ap (λ services. length (decisions_by inputs before services)) same_rest
+
+  decided : decided_in steps ++ decisions_by inputs before rest ≡ decisions inputs
+  decided = ap (λ rest. decided_in steps ++ decisions_by inputs before rest) same_rest ∙ so_far.decided
+
+  on_disk : AllByRecursion (IsRequestOf inputs.disk.map) all_left
+  on_disk = subst (AllByRecursion (IsRequestOf inputs.disk.map)) (sym ready.same_left) so_far.waits.on_disk
+
+  not_come : AllByRecursion (λ r. before.now < r.arrival) ahead
+  not_come = ahead_of before.now joined (requests inputs) known.list.order ready.ahead
+
+  calls_taken : AllByRecursion (λ c. c.instant ≤ before.now) (take called inputs.calls)
+  calls_taken =
+      let past = history inputs steps in
+      subst (AllByRecursion (λ c. c.instant ≤ before.now)) (sym (calls_settled inputs.disk.map inputs.calls past before.now) ∙ ready.settled.called.taken)
+      (all_append (λ c. c.instant ≤ before.now) (calls_of past) (calls_due inputs.calls past before.now)
+      (subst (AllByRecursion (λ c. c.instant ≤ before.now)) (sym so_far.called.taken) so_far.calls_taken)
+      (all_dropped (λ c. c.instant ≤ before.now) _ (filter (λ call. nat_le call.instant before.now) inputs.calls) (all_come before.now inputs.calls)))
+
+  come : HasCome inputs before.now joined called
+  come = record { rising = known.rising; instants = known.accepted.instants; arrivals = ready.come; calls = calls_taken; no_arrival = ready.ahead; no_call = ready.settled.ahead }
+
+  -- a request is served
+  module _ (request : Request) (others : List Request) (after : Course) (count_after : ℕ) (pick : first_least (inputs.key inputs.disk before.head before.now) waiting ≡ Some (request, others))
+      (now_served : HasServedNext inputs.disk request (prepared before background joined called) after) (waits : IsWaiting inputs.disk (requests inputs) after.now after.joined count_after others) where
+    abbrev this : Served
+    this = service inputs.disk before.head before.now request
+
+    abbrev later : List Served
+    later = plain (length (others ++ ahead)) inputs.disk inputs.key after.head after.now (others ++ ahead)
+
+    among : IsRequestOf inputs.disk.map request × (AllByRecursion (IsRequestOf inputs.disk.map) others × (length others + 1 ≡ length waiting))
+    among = taken (IsRequestOf inputs.disk.map) (inputs.key inputs.disk before.head before.now) waiting request others (all_front (IsRequestOf inputs.disk.map) waiting ahead on_disk) pick
+
+    others_on_disk : AllByRecursion (IsRequestOf inputs.disk.map) (others ++ ahead)
+    others_on_disk = all_join (IsRequestOf inputs.disk.map) others ahead among.1.0 (all_back (IsRequestOf inputs.disk.map) waiting ahead on_disk)
+
+    size : length all_left ≡ suc (length (others ++ ahead))
+    size = omega (arith, length-append waiting ahead, length-append others ahead, among.1.1)
+
+    first_served : rest ≡ this ∷ plain (length (others ++ ahead)) inputs.disk inputs.key (last_track inputs.disk this) (finish this) (others ++ ahead)
+    first_served =
+        let start : before.now ≡ start_of before.now all_left = sym (start_waiting before.now waiting ahead (omega (arith, among.1.1)) ready.arrived) in
+        ap (λ n. plain n inputs.disk inputs.key before.head before.now all_left) size
+        ∙ plain_next (length (others ++ ahead)) inputs.disk inputs.key before.head before.now all_left before.now request (others ++ ahead) start
+        (taken_ready (inputs.key inputs.disk before.head before.now) before.now waiting ahead request others ready.arrived not_come pick)
+
+    to_head : rest ≡ this ∷ plain (length (others ++ ahead)) inputs.disk inputs.key after.head (finish this) (others ++ ahead)
+    to_head = first_served ∙ ap (λ head. this ∷ plain (length (others ++ ahead)) inputs.disk inputs.key head (finish this) (others ++ ahead)) (sym now_served.stands)
+
+    next : rest ≡ this ∷ later
+    next = to_head ∙ ap (λ t. this ∷ plain (length (others ++ ahead)) inputs.disk inputs.key after.head t (others ++ ahead)) (sym now_served.finished)
+
+    mirrors : Mirrors (medium_of inputs) before.store before.now (held_until this)
+    mirrors = mirrors_run inputs run.done rest before.now (held_until this) before.store run.replayed
+        (subst (λ services. AllByRecursion (λ (w : Written). held_until this < w.passage.end) (all_writes services)) (sym to_head)
+        (served_late (length (others ++ ahead)) inputs.disk known.takes_time inputs.key before.head before.now request after.head (others ++ ahead) among.0 others_on_disk))
+
+    abbrev plan : Plan
+    plan = (has_served inputs (history inputs steps) before background joined called ready.settled request among.0 after now_served mirrors).plan
+
+    abbrev step : Step
+    step = (
+      serves this,
+      part_by inputs.disk.map inputs.calls (history inputs steps) before.now plan
+          (served_gots inputs (history inputs steps) before background joined called ready.settled request among.0 after now_served mirrors),
+    )
+
+    is_stepped : HasStepped inputs (history inputs steps) before step after
+    is_stepped = stepped inputs (history inputs steps) before background called (serves this) plan
+        (served_gots inputs (history inputs steps) before background joined called ready.settled request among.0 after now_served mirrors) after (held_until this)
+        (serves_done inputs (history inputs steps) before background joined called ready.settled request among.0 after now_served mirrors) run.tells run.finds ready.settled
+
+    same_later : later ≡ rest_of inputs after others
+    same_later = ap (λ n. rest_by inputs after (others ++ drop n (requests inputs))) (sym now_served.same_joined)
+
+    row_is : now_served.row ≡ fore_row (medium_of inputs) this
+    unfolding medium_of
+    row_is = row_made inputs.disk inputs.latent (served inputs) run.done rest later before.head before.now after.now request before.store run.replayed next
+        (let h = now_served.later in omega (arith, h)) now_served.finished now_served.row now_served.is_row now_served.each
+        (written_after (length (others ++ ahead)) inputs.disk inputs.key after.head after.now (others ++ ahead))
+
+    replayed : Replayed inputs.latent (served inputs) later after.now after.store (run.done ++ this ∷ [])
+    replayed = replayed_more inputs.disk inputs.latent (served inputs) run.done rest later before.head before.now after.now request before.store run.replayed next
+        (let h = now_served.later in omega (arith, h)) now_served.finished after.store now_served.leaves
+
+    next_decided : decisions_by inputs before rest ≡ serves this ∷ decisions_by inputs after (rest_of inputs after others)
+    next_decided = ap (decisions_by inputs before) next
+        ∙ serves_now inputs.disk (instants_of inputs) inputs.until before.head before.now request later
+        ∙ ap (λ head. serves this ∷ decisions_from inputs.disk (instants_of inputs) inputs.until head (finish this) later) (sym now_served.stands)
+        ∙ ap (λ t. serves this ∷ decisions_from inputs.disk (instants_of inputs) inputs.until after.head t later) (sym now_served.finished)
+        ∙ ap (λ services. serves this ∷ decisions_by inputs after services) same_later
+
+    longer : length (run.done ++ this ∷ []) ≡ length run.done + 1
+    longer = length-append run.done (this ∷ [])
+
+    goes_on_serving : GoesOn inputs after others count_after (steps ++ step ∷ [])
+    goes_on_serving =
+        let late = now_served.later in
+        let soon = now_served.soon in
+        record {
+          run = run_more inputs rest (rest_of inputs after others) before steps run step after is_stepped (run.done ++ this ∷ [])
+              (subst (λ services. Replayed inputs.latent (served inputs) services after.now after.store (run.done ++ this ∷ [])) same_later replayed);
+          decided = one_decided steps step (decisions_by inputs before rest) (decisions_by inputs after (rest_of inputs after others)) (decisions inputs) decided next_decided;
+          called = called_more inputs rest (rest_of inputs after others) before steps run step after is_stepped;
+          arrivals = subst (λ n. AllByRecursion (λ r. r.arrival ≤ after.now) (take n (requests inputs))) (sym now_served.same_joined)
+              (all_weaker (λ (r : Request). r.arrival ≤ before.now) (λ r. r.arrival ≤ after.now) (λ r h. omega (arith, h, late)) (take joined (requests inputs)) ready.come);
+          calls_taken = subst (λ n. AllByRecursion (λ c. c.instant ≤ after.now) (take n inputs.calls)) (sym now_served.same_called)
+              (all_weaker (λ (c : Call). c.instant ≤ before.now) (λ c. c.instant ≤ after.now) (λ c h. omega (arith, h, late)) (take called inputs.calls) calls_taken);
+          waits = waits;
+          stands = now_served.on_disk;
+          soon = omega (arith, soon, so_far.soon, longer);
+          counted = omega (arith, ap (λ n. length (others ++ drop n (requests inputs))) now_served.same_joined, longer, size, ap length ready.same_left, so_far.counted);
+        }
+
+    leads_serving : LeadsOn inputs before pending steps true after others count_after
+    leads_serving = record {
+      step = step;
+      stepped = is_stepped;
+      fore = now_served.more ∙ ap (λ row. before.fore ++ row ∷ []) row_is;
+      fore_ranges = (subst HasRanges row_is now_served.ranges, tt);
+      come_to = goes_on_serving;
+      fewer = omega (arith, ap length next_decided, same_left);
+    }
+
+  -- the head stays until the next instant
+  module _ (instant : ℕ) (after : Course) (count_after : ℕ) (empty : waiting ≡ []) (next : next_of (slice_get (requests inputs) joined) (slice_get inputs.calls called) ≡ Some instant)
+      (stayed : HasStayed inputs.disk instant (prepared before background joined called) after) (waits : IsWaiting inputs.disk (requests inputs) after.now after.joined count_after waiting) where
+    less : before.now < instant
+    less = to_come inputs before.now joined called come instant next
+
+    order_left : IsInOrder all_left
+    order_left = subst (λ ws. IsInOrder (ws ++ ahead)) (sym empty) (order_dropped joined (requests inputs) known.list.order)
+
+    late_left : AllByRecursion (λ r. instant ≤ r.arrival) all_left
+    late_left = subst (λ ws. AllByRecursion (λ r. instant ≤ r.arrival) (ws ++ ahead)) (sym empty) (left_later inputs before.now joined called come instant next)
+
+    abbrev rest_then : List Served
+    rest_then = plain (length all_left) inputs.disk inputs.key before.head instant all_left
+
+    same_then : rest ≡ rest_then
+    same_then = plain_same (length all_left) inputs.disk inputs.key before.head before.now instant all_left (omega (arith, less)) order_left late_left
+
+    same_after : rest_then ≡ rest_of inputs after waiting
+    same_after =
+        ap (λ head. plain (length all_left) inputs.disk inputs.key head instant all_left) (sym stayed.same_head)
+        ∙ ap (λ t. plain (length all_left) inputs.disk inputs.key after.head t all_left) (sym stayed.until)
+        ∙ ap (λ n. rest_by inputs after (waiting ++ drop n (requests inputs))) (sym stayed.same_joined)
+
+    mirrors_stay : Mirrors (medium_of inputs) before.store before.now instant
+    mirrors_stay = mirrors_run inputs run.done rest before.now instant before.store run.replayed
+        (subst (λ services. AllByRecursion (λ (w : Written). instant < w.passage.end) (all_writes services)) (sym same_then)
+        (all_late (length all_left) inputs.disk known.takes_time inputs.key before.head instant all_left on_disk))
+
+    abbrev step_stay : Step
+    step_stay = (
+      idles (stay_of (prepared before background joined called) instant),
+      part_by inputs.disk.map inputs.calls (history inputs steps) before.now (Direct 0)
+          (stayed_gots inputs (history inputs steps) before background joined called ready.settled instant (omega (arith, less)) after stayed mirrors_stay),
+    )
+
+    stay_is_stepped : HasStepped inputs (history inputs steps) before step_stay after
+    stay_is_stepped = stepped inputs (history inputs steps) before background called step_stay.0 (Direct 0)
+        (stayed_gots inputs (history inputs steps) before background joined called ready.settled instant (omega (arith, less)) after stayed mirrors_stay) after instant
+        (stays_done inputs (history inputs steps) before background joined called ready.settled instant (omega (arith, less)) after stayed mirrors_stay) run.tells run.finds ready.settled
+
+    next_stay : decisions_by inputs before rest ≡ step_stay.0 ∷ decisions_by inputs after (rest_of inputs after waiting)
+    next_stay =
+        stays_next inputs.disk (instants_of inputs) inputs.until before.head before.now instant rest less (rising_instants inputs before.now joined called come)
+        (among_instants inputs before.now joined called come instant next) (apart_instants inputs before.now joined called come instant next)
+        (subst (StartsFrom instant) (sym same_then) (starts_from (length all_left) inputs.disk inputs.key before.head instant all_left))
+        ∙ ap (λ services. step_stay.0 ∷ decisions_from inputs.disk (instants_of inputs) inputs.until before.head instant services) (same_then ∙ same_after)
+        ∙ ap (λ head. step_stay.0 ∷ decisions_from inputs.disk (instants_of inputs) inputs.until head instant (rest_of inputs after waiting)) (sym stayed.same_head)
+        ∙ ap (λ t. step_stay.0 ∷ decisions_from inputs.disk (instants_of inputs) inputs.until after.head t (rest_of inputs after waiting)) (sym stayed.until)
+
+    replayed_stay : Replayed inputs.latent (served inputs) (rest_of inputs after waiting) after.now after.store run.done
+    replayed_stay = stays_replayed inputs.latent (served inputs) run.done rest before.now before.store (rest_of inputs after waiting) after.now after.store
+        run.replayed (same_then ∙ same_after) (let until = stayed.until in omega (arith, until, less)) stayed.same_store
+
+    goes_on_staying : GoesOn inputs after waiting count_after (steps ++ step_stay ∷ [])
+    goes_on_staying =
+        let until = stayed.until in
+        record {
+          run = run_more inputs rest (rest_of inputs after waiting) before steps run step_stay after stay_is_stepped run.done replayed_stay;
+          decided = one_decided steps step_stay (decisions_by inputs before rest) (decisions_by inputs after (rest_of inputs after waiting)) (decisions inputs) decided next_stay;
+          called = called_more inputs rest (rest_of inputs after waiting) before steps run step_stay after stay_is_stepped;
+          arrivals = subst (λ n. AllByRecursion (λ r. r.arrival ≤ after.now) (take n (requests inputs))) (sym stayed.same_joined)
+              (all_weaker (λ (r : Request). r.arrival ≤ before.now) (λ r. r.arrival ≤ after.now) (λ r h. omega (arith, h, less, until)) (take joined (requests inputs)) ready.come);
+          calls_taken = subst (λ n. AllByRecursion (λ c. c.instant ≤ after.now) (take n inputs.calls)) (sym stayed.same_called)
+              (all_weaker (λ (c : Call). c.instant ≤ before.now) (λ c. c.instant ≤ after.now) (λ c h. omega (arith, h, less, until)) (take called inputs.calls) calls_taken);
+          waits = waits;
+          stands = subst (IsTrackOf inputs.disk.map) (sym stayed.same_head) so_far.stands;
+          soon = omega (arith, until, early_instant inputs instant known (among_instants inputs before.now joined called come instant next));
+          counted = omega (arith, ap (λ n. length (waiting ++ drop n (requests inputs))) stayed.same_joined, ap length ready.same_left, so_far.counted);
+        }
+
+    leads_staying : LeadsOn inputs before pending steps true after waiting count_after
+    leads_staying = record {
+      step = step_stay;
+      stepped = stay_is_stepped;
+      fore = stayed.same_fore ∙ sym (append-nil before.fore);
+      fore_ranges = tt;
+      come_to = goes_on_staying;
+      fewer = omega (arith, ap length next_stay, same_left);
+    }
+
+  -- nothing is to come: the head stays until the end, or the run ends
+  module _ (empty : waiting ≡ []) (next : next_of (slice_get (requests inputs) joined) (slice_get inputs.calls called) ≡ None) where
+    no_rest : rest ≡ []
+    no_rest = readiness.none_left (length all_left) inputs.disk inputs.key before.head before.now all_left
+        (ap length (ap (λ ws. ws ++ ahead) empty ∙ none_left inputs before.now joined called come next))
+
+    last_is : decisions_by inputs before rest ≡ last_decision before.head before.now inputs.until ∷ []
+    last_is = ap (decisions_by inputs before) no_rest
+        ∙ ends_now inputs.disk (instants_of inputs) inputs.until before.head before.now (passed_instants inputs before.now joined called come next)
+
+    mirrors_on : (end : ℕ) → Mirrors (medium_of inputs) before.store before.now end
+    mirrors_on end = mirrors_run inputs run.done rest before.now end before.store run.replayed
+        (subst (λ services. AllByRecursion (λ (w : Written). end < w.passage.end) (all_writes services)) (sym no_rest) tt)
+
+    few_served : length (served inputs) ≤ 10 ^ 6
+    few_served = omega (arith, ap length run.replayed.all, length-append run.done rest, ap length no_rest, so_far.counted, known.list.few)
+
+    module _ (later : before.now < inputs.until) (after : Course) (stayed : HasStayed inputs.disk inputs.until (prepared before background joined called) after) where
+      abbrev step_last : Step
+      step_last = (
+        idles (stay_of (prepared before background joined called) inputs.until),
+        part_by inputs.disk.map inputs.calls (history inputs steps) before.now (Direct 0)
+            (stayed_gots inputs (history inputs steps) before background joined called ready.settled inputs.until (omega (arith, later)) after stayed (mirrors_on inputs.until)),
+      )
+
+      last_is_stepped : HasStepped inputs (history inputs steps) before step_last after
+      last_is_stepped = stepped inputs (history inputs steps) before background called step_last.0 (Direct 0)
+          (stayed_gots inputs (history inputs steps) before background joined called ready.settled inputs.until (omega (arith, later)) after stayed (mirrors_on inputs.until)) after inputs.until
+          (stays_done inputs (history inputs steps) before background joined called ready.settled inputs.until (omega (arith, later)) after stayed (mirrors_on inputs.until)) run.tells run.finds ready.settled
+
+      ends_staying : HasEnded inputs after (steps ++ step_last ∷ [])
+      ends_staying =
+          let until = stayed.until in
+          let idle : nat_lt before.now inputs.until ≡ true = grind (arith, nat_tests) in
+          record {
+            run = run_more inputs rest [] before steps run step_last after last_is_stepped run.done
+                (stays_replayed inputs.latent (served inputs) run.done rest before.now before.store [] after.now after.store run.replayed no_rest (omega (arith, until, later)) stayed.same_store);
+            decided = sym (append-nil (decided_in (steps ++ step_last ∷ []))) ∙ one_decided steps step_last (decisions_by inputs before rest) [] (decisions inputs) decided
+                (last_is ∙ ap (λ b. (if b then step_last.0 else ends before.now) ∷ []) idle);
+            calls_made = (called_more inputs rest [] before steps run step_last after last_is_stepped).taken;
+            few = few_served;
+          }
+
+      leads_last : (count_after : ℕ) → LeadsOn inputs before pending steps false after waiting count_after
+      leads_last count_after = record {
+        step = step_last;
+        stepped = last_is_stepped;
+        fore = stayed.same_fore ∙ sym (append-nil before.fore);
+        fore_ranges = tt;
+        come_to = ends_staying;
+        fewer = omega (arith, ap length last_is, same_left);
+      }
+
+    module _ (over : inputs.until ≤ before.now) where
+      abbrev step_end : Step
+      step_end = (ends before.now, part_by inputs.disk.map inputs.calls (history inputs steps) before.now (Direct 0) [])
+
+      end_is_stepped : HasStepped inputs (history inputs steps) before step_end (prepared before background joined called)
+      end_is_stepped = stepped inputs (history inputs steps) before background called (ends before.now) (Direct 0) [] (prepared before background joined called) before.now
+          (ends_done inputs (history inputs steps) before background joined called ready.settled (mirrors_on before.now)) run.tells run.finds ready.settled
+
+      ends_there : HasEnded inputs (prepared before background joined called) (steps ++ step_end ∷ [])
+      ends_there =
+          let ends_now : nat_lt before.now inputs.until ≡ false = grind (arith, nat_tests) in
+          record {
+            run = run_more inputs rest [] before steps run step_end (prepared before background joined called) end_is_stepped run.done
+                (subst (λ services. Replayed inputs.latent (served inputs) services before.now before.store run.done) no_rest run.replayed);
+            decided = sym (append-nil (decided_in (steps ++ step_end ∷ []))) ∙ one_decided steps step_end (decisions_by inputs before rest) [] (decisions inputs) decided
+                (last_is ∙ ap (λ b. (if b then idles (stay_of before inputs.until) else step_end.0) ∷ []) ends_now);
+            calls_made = (called_more inputs rest [] before steps run step_end (prepared before background joined called) end_is_stepped).taken;
+            few = few_served;
+          }
+
+      leads_to_end : (count_after : ℕ) → LeadsOn inputs before pending steps false (prepared before background joined called) waiting count_after
+      leads_to_end count_after = record {
+        step = step_end;
+        stepped = end_is_stepped;
+        fore = sym (append-nil before.fore);
+        fore_ranges = tt;
+        come_to = ends_there;
+        fewer = omega (arith, ap length last_is, same_left);
+      }
+
+  -- whatever is done
+  by_action : (goes_on : Bool) (pending_after : List Request) (after : Course) (count_after : ℕ)
+      → HasActed inputs.disk inputs.key inputs.until (next_of (slice_get (requests inputs) joined) (slice_get inputs.calls called)) waiting (prepared before background joined called) goes_on pending_after after
+      → (goes_on ≡ true → IsWaiting inputs.disk (requests inputs) after.now after.joined count_after pending_after) → LeadsOn inputs before pending steps goes_on after pending_after count_after
+  by_action goes_on pending_after after count_after (serves_pick request others course pick now_served) waits = leads_serving request others course count_after pick now_served (waits refl)
+  by_action goes_on pending_after after count_after (stays_on instant course empty next stayed) waits = leads_staying instant course count_after empty next stayed (waits refl)
+  by_action goes_on pending_after after count_after (stays_last course empty next later stayed) waits = leads_last empty next later course stayed count_after
+  by_action goes_on pending_after after count_after (ends_here empty next over) waits = leads_to_end empty next over count_after
+
+-- one decision leads on from where the run had come to
+pub decided_more : (inputs : Inputs) (before : Course) (pending : List Request) (count : ℕ) (steps : List Step) (goes_on : Bool) (after : Course) (pending_after : List Request) (count_after : ℕ) → AreKnown inputs
+    → GoesOn inputs before pending count steps → HasDecided inputs.disk (requests inputs) inputs.calls inputs.key inputs.until (history inputs steps) before pending goes_on after pending_after
+    → (goes_on ≡ true → IsWaiting inputs.disk (requests inputs) after.now after.joined count_after pending_after) → LeadsOn inputs before pending steps goes_on after pending_after count_after
+decided_more inputs before pending count steps goes_on after pending_after count_after known so_far decided waits =
+    by_action inputs known before pending count steps so_far decided.background decided.joined decided.called decided.waiting decided.has_prepared goes_on pending_after after count_after decided.acted waits

@@ -1,0 +1,157 @@
+-- The instants of arrivals and calls, and the idle dwells from one to the next.
+use Rattle.std.proofs.Common.{◌≡◌, ◌⊎◌, ℕ, ◌<◌, ◌≤◌, max, List, [], ◌∷◌, Bool, true, false, refl, ap, sym, ◌∙◌, arith, inl, inr, subst}
+use Rattle.std.specs.Prelude.{nat_le, nat_lt, filter}
+use Rattle.std.specs.List.{AllByRecursion, fold}
+use Rattle.std.proofs.lemmas.Bool.{cases_Bool}
+use Rattle.std.proofs.lemmas.Bool.Decides.{nat_tests}
+use Rattle.fb_units.specs.declared.types.Track.{Track}
+use Rattle.fb_units.specs.Rising.{IsRising}
+use Rattle.fb_model.specs.Decisions.{idles, among, idle_until}
+use Rattle.fb_decide.proofs.Passed.{all_weaker}
+
+-- one of these instants
+abbrev pub IsAmong : ℕ → List ℕ → Type 0
+IsAmong t [] = ⊥
+IsAmong t (x ∷ xs) = (x ≡ t) ⊎ IsAmong t xs
+
+-- ---- an instant comes among others
+
+all_among : (P : ℕ → Type 0) (xs : List ℕ) (t : ℕ) → AllByRecursion P xs → P t → AllByRecursion P (among xs t)
+all_among P [] t all h = (h, tt)
+all_among P (x ∷ xs) t all h = elim (cases_Bool (nat_le x t)) [
+  | inl first ↦ rw first (all.0, all_among P xs t all.1 h)
+  | inr later ↦ rw later (h, all)
+]
+
+rising_among : (xs : List ℕ) (t : ℕ) → IsRising xs → IsRising (among xs t)
+rising_among [] t rising = (tt, tt)
+rising_among (x ∷ xs) t rising = elim (cases_Bool (nat_le x t)) [
+  | inl first ↦ rw first (all_among (λ later. x ≤ later) xs t rising.0 (grind (arith, nat_tests)), rising_among xs t rising.1)
+  | inr later ↦ rw later (let less : t ≤ x = grind (arith, nat_tests) in ((less, all_weaker (λ y. x ≤ y) (λ y. t ≤ y) (λ y h. omega (arith, h, less)) xs rising.0), rising))
+]
+
+was_among : (u : ℕ) (xs : List ℕ) (t : ℕ) → IsAmong u xs → IsAmong u (among xs t)
+was_among u [] t there = absurd there
+was_among u (x ∷ xs) t there = elim (cases_Bool (nat_le x t)) [
+  | inl first ↦ rw first (elim there [ inl here ↦ inl here | inr rest ↦ inr (was_among u xs t rest) ])
+  | inr later ↦ rw later (inr there)
+]
+
+itself_among : (xs : List ℕ) (t : ℕ) → IsAmong t (among xs t)
+itself_among [] t = inl refl
+itself_among (x ∷ xs) t = elim (cases_Bool (nat_le x t)) [
+  | inl first ↦ rw first (inr (itself_among xs t))
+  | inr later ↦ rw later (inl refl)
+]
+
+-- ---- and so do many
+
+pub all_of_both : (P : ℕ → Type 0) (ts xs : List ℕ) → AllByRecursion P xs → AllByRecursion P ts → AllByRecursion P (fold among xs ts)
+all_of_both P [] xs all more = all
+all_of_both P (t ∷ ts) xs all more = all_of_both P ts (among xs t) (all_among P xs t all more.0) more.1
+
+pub rising_of_both : (ts xs : List ℕ) → IsRising xs → IsRising (fold among xs ts)
+rising_of_both [] xs rising = rising
+rising_of_both (t ∷ ts) xs rising = rising_of_both ts (among xs t) (rising_among xs t rising)
+
+pub one_of_first : (u : ℕ) (ts xs : List ℕ) → IsAmong u xs → IsAmong u (fold among xs ts)
+one_of_first u [] xs there = there
+one_of_first u (t ∷ ts) xs there = one_of_first u ts (among xs t) (was_among u xs t there)
+
+pub one_of_second : (u : ℕ) (ts xs : List ℕ) → IsAmong u ts → IsAmong u (fold among xs ts)
+one_of_second u [] xs there = absurd there
+one_of_second u (t ∷ ts) xs there = elim there [
+  | inl here ↦ one_of_first u ts (among xs t) (subst (λ v. IsAmong v (among xs t)) here (itself_among xs t))
+  | inr rest ↦ one_of_second u ts (among xs t) rest
+]
+
+-- ---- some of them
+
+pub all_filtered : (P : ℕ → Type 0) (p : ℕ → Bool) (xs : List ℕ) → AllByRecursion P xs → AllByRecursion P (filter p xs)
+all_filtered P p [] all = tt
+all_filtered P p (x ∷ xs) all = elim (cases_Bool (p x)) [
+  | inl kept ↦ rw kept (all.0, all_filtered P p xs all.1)
+  | inr dropped ↦ rw dropped (all_filtered P p xs all.1)
+]
+
+pub rising_filtered : (p : ℕ → Bool) (xs : List ℕ) → IsRising xs → IsRising (filter p xs)
+rising_filtered p [] rising = tt
+rising_filtered p (x ∷ xs) rising = elim (cases_Bool (p x)) [
+  | inl kept ↦ rw kept (all_filtered (λ later. x ≤ later) p xs rising.0, rising_filtered p xs rising.1)
+  | inr dropped ↦ rw dropped (rising_filtered p xs rising.1)
+]
+
+pub one_filtered : (p : ℕ → Bool) (t : ℕ) (xs : List ℕ) → p t ≡ true → IsAmong t xs → IsAmong t (filter p xs)
+one_filtered p t [] h there = absurd there
+one_filtered p t (x ∷ xs) h there = elim (cases_Bool (p x)) [
+  | inl kept ↦ rw kept (elim there [ inl here ↦ inl here | inr rest ↦ inr (one_filtered p t xs h rest) ])
+  | inr dropped ↦ rw dropped (elim there [
+    | inl here ↦ absurd (let wrong : true ≡ false = sym h ∙ (sym (ap p here) ∙ dropped) in cc)
+    | inr rest ↦ one_filtered p t xs h rest
+  ])
+]
+
+pub filtered_below : (t : ℕ) (xs : List ℕ) → AllByRecursion (λ x. x ≤ t) (filter (λ x. nat_le x t) xs)
+filtered_below t [] = tt
+filtered_below t (x ∷ xs) = elim (cases_Bool (nat_le x t)) [
+  | inl kept ↦ rw kept ((let h : x ≤ t = grind (arith, nat_tests) in h), filtered_below t xs)
+  | inr dropped ↦ rw dropped (filtered_below t xs)
+]
+
+-- ---- idle dwells
+
+-- none begins at an instant that has passed
+pub idle_none : (head : Track) (now : ℕ) (xs : List ℕ) → AllByRecursion (λ x. x ≤ now) xs → idle_until head now xs ≡ []
+idle_none head now [] all = refl
+idle_none head now (x ∷ xs) all =
+    let passed : nat_lt now x ≡ false = let h = all.0 in grind (arith, nat_tests) in
+    rw passed (idle_none head now xs all.1)
+
+least_among : (x t : ℕ) (xs : List ℕ) → AllByRecursion (λ y. x ≤ y) xs → IsAmong t xs → x ≤ t
+least_among x t [] all there = absurd there
+least_among x t (y ∷ ys) all there = elim there [
+  | inl here ↦ omega (arith, all.0, here)
+  | inr rest ↦ least_among x t ys all.1 rest
+]
+
+-- nothing lies between two instants
+abbrev pub LieApart : ℕ → ℕ → List ℕ → Type 0
+LieApart now t xs = AllByRecursion (λ x. (x ≤ now) ⊎ (t ≤ x)) xs
+
+-- the first one leads to the least instant to come
+pub idle_next : (head : Track) (now t : ℕ) (xs : List ℕ) → now < t → IsRising xs → IsAmong t xs → LieApart now t xs
+    → idle_until head now xs ≡ idles (record { track = head; begin = now; end = t }) ∷ idle_until head t xs
+idle_next head now t [] less rising there apart = absurd there
+idle_next head now t (x ∷ xs) less rising there apart = elim apart.0 [
+  | inl before ↦
+      let skips : nat_lt now x ≡ false = grind (arith, nat_tests) in
+      let skips_too : nat_lt t x ≡ false = grind (arith, nat_tests) in
+      rw (skips, skips_too) (idle_next head now t xs less rising.1 (elim there [ inl here ↦ absurd (omega (arith, here, before, less)) | inr rest ↦ rest ]) apart.1)
+  | inr after ↦
+      let least : x ≤ t = elim there [ inl here ↦ (let same : x ≤ t = omega (arith, here) in same) | inr rest ↦ least_among x t xs rising.0 rest ] in
+      let same : x ≡ t = omega (arith, least, after) in
+      let begins : nat_lt now x ≡ true = grind (arith, nat_tests) in
+      let ends : nat_lt t x ≡ false = grind (arith, nat_tests) in
+      rw (begins, ends) (ap (λ y. idles (record { track = head; begin = now; end = y }) ∷ idle_until head y xs) same)
+]
+
+-- ---- the last instant
+
+fold_max : (a : ℕ) (xs : List ℕ) → fold max a xs ≡ max a (fold max 0 xs)
+fold_max a [] = omega arith
+fold_max a (x ∷ xs) = omega (arith, fold_max (max a x) xs, fold_max (max 0 x) xs)
+
+most_among : (t : ℕ) (xs : List ℕ) → IsAmong t xs → t ≤ fold max 0 xs
+most_among t [] there = absurd there
+most_among t (x ∷ xs) there = elim there [
+  | inl here ↦ omega (arith, here, fold_max (max 0 x) xs)
+  | inr rest ↦ omega (arith, most_among t xs rest, fold_max (max 0 x) xs)
+]
+
+-- it comes after each of them
+pub last_after : (now t : ℕ) (xs : List ℕ) → now ≤ t → IsAmong t xs → fold max now xs ≡ fold max t xs
+last_after now t xs before there = omega (arith, before, fold_max now xs, fold_max t xs, most_among t xs there)
+
+pub last_passed : (now : ℕ) (xs : List ℕ) → AllByRecursion (λ x. x ≤ now) xs → fold max now xs ≡ now
+last_passed now [] all = refl
+last_passed now (x ∷ xs) all = let same : max now x ≡ now = omega (arith, all.0) in ap (λ a. fold max a xs) same ∙ last_passed now xs all.1

@@ -1,0 +1,190 @@
+-- What the disk holds between two decisions it holds until the next write has passed.
+use Rattle.std.proofs.Common.{◌≡◌, ℕ, zero, suc, ◌+◌, ◌<◌, ◌≤◌, List, [], ◌∷◌, ◌++◌, length, map, Bool, true, false, Option, Some, None, ap, sym, ◌∙◌, arith, inl, inr, append-nil}
+use Rattle.std.specs.Prelude.{nat_le, filter, unwrap_or, if◌then◌else◌}
+use Rattle.std.specs.Option.{option_map}
+use Rattle.std.specs.List.{AllByRecursion, last_or}
+use Rattle.std.proofs.lemmas.Bool.{cases_Bool}
+use Rattle.std.proofs.lemmas.List.Elements.{filter-append}
+use Rattle.std.proofs.lemmas.List.Concat.{flat_map-append}
+use Rattle.fb_units.specs.declared.types.Track.{Track}
+use Rattle.fb_units.specs.declared.types.Request.{Request}
+use Rattle.fb_geometry.specs.Places.{places}
+use Rattle.fb_seek.specs.Positioning.{pos}
+use Rattle.fb_sectormap.specs.Lookup.{track_at}
+use Rattle.fb_service.specs.declared.disk.Disk.{Disk}
+use Rattle.fb_service.specs.declared.passage.Passage.{Passage}
+use Rattle.fb_service.specs.Service.{passages, passage_from, finish_of, media_of}
+use Rattle.fb_store.specs.Writes.{unwritten}
+use Rattle.fb_store.specs.Index.{Holding}
+use Rattle.fb_model.specs.PlainReplay.{Key, Served, plain, service, media, finish, last_track, start_of, has_arrived, better, kept, pick_with, first_ready}
+use Rattle.fb_model.specs.Accepted.{IsRequestOf}
+use Rattle.fb_model.specs.Inputs.{Inputs, served}
+use Rattle.fb_model.specs.Content.{Written, medium_of, writes_of, number_of, content, content_by}
+use Rattle.fb_decide.specs.Deciding.{PassagesTakeTime}
+use Rattle.fb_decide.specs.Standing.{Mirrors}
+use Rattle.fb_decide.proofs.Passed.{all_weaker, all_both, all_append, all_map, passed_between, written_by, start_after}
+use Rattle.fb_decide.specs.Making.{Replayed, all_writes, held_after}
+use Rattle.fb_decide.proofs.Replayed.{medium_by, is_of_by, ended_by, not_yet}
+
+-- ---- passages take time
+
+pub passages_long : (disk : Disk) → PassagesTakeTime disk.map → (source : Track) (now : ℕ) (write : Bool) (lbn n : ℕ) → lbn + n ≤ length (places disk.map)
+    → AllByRecursion (λ (p : Passage). p.begin < p.end) (passages disk source now write lbn n)
+unfolding passages
+passages_long disk long source now write lbn zero inside = tt
+passages_long disk long source now write lbn (suc n) inside =
+    let some = long lbn (omega (arith, inside)) in (
+      (let h : (passage_from disk.map lbn (now + pos disk.mechanism source (track_at disk.map lbn) write)).begin < (passage_from disk.map lbn (now + pos disk.mechanism source (track_at disk.map lbn) write)).end = omega (arith, some) in h),
+      passages_long disk long (track_at disk.map lbn) (passage_from disk.map lbn (now + pos disk.mechanism source (track_at disk.map lbn) write)).end write (lbn + 1) n (omega (arith, inside)),
+    )
+
+-- what is written by a service ends after its start
+written_late : (disk : Disk) → PassagesTakeTime disk.map → (head : Track) (start : ℕ) (request : Request) → IsRequestOf disk.map request
+    → AllByRecursion (λ (w : Written). start < w.passage.end) (writes_of (service disk head start request))
+written_late disk long head start request on_disk = elim (cases_Bool request.write) [
+  | inl writes ↦ rw writes (all_map (λ (w : Written). start < w.passage.end) (written_by (number_of request.name)) (passages disk head start true request.lbn request.count)
+      (all_weaker _ _ (λ (p : Passage) h. omega (arith, h.0.0, h.1)) (passages disk head start true request.lbn request.count)
+      (all_both _ _ (passages disk head start true request.lbn request.count) (passed_between disk head start true request.lbn request.count).1
+      (passages_long disk long head start true request.lbn request.count on_disk.range.inside))))
+  | inr reads ↦ rw reads tt
+]
+
+-- ---- the pick and the others are among those that are left
+
+abbrev pub PicksOf : (Request → Type 0) → Option (Request × List Request) → Type 0
+PicksOf P None = Unit {0}
+PicksOf P (Some best) = P best.0 × AllByRecursion P best.1
+
+picks_better : (P : Request → Type 0) (key : Request → ℕ) (r : Request) (rs : List Request) (best : Option (Request × List Request)) → P r → AllByRecursion P rs → PicksOf P best → PicksOf P (better key r rs best)
+picks_better P key r rs None h all picks = (h, all)
+picks_better P key r rs (Some best) h all picks = chosen (nat_le (key r) (key best.0))
+  where
+    chosen : (b : Bool) → PicksOf P (if b then Some (r, rs) else Some (best.0, r ∷ best.1))
+    chosen true = (h, all)
+    chosen false = (picks.0, (h, picks.1))
+
+picks_kept : (P : Request → Type 0) (r : Request) (best : Option (Request × List Request)) → P r → PicksOf P best → PicksOf P (kept r best)
+picks_kept P r None h picks = tt
+picks_kept P r (Some best) h picks = (picks.0, (h, picks.1))
+
+picks_with : (P : Request → Type 0) (b : Bool) (key : Request → ℕ) (r : Request) (rs : List Request) (best : Option (Request × List Request)) → P r → AllByRecursion P rs → PicksOf P best → PicksOf P (pick_with b key r rs best)
+picks_with P true key r rs best h all picks = picks_better P key r rs best h all picks
+picks_with P false key r rs best h all picks = picks_kept P r best h picks
+
+picks_ready : (P : Request → Type 0) (key : Request → ℕ) (now : ℕ) (rs : List Request) → AllByRecursion P rs → PicksOf P (first_ready key now rs)
+picks_ready P key now [] all = tt
+picks_ready P key now (r ∷ rs) all = picks_with P (has_arrived now r) key r rs (first_ready key now rs) all.0 all.1 (picks_ready P key now rs all.1)
+
+-- ---- what is served later is written later
+
+late_pick : (n : ℕ) (disk : Disk) → PassagesTakeTime disk.map → (key : Key) (head : Track) (now start : ℕ) → now ≤ start → (pick : Option (Request × List Request)) → PicksOf (IsRequestOf disk.map) pick
+    → ((head : Track) (now : ℕ) (left : List Request) → AllByRecursion (IsRequestOf disk.map) left → AllByRecursion (λ (w : Written). now < w.passage.end) (all_writes (plain n disk key head now left)))
+    → AllByRecursion (λ (w : Written). now < w.passage.end) (all_writes (unwrap_or (option_map (λ pick.
+    let served = service disk head start pick.0 in
+    served ∷ plain n disk key (last_track disk served) (finish served) pick.1) pick) []))
+late_pick n disk long key head now start late None picks later = tt
+late_pick n disk long key head now start late (Some pick) picks later =
+    let served = service disk head start pick.0 in
+    let ends = passed_between disk head start pick.0.write pick.0.lbn pick.0.count in
+    all_append _ (writes_of served) (all_writes (plain n disk key (last_track disk served) (finish served) pick.1))
+    (all_weaker _ _ (λ (w : Written) h. omega (arith, h, late)) (writes_of served) (written_late disk long head start pick.0 picks.0))
+    (all_weaker _ _ (λ (w : Written) h. omega (arith, h, ends.0, late)) _ (later (last_track disk served) (finish served) pick.1 picks.1))
+
+pub all_late : (n : ℕ) (disk : Disk) → PassagesTakeTime disk.map → (key : Key) (head : Track) (now : ℕ) (left : List Request) → AllByRecursion (IsRequestOf disk.map) left
+    → AllByRecursion (λ (w : Written). now < w.passage.end) (all_writes (plain n disk key head now left))
+unfolding plain
+all_late zero disk long key head now left on_disk = tt
+all_late (suc n) disk long key head now left on_disk = late_pick n disk long key head now (start_of now left) (start_after now left) (first_ready (key disk head (start_of now left)) (start_of now left) left)
+    (picks_ready (IsRequestOf disk.map) (key disk head (start_of now left)) (start_of now left) left on_disk) (all_late n disk long key)
+
+-- ---- and until then the disk holds what it holds
+
+content_then : (disk : Disk) (latent : List ℕ) (done rest : List Served) (now lbn t : ℕ)
+    → AllByRecursion (λ (w : Written). w.passage.end ≤ now) (all_writes done) → now ≤ t → AllByRecursion (λ (w : Written). t < w.passage.end) (all_writes rest)
+    → content (medium_by disk latent (done ++ rest)) lbn t ≡ held_after latent done lbn
+content_then disk latent done rest now lbn t before since after =
+    ap (λ ws. content_by (last_or None (filter (is_of_by lbn t) ws)) (unwritten latent lbn)) (flat_map-append writes_of done rest)
+    ∙ ap (λ ws. content_by (last_or None ws) (unwritten latent lbn))
+    (filter-append (is_of_by lbn t) (all_writes done) (all_writes rest)
+    ∙ ap (λ ws. filter (is_of_by lbn t) (all_writes done) ++ ws) (not_yet lbn t (all_writes rest) after)
+    ∙ append-nil (filter (is_of_by lbn t) (all_writes done))
+    ∙ ended_by lbn t (all_writes done) (all_weaker _ _ (λ (w : Written) h. omega (arith, h, since)) _ before))
+
+mirrors_by : (disk : Disk) (latent : List ℕ) (whole done rest : List Served) (now to : ℕ) (holding : Holding)
+    → Replayed latent whole rest now holding done → AllByRecursion (λ (w : Written). to < w.passage.end) (all_writes rest) → Mirrors (medium_by disk latent whole) holding now to
+mirrors_by disk latent whole done rest now to holding so_far after = λ lbn t from upto.
+    ap (λ served. content (medium_by disk latent served) lbn t) (sym so_far.all)
+    ∙ content_then disk latent done rest now lbn t so_far.ended from (all_weaker _ _ (λ (w : Written) h. omega (arith, h, upto)) _ after)
+    ∙ sym (so_far.holds lbn)
+
+pub mirrors_run : (inputs : Inputs) (done rest : List Served) (now to : ℕ) (holding : Holding)
+    → Replayed inputs.latent (served inputs) rest now holding done → AllByRecursion (λ (w : Written). to < w.passage.end) (all_writes rest) → Mirrors (medium_of inputs) holding now to
+unfolding medium_of
+mirrors_run inputs done rest now to holding so_far after = mirrors_by inputs.disk inputs.latent (served inputs) done rest now to holding so_far after
+
+-- ---- while a request is served
+
+-- no passage begins before the first one
+begun_after : (disk : Disk) (source : Track) (now : ℕ) (write : Bool) (lbn n : ℕ)
+    → AllByRecursion (λ (p : Passage). media_of (passages disk source now write lbn n) ≤ p.begin) (passages disk source now write lbn n)
+unfolding passages
+begun_after disk source now write lbn zero = tt
+begun_after disk source now write lbn (suc n) =
+    let first = passage_from disk.map lbn (now + pos disk.mechanism source (track_at disk.map lbn) write) in
+    let rest = passed_between disk (track_at disk.map lbn) first.end write (lbn + 1) n in
+    ((let h : first.begin ≤ first.begin = omega arith in h), all_weaker _ _ (λ (p : Passage) h. (let le : first.begin ≤ p.begin = omega (arith, h.0) in le)) _ rest.1)
+
+-- until when nothing that a request writes has ended: the first passage of a write, the end of a read
+abbrev pub held_until : Served → ℕ
+held_until served = if served.request.write then media served else finish served
+
+own_late : (disk : Disk) (head : Track) (start : ℕ) (request : Request)
+    → AllByRecursion (λ (p : Passage). p.begin < p.end) (passages disk head start request.write request.lbn request.count)
+    → AllByRecursion (λ (w : Written). held_until (service disk head start request) < w.passage.end) (writes_of (service disk head start request))
+own_late disk head start request each = by request.write each
+  where
+    by : (b : Bool) → AllByRecursion (λ (p : Passage). p.begin < p.end) (passages disk head start b request.lbn request.count)
+        → AllByRecursion (λ (w : Written). (if b then media_of (passages disk head start b request.lbn request.count) else finish_of start (passages disk head start b request.lbn request.count)) < w.passage.end)
+        (if b then map (written_by (number_of request.name)) (passages disk head start b request.lbn request.count) else [])
+    by true long = all_map (λ (w : Written). media_of (passages disk head start true request.lbn request.count) < w.passage.end) (written_by (number_of request.name)) (passages disk head start true request.lbn request.count)
+        (all_weaker _ _ (λ (p : Passage) h. omega (arith, h.0, h.1)) (passages disk head start true request.lbn request.count)
+        (all_both _ _ (passages disk head start true request.lbn request.count) (begun_after disk head start true request.lbn request.count) long))
+    by false long = tt
+
+pub media_first : (disk : Disk) (head : Track) (start : ℕ) (write : Bool) (lbn n : ℕ) → 0 < n
+    → (start ≤ media_of (passages disk head start write lbn n)) × (media_of (passages disk head start write lbn n) ≤ finish_of start (passages disk head start write lbn n))
+unfolding passages
+media_first disk head start write lbn zero some = absurd (omega arith)
+media_first disk head start write lbn (suc n) some = let all = (passed_between disk head start write lbn (suc n)).1 in (all.0.0, omega (arith, all.0.1, all.0.2))
+
+pub held_between : (disk : Disk) (head : Track) (start : ℕ) (request : Request) → 0 < request.count
+    → (start ≤ held_until (service disk head start request)) × (held_until (service disk head start request) ≤ finish (service disk head start request))
+held_between disk head start request some = by request.write
+  where
+    by : (b : Bool) → (start ≤ (if b then media_of (passages disk head start request.write request.lbn request.count) else finish_of start (passages disk head start request.write request.lbn request.count)))
+        × ((if b then media_of (passages disk head start request.write request.lbn request.count) else finish_of start (passages disk head start request.write request.lbn request.count)) ≤ finish_of start (passages disk head start request.write request.lbn request.count))
+    by true = media_first disk head start request.write request.lbn request.count some
+    by false = ((passed_between disk head start request.write request.lbn request.count).0, omega arith)
+
+pub media_held : (served : Served) → media served ≤ finish served → media served ≤ held_until served
+media_held served order = by served.request.write
+  where
+    by : (b : Bool) → media served ≤ (if b then media served else finish served)
+    by true = omega arith
+    by false = order
+
+pub finish_held : (served : Served) → served.request.write ≡ false → finish served ≤ held_until served
+finish_held served reads = rw reads (omega arith)
+
+pub media_before : (disk : Disk) (head : Track) (start : ℕ) (request : Request) → 0 < request.count → media (service disk head start request) ≤ finish (service disk head start request)
+media_before disk head start request some = (media_first disk head start request.write request.lbn request.count some).1
+
+-- what a request and those after it write has not ended by then
+pub served_late : (n : ℕ) (disk : Disk) → PassagesTakeTime disk.map → (key : Key) (head : Track) (start : ℕ) (request : Request) (track : Track) (others : List Request)
+    → IsRequestOf disk.map request → AllByRecursion (IsRequestOf disk.map) others
+    → AllByRecursion (λ (w : Written). held_until (service disk head start request) < w.passage.end) (all_writes (service disk head start request ∷ plain n disk key track (finish (service disk head start request)) others))
+served_late n disk long key head start request track others on_disk left =
+    let until = held_between disk head start request on_disk.range.some in
+    all_append _ (writes_of (service disk head start request)) (all_writes (plain n disk key track (finish (service disk head start request)) others))
+    (own_late disk head start request (passages_long disk long head start request.write request.lbn request.count on_disk.range.inside))
+    (all_weaker _ _ (λ (w : Written) h. omega (arith, h, until.1)) _ (all_late n disk long key track (finish (service disk head start request)) others left))

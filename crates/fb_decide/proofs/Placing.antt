@@ -1,0 +1,203 @@
+-- Deliveries in their order are those of the catches in their order; none is lost, and none is added.
+use Rattle.std.proofs.Common.{◌≡◌, ℕ, suc, ◌+◌, ◌||◌, not, List, [], ◌∷◌, ◌++◌, Bool, true, false, filter, map, take, drop, inl, inr, refl, ap, sym, ◌∙◌, subst, arith}
+use Rattle.std.specs.List.{AllByRecursion, list_any, fold}
+use Rattle.std.proofs.lemmas.Bool.{cases_Bool}
+use Rattle.fb_wanted.specs.declared.block.Block.{Block}
+use Rattle.fb_rows.specs.declared.gap.Dwell.{Dwell}
+use Rattle.fb_rows.specs.declared.gap.How.{How}
+use Rattle.fb_rows.specs.declared.back.DeliveryRow.{DeliveryRow}
+use Rattle.fb_service.specs.declared.disk.Disk.{Disk}
+use Rattle.fb_store.specs.Index.{Holding}
+use Rattle.fb_model.specs.History.{Past, same_block, wanted}
+use Rattle.fb_model.specs.Plans.{catches, block_begin, block_end}
+use Rattle.fb_model.specs.Rides as rides
+use Rattle.fb_model.specs.Rides.{placed, in_order, missed}
+use Rattle.fb_plan.specs.declared.catching.Catch.{Catch}
+use Rattle.fb_plan.specs.Order.{is_before, slot_of, place_in, catch_of, caught_of}
+use Rattle.fb_tasks.proofs.Lists.{all_map, all_weaker, filter_same, filter_from}
+use Rattle.fb_decide.specs.Deliveries.{AreDistinct, AreDue, IsOneOf, block_in, row_in, delivery_in, caught_in, past_with}
+use Rattle.fb_decide.proofs.Distinct.{itself, either_way, filter-distinct}
+use Rattle.fb_decide.proofs.Delivering.{none_of, wanted-with}
+
+one_plus : (n : ℕ) → 1 + n ≡ suc n
+one_plus n = omega arith
+
+pub put_front : (x c : Catch) (xs : List Catch) → is_before c x ≡ true → place_in (x ∷ xs) c ≡ c ∷ x ∷ xs
+put_front x c xs h =
+    let slot : slot_of (x ∷ xs) c ≡ 0 = rw h refl in
+    ap (λ n. take n (x ∷ xs) ++ c ∷ drop n (x ∷ xs)) slot
+
+pub put_behind : (x c : Catch) (xs : List Catch) → is_before c x ≡ false → place_in (x ∷ xs) c ≡ x ∷ place_in xs c
+put_behind x c xs h =
+    let slot : slot_of (x ∷ xs) c ≡ 1 + slot_of xs c = rw h refl in
+    ap (λ n. take n (x ∷ xs) ++ c ∷ drop n (x ∷ xs)) (slot ∙ one_plus (slot_of xs c))
+
+abbrev goes_before : DeliveryRow → DeliveryRow → Bool
+goes_before a b = rides.is_before a.end a.block b.end b.block
+
+row-placed : (holding : Holding) (how : How) (found : List Catch) (c : Catch) → map (row_in holding how) (place_in found c) ≡ placed (map (row_in holding how) found) (row_in holding how c)
+row-placed holding how [] c = refl
+row-placed holding how (x ∷ xs) c = elim (cases_Bool (is_before c x)) [
+  | inl front ↦ ap (map (row_in holding how)) (put_front x c xs front) ∙ rw front refl
+  | inr behind ↦ ap (map (row_in holding how)) (put_behind x c xs behind) ∙ rw behind (ap (λ rs. row_in holding how x ∷ rs) (row-placed holding how xs c))
+]
+
+rows-placed : (holding : Holding) (how : How) (acc cs : List Catch) → map (row_in holding how) (fold place_in acc cs) ≡ fold placed (map (row_in holding how) acc) (map (row_in holding how) cs)
+rows-placed holding how acc [] = refl
+rows-placed holding how acc (c ∷ cs) = rows-placed holding how (place_in acc c) cs ∙ ap (λ rs. fold placed rs (map (row_in holding how) cs)) (row-placed holding how acc c)
+
+-- the deliveries of catches in their order
+pub rows-in_order : (holding : Holding) (how : How) (cs : List Catch) → map (row_in holding how) (fold place_in [] cs) ≡ in_order (map (row_in holding how) cs)
+rows-in_order holding how cs = rows-placed holding how [] cs
+
+abbrev delivery_by : Disk → Holding → How → Dwell → Block → DeliveryRow
+delivery_by disk holding how dwell block = delivery_in holding how block (block_begin disk.map block dwell.begin) (block_end disk.map block dwell.begin)
+
+rows_by : (disk : Disk) (holding : Holding) (how : How) (dwell : Dwell) (bs : List Block) → map (row_in holding how) (map (catch_of disk dwell) bs) ≡ map (delivery_by disk holding how dwell) bs
+rows_by disk holding how dwell [] = refl
+rows_by disk holding how dwell (b ∷ bs) = ap (λ rs. delivery_by disk holding how dwell b ∷ rs) (rows_by disk holding how dwell bs)
+
+-- those of a dwell's catches
+pub rows-caught : (disk : Disk) (holding : Holding) (how : How) (dwell : Dwell) (bs : List Block) → map (row_in holding how) (caught_of disk dwell bs) ≡ caught_in disk holding how dwell bs
+unfolding caught_of
+rows-caught disk holding how dwell bs = rows-in_order holding how (map (catch_of disk dwell) (filter (catches disk dwell) bs)) ∙ ap in_order (rows_by disk holding how dwell (filter (catches disk dwell) bs))
+
+-- what holds of each row holds of each in order
+placed-all : (P : DeliveryRow → Type 0) (rows : List DeliveryRow) (row : DeliveryRow) → P row → AllByRecursion P rows → AllByRecursion P (placed rows row)
+placed-all P [] row p all = (p, tt)
+placed-all P (x ∷ xs) row p all = elim (cases_Bool (goes_before row x)) [
+  | inl front ↦ rw front (p, all)
+  | inr behind ↦ rw behind (all.0, placed-all P xs row p all.1)
+]
+
+placed-each : (P : DeliveryRow → Type 0) (acc rows : List DeliveryRow) → AllByRecursion P acc → AllByRecursion P rows → AllByRecursion P (fold placed acc rows)
+placed-each P acc [] a r = a
+placed-each P acc (x ∷ xs) a r = placed-each P (placed acc x) xs (placed-all P acc x r.0 a) r.1
+
+pub in_order-each : (P : DeliveryRow → Type 0) (rows : List DeliveryRow) → AllByRecursion P rows → AllByRecursion P (in_order rows)
+in_order-each P rows all = placed-each P [] rows tt all
+
+-- and so does that they are of different blocks
+abbrev AreApart : List DeliveryRow → Type 0
+AreApart [] = Unit {0}
+AreApart (got ∷ gots) = AllByRecursion (λ other. same_block got.block other.block ≡ false) gots × AreApart gots
+
+placed-apart : (rows : List DeliveryRow) (row : DeliveryRow) → AllByRecursion (λ other. same_block row.block other.block ≡ false) rows → AreApart rows → AreApart (placed rows row)
+placed-apart [] row all apart = (tt, tt)
+placed-apart (x ∷ xs) row all apart = elim (cases_Bool (goes_before row x)) [
+  | inl front ↦ rw front (all, apart)
+  | inr behind ↦ rw behind (placed-all (λ other. same_block x.block other.block ≡ false) xs row (either_way row.block x.block all.0) apart.0, placed-apart xs row all.1 apart.1)
+]
+
+all_places : (x : DeliveryRow) (acc xs : List DeliveryRow) → AllByRecursion (λ row. AllByRecursion (λ other. same_block row.block other.block ≡ false) acc) xs
+    → AllByRecursion (λ other. same_block x.block other.block ≡ false) xs → AllByRecursion (λ row. AllByRecursion (λ other. same_block row.block other.block ≡ false) (placed acc x)) xs
+all_places x acc [] all apart = tt
+all_places x acc (y ∷ ys) all apart = (placed-all (λ other. same_block y.block other.block ≡ false) acc x (either_way x.block y.block apart.0) all.0, all_places x acc ys all.1 apart.1)
+
+fold-apart : (acc rows : List DeliveryRow) → AreApart acc → AllByRecursion (λ row. AllByRecursion (λ other. same_block row.block other.block ≡ false) acc) rows → AreApart rows → AreApart (fold placed acc rows)
+fold-apart acc [] a all r = a
+fold-apart acc (x ∷ xs) a all r = fold-apart (placed acc x) xs (placed-apart acc x all.0 a) (all_places x acc xs all.1 r.0) r.1
+
+all_none : (rows : List DeliveryRow) → AllByRecursion (λ (row : DeliveryRow). AllByRecursion (λ (other : DeliveryRow). same_block row.block other.block ≡ false) []) rows
+all_none [] = tt
+all_none (x ∷ xs) = (tt, all_none xs)
+
+distinct_by : (rows : List DeliveryRow) → AreApart rows → AreDistinct (map block_in rows)
+distinct_by [] h = tt
+distinct_by (x ∷ xs) h = (all_map (λ b. same_block x.block b ≡ false) block_in xs h.0, distinct_by xs h.1)
+
+pub in_order-distinct : (rows : List DeliveryRow) → AreApart rows → AreDistinct (map block_in (in_order rows))
+in_order-distinct rows apart = distinct_by (in_order rows) (fold-apart [] rows tt (all_none rows) apart)
+
+apart_by : (f : Block → DeliveryRow) → ((b : Block) → (f b).block ≡ b) → (bs : List Block) → AreDistinct bs → AreApart (map f bs)
+apart_by f own [] h = tt
+apart_by f own (b ∷ bs) h = (
+  all_map (λ got. same_block (f b).block got.block ≡ false) f bs (all_weaker (λ c. same_block b c ≡ false) (λ c. same_block (f b).block (f c).block ≡ false)
+      (λ c e. ap (λ x. same_block x (f c).block) (own b) ∙ (ap (same_block b) (own c) ∙ e)) bs h.0),
+  apart_by f own bs h.1,
+)
+
+members : (bs cs : List Block) → ((b : Block) → IsOneOf cs b → IsOneOf bs b) → AllByRecursion (IsOneOf bs) cs
+members bs [] h = tt
+members bs (c ∷ cs) h = (h c (0, refl), members bs cs (λ b at. h b (suc at.0, at.1)))
+
+-- the deliveries of some of the wanted blocks, in order, are of different wanted blocks
+pub due-filtered : (past : Past) (p : Block → Bool) (f : Block → DeliveryRow) → ((b : Block) → (f b).block ≡ b) → AreDistinct (wanted past) → AreDue past (in_order (map f (filter p (wanted past))))
+due-filtered past p f own distinct = record {
+  each = in_order-each (λ got. IsOneOf (wanted past) got.block) (map f (filter p (wanted past)))
+      (all_map (λ got. IsOneOf (wanted past) got.block) f (filter p (wanted past))
+      (all_weaker (IsOneOf (wanted past)) (λ b. IsOneOf (wanted past) (f b).block) (λ b h. subst (IsOneOf (wanted past)) (sym (own b)) h) (filter p (wanted past))
+      (members (wanted past) (filter p (wanted past)) (λ b at. let found = filter_from p (wanted past) at.0 b at.1 in (found.0, found.1)))));
+  distinct = in_order-distinct (map f (filter p (wanted past))) (apart_by f own (filter p (wanted past)) (filter-distinct p (wanted past) distinct));
+}
+
+-- those that are not among them are left
+or_turned : (a b c : Bool) → (a || (b || c)) ≡ (b || (a || c))
+or_turned true true c = refl
+or_turned true false c = refl
+or_turned false b c = refl
+
+any-placed : (p : DeliveryRow → Bool) (rows : List DeliveryRow) (row : DeliveryRow) → list_any p (placed rows row) ≡ (p row || list_any p rows)
+any-placed p [] row = refl
+any-placed p (x ∷ xs) row = elim (cases_Bool (goes_before row x)) [
+  | inl front ↦ rw front refl
+  | inr behind ↦ rw behind (ap (λ b. p x || b) (any-placed p xs row) ∙ or_turned (p x) (p row) (list_any p xs))
+]
+
+or_moved : (a b c : Bool) → ((a || b) || c) ≡ (b || (a || c))
+or_moved true true c = refl
+or_moved true false c = refl
+or_moved false b c = refl
+
+or_false : (a : Bool) → (a || false) ≡ a
+or_false true = refl
+or_false false = refl
+
+any-fold : (p : DeliveryRow → Bool) (acc rows : List DeliveryRow) → list_any p (fold placed acc rows) ≡ (list_any p acc || list_any p rows)
+any-fold p acc [] = sym (or_false (list_any p acc))
+any-fold p acc (x ∷ xs) = any-fold p (placed acc x) xs ∙ (ap (λ b. b || list_any p xs) (any-placed p acc x) ∙ or_moved (p x) (list_any p acc) (list_any p xs))
+
+any_by : (f : Block → DeliveryRow) → ((b : Block) → (f b).block ≡ b) → (block : Block) (bs : List Block) → list_any (λ got. same_block got.block block) (map f bs) ≡ list_any (λ b. same_block b block) bs
+any_by f own block [] = refl
+any_by f own block (b ∷ bs) = rw (own b, any_by f own block bs) refl
+
+none_same : (p : Block → Bool) (x : Block) (xs : List Block) → AllByRecursion (λ y. same_block x y ≡ false) xs → list_any (λ y. same_block y x) (filter p xs) ≡ false
+none_same p x [] h = refl
+none_same p x (y ∷ ys) h = elim (cases_Bool (p y)) [
+  | inl pass ↦ let other = either_way x y h.0 in rw pass (rw other (none_same p x ys h.1))
+  | inr fail ↦ rw fail (none_same p x ys h.1)
+]
+
+passes : (p : Block → Bool) (xs : List Block) → AreDistinct xs → AllByRecursion (λ x. list_any (λ y. same_block y x) (filter p xs) ≡ p x) xs
+passes p [] h = tt
+passes p (x ∷ xs) h = elim (cases_Bool (p x)) [
+  | inl pass ↦ (
+    rw pass (ap (λ b. b || list_any (λ y. same_block y x) (filter p xs)) (itself x)),
+    all_both_then xs h.0 (passes p xs h.1) (λ z other rest. rw pass (ap (λ b. b || list_any (λ y. same_block y z) (filter p xs)) other ∙ rest)),
+  )
+  | inr fail ↦ (
+    rw fail (none_same p x xs h.0),
+    all_weaker (λ z. list_any (λ y. same_block y z) (filter p xs) ≡ p z) (λ z. list_any (λ y. same_block y z) (filter p (x ∷ xs)) ≡ p z) (λ z rest. rw fail rest) xs (passes p xs h.1),
+  )
+] where
+  all_both_then : (zs : List Block) → AllByRecursion (λ z. same_block x z ≡ false) zs → AllByRecursion (λ z. list_any (λ y. same_block y z) (filter p xs) ≡ p z) zs
+      → ((z : Block) → same_block x z ≡ false → list_any (λ y. same_block y z) (filter p xs) ≡ p z → list_any (λ y. same_block y z) (filter p (x ∷ xs)) ≡ p z)
+      → AllByRecursion (λ z. list_any (λ y. same_block y z) (filter p (x ∷ xs)) ≡ p z) zs
+  all_both_then [] a b f = tt
+  all_both_then (z ∷ zs) a b f = (f z a.0 b.0, all_both_then zs a.1 b.1 f)
+
+pub left-filtered : (past : Past) (p : Block → Bool) (f : Block → DeliveryRow) → ((b : Block) → (f b).block ≡ b) → AreDistinct (wanted past)
+    → wanted (past_with past (in_order (map f (filter p (wanted past))))) ≡ filter (λ b. not (p b)) (wanted past)
+left-filtered past p f own distinct =
+    wanted-with past (in_order (map f (filter p (wanted past))))
+    ∙ filter_same (none_of (in_order (map f (filter p (wanted past))))) (λ b. not (p b)) (wanted past)
+    (all_weaker (λ b. list_any (λ y. same_block y b) (filter p (wanted past)) ≡ p b) (λ b. none_of (in_order (map f (filter p (wanted past)))) b ≡ not (p b))
+    (λ b e. ap not (any-fold (λ got. same_block got.block b) [] (map f (filter p (wanted past))) ∙ (any_by f own b (filter p (wanted past)) ∙ e))) (wanted past) (passes p (wanted past) distinct))
+
+-- what a dwell catches, and what it misses
+pub due-caught : (disk : Disk) (holding : Holding) (how : How) (dwell : Dwell) (past : Past) → AreDistinct (wanted past) → AreDue past (caught_in disk holding how dwell (wanted past))
+due-caught disk holding how dwell past distinct = due-filtered past (catches disk dwell) (delivery_by disk holding how dwell) (λ b. refl) distinct
+
+pub left-caught : (disk : Disk) (holding : Holding) (how : How) (dwell : Dwell) (past : Past) → AreDistinct (wanted past)
+    → wanted (past_with past (caught_in disk holding how dwell (wanted past))) ≡ missed disk dwell (wanted past)
+left-caught disk holding how dwell past distinct = left-filtered past (catches disk dwell) (delivery_by disk holding how dwell) (λ b. refl) distinct

@@ -1,0 +1,171 @@
+-- Where registered blocks stand, and that two of the same number are one.
+use Rattle.std.proofs.Common.{◌≡◌, ◌⊎◌, ℕ, zero, suc, ◌+◌, ◌<◌, ◌≤◌, ◌==◌, ◌||◌, List, [], ◌∷◌, ◌++◌, Bool, true, false, Some, inl, inr, length, length-append, slice_get, append-nil, refl, ap, sym, ◌∙◌, arith, subst}
+use Rattle.std.specs.List.{AllByRecursion, list_any}
+use Rattle.std.proofs.lemmas.Bool.{cases_Bool, cases_lt, true≢false, and_parts}
+use Rattle.fb_geometry.specs.Shape.{Shape}
+use Rattle.fb_wanted.specs.declared.block.Block.{Block}
+use Rattle.fb_wanted.specs.declared.block.Entry.{Entry}
+use Rattle.fb_calls.specs.Sessions.{is_clean}
+use Rattle.fb_calls.specs.declared.call.Action.{Action}
+use Rattle.fb_calls.specs.declared.call.Action.TheVariants.{Open}
+use Rattle.fb_model.specs.History.{Event, called, chose, tested, delivered, finished, Past, tasks, opened_by, registered, registered_by, blocks_of, same_block}
+use Rattle.fb_model.specs.Completion.{Choice, choices, view}
+use Rattle.fb_tasks.specs.declared.session.Session.{Session}
+use Rattle.fb_tasks.specs.Standing.{AreIndexed, IsBlockOf}
+use Rattle.fb_tasks.specs.Telling.{Tells}
+use Rattle.fb_decide.specs.Deliveries.{IsRegistered}
+use Rattle.fb_tasks.proofs.Lists.{some_same, some_at, all_at, all_weaker, all_append, all_flat, filter_to, same_number, number_same}
+use Rattle.fb_tasks.proofs.Registered.{own}
+
+-- an element of a list
+abbrev pub IsIn : {X : Type 0} → List X → X → Type 0
+IsIn xs x = (place : ℕ) × (slice_get xs place ≡ Some x)
+
+pub in_left : {X : Type 0} (xs ys : List X) (i : ℕ) (x : X) → slice_get xs i ≡ Some x → IsIn (xs ++ ys) x
+in_left [] ys i x h = absurd (grind arith)
+in_left (y ∷ xs) ys zero x h = (zero, h)
+in_left (y ∷ xs) ys (suc i) x h = let rest = in_left xs ys i x h in (suc rest.0, rest.1)
+
+pub in_right : {X : Type 0} (xs ys : List X) (x : X) → IsIn ys x → IsIn (xs ++ ys) x
+in_right [] ys x h = h
+in_right (y ∷ xs) ys x h = let rest = in_right xs ys x h in (suc rest.0, rest.1)
+
+pub in_either : {X : Type 0} (xs ys : List X) (i : ℕ) (x : X) → slice_get (xs ++ ys) i ≡ Some x → IsIn xs x ⊎ IsIn ys x
+in_either [] ys i x h = inr (i, h)
+in_either (y ∷ xs) ys zero x h = inl (zero, h)
+in_either (y ∷ xs) ys (suc i) x h = elim (in_either xs ys i x h) [
+  | inl first ↦ inl (suc first.0, first.1)
+  | inr second ↦ inr second
+]
+
+pub each_in : {X : Type 0} (xs : List X) → AllByRecursion (IsIn xs) xs
+each_in [] = tt
+each_in (x ∷ xs) = ((zero, refl), all_weaker (IsIn xs) (IsIn (x ∷ xs)) (λ y there. (suc there.0, there.1)) xs (each_in xs))
+
+pub all_in : {X : Type 0} (P : X → Type 0) (xs : List X) (x : X) → AllByRecursion P xs → IsIn xs x → P x
+all_in P xs x all there = all_at P xs there.0 x all there.1
+
+pub itself : (block : Block) → same_block block block ≡ true
+itself block = rw (number_same block.task block.task refl, number_same block.index block.index refl) refl
+
+-- a block among others is the same as one of them
+pub in_any : (blocks : List Block) (i : ℕ) (block : Block) → slice_get blocks i ≡ Some block → list_any (same_block block) blocks ≡ true
+in_any [] i block h = absurd (grind arith)
+in_any (b ∷ blocks) zero block h = subst (λ b. list_any (same_block block) (b ∷ blocks) ≡ true) (sym (some_same b block h)) (rw (itself block) refl)
+in_any (b ∷ blocks) (suc i) block h = rw (in_any blocks i block h) (or-true (same_block block b)) where
+  or-true : (c : Bool) → (c || true) ≡ true
+  or-true true = refl
+  or-true false = refl
+
+-- what an event registers stands behind what was registered before
+pub registered_after : (past : Past) (event : Event) → registered (event ∷ past) ≡ registered past ++ registered_by event
+registered_after past (called call blocks) = refl
+registered_after past (chose task segment blocks) = refl
+registered_after past (tested rows) = sym (append-nil (registered past))
+registered_after past (delivered row) = sym (append-nil (registered past))
+registered_after past (finished request) = sym (append-nil (registered past))
+
+-- what was registered before stays so, and there is nothing else but what the event registers
+pub still_there : (past : Past) (event : Event) (block : Block) → IsRegistered past block → IsRegistered (event ∷ past) block
+still_there past event block there = subst (λ bs. IsIn bs block) (sym (registered_after past event)) (in_left (registered past) (registered_by event) there.0 block there.1)
+
+pub there_before : (past : Past) (event : Event) (block : Block) → list_any (same_block block) (registered_by event) ≡ false → IsRegistered (event ∷ past) block → IsRegistered past block
+there_before past event block none there =
+    let known = subst (λ bs. IsIn bs block) (registered_after past event) there in
+    elim (in_either (registered past) (registered_by event) known.0 block known.1) [
+      | inl old ↦ old
+      | inr new ↦ absurd (true≢false (sym (in_any (registered_by event) new.0 block new.1) ∙ none))
+    ]
+
+-- the blocks of a choice are registered
+abbrev AreThere : Past → Choice → Type 0
+AreThere past choice = AllByRecursion (IsRegistered past) choice.blocks
+
+still_chosen : (past : Past) (event : Event) (task : ℕ) → AllByRecursion (AreThere past) (choices past task) → AllByRecursion (AreThere (event ∷ past)) (choices past task)
+still_chosen past event task before = all_weaker (AreThere past) (AreThere (event ∷ past))
+    (λ choice all. all_weaker (IsRegistered past) (IsRegistered (event ∷ past)) (still_there past event) choice.blocks all) (choices past task) before
+
+pub chosen_there : (past : Past) (task : ℕ) → AllByRecursion (AreThere past) (choices past task)
+chosen_there [] task = tt
+chosen_there (chose chooser segment blocks ∷ past) task =
+    let new = chose chooser segment blocks ∷ past in
+    let before = still_chosen past (chose chooser segment blocks) task (chosen_there past task) in
+    elim (cases_Bool (chooser == task)) [
+      | inl mine ↦ rw mine (all_append (AreThere new) (choices past task) _ before (all_weaker (IsIn blocks) (IsIn (registered past ++ blocks)) (in_right (registered past) blocks) blocks (each_in blocks), tt))
+      | inr other ↦ rw other before
+    ]
+chosen_there (called call blocks ∷ past) task = still_chosen past (called call blocks) task (chosen_there past task)
+chosen_there (_ ∷ past) task = chosen_there past task
+
+-- and its task's own
+abbrev pub AreOwn : Past → Type 0
+AreOwn past = (task : ℕ) → AllByRecursion (λ (choice : Choice). AllByRecursion (λ block. block.task ≡ task) choice.blocks) (choices past task)
+
+pub own-told : (disk : Shape) (past : Past) (sessions : List Session) (held : List Entry) → Tells disk past sessions held → AreOwn past
+unfolding view
+own-told disk past sessions held tells task = elim (cases_lt task (length (tasks past))) [
+  | inl opened ↦
+      let found = some_at sessions task (let as_many = tells.as_many in omega (arith, as_many, opened)) in
+      let told = tells.each task found.0 found.1 in
+      elim (cases_Bool (is_clean found.0.kind)) [
+        | inl cleans ↦ all_flat (λ (block : Block). block.task ≡ task) (λ (choice : Choice). choice.blocks) (choices past task) (subst (AllByRecursion (λ (block : Block). block.task ≡ task)) (told.stands.log cleans).blocks (own past task))
+        | inr other ↦ none_chosen (told.stands.unchosen other)
+      ]
+  | inr unopened ↦ none_chosen (tells.unopened task unopened).choices
+] where
+  none_chosen : choices past task ≡ [] → AllByRecursion (λ (choice : Choice). AllByRecursion (λ block. block.task ≡ task) choice.blocks) (choices past task)
+  none_chosen none = subst (AllByRecursion _) (sym none) tt
+
+-- registered blocks belong to tasks that are open
+abbrev pub AreOpened : Past → Type 0
+AreOpened past = AllByRecursion (λ block. block.task < length (tasks past)) (registered past)
+
+pub opened-told : (disk : Shape) (past : Past) (sessions : List Session) (held : List Entry) → Tells disk past sessions held → AreOpened past
+opened-told disk past sessions held tells = all_weaker (IsBlockOf disk (length (tasks past))) (λ block. block.task < length (tasks past)) (λ block h. h.task) (registered past) tells.on_disk
+
+-- and there is one of each number
+abbrev pub AreDistinct : Past → Type 0
+AreDistinct past = (a b : Block) → IsRegistered past a → IsRegistered past b → same_block a b ≡ true → a ≡ b
+
+-- tasks are opened, and never less
+pub tasks_more : (past : Past) (event : Event) → length (tasks past) ≤ length (tasks (event ∷ past))
+tasks_more past (called call blocks) = by_action call.action where
+  by_action : (action : Action) → length (tasks past) ≤ length (opened_by action (tasks past))
+  by_action (Open kind weight block) = omega (arith, length-append (tasks past) (record { kind = kind; weight = weight; block = block } ∷ []))
+  by_action _ = omega arith
+tasks_more past (_) = omega arith
+
+pub registered-kept : (past : Past) (event : Event) → registered_by event ≡ [] → registered (event ∷ past) ≡ registered past
+registered-kept past event none = registered_after past event ∙ (ap (λ bs. registered past ++ bs) none ∙ append-nil (registered past))
+
+pub opened-kept : (past : Past) (event : Event) → registered_by event ≡ [] → AreOpened past → AreOpened (event ∷ past)
+opened-kept past event none h = subst (AllByRecursion (λ (block : Block). block.task < length (tasks (event ∷ past)))) (sym (registered-kept past event none))
+    (all_weaker (λ (block : Block). block.task < length (tasks past)) (λ (block : Block). block.task < length (tasks (event ∷ past)))
+    (λ block less. let more = tasks_more past event in omega (arith, less, more)) (registered past) h)
+
+index_at : (n : ℕ) (blocks : List Block) (i : ℕ) (block : Block) → AreIndexed n blocks → slice_get blocks i ≡ Some block → block.index ≡ n + i
+index_at n [] i block indexed at = absurd (grind arith)
+index_at n (b ∷ blocks) zero block indexed at = subst (λ b. b.index ≡ n + 0) (some_same b block at) (omega (arith, indexed.0))
+index_at n (b ∷ blocks) (suc i) block indexed at = let rest = index_at (n + 1) blocks i block indexed.1 at in omega (arith, rest)
+
+pub distinct : (past : Past) → ((task : ℕ) → AreIndexed 0 (blocks_of past task)) → AreDistinct past
+distinct past indexed a b there_a there_b same =
+    let parts = and_parts (a.task == b.task) (a.index == b.index) same in
+    let task = same_number a.task b.task parts.0 in
+    let index = same_number a.index b.index parts.1 in
+    let first = filter_to (λ block. block.task == b.task) (registered past) there_a.0 a there_a.1 parts.0 in
+    let second = filter_to (λ block. block.task == b.task) (registered past) there_b.0 b there_b.1 (number_same b.task b.task refl) in
+    let first_index = index_at 0 (blocks_of past b.task) first.0 a (indexed b.task) first.1 in
+    let second_index = index_at 0 (blocks_of past b.task) second.0 b (indexed b.task) second.1 in
+    let place : first.0 ≡ second.0 = omega (arith, index, first_index, second_index) in
+    some_same a b (sym first.1 ∙ (ap (slice_get (blocks_of past b.task)) place ∙ second.1))
+
+pub distinct-told : (disk : Shape) (past : Past) (sessions : List Session) (held : List Entry) → Tells disk past sessions held → AreDistinct past
+unfolding view
+distinct-told disk past sessions held tells = distinct past (λ task. (tells.placed task).indexed)
+
+-- an event that registers nothing keeps it so
+pub distinct-kept : (past : Past) (event : Event) → registered_by event ≡ [] → AreDistinct past → AreDistinct (event ∷ past)
+distinct-kept past event none h a b there_a there_b = h a b (before a there_a) (before b there_b) where
+  before : (block : Block) → IsRegistered (event ∷ past) block → IsRegistered past block
+  before block = there_before past event block (ap (list_any (same_block block)) none)

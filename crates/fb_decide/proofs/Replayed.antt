@@ -1,0 +1,179 @@
+-- How far the plain replay has come: the services so far, their rows, and what they left on the disk.
+use Rattle.std.proofs.Common.{◌≡◌, ℕ, zero, suc, ◌+◌, ◌<◌, ◌≤◌, List, [], ◌∷◌, ◌++◌, map, Bool, true, false, refl, ap, sym, ◌∙◌, arith, Option, None, inl, inr, subst, append-nil}
+use Rattle.std.specs.Prelude.{nat_le, ◌==◌, ◌&&◌, filter, if◌then◌else◌}
+use Rattle.std.specs.List.{AllByRecursion, last_or, range_with_len}
+use Rattle.std.proofs.lemmas.Bool.{cases_Bool}
+use Rattle.std.proofs.lemmas.Bool.Decides.{nat_tests}
+use Rattle.std.proofs.lemmas.List.Elements.{filter-append}
+use Rattle.std.proofs.lemmas.List.Concat.{flat_map-append}
+use Rattle.fb_units.specs.declared.types.Track.{Track}
+use Rattle.fb_units.specs.declared.types.Request.{Request}
+use Rattle.fb_service.specs.declared.disk.Disk.{Disk}
+use Rattle.fb_service.specs.declared.passage.Passage.{Passage}
+use Rattle.fb_sectormap.specs.Lookup.{track_at}
+use Rattle.fb_seek.specs.Positioning.{pos}
+use Rattle.fb_service.specs.Service.{passages, passage_from}
+use Rattle.fb_store.specs.declared.content.Content.{Content}
+use Rattle.fb_store.specs.declared.content.ContentRun.{ContentRun}
+use Rattle.fb_store.specs.Runs.{runs_of, bad_of}
+use Rattle.fb_store.specs.Writes.{unwritten}
+use Rattle.fb_store.specs.Index.{Holding, content_in}
+use Rattle.fb_rows.specs.declared.fore.ForeRow.{ForeRow}
+use Rattle.fb_model.specs.PlainReplay.{Served, service, media, finish}
+use Rattle.fb_model.specs.Accepted.{IsRising}
+use Rattle.fb_model.specs.Content.{Written, Medium, writes_of, number_of, content, content_by, found, fore_row}
+use Rattle.fb_decide.specs.Waiting.{IsInOrder}
+use Rattle.fb_decide.specs.Contents.{found_in, left_by, IsRowOf}
+use Rattle.fb_decide.specs.Making.{all_writes, held_after, Replayed}
+use Rattle.fb_decide.proofs.Readiness.{one_more}
+use Rattle.fb_decide.proofs.Passed.{all_weaker, all_both, all_append, passed_between, written_by, written_between, last_joined, own_writes}
+
+abbrev pub medium_by : Disk → List ℕ → List Served → Medium
+medium_by disk latent whole = record { disk = disk; latent = latent; writes = all_writes whole }
+
+abbrev is_of : ℕ → Written → Bool
+is_of lbn write = write.passage.lbn == lbn
+
+abbrev pub is_of_by : ℕ → ℕ → Written → Bool
+is_of_by lbn t write = (write.passage.lbn == lbn) && nat_le write.passage.end t
+
+-- writes that ended by then are those of the sector
+pub ended_by : (lbn t : ℕ) (writes : List Written) → AllByRecursion (λ (w : Written). w.passage.end ≤ t) writes → filter (is_of_by lbn t) writes ≡ filter (is_of lbn) writes
+ended_by lbn t [] all = refl
+ended_by lbn t (w ∷ writes) all =
+    let ends : nat_le w.passage.end t ≡ true = let h = all.0 in grind (arith, nat_tests) in
+    elim (cases_Bool (w.passage.lbn == lbn)) [
+      | inl same ↦ rw (same, ends) (ap (λ ws. w ∷ ws) (ended_by lbn t writes all.1))
+      | inr other ↦ rw other (ended_by lbn t writes all.1)
+    ]
+
+-- and those that end later don't count
+pub not_yet : (lbn t : ℕ) (writes : List Written) → AllByRecursion (λ (w : Written). t < w.passage.end) writes → filter (is_of_by lbn t) writes ≡ []
+not_yet lbn t [] all = refl
+not_yet lbn t (w ∷ writes) all =
+    let late : nat_le w.passage.end t ≡ false = let h = all.0 in grind (arith, nat_tests) in
+    elim (cases_Bool (w.passage.lbn == lbn)) [
+      | inl same ↦ rw (same, late) (not_yet lbn t writes all.1)
+      | inr other ↦ rw other (not_yet lbn t writes all.1)
+    ]
+
+no_writes : (served : Served) → served.request.write ≡ false → writes_of served ≡ []
+no_writes served reads = rw reads refl
+
+-- at an instant of a read's service a sector holds what it held when the read began
+content_now : (disk : Disk) (latent : List ℕ) (done later : List Served) (read : Served) (now lbn t : ℕ) → read.request.write ≡ false
+    → AllByRecursion (λ (w : Written). w.passage.end ≤ now) (all_writes done) → now ≤ t → AllByRecursion (λ (w : Written). t < w.passage.end) (all_writes later)
+    → content (medium_by disk latent (done ++ read ∷ later)) lbn t ≡ held_after latent done lbn
+content_now disk latent done later read now lbn t reads before since after =
+    ap (λ ws. content_by (last_or None (filter (is_of_by lbn t) ws)) (unwritten latent lbn)) (flat_map-append writes_of done (read ∷ later) ∙ ap (λ ws. all_writes done ++ (ws ++ all_writes later)) (no_writes read reads))
+    ∙ ap (λ ws. content_by (last_or None ws) (unwritten latent lbn))
+    (filter-append (is_of_by lbn t) (all_writes done) (all_writes later)
+    ∙ ap (λ ws. filter (is_of_by lbn t) (all_writes done) ++ ws) (not_yet lbn t (all_writes later) after)
+    ∙ append-nil (filter (is_of_by lbn t) (all_writes done))
+    ∙ ended_by lbn t (all_writes done) (all_weaker _ _ (λ w h. omega arith) _ before))
+
+-- the contents of passages, where each is that of its sector
+abbrev at_passage : (ℕ → ℕ → Content) → Passage → ℕ × Content
+at_passage f p = (p.lbn, f p.lbn p.begin)
+
+abbrev of_sector : (ℕ → Content) → ℕ → ℕ × Content
+of_sector g lbn = (lbn, g lbn)
+
+by_sector : (disk : Disk) (f : ℕ → ℕ → Content) (g : ℕ → Content) (source : Track) (now : ℕ) (write : Bool) (lbn n : ℕ)
+    → AllByRecursion (λ (p : Passage). f p.lbn p.begin ≡ g p.lbn) (passages disk source now write lbn n)
+    → map (at_passage f) (passages disk source now write lbn n) ≡ map (of_sector g) (range_with_len lbn n)
+unfolding passages
+by_sector disk f g source now write lbn zero all = refl
+by_sector disk f g source now write lbn (suc n) all = rw (all.0) (ap (λ xs. of_sector g lbn ∷ xs) (by_sector disk f g (track_at disk.map lbn) (passage_from disk.map lbn (now + pos disk.mechanism source (track_at disk.map lbn) write)).end write (lbn + 1) n all.1))
+
+-- what a read finds is what the disk holds
+read_finds : (disk : Disk) (latent : List ℕ) (done later : List Served) (head : Track) (now start end : ℕ) (request : Request) (holding : Holding)
+    → request.write ≡ false → now ≤ start → end ≡ finish (service disk head start request)
+    → AllByRecursion (λ (p : Passage). p.begin < p.end) (passages disk head start request.write request.lbn request.count)
+    → AllByRecursion (λ (w : Written). w.passage.end ≤ now) (all_writes done) → AllByRecursion (λ (w : Written). end ≤ w.passage.end) (all_writes later)
+    → ((lbn : ℕ) → content_in holding lbn ≡ held_after latent done lbn)
+    → map (at_passage (content (medium_by disk latent (done ++ service disk head start request ∷ later)))) (passages disk head start request.write request.lbn request.count)
+    ≡ map (of_sector (content_in holding)) (range_with_len request.lbn request.count)
+read_finds disk latent done later head now start end request holding reads from ends each before after holds =
+    by_sector disk (content (medium_by disk latent (done ++ service disk head start request ∷ later))) (content_in holding) head start request.write request.lbn request.count
+    (all_weaker _ _ (λ (p : Passage) h.
+    content_now disk latent done later (service disk head start request) now p.lbn p.begin reads before (omega (arith, from, h.0.0)) (all_weaker _ _ (λ (w : Written) late. omega (arith, late, h.0.2, h.1, ends)) _ after)
+    ∙ sym (holds p.lbn))
+    _ (all_both _ _ _ (passed_between disk head start request.write request.lbn request.count).1 each))
+
+same_choice : {A : Type 0} (b : Bool) (none one other : A) → (b ≡ false → one ≡ other) → (if b then none else one) ≡ (if b then none else other)
+same_choice true none one other h = refl
+same_choice false none one other h = h refl
+
+finds : (disk : Disk) (latent : List ℕ) (done later : List Served) (head : Track) (now start end : ℕ) (request : Request) (holding : Holding)
+    → now ≤ start → end ≡ finish (service disk head start request)
+    → AllByRecursion (λ (p : Passage). p.begin < p.end) (passages disk head start request.write request.lbn request.count)
+    → AllByRecursion (λ (w : Written). w.passage.end ≤ now) (all_writes done) → AllByRecursion (λ (w : Written). end ≤ w.passage.end) (all_writes later)
+    → ((lbn : ℕ) → content_in holding lbn ≡ held_after latent done lbn)
+    → found_in holding request ≡ found (medium_by disk latent (done ++ service disk head start request ∷ later)) (service disk head start request)
+finds disk latent done later head now start end request holding from ends each before after holds =
+    same_choice request.write [] (runs_of (map (of_sector (content_in holding)) (range_with_len request.lbn request.count)))
+    (runs_of (map (at_passage (content (medium_by disk latent (done ++ service disk head start request ∷ later)))) (passages disk head start request.write request.lbn request.count)))
+    (λ reads. ap runs_of (sym (read_finds disk latent done later head now start end request holding reads from ends each before after holds)))
+
+-- the row of a service is the one of the definition
+row_is : (row : ForeRow) (request : Request) (start media finish bad : ℕ) (content : List ContentRun) → row.request ≡ request → row.start ≡ start → row.media ≡ media → row.finish ≡ finish
+    → row.bad ≡ bad → row.content ≡ content → row ≡ record { request = request; start = start; media = media; finish = finish; bad = bad; content = content }
+row_is row request start media finish bad content a b c d e f = rw (← a, ← b, ← c, ← d, ← e, ← f) refl
+
+written_or_not : (b : Bool) (q : Written → Bool) (before : Option Written) (writes : List Written) (first after : Content) → after ≡ content_by (last_or before (filter q writes)) first
+    → (if b then after else content_by before first) ≡ content_by (last_or before (filter q (if b then writes else []))) first
+written_or_not true q before writes first after h = h
+written_or_not false q before writes first after h = refl
+
+-- what a request leaves is what the services with it leave
+leaves : (disk : Disk) (latent : List ℕ) (done : List Served) (head : Track) (start : ℕ) (request : Request) (lbn : ℕ)
+    → left_by request lbn (held_after latent done lbn) ≡ held_after latent (done ++ service disk head start request ∷ []) lbn
+leaves disk latent done head start request lbn =
+    let before = last_or None (filter (is_of lbn) (all_writes done)) in
+    written_or_not request.write (is_of lbn) before (map (written_by (number_of request.name)) (passages disk head start request.write request.lbn request.count)) (unwritten latent lbn) _
+    (sym (own_writes disk head start request.write request.lbn request.count (number_of request.name) lbn before (unwritten latent lbn)))
+    ∙ ap (λ o. content_by o (unwritten latent lbn)) (sym
+    (ap (λ ws. last_or None (filter (is_of lbn) ws)) (flat_map-append writes_of done (service disk head start request ∷ []) ∙ ap (λ ws. all_writes done ++ ws) (append-nil (writes_of (service disk head start request))))
+    ∙ ap (last_or None) (filter-append (is_of lbn) (all_writes done) (writes_of (service disk head start request)))
+    ∙ last_joined None (filter (is_of lbn) (all_writes done)) (filter (is_of lbn) (writes_of (service disk head start request)))))
+
+-- the writes so far have ended
+ended_more : (disk : Disk) (done : List Served) (head : Track) (now start end : ℕ) (request : Request) → now ≤ end → end ≡ finish (service disk head start request)
+    → AllByRecursion (λ (w : Written). w.passage.end ≤ now) (all_writes done) → AllByRecursion (λ (w : Written). w.passage.end ≤ end) (all_writes (done ++ service disk head start request ∷ []))
+ended_more disk done head now start end request later ends before =
+    subst (AllByRecursion (λ (w : Written). w.passage.end ≤ end)) (sym (flat_map-append writes_of done (service disk head start request ∷ [])))
+    (all_append _ (all_writes done) (writes_of (service disk head start request) ++ [])
+    (all_weaker _ _ (λ (w : Written) h. omega (arith, h)) _ before)
+    (all_append _ (writes_of (service disk head start request)) [] (all_weaker _ _ (λ (w : Written) h. omega (arith, h.1, ends)) _ (written_between disk head start request)) tt))
+
+-- one service more
+module _ (disk : Disk) (latent : List ℕ) (whole done rest later : List Served) (head : Track) (now end : ℕ) (request : Request) (holding : Holding)
+    (so_far : Replayed latent whole rest now holding done) (next : rest ≡ service disk head now request ∷ later) (longer : now ≤ end) (ends : end ≡ finish (service disk head now request)) where
+  abbrev this : Served
+  this = service disk head now request
+
+  -- its row is the one of the definition
+  pub row_made : (row : ForeRow) → IsRowOf holding this row → AllByRecursion (λ (p : Passage). p.begin < p.end) (passages disk head now request.write request.lbn request.count)
+      → AllByRecursion (λ (w : Written). end ≤ w.passage.end) (all_writes later) → row ≡ fore_row (medium_by disk latent whole) this
+  row_made row is each after =
+      let here : found_in holding request ≡ found (medium_by disk latent whole) this =
+      finds disk latent done later head now now end request holding (omega arith) ends each so_far.ended after so_far.holds
+      ∙ ap (λ ws. found (medium_by disk latent ws) this) (ap (λ xs. done ++ xs) (sym next) ∙ so_far.all) in
+      row_is row request now (media this) (finish this) (bad_of (found (medium_by disk latent whole) this)) (found (medium_by disk latent whole) this)
+      is.request is.start is.media is.finish (is.bad ∙ ap bad_of (is.content ∙ here)) (is.content ∙ here)
+
+  pub replayed_more : (left : Holding) → ((lbn : ℕ) → content_in left lbn ≡ left_by request lbn (content_in holding lbn)) → Replayed latent whole later end left (done ++ this ∷ [])
+  replayed_more left leaves_it = record {
+    all = one_more done this rest later whole next so_far.all;
+    ended = ended_more disk done head now now end request longer ends so_far.ended;
+    holds = λ lbn. leaves_it lbn ∙ ap (left_by request lbn) (so_far.holds lbn) ∙ leaves disk latent done head now request lbn;
+  }
+
+all_of_map : {X Y : Type 0} (P : Y → Type 0) (f : X → Y) (xs : List X) → AllByRecursion P (map f xs) → AllByRecursion (λ x. P (f x)) xs
+all_of_map P f [] all = tt
+all_of_map P f (x ∷ xs) all = (all.0, all_of_map P f xs all.1)
+
+pub in_order : (requests : List Request) → IsRising (map (λ (r : Request). r.arrival) requests) → IsInOrder requests
+in_order [] rising = tt
+in_order (r ∷ rs) rising = (all_of_map (λ later. r.arrival ≤ later) (λ (o : Request). o.arrival) rs rising.0, in_order rs rising.1)

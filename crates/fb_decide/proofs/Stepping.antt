@@ -1,0 +1,215 @@
+-- What one decision adds to a run.
+use Rattle.std.proofs.Common.{◌≡◌, ℕ, ◌<◌, ◌≤◌, List, [], ◌∷◌, ◌++◌, length, map, refl, ap, sym, subst, ◌∙◌, arith, append_assoc, append-nil}
+use Rattle.std.specs.List.{AllByRecursion}
+use Rattle.fb_units.specs.declared.types.Request.{Request}
+use Rattle.fb_wanted.specs.declared.block.Block.{Block}
+use Rattle.fb_wanted.specs.States.{is_wanted}
+use Rattle.fb_rows.specs.declared.gap.Plan.{Plan}
+use Rattle.fb_rows.specs.declared.gap.Plan.TheVariants.{Direct}
+use Rattle.fb_rows.specs.declared.gap.How.TheVariants.{Idle as ByIdle}
+use Rattle.fb_rows.specs.declared.back.DeliveryRow.{DeliveryRow}
+use Rattle.fb_rows.specs.declared.back.BackRow.{BackRow}
+use Rattle.fb_model.specs.Inputs.{Inputs}
+use Rattle.fb_model.specs.Accepted.{IsRequestOf}
+use Rattle.fb_model.specs.Content.{medium_of}
+use Rattle.fb_model.specs.PlainReplay.{Served, service}
+use Rattle.fb_model.specs.Decisions.{Decision, serves, idles, ends, instant_of, end_of}
+use Rattle.fb_model.specs.Rides.{due}
+use Rattle.fb_model.specs.History.{Past, tested, tasks, registered, wanted, state, bare_state}
+use Rattle.fb_model.specs.Course.{Delivery, Part, settled_past, past_after, with_delivery, with_finish, opening, part_rows}
+use Rattle.fb_model.specs.SoundRun.{HasPlan, IsTested}
+use Rattle.fb_model.specs.FullRun.{HasBestPlan}
+use Rattle.fb_service.specs.declared.disk.Disk.{Disk}
+use Rattle.fb_tasks.specs.Taken.{delivery_of}
+use Rattle.fb_tasks.specs.Telling.{Tells, IsBlockOf}
+use Rattle.fb_decide.specs.declared.background.Background.{Background}
+use Rattle.fb_decide.specs.declared.deciding.Course.{Course}
+use Rattle.fb_decide.specs.Calls.{IsCalled, HasSettled, past_settled, settled_by, settling_rows, part_by}
+use Rattle.fb_decide.specs.Deliveries.{HasDelivered, HasServed, IsRegistered, followed, past_with, rows_of, due_in, caught_in}
+use Rattle.fb_decide.specs.Standing.{Mirrors, IsFoundIn, IsTrue}
+use Rattle.fb_decide.specs.Deciding.{HasServedNext, HasStayed, stay_of, prepared}
+use Rattle.fb_decide.specs.Making.{IsMade}
+use Rattle.fb_tasks.proofs.Lists.{all_filter}
+use Rattle.fb_decide.proofs.Passed.{all_weaker}
+use Rattle.fb_tasks.proofs.Calls.{called-finished}
+use Rattle.fb_decide.proofs.Calling.{called_delivered}
+use Rattle.fb_decide.proofs.TestedTrue.{LeftBy, decision_true, after_true}
+use Rattle.fb_decide.proofs.Mirroring.{held_until, held_between, media_held, media_before, finish_held}
+use Rattle.fb_decide.proofs.Due.{due_found, due_same, caught_found, caught_same}
+
+-- the best plan is one of the plans
+plan_of_best : (disk : Disk) (decision : Decision) (blocks : List Block) (plan : Plan) → HasBestPlan disk decision blocks plan → HasPlan disk decision plan
+plan_of_best disk (serves served) blocks plan best = best.is_plan
+plan_of_best disk (idles dwell) blocks plan best = tt
+plan_of_best disk (ends now) blocks plan best = tt
+
+-- a decision with its part was made, and the disk and the background are as it leaves them
+pub record HasStepped (inputs : Inputs) (past : Past) (before : Course) (step : Decision × Part) (after : Course) : Type 0 where
+  pub rows_after : after.background.rows ≡ before.background.rows ++ part_rows inputs.disk step
+  pub tells : Tells inputs.disk.map (past_after inputs past step) after.background.sessions after.background.wanted
+  pub is_made : IsMade inputs past step
+  pub finds : IsTrue (medium_of inputs) after.store (past_after inputs past step)
+  pub called : IsCalled inputs.disk.map inputs.calls (past_after inputs past step) after.called
+  pub ends_at : end_of step.0 ≡ after.now
+
+-- ---- what deliveries and tests leave of wanted blocks and rows
+
+pub wanted_tested : (past : Past) (rows : List BackRow) → wanted (tested rows ∷ past) ≡ wanted past
+unfolding wanted bare_state
+wanted_tested past rows = refl
+
+pub gots_followed : (past : Past) (gots : List DeliveryRow) → map (λ (delivery : Delivery). delivery.got) (followed past gots) ≡ gots
+gots_followed past [] = refl
+gots_followed past (got ∷ gots) = ap (λ rest. got ∷ rest) (gots_followed (with_delivery past (delivery_of past got)) gots)
+
+wanted_all : (P : Block → Type 0) (past : Past) → AllByRecursion P (registered past) → AllByRecursion P (wanted past)
+unfolding wanted
+wanted_all P past all = all_filter P (λ block. is_wanted (state past block)) (registered past) all
+
+-- the rows of a part behind those before it
+rows_join : (before settled opens delivered : List BackRow) (rows middle : List BackRow) → middle ≡ before ++ settled → rows ≡ (middle ++ opens) ++ delivered → rows ≡ before ++ ((settled ++ opens) ++ delivered)
+rows_join before settled opens delivered rows middle e f =
+    f ∙ ap (λ m. (m ++ opens) ++ delivered) e ∙ ap (λ m. m ++ delivered) (append_assoc before settled opens) ∙ append_assoc before (settled ++ opens) delivered
+
+-- ---- one decision
+
+module _ (inputs : Inputs) (past : Past) (before : Course) (background : Background) (called : ℕ) (decision : Decision) (plan : Plan) (gots : List DeliveryRow) (after : Course) where
+  abbrev then : Past
+  then = past_settled inputs.disk.map inputs.calls past (instant_of decision)
+
+  abbrev part : Part
+  part = part_by inputs.disk.map inputs.calls past (instant_of decision) plan gots
+
+  -- what a decision does after its test
+  pub record HasDone (end : ℕ) : Type 0 where
+    pub order : instant_of decision ≤ end
+    pub mirrors : Mirrors (medium_of inputs) before.store (instant_of decision) end
+    pub found : AllByRecursion (IsFoundIn before.store (instant_of decision) end) gots
+    pub there : AllByRecursion (λ got. IsRegistered then got.block) gots
+    pub best : HasBestPlan inputs.disk decision (wanted then) plan
+    pub all : gots ≡ due (medium_of inputs) decision plan (wanted then)
+    pub rows_behind : after.background.rows ≡ (background.rows ++ opening inputs.disk decision plan) ++ rows_of (followed then gots)
+    pub tells_after : Tells inputs.disk.map (with_finish (past_with then gots) decision) after.background.sessions after.background.wanted
+    pub leaves : LeftBy decision before.store after.store
+    pub same_called : after.called ≡ called
+    pub ends_at : end_of decision ≡ after.now
+
+  module _ (end : ℕ) (h : HasDone end) (tells : Tells inputs.disk.map past before.background.sessions before.background.wanted) (finds : IsTrue (medium_of inputs) before.store past)
+      (settled : HasSettled inputs.disk.map inputs.calls past (instant_of decision) called before.background.rows background) where
+    same_wanted : wanted then ≡ wanted (settled_past inputs past decision)
+    unfolding settled_past
+    same_wanted = wanted_tested (settled_by inputs.disk.map inputs.calls past (instant_of decision)) (settling_rows inputs.disk.map inputs.calls past (instant_of decision))
+
+    truths : IsTested inputs (medium_of inputs) past (decision, part) × IsTrue (medium_of inputs) before.store (past_with then gots)
+    truths = decision_true inputs (medium_of inputs) before.store past decision end gots finds h.mirrors h.order tells settled.current.tells h.found h.there plan
+
+    after_is : past_after inputs past (decision, part) ≡ with_finish (past_with then gots) decision
+    unfolding settled_past past_after
+    after_is = refl
+
+    finished_called : (d : Decision) → IsCalled inputs.disk.map inputs.calls (with_finish (past_with then gots) d) called
+    finished_called (serves served) = called-finished inputs.disk.map inputs.calls (past_with then gots) called (called_delivered inputs.disk.map inputs.calls then called gots settled.called) served.request
+    finished_called (idles dwell) = called_delivered inputs.disk.map inputs.calls then called gots settled.called
+    finished_called (ends now) = called_delivered inputs.disk.map inputs.calls then called gots settled.called
+
+    pub stepped : HasStepped inputs past before (decision, part) after
+    stepped = record {
+      rows_after = rows_join before.background.rows (settling_rows inputs.disk.map inputs.calls past (instant_of decision)) (opening inputs.disk decision plan) (rows_of (followed then gots))
+          after.background.rows background.rows settled.rows_after h.rows_behind;
+      tells = subst (λ p. Tells inputs.disk.map p after.background.sessions after.background.wanted) (sym after_is) h.tells_after;
+      is_made = record {
+        planned = plan_of_best inputs.disk decision (wanted then) plan h.best;
+        best = subst (λ blocks. HasBestPlan inputs.disk decision blocks plan) same_wanted h.best;
+        all = gots_followed then gots ∙ (h.all ∙ ap (due (medium_of inputs) decision plan) same_wanted);
+        tested = truths.0;
+      };
+      finds = after_true inputs (medium_of inputs) before.store after.store past decision plan gots h.leaves truths.1;
+      called = subst (λ p. IsCalled inputs.disk.map inputs.calls p after.called) (sym after_is) (subst (IsCalled inputs.disk.map inputs.calls (with_finish (past_with then gots) decision)) (sym h.same_called) (finished_called decision));
+      ends_at = h.ends_at;
+    }
+
+-- ---- each kind of decision
+
+module _ (inputs : Inputs) (past : Past) (before : Course) (background : Background) (joined called : ℕ)
+    (settled : HasSettled inputs.disk.map inputs.calls past before.now called before.background.rows background) where
+  abbrev ready : Course
+  ready = prepared before background joined called
+
+  abbrev settled_now : Past
+  settled_now = past_settled inputs.disk.map inputs.calls past before.now
+
+  all_some : AllByRecursion (λ (block : Block). 0 < block.count) (wanted settled_now)
+  all_some = wanted_all (λ (block : Block). 0 < block.count) settled_now
+      (all_weaker (IsBlockOf inputs.disk.map (length (tasks settled_now))) (λ (block : Block). 0 < block.count) (λ block h. h.some) (registered settled_now) settled.current.tells.on_disk)
+
+  -- a request is served
+  module _ (request : Request) (inside : IsRequestOf inputs.disk.map request) (after : Course) (now_served : HasServedNext inputs.disk request ready after)
+      (mirrors : Mirrors (medium_of inputs) before.store before.now (held_until (service inputs.disk before.head before.now request))) where
+    abbrev pub served : Served
+    served = service inputs.disk before.head before.now request
+
+    abbrev pub has_served : HasServed inputs.disk before.store settled_now served background.rows after.background
+    has_served = now_served.served settled_now settled.current
+
+    abbrev pub served_gots : List DeliveryRow
+    served_gots = due_in inputs.disk before.store served has_served.plan (wanted settled_now)
+
+    pub serves_done : HasDone inputs past before background called (serves served) has_served.plan served_gots after (held_until served)
+    unfolding due medium_of
+    serves_done = record {
+      order = (held_between inputs.disk before.head before.now request inside.range.some).0;
+      mirrors = mirrors;
+      found = due_found (medium_of inputs) before.store before.head before.now request has_served.plan (held_until served) (wanted settled_now) all_some has_served.best.is_plan
+          (media_held served (media_before inputs.disk before.head before.now request inside.range.some)) (finish_held served);
+      there = has_served.registered;
+      best = has_served.best;
+      all = due_same (medium_of inputs) before.store before.head before.now request has_served.plan (held_until served) (wanted settled_now) all_some has_served.best.is_plan
+          (media_held served (media_before inputs.disk before.head before.now request inside.range.some)) (finish_held served) mirrors;
+      rows_behind = has_served.rows_after ∙ sym (append_assoc background.rows (opening inputs.disk (serves served) has_served.plan) (rows_of (followed settled_now served_gots)));
+      tells_after = has_served.tells;
+      leaves = now_served.leaves;
+      same_called = now_served.same_called;
+      ends_at = sym now_served.finished;
+    }
+
+  -- the head stays
+  module _ (instant : ℕ) (later : before.now ≤ instant) (after : Course) (stayed : HasStayed inputs.disk instant ready after)
+      (mirrors : Mirrors (medium_of inputs) before.store before.now instant) where
+    has_delivered : HasDelivered inputs.disk.map settled_now (caught_in inputs.disk before.store ByIdle (stay_of ready instant) (wanted settled_now)) (background.rows ++ opening inputs.disk (idles (stay_of ready instant)) (Direct 0)) after.background
+    has_delivered = stayed.delivered settled_now settled.current
+
+    abbrev pub stayed_gots : List DeliveryRow
+    stayed_gots = caught_in inputs.disk before.store ByIdle (stay_of ready instant) (wanted settled_now)
+
+    pub stays_done : HasDone inputs past before background called (idles (stay_of ready instant)) (Direct 0) stayed_gots after instant
+    unfolding due medium_of
+    stays_done = record {
+      order = later;
+      mirrors = mirrors;
+      found = caught_found inputs.disk before.store ByIdle (stay_of ready instant) before.now instant (omega arith) (omega arith) (wanted settled_now);
+      there = has_delivered.registered;
+      best = tt;
+      all = caught_same (medium_of inputs) before.store ByIdle (stay_of ready instant) before.now instant mirrors (omega arith) (omega arith) (wanted settled_now);
+      rows_behind = has_delivered.rows_after;
+      tells_after = has_delivered.current.tells;
+      leaves = stayed.same_store;
+      same_called = stayed.same_called;
+      ends_at = sym stayed.until;
+    }
+
+  -- the run ends
+  pub ends_done : Mirrors (medium_of inputs) before.store before.now before.now → HasDone inputs past before background called (ends before.now) (Direct 0) [] ready before.now
+  unfolding due
+  ends_done mirrors = record {
+    order = omega arith;
+    mirrors = mirrors;
+    found = tt;
+    there = tt;
+    best = tt;
+    all = refl;
+    rows_behind = sym (append-nil (background.rows ++ []) ∙ append-nil background.rows);
+    tells_after = settled.current.tells;
+    leaves = refl;
+    same_called = refl;
+    ends_at = refl;
+  }

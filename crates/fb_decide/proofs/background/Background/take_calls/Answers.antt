@@ -1,0 +1,68 @@
+use Rattle.std.proofs.Common.{◌≡◌, ◌<◌, ◌≤◌, refl, sym, ◌∙◌, subst, arith}
+use Rattle.std.specs.Prelude.{IfSome}
+use Rattle.std.proofs.lemmas.Option.{slice_get_read, slice_get_past}
+use Rattle.fb_calls.specs.declared.call.Call.{Call}
+use Rattle.fb_decide.proofs.Calling.{taken-may, taken-more, taken-tells, taken-called}
+use Rattle.fb_decide.proofs.background.Background.take_calls.Goals as goal
+
+pub loop-next-init : goal.loop-next-init
+loop-next-init c = record {
+  taken = λ past called tells. record { taken = past; called = called; tells = tells; rest = refl };
+  within = c.requires.called.1.within;
+  rows = refl;
+}
+
+pub apply-requires : goal.apply-requires
+apply-requires c =
+    let at = slice_get_read c.args.calls.now.calls.items c.len.result c.loop-next.next c.index-in-loop-next.result.now (c.len.ensures ∙ c.args.calls.now.calls.ok.0) c.loop-next-test.true c.index-in-loop-next.ensures in
+    let taken = c.loop-next.invariant.taken c.requires.called.0 c.requires.called.1 c.requires.called.2 in
+    (taken.taken, taken-may c.args.disk.now.map c.args.calls.now.calls.items c.requires.script c.requires.called.0 c.args.now c.loop-next.next c.loop-next.self.sessions c.loop-next.self.wanted taken c.index-in-loop-next.result.now at)
+
+pub loop-next-preserved : goal.loop-next-preserved
+loop-next-preserved c =
+    let calls = c.args.calls.now.calls.items in
+    let call = c.index-in-loop-next.result.now in
+    let at = slice_get_read calls c.len.result c.loop-next.next call (c.len.ensures ∙ c.args.calls.now.calls.ok.0) c.loop-next-test.true c.index-in-loop-next.ensures in
+    let same = slice_get_read calls c.len.result c.loop-next.next c.index.result.now (c.len.ensures ∙ c.args.calls.now.calls.ok.0) c.loop-next-test.true c.index.ensures in
+    let one : c.index.result.now ≡ call = grind (arith, at, same) in
+    let here : call.instant ≤ c.args.now = subst (λ (x : Call). x.instant ≤ c.args.now) one c.if-index-now.true in
+    record {
+      taken = λ past called tells.
+          let taken = c.loop-next.invariant.taken past called tells in
+          taken-more c.args.disk.now.map calls c.requires.script past c.args.now c.loop-next.next c.loop-next.self.sessions c.loop-next.self.wanted taken call c.apply.new.self c.apply.new.wanted at here
+          (c.in_ok-apply.ensures.ok taken.taken (taken-may c.args.disk.now.map calls c.requires.script past c.args.now c.loop-next.next c.loop-next.self.sessions c.loop-next.self.wanted taken call at));
+      within = omega (arith, c.loop-next-test.true, c.len.ensures);
+      rows = c.loop-next.invariant.rows;
+    }
+
+ahead_in : goal.returns-else-index-now-clause-ahead
+ahead_in c =
+    let at = slice_get_read c.args.calls.now.calls.items c.len.result c.loop-next.next c.index.result.now (c.len.ensures ∙ c.args.calls.now.calls.ok.0) c.loop-next-test.true c.index.ensures in
+    subst (λ o. IfSome o (λ (call : Call). c.args.now < call.instant)) (sym at) c.if-index-now.false
+
+ahead_after : goal.returns-after-loop-next-clause-ahead
+ahead_after c =
+    let none = slice_get_past c.args.calls.now.calls.items c.loop-next.next (omega (arith, c.loop-next-test.false, c.len.ensures)) in
+    subst (λ o. IfSome o (λ (call : Call). c.args.now < call.instant)) (sym none) tt
+
+pub returns-else-index-now-clause-tells : goal.returns-else-index-now-clause-tells
+returns-else-index-now-clause-tells c = λ past called tells.
+    taken-tells c.args.disk.now.map c.args.calls.now.calls.items c.requires.script past c.args.now c.loop-next.next c.loop-next.self.sessions c.loop-next.self.wanted (c.loop-next.invariant.taken past called tells) (ahead_in c)
+
+pub returns-else-index-now-clause-called : goal.returns-else-index-now-clause-called
+returns-else-index-now-clause-called c = λ past called tells.
+    taken-called c.args.disk.now.map c.args.calls.now.calls.items c.requires.script past c.args.now c.loop-next.next c.loop-next.self.sessions c.loop-next.self.wanted (c.loop-next.invariant.taken past called tells) (ahead_in c)
+
+pub returns-else-index-now-clause-ahead : goal.returns-else-index-now-clause-ahead
+returns-else-index-now-clause-ahead c = ahead_in c
+
+pub returns-after-loop-next-clause-tells : goal.returns-after-loop-next-clause-tells
+returns-after-loop-next-clause-tells c = λ past called tells.
+    taken-tells c.args.disk.now.map c.args.calls.now.calls.items c.requires.script past c.args.now c.loop-next.next c.loop-next.self.sessions c.loop-next.self.wanted (c.loop-next.invariant.taken past called tells) (ahead_after c)
+
+pub returns-after-loop-next-clause-called : goal.returns-after-loop-next-clause-called
+returns-after-loop-next-clause-called c = λ past called tells.
+    taken-called c.args.disk.now.map c.args.calls.now.calls.items c.requires.script past c.args.now c.loop-next.next c.loop-next.self.sessions c.loop-next.self.wanted (c.loop-next.invariant.taken past called tells) (ahead_after c)
+
+pub returns-after-loop-next-clause-ahead : goal.returns-after-loop-next-clause-ahead
+returns-after-loop-next-clause-ahead c = ahead_after c

@@ -1,0 +1,6 @@
+use Rattle.std.proofs.Common.{ap, sym, ◌∙◌}
+use Rattle.fb_model.specs.Decisions.{run_end}
+use Rattle.fb_decide.proofs.deciding.Decider.instant.Goals as goal
+
+pub returns-clause-end : goal.returns-clause-end
+returns-clause-end g c = λ inputs steps made. sym made.come_to.run.ends_at ∙ ap run_end made.come_to.decided

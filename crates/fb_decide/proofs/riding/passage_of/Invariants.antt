@@ -1,0 +1,7 @@
+use Rattle.std.proofs.Common.{◌≡◌, ◌==◌, drop, find}
+use Rattle.fb_service.specs.Extents.{all_passages_of}
+use Rattle.fb_decide.proofs.riding.passage_of.Given as goal
+
+abbrev pub invariant-loop-extent : goal.invariant-loop-extent
+invariant-loop-extent l = find (λ passage. passage.lbn == l.lbn) (all_passages_of l.disk.map l.extents)
+    ≡ find (λ passage. passage.lbn == l.lbn) (all_passages_of l.disk.map (drop l.extent-index l.extents))

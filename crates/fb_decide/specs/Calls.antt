@@ -1,0 +1,51 @@
+-- The calls between two decisions, and what a decision settles before its plan.
+use Rattle.std.specs.Prelude.{◌≡◌, ◌<◌, ◌^◌, ℕ, List, [], ◌∷◌, ◌++◌, length, map, IfSome, slice_get}
+use Rattle.std.specs.List.{fold}
+use Rattle.fb_units.specs.Rising.{IsRising}
+use Rattle.fb_geometry.specs.Shape.{Shape}
+use Rattle.fb_calls.specs.declared.call.Call.{Call}
+use Rattle.fb_calls.specs.Allowed.{AreAllowed}
+use Rattle.fb_rows.specs.declared.gap.Plan.{Plan}
+use Rattle.fb_rows.specs.declared.back.DeliveryRow.{DeliveryRow}
+use Rattle.fb_rows.specs.declared.back.BackRow.{BackRow}
+use Rattle.fb_model.specs.History.{Past, tested}
+use Rattle.fb_model.specs.Course.{Part, take_call, calls_due}
+use Rattle.fb_model.specs.Segments.{with_choices}
+use Rattle.fb_model.specs.Images.{test_rows}
+use Rattle.fb_tasks.specs.Taken.{by_deliveries}
+pub use Rattle.fb_tasks.specs.Script.{IsCalled}
+use Rattle.fb_decide.specs.declared.background.Background.{Background}
+use Rattle.fb_decide.specs.Deliveries.{IsCurrent, followed}
+
+-- calls that keep the rules one after another, by instant
+pub record IsScriptOf (disk : Shape) (calls : List Call) : Type 0 where
+  pub instants : IsRising (map (λ call. call.instant) calls)
+  pub allowed : AreAllowed disk [] calls
+  pub few : length calls < 2 ^ 32
+
+-- after the calls and choices of an instant
+abbrev pub settled_by : Shape → List Call → Past → ℕ → Past
+settled_by disk calls past now = with_choices disk (fold (take_call disk) past (calls_due calls past now))
+
+-- the rows of its test
+abbrev pub settling_rows : Shape → List Call → Past → ℕ → List BackRow
+settling_rows disk calls past now = test_rows by_deliveries (settled_by disk calls past now) now
+
+-- after its test
+abbrev pub past_settled : Shape → List Call → Past → ℕ → Past
+past_settled disk calls past now = tested (settling_rows disk calls past now) ∷ settled_by disk calls past now
+
+-- the part of a decision that has this plan and these deliveries
+abbrev pub part_by : Shape → List Call → Past → ℕ → Plan → List DeliveryRow → Part
+part_by disk calls past now plan gots = record {
+  settled = settling_rows disk calls past now;
+  plan = plan;
+  deliveries = followed (past_settled disk calls past now) gots;
+}
+
+-- all calls up to now have taken effect, tasks have chosen, and all was tested
+pub record HasSettled (disk : Shape) (calls : List Call) (past : Past) (now later : ℕ) (rows : List BackRow) (after : Background) : Type 0 where
+  pub current : IsCurrent disk (past_settled disk calls past now) after
+  pub called : IsCalled disk calls (past_settled disk calls past now) later
+  pub rows_after : after.rows ≡ rows ++ settling_rows disk calls past now
+  pub ahead : IfSome (slice_get calls later) (λ call. now < call.instant)

@@ -1,0 +1,116 @@
+-- What stands between two decisions, and what a decision makes of it.
+use Rattle.std.specs.Prelude.{◌≡◌, ◌≤◌, ◌<◌, ◌+◌, ◌*◌, ◌^◌, ℕ, List, [], ◌∷◌, ◌++◌, Bool, true, false, Option, None, Some, min, length, take, IfSome, slice_get}
+use Rattle.std.specs.List.{AllByRecursion}
+use Rattle.fb_units.specs.declared.types.Request.{Request}
+use Rattle.fb_geometry.specs.Shape.{Shape, IsTrackOf}
+use Rattle.fb_geometry.specs.Places.{places}
+use Rattle.fb_sectormap.specs.Lookup.{place_at}
+use Rattle.fb_service.specs.Passing.{length_of}
+use Rattle.fb_service.specs.declared.disk.Disk.{Disk}
+use Rattle.fb_service.specs.Service.{passages}
+use Rattle.fb_calls.specs.declared.call.Call.{Call}
+use Rattle.fb_store.specs.Writes.{unwritten}
+use Rattle.fb_store.specs.Index.{content_in}
+use Rattle.fb_tasks.specs.Telling.{Tells}
+use Rattle.fb_rows.specs.declared.fore.ForeRow.{ForeRow}
+use Rattle.fb_rows.specs.declared.gap.Dwell.{Dwell}
+use Rattle.fb_rows.specs.declared.gap.How.TheVariants.{Idle as ByIdle}
+use Rattle.fb_rows.specs.declared.back.BackRow.TheVariants.{Idle as IdleLine}
+use Rattle.fb_rows.specs.Ranges.{HasRanges}
+use Rattle.fb_model.specs.PlainReplay.{Key, first_track, service, last_track, finish, first_least}
+use Rattle.fb_model.specs.History.{Past, wanted}
+use Rattle.fb_decide.specs.declared.background.Background.{Background}
+use Rattle.fb_decide.specs.declared.deciding.Course.{Course}
+use Rattle.fb_decide.specs.Contents.{left_by, IsRowOf}
+use Rattle.fb_decide.specs.Waiting.{left}
+use Rattle.fb_decide.specs.Deliveries.{IsCurrent, HasDelivered, HasServed, caught_in}
+use Rattle.fb_decide.specs.Calls.{HasSettled}
+
+-- no sector of the disk passes in no time
+abbrev pub PassagesTakeTime : Shape → Type 0
+PassagesTakeTime disk = (lbn : ℕ) → lbn < length (places disk) → 0 < length_of disk (place_at disk lbn)
+
+-- no sector was written, no task opened, nothing served
+pub record IsAtStart (latent : List ℕ) (course : Course) : Type 0 where
+  pub unwritten_yet : (lbn : ℕ) → content_in course.store lbn ≡ unwritten latent lbn
+  pub none_opened : (disk : Shape) → Tells disk [] course.background.sessions []
+  pub none_wanted : course.background.wanted ≡ []
+  pub none_joined : course.joined ≡ 0
+  pub none_called : course.called ≡ 0
+  pub first_head : course.head ≡ first_track
+  pub first_instant : course.now ≡ 0
+
+-- the earlier one of the next arrival and the next call
+abbrev pub next_of : Option Request → Option Call → Option ℕ
+next_of None None = None
+next_of (Some request) None = Some request.arrival
+next_of None (Some call) = Some call.instant
+next_of (Some request) (Some call) = Some (min request.arrival call.instant)
+
+-- a request was served, from the track and the instant that stood before
+pub record HasServedNext (disk : Disk) (request : Request) (before after : Course) : Type 0 where
+  pub row : ForeRow
+  pub is_row : IsRowOf before.store (service disk before.head before.now request) row
+  pub more : after.fore ≡ before.fore ++ row ∷ []
+  pub leaves : (lbn : ℕ) → content_in after.store lbn ≡ left_by request lbn (content_in before.store lbn)
+  pub stands : after.head ≡ last_track disk (service disk before.head before.now request)
+  pub finished : after.now ≡ finish (service disk before.head before.now request)
+  pub on_disk : IsTrackOf disk.map after.head
+  pub ranges : HasRanges row
+  pub each : AllByRecursion (λ passage. passage.begin < passage.end) (passages disk before.head before.now request.write request.lbn request.count)
+  pub later : before.now < after.now
+  pub soon : after.now ≤ before.now + 2048 * (4 * 10 ^ 9)
+  pub served : (past : Past) → IsCurrent disk.map past before.background
+      → HasServed disk before.store past (service disk before.head before.now request) before.background.rows after.background
+  pub same_joined : after.joined ≡ before.joined
+  pub same_called : after.called ≡ before.called
+
+-- the stay from then until an instant
+abbrev pub stay_of : Course → ℕ → Dwell
+stay_of course instant = record { track = course.head; begin = course.now; end = instant }
+
+-- the head stayed until an instant
+pub record HasStayed (disk : Disk) (instant : ℕ) (before after : Course) : Type 0 where
+  pub delivered : (past : Past) → IsCurrent disk.map past before.background
+      → HasDelivered disk.map past (caught_in disk before.store ByIdle (stay_of before instant) (wanted past)) (before.background.rows ++ IdleLine (stay_of before instant) ∷ []) after.background
+  pub until : after.now ≡ instant
+  pub same_store : after.store ≡ before.store
+  pub same_fore : after.fore ≡ before.fore
+  pub same_head : after.head ≡ before.head
+  pub same_joined : after.joined ≡ before.joined
+  pub same_called : after.called ≡ before.called
+
+-- what is done with the requests that wait: the pick is served, or the head stays until the next instant or the end. Another decision follows, but for the last
+pub data HasActed (disk : Disk) (key : Key) (until : ℕ) (next : Option ℕ) (waiting : List Request) (before : Course) : Bool → List Request → Course → Type 0 where
+  serves_pick : (request : Request) (others : List Request) (after : Course)
+      → first_least (key disk before.head before.now) waiting ≡ Some (request, others) → HasServedNext disk request before after
+      → HasActed disk key until next waiting before true others after
+  stays_on : (instant : ℕ) (after : Course) → waiting ≡ [] → next ≡ Some instant → HasStayed disk instant before after
+      → HasActed disk key until next waiting before true waiting after
+  stays_last : (after : Course) → waiting ≡ [] → next ≡ None → before.now < until → HasStayed disk until before after
+      → HasActed disk key until next waiting before false waiting after
+  ends_here : waiting ≡ [] → next ≡ None → until ≤ before.now
+      → HasActed disk key until next waiting before false waiting before
+
+-- with the calls up to now taken, and the requests that have arrived joined
+abbrev pub prepared : Course → Background → ℕ → ℕ → Course
+prepared course background joined called = record course { background = background; joined = joined; called = called }
+
+-- all that is due at an instant has taken effect: the calls up to now are taken, with their choices and tests, and the requests that have arrived wait
+pub record HasPrepared (disk : Disk) (requests : List Request) (calls : List Call) (past : Past) (before : Course) (pending : List Request)
+    (background : Background) (joined called : ℕ) (waiting : List Request) : Type 0 where
+  pub settled : HasSettled disk.map calls past before.now called before.background.rows background
+  pub same_left : left requests joined waiting ≡ left requests before.joined pending
+  pub come : AllByRecursion (λ r. r.arrival ≤ before.now) (take joined requests)
+  pub arrived : AllByRecursion (λ r. r.arrival ≤ before.now) waiting
+  pub ahead : IfSome (slice_get requests joined) (λ r. before.now < r.arrival)
+
+-- one decision
+pub record HasDecided (disk : Disk) (requests : List Request) (calls : List Call) (key : Key) (until : ℕ) (past : Past)
+    (before : Course) (pending : List Request) (goes_on : Bool) (after : Course) (pending_after : List Request) : Type 0 where
+  pub background : Background
+  pub joined : ℕ
+  pub called : ℕ
+  pub waiting : List Request
+  pub has_prepared : HasPrepared disk requests calls past before pending background joined called waiting
+  pub acted : HasActed disk key until (next_of (slice_get requests joined) (slice_get calls called)) waiting (prepared before background joined called) goes_on pending_after after

@@ -1,0 +1,103 @@
+-- What dwells and reads deliver from a disk as it is, and what the deliveries make of a history.
+use Rattle.std.specs.Prelude.{◌≡◌, ℕ, ◌+◌, ◌-◌, List, [], ◌∷◌, ◌++◌, false, filter, map, Some, slice_get, if◌then◌else◌}
+use Rattle.std.specs.List.{AllByRecursion, flat_map, fold, range_with_len}
+use Rattle.fb_geometry.specs.Shape.{Shape}
+use Rattle.fb_service.specs.declared.disk.Disk.{Disk}
+use Rattle.fb_store.specs.Runs.{runs_of, bad_of}
+use Rattle.fb_store.specs.Index.{Holding, content_in}
+use Rattle.fb_wanted.specs.declared.block.Block.{Block}
+use Rattle.fb_rows.specs.declared.gap.Dwell.{Dwell}
+use Rattle.fb_rows.specs.declared.gap.Plan.{Plan}
+use Rattle.fb_rows.specs.declared.gap.How.{How}
+use Rattle.fb_rows.specs.declared.gap.How.TheVariants.{Gap as ByGap, Ride as ByRide}
+use Rattle.fb_rows.specs.declared.back.DeliveryRow.{DeliveryRow}
+use Rattle.fb_rows.specs.declared.back.BackRow.{BackRow}
+use Rattle.fb_rows.specs.declared.back.BackRow.TheVariants.{Got as GotLine, Gap as GapLine}
+use Rattle.fb_model.specs.Plans.{IsBest, block_begin, block_end, catches, early_dwell, late_dwell}
+use Rattle.fb_model.specs.PlainReplay.{Served}
+use Rattle.fb_model.specs.Rides.{in_order, lies_in, begin_at, end_at, missed, gap_of}
+use Rattle.fb_model.specs.History.{Past, finished, registered, same_block, wanted}
+use Rattle.fb_model.specs.Course.{Delivery, with_delivery}
+use Rattle.fb_tasks.specs.Taken.{delivery_of}
+use Rattle.fb_tasks.specs.Telling.{Tells, IsSettled}
+use Rattle.fb_plan.specs.declared.catching.Catch.{Catch}
+use Rattle.fb_decide.specs.declared.background.Background.{Background}
+
+-- the delivery of a block, with what its sectors hold now
+abbrev pub delivery_in : Holding → How → Block → ℕ → ℕ → DeliveryRow
+delivery_in holding how block begin end =
+    let runs = runs_of (map (λ lbn. (lbn, content_in holding lbn)) (range_with_len block.lbn block.count)) in
+    record { block = block; begin = begin; end = end; how = how; bad = bad_of runs; content = runs }
+
+-- the delivery of a block that was caught
+abbrev pub row_in : Holding → How → Catch → DeliveryRow
+row_in holding how catch = delivery_in holding how catch.block catch.begin catch.end
+
+-- what a dwell catches of these blocks
+abbrev pub caught_in : Disk → Holding → How → Dwell → List Block → List DeliveryRow
+caught_in disk holding how dwell blocks = in_order (map
+    (λ block. delivery_in holding how block (block_begin disk.map block dwell.begin) (block_end disk.map block dwell.begin))
+    (filter (catches disk dwell) blocks))
+
+-- what a read carries of them
+abbrev pub rides_in : Holding → Served → List Block → List DeliveryRow
+rides_in holding served blocks = if served.request.write then [] else in_order (map
+    (λ block. delivery_in holding ByRide block (begin_at served.passages block.lbn) (end_at served.passages (block.lbn + block.count - 1)))
+    (filter (lies_in served.request) blocks))
+
+-- the early dwell, then the late dwell, then the ride, each of what is left
+abbrev pub due_in : Disk → Holding → Served → Plan → List Block → List DeliveryRow
+due_in disk holding served plan wanted =
+    let early = early_dwell disk (gap_of disk served) plan in
+    let late = late_dwell disk (gap_of disk served) plan in
+    let left = missed disk early wanted in
+    caught_in disk holding ByGap early wanted ++ caught_in disk holding ByGap late left ++ rides_in holding served (missed disk late left)
+
+-- these deliveries one after another, each with its findings and what its test gives
+abbrev pub followed : Past → List DeliveryRow → List Delivery
+followed past [] = []
+followed past (got ∷ gots) = delivery_of past got ∷ followed (with_delivery past (delivery_of past got)) gots
+
+abbrev pub past_with : Past → List DeliveryRow → Past
+past_with past gots = fold with_delivery past (followed past gots)
+
+abbrev pub rows_of : List Delivery → List BackRow
+rows_of deliveries = flat_map (λ delivery. GotLine delivery.got ∷ delivery.after) deliveries
+
+abbrev pub IsRegistered : Past → Block → Type 0
+IsRegistered past block = (place : ℕ) × (slice_get (registered past) place ≡ Some block)
+
+-- the sessions and the wanted set tell the history, and all of it was tested
+pub record IsCurrent (disk : Shape) (past : Past) (background : Background) : Type 0 where
+  pub tells : Tells disk past background.sessions background.wanted
+  pub settled : IsSettled past
+
+-- no block is one of those behind it
+abbrev pub AreDistinct : List Block → Type 0
+AreDistinct [] = Unit {0}
+AreDistinct (block ∷ blocks) = AllByRecursion (λ other. same_block block other ≡ false) blocks × AreDistinct blocks
+
+abbrev pub IsOneOf : List Block → Block → Type 0
+IsOneOf blocks block = (place : ℕ) × (slice_get blocks place ≡ Some block)
+
+abbrev pub block_in : DeliveryRow → Block
+block_in got = got.block
+
+-- deliveries of different blocks that are wanted
+pub record AreDue (past : Past) (gots : List DeliveryRow) : Type 0 where
+  pub each : AllByRecursion (λ got. IsOneOf (wanted past) got.block) gots
+  pub distinct : AreDistinct (map block_in gots)
+
+-- these deliveries were made behind the rows
+pub record HasDelivered (disk : Shape) (past : Past) (gots : List DeliveryRow) (rows : List BackRow) (after : Background) : Type 0 where
+  pub current : IsCurrent disk (past_with past gots) after
+  pub rows_after : after.rows ≡ rows ++ rows_of (followed past gots)
+  pub registered : AllByRecursion (λ got. IsRegistered past got.block) gots
+
+-- a request was served behind the rows, by the best plan for its gap
+pub record HasServed (disk : Disk) (holding : Holding) (past : Past) (served : Served) (rows : List BackRow) (after : Background) : Type 0 where
+  pub plan : Plan
+  pub best : IsBest disk (gap_of disk served) (wanted past) plan
+  pub tells : Tells disk.map (finished served.request ∷ past_with past (due_in disk holding served plan (wanted past))) after.sessions after.wanted
+  pub rows_after : after.rows ≡ rows ++ GapLine (record { name = served.request.name; gap = gap_of disk served; plan = plan }) ∷ rows_of (followed past (due_in disk holding served plan (wanted past)))
+  pub registered : AllByRecursion (λ got. IsRegistered past got.block) (due_in disk holding served plan (wanted past))

@@ -1,0 +1,30 @@
+-- What the disk holds, and what deliveries found.
+use Rattle.std.specs.Prelude.{◌≡◌, ◌≤◌, ℕ, true, map}
+use Rattle.std.specs.List.{range_with_len}
+use Rattle.fb_store.specs.Runs.{runs_of}
+use Rattle.fb_store.specs.Index.{Holding, content_in}
+use Rattle.fb_wanted.specs.declared.block.Block.{Block}
+use Rattle.fb_wanted.specs.States.{is_delivered}
+use Rattle.fb_rows.specs.declared.back.DeliveryRow.{DeliveryRow}
+use Rattle.fb_model.specs.Content.{Medium, content, contents_at}
+use Rattle.fb_model.specs.History.{Past, bare_state, content_of, is_open_backup}
+use Rattle.fb_model.specs.Images.{delivery_begin}
+use Rattle.fb_decide.specs.Deliveries.{IsRegistered, delivery_in}
+
+-- from one instant to another each sector holds what it holds now
+abbrev pub Mirrors : Medium → Holding → ℕ → ℕ → Type 0
+Mirrors medium holding from to = (lbn t : ℕ) → from ≤ t → t ≤ to → content medium lbn t ≡ content_in holding lbn
+
+-- a delivery between two instants, of what the disk holds
+pub record IsFoundIn (holding : Holding) (from to : ℕ) (got : DeliveryRow) : Type 0 where
+  pub row : got ≡ delivery_in holding got.how got.block got.begin got.end
+  pub begin : from ≤ got.begin
+  pub order : got.begin ≤ got.end
+  pub end : got.end ≤ to
+
+-- each delivered block was found as it was when its passage began, and one of an open backup is so still
+pub record IsTrue (medium : Medium) (holding : Holding) (past : Past) : Type 0 where
+  pub found : (block : Block) → IsRegistered past block → is_delivered (bare_state past block) ≡ true
+      → content_of past block ≡ runs_of (contents_at medium block.lbn block.count (delivery_begin past block))
+  pub kept : (block : Block) → IsRegistered past block → is_delivered (bare_state past block) ≡ true → is_open_backup past block.task ≡ true
+      → content_of past block ≡ runs_of (map (λ lbn. (lbn, content_in holding lbn)) (range_with_len block.lbn block.count))

@@ -1,0 +1,106 @@
+// The background of a run: what is delivered, call by call and dwell by dwell.
+ghost use Rattle.std.specs.Prelude.{◌≡◌, ◌+◌, ◌*◌, ◌≤◌, ◌^◌, ℕ, [], ◌∷◌, ◌++◌, Some, map, slice_get, OnOk};
+ghost use Rattle.fb_geometry.specs.Shape.{Shape};
+ghost use Rattle.fb_model.specs.History.{Past, wanted};
+ghost use Rattle.fb_model.specs.Rides.{missed};
+ghost use Rattle.fb_decide.specs.Deliveries.{IsCurrent, HasDelivered, AreDue, row_in, delivery_in, caught_in, past_with};
+
+use fb_plan::{Catch, caught};
+use fb_rows::{BackRow, BackRows, DeliveryRow, Dwell, How};
+use fb_service::Disk;
+use fb_store::{Store, runs_are_fewest};
+use fb_tasks::Sessions;
+use fb_units::NoMemory;
+use fb_wanted::Wanted;
+use std::alloc::Global;
+
+/// The tasks with their blocks, and the rows so far.
+#[derive(Drop)]
+pub struct Background {
+    pub sessions: Sessions,
+    pub wanted: Wanted,
+    pub rows: BackRows,
+}
+
+impl Background {
+    // Delivers a wanted block, with what its sectors hold now.
+    pub fn deliver(
+        &mut self,
+        alloc: Global,
+        store: &Store,
+        how: How,
+        catch: Catch,
+    ) -> Result<(), NoMemory>
+        requires wanted { (disk : Shape) × (past : Past) × (place : ℕ) × IsCurrent disk past self.old × (slice_get (wanted past) place ≡ Some catch.block) }
+        ensures { OnOk result ((disk : Shape) (past : Past) (place : ℕ) → IsCurrent disk past self.old → slice_get (wanted past) place ≡ Some catch.block
+            → HasDelivered disk past (delivery_in store.now how catch.block catch.begin catch.end ∷ []) self.old.rows self.new) }
+    {
+        runs_are_fewest();
+        let content = store.runs(alloc, catch.block.lbn, catch.block.count)?;
+        let got = DeliveryRow {
+            block: catch.block,
+            begin: catch.begin,
+            end: catch.end,
+            how,
+            bad: content.bad() as u32,
+            content,
+        };
+        self.sessions
+            .delivered(&mut self.wanted, got, &mut self.rows)
+    }
+
+    // Delivers these catches one after another.
+    pub fn deliver_all(
+        &mut self,
+        alloc: Global,
+        store: &Store,
+        how: How,
+        catches: &[Catch],
+    ) -> Result<(), NoMemory>
+        requires { (disk : Shape) × (past : Past) × IsCurrent disk past self.old × AreDue past (map (row_in store.now how) catches.now) }
+        ensures { OnOk result ((disk : Shape) (past : Past) → IsCurrent disk past self.old → AreDue past (map (row_in store.now how) catches.now)
+            → HasDelivered disk past (map (row_in store.now how) catches.now) self.old.rows self.new) }
+    {
+        for catch in catches {
+            self.deliver(alloc, store, how, *catch)?;
+        }
+        Ok(())
+    }
+
+    // Delivers what the head catches while it stays on a track.
+    pub fn stay(
+        &mut self,
+        alloc: Global,
+        disk: &Disk,
+        store: &Store,
+        how: How,
+        dwell: Dwell,
+    ) -> Result<(), NoMemory>
+        requires current { (past : Past) × IsCurrent disk.now.map past self.old }
+        requires early { dwell.begin ≤ 9 * 10 ^ 18 }
+        ensures delivered { OnOk result ((past : Past) → IsCurrent disk.now.map past self.old
+            → HasDelivered disk.now.map past (caught_in disk.now store.now how dwell (wanted past)) self.old.rows self.new) }
+        ensures left { OnOk result ((past : Past) → IsCurrent disk.now.map past self.old
+            → wanted (past_with past (caught_in disk.now store.now how dwell (wanted past))) ≡ missed disk.now dwell (wanted past)) }
+    {
+        let catches = caught(alloc, disk, &self.wanted, dwell)?;
+        self.deliver_all(alloc, store, how, catches.as_slice())
+    }
+
+    // Delivers what the head catches while it has nothing else to do.
+    pub fn idle(
+        &mut self,
+        alloc: Global,
+        disk: &Disk,
+        store: &Store,
+        dwell: Dwell,
+    ) -> Result<(), NoMemory>
+        requires current { (past : Past) × IsCurrent disk.now.map past self.old }
+        requires early { dwell.begin ≤ 9 * 10 ^ 18 }
+        ensures { OnOk result ((past : Past) → IsCurrent disk.now.map past self.old
+            → HasDelivered disk.now.map past (caught_in disk.now store.now How.Idle dwell (wanted past)) (self.old.rows ++ BackRow.Idle dwell ∷ []) self.new) }
+    {
+        self.rows.push(BackRow::Idle(dwell))?;
+        self.stay(alloc, disk, store, How::Idle, dwell)
+    }
+}

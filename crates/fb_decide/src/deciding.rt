@@ -1,0 +1,301 @@
+// One decision of a replay after another.
+ghost use Rattle.std.specs.Prelude.{◌≡◌, ℕ, ◌-◌, ◌*◌, ◌<◌, ◌≤◌, ◌^◌, ◌++◌, List, [], Bool, true, false, length, take, Some, IfOk, OnOk, slice_get};
+ghost use Rattle.std.specs.List.{AllByRecursion};
+ghost use Rattle.fb_geometry.specs.Shape.{IsTrackOf};
+ghost use Rattle.fb_calls.specs.Allowed.{tasks};
+ghost use Rattle.fb_model.specs.Inputs.{Inputs};
+ghost use Rattle.fb_model.specs.Accepted.{IsAccepted, IsRequestOf};
+ghost use Rattle.fb_model.specs.Decisions.{decisions, run_end};
+ghost use Rattle.fb_model.specs.History.{Past};
+ghost use Rattle.fb_model.specs.Course.{history, task_rows};
+ghost use Rattle.fb_model.specs.PlainReplay.{first_least};
+ghost use Rattle.fb_tasks.specs.Telling.{Tells};
+ghost use Rattle.fb_decide.specs.Waiting.{IsWaiting, IsTraceOf};
+ghost use Rattle.fb_decide.specs.Calls.{IsScriptOf, IsCalled};
+ghost use Rattle.fb_decide.specs.Deliveries.{IsCurrent};
+ghost use Rattle.fb_decide.specs.Deciding.{IsAtStart, next_of, HasServedNext, HasStayed, HasDecided};
+ghost use Rattle.fb_decide.specs.Making.{Step, Given, inputs_with, HasMade, HasMadeOne, RowFits};
+
+use crate::background::Background;
+use crate::foreground::foreground;
+use crate::joining::join_arrived;
+use crate::serving::serve_request;
+use crate::timing::disk_is_sound;
+use fb_calls::Calls;
+use fb_model::foreground_lists_ascend;
+use fb_plan::Planner;
+use fb_queue::Queue;
+use fb_rows::{BackRows, Dwell, ForeRows};
+use fb_service::Disk;
+use fb_store::Store;
+use fb_tasks::Sessions;
+use fb_trace::Trace;
+use fb_units::{NoMemory, Ns, Request, Track};
+use fb_wanted::Wanted;
+use std::alloc::Global;
+use std::mem;
+
+// What stands between two decisions, beside the requests that wait, and the rows that were not taken yet.
+#[derive(Drop)]
+struct Course {
+    store: Store,
+    background: Background,
+    fore: ForeRows,
+    // How many requests have joined, and how many calls have taken effect.
+    joined: usize,
+    called: usize,
+    head: Track,
+    now: Ns,
+}
+
+/// A replay between two decisions, with the rows that it has given and that were not taken yet.
+#[derive(Drop)]
+pub struct Decider<Q: Queue> {
+    requests: Vec<Request>,
+    queue: Q,
+    course: Course,
+}
+
+/// Rows of both reports, in the order in which they were given.
+#[derive(Drop)]
+pub struct Rows {
+    pub fore: ForeRows,
+    pub back: BackRows,
+}
+
+impl<Q: Queue> Decider<Q> {
+    /// Before the first decision. `latent` are the sectors that can't be read until a write passes
+    /// them. The queue has to be a new one. The only error is want of memory.
+    pub fn new(
+        alloc: Global,
+        disk: &Disk,
+        latent: &[u64],
+        trace: &Trace,
+        calls: &Calls,
+        queue: Q,
+    ) -> Result<Decider<Q>, NoMemory>
+        requires empty { Q.pending queue ≡ [] }
+        requires fresh { Q.joined queue ≡ 0 }
+        requires accepted { (until : ℕ) × IsAccepted (inputs_with (record { latent = latent.now; trace = trace.now.requests.items; passed_over = trace.now.passed_over }) disk.now calls.now.calls.items Q.key until) }
+        ensures made { IfOk result (λ decider. (until : ℕ) → IsAccepted (inputs_with (record { latent = latent.now; trace = trace.now.requests.items; passed_over = trace.now.passed_over }) disk.now calls.now.calls.items Q.key until)
+            → HasMade (inputs_with (record { latent = latent.now; trace = trace.now.requests.items; passed_over = trace.now.passed_over }) disk.now calls.now.calls.items Q.key until) true [] decider.requests.items decider.course (Q.pending decider.queue) (Q.joined decider.queue)) }
+        ensures no_fore { IfOk result (λ decider. decider.course.fore ≡ []) }
+        ensures no_back { IfOk result (λ decider. decider.course.background.rows ≡ []) }
+        ensures serves { IfOk result (λ decider. Q.serves decider.queue disk.now) }
+    {
+        foreground_lists_ascend();
+        disk_is_sound(disk);
+        let requests = foreground(alloc, trace.requests.as_slice(), calls)?;
+        let course = at_start(alloc, latent)?;
+        Ok(Decider {
+            requests,
+            queue,
+            course,
+        })
+    }
+
+    /// Makes the next decision, with the best plan in the gap of the request that it serves, and adds
+    /// its rows. Tells whether another decision follows. `until` is the instant, in nanoseconds, up to
+    /// which the head stays when nothing is left to do. The only error is want of memory.
+    pub fn decide<P: Planner>(
+        &mut self,
+        alloc: Global,
+        disk: &Disk,
+        calls: &Calls,
+        planner: &P,
+        until: Ns,
+    ) -> Result<bool, NoMemory>
+        requires made { (given : Given) × (steps : List Step) × HasMade (inputs_with given disk.now calls.now.calls.items Q.key until) true steps self.old.requests.items self.old.course (Q.pending self.old.queue) (Q.joined self.old.queue) }
+        requires serves { Q.serves self.old.queue disk.now }
+        ensures decided { IfOk result (λ goes_on. (given : Given) (steps : List Step) → HasMade (inputs_with given disk.now calls.now.calls.items Q.key until) true steps self.old.requests.items self.old.course (Q.pending self.old.queue) (Q.joined self.old.queue)
+            → HasMadeOne (inputs_with given disk.now calls.now.calls.items Q.key until) steps goes_on self.old.requests.items self.old.course (Q.pending self.old.queue) self.new.course (Q.pending self.new.queue) (Q.joined self.new.queue)) }
+        ensures requests { OnOk result (self.new.requests ≡ self.old.requests) }
+        ensures serves { OnOk result (Q.serves self.new.queue disk.now) }
+    {
+        advance(
+            alloc,
+            disk,
+            self.requests.as_slice(),
+            calls,
+            planner,
+            until,
+            &mut self.queue,
+            &mut self.course,
+        )
+    }
+
+    /// Adds a row for each task, as it stands at the end.
+    pub fn add_task_rows(&mut self) -> Result<(), NoMemory>
+        requires { (inputs : Inputs) × (steps : List Step) × HasMade inputs false steps self.old.requests.items self.old.course (Q.pending self.old.queue) (Q.joined self.old.queue) }
+        ensures rows { OnOk result ((inputs : Inputs) (steps : List Step) → HasMade inputs false steps self.old.requests.items self.old.course (Q.pending self.old.queue) (Q.joined self.old.queue)
+            → self.new.course.background.rows ≡ self.old.course.background.rows ++ task_rows (history inputs steps)) }
+        ensures fits { (inputs : Inputs) (steps : List Step) → HasMade inputs false steps self.old.requests.items self.old.course (Q.pending self.old.queue) (Q.joined self.old.queue)
+            → AllByRecursion (RowFits (length (tasks inputs.calls))) (task_rows (history inputs steps)) }
+        ensures fore { OnOk result (self.new.course.fore ≡ self.old.course.fore) }
+        ensures made { (inputs : Inputs) (steps : List Step) → HasMade inputs false steps self.old.requests.items self.old.course (Q.pending self.old.queue) (Q.joined self.old.queue)
+            → HasMade inputs false steps self.new.requests.items self.new.course (Q.pending self.new.queue) (Q.joined self.new.queue) }
+    {
+        self.course.background.sessions.task_rows(
+            &self.course.background.wanted,
+            &mut self.course.background.rows,
+        )
+    }
+
+    /// The instant, in nanoseconds, at which the next decision is made, or the replay has ended.
+    pub fn instant(&self) -> Ns
+        ensures now { result ≡ self.now.course.now }
+        ensures end { (inputs : Inputs) (steps : List Step) → HasMade inputs false steps self.now.requests.items self.now.course (Q.pending self.now.queue) (Q.joined self.now.queue) → result ≡ run_end (decisions inputs) }
+    {
+        self.course.now
+    }
+
+    /// Takes the rows that were given since they were taken last.
+    pub fn take_rows(&mut self, alloc: Global) -> Rows
+        ensures fore { result.fore ≡ self.old.course.fore }
+        ensures back { result.back ≡ self.old.course.background.rows }
+        ensures no_fore { self.new.course.fore ≡ [] }
+        ensures no_back { self.new.course.background.rows ≡ [] }
+        ensures queue { self.new.queue ≡ self.old.queue }
+        ensures made { (inputs : Inputs) (more : Bool) (steps : List Step) → HasMade inputs more steps self.old.requests.items self.old.course (Q.pending self.old.queue) (Q.joined self.old.queue)
+            → HasMade inputs more steps self.new.requests.items self.new.course (Q.pending self.new.queue) (Q.joined self.new.queue) }
+    {
+        Rows {
+            fore: mem::replace(&mut self.course.fore, ForeRows::new(alloc)),
+            back: mem::replace(&mut self.course.background.rows, BackRows::new(alloc)),
+        }
+    }
+}
+
+// Nothing has happened yet.
+fn at_start(alloc: Global, latent: &[u64]) -> Result<Course, NoMemory>
+    ensures start { IfOk result (λ course. IsAtStart latent.now course) }
+    ensures no_fore { IfOk result (λ course. course.fore ≡ []) }
+    ensures no_back { IfOk result (λ course. course.background.rows ≡ []) }
+{
+    Ok(Course {
+        store: Store::new(alloc, latent)?,
+        background: Background {
+            sessions: Sessions::new(alloc),
+            wanted: Wanted::new(alloc),
+            rows: BackRows::new(alloc),
+        },
+        fore: ForeRows::new(alloc),
+        joined: 0,
+        called: 0,
+        head: Track {
+            cylinder: 0,
+            head: 0,
+        },
+        now: 0,
+    })
+}
+
+// One decision: a request is served, or the head stays until the next instant or the end. Tells whether another one follows.
+fn advance<Q: Queue, P: Planner>(
+    alloc: Global,
+    disk: &Disk,
+    requests: &[Request],
+    calls: &Calls,
+    planner: &P,
+    until: Ns,
+    queue: &mut Q,
+    course: &mut Course,
+) -> Result<bool, NoMemory>
+    requires list { IsTraceOf disk.now requests.now }
+    requires script { IsScriptOf disk.now.map calls.now.calls.items }
+    requires serves { Q.serves queue.old disk.now }
+    requires waiting { IsWaiting disk.now requests.now course.old.now course.old.joined (Q.joined queue.old) (Q.pending queue.old) }
+    requires come { AllByRecursion (λ r. r.arrival ≤ course.old.now) (take course.old.joined requests.now) }
+    requires head { IsTrackOf disk.now.map course.old.head }
+    requires now { course.old.now ≤ 9 * 10 ^ 18 - 10 ^ 15 }
+    requires called { (past : Past) × IsCalled disk.now.map calls.now.calls.items past course.old.called × Tells disk.now.map past course.old.background.sessions course.old.background.wanted }
+    ensures decided { IfOk result (λ goes_on. (past : Past) → IsCalled disk.now.map calls.now.calls.items past course.old.called
+        → Tells disk.now.map past course.old.background.sessions course.old.background.wanted
+        → HasDecided disk.now requests.now calls.now.calls.items Q.key until past course.old (Q.pending queue.old) goes_on course.new (Q.pending queue.new)) }
+    ensures waiting { IfOk result (λ goes_on. goes_on ≡ true → IsWaiting disk.now requests.now course.new.now course.new.joined (Q.joined queue.new) (Q.pending queue.new)) }
+    ensures serves { OnOk result (Q.serves queue.new disk.now) }
+{
+    let now = course.now;
+    course.called = course.background.settle(disk, calls, course.called, now)?;
+    course.joined = join_arrived(disk, requests, queue, course.joined, now)?;
+    if !queue.is_empty() {
+        serve_next(alloc, disk, planner, queue, course)?;
+        return Ok(true);
+    }
+    match next_instant(requests, calls, course.joined, course.called) {
+        Some(instant) => {
+            stay_until(alloc, disk, course, instant)?;
+            Ok(true)
+        }
+        None => {
+            if now < until {
+                stay_until(alloc, disk, course, until)?;
+            }
+            Ok(false)
+        }
+    }
+}
+
+// The first instant to come at which a request arrives or a call takes effect.
+fn next_instant(requests: &[Request], calls: &Calls, joined: usize, called: usize) -> Option<Ns>
+    ensures { result ≡ next_of (slice_get requests.now joined) (slice_get calls.now.calls.items called) }
+{
+    match (requests.get(joined), calls.calls.get(called)) {
+        (Some(request), Some(call)) => Some(request.arrival.min(call.instant)),
+        (Some(request), None) => Some(request.arrival),
+        (None, Some(call)) => Some(call.instant),
+        (None, None) => None,
+    }
+}
+
+// Serves the request that the queue takes.
+fn serve_next<Q: Queue, P: Planner>(
+    alloc: Global,
+    disk: &Disk,
+    planner: &P,
+    queue: &mut Q,
+    course: &mut Course,
+) -> Result<(), NoMemory>
+    requires some { 0 < length (Q.pending queue.old) }
+    requires serves { Q.serves queue.old disk.now }
+    requires on_disk { AllByRecursion (IsRequestOf disk.now.map) (Q.pending queue.old) }
+    requires head { IsTrackOf disk.now.map course.old.head }
+    requires now { course.old.now ≤ 9 * 10 ^ 18 - 10 ^ 15 }
+    requires current { (past : Past) × IsCurrent disk.now.map past course.old.background }
+    ensures served { OnOk result ((request : Request) × (first_least (Q.key disk.now course.old.head course.old.now) (Q.pending queue.old) ≡ Some (request, Q.pending queue.new))
+        × HasServedNext disk.now request course.old course.new) }
+    ensures counted { OnOk result (Q.joined queue.new ≡ Q.joined queue.old) }
+    ensures serves { OnOk result (Q.serves queue.new disk.now) }
+{
+    let request = queue.take(disk, course.head, course.now);
+    let serving = serve_request(
+        alloc,
+        disk,
+        planner,
+        &mut course.store,
+        &mut course.background,
+        course.head,
+        course.now,
+        request,
+    )?;
+    course.head = serving.head;
+    course.now = serving.row.finish;
+    course.fore.push(serving.row)?;
+    Ok(())
+}
+
+// Stays on the track until an instant.
+fn stay_until(alloc: Global, disk: &Disk, course: &mut Course, instant: Ns) -> Result<(), NoMemory>
+    requires current { (past : Past) × IsCurrent disk.now.map past course.old.background }
+    requires early { course.old.now ≤ 9 * 10 ^ 18 }
+    ensures { OnOk result (HasStayed disk.now instant course.old course.new) }
+{
+    let dwell = Dwell {
+        track: course.head,
+        begin: course.now,
+        end: instant,
+    };
+    course.background.idle(alloc, disk, &course.store, dwell)?;
+    course.now = instant;
+    Ok(())
+}

@@ -1,0 +1,165 @@
+// What a foreground read carries.
+ghost use Rattle.std.specs.Prelude.{◌≡◌, ◌==◌, ◌+◌, ◌*◌, ◌≤◌, ◌<◌, ◌^◌, find, map, OnOk, IfOk};
+ghost use Rattle.std.specs.List.{AllByRecursion, fold};
+ghost use Rattle.fb_service.specs.Service.{passages};
+ghost use Rattle.fb_service.specs.Extents.{all_passages_of, IsUnbroken};
+ghost use Rattle.fb_model.specs.Accepted.{IsRequestOf};
+ghost use Rattle.fb_model.specs.History.{Past, wanted};
+ghost use Rattle.fb_model.specs.PlainReplay.{service};
+ghost use Rattle.fb_model.specs.Rides.{lies_in};
+ghost use Rattle.fb_wanted.specs.States.{on_track, wanted_of};
+ghost use Rattle.fb_plan.specs.Order.{place_in};
+ghost use Rattle.fb_decide.specs.Carried.{carried_of, ride_of, begins_in, begun_in, AreExtents, with_ride, AreLaid, AreWholeBlocks, IsWholeBlock};
+ghost use Rattle.fb_decide.specs.Deliveries.{IsCurrent, HasDelivered, AreDistinct, rides_in};
+
+use crate::background::Background;
+use fb_plan::{Catch, is_wanted, place_in};
+use fb_rows::How;
+use fb_service::{Disk, Extent, Passage, nth_passage};
+use fb_store::Store;
+use fb_units::{NoMemory, Ns, Request, Track};
+use fb_wanted::{Block, Entry, Wanted};
+use std::alloc::Global;
+
+impl Background {
+    // Delivers the wanted blocks that a read carries, as its sectors pass in these extents.
+    pub fn ride(
+        &mut self,
+        alloc: Global,
+        disk: &Disk,
+        store: &Store,
+        source: Track,
+        start: Ns,
+        request: Request,
+        extents: &[Extent],
+    ) -> Result<(), NoMemory>
+        requires current { (past : Past) × IsCurrent disk.now.map past self.old }
+        requires request { IsRequestOf disk.now.map request }
+        requires passages { all_passages_of disk.now.map extents.now ≡ passages disk.now source start request.write request.lbn request.count }
+        requires unbroken { AllByRecursion (IsUnbroken disk.now.map) extents.now }
+        requires early { AllByRecursion (λ extent. extent.begin ≤ 10 ^ 19) extents.now }
+        ensures { OnOk result ((past : Past) → IsCurrent disk.now.map past self.old
+            → HasDelivered disk.now.map past (rides_in store.now (service disk.now source start request) (wanted past)) self.old.rows self.new) }
+    {
+        if request.write {
+            return Ok(());
+        }
+        let catches = carried(alloc, disk, &self.wanted, request, extents)?;
+        self.deliver_all(alloc, store, How::Ride, catches.as_slice())
+    }
+}
+
+// The wanted blocks that a read carries whole, with their passages, in order of delivery.
+fn carried(
+    alloc: Global,
+    disk: &Disk,
+    wanted: &Wanted,
+    request: Request,
+    extents: &[Extent],
+) -> Result<Vec<Catch>, NoMemory>
+    requires extents { AreExtents disk.now.map extents.now }
+    requires covers { AreLaid request.lbn extents.now request.count }
+    requires request { request.lbn + request.count ≤ 10 ^ 12 }
+    requires registered { AreWholeBlocks disk.now.map wanted.now }
+    requires distinct { AreDistinct (wanted_of wanted.now) }
+    ensures { IfOk result (λ found. found.items ≡ carried_of (all_passages_of disk.now.map extents.now) request (wanted_of wanted.now)) }
+{
+    let mut found = Vec::new(alloc);
+    for extent in extents {
+        add_carried(disk, wanted, request, extents, extent, &mut found)?;
+    }
+    Ok(found)
+}
+
+// Adds the wanted blocks whose first sector passes in this extent.
+fn add_carried(
+    disk: &Disk,
+    wanted: &Wanted,
+    request: Request,
+    extents: &[Extent],
+    extent: &Extent,
+    found: &mut Vec<Catch>,
+) -> Result<(), NoMemory>
+    requires extents { AreExtents disk.now.map extents.now }
+    requires extent { extent.now.first + extent.now.count ≤ 10 ^ 12 }
+    requires request { request.lbn + request.count ≤ 10 ^ 12 }
+    requires registered { AreWholeBlocks disk.now.map wanted.now }
+    ensures { OnOk result (found.new.items ≡ fold place_in found.old.items (map (ride_of (all_passages_of disk.now.map extents.now)) (begun_in extent.now request (wanted_of (on_track extent.now.track wanted.now))))) }
+{
+    let blocks = wanted.on(extent.track);
+    for i in 0..blocks.len() {
+        add_ride(disk, request, extents, extent, blocks.get(i), found)?;
+    }
+    Ok(())
+}
+
+// Adds a registered block, if it is wanted and the read carries it from this extent on.
+fn add_ride(
+    disk: &Disk,
+    request: Request,
+    extents: &[Extent],
+    extent: &Extent,
+    entry: Entry,
+    found: &mut Vec<Catch>,
+) -> Result<(), NoMemory>
+    requires extents { AreExtents disk.now.map extents.now }
+    requires extent { extent.now.first + extent.now.count ≤ 10 ^ 12 }
+    requires request { request.lbn + request.count ≤ 10 ^ 12 }
+    requires block { IsWholeBlock disk.now.map entry.block }
+    ensures { OnOk result (found.new.items ≡ with_ride (all_passages_of disk.now.map extents.now) extent.now request found.old.items entry) }
+{
+    let block = entry.block;
+    if !is_wanted(entry.state) {
+        return Ok(());
+    }
+    if begins_in(extent, block) && lies_in(request, block) {
+        place_in(found, ride_of(disk, extents, block))?;
+    }
+    Ok(())
+}
+
+// Whether the block's first sector passes in the extent.
+fn begins_in(extent: &Extent, block: Block) -> bool
+    requires { extent.now.first + extent.now.count ≤ 10 ^ 12 }
+    ensures { result ≡ begins_in extent.now block }
+{
+    extent.first <= block.lbn && block.lbn < extent.first + extent.count as u64
+}
+
+// Whether all sectors of the block are the request's.
+fn lies_in(request: Request, block: Block) -> bool
+    requires request { request.lbn + request.count ≤ 10 ^ 12 }
+    requires block { block.lbn + block.count ≤ 10 ^ 12 }
+    ensures { result ≡ lies_in request block }
+{
+    request.lbn <= block.lbn && block.lbn + block.count as u64 <= request.lbn + request.count as u64
+}
+
+// The passage of a block that a read carries.
+fn ride_of(disk: &Disk, extents: &[Extent], block: Block) -> Catch
+    requires extents { AreExtents disk.now.map extents.now }
+    requires block { block.lbn + block.count ≤ 10 ^ 12 }
+    requires some { 0 < block.count }
+    ensures { result ≡ ride_of (all_passages_of disk.now.map extents.now) block }
+{
+    let first = passage_of(disk, extents, block.lbn);
+    let last = passage_of(disk, extents, block.lbn + block.count as u64 - 1);
+    Catch {
+        block,
+        begin: first.map_or(0, |passage| passage.begin),
+        end: last.map_or(0, |passage| passage.end),
+    }
+}
+
+// The passage of a sector, if it passes in one of the extents.
+fn passage_of(disk: &Disk, extents: &[Extent], lbn: u64) -> Option<Passage>
+    requires { AreExtents disk.now.map extents.now }
+    ensures { result ≡ find (λ passage. passage.lbn == lbn) (all_passages_of disk.now.map extents.now) }
+{
+    for extent in extents {
+        if extent.first <= lbn && lbn < extent.first + extent.count as u64 {
+            return Some(nth_passage(disk, extent, (lbn - extent.first) as u32));
+        }
+    }
+    None
+}

@@ -1,0 +1,59 @@
+// What an instant settles before its decision: calls, choices of segments, and a test of all tasks.
+ghost use Rattle.std.specs.Prelude.{◌≡◌, ◌+◌, ◌≤◌, ◌<◌, length, IfOk, IfSome, slice_get};
+ghost use Rattle.std.specs.List.{fold};
+ghost use Rattle.fb_model.specs.History.{Past};
+ghost use Rattle.fb_model.specs.Course.{take_call, calls_due};
+ghost use Rattle.fb_tasks.specs.Telling.{Tells};
+ghost use Rattle.fb_decide.specs.Calls.{IsScriptOf, IsCalled, HasSettled};
+
+use crate::background::Background;
+use fb_calls::Calls;
+use fb_service::Disk;
+use fb_units::{NoMemory, Ns};
+
+impl Background {
+    // Lets the calls up to now take effect. Answers how many calls have then.
+    fn take_calls(
+        &mut self,
+        disk: &Disk,
+        calls: &Calls,
+        next: usize,
+        now: Ns,
+    ) -> Result<usize, NoMemory>
+        requires script { IsScriptOf disk.now.map calls.now.calls.items }
+        requires called { (past : Past) × IsCalled disk.now.map calls.now.calls.items past next × Tells disk.now.map past self.old.sessions self.old.wanted }
+        ensures tells { IfOk result (λ later. (past : Past) → IsCalled disk.now.map calls.now.calls.items past next → Tells disk.now.map past self.old.sessions self.old.wanted
+            → Tells disk.now.map (fold (take_call disk.now.map) past (calls_due calls.now.calls.items past now)) self.new.sessions self.new.wanted) }
+        ensures called { IfOk result (λ later. (past : Past) → IsCalled disk.now.map calls.now.calls.items past next → Tells disk.now.map past self.old.sessions self.old.wanted
+            → IsCalled disk.now.map calls.now.calls.items (fold (take_call disk.now.map) past (calls_due calls.now.calls.items past now)) later) }
+        ensures ahead { IfOk result (λ later. IfSome (slice_get calls.now.calls.items later) (λ call. now < call.instant)) }
+        ensures rows { IfOk result (λ later. self.new.rows ≡ self.old.rows) }
+    {
+        let mut next = next;
+        while next < calls.calls.len() && calls.calls[next].instant <= now {
+            self.sessions
+                .apply(&disk.map, &mut self.wanted, &calls.calls[next])?;
+            next += 1;
+        }
+        Ok(next)
+    }
+
+    // Lets the calls up to now take effect and the tasks choose, and tests all. Answers how many calls have taken effect then.
+    pub fn settle(
+        &mut self,
+        disk: &Disk,
+        calls: &Calls,
+        next: usize,
+        now: Ns,
+    ) -> Result<usize, NoMemory>
+        requires script { IsScriptOf disk.now.map calls.now.calls.items }
+        requires called { (past : Past) × IsCalled disk.now.map calls.now.calls.items past next × Tells disk.now.map past self.old.sessions self.old.wanted }
+        ensures { IfOk result (λ later. (past : Past) → IsCalled disk.now.map calls.now.calls.items past next → Tells disk.now.map past self.old.sessions self.old.wanted
+            → HasSettled disk.now.map calls.now.calls.items past now later self.old.rows self.new) }
+    {
+        let next = self.take_calls(disk, calls, next, now)?;
+        self.sessions
+            .settle(&disk.map, &mut self.wanted, now, &mut self.rows)?;
+        Ok(next)
+    }
+}
