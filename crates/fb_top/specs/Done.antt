@@ -1,6 +1,7 @@
 -- What a replay has written.
 use Rattle.std.specs.Prelude.{◌≡◌, ◌⊎◌, ℕ, List, Option, Some, None, codes, if◌then◌else◌}
 use Rattle.std.specs.List.{AllByRecursion}
+use Rattle.fb_geometry.specs.Sound.{IsSound}
 use Rattle.fb_rows.specs.declared.run.Run.{Run}
 use Rattle.fb_rows.specs.Ranges.{HasRanges, HasBackRanges}
 use Rattle.fb_rows.specs.Tasks.{HasNamedTask}
@@ -17,10 +18,11 @@ use Rattle.fb_top.specs.declared.outcome.Outcome.TheVariants as outcomes
 use Rattle.fb_top.specs.Read.{Files, Accepts, inputs_of, key_of}
 use Rattle.fb_top.specs.Written.{HoldsWhole, KeepsButBoth, CutsOff, CutsSecond, OutputFaultsRose}
 
--- the full run of the accepted files, which keep the rules that every full run asks of its inputs
+-- the full run of the accepted files, whose disk has no fault and which keep the rules that laws of full runs ask of inputs
 pub record IsRunOf (desk : DeskView) (terms : ReplayTerms) (run : Run) : Type 0 where
   pub files : Files
   pub accepts : Accepts desk terms files
+  pub sound : IsSound files.disk.map
   pub accepted : IsAccepted (inputs_of files (key_of terms.policy) terms.until)
   pub full : IsFull (inputs_of files (key_of terms.policy) terms.until) run
 

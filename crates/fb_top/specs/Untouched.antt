@@ -1,12 +1,13 @@
--- Laws of runs that were answered: what background work leaves as it is, and that inputs have one run.
-use Rattle.std.specs.Prelude.{◌≡◌, ℕ, List, Some, IfSome}
+-- Laws of runs that were answered: what background work leaves as it is, that inputs have one run, and that no decision looks ahead.
+use Rattle.std.specs.Prelude.{◌≡◌, ℕ, ◌<◌, List, Some, IfSome}
 use Rattle.fb_rows.specs.declared.run.Run.{Run}
 use Rattle.fb_model.specs.Foreground.{promoted}
+use Rattle.fb_model.specs.Known.{AgreeUpTo, SameKnown}
 use Rattle.fb_report.specs.declared.bytes.Bytes.{Bytes}
 use Rattle.fb_report.specs.Fore.{fore_text}
 use Rattle.fb_desk.specs.View.{DeskView}
 use Rattle.fb_words.specs.Command.{ReplayTerms}
-use Rattle.fb_top.specs.Read.{Files}
+use Rattle.fb_top.specs.Read.{Files, inputs_of, key_of}
 use Rattle.fb_top.specs.Done.{IsRunOf}
 
 -- the same disk, latent sectors and trace, and scripts that ask for the same reads
@@ -35,3 +36,9 @@ pub record HoldOneInput (one other : DeskView) (terms : ReplayTerms) : Type 0 wh
 -- the same words over the same bytes have one run
 abbrev pub InputsHaveOneRun : Type 0
 InputsHaveOneRun = (one other : DeskView) (terms : ReplayTerms) (run run' : Run) → HoldOneInput one other terms → IsRunOf one terms run → IsRunOf other terms run' → run ≡ run'
+
+-- two runs of files that agree up to an instant before both ends are the same in what is known by then
+abbrev pub RunsLookNotAhead : Type 0
+RunsLookNotAhead = (one other : DeskView) (terms others : ReplayTerms) (run run' : Run) (is_run : IsRunOf one terms run) (is_other : IsRunOf other others run') (t : ℕ)
+    → t < run.end → t < run'.end → AgreeUpTo t (inputs_of is_run.files (key_of terms.policy) terms.until) (inputs_of is_other.files (key_of others.policy) others.until)
+    → SameKnown t run run'

@@ -21,4 +21,4 @@ mod writing;
 pub use command::{run, run_command};
 pub use note::note_text;
 pub use outcome::{Outcome, status};
-pub use untouched::{inputs_have_one_run, scripts_leave_the_foreground};
+pub use untouched::{inputs_have_one_run, runs_look_not_ahead, scripts_leave_the_foreground};

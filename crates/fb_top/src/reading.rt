@@ -4,6 +4,7 @@ ghost use Rattle.std.specs.List.{AllByRecursion};
 ghost use Rattle.std.specs.Option.{option_map};
 ghost use Rattle.std.specs.String.{string_bytes};
 ghost use Rattle.fb_geometry.specs.Places.{places};
+ghost use Rattle.fb_geometry.specs.Sound.{IsSound};
 ghost use Rattle.fb_desk.specs.Calls.{ChangesInput};
 ghost use Rattle.fb_desk.specs.View.{IsUnused};
 ghost use Rattle.fb_desk.specs.declared.desk.Output.{Output};
@@ -55,6 +56,7 @@ pub fn read_inputs<D: Desk>(
     ensures outputs { (output : Output) → (D.seen desk.new).outputs output ≡ (D.seen desk.old).outputs output }
     ensures accepts { IfOk result (λ files. Accepts (D.seen desk.old) (replay_terms words.now) (files_of files)) }
     ensures fit { IfOk result (λ files. (key : Key) (until : ℕ) → until ≤ 10 ^ 15 → IsAccepted (inputs_of (files_of files) key until)) }
+    ensures sound { IfOk result (λ files. IsSound files.params.disk.map) }
     ensures names { IfOk result (λ files. length files.calls.names ≡ length (tasks files.calls.calls.items)) }
     ensures cause { IfErr result (HasCause (replay_terms words.now) (D.seen desk.old) (D.seen desk.new)) }
     ensures unnamed { KeepsUnnamed (replay_terms words.now) (D.seen desk.old) (D.seen desk.new) }
@@ -65,6 +67,7 @@ pub fn read_inputs<D: Desk>(
         Ok(params) => params,
         Err(outcome) => return Err(outcome),
     };
+    params.disk.map.geometry().sound();
     let trace = match read_requests(
         alloc,
         desk,

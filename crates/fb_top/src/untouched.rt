@@ -1,7 +1,7 @@
 // Laws of the runs that are answered.
-ghost use Rattle.fb_top.specs.Untouched.{InputsHaveOneRun, ScriptsLeaveForeground};
+ghost use Rattle.fb_top.specs.Untouched.{InputsHaveOneRun, RunsLookNotAhead, ScriptsLeaveForeground};
 
-use fb_model::{foreground_is_untouched, one_full_run};
+use fb_model::{foreground_is_untouched, no_look_ahead, one_full_run};
 
 /// Background work leaves the foreground report as it is: two runs of the same parameters and trace
 /// by one policy, whose scripts ask for the same reads, have the same foreground text, whatever else
@@ -18,4 +18,12 @@ pub fn inputs_have_one_run()
     ensures { InputsHaveOneRun }
 {
     one_full_run();
+}
+
+/// No decision looks ahead: two runs that are answered, of files that agree up to an instant before
+/// both ends, are the same in what is known by that instant, whatever comes later.
+pub fn runs_look_not_ahead()
+    ensures { RunsLookNotAhead }
+{
+    no_look_ahead();
 }

@@ -25,6 +25,7 @@ returns-in-Ok-write_reports-clause-cause g c =
       is_run = record {
         files = files_of c.in-Ok.files;
         accepts = c.in-Ok.ensures.accepts;
+        sound = c.in-Ok.ensures.sound;
         accepted = c.in-Ok.ensures.fit (key_of c.args.words.now.policy) c.args.words.now.until c.requires.until;
         full = c.in-Ok-replay_by.ensures.full;
       };
@@ -51,6 +52,7 @@ returns-clause-cause g c =
     let is_run : IsRunOf old words c.in-Ok-replay_by.run' = record {
       files = files_of c.in-Ok.files;
       accepts = c.in-Ok.ensures.accepts;
+      sound = c.in-Ok.ensures.sound;
       accepted = c.in-Ok.ensures.fit (key_of c.args.words.now.policy) c.args.words.now.until c.requires.until;
       full = c.in-Ok-replay_by.ensures.full;
     } in

@@ -10,6 +10,7 @@ use Rattle.fb_top.proofs.Unnamed.{unnamed_at_params, unnamed_at_trace, unnamed_a
 use Rattle.fb_top.proofs.Opened.{calm_inputs, opened_at_params, opened_at_trace, opened_at_calls}
 use Rattle.fb_top.specs.Opened.{IsOpenedAs}
 use Rattle.fb_desk.specs.declared.desk.Input.TheVariants.{Params, Trace}
+use Rattle.fb_geometry.specs.Sound.{IsSound}
 use Rattle.fb_top.proofs.reading.read_inputs.Goals as goal
 
 pub returns-in-Err-clause-cause : goal.returns-in-Err-clause-cause
@@ -127,3 +128,6 @@ pub returns-in-Ok-read_script-clause-calm : goal.returns-in-Ok-read_script-claus
 returns-in-Ok-read_script-clause-calm g c =
     calm_inputs (g.D.Desk.seen c.args.desk.now) (g.D.Desk.seen c.read_disk.new.desk) (g.D.Desk.seen c.read_requests.new.desk) (g.D.Desk.seen c.read_script.new.desk)
     c.in-Ok.ensures.only c.in-Ok-read_requests.ensures.only c.in-Ok-read_script.ensures.only c.in-Ok.ensures.calm c.in-Ok-read_requests.ensures.calm c.in-Ok-read_script.ensures.calm
+
+pub returns-in-Ok-read_script-clause-sound : goal.returns-in-Ok-read_script-clause-sound
+returns-in-Ok-read_script-clause-sound g c = subst IsSound c.geometry.ensures c.sound.ensures
