@@ -1,64 +1,131 @@
--- The list of touched sessions, as sessions change.
-use Rattle.std.proofs.Common.{◌≡◌, ◌⊎◌, ◌^◌, ◌<◌, ◌==◌, ℕ, List, [], ◌∷◌, ◌++◌, length, true, false, Some, inl, inr, set, get_or, slice_get, length-append, refl, ap, sym, ◌∙◌, arith}
+-- The lists of touched sessions and of those that a write asks, as sessions change.
+use Rattle.std.proofs.Common.{◌≡◌, ◌⊎◌, ◌+◌, ◌^◌, ◌<◌, ◌≤◌, ◌==◌, ◌&&◌, not, ℕ, Bool, List, [], ◌∷◌, ◌++◌, length, true, false, Some, inl, inr, set, get_or, slice_get, length-append, refl, ap, sym, ◌∙◌, subst, arith}
 use Rattle.std.specs.BTreeSet.{BTreeSet, contains}
 use Rattle.std.specs.Ordering.{nat_cmp}
 use Rattle.std.proofs.lemmas.Bool.{cases_Bool, true≢false}
 use Rattle.std.proofs.lemmas.List.{length-set}
 use Rattle.std.proofs.lemmas.Option.{slice_get-get_or}
+use Rattle.fb_calls.specs.Sessions.{is_backup}
 use Rattle.fb_tasks.specs.declared.session.Session.{Session}
 use Rattle.fb_tasks.specs.Listing.{AreListed}
 use Rattle.fb_tasks.proofs.Lists.{same_number, other_number}
 use Rattle.fb_tasks.proofs.Frames.{get_set, get_own}
 use Rattle.fb_tasks.proofs.Opens.{in_either}
 
-module _ {sessions : List Session} {touched : BTreeSet ℕ} (h : AreListed sessions touched) where
-  -- one session changes
-  pub listed-set : (task : ℕ) (new : Session) → (new.touched ≡ true → contains nat_cmp touched task ≡ true) → AreListed (set sessions task new) touched
-  listed-set task new own = record {
+-- what holds of a new session and of each other holds of each
+each_set : (P : ℕ → Session → Type 0) (sessions : List Session) (task : ℕ) (new : Session) → P task new → ((k : ℕ) (session : Session) → (task ≡ k → ⊥) → slice_get sessions k ≡ Some session → P k session)
+    → (k : ℕ) (session : Session) → slice_get (set sessions task new) k ≡ Some session → P k session
+each_set P sessions task new own others k session at = elim (cases_Bool (task == k)) [
+  | inl mine ↦
+      let e = same_number task k mine in
+      subst (λ j. P j session) e (subst (P task) (sym (get_own sessions task new session (ap (slice_get (set sessions task new)) e ∙ at))) own)
+  | inr other ↦ let differ = other_number task k other in others k session differ (get_set sessions task k new session at differ)
+]
+
+abbrev IsTouchedIn : BTreeSet ℕ → ℕ → Session → Type 0
+IsTouchedIn touched k session = session.touched ≡ true → contains nat_cmp touched k ≡ true
+
+abbrev IsAskedIn : BTreeSet ℕ → ℕ → Session → Type 0
+IsAskedIn asked k session = (is_backup session.kind && not session.sealed) ≡ true → contains nat_cmp asked k ≡ true
+
+module _ {sessions : List Session} {touched asked : BTreeSet ℕ} (h : AreListed sessions touched asked) where
+  -- a session that is listed changes
+  pub listed-set : (task : ℕ) (new : Session) → contains nat_cmp touched task ≡ true → AreListed (set sessions task new) touched asked
+  listed-set task new there = record {
     room = omega (arith, h.room, length-set sessions task new);
-    listed = λ k session at is. elim (cases_Bool (task == k)) [
-      | inl mine ↦
-          let e = same_number task k mine in
-          ap (contains nat_cmp touched) (sym e) ∙ own (ap (λ (s : Session). s.touched) (sym (get_own sessions task new session (ap (slice_get (set sessions task new)) e ∙ at))) ∙ is)
-      | inr other ↦ h.listed k session (get_set sessions task k new session at (other_number task k other)) is
-    ];
-    within = λ k there. omega (arith, h.within k there, length-set sessions task new);
+    listed = each_set (IsTouchedIn touched) sessions task new (λ _. there) (λ k session differ at. h.listed k session at);
+    covered = h.covered;
+    backups = each_set (IsAskedIn asked) sessions task new (λ _. h.covered task there) (λ k session differ at. h.backups k session at);
+    within = λ k is. omega (arith, h.within k is, length-set sessions task new);
   }
 
-  -- it stays as touched as it was
-  pub listed-kept : (task : ℕ) (old new : Session) → task < length sessions → old ≡ get_or sessions task old → new.touched ≡ old.touched → AreListed (set sessions task new) touched
-  listed-kept task old new within at same = listed-set task new (λ is. h.listed task old (slice_get-get_or sessions task old within ∙ ap Some (sym at)) (sym same ∙ is))
+  -- a session changes, but stays as touched and as open as it was
+  pub listed-kept : (task : ℕ) (old new : Session) → task < length sessions → old ≡ get_or sessions task old → new.touched ≡ old.touched → (is_backup new.kind && not new.sealed) ≡ (is_backup old.kind && not old.sealed) → AreListed (set sessions task new) touched asked
+  listed-kept task old new within at same open_same =
+      let there = slice_get-get_or sessions task old within ∙ ap Some (sym at) in
+      record {
+        room = omega (arith, h.room, length-set sessions task new);
+        listed = each_set (IsTouchedIn touched) sessions task new (λ is. h.listed task old there (sym same ∙ is)) (λ k session differ at. h.listed k session at);
+        covered = h.covered;
+        backups = each_set (IsAskedIn asked) sessions task new (λ is. h.backups task old there (sym open_same ∙ is)) (λ k session differ at. h.backups k session at);
+        within = λ k is. omega (arith, h.within k is, length-set sessions task new);
+      }
 
   -- a task is noted
-  pub listed-more : (more : BTreeSet ℕ) (task : ℕ) → task < length sessions → ((k : ℕ) → contains nat_cmp touched k ≡ true → contains nat_cmp more k ≡ true)
-      → ((k : ℕ) → contains nat_cmp more k ≡ true → (k ≡ task) ⊎ (contains nat_cmp touched k ≡ true)) → AreListed sessions more
-  listed-more more task less stay only = record {
-    room = h.room;
-    listed = λ k session at is. stay k (h.listed k session at is);
-    within = λ k there. elim (only k there) [ inl it ↦ omega (arith, it, less) | inr old ↦ h.within k old ];
-  }
+  module _ (task : ℕ) (less : task < length sessions) (more more_asked : BTreeSet ℕ) (stay : (k : ℕ) → contains nat_cmp touched k ≡ true → contains nat_cmp more k ≡ true) (asked_stay : (k : ℕ) → contains nat_cmp asked k ≡ true → contains nat_cmp more_asked k ≡ true)
+      (asked_only : (k : ℕ) → contains nat_cmp more_asked k ≡ true → (k ≡ task) ⊎ (contains nat_cmp asked k ≡ true)) (covers : (k : ℕ) → contains nat_cmp more k ≡ true → (contains nat_cmp more_asked k ≡ true) ⊎ (contains nat_cmp touched k ≡ true)) where
+    covered_now : (k : ℕ) → contains nat_cmp more k ≡ true → contains nat_cmp more_asked k ≡ true
+    covered_now k is = elim (covers k is) [ inl now ↦ now | inr before ↦ asked_stay k (h.covered k before) ]
 
-  -- and its session changes
-  pub listed-noted : (more : BTreeSet ℕ) (task : ℕ) → task < length sessions → ((k : ℕ) → contains nat_cmp touched k ≡ true → contains nat_cmp more k ≡ true)
-      → ((k : ℕ) → contains nat_cmp more k ≡ true → (k ≡ task) ⊎ (contains nat_cmp touched k ≡ true)) → contains nat_cmp more task ≡ true → (new : Session) → AreListed (set sessions task new) more
-  listed-noted more task less stay only noted new = record {
-    room = omega (arith, h.room, length-set sessions task new);
-    listed = λ k session at is. elim (cases_Bool (task == k)) [
-      | inl mine ↦ ap (contains nat_cmp more) (sym (same_number task k mine)) ∙ noted
-      | inr other ↦ stay k (h.listed k session (get_set sessions task k new session at (other_number task k other)) is)
-    ];
-    within = λ k there. elim (only k there) [ inl it ↦ omega (arith, it, less, length-set sessions task new) | inr old ↦ omega (arith, h.within k old, length-set sessions task new) ];
-  }
+    within_now : (k : ℕ) → contains nat_cmp more_asked k ≡ true → k < length sessions
+    within_now k is = elim (asked_only k is) [ inl it ↦ omega (arith, it, less) | inr before ↦ h.within k before ]
 
-  -- a session is opened
-  pub listed-push : (new : Session) → new.touched ≡ false → length sessions < 4294967295 → AreListed (sessions ++ new ∷ []) touched
-  listed-push new untouched more = record {
+    pub listed-more : AreListed sessions more more_asked
+    listed-more = record {
+      room = h.room;
+      listed = λ k session at is. stay k (h.listed k session at is);
+      covered = covered_now;
+      backups = λ k session at is. asked_stay k (h.backups k session at is);
+      within = within_now;
+    }
+
+    -- and its session changes
+    pub listed-noted : contains nat_cmp more task ≡ true → contains nat_cmp more_asked task ≡ true → (new : Session) → AreListed (set sessions task new) more more_asked
+    listed-noted noted asked_noted new = record {
+      room = omega (arith, h.room, length-set sessions task new);
+      listed = each_set (IsTouchedIn more) sessions task new (λ _. noted) (λ k session differ at is. stay k (h.listed k session at is));
+      covered = covered_now;
+      backups = each_set (IsAskedIn more_asked) sessions task new (λ _. asked_noted) (λ k session differ at is. asked_stay k (h.backups k session at is));
+      within = λ k is. omega (arith, within_now k is, length-set sessions task new);
+    }
+
+  -- a session that isn't touched is opened, and asked if it is a backup
+  pub listed-push : (new : Session) (more_asked : BTreeSet ℕ) (task : ℕ) → task ≡ length sessions → new.touched ≡ false → length sessions < 4294967295 → ((k : ℕ) → contains nat_cmp asked k ≡ true → contains nat_cmp more_asked k ≡ true)
+      → ((k : ℕ) → contains nat_cmp more_asked k ≡ true → (k ≡ task) ⊎ (contains nat_cmp asked k ≡ true)) → ((is_backup new.kind && not new.sealed) ≡ true → contains nat_cmp more_asked task ≡ true) → AreListed (sessions ++ new ∷ []) touched more_asked
+  listed-push new more_asked task last untouched more stay only there = record {
     room = omega (arith, more, length-append sessions (new ∷ []));
     listed = λ k session at is. elim (in_either sessions new session k at) [
       | inl old ↦ h.listed k session old.1 is
-      | inr last ↦ absurd (true≢false (sym is ∙ (ap (λ (s : Session). s.touched) last.1 ∙ untouched)))
+      | inr added ↦ absurd (true≢false (sym is ∙ (ap (λ (s : Session). s.touched) added.1 ∙ untouched)))
     ];
-    within = λ k there. omega (arith, h.within k there, length-append sessions (new ∷ []));
+    covered = λ k is. stay k (h.covered k is);
+    backups = λ k session at is. elim (in_either sessions new session k at) [
+      | inl old ↦ stay k (h.backups k session old.1 is)
+      | inr added ↦ ap (contains nat_cmp more_asked) (added.0 ∙ sym last) ∙ there (ap (λ (s : Session). is_backup s.kind && not s.sealed) (sym added.1) ∙ is)
+    ];
+    within = λ k is. elim (only k is) [ inl it ↦ omega (arith, it, last, length-append sessions (new ∷ [])) | inr old ↦ omega (arith, h.within k old, length-append sessions (new ∷ [])) ];
+  }
+
+  -- a task was tested: it isn't touched any more, and is asked if it is an open backup
+  pub listed-less : (task : ℕ) (new : Session) (less less_asked : BTreeSet ℕ) (flag : Bool) → contains nat_cmp touched task ≡ true → new.touched ≡ false → flag ≡ (is_backup new.kind && not new.sealed)
+      → ((k : ℕ) → contains nat_cmp touched k ≡ true → (k ≡ task) ⊎ (contains nat_cmp less k ≡ true)) → ((k : ℕ) → contains nat_cmp less k ≡ true → contains nat_cmp touched k ≡ true) → contains nat_cmp less task ≡ false
+      → ((k : ℕ) → contains nat_cmp asked k ≡ true → (k ≡ task) ⊎ (contains nat_cmp less_asked k ≡ true)) → ((k : ℕ) → contains nat_cmp less_asked k ≡ true → contains nat_cmp asked k ≡ true)
+      → (flag ≡ true → contains nat_cmp asked task ≡ true → contains nat_cmp less_asked task ≡ true) → AreListed (set sessions task new) less less_asked
+  listed-less task new less less_asked flag there untouched is_open others only gone asked_others asked_only kept = record {
+    room = omega (arith, h.room, length-set sessions task new);
+    listed = each_set (IsTouchedIn less) sessions task new (λ is. absurd (true≢false (sym is ∙ untouched))) (λ k session differ at is. elim (others k (h.listed k session at is)) [
+      | inl it ↦ absurd (differ (sym it))
+      | inr still ↦ still
+    ]);
+    covered = λ k is. elim (asked_others k (h.covered k (only k is))) [
+      | inl it ↦ absurd (true≢false (sym is ∙ (ap (contains nat_cmp less) it ∙ gone)))
+      | inr still ↦ still
+    ];
+    backups = each_set (IsAskedIn less_asked) sessions task new (λ is. kept (is_open ∙ is) (h.covered task there)) (λ k session differ at is. elim (asked_others k (h.backups k session at is)) [
+      | inl it ↦ absurd (differ (sym it))
+      | inr still ↦ still
+    ]);
+    within = λ k is. omega (arith, h.within k (asked_only k is), length-set sessions task new);
+  }
+
+  -- a note that failed added nothing
+  pub listed-failed : (more_asked : BTreeSet ℕ) → ((k : ℕ) → contains nat_cmp asked k ≡ true → contains nat_cmp more_asked k ≡ true) → ((k : ℕ) → contains nat_cmp more_asked k ≡ true → contains nat_cmp asked k ≡ true) → AreListed sessions touched more_asked
+  listed-failed more_asked stay only = record {
+    room = h.room;
+    listed = h.listed;
+    covered = λ k is. stay k (h.covered k is);
+    backups = λ k session at is. stay k (h.backups k session at is);
+    within = λ k is. h.within k (only k is);
   }
 
   -- what isn't listed isn't touched
@@ -68,10 +135,9 @@ module _ {sessions : List Session} {touched : BTreeSet ℕ} (h : AreListed sessi
     | inr not_it ↦ not_it
   ]
 
--- nothing is touched
-pub none-listed : (sessions : List Session) (touched : BTreeSet ℕ) → length sessions < 2 ^ 32 → touched.keys ≡ [] → ((k : ℕ) (session : Session) → slice_get sessions k ≡ Some session → session.touched ≡ false) → AreListed sessions touched
-none-listed sessions touched room empty clear = record {
-  room = room;
-  listed = λ k session at is. absurd (true≢false (sym is ∙ clear k session at));
-  within = λ k there. absurd (true≢false (sym there ∙ rw empty refl));
-}
+  -- and what isn't asked is no open backup
+  pub no-backup-there : (k : ℕ) (session : Session) → contains nat_cmp asked k ≡ false → slice_get sessions k ≡ Some session → (is_backup session.kind && not session.sealed) ≡ false
+  no-backup-there k session none at = elim (cases_Bool (is_backup session.kind && not session.sealed)) [
+    | inl is ↦ absurd (true≢false (sym (h.backups k session at is) ∙ none))
+    | inr not_it ↦ not_it
+  ]

@@ -1,5 +1,5 @@
 -- A write has passed.
-use Rattle.std.proofs.Common.{◌≡◌, ℕ, ◌+◌, ◌<◌, ◌==◌, ◌&&◌, not, if◌then◌else◌, nat_lt, List, ◌∷◌, Bool, true, false, inl, inr, length, map, refl, ap, sym, ◌∙◌, arith}
+use Rattle.std.proofs.Common.{◌≡◌, ℕ, zero, suc, ◌+◌, ◌-◌, ◌<◌, ◌≤◌, ◌==◌, ◌&&◌, not, if◌then◌else◌, nat_lt, List, ◌∷◌, Bool, true, false, inl, inr, length, map, refl, ap, sym, ◌∙◌, arith}
 use Rattle.std.specs.List.{AllByRecursion, list_all}
 use Rattle.std.proofs.lemmas.Bool.{cases_Bool, and_parts, true≢false}
 use Rattle.std.proofs.lemmas.Bool.Decides.{nat_tests}
@@ -149,3 +149,12 @@ module _ (disk : Shape) (past : Past) (request : Request) (write : request.write
       | inl own ↦ rw (sym (same_number n t own), before n, behind n, written-silent past request n other) refl
       | inr far ↦ sym (others n t far)
     ]
+
+  -- nor is any of the next tasks
+  pub until_rest : (d n : ℕ) (held : List Entry) → ((k : ℕ) → n ≤ k → k < n + d → is_unsealed (view past k) ≡ false) → held ≡ map (entry_until n) (registered past) → held ≡ map (entry_until (n + d)) (registered past)
+  until_rest zero n held none so_far = so_far ∙ ap (λ k. map (entry_until k) (registered past)) (let e : n ≡ n + 0 = omega arith in e)
+  until_rest (suc d) n held none so_far = until_rest d (n + 1) held (λ k from to. none k (omega arith) (omega arith)) (until_left n held (none n (omega arith) (omega arith)) so_far)
+      ∙ ap (λ k. map (entry_until k) (registered past)) (let e : n + 1 + d ≡ n + suc d = omega arith in e)
+
+  pub until-to : (n m : ℕ) (held : List Entry) → n ≤ m → ((k : ℕ) → n ≤ k → k < m → is_unsealed (view past k) ≡ false) → held ≡ map (entry_until n) (registered past) → held ≡ map (entry_until m) (registered past)
+  until-to n m held le none so_far = until_rest (m - n) n held (λ k from to. none k from (omega (arith, le))) so_far ∙ ap (λ k. map (entry_until k) (registered past)) (let e : n + (m - n) ≡ m = omega (arith, le) in e)

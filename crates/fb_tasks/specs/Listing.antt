@@ -1,11 +1,14 @@
--- Which sessions are kept as touched. Contracts of inner functions cite it.
-use Rattle.std.specs.Prelude.{◌≡◌, ◌<◌, ◌^◌, ℕ, List, length, true, Some, slice_get}
+-- Which sessions are kept as touched, and which a write asks. Contracts of inner functions cite it.
+use Rattle.std.specs.Prelude.{◌≡◌, ◌<◌, ◌^◌, ◌&&◌, not, ℕ, List, length, true, Some, slice_get}
 use Rattle.std.specs.BTreeSet.{BTreeSet, contains}
 use Rattle.std.specs.Ordering.{nat_cmp}
+use Rattle.fb_calls.specs.Sessions.{is_backup}
 use Rattle.fb_tasks.specs.declared.session.Session.{Session}
 
--- each touched session is listed, and nothing but sessions is
-pub record AreListed (sessions : List Session) (touched : BTreeSet ℕ) : Type 0 where
+-- each touched session is listed, a write asks each of those and each open backup, and nothing but sessions is listed
+pub record AreListed (sessions : List Session) (touched asked : BTreeSet ℕ) : Type 0 where
   pub room : length sessions < 2 ^ 32
   pub listed : (task : ℕ) (session : Session) → slice_get sessions task ≡ Some session → session.touched ≡ true → contains nat_cmp touched task ≡ true
-  pub within : (task : ℕ) → contains nat_cmp touched task ≡ true → task < length sessions
+  pub covered : (task : ℕ) → contains nat_cmp touched task ≡ true → contains nat_cmp asked task ≡ true
+  pub backups : (task : ℕ) (session : Session) → slice_get sessions task ≡ Some session → (is_backup session.kind && not session.sealed) ≡ true → contains nat_cmp asked task ≡ true
+  pub within : (task : ℕ) → contains nat_cmp asked task ≡ true → task < length sessions

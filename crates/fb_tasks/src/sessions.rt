@@ -19,7 +19,7 @@ ghost use Rattle.fb_tasks.specs.Telling.{Tells, MayTake, MaySettle, MayDeliver, 
 
 use crate::delivering::push_findings;
 use crate::session::Session;
-use crate::touched::{next_touched, note_touch};
+use crate::touched::{forget, next_noted, note, note_touch};
 use crate::wanting::want_range;
 use fb_calls::{Action, Call, Kind, Live};
 use fb_rows::{BackRow, BackRows, DeliveryRow, TaskRow};
@@ -33,12 +33,14 @@ use std::marker::Model;
 /// The sessions in order of opening: a session's place is its task's number.
 ///
 /// To settle costs as much for each task that was touched since, and a delivery or a call as much for its own task;
-/// a session at which nothing happens costs nothing, but that a write asks each session whether it is an open backup.
+/// a write asks the open backups, and what was opened or touched since the last settling. A session at which nothing
+/// happens costs nothing.
 #[derive(Drop)]
 pub struct Sessions {
     alloc: Global,
     sessions: Vec<Session>,
     touched: BTreeSet<u32>,
+    asked: BTreeSet<u32>,
 }
 
 impl Model for Sessions {
@@ -50,7 +52,7 @@ impl Model for Sessions {
 
     ghost view = { λ s. s.sessions.items };
 
-    ghost invariant = { λ s. AreListed s.sessions.items s.touched };
+    ghost invariant = { λ s. AreListed s.sessions.items s.touched s.asked };
 }
 
 impl Sessions {
@@ -62,6 +64,7 @@ impl Sessions {
             alloc,
             sessions: Vec::new(alloc),
             touched: BTreeSet::new(alloc),
+            asked: BTreeSet::new(alloc),
         }
     }
 
@@ -136,7 +139,7 @@ impl Sessions {
     {
         let task = got.block.task;
         let end = got.end;
-        note_touch(&mut self.touched, task)?;
+        note_touch(&mut self.touched, &mut self.asked, task)?;
         wanted.deliver(task, got.block.index);
         let session = &mut self.sessions[task as usize];
         session.take(got.block, &got.content)?;
@@ -155,11 +158,13 @@ impl Sessions {
         ensures { (disk : Shape) (past : Past) (request : Request) → request.write ≡ true → request.lbn ≡ first → request.count ≡ count
             → Tells disk past self.old wanted.old → Tells disk (finished request ∷ past) self.new wanted.new }
     {
-        for task in 0..self.sessions.len() {
-            let session = &self.sessions[task];
+        let mut from = 0;
+        while let Some(task) = next_noted(&self.asked, from) {
+            let session = &self.sessions[task as usize];
             if session.is_open_backup() {
-                wanted.rewant(task as u32, first, count as u64, session.suspended);
+                wanted.rewant(task, first, count as u64, session.suspended);
             }
+            from = task + 1;
         }
     }
 
@@ -199,7 +204,10 @@ impl Sessions {
         requires { length self.old < 2 ^ 32 - 1 }
         ensures { OnOk result ((disk : Shape) (past : Past) (call : Asked) (held : List Entry) → call.action ≡ Open kind weight block → MayTake disk past self.old held call → Tells disk (called call [] ∷ past) self.new held) }
     {
+        let task = self.sessions.len() as u32;
         let session = Session::new(self.alloc, kind, weight, block);
+        self.sessions.reserve(1)?;
+        note(&mut self.asked, task, session.is_open_backup())?;
         self.sessions.push(session)?;
         Ok(())
     }
@@ -249,7 +257,7 @@ impl Sessions {
         requires { task < length self.old }
         ensures { OnOk result ((past : Past) (call : Asked) → IsCall task Close call → Tells map.now past self.old wanted.old → Tells map.now (called call [] ∷ past) self.new wanted.new) }
     {
-        note_touch(&mut self.touched, task)?;
+        note_touch(&mut self.touched, &mut self.asked, task)?;
         let closing = &mut self.sessions[task as usize];
         closing.closed = true;
         closing.touched = true;
@@ -271,7 +279,7 @@ impl Sessions {
         ensures { OnOk result ((past : Past) (call : Asked) (held : List Entry) → IsCall task (Segment first blocks age live.now) call → MayTake map.now past self.old held call → Tells map.now (called call [] ∷ past) self.new held) }
     {
         let _sectors = map.count();
-        note_touch(&mut self.touched, task)?;
+        note_touch(&mut self.touched, &mut self.asked, task)?;
         let cleaner = &mut self.sessions[task as usize];
         cleaner.touched = true;
         cleaner.log.add(first, blocks, age, live)
@@ -282,7 +290,7 @@ impl Sessions {
         requires { task < length self.old }
         ensures { OnOk result ((session : Session) → slice_get self.old task ≡ Some session → self.new ≡ set self.old task (record session { touched = true })) }
     {
-        note_touch(&mut self.touched, task)?;
+        note_touch(&mut self.touched, &mut self.asked, task)?;
         self.sessions[task as usize].touched = true;
         Ok(())
     }
@@ -300,7 +308,7 @@ impl Sessions {
         ensures rows { OnOk result ((past : Past) → MaySettle map.now past self.old wanted.old → rows.new ≡ rows.old ++ flat_map (segment_rows by_deliveries (with_choices map.now past) now) (task_numbers (with_choices map.now past))) }
     {
         let mut from = 0;
-        while let Some(task) = next_touched(&self.touched, from) {
+        while let Some(task) = next_noted(&self.touched, from) {
             self.sessions[task as usize].choose(self.alloc, map, wanted, task, now, rows)?;
             from = task + 1;
         }
@@ -314,13 +322,15 @@ impl Sessions {
         ensures rows { OnOk result ((disk : Shape) (past : Past) → HaveChosen disk past self.old wanted.now → rows.new ≡ rows.old ++ flat_map (λ task. seal_rows by_deliveries past now task ++ complete_rows past now task) (task_numbers past)) }
     {
         let mut from = 0;
-        while let Some(task) = next_touched(&self.touched, from) {
+        while let Some(task) = next_noted(&self.touched, from) {
             let session = &mut self.sessions[task as usize];
             session.test(self.alloc, wanted, task, now, rows)?;
             session.touched = false;
+            let is_open_backup = session.is_open_backup();
+            forget(&mut self.touched, task, false);
+            forget(&mut self.asked, task, is_open_backup);
             from = task + 1;
         }
-        self.touched.clear();
         Ok(())
     }
 }

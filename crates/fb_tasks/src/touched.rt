@@ -1,29 +1,61 @@
-// The tasks that were touched since their last test: only there can a choice or a test find anything.
-ghost use Rattle.std.specs.Prelude.{◌≡◌, ◌⊎◌, ℕ, ◌<◌, ◌≤◌, true, false, IfSome, IfNone, OnOk};
+// The tasks that were touched since their last test, and those that a write asks: these and the open backups.
+ghost use Rattle.std.specs.Prelude.{◌≡◌, ◌⊎◌, ℕ, ◌<◌, ◌≤◌, true, false, IfSome, IfNone, OnOk, OnErr};
 ghost use Rattle.std.specs.BTreeSet.{contains};
 ghost use Rattle.std.specs.Ordering.{nat_cmp};
 
 use fb_units::NoMemory;
 use std::collections::BTreeSet;
 
-/// Notes that a task was touched; where memory is wanting none is lost.
-pub fn note_touch(touched: &mut BTreeSet<u32>, task: u32) -> Result<(), NoMemory>
-    ensures stay { (k : ℕ) → contains nat_cmp touched.old k ≡ true → contains nat_cmp touched.new k ≡ true }
-    ensures only { (k : ℕ) → contains nat_cmp touched.new k ≡ true → (k ≡ task) ⊎ (contains nat_cmp touched.old k ≡ true) }
-    ensures noted { OnOk result (contains nat_cmp touched.new task ≡ true) }
+/// Adds a task to a list, if it is to be there; where memory is wanting all stays.
+pub fn note(list: &mut BTreeSet<u32>, task: u32, is_noted: bool) -> Result<(), NoMemory>
+    ensures stay { (k : ℕ) → contains nat_cmp list.old k ≡ true → contains nat_cmp list.new k ≡ true }
+    ensures only { (k : ℕ) → contains nat_cmp list.new k ≡ true → (k ≡ task) ⊎ (contains nat_cmp list.old k ≡ true) }
+    ensures noted { OnOk result (is_noted ≡ true → contains nat_cmp list.new task ≡ true) }
+    ensures err { OnErr result ((k : ℕ) → contains nat_cmp list.new k ≡ true → contains nat_cmp list.old k ≡ true) }
 {
-    touched.insert(task)?;
+    if is_noted {
+        list.insert(task)?;
+    }
     Ok(())
 }
 
-/// The first of them from one on.
-pub fn next_touched(touched: &BTreeSet<u32>, from: u32) -> Option<u32>
-    ensures found { IfSome result (λ task. contains nat_cmp touched.now task ≡ true) }
-    ensures from { IfSome result (λ task. from ≤ task) }
-    ensures first { IfSome result (λ task. (k : ℕ) → from ≤ k → k < task → contains nat_cmp touched.now k ≡ false) }
-    ensures none { IfNone result ((k : ℕ) → from ≤ k → contains nat_cmp touched.now k ≡ false) }
+/// Takes a task from a list, unless it is to stay.
+pub fn forget(list: &mut BTreeSet<u32>, task: u32, stays: bool)
+    ensures others { (k : ℕ) → contains nat_cmp list.old k ≡ true → (k ≡ task) ⊎ (contains nat_cmp list.new k ≡ true) }
+    ensures only { (k : ℕ) → contains nat_cmp list.new k ≡ true → contains nat_cmp list.old k ≡ true }
+    ensures kept { stays ≡ true → list.new ≡ list.old }
+    ensures gone { stays ≡ false → contains nat_cmp list.new task ≡ false }
 {
-    match touched.range(from..).next() {
+    if !stays {
+        list.remove(&task);
+    }
+}
+
+/// Notes that a task was touched, and that a write asks it; where memory is wanting none is lost.
+pub fn note_touch(
+    touched: &mut BTreeSet<u32>,
+    asked: &mut BTreeSet<u32>,
+    task: u32,
+) -> Result<(), NoMemory>
+    ensures stay { (k : ℕ) → contains nat_cmp touched.old k ≡ true → contains nat_cmp touched.new k ≡ true }
+    ensures asked_stay { (k : ℕ) → contains nat_cmp asked.old k ≡ true → contains nat_cmp asked.new k ≡ true }
+    ensures asked_only { (k : ℕ) → contains nat_cmp asked.new k ≡ true → (k ≡ task) ⊎ (contains nat_cmp asked.old k ≡ true) }
+    ensures covers { (k : ℕ) → contains nat_cmp touched.new k ≡ true → (contains nat_cmp asked.new k ≡ true) ⊎ (contains nat_cmp touched.old k ≡ true) }
+    ensures noted { OnOk result (contains nat_cmp touched.new task ≡ true) }
+    ensures asked_noted { OnOk result (contains nat_cmp asked.new task ≡ true) }
+{
+    note(asked, task, true)?;
+    note(touched, task, true)
+}
+
+/// The first task of a list from one on.
+pub fn next_noted(list: &BTreeSet<u32>, from: u32) -> Option<u32>
+    ensures found { IfSome result (λ task. contains nat_cmp list.now task ≡ true) }
+    ensures from { IfSome result (λ task. from ≤ task) }
+    ensures first { IfSome result (λ task. (k : ℕ) → from ≤ k → k < task → contains nat_cmp list.now k ≡ false) }
+    ensures none { IfNone result ((k : ℕ) → from ≤ k → contains nat_cmp list.now k ≡ false) }
+{
+    match list.range(from..).next() {
         Some(task) => Some(*task),
         None => None,
     }

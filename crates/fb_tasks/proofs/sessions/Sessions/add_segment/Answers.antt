@@ -39,10 +39,10 @@ pub invariant_of-self : goal.invariant_of-self
 invariant_of-self c =
     let r = c.requires in
     let within = asked_within c.args.map.now r.0 r.1 c.args.task c.args.first c.args.blocks c.args.age c.args.live.now c.self.inside.sessions.items c.args.self.now r.2 r.3 c.self.view_is r.4 in
-    listed-more c.self.invariant c.note_touch.new.touched c.args.task within c.note_touch.ensures.stay c.note_touch.ensures.only
+    listed-more c.self.invariant c.args.task within c.note_touch.new.touched c.note_touch.new.asked c.note_touch.ensures.stay c.note_touch.ensures.asked_stay c.note_touch.ensures.asked_only c.note_touch.ensures.covers
 
 pub invariant_of-self-2 : goal.invariant_of-self-2
 invariant_of-self-2 c =
     let r = c.requires in
     let within = asked_within c.args.map.now r.0 r.1 c.args.task c.args.first c.args.blocks c.args.age c.args.live.now c.self.inside.sessions.items c.args.self.now r.2 r.3 c.self.view_is r.4 in
-    listed-noted c.self.invariant c.note_touch.new.touched c.args.task within c.note_touch.ensures.stay c.note_touch.ensures.only c.in_ok-note_touch.ensures.noted _
+    listed-noted c.self.invariant c.args.task within c.note_touch.new.touched c.note_touch.new.asked c.note_touch.ensures.stay c.note_touch.ensures.asked_stay c.note_touch.ensures.asked_only c.note_touch.ensures.covers c.in_ok-note_touch.ensures.noted c.in_ok-note_touch.ensures.asked_noted _

@@ -16,7 +16,7 @@ loop-task-init c = record {
 }
 
 pub index_mut-requires : goal.index_mut-requires
-index_mut-requires c = omega (arith, c.loop-task.invariant.kept.within c.in-Some.task c.in-Some.ensures.found, c.loop-task.self-inside.sessions.ok.0)
+index_mut-requires c = omega (arith, c.loop-task.invariant.kept.within c.in-Some.task (c.loop-task.invariant.kept.covered c.in-Some.task c.in-Some.ensures.found), c.loop-task.self-inside.sessions.ok.0)
 
 pub choose-requires : goal.choose-requires
 choose-requires c =
@@ -24,14 +24,14 @@ choose-requires c =
     let inv = c.loop-task.invariant in
     let items = c.loop-task.self-inside.sessions.items in
     let n = c.in-Some.task in
-    let within : n < length items = inv.kept.within n c.in-Some.ensures.found in
+    let within : n < length items = inv.kept.within n (inv.kept.covered n c.in-Some.ensures.found) in
     let there = slice_get-get_or items n c.index_mut.result.now within ∙ ap Some (sym c.index_mut.ensures.value) in
     let to = λ (past : Past) (h : MaySettle disk past c.args.self.now c.args.wanted.now). partly-to disk past items c.loop-task.wanted c.args.now c.args.rows.now c.loop-task.rows c.loop-task.from n c.in-Some.ensures.from (omega (arith, within))
     (λ k s low high at. untouched-there inv.kept k s (c.in-Some.ensures.first k low high) at) (inv.partly past h) (inv.rows past h) in
     (past_at disk c.requires.0 n, partly-may disk c.requires.0 items c.loop-task.wanted n c.index_mut.result.now there (to c.requires.0 c.requires.1).0)
 
 pub invariant_of-self : goal.invariant_of-self
-invariant_of-self c = listed-set c.loop-task.invariant.kept c.in-Some.task c.choose.new.self (λ _. c.in-Some.ensures.found)
+invariant_of-self c = listed-set c.loop-task.invariant.kept c.in-Some.task c.choose.new.self c.in-Some.ensures.found
 
 pub loop-task-preserved : goal.loop-task-preserved
 loop-task-preserved c =
@@ -39,13 +39,13 @@ loop-task-preserved c =
     let inv = c.loop-task.invariant in
     let items = c.loop-task.self-inside.sessions.items in
     let n = c.in-Some.task in
-    let within : n < length items = inv.kept.within n c.in-Some.ensures.found in
+    let within : n < length items = inv.kept.within n (inv.kept.covered n c.in-Some.ensures.found) in
     let there = slice_get-get_or items n c.index_mut.result.now within ∙ ap Some (sym c.index_mut.ensures.value) in
     let to = λ (past : Past) (h : MaySettle disk past c.args.self.now c.args.wanted.now). partly-to disk past items c.loop-task.wanted c.args.now c.args.rows.now c.loop-task.rows c.loop-task.from n c.in-Some.ensures.from (omega (arith, within))
     (λ k s low high at. untouched-there inv.kept k s (c.in-Some.ensures.first k low high) at) (inv.partly past h) (inv.rows past h) in
     let may = λ (past : Past) (h : MaySettle disk past c.args.self.now c.args.wanted.now). partly-may disk past items c.loop-task.wanted n c.index_mut.result.now there (to past h).0 in
     record {
-      kept = listed-set inv.kept n c.choose.new.self (λ _. c.in-Some.ensures.found);
+      kept = listed-set inv.kept n c.choose.new.self c.in-Some.ensures.found;
       within = omega (arith, within, length-set items n c.choose.new.self);
       partly = λ past h. partly-more disk past items c.loop-task.wanted c.choose.new.wanted n c.index_mut.result.now c.choose.new.self there c.in_ok-choose.ensures.touched (to past h).0 (c.in_ok-choose.ensures.chosen (past_at disk past n) (may past h));
       rows = λ past h. rows-more disk past items c.loop-task.wanted n c.args.now c.index_mut.result.now c.args.rows.now c.loop-task.rows c.choose.new.rows there (to past h).0 (to past h).1

@@ -8,7 +8,7 @@ use Rattle.fb_tasks.proofs.sessions.Sessions.choose_all.Given as goal
 -- the first tasks have chosen
 abbrev pub invariant-loop-task : goal.invariant-loop-task
 invariant-loop-task l = record {
-  kept : AreListed l.self-inside.sessions.items l.self-inside.touched;
+  kept : AreListed l.self-inside.sessions.items l.self-inside.touched l.self-inside.asked;
   within : l.from ≤ length l.self-inside.sessions.items;
   partly : (past : Past) → MaySettle l.map past l.fn.self l.initial.wanted → Partly l.map past l.self-inside.sessions.items l.wanted l.from;
   rows : (past : Past) → MaySettle l.map past l.fn.self l.initial.wanted → HasRows l.map past l.now l.initial.rows l.rows l.from;

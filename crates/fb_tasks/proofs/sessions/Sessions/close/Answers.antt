@@ -11,9 +11,9 @@ returns c = λ past call is h.
 pub invariant_of-self : goal.invariant_of-self
 invariant_of-self c =
     let within : c.args.task < length c.self.inside.sessions.items = subst (λ xs. c.args.task < length xs) (sym c.self.view_is) c.requires in
-    listed-more c.self.invariant c.note_touch.new.touched c.args.task within c.note_touch.ensures.stay c.note_touch.ensures.only
+    listed-more c.self.invariant c.args.task within c.note_touch.new.touched c.note_touch.new.asked c.note_touch.ensures.stay c.note_touch.ensures.asked_stay c.note_touch.ensures.asked_only c.note_touch.ensures.covers
 
 pub invariant_of-self-2 : goal.invariant_of-self-2
 invariant_of-self-2 c =
     let within : c.args.task < length c.self.inside.sessions.items = subst (λ xs. c.args.task < length xs) (sym c.self.view_is) c.requires in
-    listed-noted c.self.invariant c.note_touch.new.touched c.args.task within c.note_touch.ensures.stay c.note_touch.ensures.only c.in_ok-note_touch.ensures.noted _
+    listed-noted c.self.invariant c.args.task within c.note_touch.new.touched c.note_touch.new.asked c.note_touch.ensures.stay c.note_touch.ensures.asked_stay c.note_touch.ensures.asked_only c.note_touch.ensures.covers c.in_ok-note_touch.ensures.noted c.in_ok-note_touch.ensures.asked_noted _

@@ -10,4 +10,4 @@ returns c = λ disk past call is h.
 pub invariant_of-self : goal.invariant_of-self
 invariant_of-self c =
     let within : c.args.task < length c.self.inside.sessions.items = subst (λ xs. c.args.task < length xs) (sym c.self.view_is) c.requires in
-    listed-kept c.self.invariant c.args.task c.index_mut.result.now (record c.index_mut.result.now { suspended = true }) within c.index_mut.ensures.value refl
+    listed-kept c.self.invariant c.args.task c.index_mut.result.now (record c.index_mut.result.now { suspended = true }) within c.index_mut.ensures.value refl refl

@@ -1,5 +1,6 @@
 use Rattle.std.proofs.Common.{◌≡◌, ◌<◌, ◌≤◌, ◌++◌, ℕ, [], Some, false, length, slice_get, append-nil, ap, sym, ◌∙◌, subst, arith, refl, append_assoc}
-use Rattle.std.proofs.lemmas.Bool.{true≢false}
+use Rattle.std.specs.BTreeSet.{contains}
+use Rattle.std.specs.Ordering.{nat_cmp}
 use Rattle.std.proofs.lemmas.List.{length-set}
 use Rattle.std.proofs.lemmas.Option.{slice_get-get_or, slice_get_within}
 use Rattle.std.specs.List.{flat_map, range_with_len}
@@ -8,7 +9,7 @@ use Rattle.fb_tasks.specs.declared.session.Session.{Session}
 use Rattle.fb_tasks.specs.Taken.{by_deliveries}
 use Rattle.fb_tasks.specs.Standing.{HaveChosen}
 use Rattle.fb_tasks.proofs.Lists.{some_at}
-use Rattle.fb_tasks.proofs.Listed.{listed-set, none-listed, untouched-there}
+use Rattle.fb_tasks.proofs.Listed.{listed-set, listed-less, untouched-there}
 use Rattle.fb_tasks.proofs.AllTested.{AreAllRows, none_tested, chosen_at, one_tested, rows_more, ends_of, tested-to, rows-to, tells-tested}
 use Rattle.fb_tasks.proofs.RowsOf.{rows-given, nothing-mute}
 use Rattle.fb_tasks.proofs.sessions.Sessions.test_all.Goals as goal
@@ -22,7 +23,7 @@ loop-task-init c = record {
 }
 
 pub index_mut-session-requires : goal.index_mut-session-requires
-index_mut-session-requires c = omega (arith, c.loop-task.invariant.kept.within c.in-Some.task c.in-Some.ensures.found, c.loop-task.self-inside.sessions.ok.0)
+index_mut-session-requires c = omega (arith, c.loop-task.invariant.kept.within c.in-Some.task (c.loop-task.invariant.kept.covered c.in-Some.task c.in-Some.ensures.found), c.loop-task.self-inside.sessions.ok.0)
 
 pub test-requires : goal.test-requires
 test-requires c =
@@ -31,14 +32,14 @@ test-requires c =
     let olds = c.self.inside.sessions.items in
     let items = c.loop-task.self-inside.sessions.items in
     let n = c.in-Some.task in
-    let within : n < length items = inv.kept.within n c.in-Some.ensures.found in
+    let within : n < length items = inv.kept.within n (inv.kept.covered n c.in-Some.ensures.found) in
     let there = slice_get-get_or items n c.index_mut-session.result.now within ∙ ap Some (sym c.index_mut-session.ensures.value) in
     let between = λ (k : ℕ) (s : Session) (low : c.loop-task.from ≤ k) (high : k < n) (at : slice_get items k ≡ Some s). untouched-there inv.kept k s (c.in-Some.ensures.first k low high) at in
     let is = tested-to c.args.wanted.now olds items c.loop-task.from n c.in-Some.ensures.from (omega (arith, within)) between inv.sessions in
     (c.requires.0, c.requires.1, chosen_at chosen n c.index_mut-session.result.now (sym (is.later n (omega arith)) ∙ there))
 
 pub invariant_of-self : goal.invariant_of-self
-invariant_of-self c = listed-set c.loop-task.invariant.kept c.in-Some.task c.test.new.self (λ _. c.in-Some.ensures.found)
+invariant_of-self c = listed-set c.loop-task.invariant.kept c.in-Some.task c.test.new.self c.in-Some.ensures.found
 
 pub loop-task-preserved : goal.loop-task-preserved
 loop-task-preserved c =
@@ -46,12 +47,14 @@ loop-task-preserved c =
     let olds = c.self.inside.sessions.items in
     let items = c.loop-task.self-inside.sessions.items in
     let n = c.in-Some.task in
-    let within : n < length items = inv.kept.within n c.in-Some.ensures.found in
+    let within : n < length items = inv.kept.within n (inv.kept.covered n c.in-Some.ensures.found) in
     let there = slice_get-get_or items n c.index_mut-session.result.now within ∙ ap Some (sym c.index_mut-session.ensures.value) in
     let between = λ (k : ℕ) (s : Session) (low : c.loop-task.from ≤ k) (high : k < n) (at : slice_get items k ≡ Some s). untouched-there inv.kept k s (c.in-Some.ensures.first k low high) at in
     let is = tested-to c.args.wanted.now olds items c.loop-task.from n c.in-Some.ensures.from (omega (arith, within)) between inv.sessions in
     record {
-      kept = listed-set inv.kept n (record c.test.new.self { touched = false }) (λ is_touched. absurd (true≢false (sym is_touched)));
+      kept = listed-less inv.kept n (record c.test.new.self { touched = false }) c.forget.new.list c.forget-in-Some.new.list c.is_open_backup-is_open_backup.result c.in-Some.ensures.found refl c.is_open_backup-is_open_backup.ensures
+          c.forget.ensures.others c.forget.ensures.only (c.forget.ensures.gone refl) c.forget-in-Some.ensures.others c.forget-in-Some.ensures.only
+          (λ stays is. ap (λ list. contains nat_cmp list n) (c.forget-in-Some.ensures.kept stays) ∙ is);
       within = omega (arith, within, length-set items n (record c.test.new.self { touched = false }));
       sessions = one_tested c.args.wanted.now olds items n c.index_mut-session.result.now c.test.new.self is there c.in_ok-test.ensures.session;
       rows = λ disk past chosen.
@@ -59,15 +62,6 @@ loop-task-preserved c =
           (rows-to c.args.wanted.now olds items c.loop-task.from n c.in-Some.ensures.from (omega (arith, within)) between inv.sessions disk past c.args.now c.args.rows.now c.loop-task.rows chosen (inv.rows disk past chosen))
           (c.in_ok-test.ensures.rows disk past (chosen_at chosen n c.index_mut-session.result.now (sym (is.later n (omega arith)) ∙ there)) ∙ append_assoc c.loop-task.rows (seal_rows by_deliveries past c.args.now n) (complete_rows past c.args.now n)) refl;
     }
-
-pub invariant_of-self-2 : goal.invariant_of-self-2
-invariant_of-self-2 c =
-    let inv = c.loop-task.invariant in
-    let olds = c.self.inside.sessions.items in
-    let items = c.loop-task.self-inside.sessions.items in
-    let between = λ (k : ℕ) (s : Session) (low : c.loop-task.from ≤ k) (high : k < length items) (at : slice_get items k ≡ Some s). untouched-there inv.kept k s (c.in_default.ensures.none k low) at in
-    let is = tested-to c.args.wanted.now olds items c.loop-task.from (length items) inv.within (omega arith) between inv.sessions in
-    none-listed items c.clear.new.self inv.kept.room c.clear.ensures.empty (λ k s at. is.clear k s (slice_get_within items k s at) at)
 
 pub returns-clause-tells : goal.returns-clause-tells
 returns-clause-tells c = λ disk past now_chosen.
