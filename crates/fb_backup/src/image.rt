@@ -1,4 +1,4 @@
-// The contents that a backup has taken.
+// The image of a backup: the contents that it has taken.
 ghost use Rattle.std.specs.Prelude.{◌≡◌, ℕ, ◌+◌, ◌≤◌, ◌^◌, None, IfOk, OnOk, OnErr};
 ghost use Rattle.std.specs.List.{AllByRecursion, range_with_len};
 ghost use Rattle.fb_store.specs.declared.content.Content.{Content};
@@ -12,7 +12,9 @@ use fb_wanted::Block;
 use std::alloc::Global;
 use std::marker::Model;
 
-/// What the delivered blocks of a backup hold: for each sector the content that was taken last and not dropped since.
+/// What the delivered blocks of a backup hold.
+///
+/// A sector has the content that was taken last, unless it was dropped since.
 #[derive(Drop)]
 pub struct Image {
     pieces: Pieces,
@@ -28,7 +30,7 @@ impl Model for Image {
 }
 
 impl Image {
-    /// An image without a sector.
+    /// An empty image.
     pub fn new(alloc: Global) -> Self
         ensures { (lbn : ℕ) → held_at result lbn ≡ None }
     {
@@ -37,7 +39,9 @@ impl Image {
         }
     }
 
-    /// Replaces the content of the block's sectors. Where memory is wanting all stays.
+    /// Takes the block's sectors into the image, in place of what it held of them.
+    ///
+    /// The only error is out of memory; the image then holds what it held before.
     pub fn take(&mut self, block: Block, content: &Contents) -> Result<(), NoMemory>
         requires ranges { AllByRecursion (λ run. run.first + run.count ≤ 10 ^ 12) content.now }
         requires covers { (content_of : ℕ → Content) × Gives content.now content_of block.lbn block.count }
@@ -47,7 +51,9 @@ impl Image {
         self.pieces.take(content)
     }
 
-    /// Takes the range's sectors out of the image. Where memory is wanting all stays.
+    /// Drops `count` sectors from LBN `first` on.
+    ///
+    /// The only error is out of memory; the image then holds what it held before.
     pub fn drop_range(&mut self, first: u64, count: u64) -> Result<(), NoMemory>
         requires { first + count ≤ 10 ^ 12 }
         ensures ok { OnOk result ((lbn : ℕ) → held_at self.new lbn ≡ after_dropping first count lbn (held_at self.old lbn)) }
@@ -56,7 +62,9 @@ impl Image {
         self.pieces.drop_range(first, count)
     }
 
-    /// The contents of the image's sectors as the fewest runs, ascending.
+    /// The contents of the image's sectors as the fewest runs, by ascending LBN.
+    ///
+    /// The only error is out of memory.
     pub fn contents(&self, alloc: Global) -> Result<Contents, NoMemory>
         ensures ends { EndsBy (held_at self.now) (10 ^ 12) }
         ensures fewest { IfOk result (λ runs. (end : ℕ) → EndsBy (held_at self.now) end → runs ≡ runs_of (held_in (held_at self.now) (range_with_len 0 end))) }
