@@ -1,4 +1,4 @@
--- What is so of the segments of each session. Contracts do not speak of it.
+-- What always holds of a session's segments. No contract names it.
 use Rattle.std.specs.Prelude.{◌≡◌, ◌≤◌, ◌<◌, ◌^◌, ℕ, ◌+◌, List, [], ◌∷◌, Option, Some, length}
 use Rattle.std.specs.List.{AllByRecursion}
 use Rattle.fb_clean.specs.Segments.{LogSegment}
@@ -12,7 +12,7 @@ AreNumbered n (segment ∷ segments) = (segment.number ≡ n) × AreNumbered (n 
 abbrev pub AreWithin : ℕ → List LogSegment → Type 0
 AreWithin block segments = AllByRecursion (λ segment. AllByRecursion (λ lbn. lbn + block ≤ 10 ^ 12) segment.live) segments
 
--- numbers fit, an unfinished segment is one of the segments, and for each something may have been taken
+-- the numbers fit, an unfinished segment is one of the segments, and each segment has a store for what is taken for it
 pub record IsSound (block : ℕ) (segments : List LogSegment) (unfinished : Option ℕ) (taken : ℕ) : Type 0 where
   pub numbered : AreNumbered 1 segments
   pub few : length segments < 2 ^ 32

@@ -6,7 +6,7 @@ use Rattle.fb_store.specs.declared.content.Content.{Content}
 use Rattle.fb_store.specs.Index.{held_at}
 use Rattle.fb_store.specs.Pieces.{held_in}
 
--- a segment: how many blocks it has, where its live ones begin, ascending, and whether it is neither chosen nor dropped as yet
+-- a segment: its number of blocks, the first LBNs of its live ones, ascending, and whether it is still to be chosen
 pub record LogSegment : Type 0 where
   pub number : ℕ
   pub blocks : ℕ
@@ -14,14 +14,14 @@ pub record LogSegment : Type 0 where
   pub live : List ℕ
   pub waits : Bool
 
--- a session's block size, its segments, numbered from 1 in order of adding, the chosen one while it is unfinished, and what was taken for each
+-- a session's block size in sectors, its segments in order of adding, the chosen one while unfinished, and what was taken for each
 pub record Cleaning : Type 0 where
   pub block : ℕ
   pub segments : List LogSegment
   pub unfinished : Option ℕ
   pub taken : List (List (ℕ × Option Content))
 
--- where the live blocks begin, from an LBN on
+-- the first LBNs of the live blocks of a segment that begins at an LBN
 abbrev pub live_blocks : ℕ → ℕ → List Bool → List ℕ
 live_blocks block lbn [] = []
 live_blocks block lbn (live ∷ lives) = (if live then lbn ∷ [] else []) ++ live_blocks block (lbn + block) lives
@@ -33,24 +33,24 @@ after_add first blocks age live before = record before {
   taken = before.taken ++ [] ∷ [];
 }
 
--- what its cleaning gains, its free blocks by its age, (N - L) * age
+-- the benefit of cleaning it: its free blocks times its age, (N - L) * age
 abbrev pub gain : LogSegment → ℕ
 gain segment = (segment.blocks - length segment.live) * segment.age
 
--- and what it costs, its blocks read and its live ones written again, N + L
+-- and the cost: all blocks read and the live ones written again, N + L
 abbrev pub cost : LogSegment → ℕ
 cost segment = segment.blocks + length segment.live
 
--- greater benefit, gain over cost
+-- a greater ratio of benefit to cost
 abbrev pub is_better : LogSegment → LogSegment → Bool
 is_better a b = nat_lt (gain b * cost a) (gain a * cost b)
 
--- the first of greatest benefit
+-- the first one with the greatest ratio
 abbrev pub first_best : List LogSegment → Option LogSegment
 first_best [] = None
 first_best (segment ∷ segments) = Some (best_of is_better segment segments)
 
--- the segments left to choose
+-- the segments still to be chosen
 abbrev pub waiting : List LogSegment → List LogSegment
 waiting segments = filter (λ segment. segment.waits) segments
 
@@ -58,7 +58,7 @@ abbrev pub number_of : Option LogSegment → Option ℕ
 number_of None = None
 number_of (Some segment) = Some segment.number
 
--- none while a chosen segment is unfinished, and else the first of greatest benefit of those left
+-- no choice while a chosen segment is unfinished, and else the first of greatest ratio among those left
 abbrev pub choice_while : Option ℕ → List LogSegment → Option ℕ
 choice_while None segments = number_of (first_best (waiting segments))
 choice_while (Some unfinished) segments = None
@@ -81,7 +81,7 @@ after_choice (Some number) before = record before { segments = without number be
 abbrev pub after_drop : Cleaning → Cleaning
 after_drop before = record before { segments = map left_out before.segments }
 
--- where the live blocks of a segment begin
+-- the first LBNs of a segment's live blocks
 abbrev pub live_of : Cleaning → ℕ → List ℕ
 live_of cleaning number = slice_index_or (map (λ segment. segment.live) cleaning.segments) (number - 1) []
 

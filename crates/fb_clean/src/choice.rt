@@ -1,11 +1,13 @@
-// The choice of a segment.
+// The choice of the segment to clean next.
 ghost use Rattle.std.specs.Prelude.{◌≡◌, ◌<◌, None, Some, length, IfSome, IfNone, slice_get};
 ghost use Rattle.fb_clean.specs.Segments.{first_best, waiting};
 ghost use Rattle.fb_clean.specs.Best.{HoldsBest, beats_best};
 
 use crate::segment::Segment;
 
-/// The place of the first segment of greatest benefit of those left to choose.
+/// The place, from 0, of the first segment of greatest benefit among those still to be chosen.
+///
+/// `None` where no segment is left to choose.
 pub fn best_waiting(segments: &[Segment]) -> Option<usize>
     ensures some { IfSome result (λ i. slice_get segments.now i ≡ first_best (waiting segments.now)) }
     ensures within { IfSome result (λ i. i < length segments.now) }
@@ -20,7 +22,7 @@ pub fn best_waiting(segments: &[Segment]) -> Option<usize>
     best
 }
 
-// Whether a segment is left to choose and better than the best one before it.
+// Whether segment `i` is still to be chosen, and better than the best one before it.
 fn beats(segments: &[Segment], i: usize, best: Option<usize>) -> bool
     requires within { i < length segments.now }
     requires before { IfSome best (λ b. b < length segments.now) }

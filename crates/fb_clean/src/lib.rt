@@ -1,8 +1,13 @@
-//! The segments of a log that a session cleans: their choice by benefit and cost, and the contents of their live blocks.
+//! The segments of a log that a session cleans.
 //!
-//! The contract gives the layer above which segment is chosen, and the contents that were taken for it, packed in order
-//! of its live blocks as the fewest runs. Room is made where a segment is added: to choose, to finish and to drop take no memory.
-//! Where memory is wanting all stays as it was.
+//! Segments are chosen by benefit and cost (Rosenblum and Ousterhout, The Design and Implementation
+//! of a Log-Structured File System); of two with the same ratio the one added first is chosen.
+//!
+//! The contracts tell the layer above which segment is chosen, and give the contents that were
+//! taken for it, in the order of its live blocks, as the fewest runs. Memory is reserved when a
+//! segment is added: choosing, finishing and dropping can't run out of it. Out of memory, the
+//! segments stay as they were. The contracts don't say when a segment is finished: the caller
+//! decides.
 #![tactic(auto)]
 
 mod choice;

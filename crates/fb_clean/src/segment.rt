@@ -8,7 +8,7 @@ use fb_units::NoMemory;
 use std::alloc::Global;
 use std::marker::Model;
 
-/// A segment that was added.
+/// A segment of a log, with its live blocks.
 #[derive(Drop)]
 pub struct Segment {
     number: u32,
@@ -30,7 +30,11 @@ impl Model for Segment {
 }
 
 impl Segment {
-    /// A segment that is left to choose, with live blocks from its first LBN on.
+    /// A segment that is still to be chosen.
+    ///
+    /// Its blocks of `block` sectors each lie end to end from LBN `first` on; `live` says of each
+    /// whether it is live. `age` may have any unit that all segments of the session share. The only
+    /// error is out of memory.
     pub fn new(
         alloc: Global,
         number: u32,
@@ -53,19 +57,21 @@ impl Segment {
         })
     }
 
+    /// The number of the segment in its session, from 1.
     pub fn number(&self) -> u32
         ensures { result ≡ self.now.number }
     {
         self.number
     }
 
+    /// Whether the segment is still to be chosen.
     pub fn waits(&self) -> bool
         ensures { result ≡ self.now.waits }
     {
         self.waits
     }
 
-    /// Where the live blocks begin.
+    /// The first LBN of each live block, ascending.
     pub fn live(&self) -> &[u64]
         ensures value { result.now ≡ self.now.live }
         ensures few { length result.now ≤ 4096 }
@@ -73,28 +79,30 @@ impl Segment {
         &self.live
     }
 
-    /// Leaves the segment out of those left to choose.
+    /// Removes the segment from those still to be chosen: it is chosen now, or dropped.
     pub fn leave(&mut self)
         ensures { self.new ≡ left_out self.old }
     {
         self.waits = false;
     }
 
-    /// Whether this segment has a greater benefit than the other.
+    /// Whether this segment has a greater ratio of benefit to cost than the other.
     pub fn is_better(&self, other: &Segment) -> bool
         ensures { result ≡ is_better self.now other.now }
     {
         other.product(self) < self.product(other)
     }
 
-    /// The benefit, brought to the other's cost.
+    /// This segment's benefit times the other's cost.
+    ///
+    /// Two ratios of benefit to cost are compared by these products, without a division.
     pub fn product(&self, other: &Segment) -> u128
         ensures { result ≡ (self.now.blocks - length self.now.live) * self.now.age * (other.now.blocks + length other.now.live) }
     {
         self.free() * self.age as u128 * other.cost()
     }
 
-    // The blocks that are not live.
+    // How many blocks are not live.
     fn free(&self) -> u128
         ensures value { result ≡ self.now.blocks - length self.now.live }
         ensures few { result ≤ 4096 }
@@ -102,7 +110,7 @@ impl Segment {
         (self.blocks - self.live.len() as u32) as u128
     }
 
-    // The blocks read and the live blocks written again.
+    // The cost in blocks: all are read, and the live ones are written again.
     fn cost(&self) -> u128
         ensures value { result ≡ self.now.blocks + length self.now.live }
         ensures few { result ≤ 8192 }
@@ -111,7 +119,7 @@ impl Segment {
     }
 }
 
-// Where the live blocks begin.
+// The first LBN of each live block, ascending. The only error is out of memory.
 fn live_lbns(alloc: Global, first: u64, block: u32, live: &Live) -> Result<Vec<u64>, NoMemory>
     requires { first + length live.now * block ≤ 10 ^ 12 }
     ensures { IfOk result (λ lbns. lbns.items ≡ live_blocks block first live.now) }

@@ -1,4 +1,4 @@
-// The segments of a session.
+// All segments of one session.
 ghost use Rattle.std.specs.Prelude.{◌≡◌, ◌≢◌, ℕ, List, [], ◌∷◌, ◌++◌, Bool, Option, None, Some, ◌+◌, ◌-◌, ◌*◌, ◌<◌, ◌≤◌, ◌^◌, length, filter, map, IfOk, IfSome, OnOk, OnErr, slice_get};
 ghost use Rattle.std.specs.List.{AllByRecursion, flat_map, list_any, range_with_len};
 ghost use Rattle.fb_store.specs.declared.content.Content.{Content};
@@ -40,7 +40,7 @@ impl Model for Segments {
 }
 
 impl Segments {
-    /// No segment, for a session with this block size.
+    /// No segments yet; `block` is the session's block size in sectors.
     pub fn new(alloc: Global, block: u32) -> Self
         ensures { result ≡ record { block = block; segments = []; unfinished = None; taken = [] } }
     {
@@ -53,7 +53,10 @@ impl Segments {
         }
     }
 
-    /// Adds a segment under the next number. Where memory is wanting all stays.
+    /// Adds a segment under the next number.
+    ///
+    /// It has `blocks` blocks from LBN `first` on, and `live` says of each whether it is live. The
+    /// only error is out of memory, after which nothing has changed.
     pub fn add(&mut self, first: u64, blocks: u32, age: u64, live: &Live) -> Result<(), NoMemory>
         requires few { blocks ≤ 4096 }
         requires each { length live.now ≡ blocks }
@@ -68,14 +71,14 @@ impl Segments {
         push_both(&mut self.segments, segment, &mut self.taken, pieces)
     }
 
-    /// How many segments were added.
+    /// How many segments were added so far.
     pub fn len(&self) -> u32
         ensures { result ≡ length self.now.segments }
     {
         self.segments.len() as u32
     }
 
-    /// The number of the chosen segment while it is unfinished.
+    /// The number of the segment that was chosen and isn't finished, if there is one.
     pub fn unfinished(&self) -> Option<u32>
         ensures value { result ≡ self.now.unfinished }
         ensures known { IfSome result (λ number. (0 < number) × (number ≤ length self.now.segments)) }
@@ -83,14 +86,14 @@ impl Segments {
         self.unfinished
     }
 
-    /// Whether a segment is left to choose.
+    /// Whether any segment is still to be chosen.
     pub fn has_rest(&self) -> bool
         ensures { result ≡ list_any (λ segment. segment.waits) self.now.segments }
     {
         self.segments.iter().any(|segment| segment.waits())
     }
 
-    /// How many live blocks the segment has.
+    /// How many live blocks the segment of this number has.
     pub fn live_count(&self, segment: u32) -> u32
         requires { (0 < segment) × (segment ≤ length self.now.segments) }
         ensures { result ≡ length (live_of self.now segment) }
@@ -98,7 +101,7 @@ impl Segments {
         self.segments[segment as usize - 1].live().len() as u32
     }
 
-    /// The first LBN of the segment's i-th live block, from 0.
+    /// The first LBN of the segment's live block number `i`, counted from 0.
     pub fn live_block(&self, segment: u32, i: u32) -> u64
         requires added { (0 < segment) × (segment ≤ length self.now.segments) }
         requires within { i < length (live_of self.now segment) }
@@ -107,7 +110,10 @@ impl Segments {
         self.segments[segment as usize - 1].live()[i as usize]
     }
 
-    /// Chooses the segment of greatest benefit, and answers its number: none where a chosen segment is unfinished or none is left.
+    /// Chooses the segment of greatest benefit, and returns its number.
+    ///
+    /// `None`, and nothing is chosen, while the last chosen segment is unfinished, or where no
+    /// segment is left.
     pub fn choose(&mut self) -> Option<u32>
         ensures choice { result ≡ choice_of self.old }
         ensures greatest { IsChoice self.old result }
@@ -123,7 +129,9 @@ impl Segments {
         self.unfinished
     }
 
-    /// Gives the content of a block to the chosen segment. Where memory is wanting all stays.
+    /// Keeps the content of a delivered block for the chosen segment.
+    ///
+    /// The only error is out of memory; what was kept before then stays as it was.
     pub fn take(&mut self, block: Block, content: &Contents) -> Result<(), NoMemory>
         requires ranges { AllByRecursion (λ run. run.first + run.count ≤ 10 ^ 12) content.now }
         requires covers { (content_of : ℕ → Content) × Gives content.now content_of block.lbn block.count }
@@ -139,7 +147,7 @@ impl Segments {
         }
     }
 
-    /// Finishes the chosen segment.
+    /// Finishes the chosen segment, so that the next one can be chosen.
     pub fn finish(&mut self, segment: u32)
         requires { self.old.unfinished ≡ Some segment }
         ensures { self.new ≡ record self.old { unfinished = None } }
@@ -147,14 +155,16 @@ impl Segments {
         self.unfinished = None;
     }
 
-    /// Drops the segments not chosen as yet.
+    /// Drops all segments that haven't been chosen: none is left to choose.
     pub fn drop_rest(&mut self)
         ensures { self.new ≡ after_drop self.old }
     {
         leave_all(&mut self.segments);
     }
 
-    /// What was taken for a segment, in order of its live blocks, as the fewest runs.
+    /// What was kept for a segment, in the order of its live blocks, as the fewest runs.
+    ///
+    /// The only error is out of memory.
     pub fn packed(&self, alloc: Global, segment: u32) -> Result<Contents, NoMemory>
         requires { (0 < segment) × (segment ≤ length self.now.segments) }
         ensures { IfOk result (λ runs. runs ≡ runs_of (packed_sectors self.now segment)) }
@@ -169,12 +179,12 @@ impl Segments {
     }
 }
 
-/// The live blocks of a segment are as many as it names live.
+/// A segment has as many live blocks as its list of live bits has set.
 pub fn live_blocks_are_live()
     ensures { (block first : ℕ) (live : List Bool) → length (live_blocks block first live) ≡ length (filter (λ is_live. is_live) live) }
 {}
 
-// Leaves all segments out of those left to choose.
+// Removes all segments from those still to be chosen.
 fn leave_all(segments: &mut [Segment])
     ensures { segments.new ≡ map left_out segments.old }
 {
@@ -183,7 +193,7 @@ fn leave_all(segments: &mut [Segment])
     }
 }
 
-// The contents of blocks, one after the other.
+// The contents of the live blocks, one after another. The only error is out of memory.
 fn pack(alloc: Global, taken: &Pieces, live: &[u64], block: u32) -> Result<Contents, NoMemory>
     requires { AllByRecursion (λ lbn. lbn + block ≤ 10 ^ 12) live.now }
     ensures { IfOk result (λ runs. runs ≡ runs_of (flat_map (λ lbn. held_in (held_at taken.now) (range_with_len lbn block)) live.now)) }
@@ -195,7 +205,7 @@ fn pack(alloc: Global, taken: &Pieces, live: &[u64], block: u32) -> Result<Conte
     Ok(runs)
 }
 
-// Adds to both lists or to none.
+// Adds to both lists, or to neither where it runs out of memory.
 fn push_both(
     segments: &mut Vec<Segment>,
     segment: Segment,
@@ -215,6 +225,7 @@ fn push_both(
     }
 }
 
+// Adds a segment to the list. The only error is out of memory.
 fn push(segments: &mut Vec<Segment>, segment: Segment) -> Result<(), NoMemory>
     ensures ok { OnOk result (segments.new.items ≡ segments.old.items ++ segment ∷ []) }
     ensures err { OnErr result (segments.new.items ≡ segments.old.items) }
