@@ -7,7 +7,7 @@ use fb_service::Disk;
 use fb_units::{NoMemory, Ns, Request, Track};
 use std::alloc::Global;
 
-/// Takes requests in order of joining.
+/// Serves requests in the order in which they joined.
 #[derive(Drop)]
 pub struct Fcfs {
     waiting: Vec<Request>,

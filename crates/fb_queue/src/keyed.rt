@@ -1,4 +1,4 @@
-// A queue that takes the first request of least key.
+// A queue that takes the request of least key.
 ghost use Rattle.std.specs.Prelude.{◌≡◌, [], ◌*◌, ◌<◌, ◌≤◌, ◌^◌, length};
 ghost use Rattle.std.specs.List.{AllByRecursion};
 ghost use Rattle.fb_geometry.specs.Shape.{IsTrackOf};
@@ -10,7 +10,10 @@ use fb_service::Disk;
 use fb_units::{NoMemory, Ns, Request, Track};
 use std::alloc::Global;
 
-/// Requests that wait, in order of joining, of which a policy takes the first of least key.
+/// Waiting requests in order of joining, of which the one with the policy's least key is taken.
+///
+/// Of several with the least key the one that joined first is taken. Each look at the queue costs
+/// time in proportion to its length.
 #[derive(Drop)]
 pub struct Keyed<P: Policy> {
     policy: P,
@@ -32,7 +35,7 @@ impl<P: Policy + Default> Keyed<P> {
     }
 }
 
-// The place of the first request of least key.
+// The place, from 0, of the first request with the least key.
 fn first_least<P: Policy>(
     policy: &P,
     disk: &Disk,

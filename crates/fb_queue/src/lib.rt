@@ -1,8 +1,9 @@
 //! The order in which pending requests are served.
 //!
-//! A queue takes the first request of least key, in order of joining. Its law is all that the replay
-//! knows of it: the key is a function of the disk, the head's track, the moment and the request
-//! alone. The queues of this crate look at all that is pending; they are the definition's program.
+//! A queue takes the request of least key; of several with the same key, the one that joined first.
+//! The key is a function of the disk, the head's track, the instant and the request alone. The
+//! contracts of `Queue` are all that the replay knows of a queue. The queues of this crate look at
+//! every pending request: they follow the definitions step by step, and don't promise speed.
 #![tactic(auto)]
 
 mod fcfs;

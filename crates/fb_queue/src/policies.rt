@@ -10,10 +10,10 @@ use fb_units::{Ns, Request, Track};
 
 /// What decides which request is served next.
 pub trait Policy: Drop {
-    /// The key, of which the least is taken.
+    /// The key: the request with the least is served next.
     ghost key: { Key };
 
-    /// The key of a request when the head is on a track at a moment.
+    /// The key of a request while the head is on this track at the instant `now`, in ns.
     fn key_of(&self, disk: &Disk, head: Track, now: Ns, request: &Request) -> u64
         requires request { IsRequestOf disk.now.map request.now }
         requires head { IsTrackOf disk.now.map head }
@@ -21,22 +21,26 @@ pub trait Policy: Drop {
         ensures { result ≡ key disk.now head now request.now };
 }
 
-/// The nearest cylinder first.
+/// The nearest cylinder first: the key is the distance in cylinders.
 #[derive(Clone, Copy, Debug, Default, PartialEq, Eq)]
 pub struct Nearest;
 
-/// The next cylinder upwards first, and from the last one on the first.
+/// The next cylinder upwards first, and after the last cylinder the first one again.
+///
+/// The key is the distance upwards in cylinders.
 #[derive(Clone, Copy, Debug, Default, PartialEq, Eq)]
 pub struct Upwards;
 
-/// The soonest first passage first, as Worthington, Ganger and Patt study it (SIGMETRICS 1994).
+/// The request whose first sector begins to pass under the head soonest.
+///
+/// The key is that wait in ns. Worthington, Ganger and Patt study it (SIGMETRICS 1994).
 #[derive(Clone, Copy, Debug, Default, PartialEq, Eq)]
 pub struct Soonest;
 
-/// Shortest seek time first.
+/// Shortest seek time first, by distance in cylinders.
 pub type Sstf = Keyed<Nearest>;
 
-/// The circular elevator.
+/// The circular elevator (C-LOOK).
 pub type Clook = Keyed<Upwards>;
 
 /// Shortest positioning time first.

@@ -10,21 +10,23 @@ ghost use Rattle.fb_model.specs.Accepted.{IsRequestOf};
 use fb_service::Disk;
 use fb_units::{NoMemory, Ns, Request, Track};
 
-/// The requests that have joined and are not served yet.
+/// The requests that have joined and haven't been served.
 pub trait Queue: Drop {
-    /// In order of joining.
+    /// The pending requests, in order of joining.
     ghost pending: { Self → List Request };
 
-    /// How many were added so far.
+    /// How many requests have joined so far, served or not.
     ghost joined: { Self → ℕ };
 
-    /// What decides: the first request of least key is taken.
+    /// The key that decides: the first request with the least key is taken.
     ghost key: { Key };
 
-    /// What the queue keeps beside its requests holds on this disk.
+    /// What the queue keeps about its requests is true of this disk.
     ghost serves: { Self → Disk → Type 0 };
 
-    /// Adds a request behind all others. After `NoMemory` all is as before.
+    /// Adds a request behind all others.
+    ///
+    /// The only error is out of memory, after which nothing has changed.
     fn add(&mut self, disk: &Disk, request: Request) -> Result<(), NoMemory>
         requires few { joined self.old < 2 ^ 32 }
         requires serves { serves self.old disk.now }
@@ -35,7 +37,8 @@ pub trait Queue: Drop {
         ensures not_counted { OnErr result (joined self.new ≡ joined self.old) }
         ensures serves { serves self.new disk.now };
 
-    /// Takes out the first request of least key, when the head is on a track at a moment.
+    /// Takes out the first request with the least key, while the head is on this track at the
+    /// instant `now`, in ns.
     fn take(&mut self, disk: &Disk, head: Track, now: Ns) -> Request
         requires some { 0 < length (pending self.old) }
         requires serves { serves self.old disk.now }
@@ -46,9 +49,10 @@ pub trait Queue: Drop {
         ensures counted { joined self.new ≡ joined self.old }
         ensures serves { serves self.new disk.now };
 
+    /// Whether no request is pending.
     fn is_empty(&self) -> bool
         ensures { result ≡ (length (pending self.now) == 0) };
 
-    /// A queue in which none is pending serves any disk.
+    /// A queue with no pending request serves any disk.
     ghost serves_any: { (queue : Self) (disk : Disk) → pending queue ≡ [] → serves queue disk };
 }
