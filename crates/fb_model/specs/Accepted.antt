@@ -1,4 +1,4 @@
--- The inputs that a run is made from keep these rules.
+-- The rules that the inputs of a run have to keep.
 use Rattle.std.specs.Prelude.{◌≡◌, ◌+◌, ◌*◌, ◌^◌, ◌<◌, ◌≤◌, [], length, map}
 use Rattle.std.specs.List.{AllByRecursion, range_with_len}
 pub use Rattle.fb_units.specs.Rising.{IsRising}

@@ -50,22 +50,22 @@ is_closed [] task = false
 is_closed (called call blocks ∷ past) task = ((call.task == task) && is_close call.action) || is_closed past task
 is_closed (_ ∷ past) task = is_closed past task
 
--- the row is that of the task's segment of this number
+-- the row tells of the task's segment of this number
 abbrev pub is_segment_of : ℕ → ℕ → BackRow → Bool
 is_segment_of task number (SegmentLine row) = (row.task == task) && (row.segment == number)
 is_segment_of task number _ = false
 
--- the segment has its row
+-- the segment's row has been given
 abbrev pub is_reported : Past → ℕ → ℕ → Bool
 is_reported [] task number = false
 is_reported (tested rows ∷ past) task number = list_any (is_segment_of task number) rows || is_reported past task number
 is_reported (_ ∷ past) task number = is_reported past task number
 
--- the task's own block of that number: whatever block a task is asked of, it answers for one of its own
+-- the task's own block with that block's number: a task answers only for its own blocks
 abbrev pub own_of : ℕ → Block → Block
 own_of task block = record block { task = task }
 
--- what a task has to do, and how far it is
+-- what a task has to do, and how far it has come
 pub record Work : Type 0 where
   -- what it was opened with, and whether it was closed
   pub terms : Terms
@@ -79,7 +79,7 @@ pub record Work : Type 0 where
   pub bare : Block → State
   pub found : Block → List ContentRun
 
--- that of a task after a history
+-- the work of a task after a history
 abbrev pub work : Past → ℕ → Work
 work past task = record {
   terms = terms_of past task;
@@ -92,7 +92,7 @@ work past task = record {
   found = λ block. content_of past (own_of task block);
 }
 
--- a chosen segment of which each block is delivered
+-- each block of the chosen segment is delivered
 abbrev pub is_cleaned : Work → Choice → Bool
 is_cleaned work choice = list_all (λ block. is_delivered (work.bare block)) choice.blocks
 
@@ -100,7 +100,7 @@ is_cleaned work choice = list_all (λ block. is_delivered (work.bare block)) cho
 abbrev pub is_choice_of : LogSegment → Choice → Bool
 is_choice_of segment choice = choice.segment.number == segment.number
 
--- a segment is cleaned, or close dropped it or aborted a block of it
+-- the segment is done with: it is cleaned, or a close dropped it or aborted one of its blocks
 abbrev pub is_through : Work → Option Choice → Bool
 is_through work None = work.closed
 is_through work (Some choice) = is_cleaned work choice
@@ -110,7 +110,7 @@ is_through work (Some choice) = is_cleaned work choice
 abbrev pub is_over : State → Bool
 is_over state = is_delivered state || is_aborted state
 
--- a clean task has a segment, and each is through; any other has a block, and each is over
+-- a clean task is complete once it has a segment and is done with each; any other once it has a block, and each is delivered or aborted
 abbrev pub is_complete_as : Work → Kind → Bool
 is_complete_as work Clean = nat_lt 0 (length work.segments)
     && list_all (λ segment. is_through work (find (is_choice_of segment) work.choices)) work.segments
@@ -131,7 +131,7 @@ was_complete [] task = false
 was_complete (tested rows ∷ past) task = is_complete past task
 was_complete (_ ∷ past) task = was_complete past task
 
--- all that a history says of a task
+-- everything that a history says of a task
 pub record TaskView : Type 0 where
   pub work : Work
   pub open work use *

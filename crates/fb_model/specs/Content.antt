@@ -14,12 +14,12 @@ use Rattle.fb_rows.specs.declared.fore.ForeRow.{ForeRow}
 use Rattle.fb_model.specs.PlainReplay.{Served, media, finish}
 use Rattle.fb_model.specs.Inputs.{Inputs, served}
 
--- a passage by which a write leaves its number in a sector
+-- the passage of a sector in which a write leaves its number there
 pub record Written : Type 0 where
   pub writer : ℕ
   pub passage : Passage
 
--- the number of a request of the trace; promoted reads write nothing
+-- the number of a request of the trace; a promoted read writes nothing, so its 0 is never left anywhere
 abbrev pub number_of : Name → ℕ
 number_of (Traced number) = number
 number_of (Promoted number) = 0
@@ -42,7 +42,7 @@ abbrev pub content_by : Option Written → Content → Content
 content_by None before = before
 content_by (Some write) before = Filled write.writer
 
--- the write whose passage of the sector, among those that ended by t, ended last
+-- the last write whose passage of the sector has ended by t
 abbrev pub content : Medium → ℕ → ℕ → Content
 content medium lbn t = content_by
     (last_or None (filter (λ write. (write.passage.lbn == lbn) && nat_le write.passage.end t) medium.writes))
@@ -52,7 +52,7 @@ content medium lbn t = content_by
 abbrev pub contents_at : Medium → ℕ → ℕ → ℕ → List (ℕ × Content)
 contents_at medium lbn n t = map (λ sector. (sector, content medium sector t)) (range_with_len lbn n)
 
--- what a read finds, each sector at the beginning of its passage; a write finds nothing
+-- what a read finds: of each sector what it holds as its passage begins; a write finds nothing
 abbrev pub found : Medium → Served → List ContentRun
 found medium served = if served.request.write then []
     else runs_of (map (λ passage. (passage.lbn, content medium passage.lbn passage.begin)) served.passages)

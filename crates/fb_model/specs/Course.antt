@@ -25,7 +25,7 @@ pub record Delivery : Type 0 where
   pub got : DeliveryRow
   pub after : List BackRow
 
--- the background at one decision: the rows of its test, the plan (which only a served request has), the deliveries
+-- the background at one decision: the rows of its test, its plan (which only a served request has), and its deliveries
 pub record Part : Type 0 where
   pub settled : List BackRow
   pub plan : Plan
@@ -48,7 +48,7 @@ is_call _ = false
 abbrev pub calls_taken : Past → ℕ
 calls_taken past = length (filter is_call past)
 
--- the calls after the decision before and not after this one: those whose instant has come, but for those that have taken effect
+-- the calls that take effect at this decision: their instants have come, and they haven't taken effect yet
 abbrev pub calls_due : List Call → Past → ℕ → List Call
 calls_due calls past now = drop (calls_taken past) (filter (λ call. nat_le call.instant now) calls)
 
@@ -61,7 +61,7 @@ settled_past inputs past decision = with_choices inputs.disk.map
 abbrev pub with_delivery : Past → Delivery → Past
 with_delivery past delivery = tested delivery.after ∷ delivered delivery.got ∷ past
 
--- after the finish of the request that was served
+-- after the served request has finished
 abbrev pub with_finish : Past → Decision → Past
 with_finish past (serves served) = finished served.request ∷ past
 with_finish past _ = past
@@ -82,12 +82,12 @@ steps inputs parts = zip (decisions inputs) parts
 abbrev pub history : Inputs → List (Decision × Part) → Past
 history inputs steps = fold (past_after inputs) [] steps
 
--- each decision meets the condition, with what has happened before it
+-- each decision, with what has happened before it, meets the condition
 abbrev pub AtEach : (Past → Decision × Part → Type 0) → Inputs → Past → List (Decision × Part) → Type 0
 AtEach P inputs past [] = Unit {0}
 AtEach P inputs past (step ∷ steps) = P past step × AtEach P inputs (past_after inputs past step) steps
 
--- the gap row of the request that starts, or the idle row
+-- the gap row of the request that is served, or the idle row
 abbrev pub opening : Disk → Decision → Plan → List BackRow
 opening disk (serves served) plan = GapLine (record { name = served.request.name; gap = gap_of disk served; plan = plan }) ∷ []
 opening disk (idles dwell) plan = IdleLine dwell ∷ []

@@ -7,7 +7,7 @@ use Rattle.fb_rows.specs.declared.gap.Dwell.{Dwell}
 use Rattle.fb_model.specs.PlainReplay.{Served, finish, last_track, first_track}
 use Rattle.fb_model.specs.Inputs.{Inputs, requests, served}
 
--- from an instant on a request is served, the head stays on its track, or the run ends
+-- a decision: a request is served, the head stays on its track, or the run ends
 pub data Decision : Type 0 where
   serves : Served → Decision
   idles : Dwell → Decision
@@ -18,13 +18,13 @@ instant_of (serves served) = served.start
 instant_of (idles dwell) = dwell.begin
 instant_of (ends now) = now
 
--- when it is done
+-- when what was decided is over
 abbrev pub end_of : Decision → ℕ
 end_of (serves served) = finish served
 end_of (idles dwell) = dwell.end
 end_of (ends now) = now
 
--- an instant among others, which ascend
+-- an instant put in its place among ascending ones
 abbrev pub among : List ℕ → ℕ → List ℕ
 among [] instant = instant ∷ []
 among (first ∷ instants) instant = if nat_le first instant then first ∷ among instants instant else instant ∷ first ∷ instants
@@ -44,7 +44,7 @@ idle_until head now (instant ∷ instants) = if nat_lt now instant
 abbrev pub last_decision : Track → ℕ → ℕ → Decision
 last_decision head now until = if nat_lt now until then idles (record { track = head; begin = now; end = until }) else ends now
 
--- idle dwells up to each request's start, its service, and so on
+-- idle dwells up to a request's start, its service, idle dwells up to the next one's start, and so on
 unfoldable pub decisions_from : Disk → List ℕ → ℕ → Track → ℕ → List Served → List Decision
 decisions_from disk instants until head now [] = idle_until head now instants ++ last_decision head (fold max now instants) until ∷ []
 decisions_from disk instants until head now (served ∷ later) =

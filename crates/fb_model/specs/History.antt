@@ -26,7 +26,8 @@ pub record LogSegment : Type 0 where
   pub age : ℕ
   pub live : List Bool
 
--- a call takes effect, a task chooses a segment (both with the blocks that this registers), a test of completion gives rows, a block is delivered, a served request finishes
+-- what can happen: a call takes effect, a task chooses a segment (each with the blocks that it registers), a test of completion gives rows,
+-- a block is delivered, a served request finishes
 pub data Event : Type 0 where
   called : Call → List Block → Event
   chose : ℕ → LogSegment → List Block → Event
@@ -58,7 +59,7 @@ tasks (_ ∷ past) = tasks past
 abbrev pub task_numbers : Past → List ℕ
 task_numbers past = range_with_len 0 (length (tasks past))
 
--- what a task was opened with; asked of opened tasks alone, so the last argument stands for nothing
+-- what a task was opened with; only opened tasks are asked, so the last argument is never used
 abbrev pub terms_of : Past → ℕ → Terms
 terms_of past task = slice_index_or (tasks past) task (record { kind = Plain; weight = 1; block = 1 })
 
@@ -117,7 +118,7 @@ is_sealed (_ ∷ past) task = is_sealed past task
 abbrev pub is_open_backup : Past → ℕ → Bool
 is_open_backup past task = is_backup (terms_of past task).kind && not (is_sealed past task)
 
--- what an event makes of a block that was in the state before
+-- the state of a block after an event, from its state before
 abbrev pub state_after : Past → Event → Block → State → State
 state_after past event block before =
     if registers event block then Wanted
@@ -126,12 +127,13 @@ state_after past event block before =
     else if overwrites event block && is_delivered before && is_open_backup past block.task then Wanted
     else before
 
--- the state of a registered block, but for suspension; asked of registered blocks alone, so what stands for the beginning says nothing of a block
+-- the state of a registered block, leaving suspension aside; only registered blocks are asked, so what stands for the beginning doesn't
+-- matter
 unfoldable pub bare_state : Past → Block → State
 bare_state [] block = Wanted
 bare_state (event ∷ past) block = state_after past event block (bare_state past block)
 
--- what the last delivery of a block found; asked of delivered blocks alone
+-- what the last delivery of a block found; only delivered blocks are asked
 unfoldable pub content_of : Past → Block → List ContentRun
 content_of [] block = []
 content_of (delivered row ∷ past) block = if same_block row.block block then row.content else content_of past block

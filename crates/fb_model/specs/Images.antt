@@ -30,7 +30,7 @@ findings past row = if is_scrub (terms_of past row.block.task).kind
     then map (λ lbn. BadLine (record { task = row.block.task; lbn = lbn })) (bad_sectors row.content)
     else []
 
--- the contents at one instant of the blocks that are delivered
+-- what the delivered blocks of a task hold at one instant
 abbrev pub image : Medium → Past → ℕ → ℕ → List ContentRun
 image medium past task now = runs_of (flat_map (λ block. contents_at medium block.lbn block.count now)
     (filter (λ block. is_delivered ((work past task).bare block)) (blocks_of past task)))
@@ -40,16 +40,16 @@ abbrev pub begin_by : Event → Block → ℕ → ℕ
 begin_by (delivered row) block before = if same_block row.block block then row.begin else before
 begin_by _ block before = before
 
--- when the last delivery of a block began; asked of delivered blocks alone, so what stands for the beginning says nothing of a block
+-- when the last delivery of a block began; only delivered blocks are asked, so what stands for the beginning doesn't matter
 abbrev pub delivery_begin : Past → Block → ℕ
 delivery_begin [] block = 0
 delivery_begin (event ∷ past) block = begin_by event block (delivery_begin past block)
 
--- a segment's live blocks, each with its content when its delivery began
+-- a segment's live blocks, each with what it held as its delivery began
 abbrev pub packed : Medium → Past → Choice → List ContentRun
 packed medium past choice = runs_of (flat_map (λ block. contents_at medium block.lbn block.count (delivery_begin past block)) choice.blocks)
 
--- where the contents of seal and segment rows come from: the medium in a sound run, and the same again from what deliveries found
+-- where the contents of seal and segment rows come from: the disk in a sound run, or what the deliveries found, which is the same
 pub record Sources : Type 0 where
   pub image_at : Past → ℕ → ℕ → List ContentRun
   pub packed_for : Past → ℕ → Choice → List ContentRun
@@ -58,7 +58,7 @@ pub record Sources : Type 0 where
 abbrev pub on_disk : Medium → Sources
 on_disk medium = record { image_at = image medium; packed_for = λ past task. packed medium past }
 
--- cleaned, and without a row as yet
+-- cleaned, and its row hasn't been given
 abbrev pub is_newly_cleaned : Work → Choice → Bool
 is_newly_cleaned work choice = is_cleaned work choice && not (work.reported choice.segment.number)
 
@@ -74,13 +74,13 @@ seal_rows sources past now task = if is_open_backup past task && is_complete pas
     then SealLine (record { task = task; instant = now; content = sources.image_at past task now }) ∷ []
     else []
 
--- complete, and not at the test before
+-- a completion row stands where a task is complete and wasn't at the test before
 abbrev pub complete_rows : Past → ℕ → ℕ → List BackRow
 complete_rows past now task = if is_complete past task && not (was_complete past task)
     then CompleteLine (record { task = task; instant = now }) ∷ []
     else []
 
--- what a test of completion gives: the segments, and then task by task seal and completion
+-- the rows of a test of completion: all segment rows, and then task by task its seal and its completion
 unfoldable pub test_rows : Sources → Past → ℕ → List BackRow
 test_rows sources past now = flat_map (segment_rows sources past now) (task_numbers past)
     ++ flat_map (λ task. seal_rows sources past now task ++ complete_rows past now task) (task_numbers past)

@@ -14,7 +14,7 @@ use Rattle.fb_model.specs.FullRun.{IsFull}
 abbrev pub fore_known : ℕ → List ForeRow → List ForeRow
 fore_known t rows = filter (λ row. nat_le row.start t) rows
 
--- a row is known by t; a finding is if the delivery that it follows is
+-- a row is known by t; a finding is known if the delivery that it follows is
 abbrev pub is_known : ℕ → Bool → BackRow → Bool
 is_known t follows (GapLine row) = nat_le row.gap.now t
 is_known t follows (IdleLine row) = nat_le row.end t
@@ -25,7 +25,7 @@ is_known t follows (SegmentLine row) = nat_le row.instant t
 is_known t follows (CompleteLine row) = nat_le row.instant t
 is_known t follows (TaskLine row) = false
 
--- the next row follows a delivery that is known by t, with nothing but findings between
+-- the row behind this one follows a delivery that is known by t, with only findings between
 abbrev pub follows_known : ℕ → Bool → BackRow → Bool
 follows_known t follows (GotLine row) = nat_le row.end t
 follows_known t follows (BadLine row) = follows
@@ -42,7 +42,7 @@ known_from t follows (row ∷ rows) = only_if (is_known t follows row) row (know
 abbrev pub back_known : ℕ → List BackRow → List BackRow
 back_known t rows = known_from t false rows
 
--- a call, on whatever line of its script it stands
+-- a call, whatever line of its script it stands on
 abbrev pub without_line : Call → Call
 without_line call = record call { line = 0 }
 
@@ -59,11 +59,11 @@ pub record SameKnown (t : ℕ) (a b : Run) : Type 0 where
   pub fore : fore_known t a.fore ≡ fore_known t b.fore
   pub back : back_known t a.back ≡ back_known t b.back
 
--- on a disk without a fault nothing that is known by t depends on what comes after it
+-- on a disk without a fault, nothing that is known by t depends on what comes after t
 abbrev pub NoLookAhead : Type 0
 NoLookAhead = (a b : Inputs) (run_a run_b : Run) (t : ℕ) → IsSound a.disk.map → IsAccepted a → IsAccepted b → IsFull a run_a → IsFull b run_b
     → t < run_a.end → t < run_b.end → AgreeUpTo t a b → SameKnown t run_a run_b
 
--- accepted inputs have one full run at most
+-- accepted inputs have at most one full run
 abbrev pub OneFullRun : Type 0
 OneFullRun = (inputs : Inputs) (a b : Run) → IsAccepted inputs → IsFull inputs a → IsFull inputs b → a ≡ b

@@ -60,7 +60,7 @@ pub record IsFirstAt (rotation angle t instant : ℕ) : Type 0 where
 
 -- ---- the disk
 
--- an outline that is a disk: spares and grown defects are those of its layout, and it has no fault
+-- an outline is that of a disk: its spares and grown defects fit its layout, and it has no fault
 pub record IsDisk (disk : Shape) : Type 0 where
   pub fits : FitsLayout disk.layout disk
   pub faultless : first_fault disk ≡ None
@@ -70,7 +70,7 @@ abbrev pub PassagesBeginFirst : Type 0
 PassagesBeginFirst = (disk : Shape) (lbn t : ℕ) → IsDisk disk → lbn < length (places disk)
     → IsFirstAt disk.rotation (begin_angle disk (place_at disk lbn)) t (begin_from disk (place_at disk lbn) t)
 
--- each sector has a place of its own, and none that is bad
+-- each sector has a place of its own, and no place is bad
 abbrev pub PlacesAreOwn : Type 0
 PlacesAreOwn = (disk : Shape) → IsDisk disk → HasOwnPlaces disk
 
@@ -84,7 +84,7 @@ SectorsByZone = (disk : Shape) → IsDisk disk → length (places disk) ≡ sum_
 
 -- ---- the pick
 
--- the pick stands in the list, those before it have a greater key and those behind it no lesser one; the others keep their order
+-- the pick is one of the list; those before it have greater keys, those behind it none that is smaller; the others keep their order
 pub record IsFirstLeast (key : Request → ℕ) (requests : List Request) (pick : Request) (others : List Request) : Type 0 where
   pub front : List Request
   pub back : List Request
@@ -119,7 +119,7 @@ IsReadyPickOf key now requests (Some pick) = IsFirstReady key now requests pick.
 abbrev pub ReadyPicksAreFirstLeast : Type 0
 ReadyPicksAreFirstLeast = (key : Request → ℕ) (now : ℕ) (requests : List Request) → IsReadyPickOf key now requests (first_ready key now requests)
 
--- and nothing else is one
+-- there is no other pick
 abbrev pub OnePick : Type 0
 OnePick = (key : Request → ℕ) (requests : List Request) (pick : Request) (others : List Request)
     → IsFirstLeast key requests pick others → first_least key requests ≡ Some (pick, others)
@@ -176,13 +176,13 @@ pub record IsReadyAt (now : ℕ) (requests : List Request) (instant : ℕ) : Typ
   pub arrived : list_any (has_arrived instant) requests ≡ true
   pub first : (other : ℕ) → now ≤ other → list_any (has_arrived other) requests ≡ true → instant ≤ other
 
--- of the requests left the first of least key among those that have arrived is served, as soon as one has, and these others are left
+-- as soon as a request has arrived, the first of least key among those that have is served; the others are left
 pub record IsServedNext (disk : Disk) (key : Key) (head : Track) (now : ℕ) (left : List Request) (served : Served) (others : List Request) : Type 0 where
   pub start : IsReadyAt now left served.start
   pub pick : IsFirstReady (key disk head served.start) served.start left served.request others
   pub passes : served ≡ service disk head served.start served.request
 
--- so it goes on until none is left
+-- and so on until none is left
 abbrev pub FollowsRules : Disk → Key → Track → ℕ → List Request → List Served → Type 0
 FollowsRules disk key head now left [] = left ≡ []
 FollowsRules disk key head now left (served ∷ later) =
@@ -198,7 +198,7 @@ OnePlainReplay = (disk : Disk) (key : Key) (requests : List Request) → IsRisin
 
 -- ---- the best plan
 
--- a gap has one best plan at most
+-- a gap has at most one best plan
 abbrev pub OneBestPlan : Type 0
 OneBestPlan = (disk : Disk) (gap : Gap) (wanted : List Block) (a b : Plan) → IsBest disk gap wanted a → IsBest disk gap wanted b → a ≡ b
 

@@ -17,19 +17,19 @@ use Rattle.fb_service.specs.Service.{passages, media_of, finish_of}
 abbrev pub Key : Type 0
 Key = Disk → Track → ℕ → Request → ℕ
 
--- in order of joining
+-- first come, first served: all keys are equal, so that the order of joining decides
 abbrev pub fcfs : Key
 fcfs disk head now request = 0
 
--- the nearest cylinder
+-- shortest seek time first: the distance in cylinders
 abbrev pub sstf : Key
 sstf disk head now request = distance_of (track_at disk.map request.lbn).cylinder head.cylinder
 
--- the next cylinder upwards, and from the last one on at the first
+-- the circular elevator: how many cylinders upwards, with the first one behind the last
 abbrev pub clook : Key
 clook disk head now request = ((track_at disk.map request.lbn).cylinder + cylinders_of disk.map.zones - head.cylinder) % cylinders_of disk.map.zones
 
--- the soonest first passage
+-- shortest positioning time first: how long until the first sector begins to pass
 abbrev pub sptf : Key
 sptf disk head now request =
     begin_from disk.map (place_at disk.map request.lbn) (now + pos disk.mechanism head (track_at disk.map request.lbn) request.write) - now
@@ -64,7 +64,7 @@ service disk source start request = record {
 abbrev pub has_arrived : ℕ → Request → Bool
 has_arrived now request = nat_le request.arrival now
 
--- the pick of a request and those behind it, where best is the pick of those behind it: the pick and the others
+-- the pick from a request and those behind it, given the pick from those behind it: the pick, and the others
 abbrev pub better : (Request → ℕ) → Request → List Request → Option (Request × List Request) → Option (Request × List Request)
 better key request others None = Some (request, others)
 better key request others (Some best) = if nat_le (key request) (key best.0) then Some (request, others) else Some (best.0, request ∷ best.1)

@@ -1,4 +1,5 @@
--- Plans for a gap, what they catch, and the best one: freeblock scheduling (Lumb and others, OSDI 2000; Lumb, Schindler and Ganger, FAST 2002).
+-- Plans for a gap, what they catch, and the best one: freeblock scheduling (Lumb and others, OSDI 2000; Lumb, Schindler and Ganger, FAST
+-- 2002).
 use Rattle.std.specs.Prelude.{◌≡◌, ◌⊎◌, ℕ, ◌+◌, ◌-◌, ◌*◌, ◌%◌, ◌≤◌, ◌<◌, List, Bool, false, ◌&&◌, ◌||◌, nat_le, filter}
 use Rattle.std.specs.List.{sum_by}
 use Rattle.fb_units.specs.declared.types.Track.{Track}
@@ -15,7 +16,7 @@ use Rattle.fb_rows.specs.declared.gap.Dwell.{Dwell}
 use Rattle.fb_rows.specs.declared.gap.Plan.{Plan}
 use Rattle.fb_rows.specs.declared.gap.Plan.TheVariants.{Direct, Detour}
 
--- a way over another track, which leaves it at an instant and comes in time
+-- a detour over another track, which the head leaves at an instant so as to reach the target in time
 pub record IsDetour (disk : Disk) (gap : Gap) (track : Track) (leave : ℕ) : Type 0 where
   pub on_disk : IsTrackOf disk.map track
   pub not_source : same_track track gap.source ≡ false
@@ -61,7 +62,7 @@ value disk gap wanted plan = sum_by (λ block. block.weight * block.count) (filt
 abbrev pub IsTrackBefore : Track → Track → Type 0
 IsTrackBefore a b = (a.cylinder < b.cylinder) ⊎ ((a.cylinder ≡ b.cylinder) × (a.head < b.head))
 
--- which of two plans of one value is taken: direct before a detour, the lesser track, the lesser instant
+-- the order of ties between plans of the same value: direct plans before detours, then the smaller track, then the earlier leave
 abbrev pub IsNoLater : Plan → Plan → Type 0
 IsNoLater (Direct u) (Direct v) = u ≤ v
 IsNoLater (Direct u) (Detour d v) = Unit {0}

@@ -22,7 +22,7 @@ use Rattle.fb_model.specs.Decisions.{Decision, serves, idles, ends}
 abbrev pub gap_of : Disk → Served → Gap
 gap_of disk served = record { source = served.source; target = target disk served; now = served.start; deadline = media served; write = served.request.write }
 
--- the delivery of a block, each sector with its content at the beginning
+-- the delivery of a block, with what its sectors hold as its passage begins
 abbrev pub delivery : Medium → How → Block → ℕ → ℕ → DeliveryRow
 delivery medium how block begin end =
     let runs = runs_of (contents_at medium block.lbn block.count begin) in
@@ -33,7 +33,7 @@ abbrev pub is_before : ℕ → Block → ℕ → Block → Bool
 is_before end block other_end other = nat_lt end other_end
     || ((end == other_end) && (nat_lt block.task other.task || ((block.task == other.task) && nat_lt block.index other.index)))
 
--- a row among rows in order
+-- a row put in its place among rows in the order of delivery
 abbrev pub placed : List DeliveryRow → DeliveryRow → List DeliveryRow
 placed [] row = row ∷ []
 placed (first ∷ rows) row = if is_before row.end row.block first.end first.block then row ∷ first ∷ rows else first ∷ placed rows row
@@ -68,7 +68,7 @@ rides medium served blocks = if served.request.write then [] else in_order (map
     (λ block. delivery medium ByRide block (begin_at served.passages block.lbn) (end_at served.passages (block.lbn + block.count - 1)))
     (filter (lies_in served.request) blocks))
 
--- the early dwell, then the late dwell, then the ride, each of what is left
+-- what the early dwell catches, then the late dwell, then the ride, each from the blocks that are left
 abbrev pub due_in_gap : Medium → Served → Gap → Plan → List Block → List DeliveryRow
 due_in_gap medium served gap plan wanted =
     let early = early_dwell medium.disk gap plan in
@@ -76,7 +76,7 @@ due_in_gap medium served gap plan wanted =
     let left = missed medium.disk early wanted in
     caught medium ByGap early wanted ++ caught medium ByGap late left ++ rides medium served (missed medium.disk late left)
 
--- of the blocks that are wanted at a decision
+-- the deliveries that are due at a decision, given the blocks that are wanted there
 unfoldable pub due : Medium → Decision → Plan → List Block → List DeliveryRow
 due medium (serves served) plan wanted = due_in_gap medium served (gap_of medium.disk served) plan wanted
 due medium (idles dwell) plan wanted = caught medium ByIdle dwell wanted

@@ -1,4 +1,5 @@
--- The choice of segments, by benefit and cost (Rosenblum and Ousterhout, The Design and Implementation of a Log-Structured File System); ties are this project's.
+-- The choice of segments, by benefit and cost (Rosenblum and Ousterhout, The Design and Implementation of a Log-Structured File System);
+-- ties are this project's.
 use Rattle.std.specs.Prelude.{ℕ, zero, suc, ◌+◌, ◌-◌, ◌*◌, List, [], ◌∷◌, length, Bool, ◌&&◌, not, nat_lt, filter, if◌then◌else◌}
 use Rattle.std.specs.List.{list_any, fold, best_of}
 use Rattle.fb_geometry.specs.Shape.{Shape}
@@ -23,7 +24,7 @@ next_blocks past task cuts = numbered task (terms_of past task).weight (length (
 abbrev pub live_count : LogSegment → ℕ
 live_count segment = length (filter (λ live. live) segment.live)
 
--- greater benefit, (N - L) * age / (N + L)
+-- a greater ratio of benefit to cost, (N - L) * age / (N + L), compared by cross products
 abbrev pub is_better : LogSegment → LogSegment → Bool
 is_better a b = nat_lt ((b.blocks - live_count b) * b.age * (a.blocks + live_count a)) ((a.blocks - live_count a) * a.age * (b.blocks + live_count b))
 
@@ -35,18 +36,18 @@ is_chosen choices segment = list_any (is_choice_of segment) choices
 abbrev pub unchosen : Work → List LogSegment
 unchosen work = filter (λ segment. not (is_chosen work.choices segment)) work.segments
 
--- a chosen segment is unfinished
+-- one of the chosen segments isn't cleaned yet
 abbrev pub is_busy : Work → Bool
 is_busy work = list_any (λ choice. not (is_cleaned work choice)) work.choices
 
--- the task chooses the first segment of greatest benefit
+-- the task chooses the first segment with the greatest ratio
 abbrev pub choose_best : Shape → ℕ → Past → List LogSegment → Past
 choose_best disk task past [] = past
 choose_best disk task past (segment ∷ segments) =
     let best = best_of is_better segment segments in
     chose task best (next_blocks past task (live_cuts disk (terms_of past task).block best.first best.live)) ∷ past
 
--- if none that it has chosen is unfinished
+-- and only if all that it has chosen are cleaned
 abbrev pub choose_once : Shape → ℕ → Past → Past
 choose_once disk task past = if is_busy (work past task) then past else choose_best disk task past (unchosen (work past task))
 

@@ -35,7 +35,7 @@ IsPlanned inputs medium past step = HasPlan inputs.disk step.0 step.1.plan
 abbrev pub due_at : Inputs → Medium → Past → Decision × Part → List DeliveryRow
 due_at inputs medium past step = due medium step.0 step.1.plan (wanted (settled_past inputs past step.0))
 
--- the deliveries are some of those
+-- the deliveries are some of those that are due, in their order
 abbrev pub IsDelivered : Inputs → Medium → Past → Decision × Part → Type 0
 IsDelivered inputs medium past step = IsSublist (map (λ delivery. delivery.got) step.1.deliveries) (due_at inputs medium past step)
 
@@ -60,7 +60,7 @@ pub record IsSoundBy (inputs : Inputs) (parts : List Part) (run : Run) : Type 0 
   -- the foreground is the plain replay's
   pub fore : run.fore ≡ fore_rows inputs
   pub passed_over : run.passed_over ≡ inputs.passed_over
-  -- the head can go this way, and the run ends with its last row
+  -- the head can move like this, and the run ends with its last row
   pub possible : IsPossible inputs.disk (timeline inputs.disk run.back run.fore) run.end
   pub end : run.end ≡ run_end (decisions inputs)
   -- the background rows stand decision by decision, and then those of the tasks

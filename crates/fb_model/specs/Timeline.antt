@@ -30,7 +30,7 @@ way disk from to write now = if same_track from to then [] else move from to wri
 abbrev pub arrival : Disk → Gap → Track → ℕ → Piece
 arrival disk gap from leave = stay gap.target (leave + pos disk.mechanism from gap.target gap.write) gap.deadline
 
--- straight from the source to the target, or by a track that is another than both
+-- straight from the source to the target, or over a track that is neither
 abbrev pub gap_pieces : Disk → Gap → Plan → List Piece
 gap_pieces disk gap (Direct leave) = stay gap.source gap.now leave ∷ way disk gap.source gap.target gap.write leave ++ arrival disk gap gap.source leave ∷ []
 gap_pieces disk gap (Detour track leave) =
@@ -55,7 +55,7 @@ abbrev pub service_pieces : Disk → Gap → ForeRow → List Piece
 service_pieces disk gap row = passing disk gap.target gap.deadline row.request.write
     (passages disk gap.source gap.now row.request.write row.request.lbn row.request.count)
 
--- of the background rows in order, each gap with the next foreground row
+-- the whole way of the head, from the background rows in order, each gap row with the next foreground row
 unfoldable pub timeline : Disk → List BackRow → List ForeRow → List Piece
 timeline disk [] fore = []
 timeline disk (IdleLine dwell ∷ back) fore = stay dwell.track dwell.begin dwell.end ∷ timeline disk back fore
@@ -84,13 +84,13 @@ leaves_at (stay on begin end) = end
 leaves_at (move from to write begin end) = end
 leaves_at (pass lbn begin end) = end
 
--- when pieces that are possible end, from a track and an instant on
+-- when the pieces end, begun on a track at an instant; none if they aren't possible
 unfoldable pub led_to : Disk → Track → ℕ → List Piece → Option ℕ
 led_to disk track now [] = Some now
 led_to disk track now (piece ∷ pieces) = if can_follow disk track now piece
     then led_to disk (leaves_on disk piece) (leaves_at piece) pieces
     else None
 
--- the pieces are possible, from the first track and the instant 0 on, and end then
+-- the pieces are possible from the first track and the instant 0 on, and end at this instant
 abbrev pub IsPossible : Disk → List Piece → ℕ → Type 0
 IsPossible disk pieces end = led_to disk first_track 0 pieces ≡ Some end

@@ -2,36 +2,36 @@
 ghost use Rattle.fb_model.specs.Laws.{WaitsAreLeast, SlotsCoverRotation, AnglesHaveOneSlot, PassagesBeginFirst, PlacesAreOwn, SectorsByZone, PicksAreFirstLeast, ReadyPicksAreFirstLeast, OnePick, OneReadyPick, ForegroundListsAscend, ReplaysServeEachOnce, RequestsHaveOneRow, OnePlainReplay, OneBestPlan, ForegroundIsUntouched};
 ghost use Rattle.fb_model.specs.Known.{OneFullRun, NoLookAhead};
 
-/// The wait for an angle is the least one after which the platter stands there.
+/// The wait for an angle is the shortest after which the platter stands at it.
 pub fn waits_are_least()
     ensures { WaitsAreLeast }
 {}
 
-/// The slots of a track ascend from angle 0 and end with the rotation, each where the next begins,
-/// if there are no more of them than nanoseconds. Each angle lies in one of them alone.
+/// The slots of a track follow one another from angle 0 to the end of the rotation, if there are no
+/// more of them than a rotation has nanoseconds. Each angle lies in exactly one slot.
 pub fn slots_cover_rotation()
     ensures cover { SlotsCoverRotation }
     ensures one { AnglesHaveOneSlot }
 {}
 
-/// A sector's passage begins at the first instant from the given one on at which the platter stands
-/// at its slot's beginning.
+/// A sector's passage from an instant on begins at the first instant at which the platter stands at
+/// the beginning of the sector's slot.
 pub fn passages_begin_first()
     ensures { PassagesBeginFirst }
 {}
 
-/// No slot holds two sectors of a disk, and none that is bad holds one.
+/// No slot of a disk holds two sectors, and no bad slot holds any.
 pub fn places_are_own()
     ensures { PlacesAreOwn }
 {}
 
-/// A disk has the sectors of its zones, and a zone has as many on each of its cylinders.
+/// A disk has the sectors of its zones, and all cylinders of a zone have the same number.
 pub fn sectors_by_zone()
     ensures { SectorsByZone }
 {}
 
-/// The pick is the first request of least key, and the others keep their order. So it is too among
-/// the requests that have arrived. Nothing else is a pick.
+/// The pick is the first request with the least key, and the others keep their order. The same
+/// holds among the requests that have arrived. There is no other pick.
 pub fn picks_are_first_least()
     ensures all { PicksAreFirstLeast }
     ensures ready { ReadyPicksAreFirstLeast }
@@ -39,30 +39,30 @@ pub fn picks_are_first_least()
     ensures one_ready { OneReadyPick }
 {}
 
-/// The foreground list has each request of the trace and each read that was asked for once, in the
-/// order of their arrival.
+/// The foreground list has each request of the trace and each promoted read once, in the order of
+/// arrival.
 pub fn foreground_lists_ascend()
     ensures { ForegroundListsAscend }
 {}
 
 /// A plain replay serves each request once, none before it arrives, one after another. So each
-/// request has one row of the foreground.
+/// request has exactly one foreground row.
 pub fn replays_serve_each_once()
     ensures served { ReplaysServeEachOnce }
     ensures rows { RequestsHaveOneRow }
 {}
 
-/// The rules of service allow one list of services alone, which is the plain replay.
+/// Only one list of services follows the rules of service: the plain replay.
 pub fn one_plain_replay()
     ensures { OnePlainReplay }
 {}
 
-/// A gap has one best plan at most.
+/// A gap has at most one best plan.
 pub fn one_best_plan()
     ensures { OneBestPlan }
 {}
 
-/// Accepted inputs have one full run at most: it is determined to its last row.
+/// Accepted inputs have at most one full run: they determine it to its last row.
 pub fn one_full_run()
     ensures { OneFullRun }
 {}
@@ -73,8 +73,8 @@ pub fn foreground_is_untouched()
     ensures { ForegroundIsUntouched }
 {}
 
-/// No decision looks ahead: full runs of accepted inputs that agree up to an instant before both ends
-/// are the same in what is known by then, on a disk without a fault.
+/// No decision looks ahead: on a disk without a fault, the full runs of accepted inputs that agree
+/// up to an instant before both ends are the same in everything that is known by that instant.
 pub fn no_look_ahead()
     ensures { NoLookAhead }
 {}
