@@ -33,20 +33,20 @@ pub record IsTurning (disk : Disk) (turning : Turning) : Type 0 where
   pub slots : 0 < turning.stretch.count → turning.slots ≡ slots_at disk.map.zones turning.stretch.place.track.cylinder
   pub next : (i : ℕ) → i < turning.stretch.count → place_at disk.map (turning.lbn + i) ≡ neighbour disk.map turning.stretch.place i
 
--- the slots before this one begin by the latest instant, and those from it on later, as far as a block reaches that comes by next
+-- slots below this number begin by the latest instant and the others later, for all slots that the next passage of a block can reach
 pub record IsUntil (disk : Disk) (until : Until) : Type 0 where
   pub passing : IsTurning disk until.passing
   pub by : (slot : ℕ) → slot < until.slots → until.passing.from + slot_begin disk.map.rotation until.passing.slots slot ≤ until.latest + until.passing.at
   pub later : (slot : ℕ) → until.slots ≤ slot → slot < until.passing.first + 2 * until.passing.slots
       → until.latest + until.passing.at < until.passing.from + slot_begin disk.map.rotation until.passing.slots slot
 
--- those that pass whole while the head stays
+-- it decides which blocks pass whole during the dwell
 pub record IsOfDwell (disk : Disk) (dwell : Dwell) (until : Until) : Type 0 where
   pub tells : IsUntil disk until
   pub begin : until.passing.from ≡ dwell.begin
   pub end : until.latest ≡ dwell.end
 
--- the blocks of a track from an instant on, and those of the target
+-- the blocks of a dwell's track and of the target, as they pass from the begin of the dwell on
 pub record AreSides (disk : Disk) (target : Track) (entries : List Entry) (dwell : Dwell) (sides : Sides) : Type 0 where
   pub early : sides.early ≡ on_track dwell.track entries
   pub late : sides.late ≡ on_track target entries
@@ -54,10 +54,10 @@ pub record AreSides (disk : Disk) (target : Track) (entries : List Entry) (dwell
   pub from : sides.passing.from ≡ dwell.begin
   pub passing_late : IsTurning disk sides.passing_late
 
--- what a registered block adds to two dwells
+-- what a registered block adds to the value of a plan with these two dwells
 abbrev pub gain_by : Disk → Dwell → Dwell → Entry → ℕ
 gain_by disk early late entry = if is_wanted entry.state && (catches disk early entry.block || catches disk late entry.block) then entry.block.weight * entry.block.count else 0
 
--- where the head waits on a way, until the deadline at the latest
+-- the longest early dwell of a way: from the arrival to the deadline
 abbrev pub stay_of : Disk → Gap → Way → Dwell
 stay_of disk gap way = record { track = early_track gap way; begin = arrival disk gap way; end = gap.deadline }

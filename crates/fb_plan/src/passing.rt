@@ -11,7 +11,7 @@ use fb_service::Disk;
 use fb_units::{Ns, Track, wait_for};
 use fb_wanted::Block;
 
-// The angle at which a slot of the track begins.
+// The angle, in ns of rotation, at which a slot of the track begins.
 fn angle_of(disk: &Disk, track: Track, slot: u64) -> Ns
     requires track { IsTrackOf disk.now.map track }
     requires slot { slot ≤ 2 ^ 32 }
@@ -25,7 +25,7 @@ fn angle_of(disk: &Disk, track: Track, slot: u64) -> Ns
     slot * geometry.rotation() / slots as u64
 }
 
-// The first instant from t on at this angle.
+// The first instant from t on at which the platter stands at this angle, in ns.
 fn next_at(disk: &Disk, angle: Ns, t: Ns) -> Ns
     requires { t ≤ 10 ^ 19 }
     ensures value { result ≡ t + wait disk.now.map.rotation angle t }
@@ -35,7 +35,7 @@ fn next_at(disk: &Disk, angle: Ns, t: Ns) -> Ns
     t + wait_for(rotation, angle % rotation, t)
 }
 
-/// When the block's passage from t on begins.
+/// When the block's first sector next begins to pass from the instant `t` on, in ns.
 #[tactic(auto, unfolding(fb_service::specs::Passing::begin_from))]
 pub fn block_begin(disk: &Disk, block: Block, t: Ns) -> Ns
     requires fits { FitsDisk disk.now block }
@@ -47,7 +47,7 @@ pub fn block_begin(disk: &Disk, block: Block, t: Ns) -> Ns
     next_at(disk, angle_of(disk, place.track, place.slot as u64), t)
 }
 
-/// When it ends.
+/// When that passage of the block ends, in ns.
 pub fn block_end(disk: &Disk, block: Block, t: Ns) -> Ns
     requires fits { FitsDisk disk.now block }
     requires early { t ≤ 9 * 10 ^ 18 }
@@ -63,11 +63,13 @@ pub fn block_end(disk: &Disk, block: Block, t: Ns) -> Ns
 /// The two dwells of a plan.
 #[derive(Clone, Copy)]
 pub struct DwellPair {
+    /// On the source or on a detour's track, until the head leaves for the target.
     pub early: Dwell,
+    /// On the target, until the request's first sector begins to pass.
     pub late: Dwell,
 }
 
-/// Where the head stays in a plan.
+/// Where and how long the head stays by a plan.
 pub fn dwells(disk: &Disk, plan: Plan, gap: &Gap) -> DwellPair
     requires plan { IsPlan disk.now gap.now plan }
     requires gap { IsGap disk.now gap.now }

@@ -1,4 +1,5 @@
-// The search over leaves, ways and tracks: the best so far is at least as good as each plan that was passed.
+// The search over tracks and over the instants at which the head leaves. At each step the best plan
+// so far is at least as good as every plan behind it.
 ghost use Rattle.std.specs.Prelude.{◌≡◌, ◌+◌, ◌*◌, ◌≤◌, ◌<◌, ◌^◌, ℕ, true};
 ghost use Rattle.fb_geometry.specs.Shape.{IsTrackOf};
 ghost use Rattle.fb_model.specs.Plans.{IsPlan, block_end, early_dwell};
@@ -15,7 +16,7 @@ use fb_service::Disk;
 use fb_units::{Ns, Track};
 use fb_wanted::{Entry, Wanted};
 
-/// The plan of this way that leaves then.
+/// The plan that goes this way and leaves for the target at the instant `leave`, in ns.
 pub fn plan_by(way: Way, leave: Ns) -> Plan
     ensures { result ≡ plan_by way leave }
 {
@@ -25,6 +26,7 @@ pub fn plan_by(way: Way, leave: Ns) -> Plan
     }
 }
 
+// The track of the early dwell.
 fn early_track(gap: &Gap, way: Way) -> Track
     ensures { result ≡ early_track gap.entry.now way }
 {
@@ -34,6 +36,7 @@ fn early_track(gap: &Gap, way: Way) -> Track
     }
 }
 
+// When the head comes to the track of the early dwell, in ns.
 fn arrival(disk: &Disk, gap: &Gap, way: Way) -> Ns
     requires gap { IsGap disk.now gap.now }
     requires track { IsTrackOf disk.now.map (early_track gap.now way) }
@@ -46,7 +49,7 @@ fn arrival(disk: &Disk, gap: &Gap, way: Way) -> Ns
     }
 }
 
-/// How long the head then moves to the target.
+/// How long the move from there to the target takes, in ns, with the settle of a write.
 pub fn move_on(disk: &Disk, gap: &Gap, way: Way) -> Ns
     requires gap { IsGap disk.now gap.now }
     requires track { IsTrackOf disk.now.map (early_track gap.now way) }
@@ -58,6 +61,8 @@ pub fn move_on(disk: &Disk, gap: &Gap, way: Way) -> Ns
 }
 
 /// The plan with its value.
+///
+/// It looks up the blocks of both tracks; `try_plan` takes those that were looked up before.
 pub fn scored(disk: &Disk, wanted: &Wanted, gap: &Gap, plan: Plan) -> Scored
     requires plan { IsPlan disk.now gap.now plan }
     requires gap { IsGap disk.now gap.now }
@@ -71,7 +76,7 @@ pub fn scored(disk: &Disk, wanted: &Wanted, gap: &Gap, plan: Plan) -> Scored
     }
 }
 
-// The same by the blocks of its two tracks.
+// The same, from the blocks of the plan's two tracks.
 fn scored_by(disk: &Disk, wanted: &Wanted, gap: &Gap, sides: &Sides, plan: Plan) -> Scored
     requires plan { IsPlan disk.now gap.now plan }
     requires gap { IsGap disk.now gap.now }
@@ -109,7 +114,7 @@ pub fn try_plan(
     choose(best, scored_by(disk, wanted, gap, sides, plan))
 }
 
-/// Tries to leave when the passage of a wanted block ends.
+/// Tries the plan that leaves as a block's passage ends, if the block is wanted and there is time.
 pub fn try_entry(
     disk: &Disk,
     wanted: &Wanted,
@@ -142,7 +147,7 @@ pub fn try_entry(
     try_plan(disk, wanted, gap, sides, plan_by(way, end), best)
 }
 
-/// Where the head waits on this way, until the deadline at the latest.
+/// The longest early dwell of this way: from the arrival to the deadline.
 pub fn stay_of(disk: &Disk, gap: &Gap, way: Way) -> Dwell
     requires gap { IsGap disk.now gap.now }
     requires track { IsTrackOf disk.now.map (early_track gap.now way) }
@@ -156,7 +161,10 @@ pub fn stay_of(disk: &Disk, gap: &Gap, way: Way) -> Dwell
     }
 }
 
-// Tries all plans of a way.
+/// Tries all plans of a way.
+///
+/// It tries to leave on arrival and as each wanted block's passage ends: no other plan of this way
+/// is better.
 pub fn try_way(disk: &Disk, wanted: &Wanted, gap: &Gap, way: Way, start: Scored) -> Scored
     requires way { IsWay disk.now gap.now way }
     requires track { IsTrackOf disk.now.map (early_track gap.now way) }
@@ -179,7 +187,7 @@ pub fn try_way(disk: &Disk, wanted: &Wanted, gap: &Gap, way: Way, start: Scored)
     best
 }
 
-// Tries all plans over a track.
+// Tries all detours over a track; there is none over the source or the target.
 fn try_track(disk: &Disk, wanted: &Wanted, gap: &Gap, track: Track, start: Scored) -> Scored
     requires track { IsTrackOf disk.now.map track }
     requires gap { IsGap disk.now gap.now }
@@ -198,7 +206,7 @@ fn try_track(disk: &Disk, wanted: &Wanted, gap: &Gap, track: Track, start: Score
     try_way(disk, wanted, gap, Way::Over(track), start)
 }
 
-// Tries all plans over the tracks of a cylinder.
+/// Tries all detours over the tracks of a cylinder.
 pub fn try_cylinder(disk: &Disk, wanted: &Wanted, gap: &Gap, cylinder: u32, start: Scored) -> Scored
     requires cylinder { cylinder < disk.now.mechanism.cylinders }
     requires gap { IsGap disk.now gap.now }

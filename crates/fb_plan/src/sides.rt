@@ -10,20 +10,20 @@ use fb_service::Disk;
 use fb_units::Track;
 use fb_wanted::{TrackBlocks, Wanted};
 
-/// The blocks of the track where the head waits, and those of the target, and how they pass.
+/// The registered blocks of a plan's two tracks, and how they pass under the head.
 #[derive(Drop)]
 pub struct Sides<'a> {
-    /// Those of the track where the head waits.
+    /// The blocks on the track of the early dwell.
     pub early: TrackBlocks<'a>,
-    /// How they pass from its arrival on.
+    /// How these pass from the arrival on.
     pub passing: Turning,
-    /// Those of the target.
+    /// The blocks on the target.
     pub late: TrackBlocks<'a>,
-    /// How they pass from an instant on.
+    /// How those pass, from some instant on.
     pub passing_late: Turning,
 }
 
-/// The registered blocks of the track.
+/// The registered blocks of a track, wanted or not.
 pub fn blocks_on<'a>(disk: &Disk, wanted: &'a Wanted, track: Track) -> TrackBlocks<'a>
     requires blocks { AreOnDisk disk.now wanted.now }
     ensures its { result ≡ on_track track wanted.now }
@@ -33,7 +33,7 @@ pub fn blocks_on<'a>(disk: &Disk, wanted: &'a Wanted, track: Track) -> TrackBloc
     wanted.on(track)
 }
 
-/// Those of a dwell's track from its begin on, and those of the target.
+/// The blocks of a dwell's track and of the target, as they pass from the begin of the dwell on.
 pub fn sides_of<'a>(disk: &Disk, wanted: &'a Wanted, target: Track, dwell: Dwell) -> Sides<'a>
     requires blocks { AreOnDisk disk.now wanted.now }
     requires early { dwell.begin ≤ 9 * 10 ^ 18 }

@@ -9,15 +9,18 @@ use fb_rows::{Gap, Plan};
 use fb_service::Disk;
 use fb_wanted::Wanted;
 
-/// Chooses the plan of a gap: the best of all.
+/// Chooses the best plan of a gap.
 pub trait Planner {
+    /// The best plan: of greatest value, and of those the first in the order of ties.
+    ///
+    /// Direct plans come before detours, then the smaller track, then the earlier leave.
     fn best(&self, disk: &Disk, wanted: &Wanted, gap: &Gap) -> Plan
         requires gap { IsGap disk.now gap.now }
         requires blocks { AreOnDisk disk.now wanted.now }
         ensures { IsBest disk.now gap.entry.now (wanted_of wanted.now) result };
 }
 
-/// Tries every track, and on each the arrival and the ends of passages.
+/// Tries every track, leaving each on arrival and as the passage of each of its wanted blocks ends.
 #[derive(Clone, Copy)]
 pub struct SlowPlanner;
 

@@ -15,7 +15,7 @@ use fb_service::Disk;
 use fb_units::Track;
 use fb_wanted::{Entry, State, TrackBlocks, Wanted};
 
-/// Whether the state is that of a wanted block.
+/// Whether a block in this state may be delivered.
 pub fn is_wanted(state: State) -> bool
     ensures { result ≡ is_wanted state }
 {
@@ -27,7 +27,7 @@ pub fn is_wanted(state: State) -> bool
     }
 }
 
-// What the block adds to a plan with these dwells.
+// What one block adds to the value of a plan with these dwells: nothing where neither catches it.
 fn gain(disk: &Disk, pair: DwellPair, early: &Until, late: &Until, entry: Entry) -> u64
     requires fits { FitsDisk disk.now entry.block }
     requires early { IsOfDwell disk.now pair.early early.now }
@@ -47,6 +47,7 @@ fn gain(disk: &Disk, pair: DwellPair, early: &Until, late: &Until, entry: Entry)
     0
 }
 
+// Weight times sectors.
 fn worth(disk: &Disk, entry: Entry) -> u64
     requires { FitsDisk disk.now entry.block }
     ensures value { result ≡ entry.block.weight * entry.block.count }
@@ -55,7 +56,7 @@ fn worth(disk: &Disk, entry: Entry) -> u64
     entry.block.weight as u64 * entry.block.count as u64
 }
 
-// What the blocks of a track add to a plan with these dwells.
+// What the blocks of a track add to the value of a plan with these dwells.
 fn value_on(disk: &Disk, blocks: &TrackBlocks, pair: DwellPair, early: &Until, late: &Until) -> u64
     requires blocks { AreOnDisk disk.now blocks.now }
     requires early { IsOfDwell disk.now pair.early early.now }
@@ -70,7 +71,7 @@ fn value_on(disk: &Disk, blocks: &TrackBlocks, pair: DwellPair, early: &Until, l
     sum
 }
 
-// The value of a plan, by the blocks of its two tracks.
+/// The value of a plan, from the blocks of its two tracks.
 pub fn value_by(disk: &Disk, wanted: &Wanted, gap: &Gap, sides: &Sides, plan: Plan) -> u64
     requires plan { IsPlan disk.now gap.now plan }
     requires gap { IsGap disk.now gap.now }
@@ -93,7 +94,7 @@ pub fn value_by(disk: &Disk, wanted: &Wanted, gap: &Gap, sides: &Sides, plan: Pl
     sum + value_on(disk, &sides.late, pair, &early, &late)
 }
 
-/// The value of a plan.
+/// The value of a plan: weight times sectors, summed over the wanted blocks that it catches.
 pub fn plan_value(disk: &Disk, wanted: &Wanted, gap: &Gap, plan: Plan) -> u64
     requires plan { IsPlan disk.now gap.now plan }
     requires gap { IsGap disk.now gap.now }
@@ -110,7 +111,7 @@ pub fn plan_value(disk: &Disk, wanted: &Wanted, gap: &Gap, plan: Plan) -> u64
     )
 }
 
-/// Whether the two are one track.
+/// Whether both are the same track.
 pub fn is_same(a: Track, b: Track) -> bool
     ensures { result ≡ same_track a b }
 {

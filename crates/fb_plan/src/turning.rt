@@ -15,28 +15,31 @@ use fb_service::Disk;
 use fb_units::{Ns, Place, Track};
 use fb_wanted::{Block, TrackBlocks};
 
-/// How blocks pass from an instant on: neighbouring sectors by their slots, all others by their places.
+/// How the blocks of a track pass from an instant on.
 ///
-/// Slots are counted on over the turns: the slot behind the last of a turn is the first of the next turn.
+/// For a stretch of sectors in neighbouring slots the passages are known by slot number, without a
+/// look-up; all other sectors are looked up. Slot numbers go on counting over the turns: behind the
+/// last slot of a turn comes the first one of the next.
 #[derive(Clone, Copy)]
 pub struct Turning {
-    /// The instant.
+    /// The instant, in ns.
     pub from: Ns,
-    // Sectors in neighbouring slots, from this one on.
+    // The first sector of the stretch, and the stretch: sectors in neighbouring slots.
     lbn: u64,
     stretch: Stretch,
     rotation: Ns,
-    // How many slots their track has, the time that each has of a rotation, and what is then left of it.
+    // How many slots the track has, and a rotation divided by that number: quotient and rest, in
+    // ns.
     slots: u32,
     share: u32,
     rest: u32,
     // The angle at which the platter stands at the instant.
     at: Ns,
-    // The first slot that begins at that angle or behind it.
+    // The first slot that begins at that angle or later in the turn.
     first: u32,
 }
 
-// The number, less than twice n, without n.
+// The number modulo n, for a number less than twice n.
 fn wrapped(number: u32, n: u32) -> u32
     requires { number < 2 * n }
     ensures value { result ≡ number % n }
@@ -45,7 +48,7 @@ fn wrapped(number: u32, n: u32) -> u32
     if number < n { number } else { number - n }
 }
 
-// How many slots of n begin before the angle.
+// How many slots begin before the angle, with n slots a turn and angles up to three turns.
 fn slots_before(rotation: Ns, n: u32, angle: Ns) -> u32
     requires some { 0 < rotation }
     requires short { rotation ≤ 10 ^ 9 }
@@ -61,7 +64,7 @@ fn slots_before(rotation: Ns, n: u32, angle: Ns) -> u32
 }
 
 impl Turning {
-    /// How the blocks of a track pass from an instant on.
+    /// How these blocks of a track pass from the instant `from` on, in ns.
     pub fn new(disk: &Disk, blocks: &TrackBlocks, from: Ns) -> Turning
         requires blocks { AreOnDisk disk.now blocks.now }
         requires early { from ≤ 9 * 10 ^ 18 }
@@ -74,7 +77,7 @@ impl Turning {
         Turning::near(disk, blocks.get(0).block.lbn, from)
     }
 
-    /// The same from another instant on.
+    /// The same blocks, from another instant on.
     pub fn again(&self, disk: &Disk, from: Ns) -> Turning
         requires turning { IsTurning disk.now self.now }
         requires early { from ≤ 9 * 10 ^ 18 }
@@ -91,7 +94,7 @@ impl Turning {
         }
     }
 
-    // From an instant on, with the sectors of a stretch.
+    // From an instant on, with a stretch that begins at sector `lbn`.
     fn over(disk: &Disk, from: Ns, lbn: u64, stretch: Stretch, slots: u32) -> Turning
         requires early { from ≤ 9 * 10 ^ 18 }
         requires few { slots ≤ 10000 }
@@ -118,7 +121,7 @@ impl Turning {
         }
     }
 
-    // From an instant on, with the neighbours of a sector.
+    // From an instant on, with the stretch that begins at this sector.
     fn near(disk: &Disk, lbn: u64, from: Ns) -> Turning
         requires sector { lbn < length (places disk.now.map) }
         requires early { from ≤ 9 * 10 ^ 18 }
@@ -130,7 +133,7 @@ impl Turning {
         Turning::over(disk, from, lbn, stretch, slots)
     }
 
-    // The same with no neighbours.
+    // From an instant on, with an empty stretch: all sectors are looked up.
     fn alone(disk: &Disk, from: Ns) -> Turning
         requires early { from ≤ 9 * 10 ^ 18 }
         ensures turning { IsTurning disk.now result }
@@ -147,7 +150,8 @@ impl Turning {
         Turning::over(disk, from, 0, nothing, 1)
     }
 
-    // Where the block begins in the stretch. None where it doesn't lie in it.
+    // Where the block begins in the stretch, counted from 0; `None` where it doesn't lie in it
+    // whole.
     fn offset_of(&self, block: Block) -> Option<u64>
         requires { block.count ≤ 2048 }
         ensures { IfSome result (λ i. (block.lbn ≡ self.now.lbn + i) × (i + block.count ≤ self.now.stretch.count)) }
@@ -166,7 +170,7 @@ impl Turning {
         Some(first)
     }
 
-    // The first slot from the instant on in which a sector of the stretch comes by.
+    // The number of the first slot from the instant on in which sector `i` of the stretch passes.
     fn coming(&self, disk: &Disk, i: u64) -> u32
         requires turning { IsTurning disk.now self.now }
         requires inside { i < self.now.stretch.count }
@@ -183,7 +187,7 @@ impl Turning {
         }
     }
 
-    // The instant at which a slot begins.
+    // When the slot of this number begins, in ns.
     fn begin_of(&self, disk: &Disk, slot: u32) -> Ns
         requires turning { IsTurning disk.now self.now }
         requires from { self.now.first ≤ slot }
@@ -197,7 +201,7 @@ impl Turning {
         self.from + (shares + rests as u64 - self.at)
     }
 
-    // When the passage of a block of the stretch begins.
+    // When a block begins to pass whose first sector is number `i` of the stretch, in ns.
     fn begin_in(&self, disk: &Disk, block: Block, i: u64) -> Ns
         requires turning { IsTurning disk.now self.now }
         requires fits { FitsDisk disk.now block }
@@ -209,7 +213,7 @@ impl Turning {
         self.begin_of(disk, self.coming(disk, i))
     }
 
-    // When it ends.
+    // When its passage ends, in ns.
     fn end_in(&self, disk: &Disk, block: Block, i: u64) -> Ns
         requires turning { IsTurning disk.now self.now }
         requires fits { FitsDisk disk.now block }
@@ -221,7 +225,7 @@ impl Turning {
         self.begin_of(disk, self.coming(disk, i) + block.count)
     }
 
-    /// When the block's passage begins.
+    /// When the block's first sector begins to pass, in ns.
     pub fn begin(&self, disk: &Disk, block: Block) -> Ns
         requires turning { IsTurning disk.now self.now }
         requires fits { FitsDisk disk.now block }
@@ -234,7 +238,7 @@ impl Turning {
         }
     }
 
-    /// When it ends.
+    /// When the block's last sector has passed, in ns.
     pub fn end(&self, disk: &Disk, block: Block) -> Ns
         requires turning { IsTurning disk.now self.now }
         requires fits { FitsDisk disk.now block }
@@ -247,7 +251,7 @@ impl Turning {
         }
     }
 
-    /// Whether the block passes whole while the head stays from that instant on.
+    /// Whether the block passes whole during a dwell that begins at that instant.
     pub fn catches(&self, disk: &Disk, dwell: Dwell, block: Block) -> bool
         requires turning { IsTurning disk.now self.now }
         requires fits { FitsDisk disk.now block }
@@ -260,7 +264,7 @@ impl Turning {
         self.end(disk, block) <= dwell.end
     }
 
-    /// Which blocks pass whole up to an instant.
+    /// Which blocks pass whole by the instant `latest`, in ns.
     pub fn until(&self, disk: &Disk, latest: Ns) -> Until
         requires turning { IsTurning disk.now self.now }
         requires order { self.now.from ≤ latest }
@@ -278,19 +282,21 @@ impl Turning {
     }
 }
 
-/// Which blocks pass whole up to an instant: neighbouring sectors are known by their slots.
+/// Which blocks of a track pass whole by an instant.
+///
+/// Those of the stretch are decided by slot number, without a division.
 #[derive(Clone, Copy)]
 pub struct Until {
-    /// How they pass.
+    /// How the blocks pass.
     pub passing: Turning,
-    /// The instant.
+    /// The instant, in ns.
     pub latest: Ns,
-    // The first slot that begins later.
+    // The first slot that begins after it.
     slots: u32,
 }
 
 impl Until {
-    /// Whether the block's passage ends by the instant.
+    /// Whether the block's passage ends by then.
     pub fn passes(&self, disk: &Disk, block: Block) -> bool
         requires until { IsUntil disk.now self.now }
         requires fits { FitsDisk disk.now block }
@@ -303,7 +309,7 @@ impl Until {
         }
     }
 
-    /// Whether the block passes whole while the head stays.
+    /// Whether the block passes whole during the dwell that ends then.
     pub fn catches(&self, disk: &Disk, dwell: Dwell, block: Block) -> bool
         requires dwell { IsOfDwell disk.now dwell self.now }
         requires fits { FitsDisk disk.now block }
