@@ -17,7 +17,7 @@ pub use Rattle.fb_tasks.specs.Script.{IsCalled}
 use Rattle.fb_decide.specs.declared.background.Background.{Background}
 use Rattle.fb_decide.specs.Deliveries.{IsCurrent, followed}
 
--- calls that keep the rules one after another, by instant
+-- calls in order of instant, each of which keeps the rules behind those before it
 pub record IsScriptOf (disk : Shape) (calls : List Call) : Type 0 where
   pub instants : IsRising (map (λ call. call.instant) calls)
   pub allowed : AreAllowed disk [] calls
@@ -43,7 +43,7 @@ part_by disk calls past now plan gots = record {
   deliveries = followed (past_settled disk calls past now) gots;
 }
 
--- all calls up to now have taken effect, tasks have chosen, and all was tested
+-- all calls up to now have taken effect, the tasks have chosen segments, and all tasks were tested
 pub record HasSettled (disk : Shape) (calls : List Call) (past : Past) (now later : ℕ) (rows : List BackRow) (after : Background) : Type 0 where
   pub current : IsCurrent disk (past_settled disk calls past now) after
   pub called : IsCalled disk calls (past_settled disk calls past now) later

@@ -15,11 +15,11 @@ use Rattle.fb_model.specs.Rides.{lies_in, begin_at, end_at}
 use Rattle.fb_plan.specs.declared.catching.Catch.{Catch}
 use Rattle.fb_plan.specs.Order.{place_in}
 
--- the passage of a block whose sectors have these passages
+-- the passage of a block, from the passages of its sectors
 abbrev pub ride_of : List Passage → Block → Catch
 ride_of passages block = record { block = block; begin = begin_at passages block.lbn; end = end_at passages (block.lbn + block.count - 1) }
 
--- the blocks that a read carries, in order of delivery
+-- the blocks that a read carries, in the order of delivery
 unfoldable pub carried_of : List Passage → Request → List Block → List Catch
 carried_of passages request blocks = fold place_in [] (map (ride_of passages) (filter (lies_in request) blocks))
 

@@ -20,7 +20,7 @@ found_in holding request = if request.write then []
 abbrev pub left_by : Request → ℕ → Content → Content
 left_by request lbn before = if request.write then after_write request.lbn request.count (number_of request.name) lbn before else before
 
--- the row of a service, and of what it found
+-- the row tells of this service, and of what it found
 pub record IsRowOf (holding : Holding) (served : Served) (row : ForeRow) : Type 0 where
   pub request : row.request ≡ served.request
   pub start : row.start ≡ served.start

@@ -26,7 +26,7 @@ use Rattle.fb_decide.specs.Waiting.{left}
 use Rattle.fb_decide.specs.Deliveries.{IsCurrent, HasDelivered, HasServed, caught_in}
 use Rattle.fb_decide.specs.Calls.{HasSettled}
 
--- no sector of the disk passes in no time
+-- each sector of the disk takes some time to pass
 abbrev pub PassagesTakeTime : Shape → Type 0
 PassagesTakeTime disk = (lbn : ℕ) → lbn < length (places disk) → 0 < length_of disk (place_at disk lbn)
 
@@ -47,7 +47,7 @@ next_of (Some request) None = Some request.arrival
 next_of None (Some call) = Some call.instant
 next_of (Some request) (Some call) = Some (min request.arrival call.instant)
 
--- a request was served, from the track and the instant that stood before
+-- a request was served, from where the head was before and from that instant on
 pub record HasServedNext (disk : Disk) (request : Request) (before after : Course) : Type 0 where
   pub row : ForeRow
   pub is_row : IsRowOf before.store (service disk before.head before.now request) row
@@ -65,7 +65,7 @@ pub record HasServedNext (disk : Disk) (request : Request) (before after : Cours
   pub same_joined : after.joined ≡ before.joined
   pub same_called : after.called ≡ before.called
 
--- the stay from then until an instant
+-- the stay from now until an instant
 abbrev pub stay_of : Course → ℕ → Dwell
 stay_of course instant = record { track = course.head; begin = course.now; end = instant }
 
@@ -80,7 +80,8 @@ pub record HasStayed (disk : Disk) (instant : ℕ) (before after : Course) : Typ
   pub same_joined : after.joined ≡ before.joined
   pub same_called : after.called ≡ before.called
 
--- what is done with the requests that wait: the pick is served, or the head stays until the next instant or the end. Another decision follows, but for the last
+-- what a decision does: the pick of the waiting requests is served, or the head stays until the next instant or the end;
+-- another decision follows each but the last
 pub data HasActed (disk : Disk) (key : Key) (until : ℕ) (next : Option ℕ) (waiting : List Request) (before : Course) : Bool → List Request → Course → Type 0 where
   serves_pick : (request : Request) (others : List Request) (after : Course)
       → first_least (key disk before.head before.now) waiting ≡ Some (request, others) → HasServedNext disk request before after
@@ -92,11 +93,11 @@ pub data HasActed (disk : Disk) (key : Key) (until : ℕ) (next : Option ℕ) (w
   ends_here : waiting ≡ [] → next ≡ None → until ≤ before.now
       → HasActed disk key until next waiting before false waiting before
 
--- with the calls up to now taken, and the requests that have arrived joined
+-- the same with the background after the calls up to now, and with the requests that have joined
 abbrev pub prepared : Course → Background → ℕ → ℕ → Course
 prepared course background joined called = record course { background = background; joined = joined; called = called }
 
--- all that is due at an instant has taken effect: the calls up to now are taken, with their choices and tests, and the requests that have arrived wait
+-- all that is due at an instant has happened: calls have taken effect, with choices and tests, and the requests that have arrived wait
 pub record HasPrepared (disk : Disk) (requests : List Request) (calls : List Call) (past : Past) (before : Course) (pending : List Request)
     (background : Background) (joined called : ℕ) (waiting : List Request) : Type 0 where
   pub settled : HasSettled disk.map calls past before.now called before.background.rows background

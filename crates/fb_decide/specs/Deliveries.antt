@@ -39,13 +39,13 @@ caught_in disk holding how dwell blocks = in_order (map
     (λ block. delivery_in holding how block (block_begin disk.map block dwell.begin) (block_end disk.map block dwell.begin))
     (filter (catches disk dwell) blocks))
 
--- what a read carries of them
+-- what a read carries of these blocks
 abbrev pub rides_in : Holding → Served → List Block → List DeliveryRow
 rides_in holding served blocks = if served.request.write then [] else in_order (map
     (λ block. delivery_in holding ByRide block (begin_at served.passages block.lbn) (end_at served.passages (block.lbn + block.count - 1)))
     (filter (lies_in served.request) blocks))
 
--- the early dwell, then the late dwell, then the ride, each of what is left
+-- what the early dwell catches, then the late dwell, then the ride, each from the blocks that are left
 abbrev pub due_in : Disk → Holding → Served → Plan → List Block → List DeliveryRow
 due_in disk holding served plan wanted =
     let early = early_dwell disk (gap_of disk served) plan in
@@ -72,7 +72,7 @@ pub record IsCurrent (disk : Shape) (past : Past) (background : Background) : Ty
   pub tells : Tells disk past background.sessions background.wanted
   pub settled : IsSettled past
 
--- no block is one of those behind it
+-- no two blocks are the same
 abbrev pub AreDistinct : List Block → Type 0
 AreDistinct [] = Unit {0}
 AreDistinct (block ∷ blocks) = AllByRecursion (λ other. same_block block other ≡ false) blocks × AreDistinct blocks
@@ -88,13 +88,13 @@ pub record AreDue (past : Past) (gots : List DeliveryRow) : Type 0 where
   pub each : AllByRecursion (λ got. IsOneOf (wanted past) got.block) gots
   pub distinct : AreDistinct (map block_in gots)
 
--- these deliveries were made behind the rows
+-- these deliveries were made, and their rows added
 pub record HasDelivered (disk : Shape) (past : Past) (gots : List DeliveryRow) (rows : List BackRow) (after : Background) : Type 0 where
   pub current : IsCurrent disk (past_with past gots) after
   pub rows_after : after.rows ≡ rows ++ rows_of (followed past gots)
   pub registered : AllByRecursion (λ got. IsRegistered past got.block) gots
 
--- a request was served behind the rows, by the best plan for its gap
+-- a request was served by the best plan for its gap, and the background rows were added
 pub record HasServed (disk : Disk) (holding : Holding) (past : Past) (served : Served) (rows : List BackRow) (after : Background) : Type 0 where
   pub plan : Plan
   pub best : IsBest disk (gap_of disk served) (wanted past) plan

@@ -35,7 +35,7 @@ use Rattle.fb_decide.specs.Deciding.{PassagesTakeTime}
 abbrev pub Step : Type 0
 Step = Decision × Part
 
--- what a replay is given before its first decision alone: the latent sectors, the trace, and how many of its lines were passed over
+-- what a replay is given only once, before its first decision: the latent sectors, the trace, and how many of its lines were passed over
 pub record Given : Type 0 where
   pub latent : List ℕ
   pub trace : List Request
@@ -46,7 +46,7 @@ inputs_with given disk calls key until = record { disk = disk; latent = given.la
 
 -- ---- what one decision adds
 
--- a decision is planned, delivered and tested as a full run has it
+-- a decision's plan, deliveries and tests are those of a full run
 pub record IsMade (inputs : Inputs) (past : Past) (step : Step) : Type 0 where
   pub planned : IsPlanned inputs (medium_of inputs) past step
   pub best : IsBestPlanned inputs (medium_of inputs) past step
@@ -73,7 +73,7 @@ all_writes served = flat_map writes_of served
 abbrev pub held_after : List ℕ → List Served → ℕ → Content
 held_after latent done lbn = content_by (last_or None (filter (λ write. write.passage.lbn == lbn) (all_writes done))) (unwritten latent lbn)
 
--- these services were made, and those are left; what the first ones wrote has passed, and stands on the disk
+-- these services are done and those are left; what the first ones wrote is on the disk
 pub record Replayed (latent : List ℕ) (whole : List Served) (rest : List Served) (now : ℕ) (holding : Holding) (done : List Served) : Type 0 where
   pub all : done ++ rest ≡ whole
   pub ended : AllByRecursion (λ (write : Written). write.passage.end ≤ now) (all_writes done)
@@ -123,7 +123,7 @@ abbrev pub HasComeTo : Inputs → Bool → Course → List Request → ℕ → L
 HasComeTo inputs true course pending count steps = GoesOn inputs course pending count steps
 HasComeTo inputs false course pending count steps = HasEnded inputs course steps
 
--- what is known of the inputs
+-- what is assumed of the inputs
 pub record AreKnown (inputs : Inputs) : Type 0 where
   pub accepted : IsAccepted inputs
   pub list : IsTraceOf inputs.disk (requests inputs)
@@ -142,7 +142,7 @@ abbrev pub decisions_left : Inputs → Bool → Course → List Request → ℕ
 decisions_left inputs true course pending = length (decisions_by inputs course (rest_of inputs course pending))
 decisions_left inputs false course pending = 0
 
--- one decision more: its rows stand behind those before it
+-- one more decision: its rows stand behind those before it
 pub record HasMadeOne (inputs : Inputs) (steps : List Step) (more : Bool) (list : List Request) (before : Course) (pending : List Request) (after : Course) (pending_after : List Request) (count_after : ℕ) : Type 0 where
   pub step : Step
   pub is_made : IsMade inputs (history inputs steps) step

@@ -11,7 +11,7 @@ use Rattle.fb_model.specs.History.{Past, bare_state, content_of, is_open_backup}
 use Rattle.fb_model.specs.Images.{delivery_begin}
 use Rattle.fb_decide.specs.Deliveries.{IsRegistered, delivery_in}
 
--- from one instant to another each sector holds what it holds now
+-- between these instants each sector holds what the disk holds now
 abbrev pub Mirrors : Medium → Holding → ℕ → ℕ → Type 0
 Mirrors medium holding from to = (lbn t : ℕ) → from ≤ t → t ≤ to → content medium lbn t ≡ content_in holding lbn
 
@@ -22,7 +22,7 @@ pub record IsFoundIn (holding : Holding) (from to : ℕ) (got : DeliveryRow) : T
   pub order : got.begin ≤ got.end
   pub end : got.end ≤ to
 
--- each delivered block was found as it was when its passage began, and one of an open backup is so still
+-- each delivered block was found as it was when its passage began, and a block of an open backup is still the same
 pub record IsTrue (medium : Medium) (holding : Holding) (past : Past) : Type 0 where
   pub found : (block : Block) → IsRegistered past block → is_delivered (bare_state past block) ≡ true
       → content_of past block ≡ runs_of (contents_at medium block.lbn block.count (delivery_begin past block))

@@ -5,7 +5,7 @@ use Rattle.fb_units.specs.declared.types.Request.{Request}
 use Rattle.fb_service.specs.declared.disk.Disk.{Disk}
 use Rattle.fb_model.specs.Accepted.{IsRequestOf}
 
--- which requests have not been served: those that joined, and those that have not
+-- the requests that have not been served: those that wait, and those that haven't joined yet
 abbrev pub left : List Request → ℕ → List Request → List Request
 left requests next pending = pending ++ drop next requests
 

@@ -1,4 +1,4 @@
-// The background of a run: what is delivered, call by call and dwell by dwell.
+// The background of a run, and how deliveries change it.
 ghost use Rattle.std.specs.Prelude.{◌≡◌, ◌+◌, ◌*◌, ◌≤◌, ◌^◌, ℕ, [], ◌∷◌, ◌++◌, Some, map, slice_get, OnOk};
 ghost use Rattle.fb_geometry.specs.Shape.{Shape};
 ghost use Rattle.fb_model.specs.History.{Past, wanted};
@@ -14,16 +14,21 @@ use fb_units::NoMemory;
 use fb_wanted::Wanted;
 use std::alloc::Global;
 
-/// The tasks with their blocks, and the rows so far.
+/// The background between two events of a replay.
 #[derive(Drop)]
 pub struct Background {
+    /// The tasks, in order of opening.
     pub sessions: Sessions,
+    /// Their registered blocks, each with its state.
     pub wanted: Wanted,
+    /// The background rows that haven't been taken yet.
     pub rows: BackRows,
 }
 
 impl Background {
-    // Delivers a wanted block, with what its sectors hold now.
+    /// Delivers a wanted block with what its sectors hold now, and adds its rows.
+    ///
+    /// The only error is out of memory.
     pub fn deliver(
         &mut self,
         alloc: Global,
@@ -49,7 +54,9 @@ impl Background {
             .delivered(&mut self.wanted, got, &mut self.rows)
     }
 
-    // Delivers these catches one after another.
+    /// Delivers these blocks one after another.
+    ///
+    /// The only error is out of memory.
     pub fn deliver_all(
         &mut self,
         alloc: Global,
@@ -67,7 +74,9 @@ impl Background {
         Ok(())
     }
 
-    // Delivers what the head catches while it stays on a track.
+    /// Delivers all that the head catches in a dwell.
+    ///
+    /// The only error is out of memory.
     pub fn stay(
         &mut self,
         alloc: Global,
@@ -87,7 +96,9 @@ impl Background {
         self.deliver_all(alloc, store, how, catches.as_slice())
     }
 
-    // Delivers what the head catches while it has nothing else to do.
+    /// Adds the row of an idle dwell, and delivers all that the head catches in it.
+    ///
+    /// The only error is out of memory.
     pub fn idle(
         &mut self,
         alloc: Global,

@@ -1,4 +1,4 @@
-// One decision of a replay after another.
+// A replay, one decision after another.
 ghost use Rattle.std.specs.Prelude.{◌≡◌, ℕ, ◌-◌, ◌*◌, ◌<◌, ◌≤◌, ◌^◌, ◌++◌, List, [], Bool, true, false, length, take, Some, IfOk, OnOk, slice_get};
 ghost use Rattle.std.specs.List.{AllByRecursion};
 ghost use Rattle.fb_geometry.specs.Shape.{IsTrackOf};
@@ -35,20 +35,20 @@ use fb_wanted::Wanted;
 use std::alloc::Global;
 use std::mem;
 
-// What stands between two decisions, beside the requests that wait, and the rows that were not taken yet.
+// How far a replay has come between two decisions, but for the requests that wait.
 #[derive(Drop)]
 struct Course {
     store: Store,
     background: Background,
     fore: ForeRows,
-    // How many requests have joined, and how many calls have taken effect.
+    // How many requests have joined the queue, and how many calls have taken effect.
     joined: usize,
     called: usize,
     head: Track,
     now: Ns,
 }
 
-/// A replay between two decisions, with the rows that it has given and that were not taken yet.
+/// A replay between two decisions, with those of its rows that haven't been taken yet.
 #[derive(Drop)]
 pub struct Decider<Q: Queue> {
     requests: Vec<Request>,
@@ -56,16 +56,20 @@ pub struct Decider<Q: Queue> {
     course: Course,
 }
 
-/// Rows of both reports, in the order in which they were given.
+/// Rows of both reports, each in the order of its report.
 #[derive(Drop)]
 pub struct Rows {
+    /// Foreground rows, in order of service.
     pub fore: ForeRows,
+    /// Background rows.
     pub back: BackRows,
 }
 
 impl<Q: Queue> Decider<Q> {
-    /// Before the first decision. `latent` are the sectors that can't be read until a write passes
-    /// them. The queue has to be a new one. The only error is want of memory.
+    /// A replay before its first decision.
+    ///
+    /// `latent` are the LBNs of the sectors that can't be read until a write has passed them. The
+    /// queue must be new: empty, and never used. The only error is out of memory.
     pub fn new(
         alloc: Global,
         disk: &Disk,
@@ -94,9 +98,11 @@ impl<Q: Queue> Decider<Q> {
         })
     }
 
-    /// Makes the next decision, with the best plan in the gap of the request that it serves, and adds
-    /// its rows. Tells whether another decision follows. `until` is the instant, in nanoseconds, up to
-    /// which the head stays when nothing is left to do. The only error is want of memory.
+    /// Makes the next decision and adds its rows; returns whether another decision follows.
+    ///
+    /// A request that is served has the best plan for its gap. `until` is the instant, in ns, up to
+    /// which the head goes on reading background when nothing else is left to do. The only error is
+    /// out of memory, after which nothing is promised of the decider.
     pub fn decide<P: Planner>(
         &mut self,
         alloc: Global,
@@ -124,7 +130,9 @@ impl<Q: Queue> Decider<Q> {
         )
     }
 
-    /// Adds a row for each task, as it stands at the end.
+    /// Adds the row of each task, as it stands at the end.
+    ///
+    /// The only error is out of memory.
     pub fn add_task_rows(&mut self) -> Result<(), NoMemory>
         requires { (inputs : Inputs) × (steps : List Step) × HasMade inputs false steps self.old.requests.items self.old.course (Q.pending self.old.queue) (Q.joined self.old.queue) }
         ensures rows { OnOk result ((inputs : Inputs) (steps : List Step) → HasMade inputs false steps self.old.requests.items self.old.course (Q.pending self.old.queue) (Q.joined self.old.queue)
@@ -141,7 +149,7 @@ impl<Q: Queue> Decider<Q> {
         )
     }
 
-    /// The instant, in nanoseconds, at which the next decision is made, or the replay has ended.
+    /// The instant, in ns, at which the next decision is made, or at which the replay has ended.
     pub fn instant(&self) -> Ns
         ensures now { result ≡ self.now.course.now }
         ensures end { (inputs : Inputs) (steps : List Step) → HasMade inputs false steps self.now.requests.items self.now.course (Q.pending self.now.queue) (Q.joined self.now.queue) → result ≡ run_end (decisions inputs) }
@@ -149,7 +157,7 @@ impl<Q: Queue> Decider<Q> {
         self.course.now
     }
 
-    /// Takes the rows that were given since they were taken last.
+    /// Takes out the rows that were added since the last time.
     pub fn take_rows(&mut self, alloc: Global) -> Rows
         ensures fore { result.fore ≡ self.old.course.fore }
         ensures back { result.back ≡ self.old.course.background.rows }
@@ -166,7 +174,7 @@ impl<Q: Queue> Decider<Q> {
     }
 }
 
-// Nothing has happened yet.
+// The state in which nothing has happened yet. The only error is out of memory.
 fn at_start(alloc: Global, latent: &[u64]) -> Result<Course, NoMemory>
     ensures start { IfOk result (λ course. IsAtStart latent.now course) }
     ensures no_fore { IfOk result (λ course. course.fore ≡ []) }
@@ -190,7 +198,8 @@ fn at_start(alloc: Global, latent: &[u64]) -> Result<Course, NoMemory>
     })
 }
 
-// One decision: a request is served, or the head stays until the next instant or the end. Tells whether another one follows.
+// One decision: a request is served, or the head stays until something happens or the end is
+// reached. Returns whether another decision follows.
 fn advance<Q: Queue, P: Planner>(
     alloc: Global,
     disk: &Disk,
@@ -236,7 +245,7 @@ fn advance<Q: Queue, P: Planner>(
     }
 }
 
-// The first instant to come at which a request arrives or a call takes effect.
+// The next instant at which a request arrives or a call takes effect, in ns.
 fn next_instant(requests: &[Request], calls: &Calls, joined: usize, called: usize) -> Option<Ns>
     ensures { result ≡ next_of (slice_get requests.now joined) (slice_get calls.now.calls.items called) }
 {
@@ -248,7 +257,7 @@ fn next_instant(requests: &[Request], calls: &Calls, joined: usize, called: usiz
     }
 }
 
-// Serves the request that the queue takes.
+// Serves the request that the queue chooses.
 fn serve_next<Q: Queue, P: Planner>(
     alloc: Global,
     disk: &Disk,
@@ -284,7 +293,7 @@ fn serve_next<Q: Queue, P: Planner>(
     Ok(())
 }
 
-// Stays on the track until an instant.
+// The head stays on its track until an instant, in ns.
 fn stay_until(alloc: Global, disk: &Disk, course: &mut Course, instant: Ns) -> Result<(), NoMemory>
     requires current { (past : Past) × IsCurrent disk.now.map past course.old.background }
     requires early { course.old.now ≤ 9 * 10 ^ 18 }

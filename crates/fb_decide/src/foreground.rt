@@ -8,8 +8,9 @@ use fb_calls::{Calls, promoted};
 use fb_units::{NoMemory, Ns, Request};
 use std::alloc::Global;
 
-// The requests of the trace and the reads that calls ask for, in order of arrival; where two arrive together the
-// trace's come first.
+/// The requests of the trace and the reads that calls promote, in order of arrival.
+///
+/// Of those that arrive together the trace's come first. The only error is out of memory.
 pub fn foreground(alloc: Global, trace: &[Request], calls: &Calls) -> Result<Vec<Request>, NoMemory>
     requires arrivals { IsRising (map (λ request. request.arrival) trace.now) }
     requires instants { IsRising (map (λ call. call.instant) calls.now.calls.items) }
@@ -25,7 +26,7 @@ pub fn foreground(alloc: Global, trace: &[Request], calls: &Calls) -> Result<Vec
     Ok(requests)
 }
 
-// Adds the requests of the trace that have arrived, and answers which is next.
+// Adds the requests of the trace that have arrived; returns the place of the next one.
 fn push_arrived(
     requests: &mut Vec<Request>,
     trace: &[Request],

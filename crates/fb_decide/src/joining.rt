@@ -8,7 +8,9 @@ use fb_queue::Queue;
 use fb_service::Disk;
 use fb_units::{NoMemory, Ns, Request};
 
-// Adds the requests that have arrived, and answers how many have joined then.
+/// Adds the requests that have arrived to the queue; returns how many have joined by then.
+///
+/// The only error is out of memory.
 pub fn join_arrived<Q: Queue>(
     disk: &Disk,
     requests: &[Request],

@@ -1,8 +1,10 @@
 //! The replay, decision by decision.
 //!
-//! A `Decider` stands between two decisions. Each decision is the next one of the replay, with the best plan in the gap of
-//! the request that it serves, all deliveries that are due for it and the rows of their tests; its rows can be taken before
-//! the next one. It holds for every queue and every planner that meet their laws; nothing else of them is used.
+//! A `Decider` is a replay between two decisions. Its contracts give the layer above the next
+//! decision of a full run: the best plan for the gap of the request that it serves, all deliveries
+//! that are due, and the rows of their tests. The rows can be taken after each decision, so that
+//! none need be held. All this holds for every queue and every planner that keep the contracts of
+//! their traits. After an error nothing is promised of a decider.
 #![tactic(auto)]
 
 mod background;

@@ -1,4 +1,4 @@
-// What a foreground read carries.
+// The background blocks that a foreground read carries along.
 ghost use Rattle.std.specs.Prelude.{◌≡◌, ◌==◌, ◌+◌, ◌*◌, ◌≤◌, ◌<◌, ◌^◌, find, map, OnOk, IfOk};
 ghost use Rattle.std.specs.List.{AllByRecursion, fold};
 ghost use Rattle.fb_service.specs.Service.{passages};
@@ -22,7 +22,9 @@ use fb_wanted::{Block, Entry, Wanted};
 use std::alloc::Global;
 
 impl Background {
-    // Delivers the wanted blocks that a read carries, as its sectors pass in these extents.
+    /// Delivers the wanted blocks whose sectors a read reads anyway; a write carries none.
+    ///
+    /// `extents` are the request's sectors as they pass. The only error is out of memory.
     pub fn ride(
         &mut self,
         alloc: Global,
@@ -49,7 +51,7 @@ impl Background {
     }
 }
 
-// The wanted blocks that a read carries whole, with their passages, in order of delivery.
+// The wanted blocks that a read carries whole, with their passages, in the order of delivery.
 fn carried(
     alloc: Global,
     disk: &Disk,
@@ -93,7 +95,7 @@ fn add_carried(
     Ok(())
 }
 
-// Adds a registered block, if it is wanted and the read carries it from this extent on.
+// Adds a registered block, if it is wanted and the read carries it, beginning in this extent.
 fn add_ride(
     disk: &Disk,
     request: Request,
@@ -126,7 +128,7 @@ fn begins_in(extent: &Extent, block: Block) -> bool
     extent.first <= block.lbn && block.lbn < extent.first + extent.count as u64
 }
 
-// Whether all sectors of the block are the request's.
+// Whether the request reads all sectors of the block.
 fn lies_in(request: Request, block: Block) -> bool
     requires request { request.lbn + request.count ≤ 10 ^ 12 }
     requires block { block.lbn + block.count ≤ 10 ^ 12 }
@@ -151,7 +153,7 @@ fn ride_of(disk: &Disk, extents: &[Extent], block: Block) -> Catch
     }
 }
 
-// The passage of a sector, if it passes in one of the extents.
+// The passage of a sector, if one of the extents has it.
 fn passage_of(disk: &Disk, extents: &[Extent], lbn: u64) -> Option<Passage>
     requires { AreExtents disk.now.map extents.now }
     ensures { result ≡ find (λ passage. passage.lbn == lbn) (all_passages_of disk.now.map extents.now) }

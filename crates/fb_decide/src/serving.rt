@@ -1,4 +1,5 @@
-// The service of one request: its row, what the gap before it and its passages deliver, and what it leaves on the disk.
+// The service of one request: its row, what is delivered in its gap and along with it, and what it
+// leaves on the disk.
 ghost use Rattle.std.specs.Prelude.{◌≡◌, ℕ, ◌+◌, ◌-◌, ◌*◌, ◌<◌, ◌≤◌, ◌^◌, [], ◌∷◌, ◌++◌, length, IfOk, OnOk};
 ghost use Rattle.std.specs.List.{AllByRecursion, sum_by};
 ghost use Rattle.fb_geometry.specs.Shape.{Shape, IsTrackOf};
@@ -27,14 +28,18 @@ use fb_tasks::reads_change_nothing;
 use fb_units::{Name, NoMemory, Ns, Request, Track};
 use std::alloc::Global;
 
-// A served request: its row, and where the head stands then.
+/// A served request.
 #[derive(Drop)]
 pub struct Serving {
+    /// Its foreground row.
     pub row: ForeRow,
+    /// The track on which the head then is.
     pub head: Track,
 }
 
-// Serves a request from a track and an instant on.
+/// Serves a request, with the head on the track `head` at the instant `start`, in ns.
+///
+/// The only error is out of memory.
 pub fn serve_request<P: Planner>(
     alloc: Global,
     disk: &Disk,
@@ -105,7 +110,7 @@ pub fn serve_request<P: Planner>(
 }
 
 impl Background {
-    // Goes through a gap by a plan: delivers what its dwells catch.
+    // Goes through a gap by a plan, and delivers what its dwells catch.
     fn pass(
         &mut self,
         alloc: Global,
@@ -135,7 +140,7 @@ impl Background {
         self.stay(alloc, disk, store, How::Gap, pair.late)
     }
 
-    // A request has passed.
+    // A request has finished: blocks that a write has overwritten may be wanted again.
     fn finish(&mut self, request: Request)
         requires { (disk : Shape) × (past : Past) × Tells disk past self.old.sessions self.old.wanted }
         ensures tells { (disk : Shape) (past : Past) → Tells disk past self.old.sessions self.old.wanted → Tells disk (finished request ∷ past) self.new.sessions self.new.wanted }
@@ -149,7 +154,7 @@ impl Background {
     }
 }
 
-// What the request finds on the disk.
+// What a read finds on the disk; a write finds nothing. The only error is out of memory.
 fn found(alloc: Global, store: &Store, request: Request) -> Result<Contents, NoMemory>
     requires few { request.count ≤ 2048 }
     requires range { request.lbn + request.count ≤ 10 ^ 12 }
@@ -163,7 +168,7 @@ fn found(alloc: Global, store: &Store, request: Request) -> Result<Contents, NoM
     Ok(store.runs(alloc, request.lbn, request.count)?)
 }
 
-// What the request leaves on the disk.
+// Leaves on the disk what the request writes. The only error is out of memory.
 fn leave(store: &mut Store, request: Request) -> Result<(), NoMemory>
     requires { request.lbn + request.count ≤ 10 ^ 12 }
     ensures { OnOk result ((lbn : ℕ) → content_in store.new lbn ≡ left_by request lbn (content_in store.old lbn)) }
@@ -175,7 +180,7 @@ fn leave(store: &mut Store, request: Request) -> Result<(), NoMemory>
     Ok(())
 }
 
-// The number by which a request of the trace is known; promoted reads write nothing.
+// The number that a write leaves in its sectors; promoted reads write nothing.
 fn number(name: Name) -> u64
     ensures { result ≡ number_of name }
 {

@@ -1,4 +1,5 @@
-// What an instant settles before its decision: calls, choices of segments, and a test of all tasks.
+// What happens at an instant before its decision: calls, choices of segments, and a test of all
+// tasks.
 ghost use Rattle.std.specs.Prelude.{◌≡◌, ◌+◌, ◌≤◌, ◌<◌, length, IfOk, IfSome, slice_get};
 ghost use Rattle.std.specs.List.{fold};
 ghost use Rattle.fb_model.specs.History.{Past};
@@ -12,7 +13,7 @@ use fb_service::Disk;
 use fb_units::{NoMemory, Ns};
 
 impl Background {
-    // Lets the calls up to now take effect. Answers how many calls have then.
+    // Lets the calls up to now take effect; returns how many calls have taken effect by then.
     fn take_calls(
         &mut self,
         disk: &Disk,
@@ -38,7 +39,9 @@ impl Background {
         Ok(next)
     }
 
-    // Lets the calls up to now take effect and the tasks choose, and tests all. Answers how many calls have taken effect then.
+    /// Lets the calls up to now take effect and the tasks choose segments, and tests all tasks.
+    ///
+    /// Returns how many calls have taken effect by then. The only error is out of memory.
     pub fn settle(
         &mut self,
         disk: &Disk,

@@ -5,7 +5,7 @@ ghost use Rattle.fb_decide.specs.Deciding.{PassagesTakeTime};
 use fb_model::slots_cover_rotation;
 use fb_service::Disk;
 
-// A disk's outline has no fault, and each of its sectors takes some time to pass.
+/// A disk's outline has no fault, and each of its sectors takes some time to pass.
 pub fn disk_is_sound(disk: &Disk)
     ensures sound { IsSound disk.now.map }
     ensures takes_time { PassagesTakeTime disk.now.map }
