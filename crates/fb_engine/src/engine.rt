@@ -17,11 +17,12 @@ use fb_trace::Trace;
 use fb_units::{NoMemory, Ns};
 use std::alloc::Global;
 
-/// Replays a trace and a call script on a disk, by a queue's policy, with the best plan in every gap.
+/// Replays a trace and a call script on a disk, in a queue's order, with the best plan in every
+/// gap.
 ///
-/// `latent` are the sectors that can't be read until a write passes them, and `until` is the
-/// instant, in nanoseconds, up to which the head stays when nothing is left to do. The queue has
-/// to be a new one. The only error is want of memory.
+/// `latent` are the LBNs of the sectors that can't be read until a write has passed them. `until`
+/// is the instant, in ns, up to which the head goes on reading background when nothing else is left
+/// to do. The queue must be new: empty, and never used. The only error is out of memory.
 pub fn replay<Q: Queue, P: Planner>(
     alloc: Global,
     disk: &Disk,
