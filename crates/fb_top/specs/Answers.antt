@@ -9,7 +9,7 @@ use Rattle.fb_top.specs.Written.{KeepsReports}
 use Rattle.fb_top.specs.Causes.{HasCause}
 use Rattle.fb_top.specs.Make.{MakeHasCause}
 
--- words that are refused are a usage fault, unless memory is wanting
+-- words that are refused are a usage fault, unless memory runs out
 abbrev pub IsRefused : UsageFault → DeskView → DeskView → Outcome → Type 0
 IsRefused fault old new outcome = ((outcome ≡ outcomes.Usage fault) ⊎ (outcome ≡ outcomes.NoMemory)) × KeepsReports old new
 

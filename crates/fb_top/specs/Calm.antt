@@ -19,7 +19,7 @@ pub record IsCalm (old new : DeskView) : Type 0 where
   pub inputs : AreInputsCalm old new
   pub outputs : AreOutputsCalm old new
 
--- what was done has met no fault: a call that failed is not tried again
+-- a command that is done has met no fault: a call that failed is not tried again
 abbrev pub MeetsNoFault : Outcome → DeskView → DeskView → Type 0
 MeetsNoFault (outcomes.Done run) old new = IsCalm old new
 MeetsNoFault (outcomes.Made n) old new = IsCalm old new

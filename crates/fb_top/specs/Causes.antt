@@ -50,13 +50,13 @@ AcceptsBefore desk terms Params = Unit {0}
 AcceptsBefore desk terms Trace = AcceptsDisk desk terms.params
 AcceptsBefore desk terms Calls = AcceptsTrace desk terms
 
--- no input that comes behind this one was touched
+-- no input that is read after this one was touched
 abbrev pub KeepsLater : Input → DeskView → DeskView → Type 0
 KeepsLater Params old new = (new.inputs Trace ≡ old.inputs Trace) × (new.inputs Calls ≡ old.inputs Calls)
 KeepsLater Trace old new = new.inputs Calls ≡ old.inputs Calls
 KeepsLater Calls old new = Unit {0}
 
--- neither an input behind this one nor an output but the note was touched
+-- no input that is read after this one was touched, and no output but the note
 pub record EndsAt (input : Input) (old new : DeskView) : Type 0 where
   pub later : KeepsLater input old new
   pub reports : KeepsReports old new
@@ -86,7 +86,7 @@ pub record IsUnread (old new : DeskView) (terms : ReplayTerms) (input : Input) :
   pub given : is_some (name_of terms input) ≡ true
   pub rose : FaultsRose old new input
 
--- memory was wanting at an input, or behind all of them: those before it are accepted, and nothing behind it was touched
+-- memory ran out at an input, or after all of them: those before it are accepted, and nothing after it was touched
 pub record RunsOut (old new : DeskView) (terms : ReplayTerms) : Type 0 where
   pub input : Input
   pub before : AcceptsBefore old terms input

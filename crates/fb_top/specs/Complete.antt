@@ -12,7 +12,7 @@ use Rattle.fb_top.specs.Written.{OutputFaultsRose}
 use Rattle.fb_top.specs.Causes.{FaultsRose}
 use Rattle.fb_top.specs.Make.{MakeGoesWell, MakesAll}
 
--- what is held is told and accepted, and no count of faults rises but perhaps the note's
+-- the desk tells what each input holds, all are accepted, and no count of faults rises but perhaps the note's
 pub record GoesWell (old new : DeskView) (terms : ReplayTerms) : Type 0 where
   pub files : Files
   pub accepts : Accepts old terms files
@@ -23,7 +23,7 @@ pub record GoesWell (old new : DeskView) (terms : ReplayTerms) : Type 0 where
   pub fore : OutputFaultsRose old new Fore → ⊥
   pub back : OutputFaultsRose old new Back → ⊥
 
--- the replay was made, unless memory was wanting
+-- the replay was made, unless memory ran out
 abbrev pub IsMade : Outcome → Type 0
 IsMade (outcomes.Done run) = Unit {0}
 IsMade outcomes.NoMemory = Unit {0}

@@ -18,7 +18,7 @@ use Rattle.fb_top.specs.declared.outcome.Outcome.TheVariants as outcomes
 use Rattle.fb_top.specs.Read.{Files, Accepts, inputs_of, key_of}
 use Rattle.fb_top.specs.Written.{HoldsWhole, KeepsButBoth, CutsOff, CutsSecond, OutputFaultsRose}
 
--- the full run of the accepted files, whose disk has no fault and which keep the rules that laws of full runs ask of inputs
+-- the full run of the accepted files; their disk has no fault, and they keep the rules that laws of full runs ask of inputs
 pub record IsRunOf (desk : DeskView) (terms : ReplayTerms) (run : Run) : Type 0 where
   pub files : Files
   pub accepts : Accepts desk terms files
@@ -26,17 +26,17 @@ pub record IsRunOf (desk : DeskView) (terms : ReplayTerms) (run : Run) : Type 0 
   pub accepted : IsAccepted (inputs_of files (key_of terms.policy) terms.until)
   pub full : IsFull (inputs_of files (key_of terms.policy) terms.until) run
 
--- rows whose contents and tasks can be told
+-- rows whose contents and tasks a report can show
 pub record CanBeTold (names : List (List ℕ)) (run : Run) : Type 0 where
   pub fore : AllByRecursion HasRanges run.fore
   pub back : AllByRecursion HasBackRanges run.back
   pub named : AllByRecursion (HasNamedTask names) run.back
 
--- what the words want to be told of a run's foreground: its text, or the summary of the run
+-- what the words ask for of a run's foreground: its report, or the summary of the run
 abbrev pub fore_told : ReplayTerms → Files → Run → List ℕ
 fore_told terms files run = if terms.summary then summary_text run else fore_text files.disk.sector_bytes terms.bytes run
 
--- the text of its background
+-- and of its background: its report
 abbrev pub back_told : ReplayTerms → Files → Run → List ℕ
 back_told terms files run = back_text files.script.names files.disk.sector_bytes terms.bytes run
 
@@ -45,7 +45,7 @@ abbrev pub HoldsWanted : Option (List ℕ) → List ℕ → OutputView → Outpu
 HoldsWanted None text old new = new ≡ old
 HoldsWanted (Some name) text old new = HoldsWhole new name text
 
--- the foreground is told under the name `-`, the background under the name that the words give, if they give one, and nothing else was written
+-- the foreground is written under the name `-`, the background under the name that the words give, if any, and nothing else was written
 pub record HoldsReports (terms : ReplayTerms) (files : Files) (run : Run) (old new : DeskView) : Type 0 where
   pub others : KeepsButBoth Fore Back old new
   pub fore : HoldsWhole (new.outputs Fore) (codes "-") (fore_told terms files run)
@@ -55,7 +55,7 @@ pub record HoldsReports (terms : ReplayTerms) (files : Files) (run : Run) (old n
 abbrev pub CutsFore : ReplayTerms → Files → Run → DeskView → DeskView → Type 0
 CutsFore terms files run old new = CutsOff Fore (codes "-") (fore_told terms files run) old new
 
--- or the background, under the name that the words give, behind the whole foreground
+-- or the background was, under the name that the words give, after the whole foreground
 abbrev pub CutsBack : ReplayTerms → Files → Run → DeskView → DeskView → Type 0
 CutsBack terms files run old new = (name : List ℕ) × (terms.back ≡ Some name) × CutsSecond Fore Back (codes "-") (fore_told terms files run) name (back_told terms files run) old new
 

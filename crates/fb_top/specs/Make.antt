@@ -1,4 +1,4 @@
--- What a make writes, and why it has its answer.
+-- What a make writes, and why it ends as it does.
 use Rattle.std.specs.Prelude.{◌≡◌, ◌⊎◌, ℕ, List, [], ◌∷◌, length, true, is_some, Ok, codes}
 use Rattle.fb_geometry.specs.Places.{places}
 use Rattle.fb_service.specs.declared.disk.Disk.{Disk}
@@ -40,7 +40,7 @@ pub record CutsTrace (old new : DeskView) (terms : MakeTerms) : Type 0 where
   pub makes : AcceptsDisk old terms.params
   pub cut : CutsOff MadeTrace terms.trace (trace_text terms makes.disk) old new
 
--- or the script, behind the whole trace
+-- or the script was, after the whole trace
 pub record CutsCalls (old new : DeskView) (terms : MakeTerms) : Type 0 where
   pub makes : AcceptsDisk old terms.params
   pub cut : CutsSecond MadeTrace MadeCalls terms.trace (trace_text terms makes.disk) terms.calls (script_text makes.disk.map) old new
@@ -56,7 +56,7 @@ MakeHasCause terms old new (outcomes.WriteFault MadeCalls) = OutputFaultsRose ol
 MakeHasCause terms old new outcomes.NoMemory = KeepsReports old new ⊎ CutsTrace old new terms ⊎ CutsCalls old new terms
 MakeHasCause terms old new _ = ⊥
 
--- the parameter file is told and accepted, and no count of faults rises but perhaps the note's
+-- the desk tells what the parameter file holds, it is accepted, and no count of faults rises but perhaps the note's
 pub record MakeGoesWell (old new : DeskView) (terms : MakeTerms) : Type 0 where
   pub makes : AcceptsDisk old terms.params
   pub params_told : is_some (old.held terms.params) ≡ true
@@ -64,7 +64,7 @@ pub record MakeGoesWell (old new : DeskView) (terms : MakeTerms) : Type 0 where
   pub trace : OutputFaultsRose old new MadeTrace → ⊥
   pub calls : OutputFaultsRose old new MadeCalls → ⊥
 
--- as many requests as the words ask for were made, unless memory was wanting
+-- as many requests were made as the words ask for, unless memory ran out
 abbrev pub MakesAll : MakeTerms → Outcome → Type 0
 MakesAll terms (outcomes.Made n) = n ≡ terms.requests
 MakesAll terms outcomes.NoMemory = Unit {0}

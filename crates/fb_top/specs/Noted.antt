@@ -7,7 +7,7 @@ use Rattle.fb_top.specs.declared.outcome.Outcome.TheVariants as outcomes
 use Rattle.fb_top.specs.Streams.{IsFront}
 use Rattle.fb_top.specs.Notes.{note_of}
 
--- the whole line; nothing, where memory was wanting for it; or a front of it, where the count of faults rose
+-- the whole line; nothing, where memory ran out; or a front of it, where the count of faults rose
 abbrev pub IsNote : List ℕ → OutputView → OutputView → List ℕ → Type 0
 IsNote line old new bytes = (bytes ≡ line) ⊎ (bytes ≡ []) ⊎ (IsFront bytes line × Rose old.faults new.faults)
 

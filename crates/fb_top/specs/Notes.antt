@@ -72,7 +72,7 @@ calls_reason calls.BlockOutOfRange = codes "BlockOutOfRange"
 calls_reason calls.TooManyBlocks = codes "TooManyBlocks"
 calls_reason calls.TooMany = codes "TooMany"
 
--- why an outline is no disk
+-- why no disk has this geometry
 abbrev pub geometry_fault : GeometryFault → List ℕ
 geometry_fault geometry.OutOfRange = codes "OutOfRange"
 geometry_fault (geometry.ZonesNotContiguous index) = valued (codes "ZonesNotContiguous") (decimal index)
@@ -84,7 +84,7 @@ geometry_fault (geometry.GrownOutside place) = valued (codes "GrownOutside") (pl
 geometry_fault (geometry.GrownTwice place) = valued (codes "GrownTwice") (place_text place)
 geometry_fault (geometry.TooManyInCylinder cylinder) = valued (codes "TooManyInCylinder") (decimal cylinder)
 
--- why a seek table is none
+-- why a seek table is refused
 abbrev pub seek_fault : SeekFault → List ℕ
 seek_fault seek.NoPoints = codes "NoPoints"
 seek_fault seek.FirstNotOne = codes "FirstNotOne"

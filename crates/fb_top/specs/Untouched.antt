@@ -1,4 +1,5 @@
--- Laws of runs that were answered: what background work leaves as it is, that inputs have one run, and that no decision looks ahead.
+-- Laws of the runs that the top call returns: background work leaves the foreground as it is, inputs have one run, and no decision looks
+-- ahead.
 use Rattle.std.specs.Prelude.{◌≡◌, ℕ, ◌<◌, List, Some, IfSome}
 use Rattle.fb_rows.specs.declared.run.Run.{Run}
 use Rattle.fb_model.specs.Foreground.{promoted}
@@ -23,7 +24,7 @@ ScriptsLeaveForeground = (one other : DeskView) (terms others : ReplayTerms) (ru
     → terms.policy ≡ others.policy → AskForOneForeground is_run.files is_other.files
     → fore_text is_run.files.disk.sector_bytes bytes run ≡ fore_text is_other.files.disk.sector_bytes bytes run'
 
--- both desks tell the same bytes under a name
+-- both desks hold the same bytes under a name
 abbrev pub HoldAlike : DeskView → DeskView → List ℕ → Type 0
 HoldAlike one other name = (bytes : List ℕ) × (one.held name ≡ Some bytes) × (other.held name ≡ Some bytes)
 

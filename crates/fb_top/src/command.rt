@@ -26,14 +26,15 @@ use std::alloc::Global;
 
 /// Does what the words of a command line ask for; the first word is the program's name.
 ///
-/// A replay reads the parameter file whole, then the trace, then the call script where the words
-/// name one, each once and each judged before the next, and nothing is written before all are
-/// accepted. Then the foreground report, or the summary where one is wanted, goes to the output
-/// `Fore`, under the name `-`, and behind it the background report, where one is wanted, to the
-/// output `Back`, under the name that the words give. A make reads the parameter file, and then
-/// writes a trace and a call script that are accepted with it. Where a command fails, a line that
-/// says why goes to the output `Note`, under the name `-`; whether it is written changes nothing in
-/// the outcome. The desk must be unused.
+/// A replay reads the parameter file whole, then the trace, then the call script if the words name
+/// one. Each is read once, and judged before the next is opened; nothing is written before all are
+/// accepted. Then the foreground report, or the summary if the words ask for it, goes to the output
+/// `Fore` under the name `-`. After it the background report, if the words name one, goes to the
+/// output `Back` under that name. A make reads the parameter file, and writes a trace and a call
+/// script that are accepted for that disk.
+///
+/// Where a command fails, a line that says why goes to the output `Note` under the name `-`; the
+/// outcome is the same whether that line can be written or not. The desk must be unused.
 pub fn run_command<D: Desk>(alloc: Global, desk: &mut D, words: &[String]) -> Outcome
     requires { IsUnused (D.seen desk.old) }
     ensures answers { AnswersWords (command_of (map string_bytes words.now)) (D.seen desk.old) (D.seen desk.new) result }
@@ -48,8 +49,8 @@ pub fn run_command<D: Desk>(alloc: Global, desk: &mut D, words: &[String]) -> Ou
     outcome
 }
 
-/// Does what the words of a command line ask for, as `run_command` does, and answers the exit
-/// status of its outcome: 0 where all was written, and else 2 to 9.
+/// Does the same as `run_command`, and returns the exit status of its outcome: 0 where all was
+/// written, and otherwise 2 to 9.
 pub fn run<D: Desk>(alloc: Global, desk: &mut D, words: &[String]) -> u8
     requires { IsUnused (D.seen desk.old) }
     ensures { EndsWith (command_of (map string_bytes words.now)) (D.seen desk.old) (D.seen desk.new) result }

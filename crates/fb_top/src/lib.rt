@@ -1,7 +1,11 @@
-//! The top call: it reads the words, then the inputs that they name, replays, and writes the reports.
+//! The top call: it reads the words, then the inputs that they name, replays, and writes the
+//! reports.
 //!
-//! `run_command` answers with an outcome, and each outcome has its cause among what was read and
-//! among the desk's counts of faults; what was written are the texts of the very run that it answers.
+//! Files are reached through a `Desk` (`fb_desk`). `run_command` returns an outcome. Its contract
+//! says that each outcome has its cause, in what was read or in a call of the desk that failed;
+//! that the texts written are those of the very run that it returns; and that a command whose
+//! inputs are accepted and whose calls don't fail is done, unless it runs out of memory. It doesn't
+//! promise how long a run takes.
 #![tactic(auto)]
 
 mod command;

@@ -7,19 +7,21 @@ use fb_rows::Run;
 use fb_units::NoMemory;
 use std::alloc::Global;
 
-/// A text in lines, each of which is made when it is asked for.
+/// A text in lines, each of which is made only when it is asked for.
 pub trait Lines {
     /// The lines in order.
     ghost lines: { Self → List (List ℕ) };
 
-    /// What must hold so that they can be told.
+    /// What must hold so that each line can be made.
     ghost can_be_told: { Self → Type 0 };
 
-    /// How many there are.
+    /// How many lines there are.
     fn count(&self) -> u64
         ensures { result ≡ length (lines self.now) };
 
-    /// The one at a place from 0, with its line feed.
+    /// The line at a place, counted from 0, with its line feed.
+    ///
+    /// The only error is out of memory.
     fn line(&self, alloc: Global, place: u64) -> Result<Vec<u8>, NoMemory>
         requires told { can_be_told self.now }
         requires inside { place < length (lines self.now) }
@@ -29,8 +31,11 @@ pub trait Lines {
 /// The lines of the foreground report.
 #[derive(Clone, Copy)]
 pub struct ForeLines<'a> {
+    /// The run that the report tells of.
     pub run: &'a Run,
+    /// The size of a sector in bytes, a multiple of 16.
     pub sector_bytes: u32,
+    /// How the bytes of reads are shown.
     pub bytes: Bytes,
 }
 
@@ -56,9 +61,13 @@ impl Lines for ForeLines<'_> {
 /// The lines of the background report.
 #[derive(Clone, Copy)]
 pub struct BackLines<'a> {
+    /// The run that the report tells of.
     pub run: &'a Run,
+    /// The names of the tasks, in order of opening.
     pub names: &'a Names,
+    /// The size of a sector in bytes, a multiple of 16.
     pub sector_bytes: u32,
+    /// How the bytes of deliveries are shown.
     pub bytes: Bytes,
 }
 

@@ -1,4 +1,4 @@
-// A trace and a call script that are made for a disk.
+// The command that makes a trace and a call script for a disk.
 ghost use Rattle.std.specs.Prelude.{◌≡◌, ◌≤◌, ◌^◌, false, OnOk, IfErr};
 ghost use Rattle.std.specs.String.{string_bytes};
 ghost use Rattle.fb_desk.specs.View.{IsUnused};
@@ -25,7 +25,7 @@ use fb_units::NoMemory;
 use fb_words::MakeWords;
 use std::alloc::Global;
 
-// Writes a trace and a call script for the disk of a parameter file.
+/// Writes a trace and a call script for the disk of a parameter file.
 pub fn run_make<D: Desk>(alloc: Global, desk: &mut D, words: &MakeWords) -> Outcome
     requires unused { IsUnused (D.seen desk.old) }
     requires limits { IsWithinLimits (makes (make_terms words.now)) }
@@ -53,7 +53,7 @@ pub fn run_make<D: Desk>(alloc: Global, desk: &mut D, words: &MakeWords) -> Outc
     }
 }
 
-// Writes the trace for a disk of so many sectors, line by line.
+// Writes the trace for a disk with this number of sectors, line by line.
 fn write_trace<D: Desk>(
     alloc: Global,
     desk: &mut D,

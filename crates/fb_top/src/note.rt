@@ -11,8 +11,9 @@ use fb_desk::{Input, Output};
 use fb_units::NoMemory;
 use std::alloc::Global;
 
-/// The line that says why a command has no report; it ends in a line feed. Where there is a
-/// report it is empty.
+/// The line that says why a command has no report, with its line feed; empty where there is one.
+///
+/// The only error is out of memory.
 pub fn note_text(alloc: Global, outcome: &Outcome) -> Result<Vec<u8>, NoMemory>
     ensures { IfOk result (λ text. text.items ≡ note_of outcome.now) }
 {
@@ -59,7 +60,7 @@ fn push_cause(text: &mut Vec<u8>, outcome: &Outcome) -> Result<(), NoMemory>
     }
 }
 
-// Adds what befell an input.
+// Adds what went wrong with an input.
 fn push_input(text: &mut Vec<u8>, what: &str, input: Input) -> Result<(), NoMemory>
     ensures { OnOk result (text.new.items ≡ text.old.items ++ (what.now ++ input_text input)) }
 {
@@ -71,7 +72,7 @@ fn push_input(text: &mut Vec<u8>, what: &str, input: Input) -> Result<(), NoMemo
     }
 }
 
-// Adds what befell an output.
+// Adds what went wrong with an output.
 fn push_output(text: &mut Vec<u8>, what: &str, output: Output) -> Result<(), NoMemory>
     ensures { OnOk result (text.new.items ≡ text.old.items ++ (what.now ++ output_text output)) }
 {

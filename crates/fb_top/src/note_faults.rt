@@ -1,4 +1,4 @@
-// Faults in the words of a note.
+// The part of a note that names a fault.
 ghost use Rattle.std.specs.Prelude.{◌≡◌, ◌++◌, OnOk};
 ghost use Rattle.fb_top.specs.Notes.{usage_reason, trace_reason, calls_reason, geometry_fault, seek_fault, params_fault};
 
@@ -13,7 +13,7 @@ use fb_trace::TraceReason;
 use fb_units::NoMemory;
 use fb_words::UsageReason;
 
-// Adds why a word is refused.
+/// Adds why a word of the command line is refused. The only error is out of memory.
 pub fn push_usage_reason(text: &mut Vec<u8>, reason: UsageReason) -> Result<(), NoMemory>
     ensures { OnOk result (text.new.items ≡ text.old.items ++ usage_reason reason) }
 {
@@ -31,7 +31,7 @@ pub fn push_usage_reason(text: &mut Vec<u8>, reason: UsageReason) -> Result<(), 
     }
 }
 
-// Adds why a line of a trace is refused.
+/// Adds why a line of a trace is refused. The only error is out of memory.
 pub fn push_trace_reason(text: &mut Vec<u8>, reason: TraceReason) -> Result<(), NoMemory>
     ensures { OnOk result (text.new.items ≡ text.old.items ++ trace_reason reason) }
 {
@@ -47,7 +47,7 @@ pub fn push_trace_reason(text: &mut Vec<u8>, reason: TraceReason) -> Result<(), 
     }
 }
 
-// Adds why a line of a script is refused.
+/// Adds why a line of a call script is refused. The only error is out of memory.
 pub fn push_calls_reason(text: &mut Vec<u8>, reason: CallsReason) -> Result<(), NoMemory>
     ensures { OnOk result (text.new.items ≡ text.old.items ++ calls_reason reason) }
 {
@@ -73,7 +73,7 @@ pub fn push_calls_reason(text: &mut Vec<u8>, reason: CallsReason) -> Result<(), 
     }
 }
 
-// Adds why a parameter file is refused.
+/// Adds why a parameter file is refused. The only error is out of memory.
 pub fn push_params_fault(text: &mut Vec<u8>, fault: &ParamsFault) -> Result<(), NoMemory>
     ensures { OnOk result (text.new.items ≡ text.old.items ++ params_fault fault.now) }
 {
@@ -95,7 +95,7 @@ pub fn push_params_fault(text: &mut Vec<u8>, fault: &ParamsFault) -> Result<(), 
     }
 }
 
-// Adds why an outline is no disk.
+// Adds why no disk has this geometry.
 fn push_geometry_fault(text: &mut Vec<u8>, fault: GeometryFault) -> Result<(), NoMemory>
     ensures { OnOk result (text.new.items ≡ text.old.items ++ geometry_fault fault) }
 {
@@ -118,7 +118,7 @@ fn push_geometry_fault(text: &mut Vec<u8>, fault: GeometryFault) -> Result<(), N
     }
 }
 
-// Adds why a seek table is none.
+// Adds why a seek table is refused.
 fn push_seek_fault(text: &mut Vec<u8>, fault: SeekFault) -> Result<(), NoMemory>
     ensures { OnOk result (text.new.items ≡ text.old.items ++ seek_fault fault) }
 {

@@ -1,4 +1,4 @@
-// Words and values of a note.
+// Words and values in a note.
 ghost use Rattle.std.specs.Prelude.{◌≡◌, ◌++◌, decimal, OnOk};
 ghost use Rattle.fb_report.specs.Lines.{track_text};
 ghost use Rattle.fb_top.specs.Notes.{numbered, place_text, valued};
@@ -6,7 +6,7 @@ ghost use Rattle.fb_top.specs.Notes.{numbered, place_text, valued};
 use fb_units::{KeyText, NoMemory, Place, Track};
 use itoa::Buffer;
 
-// Adds words.
+/// Adds words as they are. The only error is out of memory.
 pub fn push_words(text: &mut Vec<u8>, words: &str) -> Result<(), NoMemory>
     ensures { OnOk result (text.new.items ≡ text.old.items ++ words.now) }
 {
@@ -23,7 +23,7 @@ fn push_number(text: &mut Vec<u8>, number: u64) -> Result<(), NoMemory>
     Ok(())
 }
 
-// Adds which word or line it is.
+/// Adds which word or line is meant. The only error is out of memory.
 pub fn push_numbered(text: &mut Vec<u8>, what: &str, number: u64) -> Result<(), NoMemory>
     ensures { OnOk result (text.new.items ≡ text.old.items ++ numbered what.now number) }
 {
@@ -42,7 +42,7 @@ fn push_key(text: &mut Vec<u8>, key: &KeyText) -> Result<(), NoMemory>
     Ok(())
 }
 
-// Adds a track.
+// Adds a track: cylinder and head.
 fn push_track(text: &mut Vec<u8>, track: Track) -> Result<(), NoMemory>
     ensures { OnOk result (text.new.items ≡ text.old.items ++ track_text track) }
 {
@@ -51,7 +51,7 @@ fn push_track(text: &mut Vec<u8>, track: Track) -> Result<(), NoMemory>
     push_number(text, u64::from(track.head))
 }
 
-// Adds a place.
+// Adds a place: cylinder, head and slot.
 fn push_place(text: &mut Vec<u8>, place: Place) -> Result<(), NoMemory>
     ensures { OnOk result (text.new.items ≡ text.old.items ++ place_text place) }
 {
@@ -60,7 +60,7 @@ fn push_place(text: &mut Vec<u8>, place: Place) -> Result<(), NoMemory>
     push_number(text, u64::from(place.slot))
 }
 
-// Adds a reason that carries a number.
+/// Adds a reason that carries a number. The only error is out of memory.
 pub fn push_with_number(text: &mut Vec<u8>, name: &str, number: u64) -> Result<(), NoMemory>
     ensures { OnOk result (text.new.items ≡ text.old.items ++ valued name.now (decimal number)) }
 {
@@ -69,7 +69,7 @@ pub fn push_with_number(text: &mut Vec<u8>, name: &str, number: u64) -> Result<(
     push_number(text, number)
 }
 
-// Adds a reason that carries a key.
+/// Adds a reason that carries a key. The only error is out of memory.
 pub fn push_with_key(text: &mut Vec<u8>, name: &str, key: &KeyText) -> Result<(), NoMemory>
     ensures { OnOk result (text.new.items ≡ text.old.items ++ valued name.now key.now) }
 {
@@ -78,7 +78,7 @@ pub fn push_with_key(text: &mut Vec<u8>, name: &str, key: &KeyText) -> Result<()
     push_key(text, key)
 }
 
-// Adds a reason that carries a track.
+/// Adds a reason that carries a track. The only error is out of memory.
 pub fn push_with_track(text: &mut Vec<u8>, name: &str, track: Track) -> Result<(), NoMemory>
     ensures { OnOk result (text.new.items ≡ text.old.items ++ valued name.now (track_text track)) }
 {
@@ -87,7 +87,7 @@ pub fn push_with_track(text: &mut Vec<u8>, name: &str, track: Track) -> Result<(
     push_track(text, track)
 }
 
-// Adds a reason that carries a place.
+/// Adds a reason that carries a place. The only error is out of memory.
 pub fn push_with_place(text: &mut Vec<u8>, name: &str, place: Place) -> Result<(), NoMemory>
     ensures { OnOk result (text.new.items ≡ text.old.items ++ valued name.now (place_text place)) }
 {

@@ -12,11 +12,11 @@ use fb_words::UsageFault;
 /// How a command ended.
 #[derive(Drop)]
 pub enum Outcome {
-    /// The replay was made and its reports written whole.
+    /// The replay was made, and its reports were written whole.
     Done(Run),
-    /// A trace of so many requests and a call script were made and written whole.
+    /// A trace of this many requests and a call script were made and written whole.
     Made(u64),
-    /// The words are no command.
+    /// The words of the command line are refused.
     Usage(UsageFault),
     /// The parameter file is refused.
     Params(ParamsFault),
@@ -24,17 +24,17 @@ pub enum Outcome {
     Trace(TraceFault),
     /// The call script is refused.
     Calls(CallsFault),
-    /// The input has more bytes than it may have.
+    /// The input has more bytes than its limit.
     TooLong(Input),
     /// A call that reads the input failed.
     ReadFault(Input),
     /// A call that writes the output failed.
     WriteFault(Output),
-    /// Memory was wanting.
+    /// The command ran out of memory.
     NoMemory,
 }
 
-/// The exit status of an outcome.
+/// The exit status of an outcome: 0 where all was written, and otherwise 2 to 9.
 pub fn status(outcome: &Outcome) -> u8
     ensures { result ≡ status_of outcome.now }
 {

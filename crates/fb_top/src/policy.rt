@@ -1,4 +1,4 @@
-// The replay by the policy that the words name.
+// The replay in the order of the policy that the words name.
 ghost use Rattle.std.specs.Prelude.{◌≡◌, [], length, IfOk};
 ghost use Rattle.fb_calls.specs.Allowed.{tasks};
 ghost use Rattle.fb_model.specs.Accepted.{IsAccepted};
@@ -16,7 +16,10 @@ use fb_units::{NoMemory, Ns};
 use fb_words::Policy;
 use std::alloc::Global;
 
-// The full run of what files say.
+/// The full run of accepted files, in a policy's order.
+///
+/// `until` is the instant, in ns, up to which the head goes on when nothing else is left to do. The
+/// only error is out of memory.
 pub fn replay_by(
     alloc: Global,
     policy: Policy,
@@ -36,7 +39,9 @@ pub fn replay_by(
     }
 }
 
-// The full run in the order of a new queue.
+/// The full run of accepted files, in the order of a queue, which must be new.
+///
+/// The only error is out of memory.
 pub fn replay_in<Q: Queue>(
     alloc: Global,
     queue: Q,

@@ -31,22 +31,30 @@ use fb_trace::{Trace, TraceError, read_trace};
 use fb_words::ReplayWords;
 use std::alloc::Global;
 
+// The most bytes that a parameter file may have.
 const PARAMS_LIMIT: usize = 1 << 20;
 
+// The most bytes that a trace may have.
 const TRACE_LIMIT: usize = 1 << 28;
 
+// The most bytes that a call script may have.
 const CALLS_LIMIT: usize = 1 << 26;
 
 /// What the files of a replay say.
 #[derive(Drop)]
 pub struct ReplayFiles {
+    /// The disk and its latent sectors.
     pub params: Parameters,
+    /// The requests of one device, in order of arrival.
     pub trace: Trace,
+    /// The calls, in order of instant, and the names of their tasks.
     pub calls: Calls,
 }
 
-// The files that the words name: the parameter file, then the trace, then the script, where they
-// name one.
+/// Reads the files that the words name: the parameter file, then the trace, then the script, if
+/// any.
+///
+/// The error is the outcome of the first file that can't be read or is refused.
 pub fn read_inputs<D: Desk>(
     alloc: Global,
     desk: &mut D,
@@ -90,7 +98,9 @@ pub fn read_inputs<D: Desk>(
     }
 }
 
-// The parameter file under this name.
+/// Reads the parameter file under this name.
+///
+/// The error is the outcome: it can't be read, has too many bytes, is refused, or memory ran out.
 pub fn read_disk<D: Desk>(alloc: Global, desk: &mut D, name: &str) -> Result<Parameters, Outcome>
     requires { ((D.seen desk.old).inputs Input.Params).opened ≡ false }
     ensures only { ChangesInput Input.Params (D.seen desk.old) (D.seen desk.new) }
@@ -113,7 +123,7 @@ pub fn read_disk<D: Desk>(alloc: Global, desk: &mut D, name: &str) -> Result<Par
     }
 }
 
-// The trace under this name, of one device.
+// Reads the requests of one device from the trace under this name.
 fn read_requests<D: Desk>(
     alloc: Global,
     desk: &mut D,
@@ -142,7 +152,7 @@ fn read_requests<D: Desk>(
     }
 }
 
-// The script under the name that is given, or an empty one without a name.
+// Reads the script under the name that is given; without a name the script is empty.
 fn read_script<D: Desk>(
     alloc: Global,
     desk: &mut D,
@@ -166,7 +176,7 @@ fn read_script<D: Desk>(
     }
 }
 
-// The script under this name, behind a trace of so many requests.
+// Reads the script under this name; `traced` is the number of the trace's requests.
 fn read_named_script<D: Desk>(
     alloc: Global,
     desk: &mut D,
@@ -196,7 +206,7 @@ fn read_named_script<D: Desk>(
     }
 }
 
-// The script without calls.
+/// The script without calls.
 pub fn no_calls(alloc: Global) -> Calls
     ensures names { result.names ≡ [] }
     ensures calls { result.calls.items ≡ [] }

@@ -1,4 +1,4 @@
-// What the words want to be told of a run.
+// The reports of a run that the words ask for.
 ghost use Rattle.std.specs.Prelude.{◌≡◌, false, codes, IfErr, OnOk};
 ghost use Rattle.fb_report.specs.Back.{back_text};
 ghost use Rattle.fb_report.specs.Summary.{summary_text};
@@ -22,8 +22,10 @@ use fb_units::NoMemory;
 use fb_words::ReplayWords;
 use std::alloc::Global;
 
-// Writes the foreground report of a run, or its summary, and behind it the background report, where
-// one is wanted.
+/// Writes the foreground report of a run, or its summary, and then the background report, if the
+/// words ask for one.
+///
+/// The error is the outcome: a call that writes failed, or memory ran out.
 pub fn write_reports<D: Desk>(
     alloc: Global,
     desk: &mut D,

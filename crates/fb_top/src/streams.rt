@@ -11,8 +11,11 @@ use std::alloc::{AllocError, Global};
 /// Why an input was not read to its end.
 #[derive(Clone, Copy)]
 pub enum InputError {
+    /// A call of the desk failed.
     Failed,
+    /// The input has more bytes than the limit.
     TooLong,
+    /// Out of memory.
     NoMemory,
 }
 
@@ -38,9 +41,10 @@ impl From<AllocError> for InputError {
     }
 }
 
+// How many bytes a call asks for at most.
 const PIECE: usize = 4096;
 
-/// Opens an input and reads it to its end.
+/// Opens an input and reads it to its end; at most `limit` bytes are accepted.
 pub fn read_whole<D: Desk>(
     alloc: Global,
     desk: &mut D,
@@ -71,7 +75,9 @@ pub fn read_whole<D: Desk>(
     Err(InputError::TooLong)
 }
 
-/// Writes a text to its end.
+/// Writes a whole text to an output that was begun.
+///
+/// The error comes where a call of the desk fails; a front of the text has then been written.
 pub fn write_whole<D: Desk>(desk: &mut D, which: Output, text: &[u8]) -> Result<(), Failed>
     requires { ((D.seen desk.old).outputs which).begun ≡ true }
     ensures only { ChangesOutput which (D.seen desk.old) (D.seen desk.new) }

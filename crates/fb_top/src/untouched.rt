@@ -1,27 +1,32 @@
-// Laws of the runs that are answered.
+// Laws of the runs that `run_command` returns.
 ghost use Rattle.fb_top.specs.Untouched.{InputsHaveOneRun, RunsLookNotAhead, ScriptsLeaveForeground};
 
 use fb_model::{foreground_is_untouched, no_look_ahead, one_full_run};
 
-/// Background work leaves the foreground report as it is: two runs of the same parameters and trace
-/// by one policy, whose scripts ask for the same reads, have the same foreground text, whatever else
-/// the scripts ask for.
+/// Background work leaves the foreground report as it is.
+///
+/// Two runs of the same parameters and trace by one policy, whose scripts promote the same reads,
+/// have the same foreground text, whatever else the scripts ask for.
 pub fn scripts_leave_the_foreground()
     ensures { ScriptsLeaveForeground }
 {
     foreground_is_untouched();
 }
 
-/// The same words over the same bytes have one run: on two desks that tell the same bytes under the
-/// names that the words give to inputs, the run that is answered is the same to its last row.
+/// The same words over the same bytes have one run.
+///
+/// On two desks that hold the same bytes under the names that the words give to inputs, the run is
+/// the same to its last row.
 pub fn inputs_have_one_run()
     ensures { InputsHaveOneRun }
 {
     one_full_run();
 }
 
-/// No decision looks ahead: two runs that are answered, of files that agree up to an instant before
-/// both ends, are the same in what is known by that instant, whatever comes later.
+/// No decision looks ahead.
+///
+/// Two runs of files that agree up to an instant before both ends are the same in everything that
+/// is known by that instant, whatever comes later.
 pub fn runs_look_not_ahead()
     ensures { RunsLookNotAhead }
 {

@@ -1,4 +1,4 @@
-// Texts written line by line, and the note.
+// Writes texts line by line, and the note.
 ghost use Rattle.std.specs.Prelude.{◌≡◌, false, IfErr, OnOk};
 ghost use Rattle.fb_desk.specs.Calls.{ChangesOutput};
 ghost use Rattle.fb_top.specs.Noted.{LeavesNote, TellsNote};
@@ -13,7 +13,9 @@ use fb_desk::{Desk, Failed, Output};
 use fb_units::NoMemory;
 use std::alloc::Global;
 
-// Begins an output under a name, and writes the lines of a text to it, one by one.
+/// Begins an output under a name, and writes the lines of a text to it, one by one.
+///
+/// The error is the outcome: a call that writes failed, or memory ran out.
 pub fn write_lines<D: Desk, L: Lines>(
     alloc: Global,
     desk: &mut D,
@@ -45,8 +47,9 @@ pub fn write_lines<D: Desk, L: Lines>(
     Ok(())
 }
 
-// Writes the note of an outcome, if it has one, under the name `-`. Where that fails, or memory is
-// wanting, the note is left as it is.
+/// Writes the note of an outcome, if it has one, under the name `-`.
+///
+/// Where that fails or runs out of memory, the note is left as it then is.
 pub fn write_note<D: Desk>(alloc: Global, desk: &mut D, outcome: &Outcome)
     requires { ((D.seen desk.old).outputs Output.Note).begun ≡ false }
     ensures only { ChangesOutput Output.Note (D.seen desk.old) (D.seen desk.new) }
