@@ -1,4 +1,9 @@
-//! Replays a trace on a simulated disk.
+//! Freeblock replays a trace on a simulated disk, and reads background blocks in the rotational
+//! waits.
+//!
+//! The program hands the words of its command line and the real files to `fb_top::run`, whose
+//! contract says what is read, written and returned. It adds one exit status of its own, for a
+//! runtime that doesn't give the command line.
 #![tactic(auto)]
 
 ghost use Rattle.std.specs.Prelude.{◌≡◌, IfOk};
@@ -11,13 +16,13 @@ use std::alloc::Global;
 use std::env;
 use std::process::ExitCode;
 
-// The status where the runtime doesn't give the words, which no outcome has.
+// The exit status where the runtime doesn't give the command line; no outcome has it.
 const NO_WORDS: u8 = 12;
 
-// The status of want of memory.
+// The exit status of out of memory.
 const NO_MEMORY: u8 = 8;
 
-// All words of the command line, in their order.
+// All words of the command line, in order. The only error is out of memory.
 fn collected(alloc: Global, args: env::Args) -> Result<Vec<String>, NoMemory>
     ensures { IfOk result (λ words. words.items ≡ into_iter_items args) }
 {
