@@ -96,7 +96,7 @@ no_time_to_settle = record {
   };
 }
 
--- a detour that reaches the target sooner than the direct move does, and the request begins no sooner
+-- a detour by which the head reaches the target sooner than by the direct move; the request begins no sooner
 abbrev pub detour_on_the_way : Worked
 detour_on_the_way = record {
   inputs = record {

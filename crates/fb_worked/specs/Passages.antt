@@ -26,7 +26,7 @@ cut lbn count cylinder head = record { lbn = lbn; count = count; track = at cyli
 abbrev pub SkewedTracks : Type 0
 SkewedTracks = IsAt small_disk.map 12 (place 0 1 0) × IsAt skewed_disk.map 12 (place 0 1 2) × IsAt turned_disk.map 12 (place 0 1 11) × IsAt turned_disk.map 13 (place 0 1 0)
 
--- the sectors behind a bad slot slip by one, as far as its track
+-- the sectors behind a bad slot slip by one, to the end of its track
 abbrev pub SlippedTrack : Type 0
 SlippedTrack = IsAt slipped_disk.map 2 (place 0 0 2) × IsAt slipped_disk.map 3 (place 0 0 4) × IsAt slipped_disk.map 9 (place 0 0 10) × IsAt slipped_disk.map 10 (place 0 1 0)
 

@@ -25,7 +25,7 @@ arm points = record { points = points; cylinders = 4; head_switch = 200; write_s
 abbrev pub slow_arm : Mechanics
 slow_arm = arm (record { distance = 1; time = 300 } ∷ record { distance = 3; time = 500 } ∷ [])
 
--- two cylinders in two steps are sooner than at once
+-- two moves of one cylinder take less time than one move of two cylinders
 abbrev pub quick_arm : Mechanics
 quick_arm = arm (record { distance = 1; time = 100 } ∷ record { distance = 2; time = 400 } ∷ record { distance = 3; time = 400 } ∷ [])
 

@@ -4,10 +4,10 @@ ghost use Rattle.fb_worked.specs.Gaps.{both_dwells, detour, no_time_to_settle, d
 
 /// Full runs that show what the best plan of a gap delivers.
 ///
-/// Two dwells of one gap deliver on both tracks. A detour delivers where neither of them would, and
-/// is back in time; before a write there must be time to settle, too. A detour may go over a track
-/// without a wanted block, if it reaches the target sooner, and no request begins sooner for it. The
-/// weight of a block counts. A block goes on over the end of a turn.
+/// The two dwells of one gap deliver on both tracks. A detour delivers where neither of them would,
+/// and is back in time; before a write there must be time to settle, too. A detour may go over a
+/// track without a wanted block, if the head reaches the target sooner that way; the request begins
+/// no sooner for it. The weight of a block counts. A block may go on over the end of a turn.
 pub fn worked_gaps()
     ensures both_dwells { IsFull both_dwells.inputs both_dwells.run }
     ensures detour { IsFull detour.inputs detour.run }

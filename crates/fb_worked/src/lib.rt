@@ -1,7 +1,8 @@
-//! Small runs worked out by hand, computed from the definitions.
+//! Small runs worked out by hand, which the definitions of `fb_model` give as well.
 //!
 //! Nothing here runs. Each function's contract says what the definitions give for disks of four
-//! cylinders and two heads, and its proof is the computation.
+//! cylinders and two heads, and its proof is the computation. They show that the definitions mean
+//! what they should; no other layer takes anything from them.
 #![tactic(auto)]
 
 mod accepted;

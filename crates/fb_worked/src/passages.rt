@@ -3,9 +3,9 @@ ghost use Rattle.fb_worked.specs.Passages.{SkewedTracks, SlippedTrack, MovedSect
 
 /// Where some sectors are, when they pass, and how ranges of them are cut.
 ///
-/// With a skew the first sector of a track is later in the turn, so that a read over two tracks finds
-/// it as it arrives. Sectors slip behind a slot that was bad from the beginning. One whose slot went
-/// bad later moves to a spare of its cylinder, and is a block of its own.
+/// With a skew the first sector of a track comes later in the turn, so that a read over two tracks
+/// meets it as the head arrives. Sectors slip past a slot that was bad from the beginning. A sector
+/// whose slot went bad later moves to a spare of its cylinder, and is a block of its own.
 pub fn worked_passages()
     ensures skewed { SkewedTracks }
     ensures slipped { SlippedTrack }

@@ -4,8 +4,9 @@ ghost use Rattle.fb_worked.specs.Written.{overwritten_between, latent_until_writ
 
 /// Full runs that show the contents that deliveries find.
 ///
-/// A delivery has the contents of its own passage, before a write and after it, and as the write ends.
-/// An unreadable sector is counted, is a finding of a scrub, and can be read once it was written.
+/// A delivery finds what the sectors hold as the block passes: before a write, after it, and just
+/// as it ends. An unreadable sector is counted, is a finding of a scrub, and can be read once it
+/// was written.
 pub fn worked_contents()
     ensures overwritten_between { IsFull overwritten_between.inputs overwritten_between.run }
     ensures latent_until_written { IsFull latent_until_written.inputs latent_until_written.run }

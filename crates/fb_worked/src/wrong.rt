@@ -9,9 +9,9 @@ ghost use Rattle.fb_worked.specs.Wrong.{delivered_too_late, delivered_twice, del
 
 /// Runs that are wrong in one way each, and that the definitions refuse.
 ///
-/// A sound run delivers a block only where it passes whole, once, unless it was aborted, and with the
-/// contents of its passage. It gives each completion row, takes the way of one of the gap's plans, and
-/// serves each request at its time. It may leave a delivery out, but a full run may not.
+/// A sound run delivers a block only where it passes whole, only once, never after an abort, and
+/// with what it held as it passed. It gives each completion row, moves by one of the gap's plans,
+/// and serves each request at its time. It may leave a delivery out, which a full run may not.
 pub fn wrong_runs()
     ensures too_late { IsSound delivered_too_late.inputs delivered_too_late.run → ⊥ }
     ensures twice { IsSound delivered_twice.inputs delivered_twice.run → ⊥ }
@@ -27,9 +27,9 @@ pub fn wrong_runs()
 
 /// Plans of a gap that aren't the best ones.
 ///
-/// A nanosecond sooner loses a block of the source, and a nanosecond later one of the target. Of two
-/// that are worth the same the one that leaves first is better. A detour is better than the direct way
-/// where it reaches the target sooner, whatever is on its track.
+/// A nanosecond sooner loses a block of the source, and a nanosecond later one of the target. Of
+/// two that are worth the same the one that leaves first is better. A detour is better than the
+/// direct way where it reaches the target sooner, whatever is on its track.
 pub fn wrong_plans()
     ensures late { IsBest small_disk gap_with_three three_blocks (Direct 801) → ⊥ }
     ensures soon { IsBest small_disk gap_with_three three_blocks (Direct 799) → ⊥ }
