@@ -1,4 +1,5 @@
-// A backup of four sectors in two blocks: the first block is delivered, overwritten by the first request and delivered again.
+// A backup of four sectors in two blocks: the first block is delivered, overwritten by the first
+// request, and delivered again.
 ghost use Rattle.std.specs.Prelude.{◌≡◌, ◌≤◌, ◌+◌, ◌^◌, ℕ, IfOk, cond, ◌==◌};
 ghost use Rattle.std.specs.List.{AllByRecursion};
 ghost use Rattle.fb_store.specs.declared.content.Content.{Content};

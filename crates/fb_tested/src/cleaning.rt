@@ -1,4 +1,5 @@
-// A worked choice: the first segment has four blocks, two of them live, and age 10, the second four, one of them live, and age 9.
+// A choice worked out by hand: the first segment has four blocks, two of them live, and age 10; the
+// second has four blocks, one of them live, and age 9.
 ghost use Rattle.std.specs.Prelude.{◌≡◌, ◌≢◌, ◌≤◌, ◌+◌, ◌^◌, ℕ, None, length, IfOk};
 ghost use Rattle.std.specs.List.{AllByRecursion};
 ghost use Rattle.fb_store.specs.declared.content.Content.TheVariants.{Filled};
@@ -68,7 +69,8 @@ fn take_all(alloc: Global, segments: &mut Segments, blocks: &[u32]) -> Result<()
     Ok(())
 }
 
-// Chooses a segment, takes these blocks for it and finishes it: its number and what is packed.
+// Chooses a segment, takes these blocks for it and finishes it; returns its number and the packed
+// contents.
 fn clean_next(
     alloc: Global,
     segments: &mut Segments,

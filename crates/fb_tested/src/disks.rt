@@ -1,4 +1,4 @@
-// Small disks, and one of today's size.
+// Small disks, and a large one.
 ghost use Rattle.std.specs.Prelude.{◌≡◌, ◌==◌, not, false};
 ghost use Rattle.std.specs.List.{list_any};
 
@@ -19,10 +19,12 @@ pub const ZONE: Zone = Zone {
     cylinder_spares: 0,
 };
 
+/// The track of a cylinder and a head, both counted from 0.
 pub fn track(cylinder: u32, head: u32) -> Track {
     Track { cylinder, head }
 }
 
+/// The place of a cylinder, a head and a slot, all counted from 0.
 pub fn place(cylinder: u32, head: u32, slot: u32) -> Place {
     Place {
         track: track(cylinder, head),
@@ -89,14 +91,14 @@ fn map_of(alloc: Global, rotation: Ns, heads: u32, zones: Vec<Zone>) -> Result<S
     Ok(SectorMap::new(alloc, geometry)?)
 }
 
-/// 96 sectors on tracks of twelve.
+/// A disk of 96 sectors on tracks of twelve.
 pub fn small_map(alloc: Global) -> Result<SectorMap, Fail> {
     let mut zones = Vec::new(alloc);
     zones.push(zone(0, 3, 12, 0))?;
     map_of(alloc, 1_200, 2, zones)
 }
 
-/// 16,739,688 sectors.
+/// A disk of 16,739,688 sectors.
 pub fn large_map(alloc: Global) -> Result<SectorMap, Fail> {
     let mut zones = Vec::new(alloc);
     zones.push(zone(0, 3_332, 334, 2))?;
@@ -105,7 +107,7 @@ pub fn large_map(alloc: Global) -> Result<SectorMap, Fail> {
     map_of(alloc, 6_000_000, 6, zones)
 }
 
-/// 2,048,000 sectors less the spares, on tracks of fifteen.
+/// A disk of 2,048,000 sectors less the spares, on tracks of fifteen.
 pub fn short_tracks(alloc: Global) -> Result<SectorMap, Fail> {
     let mut zones = Vec::new(alloc);
     zones.push(zone(0, 1_999, 16, 1))?;

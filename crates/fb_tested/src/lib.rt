@@ -1,6 +1,7 @@
-//! Tests of the crates below the model, with values worked out by hand.
+//! Tests of the crates below the engine, with values worked out by hand.
 //!
-//! They stand apart from the crates that they test, since a crate with tests is proved twice.
+//! They stand in a crate of their own, since a crate with tests is proved twice. They show what no
+//! contract says; other layers take nothing from them.
 #![tactic(auto)]
 
 #[cfg(test)]

@@ -1,4 +1,5 @@
-// Traces from one number, whose words were reckoned apart, and scripts of three disks.
+// Traces from one seed, whose values were worked out apart from the program, and scripts for three
+// disks.
 ghost use Rattle.std.specs.Prelude.{◌≤◌, ◌^◌};
 
 use crate::disks::{large_map, short_tracks, small_map};
@@ -7,7 +8,7 @@ use fb_units::NoMemory;
 use std::alloc::Global;
 use std::test::Fail;
 
-// The first three lines for a disk of so many sectors.
+// The first three lines for a disk with this number of sectors.
 fn first_lines(alloc: Global, device: u64, sectors: u64) -> Result<Vec<u8>, NoMemory>
     requires device { device ≤ 10 ^ 15 }
     requires some { 1 ≤ sectors }

@@ -146,7 +146,7 @@ fn first_faults_of_disks(rt: HostRuntime) -> Result<(), Fail> {
     Ok(())
 }
 
-// What is answered for the text of these parts.
+// What reading the text of these parts gives.
 fn answer(alloc: Global, parts: &[&str]) -> Result<String, AllocError> {
     let mut text = String::new(alloc);
     for part in parts {

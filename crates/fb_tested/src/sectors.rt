@@ -1,4 +1,5 @@
-// Sectors worked out by hand, for small disks of four cylinders with two heads and twelve slots a track.
+// Sectors worked out by hand, for small disks of four cylinders with two heads and twelve slots a
+// track.
 use crate::disks::{ZONE, per_cylinder, place, track};
 use fb_geometry::Zone;
 use fb_sectormap::{Cut, SectorMap};
@@ -16,7 +17,7 @@ fn disk(alloc: Global, defects: &[Place], grown: &[Place]) -> Result<SectorMap, 
     Ok(SectorMap::new(alloc, geometry)?)
 }
 
-// The place of a sector; None where there is none.
+// The place of a sector; `None` where the disk has no such sector.
 fn place_of(map: &SectorMap, lbn: u64) -> Option<Place> {
     if lbn >= map.count() {
         return None;
@@ -24,7 +25,7 @@ fn place_of(map: &SectorMap, lbn: u64) -> Option<Place> {
     Some(map.place(lbn))
 }
 
-// The same by the run of the sector's cylinder.
+// The same, from the run of the sector's cylinder.
 fn place_in_run(map: &SectorMap, lbn: u64) -> Option<Place> {
     if lbn >= map.count() {
         return None;
@@ -32,7 +33,7 @@ fn place_in_run(map: &SectorMap, lbn: u64) -> Option<Place> {
     Some(map.place_in(&map.run_of(lbn), lbn))
 }
 
-// How many sectors from this one on stand in neighbouring slots; 0 where there is none.
+// How many sectors from this one on are in neighbouring slots; 0 where the disk has no such sector.
 fn neighbours(map: &SectorMap, lbn: u64) -> u32 {
     if lbn >= map.count() {
         return 0;
@@ -68,7 +69,7 @@ fn told(cut: Cut) -> (u64, u32, Track) {
     (cut.lbn, cut.count, cut.track)
 }
 
-// The first block of a range's cutting; None where it is no range of the disk.
+// The first block that a range is cut into; `None` where the range isn't on the disk.
 fn first_cut(map: &SectorMap, first: u64, count: u64, block: u32) -> Option<(u64, u32, Track)> {
     let sectors = map.count();
     if count == 0 || block == 0 || first > sectors || count > sectors - first {
@@ -89,7 +90,7 @@ fn cuts_behind_a_sector_that_moved(rt: HostRuntime) -> Result<(), Fail> {
     Ok(())
 }
 
-// The blocks of a range, cut one after another; None where it is no range of the disk.
+// The blocks that a range is cut into, one after another; `None` where the range isn't on the disk.
 fn cuts(
     alloc: Global,
     map: &SectorMap,

@@ -87,8 +87,8 @@ fn is_request(disk: &Disk, lbn: u64, count: u32) -> bool
     0 < count && count <= 2048 && lbn <= sectors && count as u64 <= sectors - lbn
 }
 
-// When a read begins to pass, when it has passed, and in how many extents; None where it is no request of
-// the disk.
+// When a read's first sector begins to pass, when its last one has passed, and in how many extents;
+// `None` where the disk can't serve it.
 fn times_of(
     alloc: Global,
     disk: &Disk,
@@ -176,7 +176,8 @@ fn by_extents(
     Ok(passages)
 }
 
-// The passages of the same sectors, each served as a request of its own when the one before has passed.
+// The passages of the same sectors, each served as a request of its own as soon as the one before
+// has passed.
 fn one_by_one(
     alloc: Global,
     disk: &Disk,
@@ -241,7 +242,8 @@ fn extents_stand_for_single_sectors(rt: HostRuntime) -> Result<(), Fail> {
     Ok(())
 }
 
-// Whether the waits by the way to a cylinder end at the first passages.
+// Whether the waits that are found from the way to a cylinder end as the first sectors begin to
+// pass.
 fn agrees_on_cylinder(disk: &Disk, now: Ns, write: bool) -> bool {
     if now > LATE || disk.map.count() == 0 {
         return false;

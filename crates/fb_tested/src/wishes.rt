@@ -1,4 +1,5 @@
-// Each call once, over blocks of a task, the last of them before the first on the disk, and one of another.
+// Each call once, over the blocks of one task, of which the last lies before the first on the disk,
+// and one block of another task.
 use fb_units::Track;
 use fb_wanted::{BAND, Block, State, Wanted};
 use std::test::Fail;
@@ -49,7 +50,7 @@ const BEFORE: Block = Block {
     weight: 1,
 };
 
-// Of another track of the first cylinder.
+// A block on another track of the first cylinder.
 const BESIDE: Block = Block {
     task: 1,
     index: 0,
