@@ -1,4 +1,4 @@
-// Gaps on small disks, what is wanted there, and what the planners answer.
+// Gaps on small disks, the blocks that are wanted there, and the plans that the planners choose.
 ghost use Rattle.std.specs.Prelude.{◌≡◌, ◌<◌, ◌≤◌, ◌+◌, true, length, IfOk, IfSome};
 ghost use Rattle.fb_geometry.specs.Shape.{IsTrackOf};
 ghost use Rattle.fb_geometry.specs.Places.{places};
@@ -15,7 +15,7 @@ use fb_units::{NoMemory, Ns, Track};
 use fb_wanted::{Block, Wanted};
 use std::alloc::Global;
 
-/// Times that rise with the distance.
+/// A seek table whose times rise with the distance.
 pub const LINEAR: &[SeekPoint] = &[
     SeekPoint {
         distance: 1,
@@ -27,7 +27,7 @@ pub const LINEAR: &[SeekPoint] = &[
     },
 ];
 
-/// Times by which a way in two parts is shorter.
+/// A seek table by which two short moves take less time than one long move.
 pub const STEEP: &[SeekPoint] = &[
     SeekPoint {
         distance: 1,
@@ -43,30 +43,41 @@ pub const STEEP: &[SeekPoint] = &[
     },
 ];
 
-/// A block to be wanted, or to be suspended.
+/// A block that is wanted, or held back.
 #[derive(Clone, Copy)]
 pub struct Wish {
+    /// The first sector.
     pub lbn: u64,
+    /// How many sectors.
     pub count: u32,
+    /// The weight of each sector, from 1 to 1,000.
     pub weight: u32,
+    /// Whether the block is held back, so that it may not be delivered.
     pub suspended: bool,
 }
 
 /// A disk of four or of thirty cylinders with two heads and twelve slots a track, and a gap on it.
 #[derive(Clone, Copy)]
 pub struct Setting<'a> {
+    /// The disk's seek table.
     pub seek: &'a [SeekPoint],
+    /// The last cylinder, from 0.
     pub last_cylinder: u32,
+    /// The skew from track to track, in slots.
     pub track_skew: u32,
+    /// The gap.
     pub gap: Gap,
 }
 
-/// The plan of each planner, and what the dwells of the slow one's catch: first sectors, and where
-/// the passages begin and end.
+/// What the planners choose for a gap.
 #[derive(Drop)]
 pub struct Chosen {
+    /// The plan of the planner that tries every track.
     pub slow: Plan,
+    /// The plan of the planner that passes over tracks.
     pub indexed: Plan,
+    /// The blocks that the slow planner's plan catches: first sector, begin and end of the passage
+    /// in ns.
     pub passages: Vec<(u64, Ns, Ns)>,
 }
 
@@ -109,7 +120,7 @@ fn disk_of(alloc: Global, setting: &Setting) -> Result<Option<Disk>, NoMemory> {
     }
 }
 
-// The task's next block, unless it isn't one block of the disk.
+// The task's next block; `None` where the wish isn't exactly one block of the disk.
 fn block_of(disk: &Disk, index: u32, wish: Wish) -> Option<Block>
     ensures fits { IfSome result (λ block. FitsDisk disk.now block) }
     ensures numbered { IfSome result (λ block. (block.task ≡ 0) × (block.index ≡ index)) }
@@ -140,7 +151,7 @@ fn block_of(disk: &Disk, index: u32, wish: Wish) -> Option<Block>
     })
 }
 
-// The blocks of one task, unless one of them isn't one of the disk.
+// The blocks of one task; `None` where a wish isn't exactly one block of the disk.
 fn wanted_of(alloc: Global, disk: &Disk, wishes: &[Wish]) -> Result<Option<Wanted>, NoMemory>
     ensures { IfOk result (λ some. IfSome some (λ wanted. AreOnDisk disk.now wanted)) }
 {
@@ -157,7 +168,7 @@ fn wanted_of(alloc: Global, disk: &Disk, wishes: &[Wish]) -> Result<Option<Wante
     Ok(Some(wanted))
 }
 
-// Whether the gap is one of the disk's.
+// Whether the disk can have this gap.
 fn is_gap(disk: &Disk, gap: &Gap) -> bool
     ensures { result ≡ true → IsGap disk.now gap.entry.now }
 {
@@ -186,7 +197,9 @@ fn is_on_disk(disk: &Disk, track: Track) -> bool
     }
 }
 
-/// What the planners answer, unless the disk, the blocks or the gap are refused.
+/// What the planners choose; `None` where the disk, a block or the gap is refused.
+///
+/// The only error is out of memory.
 pub fn answers(
     alloc: Global,
     setting: &Setting,
@@ -201,7 +214,7 @@ pub fn answers(
     answers_on(alloc, &disk, &wanted, &setting.gap)
 }
 
-// What they answer on this disk for these blocks, unless the gap is refused.
+// What they choose on this disk for these blocks; `None` where the gap is refused.
 fn answers_on(
     alloc: Global,
     disk: &Disk,

@@ -1,6 +1,8 @@
-//! Tests of the planners, on gaps whose best plans were worked out by hand and on many made ones.
+//! Tests of the planners, on gaps whose best plans were worked out by hand and on many generated
+//! ones.
 //!
-//! They stand apart from the crates that they test, since a crate with tests is proved twice.
+//! They stand in a crate of their own, since a crate with tests is proved twice. They show what no
+//! contract says; other layers take nothing from them.
 #![tactic(auto)]
 
 #[cfg(test)]

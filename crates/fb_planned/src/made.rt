@@ -1,4 +1,4 @@
-// Many made gaps, on a disk of four cylinders and on one of thirty.
+// Many generated gaps, on a disk of four cylinders and on one of thirty.
 ghost use Rattle.std.specs.Prelude.{◌<◌};
 
 use crate::gaps::{LINEAR, STEEP, Setting, Wish, answers};
@@ -27,14 +27,14 @@ const LONG: &[SeekPoint] = &[
     },
 ];
 
-// The next number of a series that looks random.
+// The next number of a pseudorandom series.
 fn next_number(number: u64) -> u64 {
     number
         .wrapping_mul(6_364_136_223_846_793_005)
         .wrapping_add(1_442_695_040_888_963_407)
 }
 
-// A part of the number, less than the limit.
+// A part of the number's bits, reduced to less than the limit.
 fn part(number: u64, shift: u32, limit: u64) -> u64
     requires some { 0 < limit }
     requires shift { shift < 64 }
@@ -83,7 +83,7 @@ fn made_gap(number: u64, cylinders: u32) -> Gap
     }
 }
 
-// Both planners answer one plan for the gap and the blocks that the number makes.
+// Whether both planners choose the same plan for the gap and the blocks that the number generates.
 fn agree(alloc: Global, seek: &[SeekPoint], cylinders: u32, number: u64) -> Result<bool, NoMemory>
     requires { 0 < cylinders }
 {

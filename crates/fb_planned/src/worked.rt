@@ -1,4 +1,5 @@
-// Gaps whose best plans were worked out by hand, on a disk of four cylinders with two heads and twelve slots a track.
+// Gaps whose best plans were worked out by hand, on a disk of four cylinders with two heads and
+// twelve slots a track.
 use crate::gaps::{LINEAR, STEEP, Setting, Wish, answers};
 use fb_rows::{Gap, Plan};
 use fb_units::{Ns, Track};
@@ -20,7 +21,7 @@ const OWN: Track = Track {
     head: 0,
 };
 
-// On the track where the head stands.
+// A gap whose target is the track where the head stands.
 const AT_HOME: Gap = Gap {
     source: OWN,
     target: OWN,
@@ -29,7 +30,7 @@ const AT_HOME: Gap = Gap {
     write: false,
 };
 
-// To the next cylinder.
+// A gap before a request on the next cylinder.
 const TO_NEXT: Gap = Gap {
     target: Track {
         cylinder: 1,
@@ -52,7 +53,7 @@ const NEXT: Setting = Setting {
     ..STAY
 };
 
-// Over two cylinders.
+// A gap before a request two cylinders away.
 const FAR: Setting = Setting {
     seek: STEEP,
     gap: Gap {
@@ -265,7 +266,7 @@ const PLANS: &[Worked] = &[
     },
 ];
 
-// Both planners answer the plan, and its dwells catch what they have to.
+// Checks that both planners choose the plan, and that its dwells catch what they should.
 fn check_plan(rt: &impl Abort, alloc: Global, row: &Worked) -> Result<(), Fail> {
     let shows = row.shows;
     match answers(alloc, &row.setting, row.wishes)? {
