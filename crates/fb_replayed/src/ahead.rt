@@ -1,4 +1,5 @@
-// No decision looks ahead: of two replays that agree up to an instant the same rows are known by then.
+// No decision looks ahead: two replays that agree up to an instant have the same rows known by
+// then.
 ghost use Rattle.std.specs.Prelude.{◌<◌};
 
 use crate::scene::{Ending, Scene, TWELVE, disk, end, scripted, unscripted};
@@ -48,7 +49,8 @@ fn is_by(line: &[u8], instant: Ns) -> bool {
     }
 }
 
-// The rows of a report that are known by an instant. A finding is if the delivery before it is.
+// The rows of a report that are known by an instant. A finding is known if the delivery before it
+// is.
 fn known(alloc: Global, report: &[u8], instant: Ns) -> Result<Vec<u8>, NoMemory> {
     let mut rows = Vec::new(alloc);
     let mut follows = false;
@@ -93,7 +95,7 @@ fn check_alike(
     Ok(())
 }
 
-// ---- one request more
+// ---- one more request
 
 const READS: &str = "0 0 5 1 1\n0 0 24 1 1\n";
 
@@ -101,7 +103,7 @@ const MORE_READS: &str = "0 0 5 1 1\n0 0 24 1 1\n0.001260 0 72 1 1\n";
 
 const WANTS: &str = "0 open a plain 1 1\n0 want a 6 2\n0 want a 35 1\n";
 
-// The background up to 1,250 ns.
+// The background rows up to 1,250 ns.
 const KNOWN: &str = "gap 1 0.0 0.0 0 500 direct 0\n\
     gap 2 0.0 1.0 600 1200 direct 800\n\
     got a 0 6 1 600 700 gap 0 -\n\
@@ -109,7 +111,7 @@ const KNOWN: &str = "gap 1 0.0 0.0 0 500 direct 0\n\
     got a 2 35 1 1100 1200 gap 0 -\n\
     done a 1200\n";
 
-// And after it, with two reads and with three.
+// The background rows after that, first with two reads and then with three.
 const REST: &str = "idle 1.0 1300 10000\ntask a plain 3 3 0 0 complete\nend 10000\n";
 
 const MORE_REST: &str = "gap 3 1.0 3.0 1300 2400 direct 1300\n\

@@ -1,4 +1,5 @@
-// Replays on a disk of 10,000 rotations a minute: they end in time only where few requests and few tracks are looked at.
+// Large replays on a disk of 10,000 rotations a minute: they end in good time only if each decision
+// looks at few requests and few tracks.
 ghost use Rattle.std.specs.Prelude.{◌<◌};
 ghost use Rattle.fb_desk.specs.View.{IsUnused};
 ghost use Rattle.fb_desk.specs.Honest.{honest_view};
@@ -11,10 +12,10 @@ use std::alloc::Global;
 use std::process::Abort;
 use std::test::Fail;
 
-// How many requests come at once.
+// How many requests arrive at once.
 const CROWD: u64 = 200_000;
 
-// So many reads at one instant, 83 sectors apart.
+// That many reads at one instant, 83 sectors apart.
 fn crowd(alloc: Global) -> Result<String, NoMemory> {
     let mut text = String::new(alloc);
     for i in 0..CROWD {
@@ -25,7 +26,7 @@ fn crowd(alloc: Global) -> Result<String, NoMemory> {
     Ok(text)
 }
 
-// How many requests these words serve, over an empty desk.
+// How many requests a command with these words serves, on an empty desk.
 fn served_over(
     alloc: Global,
     desk: &mut HonestDesk,
@@ -40,7 +41,7 @@ fn served_over(
     Ok(rows_of(run_command(alloc, desk, words)))
 }
 
-// The rows of the foreground, or none where it isn't done.
+// How many foreground rows the outcome has; 0 where the command isn't done.
 fn rows_of(outcome: Outcome) -> usize {
     match outcome {
         Outcome::Done(run) => run.fore.len(),
@@ -48,7 +49,7 @@ fn rows_of(outcome: Outcome) -> usize {
     }
 }
 
-// How many requests of a trace these words serve.
+// How many requests of a trace a command with these words serves.
 fn served(alloc: Global, trace: &str, words: &[String]) -> Result<usize, NoMemory> {
     let mut desk = HonestDesk::new(alloc);
     served_over(alloc, &mut desk, trace, words)

@@ -1,4 +1,4 @@
-// Outsides that fail, and inputs that are too long.
+// Calls of the desk that fail, and inputs that are too long.
 ghost use Rattle.std.specs.Prelude.{◌<◌};
 
 use crate::scene::{Ending, Scene, TWELVE, disk, end, scripted, unscripted};
@@ -24,7 +24,7 @@ const THREE_BLOCKS: &[u8] = b"0 open a plain 1 1\n0 want a 6 2\n0 want a 35 1\n"
 
 const PARAMS_LIMIT: usize = 1_048_576;
 
-// Calls of a desk of which each may fail, and how it ends then.
+// A range of the desk's calls, each of which fails in turn, and how the command then ends.
 struct Fault {
     first: u64,
     last: u64,
@@ -114,7 +114,7 @@ const FAULTS_OF_A_MAKE: &[Fault] = &[
     },
 ];
 
-// Whether each output is a front of the same one of another ending.
+// Whether each output is a front of the same output of an ending that went well.
 fn is_front(ending: &Ending, well: &Ending) -> bool {
     well.fore.as_slice().starts_with(ending.fore.as_slice())
         && well.back.as_slice().starts_with(ending.back.as_slice())
@@ -128,13 +128,13 @@ fn is_front(ending: &Ending, well: &Ending) -> bool {
             .starts_with(ending.made_calls.as_slice())
 }
 
-// Whether an output was begun only where the one before it is whole, if there is one.
+// Whether each output was begun only after the one before it was whole.
 fn is_in_order(ending: &Ending, well: &Ending) -> bool {
     (ending.back.is_empty() || ending.fore.len() == well.fore.len())
         && (ending.made_calls.is_empty() || ending.made_trace.len() == well.made_trace.len())
 }
 
-// Checks how a command ends one of whose calls fails, beside one that ends well.
+// Checks how a command ends when this call fails, against the same command that ends well.
 fn check_call(rt: &impl Abort, ending: &Ending, fault: &Fault, well: &Ending, call: u64) {
     assert_eq!(rt; ending.status, fault.status, "call {call}");
     assert_eq!(rt;
@@ -147,7 +147,7 @@ fn check_call(rt: &impl Abort, ending: &Ending, fault: &Fault, well: &Ending, ca
     assert!(rt; fault.status == 7 || ending.is_silent(), "call {call}");
 }
 
-// How a command ends whose call of this number fails.
+// How a command ends when its call of this number fails.
 fn end_failing(alloc: Global, scene: &Scene, words: &str, call: u64) -> Result<Ending, NoMemory>
     requires { 0 < scene.now.piece }
 {
@@ -156,7 +156,7 @@ fn end_failing(alloc: Global, scene: &Scene, words: &str, call: u64) -> Result<E
     end(alloc, &scene, words)
 }
 
-// Lets each call of a fault fail in turn.
+// Makes each call of a fault fail in turn, and checks how the command ends.
 fn check_fault(
     rt: &impl Abort,
     alloc: Global,
@@ -174,7 +174,7 @@ fn check_fault(
     Ok(())
 }
 
-// Lets the calls of these faults fail, and then the one behind the last of them.
+// Makes the calls of these faults fail in turn; the call after the last of them is never made.
 fn check_faults(
     rt: &impl Abort,
     alloc: Global,
@@ -235,7 +235,7 @@ fn a_failing_write_leaves_what_was_written(rt: HostRuntime) -> Result<(), Fail> 
     Ok(())
 }
 
-// So many times the same byte.
+// The same byte `count` times.
 fn repeated(alloc: Global, byte: u8, count: usize) -> Result<Vec<u8>, NoMemory> {
     let mut bytes = Vec::with_capacity(alloc, count)?;
     for _ in 0..count {

@@ -1,6 +1,8 @@
-//! Whole commands through the top call, over a desk in memory: reports of small replays, notes, failing calls of the desk.
+//! Tests of whole commands through the top call, on a desk in memory: reports of small replays,
+//! notes, and calls of the desk that fail.
 //!
-//! They stand apart from the crate that they test, since a crate with tests is proved twice.
+//! They stand in a crate of their own, since a crate with tests is proved twice. They show what no
+//! contract says; other layers take nothing from them.
 #![tactic(auto)]
 
 #[cfg(test)]

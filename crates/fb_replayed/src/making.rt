@@ -1,4 +1,4 @@
-// Traces and scripts that are made, and replayed.
+// Traces and scripts that a make writes, and their replays.
 ghost use Rattle.std.specs.Prelude.{◌<◌};
 
 use crate::scene::{Scene, TWELVE, disk, end, scripted, unscripted};
@@ -6,7 +6,7 @@ use std::alloc::Global;
 use std::process::Abort;
 use std::test::Fail;
 
-// Words that ask for a trace on a disk of 96 sectors, and the trace.
+// The words of a make on a disk of 96 sectors, and the trace that it has to write.
 const MADE: &[(&str, &str)] = &[
     (
         "freeblock make --params k --trace t --calls c --number 7 --requests 3",
@@ -18,7 +18,7 @@ const MADE: &[(&str, &str)] = &[
     ),
 ];
 
-// The script for that disk.
+// The script that it has to write for that disk.
 const SCRIPT: &str =
     "0.000000 open scrub scrub 1 16\n0.000000 want scrub 0 96\n0.000000 open backup backup 2 16\n0.000000 want backup 0 96\n";
 
@@ -60,8 +60,8 @@ fn traces_and_scripts_are_made(rt: HostRuntime) -> Result<(), Fail> {
     Ok(())
 }
 
-// Checks the replays of a made trace and its script: their foreground is the same, and their summary
-// counts the requests.
+// Checks the replays of a made trace and its script: their foreground is the same, and their
+// summary counts the requests.
 fn check_replays(rt: &impl Abort, alloc: Global, scene: &Scene) -> Result<(), Fail>
     requires { 0 < scene.now.piece }
 {

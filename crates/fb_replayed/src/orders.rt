@@ -1,4 +1,4 @@
-// Each order of service, through the program's words.
+// Each order of service, chosen by the words of the command line.
 ghost use Rattle.std.specs.Prelude.{◌<◌};
 
 use crate::scene::{Scene, TWELVE, disk, end, unscripted};
@@ -6,7 +6,7 @@ use std::alloc::Global;
 use std::process::Abort;
 use std::test::Fail;
 
-// Four requests of which three wait at once, one of them on each side of the head and two on one.
+// Four requests: while the first is served three more arrive, one above the head and two below it.
 const CROWD: &str = "0 0 48 1 1\n0.0001 0 24 1 1\n0.0001 0 72 1 1\n0.0001 0 24 1 1\n";
 
 // Words that name an order of service, and the crowd's foreground report in it.
@@ -29,7 +29,7 @@ const ORDERS: &[(&str, &str)] = &[
     ),
 ];
 
-// Checks the crowd's report in an order of service.
+// Checks the report of these requests in an order of service.
 fn check_order(
     rt: &impl Abort,
     alloc: Global,

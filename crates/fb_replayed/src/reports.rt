@@ -112,7 +112,7 @@ const REPLAYS: &[Replay] = &[
 
 const HEX: &str = "freeblock replay --params k --trace t --policy fcfs --bytes hex";
 
-// Checks a whole report, written by one byte a call.
+// Checks a whole report, on a desk that moves one byte a call.
 fn check_replay(rt: &impl Abort, alloc: Global, replay: &Replay) -> Result<(), Fail> {
     let params = disk(alloc, replay.before, replay.within)?;
     let mut scene = unscripted(params.as_bytes(), replay.trace.as_bytes());

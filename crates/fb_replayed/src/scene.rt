@@ -1,4 +1,4 @@
-// What commands find in tests, and how they end.
+// The files that commands of the tests find, and how the commands end.
 ghost use Rattle.std.specs.Prelude.{◌<◌};
 ghost use Rattle.fb_desk.specs.View.{IsUnused};
 ghost use Rattle.fb_desk.specs.Memory.{memory_view};
@@ -10,8 +10,8 @@ use std::alloc::Global;
 use std::process::Abort;
 use std::test::Fail;
 
-// All functions but the one that makes a desk borrow it, and none has a `?` while it holds one: to let
-// go of a desk takes long to prove, at each of a function's ends.
+// All functions but the one that makes a desk borrow it, and none has a `?` while it holds one: to
+// let go of a desk takes long to prove, at each of a function's ends.
 
 const ROOM: usize = 10_000_000;
 
@@ -20,7 +20,7 @@ const BEFORE_ZONE: &str =
 
 const ZONE: &str = "[[zone]]\nfirst = 0\nlast = 3\n";
 
-/// A line of the zone of a disk of 96 sectors.
+/// The line of a zone with which the small disk has 96 sectors.
 pub const TWELVE: &str = "sectors = 12\n";
 
 /// A disk of 10,000 rotations a minute with 16,739,688 sectors.
@@ -53,7 +53,7 @@ pub const LARGE: &str = "version = 1\n\
     cylinder_skew = 46\n\
     spares = 2\n";
 
-/// What a command finds.
+/// The files that a command finds, and how the desk behaves.
 #[derive(Clone, Copy)]
 pub struct Scene<'a> {
     /// The parameter file `k`.
@@ -62,20 +62,26 @@ pub struct Scene<'a> {
     pub trace: &'a [u8],
     /// The call script `c`.
     pub calls: &'a [u8],
-    /// How many bytes a call of the desk moves.
+    /// How many bytes a call of the desk moves at most.
     pub piece: usize,
-    /// The number of the call that fails, or 0.
+    /// The number of the call that fails, from 1, or 0 where none does.
     pub failing: u64,
 }
 
 /// How a command ended, and what it wrote.
 #[derive(Drop)]
 pub struct Ending {
+    /// The exit status.
     pub status: u8,
+    /// The bytes of the foreground report, or of the summary.
     pub fore: Vec<u8>,
+    /// The bytes of the background report.
     pub back: Vec<u8>,
+    /// The bytes of the note.
     pub note: Vec<u8>,
+    /// The bytes of the trace that a make writes.
     pub made_trace: Vec<u8>,
+    /// The bytes of the call script that a make writes.
     pub made_calls: Vec<u8>,
 }
 
@@ -98,7 +104,7 @@ pub fn disk(alloc: Global, before: &str, within: &str) -> Result<String, NoMemor
     Ok(text)
 }
 
-/// These files, on a desk that moves many bytes a call and doesn't fail.
+/// These files, on a desk that moves many bytes a call and never fails.
 pub fn scripted<'a>(params: &'a [u8], trace: &'a [u8], calls: &'a [u8]) -> Scene<'a>
     ensures { 0 < result.piece }
 {
@@ -118,7 +124,7 @@ pub fn unscripted<'a>(params: &'a [u8], trace: &'a [u8]) -> Scene<'a>
     scripted(params, trace, b"")
 }
 
-/// How these words end.
+/// How a command with these words ends. The only error is out of memory.
 pub fn end(alloc: Global, scene: &Scene, words: &str) -> Result<Ending, NoMemory>
     requires { 0 < scene.now.piece }
 {
@@ -144,7 +150,7 @@ pub fn check_refused(
     Ok(())
 }
 
-// How these words end over an empty desk.
+// How a command with these words ends on an empty desk.
 fn end_over(
     alloc: Global,
     desk: &mut MemoryDesk,
@@ -159,7 +165,7 @@ fn end_over(
     written(alloc, desk, status_of(outcome))
 }
 
-/// Puts the files of a scene in their places.
+/// Puts the files of a scene on a desk. The only error is out of memory.
 pub fn fill(desk: &mut MemoryDesk, scene: &Scene) -> Result<(), NoMemory>
     requires { IsUnused (memory_view desk.old) }
     ensures { IsUnused (memory_view desk.new) }
@@ -186,7 +192,7 @@ fn written(alloc: Global, desk: &MemoryDesk, status: u8) -> Result<Ending, NoMem
     })
 }
 
-/// Words with a space between them.
+/// The words of a text, which are separated by single spaces. The only error is out of memory.
 pub fn split(alloc: Global, text: &str) -> Result<Vec<String>, NoMemory> {
     let mut words = Vec::new(alloc);
     for word in text.split(' ') {

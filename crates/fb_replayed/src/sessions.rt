@@ -300,7 +300,7 @@ const KINDS: &[Case] = &[
 
 const WORDS: &str = "freeblock replay --params k --trace t --policy fcfs --calls c --back b ";
 
-// How a replay ends with these words behind its own, over a desk that moves so many bytes a call.
+// How a replay ends with these options added, on a desk that moves `piece` bytes a call.
 fn end_of(alloc: Global, case: &Case, options: &str, piece: usize) -> Result<Ending, NoMemory>
     requires { 0 < piece }
 {
@@ -316,7 +316,7 @@ fn end_of(alloc: Global, case: &Case, options: &str, piece: usize) -> Result<End
     end(alloc, &scene, words.as_str())
 }
 
-// Checks both reports of a replay, written by so many bytes a call.
+// Checks both reports of a replay, on a desk that moves `piece` bytes a call.
 fn check_reports(rt: &impl Abort, alloc: Global, case: &Case, piece: usize) -> Result<(), Fail>
     requires { 0 < piece }
 {
@@ -329,7 +329,7 @@ fn check_reports(rt: &impl Abort, alloc: Global, case: &Case, piece: usize) -> R
     Ok(())
 }
 
-// Checks the reports of these replays, by one byte a call and by many.
+// Checks the reports of these replays, by one byte a call and by many bytes a call.
 fn check_cases(rt: &impl Abort, alloc: Global, cases: &[Case]) -> Result<(), Fail> {
     for case in cases {
         check_reports(rt, alloc, case, 1)?;
