@@ -1,4 +1,4 @@
--- The first segment of greatest benefit, found one by one.
+-- The first segment with the greatest ratio of benefit to cost, found one by one.
 use Rattle.std.proofs.Common.{◌≡◌, ℕ, ◌+◌, ◌<◌, List, [], ◌∷◌, ◌++◌, Option, Some, None, Bool, true, false, refl, arith, ap, ap₂, sym, ◌∙◌, length, cond, take, slice_get, append-nil, zero, suc, ◌&&◌, ◌≤◌, IfSome, IfNone}
 use Rattle.std.specs.List.{best_of}
 use Rattle.std.proofs.lemmas.List.{take_all}
@@ -37,7 +37,7 @@ waiting_cons : (w : Bool) (x : LogSegment) (xs ys zs : List LogSegment) → wait
 waiting_cons true x xs ys zs e = ap (λ rest. x ∷ rest) e
 waiting_cons false x xs ys zs e = e
 
--- those left to choose up to one place more
+-- those left to choose up to one more place
 waiting_more : (segments : List LogSegment) (n : ℕ) (s : LogSegment) → slice_get segments n ≡ Some s → waiting (take (n + 1) segments) ≡ waiting (take n segments) ++ cond s.waits (s ∷ []) []
 waiting_more [] n s at = absurd (grind arith)
 waiting_more (x ∷ segments) zero s at = ap (λ one. waiting (one ∷ [])) (some_one x s at) ∙ waiting_one s.waits s refl

@@ -1,4 +1,4 @@
--- The first of greatest benefit is greatest.
+-- The first segment with the greatest ratio of benefit to cost is the one to choose.
 use Rattle.std.proofs.Common.{◌≡◌, ◌≢◌, ℕ, zero, suc, ◌+◌, ◌-◌, ◌*◌, ◌<◌, ◌≤◌, List, [], ◌∷◌, Option, Some, None, true, false, refl, arith, ap, sym, ◌∙◌, subst, cond, length, ◌⊎◌, inl, inr}
 use Rattle.std.proofs.lemmas.Bool.{cases_Bool}
 use Rattle.std.specs.List.{AllByRecursion, Contains, best_of}
@@ -30,9 +30,9 @@ module _ (ga ca gx cx gb cb : ℕ) (some : 0 < cx) where
       let two : gx * cb * ca < gb * cx * ca = mul-lt-mul_of_pos_right q h in
       lt_of_mul-lt-mul_right cx (omega (arith, one, two))
 
--- ---- benefits
+-- ---- ratios of benefit to cost
 
--- the first segment has a lesser benefit
+-- the first segment has a smaller ratio
 abbrev Less : LogSegment → LogSegment → Type 0
 Less a b = gain a * cost b < gain b * cost a
 
@@ -54,7 +54,7 @@ some_right m (suc n) h = omega arith
 gain-cost : (s : LogSegment) → 0 < gain s → 0 < cost s
 gain-cost s h = let free = some_left (s.blocks - length s.live) s.age h in omega arith
 
--- both of two benefits that differ have a cost
+-- where one ratio is greater than another, both segments have a cost
 less-costs : (a b : LogSegment) → Less a b → (0 < cost a) × (0 < cost b)
 less-costs a b less =
     let some : 0 < gain b * cost a = omega arith in
@@ -75,7 +75,7 @@ best_taken a x xs wins = ap (λ b. best (cond b x a) xs) wins
 best_kept : (a x : LogSegment) (xs : List LogSegment) → is_better x a ≡ false → best a (x ∷ xs) ≡ best a xs
 best_kept a x xs loses = ap (λ b. best (cond b x a) xs) loses
 
--- the best of all is the first or has a greater benefit
+-- the best of all is the first one or has a greater ratio
 abbrev Won : LogSegment → LogSegment → Type 0
 Won a b = (b ≡ a) ⊎ Less a b
 
@@ -108,7 +108,7 @@ others_at_most a (x ∷ xs) = elim (cases_Bool (is_better x a)) [
   | inr loses ↦ subst (AreAtMost (x ∷ xs)) (sym (best_kept a x xs loses)) (at_most-chain x a (best a xs) (no_better x a loses) (won a xs), others_at_most a xs)
 ]
 
--- ---- the lesser number
+-- ---- the smaller number
 
 -- numbers don't fall, from n on
 abbrev Ascend : ℕ → List LogSegment → Type 0
@@ -128,7 +128,7 @@ ascend-waiting m n (s ∷ segments) le numbered =
       | inr gone ↦ rw gone (ascend-waiting m (n + 1) segments (omega arith) numbered.1)
     ]
 
--- of segments of the same benefit this one has the lesser number
+-- among segments with the same ratio this one has the smallest number
 abbrev IsBefore : LogSegment → LogSegment → Type 0
 IsBefore b other = 0 < cost other → gain other * cost b ≡ gain b * cost other → b.number ≤ other.number
 

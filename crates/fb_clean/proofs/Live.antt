@@ -35,7 +35,7 @@ less_room n m lbn block bound e room = let one = subst (λ k. lbn + k * block �
 pub room_after : (live : List Bool) (i lbn block bound : ℕ) (is_live : Bool) → slice_get live i ≡ Some is_live → lbn + length (drop i live) * block ≤ bound → lbn + block + length (drop (i + 1) live) * block ≤ bound
 room_after live i lbn block bound is_live at room = less_room (length (drop i live)) (length (drop (i + 1) live)) lbn block bound (ap length (drop_one live i is_live at)) room
 
--- one block more
+-- one more block
 pub blocks_more : (live : List Bool) (i lbn block : ℕ) (is_live : Bool) (lbns now whole : List ℕ) → slice_get live i ≡ Some is_live → now ≡ lbns ++ cond is_live (lbn ∷ []) []
     → lbns ++ live_blocks block lbn (drop i live) ≡ whole → now ++ live_blocks block (lbn + block) (drop (i + 1) live) ≡ whole
 blocks_more live i lbn block is_live lbns now whole at e so_far =

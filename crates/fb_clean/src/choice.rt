@@ -5,7 +5,8 @@ ghost use Rattle.fb_clean.specs.Best.{HoldsBest, beats_best};
 
 use crate::segment::Segment;
 
-/// The place, from 0, of the first segment of greatest benefit among those still to be chosen.
+/// The place, from 0, of the first segment with the greatest ratio of benefit to cost among those
+/// still to be chosen.
 ///
 /// `None` where no segment is left to choose.
 pub fn best_waiting(segments: &[Segment]) -> Option<usize>

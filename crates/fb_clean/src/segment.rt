@@ -93,7 +93,7 @@ impl Segment {
         other.product(self) < self.product(other)
     }
 
-    /// This segment's benefit times the other's cost.
+    /// This segment's benefit, its free blocks times its age, times the other's cost in blocks.
     ///
     /// Two ratios of benefit to cost are compared by these products, without a division.
     pub fn product(&self, other: &Segment) -> u128

@@ -110,7 +110,7 @@ impl Segments {
         self.segments[segment as usize - 1].live()[i as usize]
     }
 
-    /// Chooses the segment of greatest benefit, and returns its number.
+    /// Chooses the segment with the greatest ratio of benefit to cost, and returns its number.
     ///
     /// `None`, and nothing is chosen, while the last chosen segment is unfinished, or where no
     /// segment is left.

@@ -9,7 +9,7 @@ use Rattle.fb_model.specs.PlainReplay.{fcfs}
 use Rattle.fb_worked.specs.SmallDisk.{small_disk}
 use Rattle.fb_worked.specs.Rows.{Worked, at, reading, writing, untouched, row, call, block, got, got_line, gap_line, idle_line, done_line, segment_line, task_line}
 
--- two segments, the later one of greater benefit
+-- two segments, the later one with the greater ratio of benefit to cost
 abbrev pub segments_by_benefit : Worked
 segments_by_benefit = record {
   inputs = record {

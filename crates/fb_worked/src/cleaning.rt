@@ -4,10 +4,10 @@ ghost use Rattle.fb_worked.specs.Cleaning.{segments_by_benefit, segment_without_
 
 /// Full runs that show how segments are chosen and cleaned.
 ///
-/// The segment of greater benefit is chosen first. One without live blocks is cleaned as soon as it
-/// is chosen. The contents of a segment are what its blocks held as they passed. When a session is
-/// closed, its chosen blocks are aborted and it is complete. A suspended session chooses a segment,
-/// but reads it only after the resume.
+/// The segment with the greater ratio of benefit to cost is chosen first. One without live blocks
+/// is cleaned as soon as it is chosen. The contents of a segment are what its blocks held as they
+/// passed. When a session is closed, its chosen blocks are aborted and it is complete. A suspended
+/// session chooses a segment, but reads it only after the resume.
 pub fn worked_segments()
     ensures segments_by_benefit { IsFull segments_by_benefit.inputs segments_by_benefit.run }
     ensures segment_without_live_blocks { IsFull segment_without_live_blocks.inputs segment_without_live_blocks.run }
