@@ -22,14 +22,14 @@ Holds waiting key request = get order waiting key ≡ Some request
 abbrev pub AllHeld : (ℕ × ℕ → Request → Type 0) → BTreeMap (ℕ × ℕ) Request → Type 0
 AllHeld P waiting = (key : ℕ × ℕ) (request : Request) → Holds waiting key request → P key request
 
--- a request that waits, behind its spot and its number of joining
+-- a request that waits, with its spot and its number of joining
 abbrev pub Waiting : Type 0
 Waiting = (ℕ × ℕ) × Request
 
 abbrev pub number_of : Waiting → ℕ
 number_of w = w.0.1
 
--- a request among others that are in order of joining
+-- a request put in its place among others in order of joining
 abbrev pub join_in : Waiting → List Waiting → List Waiting
 join_in w [] = w ∷ []
 join_in w (x ∷ xs) = if nat_lt (number_of w) (number_of x) then w ∷ x ∷ xs else x ∷ join_in w xs
@@ -43,7 +43,7 @@ in_order (w ∷ ws) = join_in w (in_order ws)
 abbrev pub pending_of : List Waiting → List Request
 pending_of ws = map (λ w. w.1) (in_order ws)
 
--- no two have one number
+-- no two have the same number
 abbrev pub AreNumbered : List Waiting → Type 0
 AreNumbered [] = Unit {0}
 AreNumbered (w ∷ ws) = AllByRecursion (λ x. number_of x ≢ number_of w) ws × AreNumbered ws
@@ -53,7 +53,7 @@ pub record IsIndex (ws : List Waiting) (joined : ℕ) : Type 0 where
   pub given : AllByRecursion (λ w. number_of w < joined) ws
   pub numbered : AreNumbered ws
 
--- a rank and a number of joining that come before others, or are the same
+-- of two requests, by rank and then by number of joining, the first comes no later than the second
 abbrev pub IsNoLater : ℕ → ℕ → ℕ → ℕ → Type 0
 IsNoLater rank number other_rank other_number = (rank < other_rank) ⊎ ((rank ≡ other_rank) × (number ≤ other_number))
 

@@ -27,8 +27,10 @@ pub trait Choice: Drop {
         requires { IsRequestOf disk.now.map request.now }
         ensures { stands disk.now request.now result };
 
-    /// The spot and the number of joining of the request of least key, and of those the one that
-    /// joined first, when the head is on a track at a moment.
+    /// The spot and the number of joining of the request of least key, while the head is on this
+    /// track at the instant `now`, in ns.
+    ///
+    /// Of several requests with the least key the one that joined first is chosen.
     fn choose(
         &self,
         waiting: &BTreeMap<(u64, u64), Request>,

@@ -9,7 +9,8 @@ ghost use Rattle.fb_fastq.specs.Turns.{turn};
 use fb_units::{NoMemory, Request};
 use std::collections::BTreeMap;
 
-/// The first request at a spot or behind it: of the least spot, and of those the one that joined first.
+/// The request of the least spot from this one on; of several at that spot, the one that joined
+/// first.
 pub fn next_from(
     waiting: &BTreeMap<(u64, u64), Request>,
     spot: u64,
@@ -42,7 +43,8 @@ pub fn last_before(
     }
 }
 
-/// The key of the request of the last spot before this one, and of those the one that joined first.
+/// The key of the request of the greatest spot before this one; of several at that spot, the one
+/// that joined first.
 pub fn first_before(waiting: &BTreeMap<(u64, u64), Request>, spot: u64) -> Option<(u64, u64)>
     ensures found { IfSome result (Waits waiting.now) }
     ensures before { IfSome result (λ key. key.0 < spot) }
@@ -83,10 +85,10 @@ pub fn next_in(
     }
 }
 
-/// The request of a ring of spots that comes next from one of them on, round from the ring's end to its
-/// start, and of those at one spot the one that joined first.
+/// The next request in a ring of `length` spots that begins at spot `start`.
 ///
-/// `from` is counted from the ring's start.
+/// The search begins `from` spots behind `start`, and goes on from the ring's end to its start. Of
+/// several requests at one spot the one that joined first is found.
 pub fn next_round(
     waiting: &BTreeMap<(u64, u64), Request>,
     start: u64,
@@ -107,7 +109,9 @@ pub fn next_round(
     }
 }
 
-/// Adds a request behind all others, at its spot; where memory is wanting all stays.
+/// Adds a request at its spot, behind all that joined before.
+///
+/// The only error is out of memory, after which nothing has changed.
 pub fn add(
     waiting: &mut BTreeMap<(u64, u64), Request>,
     spot: u64,

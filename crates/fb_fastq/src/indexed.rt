@@ -12,7 +12,8 @@ use std::alloc::Global;
 use std::collections::BTreeMap;
 use std::marker::Model;
 
-/// Requests that wait, by spot and number of joining, of which a choice takes the first of least key.
+/// Waiting requests in an index by spot and number of joining; the choice finds the one of least
+/// key.
 #[derive(Drop)]
 pub struct Indexed<C: Choice> {
     choice: C,

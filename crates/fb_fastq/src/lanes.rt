@@ -9,10 +9,10 @@ ghost use Rattle.fb_fastq.specs.Lanes.{IsLane, IsAlong};
 use fb_service::{Approach, Disk};
 use fb_units::{Ns, Request, Track};
 
-/// The room of a lane along all lanes, in nanoseconds: the longest rotation.
+/// The length of each lane, in ns: room for the longest rotation.
 pub const LANE: Ns = 1_000_000_000;
 
-/// The room of a cylinder: for as many lanes as the most heads need.
+/// The length of a cylinder's lanes, in ns: room for two lanes for each of 64 heads.
 const CYLINDER: Ns = 128 * LANE;
 
 /// A track for reads or for writes.
@@ -20,7 +20,7 @@ const CYLINDER: Ns = 128 * LANE;
 pub struct Lane {
     pub track: Track,
     pub write: bool,
-    /// Where the lane starts along all lanes, with the platter at angle 0.
+    /// Where the lane, and so angle 0 of its track, lies along all lanes laid end to end, in ns.
     pub start: Ns,
 }
 
@@ -61,7 +61,7 @@ fn lane_at(disk: &Disk, track: Track, write: bool) -> Lane
     }
 }
 
-/// The lane of a request, by the way to its cylinder.
+/// The lane of a request whose cylinder the approach has looked up already.
 pub fn lane_of(disk: &Disk, near: &Approach, request: &Request) -> Lane
     requires near { IsRun disk.now.map near.now.run }
     requires first { near.now.run.first ≤ request.now.lbn }
@@ -75,7 +75,7 @@ pub fn lane_of(disk: &Disk, near: &Approach, request: &Request) -> Lane
     lane_at(disk, place.track, request.write)
 }
 
-/// How far along all lanes a request's first sector begins.
+/// Where a request's first sector begins along all lanes laid end to end, in ns.
 pub fn along(disk: &Disk, request: &Request) -> Ns
     requires { IsRequestOf disk.now.map request.now }
     ensures { IsAlong disk.now request.now result }

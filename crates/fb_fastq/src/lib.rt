@@ -4,12 +4,12 @@
 //! order of joining. They keep a ring, or an index in which each request has a spot, and those at one
 //! spot stand in order of joining.
 //!
-//! For `SstfMap` and `ClookMap` the spot is the cylinder, so that the first request of the nearest one
-//! or of the next one is found at once. For `SptfLanes` all tracks are laid end to end, each once for
-//! reads and once for writes, since a write has to settle. The spot is how far along these lanes the
-//! request's first sector begins, so that of each lane the next one from the angle of arrival on is
-//! found at once. The lanes are tried outwards from the head's cylinder, on each side until the arm's
-//! way alone takes longer than the shortest wait found.
+//! For `SstfMap` and `ClookMap` the spot is the cylinder, so that the first request of the nearest
+//! one or of the next one is found at once. For `SptfLanes` all tracks are laid end to end, each
+//! once for reads and once for writes, since a write has to settle. The spot is how far along these
+//! lanes the request's first sector begins, so that in each lane the next request from the angle of
+//! arrival on is found at once. The lanes are tried outwards from the head's cylinder, on each side
+//! until the seek alone takes longer than the shortest wait found.
 #![tactic(auto)]
 
 mod choice;

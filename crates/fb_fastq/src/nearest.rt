@@ -20,7 +20,8 @@ pub struct Nearest;
 /// Shortest seek time first, over an index by cylinder.
 pub type SstfMap = Indexed<Nearest>;
 
-// The request of the nearest spot that joined first; of two as near, of the requests of both.
+// The first to join among the requests of the nearest spot; where two spots are equally near, among
+// the requests of both.
 fn first_of_nearest(waiting: &BTreeMap<(u64, u64), Request>, spot: u64) -> (u64, u64)
     requires { 0 < length waiting.now.entries }
     ensures found { Waits waiting.now result }

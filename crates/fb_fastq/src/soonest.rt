@@ -31,7 +31,8 @@ pub struct Candidate {
     pub wait: Ns,
 }
 
-// The request of a key as a candidate, where the way to its cylinder may be one that is known.
+// The request under a key as a candidate; `near` saves the look-up where it is of the same
+// cylinder.
 fn candidate_of(
     disk: &Disk,
     from: Departure,
@@ -50,7 +51,7 @@ fn candidate_of(
     Candidate { key, wait }
 }
 
-// The sooner of two, or of two that are as soon the one that joined first.
+// The sooner of two; of two with the same wait, the one that joined first.
 fn sooner(a: Candidate, b: Candidate) -> Candidate
     ensures one { (result ≡ a) ⊎ (result ≡ b) }
     ensures first { IsBefore result a }
@@ -63,7 +64,7 @@ fn sooner(a: Candidate, b: Candidate) -> Candidate
     }
 }
 
-// Whether the arm's way to a cylinder alone takes longer.
+// Whether the seek to a cylinder alone takes longer than this wait, in ns.
 fn is_too_far(disk: &Disk, from: Departure, near: &Approach, wait: Ns) -> bool
     requires near { IsApproach disk.now from near.now }
     ensures { result ≡ true → (now : ℕ) (r : Request) → distance_of from.track.cylinder near.now.run.on.number ≤ distance_of from.track.cylinder (track_at disk.now.map r.lbn).cylinder → wait < sptf disk.now from.track now r }
@@ -86,7 +87,7 @@ fn angle_on(disk: &Disk, from: Departure, near: &Approach, lane: Lane) -> Ns
     (from.instant + way) % disk.map.geometry().rotation()
 }
 
-// The soonest of a candidate and of the requests of a lane.
+// The soonest among a candidate and the requests of a lane.
 fn soonest_of_lane(
     waiting: &BTreeMap<(u64, u64), Request>,
     disk: &Disk,

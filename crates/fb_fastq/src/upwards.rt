@@ -9,7 +9,7 @@ use fb_service::Disk;
 use fb_units::{Ns, Request, Track};
 use std::collections::BTreeMap;
 
-/// The next cylinder upwards first, and from the last one on the first.
+/// The next cylinder upwards first, and after the last cylinder the first one again.
 #[derive(Clone, Copy, Default)]
 pub struct Upwards;
 
