@@ -64,7 +64,8 @@ worth_in_time disk gap es track leave depth slots left sound own on_disk is deep
       mul-le depth (early + late) depth (left / (rotation / slots) + 2) (omega arith) passing,
     )
 
--- nor is one that leaves in a stretch worth more than what passes by the stretch's end, and what the target gives after a leave at its begin
+-- nor is one that leaves in a stretch of time worth more than what passes by the end of the stretch,
+-- and what the target gives after a leave at its beginning
 pub worth_by_stretch : (disk : Disk) (gap : Gap) (es : List Entry) (late : LateParts) (track : Track) (leave depth slots weight arrive on from time : ℕ) → IsSound disk.map → HasOwnPlaces disk.map → AreOnDisk disk es → IsLate disk gap es late
     → IsDetour disk gap track leave → ((lbn : ℕ) → depth_at track lbn es ≤ depth) → slots_at disk.map.zones track.cylinder ≤ slots → 0 < disk.map.rotation / slots → wanted_weight track es ≤ weight
     → arrive ≤ gap.now + pos disk.mechanism gap.source track false → on ≤ pos disk.mechanism track gap.target gap.write → gap.now ≤ from → from ≤ leave → leave ≤ arrive + time

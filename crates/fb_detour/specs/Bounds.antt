@@ -1,4 +1,4 @@
--- What bounds the value of detours.
+-- Upper bounds on the value of detours.
 use Rattle.std.specs.Prelude.{◌≡◌, ℕ, false, ◌+◌, ◌-◌, ◌*◌, ◌/◌, ◌^◌, ◌<◌, ◌≤◌, ◌⊎◌, min, nat_lt, get_or, take, List, ◌&&◌, if◌then◌else◌}
 use Rattle.std.specs.List.{sum_by}
 use Rattle.fb_units.specs.declared.types.Track.{Track}
@@ -29,7 +29,7 @@ stay_gain disk dwell entry = if is_wanted entry.state && catches disk dwell entr
 abbrev pub wanted_worth : Entry → ℕ
 wanted_worth entry = if is_wanted entry.state then entry.block.weight * entry.block.count else 0
 
--- what a stay from an instant up to another doesn't catch, since it hasn't passed whole by then
+-- the worth of a wanted block that a stay misses, since it hasn't passed whole by the end
 abbrev pub missed : Disk → ℕ → ℕ → Entry → ℕ
 missed disk arrive latest entry = if is_wanted entry.state && nat_lt latest (block_end disk.map entry.block arrive) then entry.block.weight * entry.block.count else 0
 
@@ -37,7 +37,7 @@ missed disk arrive latest entry = if is_wanted entry.state && nat_lt latest (blo
 unfoldable pub stay : Disk → Dwell → List Entry → ℕ
 stay disk dwell entries = sum_by (stay_gain disk dwell) (on_track dwell.track entries)
 
--- the stay on the target of a head that comes there then
+-- the stay on the target of a head that comes there at an instant
 abbrev pub late_most : Gap → ℕ → Dwell
 late_most gap from = record { track = gap.target; begin = from; end = gap.deadline }
 
@@ -49,18 +49,18 @@ sum_of_first n numbers = sum_by (λ number. number) (take n numbers)
 abbrev pub early_to : Track → ℕ → ℕ → Dwell
 early_to track arrive upto = record { track = track; begin = arrive; end = upto }
 
--- the part at the last step that is no later
+-- the part that the instant lies in
 abbrev pub part_at : LateParts → ℕ → ℕ
 part_at late from = get_or late.parts (min ((from - late.begin) / late.step) 31) 0
 
--- each part is no less than what the target can still give after so many steps
+-- each part is an upper bound on what the target can still give from the beginning of that part on
 pub record IsLate (disk : Disk) (gap : Gap) (entries : List Entry) (late : LateParts) : Type 0 where
   pub some : 0 < late.step
   pub from_now : late.begin ≤ gap.now
   pub each : (k : ℕ) → k < 32 → stay disk (late_most gap (late.begin + k * late.step)) entries ≤ get_or late.parts k 0
   pub small : (k : ℕ) → k < 32 → get_or late.parts k 0 ≤ 16000000 * 2048000
 
--- the ceiling of the plan that leaves then: what the track gives up to the end of the leave's stretch, and what the target gives after the move
+-- the ceiling of the plan that leaves at an instant: what the track gives up to the end of that stretch, and the target after the move
 abbrev pub ceiling_at : Ceilings → ℕ → ℕ
 ceiling_at ceilings leave = get_or ceilings.early (min ((leave - ceilings.begin) / ceilings.step) 15) 0 + part_at ceilings.late.now (leave + ceilings.move_on)
 
@@ -85,7 +85,7 @@ pub record IsStop (disk : Disk) (entries : List Entry) (stop : Stop) : Type 0 wh
   pub passing : IsTurning disk stop.passing
   pub from : stop.passing.from ≡ stop.arrive
 
--- how far a cylinder lies from those of a range
+-- how many cylinders a cylinder lies outside a range; 0 inside it
 abbrev pub distance_to : ℕ → ℕ → ℕ → ℕ
 distance_to from end cylinder = (from - cylinder) + (cylinder + 1 - end)
 
@@ -97,23 +97,23 @@ BeatsOver disk gap wanted best track = (leave : ℕ) → IsDetour disk gap track
 abbrev pub BeatsRange : Disk → Gap → List Block → Plan → ℕ → ℕ → Type 0
 BeatsRange disk gap wanted best from end = (track : Track) → from ≤ track.cylinder → track.cylinder < end → BeatsOver disk gap wanted best track
 
--- the plan comes before each detour over this track or a later one
+-- in the order of ties the plan comes before every detour over this track or a later one
 abbrev pub IsAhead : Plan → Track → Type 0
 IsAhead plan track = (other : Track) (leave : ℕ) → (IsTrackBefore other track → ⊥) → IsNoLater plan (Detour other leave)
 
--- no detour of this value, over this track or a later one, is better than the best so far
+-- the best so far is at least as good as any detour of this value over this track or a later one
 abbrev pub IsEnough : Scored → ℕ → Track → Type 0
 IsEnough best ceiling track = (ceiling < best.value) ⊎ ((ceiling ≡ best.value) × IsAhead best.plan track)
 
--- no detour over a track of these cylinders moves for less time
+-- lower bounds on the times of both moves of a detour over a track of these cylinders
 abbrev pub AreLeast : Disk → Gap → ℕ → ℕ → Moves → Type 0
 AreLeast disk gap from end moves = (track : Track) → from ≤ track.cylinder → track.cylinder < end
     → (moves.there ≤ pos disk.mechanism gap.source track false) × (moves.on ≤ pos disk.mechanism track gap.target gap.write)
 
--- no less than what the target gives after the way over the track
+-- an upper bound on what the target can still give after a detour over the track
 abbrev pub IsAfter : Disk → Gap → List Entry → Track → ℕ → Type 0
 IsAfter disk gap entries track most = stay disk (late_most gap (gap.now + pos disk.mechanism gap.source track false + pos disk.mechanism track gap.target gap.write)) entries ≤ most
 
--- no more slots of a track of n than this begin and end in so much time
+-- an upper bound on how many slots, of n on a track, begin and end within a time
 abbrev pub slots_within : ℕ → ℕ → ℕ → ℕ
 slots_within rotation n time = time / (rotation / n) + 1

@@ -1,4 +1,4 @@
-// What bounds the value of detours.
+// Upper bounds on the value of detours.
 ghost use Rattle.std.specs.Prelude.{◌≡◌, ◌+◌, ◌*◌, ◌≤◌, ◌<◌, ◌^◌, ℕ, true, false, nat_le, if◌then◌else◌};
 ghost use Rattle.fb_units.specs.declared.types.Track.{Track};
 ghost use Rattle.fb_geometry.specs.Shape.{IsTrackOf, slots_at};
@@ -16,10 +16,11 @@ use fb_service::Disk;
 use fb_units::{Ns, Track};
 use fb_wanted::{BAND, Wanted};
 
-// Where more time is left, more may pass in it than a number holds.
+// The longest time, in ns, for which a bound is computed: in more time more may pass than a number
+// holds.
 pub const LONG: Ns = 1_000_000_000;
 
-// How far the cylinder lies from those of a range.
+// How many cylinders the cylinder lies outside a range; 0 inside it.
 fn distance_to(from: u32, end: u32, cylinder: u32) -> u32
     requires some { from < end }
     ensures value { result ≡ distance_to from end cylinder }
@@ -33,14 +34,14 @@ fn distance_to(from: u32, end: u32, cylinder: u32) -> u32
     cylinder - (end - 1)
 }
 
-// How long the head moves to a track, and from it on to the target, at least.
+// The least time, in ns, of a move to a track, and of the move on from it to the target.
 #[derive(Clone, Copy)]
 pub struct Moves {
     pub there: Ns,
     pub on: Ns,
 }
 
-// No detour over a track of these cylinders moves for less time.
+// Lower bounds on the times of both moves, over all tracks of these cylinders.
 pub fn least_moves(disk: &Disk, gap: &Gap, from: u32, end: u32) -> Moves
     requires gap { IsGap disk.now gap.now }
     requires some { from < end }
@@ -58,7 +59,8 @@ pub fn least_moves(disk: &Disk, gap: &Gap, from: u32, end: u32) -> Moves
     Moves { there, on }
 }
 
-// No block of these cylinders, or of another track, has a sector of which more is wanted.
+// An upper bound on the weight of the wanted blocks that share one sector, over all blocks of these
+// cylinders and of one other track.
 pub fn most_depth(wanted: &Wanted, from: u32, end: u32, other: Track) -> u64
     requires some { from < end }
     ensures each { (track : Track) (lbn : ℕ) → from ≤ track.cylinder → track.cylinder < end → depth_at track lbn wanted.now ≤ result }
@@ -72,7 +74,7 @@ pub fn most_depth(wanted: &Wanted, from: u32, end: u32, other: Track) -> u64
     depth
 }
 
-// The slots of a track of the zone, if it doesn't end before the cylinder.
+// How many slots a track of the zone has; 0 where the zone ends before the cylinder.
 fn slots_from(zone: Zone, cylinder: u32) -> u32
     ensures { result ≡ (if nat_le cylinder zone.last then zone.sectors else 0) }
 {
@@ -83,7 +85,7 @@ fn slots_from(zone: Zone, cylinder: u32) -> u32
     }
 }
 
-// No track of these cylinders has more slots, nor has another track.
+// An upper bound on the slots of a track, over these cylinders and one other track.
 pub fn most_slots(disk: &Disk, from: u32, end: u32, other: Track) -> u32
     requires some { from < end }
     requires other { IsTrackOf disk.now.map other }
@@ -105,8 +107,9 @@ pub fn most_slots(disk: &Disk, from: u32, end: u32, other: Track) -> u32
     slots
 }
 
-// No detour over a track of these cylinders is worth more: no more sectors pass in the time that is
-// left than slots do, and none lies in blocks of more weight.
+// An upper bound on the value of a detour over a track of these cylinders, by the time that is left
+// beside the moves: no more sectors can pass than slots do, and none counts for more than the most
+// weight that is wanted of one sector.
 pub fn most_in_time(disk: &Disk, wanted: &Wanted, gap: &Gap, from: u32, end: u32, left: Ns) -> u64
     requires some { from < end }
     requires gap { IsGap disk.now gap.now }
@@ -137,7 +140,8 @@ fn is_track_before(a: Track, b: Track) -> bool
     a.head < b.head
 }
 
-// Whether the plan comes before each detour over this track or a later one.
+// Whether the plan comes first, in the order of ties, before every detour over this track or a
+// later one.
 fn is_ahead(plan: Plan, track: Track) -> bool
     ensures { result ≡ true → IsAhead plan track }
 {
@@ -150,7 +154,8 @@ fn is_ahead(plan: Plan, track: Track) -> bool
     }
 }
 
-// Whether no detour of this value, over this track or a later one, is better than the best so far.
+// Whether the best plan so far is at least as good as any detour over this track or a later one
+// whose value is at most the ceiling.
 pub fn is_enough(best: Scored, ceiling: u64, track: Track) -> bool
     ensures { result ≡ true → IsEnough best ceiling track }
 {

@@ -19,7 +19,8 @@ use fb_rows::Gap;
 use fb_service::Disk;
 use fb_wanted::{Entry, Wanted};
 
-// Tries to leave when the passage of a wanted block ends, unless the ceiling says that it isn't better.
+// Tries to leave as the passage of a wanted block ends, unless the ceiling shows that this isn't
+// better.
 fn try_leave(
     disk: &Disk,
     wanted: &Wanted,

@@ -1,4 +1,5 @@
-// When the head leaves a track: stretches of time in which no leave is better than the best so far.
+// The time on a track in stretches: in each of them it is shown that no leave is better than the
+// best so far.
 ghost use Rattle.std.specs.Prelude.{◌≡◌, ◌+◌, ◌*◌, ◌≤◌, ◌<◌, true, false};
 ghost use Rattle.fb_units.specs.declared.types.Track.{Track};
 ghost use Rattle.fb_wanted.specs.States.{wanted_of};
@@ -16,8 +17,9 @@ use fb_service::Disk;
 use fb_units::Track;
 use fb_wanted::Wanted;
 
-// Whether no detour over the track is better than the best so far. In each stretch of leaves the
-// track gives no more than up to its end, and the target no more than after a leave at its begin.
+// Whether it is shown that no detour over the track is better than the best so far. For all leaves
+// in a stretch of time, the track gives at most what it gives to a leave at the end of the stretch,
+// and the target at most what it gives after a leave at its beginning.
 pub fn leaves_beaten(
     disk: &Disk,
     wanted: &Wanted,
@@ -48,8 +50,9 @@ pub fn leaves_beaten(
     true
 }
 
-// Whether no detour over a track of these cylinders is better than the best so far. Up to the end of each stretch
-// a track gives no more than its weight, nor than sectors can pass, none of them in blocks of more weight together.
+// Whether it is shown that no detour over a track of these cylinders is better than the best so
+// far. Up to the end of a stretch of time a track gives at most its weight, and at most the sectors
+// that can pass times the most weight that is wanted of one sector.
 pub fn stretches_beaten(
     disk: &Disk,
     wanted: &Wanted,

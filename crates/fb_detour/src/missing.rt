@@ -1,4 +1,4 @@
-// Tracks of which too many blocks pass too late.
+// Tracks where too many blocks pass too late.
 ghost use Rattle.std.specs.Prelude.{◌≡◌, ◌+◌, ◌*◌, ◌≤◌, ℕ, true};
 ghost use Rattle.fb_plan.specs.Ways.{FitsDisk};
 ghost use Rattle.fb_plan.specs.Turns.{IsUntil};
@@ -11,7 +11,7 @@ use fb_service::Disk;
 use fb_units::Ns;
 use fb_wanted::{Entry, Wanted};
 
-// What the block weighs, where it doesn't pass whole up to the latest instant.
+// The worth of a wanted block that doesn't pass whole by the latest instant; 0 for any other.
 fn missed(disk: &Disk, until: &Until, entry: Entry) -> u64
     requires fits { FitsDisk disk.now entry.block }
     requires until { IsUntil disk.now until.now }
@@ -26,8 +26,9 @@ fn missed(disk: &Disk, until: &Until, entry: Entry) -> u64
     entry.block.weight as u64 * entry.block.count as u64
 }
 
-// Whether the track can't give enough, since so many of its blocks don't pass up to the latest
-// leave. It takes their weights off that of the track, until what is left is no more than enough.
+// Whether it is shown that the track can't give enough, since too many of its blocks don't pass by
+// the latest leave. Their worth is taken off that of the track, one by one, until what is left
+// can't beat the best plan so far.
 pub fn misses_enough(
     disk: &Disk,
     wanted: &Wanted,

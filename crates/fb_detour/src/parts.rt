@@ -1,4 +1,4 @@
-// What a track, or the target, gives by one instant after another, in one array.
+// What a track, or the target, can give, tabulated by instant.
 ghost use Rattle.std.specs.Prelude.{◌≡◌, ◌+◌, ◌-◌, ◌*◌, ◌/◌, ◌≤◌, ◌<◌, ◌^◌, ℕ, get_or, nat_le, if◌then◌else◌, IfSome, IfNone};
 ghost use Rattle.fb_model.specs.Plans.{block_end};
 ghost use Rattle.fb_plan.specs.Ways.{FitsDisk, AreOnDisk, IsGap};
@@ -12,10 +12,11 @@ use fb_service::Disk;
 use fb_units::Ns;
 use fb_wanted::{Block, Entry, Wanted};
 
-// How many parts the time of the gap has.
+// Into how many parts the time of the gap is divided.
 const LATE: usize = 32;
 
-// What the target can still give to a head that comes there after so many steps.
+// What the target can still give to a head that comes there later and later: one entry for each
+// step.
 #[derive(Clone, Copy)]
 pub struct LateParts {
     pub begin: Ns,
@@ -23,7 +24,7 @@ pub struct LateParts {
     pub parts: [u64; LATE],
 }
 
-// The worth, where the instant comes by then.
+// The worth if the instant comes no later than the other, and else 0.
 fn worth_by(instant: Ns, upto: Ns, worth: u64) -> u64
     ensures value { result ≡ (if nat_le instant upto then worth else 0) }
     ensures small { result ≤ worth }
@@ -31,8 +32,8 @@ fn worth_by(instant: Ns, upto: Ns, worth: u64) -> u64
     if instant <= upto { worth } else { 0 }
 }
 
-// The last instant from which a head on the target still catches the block: it comes round once a
-// rotation. None where it doesn't pass whole before the deadline.
+// The last instant at which the head can come to the target and still catch the block, which passes
+// once a rotation; `None` where it doesn't pass whole by the deadline.
 fn last_catch(disk: &Disk, gap: &Gap, passing: &Turning, block: Block) -> Option<Ns>
     requires gap { IsGap disk.now gap.now }
     requires fits { FitsDisk disk.now block }
@@ -50,7 +51,7 @@ fn last_catch(disk: &Disk, gap: &Gap, passing: &Turning, block: Block) -> Option
     Some(passing.begin(disk, block) + turns * rotation)
 }
 
-// Adds the worth to each part that begins by the last instant.
+// Adds the worth to each part that begins no later than the last instant.
 fn add_last(last: Ns, worth: u64, begin: Ns, step: Ns, parts: &mut [u64; LATE])
     requires begin { begin ≤ 9 * 10 ^ 18 }
     requires step { step ≤ 29 * 10 ^ 16 }
@@ -63,7 +64,7 @@ fn add_last(last: Ns, worth: u64, begin: Ns, step: Ns, parts: &mut [u64; LATE])
     }
 }
 
-// Adds the block to each part from whose begin the target still catches it.
+// Adds the worth of the block to each part from whose beginning on it can still be caught.
 fn add_late(
     disk: &Disk,
     gap: &Gap,
@@ -90,7 +91,7 @@ fn add_late(
     }
 }
 
-// What the target can still give at each part of the gap.
+// What the target can still give from the beginning of each part of the gap on.
 pub fn late_parts(disk: &Disk, wanted: &Wanted, gap: &Gap) -> LateParts
     requires gap { IsGap disk.now gap.now }
     requires blocks { AreOnDisk disk.now wanted.now }
@@ -110,7 +111,7 @@ pub fn late_parts(disk: &Disk, wanted: &Wanted, gap: &Gap) -> LateParts
     }
 }
 
-// No less than what the target can still give to a head that comes there then.
+// An upper bound on what the target can still give to a head that comes there at an instant.
 pub fn late_at(late: &LateParts, from: Ns) -> u64
     requires step { 0 < late.now.step }
     requires begin { late.now.begin ≤ from }
@@ -122,10 +123,10 @@ pub fn late_at(late: &LateParts, from: Ns) -> u64
     late.parts[k.min(LATE as u64 - 1) as usize]
 }
 
-// How many stretches the time on a track has.
+// Into how many stretches the time on a track is divided.
 pub const EARLY: usize = 16;
 
-// Adds the block to the first stretch up to whose end it has passed.
+// Adds the worth of the block to the stretch in which its passage ends.
 fn add_entry(disk: &Disk, stop: &Stop, step: Ns, entry: Entry, stretches: &mut [u64; EARLY])
     requires fits { FitsDisk disk.now entry.block }
     requires passing { IsTurning disk.now stop.now.passing }
@@ -158,7 +159,7 @@ fn add_up(stretches: &mut [u64; EARLY])
     }
 }
 
-// What a track gives from the arrival up to the end of each stretch.
+// What a track gives to a head that stays from its arrival to the end of each stretch.
 pub fn early_parts(disk: &Disk, wanted: &Wanted, stop: &Stop, step: Ns) -> [u64; EARLY]
     requires stop { IsStop disk.now wanted.now stop.now }
     requires some { 0 < step }

@@ -1,4 +1,5 @@
-// The search over tracks: a track is passed over where no detour over it is better than the best so far.
+// The search over tracks: a track is passed over where it is shown that no detour over it is better
+// than the best so far.
 ghost use Rattle.std.specs.Prelude.{◌≡◌, ◌+◌, ◌*◌, ◌≤◌, ◌<◌, true, false};
 ghost use Rattle.fb_units.specs.declared.types.Track.{Track};
 ghost use Rattle.fb_units.specs.Tracks.{same_track};
@@ -21,7 +22,7 @@ use fb_service::Disk;
 use fb_units::{Ns, Track};
 use fb_wanted::{TrackBlocks, Wanted};
 
-// Whether the track's blocks, with what the target then gives, weigh too little for a better detour.
+// Whether the track's blocks, with what the target can still give after them, weigh too little.
 fn is_too_light(
     disk: &Disk,
     wanted: &Wanted,
@@ -44,7 +45,7 @@ fn is_too_light(
     is_enough(best, blocks.wanted_weight() + after, track)
 }
 
-// No less than what the target gives after the way over a track of the cylinder.
+// An upper bound on what the target can still give after a detour over a track of the cylinder.
 fn most_after(disk: &Disk, wanted: &Wanted, gap: &Gap, late: &LateParts, cylinder: u32) -> u64
     requires cylinder { cylinder < disk.now.mechanism.cylinders }
     requires gap { IsGap disk.now gap.now }
@@ -230,7 +231,8 @@ fn can_skip(
     stretches_beaten(disk, wanted, gap, late, from, end, moves, weight, best)
 }
 
-// The cylinders before this one, from one on, can be passed over: twice as many at each step.
+// The first cylinder from `from` on that can't be passed over, or `end`. Ranges are tried that grow
+// twofold at each step.
 fn skip(
     disk: &Disk,
     wanted: &Wanted,
@@ -261,7 +263,7 @@ fn skip(
     next
 }
 
-// Tries the tracks of the cylinders from one on, before another.
+// Tries the tracks of the cylinders from `first` on, before `end`.
 fn try_cylinders(
     disk: &Disk,
     wanted: &Wanted,
@@ -295,8 +297,9 @@ fn try_cylinders(
     best
 }
 
-// Tries the tracks of all cylinders: from that of the source on, since what is near promises most, and then those before
-// it. Each time upwards, so that of plans of one value the first in the order of ties is soon found.
+// Tries the tracks of all cylinders: first from the source's cylinder upwards, since near tracks
+// promise most, and then the cylinders below it. Both searches go upwards, so that of plans with
+// the same value the first in the order of ties is found early.
 pub fn try_all(disk: &Disk, wanted: &Wanted, gap: &Gap, late: &LateParts, start: Scored) -> Scored
     requires gap { IsGap disk.now gap.now }
     requires blocks { AreOnDisk disk.now wanted.now }

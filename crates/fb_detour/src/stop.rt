@@ -18,7 +18,7 @@ pub struct Stop<'a> {
     pub passing: Turning,
 }
 
-// The stop that begins then.
+// The stop on a track that begins at the instant `arrive`, in ns.
 pub fn stop_at<'a>(
     disk: &Disk,
     wanted: &Wanted,

@@ -1,4 +1,4 @@
-// What the plans of a way can be worth at most, by when the head leaves.
+// Upper bounds on the value of the plans of a way, by the instant at which the head leaves.
 ghost use Rattle.std.specs.Prelude.{◌≡◌, ◌+◌, ◌*◌, ◌≤◌, ◌<◌, ◌^◌, ℕ, get_or};
 ghost use Rattle.fb_plan.specs.Ways.{IsGap, early_track, arrival, move_on};
 ghost use Rattle.fb_detour.specs.Bounds.{IsLate, IsStop, AreCeilings, ceiling_at};
@@ -21,7 +21,8 @@ pub struct Ceilings<'a> {
     pub late: &'a LateParts,
 }
 
-// Those of a way that stops there.
+// The ceilings of the plans of a way, from its stop; `on` is the time of the move to the target, in
+// ns.
 pub fn ceilings_of<'a>(
     disk: &Disk,
     wanted: &Wanted,
@@ -51,7 +52,7 @@ pub fn ceilings_of<'a>(
     }
 }
 
-// The ceiling of the plan that leaves then.
+// The upper bound on the value of the plan that leaves at this instant.
 pub fn ceiling_at(ceilings: &Ceilings, leave: Ns) -> u64
     requires step { 0 < ceilings.now.step }
     requires begin { ceilings.now.begin ≤ leave }
