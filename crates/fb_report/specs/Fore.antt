@@ -11,11 +11,11 @@ use Rattle.fb_report.specs.Shown.{shown}
 abbrev pub kind_text : Bool → List ℕ
 kind_text write = if write then codes "W" else codes "R"
 
--- a write found nothing
+-- the bytes that a read found; a dash for a write
 abbrev pub row_bytes : ℕ → Bytes → ForeRow → List ℕ
 row_bytes size bytes row = if row.request.write then codes "-" else shown bytes size row.content
 
--- nor a sector that can't be read
+-- how many sectors of a read can't be read; 0 for a write
 abbrev pub bad_count : ForeRow → ℕ
 bad_count row = if row.request.write then 0 else row.bad
 

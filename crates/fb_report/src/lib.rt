@@ -4,7 +4,7 @@
 //! the foreground rows, the number of requests passed over, the sector size and the mode of bytes;
 //! the background text of the background rows, the tasks' names, the run's end, the sector size and
 //! the mode; the summary of the run alone.
-//! Digests are made while the bytes go by, so that none are held.
+//! Digests are computed while the bytes are made, so that no bytes are held.
 #![tactic(auto)]
 
 mod back;

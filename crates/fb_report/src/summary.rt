@@ -9,8 +9,10 @@ use fb_rows::{BackRow, BackRows, ForeRows, Run};
 use fb_units::{NoMemory, Ns};
 use std::alloc::Global;
 
-/// The summary of a run: ten lines, each with the name of what it tells. There are fewer than 2^63
-/// rows, each with less than 2^64 of anything, so that the sums have room in 128 bits.
+/// The summary of a run: ten lines, each of which begins with the name of its figures.
+///
+/// There are fewer than 2^63 rows, and each figure of a row is below 2^64, so that sums fit 128
+/// bits. The only error is out of memory.
 pub fn summary_text(alloc: Global, run: &Run) -> Result<Vec<u8>, NoMemory>
     ensures { IfOk result (λ text. text.items ≡ summary_text run.now) }
 {
