@@ -163,7 +163,7 @@ module _ (v : TaskView) (ascend : Ascend 0 v.blocks) (over : AllByRecursion (λ 
     none_either true = refl
     none_either false = refl
 
-  -- the image has what the delivered v.blocks' last deliveries found
+  -- the image has what the last deliveries of the delivered blocks found
   pub sealed_held : (end : ℕ) → AllByRecursion (λ block. block.lbn + block.count ≤ end) v.blocks → held_in now (range_with_len 0 end) ≡ flat_map (λ block. sectors_of (v.found block)) (filter (λ block. is_delivered (v.bare block)) v.blocks)
   sealed_held end within =
       let whole : end ≡ end - 0 = omega arith in

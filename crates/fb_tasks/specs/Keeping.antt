@@ -18,16 +18,17 @@ use Rattle.fb_wanted.specs.States.{wanted_unless, is_aborted}
 use Rattle.fb_clean.specs.Segments.{Cleaning, taken_for}
 use Rattle.fb_tasks.specs.declared.session.Session.{Session}
 
--- nothing of the log is left: it was closed, or all is chosen and finished
+-- there is no number
 abbrev pub is_none : Option ℕ → Bool
 is_none None = true
 is_none (Some number) = false
 
+-- no work is left in a log that has segments: it was closed, or each segment is chosen and finished
 abbrev pub is_worked_off : Bool → Cleaning → Bool
 is_worked_off closed log = nat_lt 0 (length log.segments)
     && (closed || (is_none log.unfinished && not (list_any (λ segment. segment.waits) log.segments)))
 
--- there is a block, and none is neither delivered nor aborted
+-- there is a block, and each is delivered or aborted
 abbrev pub are_over : Counts → Bool
 are_over counts = nat_lt 0 counts.registered && (counts.delivered + counts.aborted == counts.registered)
 
@@ -61,7 +62,7 @@ pub record IsSameButImage (old new : Session) : Type 0 where
   pub sealed : new.sealed ≡ old.sealed
   pub log : new.log ≡ old.log
 
--- a backup has been sealed where it was to be, and what its image holds has served
+-- a backup has been sealed if it was due; its image isn't needed afterwards
 pub record IsSealed (seals : Bool) (old new : Session) : Type 0 where
   pub kind : new.kind ≡ old.kind
   pub weight : new.weight ≡ old.weight

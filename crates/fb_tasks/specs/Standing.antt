@@ -59,7 +59,7 @@ Ascend from (block ∷ blocks) = (from ≤ block.lbn) × Ascend (block.lbn + blo
 abbrev pub HoldsBlock : Work → (ℕ → Option Content) → Block → Type 0
 HoldsBlock work held block = is_delivered (work.bare block) ≡ true → held_in held (range_with_len block.lbn block.count) ≡ sectors_of (work.found block)
 
--- and nothing is held of other sectors than the blocks'
+-- and nothing is held of sectors outside the blocks
 pub record HoldsImage (work : Work) (held : ℕ → Option Content) : Type 0 where
   pub each : AllByRecursion (HoldsBlock work held) work.blocks
   pub only : (lbn : ℕ) → list_any (λ block. is_within block.lbn block.count lbn) work.blocks ≡ false → held lbn ≡ None
@@ -125,7 +125,7 @@ pub record Stands (view : TaskView) (session : Session) : Type 0 where
   pub log : is_clean session.kind ≡ true → Cleans view.work session.log
   pub unchosen : is_clean session.kind ≡ false → view.choices ≡ []
 
--- no event has spoken of the task
+-- no event has concerned the task
 pub record IsUntouched (view : TaskView) : Type 0 where
   pub suspended : view.suspended ≡ false
   pub closed : view.closed ≡ false

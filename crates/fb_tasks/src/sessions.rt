@@ -32,9 +32,9 @@ use std::marker::Model;
 
 /// The sessions in order of opening: a session's place is its task's number.
 ///
-/// To settle costs as much for each task that was touched since, and a delivery or a call as much for its own task;
-/// a write asks the open backups, and what was opened or touched since the last settling. A session at which nothing
-/// happens costs nothing.
+/// Settling costs time for each task that was touched since the last settling; a delivery or a call
+/// costs time for its own task. A write asks the open backups, and the tasks that were opened or
+/// touched since the last settling. A session to which nothing happens costs nothing.
 #[derive(Drop)]
 pub struct Sessions {
     alloc: Global,
@@ -108,7 +108,8 @@ impl Sessions {
         }
     }
 
-    /// Chooses segments, and tests what is complete: the rows are those of a decision before its plan.
+    /// Lets sessions choose segments and tests what is complete; adds the rows that a decision has
+    /// before its plan.
     pub fn settle(
         &mut self,
         map: &SectorMap,
@@ -125,7 +126,7 @@ impl Sessions {
         self.test_all(wanted, now, rows)
     }
 
-    /// A wanted block is delivered: its row stands, then its findings and what its test gives.
+    /// A wanted block is delivered: adds its row, then its findings and the rows of its test.
     pub fn delivered(
         &mut self,
         wanted: &mut Wanted,
@@ -285,7 +286,7 @@ impl Sessions {
         cleaner.log.add(first, blocks, age, live)
     }
 
-    // Something was done to a task that a choice or a test may find.
+    // Something was done to a task that may change what it chooses or what its test gives.
     fn touch(&mut self, task: u32) -> Result<(), NoMemory>
         requires { task < length self.old }
         ensures { OnOk result ((session : Session) → slice_get self.old task ≡ Some session → self.new ≡ set self.old task (record session { touched = true })) }
@@ -295,7 +296,7 @@ impl Sessions {
         Ok(())
     }
 
-    // Lets each touched session choose, in order of opening: no other would.
+    // Lets each touched session choose, in order of opening: no other would choose anything.
     fn choose_all(
         &mut self,
         map: &SectorMap,

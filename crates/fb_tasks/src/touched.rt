@@ -6,7 +6,9 @@ ghost use Rattle.std.specs.Ordering.{nat_cmp};
 use fb_units::NoMemory;
 use std::collections::BTreeSet;
 
-/// Adds a task to a list, if it is to be there; where memory is wanting all stays.
+/// Adds a task to a list if `is_noted`.
+///
+/// The only error is out of memory, after which nothing has changed.
 pub fn note(list: &mut BTreeSet<u32>, task: u32, is_noted: bool) -> Result<(), NoMemory>
     ensures stay { (k : ℕ) → contains nat_cmp list.old k ≡ true → contains nat_cmp list.new k ≡ true }
     ensures only { (k : ℕ) → contains nat_cmp list.new k ≡ true → (k ≡ task) ⊎ (contains nat_cmp list.old k ≡ true) }
@@ -31,7 +33,9 @@ pub fn forget(list: &mut BTreeSet<u32>, task: u32, stays: bool)
     }
 }
 
-/// Notes that a task was touched, and that a write asks it; where memory is wanting none is lost.
+/// Notes that a task was touched, and that a write asks it.
+///
+/// The only error is out of memory, after which all that was noted before is still there.
 pub fn note_touch(
     touched: &mut BTreeSet<u32>,
     asked: &mut BTreeSet<u32>,
@@ -48,7 +52,7 @@ pub fn note_touch(
     note(touched, task, true)
 }
 
-/// The first task of a list from one on.
+/// The first task of a list from `from` on.
 pub fn next_noted(list: &BTreeSet<u32>, from: u32) -> Option<u32>
     ensures found { IfSome result (λ task. contains nat_cmp list.now task ≡ true) }
     ensures from { IfSome result (λ task. from ≤ task) }

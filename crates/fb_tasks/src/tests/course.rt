@@ -48,7 +48,7 @@ pub enum Step {
     Settle(Ns),
     /// The block of this task and number is delivered between these instants.
     Deliver(u32, u32, How, Ns, Ns),
-    /// A write of so many sectors from one on passes, by this writer.
+    /// A write has passed: its first sector, how many sectors, and the number that it leaves.
     Write(u64, u32, u64),
     /// The block of this task and number is in this state.
     Check(u32, u32, State),
