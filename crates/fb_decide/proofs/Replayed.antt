@@ -147,7 +147,7 @@ ended_more disk done head now start end request later ends before =
     (all_weaker _ _ (λ (w : Written) h. omega (arith, h)) _ before)
     (all_append _ (writes_of (service disk head start request)) [] (all_weaker _ _ (λ (w : Written) h. omega (arith, h.1, ends)) _ (written_between disk head start request)) tt))
 
--- one service more
+-- one more service
 module _ (disk : Disk) (latent : List ℕ) (whole done rest later : List Served) (head : Track) (now end : ℕ) (request : Request) (holding : Holding)
     (so_far : Replayed latent whole rest now holding done) (next : rest ≡ service disk head now request ∷ later) (longer : now ≤ end) (ends : end ≡ finish (service disk head now request)) where
   abbrev this : Served

@@ -15,7 +15,7 @@ use Rattle.fb_decide.specs.Standing.{IsTrue}
 use Rattle.fb_decide.specs.Making.{Step, Replayed, HasRun, decided_in}
 use Rattle.fb_decide.proofs.Stepping.{HasStepped}
 
--- ---- one step more
+-- ---- one more step
 
 pub one_decided : (steps : List Step) (step : Step) (rest later whole : List Decision)
     → decided_in steps ++ rest ≡ whole → rest ≡ step.0 ∷ later → decided_in (steps ++ step ∷ []) ++ later ≡ whole

@@ -45,7 +45,7 @@ pub record IsExtentOf (disk : Shape) (extent : Extent) : Type 0 where
 abbrev pub AreExtents : Shape → List Extent → Type 0
 AreExtents disk extents = AllByRecursion (IsExtentOf disk) extents
 
--- extents laid end to end, from a sector on, so many sectors in all
+-- extents laid end to end from a sector on, with this many sectors in all
 abbrev pub AreLaid : ℕ → List Extent → ℕ → Type 0
 AreLaid first [] count = count ≡ 0
 AreLaid first (extent ∷ extents) count = (extent.first ≡ first) × (extent.count ≤ count) × AreLaid (first + extent.count) extents (count - extent.count)

@@ -56,7 +56,7 @@ at-first inputs list course pending count made no_fore no_back = record {
 one_more : {X Y : Type 0} (f : X → List Y) (xs : List X) (x : X) (ys zs : List Y) → ys ≡ flat_map f xs → zs ≡ ys ++ f x → zs ≡ flat_map f (xs ++ x ∷ [])
 one_more f xs x ys zs before more = more ∙ (ap (λ rows. rows ++ f x) before ∙ (ap (λ rows. flat_map f xs ++ rows) (sym (append-nil (f x))) ∙ sym (flat_map-append f xs (x ∷ []))))
 
--- after one decision more
+-- after one more decision
 pub one-on : (inputs : Inputs) (more : Bool) (list now_list : List Request) (before after : Course) (pending pending_after : List Request) (count count_after : ℕ) (gone : HasGone inputs true list before pending count)
     → now_list ≡ list → HasMadeOne inputs gone.steps more list before pending after pending_after count_after → HasGone inputs more now_list after pending_after count_after
 one-on inputs more list now_list before after pending pending_after count count_after gone same one = subst (λ list. HasGone inputs more list after pending_after count_after) (sym same) (

@@ -15,7 +15,7 @@ so false p = absurd (true≢false (sym p))
 not_so : (a b : ℕ) → nat_le a b ≡ false → b < a
 not_so a b p = first_of (grind (arith, p), omega (arith, p))
 
--- no key is lesser than the pick's
+-- no key is smaller than the pick's
 all_least : (key : Request → ℕ) (least : ℕ) (pick : Request) (front back : List Request) → least ≤ key pick
     → AllByRecursion (λ request. key pick < key request) front → AllByRecursion (λ request. key pick ≤ key request) back
     → AllByRecursion (λ request. least ≤ key request) (front ++ pick ∷ back)
@@ -64,7 +64,7 @@ pick_of-first_least key (request ∷ requests) = pick_step key request requests 
 
 -- ---- among those that have arrived
 
--- no key of those that have arrived is lesser than the pick's
+-- no key of those that have arrived is smaller than the pick's
 all_ready : (key : Request → ℕ) (now least : ℕ) (pick : Request) (front back : List Request) → least ≤ key pick
     → AllByRecursion (λ request. request.arrival ≤ now → key pick < key request) front → AllByRecursion (λ request. request.arrival ≤ now → key pick ≤ key request) back
     → AllByRecursion (λ request. request.arrival ≤ now → least ≤ key request) (front ++ pick ∷ back)

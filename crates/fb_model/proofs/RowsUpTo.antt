@@ -1,4 +1,5 @@
--- Which rows are known by an instant: none of a test or a delivery after it. And what is known by then is the same where the disk holds the same.
+-- Which rows are known by an instant: none of a test or a delivery after it. And what is known by then is the same where the disk holds the
+-- same.
 use Rattle.std.proofs.Common.{◌≡◌, ℕ, ◌<◌, ◌≤◌, List, [], ◌∷◌, ◌++◌, map, refl, ap, ap₂, sym, subst, ◌∙◌, arith, append_assoc, Bool, true, false, inl, inr, nat_le}
 use Rattle.std.specs.Prelude.{filter, ◌&&◌, not, if◌then◌else◌}
 use Rattle.std.specs.List.{AllByRecursion, flat_map}

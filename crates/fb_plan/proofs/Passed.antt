@@ -89,7 +89,7 @@ all_leaves disk gap way es best u some first each is =
     ] in
     beats-trans disk gap (wanted_of es) best (plan_by way v.0) (plan_by way u) better (leave-beats disk gap (wanted_of es) way v.0 u v.1.upto v.2)
 
--- one entry more
+-- one more entry
 pub entries-more : (disk : Disk) (gap : Gap) (way : Way) (wanted : List Block) (xs : List Entry) (i t : ℕ) (old new : Plan) (x : Entry) → slice_get xs i ≡ Some x → Beats disk gap wanted new old
     → (is_wanted x.state ≡ true → block_end disk.map x.block t + move_on disk gap way ≤ gap.deadline → Beats disk gap wanted new (plan_by way (block_end disk.map x.block t)))
     → ((k : ℕ) (e : Entry) → k < i → slice_get xs k ≡ Some e → is_wanted e.state ≡ true → block_end disk.map e.block t + move_on disk gap way ≤ gap.deadline → Beats disk gap wanted old (plan_by way (block_end disk.map e.block t)))
@@ -117,7 +117,7 @@ way_done disk gap way es best first start track t n u some on when from all b f 
     subst (λ x. Beats disk gap (wanted_of es) best (plan_by way x)) end (each k e (omega (arith, slice_get_within (on_track track es) k e here)) here w (omega (arith, end, fits))))
     is
 
--- one track more
+-- one more track
 pub tracks-more : (disk : Disk) (gap : Gap) (wanted : List Block) (new old : Plan) (at : ℕ → Track) (n : ℕ) → Beats disk gap wanted new old
     → ((leave : ℕ) → IsDetour disk gap (at n) leave → Beats disk gap wanted new (Detour (at n) leave))
     → ((h leave : ℕ) → h < n → IsDetour disk gap (at h) leave → Beats disk gap wanted old (Detour (at h) leave))

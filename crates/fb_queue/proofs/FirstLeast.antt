@@ -14,7 +14,7 @@ some_injective x y e = cc
 same_value : {X : Type 0} (o : Option X) (x y : X) → o ≡ Some x → o ≡ Some y → x ≡ y
 same_value o x y e f = some_injective x y (sym e ∙ f)
 
--- one request more, which is not better
+-- one more request, which is not better
 pub keeps_best : (key : Request → ℕ) (rs : List Request) (i best least : ℕ) (r b : Request) → IsFirstLeast key rs i best → slice_get rs best ≡ Some b → least ≡ key b → slice_get rs i ≡ Some r → least ≤ key r
     → IsFirstLeast key rs (i + 1) best
 keeps_best key rs i best least r b h at_best e at_i le = record {
@@ -27,7 +27,7 @@ keeps_best key rs i best least r b h at_best e at_i le = record {
   first = h.first;
 }
 
--- one request more, which is better
+-- one more request, which is better
 pub takes_best : (key : Request → ℕ) (rs : List Request) (i best least : ℕ) (r b : Request) → IsFirstLeast key rs i best → slice_get rs best ≡ Some b → least ≡ key b → slice_get rs i ≡ Some r → key r < least
     → IsFirstLeast key rs (i + 1) i
 takes_best key rs i best least r b h at_best e at_i lt = record {

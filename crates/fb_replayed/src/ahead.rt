@@ -70,7 +70,7 @@ fn known(alloc: Global, report: &[u8], instant: Ns) -> Result<Vec<u8>, NoMemory>
     Ok(rows)
 }
 
-// Checks that both replays are done, and that the same of both is known by an instant.
+// Checks that both replays are done, and that the same rows of both are known by an instant.
 fn check_alike(
     rt: &impl Abort,
     alloc: Global,

@@ -29,7 +29,7 @@ line_more lines k line e =
     ∙ flat_map-append (λ (l : List ℕ). l) (take k lines) (line ∷ [])
     ∙ ap (λ l. joined (take k lines) ++ l) (append-nil line)
 
--- a line more
+-- one more line
 pub holds_more : (old new : Option (List ℕ)) (lines : List (List ℕ)) (k : ℕ) (line : List ℕ) → HoldsLines old lines k → slice_get lines k ≡ Some line → new ≡ behind old line → HoldsLines new lines (k + 1)
 holds_more None new lines k line h e f = rw f tt
 holds_more (Some bytes) new lines k line h e f = rw f (ap (λ front. front ++ line) h ∙ sym (line_more lines k line e))

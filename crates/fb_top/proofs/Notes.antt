@@ -25,7 +25,7 @@ use Rattle.fb_top.proofs.Moved.{holds_reports, stops_reports}
 next_byte : (key : List ℕ) (i byte : ℕ) → slice_get key i ≡ Some byte → drop i key ≡ byte ∷ drop (i + 1) key
 next_byte key i byte e = drop_more key i byte (slice_get_within key i byte e) ∙ ap (λ y. y ∷ drop (i + 1) key) (get_or_from_slice_get key i byte byte e)
 
--- a byte more was added
+-- one more byte was added
 pub key_more : (old now next key : List ℕ) (i byte : ℕ) → slice_get key i ≡ Some byte → now ++ drop i key ≡ old ++ key → next ≡ now ++ byte ∷ [] → next ++ drop (i + 1) key ≡ old ++ key
 key_more old now next key i byte e h f =
     ap (λ xs. xs ++ drop (i + 1) key) f ∙ append_assoc now (byte ∷ []) (drop (i + 1) key) ∙ ap (λ xs. now ++ xs) (sym (next_byte key i byte e)) ∙ h

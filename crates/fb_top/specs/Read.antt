@@ -47,7 +47,7 @@ pub record RefusesTrace (desk : DeskView) (name : List ℕ) (device : ℕ) (disk
   pub within : length bytes ≤ 2 ^ 28
   pub spells : trace_of device (length (places disk.map)) bytes ≡ Err fault
 
--- the script under a name is accepted for the disk and a trace of so many requests, with these names and calls
+-- the script under a name is accepted for the disk and a trace of this many requests, with these names and calls
 pub record ReadsCalls (desk : DeskView) (name : List ℕ) (disk : Disk) (traced : ℕ) (script : Script) : Type 0 where
   pub bytes : List ℕ
   pub held : IsHeld desk name bytes

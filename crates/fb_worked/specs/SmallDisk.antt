@@ -12,7 +12,7 @@ use Rattle.fb_seek.specs.Mechanics.{Mechanics}
 use Rattle.fb_service.specs.declared.disk.Disk.{Disk}
 use Rattle.fb_worked.specs.Rows.{at}
 
--- all cylinders, with so many slots on each track, the skew from track to track, and the spares of a track and of a cylinder
+-- one zone of all cylinders: slots on each track, skew from track to track, spares of a track and of a cylinder
 abbrev pub zone : ℕ → ℕ → ℕ → ℕ → Zone
 zone sectors skew spares cylinder_spares = record { first = 0; last = 3; sectors = sectors; track_skew = skew; cylinder_skew = 0; spares = spares; cylinder_spares = cylinder_spares }
 
