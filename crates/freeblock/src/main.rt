@@ -7,7 +7,7 @@
 #![tactic(auto)]
 
 ghost use Rattle.std.specs.Prelude.{◌≡◌, IfOk};
-ghost use Rattle.std_alloc.specs.Vec.Iter.{into_iter_items};
+ghost use Rattle.std.specs.Vec.Iter.{into_iter_items};
 
 use fb_desk::RealDesk;
 use fb_top::run;
