@@ -1,7 +1,9 @@
-//! Times, tracks, requests and numbers: what every crate names.
+//! Times, tracks, requests, and numbers as text: the types and functions that every crate uses.
 //!
-//! The readers of numbers and times answer exactly what their grammars give. `wait_for` is the
-//! least wait until an angle comes by. Nothing here but `KeyText::push` takes memory.
+//! The layers above may rely on this: the readers of lines, fields, numbers, times and flags accept
+//! exactly what their grammars accept and return its value, a time that was written reads back as
+//! the same time, and `wait_for` is the least wait until the platter reaches an angle. Only
+//! `KeyText::push` allocates. Nothing here checks that a track, slot or sector exists on a disk.
 #![tactic(auto)]
 
 mod lines;

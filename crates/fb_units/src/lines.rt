@@ -1,11 +1,11 @@
-// Texts of lines, and lines of fields.
+// A text is split into lines, and a line into fields.
 ghost use Rattle.std.specs.Prelude.{◌≡◌, ◌<◌, ◌≤◌, [], ◌∷◌, ◌==◌, length, drop, IfSome, MatchOption, slice_index};
 ghost use Rattle.std.specs.List.{before_first, after_first, position_or_len, prefix_len};
 ghost use Rattle.std.specs.Str.Lines.{strip_carriage_return};
 ghost use Rattle.fb_units.specs.Lines.{is_blank, lines_of, fields_of};
 
-/// The first line of a text, without a carriage return at its end, and the text after it. None
-/// where the text is at its end.
+/// The first line of a text, without its line feed and without one carriage return at its end, and
+/// the text behind that line. None if the text is empty.
 pub fn next_line(text: &[u8]) -> Option<(&[u8], &[u8])>
     ensures line { MatchOption result (lines_of text.now ≡ []) (λ found. lines_of text.now ≡ found.0.now ∷ lines_of found.1.now) }
     ensures shorter { IfSome result (λ found. length found.1.now < length text.now) }
@@ -17,7 +17,8 @@ pub fn next_line(text: &[u8]) -> Option<(&[u8], &[u8])>
     Some((without_return(line), rest))
 }
 
-/// The first field of a line, and the line after it. None where no field is left.
+/// The first field of a line, which ends before the next space or tab, and the rest of the line.
+/// None if the line has no field left.
 pub fn next_field(line: &[u8]) -> Option<(&[u8], &[u8])>
     ensures field { MatchOption result (fields_of line.now ≡ []) (λ found. fields_of line.now ≡ found.0.now ∷ fields_of found.1.now) }
 {
@@ -28,7 +29,8 @@ pub fn next_field(line: &[u8]) -> Option<(&[u8], &[u8])>
     Some(text.split_at(first_blank(text)))
 }
 
-// What stands before the first byte like this, and what stands after it.
+// The text before the first `stop` byte, and the text after it; the whole text and an empty one if
+// there is none.
 pub fn around_first(text: &[u8], stop: u8) -> (&[u8], &[u8])
     ensures front { result.0.now ≡ before_first (λ c. c == stop) text.now }
     ensures back { result.1.now ≡ after_first (λ c. c == stop) text.now }
@@ -41,7 +43,7 @@ pub fn around_first(text: &[u8], stop: u8) -> (&[u8], &[u8])
     }
 }
 
-// The place of the first byte like this, or the length where there is none.
+// The index of the first `stop` byte, or the length of the text if there is none.
 fn place_of(text: &[u8], stop: u8) -> usize
     ensures place { result ≡ position_or_len (λ c. c == stop) text.now }
     ensures within { result ≤ length text.now }
@@ -82,7 +84,7 @@ fn behind_blanks(line: &[u8]) -> &[u8]
     &line[line.len()..]
 }
 
-// The place of the first space or tab, or the length where there is none.
+// The index of the first space or tab, or the length of the text if there is none.
 fn first_blank(text: &[u8]) -> usize
     ensures place { result ≡ position_or_len is_blank text.now }
     ensures within { result ≤ length text.now }

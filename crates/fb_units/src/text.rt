@@ -29,7 +29,7 @@ impl KeyText {
         }
     }
 
-    /// Adds a byte at the end. Where memory is wanting the text stays as it is.
+    /// Adds a byte at the end. Out of memory, it returns `NoMemory` and the text is unchanged.
     pub fn push(&mut self, item: u8) -> Result<(), NoMemory>
         ensures ok { OnOk result (self.new ≡ self.old ++ item ∷ []) }
         ensures err { OnErr result (self.new ≡ self.old) }
@@ -45,7 +45,7 @@ impl KeyText {
         self.bytes.len()
     }
 
-    /// The byte at a place from 0.
+    /// The byte at an index, counted from 0.
     pub fn get(&self, i: usize) -> &u8
         requires { i < length self.now }
         ensures { slice_get self.now i ≡ Some result.now }
