@@ -1,4 +1,4 @@
--- A longer way of the arm takes no less time.
+-- Longer seeks take no less time.
 use Rattle.std.specs.Prelude.{ℕ, ◌≤◌}
 use Rattle.fb_seek.specs.Mechanics.{Mechanics}
 use Rattle.fb_seek.specs.Positioning.{seek}

@@ -1,10 +1,10 @@
--- A seek table that can be looked up.
+-- A seek table in which times can be looked up.
 use Rattle.std.specs.Prelude.{◌≡◌, ℕ, ◌+◌, ◌^◌, ◌<◌, ◌≤◌, length}
 use Rattle.std.specs.List.{slice_index_or}
 use Rattle.fb_seek.specs.declared.point.SeekPoint.{SeekPoint}
 use Rattle.fb_seek.specs.Mechanics.{Mechanics}
 
--- distances rise from 1 to as far as the arm goes, and times don't fall
+-- distances rise from 1 to the greatest distance of two cylinders, times don't fall, and no time is over a second
 pub record IsTable (arm : Mechanics) : Type 0 where
   pub some : 0 < length arm.points
   pub from_one : (d : SeekPoint) → (slice_index_or arm.points 0 d).distance ≡ 1

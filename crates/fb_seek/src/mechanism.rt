@@ -11,7 +11,7 @@ use fb_units::{Ns, Track};
 use std::marker::Model;
 
 /// The moving parts of a disk: its seek table, the time of a head switch, and the time that a head
-/// needs to settle for a write.
+/// takes to settle before a write.
 #[derive(Drop)]
 pub struct Mechanism {
     points: Vec<SeekPoint>,
@@ -32,7 +32,7 @@ impl Model for Mechanism {
 }
 
 impl Mechanism {
-    /// The mechanism with these points, kept as they are given, for so many cylinders; or the first fault.
+    /// The mechanism with this seek table, for a disk of this many cylinders; or the first fault.
     /// Times are in nanoseconds.
     pub fn new(
         points: Vec<SeekPoint>,
@@ -53,7 +53,9 @@ impl Mechanism {
         }
     }
 
-    /// The time of a seek over this many cylinders, in nanoseconds.
+    /// The time of a seek over this many cylinders, in nanoseconds, at most 10^9: 0 for distance 0,
+    /// the table's time at one of its points, and on the straight line between two points, rounded
+    /// down.
     pub fn seek(&self, distance: u32) -> Ns
         requires { distance < self.now.cylinders }
         ensures value { result ≡ seek self.now distance }
@@ -77,7 +79,8 @@ impl Mechanism {
         let _points = &self.points;
     }
 
-    /// The time, in nanoseconds, from one track to another, settled there if it is for a write.
+    /// The time, in nanoseconds, from one track to another, at most 2 * 10^9: 0 for the same track,
+    /// else the greater of the seek and the head switch, and the settle time as well for a write.
     pub fn pos(&self, source: Track, target: Track, write: bool) -> Ns
         requires source { source.cylinder < self.now.cylinders }
         requires target { target.cylinder < self.now.cylinders }
@@ -88,7 +91,7 @@ impl Mechanism {
         self.pos_with(seek_time, source, target, write)
     }
 
-    /// The same, where the time of the seek between the two cylinders is known.
+    /// The same as `pos`, for a caller that knows the time of the seek between the cylinders.
     #[tactic(auto, unfolding(crate::specs::Positioning::pos))]
     pub fn pos_with(&self, seek_time: Ns, source: Track, target: Track, write: bool) -> Ns
         requires seek { seek_time ≡ seek self.now (distance_of source.cylinder target.cylinder) }
@@ -109,7 +112,7 @@ impl Mechanism {
     }
 }
 
-// The time of a distance between two points.
+// The time of a distance between those of two points, on the straight line, rounded down.
 fn interpolate(before: SeekPoint, next: SeekPoint, distance: u32) -> Ns
     requires above { before.distance ≤ distance }
     requires below { distance ≤ next.distance }

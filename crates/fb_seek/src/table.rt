@@ -1,4 +1,4 @@
-// The first fault of a seek table.
+// The first fault of a seek table, and look-ups in one.
 ghost use Rattle.std.specs.Prelude.{◌≡◌, ℕ, ◌+◌, ◌<◌, ◌≤◌, ◌^◌, length, IfNone, nat_lt};
 ghost use Rattle.std.specs.List.{list_any, slice_index_or};
 ghost use Rattle.fb_seek.specs.declared.point.SeekPoint.{SeekPoint};
@@ -14,7 +14,7 @@ const MOST_CYLINDERS: u32 = 1_000_000;
 // The longest time of a seek, a head switch or a settle.
 const LONGEST: Ns = 1_000_000_000;
 
-// The first point whose distance is not above the one before it.
+// The index of the first point whose distance is not above that of the point before it.
 pub fn first_near(first: SeekPoint, points: &[SeekPoint]) -> Option<u32>
     requires { first.distance ≡ 1 }
     ensures value { result ≡ first_bad stays_near 1 first points.now }
@@ -30,7 +30,7 @@ pub fn first_near(first: SeekPoint, points: &[SeekPoint]) -> Option<u32>
     None
 }
 
-// The first point whose time is below the one before it.
+// The index of the first point whose time is below that of the point before it.
 pub fn first_falling(first: SeekPoint, points: &[SeekPoint]) -> Option<u32>
     requires { length points.now + 1 < 2 ^ 32 }
     ensures { result ≡ first_bad falls 1 first points.now }
@@ -56,7 +56,7 @@ pub fn last_distance(first: SeekPoint, points: &[SeekPoint]) -> u32
     last.distance
 }
 
-// Whether a number of the mechanism lies outside its range.
+// Whether a number of the mechanism is out of its range.
 pub fn is_out_of_range(
     points: &[SeekPoint],
     cylinders: u32,
@@ -89,7 +89,7 @@ fn has_bad_time(points: &[SeekPoint]) -> bool
     points.iter().any(|point| is_bad_time(point))
 }
 
-// Whether a point's time can be no seek's.
+// Whether a point's time can't be that of a seek.
 fn is_bad_time(point: &SeekPoint) -> bool
     ensures { result ≡ is_bad_time point.now }
 {
@@ -130,7 +130,8 @@ pub fn fault_of(
     None
 }
 
-// The first point whose distance is not below this one.
+// The index of the first point whose distance is not below this one; the number of points if there
+// is none.
 pub fn next_point(points: &[SeekPoint], distance: u32) -> usize
     requires { (k : ℕ) (d : SeekPoint) → k + 1 < length points.now → (slice_index_or points.now k d).distance < (slice_index_or points.now (k + 1) d).distance }
     ensures bound { result ≤ length points.now }
