@@ -7,13 +7,13 @@ use Rattle.fb_service.specs.declared.disk.Disk.{Disk}
 use Rattle.fb_service.specs.declared.approach.Departure.{Departure}
 use Rattle.fb_service.specs.declared.approach.Approach.{Approach}
 
--- the head is on a track of the disk, and the platter at its angle of that instant
+-- the track is one of the disk's, and the angle is that of the platter at the instant
 pub record IsDeparture (disk : Disk) (from : Departure) : Type 0 where
   pub track : IsTrackOf disk.map from.track
   pub early : from.instant ≤ 9 * 10 ^ 18
   pub angle : from.angle ≡ from.instant % disk.map.rotation
 
--- the sectors are all of a cylinder, and the seek is the one to it
+-- the run has all sectors of a cylinder, and the seek time is that from the departure to this cylinder
 pub record IsApproach (disk : Disk) (from : Departure) (approach : Approach) : Type 0 where
   pub run : IsRun disk.map approach.run
   pub seek_is : approach.seek ≡ seek disk.mechanism (distance_of from.track.cylinder approach.run.on.number)

@@ -7,19 +7,20 @@ use Rattle.fb_service.specs.declared.passage.Passage.{Passage}
 use Rattle.fb_service.specs.declared.passage.Extent.{Extent}
 use Rattle.fb_service.specs.Service.{passage_from}
 
--- the passages of an extent's sectors, each the first from the extent's beginning on
+-- the passages of an extent's sectors, each the sector's first one from the beginning of the extent on
 abbrev pub passages_of : Shape → Extent → List Passage
 passages_of disk extent = map (λ i. passage_from disk (extent.first + i) extent.begin) (range_with_len 0 extent.count)
 
+-- the passages of all sectors of several extents
 abbrev pub all_passages_of : Shape → List Extent → List Passage
 all_passages_of disk extents = flat_map (passages_of disk) extents
 
--- the first passage begins at one instant, each next where the one before ends, and the last ends at the other instant
+-- the first passage begins at one instant, each next one as the one before it ends, and the last ends at the other instant
 abbrev pub FollowOn : ℕ → List Passage → ℕ → Type 0
 FollowOn begin [] end = begin ≡ end
 FollowOn begin (passage ∷ passages) end = (passage.begin ≡ begin) × FollowOn passage.end passages end
 
--- an extent has sectors, all on its track, which pass without a wait from its beginning to its end
+-- an extent has at least one sector, all are on its track, and they pass without a wait from its beginning to its end
 pub record IsUnbroken (disk : Shape) (extent : Extent) : Type 0 where
   pub some : 0 < extent.count
   pub on_track : (i : ℕ) → i < extent.count → track_at disk (extent.first + i) ≡ extent.track

@@ -8,23 +8,23 @@ use Rattle.fb_service.specs.declared.disk.Disk.{Disk}
 use Rattle.fb_service.specs.declared.passage.Passage.{Passage}
 use Rattle.fb_service.specs.Passing.{begin_from, end_from}
 
--- the passage of a sector from t on
+-- the first passage of a sector from t on
 abbrev pub passage_from : Shape → ℕ → ℕ → Passage
 passage_from disk lbn t = record { lbn = lbn; begin = begin_from disk (place_at disk lbn) t; end = end_from disk (place_at disk lbn) t }
 
--- the passages of n sectors from lbn on, each after the one before and the way to its track
+-- the passages of n sectors from lbn on: each is the first after the end of the one before it and the way to its track
 unfoldable pub passages : Disk → Track → ℕ → Bool → ℕ → ℕ → List Passage
 passages disk source now write lbn zero = []
 passages disk source now write lbn (suc n) =
     let passage = passage_from disk.map lbn (now + pos disk.mechanism source (track_at disk.map lbn) write) in
     passage ∷ passages disk (track_at disk.map lbn) passage.end write (lbn + 1) n
 
--- when the first passage begins
+-- the instant at which the first passage begins
 abbrev pub media_of : List Passage → ℕ
 media_of [] = 0
 media_of (passage ∷ passages) = passage.begin
 
--- when the last passage ends, which is t without one
+-- the instant at which the last passage ends; t if there is none
 abbrev pub finish_of : ℕ → List Passage → ℕ
 finish_of t [] = t
 finish_of t (passage ∷ passages) = finish_of passage.end passages

@@ -1,4 +1,4 @@
-// The head's way to a cylinder, for the first passages of many of its sectors.
+// The head's way to a cylinder, looked up once for the first passages of many of its sectors.
 ghost use Rattle.std.specs.Prelude.{◌≡◌, ℕ, ◌+◌, ◌-◌, ◌*◌, ◌%◌, ◌<◌, ◌≤◌, ◌^◌, length};
 ghost use Rattle.fb_units.specs.Wait.{wait};
 ghost use Rattle.fb_geometry.specs.Shape.{IsTrackOf};
@@ -12,14 +12,14 @@ use crate::Disk;
 use fb_sectormap::Run;
 use fb_units::{Ns, Track};
 
-/// The head on a track at an instant, from which it leaves.
+/// The track and the instant at which the head leaves.
 #[derive(Clone, Copy)]
 pub struct Departure {
     /// The track.
     pub track: Track,
-    /// The instant.
+    /// The instant, in nanoseconds.
     pub instant: Ns,
-    /// The angle at which the platter stands then.
+    /// The angle of the platter at that instant, in nanoseconds of its rotation.
     pub angle: Ns,
 }
 
@@ -28,11 +28,11 @@ pub struct Departure {
 pub struct Approach {
     /// The sectors of the cylinder.
     pub run: Run,
-    /// The time of the seek.
+    /// The time of the seek to the cylinder, in nanoseconds.
     pub seek: Ns,
 }
 
-/// The head on a track at an instant.
+/// The departure of the head from a track at an instant.
 pub fn departure_from(disk: &Disk, track: Track, instant: Ns) -> Departure
     requires track { IsTrackOf disk.now.map track }
     requires instant { instant ≤ 9 * 10 ^ 18 }
@@ -48,7 +48,8 @@ pub fn departure_from(disk: &Disk, track: Track, instant: Ns) -> Departure
     }
 }
 
-/// The way to the cylinder on which a sector is, looked up once for the passages of many.
+/// The way from a departure to the cylinder of a sector, looked up once for the passages of many
+/// sectors of that cylinder.
 pub fn approach_to(disk: &Disk, from: Departure, lbn: u64) -> Approach
     requires from { IsDeparture disk.now from }
     requires sector { lbn < length (places disk.now.map) }
@@ -65,7 +66,7 @@ pub fn approach_to(disk: &Disk, from: Departure, lbn: u64) -> Approach
     }
 }
 
-/// The same, where the way to a sector's cylinder may be one that is known.
+/// The same as `approach_to`, but without a look-up if `near` leads to the sector's cylinder.
 pub fn approach_on(disk: &Disk, from: Departure, near: Approach, lbn: u64) -> Approach
     requires from { IsDeparture disk.now from }
     requires near { IsApproach disk.now from near }
@@ -82,7 +83,8 @@ pub fn approach_on(disk: &Disk, from: Departure, near: Approach, lbn: u64) -> Ap
     }
 }
 
-/// How long it is until a sector of the cylinder begins to pass.
+/// The time, in nanoseconds, from the departure until a sector of the approach's cylinder begins to
+/// pass: the positioning, with settle for a write, and then the wait for the sector.
 pub fn wait_on(disk: &Disk, from: Departure, approach: &Approach, lbn: u64, write: bool) -> Ns
     requires from { IsDeparture disk.now from }
     requires approach { IsApproach disk.now from approach.now }
@@ -101,7 +103,7 @@ pub fn wait_on(disk: &Disk, from: Departure, approach: &Approach, lbn: u64, writ
     way + wait_from(rotation, begin, turned(rotation, from.angle, way))
 }
 
-// The angle at which the platter stands so long after it stood at another.
+// The angle of the platter some time after it was at this angle.
 fn turned(rotation: Ns, angle: Ns, time: Ns) -> Ns
     requires angle { angle < rotation }
     requires short { rotation ≤ 10 ^ 9 }
@@ -121,7 +123,7 @@ fn turned(rotation: Ns, angle: Ns, time: Ns) -> Ns
     }
 }
 
-// The wait from one angle until another.
+// The time in which the platter turns from the angle `here` to `angle`.
 fn wait_from(rotation: Ns, angle: Ns, here: Ns) -> Ns
     requires angle { angle < rotation }
     requires here { here < rotation }

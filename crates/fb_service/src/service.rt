@@ -15,16 +15,20 @@ use fb_units::{NoMemory, Ns, Place, Track, wait_for};
 use smallvec::SmallVec;
 use std::alloc::Global;
 
-/// How a request is served.
+/// How a request is served. Instants are in nanoseconds.
 #[derive(Drop)]
 pub struct Service {
+    /// The sectors of the request in ascending order, grouped by passing without a wait.
     pub extents: SmallVec<Extent, 4>,
+    /// The media instant, at which the first sector begins to pass.
     pub media: Ns,
+    /// The instant at which the last sector has passed.
     pub finish: Ns,
+    /// The track of the last sector, on which the head then is.
     pub last_track: Track,
 }
 
-// The first instant from this one on at which a slot begins to pass.
+// The first instant, from this one on, at which a slot begins to pass.
 fn next_begin(geometry: &Geometry, place: Place, from: Ns) -> Ns
     requires track { place.track.cylinder < cylinders_of geometry.now.zones }
     requires slot { place.slot < slots_at geometry.now.zones place.track.cylinder }
@@ -38,7 +42,7 @@ fn next_begin(geometry: &Geometry, place: Place, from: Ns) -> Ns
     from + wait_for(geometry.rotation(), angle, from)
 }
 
-// How long so many neighbouring slots of a track pass, this one the first.
+// How long this slot and its neighbours take to pass, `count` slots in all.
 fn passing_time(geometry: &Geometry, place: Place, count: u32) -> Ns
     requires track { place.track.cylinder < cylinders_of geometry.now.zones }
     requires slot { place.slot < slots_at geometry.now.zones place.track.cylinder }
@@ -59,7 +63,8 @@ fn passing_time(geometry: &Geometry, place: Place, count: u32) -> Ns
     }
 }
 
-/// When the first sector of a request that starts now begins to pass.
+/// The instant, in nanoseconds, at which the first sector of a request begins to pass, if the
+/// request starts at `now` with the head on the source track.
 pub fn first_pass(disk: &Disk, source: Track, now: Ns, lbn: u64, write: bool) -> Ns
     requires source { IsTrackOf disk.now.map source }
     requires block { lbn < length (places disk.now.map) }
@@ -73,7 +78,7 @@ pub fn first_pass(disk: &Disk, source: Track, now: Ns, lbn: u64, write: bool) ->
     next_begin(disk.map.geometry(), place, from)
 }
 
-/// The passage of an extent's i-th sector.
+/// The passage of an extent's i-th sector, counted from 0.
 pub fn nth_passage(disk: &Disk, extent: &Extent, i: u32) -> Passage
     requires sector { i < extent.now.count }
     requires blocks { extent.now.first + extent.now.count ≤ length (places disk.now.map) }
@@ -88,8 +93,8 @@ pub fn nth_passage(disk: &Disk, extent: &Extent, i: u32) -> Passage
     Passage { lbn, begin, end }
 }
 
-// The extent of a sector and of those that pass directly after it, at most so many in all, after the way
-// to their track.
+// The extent of a sector and of those that pass directly after it, at most `most` in all, once the
+// head has got to their track.
 fn stretch_extent(disk: &Disk, source: Track, now: Ns, lbn: u64, most: u32, write: bool) -> Extent
     requires source { IsTrackOf disk.now.map source }
     requires some { 0 < most }
@@ -121,7 +126,8 @@ fn stretch_extent(disk: &Disk, source: Track, now: Ns, lbn: u64, most: u32, writ
     }
 }
 
-// Adds an extent to the others: to the last one, where it goes on without a wait within a rotation.
+// Adds an extent behind the last one. It becomes part of the last one if it goes on there without a
+// wait and both together pass within a rotation.
 fn add_extent(
     disk: &Disk,
     extents: &mut SmallVec<Extent, 4>,
@@ -159,7 +165,9 @@ fn add_extent(
     Ok(())
 }
 
-/// Serves a request sector after sector, in ascending order.
+/// How a request is served that starts at `now` with the head on the source track: sector after
+/// sector, in ascending order, with settle on each track for a write. Its only error is `NoMemory`,
+/// out of memory.
 pub fn serve(
     alloc: Global,
     disk: &Disk,
