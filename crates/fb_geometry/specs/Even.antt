@@ -1,4 +1,4 @@
--- A cylinder that is looked up once: where its sectors stand, if none of its slots is bad.
+-- A cylinder that is looked up once: where its sectors are, if none of its slots is bad.
 use Rattle.std.specs.Prelude.{◌≡◌, ℕ, ◌+◌, ◌-◌, ◌*◌, ◌/◌, ◌%◌, ◌<◌, ◌≤◌, [], length, Some, true, slice_get}
 use Rattle.fb_units.specs.declared.types.Place.{Place}
 use Rattle.fb_geometry.specs.declared.layout.Layout.{Layout}
@@ -10,14 +10,14 @@ use Rattle.fb_geometry.specs.Places.{data_list_at, by_head, good_track}
 use Rattle.fb_geometry.specs.Turns.{cylinder_slots}
 use Rattle.fb_geometry.specs.Slips.{indexes}
 
--- sectors stand track by track, so many on each, round from the slot from which the track is counted
+-- the place of the j-th sector: sectors fill track by track, so many on each, round from the slot from which the track is counted
 abbrev pub even_place : Cylinder → ℕ → Place
 even_place on j = record {
   track = record { cylinder = on.number; head = j / on.sectors };
   slot = (on.offset + j / on.sectors * on.skew + j % on.sectors) % on.slots;
 }
 
--- all sectors of the cylinder stand so
+-- each sector of the cylinder has that place
 pub record IsEven (disk : Shape) (on : Cylinder) : Type 0 where
   pub some_sectors : 0 < on.sectors
   pub some_slots : 0 < on.slots
@@ -28,7 +28,7 @@ pub record IsEven (disk : Shape) (on : Cylinder) : Type 0 where
   pub heads : (j : ℕ) → j < length (data_list_at disk on.number) → j / on.sectors < 64
   pub each : (j : ℕ) → j < length (data_list_at disk on.number) → slice_get (data_list_at disk on.number) j ≡ Some (even_place on j)
 
--- the cylinder is the disk's, with so many slots on each track, and its sectors stand so if none of its slots is bad
+-- the cylinder is one of the disk's, with its slots a track, and if it is marked as even each of its sectors has that place
 pub record IsLookedUp (disk : Shape) (on : Cylinder) : Type 0 where
   pub on_disk : on.number < cylinders_of disk.zones
   pub slots : on.slots ≡ slots_at disk.zones on.number
@@ -39,7 +39,7 @@ pub record HasNoBad (disk : Shape) (zone : Zone) (cylinder : ℕ) : Type 0 where
   pub defects : indexes (is_among disk.defects) 0 (cylinder_slots zone disk.heads cylinder) ≡ []
   pub grown : indexes (is_among disk.grown) 0 (by_head disk cylinder (good_track disk zone)) ≡ []
 
--- how many sectors stand on each track then
+-- how many sectors each track of such a cylinder has
 abbrev pub sectors_by : Layout → Zone → ℕ
 sectors_by PerTrack zone = zone.sectors - zone.spares
 sectors_by PerCylinder zone = zone.sectors

@@ -1,4 +1,4 @@
--- What a geometry keeps: that its outline has no fault, and an index of its bad slots.
+-- What holds of a geometry in memory: its outline has no fault, and its index of bad slots agrees with it.
 use Rattle.std.specs.Prelude.{◌≡◌, ℕ, ◌<◌, List, [], ◌++◌, length, Option, Some, None, Result, Ok, Err, false, find, filter, position}
 use Rattle.fb_units.specs.declared.types.Place.{Place}
 use Rattle.fb_geometry.specs.declared.fault.GeometryFault.{GeometryFault}
@@ -16,63 +16,64 @@ use Rattle.fb_geometry.specs.Turns.{IsZoneAt, cylinder_slots}
 use Rattle.fb_geometry.specs.Slips.{indexes}
 use Rattle.fb_geometry.specs.Marks.{AreInOrder, AreMarksOf, clash_at, positions, marks_on}
 
--- what may be wrong with the disk's numbers and its zones
+-- the first fault of the disk's numbers and zones
 abbrev pub zone_fault : Shape → Option GeometryFault
 zone_fault disk = or_else (range_fault disk)
     (or_else (fault_at ZonesNotContiguous (first_apart 0 0 disk.zones)) (fault_at SkewTooLarge (position is_too_skewed disk.zones)))
 
--- what may be wrong with the defects
+-- the first fault of the defects
 abbrev pub defect_fault : Shape → Option GeometryFault
 defect_fault disk = or_else (fault_at DefectOutside (find (is_outside disk) disk.defects)) (fault_at DefectTwice (least is_place_before (repeated disk.defects)))
 
--- what may be wrong with the grown defects
+-- the first fault of the grown defects
 abbrev pub grown_fault : Shape → Option GeometryFault
 grown_fault disk = or_else (fault_at GrownOutside (find (is_outside disk) disk.grown))
     (fault_at GrownTwice (least is_place_before (repeated disk.grown ++ filter (is_among disk.defects) disk.grown)))
 
--- the error is this fault, or memory is wanting
+-- the error is this fault, or out of memory
 abbrev pub Answers : Option GeometryFault → GeometryError → Type 0
 Answers fault (Fault first) = fault ≡ Some first
 Answers fault NoMemory = Unit {0}
 
--- nothing is
+-- the numbers and the zones have no fault
 pub record HasZones (disk : Shape) : Type 0 where
   pub in_range : is_out_of_range disk ≡ false
   pub contiguous : first_apart 0 0 disk.zones ≡ None
   pub skews : position is_too_skewed disk.zones ≡ None
 
--- each fault is missing
+-- the outline has none of the faults
 pub record IsFaultless (disk : Shape) : Type 0 where
   pub zones_hold : HasZones disk
   pub defects_inside : find (is_outside disk) disk.defects ≡ None
   pub defects_once : least is_place_before (repeated disk.defects) ≡ None
   pub spares : spare_fault disk.layout disk ≡ None
 
--- there is no fault, and these are the places' marks, each once
+-- there is no fault, and these are the marks of the places, in ascending order without repetition
 pub record AreJudged (disk : Shape) (places : List Place) (fault : Option GeometryFault) (marks : List Mark) : Type 0 where
   pub faultless : fault ≡ None
   pub inside : find (is_outside disk) places ≡ None
   pub are : AreMarksOf disk places marks
   pub ordered : AreInOrder marks
 
--- no mark clashes with these
+-- no mark is the same as the one ahead of it or as one of the others
 abbrev pub AreClear : List Mark → List Mark → Type 0
 AreClear marks others = (k : ℕ) → k < length marks → clash_at marks others k ≡ false
 
--- the marks of each cylinder are its defects, and those of its good list its grown defects
+-- the marks of each cylinder are the positions of its defects, and among its slots without defects those of its grown defects
 pub record IsIndexed (disk : Shape) (defects grown : List Mark) : Type 0 where
   pub defects_at : (zone : Zone) (cylinder : ℕ) → IsZoneAt disk cylinder zone
       → positions (marks_on cylinder defects) ≡ indexes (is_among disk.defects) 0 (cylinder_slots zone disk.heads cylinder)
   pub grown_at : (zone : Zone) (cylinder : ℕ) → IsZoneAt disk cylinder zone
       → positions (marks_on cylinder grown) ≡ indexes (is_among disk.grown) 0 (by_head disk cylinder (good_track disk zone))
 
+-- the outline has no fault, the facts that follow from it hold, and the marks are its index
 pub record IsKept (disk : Shape) (defects grown : List Mark) : Type 0 where
   pub faultless : IsFaultless disk
   pub sound : IsSound disk
   pub indexed : IsIndexed disk defects grown
   pub fits : disk.layout ≡ PerTrack → disk.grown ≡ []
 
--- the geometry has this outline, whose spares are enough, or the fault is the first of these; memory may be wanting
+-- the geometry has this outline, whose spares have no fault, or the fault is their first one, or it is out of memory
 abbrev pub JudgesSpares : Shape → Result Shape GeometryError → Type 0
 JudgesSpares disk (Ok geometry) = (geometry ≡ disk) × (spare_fault disk.layout disk ≡ None)
 JudgesSpares disk (Err error) = Answers (spare_fault disk.layout disk) error

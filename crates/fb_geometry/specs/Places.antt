@@ -1,4 +1,4 @@
--- All data sectors of a disk, in the order of their numbers.
+-- The places of all data sectors of a disk, in the order of their LBNs.
 use Rattle.std.specs.Prelude.{ℕ, ◌+◌, ◌-◌, ◌*◌, List, [], ◌∷◌, ◌++◌, Bool, true, false, nat_le, if◌then◌else◌, filter, map, not, take, drop}
 use Rattle.std.specs.List.{flat_map, range_with_len}
 use Rattle.fb_units.specs.declared.types.Place.{Place}
@@ -8,7 +8,7 @@ use Rattle.fb_geometry.specs.declared.layout.Layout.TheVariants.{PerTrack, PerCy
 use Rattle.fb_geometry.specs.declared.zone.Zone.{Zone}
 use Rattle.fb_geometry.specs.Shape.{Shape, offset_in, is_among}
 
--- the slots of a track from its offset on, and on from slot 0
+-- the slots of a track of n slots from its offset on to the last, and on from slot 0
 abbrev pub turn : ℕ → ℕ → List ℕ
 turn n offset = range_with_len offset (n - offset) ++ range_with_len 0 offset
 
@@ -17,39 +17,40 @@ abbrev pub good_track : Shape → Zone → Track → List Place
 good_track disk zone track = filter (λ place. not (is_among disk.defects place))
     (map (λ slot. record { track = track; slot = slot }) (turn zone.sectors (offset_in zone disk.heads track)))
 
--- what f gives of each track of a cylinder, head by head
+-- what f gives for each track of a cylinder, head by head
 abbrev pub by_head : Shape → ℕ → (Track → List Place) → List Place
 by_head disk cylinder f = flat_map (λ head. f (record { cylinder = cylinder; head = head })) (range_with_len 0 disk.heads)
 
--- the one place, or the first spare in its stead, and the spares that are left
+-- the place itself, or the first spare instead of it; and the spares that are left
 abbrev pub stand_in : Bool → Place → List Place → Place × List Place
 stand_in false place spares = (place, spares)
 stand_in true place [] = (place, [])
 stand_in true place (spare ∷ spares) = (spare, spares)
 
--- the places with the i-th grown one replaced by the i-th spare
+-- the places, with the i-th grown defect among them replaced by the i-th spare
 abbrev pub replaced : Shape → List Place → List Place → List Place
 replaced disk [] spares = []
 replaced disk (place ∷ places) spares =
     let one = stand_in (is_among disk.grown place) place spares in
     one.0 ∷ replaced disk places one.1
 
--- with spares at the end of each track
+-- the data list with spares at the end of each track
 abbrev pub per_track : Shape → Zone → ℕ → List Place
 per_track disk zone cylinder = by_head disk cylinder (λ track. take (zone.sectors - zone.spares) (good_track disk zone track))
 
--- with spares at the end of the cylinder
+-- the data list with spares at the end of the cylinder
 abbrev pub per_cylinder : Shape → Zone → ℕ → List Place
 per_cylinder disk zone cylinder =
     let good = by_head disk cylinder (good_track disk zone) in
     let base = disk.heads * zone.sectors - zone.cylinder_spares in
     replaced disk (take base good) (filter (λ place. not (is_among disk.grown place)) (drop base good))
 
--- the places of a cylinder that hold data, in the order of their numbers
+-- the data list of a cylinder: its places that hold data, in the order of their LBNs
 abbrev pub data_list_by : Layout → Shape → Zone → ℕ → List Place
 data_list_by PerTrack disk zone cylinder = per_track disk zone cylinder
 data_list_by PerCylinder disk zone cylinder = per_cylinder disk zone cylinder
 
+-- the same in the disk's own layout
 abbrev pub data_list : Shape → Zone → ℕ → List Place
 data_list disk zone cylinder = data_list_by disk.layout disk zone cylinder
 
@@ -58,14 +59,14 @@ abbrev pub list_among : Shape → List Zone → ℕ → List Place
 list_among disk [] cylinder = []
 list_among disk (zone ∷ zones) cylinder = if nat_le cylinder zone.last then data_list disk zone cylinder else list_among disk zones cylinder
 
--- the places of any cylinder of the disk that hold data
+-- the data list of any cylinder of the disk
 abbrev pub data_list_at : Shape → ℕ → List Place
 data_list_at disk cylinder = list_among disk disk.zones cylinder
 
--- the places of a zone's cylinders, one after another
+-- the data lists of a zone's cylinders, one after another
 abbrev pub zone_places : Shape → Zone → List Place
 zone_places disk zone = flat_map (data_list disk zone) (range_with_len zone.first (zone.last + 1 - zone.first))
 
--- the place of each sector, from 0 on
+-- the place of each sector of the disk, by LBN from 0
 unfoldable pub places : Shape → List Place
 places disk = flat_map (zone_places disk) disk.zones

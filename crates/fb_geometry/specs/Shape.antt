@@ -1,4 +1,4 @@
--- A disk's outline.
+-- The outline of a disk. Zones, skews, spares and defects: Ruemmler and Wilkes, "An introduction to disk drive modeling", 1994.
 use Rattle.std.specs.Prelude.{ℕ, ◌+◌, ◌-◌, ◌*◌, ◌%◌, ◌<◌, List, [], ◌∷◌, Bool, ◌&&◌, ◌==◌, nat_le, if◌then◌else◌}
 use Rattle.std.specs.List.{list_any}
 use Rattle.fb_units.specs.declared.types.Place.{Place}
@@ -7,7 +7,7 @@ use Rattle.fb_units.specs.Tracks.{same_track}
 use Rattle.fb_geometry.specs.declared.layout.Layout.{Layout}
 use Rattle.fb_geometry.specs.declared.zone.Zone.{Zone}
 
--- where spares stand, rotation in nanoseconds, heads, zones by cylinder, slots bad from the first, and slots that went bad later
+-- where spares are, the rotation in nanoseconds, the number of heads, the zones in order, the defects, and the slots that went bad later
 pub record Shape : Type 0 where
   pub layout : Layout
   pub rotation : ℕ
@@ -16,18 +16,18 @@ pub record Shape : Type 0 where
   pub defects : List Place
   pub grown : List Place
 
--- the slots of each track of a cylinder
+-- the number of slots of each track of a cylinder
 abbrev pub slots_at : List Zone → ℕ → ℕ
 slots_at [] cylinder = 0
 slots_at (zone ∷ zones) cylinder = if nat_le cylinder zone.last then zone.sectors else slots_at zones cylinder
 
--- one more than the last cylinder
+-- the number of cylinders: one more than the last one
 abbrev pub cylinders_of : List Zone → ℕ
 cylinders_of [] = 0
 cylinders_of (zone ∷ []) = zone.last + 1
 cylinders_of (zone ∷ other ∷ zones) = cylinders_of (other ∷ zones)
 
--- the slot from which a track of the zone is counted
+-- the slot from which the sectors of a track of the zone are counted
 abbrev pub offset_in : Zone → ℕ → Track → ℕ
 offset_in zone heads track = ((track.cylinder - zone.first) * (zone.cylinder_skew + (heads - 1) * zone.track_skew) + track.head * zone.track_skew) % zone.sectors
 
@@ -36,7 +36,7 @@ abbrev pub offset_at : List Zone → ℕ → Track → ℕ
 offset_at [] heads track = 0
 offset_at (zone ∷ zones) heads track = if nat_le track.cylinder zone.last then offset_in zone heads track else offset_at zones heads track
 
--- how many slots after its track's offset a place comes by
+-- how many slots of its track's turn come before a place
 abbrev pub turn_position : Shape → Place → ℕ
 turn_position disk place =
     let slots = slots_at disk.zones place.track.cylinder in

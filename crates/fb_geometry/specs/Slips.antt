@@ -1,4 +1,4 @@
--- Numbers that are passed over: a number slips on by one for each that stands at it or before it.
+-- Slipping past numbers that are passed over: a number moves on by one for each of them at or before it.
 use Rattle.std.specs.Prelude.{◌≡◌, ℕ, ◌+◌, ◌-◌, ◌<◌, ◌≤◌, ◌==◌, ◌⊎◌, Some, slice_get, List, [], ◌∷◌, Bool, true, false, nat_lt, if◌then◌else◌, length, filter}
 use Rattle.std.specs.List.{AllByRecursion, list_any}
 
@@ -7,35 +7,35 @@ abbrev pub IsAscending : List ℕ → Type 0
 IsAscending [] = Unit {0}
 IsAscending (number ∷ numbers) = AllByRecursion (λ later. number < later) numbers × IsAscending numbers
 
--- what a number becomes where those passed over ascend
+-- where a number slips to, past these numbers in ascending order
 abbrev pub slipped : ℕ → List ℕ → ℕ
 slipped number [] = number
 slipped number (passed ∷ numbers) = if nat_lt number passed then number else slipped (number + 1) numbers
 
--- how many stand before a number
+-- how many of these numbers are below a number
 abbrev pub rank : ℕ → List ℕ → ℕ
 rank number numbers = length (filter (λ passed. nat_lt passed number) numbers)
 
--- an index before others, or the others alone
+-- the index and these indexes, or these indexes alone
 abbrev pub with_index : Bool → ℕ → List ℕ → List ℕ
 with_index true index indexes = index ∷ indexes
 with_index false index indexes = indexes
 
--- the indexes, from this one on, of the elements that pass
+-- the indexes of the elements that pass; the first element has this index
 abbrev pub indexes : {A : Type 0} → (A → Bool) → ℕ → List A → List ℕ
 indexes passes index [] = []
 indexes passes index (x ∷ xs) = with_index (passes x) index (indexes passes (index + 1) xs)
 
--- a list's first entries hold its sectors, but each that is marked has moved to the next one behind them that is not: where a sector is
+-- the entry of a sector: the first entries hold the sectors in order, but each marked one has moved to the next unmarked entry behind them
 abbrev pub entry_of_sector : List ℕ → ℕ → ℕ → ℕ
 entry_of_sector marked sectors sector =
     if list_any (λ other. other == sector) marked then slipped (sectors - rank sectors marked + rank sector marked) marked else sector
 
--- an entry of such a list holds no sector: it is marked, or an unmarked one too far behind
+-- an entry of such a list holds no sector: it is marked, or an unmarked one behind all that are in use
 abbrev pub HoldsNone : List ℕ → ℕ → ℕ → Type 0
 HoldsNone marked sectors entry = (list_any (λ other. other == entry) marked ≡ true) ⊎ (sectors ≤ entry - rank entry marked)
 
--- it holds its own sector, or that of the marked one in whose stead it is
+-- an entry of such a list holds its own sector, or that of the marked entry which it stands in for
 abbrev pub HoldsSector : List ℕ → ℕ → ℕ → ℕ → Type 0
 HoldsSector marked sectors entry sector = (list_any (λ other. other == entry) marked ≡ false)
     × (((entry < sectors) × (sector ≡ entry))

@@ -1,4 +1,4 @@
--- Sectors of a cylinder that come by one directly after another.
+-- Sectors of a cylinder that come by directly one after another.
 use Rattle.std.specs.Prelude.{◌≡◌, ℕ, ◌+◌, ◌*◌, ◌%◌, ◌<◌, ◌≤◌, Some, slice_get}
 use Rattle.fb_geometry.specs.declared.stretch.Stretch.{Stretch}
 use Rattle.fb_geometry.specs.declared.zone.Zone.{Zone}
@@ -7,7 +7,7 @@ use Rattle.fb_geometry.specs.Places.{data_list_at}
 use Rattle.fb_geometry.specs.Turns.{slot_at, cylinder_slots}
 use Rattle.fb_geometry.specs.Slips.{slipped, indexes}
 
--- the sectors of the cylinder from the j-th on stand in slots that follow one another in one turn of a track
+-- so many sectors of the cylinder, from the j-th on, are in neighbouring slots of one turn of a track
 pub record IsStretch (disk : Shape) (cylinder j : ℕ) (stretch : Stretch) : Type 0 where
   pub some : 0 < stretch.count
   pub first : slice_get (data_list_at disk cylinder) j ≡ Some stretch.place
@@ -15,7 +15,7 @@ pub record IsStretch (disk : Shape) (cylinder j : ℕ) (stretch : Stretch) : Typ
       ≡ Some (record { track = stretch.place.track; slot = (stretch.place.slot + i) % slots_at disk.zones cylinder })
   pub one_turn : turn_position disk stretch.place + stretch.count ≤ slots_at disk.zones cylinder
 
--- so many sectors from the j-th on are on the cylinder's slots without defects, one after another
+-- so many sectors, from the j-th on, are on slots without defects that follow one another on the cylinder
 pub record KeepsOrder (disk : Shape) (zone : Zone) (cylinder j count : ℕ) : Type 0 where
   pub from : ℕ
   pub inside : slipped from (indexes (is_among disk.defects) 0 (cylinder_slots zone disk.heads cylinder)) < disk.heads * zone.sectors

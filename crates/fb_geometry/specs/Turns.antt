@@ -7,7 +7,7 @@ use Rattle.fb_geometry.specs.declared.zone.Zone.{Zone}
 use Rattle.fb_geometry.specs.Shape.{Shape, offset_in}
 use Rattle.fb_geometry.specs.Faults.{has_no_data, spare_fault}
 
--- the numbers of a zone lie in their ranges
+-- the numbers of a zone are in their ranges
 pub record IsZone (zone : Zone) : Type 0 where
   pub some_sectors : 0 < zone.sectors
   pub few_sectors : zone.sectors ≤ 10000
@@ -20,14 +20,14 @@ pub record IsZone (zone : Zone) : Type 0 where
 abbrev pub zone_at : List Zone → ℕ → Option Zone
 zone_at zones cylinder = find (λ zone. nat_le cylinder zone.last) zones
 
--- the zone is a cylinder's, with numbers in their ranges
+-- the zone is that of the cylinder, with its numbers in their ranges
 pub record IsZoneOf (disk : Shape) (cylinder : ℕ) (zone : Zone) : Type 0 where
   pub found : zone_at disk.zones cylinder ≡ Some zone
   pub ranges : IsZone zone
   pub from : zone.first ≤ cylinder
   pub upto : cylinder ≤ zone.last
 
--- the zone is a cylinder's, with numbers in their ranges, has data sectors, and the spares are enough
+-- the zone is that of the cylinder, with its numbers in their ranges, it has sectors for data, and the disk's spares are enough
 pub record IsZoneAt (disk : Shape) (cylinder : ℕ) (zone : Zone) : Type 0 where
   pub found : zone_at disk.zones cylinder ≡ Some zone
   pub ranges : IsZone zone
@@ -37,7 +37,7 @@ pub record IsZoneAt (disk : Shape) (cylinder : ℕ) (zone : Zone) : Type 0 where
   pub holds_data : has_no_data disk.layout disk zone ≡ false
   pub enough_spares : spare_fault disk.layout disk ≡ None
 
--- how many slots of the cylinder come before a place
+-- the position of a place: how many slots of its cylinder come before it
 abbrev pub position_in : Zone → ℕ → Place → ℕ
 position_in zone heads place = place.track.head * zone.sectors + (place.slot + zone.sectors - offset_in zone heads place.track) % zone.sectors
 
@@ -47,6 +47,6 @@ slot_at zone heads cylinder position =
     let track : Track = record { cylinder = cylinder; head = position / zone.sectors } in
     record { track = track; slot = (offset_in zone heads track + position % zone.sectors) % zone.sectors }
 
--- all slots of a cylinder, by their positions
+-- all slots of a cylinder, in the order of their positions
 abbrev pub cylinder_slots : Zone → ℕ → ℕ → List Place
 cylinder_slots zone heads cylinder = map (slot_at zone heads cylinder) (range_with_len 0 (heads * zone.sectors))

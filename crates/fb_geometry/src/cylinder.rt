@@ -12,22 +12,23 @@ use fb_units::{Ns, Place, Track};
 /// A cylinder, looked up once for the places of many of its sectors.
 #[derive(Clone, Copy)]
 pub struct Cylinder {
-    /// Its number.
+    /// Its number, from 0.
     pub number: u32,
     /// Whether none of its slots is bad.
     pub even: bool,
-    /// The sectors of each of its tracks, where none is bad.
+    /// The number of sectors on each of its tracks, if none of its slots is bad.
     pub sectors: u32,
-    /// The slots of each of its tracks.
+    /// The number of slots of each of its tracks, 1 to 10,000.
     pub slots: u32,
-    /// The slot from which its first track is counted.
+    /// The slot from which the sectors of its first track are counted.
     pub offset: u32,
-    /// The slots by which each track is counted later than the one before it.
+    /// The track skew: by how many slots the count of each track begins later than that of the one
+    /// before it.
     pub skew: u32,
 }
 
 impl Geometry {
-    /// A cylinder, for the places of many of its sectors.
+    /// Looks up a cylinder, for the places of many of its sectors.
     pub fn cylinder(&self, cylinder: u32) -> Cylinder
         requires { cylinder < cylinders_of self.now.zones }
         ensures number { result.number ≡ cylinder }
@@ -52,7 +53,7 @@ impl Geometry {
         self.defects_on(zone, cylinder).is_empty() && self.grown_on(zone, cylinder).is_empty()
     }
 
-    // How many sectors stand on each track of a cylinder of which no slot is bad.
+    // How many sectors each track of a cylinder has, if none of its slots is bad.
     fn track_sectors(&self, zone: Zone, cylinder: u32) -> u32
         requires { IsZoneAt self.now cylinder zone }
         ensures { result ≡ sectors_by self.now.layout zone }
@@ -64,7 +65,7 @@ impl Geometry {
         }
     }
 
-    /// The place of a sector of a cylinder that was looked up, from 0 in the order of their numbers.
+    /// The place of the j-th sector of a cylinder that was looked up, counted from 0.
     pub fn place_on(&self, on: &Cylinder, j: u32) -> Place
         requires looked_up { IsLookedUp self.now on.now }
         requires sector { j < length (data_list_at self.now on.now.number) }
@@ -77,7 +78,8 @@ impl Geometry {
         }
     }
 
-    /// The angle at which a slot of a cylinder that was looked up begins.
+    /// The angle, in nanoseconds of the rotation, at which a slot begins on a cylinder that was
+    /// looked up.
     pub fn begin_on(&self, on: &Cylinder, slot: u32) -> Ns
         requires looked_up { IsLookedUp self.now on.now }
         requires slot { slot < slots_at self.now.zones on.now.number }
@@ -87,7 +89,7 @@ impl Geometry {
         slot as u64 * self.rotation() / on.slots as u64
     }
 
-    // The place of a sector where no slot of the cylinder is bad.
+    // The place of the j-th sector of a cylinder of which no slot is bad.
     fn even_place(&self, on: &Cylinder, j: u32) -> Place
         requires even { IsEven self.now on.now }
         requires sector { j < length (data_list_at self.now on.now.number) }

@@ -1,24 +1,27 @@
-// Why an outline is no disk.
+// Why an outline is refused.
 use fb_units::{NoMemory, Place, Track};
 
-/// Why an outline is no disk. Where several hold, the first of this order is answered.
+/// Why an outline is refused. If several reasons hold, the first in this order is returned.
 #[derive(Clone, Copy, Debug)]
 pub enum GeometryFault {
-    /// A number lies outside its range.
+    /// A number is out of its range (rotation 1 to 10^9 ns, 1 to 64 heads, 1 to 64 zones, cylinders
+    /// up to 999,999, 1 to 10,000 sectors a track), a zone ends before it begins, its slots are
+    /// shorter than a nanosecond, or its spares leave no sector for data.
     OutOfRange,
-    /// The first zone, by its index, that does not begin where it has to.
+    /// The index, from 0, of the first zone that doesn't begin right behind the one before it; the
+    /// first zone begins at cylinder 0.
     ZonesNotContiguous(u32),
-    /// The first zone, by its index, with a skew not below its sectors.
+    /// The index, from 0, of the first zone with a skew that isn't below its sectors a track.
     SkewTooLarge(u32),
-    /// The first given defect that lies outside the disk.
+    /// The first listed defect that is outside the disk.
     DefectOutside(Place),
-    /// The least place that is given twice as a defect.
+    /// The least place that is listed twice as a defect.
     DefectTwice(Place),
     /// The least track with more defects than spares.
     TooManyDefects(Track),
-    /// The first given grown defect that lies outside the disk.
+    /// The first listed grown defect that is outside the disk.
     GrownOutside(Place),
-    /// The least place that is given twice as grown, or as grown and as a defect.
+    /// The least place that is listed twice as a grown defect, or both as one and as a defect.
     GrownTwice(Place),
     /// The least cylinder with more defects and grown defects together than spares.
     TooManyInCylinder(u32),
@@ -27,7 +30,9 @@ pub enum GeometryFault {
 /// Why there is no geometry.
 #[derive(Clone, Copy, Debug)]
 pub enum GeometryError {
+    /// The outline is refused.
     Fault(GeometryFault),
+    /// Out of memory, which says nothing about the outline.
     NoMemory,
 }
 

@@ -21,7 +21,9 @@ use fb_units::{Ns, Place, Track};
 use std::alloc::Global;
 use std::marker::Model;
 
-/// The shape of a disk: which slots its tracks have, and which of them hold data.
+/// The geometry of a disk: which slots its tracks have, and which of them hold data. Zones, skews
+/// and defects are as Ruemmler and Wilkes describe them, "An introduction to disk drive modeling",
+/// 1994.
 #[derive(Drop)]
 pub struct Geometry {
     outline: Outline,
@@ -41,7 +43,8 @@ impl Model for Geometry {
 }
 
 impl Geometry {
-    /// The geometry of an outline, or its first fault.
+    /// The geometry of an outline, with the rotation in nanoseconds; or the outline's first fault,
+    /// or `NoMemory`.
     pub fn new(
         alloc: Global,
         layout: Layout,
@@ -72,7 +75,7 @@ impl Geometry {
         }
     }
 
-    // The geometry with spares at the end of each track, where they are enough.
+    // The geometry with spares at the end of each track, if they are enough.
     fn per_track(
         alloc: Global,
         outline: Outline,
@@ -94,7 +97,7 @@ impl Geometry {
         })
     }
 
-    // The geometry with spares at the end of each cylinder, where they are enough.
+    // The geometry with spares at the end of each cylinder, if they are enough.
     fn per_cylinder(
         alloc: Global,
         outline: Outline,
@@ -117,15 +120,15 @@ impl Geometry {
         })
     }
 
-    /// What every geometry keeps: its numbers lie in their ranges, its zones follow one another, and
-    /// each cylinder of a zone has the same number of sectors, on slots of its own.
+    /// What holds of every geometry: its numbers are in their ranges, its zones follow one another,
+    /// and the cylinders of a zone have the same number of sectors, each on slots of its own.
     pub fn sound(&self)
         ensures { IsSound self.now }
     {
         let _outline = &self.outline;
     }
 
-    /// Each sector has a place of its own, and none that is bad.
+    /// Each sector has a place of its own, which is not a bad slot.
     pub fn own_places(&self)
         ensures { HasOwnPlaces self.now }
     {
@@ -140,14 +143,14 @@ impl Geometry {
         let _slots = self.slots(track);
     }
 
-    /// Where the spares stand.
+    /// Where the spare slots are.
     pub fn layout(&self) -> Layout
         ensures { result ≡ self.now.layout }
     {
         self.outline.layout
     }
 
-    /// The time of one rotation.
+    /// The time of one rotation, in nanoseconds.
     pub fn rotation(&self) -> Ns
         ensures value { result ≡ self.now.rotation }
         ensures some { 0 < result }
@@ -156,7 +159,7 @@ impl Geometry {
         self.outline.rotation
     }
 
-    /// The number of heads, which is that of the tracks of a cylinder.
+    /// The number of heads, which is the number of tracks of a cylinder.
     pub fn heads(&self) -> u32
         ensures value { result ≡ self.now.heads }
         ensures some { 0 < result }
@@ -183,7 +186,7 @@ impl Geometry {
         self.outline.zones.len() as u32
     }
 
-    /// The zone at an index, by cylinder from 0.
+    /// The zone with an index, counted from 0 in the order of cylinders.
     pub fn zone(&self, i: u32) -> Zone
         requires { i < length self.now.zones }
         ensures { slice_get self.now.zones i ≡ Some result }
@@ -213,7 +216,7 @@ impl Geometry {
         self.zone_of(track.cylinder).sectors
     }
 
-    /// The slot from which a track is counted.
+    /// The slot from which the sectors of a track are counted.
     pub fn offset(&self, track: Track) -> u32
         requires cylinder { track.cylinder < cylinders_of self.now.zones }
         requires head { track.head < self.now.heads }
@@ -223,7 +226,7 @@ impl Geometry {
         self.zone_of(track.cylinder).offset(self.heads(), track)
     }
 
-    /// The angle at which a slot begins.
+    /// The angle at which a slot begins, in nanoseconds of the rotation, rounded down.
     pub fn slot_begin(&self, track: Track, slot: u32) -> Ns
         requires track { track.cylinder < cylinders_of self.now.zones }
         requires slot { slot < slots_at self.now.zones track.cylinder }
@@ -233,7 +236,8 @@ impl Geometry {
         slot as u64 * self.rotation() / self.slots(track) as u64
     }
 
-    /// The angle at which a slot ends.
+    /// The angle at which a slot ends, which is where the next one begins; for the last slot the
+    /// whole rotation.
     pub fn slot_end(&self, track: Track, slot: u32) -> Ns
         requires track { track.cylinder < cylinders_of self.now.zones }
         requires slot { slot < slots_at self.now.zones track.cylinder }
@@ -265,7 +269,7 @@ impl Geometry {
         }
     }
 
-    /// The place of a sector of a cylinder, from 0 in the order of their numbers.
+    /// The place of the j-th sector of a cylinder, counted from 0.
     pub fn sector_place(&self, cylinder: u32, j: u32) -> Place
         requires cylinder { cylinder < cylinders_of self.now.zones }
         requires sector { j < length (data_list_at self.now cylinder) }
@@ -278,8 +282,8 @@ impl Geometry {
         }
     }
 
-    /// The index of a slot among the sectors of its cylinder. None where it holds no data: it is a spare
-    /// that no sector was moved to, a defect, or a grown defect.
+    /// Which sector of its cylinder a slot holds, counted from 0. None if it holds no data: it is a
+    /// defect, a grown defect, or a spare that no sector has moved to.
     pub fn sector_of_slot(&self, track: Track, slot: u32) -> Option<u32>
         requires cylinder { track.cylinder < cylinders_of self.now.zones }
         requires head { track.head < self.now.heads }
@@ -325,7 +329,7 @@ impl Geometry {
         zone.place_at(heads, cylinder, slipped(defects, good))
     }
 
-    // The index of a place, with spares at the end of each track.
+    // Which sector a place holds, with spares at the end of each track.
     fn index_by_track(&self, zone: Zone, place: Place) -> Option<u32>
         requires zone { IsZoneAt self.now place.track.cylinder zone }
         requires layout { self.now.layout ≡ PerTrack }
@@ -350,7 +354,7 @@ impl Geometry {
         Some(place.track.head * sectors + sector)
     }
 
-    // The index of a place, with spares at the end of the cylinder.
+    // Which sector a place holds, with spares at the end of the cylinder.
     fn index_by_cylinder(&self, zone: Zone, place: Place) -> Option<u32>
         requires zone { IsZoneAt self.now place.track.cylinder zone }
         requires layout { self.now.layout ≡ PerCylinder }

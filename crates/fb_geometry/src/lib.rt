@@ -1,4 +1,10 @@
-//! The outline of a disk: zones, skews, spares, defects and angles.
+//! The geometry of a disk: zones, skews, spares, defects and angles.
+//!
+//! The layers above may rely on this: `Geometry::new` accepts exactly the outlines without a fault
+//! and names the first fault of any other; a geometry gives the place of each sector of a cylinder,
+//! the sector of a slot, and the angle at which a slot begins and ends; no two sectors share a
+//! slot, and none is on a bad one. Only `new` allocates. Sectors are counted within their cylinder
+//! here; LBNs are the business of the crate above. Serpentine layouts are not modelled.
 #![tactic(auto)]
 
 mod cylinder;

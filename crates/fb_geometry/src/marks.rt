@@ -1,4 +1,4 @@
-// Marked positions of cylinders: bad slots, counted in the order in which they come by.
+// Marked positions of cylinders: bad slots, counted head by head in the order of the tracks' turns.
 ghost use Rattle.std.specs.Prelude.{◌≡◌, ℕ, true, false, ◌+◌, ◌<◌, ◌≤◌, ◌^◌, ◌==◌, [], ◌-◌, IfNone, IfSome, IfOk, length, map};
 ghost use Rattle.std.specs.List.{list_any};
 ghost use Rattle.fb_geometry.specs.Slips.{IsAscending, rank, slipped, entry_of_sector, HoldsNone, HoldsSector};
@@ -8,14 +8,14 @@ use fb_units::NoMemory;
 use std::alloc::Global;
 use std::marker::Model;
 
-// A position of a cylinder.
+// A position of a cylinder: how many of its slots come before.
 #[derive(Clone, Copy, PartialEq, Eq, PartialOrd, Ord)]
 pub struct Mark {
     pub cylinder: u32,
     pub position: u32,
 }
 
-// Marks in order, each once.
+// Marks in ascending order, without repetition.
 #[derive(Drop)]
 pub struct Marks {
     items: Vec<Mark>,
@@ -58,7 +58,7 @@ impl Marks {
     }
 }
 
-// The part of a cylinder among marks in order.
+// The marks of a cylinder among marks in order.
 pub fn part(marks: &[Mark], cylinder: u32) -> &[Mark]
     requires { AreInOrder marks.now }
     ensures value { result.now ≡ marks_on cylinder marks.now }
@@ -86,7 +86,7 @@ pub fn unmarked_before(marks: &[Mark], position: u32) -> u32
     position - rank(marks, position)
 }
 
-// How many positions from this one on come before the next marked one, or before the end.
+// How many positions, from this one on, come before the next marked one or before the end.
 pub fn unmarked_from(marks: &[Mark], position: u32, end: u32) -> u32
     requires ascending { IsAscending (positions marks.now) }
     requires order { position ≤ end }
@@ -111,7 +111,8 @@ pub fn is_marked(marks: &[Mark], position: u32) -> bool
         .is_ok()
 }
 
-// What a number becomes where marked positions are passed over.
+// The position of the `number`-th unmarked position, counted from 0: the number, and one more for
+// each marked position that is passed over.
 pub fn slipped(marks: &[Mark], number: u32) -> u32
     requires ascending { IsAscending (positions marks.now) }
     requires fits { slipped number (positions marks.now) < 2 ^ 32 }
@@ -130,8 +131,8 @@ pub fn slipped(marks: &[Mark], number: u32) -> u32
     number + low as u32
 }
 
-// The entry that holds a sector, where each of the first `sectors` entries that is marked has moved to
-// the next one behind them that is not.
+// The entry that holds a sector, if the first `sectors` entries hold the sectors in order, but each
+// marked one of these has moved to the next free unmarked entry behind them.
 pub fn entry_of_sector(marks: &[Mark], sectors: u32, sector: u32) -> u32
     requires ascending { IsAscending (positions marks.now) }
     requires fits { entry_of_sector (positions marks.now) sectors sector < 2 ^ 32 }
@@ -144,7 +145,7 @@ pub fn entry_of_sector(marks: &[Mark], sectors: u32, sector: u32) -> u32
     }
 }
 
-// The sector that an entry of such a list holds.
+// The sector that an entry of such a list holds. None if it holds none.
 pub fn sector_of_entry(marks: &[Mark], sectors: u32, entry: u32) -> Option<u32>
     requires ascending { IsAscending (positions marks.now) }
     ensures none { IfNone result (HoldsNone (positions marks.now) sectors entry) }
@@ -164,7 +165,7 @@ pub fn sector_of_entry(marks: &[Mark], sectors: u32, entry: u32) -> Option<u32>
     Some(marks[spare as usize].position)
 }
 
-// Whether the i-th mark is the one ahead of it, or one of the others.
+// Whether the i-th mark is the same as the one ahead of it, or as one of the others.
 pub fn is_clash(marks: &[Mark], i: usize, others: &[Mark]) -> bool
     requires index { i < length marks.now }
     requires others { AreInOrder others.now }
@@ -177,7 +178,7 @@ pub fn is_clash(marks: &[Mark], i: usize, others: &[Mark]) -> bool
     is_marked(part(others, mark.cylinder), mark.position)
 }
 
-// Unmarked positions, by how many before each are not marked.
+// The same marks, each with its position counted among the positions that `marked` doesn't mark.
 pub fn among_unmarked(alloc: Global, marked: &[Mark], marks: &[Mark]) -> Result<Vec<Mark>, NoMemory>
     requires { AreInOrder marked.now }
     ensures { IfOk result (λ unmarked. unmarked.items ≡ map (among_unmarked marked.now) marks.now) }

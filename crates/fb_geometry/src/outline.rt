@@ -1,4 +1,4 @@
-// A disk's outline as it is given, and what may be wrong with it.
+// The outline of a disk as it is given, and what may be wrong with it.
 ghost use Rattle.std.specs.Prelude.{◌≡◌, ℕ, ◌<◌, ◌≤◌, ◌^◌, length, map, find, position, Some, None, false, true, IfOk, IfErr, All, filter, ◌++◌, nat_lt};
 ghost use Rattle.std.specs.List.{list_any};
 ghost use Rattle.fb_geometry.specs.Shape.{Shape, cylinders_of, slots_at};
@@ -101,7 +101,7 @@ impl Outline {
         }
     }
 
-    // The first zone that does not begin behind the one before it.
+    // The index of the first zone that doesn't begin right behind the one before it.
     fn first_apart(&self) -> Option<u32>
         requires { length self.now.zones ≤ 64 }
         ensures { result ≡ first_apart 0 0 self.now.zones }
@@ -117,7 +117,7 @@ impl Outline {
         None
     }
 
-    // The first zone with a skew that is not below its sectors.
+    // The index of the first zone with a skew that is not below its sectors a track.
     fn first_skewed(&self) -> Option<u32>
         requires { length self.now.zones ≤ 64 }
         ensures { result ≡ position is_too_skewed self.now.zones }
@@ -149,7 +149,7 @@ impl Outline {
         zone_of(self.zones.as_slice(), cylinder)
     }
 
-    // The first of these places that lies outside the disk.
+    // The first of these places that is outside the disk.
     fn first_outside(&self, places: &[Place]) -> Option<Place>
         requires { HasZones self.now }
         ensures { result ≡ find (is_outside self.now) places.now }
@@ -173,7 +173,7 @@ impl Outline {
         place.slot >= self.zone_of(cylinder).sectors
     }
 
-    // The marks of the defects, or the first fault of these.
+    // The marks of the defects, or their first fault.
     pub fn judged_defects(&self, alloc: Global) -> Result<Vec<Mark>, GeometryError>
         requires { HasZones self.now }
         ensures marks { IfOk result (λ marks. AreJudged self.now self.now.defects (defect_fault self.now) marks.items) }
@@ -190,7 +190,7 @@ impl Outline {
         Ok(marks)
     }
 
-    // The marks of the grown defects, or the first fault of these.
+    // The marks of the grown defects, or their first fault.
     pub fn judged_grown(&self, alloc: Global, defects: &[Mark]) -> Result<Vec<Mark>, GeometryError>
         requires zones { HasZones self.now }
         requires defects { AreMarksOf self.now self.now.defects defects.now }
@@ -210,7 +210,7 @@ impl Outline {
         Ok(marks)
     }
 
-    // The marks of places that lie on the disk, in order.
+    // The marks, in ascending order, of places on the disk.
     fn marks(&self, alloc: Global, places: &[Place]) -> Result<Vec<Mark>, NoMemory>
         requires zones { HasZones self.now }
         requires inside { find (is_outside self.now) places.now ≡ None }
@@ -245,7 +245,7 @@ impl Outline {
         }
     }
 
-    // The place that has a mark.
+    // The place of a mark.
     fn place(&self, mark: Mark) -> Place
         requires zones { HasZones self.now }
         requires on_disk { IsMarkOn self.now mark }
@@ -256,7 +256,7 @@ impl Outline {
         zone.place_at(self.heads, mark.cylinder, mark.position)
     }
 
-    // The least place with a mark that clashes.
+    // The least place of a mark that is the same as the one ahead of it or as one of the others.
     fn least_clash(&self, marks: &[Mark], others: &[Mark]) -> Option<Place>
         requires zones { HasZones self.now }
         requires on_disk { All (IsMarkOn self.now) marks.now }
@@ -302,7 +302,7 @@ impl Outline {
         rank(on, first + zone.sectors) - rank(on, first) > zone.spares
     }
 
-    // The least cylinder with more defects and grown defects than spares.
+    // The least cylinder with more defects and grown defects together than spares.
     pub fn first_full_cylinder(&self, defects: &[Mark], grown: &[Mark]) -> Option<u32>
         requires zones { HasZones self.now }
         requires defects { AreMarksOf self.now self.now.defects defects.now }
@@ -320,7 +320,7 @@ impl Outline {
         }
     }
 
-    // The first of these cylinders that is full.
+    // The first cylinder of these marks that has more bad slots than spares.
     fn first_full_among(&self, marks: &[Mark], defects: &[Mark], grown: &[Mark]) -> Option<u32>
         requires zones { HasZones self.now }
         requires on_disk { All (IsMarkOn self.now) marks.now }
@@ -353,7 +353,7 @@ impl Outline {
     }
 }
 
-// The lesser of a place and another, where there is one.
+// The lesser of a place and another one, if there is another.
 fn lesser(place: Place, other: Option<Place>) -> Place
     ensures { Some result ≡ lesser is_place_before place other }
 {

@@ -1,4 +1,4 @@
-// Sectors that come by one directly after another.
+// Sectors that come by directly one after another.
 ghost use Rattle.std.specs.Prelude.{◌+◌, ◌<◌, ◌≤◌, length};
 ghost use Rattle.fb_geometry.specs.Shape.{cylinders_of};
 ghost use Rattle.fb_geometry.specs.Places.{data_list_at};
@@ -9,21 +9,21 @@ use crate::marks::unmarked_from;
 use crate::{Geometry, Layout, Zone};
 use fb_units::Place;
 
-/// Sectors in slots that follow one another in one turn of a track.
+/// Sectors in neighbouring slots of one turn of a track.
 #[derive(Clone, Copy)]
 pub struct Stretch {
-    /// Where the first sector is.
+    /// The place of the first sector.
     pub place: Place,
     /// The number of sectors, at least one.
     pub count: u32,
 }
 
 impl Geometry {
-    /// The place of the j-th sector of a cylinder, counted from 0, and how many sectors from it on stand
-    /// in neighbouring slots.
+    /// The place of the j-th sector of a cylinder, counted from 0, and how many sectors from it on
+    /// are in neighbouring slots.
     ///
-    /// The stretch ends before the next slot that is bad, and with the turn of the track; a sector that has
-    /// moved to a spare is a stretch of its own.
+    /// The stretch ends before the next bad slot, and with the turn of the track; a sector that has
+    /// moved to a spare is a stretch of its own. It need not be the longest one.
     pub fn stretch(&self, cylinder: u32, j: u32) -> Stretch
         requires cylinder { cylinder < cylinders_of self.now.zones }
         requires sector { j < length (data_list_at self.now cylinder) }
@@ -41,8 +41,8 @@ impl Geometry {
         }
     }
 
-    // How many sectors from the j-th on, at least, are on good slots in their order, with no good slot left
-    // out between them.
+    // A number of sectors, from the j-th on, that are on good slots in their order, with no good
+    // slot left out between them.
     fn in_order(&self, zone: Zone, cylinder: u32, j: u32) -> u32
         requires zone { IsZoneAt self.now cylinder zone }
         requires sector { j < length (data_list_at self.now cylinder) }
