@@ -1,4 +1,4 @@
--- A range cut into blocks that each pass whole on one track.
+-- A range is cut into blocks, each of which passes whole in one turn of a track.
 use Rattle.std.specs.Prelude.{◌≡◌, ℕ, zero, suc, ◌+◌, ◌-◌, ◌%◌, ◌<◌, List, [], ◌∷◌, Bool, true, ◌&&◌, ◌||◌, not, ◌==◌, nat_lt, if◌then◌else◌}
 use Rattle.fb_units.specs.declared.types.Place.{Place}
 use Rattle.fb_units.specs.Tracks.{same_track}
@@ -10,22 +10,22 @@ use Rattle.fb_sectormap.specs.Lookup.{place_at, track_at}
 abbrev pub is_later : Shape → Place → Place → Bool
 is_later disk before place = same_track before.track place.track && nat_lt (turn_position disk before) (turn_position disk place)
 
--- so many sectors from lbn on come by one after another in one turn of a track
+-- `count` sectors from lbn on come by one after another in one turn of a track
 abbrev pub IsOneTurn : Shape → ℕ → ℕ → Type 0
 IsOneTurn disk lbn count = (i : ℕ) → i + 1 < count → is_later disk (place_at disk (lbn + i)) (place_at disk (lbn + i + 1)) ≡ true
 
--- a block begins here: at a multiple of the block size, or where the turn of the sector before doesn't go on
+-- a block begins at lbn: it is a multiple of the block size, or its place isn't later in the same turn than that of the sector before
 abbrev pub is_cut_before : Shape → ℕ → ℕ → Bool
 is_cut_before disk block lbn = (lbn % block == 0) || not (is_later disk (place_at disk (lbn - 1)) (place_at disk lbn))
 
--- a sector before blocks that begin behind it
+-- the blocks with the sector before them: it is a block of its own, or joins the first one
 abbrev pub with_sector : Shape → ℕ → ℕ → List Cut → List Cut
 with_sector disk block lbn [] = record { lbn = lbn; count = 1; track = track_at disk lbn } ∷ []
 with_sector disk block lbn (cut ∷ cuts) = if is_cut_before disk block (lbn + 1)
     then record { lbn = lbn; count = 1; track = track_at disk lbn } ∷ cut ∷ cuts
     else record { lbn = lbn; count = cut.count + 1; track = cut.track } ∷ cuts
 
--- the blocks of n sectors from lbn on
+-- the blocks into which n sectors from lbn on are cut
 unfoldable pub cutting : Shape → ℕ → ℕ → ℕ → List Cut
 cutting disk block lbn zero = []
 cutting disk block lbn (suc n) = with_sector disk block lbn (cutting disk block (lbn + 1) n)

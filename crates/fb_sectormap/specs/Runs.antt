@@ -1,4 +1,4 @@
--- The sectors of a cylinder or of a part of a turn, looked up once.
+-- Sectors that are looked up once: those of a cylinder, or neighbours in a turn of a track.
 use Rattle.std.specs.Prelude.{◌≡◌, ℕ, ◌+◌, ◌<◌, ◌≤◌, length}
 use Rattle.fb_geometry.specs.Shape.{Shape, slots_at, turn_position, IsTrackOf}
 use Rattle.fb_geometry.specs.Places.{places, data_list_at}
@@ -8,14 +8,14 @@ use Rattle.fb_sectormap.specs.declared.span.Span.{Span}
 use Rattle.fb_sectormap.specs.Lookup.{place_at, track_at, neighbour}
 use Rattle.fb_sectormap.specs.Cylinders.{sectors_before}
 
--- the run has all sectors of its cylinder, and none else
+-- the run has all sectors of its cylinder, and no others
 pub record IsRun (disk : Shape) (run : Run) : Type 0 where
   pub looked_up : IsLookedUp disk run.on
   pub first : run.first ≡ sectors_before disk run.on.number
   pub end : run.end ≡ run.first + length (data_list_at disk run.on.number)
   pub sectors : (lbn : ℕ) → run.first ≤ lbn → lbn < run.end → (lbn < length (places disk)) × ((track_at disk lbn).cylinder ≡ run.on.number)
 
--- the sectors of the span stand in slots that follow one another in one turn of a track
+-- the sectors of the span are in neighbouring slots of one turn of a track
 pub record IsSpan (disk : Shape) (span : Span) : Type 0 where
   pub some : 0 < span.stretch.count
   pub on_disk : span.first + span.stretch.count ≤ length (places disk)

@@ -1,4 +1,4 @@
--- Sectors of disks with four cylinders, two heads and twelve slots a track, two of them or two of each cylinder spare.
+-- Sectors of small disks, worked out by hand: four cylinders, two heads, twelve slots a track, and two spares to each track or cylinder.
 use Rattle.std.specs.Prelude.{◌≡◌, ℕ, List, [], ◌∷◌}
 use Rattle.fb_units.specs.declared.types.Place.{Place}
 use Rattle.fb_units.specs.declared.types.Track.{Track}
@@ -8,6 +8,7 @@ use Rattle.fb_geometry.specs.Shape.{Shape}
 use Rattle.fb_sectormap.specs.Lookup.{IsAt}
 use Rattle.fb_sectormap.specs.Cutting.{cutting}
 
+-- such a disk, with a layout, spares per track and per cylinder, defects and grown defects
 abbrev pub outline : Layout → ℕ → ℕ → List Place → List Place → Shape
 outline layout spares cylinder_spares defects grown = record {
   layout = layout;
@@ -24,17 +25,19 @@ track cylinder head = record { cylinder = cylinder; head = head }
 abbrev pub place : ℕ → ℕ → ℕ → Place
 place cylinder head slot = record { track = track cylinder head; slot = slot }
 
--- with spares per track and one slot bad, with spares per cylinder and the same slot bad, and with one that went bad later
+-- spares per track, and slot 3 of track 0.0 is bad
 abbrev pub slipping : Shape
 slipping = outline PerTrack 2 0 (place 0 0 3 ∷ []) []
 
+-- spares per cylinder, and the same slot is bad
 abbrev pub slipping_over : Shape
 slipping_over = outline PerCylinder 0 2 (place 0 0 3 ∷ []) []
 
+-- spares per cylinder, and slot 4 of track 0.1 went bad later
 abbrev pub remapped : Shape
 remapped = outline PerCylinder 0 2 [] (place 0 1 4 ∷ [])
 
--- the sectors behind a bad slot slip by one, as far as its track
+-- the sectors behind a bad slot slip on by one, as far as the end of its track
 abbrev pub SlipsOnTrack : Type 0
 SlipsOnTrack = IsAt slipping 3 (place 0 0 4) × IsAt slipping 10 (place 0 1 0)
 
@@ -42,7 +45,7 @@ SlipsOnTrack = IsAt slipping 3 (place 0 0 4) × IsAt slipping 10 (place 0 1 0)
 abbrev pub HoldNothing : Type 0
 HoldNothing = ((lbn : ℕ) → IsAt slipping lbn (place 0 0 3) → ⊥) × ((lbn : ℕ) → IsAt slipping lbn (place 0 0 11) → ⊥)
 
--- they slip by one as far as its cylinder
+-- the sectors behind a bad slot slip on by one, as far as the end of its cylinder
 abbrev pub SlipsOnCylinder : Type 0
 SlipsOnCylinder = IsAt slipping_over 10 (place 0 0 11) × IsAt slipping_over 11 (place 0 1 0) × IsAt slipping_over 22 (place 1 0 0)
 

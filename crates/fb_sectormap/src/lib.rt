@@ -1,8 +1,11 @@
-//! The numbers of a disk's sectors: where each sector is, which sector a place holds, and how a range
-//! of sectors is cut into blocks.
+//! LBNs: where each sector of a disk is, which sector a place holds, and how a range of sectors is
+//! cut into blocks.
 //!
-//! `place` and `lbn_at` are inverse to one another, over the one list of all places that hold data. The
-//! layers above work with numbers of sectors, and ask nobody for zones, spares or defects.
+//! The layers above may rely on this: `place` and `lbn_at` are inverse to each other, over one list
+//! of all places that hold data; LBNs rise with the cylinder; the cutting of a range is one
+//! definition, and each block passes whole within one rotation. So they work with LBNs alone, and
+//! ask nobody for zones, spares or defects. Only `SectorMap::new` allocates. Nothing here knows of
+//! time.
 #![tactic(auto)]
 
 mod cut;

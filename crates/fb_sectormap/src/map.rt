@@ -1,4 +1,4 @@
-// The map between the numbers of sectors and their places.
+// The map between LBNs and places.
 ghost use Rattle.std.specs.Prelude.{◌≡◌, ℕ, ◌+◌, ◌<◌, ◌≤◌, ◌^◌, length, map, IfOk, MatchOption};
 ghost use Rattle.fb_geometry.specs.Shape.{slots_at, cylinders_of, turn_position, IsTrackOf};
 ghost use Rattle.fb_geometry.specs.Places.{places};
@@ -13,7 +13,8 @@ use fb_units::{NoMemory, Place, Track};
 use std::alloc::Global;
 use std::marker::Model;
 
-/// Which place each sector of a disk has.
+/// Which place each sector of a disk has. Sectors are numbered cylinder by cylinder; this is their
+/// LBN, counted from 0.
 #[derive(Drop)]
 pub struct SectorMap {
     geometry: Geometry,
@@ -33,7 +34,7 @@ impl Model for SectorMap {
 }
 
 impl SectorMap {
-    /// The map of a disk.
+    /// The map of a disk. Its only error is `NoMemory`.
     pub fn new(alloc: Global, geometry: Geometry) -> Result<SectorMap, NoMemory>
         ensures { IfOk result (λ map. map ≡ geometry) }
     {
@@ -64,7 +65,7 @@ impl SectorMap {
         &self.geometry
     }
 
-    /// The number of sectors.
+    /// The number of sectors of the disk.
     pub fn count(&self) -> u64
         ensures value { result ≡ length (places self.now) }
         ensures bound { result ≤ 10 ^ 12 }
@@ -84,9 +85,11 @@ impl SectorMap {
         self.geometry.sector_place(at.cylinder, at.sector)
     }
 
-    /// The place of a sector, and how many sectors from it on stand in neighbouring slots of its track.
+    /// The place of a sector, and how many sectors from it on are in neighbouring slots of its
+    /// track.
     ///
-    /// They come by one directly after another in one turn of the track.
+    /// They come by directly one after another in one turn of the track. There may be more such
+    /// sectors behind them.
     pub fn stretch(&self, lbn: u64) -> Stretch
         requires { lbn < length (places self.now) }
         ensures some { 0 < result.count }
@@ -101,7 +104,7 @@ impl SectorMap {
         self.geometry.stretch(at.cylinder, at.sector)
     }
 
-    /// The sectors of the cylinder on which a sector is, for the places of many of them.
+    /// All sectors of the cylinder of a sector, for the places of many of them.
     pub fn run_of(&self, lbn: u64) -> Run
         requires { lbn < length (places self.now) }
         ensures run { IsRun self.now result }
@@ -132,7 +135,7 @@ impl SectorMap {
         self.geometry.place_on(&run.on, (lbn - run.first) as u32)
     }
 
-    /// The sector at a place. None where the slot holds no data.
+    /// The LBN of the sector in a slot. None if the slot holds no data.
     pub fn lbn_at(&self, track: Track, slot: u32) -> Option<u64>
         requires cylinder { track.cylinder < cylinders_of self.now.zones }
         requires head { track.head < self.now.heads }
@@ -151,21 +154,21 @@ impl SectorMap {
         self.start_by_cylinder(cylinder).first_of(cylinder)
     }
 
-    /// Sectors are numbered through the cylinders.
+    /// The cylinders of sectors rise with their LBNs.
     pub fn cylinders_rise(&self)
         ensures { CylindersRise self.now }
     {
         let _geometry = &self.geometry;
     }
 
-    // The numbers of sectors are small.
+    // A disk has at most 10^12 sectors.
     pub(crate) fn few_sectors(&self)
         ensures { length (places self.now) ≤ 10 ^ 12 }
     {
         let _geometry = &self.geometry;
     }
 
-    // A sector by its cylinder.
+    // The cylinder of a sector, and which of the cylinder's sectors it is.
     fn by_cylinder(&self, lbn: u64) -> CylinderSector
         requires { lbn < length (places self.now) }
         ensures { IsSectorOf self.now result.cylinder result.sector lbn }

@@ -1,7 +1,7 @@
-// How sectors are numbered: zone by zone, and in each cylinder by cylinder.
+// How sectors are numbered: zone by zone, and in each zone cylinder by cylinder.
 ghost use Rattle.std.specs.Prelude.{◌≡◌, ◌+◌, ◌-◌, ◌*◌, ◌/◌, ◌%◌, ◌^◌, ◌<◌, ◌≤◌};
 
-// The first sector of a zone, and how many each of its cylinders has.
+// The first sector of a zone, and how many sectors each of its cylinders has.
 #[derive(Clone, Copy)]
 pub struct ZoneStart {
     // The first cylinder of the zone.
@@ -12,7 +12,7 @@ pub struct ZoneStart {
     pub cylinder_sectors: u32,
 }
 
-// A sector by its cylinder, and by how many of the cylinder's sectors come before it.
+// A sector, named by its cylinder and by how many of the cylinder's sectors come before it.
 #[derive(Clone, Copy)]
 pub struct CylinderSector {
     pub cylinder: u32,
@@ -29,7 +29,7 @@ impl ZoneStart {
         self.lbn + (cylinder - self.cylinder) as u64 * self.cylinder_sectors as u64
     }
 
-    // A sector of the zone by its cylinder.
+    // The cylinder of a sector of the zone, and which of the cylinder's sectors it is.
     pub fn sector(&self, lbn: u64) -> CylinderSector
         requires from { self.now.lbn ≤ lbn }
         requires some { 0 < self.now.cylinder_sectors }

@@ -1,12 +1,12 @@
 use fb_geometry::Cylinder;
 
-/// The sectors of a cylinder, looked up once for the places of many of them.
+/// All sectors of a cylinder, looked up once for the places of many of them.
 #[derive(Clone, Copy)]
 pub struct Run {
     /// The cylinder.
     pub on: Cylinder,
-    /// Its first sector.
+    /// The LBN of its first sector.
     pub first: u64,
-    /// The sector behind its last one.
+    /// The LBN behind that of its last sector.
     pub end: u64,
 }

@@ -1,4 +1,4 @@
-// Sectors that follow one another in a turn, with their numbers.
+// Sectors that follow one another in a turn of a track, with their LBNs.
 ghost use Rattle.std.specs.Prelude.{◌≡◌, ◌+◌, ◌-◌, ◌<◌, length};
 ghost use Rattle.fb_geometry.specs.Shape.{slots_at, IsTrackOf};
 ghost use Rattle.fb_geometry.specs.Places.{places};
@@ -9,17 +9,18 @@ use crate::SectorMap;
 use fb_geometry::Stretch;
 use fb_units::Place;
 
-/// Sectors in neighbouring slots of one turn, looked up once for the blocks that are cut from them.
+/// Sectors in neighbouring slots of one turn of a track, looked up once for the blocks that are cut
+/// from them.
 #[derive(Clone, Copy)]
 pub struct Span {
-    /// The first sector.
+    /// The LBN of the first sector.
     pub first: u64,
-    /// Where the sectors are.
+    /// The place of the first sector, and how many sectors there are.
     pub stretch: Stretch,
 }
 
 impl SectorMap {
-    /// The sectors that stand in neighbouring slots from this one on.
+    /// The sectors in neighbouring slots from this one on.
     pub fn span(&self, lbn: u64) -> Span
         requires { lbn < length (places self.now) }
         ensures span { IsSpan self.now result }
