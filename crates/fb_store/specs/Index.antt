@@ -1,5 +1,5 @@
--- How the contents of sectors are kept: where ranges begin, each with its content if it has one; a range goes on to the next one.
--- Contracts speak of what a sector holds alone.
+-- How the contents of sectors are kept: as ranges, by where they begin, each with a content or none; a range extends to the next one.
+-- Contracts speak only of what a sector holds.
 use Rattle.std.specs.Prelude.{◌≡◌, ℕ, zero, suc, ◌+◌, List, Option, None, Some, slice_get}
 use Rattle.std.specs.Option.{unwrap_or, IsSome}
 use Rattle.std.specs.Ordering.{nat_cmp}
@@ -9,7 +9,7 @@ use Rattle.fb_store.specs.declared.content.Content.{Content}
 use Rattle.fb_store.specs.declared.content.ContentRun.{ContentRun}
 use Rattle.fb_store.specs.Writes.{unwritten}
 
--- what a sector holds: the range that begins at it says so, or else it is as the sector before it
+-- what a sector holds: the content of the range that begins at it, or what the sector before it holds
 abbrev pub held_of : (ℕ → Option (Option Content)) → ℕ → Option Content
 held_of begins zero = unwrap_or (begins zero) None
 held_of begins (suc lbn) = unwrap_or (begins (suc lbn)) (held_of begins lbn)
@@ -18,7 +18,7 @@ held_of begins (suc lbn) = unwrap_or (begins (suc lbn)) (held_of begins lbn)
 abbrev pub begins_at : List (ℕ × Option Content) → ℕ → Option (Option Content)
 begins_at ranges lbn = lookup (is_at (nat_cmp lbn)) ranges
 
--- what a sector holds by these ranges, if anything
+-- what a sector holds according to these ranges, if anything
 abbrev pub held_at : List (ℕ × Option Content) → ℕ → Option Content
 held_at ranges lbn = held_of (begins_at ranges) lbn
 
@@ -31,6 +31,6 @@ pub record Holding : Type 0 where
 abbrev pub content_in : Holding → ℕ → Content
 content_in holding lbn = unwrap_or (held_at holding.ranges lbn) (unwritten holding.latent lbn)
 
--- a range begins at each run and after it
+-- a range begins at each run and behind it
 abbrev pub AreCut : (ℕ → Option (Option Content)) → List ContentRun → Type 0
 AreCut begins runs = (i : ℕ) (run : ContentRun) → slice_get runs i ≡ Some run → IsSome (begins run.first) × IsSome (begins (run.first + run.count))

@@ -1,4 +1,4 @@
--- The contents of some sectors: what taken contents and a dropped range leave.
+-- The contents of some of the sectors, after contents were taken or a range was dropped.
 use Rattle.std.specs.Prelude.{◌≡◌, ◌≤◌, ℕ, List, [], ◌∷◌, Option, None, Some, ◌==◌, map, if◌then◌else◌}
 use Rattle.std.specs.List.{flat_map, range_with_len}
 use Rattle.fb_store.specs.declared.content.Content.{Content}
@@ -6,12 +6,12 @@ use Rattle.fb_store.specs.declared.content.ContentRun.{ContentRun}
 use Rattle.fb_store.specs.Runs.{sectors_of}
 use Rattle.fb_store.specs.Writes.{is_within}
 
--- what a sector holds after contents were taken: what the last of them gives it, or what it held before
+-- what a sector holds after contents were taken: what the last of them says of it, or what it held before
 abbrev pub after_taking : List (ℕ × Content) → ℕ → Option Content → Option Content
 after_taking [] lbn before = before
 after_taking (sector ∷ sectors) lbn before = after_taking sectors lbn (if sector.0 == lbn then Some sector.1 else before)
 
--- the runs give each of n sectors from the first on its content, in their order, and give no other sector any
+-- the runs give each of n sectors, from the first on and in order, its content, and no other sector any
 abbrev pub Gives : List ContentRun → (ℕ → Content) → ℕ → ℕ → Type 0
 Gives runs content_of first n = sectors_of runs ≡ map (λ lbn. (lbn, content_of lbn)) (range_with_len first n)
 
@@ -23,12 +23,12 @@ after_take content_of first n lbn before = if is_within first n lbn then Some (c
 abbrev pub after_dropping : ℕ → ℕ → ℕ → Option Content → Option Content
 after_dropping first n lbn before = if is_within first n lbn then None else before
 
--- a sector that holds something, with its content
+-- the sector with its content, if it holds any
 abbrev pub held_sector : ℕ → Option Content → List (ℕ × Content)
 held_sector lbn None = []
 held_sector lbn (Some content) = (lbn, content) ∷ []
 
--- those of these sectors that hold something, each with its content
+-- the sectors among these that hold something, each with its content
 abbrev pub held_in : (ℕ → Option Content) → List ℕ → List (ℕ × Content)
 held_in content_of lbns = flat_map (λ lbn. held_sector lbn (content_of lbn)) lbns
 

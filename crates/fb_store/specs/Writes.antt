@@ -1,10 +1,10 @@
--- What a sector holds, and what a write leaves in it.
+-- What a sector holds before any write, and after one.
 use Rattle.std.specs.Prelude.{ℕ, ◌+◌, List, Bool, ◌&&◌, ◌==◌, nat_le, nat_lt, if◌then◌else◌}
 use Rattle.std.specs.List.{list_any}
 use Rattle.fb_store.specs.declared.content.Content.{Content}
 use Rattle.fb_store.specs.declared.content.Content.TheVariants.{Filled, Unreadable}
 
--- a sector that no write has passed
+-- the content of a sector that no write has passed: unreadable if it is latent, else the fill of writer 0
 abbrev pub unwritten : List ℕ → ℕ → Content
 unwritten latent lbn = if list_any (λ bad. bad == lbn) latent then Unreadable else Filled 0
 

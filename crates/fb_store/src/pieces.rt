@@ -1,4 +1,4 @@
-// The contents of some sectors.
+// The contents of some of the sectors.
 ghost use Rattle.std.specs.Prelude.{◌≡◌, ℕ, List, [], ◌+◌, ◌-◌, ◌<◌, ◌≤◌, ◌^◌, ◌++◌, None, IfOk, OnOk, OnErr};
 ghost use Rattle.std.specs.Ordering.{nat_cmp};
 ghost use Rattle.std.specs.BTreeMap.{get};
@@ -15,7 +15,7 @@ use std::alloc::Global;
 use std::collections::BTreeMap;
 use std::marker::Model;
 
-// No sector has a number as great as this.
+// No LBN is as great as this.
 const SECTORS: u64 = 1_000_000_000_000;
 
 /// What some sectors hold: each sector has a content or none.
@@ -48,8 +48,8 @@ impl Pieces {
         }
     }
 
-    /// Each sector of the runs holds from now on what the last of them gives it, and all others stay.
-    /// Where memory is wanting all stays.
+    /// Each sector of the runs holds from now on what the last run that has it says, and all other
+    /// sectors stay as they are. Out of memory, it returns `NoMemory` and no content has changed.
     pub fn take(&mut self, contents: &Contents) -> Result<(), NoMemory>
         requires { AllByRecursion (λ run. run.first + run.count ≤ 10 ^ 12) contents.now }
         ensures ok { OnOk result ((lbn : ℕ) → held_at self.new lbn ≡ after_taking (sectors_of contents.now) lbn (held_at self.old lbn)) }
@@ -61,7 +61,8 @@ impl Pieces {
         Ok(())
     }
 
-    /// No sector of the range holds anything from now on, and all others stay. Where memory is wanting all stays.
+    /// No sector of the range holds anything from now on, and all other sectors stay as they are.
+    /// Out of memory, it returns `NoMemory` and no content has changed.
     pub fn drop_range(&mut self, first: u64, count: u64) -> Result<(), NoMemory>
         requires { first + count ≤ 10 ^ 12 }
         ensures ok { OnOk result ((lbn : ℕ) → held_at self.new lbn ≡ after_dropping first count lbn (held_at self.old lbn)) }
@@ -74,7 +75,7 @@ impl Pieces {
         Ok(())
     }
 
-    /// All that is held, as the fewest runs, ascending.
+    /// All that is held, as the fewest runs, ascending. Its only error is `NoMemory`.
     pub fn contents(&self, alloc: Global) -> Result<Contents, NoMemory>
         ensures ends { EndsBy (held_at self.now) (10 ^ 12) }
         ensures fewest { IfOk result (λ runs. (end : ℕ) → EndsBy (held_at self.now) end → runs ≡ runs_of (held_in (held_at self.now) (range_with_len 0 end))) }
@@ -84,7 +85,8 @@ impl Pieces {
         Ok(runs)
     }
 
-    /// Adds the contents of a range's sectors after runs, which stay the fewest.
+    /// Adds what the sectors of a range hold behind runs that are the fewest for their sectors, and
+    /// they stay so. Out of memory, it returns `NoMemory`, and some runs may have been added.
     pub fn add_runs(&self, runs: &mut Contents, first: u64, count: u64) -> Result<(), NoMemory>
         requires range { first + count ≤ 10 ^ 12 }
         requires fewest { (sectors : List (ℕ × Content)) × (runs.old ≡ runs_of sectors) }
@@ -98,7 +100,7 @@ impl Pieces {
         Ok(())
     }
 
-    // A sector from which on none holds anything.
+    // An LBN from which on no sector holds anything.
     fn end(&self) -> u64
         ensures most { result ≤ 10 ^ 12 }
         ensures none { EndsBy (held_at self.now) result }
@@ -107,7 +109,8 @@ impl Pieces {
         SECTORS
     }
 
-    // Adds the contents of sectors up to where the next range begins, and tells where that is.
+    // Adds what the sectors hold up to the beginning of the next range, or to the end, and returns
+    // where that is.
     fn add_piece(&self, runs: &mut Contents, lbn: u64, end: u64) -> Result<u64, NoMemory>
         requires range { (lbn < end) × (end ≤ 10 ^ 12) }
         requires fewest { runs.old ≡ runs_of (sectors_of runs.old) }
@@ -129,7 +132,7 @@ impl Pieces {
     }
 }
 
-// Makes ranges begin at each run and after it; what sectors hold stays.
+// Makes ranges begin at each run and behind it. What sectors hold stays as it is.
 fn cut_runs(
     ranges: &mut BTreeMap<u64, Option<Content>>,
     contents: &Contents,
@@ -146,7 +149,7 @@ fn cut_runs(
     Ok(())
 }
 
-// Gives the sectors of each run its content.
+// Gives the sectors of each run the content of that run.
 fn assign_runs(ranges: &mut BTreeMap<u64, Option<Content>>, contents: &Contents)
     requires runs { AllByRecursion (λ run. run.first + run.count ≤ 10 ^ 12) contents.now }
     requires begins { AreCut (get nat_cmp ranges.old) contents.now }

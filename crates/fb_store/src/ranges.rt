@@ -1,4 +1,5 @@
-// Ranges of sectors by where they begin, each with its content if it has one: a range goes on to the next one.
+// Ranges of sectors, keyed by where they begin, each with a content or none. A range extends to the
+// next.
 ghost use Rattle.std.specs.Prelude.{◌≡◌, ℕ, ◌+◌, ◌<◌, ◌≤◌, ◌≢◌, None, Some, OnOk, OnErr};
 ghost use Rattle.std.specs.Ordering.{nat_cmp};
 ghost use Rattle.std.specs.BTreeMap.{get, ContainsKey, IsUnchanged};
@@ -8,7 +9,7 @@ use crate::Content;
 use fb_units::NoMemory;
 use std::collections::BTreeMap;
 
-/// The content of the range that a sector lies in, if it has one.
+/// The content of the range that a sector is in, if it has one.
 pub fn held_at(ranges: &BTreeMap<u64, Option<Content>>, lbn: u64) -> Option<Content>
     ensures { result ≡ held_of (get nat_cmp ranges.now) lbn }
 {
@@ -18,7 +19,7 @@ pub fn held_at(ranges: &BTreeMap<u64, Option<Content>>, lbn: u64) -> Option<Cont
     }
 }
 
-/// Where the first range after a sector begins, or the end.
+/// Where the first range behind a sector begins; the end if it begins no earlier.
 pub fn next_begin(ranges: &BTreeMap<u64, Option<Content>>, lbn: u64, end: u64) -> u64
     requires { lbn < end }
     ensures above { lbn < result }
@@ -31,7 +32,8 @@ pub fn next_begin(ranges: &BTreeMap<u64, Option<Content>>, lbn: u64, end: u64) -
     }
 }
 
-/// Makes a range begin at a sector, with the content that the sector has.
+/// Makes a range begin at a sector, with the content that the sector has. Out of memory, no content
+/// has changed.
 pub fn cut(ranges: &mut BTreeMap<u64, Option<Content>>, at: u64) -> Result<(), NoMemory>
     ensures begins { OnOk result (get nat_cmp ranges.new at ≡ Some (held_of (get nat_cmp ranges.old) at)) }
     ensures keeps { (begin : ℕ) → ContainsKey nat_cmp ranges.old begin → ContainsKey nat_cmp ranges.new begin }
@@ -42,7 +44,7 @@ pub fn cut(ranges: &mut BTreeMap<u64, Option<Content>>, at: u64) -> Result<(), N
     Ok(())
 }
 
-/// Takes out all ranges that begin between two sectors.
+/// Removes all ranges that begin behind the first sector and before the end.
 pub fn clear_between(ranges: &mut BTreeMap<u64, Option<Content>>, first: u64, end: u64)
     requires { first < end }
     ensures inside { (begin : ℕ) → first < begin → begin < end → get nat_cmp ranges.new begin ≡ None }
@@ -56,7 +58,8 @@ pub fn clear_between(ranges: &mut BTreeMap<u64, Option<Content>>, first: u64, en
     }
 }
 
-/// Gives all sectors from the first on, before the end, a content or none; where memory is wanting all stays.
+/// Gives all sectors from the first on, before the end, a content or none. Out of memory, no
+/// content has changed.
 pub fn write(
     ranges: &mut BTreeMap<u64, Option<Content>>,
     first: u64,
@@ -75,7 +78,8 @@ pub fn write(
     Ok(())
 }
 
-/// Gives all sectors from the first on, before the end, a content, where ranges begin at both.
+/// Gives all sectors from the first on, before the end, a content. Ranges begin at both already, so
+/// this needs no memory.
 pub fn assign(ranges: &mut BTreeMap<u64, Option<Content>>, first: u64, end: u64, content: Content)
     requires begins { ContainsKey nat_cmp ranges.old first }
     requires ends { ContainsKey nat_cmp ranges.old end }

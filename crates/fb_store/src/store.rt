@@ -32,7 +32,8 @@ impl Model for Store {
 }
 
 impl Store {
-    /// A disk that nothing was written to, with these sectors unreadable.
+    /// The store of a disk to which nothing was written, and on which these sectors cannot be read.
+    /// Its only error is `NoMemory`.
     pub fn new(alloc: Global, latent: &[u64]) -> Result<Store, NoMemory>
         ensures { IfOk result (λ store. (lbn : ℕ) → content_in store lbn ≡ unwritten latent.now lbn) }
     {
@@ -42,8 +43,8 @@ impl Store {
         })
     }
 
-    /// A write of a range: each of its sectors holds the writer's fill from now on, and all others stay.
-    /// Where memory is wanting all stays.
+    /// A write of a range: each of its sectors holds the writer's fill from now on, and all other
+    /// sectors stay as they are. Out of memory, it returns `NoMemory` and no content has changed.
     pub fn write_range(&mut self, first: u64, count: u32, writer: u64) -> Result<(), NoMemory>
         requires { first + count ≤ 10 ^ 12 }
         ensures ok { OnOk result ((lbn : ℕ) → content_in self.new lbn ≡ after_write first count writer lbn (content_in self.old lbn)) }
@@ -57,7 +58,7 @@ impl Store {
         Ok(())
     }
 
-    /// What a sector holds: its last writer's fill, or what was there before any write.
+    /// What a sector holds: the fill of its last writer, or what was there before any write.
     pub fn read(&self, lbn: u64) -> Content
         ensures { result ≡ content_in self.now lbn }
     {
@@ -67,7 +68,7 @@ impl Store {
         }
     }
 
-    /// The contents of a range as the fewest runs, ascending.
+    /// The contents of a range as the fewest runs, ascending. Its only error is `NoMemory`.
     pub fn runs(&self, alloc: Global, first: u64, count: u32) -> Result<Contents, NoMemory>
         requires { first + count ≤ 10 ^ 12 }
         ensures fewest { IfOk result (λ runs. runs ≡ runs_of (map (λ lbn. (lbn, content_in self.now lbn)) (range_with_len first count))) }
@@ -85,7 +86,7 @@ impl Store {
         Ok(runs)
     }
 
-    // The sectors from the first on, before the end, that hold what the first holds.
+    // The sectors from the first on, before the end, that hold the same as the first.
     fn run_at(&self, first: u64, end: u64) -> ContentRun
         requires first_in { first < end }
         requires end_in { end ≤ 10 ^ 12 }
@@ -102,7 +103,8 @@ impl Store {
         run
     }
 
-    // Sectors from the first on, before the end, that hold what the first holds: up to the next range, or the next latent sector.
+    // Sectors from the first on, before the end, that hold the same as the first: up to the next
+    // range or the next latent sector.
     fn piece_at(&self, first: u64, end: u64) -> ContentRun
         requires { first < end }
         ensures { IsRun (content_in self.now) first end result }
@@ -119,7 +121,7 @@ impl Store {
     }
 }
 
-/// The runs of sectors give each its content, in their order, and are the fewest that do.
+/// The runs of sectors give each sector its content, in order, and are the fewest runs that do.
 pub fn runs_are_fewest()
     ensures { (sectors : List (ℕ × Content)) → ArePacked sectors (runs_of sectors) }
 {}
