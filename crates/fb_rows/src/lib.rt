@@ -1,4 +1,10 @@
-//! The rows of a run.
+//! The rows of a run: what a replay tells of the foreground and of the background.
+//!
+//! The types that the engine fills and that reports are made from. Instants are whole nanoseconds,
+//! sectors are LBNs from 0, and a task is its number from 0 in order of opening. `ForeRows` and
+//! `BackRows` are lists: their contracts say that a push adds a row at the end, or leaves the list
+//! as it was when it runs out of memory. Nothing here says which rows a run has; that is said
+//! above.
 #![tactic(auto)]
 
 mod back;
