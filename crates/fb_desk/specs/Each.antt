@@ -1,4 +1,4 @@
--- One thing for each input, and one for each output.
+-- One value for each input, and one for each output.
 use Rattle.std.specs.Borrow.{Lends, Fml, RattleType, MutBor}
 use Rattle.fb_desk.specs.declared.desk.Input.{Input}
 use Rattle.fb_desk.specs.declared.desk.Input.TheVariants as input
@@ -9,19 +9,19 @@ use Rattle.fb_desk.specs.declared.each.EachOutput.{EachOutput}
 use Rattle.fb_desk.specs.contracts.each.EachInput.{the_row as inputs-row}
 use Rattle.fb_desk.specs.contracts.each.EachOutput.{the_row as outputs-row}
 
--- what stands for this input
+-- the value of an input
 abbrev pub of_input : {T : Type 0} → EachInput T → Input → T
 of_input each input.Params = each.params
 of_input each input.Trace = each.trace
 of_input each input.Calls = each.calls
 
--- the same with another thing for this input
+-- the same with another value for this input
 abbrev pub with_input : {T : Type 0} → EachInput T → Input → T → EachInput T
 with_input each input.Params thing = record each { params = thing }
 with_input each input.Trace thing = record each { trace = thing }
 with_input each input.Calls thing = record each { calls = thing }
 
--- what stands for this output
+-- the value of an output
 abbrev pub of_output : {T : Type 0} → EachOutput T → Output → T
 of_output each output.Fore = each.fore
 of_output each output.Back = each.back
@@ -29,7 +29,7 @@ of_output each output.Note = each.note
 of_output each output.MadeTrace = each.made_trace
 of_output each output.MadeCalls = each.made_calls
 
--- the same with another thing for this output
+-- the same with another value for this output
 abbrev pub with_output : {T : Type 0} → EachOutput T → Output → T → EachOutput T
 with_output each output.Fore thing = record each { fore = thing }
 with_output each output.Back thing = record each { back = thing }
@@ -37,10 +37,10 @@ with_output each output.Note thing = record each { note = thing }
 with_output each output.MadeTrace thing = record each { made_trace = thing }
 with_output each output.MadeCalls thing = record each { made_calls = thing }
 
--- what stands for this input ends as the last thing behind the reference
+-- the reference lends the value of this input: what is behind it at its end is then the input's value
 abbrev pub lends_input : (T : RattleType) → MutBor (EachInput T.Denot) → Input → MutBor T.Denot → Fml
 lends_input T each which r = Lends (inputs-row T) T each r (with_input each.now which)
 
--- what stands for this output ends as the last thing behind the reference
+-- the reference lends the value of this output: what is behind it at its end is then the output's value
 abbrev pub lends_output : (T : RattleType) → MutBor (EachOutput T.Denot) → Output → MutBor T.Denot → Fml
 lends_output T each which r = Lends (outputs-row T) T each r (with_output each.now which)

@@ -1,4 +1,4 @@
--- Bytes that are held under names, and inputs that are read from them.
+-- Bytes held under names, and inputs that are read from them.
 use Rattle.std.specs.Prelude.{ℕ, ◌<◌, ◌≤◌, List, [], length, drop, reverse, Option, Some, None, IfSome, slice_get}
 use Rattle.std.specs.List.{find}
 use Rattle.std.specs.Option.{option_map}
@@ -9,25 +9,25 @@ use Rattle.fb_desk.specs.declared.holdings.Reading.{Reading}
 use Rattle.fb_desk.specs.declared.holdings.Reading.TheVariants.{Unopened, Empty, At}
 use Rattle.fb_desk.specs.Each.{of_input}
 
--- bytes and the name that they are held under
+-- bytes, and the name under which they are held
 pub record NamedBytes : Type 0 where
   pub name : List ℕ
   pub bytes : List ℕ
 
--- what is held, in the order of holding, and how far each input was read
+-- what is held, the oldest first, and how far each input was read
 pub record Held : Type 0 where
   pub entries : List NamedBytes
   pub readings : EachInput Reading
 
--- the bytes held under a name: those of the last entry of that name
+-- the bytes held under a name: those of the last entry with that name
 abbrev pub held_under : List NamedBytes → List ℕ → Option (List ℕ)
 held_under entries name = option_map (λ entry. entry.bytes) (find (λ entry. bytes_eq entry.name name) (reverse entries))
 
--- the bytes of the entry at a place
+-- the bytes of the entry with this index
 abbrev pub bytes_at : List NamedBytes → ℕ → Option (List ℕ)
 bytes_at entries place = option_map (λ entry. entry.bytes) (slice_get entries place)
 
--- what a reading leaves, if it was begun
+-- what a reading has left, if its input is opened
 abbrev pub left_of : List NamedBytes → Reading → Option (List ℕ)
 left_of entries Unopened = None
 left_of entries Empty = Some []
@@ -37,12 +37,12 @@ left_of entries (At place done) = option_map (drop done) (bytes_at entries place
 abbrev pub left_in : Held → Input → Option (List ℕ)
 left_in held which = left_of held.entries (of_input held.readings which)
 
--- a reading lies within what is held
+-- a reading is of an entry that is held, and no further than its end
 abbrev pub IsWithin : List NamedBytes → Reading → Type 0
 IsWithin entries Unopened = Unit {0}
 IsWithin entries Empty = Unit {0}
 IsWithin entries (At place done) = (place < length entries) × IfSome (bytes_at entries place) (λ bytes. done ≤ length bytes)
 
--- each reading lies within what is held
+-- each input's reading is of an entry that is held, and no further than its end
 abbrev pub AreWithin : List NamedBytes → EachInput Reading → Type 0
 AreWithin entries readings = (which : Input) → IsWithin entries (of_input readings which)

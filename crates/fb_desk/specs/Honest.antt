@@ -1,4 +1,4 @@
--- A desk of which no call fails.
+-- A desk whose calls never fail.
 use Rattle.std.specs.Prelude.{ℕ, List, [], is_some, unwrap_or, Option, Some}
 use Rattle.fb_desk.specs.declared.desk.Input.{Input}
 use Rattle.fb_desk.specs.declared.desk.Output.{Output}
@@ -9,16 +9,18 @@ use Rattle.fb_desk.specs.Holdings.{held_under, left_in}
 use Rattle.fb_desk.specs.Silent.{silent_output}
 use Rattle.fb_desk.specs.View.{InputView, OutputView, DeskView}
 
--- the bytes held under a name, none where it is unknown
+-- the bytes held under a name; an empty list if nothing is
 abbrev pub held_or_empty : List NamedBytes → List ℕ → Option (List ℕ)
 held_or_empty entries name = Some (unwrap_or (held_under entries name) [])
 
+-- an input: its bytes are told, and its count of faults stays 0
 abbrev pub honest_input : HonestDesk → Input → InputView
 honest_input desk which = record { opened = is_some (left_in desk.holdings which); left = left_in desk.holdings which; faults = 0 }
 
+-- an output: its name and bytes aren't told, and its count of faults stays 0
 abbrev pub honest_output : HonestDesk → Output → OutputView
 honest_output desk which = silent_output (of_output desk.begun which) 0
 
--- it tells the bytes of its inputs and of no output, and its counts stay 0
+-- what such a desk shows
 abbrev pub honest_view : HonestDesk → DeskView
 honest_view desk = record { held = held_or_empty desk.holdings.entries; inputs = honest_input desk; outputs = honest_output desk }

@@ -6,7 +6,7 @@ use Rattle.fb_desk.specs.View.{InputView, OutputView, DeskView, IsUnused, IsFaul
 use Rattle.fb_desk.specs.Calls.{one_more}
 use Rattle.fb_desk.specs.FailingCalls.{FailingNumbers, fails_next}
 
--- the most that one read and one write move, and the room of each output for its bytes and for its name
+-- the most bytes that one read and one write move, and the room in bytes of each output, for what is written and for its name
 pub record MemoryLimits : Type 0 where
   pub read_piece : ℕ
   pub write_piece : ℕ
@@ -25,9 +25,11 @@ pub record MemoryState : Type 0 where
   pub failing : FailingNumbers
   pub limits : MemoryLimits
 
+-- an input shows all of its bytes that are left
 abbrev pub memory_input : MemoryState → Input → InputView
 memory_input desk which = record { opened = is_some (desk.left which); left = desk.left which; faults = desk.read_faults which }
 
+-- an output shows its name and its bytes
 abbrev pub memory_output : MemoryState → Output → OutputView
 memory_output desk which = record { begun = desk.begun which; name = Some (desk.begun_as which); written = Some (desk.written which); faults = desk.write_faults which }
 
@@ -43,13 +45,13 @@ is_to_fail desk = fails_next desk.failing
 abbrev pub free_in : MemoryState → Output → ℕ
 free_in desk which = desk.limits.room which - length (desk.written which)
 
--- the limits stay
+-- the limits are the same
 pub record KeepsLimits (old new : MemoryState) : Type 0 where
   pub read_piece : new.limits.read_piece ≡ old.limits.read_piece
   pub write_piece : new.limits.write_piece ≡ old.limits.write_piece
   pub room : (which : Output) → new.limits.room which ≡ old.limits.room which
 
--- one call more was made
+-- one more call was made, and the limits are the same
 pub record CountsCall (old new : MemoryState) : Type 0 where
   pub made : new.failing ≡ record old.failing { made = one_more old.failing.made }
   pub limits : KeepsLimits old new

@@ -1,4 +1,4 @@
--- What a desk shows that tells no contents.
+-- What a desk shows that tells no bytes and no names.
 use Rattle.std.specs.Prelude.{ℕ, Bool, None}
 use Rattle.fb_desk.specs.declared.desk.Input.{Input}
 use Rattle.fb_desk.specs.declared.desk.Output.{Output}

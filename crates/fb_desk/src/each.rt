@@ -1,4 +1,4 @@
-// One thing for each input, and one for each output.
+// One value for each input, and one for each output.
 ghost use Rattle.std.specs.Prelude.{◌≡◌};
 ghost use Rattle.std.specs.Borrow.{sem};
 ghost use Rattle.fb_desk.specs.declared.desk.Input.{Input};
@@ -7,16 +7,19 @@ ghost use Rattle.fb_desk.specs.Each.{of_input, lends_input, of_output, lends_out
 
 use crate::{Input, Output};
 
-/// One thing for each input.
+/// One value for each input.
 #[derive(Drop)]
 pub struct EachInput<T> {
+    /// That of the parameter file.
     pub params: T,
+    /// That of the trace.
     pub trace: T,
+    /// That of the call script.
     pub calls: T,
 }
 
 impl<T: Copy> EachInput<T> {
-    /// The same thing for each input.
+    /// The same value for each input.
     pub fn all(thing: T) -> EachInput<T>
         ensures { (which : Input) → of_input result which ≡ thing }
     {
@@ -29,7 +32,7 @@ impl<T: Copy> EachInput<T> {
 }
 
 impl<T> EachInput<T> {
-    /// What stands for this input.
+    /// The value of an input.
     pub fn of(&self, which: Input) -> &T
         ensures { result.now ≡ of_input self.now which }
     {
@@ -40,7 +43,7 @@ impl<T> EachInput<T> {
         }
     }
 
-    /// What stands for this input, to be changed.
+    /// The value of an input, to be changed.
     pub fn of_mut(&mut self, which: Input) -> &mut T
         ensures* writes_back { sem 𝓛 (lends_input T.row self.entry which result) }
         ensures value { result.now ≡ of_input self.old which }
@@ -53,18 +56,23 @@ impl<T> EachInput<T> {
     }
 }
 
-/// One thing for each output.
+/// One value for each output.
 #[derive(Drop)]
 pub struct EachOutput<T> {
+    /// That of the foreground report, or the summary.
     pub fore: T,
+    /// That of the background report.
     pub back: T,
+    /// That of the note.
     pub note: T,
+    /// That of the generated trace.
     pub made_trace: T,
+    /// That of the generated call script.
     pub made_calls: T,
 }
 
 impl<T: Copy> EachOutput<T> {
-    /// The same thing for each output.
+    /// The same value for each output.
     pub fn all(thing: T) -> EachOutput<T>
         ensures { (which : Output) → of_output result which ≡ thing }
     {
@@ -79,7 +87,7 @@ impl<T: Copy> EachOutput<T> {
 }
 
 impl<T> EachOutput<T> {
-    /// What stands for this output.
+    /// The value of an output.
     pub fn of(&self, which: Output) -> &T
         ensures { result.now ≡ of_output self.now which }
     {
@@ -92,7 +100,7 @@ impl<T> EachOutput<T> {
         }
     }
 
-    /// What stands for this output, to be changed.
+    /// The value of an output, to be changed.
     pub fn of_mut(&mut self, which: Output) -> &mut T
         ensures* writes_back { sem 𝓛 (lends_output T.row self.entry which result) }
         ensures value { result.now ≡ of_output self.old which }

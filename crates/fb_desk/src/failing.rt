@@ -7,7 +7,7 @@ use fb_units::NoMemory;
 use std::alloc::Global;
 use std::marker::Model;
 
-/// Which calls are to fail, by their numbers from 1, and how many were made.
+/// Which calls are to fail, by their numbers from 1, and how many calls were made.
 #[derive(Drop)]
 pub struct FailingCalls {
     numbers: Vec<u64>,
@@ -33,7 +33,8 @@ impl FailingCalls {
         }
     }
 
-    /// Adds the number of a call that is to fail.
+    /// Adds the number of a call that is to fail, from 1. Out of memory, it returns `NoMemory` and
+    /// nothing has changed.
     pub fn add(&mut self, number: u64) -> Result<(), NoMemory>
         ensures ok { OnOk result
             (self.new ≡ record self.old { numbers = self.old.numbers ++ number ∷ [] }) }
@@ -43,12 +44,13 @@ impl FailingCalls {
         Ok(())
     }
 
-    /// Counts a call, and answers whether it is to fail. The count stays at the last value of a u64.
+    /// Counts a call, and returns whether it is to fail. The count stops at the last value of a
+    /// u64.
     pub fn next(&mut self) -> bool
         ensures fails { result ≡ fails_next self.old }
         ensures counted { self.new ≡ record self.old { made = one_more self.old.made } }
     {
-        // One of them is one more than the number of calls made.
+        // Whether one of the numbers is that of the call that is being made.
         let fails = self
             .numbers
             .iter()

@@ -8,11 +8,13 @@ ghost use Rattle.fb_desk.specs.declared.desk.Output.{Output};
 use crate::each::{EachInput, EachOutput};
 use crate::{Failed, Input, Output};
 
-/// How many calls of each input and of each output failed. A count stays at the last value of a
+/// How many calls of each input and of each output failed. A count stops at the last value of a
 /// u64.
 #[derive(Drop)]
 pub struct Faults {
+    /// How many calls of each input failed.
     pub inputs: EachInput<u64>,
+    /// How many calls of each output failed.
     pub outputs: EachOutput<u64>,
 }
 

@@ -1,4 +1,4 @@
-// Bytes under names, and inputs that are read from them.
+// Bytes held under names, and inputs that are read from them.
 ghost use Rattle.std.specs.Prelude.{◌≡◌, ◌≢◌, ℕ, List, [], length, take, drop, min, ◌<◌, is_some, slice_get, option_and_then, Some, None, IfSome, IfOk, OnOk, OnErr};
 ghost use Rattle.std.specs.Option.{option_map};
 ghost use Rattle.fb_desk.specs.Holdings.{NamedBytes, held_under, bytes_at, left_of, left_in, IsWithin};
@@ -41,18 +41,18 @@ impl Entry {
 /// How far an input was read.
 #[derive(Clone, Copy)]
 pub enum Reading {
-    /// It was not opened.
+    /// It isn't opened.
     Unopened,
-    /// Nothing was held under its name.
+    /// It was opened with nothing left to read.
     Empty,
-    /// So many bytes were read of the entry at a place.
+    /// It was opened on the entry with the index `place`, and `done` of its bytes were read.
     At { place: usize, done: usize },
 }
 
-/// Bytes under names, and how far each input was read.
+/// Bytes held under names, and how far each input was read.
 ///
-/// An entry stays behind a newer one of its name, since an input that was opened on it may still be
-/// read.
+/// An older entry of a name stays beside a newer one, since an input that was opened on it may
+/// still be read.
 #[derive(Drop)]
 pub struct Holdings {
     alloc: Global,
@@ -70,7 +70,7 @@ impl Model for Holdings {
     ghost invariant = { λ h. AreWithin h.entries.items h.readings };
 }
 
-// The place of the last entry of a name.
+// The index of the last entry with a name.
 fn place_of(entries: &[Entry], name: &str) -> Option<usize>
     ensures value { option_and_then (bytes_at entries.now) result ≡ held_under entries.now name.now }
     ensures within { IfSome result (λ place. place < length entries.now) }
@@ -84,7 +84,7 @@ fn place_of(entries: &[Entry], name: &str) -> Option<usize>
     found
 }
 
-// Copies the first bytes, a piece at most, and answers how many.
+// Copies the first bytes, at most `piece` of them, and returns how many.
 fn copy_front(from: &[u8], piece: usize, into: &mut [u8]) -> usize
     ensures count { result ≡ min piece (min (length from.now) (length into.old)) }
     ensures bytes { take result into.new ≡ take result from.now }
@@ -95,7 +95,7 @@ fn copy_front(from: &[u8], piece: usize, into: &mut [u8]) -> usize
     count
 }
 
-// Reads the next bytes of what a reading leaves, a piece at most, and answers how many.
+// Reads the next bytes that a reading has left, at most `piece` of them, and returns how many.
 fn read_on(entries: &[Entry], reading: &mut Reading, piece: usize, into: &mut [u8]) -> usize
     requires { IsWithin entries.now reading.old }
     ensures count { IfSome (left_of entries.now reading.old)
@@ -120,7 +120,7 @@ fn read_on(entries: &[Entry], reading: &mut Reading, piece: usize, into: &mut [u
 }
 
 impl Holdings {
-    /// Nothing is held and nothing is opened.
+    /// Nothing is held, and no input is opened.
     pub fn new(alloc: Global) -> Holdings
         ensures entries { result.entries ≡ [] }
         ensures unopened { (which : Input) → left_in result which ≡ None }
@@ -132,8 +132,8 @@ impl Holdings {
         }
     }
 
-    /// Holds the bytes under the name, in place of what was held there. What is left of an input
-    /// stays.
+    /// Holds the bytes under the name, in place of what was held there. What is left of an opened
+    /// input stays as it is. Out of memory, it returns `NoMemory` and nothing has changed.
     pub fn hold(&mut self, name: &str, bytes: &[u8]) -> Result<(), NoMemory>
         ensures here { OnOk result (held_under self.new.entries name.now ≡ Some bytes.now) }
         ensures elsewhere { OnOk result ((other : List ℕ) → other ≢ name.now
@@ -146,7 +146,7 @@ impl Holdings {
         Ok(())
     }
 
-    /// The place of what is held under the name, if anything is.
+    /// The index of the entry that is held under the name, if one is.
     pub fn find(&self, name: &str) -> Option<usize>
         ensures value { option_and_then (bytes_at self.now.entries) result
             ≡ held_under self.now.entries name.now }
@@ -156,7 +156,7 @@ impl Holdings {
         place_of(&self.entries, name)
     }
 
-    /// Opens an input on what is held at the place.
+    /// Opens an input on the entry with this index.
     pub fn open(&mut self, which: Input, place: usize)
         requires { place < length self.old.entries }
         ensures left { left_in self.new which ≡ bytes_at self.old.entries place }
@@ -175,7 +175,7 @@ impl Holdings {
         *self.readings.of_mut(which) = Reading::Empty;
     }
 
-    /// Reads the next bytes of an input, a piece at most, and answers how many.
+    /// Reads the next bytes of an input, at most `piece` of them, and returns how many.
     pub fn read(&mut self, which: Input, piece: usize, into: &mut [u8]) -> usize
         ensures count { IfSome (left_in self.old which)
             (λ left. result ≡ min piece (min (length left) (length into.old))) }

@@ -1,4 +1,4 @@
-// A desk of which no call fails.
+// A desk whose calls never fail.
 ghost use Rattle.std.specs.Prelude.{◌≡◌, ◌<◌, ℕ, List, [], true, false, length, min, Some, Ok, IsOk, IfOk, IfSome, OnOk, OnErr};
 ghost use Rattle.fb_desk.specs.View.{IsUnused};
 ghost use Rattle.fb_desk.specs.Calls.{OpensInput, ReadsInput, BeginsOutput, WritesOutput, IsUnchanged, HoldsBytes};
@@ -10,10 +10,10 @@ use crate::{Desk, Failed, Input, Output};
 use fb_units::NoMemory;
 use std::alloc::Global;
 
-/// Inputs in memory, and outputs that take every byte and keep none. No `Desk` call fails or takes
-/// memory.
+/// A desk with inputs in memory, and outputs that accept every byte and keep none. None of its
+/// `Desk` calls fails or allocates.
 ///
-/// A name that isn't held is an empty input.
+/// An input that is opened under a name that isn't held is empty.
 #[derive(Drop)]
 pub struct HonestDesk {
     holdings: Holdings,
@@ -33,7 +33,8 @@ impl HonestDesk {
     }
 
     /// Holds the bytes under the name, in place of what was held there. An input that was opened
-    /// before goes on with what was held then.
+    /// before still reads what was held then. Out of memory, it returns `NoMemory` and nothing has
+    /// changed.
     pub fn hold(&mut self, name: &str, bytes: &[u8]) -> Result<(), NoMemory>
         ensures ok { OnOk result
             (HoldsBytes name.now bytes.now (honest_view self.old) (honest_view self.new)) }

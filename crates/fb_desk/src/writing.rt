@@ -6,9 +6,9 @@ use fb_units::NoMemory;
 use std::alloc::Global;
 use std::marker::Model;
 
-/// An output with room for its name and for its bytes.
+/// An output in memory, with room for its name and for its bytes.
 ///
-/// The room is taken when it is made, so that beginning it and writing to it take no memory.
+/// The room is allocated when it is made, so beginning it and writing to it don't allocate.
 #[derive(Drop)]
 pub struct Writing {
     begun: bool,
@@ -37,7 +37,8 @@ impl Model for Writing {
 }
 
 impl Writing {
-    /// An output that isn't begun, with this room for its name and for its bytes.
+    /// An output that isn't begun, with room for so many bytes of its name and as many to be
+    /// written. The only error is `NoMemory`.
     pub fn new(alloc: Global, room: usize) -> Result<Writing, NoMemory>
         ensures { IfOk result (λ made. made ≡ record { begun = false; name = []; bytes = []; room = room }) }
     {
@@ -75,8 +76,8 @@ impl Writing {
         self.room <= self.bytes.len()
     }
 
-    /// Appends the first of these bytes, a piece at most and no more than there is room for, and
-    /// answers how many.
+    /// Appends the first of these bytes, at most `piece` of them and no more than there is room
+    /// for, and returns how many.
     pub fn write(&mut self, piece: usize, bytes: &[u8]) -> usize
         requires begun { self.old.begun ≡ true }
         requires room { length self.old.bytes < self.old.room }
@@ -90,7 +91,7 @@ impl Writing {
         count
     }
 
-    /// The name under which the output was begun.
+    /// The name under which the output was begun; empty if it wasn't.
     pub fn name(&self) -> &str
         ensures value { result.now ≡ self.now.name }
         ensures unbegun { self.now.begun ≡ false → result.now ≡ [] }
@@ -98,7 +99,7 @@ impl Writing {
         self.name.as_str()
     }
 
-    /// What was written to the output.
+    /// The bytes that were written to the output.
     pub fn bytes(&self) -> &[u8]
         ensures value { result.now ≡ self.now.bytes }
         ensures unbegun { self.now.begun ≡ false → result.now ≡ [] }
