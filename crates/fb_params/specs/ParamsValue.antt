@@ -1,4 +1,4 @@
--- What a file says: its numbers, and what they stand for.
+-- The value of a file: its numbers, and what they describe.
 use Rattle.std.specs.Prelude.{ℕ, List, [], map, codes, slice_index}
 use Rattle.std.specs.List.{fold}
 use Rattle.std.specs.Ordering.{nat_cmp}
@@ -17,15 +17,15 @@ use Rattle.fb_params.specs.Tables.{elements, number_of, number_at, elements_at, 
 abbrev pub nth : ℕ → Data → ℕ
 nth i row = slice_index (map number_of (elements row)) i
 
--- a row of cylinder, head and slot
+-- the place of a row of cylinder, head and slot
 abbrev pub place_of : Data → Place
 place_of row = record { track = record { cylinder = nth 0 row; head = nth 1 row }; slot = nth 2 row }
 
--- a row of distance and time
+-- the seek point of a row of distance and time
 abbrev pub point_of : Data → SeekPoint
 point_of row = record { distance = nth 0 row; time = nth 1 row }
 
--- a zone with so many spares on each track, and on each cylinder
+-- the zone of a table, with this many spares on each track and on each cylinder
 abbrev pub zone_with : ℕ → ℕ → Members → Zone
 zone_with spares cylinder_spares table = record {
   first = number_at (codes "first") table;
@@ -37,10 +37,12 @@ zone_with spares cylinder_spares table = record {
   cylinder_spares = cylinder_spares;
 }
 
+-- the zone of a table, with its spares of the layout
 abbrev pub zone_of : Layout → Members → Zone
 zone_of PerTrack table = zone_with (number_at (codes "spares") table) 0 table
 zone_of PerCylinder table = zone_with 0 (number_at (codes "cylinder_spares") table) table
 
+-- the grown defects, which only a file with spares per cylinder has
 abbrev pub grown_of : Layout → Members → List Place
 grown_of PerTrack table = []
 grown_of PerCylinder table = map place_of (elements_at (codes "grown") table)
@@ -56,7 +58,7 @@ outline_of layout table = record {
   grown = grown_of layout table;
 }
 
--- the arm, over so many cylinders
+-- the arm, for a disk of this many cylinders
 abbrev pub mechanics_of : ℕ → Members → Mechanics
 mechanics_of cylinders table = record {
   points = map point_of (elements_at (codes "seek") table);
@@ -69,11 +71,11 @@ mechanics_of cylinders table = record {
 abbrev pub listed_latent : Members → List ℕ
 listed_latent table = map number_of (elements_at (codes "latent") table)
 
--- numbers in ascending order, each once
+-- the numbers in ascending order, each once
 abbrev pub ascending : List ℕ → List ℕ
 ascending numbers = fold (insert_key nat_cmp) [] numbers
 
--- the outline and the arm of a disk, the bytes of its sectors, and the sectors that are latent
+-- the outline and the arm of a disk, how many bytes a sector has, and the latent sectors
 pub record ParamsValue : Type 0 where
   pub outline : Shape
   pub mechanics : Mechanics

@@ -1,4 +1,4 @@
--- Small files and their first faults.
+-- Small files, with their first faults and their values.
 use Rattle.std.specs.Prelude.{◌≡◌, ℕ, List, [], ◌∷◌, ◌++◌, codes, Ok, Err}
 use Rattle.fb_units.specs.declared.types.Place.{Place}
 use Rattle.fb_geometry.specs.declared.layout.Layout.TheVariants.{PerTrack, PerCylinder}
@@ -27,7 +27,7 @@ zone_of_two = codes "[[zone]]\nfirst = 0\nlast = 3\nsectors = 12\ncylinder_spare
 abbrev pub place : ℕ → ℕ → ℕ → Place
 place cylinder head slot = record { track = record { cylinder = cylinder; head = head }; slot = slot }
 
--- one fault each
+-- files with one fault each
 pub record Refusals : Type 0 where
   pub empty : params_of ([]) ≡ Err (MissingKey (codes "version"))
   pub unknown_key : params_of (codes "speed = 1\n" ++ (top ++ (seek ++ zone))) ≡ Err (UnknownKey (codes "speed"))
@@ -56,7 +56,7 @@ pub record Refusals : Type 0 where
   pub spares_of_version_one : params_of (top_of_two ++ (seek ++ (zone_of_two ++ codes "spares = 2\n"))) ≡ Err (UnknownKey (codes "zone.spares"))
   pub grown_in_version_one : params_of (top ++ (seek ++ (codes "grown = []\n" ++ zone))) ≡ Err (UnknownKey (codes "grown"))
 
--- what is read of files without a fault
+-- files without a fault, and their values
 pub record Acceptances : Type 0 where
   pub one : params_of (top ++ (seek ++ zone)) ≡ Ok (record {
     outline = record {

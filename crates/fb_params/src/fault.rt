@@ -7,24 +7,25 @@ use fb_seek::SeekFault;
 use fb_units::KeyText;
 use std::alloc::{AllocError, AllocFailed};
 
-/// Why a parameter file is refused. Each is looked for in the whole file before the next.
+/// Why a parameter file is refused. Each kind of fault is looked for in the whole file before the
+/// next one in this order.
 #[derive(Drop)]
 pub enum ParamsFault {
-    /// The bytes are no TOML document.
+    /// The bytes aren't a TOML document.
     NotToml,
-    /// A key that no table has. A key of a zone is named with `zone.` before it.
+    /// A key that the format doesn't have. A key of a zone is named with `zone.` before it.
     UnknownKey(KeyText),
-    /// A key that has to be there and isn't.
+    /// A required key that is missing.
     MissingKey(KeyText),
-    /// A key whose value isn't what it has to be.
+    /// A key whose value is of a wrong kind: not an integer, or not an array of the right form.
     WrongKind(KeyText),
-    /// A key with a number outside its range.
+    /// A key with a number that is out of its range.
     OutOfRange(KeyText),
-    /// The outline is no disk.
+    /// The outline of the disk is impossible.
     Geometry(GeometryFault),
-    /// The seek table is none.
+    /// The seek table is impossible.
     Seek(SeekFault),
-    /// The first listed latent sector that isn't on the disk.
+    /// The first listed latent sector that isn't on the disk, by its LBN.
     LatentOutside(u64),
 }
 
@@ -33,7 +34,7 @@ pub enum ParamsFault {
 pub enum ParamsError {
     /// The file is refused.
     Fault(ParamsFault),
-    /// Memory is wanting, which says nothing of the file.
+    /// Out of memory, which says nothing about the file.
     NoMemory,
 }
 

@@ -4,20 +4,20 @@ ghost use Rattle.fb_params.specs.Keys.{key_of, front_keys, back_keys, zone_keys}
 
 use fb_geometry::Layout;
 
-// What the value at a key has to be.
+// The kind of value that a key requires.
 #[derive(Clone, Copy)]
 pub enum Kind {
     // An integer.
     Number,
     // An array of integers.
     Numbers,
-    // An array of arrays of so many integers.
+    // An array of arrays, each of this many integers.
     Rows(usize),
     // An array of tables.
     Tables,
 }
 
-// The numbers from `low` to `high` that are a multiple of `multiple`.
+// The numbers from `low` to `high` that are multiples of `multiple`.
 #[derive(Clone, Copy)]
 pub struct Range {
     pub low: u64,
@@ -25,8 +25,8 @@ pub struct Range {
     pub multiple: u64,
 }
 
-// A key: its name, what its value has to be, the range of each number in it, and whether it has
-// to be there.
+// A key: its name, the kind of its value, the range of each number in it, and whether it is
+// required.
 #[derive(Clone, Copy)]
 pub struct Key {
     pub name: &'static str,
@@ -35,7 +35,7 @@ pub struct Key {
     pub required: bool,
 }
 
-// A key that has to be there, with the range of its numbers and what they are a multiple of.
+// A required key, with the range of its numbers and what they are multiples of.
 macro_rules! must {
     ($name:literal, $kind:expr, $low:literal..=$high:literal) => {
         must!($name, $kind, $low..=$high, 1)
@@ -117,7 +117,7 @@ pub fn front_keys() -> &'static [Key]
     &FRONT
 }
 
-// The keys of the file behind `zone`.
+// The keys of the file after `zone`.
 pub fn back_keys(layout: Layout) -> &'static [Key]
     ensures { map key_of result.now ≡ back_keys layout }
 {

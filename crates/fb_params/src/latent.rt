@@ -12,7 +12,8 @@ use std::alloc::{AllocError, Global};
 use std::collections::BTreeSet;
 use toml::Value;
 
-// The listed sectors in ascending order, each once, or the first that isn't below the count.
+// The listed sectors in ascending order, each once; or as a fault the first listed one that isn't
+// below the number of sectors.
 pub fn latent_of(alloc: Global, count: u64, listed: &[Value]) -> Result<Vec<u64>, ParamsError>
     ensures value { Answers (λ latent. latent.items) result (latent_on count (map number_of (map view listed.now))) }
     ensures rises { IfOk result (λ latent. IsStrictlyIncreasing latent.items) }

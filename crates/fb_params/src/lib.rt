@@ -1,11 +1,11 @@
 //! The parameter file: the disk that it describes, and the sectors that cannot be read at first.
 //!
-//! What `read_params` answers is one function of the bytes, `params_of` in `specs/Reading.antt`: what
-//! an accepted file says, or the first fault. Faults are looked for one kind after another, each in
-//! the whole file: bytes that are no TOML, unknown keys, missing keys, values of a wrong kind,
-//! numbers out of range, the outline, the seek table, latent sectors beyond the disk. The keys with
-//! their kinds and ranges are the tables of `specs/Keys.antt`. A want of memory may be answered for
-//! any file, and says nothing of it.
+//! The layers above may rely on this: what `read_params` returns is one function of the bytes,
+//! `params_of` in `specs/Reading.antt`: the value of an accepted file, or the first fault. Faults
+//! are looked for one kind after another, each in the whole file: bytes that aren't TOML, unknown
+//! keys, missing keys, values of a wrong kind, numbers out of range, the outline, the seek table,
+//! latent sectors beyond the disk. The keys, with their kinds and ranges, are the tables of
+//! `specs/Keys.antt`. Reading may run out of memory with any file, which says nothing about it.
 #![tactic(auto)]
 
 mod fault;

@@ -1,4 +1,4 @@
-// The outline that a file spells.
+// The outline that a file describes.
 ghost use Rattle.std.specs.Prelude.{◌≡◌, ◌++◌, true, map, option_map, option_and_then, option_to_list, IfOk, OnOk};
 ghost use Rattle.std.specs.List.{list_all, filter_map};
 ghost use Rattle.toml.specs.Data.{as_table};
@@ -33,7 +33,7 @@ pub fn geometry_of(alloc: Global, layout: Layout, table: &Table) -> Result<Geome
     }
 }
 
-// The zones among these values.
+// The zones that these values describe; values that aren't tables are left out.
 fn zones(alloc: Global, layout: Layout, values: &[Value]) -> Result<Vec<Zone>, NoMemory>
     requires { first_some (first_in Rule.InRange (zone_keys layout)) (filter_map as_table (map view values.now)) ≡ None }
     ensures { IfOk result (λ zones. zones.items ≡ map (zone_of layout) (filter_map as_table (map view values.now))) }
@@ -45,7 +45,7 @@ fn zones(alloc: Global, layout: Layout, values: &[Value]) -> Result<Vec<Zone>, N
     Ok(zones)
 }
 
-// Adds the zone that a value spells, if it is a table.
+// Adds the zone that a value describes, if it is a table.
 fn push_zone(zones: &mut Vec<Zone>, layout: Layout, value: &Value) -> Result<(), NoMemory>
     requires { option_and_then (first_in Rule.InRange (zone_keys layout)) (as_table (view value.now)) ≡ None }
     ensures { OnOk result (zones.new.items ≡ zones.old.items ++ option_to_list (option_map (zone_of layout) (as_table (view value.now)))) }
@@ -75,7 +75,7 @@ fn zone(layout: Layout, table: &Table) -> Zone
     }
 }
 
-// The grown defects of a file that may list them.
+// The grown defects of a file; none in a file with spares per track.
 fn grown(alloc: Global, layout: Layout, table: &Table) -> Result<Vec<Place>, NoMemory>
     requires { keeps Rule.InRange layout (table_view table.now) ≡ Ok tt }
     ensures { IfOk result (λ grown. grown.items ≡ grown_of layout (table_view table.now)) }
@@ -86,7 +86,7 @@ fn grown(alloc: Global, layout: Layout, table: &Table) -> Result<Vec<Place>, NoM
     }
 }
 
-// The places that these rows spell.
+// The places that these rows of cylinder, head and slot describe.
 fn places(alloc: Global, rows: &[Value]) -> Result<Vec<Place>, NoMemory>
     requires { list_all (is_row_within (from_to 0 999999)) (map view rows.now) ≡ true }
     ensures { IfOk result (λ places. places.items ≡ map place_of (map view rows.now)) }

@@ -1,4 +1,4 @@
-// The parameters of a file whose keys keep all rules.
+// The parameters of a file whose keys obey all rules.
 ghost use Rattle.std.specs.Prelude.{◌≡◌, ◌<◌, length, Ok, IfOk};
 ghost use Rattle.std.specs.List.{AllByRecursion};
 ghost use Rattle.std.specs.List.Sorted.{IsStrictlyIncreasing};
@@ -18,16 +18,16 @@ use fb_service::Disk;
 use std::alloc::Global;
 use toml::Table;
 
-/// What an accepted parameter file says.
+/// The value of an accepted parameter file.
 #[derive(Drop)]
 pub struct Parameters {
     /// The disk.
     pub disk: Disk,
-    /// The sectors that cannot be read at first, in ascending order, each once.
+    /// The LBNs of the sectors that cannot be read at first, in ascending order, each once.
     pub latent: Vec<u64>,
 }
 
-// The parameters that the table says, or the first fault of what it says.
+// The parameters that a table describes, or the first fault of the disk that it describes.
 #[tactic(auto, unfolding(crate::specs::Reading::params_of_table))]
 pub fn params_of_table(
     alloc: Global,

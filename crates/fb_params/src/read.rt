@@ -1,4 +1,4 @@
-// The parameter file, read.
+// Reading a parameter file.
 ghost use Rattle.std.specs.Prelude.{◌≡◌, ◌<◌, length, IfOk};
 ghost use Rattle.std.specs.List.{AllByRecursion};
 ghost use Rattle.std.specs.List.Sorted.{IsStrictlyIncreasing};
@@ -17,10 +17,11 @@ use fb_units::KeyText;
 use std::alloc::Global;
 use toml::Table;
 
-/// The disk and the latent sectors that the bytes of a parameter file describe, or its first fault.
+/// The disk and the latent sectors that the bytes of a parameter file describe; or the file's first
+/// fault, or `NoMemory`.
 ///
-/// Times in the file are whole nanoseconds. The file's zones, defects and points of the seek table
-/// keep their order. Latent sectors may be listed in any order, and more than once.
+/// Times in the file are whole nanoseconds. Zones, defects and points of the seek table keep the
+/// order of the file. Latent sectors may be listed in any order, and more than once.
 #[tactic(auto, unfolding(crate::specs::Reading::params_of))]
 pub fn read_params(alloc: Global, bytes: &[u8]) -> Result<Parameters, ParamsError>
     ensures value { Answers held result (params_of bytes.now) }
@@ -36,7 +37,7 @@ pub fn read_params(alloc: Global, bytes: &[u8]) -> Result<Parameters, ParamsErro
     params_of_table(alloc, layout, &table)
 }
 
-// The table that the bytes are.
+// The TOML document of these bytes.
 fn read_table(alloc: Global, bytes: &[u8]) -> Result<Table, ParamsError>
     ensures { Answers table_view result (or_fault ParamsFault.NotToml (document_of bytes.now)) }
 {
@@ -52,7 +53,7 @@ fn read_table(alloc: Global, bytes: &[u8]) -> Result<Table, ParamsError>
     }
 }
 
-// All keys keep the rule, or the first that doesn't is named.
+// Ok if all keys obey the rule, else the fault of the first key that breaks it.
 #[tactic(auto, unfolding(crate::specs::Reading::keeps))]
 fn keep(alloc: Global, rule: Rule, layout: Layout, table: &Table) -> Result<(), ParamsError>
     ensures { Answers (λ u. u) result (keeps rule layout (table_view table.now)) }

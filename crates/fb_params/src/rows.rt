@@ -1,4 +1,4 @@
-// Small files, read by the definitions alone.
+// Small files, read by the definitions alone, without any code.
 ghost use Rattle.fb_params.specs.SmallFiles.{Refusals, Acceptances};
 
 fn worked_rows()

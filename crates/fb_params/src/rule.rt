@@ -1,4 +1,4 @@
-// What each key has to keep.
+// The rules that each key has to obey.
 ghost use Rattle.std.specs.Prelude.{◌≡◌, option_map, map};
 ghost use Rattle.std.specs.List.{list_all};
 ghost use Rattle.toml.specs.View.{view};
@@ -9,20 +9,20 @@ use crate::key::{Key, Kind, Range};
 use crate::table::elements;
 use toml::Value;
 
-// What each key has to keep, in the order in which faults are named.
+// The rules that each key has to obey, in the order in which they are checked.
 #[derive(Clone, Copy)]
 pub enum Rule {
-    // Only known keys stand there.
+    // There are no unknown keys.
     Known,
-    // Each key that has to be there is there.
+    // Each required key is there.
     Present,
-    // Each value is what its key asks for.
+    // Each value is of the kind that its key requires.
     OfKind,
-    // Each number lies in its key's range.
+    // Each number is in its key's range.
     InRange,
 }
 
-// Whether a key breaks a rule by what stands there.
+// Whether a key with this value, or without one, breaks a rule.
 pub fn breaks(rule: Rule, key: &Key, value: Option<&Value>) -> bool
     ensures { result ≡ breaks rule (key_of key.now) (option_map (λ v. view v.now) value.entry) }
 {
@@ -64,7 +64,7 @@ fn are_rows(width: usize, values: &[Value]) -> bool
     values.iter().all(|value| is_row(width, value))
 }
 
-// Whether a value is an array of so many integers.
+// Whether a value is an array of exactly `width` integers.
 fn is_row(width: usize, value: &Value) -> bool
     ensures { result ≡ is_row width (view value.now) }
 {
@@ -72,7 +72,7 @@ fn is_row(width: usize, value: &Value) -> bool
     value.is_array() && are_integers(row) && row.len() == width
 }
 
-// Whether a value is a number of the range, or no number.
+// Whether a value is a number in the range, or not a number at all.
 fn is_within(range: Range, value: &Value) -> bool
     ensures { result ≡ is_within range (view value.now) }
 {
@@ -103,7 +103,7 @@ fn are_rows_within(range: Range, values: &[Value]) -> bool
     values.iter().all(|value| is_row_within(range, value))
 }
 
-// Whether each number in a value lies in the range.
+// Whether each number in a value is in the range.
 fn are_all_within(range: Range, value: &Value) -> bool
     ensures { result ≡ are_all_within range (view value.now) }
 {

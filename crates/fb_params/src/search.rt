@@ -19,8 +19,8 @@ use crate::table::{elements_at, member};
 use fb_geometry::Layout;
 use toml::{Table, Value};
 
-// The first key that breaks the rule. For unknown and for missing keys those of the zones come after
-// all keys of the file; for values they come where `zone` stands.
+// The first key that breaks the rule. Unknown and missing keys of zones come after those of the
+// file; wrong values of zones come at the place of `zone` among the file's keys.
 pub fn first_key(rule: Rule, layout: Layout, table: &Table) -> Option<KeyName<'_>>
     ensures { option_map spelled result ≡ first_key rule layout (table_view table.now) }
 {
@@ -45,7 +45,7 @@ fn plain_key<'a>(rule: Rule, known: &'static [Key], table: &'a Table) -> Option<
     Some(KeyName::Plain(name))
 }
 
-// The least unknown key of the file.
+// The unknown key of the file that is first in the order of bytes.
 fn unknown_key(layout: Layout, table: &Table) -> Option<KeyName<'_>>
     ensures { option_map spelled result ≡ first_in Rule.Known (front_keys ++ back_keys layout) (table_view table.now) }
 {
@@ -83,7 +83,7 @@ fn first_in<'a>(rule: Rule, known: &'static [Key], table: &'a Table) -> Option<&
     }
 }
 
-// The least name in the table that no key has.
+// The name in the table that is first in the order of bytes among those that no key has.
 fn unknown_in<'a>(front: &[Key], back: &[Key], table: &'a Table) -> Option<&'a str>
     ensures { option_copied result ≡ first_in Rule.Known (map key_of front.now ++ map key_of back.now) (table_view table.now) }
 {
@@ -113,7 +113,7 @@ fn is_name_of(known: &[Key], name: &str) -> bool
     known.iter().any(|key| key.name == name)
 }
 
-// The first key that breaks the rule by what stands there.
+// The first of these keys that breaks the rule with its value, or without one.
 fn broken_in(rule: Rule, known: &'static [Key], table: &Table) -> Option<&'static str>
     ensures { option_copied result ≡ option_map (λ key. key.name.now) (find (λ key. breaks rule (key_of key) (get_member key.name.now (table_view table.now))) known.now) }
 {

@@ -1,4 +1,4 @@
-// The arm that a file spells.
+// The arm that a file describes.
 ghost use Rattle.std.specs.Prelude.{◌≡◌, ◌^◌, true, codes, map, IfOk};
 ghost use Rattle.std.specs.List.{list_all};
 ghost use Rattle.toml.specs.View.{view, table_view};
@@ -15,7 +15,7 @@ use fb_units::NoMemory;
 use std::alloc::Global;
 use toml::{Table, Value};
 
-// The mechanism of the file's arm over so many cylinders, or its first fault.
+// The mechanism that a file describes for a disk of this many cylinders, or its first fault.
 pub fn mechanism_of(alloc: Global, cylinders: u32, table: &Table) -> Result<Mechanism, ParamsError>
     requires { list_all (is_row_within (from_to 0 (10 ^ 9))) (elements_at (codes "seek") (table_view table.now)) ≡ true }
     ensures value { Answers (λ mechanism. mechanism) result (possible_arm (mechanics_of cylinders (table_view table.now))) }
@@ -30,7 +30,7 @@ pub fn mechanism_of(alloc: Global, cylinders: u32, table: &Table) -> Result<Mech
     }
 }
 
-// The points that these rows spell.
+// The points that these rows of distance and time describe.
 fn points(alloc: Global, rows: &[Value]) -> Result<Vec<SeekPoint>, NoMemory>
     requires { list_all (is_row_within (from_to 0 (10 ^ 9))) (map view rows.now) ≡ true }
     ensures { IfOk result (λ points. points.items ≡ map point_of (map view rows.now)) }

@@ -1,4 +1,4 @@
-// What stands at a key of a table.
+// The values of a table's keys.
 ghost use Rattle.std.specs.Prelude.{◌≡◌, ◌<◌, ◌^◌, map, option_map};
 ghost use Rattle.toml.specs.Data.{get_member};
 ghost use Rattle.toml.specs.View.{view, table_view};
@@ -8,14 +8,14 @@ ghost use Rattle.fb_params.specs.ParamsValue.{nth};
 use fb_geometry::Layout;
 use toml::{Table, Value};
 
-// The value at a key.
+// The value of a key. None if the table doesn't have the key.
 pub fn member<'a>(table: &'a Table, name: &str) -> Option<&'a Value>
     ensures { option_map (λ v. view v.now) result ≡ get_member name.now (table_view table.now) }
 {
     table.get(name)
 }
 
-// The elements of an array, or none.
+// The elements of an array; no elements for any other value.
 pub fn elements(value: &Value) -> &[Value]
     ensures { map view result.now ≡ elements (view value.now) }
 {
@@ -25,7 +25,7 @@ pub fn elements(value: &Value) -> &[Value]
     }
 }
 
-// The elements of the array at a key, or none.
+// The elements of the array at a key; no elements if there is no array.
 pub fn elements_at<'a>(table: &'a Table, name: &str) -> &'a [Value]
     ensures { map view result.now ≡ elements_at name.now (table_view table.now) }
 {
@@ -35,7 +35,7 @@ pub fn elements_at<'a>(table: &'a Table, name: &str) -> &'a [Value]
     }
 }
 
-// The number that a value is, or 0.
+// The number that a value is, or 0 if it isn't one.
 pub fn number(value: &Value) -> u64
     ensures { result ≡ number_of (view value.now) }
 {
@@ -45,7 +45,7 @@ pub fn number(value: &Value) -> u64
     }
 }
 
-// The number at a key, or 0.
+// The number at a key, or 0 if there is none.
 pub fn number_at(table: &Table, name: &str) -> u64
     ensures { result ≡ number_at name.now (table_view table.now) }
 {
@@ -55,7 +55,7 @@ pub fn number_at(table: &Table, name: &str) -> u64
     }
 }
 
-// The number at a key, or 0, where it fits.
+// The number at a key, or 0 if there is none, for a number of 32 bits.
 pub fn small_number_at(table: &Table, name: &str) -> u32
     requires { number_at name.now (table_view table.now) < 2 ^ 32 }
     ensures { result ≡ number_at name.now (table_view table.now) }
@@ -63,7 +63,7 @@ pub fn small_number_at(table: &Table, name: &str) -> u32
     number_at(table, name) as u32
 }
 
-// The i-th number of a row, or 0, where it fits.
+// The i-th number of a row, from 0, or 0 if there is none, for a number of 32 bits.
 pub fn nth(row: &Value, i: usize) -> u32
     requires { nth i (view row.now) < 2 ^ 32 }
     ensures { result ≡ nth i (view row.now) }
@@ -76,7 +76,7 @@ pub fn nth(row: &Value, i: usize) -> u32
     }
 }
 
-// Where the file's spares stand.
+// Where the spares are: at the end of each cylinder in a file of version 2, else of each track.
 pub fn layout_of(table: &Table) -> Layout
     ensures { result ≡ layout_of (table_view table.now) }
 {
