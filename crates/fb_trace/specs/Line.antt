@@ -10,7 +10,7 @@ use Rattle.fb_trace.specs.declared.trace.TraceReason.TheVariants.{OutOfOrder, Em
 use Rattle.fb_units.specs.Judging.{◌>>=◌, ◌>>◌, refuse}
 use Rattle.fb_trace.specs.Entry.{entry_of}
 
--- the request of this number that an entry asks for, on a disk of so many sectors
+-- the request with this number that an entry asks for, on a disk of this many sectors
 unfoldable pub request_of : ℕ → ℕ → Entry → Result Request TraceReason
 request_of sectors number entry = do
   refuse Empty (entry.size == 0)
@@ -19,18 +19,18 @@ request_of sectors number entry = do
   refuse TooMany (nat_lt 1000000 number)
   Ok (record { name = Traced number; arrival = entry.arrival; lbn = entry.first; count = entry.size; write = entry.flags % 2 == 0 })
 
--- a request of this device, or one that is passed over
+-- the request that an entry asks for, or one that is passed over if it is for another device
 unfoldable pub of_device : ℕ → ℕ → ℕ → Entry → Result Line TraceReason
 of_device device sectors number entry =
     if entry.device == device
     then request_of sectors number entry >>= (λ request. Ok (Asked request))
     else Ok (PassedOver entry.arrival)
 
--- no entry comes before the instant of the one before it
+-- what an entry adds; it may not arrive before the instant of the entry before it
 unfoldable pub added_by : ℕ → ℕ → ℕ → ℕ → Entry → Result Line TraceReason
 added_by device sectors instant number entry = refuse OutOfOrder (nat_lt entry.arrival instant) >> of_device device sectors number entry
 
--- a line without fields is blank
+-- what a line adds; one without fields is blank
 unfoldable pub line_of : ℕ → ℕ → ℕ → ℕ → List (List ℕ) → Result Line TraceReason
 line_of device sectors instant number [] = Ok Blank
 line_of device sectors instant number (field ∷ fields) = entry_of (field ∷ fields) >>= added_by device sectors instant number

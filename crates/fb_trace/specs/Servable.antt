@@ -1,11 +1,11 @@
--- What a trace that was read may hold.
+-- What every trace that was read obeys.
 use Rattle.std.specs.Prelude.{◌≡◌, ℕ, ◌+◌, ◌^◌, ◌<◌, ◌≤◌, List, length, map}
 use Rattle.std.specs.List.{AllByRecursion, range_with_len}
 use Rattle.fb_units.specs.Rising.{IsRising}
 use Rattle.fb_units.specs.declared.types.Request.{Request}
 use Rattle.fb_units.specs.declared.types.Name.TheVariants.{Traced}
 
--- a request that a disk of so many sectors can serve
+-- a request that a disk of this many sectors can serve
 pub record IsServable (sectors : ℕ) (request : Request) : Type 0 where
   pub some : 0 < request.count
   pub inside : request.lbn + request.count ≤ sectors

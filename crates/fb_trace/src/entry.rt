@@ -9,17 +9,22 @@ ghost use Rattle.fb_trace.specs.declared.trace.TraceReason.TheVariants.{TooFewFi
 use crate::TraceReason;
 use fb_units::{Ns, next_field, read_flags, read_millis, read_number};
 
-/// What the five fields of a line say.
+/// The values of the five fields of a line.
 #[derive(Clone, Copy)]
 pub struct Entry {
+    /// The instant of arrival, in nanoseconds, at most 10^15.
     pub arrival: Ns,
+    /// The device, at most 10^15.
     pub device: u64,
+    /// The first sector, at most 10^15.
     pub first: u64,
+    /// The number of sectors, at most 10^15.
     pub size: u64,
+    /// The flags: 64 bits, of which the lowest one marks a read.
     pub flags: u64,
 }
 
-/// What a line says that isn't blank.
+/// The values of the fields of a line that isn't blank, or the first reason why they have none.
 #[tactic(auto, unfolding(crate::specs::Entry::entry_of))]
 pub fn read_entry(line: &[u8]) -> Result<Entry, TraceReason>
     ensures value { result ≡ entry_of (fields_of line.now) }
@@ -34,7 +39,7 @@ pub fn read_entry(line: &[u8]) -> Result<Entry, TraceReason>
     spelled(arrival, device, first, size, flags)
 }
 
-// The first field of a line, which has to be there, and the line after it.
+// The first field of a line and the rest of the line; `TooFewFields` if it has no field left.
 fn field(line: &[u8]) -> Result<(&[u8], &[u8]), TraceReason>
     ensures { MatchResult result (λ found. fields_of line.now ≡ found.0.now ∷ fields_of found.1.now) (λ reason. (fields_of line.now ≡ []) × (reason ≡ TooFewFields)) }
 {
@@ -44,7 +49,7 @@ fn field(line: &[u8]) -> Result<(&[u8], &[u8]), TraceReason>
     }
 }
 
-// What five fields say.
+// The values of five fields.
 #[tactic(auto, unfolding(crate::specs::Entry::spelled))]
 fn spelled(
     arrival: &[u8],
@@ -77,7 +82,7 @@ fn time(text: &[u8]) -> Result<Ns, TraceReason>
     }
 }
 
-// The number in this field, counted from 1.
+// The number in a field; fields are counted from 1.
 fn number(text: &[u8], field: u32) -> Result<u64, TraceReason>
     ensures value { result ≡ or_refuse (BadNumber field) (number_of text.now) }
     ensures bound { IfOk result (λ number. number ≤ 10 ^ 15) }
@@ -88,7 +93,7 @@ fn number(text: &[u8], field: u32) -> Result<u64, TraceReason>
     }
 }
 
-// The flags in this field, counted from 1.
+// The flags in a field; fields are counted from 1.
 fn marks(text: &[u8], field: u32) -> Result<u64, TraceReason>
     ensures { result ≡ or_refuse (BadNumber field) (flags_of text.now) }
 {

@@ -1,10 +1,11 @@
-//! Reads traces of foreground requests.
+//! Reads traces of foreground requests, in the five fields of the DiskSim manual's ASCII format.
 //!
-//! A text is accepted exactly where its lines keep the rules of the format, and then it means the
-//! requests of one device, in order, and how many requests of others were passed over; a text that
-//! is refused names its first faulty line and the first reason of that line. What is accepted is
-//! fit for a replay: the requests are named 1, 2, .. and lie on the disk, their arrivals don't
-//! fall, and there are at most a million.
+//! The layers above may rely on this: a text is accepted exactly if its lines obey the rules of the
+//! format. Its value is then the requests of one device, in order, and the number of requests of
+//! other devices; a refused text names its first faulty line, and the first reason there. Accepted
+//! requests are fit for a replay: they are named 1, 2, .., are on the disk, arrive in order, and
+//! are at most a million. Requests of other devices are only counted: nothing is said of their
+//! sectors.
 #![tactic(auto)]
 
 mod entry;

@@ -1,4 +1,4 @@
-// A trace, line by line.
+// Reading a trace, line by line.
 ghost use Rattle.std.specs.Prelude.{◌≡◌, ◌+◌, ◌<◌, ◌≤◌, ◌^◌, length, IfOk, IfErr, OnOk};
 ghost use Rattle.fb_units.specs.Lines.{fields_of};
 ghost use Rattle.fb_trace.specs.declared.trace.TraceError.TheVariants.{NoMemory};
@@ -25,18 +25,18 @@ enum Line {
     Asked(Request),
 }
 
-// The lines so far.
+// What was read of the lines so far.
 #[derive(Drop)]
 struct Reader {
     device: u64,
     sectors: u64,
-    // Of the last line that isn't blank.
+    // The arrival in the last line that isn't blank.
     instant: Ns,
     trace: Trace,
 }
 
-/// The trace of a device, on a disk of so many sectors. An error names the first faulty line and
-/// its first fault.
+/// The requests that a trace has for a device, on a disk of this many sectors. An error names the
+/// first faulty line, counted from 1, and the first reason why it is refused; or it is `NoMemory`.
 pub fn read_trace(
     alloc: Global,
     bytes: &[u8],
@@ -66,7 +66,7 @@ pub fn read_trace(
 }
 
 impl Reader {
-    // Takes in the next line, of this number.
+    // Reads the next line, which has this number.
     fn read_line(&mut self, number: u64, line: &[u8]) -> Result<(), TraceError>
         requires few { self.old.trace.passed_over < number }
         ensures answer { Answers (λ _. progress self.new) result (next_progress self.old.device self.old.sectors number (progress self.old) line.now) }
@@ -84,7 +84,7 @@ impl Reader {
         }
     }
 
-    // Takes in what a line adds.
+    // Adds what a line adds.
     fn add(&mut self, line: Line) -> Result<(), TraceError>
         requires few { self.old.trace.passed_over + 1 < 2 ^ 64 }
         ensures line { OnOk result (progress self.new ≡ with_line (progress self.old) line) }
@@ -132,7 +132,7 @@ impl Reader {
         self.of_device(entry)
     }
 
-    // A request of the device, or one that is passed over.
+    // The request that an entry asks for, or one that is passed over if it is for another device.
     #[tactic(auto, unfolding(crate::specs::Line::of_device))]
     fn of_device(&self, entry: Entry) -> Result<Line, TraceReason>
         requires later { self.now.instant ≤ entry.arrival }

@@ -1,11 +1,13 @@
-// What a reader of traces answers.
+// What reading a trace returns.
 use fb_units::Request;
 use std::alloc::{AllocError, AllocFailed};
 
 /// The requests of one device, and how many of other devices were passed over.
 #[derive(Drop)]
 pub struct Trace {
+    /// The requests of the device, named 1, 2, .. in order of arrival; at most a million.
     pub requests: Vec<Request>,
+    /// The number of requests of other devices.
     pub passed_over: u64,
 }
 
@@ -14,11 +16,11 @@ pub struct Trace {
 pub enum TraceReason {
     /// The line has fields, but fewer than five.
     TooFewFields,
-    /// The first field isn't a time in milliseconds, or one too late.
+    /// The first field isn't a time in milliseconds, or is above 10^9 ms.
     BadTime,
-    /// This field, counted from 1, isn't a number of its form, or one too large.
+    /// This field, counted from 1, isn't a number of its form, or the number is too large.
     BadNumber(u32),
-    /// The request arrives before that of the line before.
+    /// The request arrives before that of the last line that isn't blank.
     OutOfOrder,
     /// The request has no sector.
     Empty,
@@ -26,21 +28,25 @@ pub enum TraceReason {
     TooLarge,
     /// The request goes past the end of the disk.
     BeyondDisk,
-    /// The device had a million requests before.
+    /// The device already has a million requests.
     TooMany,
 }
 
-/// The first faulty line of a trace, counted from 1, and its first fault.
+/// The first faulty line of a trace, and the first reason why it is refused.
 #[derive(Clone, Copy)]
 pub struct TraceFault {
+    /// The line, counted from 1.
     pub line: u64,
+    /// The reason.
     pub reason: TraceReason,
 }
 
 /// Why no trace was read.
 #[derive(Clone, Copy)]
 pub enum TraceError {
+    /// The trace is refused.
     Fault(TraceFault),
+    /// Out of memory, which says nothing about the trace.
     NoMemory,
 }
 
