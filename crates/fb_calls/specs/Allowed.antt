@@ -1,4 +1,4 @@
--- What a script that was read may hold.
+-- What every script that was read obeys.
 use Rattle.std.specs.Prelude.{◌≡◌, ℕ, ◌+◌, ◌*◌, ◌^◌, ◌<◌, ◌≤◌, List, [], ◌∷◌, ◌++◌, length, Bool, true, false, ◌&&◌, ◌==◌, map}
 use Rattle.std.specs.List.{list_any, flat_map, slice_index_or}
 use Rattle.fb_units.specs.Rising.{IsRising}
@@ -19,6 +19,7 @@ pub record Terms : Type 0 where
   pub weight : ℕ
   pub block : ℕ
 
+-- the terms of the task that an action opens, if it opens one
 abbrev pub terms_in : Action → List Terms
 terms_in (Open kind weight block) = record { kind = kind; weight = weight; block = block } ∷ []
 terms_in _ = []
@@ -27,6 +28,7 @@ terms_in _ = []
 abbrev pub tasks : List Call → List Terms
 tasks calls = flat_map (λ call. terms_in call.action) calls
 
+-- the terms of a task by its number
 abbrev pub terms_of : List Call → ℕ → Terms
 terms_of calls task = slice_index_or (tasks calls) task (record { kind = Plain; weight = 1; block = 1 })
 
@@ -46,17 +48,17 @@ is_want _ = false
 abbrev pub has_want : List Call → ℕ → Bool
 has_want calls task = list_any (λ call. (call.task == task) && is_want call.action) calls
 
--- the task was opened, and not closed
+-- the task is opened, and not closed
 pub record IsOpen (before : List Call) (task : ℕ) : Type 0 where
   pub opened : task < length (tasks before)
   pub not_closed : is_closed before task ≡ false
 
--- n sectors from first on, at least one
+-- n sectors from first on, at least one, all of them on the disk
 pub record IsRange (disk : Shape) (first n : ℕ) : Type 0 where
   pub some : 0 < n
   pub inside : first + n ≤ length (places disk)
 
--- what a call may ask for after those before it
+-- what a call may ask for after the calls before it
 abbrev pub MayAsk : Shape → List Call → ℕ → Action → Type 0
 MayAsk disk before task (Open kind weight block) = (task ≡ length (tasks before)) × (1 ≤ weight) × (weight ≤ 1000) × (1 ≤ block) × (block ≤ 2048)
 MayAsk disk before task (Want first count) = IsOpen before task × (is_clean (terms_of before task).kind ≡ false)
@@ -67,17 +69,17 @@ MayAsk disk before task (Segment first blocks age live) = IsOpen before task × 
     × IsRange disk first (blocks * (terms_of before task).block) × (blocks ≤ 4096) × (age ≤ 10 ^ 15) × (length live ≡ blocks)
 MayAsk disk before task _ = IsOpen before task
 
--- the calls keep these rules one after another
+-- each call obeys these rules after the calls before it
 abbrev pub AreAllowed : Shape → List Call → List Call → Type 0
 AreAllowed disk before [] = Unit {0}
 AreAllowed disk before (call ∷ calls) = (call.instant ≤ 10 ^ 15) × MayAsk disk before call.task call.action × AreAllowed disk (before ++ call ∷ []) calls
 
--- how many blocks they can give
+-- into how many blocks the ranges and live blocks of the calls are cut
 abbrev pub blocks_from : Shape → List Call → List Call → ℕ
 blocks_from disk before [] = 0
 blocks_from disk before (call ∷ calls) = blocks_in disk (terms_of before call.task).block call.action + blocks_from disk (before ++ call ∷ []) calls
 
--- the calls of a script behind a trace of so many requests
+-- the calls of a script for a trace of this many requests
 pub record IsScript (disk : Shape) (traced : ℕ) (calls : List Call) : Type 0 where
   pub instants : IsRising (map (λ call. call.instant) calls)
   pub allowed : AreAllowed disk [] calls

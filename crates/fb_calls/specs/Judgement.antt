@@ -1,4 +1,4 @@
--- What a call may ask for after those before it.
+-- Which calls are allowed after the calls before them, and why others are refused.
 use Rattle.std.specs.Prelude.{ℕ, ◌+◌, ◌*◌, ◌^◌, List, [], ◌∷◌, ◌++◌, length, Bool, not, ◌&&◌, ◌==◌, nat_le, nat_lt, is_some, Result, Ok}
 use Rattle.fb_units.specs.Judging.{◌>>=◌, ◌>>◌, or_refuse, refuse}
 use Rattle.fb_geometry.specs.Shape.{Shape}
@@ -13,7 +13,8 @@ use Rattle.fb_calls.specs.Blocks.{blocks_in, reads_in}
 use Rattle.fb_calls.specs.Line.{Entry}
 use Rattle.fb_calls.specs.Sessions.{is_backup, is_clean, task_of, session_of, names_after, sessions_after}
 
--- the calls so far: the instant of the last, the tasks' names and sessions in order of opening, how many blocks are cut and how many reads there are, the trace's included
+-- the calls so far: the instant of the last, the tasks' names and sessions in order of opening, the number of blocks that are cut,
+-- the number of promotes and requests of the trace together, and the calls
 pub record Progress : Type 0 where
   pub instant : ℕ
   pub names : List (List ℕ)
@@ -22,21 +23,21 @@ pub record Progress : Type 0 where
   pub reads : ℕ
   pub calls : List Call
 
--- sectors from first on reach beyond the end of the disk
+-- `count` sectors from first on go past the end of the disk
 abbrev pub is_beyond : Shape → ℕ → ℕ → Bool
 is_beyond disk first count = nat_lt (length (places disk)) (first + count)
 
--- a range has sectors, and they lie on the disk
+-- Ok if a range has sectors, and all of them are on the disk
 abbrev pub some_on_disk : Shape → ℕ → ℕ → Result (Unit {0}) CallsReason
 some_on_disk disk first count = do
   refuse Empty (count == 0)
   refuse BeyondDisk (is_beyond disk first count)
 
--- with so many more there are more than 16,000,000 blocks
+-- with this many more there are more than 16,000,000 blocks
 abbrev pub are_too_many : ℕ → ℕ → Bool
 are_too_many before more = nat_lt (16 * 10 ^ 6) (before + more)
 
--- an open, whose task is the next
+-- the number of the task that an open opens, which is the next one; or why it may not
 unfoldable pub opened : List (List ℕ) → List ℕ → ℕ → ℕ → Result ℕ CallsReason
 opened names name weight block = do
   refuse TaskTaken (is_some (task_of names name))
@@ -44,7 +45,7 @@ opened names name weight block = do
   refuse BlockOutOfRange (not (nat_le 1 block && nat_le block 2048))
   Ok (length names)
 
--- an action on a session that isn't closed
+-- Ok if a session that isn't closed is allowed an action, else the first reason why not
 unfoldable pub allowed : Shape → Progress → Session → Action → Result (Unit {0}) CallsReason
 allowed disk so_far session (Want first count) = do
   refuse WrongKind (is_clean session.kind)
@@ -65,7 +66,7 @@ allowed disk so_far session (Segment first blocks age live) = do
   refuse TooManyBlocks (are_too_many so_far.blocks (blocks_in disk session.block (Segment first blocks age live)))
 allowed disk so_far session _ = Ok tt
 
--- the task of this name, if its session may take the action
+-- the number of the opened task with this name, if its session is allowed the action
 unfoldable pub allowed_for : Shape → Progress → List ℕ → Action → Result ℕ CallsReason
 allowed_for disk so_far name action = do
   task ← or_refuse UnknownTask (task_of so_far.names name)
@@ -73,12 +74,12 @@ allowed_for disk so_far name action = do
   allowed disk so_far (session_of so_far.sessions task) action
   Ok task
 
--- the number of the task that may take an action
+-- the number of the task with this name, if it is allowed the action
 unfoldable pub task_for : Shape → Progress → List ℕ → Action → Result ℕ CallsReason
 task_for disk so_far name (Open kind weight block) = opened so_far.names name weight block
 task_for disk so_far name action = allowed_for disk so_far name action
 
--- the call of the line of this number
+-- the call of an entry, on the line with this number
 unfoldable pub call_of : Shape → Progress → ℕ → Entry → Result Call CallsReason
 call_of disk so_far number entry = do
   refuse OutOfOrder (nat_lt entry.instant so_far.instant)
@@ -86,7 +87,7 @@ call_of disk so_far number entry = do
   task ← task_for disk so_far entry.name action
   Ok (record { line = number; instant = entry.instant; task = task; action = action })
 
--- a call more, of the task of this name, which gives so many blocks
+-- the calls so far and one more, of the task with this name, which is cut into this many blocks
 abbrev pub with_blocks : ℕ → List ℕ → Progress → Call → Progress
 with_blocks blocks name so_far call = record {
   instant = call.instant;
@@ -97,5 +98,6 @@ with_blocks blocks name so_far call = record {
   calls = so_far.calls ++ call ∷ [];
 }
 
+-- the calls so far and one more, of the task with this name
 abbrev pub with_call : Shape → List ℕ → Progress → Call → Progress
 with_call disk name so_far call = with_blocks (blocks_in disk (session_of so_far.sessions call.task).block call.action) name so_far call

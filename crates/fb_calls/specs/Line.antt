@@ -1,4 +1,4 @@
--- What the fields of a line say.
+-- The values of the fields of a line.
 use Rattle.std.specs.Prelude.{ℕ, List, [], ◌∷◌, length, Bool, true, not, ◌&&◌, ◌==◌, Option, Some, None, Result, Ok, Err}
 use Rattle.fb_units.specs.Judging.{◌>>=◌, ◌>>◌, or_refuse, refuse}
 use Rattle.fb_units.specs.Numbers.{millis_of, number_of}
@@ -11,13 +11,13 @@ use Rattle.fb_calls.specs.declared.words.Verb.TheVariants.{Open as OpenVerb, Wan
 use Rattle.fb_calls.specs.Live.{live_of}
 use Rattle.fb_calls.specs.Words.{verb_of, kind_of, fields_behind, is_name}
 
--- what a line says: when, the name of a task, and what is asked for, or that its verb or kind isn't known
+-- the values of a line: an instant, the name of a task, and what is asked for, or that the verb or the kind is unknown
 pub record Entry : Type 0 where
   pub instant : ℕ
   pub name : List ℕ
   pub asked : Result Action CallsReason
 
--- the number in this field, counted from 1
+-- the number in a field; fields are counted from 1
 abbrev pub number : ℕ → List ℕ → Result ℕ CallsReason
 number field text = or_refuse (BadNumber field) (number_of text)
 
@@ -29,7 +29,7 @@ range_of (first_text ∷ count_text ∷ []) = do
   Ok (first, count)
 range_of _ = Err BadLine
 
--- what a verb and the fields behind the task's name ask for
+-- what a verb asks for with the fields that follow the name of the task
 unfoldable pub asked_by : Option Verb → List (List ℕ) → Result (Result Action CallsReason) CallsReason
 asked_by None more = Ok (Err UnknownVerb)
 asked_by (Some OpenVerb) (kind ∷ weight_text ∷ block_text ∷ []) = do
@@ -50,12 +50,12 @@ asked_by (Some SegmentVerb) (first_text ∷ blocks_text ∷ age_text ∷ live_te
   Ok (Ok (Segment first blocks age live))
 asked_by _ _ = Err BadLine
 
--- a verb that is known has its number of fields
+-- a known verb is followed by its number of fields; an unknown one may have any
 abbrev pub has_its_fields : Option Verb → ℕ → Bool
 has_its_fields None fields = true
 has_its_fields (Some verb) fields = fields == fields_behind verb
 
--- a time, a verb, a task's name and what the verb asks for
+-- the values of a time, a verb, the name of a task and what the verb asks for, or the first reason why they have none
 unfoldable pub entry_of : List (List ℕ) → Result Entry CallsReason
 entry_of (time ∷ verb ∷ name ∷ more) = do
   refuse BadLine (not (has_its_fields (verb_of verb) (length more) && is_name name))

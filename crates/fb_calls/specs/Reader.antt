@@ -1,4 +1,4 @@
--- What the reader has read, as what it says.
+-- What the reader holds of the lines so far, as the values of the definitions.
 use Rattle.std.specs.Prelude.{◌≡◌, ℕ, ◌+◌, ◌*◌, ◌^◌, ◌<◌, ◌≤◌, List, length, map, take, true, Vec, Option, Some, None, Result, Ok, Err}
 use Rattle.std.specs.List.{AllByRecursion}
 use Rattle.std.specs.declared.alloc.Global.{Global}
@@ -20,7 +20,7 @@ use Rattle.fb_calls.specs.declared.call.Call.{Call}
 use Rattle.fb_calls.specs.declared.judgement.Step.{Step}
 use Rattle.fb_geometry.specs.Shape.{Shape}
 
--- what is asked for
+-- the action that is asked for
 abbrev pub action : Asked → Action
 action (AskedOpen kind weight block) = Open kind weight block
 action (AskedWant first count) = Want first count
@@ -34,10 +34,11 @@ action (AskedSegment first blocks age live) = Segment first blocks age (take blo
 abbrev pub asked : Result Asked CallsReason → Result Action CallsReason
 asked known = known >>= (λ asked. Ok (action asked))
 
+-- the values of an entry
 abbrev pub said : Entry → line.Entry
 said read = record { instant = read.instant; name = read.name.now; asked = asked read.asked }
 
--- numbers lie within the limit, and live blocks are of their form
+-- numbers are within the limit, and live blocks are of their form
 abbrev pub IsWithin : Asked → Type 0
 IsWithin (AskedWant first count) = (first ≤ 10 ^ 15) × (count ≤ 10 ^ 15)
 IsWithin (AskedAbort first count) = (first ≤ 10 ^ 15) × (count ≤ 10 ^ 15)
@@ -49,7 +50,7 @@ abbrev pub IsAskedWithin : Result Asked CallsReason → Type 0
 IsAskedWithin (Ok asked) = IsWithin asked
 IsAskedWithin (Err reason) = Unit {0}
 
--- a weight, sizes of blocks and counts that a call holds in 32 bits
+-- the weight, the block size and the counts fit into the 32 bits of a call
 abbrev pub IsSmall : Asked → Type 0
 IsSmall (AskedOpen kind weight block) = (weight ≤ 1000) × (1 ≤ block) × (block ≤ 2048)
 IsSmall (AskedPromote first count) = count ≤ 2048
@@ -71,11 +72,11 @@ progress reader = record {
   calls = reader.calls.items;
 }
 
--- a session with a block size in its range
+-- the session has a block size in its range
 abbrev pub HasBlock : Session → Type 0
 HasBlock session = (1 ≤ session.block) × (session.block ≤ 2048)
 
--- one session for each name, and no more of them than calls
+-- what holds of a reader: it has one session for each name, no more of them than calls, and its counts are within their limits
 pub record IsReader (reader : Reader) : Type 0 where
   pub tasks : length reader.sessions.items ≡ length reader.names.keys
   pub sessions : AllByRecursion HasBlock reader.sessions.items
@@ -83,32 +84,32 @@ pub record IsReader (reader : Reader) : Type 0 where
   pub few_tasks : length reader.sessions.items ≤ length reader.calls.items
   pub few_calls : length reader.calls.items < 2 ^ 32
 
--- an action on a session
+-- the action is on an opened session: it isn't an open
 abbrev pub IsOnSession : Asked → Type 0
 IsOnSession (AskedOpen kind weight block) = ⊥
 IsOnSession _ = Unit {0}
 
--- an open's task is the next one, any other's is opened
+-- the task of an open is the next one, that of any other action is opened
 abbrev pub IsTaskFor : List Session → Asked → ℕ → Type 0
 IsTaskFor sessions (AskedOpen kind weight block) task = task ≡ length sessions
 IsTaskFor sessions _ task = task < length sessions
 
--- an open's name is new
+-- the name of an open is new
 abbrev pub IsNameFor : List (List ℕ) → Asked → List ℕ → Type 0
 IsNameFor names (AskedOpen kind weight block) name = task_of names name ≡ None
 IsNameFor names _ name = Unit {0}
 
--- a promote is one of at most a million reads
+-- with a promote there are at most a million promotes and requests of the trace together
 abbrev pub HasRoom : ℕ → Asked → Type 0
 HasRoom reads (AskedPromote first count) = reads + 1 ≤ 10 ^ 6
 HasRoom reads _ = Unit {0}
 
--- the blocks that an action gives on a session, for which there is room
+-- an action on a session is cut into this many blocks, and with them there are at most 16,000,000
 pub record AreBlocksOf (disk : Shape) (before block : ℕ) (asked : Asked) (blocks : ℕ) : Type 0 where
   pub value : blocks ≡ blocks_in disk block (action asked)
   pub few : before + blocks ≤ 16 * 10 ^ 6
 
--- a task that may take an action, and the blocks that this gives
+-- the task is allowed the action, which is cut into this many blocks
 pub record IsAllowed (disk : Shape) (so_far : Progress) (name : List ℕ) (asked : Asked) (number blocks : ℕ) : Type 0 where
   pub task : IsTaskFor so_far.sessions asked number
   pub free : IsNameFor so_far.names asked name
@@ -120,16 +121,17 @@ pub record IsAllowed (disk : Shape) (so_far : Progress) (name : List ℕ) (asked
 abbrev pub call : Step → Call
 call step = record { line = step.line; instant = step.instant; task = step.task; action = action step.asked }
 
+-- the step is one that is allowed next
 pub record IsStep (disk : Shape) (so_far : Progress) (step : Step) : Type 0 where
   pub allowed : IsAllowed disk so_far step.name.now step.asked step.task step.blocks
   pub within : IsWithin step.asked
 
--- a line's step may come next
+-- the step of a line, if it has one, is allowed next
 abbrev pub MayFollow : Shape → Progress → Option Step → Type 0
 MayFollow disk so_far None = Unit {0}
 MayFollow disk so_far (Some step) = IsStep disk so_far step
 
--- the calls with a line's step
+-- the calls so far and that of a line's step, if it has one
 abbrev pub with_step : Shape → Progress → Option Step → Progress
 with_step disk so_far None = so_far
 with_step disk so_far (Some step) = with_call disk step.name.now so_far (call step)

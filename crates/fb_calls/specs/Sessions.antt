@@ -16,7 +16,7 @@ abbrev pub is_clean : Kind → Bool
 is_clean Clean = true
 is_clean _ = false
 
--- the number of the task of this name, which is its place in order of opening
+-- the number of the task with this name, from 0 in order of opening
 abbrev pub task_of : List (List ℕ) → List ℕ → Option ℕ
 task_of names name = position (bytes_eq name) names
 
@@ -24,12 +24,12 @@ task_of names name = position (bytes_eq name) names
 abbrev pub session_of : List Session → ℕ → Session
 session_of sessions task = slice_index_or sessions task (record { kind = Plain; block = 1; wanted = false; closed = false })
 
--- an open gives a name
+-- the names after an action: an open adds one
 abbrev pub names_after : List (List ℕ) → List ℕ → Action → List (List ℕ)
 names_after names name (Open kind weight block) = names ++ name ∷ []
 names_after names name _ = names
 
--- an open begins a session, a want and a close leave their mark on that of the task
+-- the sessions after an action: an open adds one, and a want and a close are noted in that of the task
 abbrev pub sessions_after : List Session → ℕ → Action → List Session
 sessions_after sessions task (Open kind weight block) = sessions ++ record { kind = kind; block = block; wanted = false; closed = false } ∷ []
 sessions_after sessions task (Want first count) = set sessions task (record (session_of sessions task) { wanted = true })

@@ -1,4 +1,4 @@
--- What verbs, kinds and tasks are called.
+-- The words for verbs and kinds, and the names of tasks.
 use Rattle.std.specs.Prelude.{ℕ, List, [], ◌∷◌, length, Bool, ◌&&◌, ◌||◌, ◌==◌, nat_le, Option, codes, find}
 use Rattle.std.specs.Char.{is_ascii_alphanumeric}
 use Rattle.std.specs.List.{list_all}
@@ -9,7 +9,7 @@ use Rattle.fb_calls.specs.declared.call.Kind.TheVariants.{Plain, Backup, Scrub, 
 use Rattle.fb_calls.specs.declared.words.Verb.{Verb}
 use Rattle.fb_calls.specs.declared.words.Verb.TheVariants.{Open, Want, Abort, Promote, Suspend, Resume, Close, Segment}
 
--- what a word stands for among these names
+-- what a word stands for according to this list of words, if it is in it
 abbrev pub meaning : {A : Type 0} → List (List ℕ × A) → List ℕ → Option A
 meaning names word = option_map (λ name. name.1) (find (λ name. bytes_eq name.0 word) names)
 
@@ -26,7 +26,7 @@ kinds = (codes "plain", Plain) ∷ (codes "backup", Backup) ∷ (codes "scrub", 
 unfoldable pub kind_of : List ℕ → Option Kind
 kind_of = meaning kinds
 
--- how many fields stand behind the task's name
+-- how many fields follow the name of the task
 abbrev pub fields_behind : Verb → ℕ
 fields_behind Open = 3
 fields_behind Want = 2
@@ -41,6 +41,6 @@ fields_behind Segment = 4
 abbrev pub is_name_byte : ℕ → Bool
 is_name_byte byte = is_ascii_alphanumeric byte || (byte == 95) || (byte == 45)
 
--- 1 to 32 of them
+-- the name of a task: 1 to 32 such bytes
 abbrev pub is_name : List ℕ → Bool
 is_name text = nat_le 1 (length text) && nat_le (length text) 32 && list_all is_name_byte text

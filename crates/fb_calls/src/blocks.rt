@@ -1,4 +1,4 @@
-// How many blocks a call can give.
+// How many blocks a call can ask for.
 ghost use Rattle.std.specs.Prelude.{◌≡◌, ◌+◌, ◌*◌, ◌<◌, ◌≤◌, ◌^◌, [], length, take, true, if◌then◌else◌, MatchOption};
 ghost use Rattle.fb_geometry.specs.Places.{places};
 ghost use Rattle.fb_sectormap.specs.Cutting.{cutting};
@@ -8,7 +8,8 @@ ghost use Rattle.fb_calls.specs.Live.{bits, is_live};
 use crate::live_digits::is_live_block;
 use fb_sectormap::SectorMap;
 
-/// How many blocks a range of sectors is cut into. None where there are more than so many.
+/// The number of blocks into which a range of sectors is cut, with a block size in sectors. None if
+/// there are more than `most`.
 #[tactic(auto, unfolding(fb_sectormap::specs::Cutting::cutting))]
 pub fn count_cuts(map: &SectorMap, block: u32, first: u64, count: u64, most: u64) -> Option<u64>
     requires block { 0 < block }
@@ -38,7 +39,8 @@ pub fn count_cuts(map: &SectorMap, block: u32, first: u64, count: u64, most: u64
     Some(cuts)
 }
 
-/// How many blocks the live blocks of a segment are cut into. None where there are more than so many.
+/// The number of blocks into which the live blocks of a segment are cut. None if there are more
+/// than `most`.
 pub fn count_live_cuts(
     map: &SectorMap,
     block: u32,
@@ -69,7 +71,7 @@ pub fn count_live_cuts(
     Some(cuts)
 }
 
-// How many blocks a block of a segment is cut into: none where it isn't live.
+// The number of blocks into which a block of a segment is cut: 0 if it isn't live.
 fn count_block(map: &SectorMap, block: u32, lbn: u64, live: bool, most: u64) -> Option<u64>
     requires block { 0 < block }
     requires on_disk { lbn + block ≤ length (places map.now) }

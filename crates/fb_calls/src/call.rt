@@ -2,34 +2,35 @@
 use crate::{Live, Names};
 use fb_units::Ns;
 
-/// What a session is for.
+/// What a task is for. A task is a session of the background.
 #[derive(Clone, Copy, Debug, PartialEq, Eq)]
 pub enum Kind {
     /// Reads blocks.
     Plain,
-    /// Reads blocks until they make one consistent image.
+    /// Reads the blocks of one range until they make an image of one instant.
     Backup,
-    /// Reads blocks and tells which sectors cannot be read.
+    /// Reads blocks, and reports the sectors that cannot be read.
     Scrub,
     /// Reads the live blocks of log segments.
     Clean,
 }
 
-/// What a call asks for. Ranges are in sectors, from an LBN on.
+/// What a call asks for. A range is `count` sectors from the LBN `first` on.
 #[derive(Drop)]
 pub enum Action {
-    /// Opens a session of a kind, with the weight of its blocks (1 to 1,000) and its block size (1 to 2,048 sectors).
+    /// Opens a task of a kind, with the weight of its blocks (1 to 1,000) and its block size (1 to
+    /// 2,048 sectors).
     Open {
         kind: Kind,
         weight: u32,
         block: u32,
     },
-    /// Wants the range's blocks.
+    /// Wants the blocks of the range.
     Want {
         first: u64,
         count: u64,
     },
-    /// Aborts the blocks that share a sector with the range and are not delivered.
+    /// Aborts the task's blocks that share a sector with the range and are not delivered.
     Abort {
         first: u64,
         count: u64,
@@ -39,13 +40,15 @@ pub enum Action {
         first: u64,
         count: u32,
     },
-    /// Holds the session's blocks back.
+    /// Holds back the task's blocks until it is resumed.
     Suspend,
     /// Ends a suspension.
     Resume,
-    /// Aborts what is left, and ends the session.
+    /// Aborts all blocks that aren't delivered, drops all segments that aren't begun, and ends the
+    /// task.
     Close,
-    /// Adds a log segment of so many blocks of the session's block size, of which some are live.
+    /// Adds a log segment: 1 to 4,096 blocks of the task's block size from an LBN on, an age (up to
+    /// 10^15, in any unit), and which of the blocks are live.
     Segment {
         first: u64,
         blocks: u32,
@@ -54,18 +57,24 @@ pub enum Action {
     },
 }
 
-/// A line of a script: its number from 1, its instant, and the task's number from 0 in order of opening.
+/// A call: a line of a script.
 #[derive(Drop)]
 pub struct Call {
+    /// The number of the line, from 1.
     pub line: u64,
+    /// The instant of the call, in nanoseconds, at most 10^15.
     pub instant: Ns,
+    /// The number of the task, from 0 in order of opening.
     pub task: u32,
+    /// What it asks for.
     pub action: Action,
 }
 
-/// A whole script: the tasks' names in order of opening, and the calls in line order.
+/// A whole script.
 #[derive(Drop)]
 pub struct Calls {
+    /// The names of the tasks, in order of opening.
     pub names: Names,
+    /// The calls, in line order; their instants don't fall.
     pub calls: Vec<Call>,
 }

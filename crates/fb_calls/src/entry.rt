@@ -15,7 +15,7 @@ use crate::{Action, CallsReason, Kind};
 use fb_units::{NoMemory, Ns, next_field, read_millis, read_number};
 use std::alloc::Global;
 
-/// What a line asks for. The live blocks of a segment are still digits.
+/// What a line asks for, before it is judged. The live blocks of a segment are still digits.
 #[derive(Clone, Copy)]
 pub enum Asked<'a> {
     Open {
@@ -87,8 +87,8 @@ impl Asked<'_> {
     }
 }
 
-/// What a line says: when, the name of a task, and what is asked for, or that its verb or kind isn't
-/// known.
+/// The values of the fields of a line: an instant in nanoseconds, the name of a task, and what is
+/// asked for, or that the verb or the kind is unknown.
 #[derive(Clone, Copy)]
 pub struct Entry<'a> {
     pub instant: Ns,
@@ -96,7 +96,7 @@ pub struct Entry<'a> {
     pub asked: Result<Asked<'a>, CallsReason>,
 }
 
-/// What a line says that isn't blank.
+/// The values of the fields of a line that isn't blank, or the first reason why they have none.
 #[tactic(auto, unfolding(crate::specs::Line::entry_of))]
 pub fn read_entry(line: &[u8]) -> Result<Entry<'_>, CallsReason>
     ensures value { Agrees said result (entry_of (fields_of line.now)) }
@@ -119,7 +119,7 @@ pub fn read_entry(line: &[u8]) -> Result<Entry<'_>, CallsReason>
     })
 }
 
-// The first field of a line, which has to be there, and the line after it.
+// The first field of a line and the rest of the line; `BadLine` if it has no field left.
 fn field(line: &[u8]) -> Result<(&[u8], &[u8]), CallsReason>
     ensures { MatchResult result (λ found. fields_of line.now ≡ found.0.now ∷ fields_of found.1.now) (λ reason. (fields_of line.now ≡ []) × (reason ≡ BadLine)) }
 {
@@ -129,7 +129,7 @@ fn field(line: &[u8]) -> Result<(&[u8], &[u8]), CallsReason>
     }
 }
 
-// Whether a verb that is known has its number of fields.
+// Whether a known verb is followed by its number of fields; an unknown one may have any.
 fn has_its_fields(verb: Option<Verb>, rest: &[u8]) -> bool
     ensures { result ≡ has_its_fields verb (length (fields_of rest.now)) }
 {
@@ -139,7 +139,7 @@ fn has_its_fields(verb: Option<Verb>, rest: &[u8]) -> bool
     }
 }
 
-// Whether a line has so many fields.
+// Whether a line has exactly this many fields.
 fn has_fields(line: &[u8], count: usize) -> bool
     ensures { result ≡ (length (fields_of line.now) == count) }
 {
@@ -164,7 +164,7 @@ fn time(text: &[u8]) -> Result<Ns, CallsReason>
     }
 }
 
-// The number in this field, counted from 1.
+// The number in a field; fields are counted from 1.
 fn number(text: &[u8], field: u32) -> Result<u64, CallsReason>
     ensures value { result ≡ number field text.now }
     ensures bound { IfOk result (λ number. number ≤ 10 ^ 15) }

@@ -29,8 +29,8 @@ const MOST_SECTORS: u64 = 2_048;
 
 const MOST_SEGMENT_BLOCKS: u64 = 4_096;
 
-/// A call that may be made: its line and instant, its task by name and number, what it asks for, and
-/// how many blocks that gives.
+/// A call that is allowed: its line and instant, its task by name and number, what it asks for, and
+/// into how many blocks that is cut.
 #[derive(Clone, Copy)]
 pub struct Step<'a> {
     pub line: u64,
@@ -41,7 +41,7 @@ pub struct Step<'a> {
     pub blocks: u64,
 }
 
-// The task that may take what is asked for, and how many blocks that gives.
+// The task that is allowed what is asked for, and into how many blocks that is cut.
 #[derive(Clone, Copy)]
 struct Allowed {
     task: usize,
@@ -49,7 +49,7 @@ struct Allowed {
 }
 
 impl Reader {
-    // The call of a line, or none where the line is blank.
+    // The call of a line; None if the line is blank.
     #[tactic(auto, unfolding(crate::specs::Reading::line_read))]
     pub fn step<'a>(
         &self,
@@ -96,7 +96,7 @@ impl Reader {
         })
     }
 
-    // The task that may take what is asked for.
+    // The task, if it is allowed what is asked for.
     #[tactic(auto, unfolding(crate::specs::Judgement::task_for))]
     fn task_for(
         &self,
@@ -118,7 +118,7 @@ impl Reader {
         }
     }
 
-    // The number of a task that may be opened.
+    // The number of a task, if it may be opened.
     #[tactic(auto, unfolding(crate::specs::Judgement::opened))]
     fn opened(&self, name: &[u8], weight: u64, block: u64) -> Result<usize, CallsReason>
         ensures value { result ≡ opened (progress self.now).names name.now weight block }
@@ -139,7 +139,7 @@ impl Reader {
         Ok(self.names.len())
     }
 
-    // The number of the task of this name.
+    // The number of the task with this name, if it is opened.
     fn task_of(&self, name: &[u8]) -> Option<usize>
         ensures value { result ≡ task_of (progress self.now).names name.now }
         ensures within { IfSome result (λ task. task < length self.now.names.keys) }
@@ -147,7 +147,7 @@ impl Reader {
         self.names.get_index_of(name)
     }
 
-    // The opened task of this name, where its session may take what is asked for.
+    // The opened task with this name, if its session is allowed what is asked for.
     #[tactic(auto, unfolding(crate::specs::Judgement::allowed_for))]
     fn allowed_for(
         &self,
@@ -173,7 +173,7 @@ impl Reader {
         Ok(Allowed { task, blocks })
     }
 
-    // How many blocks an action gives that a session may take.
+    // Into how many blocks an action is cut, if the session is allowed it.
     #[tactic(auto, unfolding(crate::specs::Judgement::allowed))]
     fn allowed(
         &self,
@@ -211,7 +211,7 @@ impl Reader {
         }
     }
 
-    // How many blocks a want gives.
+    // Into how many blocks the range of a want is cut, if the session may want it.
     #[tactic(auto, unfolding(crate::specs::Judgement::allowed))]
     fn wanted(
         &self,
@@ -238,7 +238,7 @@ impl Reader {
         }
     }
 
-    // Whether a range may be promoted.
+    // Ok if a range may be promoted.
     #[tactic(auto, unfolding(crate::specs::Judgement::allowed))]
     fn promoted(
         &self,
@@ -262,7 +262,7 @@ impl Reader {
         Ok(())
     }
 
-    // How many blocks a segment gives.
+    // Into how many blocks the live blocks of a segment are cut, if the session may get it.
     #[tactic(auto, unfolding(crate::specs::Judgement::allowed))]
     fn added(
         &self,
@@ -295,7 +295,7 @@ impl Reader {
     }
 }
 
-// A clean session wants and aborts no range.
+// Ok unless the session is a clean one, which may not want or abort a range.
 fn not_clean(session: Session) -> Result<(), CallsReason>
     ensures { result ≡ refuse WrongKind (is_clean session.kind) }
 {
@@ -305,7 +305,7 @@ fn not_clean(session: Session) -> Result<(), CallsReason>
     Ok(())
 }
 
-// A range has sectors, and they lie on the disk.
+// Ok if a range has sectors, and all of them are on the disk.
 fn some_on_disk(map: &SectorMap, first: u64, count: u64) -> Result<(), CallsReason>
     requires first { first ≤ 10 ^ 15 }
     requires count { count ≤ 10 ^ 15 }
@@ -318,7 +318,7 @@ fn some_on_disk(map: &SectorMap, first: u64, count: u64) -> Result<(), CallsReas
     on_disk(map, first, count)
 }
 
-// So many sectors lie on the disk.
+// Ok if all of these sectors are on the disk.
 fn on_disk(map: &SectorMap, first: u64, count: u64) -> Result<(), CallsReason>
     requires { first + count < 2 ^ 64 }
     ensures value { result ≡ refuse BeyondDisk (is_beyond map.now first count) }

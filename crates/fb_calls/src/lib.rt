@@ -1,10 +1,12 @@
-//! The calls of a script: what each asks for, and of which task.
+//! The call script: what each call asks for, and of which task.
 //!
-//! A text is accepted exactly where its lines keep the rules of the format on a disk and behind a
-//! trace, and then it means its calls in line order, with the tasks numbered in order of opening; a
-//! text that is refused names its first faulty line and the first reason of that line. What is
-//! accepted is fit for a replay: each call keeps the rules after those before it, and the blocks and
-//! reads that they ask for are within their limits.
+//! The layers above may rely on this: a text is accepted exactly if its lines obey the rules of the
+//! format, on a disk and with a trace of a number of requests. Its value is then its calls in line
+//! order, with the tasks numbered in order of opening; a refused text names its first faulty line,
+//! and the first reason there. Accepted calls are fit for a replay: each is allowed after those
+//! before it, and the blocks and reads that all of them ask for are within their limits. What the
+//! calls do to tasks and blocks is the business of crates above. Background tasks as sessions:
+//! Thereska and others, FAST 2004.
 #![tactic(auto)]
 
 mod blocks;

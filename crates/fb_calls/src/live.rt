@@ -29,7 +29,7 @@ impl Live {
         }
     }
 
-    // An empty list with room for so many blocks.
+    // An empty list with room for this many blocks.
     pub(crate) fn with_capacity(alloc: Global, blocks: usize) -> Result<Self, NoMemory>
         ensures { IfOk result (λ live. live ≡ []) }
     {
@@ -38,7 +38,7 @@ impl Live {
         })
     }
 
-    /// Adds a block at the end. Where memory is wanting the list stays as it is.
+    /// Adds a block at the end. Out of memory, it returns `NoMemory` and the list is unchanged.
     pub fn push(&mut self, item: bool) -> Result<(), NoMemory>
         ensures ok { OnOk result (self.new ≡ self.old ++ item ∷ []) }
         ensures err { OnErr result (self.new ≡ self.old) }
@@ -47,14 +47,14 @@ impl Live {
         Ok(())
     }
 
-    /// How many there are.
+    /// The number of blocks.
     pub fn len(&self) -> usize
         ensures { result ≡ length self.now }
     {
         self.blocks.len()
     }
 
-    /// The one at a place from 0.
+    /// Whether the block with an index, counted from 0, is live.
     pub fn get(&self, i: usize) -> &bool
         requires { i < length self.now }
         ensures { slice_get self.now i ≡ Some result.now }

@@ -8,8 +8,8 @@ use crate::Live;
 use fb_units::NoMemory;
 use std::alloc::Global;
 
-/// Whether digits say of so many blocks, at least one, which are live: four blocks to a digit, and
-/// nothing behind the last block.
+/// Whether these digits can say which of this many blocks are live: there is at least one block,
+/// each hexadecimal digit has four blocks, and no bit is set behind the last block.
 #[tactic(auto, unfolding(crate::specs::Live::is_live))]
 pub fn is_live(blocks: u64, digits: &[u8]) -> bool
     requires { blocks ≤ 10 ^ 15 }
@@ -41,7 +41,7 @@ fn is_clear_from(digits: &[u8], block: u64) -> bool
     true
 }
 
-/// Whether a block, counted from 0, is live.
+/// Whether a block, counted from 0, is live. The highest bit of a digit is its first block.
 pub fn is_live_block(digits: &[u8], block: u64) -> bool
     requires digits { list_all (λ digit. is_digit digit 16) digits.now ≡ true }
     requires block { block < 4 * length digits.now }
@@ -67,7 +67,7 @@ fn digit_value(digit: u8) -> u32
     }
 }
 
-/// For each of so many blocks whether it is live.
+/// For each of this many blocks, whether it is live. The only error is `NoMemory`.
 pub fn read_live(alloc: Global, blocks: u64, digits: &[u8]) -> Result<Live, NoMemory>
     requires { is_live blocks digits.now ≡ true }
     ensures { IfOk result (λ live. live ≡ take blocks (bits digits.now)) }

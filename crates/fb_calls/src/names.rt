@@ -5,7 +5,7 @@ use fb_units::{KeyText, NoMemory};
 use std::alloc::Global;
 use std::marker::Model;
 
-/// The tasks' names, in order of opening.
+/// The names of the tasks, in order of opening.
 #[derive(Drop)]
 pub struct Names {
     names: Vec<KeyText>,
@@ -29,7 +29,7 @@ impl Names {
         }
     }
 
-    /// Adds a name at the end. Where memory is wanting the list stays as it is.
+    /// Adds a name at the end. Out of memory, it returns `NoMemory` and the list is unchanged.
     pub fn push(&mut self, item: KeyText) -> Result<(), NoMemory>
         ensures ok { OnOk result (self.new ≡ self.old ++ item ∷ []) }
         ensures err { OnErr result (self.new ≡ self.old) }
@@ -38,14 +38,14 @@ impl Names {
         Ok(())
     }
 
-    /// How many there are.
+    /// The number of names.
     pub fn len(&self) -> usize
         ensures { result ≡ length self.now }
     {
         self.names.len()
     }
 
-    /// The one at a place from 0.
+    /// The name of a task by its number, counted from 0.
     pub fn get(&self, i: usize) -> &KeyText
         requires { i < length self.now }
         ensures { slice_get self.now i ≡ Some result.now }

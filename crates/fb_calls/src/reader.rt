@@ -1,4 +1,4 @@
-// A script, line by line.
+// Reading a script, line by line.
 ghost use Rattle.std.specs.Prelude.{◌≡◌, ◌+◌, ◌*◌, ◌≤◌, ◌^◌, [], ◌∷◌, ◌++◌, length, None, IfOk, IfErr, OnOk};
 ghost use Rattle.std.specs.List.{AllByRecursion};
 ghost use Rattle.fb_calls.specs.Allowed.{tasks, IsScript};
@@ -21,23 +21,25 @@ use std::alloc::Global;
 // A task's number has 32 bits.
 const MOST_CALLS: usize = 4_294_967_295;
 
-// The lines so far.
+// What was read of the lines so far.
 #[derive(Drop)]
 pub struct Reader {
-    // Of the last call.
+    // The instant of the last call.
     pub instant: Ns,
-    // Of the tasks, in order of opening.
+    // The names of the tasks, in order of opening.
     pub names: IndexSet<Vec<u8>>,
+    // Their sessions, in the same order.
     pub sessions: Vec<Session>,
-    // How many blocks the wanted ranges and live blocks are cut into.
+    // The number of blocks into which the wanted ranges and live blocks are cut.
     pub blocks: u64,
-    // How many promotes there are, and requests of the trace.
+    // The number of promotes and requests of the trace together.
     pub reads: u64,
     pub calls: Vec<Call>,
 }
 
-/// The calls of a script, on a disk and behind a trace of so many requests. An error names the first
-/// faulty line and its first fault. More calls than have numbers in 32 bits count as want of memory.
+/// The calls of a script, for a disk and a trace of this many requests. An error names the first
+/// faulty line, counted from 1, and the first reason why it is refused; or it is `NoMemory`, also
+/// for a script of more than 2^32 - 1 calls.
 pub fn read_calls(
     alloc: Global,
     bytes: &[u8],
@@ -75,7 +77,7 @@ impl Reader {
         }
     }
 
-    // Takes in the next line, of this number.
+    // Reads the next line, which has this number.
     fn read_line(
         &mut self,
         alloc: Global,
@@ -97,7 +99,7 @@ impl Reader {
         }
     }
 
-    // Takes in a call.
+    // Adds a call.
     fn add(&mut self, alloc: Global, step: Step<'_>) -> Result<(), CallsError>
         requires reader { IsReader self.old }
         requires task { IsTaskFor self.old.sessions.items step.asked step.task }
@@ -126,7 +128,7 @@ impl Reader {
         Ok(())
     }
 
-    // Leaves the mark of a call on the sessions.
+    // Notes in the names, the sessions and the counts what a call changes.
     fn mark(&mut self, alloc: Global, step: Step<'_>) -> Result<(), NoMemory>
         requires reader { IsReader self.old }
         requires task { IsTaskFor self.old.sessions.items step.asked step.task }
@@ -172,7 +174,7 @@ impl Reader {
         Ok(())
     }
 
-    // Takes in a session of a new name.
+    // Adds a session with a new name.
     fn open(&mut self, alloc: Global, name: &[u8], session: Session) -> Result<(), NoMemory>
         requires free { task_of (names self.old.names.keys) name.now ≡ None }
         requires tasks { length self.old.sessions.items ≡ length self.old.names.keys }
@@ -188,7 +190,7 @@ impl Reader {
         Ok(())
     }
 
-    // At the end of the text.
+    // The script, at the end of the text.
     fn end(self, alloc: Global) -> Result<Calls, NoMemory>
         ensures { IfOk result (λ calls. accepted calls ≡ at_end (progress self)) }
     {

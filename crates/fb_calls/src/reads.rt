@@ -6,7 +6,8 @@ use crate::{Action, Calls};
 use fb_units::{Name, NoMemory, Request};
 use std::alloc::Global;
 
-/// The reads that promote calls ask for, in line order.
+/// The foreground reads that promote calls ask for, in line order, named P1, P2, .. and arriving at
+/// the instants of their calls. The only error is `NoMemory`.
 pub fn promoted(alloc: Global, calls: &Calls) -> Result<Vec<Request>, NoMemory>
     ensures { IfOk result (λ reads. reads.items ≡ promoted calls.now.calls.items) }
 {

@@ -1,8 +1,8 @@
-// What a script has said of a task.
+// What the lines so far say of a task.
 use crate::Kind;
 
-/// An opened session: its kind, the size of its blocks in sectors, whether it has wanted a range, and
-/// whether it was closed.
+/// The session of an opened task: its kind, its block size in sectors, whether it has wanted a
+/// range, and whether it is closed.
 #[derive(Clone, Copy)]
 pub struct Session {
     pub kind: Kind,

@@ -1,11 +1,11 @@
-// What verbs, kinds and tasks are called.
+// The words for verbs and kinds, and the names of tasks.
 ghost use Rattle.std.specs.Prelude.{◌≡◌};
 ghost use Rattle.std.specs.List.{list_all};
 ghost use Rattle.fb_calls.specs.Words.{verb_of, kind_of, fields_behind, is_name_byte, is_name};
 
 use crate::Kind;
 
-/// What a call does.
+/// The verb of a call.
 #[derive(Clone, Copy, PartialEq, Eq)]
 pub enum Verb {
     Open,
@@ -18,7 +18,7 @@ pub enum Verb {
     Segment,
 }
 
-/// The verb of this name.
+/// The verb for which a word stands, if it is known.
 #[tactic(auto, unfolding(crate::specs::Words::verb_of))]
 pub fn verb_of(name: &[u8]) -> Option<Verb>
     ensures { result ≡ verb_of name.now }
@@ -36,7 +36,7 @@ pub fn verb_of(name: &[u8]) -> Option<Verb>
     }
 }
 
-/// The kind of this name.
+/// The kind of task for which a word stands, if it is known.
 #[tactic(auto, unfolding(crate::specs::Words::kind_of))]
 pub fn kind_of(name: &[u8]) -> Option<Kind>
     ensures { result ≡ kind_of name.now }
@@ -50,7 +50,7 @@ pub fn kind_of(name: &[u8]) -> Option<Kind>
     }
 }
 
-/// How many fields stand behind the task's name.
+/// How many fields follow the name of the task.
 pub fn fields_behind(verb: Verb) -> usize
     ensures { result ≡ fields_behind verb }
 {
@@ -62,7 +62,7 @@ pub fn fields_behind(verb: Verb) -> usize
     }
 }
 
-/// Whether a text is a task's name.
+/// Whether a text can be the name of a task: 1 to 32 letters, digits, underscores and hyphens.
 pub fn is_name(text: &[u8]) -> bool
     ensures { result ≡ is_name text.now }
 {
