@@ -1,4 +1,4 @@
--- The command that words spell.
+-- The command that the words of a command line give.
 use Rattle.std.specs.Prelude.{ℕ, List, [], ◌∷◌, length, Bool, not, ◌&&◌, ◌||◌, ◌==◌, Option, Result, Ok, Err, is_some, unwrap_or, if◌then◌else◌, false}
 use Rattle.fb_report.specs.declared.bytes.Bytes.{Bytes}
 use Rattle.fb_report.specs.declared.bytes.Bytes.TheVariants.{Nothing}
@@ -13,7 +13,7 @@ use Rattle.fb_words.specs.Names.{verb_of}
 use Rattle.fb_words.specs.Options.{Options, no_options}
 use Rattle.fb_words.specs.Reading.{ready, fault_at, options_from}
 
--- the terms of a replay
+-- the options of a replay
 pub record ReplayTerms : Type 0 where
   pub params : List ℕ
   pub trace : List ℕ
@@ -25,7 +25,7 @@ pub record ReplayTerms : Type 0 where
   pub bytes : Bytes
   pub summary : Bool
 
--- the terms of a trace and a script that are made up
+-- the options for generating a trace and a call script
 pub record MakeTerms : Type 0 where
   pub params : List ℕ
   pub trace : List ℕ
@@ -34,15 +34,16 @@ pub record MakeTerms : Type 0 where
   pub requests : ℕ
   pub device : ℕ
 
+-- a command: a replay, or generating a trace and a script
 pub data Terms : Type 0 where
   replays : ReplayTerms → Terms
   makes : MakeTerms → Terms
 
--- a script and a background report go together
+-- a call script and a background report are both given, or neither is
 abbrev pub go_together : Options → Bool
 go_together given = (is_some given.calls && is_some given.back) || not (is_some given.calls || is_some given.back)
 
--- the required options of a replay, and what holds where others aren't given
+-- a replay with these options: the required ones, and the defaults of the others
 unfoldable pub replay_of : Options → Result ReplayTerms UsageReason
 replay_of given = do
   params ← or_refuse (MissingOption 0) given.params
@@ -61,7 +62,7 @@ replay_of given = do
     summary = given.summary;
   })
 
--- the required options of a make
+-- the generation of a trace and a script with these options: the required ones, and device 0 by default
 unfoldable pub make_of : Options → Result MakeTerms UsageReason
 make_of given = do
   params ← or_refuse (MissingOption 0) given.params
@@ -71,18 +72,19 @@ make_of given = do
   requests ← or_refuse (MissingOption 4) given.requests
   Ok (record { params = params; trace = trace; calls = calls; number = number; requests = requests; device = unwrap_or given.device 0 })
 
+-- the command with this verb and these options
 unfoldable pub terms_of : Verb → Options → Result Terms UsageReason
 terms_of Replay given = replay_of given >>= (λ terms. Ok (replays terms))
 terms_of Make given = make_of given >>= (λ terms. Ok (makes terms))
 
--- the word of the command stands at place 1, and the options after it
+-- the verb is the word with index 1, and the options follow it; what is missing is missing at index `count`
 unfoldable pub with_verb : ℕ → List ℕ → List (List ℕ) → Result Terms UsageFault
 with_verb count name words = do
   verb ← refused_as (fault_at 1) (or_refuse UnknownCommand (verb_of name))
   given ← options_from verb 2 (ready no_options) words
   refused_as (fault_at count) (terms_of verb given)
 
--- the first word is the program's and isn't looked at; what is missing is missing at the number of words
+-- the command that words give; the first word is the name of the program and isn't looked at
 abbrev pub command_of : List (List ℕ) → Result Terms UsageFault
 command_of [] = Err (fault_at 0 NoCommand)
 command_of (program ∷ []) = Err (fault_at 1 NoCommand)

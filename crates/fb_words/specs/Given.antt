@@ -1,4 +1,4 @@
--- The options that were given, as what their words say.
+-- The options that the code holds, as the options of the definitions.
 use Rattle.std.specs.Option.{option_copied}
 use Rattle.fb_words.specs.declared.given.Given.{Given}
 use Rattle.fb_words.specs.Options.{Options}

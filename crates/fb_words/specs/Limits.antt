@@ -2,7 +2,7 @@
 use Rattle.std.specs.Prelude.{◌^◌, ◌≤◌}
 use Rattle.fb_words.specs.Command.{Terms, replays, makes}
 
--- instants and numbers up to 10^15, and a million requests
+-- instants and numbers are at most 10^15, and requests at most a million
 abbrev pub IsWithinLimits : Terms → Type 0
 IsWithinLimits (replays terms) = (terms.until ≤ 10 ^ 15) × (terms.device ≤ 10 ^ 15)
 IsWithinLimits (makes terms) = (terms.number ≤ 10 ^ 15) × (terms.requests ≤ 10 ^ 6) × (terms.device ≤ 10 ^ 15)

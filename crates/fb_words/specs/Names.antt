@@ -1,4 +1,4 @@
--- What commands, options and values are called.
+-- The words for commands, options and values.
 use Rattle.std.specs.Prelude.{ℕ, List, [], ◌∷◌, Option, codes, find}
 use Rattle.std.specs.Option.{option_map}
 use Rattle.std.specs.Str.{bytes_eq}
@@ -11,14 +11,14 @@ use Rattle.fb_words.specs.declared.names.Verb.TheVariants.{Replay, Make}
 use Rattle.fb_words.specs.declared.names.OptionName.{OptionName}
 use Rattle.fb_words.specs.declared.names.OptionName.TheVariants.{Params, Trace, Policy, Calls, Back, Until, Device, Bytes, Number, Requests}
 
--- what a word stands for among these names
+-- what a word stands for according to this list of words, if it is in it
 abbrev pub meaning : {A : Type 0} → List (List ℕ × A) → List ℕ → Option A
 meaning names word = option_map (λ name. name.1) (find (λ name. bytes_eq name.0 word) names)
 
 unfoldable pub verb_of : List ℕ → Option Verb
 verb_of = meaning ((codes "replay", Replay) ∷ (codes "make", Make) ∷ [])
 
--- the options of a command that have a value
+-- the options of a command that take a value
 abbrev pub options_of : Verb → List (List ℕ × OptionName)
 options_of Replay = (codes "--params", Params) ∷ (codes "--trace", Trace) ∷ (codes "--policy", Policy) ∷ (codes "--calls", Calls)
     ∷ (codes "--back", Back) ∷ (codes "--until", Until) ∷ (codes "--device", Device) ∷ (codes "--bytes", Bytes) ∷ []

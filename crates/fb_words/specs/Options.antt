@@ -1,9 +1,9 @@
--- The options that words give.
+-- The options that words can give.
 use Rattle.std.specs.Prelude.{ℕ, List, Bool, Option, None, false}
 use Rattle.fb_report.specs.declared.bytes.Bytes.{Bytes}
 use Rattle.fb_words.specs.declared.command.Policy.{Policy}
 
--- the value of each option, where it was given, and whether a summary is wanted
+-- the value of each option that was given, and whether a summary is wanted
 pub record Options : Type 0 where
   pub params : Option (List ℕ)
   pub trace : Option (List ℕ)

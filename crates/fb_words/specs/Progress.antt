@@ -1,4 +1,4 @@
--- How far the words are read, as what they say.
+-- What the code holds of the words so far, as the values of the definitions.
 use Rattle.std.specs.Option.{option_copied}
 use Rattle.fb_words.specs.declared.reading.Parts.{Parts}
 use Rattle.fb_words.specs.declared.reading.Progress.{Progress}

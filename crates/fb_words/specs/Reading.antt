@@ -1,4 +1,4 @@
--- The words after the command, from left to right.
+-- Reading the words after the command, from left to right.
 use Rattle.std.specs.Prelude.{ℕ, ◌+◌, List, [], ◌∷◌, length, Bool, true, false, ◌==◌, nat_lt, min, Option, Some, None, Result, Ok, Err, codes, if◌then◌else◌}
 use Rattle.std.specs.List.{before_first, after_first, position_or_len}
 use Rattle.std.specs.Str.{bytes_eq}
@@ -13,66 +13,67 @@ use Rattle.fb_words.specs.Names.{option_of}
 use Rattle.fb_words.specs.Options.{Options}
 use Rattle.fb_words.specs.Values.{is_given, with_value}
 
--- a place past the numbers of 32 bits is named by the last of them
+-- a fault of the word with this index; an index that doesn't fit in 32 bits is the last one that does
 abbrev pub fault_at : ℕ → UsageReason → UsageFault
 fault_at place reason = record { place = min place 4294967295; reason = reason }
 
--- the options so far, and the one whose value is the next word, with its place
+-- the options so far, and the option whose value is to be the next word, with the index of its word
 pub data Progress : Type 0 where
   ready : Options → Progress
   awaits : Options → OptionName → ℕ → Progress
 
--- an option's name, and its value where the word has one
+-- the name of an option, and its value if that is in the same word
 pub record Parts : Type 0 where
   pub name : List ℕ
   pub value : Option (List ℕ)
 
--- an equals sign stands between the name and the value
+-- the equals sign between a name and a value
 abbrev pub is_equals : ℕ → Bool
 is_equals byte = byte == 61
 
+-- the name before and the value behind the first equals sign of a word; the whole word is a name if it has none
 unfoldable pub parts_of : List ℕ → Parts
 parts_of word =
     if nat_lt (position_or_len is_equals word) (length word)
     then record { name = before_first is_equals word; value = Some (after_first is_equals word) }
     else record { name = word; value = None }
 
--- the one option without a value
+-- the word is the one option that takes no value
 abbrev pub is_summary : Verb → List ℕ → Bool
 is_summary Replay word = bytes_eq word (codes "--summary")
 is_summary Make word = false
 
--- a summary is wanted once
+-- the options with a summary, unless it was wanted before
 unfoldable pub with_summary : Options → Result Progress UsageReason
 with_summary given = refuse OptionTwice given.summary >> Ok (ready (record given { summary = true }))
 
--- the value stands in the option's word, or it is the next word
+-- the options with one more option, whose value is in the same word or will be the next word
 unfoldable pub with_part : ℕ → Options → OptionName → Option (List ℕ) → Result Progress UsageReason
 with_part place given option None = Ok (awaits given option place)
 with_part place given option (Some value) = with_value given option value >>= (λ now. Ok (ready now))
 
--- an option with a value
+-- the options with one more option, unless it is unknown or was given before
 unfoldable pub with_option : Verb → ℕ → Options → Parts → Result Progress UsageReason
 with_option verb place given parts = do
   option ← or_refuse UnknownOption (option_of verb parts.name)
   refuse OptionTwice (is_given given option)
   with_part place given option parts.value
 
--- a word that is no value
+-- the options with a word that isn't the value of the option before it
 unfoldable pub with_name : Verb → ℕ → Options → List ℕ → Result Progress UsageReason
 with_name verb place given word = if is_summary verb word then with_summary given else with_option verb place given (parts_of word)
 
--- a word more, at this place; a fault of a value is that of its option's word
+-- the options with one more word, which has this index; a fault of a value has the index of the word with its option
 unfoldable pub with_word : Verb → ℕ → Progress → List ℕ → Result Progress UsageFault
 with_word verb place (ready given) word = refused_as (fault_at place) (with_name verb place given word)
 with_word verb place (awaits given option at) word = refused_as (fault_at at) (with_value given option word >>= (λ now. Ok (ready now)))
 
--- at the end no value is missing
+-- the options at the end of the words, unless a value is still missing
 abbrev pub at_end : Progress → Result Options UsageFault
 at_end (ready given) = Ok given
 at_end (awaits given option at) = Err (fault_at at NoValue)
 
--- the words from this place on
+-- the options with the words from this index on
 unfoldable pub options_from : Verb → ℕ → Progress → List (List ℕ) → Result Options UsageFault
 options_from verb place so_far [] = at_end so_far
 options_from verb place so_far (word ∷ words) = do

@@ -22,18 +22,18 @@ is_given given Bytes = is_some given.bytes
 is_given given Number = is_some given.number
 is_given given Requests = is_some given.requests
 
--- a value isn't empty and doesn't begin with a dash
+-- the word can be a value: it isn't empty and doesn't begin with a dash
 abbrev pub is_value : List ℕ → Bool
 is_value word = nat_lt 0 (length word) && not (slice_index word 0 == 45)
 
--- a number of requests is at most a million
+-- a number of requests, which is at most a million
 unfoldable pub request_count_of : List ℕ → Result ℕ UsageReason
 request_count_of value = do
   count ← or_refuse BadValue (number_of value)
   refuse BadValue (nat_lt 1000000 count)
   Ok count
 
--- with a value in the form of its option
+-- the options with the value of one more option, if it is of the option's form
 unfoldable pub with_form : Options → OptionName → List ℕ → Result Options UsageReason
 with_form given Params value = Ok (record given { params = Some value })
 with_form given Trace value = Ok (record given { trace = Some value })
@@ -46,6 +46,6 @@ with_form given Bytes value = or_refuse BadValue (bytes_of value) >>= (λ bytes.
 with_form given Number value = or_refuse BadValue (number_of value) >>= (λ number. Ok (record given { number = Some number }))
 with_form given Requests value = request_count_of value >>= (λ requests. Ok (record given { requests = Some requests }))
 
--- with a value of an option
+-- the options with the value of one more option, or why that value is refused
 unfoldable pub with_value : Options → OptionName → List ℕ → Result Options UsageReason
 with_value given option value = refuse NoValue (not (is_value value)) >> with_form given option value

@@ -1,4 +1,4 @@
--- What an answer says of the words.
+-- What the result of reading says of the words.
 use Rattle.std.specs.Prelude.{◌≡◌, Result, Ok, Err}
 use Rattle.std.specs.Option.{option_map}
 use Rattle.std.specs.String.{string_bytes}
@@ -38,13 +38,13 @@ abbrev pub terms : Command → Terms
 terms (Replay words) = replays (replay_terms words)
 terms (Make words) = makes (make_terms words)
 
--- an answer is the verdict, or memory was wanting
+-- the result is the verdict, or it is out of memory
 abbrev pub Answers : {A B : Type 0} → (A → B) → Result A WordsError → Result B UsageFault → Type 0
 Answers seen (Ok a) verdict = verdict ≡ Ok (seen a)
 Answers seen (Err (Fault fault)) verdict = verdict ≡ Err fault
 Answers seen (Err NoMemory) verdict = Unit {0}
 
--- an answer is the verdict
+-- the result of a step that doesn't allocate is the verdict
 abbrev pub Agrees : {A B E : Type 0} → (A → B) → Result A E → Result B E → Type 0
 Agrees seen (Ok a) verdict = verdict ≡ Ok (seen a)
 Agrees seen (Err e) verdict = verdict ≡ Err e

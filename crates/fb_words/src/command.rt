@@ -1,54 +1,67 @@
-// What the words of a command line ask for.
+// The commands that a command line can give.
 use fb_report::Bytes;
 use fb_units::Ns;
 
-/// In which order requests are served.
+/// The order in which requests are served: of those that have arrived, the one of least key (as in
+/// Worthington, Ganger and Patt, "Scheduling algorithms for modern disk drives", SIGMETRICS 1994).
 #[derive(Clone, Copy)]
 pub enum Policy {
+    /// First come, first served.
     Fcfs,
+    /// Shortest seek first, by distance in cylinders.
     Sstf,
+    /// Circular look: the next cylinder upwards, and from the last one on to the first.
     Clook,
+    /// Shortest positioning first: the least time until the first sector begins to pass.
     Sptf,
 }
 
-/// The terms of a replay. Files are named as the words name them.
+/// The options of a replay. Files have the names that the words give them.
 #[derive(Drop)]
 pub struct ReplayWords {
+    /// The parameter file.
     pub params: String,
+    /// The trace.
     pub trace: String,
+    /// The order in which requests are served.
     pub policy: Policy,
-    /// The file of the call script, where there is one.
+    /// The call script, if there is one.
     pub calls: Option<String>,
-    /// The file of the background report, where one is wanted.
+    /// The file for the background report; there is one exactly if there is a call script.
     pub back: Option<String>,
-    /// The instant until which the arm may wait for background blocks, at most 10^15 ns.
+    /// The instant until which the head waits for background blocks at the end, when no request and
+    /// no call is left, in nanoseconds, at most 10^15.
     pub until: Ns,
-    /// Which of the trace's devices is replayed, at most 10^15.
+    /// The device whose requests are replayed, at most 10^15.
     pub device: u64,
+    /// How contents are shown in the reports.
     pub bytes: Bytes,
-    /// Whether the foreground report gives way to a summary.
+    /// Whether a summary is written instead of the foreground report.
     pub summary: bool,
 }
 
-/// The terms of a trace and a call script that are made up.
+/// The options for generating a trace and a call script.
 #[derive(Drop)]
 pub struct MakeWords {
+    /// The parameter file.
     pub params: String,
     /// The file to which the trace is written.
     pub trace: String,
     /// The file to which the call script is written.
     pub calls: String,
-    /// The seed of the random words that requests are made from, at most 10^15.
+    /// The seed of the random words from which the requests are made, at most 10^15.
     pub number: u64,
-    /// How many requests the trace has, at most 1,000,000.
+    /// The number of requests of the trace, at most 1,000,000.
     pub requests: u64,
-    /// The device that the trace names, at most 10^15.
+    /// The device of all requests, at most 10^15.
     pub device: u64,
 }
 
-/// What the program is to do: replay a trace, or make up a trace and a script.
+/// What the program is to do.
 #[derive(Drop)]
 pub enum Command {
+    /// Replay a trace.
     Replay(ReplayWords),
+    /// Generate a trace and a call script.
     Make(MakeWords),
 }

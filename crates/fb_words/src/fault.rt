@@ -1,4 +1,4 @@
-// Why words are no command.
+// Why words are refused.
 use std::alloc::AllocError;
 
 /// Why a word is refused.
@@ -10,32 +10,37 @@ pub enum UsageReason {
     UnknownCommand,
     /// The word isn't an option of the command.
     UnknownOption,
-    /// The option's value is missing, is empty or begins with a dash.
+    /// The value of the option is missing, is empty or begins with a dash.
     NoValue,
     /// The option was given before.
     OptionTwice,
-    /// The option's value isn't of its form.
+    /// The value of the option isn't of its form, or is above its limit.
     BadValue,
-    /// The command lacks a required option, which is named by its place, from 0, among those that
-    /// the command requires: of a replay params, trace, policy; of a make params, trace, calls,
-    /// number, requests.
+    /// A required option is missing. It is named by its index, from 0, among those that the command
+    /// requires: for a replay params, trace, policy; for a make params, trace, calls, number,
+    /// requests.
     MissingOption(u32),
-    /// A replay has a call script and no background report, or the report and no script.
+    /// A replay has a call script but no background report, or the report but no script.
     CallsAndBack,
 }
 
-/// The first faulty word, by its place from 0, or the number of words where something is missing.
-/// A place that doesn't fit is the last that does.
+/// The first faulty word, and why it is refused.
 #[derive(Clone, Copy)]
 pub struct UsageFault {
+    /// The index of the word, where the name of the program has index 0; the number of words if
+    /// something is missing at the end. An index that doesn't fit in 32 bits is the last one that
+    /// does.
     pub place: u32,
+    /// The reason.
     pub reason: UsageReason,
 }
 
 /// Why no command was read.
 #[derive(Clone, Copy)]
 pub enum WordsError {
+    /// The words are refused.
     Fault(UsageFault),
+    /// Out of memory, which says nothing about the words.
     NoMemory,
 }
 

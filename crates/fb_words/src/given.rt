@@ -1,4 +1,4 @@
-// The options that words give.
+// The options that were given so far.
 ghost use Rattle.std.specs.Prelude.{◌≡◌};
 ghost use Rattle.fb_words.specs.Options.{no_options};
 ghost use Rattle.fb_words.specs.Given.{options};
@@ -9,7 +9,7 @@ use crate::names::OptionName;
 use fb_report::Bytes;
 use fb_units::Ns;
 
-/// The value of each option, where it was given, and whether a summary is wanted.
+/// The value of each option that was given, and whether a summary is wanted.
 #[derive(Clone, Copy)]
 pub struct Given<'a> {
     pub params: Option<&'a str>,
@@ -45,7 +45,7 @@ impl Given<'_> {
         }
     }
 
-    /// Whether the option was given.
+    /// Whether an option was given.
     pub fn has(&self, option: OptionName) -> bool
         ensures { result ≡ is_given (options self.now) option }
     {

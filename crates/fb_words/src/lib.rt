@@ -1,8 +1,9 @@
 //! Reads the words of a command line.
 //!
-//! The words are a command exactly where they keep the grammar, and then they mean one command;
-//! words that are refused name the first faulty word by its place, and why. Both are one function
-//! of the words.
+//! The layers above may rely on this: words are accepted exactly if they obey the grammar, and have
+//! then one command as their value; refused words name the first faulty one by its index, and the
+//! reason. Both are one function of the words, `command_of` in `specs/Command.antt`. Numbers are
+//! within their limits. Whether the named files exist, or are the same, is not looked at.
 #![tactic(auto)]
 
 mod command;

@@ -1,11 +1,11 @@
-// What commands, options and values are called.
+// The words for commands, options and values.
 ghost use Rattle.std.specs.Prelude.{◌≡◌};
 ghost use Rattle.fb_words.specs.Names.{verb_of, option_of, policy_of, bytes_of};
 
 use crate::Policy;
 use fb_report::Bytes;
 
-/// A command's name.
+/// The verb of a command.
 #[derive(Clone, Copy, PartialEq, Eq)]
 pub enum Verb {
     Replay,
@@ -27,7 +27,7 @@ pub enum OptionName {
     Requests,
 }
 
-/// The command of this name.
+/// The command for which a word stands, if it is known.
 #[tactic(auto, unfolding(crate::specs::Names::verb_of))]
 pub fn verb_of(name: &str) -> Option<Verb>
     ensures { result ≡ verb_of name.now }
@@ -39,7 +39,7 @@ pub fn verb_of(name: &str) -> Option<Verb>
     }
 }
 
-/// The option of this name, where the command has it.
+/// The option of the command for which a word stands, if the command has it.
 pub fn option_of(verb: Verb, name: &str) -> Option<OptionName>
     ensures { result ≡ option_of verb name.now }
 {
@@ -81,7 +81,7 @@ fn make_option(name: &str) -> Option<OptionName>
     }
 }
 
-/// The policy of this name.
+/// The policy for which a word stands, if it is known.
 #[tactic(auto, unfolding(crate::specs::Names::policy_of))]
 pub fn policy_of(name: &str) -> Option<Policy>
     ensures { result ≡ policy_of name.now }
@@ -95,7 +95,7 @@ pub fn policy_of(name: &str) -> Option<Policy>
     }
 }
 
-/// The form of bytes of this name.
+/// The way of showing contents for which a word stands, if it is known.
 #[tactic(auto, unfolding(crate::specs::Names::bytes_of))]
 pub fn bytes_of(name: &str) -> Option<Bytes>
     ensures { result ≡ bytes_of name.now }

@@ -1,4 +1,4 @@
-// The words after the command, from left to right.
+// Reading the words after the command, from left to right.
 ghost use Rattle.std.specs.Prelude.{◌≡◌, ◌+◌, map};
 ghost use Rattle.std.specs.Option.{option_copied};
 ghost use Rattle.std.specs.String.{string_bytes};
@@ -16,21 +16,23 @@ use crate::names::{OptionName, Verb, option_of};
 use crate::values::with_value;
 use crate::{UsageFault, UsageReason};
 
-/// An option's name, and its value where the word has one.
+/// The name of an option, and its value if that is in the same word.
 #[derive(Clone, Copy)]
 pub struct Parts<'a> {
     pub name: &'a str,
     pub value: Option<&'a str>,
 }
 
-/// The options so far, and the one whose value is the next word, with its place.
+/// The options so far, and the option whose value is to be the next word, with the index of its
+/// word.
 #[derive(Clone, Copy)]
 pub enum Progress<'a> {
     Ready(Given<'a>),
     Awaits(Given<'a>, OptionName, usize),
 }
 
-/// A fault of the word at this place. A place that doesn't fit is the last that does.
+/// A fault of the word with this index. An index that doesn't fit in 32 bits is the last one that
+/// does.
 pub fn fault_at(place: usize, reason: UsageReason) -> UsageFault
     ensures { result ≡ fault_at place reason }
 {
@@ -40,7 +42,7 @@ pub fn fault_at(place: usize, reason: UsageReason) -> UsageFault
     }
 }
 
-/// The options that the words after a command give.
+/// The options that the words after the command give, or the first fault.
 pub fn read_options(verb: Verb, words: &[String]) -> Result<Given<'_>, UsageFault>
     ensures { Agrees options result (options_from verb 2 (ready no_options) (map string_bytes words.now)) }
 {
@@ -51,7 +53,7 @@ pub fn read_options(verb: Verb, words: &[String]) -> Result<Given<'_>, UsageFaul
     at_end(so_far)
 }
 
-// At the end no value is missing.
+// The options at the end of the words, unless a value is still missing.
 fn at_end(so_far: Progress<'_>) -> Result<Given<'_>, UsageFault>
     ensures { Agrees options result (at_end (progress so_far.entry)) }
 {
@@ -61,7 +63,8 @@ fn at_end(so_far: Progress<'_>) -> Result<Given<'_>, UsageFault>
     }
 }
 
-// A word more, at this place. A fault of a value is that of its option's word.
+// The options with one more word, which has this index. A fault of a value has the index of the
+// word with its option.
 #[tactic(auto, unfolding(crate::specs::Reading::with_word))]
 fn with_word<'a>(
     verb: Verb,
@@ -83,7 +86,7 @@ fn with_word<'a>(
     }
 }
 
-// A word that is no value.
+// The options with a word that isn't the value of the option before it.
 #[tactic(auto, unfolding(crate::specs::Reading::with_name))]
 fn with_name<'a>(
     verb: Verb,
@@ -109,7 +112,7 @@ fn is_summary(verb: Verb, word: &str) -> bool
     }
 }
 
-// A summary is wanted once.
+// The options with a summary, unless it was wanted before.
 #[tactic(auto, unfolding(crate::specs::Reading::with_summary))]
 fn with_summary(given: Given<'_>) -> Result<Progress<'_>, UsageReason>
     ensures { Agrees progress result (with_summary (options given.entry)) }
@@ -123,7 +126,7 @@ fn with_summary(given: Given<'_>) -> Result<Progress<'_>, UsageReason>
     }))
 }
 
-// The name and the value around the first equals sign.
+// The name before and the value behind the first equals sign of a word.
 #[tactic(auto, unfolding(crate::specs::Reading::parts_of))]
 fn parts_of(word: &str) -> Parts<'_>
     ensures { parts result ≡ parts_of word.now }
@@ -140,7 +143,7 @@ fn parts_of(word: &str) -> Parts<'_>
     }
 }
 
-// An option with a value.
+// The options with one more option, unless it is unknown or was given before.
 #[tactic(auto, unfolding(crate::specs::Reading::with_option))]
 fn with_option<'a>(
     verb: Verb,
@@ -163,7 +166,7 @@ fn named(verb: Verb, name: &str) -> Result<OptionName, UsageReason>
     option_of(verb, name).ok_or(UsageReason::UnknownOption)
 }
 
-// The value stands in the option's word, or it is the next word.
+// The options with one more option, whose value is in the same word or will be the next word.
 #[tactic(auto, unfolding(crate::specs::Reading::with_part))]
 fn with_part<'a>(
     place: usize,

@@ -16,7 +16,7 @@ use fb_units::{Ns, read_millis, read_number};
 
 const MOST_REQUESTS: u64 = 1_000_000;
 
-/// The options with this value of an option more.
+/// The options with the value of one more option, or why that value is refused.
 #[tactic(auto, unfolding(crate::specs::Values::with_value))]
 pub fn with_value<'a>(
     given: Given<'a>,
@@ -31,7 +31,7 @@ pub fn with_value<'a>(
     with_form(given, option, value)
 }
 
-// A value isn't empty and doesn't begin with a dash.
+// Whether a word can be a value: it isn't empty and doesn't begin with a dash.
 fn is_value(word: &str) -> bool
     ensures { result ≡ is_value word.now }
 {
@@ -42,7 +42,7 @@ fn is_value(word: &str) -> bool
     }
 }
 
-// The options with a value in the form of its option.
+// The options with the value of one more option; `BadValue` if it isn't of the option's form.
 #[tactic(auto, unfolding(crate::specs::Values::with_form))]
 fn with_form<'a>(
     given: Given<'a>,
@@ -119,7 +119,7 @@ fn number(value: &str) -> Result<u64, UsageReason>
     read_number(value.as_bytes()).ok_or(UsageReason::BadValue)
 }
 
-// A number of requests is at most a million.
+// A number of requests, which is at most a million.
 #[tactic(auto, unfolding(crate::specs::Values::request_count_of))]
 fn request_count(value: &str) -> Result<u64, UsageReason>
     ensures { result ≡ request_count_of value.now }

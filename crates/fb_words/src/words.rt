@@ -1,4 +1,4 @@
-// The command that words spell.
+// The command that the words of a command line give.
 ghost use Rattle.std.specs.Prelude.{◌≡◌, IfOk, Ok, map};
 ghost use Rattle.std.specs.Option.{option_copied, option_map};
 ghost use Rattle.std.specs.String.{string_bytes};
@@ -18,8 +18,9 @@ use crate::{Command, MakeWords, Policy, ReplayWords, UsageFault, UsageReason, Wo
 use fb_report::Bytes;
 use std::alloc::Global;
 
-/// The command that the words spell. The first is the program's name and isn't looked at. An error
-/// names the first faulty word.
+/// The command that the words of a command line give. The first word is the name of the program and
+/// isn't looked at. An error names the first faulty word by its index, and the reason; or it is
+/// `NoMemory`.
 pub fn read_words(alloc: Global, words: &[String]) -> Result<Command, WordsError>
     ensures answer { Answers terms result (command_of (map string_bytes words.now)) }
     ensures limits { IfOk result (λ command. IsWithinLimits (terms command)) }
@@ -27,7 +28,7 @@ pub fn read_words(alloc: Global, words: &[String]) -> Result<Command, WordsError
     command_of(alloc, words)
 }
 
-// The command, whatever its numbers are.
+// The command, without what is said of its limits.
 fn command_of(alloc: Global, words: &[String]) -> Result<Command, WordsError>
     ensures { Answers terms result (command_of (map string_bytes words.now)) }
 {
@@ -37,7 +38,7 @@ fn command_of(alloc: Global, words: &[String]) -> Result<Command, WordsError>
     }
 }
 
-// The command of this name with these options. There are so many words in all.
+// The command with this verb and these options, of `count` words in all.
 #[tactic(auto, unfolding(crate::specs::Command::with_verb))]
 fn with_verb(
     alloc: Global,
@@ -114,7 +115,7 @@ fn make(alloc: Global, count: usize, given: Given<'_>) -> Result<MakeWords, Word
     })
 }
 
-// The value of the required option of this number.
+// The value of a required option, which has this index among the required ones.
 fn required<T: Copy>(value: Option<T>, count: usize, number: u32) -> Result<T, UsageFault>
     ensures { result ≡ refused_as (fault_at count) (or_refuse (MissingOption number) value) }
 {
