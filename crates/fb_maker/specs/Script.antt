@@ -1,4 +1,4 @@
--- A call script that is made for a disk.
+-- A call script that is generated for a disk.
 use Rattle.std.specs.Prelude.{ℕ, ◌-◌, min, List, [], ◌∷◌, ◌++◌, length, decimal, codes, Bool, false, nat_le, if◌then◌else◌}
 use Rattle.std.specs.List.{flat_map, list_all}
 use Rattle.fb_geometry.specs.declared.layout.Layout.{Layout}
@@ -11,29 +11,29 @@ use Rattle.fb_calls.specs.declared.call.Kind.TheVariants.{Scrub, Backup}
 use Rattle.fb_geometry.specs.Shape.{Shape}
 use Rattle.fb_geometry.specs.Places.{places, zone_places}
 
--- the sectors of the first zone
+-- the number of sectors of the first zone
 abbrev pub first_zone : Shape → List Zone → ℕ
 first_zone disk [] = 0
 first_zone disk (zone ∷ zones) = length (zone_places disk zone)
 
--- a track of the zone has at least 16 data sectors, where its spares stand at its end
+-- a track of the zone has at least 16 sectors for data, with spares at the end of each track
 abbrev pub is_long : Zone → Bool
 is_long zone = nat_le 16 (zone.sectors - zone.spares)
 
--- spares stand at the end of each track, and no track is short
+-- spares are at the end of each track, and no track is short
 abbrev pub has_long_tracks : Layout → List Zone → Bool
 has_long_tracks PerTrack zones = list_all is_long zones
 has_long_tracks PerCylinder zones = false
 
--- the most sectors that a range of the script has, so that its blocks are not too many
+-- the most sectors that a range of the script has, so that the limit on blocks is sure to allow them
 abbrev pub most : Shape → ℕ
 most disk = if has_long_tracks disk.layout disk.zones then 20000000 else 1000000
 
--- a range from the first sector on, as much of it as the script may want
+-- the line of a want that begins like this: `sectors` sectors from sector 0 on, or as many as the script may want
 abbrev pub wanted : List ℕ → Shape → ℕ → List ℕ
 wanted front disk sectors = front ++ decimal (min sectors (most disk)) ++ 10 ∷ []
 
--- a scrub of the disk, and a backup of its first zone
+-- the lines of a scrub of the disk and of a backup of its first zone
 unfoldable pub script_lines : Shape → List (List ℕ)
 script_lines disk =
     codes "0.000000 open scrub scrub 1 16\n"
@@ -42,14 +42,15 @@ script_lines disk =
     ∷ wanted (codes "0.000000 want backup 0 ") disk (first_zone disk disk.zones)
     ∷ []
 
+-- the text of the script
 abbrev pub script_text : Shape → List ℕ
 script_text disk = flat_map (λ line. line) (script_lines disk)
 
--- a call at the instant 0
+-- a call at instant 0
 abbrev pub call_at : ℕ → ℕ → Action → Call
 call_at line task action = record { line = line; instant = 0; task = task; action = action }
 
--- the calls that the lines spell
+-- the calls of the lines
 abbrev pub script_calls : Shape → List Call
 script_calls disk =
     call_at 1 0 (Open Scrub 1 16)

@@ -1,10 +1,10 @@
--- What a maker keeps.
+-- What holds of a trace that is being generated.
 use Rattle.std.specs.Prelude.{◌≡◌, ℕ, ◌+◌, ◌*◌, ◌^◌, ◌≤◌}
 use Rattle.fb_units.specs.declared.types.Request.{Request}
 use Rattle.fb_maker.specs.Words.{state_after}
 use Rattle.fb_maker.specs.Trace.{request_at}
 
--- the request behind those that were made is drawn, and no word behind it
+-- the request that follows those that were made has been drawn, and no word after it; numbers are in their ranges
 pub record IsMaking (number device sectors made : ℕ) (next : Request) (words : ℕ) : Type 0 where
   pub known_device : device ≤ 10 ^ 15
   pub some_sectors : 1 ≤ sectors

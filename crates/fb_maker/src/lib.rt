@@ -1,8 +1,9 @@
-//! Traces and call scripts that are made up.
+//! Generates traces and call scripts.
 //!
-//! A trace is made from a number and a disk's count of sectors, line by line; a script from the
-//! disk alone. Both are one definition each, down to the last byte, and both are accepted by the
-//! readers of traces and of scripts for that disk.
+//! The layers above may rely on this: a trace is made line by line from a seed and a disk's number
+//! of sectors, a script from the disk alone; each is one definition, down to the last byte, and for
+//! that disk the readers of traces and of scripts accept it. Nothing is said of how random a trace
+//! is, or of how near it comes to a real one.
 #![tactic(auto)]
 
 mod line;

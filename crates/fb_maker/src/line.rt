@@ -1,4 +1,4 @@
-// The lines of a made trace.
+// The lines of a generated trace.
 ghost use Rattle.std.specs.Prelude.{◌≡◌, ◌∷◌, ◌++◌, decimal, IfOk, OnOk};
 ghost use Rattle.fb_maker.specs.Trace.{line_of, flags_text};
 
@@ -8,7 +8,7 @@ use std::alloc::Global;
 
 const LINE_ROOM: usize = 96;
 
-// A request's line.
+// The line of a request, with its line feed.
 #[tactic(auto, unfolding(crate::specs::Trace::line_of))]
 pub fn line_of(alloc: Global, device: u64, request: &Request) -> Result<Vec<u8>, NoMemory>
     ensures { IfOk result (λ line. line.items ≡ line_of device request.now) }
@@ -25,14 +25,14 @@ pub fn line_of(alloc: Global, device: u64, request: &Request) -> Result<Vec<u8>,
     Ok(line)
 }
 
-// The flags of a write or a read.
+// The flags of a request: 0 for a write, 1 for a read.
 fn flags(write: bool) -> &'static [u8]
     ensures { result.now ≡ flags_text write }
 {
     if write { b"0" } else { b"1" }
 }
 
-// Adds a number behind a space.
+// Appends a space and a number.
 pub fn push_number(line: &mut Vec<u8>, number: u64) -> Result<(), NoMemory>
     ensures { OnOk result (line.new.items ≡ line.old.items ++ 32 ∷ decimal number) }
 {
@@ -40,7 +40,7 @@ pub fn push_number(line: &mut Vec<u8>, number: u64) -> Result<(), NoMemory>
     push_word(line, buffer.format(number).as_bytes())
 }
 
-// Adds a word behind a space.
+// Appends a space and a word.
 fn push_word(line: &mut Vec<u8>, word: &[u8]) -> Result<(), NoMemory>
     ensures { OnOk result (line.new.items ≡ line.old.items ++ 32 ∷ word.now) }
 {

@@ -1,4 +1,4 @@
-// A trace that is made from a number.
+// A trace that is generated from a seed.
 ghost use Rattle.std.specs.Prelude.{◌≡◌, ℕ, ◌+◌, ◌*◌, ◌<◌, ◌≤◌, ◌^◌, IfOk, OnOk, OnErr, Ok};
 ghost use Rattle.fb_maker.specs.Words.{state_after};
 ghost use Rattle.fb_maker.specs.Trace.{arrival_before, request_at, made_requests, made_trace};
@@ -15,15 +15,16 @@ use std::marker::Model;
 
 const LONGEST_PAUSE: u64 = 12_000_000;
 
-/// Makes a trace, one line at a time, from the words that SplitMix64 gives (Steele, Lea and Flood,
-/// "Fast splittable pseudorandom number generators", 2014).
+/// Generates a trace, one line at a time, from the words of SplitMix64 (Steele, Lea and Flood,
+/// "Fast splittable pseudorandom number generators", 2014). A request comes at most 12 ms after the
+/// one before it, has 8 to 128 sectors, and is a write one time in three.
 #[derive(Drop)]
 pub struct Maker {
     number: u64,
     device: u64,
     sectors: u64,
     made: u64,
-    // The next request, whose words are drawn already.
+    // The next request, whose words have already been drawn.
     next: Request,
     words: SplitMix64,
 }
@@ -40,8 +41,8 @@ impl Model for Maker {
 }
 
 impl Maker {
-    /// A trace of no line yet: the number from which its words come, at most 10^15 like the device
-    /// that its lines name, and the sectors of the disk, 1 to 10^12.
+    /// A trace without lines so far: `number` is its seed, `device` that of its lines (at most
+    /// 10^15), and `sectors` the number of sectors of the disk (1 to 10^12).
     pub fn new(number: u64, device: u64, sectors: u64) -> Maker
         requires device { device ≤ 10 ^ 15 }
         requires some { 1 ≤ sectors }
@@ -60,8 +61,8 @@ impl Maker {
         }
     }
 
-    /// The next line, with its line feed. A trace has at most a million. Where memory is wanting
-    /// the same line is still the next.
+    /// The next line, with its line feed; a trace has at most a million lines. Out of memory, it
+    /// returns `NoMemory`, and the same line is still the next one.
     pub fn next_line(&mut self, alloc: Global) -> Result<Vec<u8>, NoMemory>
         requires { self.old.made < 10 ^ 6 }
         ensures line { IfOk result (λ line. line.items ≡ line_made self.old) }
@@ -75,13 +76,13 @@ impl Maker {
     }
 }
 
-/// What is made is read: a trace of n lines is accepted for its device, as its n requests.
+/// A generated trace can be read: a trace of n lines is accepted for its device, as its n requests.
 pub fn made_traces_are_read()
     ensures { (number device sectors n : ℕ) → device ≤ 10 ^ 15 → 1 ≤ sectors → sectors ≤ 10 ^ 12 → n ≤ 10 ^ 6
         → trace_of device sectors (made_trace number device sectors n) ≡ Ok (record { requests = made_requests number sectors n; passed_over = 0 }) }
 {}
 
-// The request behind so many others, of the next four words.
+// The request that follows `behind` others, made from the next four words.
 fn draw(words: &mut SplitMix64, sectors: u64, behind: u64, before: Ns) -> Request
     requires some { 1 ≤ sectors }
     requires few { sectors ≤ 10 ^ 12 }

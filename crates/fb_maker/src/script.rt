@@ -1,4 +1,4 @@
-// A call script that is made for a disk.
+// A call script that is generated for a disk.
 ghost use Rattle.std.specs.Prelude.{◌≡◌, ℕ, ◌++◌, ◌∷◌, [], Ok, OnOk, IfOk, codes, decimal};
 ghost use Rattle.std.specs.List.{list_all};
 ghost use Rattle.fb_maker.specs.Script.{script_text, most, first_zone, has_long_tracks, is_long, script_calls};
@@ -16,8 +16,9 @@ const MOST_ON_SHORT_TRACKS: u64 = 1_000_000;
 
 const LONG_TRACK: u32 = 16;
 
-/// The script that is made for a disk: a scrub of all its sectors and a backup of its first zone,
-/// each wanted at the instant 0 and no larger than a script's number of blocks allows.
+/// The text of the call script for a disk: a scrub of all its sectors and a backup of its first
+/// zone, each wanted at instant 0, or as much of them as the limit on blocks is sure to allow. The
+/// only error is `NoMemory`.
 #[tactic(auto, unfolding(crate::specs::Script::script_lines))]
 pub fn made_calls(alloc: Global, map: &SectorMap) -> Result<Vec<u8>, NoMemory>
     ensures { IfOk result (λ text. text.items ≡ script_text map.now) }
@@ -35,7 +36,7 @@ pub fn made_calls(alloc: Global, map: &SectorMap) -> Result<Vec<u8>, NoMemory>
     Ok(text)
 }
 
-/// What is made is read: a script is accepted for its disk, behind any trace, as its four calls.
+/// A generated script can be read: it is accepted for its disk, with any trace, as its four calls.
 pub fn made_scripts_are_read(map: &SectorMap)
     ensures { (traced : ℕ) → calls_of map.now traced (script_text map.now) ≡ Ok (record { names = codes "scrub" ∷ codes "backup" ∷ []; calls = script_calls map.now }) }
 {
@@ -43,7 +44,7 @@ pub fn made_scripts_are_read(map: &SectorMap)
     let _sectors = map.count();
 }
 
-// Adds a line that ends in a number.
+// Appends a line that ends in a number.
 fn push_want(text: &mut Vec<u8>, front: &[u8], sectors: u64) -> Result<(), NoMemory>
     ensures { OnOk result (text.new.items ≡ text.old.items ++ (front.now ++ decimal sectors ++ 10 ∷ [])) }
 {
@@ -54,7 +55,7 @@ fn push_want(text: &mut Vec<u8>, front: &[u8], sectors: u64) -> Result<(), NoMem
     Ok(())
 }
 
-// The most sectors of a range.
+// The most sectors that a range of the script has.
 fn most(geometry: &Geometry) -> u64
     ensures { result ≡ most geometry.now }
 {
@@ -65,7 +66,7 @@ fn most(geometry: &Geometry) -> u64
     }
 }
 
-// Whether spares stand at the end of each track, and no track is short.
+// Whether spares are at the end of each track, and no track is short.
 fn has_long_tracks(geometry: &Geometry) -> bool
     ensures { result ≡ has_long_tracks geometry.now.layout geometry.now.zones }
 {
