@@ -1,4 +1,4 @@
--- How much is wanted of one sector.
+-- The depth of a sector: the weights together of the registered blocks to which it belongs.
 use Rattle.std.specs.Prelude.{ℕ, ◌+◌, ◌-◌, ◌*◌, ◌≤◌, ◌==◌, List, Bool, ◌&&◌, nat_le, nat_lt, if◌then◌else◌, length, filter, get_or}
 use Rattle.std.specs.List.{sum_by}
 use Rattle.fb_units.specs.declared.types.Track.{Track}
@@ -12,15 +12,15 @@ use Rattle.fb_wanted.specs.Tracks.{band_of}
 abbrev pub is_in : ℕ → Block → Bool
 is_in lbn block = nat_le block.lbn lbn && nat_lt lbn (block.lbn + block.count)
 
--- what a block weighs for a sector
+-- what a block adds to the depth of a sector
 abbrev pub weight_on : ℕ → Entry → ℕ
 weight_on lbn entry = if is_in lbn entry.block then entry.block.weight else 0
 
--- the weights of the track's registered blocks to which the sector belongs
+-- the depth of a sector among the registered blocks of a track
 abbrev pub depth_at : Track → ℕ → List Entry → ℕ
 depth_at track lbn entries = sum_by (weight_on lbn) (on_track track entries)
 
--- the weights of the band's registered blocks to which the sector belongs
+-- the depth of a sector among the registered blocks of a band
 abbrev pub band_depth : ℕ → ℕ → List Entry → ℕ
 band_depth band lbn entries = sum_by (weight_on lbn) (filter (λ entry. band_of entry.block == band) entries)
 
@@ -28,11 +28,11 @@ band_depth band lbn entries = sum_by (weight_on lbn) (filter (λ entry. band_of 
 abbrev pub no_depth : Depth
 no_depth = record { most = 0; first = 0; count = 0; spare = 0 }
 
--- how much of the block's weight needs no greater bound
+-- how much of a block's weight fits under the bound as it is
 abbrev pub spare_for : Block → Depth → ℕ
 spare_for block depth = if nat_le (depth.first + depth.count) block.lbn then depth.spare else 0
 
--- a band with one more block
+-- the bound of a band with one more block
 abbrev pub deepened : Block → Depth → Depth
 deepened block depth = record {
   most = depth.most + (block.weight - spare_for block depth);
@@ -41,12 +41,12 @@ deepened block depth = record {
   spare = spare_for block depth + (block.weight - spare_for block depth);
 }
 
--- what is wanted of a sector of the band, and what more would fit behind the block registered last
+-- an upper bound of the depth of each sector of the band, and how far below it depths are behind the block registered last
 pub record IsDeep (band : ℕ) (entries : List Entry) (depth : Depth) : Type 0 where
   pub most : (lbn : ℕ) → band_depth band lbn entries ≤ depth.most
   pub behind : (lbn : ℕ) → depth.first + depth.count ≤ lbn → band_depth band lbn entries + depth.spare ≤ depth.most
   pub small : depth.most ≤ 1000 * length entries
 
--- such a bound is kept of each band
+-- each band has such a bound
 pub record AreDeep (entries : List Entry) (depths : List Depth) : Type 0 where
   pub bounds : (band : ℕ) → IsDeep band entries (get_or depths band no_depth)

@@ -1,4 +1,4 @@
--- What is kept beside the list of registered blocks.
+-- The indexes that are kept beside the list of registered blocks.
 use Rattle.std.specs.Prelude.{◌≡◌, ℕ, zero, suc, ◌+◌, ◌-◌, ◌*◌, ◌/◌, ◌≤◌, ◌<◌, ◌==◌, Bool, true, false, List, [], ◌∷◌, ◌++◌, Option, Some, None, length, map, filter, get_or, slice_get, if◌then◌else◌}
 use Rattle.std.specs.Ordering.{nat_cmp, ordering_then}
 use Rattle.std.specs.declared.cmp.Ordering.{Ordering}
@@ -18,11 +18,11 @@ use Rattle.fb_wanted.specs.States.{shares, state_after}
 use Rattle.fb_wanted.specs.Numbering.{AreInOrder, AreSmall, blocks_of}
 use Rattle.fb_wanted.specs.Tracks.{wanted_weight}
 
--- by cylinder, then by head
+-- tracks are ordered by cylinder, and then by head
 abbrev pub track_cmp : Track → Track → Ordering
 track_cmp a b = ordering_then (nat_cmp a.cylinder b.cylinder) (nat_cmp a.head b.head)
 
--- the numbers of those that pass
+-- the indexes in the list of the entries that pass a test
 abbrev pub places : (Entry → Bool) → List Entry → List ℕ
 places test [] = []
 places test (e ∷ es) = if test e then 0 ∷ map (λ n. suc n) (places test es) else map (λ n. suc n) (places test es)
@@ -37,11 +37,11 @@ of_track track entry = same_track track entry.block.track
 abbrev pub no_blocks : OfTask
 no_blocks = record { places = []; counts = no_counts }
 
--- a task with one more place
+-- a task with the index of one more block, uncounted
 abbrev pub joined : ℕ → OfTask → OfTask
 joined place blocks = record { places = blocks.places ++ place ∷ []; counts = blocks.counts }
 
--- a task with one part of its counts lost and another gained
+-- a task whose counts are without `lost` and with `gained`
 abbrev pub counted_anew : Counts → Counts → OfTask → OfTask
 counted_anew lost gained blocks = record { places = blocks.places; counts = recounted lost gained blocks.counts }
 
@@ -49,7 +49,7 @@ counted_anew lost gained blocks = record { places = blocks.places; counts = reco
 abbrev pub grown_task : ℕ → Entry → OfTask → OfTask
 grown_task place entry blocks = counted_anew no_counts (counts_of entry.block.task (entry ∷ [])) (joined place blocks)
 
--- what is kept of a task
+-- what the index has for a task
 abbrev pub kept_of_task : ℕ → List Entry → OfTask
 kept_of_task task entries = record { places = places (of_task task) entries; counts = counts_of task entries }
 
@@ -58,36 +58,37 @@ abbrev pub grown : ℕ → ℕ → Option OnTrack → OnTrack
 grown place weight None = record { places = place ∷ []; weight = weight }
 grown place weight (Some on) = record { places = on.places ++ place ∷ []; weight = on.weight + weight }
 
--- a track of another weight
+-- a track whose weight is without `lost` and with `gained`
 abbrev pub reweighed : ℕ → ℕ → OnTrack → OnTrack
 reweighed lost gained on = record { places = on.places; weight = on.weight - lost + gained }
 
--- what is kept of a track: nothing where it has no block
+-- what the index has for a track with these blocks and this weight: nothing if it has no block
 abbrev pub kept_from : List ℕ → ℕ → Option OnTrack
 kept_from [] weight = None
 kept_from (p ∷ ps) weight = Some (record { places = p ∷ ps; weight = weight })
 
+-- what the index has for a track
 abbrev pub kept_of : Track → List Entry → Option OnTrack
 kept_of track entries = kept_from (places (of_track track) entries) (wanted_weight track entries)
 
--- what is kept of each task and of each track
+-- the indexes by task and by track are those of the list
 pub record IsIndex (entries : List Entry) (tasks : List OfTask) (tracks : BTreeMap Track OnTrack) : Type 0 where
   pub by_task : (task : ℕ) → get_or tasks task no_blocks ≡ kept_of_task task entries
   pub by_track : (track : Track) → get track_cmp tracks track ≡ kept_of track entries
 
--- the LBNs of the task's blocks, in order of registration
+-- the LBNs of a task's blocks, in order of registration
 abbrev pub lbns : ℕ → List Entry → List ℕ
 lbns task entries = map (λ entry. entry.block.lbn) (filter (of_task task) entries)
 
--- by task, then by number
+-- falls are ordered by task, and then by number
 abbrev pub fall_cmp : ℕ × ℕ → ℕ × ℕ → Ordering
 fall_cmp a b = ordering_then (nat_cmp a.0 b.0) (nat_cmp a.1 b.1)
 
--- each block whose LBN is less than that of its task's block before it is noted
+-- a fall is noted at each block whose LBN is less than that of the block of its task before it
 abbrev pub AreNoted : List Entry → BTreeSet (ℕ × ℕ) → Type 0
 AreNoted entries falls = (task i a b : ℕ) → slice_get (lbns task entries) i ≡ Some a → slice_get (lbns task entries) (suc i) ≡ Some b → b < a → contains fall_cmp falls (task, suc i) ≡ true
 
--- what the wanted blocks of a track weigh: nothing where it has no block
+-- the wanted weight that the index has for a track: 0 if the track has no block
 abbrev pub weight_of_kept : Option OnTrack → ℕ
 weight_of_kept None = 0
 weight_of_kept (Some on) = on.weight
@@ -95,45 +96,45 @@ weight_of_kept (Some on) = on.weight
 abbrev pub weight_kept : BTreeMap Track OnTrack → Track → ℕ
 weight_kept tracks track = weight_of_kept (get track_cmp tracks track)
 
--- no track has more weight than is kept of its cylinder, and each with a block has its cylinder among them
+-- no track has more wanted weight than the bound of its cylinder, and each cylinder with a block has a bound
 pub record AreGreatest (tracks : BTreeMap Track OnTrack) (greatest : List ℕ) : Type 0 where
   pub weights : (t : Track) → weight_kept tracks t ≤ get_or greatest t.cylinder 0
   pub there : (t : Track) → ContainsKey track_cmp tracks t → t.cylinder < length greatest
 
--- no cylinder has more than its band, where each has its band, and no band has more than all blocks may weigh
+-- no cylinder's bound is above that of its band, each cylinder has a band, and no band's bound is above what all blocks can weigh
 pub record AreBands (cylinders bands : List ℕ) : Type 0 where
   pub each : (c : ℕ) → get_or cylinders c 0 ≤ get_or bands (c / 64) 0
   pub small : (band : ℕ) → get_or bands band 0 ≤ 16000000 * 2048000
   pub there : (c : ℕ) → c < length cylinders → c / 64 < length bands
 
--- the numbers from one on don't fall before an end
+-- the numbers from an index on don't fall before an end
 abbrev pub Rises : List ℕ → ℕ → ℕ → Type 0
 Rises xs from end = (i j a b : ℕ) → from ≤ i → i ≤ j → j < end → slice_get xs i ≡ Some a → slice_get xs j ≡ Some b → a ≤ b
 
--- a change that leaves each block which shares no sector with the range
+-- the change leaves each block as it is that shares no sector with the range
 abbrev pub IsWithin : Change → ℕ → ℕ → Type 0
 IsWithin change first count = (block : Block) (state : State) → shares first count block ≡ false → state_after change block state ≡ state
 
--- the registered blocks, and what is kept beside them
+-- what holds of the registered blocks and their indexes
 pub record IsKept (entries : List Entry) (tasks : List OfTask) (tracks : BTreeMap Track OnTrack) : Type 0 where
   pub in_order : AreInOrder (blocks_of entries)
   pub few : length entries ≤ 16000000
   pub small : AreSmall (blocks_of entries)
   pub index : IsIndex entries tasks tracks
 
--- the entry of that number in another state
+-- the list with the n-th entry, from 0, in another state
 abbrev pub with_state : State → ℕ → List Entry → List Entry
 with_state state n [] = []
 with_state state zero (e ∷ es) = record { block = e.block; state = state } ∷ es
 with_state state (suc n) (e ∷ es) = e ∷ with_state state n es
 
--- the k-th of those that pass is changed
+-- the list with a change of the k-th entry, from 0, that passes a test
 abbrev pub change_nth : (Entry → Bool) → (Entry → Entry) → ℕ → List Entry → List Entry
 change_nth test change k [] = []
 change_nth test change zero (e ∷ es) = if test e then change e ∷ es else e ∷ change_nth test change zero es
 change_nth test change (suc k) (e ∷ es) = e ∷ change_nth test change (if test e then k else suc k) es
 
--- the first k of those that pass are changed
+-- the list with a change of the first k entries that pass a test
 abbrev pub change_first : (Entry → Bool) → (Entry → Entry) → ℕ → List Entry → List Entry
 change_first test change k [] = []
 change_first test change zero (e ∷ es) = e ∷ es

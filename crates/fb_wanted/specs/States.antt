@@ -37,17 +37,18 @@ is_aborted Suspended = false
 is_aborted Delivered = false
 is_aborted Aborted = true
 
--- neither delivered nor aborted
+-- the block is neither delivered nor aborted
 abbrev pub is_open : State → Bool
 is_open Wanted = true
 is_open Suspended = true
 is_open Delivered = false
 is_open Aborted = false
 
+-- the state of a block that is to be read: suspended if its task is, else wanted
 abbrev pub wanted_unless : Bool → State
 wanted_unless suspended = if suspended then Suspended else Wanted
 
--- the state of a block of the task after the change
+-- the state of a block of the task after a change
 abbrev pub state_after : Change → Block → State → State
 state_after (Abort first count) block state = if shares first count block && is_open state then Aborted else state
 state_after (Deliver index) block state = if block.index == index then Delivered else state
@@ -55,13 +56,15 @@ state_after (Rewant first count suspended) block state = if shares first count b
 state_after Suspend block state = if is_wanted state then Suspended else state
 state_after Resume block state = if is_suspended state then Wanted else state
 
--- only the blocks of the task change
+-- a registered block after a change of a task's blocks: only blocks of that task change
 abbrev pub entry_after : ℕ → Change → Entry → Entry
 entry_after task change entry = record { block = entry.block; state = if entry.block.task == task then state_after change entry.block entry.state else entry.state }
 
+-- all registered blocks after a change of a task's blocks
 abbrev pub after : ℕ → Change → List Entry → List Entry
 after task change entries = map (entry_after task change) entries
 
+-- an abort of the task's blocks in the range changes the block
 abbrev pub is_abortable : ℕ → ℕ → ℕ → Entry → Bool
 is_abortable task first count entry = (entry.block.task == task) && (shares first count entry.block && is_open entry.state)
 
@@ -73,6 +76,6 @@ on_track track entries = filter (λ entry. same_track track entry.block.track) e
 abbrev pub wanted_of : List Entry → List Block
 wanted_of entries = map (λ entry. entry.block) (filter (λ entry. is_wanted entry.state) entries)
 
--- the task's block of that number
+-- the block is the task's with this number
 abbrev pub is_block : ℕ → ℕ → Entry → Bool
 is_block task index entry = (entry.block.task == task) && (entry.block.index == index)

@@ -5,17 +5,18 @@ ghost use Rattle.fb_wanted.specs.Tracks.{band_of};
 use crate::Block;
 use fb_units::NoMemory;
 
-/// How many cylinders a band has.
+/// The number of cylinders of a band. Band k has the cylinders from 64 k to 64 k + 63.
 pub const BAND: u32 = 64;
 
-/// The band on which the block lies.
+/// The band of a block's cylinder.
 pub fn band_of(block: Block) -> u32
     ensures { result ≡ band_of block }
 {
     block.track.cylinder / BAND
 }
 
-/// Makes room for all bands up to this one, with nothing on those that come; what is kept of a band stays.
+/// Makes room for all bands up to this one, with the value `nothing` for new ones. The values of
+/// bands stay as they are, also out of memory.
 pub fn add_bands<T: Copy>(bands: &mut Vec<T>, band: u32, nothing: T) -> Result<(), NoMemory>
     ensures stay { (k : ℕ) → get_or bands.new.items k nothing ≡ get_or bands.old.items k nothing }
     ensures longer { length bands.old.items ≤ length bands.new.items }

@@ -33,7 +33,7 @@ fn is_open(state: State) -> bool
     }
 }
 
-/// The state of a block that is wanted anew.
+/// The state of a block that is to be read: suspended if its task is, else wanted.
 pub fn wanted_unless(suspended: bool) -> State
     ensures { result ≡ wanted_unless suspended }
 {
@@ -69,7 +69,7 @@ fn rewanted(first: u64, count: u64, suspended: bool, block: Block, state: State)
     }
 }
 
-/// The state of a block of the task after the change.
+/// The state of a block of the task after a change.
 pub fn state_after(change: Change, block: Block, state: State) -> State
     ensures { result ≡ state_after change block state }
 {
@@ -98,7 +98,7 @@ pub fn state_after(change: Change, block: Block, state: State) -> State
     }
 }
 
-/// Whether an abort of the range changes the block.
+/// Whether an abort of the task's blocks in the range changes the block.
 pub fn is_abortable(entry: Entry, task: u32, first: u64, count: u64) -> bool
     ensures { result ≡ is_abortable task first count entry }
 {

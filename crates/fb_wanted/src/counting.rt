@@ -1,4 +1,4 @@
-// How many blocks of a task there are in each state.
+// Counting the blocks of a task by their states.
 ghost use Rattle.std.specs.Prelude.{◌≡◌, [], ◌∷◌};
 ghost use Rattle.fb_wanted.specs.Counting.{counts_of, no_counts, sum_of, recounted, AreNoMore, Fit};
 
@@ -38,7 +38,7 @@ pub fn counts_of(entry: Entry) -> Counts
     }
 }
 
-/// The counts with one part lost and another gained.
+/// The counts without `lost` and with `gained`.
 pub fn recounted(counts: Counts, lost: Counts, gained: Counts) -> Counts
     requires part { AreNoMore lost counts }
     requires room { Fit (sum_of counts gained) }

@@ -1,22 +1,24 @@
-// How much is wanted of one sector at most, for each band of neighbouring cylinders.
+// For each band of neighbouring cylinders, an upper bound of the weights of the blocks that share a
+// sector.
 ghost use Rattle.std.specs.Prelude.{◌≡◌, ℕ, ◌<◌, ◌+◌, ◌^◌, ◌==◌, length, get_or, if◌then◌else◌};
 ghost use Rattle.fb_wanted.specs.Depth.{no_depth, spare_for, deepened};
 
 use crate::Block;
 
-/// A bound of what is wanted of one sector of a band.
+/// An upper bound of the weights of all registered blocks of a band that have one sector in common.
 ///
-/// It doesn't grow by a block that lies behind the one registered last and has no more than the spare weight:
-/// so the blocks of a task whose LBNs rise count once.
+/// A block behind the one that was registered last raises the bound only by as much as its weight
+/// exceeds the spare weight. So the blocks of a task whose LBNs rise count once.
 #[derive(Clone, Copy)]
 pub struct Depth {
-    /// No sector lies in blocks of more weight together.
+    /// The upper bound: the blocks of no sector have more weight together.
     pub most: u64,
-    /// The first sector of the block registered last.
+    /// The first sector of the block that was registered last.
     pub first: u64,
-    /// How many sectors that block has.
+    /// The number of sectors of that block.
     pub count: u32,
-    /// By so much less than the bound is wanted of each sector that is not before that block's end.
+    /// From the end of that block on, the blocks of each sector have at least this much less weight
+    /// together than the bound.
     pub spare: u32,
 }
 
@@ -28,7 +30,7 @@ pub const NO_DEPTH: Depth = Depth {
     spare: 0,
 };
 
-// How much of the block's weight needs no greater bound.
+// How much of a block's weight fits under the bound as it is.
 fn spare_for(block: Block, depth: Depth) -> u32
     ensures { result ≡ spare_for block depth }
 {
@@ -58,7 +60,7 @@ pub fn deepen(depths: &mut Vec<Depth>, band: u32, block: Block)
     };
 }
 
-/// The bound of a band: 0 where it has no block.
+/// The upper bound of a band; 0 if it has no block.
 pub fn most_in(depths: &[Depth], band: u32) -> u64
     ensures { result ≡ (get_or depths.now band no_depth).most }
 {

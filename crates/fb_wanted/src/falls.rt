@@ -1,4 +1,5 @@
-// Where the LBNs of a task's blocks fall: in between they rise, so a range is searched for by halves.
+// Where the LBNs of a task's blocks fall. Between two falls they rise, so a range is found there by
+// binary search.
 ghost use Rattle.std.specs.Prelude.{◌≡◌, ℕ, ◌<◌, ◌≤◌, true, false, IfSome, IfNone, OnOk};
 ghost use Rattle.std.specs.BTreeSet.{contains};
 ghost use Rattle.fb_wanted.specs.Index.{fall_cmp};
@@ -6,7 +7,8 @@ ghost use Rattle.fb_wanted.specs.Index.{fall_cmp};
 use fb_units::NoMemory;
 use std::collections::BTreeSet;
 
-/// Notes where the LBNs of the task fall; where memory is wanting nothing is lost.
+/// Notes that the LBNs of the task fall at the block with this number, if they do. Out of memory,
+/// all that was noted before is still noted.
 pub fn note_fall(
     falls: &mut BTreeSet<(u32, u32)>,
     task: u32,
@@ -23,7 +25,7 @@ pub fn note_fall(
     Ok(())
 }
 
-/// The first noted number of the task from one on.
+/// The number of the first block of the task, from `from` on, at which a fall is noted.
 pub fn next_fall(falls: &BTreeSet<(u32, u32)>, task: u32, from: u32) -> Option<u32>
     ensures found { IfSome result (λ i. contains fall_cmp falls.now (task, i) ≡ true) }
     ensures from { IfSome result (λ i. from ≤ i) }

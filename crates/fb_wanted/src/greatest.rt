@@ -1,4 +1,4 @@
-// The greatest weight of a track, for each cylinder and for each band of neighbouring cylinders.
+// Upper bounds of the wanted weight of a track, for each cylinder and for each band of cylinders.
 ghost use Rattle.std.specs.Prelude.{◌≡◌, ℕ, false, ◌⊎◌, ◌≤◌, ◌<◌, ◌+◌, ◌*◌, ◌/◌, [], length, get_or, set, OnOk};
 ghost use Rattle.fb_units.specs.declared.types.Track.{Track};
 ghost use Rattle.fb_units.specs.Tracks.{same_track};
@@ -11,7 +11,8 @@ use std::alloc::Global;
 use std::collections::BTreeMap;
 use std::marker::Model;
 
-/// For each cylinder the greatest weight of a track, and for each band the greatest of its cylinders.
+/// For each cylinder an upper bound of the weight of its tracks, and for each band one of its
+/// cylinders.
 #[derive(Drop)]
 pub struct Greatest {
     cylinders: Vec<u64>,
@@ -29,7 +30,7 @@ impl Model for Greatest {
     ghost invariant = { λ g. AreBands g.cylinders.items g.bands.items };
 }
 
-// The greatest of these numbers: 0 where there is none.
+// The greatest of the numbers with indexes from `from` up to the end; 0 if there are none.
 fn greatest_of(numbers: &[u64], from: usize, end: usize) -> u64
     ensures each { (i : ℕ) → from ≤ i → i < end → get_or numbers.now i 0 ≤ result }
     ensures least { (most : ℕ) → ((i : ℕ) → from ≤ i → i < end → get_or numbers.now i 0 ≤ most) → result ≤ most }
@@ -41,7 +42,8 @@ fn greatest_of(numbers: &[u64], from: usize, end: usize) -> u64
     greatest
 }
 
-// The greatest of a band, where one of its cylinders had another.
+// The new bound of a band with the bound `greatest`, after that of one of its cylinders has changed
+// from `was` to `now`.
 fn greatest_anew(cylinders: &[u64], band: u32, greatest: u64, was: u64, now: u64) -> u64
     requires { (c : ℕ) → c / 64 ≡ band → (get_or cylinders.now c 0 ≤ greatest) ⊎ (get_or cylinders.now c 0 ≤ now) }
     ensures each { (c : ℕ) → c / 64 ≡ band → get_or cylinders.now c 0 ≤ result }
@@ -58,7 +60,7 @@ fn greatest_anew(cylinders: &[u64], band: u32, greatest: u64, was: u64, now: u64
 }
 
 impl Greatest {
-    /// Of no cylinder.
+    /// Without any cylinder.
     pub fn new(alloc: Global) -> Self
         ensures { result ≡ [] }
     {
@@ -68,7 +70,7 @@ impl Greatest {
         }
     }
 
-    /// Makes room for all cylinders up to this one.
+    /// Makes room for all cylinders up to this one. Bounds stay as they are, also out of memory.
     pub fn add_room(&mut self, cylinder: u32) -> Result<(), NoMemory>
         ensures stay { (c : ℕ) → get_or self.new c 0 ≡ get_or self.old c 0 }
         ensures longer { length self.old ≤ length self.new }
@@ -78,7 +80,7 @@ impl Greatest {
         add_bands(&mut self.cylinders, cylinder, 0)
     }
 
-    /// The greatest of a cylinder.
+    /// The bound of a cylinder.
     pub fn at(&self, cylinder: u32) -> u64
         requires { cylinder < length self.now }
         ensures { result ≡ get_or self.now cylinder 0 }
@@ -86,7 +88,7 @@ impl Greatest {
         self.cylinders[cylinder as usize]
     }
 
-    /// Changes the greatest of a cylinder.
+    /// Changes the bound of a cylinder.
     pub fn set(&mut self, cylinder: u32, weight: u64)
         requires there { cylinder < length self.old }
         requires small { weight ≤ 16000000 * 2048000 }
@@ -99,7 +101,8 @@ impl Greatest {
         self.bands[band as usize] = greatest_anew(&self.cylinders, band, greatest, was, weight);
     }
 
-    /// The greatest of some cylinders, or of all the bands that they touch.
+    /// An upper bound of the cylinders from `from` up to the end: the greatest of theirs if they
+    /// are fewer than 64, else the greatest of the bands that they touch.
     pub fn among(&self, from: u32, end: u32) -> u64
         requires some { from < end }
         ensures each { (c : ℕ) → from ≤ c → c < end → get_or self.now c 0 ≤ result }
@@ -114,7 +117,8 @@ impl Greatest {
     }
 }
 
-/// Brings the greatest of its cylinder up to date after a track has come to a weight, by a gain or by losing no more than this.
+/// Brings the bound of its cylinder up to date after the weight of a track has changed to `weight`,
+/// by a gain or by a loss of at most `lost`.
 pub fn settle(
     greatest: &mut Greatest,
     tracks: &BTreeMap<Track, OnTrack>,

@@ -1,11 +1,11 @@
-// Where blocks stand among the registered ones.
+// The indexes of some blocks among the registered ones.
 ghost use Rattle.std.specs.Prelude.{◌≡◌, ℕ, ◌<◌, ◌∷◌, ◌++◌, [], List, Some, slice_get, length, OnOk, OnErr};
 
 use fb_units::NoMemory;
 use std::alloc::Global;
 use std::marker::Model;
 
-/// Numbers of registered blocks, in order of registration.
+/// Indexes of registered blocks, from 0 in order of registration.
 #[derive(Drop)]
 pub struct Places {
     items: Vec<u32>,
@@ -20,7 +20,7 @@ impl Model for Places {
 }
 
 impl Places {
-    /// None.
+    /// No index.
     pub fn new(alloc: Global) -> Self
         ensures { result ≡ [] }
     {
@@ -29,7 +29,7 @@ impl Places {
         }
     }
 
-    /// Adds one behind the others.
+    /// Adds an index at the end. Out of memory, it returns `NoMemory` and nothing has changed.
     pub fn push(&mut self, place: u32) -> Result<(), NoMemory>
         ensures ok { OnOk result (self.new ≡ self.old ++ place ∷ []) }
         ensures err { OnErr result (self.new ≡ self.old) }
@@ -38,21 +38,21 @@ impl Places {
         Ok(())
     }
 
-    /// Takes the last one away.
+    /// Removes the last index.
     pub fn pop(&mut self)
         ensures { (places : List ℕ) (last : ℕ) → self.old ≡ places ++ last ∷ [] → self.new ≡ places }
     {
         self.items.pop();
     }
 
-    /// How many there are.
+    /// The number of indexes.
     pub fn len(&self) -> usize
         ensures { result ≡ length self.now }
     {
         self.items.len()
     }
 
-    /// The i-th.
+    /// The i-th index, from 0.
     pub fn get(&self, i: usize) -> u32
         requires { i < length self.now }
         ensures { slice_get self.now i ≡ Some result }
@@ -60,7 +60,7 @@ impl Places {
         self.items[i]
     }
 
-    /// All of them.
+    /// All indexes.
     pub fn as_slice(&self) -> &[u32]
         ensures { result.now ≡ self.now }
     {

@@ -1,4 +1,4 @@
-// What is kept of the tasks for which blocks are registered.
+// The index of the registered blocks by task.
 ghost use Rattle.std.specs.Prelude.{◌≡◌, ℕ, ◌<◌, ◌∷◌, ◌++◌, [], List, length, get_or, OnOk, OnErr, if◌then◌else◌, ◌==◌};
 ghost use Rattle.fb_wanted.specs.Counting.{sum_of, AreNoMore, Fit};
 ghost use Rattle.fb_wanted.specs.Index.{no_blocks, joined, counted_anew};
@@ -12,13 +12,14 @@ use std::alloc::Global;
 /// The registered blocks of a task.
 #[derive(Drop)]
 pub struct OfTask {
-    /// Where they stand.
+    /// Their indexes among all registered blocks.
     pub places: Places,
     /// How many there are, and how many of them are delivered and aborted.
     pub counts: Counts,
 }
 
-/// Adds a place to those of the task, uncounted; where memory is wanting all stay.
+/// Adds the index of a block to those of the task, without counting the block. Out of memory, it
+/// returns `NoMemory` and no task has changed.
 pub fn add_place(
     tasks: &mut Vec<OfTask>,
     alloc: Global,
@@ -40,7 +41,7 @@ pub fn add_place(
     Ok(())
 }
 
-/// Takes the last place of the task away.
+/// Removes the last index of the task.
 pub fn take_place_back(tasks: &mut Vec<OfTask>, task: u32)
     ensures { (blocks : OfTask) (last : ℕ) → get_or tasks.old.items task no_blocks ≡ joined last blocks → (k : ℕ) → get_or tasks.new.items k no_blocks ≡ (if task == k then blocks else get_or tasks.old.items k no_blocks) }
 {
@@ -50,7 +51,7 @@ pub fn take_place_back(tasks: &mut Vec<OfTask>, task: u32)
     }
 }
 
-/// Takes a part from the counts of the task, and adds another one.
+/// Takes `lost` from the counts of the task, and adds `gained`.
 pub fn recount(tasks: &mut Vec<OfTask>, task: u32, lost: Counts, gained: Counts)
     requires there { task < length tasks.old.items }
     requires part { AreNoMore lost (get_or tasks.old.items task no_blocks).counts }

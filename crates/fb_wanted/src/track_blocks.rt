@@ -11,14 +11,14 @@ use std::marker::Model;
 
 /// The registered blocks of a track, in order of registration.
 ///
-/// To look at one of them costs the same whatever their number.
+/// Looking at one of them takes constant time.
 #[derive(Drop)]
 pub struct TrackBlocks<'a> {
     track: Track,
     entries: &'a [Entry],
-    // Where they stand.
+    // Their indexes among all registered blocks.
     at: &'a [u32],
-    // Weight times sectors of the wanted ones.
+    // The sum of weight times sectors over the wanted ones.
     weight: u64,
 }
 
@@ -37,7 +37,7 @@ impl<'a> Model for TrackBlocks<'a> {
 }
 
 impl<'a> TrackBlocks<'a> {
-    /// Those of the track among all, where their places and their weight are known.
+    /// The blocks of a track among all, whose indexes and wanted weight are known.
     pub(crate) fn new(track: Track, entries: &'a [Entry], at: &'a [u32], weight: u64) -> Self
         requires its { at.now ≡ places (of_track track) entries.now }
         requires few { length entries.now ≤ 16000000 }
@@ -53,7 +53,7 @@ impl<'a> TrackBlocks<'a> {
         }
     }
 
-    /// How many there are.
+    /// The number of blocks.
     pub fn len(&self) -> u32
         ensures count { result ≡ length self.now }
         ensures few { result ≤ 16000000 }
@@ -61,7 +61,7 @@ impl<'a> TrackBlocks<'a> {
         self.at.len() as u32
     }
 
-    /// The i-th, with its state.
+    /// The i-th block, from 0, with its state.
     pub fn get(&self, i: u32) -> Entry
         requires { i < length self.now }
         ensures { slice_get self.now i ≡ Some result }
@@ -69,7 +69,7 @@ impl<'a> TrackBlocks<'a> {
         self.entries[self.at[i as usize] as usize]
     }
 
-    /// Weight times sectors of the wanted ones.
+    /// The sum of weight times sectors over the wanted blocks.
     pub fn wanted_weight(&self) -> u64
         ensures sum { result ≡ sum_by (λ block. block.weight * block.count) (wanted_of self.now) }
         ensures small { result ≤ 16000000 * 2048000 }

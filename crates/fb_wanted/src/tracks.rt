@@ -1,4 +1,4 @@
-// What is kept of the tracks on which blocks are registered.
+// The index of the registered blocks by track.
 ghost use Rattle.std.specs.Prelude.{◌≡◌, ℕ, ◌≤◌, ◌<◌, ◌+◌, ◌-◌, ◌^◌, ◌∷◌, ◌++◌, [], List, Option, Some, IfSome, IfNone, IfOk, OnOk, OnErr, if◌then◌else◌};
 ghost use Rattle.std.specs.Option.{option_map};
 ghost use Rattle.std.specs.BTreeMap.{get, ContainsKey};
@@ -17,13 +17,14 @@ use std::ops::Bound;
 /// The registered blocks of a track.
 #[derive(Drop)]
 pub struct OnTrack {
-    /// Where they stand.
+    /// Their indexes among all registered blocks.
     pub places: Places,
-    /// Weight times sectors of the wanted ones.
+    /// The sum of weight times sectors over the wanted ones.
     pub weight: u64,
 }
 
-/// What the block adds to the wanted weight of its track.
+/// What a block adds to the wanted weight of its track: weight times sectors if it is wanted, else
+/// 0.
 pub fn weight_of(entry: Entry) -> u64
     requires light { entry.block.weight ≤ 1000 }
     requires short { entry.block.count ≤ 2048 }
@@ -36,7 +37,8 @@ pub fn weight_of(entry: Entry) -> u64
     }
 }
 
-/// Adds a block to a track, and answers the weight that is then kept of it; where memory is wanting all stays.
+/// Adds a block to a track, and returns the wanted weight of the track afterwards. Out of memory,
+/// it returns `NoMemory` and no track has changed.
 pub fn add_to_track(
     tracks: &mut BTreeMap<Track, OnTrack>,
     alloc: Global,
@@ -64,7 +66,8 @@ pub fn add_to_track(
     }
 }
 
-/// Changes the weight of a track, and answers the weight that is then kept of it: none where it has no block.
+/// Takes `lost` from the wanted weight of a track and adds `gained`, and returns the weight
+/// afterwards; 0 if the track has no block.
 pub fn reweigh(tracks: &mut BTreeMap<Track, OnTrack>, track: Track, lost: u64, gained: u64) -> u64
     requires { IfSome (get track_cmp tracks.old track) (λ on. (lost ≤ on.weight) × (on.weight + gained < 2 ^ 64)) }
     ensures tracks { (t : Track) → get track_cmp tracks.new t ≡ (if same_track track t then option_map (reweighed lost gained) (get track_cmp tracks.old t) else get track_cmp tracks.old t) }
@@ -79,7 +82,7 @@ pub fn reweigh(tracks: &mut BTreeMap<Track, OnTrack>, track: Track, lost: u64, g
     }
 }
 
-/// The least track not before this one of which something is kept.
+/// The least track that has a block and is not before this one.
 pub fn next_track(tracks: &BTreeMap<Track, OnTrack>, from: Track) -> Option<Track>
     ensures found { IfSome result (λ t. ContainsKey track_cmp tracks.now t) }
     ensures from { IfSome result (λ t. IsTrackBefore t from → ⊥) }
@@ -92,7 +95,7 @@ pub fn next_track(tracks: &BTreeMap<Track, OnTrack>, from: Track) -> Option<Trac
     }
 }
 
-/// The weight that is kept of a track: none where it has no block.
+/// The wanted weight of a track; 0 if it has no block.
 pub fn weight_on(tracks: &BTreeMap<Track, OnTrack>, track: Track) -> u64
     ensures { result ≡ weight_kept tracks.now track }
 {
@@ -102,7 +105,7 @@ pub fn weight_on(tracks: &BTreeMap<Track, OnTrack>, track: Track) -> u64
     }
 }
 
-// The least head behind the track's, on its cylinder, of which something is kept.
+// The least head above that of the track, on the same cylinder, whose track has a block.
 fn next_head(tracks: &BTreeMap<Track, OnTrack>, track: Track) -> Option<u32>
     ensures behind { IfSome result (λ h. track.head < h) }
     ensures least { IfSome result (λ h. (t : Track) → t.cylinder ≡ track.cylinder → track.head < t.head → t.head < h → weight_kept tracks.now t ≡ 0) }
@@ -123,7 +126,7 @@ fn next_head(tracks: &BTreeMap<Track, OnTrack>, track: Track) -> Option<u32>
     }
 }
 
-/// The greatest weight of the cylinder's tracks.
+/// The greatest wanted weight of the tracks of a cylinder.
 pub fn greatest_on(tracks: &BTreeMap<Track, OnTrack>, cylinder: u32) -> u64
     ensures each { (t : Track) → t.cylinder ≡ cylinder → weight_kept tracks.now t ≤ result }
     ensures least { (most : ℕ) → ((t : Track) → t.cylinder ≡ cylinder → weight_kept tracks.now t ≤ most) → result ≤ most }

@@ -1,4 +1,5 @@
-// The registered blocks, in order of registration, and beside them what is kept of each task, of each track, of each cylinder and of each band of cylinders.
+// The registered blocks, in order of registration, with their indexes by task, by track, by
+// cylinder and by band of cylinders.
 ghost use Rattle.std.specs.Prelude.{◌≡◌, List, suc, true, false, take, ◌⊎◌, ◌+◌, ◌<◌, ◌≤◌, ℕ, [], ◌∷◌, ◌++◌, ◌*◌, ◌/◌, length, filter, map, IfOk, OnOk, OnErr, IfSome, IfNone, Some, slice_get, get_or, ◌==◌, if◌then◌else◌};
 ghost use Rattle.std.specs.BTreeMap.{get};
 ghost use Rattle.fb_wanted.specs.declared.block.Block.{Block};
@@ -28,13 +29,13 @@ use std::marker::Model;
 
 /// Registered blocks, each with its state, in order of registration.
 ///
-/// To register, to deliver or to look up costs a logarithm of the number of tracks or blocks;
-/// the counts of a task and what is kept of a band cost the same however many blocks there are.
-/// To suspend or to resume costs as much for each block of the task, and to abort or to want again
-/// as much for each of its blocks near the range and for each time that its LBNs fall.
-/// A task takes room for each number below its own, and a block for each cylinder below its own.
-/// Where the heaviest track of a cylinder loses weight, each of its tracks is looked at, and so is each cylinder of a band
-/// whose heaviest does.
+/// Costs: to register, to deliver or to look up a block takes time logarithmic in the number of
+/// tracks or blocks; the counts of a task and the bounds of a band take constant time. To suspend
+/// or to resume takes logarithmic time for each block of the task, and so does an abort or a want
+/// again for each of its blocks near the range and for each time that its LBNs fall. When the
+/// heaviest track of a cylinder loses weight, each track of that cylinder is looked at, and
+/// likewise each cylinder of a band when its heaviest one does. There is an entry for each task
+/// number up to the greatest one, and for each cylinder up to the last one with a block.
 #[derive(Drop)]
 pub struct Wanted {
     alloc: Global,
@@ -46,7 +47,7 @@ pub struct Wanted {
     depths: Vec<Depth>,
 }
 
-// Blocks of a task from one number to another, whose LBNs rise.
+// Blocks of a task, from the number `from` up to the number `end`, whose LBNs rise.
 #[derive(Clone, Copy)]
 struct Rise {
     from: u32,
@@ -66,7 +67,8 @@ impl Model for Wanted {
     ghost invariant = { λ w. IsKept w.entries.items w.tasks.items w.tracks × AreNoted w.entries.items w.falls × AreGreatest w.tracks w.greatest × AreDeep w.entries.items w.depths.items };
 }
 
-// Notes where a block that is to be registered will stand, and counts it, and answers the weight that is then kept of its track; where memory is wanting all stays.
+// Adds a block that is to be registered to the indexes by task and by track, and returns the wanted
+// weight of its track afterwards. Out of memory, it returns `NoMemory` and no index has changed.
 fn add_to_index(
     tasks: &mut Vec<OfTask>,
     tracks: &mut BTreeMap<Track, OnTrack>,
@@ -109,7 +111,7 @@ impl Wanted {
         }
     }
 
-    // Where the k-th block of the task stands.
+    // The index, among all registered blocks, of the k-th block of the task.
     fn place_of(&self, task: u32, k: u32) -> u32
         requires { k < length (filter (of_task task) self.now) }
         ensures { slice_get (places (of_task task) self.now) k ≡ Some result }
@@ -117,7 +119,7 @@ impl Wanted {
         self.tasks[task as usize].places.get(k as usize)
     }
 
-    // The entry of that number.
+    // The entry with an index among all registered blocks.
     fn entry_at(&self, place: u32) -> Entry
         requires { place < length self.now }
         ensures { slice_get self.now place ≡ Some result }
@@ -133,7 +135,7 @@ impl Wanted {
         self.entry_at(self.place_of(task, k))
     }
 
-    // Brings the entry of that number into a state.
+    // Changes the state of the entry with this index.
     fn set_state(&mut self, place: u32, state: State)
         requires { place < length self.old }
         ensures { self.new ≡ with_state state place self.old }
@@ -181,7 +183,8 @@ impl Wanted {
         }
     }
 
-    // Whether the LBNs of its task fall at a block that is to be registered.
+    // Whether a block that is to be registered has a lesser LBN than the block of its task before
+    // it.
     fn is_fall(&self, block: Block) -> bool
         requires { block.index ≡ length (filter (of_task block.task) self.now) }
         ensures { (i a : ℕ) → suc i ≡ block.index → slice_get (lbns block.task self.now) i ≡ Some a → block.lbn < a → result ≡ true }
@@ -192,7 +195,7 @@ impl Wanted {
         block.lbn < self.entry_of(block.task, block.index - 1).block.lbn
     }
 
-    // The rise that begins at the k-th block of the task.
+    // The rise from the k-th block of the task on.
     fn rise_at(&self, task: u32, k: u32) -> Rise
         requires { k < length (filter (of_task task) self.now) }
         ensures from { result.from ≡ k }
@@ -213,7 +216,8 @@ impl Wanted {
         }
     }
 
-    // The first block of a rise whose LBN isn't less.
+    // The number of the first block of a rise whose LBN isn't below this one; the end if there is
+    // none.
     fn first_from(&self, task: u32, rise: Rise, lbn: u64) -> u32
         requires order { rise.from ≤ rise.end }
         requires within { rise.end ≤ length (filter (of_task task) self.now) }
@@ -235,7 +239,8 @@ impl Wanted {
         low
     }
 
-    // The first block of a rise that lies behind the range.
+    // The number of the first block of a rise that begins behind the range; the end if there is
+    // none.
     fn first_behind(&self, task: u32, rise: Rise, first: u64, count: u64) -> u32
         requires order { rise.from ≤ rise.end }
         requires within { rise.end ≤ length (filter (of_task task) self.now) }
@@ -249,7 +254,8 @@ impl Wanted {
         }
     }
 
-    // Those of a rise that may share a sector with the range: no block has more than 2048 sectors.
+    // The blocks of a rise that may share a sector with the range, since no block has more than
+    // 2,048 sectors.
     fn sharing(&self, task: u32, rise: Rise, first: u64, count: u64) -> Rise
         requires order { rise.from ≤ rise.end }
         requires within { rise.end ≤ length (filter (of_task task) self.now) }
@@ -324,7 +330,7 @@ impl Wanted {
         n
     }
 
-    /// No block.
+    /// No registered block.
     pub fn new(alloc: Global) -> Self
         ensures { result ≡ [] }
     {
@@ -339,7 +345,8 @@ impl Wanted {
         }
     }
 
-    /// Registers a block.
+    /// Registers a block, wanted or suspended, behind all others; its number is the next of its
+    /// task. Out of memory, it returns `NoMemory` and nothing has changed.
     pub fn register(&mut self, block: Block, suspended: bool) -> Result<(), NoMemory>
         requires numbered { block.index ≡ registered block.task (blocks_of self.old) }
         requires room { length self.old < 16000000 }
@@ -364,7 +371,8 @@ impl Wanted {
         Ok(())
     }
 
-    /// Aborts the task's blocks that are neither delivered nor aborted and share a sector with the range.
+    /// Aborts the task's blocks that share a sector with the range and are neither delivered nor
+    /// aborted, and returns how many.
     pub fn abort(&mut self, task: u32, first: u64, count: u64) -> u64
         ensures states { self.new ≡ after task (Change.Abort first count) self.old }
         ensures number { result ≡ length (filter (is_abortable task first count) self.old) }
@@ -374,7 +382,7 @@ impl Wanted {
         number
     }
 
-    /// Marks a wanted block as delivered.
+    /// Marks a wanted block as delivered, by its task and its number there.
     pub fn deliver(&mut self, task: u32, index: u32)
         requires { (e : Entry) × (i : ℕ) × (slice_get self.old i ≡ Some e) × (is_block task index e ≡ true) × (e.state ≡ State.Wanted) }
         ensures { self.new ≡ after task (Change.Deliver index) self.old }
@@ -383,7 +391,8 @@ impl Wanted {
         self.change_block(task, index, Change::Deliver { index });
     }
 
-    /// Wants the task's delivered blocks again that share a sector with the range.
+    /// Wants the task's delivered blocks again that share a sector with the range; they become
+    /// suspended if the task is.
     pub fn rewant(&mut self, task: u32, first: u64, count: u64, suspended: bool)
         ensures { self.new ≡ after task (Change.Rewant first count suspended) self.old }
     {
@@ -406,14 +415,14 @@ impl Wanted {
         self.change(task, Change::Suspend);
     }
 
-    /// Wants the task's suspended blocks.
+    /// Wants the task's suspended blocks again.
     pub fn resume(&mut self, task: u32)
         ensures { self.new ≡ after task Change.Resume self.old }
     {
         self.change(task, Change::Resume);
     }
 
-    /// The state of a registered block.
+    /// The state of a registered block, by its task and its number there.
     pub fn state(&self, task: u32, index: u32) -> State
         requires { (e : Entry) × (i : ℕ) × (slice_get self.now i ≡ Some e) × (is_block task index e ≡ true) }
         ensures { (e : Entry) (i : ℕ) → slice_get self.now i ≡ Some e → is_block task index e ≡ true → e.state ≡ result }
@@ -422,7 +431,7 @@ impl Wanted {
         self.entry_of(task, index).state
     }
 
-    /// A registered block with its state.
+    /// A registered block with its state, by its task and its number there.
     pub fn entry(&self, task: u32, index: u32) -> Entry
         requires { (e : Entry) × (i : ℕ) × (slice_get self.now i ≡ Some e) × (is_block task index e ≡ true) }
         ensures { (e : Entry) (i : ℕ) → slice_get self.now i ≡ Some e → is_block task index e ≡ true → e ≡ result }
@@ -441,7 +450,7 @@ impl Wanted {
         }
     }
 
-    /// The k-th block of a task has the index k.
+    /// The k-th registered block of a task, counted from 0, has the number k.
     pub fn numbered_in_order(&self)
         ensures { AreInOrder (blocks_of self.now) }
     {
@@ -463,7 +472,7 @@ impl Wanted {
         }
     }
 
-    /// How many blocks of the track are registered.
+    /// The number of registered blocks of the track.
     pub fn registered_on(&self, track: Track) -> u32
         ensures count { result ≡ length (on_track track self.now) }
         ensures few { result ≤ 16000000 }
@@ -471,7 +480,7 @@ impl Wanted {
         self.on(track).len()
     }
 
-    /// The i-th registered block of the track.
+    /// The i-th registered block of the track, from 0.
     pub fn block_on(&self, track: Track, i: u32) -> Block
         requires { i < length (on_track track self.now) }
         ensures { slice_get (blocks_of (on_track track self.now)) i ≡ Some result }
@@ -479,7 +488,7 @@ impl Wanted {
         self.on(track).get(i).block
     }
 
-    /// Weight times sectors of the track's wanted blocks.
+    /// The sum of weight times sectors over the wanted blocks of the track.
     pub fn wanted_weight_on(&self, track: Track) -> u64
         ensures sum { result ≡ wanted_weight track self.now }
         ensures small { result ≤ 16000000 * 2048000 }
@@ -487,9 +496,11 @@ impl Wanted {
         self.on(track).wanted_weight()
     }
 
-    /// No track of these cylinders has more wanted weight.
+    /// An upper bound of the wanted weight of each track on the cylinders from `from` up to the
+    /// end.
     ///
-    /// Of fewer than 64 cylinders each is looked at, of more each band that they touch.
+    /// If there are fewer than 64 cylinders, each of them is looked at, else each band that they
+    /// touch.
     pub fn greatest_weight_in(&self, from: u32, end: u32) -> u64
         requires some { from < end }
         ensures each { (track : Track) → from ≤ track.cylinder → track.cylinder < end → wanted_weight track self.now ≤ result }
@@ -498,7 +509,8 @@ impl Wanted {
         self.greatest.among(from, end)
     }
 
-    /// No sector of the band's cylinders lies in registered blocks of more weight together.
+    /// An upper bound of the weights of all registered blocks that have one sector of the band in
+    /// common.
     pub fn depth_in(&self, band: u32) -> u64
         ensures deep { (track : Track) (lbn : ℕ) → track.cylinder / 64 ≡ band → depth_at track lbn self.now ≤ result }
         ensures small { result ≤ 16000000 * 1000 }
@@ -506,7 +518,7 @@ impl Wanted {
         most_in(&self.depths, band)
     }
 
-    /// The least track not before this one on which a block is registered.
+    /// The least track that has a registered block and is not before this one.
     pub fn next_registered_track(&self, from: Track) -> Option<Track>
         ensures some { IfSome result (λ track. IsNextTrack from self.now track) }
         ensures none { IfNone result ((track : Track) → HasBlock self.now track → IsTrackBefore track from) }
