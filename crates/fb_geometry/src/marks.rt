@@ -11,7 +11,9 @@ use std::marker::Model;
 // A position of a cylinder: how many of its slots come before.
 #[derive(Clone, Copy, PartialEq, Eq, PartialOrd, Ord)]
 pub struct Mark {
+    // The cylinder.
     pub cylinder: u32,
+    // How many slots of the cylinder come before.
     pub position: u32,
 }
 
@@ -34,6 +36,7 @@ impl Model for Marks {
 }
 
 impl Marks {
+    // No mark.
     pub fn none(alloc: Global) -> Marks
         ensures { result ≡ [] }
     {
@@ -42,6 +45,7 @@ impl Marks {
         }
     }
 
+    // These marks, which are in order.
     pub fn of(items: Vec<Mark>) -> Marks
         requires { AreInOrder items.items }
         ensures { result ≡ items.items }

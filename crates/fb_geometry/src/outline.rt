@@ -27,11 +27,17 @@ const MOST_SECTORS: u32 = 10_000;
 // The numbers, zones and bad slots that a disk is made from.
 #[derive(Drop)]
 pub struct Outline {
+    // Where the spare slots are.
     pub layout: Layout,
+    // The time of one rotation, in nanoseconds.
     pub rotation: Ns,
+    // The number of heads.
     pub heads: u32,
+    // The zones, in the order of cylinders.
     pub zones: Vec<Zone>,
+    // The slots that are bad from the first.
     pub defects: Vec<Place>,
+    // The slots that went bad later.
     pub grown: Vec<Place>,
 }
 
