@@ -15,7 +15,9 @@ pub struct ZoneStart {
 // A sector, named by its cylinder and by how many of the cylinder's sectors come before it.
 #[derive(Clone, Copy)]
 pub struct CylinderSector {
+    // The cylinder.
     pub cylinder: u32,
+    // Which of its sectors it is, counted from 0.
     pub sector: u32,
 }
 
