@@ -20,8 +20,11 @@ pub enum Kind {
 // The numbers from `low` to `high` that are multiples of `multiple`.
 #[derive(Clone, Copy)]
 pub struct Range {
+    // The least number.
     pub low: u64,
+    // The greatest number.
     pub high: u64,
+    // What each number is a multiple of.
     pub multiple: u64,
 }
 
@@ -29,9 +32,13 @@ pub struct Range {
 // required.
 #[derive(Clone, Copy)]
 pub struct Key {
+    // Its name.
     pub name: &'static str,
+    // The kind of its value.
     pub kind: Kind,
+    // The range of each number in its value.
     pub range: Range,
+    // Whether it is required.
     pub required: bool,
 }
 
