@@ -18,26 +18,34 @@ use std::alloc::Global;
 /// What a line asks for, before it is judged. The live blocks of a segment are still digits.
 #[derive(Clone, Copy)]
 pub enum Asked<'a> {
+    /// To open a task: its kind, weight, and block size in sectors.
     Open {
         kind: Kind,
         weight: u64,
         block: u64,
     },
+    /// To want a range of sectors.
     Want {
         first: u64,
         count: u64,
     },
+    /// To abort the blocks of a range of sectors.
     Abort {
         first: u64,
         count: u64,
     },
+    /// To read a range of sectors in the foreground.
     Promote {
         first: u64,
         count: u64,
     },
+    /// To suspend the task.
     Suspend,
+    /// To resume the task.
     Resume,
+    /// To close the task.
     Close,
+    /// To add a log segment: its first sector, blocks, age, and the digits of its live blocks.
     Segment {
         first: u64,
         blocks: u64,
@@ -91,8 +99,11 @@ impl Asked<'_> {
 /// asked for, or that the verb or the kind is unknown.
 #[derive(Clone, Copy)]
 pub struct Entry<'a> {
+    /// The instant, in nanoseconds.
     pub instant: Ns,
+    /// The name of the task.
     pub name: &'a [u8],
+    /// What is asked for, or why that is unknown.
     pub asked: Result<Asked<'a>, CallsReason>,
 }
 

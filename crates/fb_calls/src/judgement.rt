@@ -33,11 +33,17 @@ const MOST_SEGMENT_BLOCKS: u64 = 4_096;
 /// into how many blocks that is cut.
 #[derive(Clone, Copy)]
 pub struct Step<'a> {
+    /// The line, counted from 1.
     pub line: u64,
+    /// The instant, in nanoseconds.
     pub instant: Ns,
+    /// The name of the task.
     pub name: &'a [u8],
+    /// The number of the task, from 0 in order of opening.
     pub task: usize,
+    /// What is asked for.
     pub asked: Asked<'a>,
+    /// Into how many blocks that is cut.
     pub blocks: u64,
 }
 

@@ -34,6 +34,7 @@ pub struct Reader {
     pub blocks: u64,
     // The number of promotes and requests of the trace together.
     pub reads: u64,
+    // The calls.
     pub calls: Vec<Call>,
 }
 

@@ -5,8 +5,12 @@ use crate::Kind;
 /// range, and whether it is closed.
 #[derive(Clone, Copy)]
 pub struct Session {
+    /// What the task is for.
     pub kind: Kind,
+    /// The block size, 1 to 2,048 sectors.
     pub block: u32,
+    /// Whether a range was wanted.
     pub wanted: bool,
+    /// Whether it is closed.
     pub closed: bool,
 }

@@ -8,13 +8,21 @@ use crate::Kind;
 /// The verb of a call.
 #[derive(Clone, Copy, PartialEq, Eq)]
 pub enum Verb {
+    /// Opens a task.
     Open,
+    /// Wants a range of sectors.
     Want,
+    /// Aborts the blocks of a range.
     Abort,
+    /// Reads a range in the foreground.
     Promote,
+    /// Suspends the task.
     Suspend,
+    /// Resumes the task.
     Resume,
+    /// Closes the task.
     Close,
+    /// Adds a log segment.
     Segment,
 }
 
