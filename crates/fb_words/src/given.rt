@@ -12,16 +12,27 @@ use fb_units::Ns;
 /// The value of each option that was given, and whether a summary is wanted.
 #[derive(Clone, Copy)]
 pub struct Given<'a> {
+    /// The parameter file.
     pub params: Option<&'a str>,
+    /// The file of the trace.
     pub trace: Option<&'a str>,
+    /// The order in which requests are served.
     pub policy: Option<Policy>,
+    /// The file of the call script.
     pub calls: Option<&'a str>,
+    /// The file for the background report.
     pub back: Option<&'a str>,
+    /// The instant until which the head waits at the end, in nanoseconds.
     pub until: Option<Ns>,
+    /// The device of the requests.
     pub device: Option<u64>,
+    /// How contents are shown.
     pub bytes: Option<Bytes>,
+    /// The seed of a generated trace.
     pub number: Option<u64>,
+    /// The number of requests of a generated trace.
     pub requests: Option<u64>,
+    /// Whether a summary is wanted.
     pub summary: bool,
 }
 

@@ -8,22 +8,34 @@ use fb_report::Bytes;
 /// The verb of a command.
 #[derive(Clone, Copy, PartialEq, Eq)]
 pub enum Verb {
+    /// Replays a trace.
     Replay,
+    /// Generates a trace and a call script.
     Make,
 }
 
 /// An option that has a value.
 #[derive(Clone, Copy, PartialEq, Eq)]
 pub enum OptionName {
+    /// The parameter file: `--params`.
     Params,
+    /// The file of the trace: `--trace`.
     Trace,
+    /// The order of service: `--policy`.
     Policy,
+    /// The file of the call script: `--calls`.
     Calls,
+    /// The file for the background report: `--back`.
     Back,
+    /// The instant until which the head waits at the end: `--until`.
     Until,
+    /// The device: `--device`.
     Device,
+    /// How contents are shown: `--bytes`.
     Bytes,
+    /// The seed of a generated trace: `--number`.
     Number,
+    /// The number of requests of a generated trace: `--requests`.
     Requests,
 }
 

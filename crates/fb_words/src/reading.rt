@@ -19,7 +19,9 @@ use crate::{UsageFault, UsageReason};
 /// The name of an option, and its value if that is in the same word.
 #[derive(Clone, Copy)]
 pub struct Parts<'a> {
+    /// The name.
     pub name: &'a str,
+    /// The value, behind an equals sign.
     pub value: Option<&'a str>,
 }
 
@@ -27,7 +29,9 @@ pub struct Parts<'a> {
 /// word.
 #[derive(Clone, Copy)]
 pub enum Progress<'a> {
+    /// The next word is no value.
     Ready(Given<'a>),
+    /// The next word is the value of this option.
     Awaits(Given<'a>, OptionName, usize),
 }
 

@@ -28,7 +28,7 @@ pub fn read_words(alloc: Global, words: &[String]) -> Result<Command, WordsError
     command_of(alloc, words)
 }
 
-// The command, without what is said of its limits.
+// The command that the words give, or their first fault.
 fn command_of(alloc: Global, words: &[String]) -> Result<Command, WordsError>
     ensures { Answers terms result (command_of (map string_bytes words.now)) }
 {
