@@ -1,5 +1,4 @@
 -- How long a seek takes, and how long the way from one track to another; times are in nanoseconds.
--- Seek curves as tables of measured points: Ruemmler and Wilkes, "An introduction to disk drive modeling", 1994.
 use Rattle.std.specs.Prelude.{ℕ, ◌+◌, ◌-◌, ◌*◌, ◌/◌, List, [], ◌∷◌, Bool, ◌==◌, nat_le, max, if◌then◌else◌}
 use Rattle.fb_units.specs.declared.types.Track.{Track}
 use Rattle.fb_units.specs.Tracks.{same_track}

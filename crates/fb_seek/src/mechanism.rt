@@ -80,7 +80,8 @@ impl Mechanism {
     }
 
     /// The time, in nanoseconds, from one track to another, at most 2 * 10^9: 0 for the same track,
-    /// else the greater of the seek and the head switch, and the settle time as well for a write.
+    /// else the greater of the seek and, if the heads differ, the head switch; plus the settle time
+    /// for a write.
     pub fn pos(&self, source: Track, target: Track, write: bool) -> Ns
         requires source { source.cylinder < self.now.cylinders }
         requires target { target.cylinder < self.now.cylinders }
