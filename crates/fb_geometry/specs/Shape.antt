@@ -1,4 +1,4 @@
--- The outline of a disk. Zones, skews, spares and defects: Ruemmler and Wilkes, "An introduction to disk drive modeling", 1994.
+-- The outline of a disk. Zones, skews and defects: Ruemmler and Wilkes, "An introduction to disk drive modeling", 1994.
 use Rattle.std.specs.Prelude.{ℕ, ◌+◌, ◌-◌, ◌*◌, ◌%◌, ◌<◌, List, [], ◌∷◌, Bool, ◌&&◌, ◌==◌, nat_le, if◌then◌else◌}
 use Rattle.std.specs.List.{list_any}
 use Rattle.fb_units.specs.declared.types.Place.{Place}

@@ -22,8 +22,7 @@ use std::alloc::Global;
 use std::marker::Model;
 
 /// The geometry of a disk: which slots its tracks have, and which of them hold data. Zones, skews
-/// and defects are as Ruemmler and Wilkes describe them, "An introduction to disk drive modeling",
-/// 1994.
+/// and defects: Ruemmler and Wilkes, "An introduction to disk drive modeling", 1994.
 #[derive(Drop)]
 pub struct Geometry {
     outline: Outline,
