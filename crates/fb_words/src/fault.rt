@@ -27,9 +27,9 @@ pub enum UsageReason {
 /// The first faulty word, and why it is refused.
 #[derive(Clone, Copy)]
 pub struct UsageFault {
-    /// The index of the word, where the name of the program has index 0; the number of words if
-    /// something is missing at the end. An index that doesn't fit in 32 bits is the last one that
-    /// does.
+    /// The index of the word, where the name of the program has index 0. For `NoCommand`,
+    /// `MissingOption` and `CallsAndBack` it is the number of words. An index that doesn't fit in
+    /// 32 bits is the last one that does.
     pub place: u32,
     /// The reason.
     pub reason: UsageReason,
