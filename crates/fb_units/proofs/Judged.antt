@@ -1,4 +1,4 @@
--- What steps show that did not refuse.
+-- What follows from checks that didn't refuse.
 use Rattle.std.proofs.Common.{◌≡◌, ℕ, ◌≤◌, ◌^◌, Bool, true, false, refl, arith, Option, Some, None, Result, Ok, Err, List}
 use Rattle.std.specs.Prelude.{if◌then◌else◌, ◌&&◌, ◌==◌}
 use Rattle.std.specs.Char.{is_ascii_digit}
@@ -7,7 +7,7 @@ use Rattle.std.proofs.lemmas.Bool.Decides.{nat_tests}
 use Rattle.fb_units.specs.Judging.{◌>>=◌, or_refuse, refuse, refused_as}
 use Rattle.fb_units.specs.Numbers.{within, are_digits, digits_after, number_of, millis_of}
 
--- both steps gave a value
+-- if two checks one after another didn't refuse, neither did
 pub both_ok : {A B E : Type 0} (r : Result A E) (f : A → Result B E) (b : B) → (r >>= f) ≡ Ok b → (a : A) × (r ≡ Ok a) × (f a ≡ Ok b)
 both_ok (Ok a) f b given = (a, refl, given)
 both_ok (Err e) f b given = cc

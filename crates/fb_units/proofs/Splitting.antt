@@ -10,16 +10,16 @@ use Rattle.std.proofs.lemmas.Bool.{cases_lt, cases_Bool}
 use Rattle.std.proofs.lemmas.Bool.Decides.{nat_tests}
 use Rattle.fb_units.specs.Lines.{is_blank, but_empty_last, lines_of, fields_of}
 
--- a first part stays where others follow it
+-- a first part is not left out if others follow it
 but_empty_last-cons : (part : List ℕ) (parts : List (List ℕ)) → 0 < length parts → but_empty_last (part ∷ parts) ≡ part ∷ but_empty_last parts
 but_empty_last-cons part [] some = absurd (omega arith)
 but_empty_last-cons part (next ∷ parts) some = refl
 
--- a lone part stays where it isn't empty
+-- a single part is not left out if it isn't empty
 but_empty_last-one : (part : List ℕ) → 0 < length part → but_empty_last (part ∷ []) ≡ part ∷ []
 but_empty_last-one part some = grind (arith, nat_tests)
 
--- no byte is the one looked for
+-- if a search ends at the end of the text, no byte passes its test
 none_before : (p : ℕ → Bool) (text : List ℕ) → length text ≤ position_or_len p text → All (λ c. p c ≡ false) text
 none_before p text past = λ k d low. fails_before_first p text k d (omega arith)
 
@@ -56,7 +56,7 @@ fields_blank b line blank = rw blank refl
 drop_first : (n b : ℕ) (line : List ℕ) → drop (1 + n) (b ∷ line) ≡ drop n line
 drop_first n b line = let one : 1 + n ≡ suc n = omega arith in rw one refl
 
--- one blank more, or none
+-- a blank at the front is passed over, and any other byte isn't
 behind_one : (b : ℕ) (line : List ℕ) → is_blank b ≡ true → drop (prefix_len is_blank (b ∷ line)) (b ∷ line) ≡ drop (prefix_len is_blank line) line
 behind_one b line blank = rw blank (drop_first (prefix_len is_blank line) b line)
 
@@ -70,11 +70,11 @@ fields_behind (b ∷ line) = elim (cases_Bool (is_blank b)) [
   | inr other ↦ ap fields_of (behind_none b line other)
 ]
 
--- no field is left where nothing stands behind the blanks
+-- no field is left if nothing follows the blanks
 pub fields_end : (line text : List ℕ) → text ≡ drop (prefix_len is_blank line) line → length text ≡ 0 → fields_of line ≡ []
 fields_end line text e none = sym (fields_behind line) ∙ ap fields_of (sym e ∙ nil_from_length text none) ∙ fields_none
 
--- a field at the front
+-- a part at the front that isn't empty is the first field
 fields_of_parts : (text field : List ℕ) (parts : List (List ℕ)) → slice_split is_blank text ≡ field ∷ parts → 0 < length field
     → fields_of text ≡ field ∷ filter (λ f. nat_lt 0 (length f)) parts
 unfolding fields_of
@@ -101,7 +101,7 @@ fields_first text some starts =
           ∙ ap (λ more. before_first is_blank text ∷ more) (sym (ap fields_of (drop_all (position_or_len is_blank text) text past) ∙ fields_none))
     ]
 
--- what stands behind the blanks doesn't start with one
+-- what follows the blanks doesn't begin with a blank, so the first field isn't empty
 first_stays : (b : ℕ) (line : List ℕ) → is_blank b ≡ false → 0 < position_or_len is_blank (b ∷ line)
 first_stays b line other = rw other (omega arith)
 
@@ -115,7 +115,7 @@ starts_field (b ∷ line) = elim (cases_Bool (is_blank b)) [
   | inr other ↦ subst StartsField (sym (behind_none b line other)) (λ some. first_stays b line other)
 ]
 
--- the first field of a line, and the line after it
+-- the first field of a line, and the rest of the line
 pub fields_next : (line text field rest : List ℕ) (place : ℕ) → text ≡ drop (prefix_len is_blank line) line → 0 < length text → place ≡ position_or_len is_blank text
     → field ≡ take place text → rest ≡ drop place text → fields_of line ≡ field ∷ fields_of rest
 fields_next line text field rest place e some at front back =

@@ -4,7 +4,7 @@ use Rattle.std.proofs.lemmas.Nat.{div-add-mod', mul-le, mod-mul-add}
 use Rattle.std.proofs.lemmas.Bool.{cases_lt}
 use Rattle.fb_units.specs.Wait.{wait, IsLeastWait}
 
--- two multiples of r, each with the same rest, do not differ by less than r
+-- two different numbers with the same remainder by r differ by at least r
 same_multiple : (r p q a v w : ℕ) → v < w → w < v + r → p * r + a ≡ v → q * r + a ≡ w → ⊥
 same_multiple r p q a v w lt near e f = elim (cases_lt p q) [
   | inl k ↦ omega (arith, mul-le (p + 1) r q r (omega arith) (omega arith))
@@ -28,11 +28,11 @@ least_of r angle now w short e = record {
 below : (now r : ℕ) → 0 < r → now % r < r
 below now r h = omega arith
 
--- a multiple and a rest below it
+-- the remainder of a multiple of r and a number below r is that number
 pub rest_is : (r q a v : ℕ) → a < r → v ≡ q * r + a → v % r ≡ a
 rest_is r q a v h e = rw e (mod-mul-add q r a h)
 
--- forward from the angle here to a later one, or over the turn
+-- the way forward from the present angle reaches a later angle of this turn, or an earlier one of the next turn
 pub reaches_ahead : (r now angle : ℕ) → angle < r → now % r ≤ angle → (now + (angle - now % r)) % r ≡ angle
 reaches_ahead r now angle h le = rest_is r (now / r) angle (now + (angle - now % r)) h (omega (arith, div-add-mod' now r))
 
@@ -48,6 +48,6 @@ wait_least r angle now h = elim (cases_lt angle (now % r)) [
       rw w (least_of r angle now (angle - now % r) (omega arith) (reaches_ahead r now angle h k))
 ]
 
--- two least waits are one
+-- two least waits for the same angle are equal
 pub least_unique : (r angle now v w : ℕ) → IsLeastWait r angle now v → IsLeastWait r angle now w → v ≡ w
 least_unique r angle now v w a b = omega (arith, a.least w b.reaches, b.least v a.reaches)

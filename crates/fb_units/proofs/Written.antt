@@ -1,4 +1,4 @@
--- Milliseconds that are written and read again.
+-- A time that is written in milliseconds reads back as the same time.
 use Rattle.std.proofs.Common.{◌≡◌, ℕ, ◌+◌, ◌-◌, ◌*◌, ◌/◌, ◌%◌, ◌<◌, ◌≤◌, ◌^◌, List, [], ◌∷◌, ◌++◌, length, drop, Bool, true, false, refl, arith, Some, ◌∙◌, sym, ap, append_assoc}
 use Rattle.std.specs.Prelude.{◌&&◌, ◌==◌, decimal}
 use Rattle.std.specs.List.{list_all, before_first, after_first, position_or_len}
@@ -18,7 +18,7 @@ digits_end : (n : ℕ) (ds : List ℕ) (d : ℕ) → digits_after n (ds ++ d ∷
 digits_end n [] d = refl
 digits_end n (c ∷ ds) d = digits_end (10 * n + (c - 48)) ds d
 
--- decimal digits are digits, and write the number
+-- the decimal text of a number has only digits, and they write the number
 pub all_digits : (n : ℕ) → n < 2 ^ 64 → list_all is_ascii_digit (decimal n) ≡ true
 all_digits = decimal_by_steps (λ m ds. list_all is_ascii_digit ds ≡ true) (λ m h. rw (digit m h) refl)
     (λ m ds l h. list_all-append is_ascii_digit ds ((48 + m % 10) ∷ []) ∙ rw (h, digit (m % 10) (omega arith)) refl)
@@ -35,14 +35,14 @@ and_parts true true h = (refl, refl)
 and_parts true false h = cc
 and_parts false b h = cc
 
--- the first point stands behind the digits
+-- the first point of the text is right behind the digits
 point_at : (ds rest : List ℕ) → list_all is_ascii_digit ds ≡ true → position_or_len (λ c. c == 46) (ds ++ 46 ∷ rest) ≡ length ds
 point_at [] rest h = refl
 point_at (d ∷ ds) rest h =
     let both = and_parts (is_ascii_digit d) (list_all is_ascii_digit ds) h in
     rw (no_point d both.0, point_at ds rest both.1) (omega arith)
 
--- the parts around it
+-- the parts before and behind the point
 before_point : (ds rest : List ℕ) → list_all is_ascii_digit ds ≡ true → before_first (λ c. c == 46) (ds ++ 46 ∷ rest) ≡ ds
 before_point ds rest h = take_at ds (46 ∷ rest) _ (sym (point_at ds rest h))
 
@@ -56,7 +56,7 @@ some_digits (c ∷ ds) some h = h
 pub last_are_digits : (n : ℕ) → list_all is_ascii_digit (last_six n) ≡ true
 last_are_digits n = rw (digit (n / 100000 % 10) (omega arith), digit (n / 10000 % 10) (omega arith), digit (n / 1000 % 10) (omega arith), digit (n / 100 % 10) (omega arith), digit (n / 10 % 10) (omega arith), digit (n / 1 % 10) (omega arith)) refl
 
--- the last six digits write what is left of a million
+-- the last six digits of a number write its remainder by a million
 last_value : (n : ℕ) → digits_after 0 (six_of (last_six n)) ≡ n % 1000000
 last_value n = omega arith
 
@@ -66,7 +66,7 @@ whole_number n h = rw (some_digits (decimal n) (decimal_nonempty n (omega arith)
 whole_and_rest : (n : ℕ) → n ≤ limit → within (10 ^ 6 * (n / 1000000) + n % 1000000) ≡ Some n
 whole_and_rest n h = let same : 10 ^ 6 * (n / 1000000) + n % 1000000 ≡ n = omega arith in ap within same ∙ sym (within_limit n h)
 
--- what was written is read again
+-- what was written reads back as the same time
 pub read_back : (ns : ℕ) → ns ≤ limit → millis_of (millis_text ns) ≡ Some ns
 unfolding millis_text
 read_back ns h =
