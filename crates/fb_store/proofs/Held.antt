@@ -1,4 +1,4 @@
--- What a sector holds, by where the ranges begin.
+-- What a sector holds, according to where the ranges begin.
 use Rattle.std.proofs.Common.{◌≡◌, ◌≢◌, ℕ, ◌<◌, ◌≤◌, Option, Some, None, refl, false, arith, sym, ap, ap₂, ◌∙◌, suc, zero, inl, inr, rules}
 use Rattle.std.specs.Option.{unwrap_or, IsSome}
 use Rattle.std.specs.Ordering.{nat_cmp, is_gt, is_lt}
@@ -19,7 +19,7 @@ pub some_there : (o : Option (Option Content)) (w : Option Content) → o ≡ So
 some_there None w e = absurd (grind arith)
 some_there (Some v) w e = search rules
 
--- the range that begins at the sector says what it holds
+-- a sector holds the content of the range that begins at it
 pub held_here : (begins : Begins) (lbn : ℕ) (w : Option Content) → begins lbn ≡ Some w → held_of begins lbn ≡ w
 held_here begins zero w e = ap (λ o. unwrap_or o None) e
 held_here begins (suc n) w e = ap (λ o. unwrap_or o (held_of begins n)) e
@@ -27,7 +27,7 @@ held_here begins (suc n) w e = ap (λ o. unwrap_or o (held_of begins n)) e
 held_before : (begins : Begins) (n : ℕ) → begins (suc n) ≡ None → held_of begins (suc n) ≡ held_of begins n
 held_before begins n e = ap (λ o. unwrap_or o (held_of begins n)) e
 
--- a range goes on as long as no other begins
+-- sectors hold the same as long as no other range begins
 pub steady : (begins : Begins) (first lbn : ℕ) → first ≤ lbn → ((begin : ℕ) → first < begin → begin ≤ lbn → begins begin ≡ None) → held_of begins lbn ≡ held_of begins first
 steady begins first zero le none = let same : zero ≡ first = omega arith in ap (held_of begins) same
 steady begins first (suc n) le none = elim (cases_lt n first) [
@@ -39,12 +39,12 @@ pub none_held : (begins : Begins) (lbn : ℕ) → ((begin : ℕ) → begin ≤ l
 none_held begins zero none = ap (λ o. unwrap_or o None) (none zero (omega arith))
 none_held begins (suc n) none = held_before begins n (none (suc n) (omega arith)) ∙ none_held begins n (λ begin b. none begin (omega arith))
 
--- the same ranges begin up to a sector
+-- a sector holds the same with other ranges if the same ranges begin up to it
 agree_below : (begins others : Begins) (lbn : ℕ) → ((begin : ℕ) → begin ≤ lbn → others begin ≡ begins begin) → held_of others lbn ≡ held_of begins lbn
 agree_below begins others zero same = ap (λ o. unwrap_or o None) (same zero (omega arith))
 agree_below begins others (suc n) same = ap₂ (λ o w. unwrap_or o w) (same (suc n) (omega arith)) (agree_below begins others n (λ begin b. same begin (omega arith)))
 
--- the same ranges begin after a sector that holds the same
+-- a sector holds the same with other ranges if one before it does, and the same ranges begin after that one
 agree_from : (begins others : Begins) (at lbn : ℕ) → at ≤ lbn → held_of others at ≡ held_of begins at → ((begin : ℕ) → at < begin → others begin ≡ begins begin) → held_of others lbn ≡ held_of begins lbn
 agree_from begins others at zero le here same = let e : at ≡ zero = omega arith in ap (held_of others) (sym e) ∙ (here ∙ ap (held_of begins) e)
 agree_from begins others at (suc n) le here same = elim (cases_lt n at) [
@@ -61,7 +61,7 @@ is_not_above a b le = grind (arith, nat_tests)
 pub not_below : (a b : ℕ) → is_lt (nat_cmp a b) ≡ false → b ≤ a
 not_below a b e = grind (arith, nat_tests)
 
--- the last range that begins at a sector or before it says what the sector holds
+-- a sector holds the content of the last range that begins at it or before it
 pub held_last : (begins : Begins) (begin lbn : ℕ) (w : Option Content) → begins begin ≡ Some w → is_gt (nat_cmp begin lbn) ≡ false
     → ((later : ℕ) → is_gt (nat_cmp later lbn) ≡ false → IsSome (begins later) → is_lt (nat_cmp begin later) ≡ false) → w ≡ held_of begins lbn
 held_last begins begin lbn w here le last =
@@ -72,7 +72,7 @@ held_last begins begin lbn w here le last =
 other_key : (at begin : ℕ) → begin ≢ at → is_at (nat_cmp at) begin ≡ false
 other_key at begin apart = grind (arith, nat_tests)
 
--- a cut changes nothing that a sector holds
+-- a cut doesn't change what sectors hold
 pub cut_same : (begins others : Begins) (at : ℕ) → others at ≡ Some (held_of begins at) → ((begin : ℕ) → is_at (nat_cmp at) begin ≡ false → others begin ≡ begins begin)
     → (lbn : ℕ) → held_of others lbn ≡ held_of begins lbn
 cut_same begins others at here others_stay lbn = elim (cases_lt lbn at) [
@@ -80,7 +80,7 @@ cut_same begins others at here others_stay lbn = elim (cases_lt lbn at) [
   | inr more ↦ agree_from begins others at lbn more (held_here others at (held_of begins at) here) (λ begin b. others_stay begin (other_key at begin (λ e. absurd (omega arith))))
 ]
 
--- what a write leaves: begins before it, put with the new range, and left without those between
+-- what sectors hold after a write: `begins` are the ranges before it, `put` those with the new one, `left` those without the ones in it
 module _ (begins put left : Begins) (first end : ℕ) (w : Option Content) (some : first < end)
     (here : put first ≡ Some w) (put_stays : (begin : ℕ) → is_at (nat_cmp first) begin ≡ false → put begin ≡ begins begin)
     (inside : (begin : ℕ) → first < begin → begin < end → left begin ≡ None) (below : (begin : ℕ) → begin ≤ first → left begin ≡ put begin) (above : (begin : ℕ) → end ≤ begin → left begin ≡ put begin) where
@@ -95,7 +95,7 @@ module _ (begins put left : Begins) (first end : ℕ) (w : Option Content) (some
       (held_here left end (held_of begins end) (above end (omega arith) ∙ (put_stays end (other_key first end (λ e. absurd (omega arith))) ∙ at_end)))
       (λ begin b. above begin (omega arith) ∙ put_stays begin (other_key first begin (λ e. absurd (omega arith))))
 
--- a range has the content that all ranges in it have
+-- if all ranges that begin within some sectors have one content, all these sectors hold it
 value_or : (o : Option (Option Content)) (before w : Option Content) → before ≡ w → (IsSome o → o ≡ Some w) → unwrap_or o before ≡ w
 value_or None before w e same = e
 value_or (Some x) before w e same = ap (λ o. unwrap_or o before) (same (search rules))

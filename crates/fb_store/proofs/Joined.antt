@@ -1,4 +1,4 @@
--- A run after the fewest runs joins the last one, or stands after it.
+-- A run behind the fewest runs joins the last of them, or becomes a run of its own.
 use Rattle.std.proofs.Common.{◌≡◌, ℕ, ◌+◌, ◌<◌, List, [], ◌∷◌, ◌++◌, refl, true, false, true≢false, Bool, cond, arith, sym, ap, ap₂, ◌∙◌, ◌&&◌, ◌==◌, suc, zero, eqb→eq, length, get_or, set}
 use Rattle.fb_store.specs.declared.content.Content.{Content}
 use Rattle.fb_store.specs.declared.content.ContentRun.{ContentRun}
@@ -9,7 +9,7 @@ use Rattle.fb_store.proofs.Longest.{run_of, run_ahead}
 abbrev pub longer : ContentRun → ContentRun → ContentRun
 longer last run = record { first = last.first; count = last.count + run.count; content = last.content }
 
--- runs with one more, which joins the last one if it can
+-- the runs with one more, which joins the last one if it continues it
 abbrev glued : List ContentRun → ContentRun → List ContentRun
 glued [] run = run ∷ []
 glued (last ∷ []) run = cond (joins last run) (longer last run ∷ []) (last ∷ run ∷ [])
@@ -74,7 +74,7 @@ one_run : (first count : ℕ) (content : Content) → 0 < count → runs_of (sec
 one_run first zero content some = absurd (omega arith)
 one_run first (suc n) content some = run_ahead (λ lbn. content) first n 0 n content (omega arith) (λ lbn a b. refl) (λ none. absurd (omega arith))
 
--- the fewest runs of sectors and a run's own
+-- the fewest runs of some sectors followed by those of a run
 glue : (sectors : List (ℕ × Content)) (run : ContentRun) → 0 < run.count → runs_of (sectors ++ sectors_in run) ≡ glued (runs_of sectors) run
 glue [] run some = one_run run.first run.count run.content some
 glue (sector ∷ sectors) run some = ap (with_content sector.0 sector.1) (glue sectors run some) ∙ glued_with sector.0 sector.1 (runs_of sectors) run
@@ -90,7 +90,7 @@ pushed_last runs run some fewest apart = push_last runs run apart ∙ (ap (λ rs
 pub joins-first : (a b : ContentRun) → joins a b ≡ true → b.first ≡ a.first + a.count
 joins-first a b joined = eqb→eq b.first (a.first + a.count) (so (b.first == a.first + a.count) (left (b.first == a.first + a.count) (same_content a.content b.content) joined))
 
--- the runs of sectors are the fewest of their own
+-- the fewest runs of some sectors are the fewest runs of the sectors that they have
 pub fewest-again : (sectors : List (ℕ × Content)) (runs : List ContentRun) → runs ≡ runs_of sectors → (sectors_of runs ≡ sectors) × (runs ≡ runs_of (sectors_of runs))
 fewest-again sectors runs e =
     let own = ap sectors_of e ∙ sectors_of-runs_of sectors in

@@ -26,7 +26,7 @@ apart_joined : (b : Bool) (lbn next : ℕ) (content other : Content) (run : Cont
 apart_joined true lbn next content other run runs e = not_joined (next == lbn + 1) (same_content content other) _ _ e
 apart_joined false lbn next content other run runs e = not_joined (next == lbn + 1) (same_content content other) _ _ e
 
--- a sector stays apart from one of other content
+-- a sector doesn't join a run of another content
 apart : (lbn next : ℕ) (content other : Content) (runs : List ContentRun) → same_content content other ≡ false
     → with_content lbn content (with_content next other runs) ≡ run_of lbn 1 content ∷ with_content next other runs
 apart lbn next content other [] e = not_joined (next == lbn + 1) (same_content content other) _ _ e
@@ -36,7 +36,7 @@ pub same_itself : (content : Content) → same_content content content ≡ true
 same_itself (Filled writer) = grind (arith, nat_tests)
 same_itself Unreadable = refl
 
--- a sector joins the run after it that has its content
+-- a sector joins the run behind it if that has the same content
 joins_next : (lbn n : ℕ) (content : Content) (runs : List ContentRun) → with_content lbn content (run_of (lbn + 1) n content ∷ runs) ≡ run_of lbn (n + 1) content ∷ runs
 joins_next lbn n content runs =
     let here : ((lbn + 1) == (lbn + 1)) ≡ true = grind (arith, nat_tests) in
@@ -105,7 +105,7 @@ count_with : (lbn : ℕ) (content : Content) (runs : List ContentRun) → sum_by
 count_with lbn content [] = refl
 count_with lbn content (run ∷ runs) = count_joined ((run.first == lbn + 1) && same_content content run.content) lbn content run runs
 
--- all sectors are in the runs
+-- the runs of n sectors have n sectors together
 pub sum_by-runs_of-held : (content_of : ℕ → Content) (first n : ℕ) → sum_by (λ run. run.count) (runs_of (held content_of first n)) ≡ n
 sum_by-runs_of-held content_of first zero = refl
 sum_by-runs_of-held content_of first (suc n) =
@@ -131,7 +131,7 @@ ends-runs_of-held content_of first zero bound within = tt
 ends-runs_of-held content_of first (suc n) bound within =
     ends_with first bound (content_of first) (runs_of (held content_of (first + 1) n)) (omega arith) (ends-runs_of-held content_of (first + 1) n bound (omega arith))
 
--- a run and one of its content after it are one run
+-- a run and a run of the same content right behind it make one run
 pub IsRun-joined : (content_of : ℕ → Content) (first end : ℕ) (run next : ContentRun) → IsRun content_of first end run → IsRun content_of (run.first + run.count) end next
     → same_content run.content next.content ≡ true → IsRun content_of first end (record { first = run.first; count = run.count + next.count; content = run.content })
 IsRun-joined content_of first end run next is more same =
@@ -146,14 +146,14 @@ IsRun-joined content_of first end run next is more same =
       ];
     }
 
--- the runs so far, when the longest run at a sector comes to them
+-- the runs so far and the longest run at the next sector, followed by the runs of the rest, are the runs of the whole
 pub one_more : (content_of : ℕ → Content) (lbn end : ℕ) (run : ContentRun) (runs more : List ContentRun) → IsLongestRun content_of lbn end run → more ≡ runs ++ run ∷ []
     → more ++ runs_of (held content_of (lbn + run.count) (end - (lbn + run.count))) ≡ runs ++ runs_of (held content_of lbn (end - lbn))
 one_more content_of lbn end run runs more is e =
     let rest = runs_of (held content_of (lbn + run.count) (end - (lbn + run.count))) in
     ap (λ all. all ++ rest) e ∙ (append_assoc runs (run ∷ []) rest ∙ ap (λ all. runs ++ all) (sym (runs_of-longest content_of lbn end run is)))
 
--- and when no sector is left
+-- if no sector is left, the runs so far are the runs of the whole
 pub all_runs : (content_of : ℕ → Content) (lbn end : ℕ) (runs : List ContentRun) → end ≤ lbn → runs ≡ runs ++ runs_of (held content_of lbn (end - lbn))
 all_runs content_of lbn end runs past =
     let none : end - lbn ≡ 0 = omega arith in

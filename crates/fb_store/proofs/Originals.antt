@@ -1,4 +1,4 @@
--- What sectors hold before any write, and what a write leaves in them.
+-- What sectors hold before any write, and after one.
 use Rattle.std.proofs.Common.{◌≡◌, ℕ, ◌+◌, ◌-◌, ◌<◌, ◌≤◌, List, [], ◌∷◌, Option, Some, None, refl, true, false, Bool, cond, ◌||◌, ◌==◌, arith, sym, ap, ap₂, ◌∙◌, inl, inr}
 use Rattle.std.specs.Ordering.{nat_cmp}
 use Rattle.std.specs.BTreeMap.{is_at}
@@ -17,7 +17,7 @@ use Rattle.fb_store.proofs.Held.{steady, none_there, none_held}
 same_key : (lbn bad : ℕ) → is_at (nat_cmp lbn) bad ≡ (bad == lbn)
 same_key lbn bad = grind (arith, nat_tests)
 
--- a set's look-up is a search of the list
+-- a look-up in the set of latent sectors finds what a search of their list finds
 pub any_key : (keys : List ℕ) (lbn : ℕ) → list_any (is_at (nat_cmp lbn)) keys ≡ list_any (λ bad. bad == lbn) keys
 any_key [] lbn = refl
 any_key (bad ∷ keys) lbn = ap₂ (λ a b. a || b) (same_key lbn bad) (any_key keys lbn)
@@ -46,7 +46,7 @@ content_written first n writer lbn was is original here less more = elim (cases_
   ]
 ]
 
--- up to the next latent sector all hold the first fill
+-- sectors up to the next latent one hold the first fill
 pub IsRun-original : (keys : List ℕ) (first end bad : ℕ) → first < bad → bad ≤ end → ((lbn : ℕ) → first ≤ lbn → lbn < bad → list_any (is_at (nat_cmp lbn)) keys ≡ false)
     → IsRun (unwritten keys) first end (record { first = first; count = bad - first; content = Filled 0 })
 IsRun-original keys first end bad some within none = record {
@@ -61,14 +61,14 @@ pub goes_on : (ranges : List (ℕ × Option Content)) (first stop lbn : ℕ) →
 goes_on ranges first stop lbn next from to = steady (begins_at ranges) first lbn from
     (λ begin a b. none_there (begins_at ranges begin) (λ some. let past : stop ≤ begin = next begin some a in absurd (omega arith)))
 
--- nothing is written where no range begins
+-- without any range, sectors hold what was there before any write
 pub content_in-empty : (ranges : List (ℕ × Option Content)) (keys latent : List ℕ) (lbn : ℕ) → ranges ≡ [] → list_any (is_at (nat_cmp lbn)) keys ≡ list_any (is_at (nat_cmp lbn)) latent
     → content_in (record { latent = keys; ranges = ranges }) lbn ≡ unwritten latent lbn
 content_in-empty ranges keys latent lbn none same =
     ap (λ w. unwrap_or w (unwritten keys lbn)) (ap (λ rs. held_of (begins_at rs) lbn) none ∙ none_held (begins_at []) lbn (λ begin le. refl))
     ∙ ap (λ any. cond any Unreadable (Filled 0)) (sym (any_key keys lbn) ∙ (same ∙ any_key latent lbn))
 
--- sectors of a range that has a content
+-- the sectors up to the next range make a run if the range has a content
 pub IsRun-written : (ranges : List (ℕ × Option Content)) (latent : List ℕ) (first end stop : ℕ) (content : Content) → first < stop → stop ≤ end → Some content ≡ held_of (begins_at ranges) first
     → ((begin : ℕ) → IsSome (begins_at ranges begin) → first < begin → stop ≤ begin)
     → IsRun (content_in (record { latent = latent; ranges = ranges })) first end (record { first = first; count = stop - first; content = content })
@@ -79,7 +79,7 @@ IsRun-written ranges latent first end stop content some within here next = recor
   same = λ lbn a b. ap (λ w. unwrap_or w (unwritten latent lbn)) (goes_on ranges first stop lbn next a (omega arith) ∙ sym here);
 }
 
--- sectors of a range that has none
+-- if the range has no content, a run of what was there before any write is a run of the store
 pub IsRun-unwritten : (ranges : List (ℕ × Option Content)) (latent : List ℕ) (first end stop : ℕ) (run : ContentRun) → stop ≤ end → None ≡ held_of (begins_at ranges) first
     → ((begin : ℕ) → IsSome (begins_at ranges begin) → first < begin → stop ≤ begin)
     → IsRun (unwritten latent) first stop run → IsRun (content_in (record { latent = latent; ranges = ranges })) first end run

@@ -1,4 +1,4 @@
--- The runs of sectors give just those contents, and no two neighbours could be one.
+-- The fewest runs of sectors give exactly these contents, and no run continues the one before it.
 use Rattle.std.proofs.Common.{◌≡◌, ℕ, ◌+◌, List, [], ◌∷◌, ◌++◌, refl, true, false, map, Bool, cond, T, arith, sym, ap, ap₂, ◌∙◌, true≢false, eqb→eq, ◌&&◌, ◌==◌, suc}
 use Rattle.std.specs.List.{range_with_len}
 use Rattle.fb_store.specs.declared.content.Content.{Content}
@@ -24,7 +24,7 @@ is_same (Filled a) Unreadable p = absurd (true≢false (sym p))
 is_same Unreadable (Filled b) p = absurd (true≢false (sym p))
 is_same Unreadable Unreadable p = refl
 
--- either of what a sector before runs can give
+-- a sector before some runs: joined with the first run, or a run of its own
 abbrev pub joined : Bool → ℕ → Content → ContentRun → List ContentRun → List ContentRun
 joined b lbn content run runs = cond b (record { first = lbn; count = run.count + 1; content = content } ∷ runs) (record { first = lbn; count = 1; content = content } ∷ run ∷ runs)
 
@@ -44,7 +44,7 @@ with_one lbn content (run ∷ runs) = grown ((run.first == lbn + 1) && same_cont
     (λ p. eqb→eq run.first (lbn + 1) (so (run.first == lbn + 1) (left (run.first == lbn + 1) (same_content content run.content) p)))
     (λ p. is_same content run.content (right (run.first == lbn + 1) (same_content content run.content) p))
 
--- the runs give just these contents, in their order
+-- the runs give exactly these contents, in this order
 pub sectors_of-runs_of : (sectors : List (ℕ × Content)) → sectors_of (runs_of sectors) ≡ sectors
 sectors_of-runs_of [] = refl
 sectors_of-runs_of (sector ∷ sectors) = with_one sector.0 sector.1 (runs_of sectors) ∙ ap (λ rest. sector ∷ rest) (sectors_of-runs_of sectors)
@@ -62,7 +62,7 @@ few_with lbn content (run ∷ runs) few = few_joined ((run.first == lbn + 1) && 
     (λ p. eqb→eq run.first (lbn + 1) (so (run.first == lbn + 1) (left (run.first == lbn + 1) (same_content content run.content) p)))
     (λ p. is_same content run.content (right (run.first == lbn + 1) (same_content content run.content) p)) few
 
--- and are the fewest
+-- no run continues the one before it
 pub AreFewest-runs_of : (sectors : List (ℕ × Content)) → AreFewest (runs_of sectors)
 AreFewest-runs_of [] = tt
 AreFewest-runs_of (sector ∷ sectors) = few_with sector.0 sector.1 (runs_of sectors) (AreFewest-runs_of sectors)

@@ -1,4 +1,4 @@
--- What taken contents and a dropped range leave, and the contents of ranges.
+-- What sectors hold after contents were taken or a range was dropped, and the contents of ranges.
 use Rattle.std.proofs.Common.{◌≡◌, ℕ, ◌+◌, ◌-◌, ◌<◌, ◌≤◌, List, [], ◌∷◌, ◌++◌, Option, Some, None, refl, true, false, map, Bool, cond, arith, sym, ap, ap₂, ◌∙◌, ◌==◌, suc, zero, inl, inr, take, append_assoc, append-nil, slice_get, subst}
 use Rattle.std.specs.Option.{IsSome}
 use Rattle.std.specs.List.{range_with_len, AllByRecursion}
@@ -27,7 +27,7 @@ not_yet first lbn less = grind (arith, nat_tests)
 here : (first lbn : ℕ) → first ≡ lbn → (first == lbn) ≡ true
 here first lbn same = grind (arith, nat_tests)
 
--- sectors in a row, taken
+-- the contents of neighbouring sectors are taken
 on : (content_of : ℕ → Content) (first n lbn : ℕ) (held : Option Content) (b : Bool) → (first == lbn) ≡ b
     → after_taking (map (λ l. (l, content_of l)) (range_with_len first (suc n))) lbn held ≡ after_taking (map (λ l. (l, content_of l)) (range_with_len (first + 1) n)) lbn (cond b (Some (content_of first)) held)
 on content_of first n lbn held b e = ap (λ x. after_taking (map (λ l. (l, content_of l)) (range_with_len (first + 1) n)) lbn (cond x (Some (content_of first)) held)) e
@@ -48,7 +48,7 @@ taken_inside content_of first (suc n) lbn held from to = elim (cases_lt first lb
       on content_of first n lbn held true (here first lbn same) ∙ (taken_before content_of (first + 1) n lbn (Some (content_of first)) (omega arith) ∙ ap (λ l. Some (content_of l)) same)
 ]
 
--- the contents of a block, taken
+-- the contents of a block are taken
 pub taken_block : (content_of : ℕ → Content) (first n lbn : ℕ) (sectors : List (ℕ × Content)) (held : Option Content) → sectors ≡ map (λ l. (l, content_of l)) (range_with_len first n)
     → after_taking sectors lbn held ≡ after_take content_of first n lbn held
 taken_block content_of first n lbn sectors held e = ap (λ ss. after_taking ss lbn held) e ∙ elim (cases_lt lbn first) [
@@ -59,7 +59,7 @@ taken_block content_of first n lbn sectors held e = ap (λ ss. after_taking ss l
   ]
 ]
 
--- one more run, taken
+-- one more run is taken
 pub taken_more : (runs : List ContentRun) (i : ℕ) (run : ContentRun) (lbn : ℕ) (original was is : Option Content) → take (i + 1) runs ≡ take i runs ++ run ∷ []
     → was ≡ after_taking (sectors_of (take i runs)) lbn original
     → (run.first ≤ lbn → lbn < run.first + run.count → is ≡ Some run.content) → (lbn < run.first → is ≡ was) → (run.first + run.count ≤ lbn → is ≡ was)
@@ -78,7 +78,7 @@ taken_more runs i run lbn original was is split so_far within less more =
       sectors_more [] run = append-nil (sectors_in run)
       sectors_more (first ∷ runs) run = ap (λ rest. sectors_in first ++ rest) (sectors_more runs run) ∙ sym (append_assoc (sectors_in first) (sectors_of runs) (sectors_in run))
 
--- what a drop leaves
+-- what a sector holds after a range was dropped
 pub dropped : (first n lbn : ℕ) (was is : Option Content) → (first ≤ lbn → lbn < first + n → is ≡ None) → (lbn < first → is ≡ was) → (first + n ≤ lbn → is ≡ was)
     → is ≡ after_dropping first n lbn was
 dropped first n lbn was is within less more = elim (cases_lt lbn first) [
@@ -92,7 +92,7 @@ dropped first n lbn was is within less more = elim (cases_lt lbn first) [
 pub nothing_dropped : (first n lbn : ℕ) (was : Option Content) → n ≡ 0 → was ≡ after_dropping first n lbn was
 nothing_dropped first n lbn was none = dropped first n lbn was was (λ a b. absurd (omega arith)) (λ a. refl) (λ a. refl)
 
--- nothing is held where no range begins
+-- without any range, no sector holds anything
 pub held_at-empty : (ranges : List (ℕ × Option Content)) (lbn : ℕ) → ranges ≡ [] → held_at ranges lbn ≡ None
 held_at-empty ranges lbn none = ap (λ rs. held_at rs lbn) none ∙ none_held (begins_at []) lbn (λ begin le. refl)
 
@@ -120,7 +120,7 @@ held_none content_of first zero all = refl
 held_none content_of first (suc n) all =
     ap₂ (λ o rest. held_sector first o ++ rest) (all first (omega arith) (omega arith)) (held_none content_of (first + 1) n (λ lbn a b. all lbn (omega arith) (omega arith)))
 
--- the contents up to where the next range begins
+-- the contents of the sectors up to the next range are one run, or none
 pub held_piece : (ranges : List (ℕ × Option Content)) (lbn next : ℕ) (content : Content) → lbn < next → ((begin : ℕ) → IsSome (begins_at ranges begin) → lbn < begin → next ≤ begin)
     → Some content ≡ held_at ranges lbn → held_in (held_at ranges) (range_with_len lbn (next - lbn)) ≡ sectors_in (record { first = lbn; count = next - lbn; content = content })
 held_piece ranges lbn next content some least held =
@@ -134,7 +134,7 @@ held_gap ranges lbn next some least held =
 pub none_added : (runs : List ContentRun) (sectors : List (ℕ × Content)) → sectors ≡ [] → runs ≡ runs_of (sectors_of runs) → runs ≡ runs_of (sectors_of runs ++ sectors)
 none_added runs sectors none fewest = fewest ∙ ap runs_of (sym (append-nil (sectors_of runs)) ∙ ap (λ ss. sectors_of runs ++ ss) (sym none))
 
--- the runs of a range so far, and one piece more
+-- the runs of a range so far, and those up to the next range
 pub added_more : (content_of : ℕ → Option Content) (start : List (ℕ × Content)) (runs more : List ContentRun) (first lbn next : ℕ) → first ≤ lbn → lbn ≤ next
     → runs ≡ runs_of (start ++ held_in content_of (range_with_len first (lbn - first)))
     → more ≡ runs_of (sectors_of runs ++ held_in content_of (range_with_len lbn (next - lbn)))
@@ -156,13 +156,13 @@ all_at P [] i run all at = absurd (grind arith)
 all_at P (first ∷ runs) zero run all at = subst P (some_one first run at) all.0
 all_at P (first ∷ runs) (suc i) run all at = all_at P runs i run all.1 at
 
--- a list up to one place more
+-- the first i + 1 elements of a list are the first i and the one behind them
 pub take_one : (runs : List ContentRun) (i : ℕ) (run : ContentRun) → slice_get runs i ≡ Some run → take (i + 1) runs ≡ take i runs ++ run ∷ []
 take_one [] i run at = absurd (grind arith)
 take_one (first ∷ runs) zero run at = ap (λ x. x ∷ []) (some_one first run at)
 take_one (first ∷ runs) (suc i) run at = let more : suc i + 1 ≡ suc (i + 1) = omega arith in rw more (ap (λ rest. first ∷ rest) (take_one runs i run at))
 
--- what is so of all before a place and of the one there
+-- what holds of the first i runs and of the next one holds of the first i + 1
 pub so_far_more : (P : ContentRun → Type 0) (runs : List ContentRun) (i : ℕ) (run : ContentRun) → slice_get runs i ≡ Some run → ((j : ℕ) (r : ContentRun) → j < i → slice_get runs j ≡ Some r → P r) → P run
     → (j : ℕ) (r : ContentRun) → j < i + 1 → slice_get runs j ≡ Some r → P r
 so_far_more P runs i run at before here j r less there = elim (cases_lt j i) [
@@ -170,7 +170,7 @@ so_far_more P runs i run at before here j r less there = elim (cases_lt j i) [
   | inr m ↦ let same : j ≡ i = omega arith in subst P (some_one run r (sym at ∙ (ap (slice_get runs) (sym same) ∙ there))) here
 ]
 
--- contents that end by a sector leave all from there on
+-- contents that end by a sector change nothing from that sector on
 pub taken_past : (end lbn : ℕ) (runs : List ContentRun) (held : Option Content) → AllByRecursion (λ run. run.first + run.count ≤ end) runs → end ≤ lbn → after_taking (sectors_of runs) lbn held ≡ held
 taken_past end lbn [] held all past = refl
 taken_past end lbn (run ∷ runs) held all past =
