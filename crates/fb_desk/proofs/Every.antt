@@ -4,7 +4,7 @@ use Rattle.fb_desk.specs.declared.desk.Input.TheVariants.{Params, Trace, Calls}
 use Rattle.fb_desk.specs.declared.each.EachInput.{EachInput}
 use Rattle.fb_desk.specs.Each.{of_input, with_input}
 
--- what holds of each thing, and of a new one, holds of each with the new one among them
+-- what holds of the value of each input, and of a new value, holds of each input when one of them has the new value
 pub every-with_input : {T : Type 0} (P : T → Type 0) (each : EachInput T) (which : Input) (thing : T) → ((other : Input) → P (of_input each other)) → P thing
     → (other : Input) → P (of_input (with_input each which thing) other)
 every-with_input P each Params thing all here = elim [ Params ↦ here | Trace ↦ all Trace | Calls ↦ all Calls ]
