@@ -10,7 +10,7 @@ use Rattle.fb_wanted.specs.Counting.{of_task, counts_of, no_counts, sum_of, reco
 use Rattle.fb_wanted.specs.Index.{with_state}
 use Rattle.fb_wanted.proofs.Sums.{sum-with_state, sum_at}
 
--- counts of equal parts
+-- counts are equal if each of them is
 pub same_counts : (a b : Counts) → a.registered ≡ b.registered → a.delivered ≡ b.delivered → a.aborted ≡ b.aborted → a ≡ b
 same_counts a b x y z = rw (x, y, z) refl
 
@@ -26,7 +26,7 @@ counts-append task xs ys =
     let c = filtered-append (λ e. is_aborted e.state) own xs ys in
     rw (a, b, c) refl
 
--- no more pass than there are
+-- no more elements pass a test than there are
 pub filter-le : (p : Entry → Bool) (xs : List Entry) → length (filter p xs) ≤ length xs
 filter-le p [] = omega arith
 filter-le p (x ∷ xs) = elim (cases_Bool (p x)) [ inl yes' ↦ rw yes' (omega (arith, filter-le p xs)) | inr no' ↦ rw no' (omega (arith, filter-le p xs)) ]
@@ -45,7 +45,7 @@ counts_elsewhere task e other = rw other refl
 counts-cons : (task : ℕ) (x : Entry) (xs : List Entry) → counts_of task (x ∷ xs) ≡ sum_of (counts_of task (x ∷ [])) (counts_of task xs)
 counts-cons task x xs = counts-append task (x ∷ []) xs
 
--- where nothing is lost and nothing gained, the counts stay
+-- if nothing is lost and nothing gained, the counts are the same
 pub recounted_none : (lost gained counts : Counts) → lost ≡ no_counts → gained ≡ no_counts → counts ≡ recounted lost gained counts
 recounted_none lost gained counts x y =
     same_counts _ _ (omega (arith, ap (λ n. n.registered) x, ap (λ n. n.registered) y)) (omega (arith, ap (λ n. n.delivered) x, ap (λ n. n.delivered) y)) (omega (arith, ap (λ n. n.aborted) x, ap (λ n. n.aborted) y))
@@ -64,12 +64,12 @@ counts_at task n e es at = (
   sum_at (λ xs. (counts_of task xs).aborted) (λ x xs. ap (λ a. a.aborted) (counts-cons task x xs)) n e es at,
 )
 
--- one more block of another task
+-- one more block of another task doesn't change the counts
 pub counts-grown_other : (task : ℕ) (es : List Entry) (e : Entry) → (e.block.task == task) ≡ false → counts_of task es ≡ counts_of task (es ++ e ∷ [])
 counts-grown_other task es e other = recounted_none no_counts _ (counts_of task es) refl (counts_elsewhere task e other) ∙ counts-grown task es e
 
 module _ (task : ℕ) (s : State) (n : ℕ) (e : Entry) (es : List Entry) (at : slice_get es n ≡ Some e) where
-  -- those of the block as it was go, and those of it as it is come
+  -- when a block changes its state, the counts lose its part before and gain its part after
   pub counts-with_state : recounted (counts_of task (e ∷ [])) (counts_of task (record { block = e.block; state = s } ∷ [])) (counts_of task es) ≡ counts_of task (with_state s n es)
   counts-with_state =
       let part = counts_at task n e es at in
@@ -78,6 +78,6 @@ module _ (task : ℕ) (s : State) (n : ℕ) (e : Entry) (es : List Entry) (at : 
       (omega (arith, part.1, sum-with_state (λ xs. (counts_of task xs).delivered) (λ x xs. ap (λ a. a.delivered) (counts-cons task x xs)) s n e es at))
       (omega (arith, part.2, sum-with_state (λ xs. (counts_of task xs).aborted) (λ x xs. ap (λ a. a.aborted) (counts-cons task x xs)) s n e es at))
 
-  -- a block of another task
+  -- a block of another task doesn't change the counts
   pub counts-with_other : (e.block.task == task) ≡ false → counts_of task es ≡ counts_of task (with_state s n es)
   counts-with_other other = recounted_none _ _ (counts_of task es) (counts_elsewhere task e other) (counts_elsewhere task (record { block = e.block; state = s }) other) ∙ counts-with_state

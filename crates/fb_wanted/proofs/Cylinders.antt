@@ -1,4 +1,4 @@
--- The greatest weights of tracks, as they are kept of cylinders.
+-- The upper bounds of the weights of tracks, by cylinder and by band.
 use Rattle.std.proofs.Common.{◌≡◌, ℕ, ◌/◌, ◌<◌, ◌≤◌, inl, inr, List, Option, Some, None, IsSome, false, if◌then◌else◌, length, get_or, set, refl, ap, sym, ◌∙◌, arith, subst}
 use Rattle.std.specs.BTreeMap.{BTreeMap, get, ContainsKey}
 use Rattle.std.proofs.lemmas.Bool.{cases_Bool, cases_eq}
@@ -20,14 +20,14 @@ unkept tracks t none = no_weight (get track_cmp tracks t) none
 pub weight_there : (tracks : BTreeMap Track OnTrack) (t : Track) (c h : ℕ) → t.cylinder ≡ c → t.head ≡ h → weight_kept tracks t ≡ weight_kept tracks (record { cylinder = c; head = h })
 weight_there tracks t c h its head = ap (λ x. weight_kept tracks (record { cylinder = x; head = t.head })) its ∙ ap (λ x. weight_kept tracks (record { cylinder = c; head = x })) head
 
--- with room for more cylinders
+-- the bounds hold too with room for more cylinders
 pub greatest_still : (tracks : BTreeMap Track OnTrack) (was is : List ℕ) → AreGreatest tracks was → ((c : ℕ) → get_or is c 0 ≡ get_or was c 0) → length was ≤ length is → AreGreatest tracks is
 greatest_still tracks was is h stay longer = record {
   weights = λ t. subst (λ n. weight_kept tracks t ≤ n) (sym (stay t.cylinder)) (h.weights t);
   there = λ t has. omega (arith, h.there t has, longer);
 }
 
--- as one track changes
+-- the bounds after the weight of one track has changed
 module _ (old new : BTreeMap Track OnTrack) (track : Track) (change : Option OnTrack → Option OnTrack) (was : List ℕ) (h : AreGreatest old was)
     (changed : (t : Track) → get track_cmp new t ≡ (if same_track track t then change (get track_cmp old t) else get track_cmp old t)) where
   elsewhere : (t : Track) → same_track track t ≡ false → get track_cmp new t ≡ get track_cmp old t
@@ -45,7 +45,7 @@ module _ (old new : BTreeMap Track OnTrack) (track : Track) (change : Option OnT
     ];
   }
 
--- a cylinder has another greatest, and so has its band
+-- the bounds of bands hold after the bound of a cylinder and that of its band have changed
 pub bands_set : (cylinders bands : List ℕ) (c weight greatest : ℕ) → AreBands cylinders bands → c < length cylinders → weight ≤ 32768000000000
     → ((k : ℕ) → k / 64 ≡ c / 64 → get_or (set cylinders c weight) k 0 ≤ greatest)
     → ((most : ℕ) → get_or bands (c / 64) 0 ≤ most → weight ≤ most → ((k : ℕ) → get_or (set cylinders c weight) k 0 ≤ most) → greatest ≤ most)

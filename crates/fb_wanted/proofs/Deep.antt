@@ -1,4 +1,4 @@
--- The bounds that are kept of what is wanted of one sector of each band.
+-- The upper bounds of the depth of a sector, by band.
 use Rattle.std.proofs.Common.{◌≡◌, ℕ, ◌+◌, ◌/◌, ◌<◌, ◌≤◌, inl, inr, ◌==◌, List, [], ◌∷◌, ◌++◌, Some, Bool, nat_le, true, false, if◌then◌else◌, length, length-append, filter, slice_get, get_or, set, refl, ap, sym, ◌∙◌, arith, subst}
 use Rattle.std.specs.List.{sum_by}
 use Rattle.std.proofs.lemmas.Bool.{cases_Bool}
@@ -20,7 +20,7 @@ use Rattle.fb_wanted.proofs.Kept.{same_one}
 abbrev of_band : ℕ → Entry → Bool
 of_band band entry = band_of entry.block == band
 
--- what the blocks that pass weigh for a sector
+-- the depth of a sector among the blocks that pass a test
 module _ (p : Entry → Bool) (lbn : ℕ) where
   depth-append : (xs ys : List Entry) → sum_by (weight_on lbn) (filter p (xs ++ ys)) ≡ sum_by (weight_on lbn) (filter p xs) + sum_by (weight_on lbn) (filter p ys)
   depth-append xs ys = ap (sum_by (weight_on lbn)) (filter-append p xs ys) ∙ sum_by-append (weight_on lbn) (filter p xs) (filter p ys)
@@ -34,7 +34,7 @@ module _ (p : Entry → Bool) (lbn : ℕ) where
   depth_elsewhere : (e : Entry) → p e ≡ false → sum_by (weight_on lbn) (filter p (e ∷ [])) ≡ 0
   depth_elsewhere e other = rw other refl
 
--- no more is wanted of a sector on a track than on its band
+-- the depth of a sector on a track is no more than on the band of that track
 one_le : (t : Track) (lbn : ℕ) (e : Entry) → depth_at t lbn (e ∷ []) ≤ band_depth (t.cylinder / 64) lbn (e ∷ [])
 one_le t lbn e = elim (cases_Bool (same_track t e.block.track)) [
   | inl here ↦
@@ -48,7 +48,7 @@ one_le t lbn e = elim (cases_Bool (same_track t e.block.track)) [
 pub depth-le_band : (t : Track) (lbn : ℕ) (es : List Entry) → depth_at t lbn es ≤ band_depth (t.cylinder / 64) lbn es
 depth-le_band t lbn es = sum-le (depth_at t lbn) (band_depth (t.cylinder / 64) lbn) (depth-cons (of_track t) lbn) (depth-cons (of_band (t.cylinder / 64)) lbn) (omega arith) (one_le t lbn) es
 
--- as a block comes into another state
+-- a change of a block's state doesn't change depths
 depth-with_state : (band lbn : ℕ) (s : State) (n : ℕ) (e : Entry) (es : List Entry) → slice_get es n ≡ Some e → band_depth band lbn (with_state s n es) ≡ band_depth band lbn es
 depth-with_state band lbn s n e es at =
     let same : band_depth band lbn (record { block = e.block; state = s } ∷ []) ≡ band_depth band lbn (e ∷ [])
@@ -66,15 +66,15 @@ deep_set s n e es depths at h = subst (λ l. AreDeep l depths) (sym (items-with_
       };
 })
 
--- with bands more, on which no block lies
+-- the bounds hold too with more bands that have no block
 pub deep_still : (es : List Entry) (depths new : List Depth) → AreDeep es depths → ((k : ℕ) → get_or new k no_depth ≡ get_or depths k no_depth) → AreDeep es new
 deep_still es depths new h stay = record { bounds = λ band. subst (IsDeep band es) (sym (stay band)) (h.bounds band) }
 
--- another block's weight fits
+-- the weight of one more block still fits in the 64 bits of a bound
 pub deep_room : (es : List Entry) (depths : List Depth) (band weight : ℕ) → AreDeep es depths → length es < 16000000 → weight ≤ 1000 → (get_or depths band no_depth).most + weight < 18446744073709551616
 deep_room es depths band weight h few light = omega (arith, (h.bounds band).small, few, light)
 
--- as a block is registered
+-- the bound after one more block is registered
 module _ (band : ℕ) (es : List Entry) (e : Entry) (d : Depth) (h : IsDeep band es d) where
   room : (lbn : ℕ) → e.block.lbn ≤ lbn → band_depth band lbn es + spare_for e.block d ≤ d.most
   room lbn from = elim (cases_Bool (nat_le (d.first + d.count) e.block.lbn)) [

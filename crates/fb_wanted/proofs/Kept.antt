@@ -1,4 +1,4 @@
--- What is kept beside the list of registered blocks, as blocks are registered and change.
+-- The indexes beside the list of registered blocks, after a block is registered or changes its state.
 use Rattle.std.proofs.Common.{◌≡◌, ℕ, ◌+◌, ◌-◌, ◌<◌, ◌≤◌, inl, inr, ◌==◌, List, [], ◌∷◌, ◌++◌, Some, None, true, false, if◌then◌else◌, length, length-append, slice_get, get_or, set, refl, ap, sym, ◌∙◌, arith, subst, option_map}
 use Rattle.std.specs.BTreeMap.{BTreeMap, get}
 use Rattle.std.specs.Ordering.{is_eq}
@@ -34,7 +34,7 @@ same_itself a = grind (arith, nat_tests)
 same_turned : (a b : Track) → same_track a b ≡ false → same_track b a ≡ false
 same_turned a b h = grind (arith, nat_tests)
 
--- what is kept of a track with blocks, and of one with none
+-- what the index has for a track with blocks, and for one without
 pub kept_some : (ps : List ℕ) (w : ℕ) (on : OnTrack) → kept_from ps w ≡ Some on → (on.places ≡ ps) × (on.weight ≡ w)
 kept_some [] w on h = absurd (none-some on h)
 kept_some (p ∷ ps) w on h = let same = sym (same_Some _ on h) in (ap (λ o. o.places) same, ap (λ o. o.weight) same)
@@ -51,7 +51,7 @@ kept-grown : (ps : List ℕ) (w place gained : ℕ) → (ps ≡ [] → w ≡ 0) 
 kept-grown [] w place gained none = let same : gained ≡ w + gained = omega (arith, none refl) in ap (kept_from (place ∷ [])) same
 kept-grown (p ∷ ps) w place gained none = refl
 
--- tasks of equal parts
+-- what the index has for two tasks is equal if each part is
 same_blocks : (a b : OfTask) → a.places ≡ b.places → a.counts ≡ b.counts → a ≡ b
 same_blocks a b x y = rw (x, y) refl
 
@@ -112,7 +112,7 @@ module _ (s : State) (n : ℕ) (e : Entry) (es : List Entry) (tracks new : BTree
     };
   }
 
-  -- as it is written in its place
+  -- the indexes after a block is written with its new state
   pub kept_set : (tasks more : List OfTask) (was is : Counts) (lost gained : ℕ) → IsKept es tasks tracks
       → was ≡ counts_of e.block.task (e ∷ []) → is ≡ counts_of e.block.task (turned ∷ []) → lost ≡ wanted_weight e.block.track (e ∷ []) → gained ≡ wanted_weight e.block.track (turned ∷ [])
       → ((k : ℕ) → get_or more k no_blocks ≡ (if e.block.task == k then counted_anew was is (get_or tasks k no_blocks) else get_or tasks k no_blocks))
@@ -181,7 +181,7 @@ module _ (e : Entry) (es : List Entry) (tasks newtasks : List OfTask) (tracks ne
     };
   }
 
-  -- as it is pushed at the end
+  -- the indexes after a block is added at the end
   pub kept_pushed : (items : List Entry) (place : ℕ) → items ≡ es ++ e ∷ [] → place ≡ length es
       → IsKept es tasks tracks → e.block.index ≡ registered e.block.task (blocks_of es) → length es < 16000000 → e.block.weight ≤ 1000 → e.block.count ≤ 2048
       → ((task : ℕ) → get_or newtasks task no_blocks ≡ (if e.block.task == task then grown_task place e (get_or tasks task no_blocks) else get_or tasks task no_blocks))
@@ -192,7 +192,7 @@ module _ (e : Entry) (es : List Entry) (tasks newtasks : List OfTask) (tracks ne
       (subst (λ p. (task : ℕ) → get_or newtasks task no_blocks ≡ (if e.block.task == task then grown_task p e (get_or tasks task no_blocks) else get_or tasks task no_blocks)) is by_task)
       (subst (λ p. (t : Track) → get track_cmp new t ≡ (if same_track e.block.track t then Some (grown p (wanted_weight e.block.track (e ∷ [])) (get track_cmp tracks t)) else get track_cmp tracks t)) is by_track))
 
--- a track that had no block
+-- the index by track after the first block of a track is added
 pub first_on_track : (m new : BTreeMap Track OnTrack) (track : Track) (place weight : ℕ) (ps : List ℕ) → get track_cmp m track ≡ None → ps ≡ place ∷ []
     → ((t : Track) → get track_cmp new t ≡ (if is_eq (track_cmp track t) then Some (record { places = ps; weight = weight }) else get track_cmp m t))
     → (t : Track) → get track_cmp new t ≡ (if same_track track t then Some (grown place weight (get track_cmp m t)) else get track_cmp m t)

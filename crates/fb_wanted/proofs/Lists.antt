@@ -44,7 +44,7 @@ before_or_not a b = elim (cases_lt a.cylinder b.cylinder) [
   ]
 ]
 
--- the last place of a task is taken back
+-- if the index that was added last to a task is removed again, all tasks are as before
 pub taken_back : (old one two : List OfTask) (n place : ℕ)
     → ((k : ℕ) → get_or one k no_blocks ≡ (if n == k then joined place (get_or old k no_blocks) else get_or old k no_blocks))
     → ((blocks : OfTask) (last : ℕ) → get_or one n no_blocks ≡ joined last blocks → (k : ℕ) → get_or two k no_blocks ≡ (if n == k then blocks else get_or one k no_blocks))
@@ -57,7 +57,7 @@ taken_back old one two n place added back k =
       | inr other ↦ back (get_or old n no_blocks) place last k ∙ rw other (added k ∙ rw other refl)
     ]
 
--- a place is added to those of a task, and its block is counted
+-- the index of a block is added to its task, and the block is counted
 pub joined_counted : (old one two : List OfTask) (place : ℕ) (e : Entry) (lost gained : Counts) → lost ≡ no_counts → gained ≡ counts_of e.block.task (e ∷ [])
     → ((k : ℕ) → get_or one k no_blocks ≡ (if e.block.task == k then joined place (get_or old k no_blocks) else get_or old k no_blocks))
     → ((k : ℕ) → get_or two k no_blocks ≡ (if e.block.task == k then counted_anew lost gained (get_or one k no_blocks) else get_or one k no_blocks))

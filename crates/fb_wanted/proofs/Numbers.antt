@@ -1,4 +1,4 @@
--- Numbers of blocks.
+-- The numbers of blocks in their tasks.
 use Rattle.std.proofs.Common.{◌≡◌, ℕ, zero, suc, ◌<◌, ◌≤◌, ◌⊎◌, inl, inr, ◌==◌, List, [], ◌∷◌, ◌++◌, Bool, true, Some, if◌then◌else◌, length, append-nil, filter, slice_get, get_or, take, refl, ap, sym, ◌∙◌, arith, subst, option_map}
 use Rattle.std.proofs.lemmas.Bool.{cases_Bool}
 use Rattle.std.proofs.lemmas.Bool.Decides.{nat_tests}
@@ -11,14 +11,14 @@ use Rattle.fb_wanted.specs.Numbering.{AreInOrder, AreSmall, blocks_of, registere
 use Rattle.fb_wanted.specs.Index.{of_task, places}
 use Rattle.fb_wanted.proofs.Standing.{among}
 
--- an entry of a longer list stands in the shorter one, or is the new one
+-- an element of a list with one more at the end is in the list, or it is the new one
 pub in_either : {X : Type 0} (xs : List X) (y x : X) (i : ℕ) → slice_get (xs ++ y ∷ []) i ≡ Some x → ((i < length xs) × (slice_get xs i ≡ Some x)) ⊎ ((i ≡ length xs) × (x ≡ y))
 in_either [] y x zero h = inr (refl, grind arith)
 in_either [] y x (suc i) h = absurd (grind arith)
 in_either (z ∷ zs) y x zero h = inl (omega arith, h)
 in_either (z ∷ zs) y x (suc i) h = elim (in_either zs y x i h) [ inl k ↦ inl (omega (arith, k.0), k.1) | inr k ↦ inr (omega (arith, k.0), k.1) ]
 
--- where an entry that passes the test comes among those that pass
+-- the index of an element that passes a test among those that pass
 pub filter_at : {X : Type 0} (p : X → Bool) (xs : List X) (k : ℕ) (d : X) → k < length xs → p (get_or xs k d) ≡ true → slice_get (filter p xs) (length (filter p (take k xs))) ≡ Some (get_or xs k d)
 filter_at p [] k d h yes' = absurd (omega arith)
 filter_at p (x ∷ xs) zero d h pass = rw pass refl
@@ -64,18 +64,18 @@ small-more es e h light short = subst AreSmall (sym (blocks-more es e)) (λ i b 
   | inr new ↦ subst (λ c. (c.weight ≤ 1000) × (c.count ≤ 2048)) (sym new.1) (light, short)
 ])
 
--- a registered block is small
+-- the weight and the size of a registered block are within limits
 pub small_at : (es : List Entry) (i : ℕ) (e : Entry) → AreSmall (blocks_of es) → slice_get es i ≡ Some e → (e.block.weight ≤ 1000) × (e.block.count ≤ 2048)
 small_at es i e h at = h i e.block (slice_get-map (λ x. x.block) es i ∙ ap (option_map (λ x. x.block)) at)
 
--- the index of a task's k-th block
+-- the k-th block of a task has the number k
 pub index_at : (es : List Entry) (task k : ℕ) (e : Entry) → AreInOrder (blocks_of es) → slice_get (filter (of_task task) es) k ≡ Some e → e.block.index ≡ k
 index_at es task k e h at = h task k e.block (ap (λ l. slice_get l k) (task-blocks task es) ∙ (slice_get-map (λ x. x.block) (filter (of_task task) es) k ∙ ap (option_map (λ x. x.block)) at))
 
 pub block_is : (task index : ℕ) (e : Entry) → is_block task index e ≡ true → (of_task task e ≡ true) × (e.block.index ≡ index)
 block_is task index e h = (grind (arith, nat_tests), grind (arith, nat_tests))
 
--- the block of a number stands at that number among the task's
+-- the block with a number in its task is found at that index among the blocks of the task
 pub found : (es : List Entry) (task index i : ℕ) (e : Entry) → AreInOrder (blocks_of es) → slice_get es i ≡ Some e → is_block task index e ≡ true
     → (slice_get (places (of_task task) es) index ≡ Some i) × (slice_get (filter (of_task task) es) index ≡ Some e)
 found es task index i e h at is =

@@ -1,4 +1,4 @@
--- How a change of one block is one of a task.
+-- The change of one block by its number as a change of the blocks of its task.
 use Rattle.std.proofs.Common.{◌≡◌, ℕ, ◌==◌, List, true, false, refl, ap, sym, arith}
 use Rattle.std.proofs.lemmas.Bool.Decides.{nat_tests}
 use Rattle.fb_wanted.specs.declared.block.Change.{Change}

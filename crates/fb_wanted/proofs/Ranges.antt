@@ -41,7 +41,7 @@ rises_none task es falls k end noted none i (suc j) a b from le lt at-i at-j = e
       let one : a ≡ b = same_Some a b (sym at-i ∙ (ap (slice_get (lbns task es)) same ∙ at-j)) in omega (arith, one)
 ]
 
--- a change of states leaves the blocks
+-- a change of states doesn't change the LBNs
 pub lbns-with_state : (task : ℕ) (s : State) (n : ℕ) (es : List Entry) → lbns task (with_state s n es) ≡ lbns task es
 lbns-with_state task s n [] = refl
 lbns-with_state task s zero (e ∷ es) = elim (cases_Bool (e.block.task == task)) [ inl own ↦ rw own refl | inr other ↦ rw other refl ]
@@ -72,7 +72,7 @@ lbns-other task (x ∷ es) e other = elim (cases_Bool (x.block.task == task)) [
   | inr no' ↦ rw no' (lbns-other task es e other)
 ]
 
--- one block more, which is noted where it is a fall
+-- falls are noted too after one more block, if that is noted when it is a fall
 pub noted-more : (es : List Entry) (e : Entry) (falls : BTreeSet (ℕ × ℕ)) → AreNoted es falls → e.block.index ≡ length (filter (of_task e.block.task) es)
     → ((i a : ℕ) → suc i ≡ e.block.index → slice_get (lbns e.block.task es) i ≡ Some a → e.block.lbn < a → contains fall_cmp falls (e.block.task, e.block.index) ≡ true)
     → AreNoted (es ++ e ∷ []) falls
@@ -100,14 +100,14 @@ noted-more es e falls h free new task i a b at-a at-b less = elim (cases_Bool (e
       h task i a b (ap (λ l. slice_get l i) (sym list) ∙ at-a) (ap (λ l. slice_get l (suc i)) (sym list) ∙ at-b) less
 ]
 
--- before the range, and behind it
+-- a block far enough before the range shares no sector with it, and nor does one behind it
 pub ends_before : (first count : ℕ) (block : Block) → block.lbn < first - 2047 → block.count ≤ 2048 → shares first count block ≡ false
 ends_before first count block less short = grind (arith, nat_tests)
 
 pub begins_behind : (first count : ℕ) (block : Block) → first + count ≤ block.lbn → shares first count block ≡ false
 begins_behind first count block beyond = grind (arith, nat_tests)
 
--- of those that pass, some more are changed where they stay
+-- entries that a change leaves as they are may count as changed
 pub skipped : (p : Entry → Bool) (f : Entry → Entry) (a b : ℕ) (es : List Entry) → a ≤ b → ((j : ℕ) (e : Entry) → a ≤ j → j < b → slice_get (filter p es) j ≡ Some e → f e ≡ e) → change_first p f a es ≡ change_first p f b es
 skipped p f a b [] le stay = refl
 skipped p f zero zero (e ∷ es) le stay = refl
@@ -125,7 +125,7 @@ skipped p f (suc a) (suc b) (e ∷ es) le stay = elim (cases_Bool (p e)) [
   | inr no' ↦ rw no' (ap (λ l. e ∷ l) (skipped p f (suc a) (suc b) es le (λ j x from lt at. stay j x from lt (rw no' at))))
 ]
 
--- none of some more of a list is counted
+-- elements that don't pass a test add nothing to a count
 pub skipped_count : (q : Entry → Bool) (a b : ℕ) (xs : List Entry) → a ≤ b → ((j : ℕ) (e : Entry) → a ≤ j → j < b → slice_get xs j ≡ Some e → q e ≡ false) → length (filter q (take a xs)) ≡ length (filter q (take b xs))
 skipped_count q zero zero xs le none = refl
 skipped_count q zero (suc b) [] le none = refl
@@ -156,14 +156,14 @@ passing-nth p f stays (suc k) (e ∷ es) = elim (cases_Bool (p e)) [
   | inr no' ↦ rw no' (passing-nth p f stays (suc k) es)
 ]
 
--- a block of the task that shares no sector with the range stays
+-- a block of the task that shares no sector with the range is left as it is
 pub stays_outside : (task : ℕ) (change : Change) (first count : ℕ) (e : Entry) → IsWithin change first count → of_task task e ≡ true → shares first count e.block ≡ false → entry_after task change e ≡ e
 stays_outside task change first count e within own outside = own_after task change e e.state own (sym (within e.block e.state outside))
 
 pub block_at : (es : List Entry) (j : ℕ) (e : Entry) → slice_get es j ≡ Some e → slice_get (blocks_of es) j ≡ Some e.block
 block_at es j e at = slice_get-map (λ x. x.block) es j ∙ ap (option_map (λ x. x.block)) at
 
--- some more of a rise, of which none shares a sector with the range
+-- blocks of a rise that share no sector with the range may count as changed
 pub skipped_outside : (task : ℕ) (change : Change) (first count from a b : ℕ) (es now : List Entry) → IsWithin change first count → now ≡ change_first (of_task task) (entry_after task change) from es → a ≤ b
     → ((j : ℕ) (block : Block) → a ≤ j → j < b → slice_get (blocks_of (filter (of_task task) now)) j ≡ Some block → shares first count block ≡ false)
     → change_first (of_task task) (entry_after task change) a es ≡ change_first (of_task task) (entry_after task change) b es
@@ -176,7 +176,7 @@ lbn_of_block [] i block at = absurd (none-some block at)
 lbn_of_block (x ∷ xs) zero block at = ap (λ b. Some b.lbn) (same_Some x.block block at)
 lbn_of_block (x ∷ xs) (suc i) block at = lbn_of_block xs i block at
 
--- each block of a task is small
+-- the size of each block of a task is within its limit
 own_step : (p : Entry → Bool) (x : Entry) (es : List Entry) (passed : Bool) (i : ℕ) (block : Block) → x.block.count ≤ 2048
     → ((j : ℕ) (other : Block) → slice_get (blocks_of (filter p es)) j ≡ Some other → other.count ≤ 2048)
     → slice_get (blocks_of (if passed then x ∷ filter p es else filter p es)) i ≡ Some block → block.count ≤ 2048

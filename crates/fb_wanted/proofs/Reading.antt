@@ -1,4 +1,4 @@
--- What is read of a task and of a track.
+-- What the indexes say of a task and of a track.
 use Rattle.std.proofs.Common.{◌≡◌, ℕ, ◌+◌, ◌<◌, ◌≤◌, inl, inr, List, [], ◌∷◌, Option, Some, None, true, length, filter, slice_get, get_or, IsSome, IfSome, IfNone, true≢false, ◌*◌, refl, ap, sym, ◌∙◌, arith, subst}
 use Rattle.std.specs.BTreeMap.{BTreeMap, get, ContainsKey}
 use Rattle.std.proofs.lemmas.Bool.{cases_lt}
@@ -60,14 +60,14 @@ module _ (es : List Entry) (tasks : List OfTask) (tracks : BTreeMap Track OnTrac
   pub task_place : (task k : ℕ) (blocks : OfTask) → blocks ≡ get_or tasks task no_blocks → k < length (filter (of_task task) es) → k < length blocks.places
   task_place task k blocks at lt = omega (arith, task_length task blocks at, lt)
 
-  -- the counts that are kept of a task
+  -- the counts in the index are those of the task
   pub task_counts : (task : ℕ) (blocks : OfTask) → blocks ≡ get_or tasks task no_blocks → blocks.counts ≡ counts_of task es
   task_counts task blocks at = ap (λ b. b.counts) (at ∙ h.index.by_task task)
 
   kept_counts : (task : ℕ) → (get_or tasks task no_blocks).counts ≡ counts_of task es
   kept_counts task = task_counts task (get_or tasks task no_blocks) refl
 
-  -- a registered block is one of its task's, and counts among them
+  -- the task of a registered block has an entry in the index, and its counts have the block's part
   pub its_task_there : (n : ℕ) (e : Entry) → slice_get es n ≡ Some e → e.block.task < length tasks
   its_task_there n e at =
       let own : of_task e.block.task e ≡ true = grind (arith, nat_tests) in
@@ -77,7 +77,7 @@ module _ (es : List Entry) (tasks : List OfTask) (tracks : BTreeMap Track OnTrac
   pub counts_part : (n : ℕ) (e : Entry) (lost : Counts) → slice_get es n ≡ Some e → lost ≡ counts_of e.block.task (e ∷ []) → AreNoMore lost (get_or tasks e.block.task no_blocks).counts
   counts_part n e lost at is = rw (is, kept_counts e.block.task) (counts_at e.block.task n e es at)
 
-  -- another block's counts fit beside those of the task
+  -- the counts of a task with one more block fit in their 32 bits
   pub counts_room : (task : ℕ) (e : Entry) (gained : Counts) → gained ≡ counts_of task (e ∷ []) → Fit (sum_of (get_or tasks task no_blocks).counts gained)
   counts_room task e gained is =
       let one = counts-few task (e ∷ []) in
@@ -95,7 +95,7 @@ module _ (es : List Entry) (tasks : List OfTask) (tracks : BTreeMap Track OnTrac
   pub track_weight : (t : Track) (on : OnTrack) → Some on ≡ get track_cmp tracks t → on.weight ≤ 16000000 * 2048000
   track_weight t on at = omega (arith, (track_kept t on at).1, weight-le t es h.small, h.few)
 
-  -- a block's weight is part of its track's, and another one fits
+  -- the weight of a block is part of that of its track, and with another one it still fits
   pub weight_room : (n : ℕ) (e : Entry) (lost gained : ℕ) → slice_get es n ≡ Some e → lost ≡ wanted_weight e.block.track (e ∷ []) → gained ≤ 2048000
       → IfSome (get track_cmp tracks e.block.track) (λ on. (lost ≤ on.weight) × (on.weight + gained < 18446744073709551616))
   weight_room n e lost gained at is small =
@@ -122,7 +122,7 @@ module _ (es : List Entry) (tasks : List OfTask) (tracks : BTreeMap Track OnTrac
   pub weight_small : (t : Track) → weight_kept tracks t ≤ 16000000 * 2048000
   weight_small t = omega (arith, weight_read t, weight-le t es h.small, h.few)
 
-  -- something is kept of a registered block's track
+  -- the track of a registered block has an entry in the index
   pub its_track_there : (n : ℕ) (e : Entry) → slice_get es n ≡ Some e → ContainsKey track_cmp tracks e.block.track
   its_track_there n e at =
       let place = among (of_track e.block.track) es n e at (same_itself e.block.track) in

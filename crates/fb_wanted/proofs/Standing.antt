@@ -1,4 +1,4 @@
--- Where blocks stand among the registered ones.
+-- The indexes of blocks among the registered ones.
 use Rattle.std.proofs.Common.{◌≡◌, ℕ, zero, suc, ◌+◌, ◌<◌, ◌≤◌, inl, inr, List, [], ◌∷◌, ◌++◌, Bool, true, false, Some, if◌then◌else◌, set, take, length, length-append, filter, map, slice_get, get_or, refl, ap, sym, ◌∙◌, arith, subst}
 use Rattle.std.proofs.lemmas.Bool.{cases_Bool}
 use Rattle.std.proofs.lemmas.List.{length-map, map-append, take_all, append-nil}
@@ -35,7 +35,7 @@ places-more_no p (x ∷ es) e fail =
       | inr no' ↦ rw no' rest
     ]
 
--- a number that was raised
+-- an index that was raised by one, as the list got an element at its front
 pub raised : (ps : List ℕ) (k j : ℕ) → slice_get (map (λ n. suc n) ps) k ≡ Some j → (i : ℕ) × (slice_get ps k ≡ Some i) × (j ≡ suc i)
 raised [] k j h = absurd (none-some j h)
 raised (p ∷ ps) zero j h = (p, refl, sym (same_Some (suc p) j h))
@@ -51,7 +51,7 @@ get_some [] k h = absurd (omega arith)
 get_some (x ∷ xs) zero h = (x, refl)
 get_some (x ∷ xs) (suc k) h = get_some xs k (omega arith)
 
--- what stands at the k-th place
+-- the entry at the k-th index is the k-th that passes the test
 at_step : (p : Entry → Bool) (x : Entry) (es : List Entry) (b : Bool) (k j : ℕ) → ((i n : ℕ) → slice_get (places p es) i ≡ Some n → slice_get (filter p es) i ≡ slice_get es n)
     → slice_get (if b then 0 ∷ map (λ n. suc n) (places p es) else map (λ n. suc n) (places p es)) k ≡ Some j
     → slice_get (if b then x ∷ filter p es else filter p es) k ≡ slice_get (x ∷ es) j
@@ -63,7 +63,7 @@ pub at_place : (p : Entry → Bool) (es : List Entry) (k j : ℕ) → slice_get 
 at_place p [] k j h = absurd (none-some j h)
 at_place p (x ∷ es) k j h = at_step p x es (p x) k j (at_place p es) h
 
--- each place is one of the list's
+-- each index is one of the list's
 pub place_within : (p : Entry → Bool) (es : List Entry) (k j : ℕ) → slice_get (places p es) k ≡ Some j → j < length es
 place_within p es k j h =
     let lt = slice_get_within (places p es) k j h in
@@ -71,20 +71,20 @@ place_within p es k j h =
     let e = get_some (filter p es) k inside in
     slice_get_within es j e.0 (sym (at_place p es k j h) ∙ e.1)
 
--- a list that holds just these places
+-- a list of these indexes is as long as the list of those that pass
 pub place_there : (p : Entry → Bool) (es : List Entry) (ps : List ℕ) (k : ℕ) → ps ≡ places p es → k < length (filter p es) → k < length ps
 place_there p es ps k same lt = omega (arith, lt, ap length same, length-places p es)
 
 pub place_at : (p : Entry → Bool) (es : List Entry) (ps : List ℕ) (k : ℕ) → ps ≡ places p es → k < length (filter p es) → slice_get (places p es) k ≡ Some (get_or ps k 0)
 place_at p es ps k same lt = ap (λ l. slice_get l k) (sym same) ∙ slice_get-get_or ps k 0 (place_there p es ps k same lt)
 
--- what is read at such a place
+-- the k-th entry that passes is the entry at the k-th index
 pub read_at : (p : Entry → Bool) (es : List Entry) (ps : List ℕ) (k : ℕ) (d : Entry) → ps ≡ places p es → k < length (filter p es) → slice_get (filter p es) k ≡ Some (get_or es (get_or ps k 0) d)
 read_at p es ps k d same lt =
     let at = place_at p es ps k same lt in
     at_place p es k (get_or ps k 0) at ∙ slice_get-get_or es (get_or ps k 0) d (place_within p es k (get_or ps k 0) at)
 
--- where an entry that passes comes among those that pass
+-- an entry that passes is found among those that pass
 pub among : (p : Entry → Bool) (es : List Entry) (j : ℕ) (e : Entry) → slice_get es j ≡ Some e → p e ≡ true → (k : ℕ) × (slice_get (places p es) k ≡ Some j) × (slice_get (filter p es) k ≡ Some e)
 among p [] j e h pass = absurd (none-some e h)
 among p (x ∷ es) zero e h pass = let hit = ap p (same_Some x e h) ∙ pass in (0, rw hit refl, rw hit h)
@@ -96,7 +96,7 @@ among p (x ∷ es) (suc j) e h pass =
       | inr no' ↦ (r.0, rw no' up, rw no' r.2)
     ]
 
--- the entry of that number in another state
+-- the list with an entry in another state is as long, and has the same blocks
 pub length-with_state : (s : State) (n : ℕ) (es : List Entry) → length (with_state s n es) ≡ length es
 length-with_state s n [] = refl
 length-with_state s zero (e ∷ es) = refl
@@ -107,19 +107,19 @@ blocks-with_state s n [] = refl
 blocks-with_state s zero (e ∷ es) = refl
 blocks-with_state s (suc n) (e ∷ es) = ap (λ l. e.block ∷ l) (blocks-with_state s n es)
 
--- a test of the block alone
+-- a change of state doesn't change the indexes that pass a test of the block alone
 pub places-with_state : (p : Block → Bool) (s : State) (n : ℕ) (es : List Entry) → places (λ e. p e.block) (with_state s n es) ≡ places (λ e. p e.block) es
 places-with_state p s n [] = refl
 places-with_state p s zero (e ∷ es) = refl
 places-with_state p s (suc n) (e ∷ es) = ap (λ ps. if p e.block then 0 ∷ map (λ k. suc k) ps else map (λ k. suc k) ps) (places-with_state p s n es)
 
--- items written at their places
+-- writing an entry with its new state changes the state alone
 pub items-with_state : (s : State) (n : ℕ) (e : Entry) (es : List Entry) → slice_get es n ≡ Some e → set es n (record { block = e.block; state = s }) ≡ with_state s n es
 items-with_state s n e [] h = absurd (none-some e h)
 items-with_state s zero e (x ∷ es) h = let same = same_Some x e h in ap (λ (y : Entry). let z : Entry = record { block = y.block; state = s } in z ∷ es) (sym same)
 items-with_state s (suc n) e (x ∷ es) h = ap (λ l. x ∷ l) (items-with_state s n e es h)
 
--- the k-th of those that pass is changed
+-- changing the state at the k-th index is the change of the k-th entry that passes
 nth_step : (p : Entry → Bool) (f : Entry → Entry) (s : State) (x e : Entry) (es : List Entry) (b : Bool) (k j : ℕ)
     → ((i n : ℕ) → slice_get (places p es) i ≡ Some n → slice_get es n ≡ Some e → with_state s n es ≡ change_nth p f i es)
     → p x ≡ b → f e ≡ record { block = e.block; state = s }
@@ -144,7 +144,7 @@ pub nth_turned : (p : Entry → Bool) (f : Entry → Entry) (s : State) (e : Ent
 nth_turned p f s e [] k j new h at = refl
 nth_turned p f s e (x ∷ es) k j new h at = nth_step p f s x e es (p x) k j (λ i n. nth_turned p f s e es i n new) refl new h at
 
--- the first k of them, and one more
+-- the first k entries that pass are changed, and then one more
 pub first_none : (p : Entry → Bool) (f : Entry → Entry) (es : List Entry) → change_first p f 0 es ≡ es
 first_none p f [] = refl
 first_none p f (e ∷ es) = refl
@@ -185,7 +185,7 @@ first_all p f others (e ∷ es) (suc k) le = elim (cases_Bool (p e)) [
       rw no' (ap (λ l. e ∷ l) (first_all p f others es (suc k) fewer) ∙ ap (λ x. x ∷ map f es) (sym (others e no')))
 ]
 
--- those that pass both tests
+-- filtering by a wider test first makes no difference
 pub both_tests : (p q : Entry → Bool) → ((e : Entry) → p e ≡ false → q e ≡ false) → (es : List Entry) → filter q (filter p es) ≡ filter q es
 both_tests p q within [] = refl
 both_tests p q within (e ∷ es) = elim (cases_Bool (p e)) [
@@ -193,7 +193,7 @@ both_tests p q within (e ∷ es) = elim (cases_Bool (p e)) [
   | inr no' ↦ rw (no', within e no') (both_tests p q within es)
 ]
 
--- one more of a list is counted, or not
+-- the count over one more element: one more if it passes, else the same
 pub counted_one : (q : Entry → Bool) (xs : List Entry) (k n : ℕ) (e : Entry) → slice_get xs k ≡ Some e → q e ≡ true → n ≡ length (filter q (take k xs)) → n + 1 ≡ length (filter q (take (k + 1) xs))
 counted_one q xs k n e at pass is =
     let here = get_or_from_slice_get xs k e e at in
@@ -221,7 +221,7 @@ pub passes : (p : Entry → Bool) (es : List Entry) (k : ℕ) (e : Entry) → sl
 passes p [] k e h = absurd (none-some e h)
 passes p (x ∷ es) k e h = passes_step p x es (p x) k e refl (passes p es) h
 
--- where no other one changes, the change of the k-th is the change of all
+-- if no other entry is changed, changing the k-th is changing all
 all_stay : (p : Entry → Bool) (f : Entry → Entry) (es : List Entry) → ((e : Entry) → p e ≡ false → f e ≡ e) → ((j : ℕ) (e : Entry) → slice_get (filter p es) j ≡ Some e → f e ≡ e) → es ≡ map f es
 all_stay p f [] others own = refl
 all_stay p f (x ∷ es) others own = elim (cases_Bool (p x)) [

@@ -1,4 +1,4 @@
--- What adds up over the blocks, as a block comes into another state.
+-- Sums over the blocks, after a block changes its state.
 use Rattle.std.proofs.Common.{◌≡◌, ℕ, zero, suc, ◌+◌, ◌≤◌, List, [], ◌∷◌, Some, slice_get, ap, arith}
 use Rattle.std.proofs.lemmas.Option.{same_Some, none-some}
 use Rattle.fb_wanted.specs.declared.block.Entry.{Entry}
@@ -6,7 +6,7 @@ use Rattle.fb_wanted.specs.declared.block.State.{State}
 use Rattle.fb_wanted.specs.Index.{with_state}
 
 module _ (sum : List Entry → ℕ) (cons : (x : Entry) (xs : List Entry) → sum (x ∷ xs) ≡ sum (x ∷ []) + sum xs) where
-  -- the part of one block goes, and the other comes
+  -- the sum loses the block's part before and gains its part after
   pub sum-with_state : (s : State) (n : ℕ) (e : Entry) (es : List Entry) → slice_get es n ≡ Some e
       → sum (with_state s n es) + sum (e ∷ []) ≡ sum es + sum (record { block = e.block; state = s } ∷ [])
   sum-with_state s n e [] at = absurd (none-some e at)
@@ -17,13 +17,13 @@ module _ (sum : List Entry → ℕ) (cons : (x : Entry) (xs : List Entry) → su
       omega (arith, cons x es, cons (record { block = x.block; state = s }) es, one, two)
   sum-with_state s (suc n) e (x ∷ es) at = omega (arith, cons x es, cons x (with_state s n es), sum-with_state s n e es at)
 
-  -- a block's part is no more than all
+  -- the part of a block is no more than the sum
   pub sum_at : (n : ℕ) (e : Entry) (es : List Entry) → slice_get es n ≡ Some e → sum (e ∷ []) ≤ sum es
   sum_at n e [] at = absurd (none-some e at)
   sum_at zero e (x ∷ es) at = let one = ap (λ y. sum (y ∷ [])) (same_Some x e at) in omega (arith, cons x es, one)
   sum_at (suc n) e (x ∷ es) at = omega (arith, cons x es, sum_at n e es at)
 
--- a sum of parts that are no more is no more
+-- a sum whose parts are no greater is no greater
 pub sum-le : (sum other : List Entry → ℕ) → ((x : Entry) (xs : List Entry) → sum (x ∷ xs) ≡ sum (x ∷ []) + sum xs) → ((x : Entry) (xs : List Entry) → other (x ∷ xs) ≡ other (x ∷ []) + other xs)
     → sum [] ≤ other [] → ((x : Entry) → sum (x ∷ []) ≤ other (x ∷ [])) → (es : List Entry) → sum es ≤ other es
 sum-le sum other cons cons_other none one [] = none

@@ -23,7 +23,7 @@ wanted-append (x ∷ xs) ys = elim (cases_Bool (is_wanted x.state)) [
   | inr no' ↦ rw no' (wanted-append xs ys)
 ]
 
--- weight times sectors of the wanted ones of those that pass
+-- the sum of weight times sectors over the wanted blocks that pass a test
 abbrev weight_by : (Entry → Bool) → List Entry → ℕ
 weight_by p es = sum_by (λ (b : Block). b.weight * b.count) (wanted_of (filter p es))
 
@@ -37,7 +37,7 @@ module _ (p : Entry → Bool) where
   by-cons : (e : Entry) (es : List Entry) → weight_by p (e ∷ es) ≡ weight_by p (e ∷ []) + weight_by p es
   by-cons e es = by-append (e ∷ []) es
 
-  -- the weight of one block goes, and the other comes
+  -- the weight loses the block's part before and gains its part after
   by-with_state : (s : State) (n : ℕ) (e : Entry) (es : List Entry) → slice_get es n ≡ Some e
       → weight_by p (with_state s n es) + weight_by p (e ∷ []) ≡ weight_by p es + weight_by p (record { block = e.block; state = s } ∷ [])
   by-with_state s n e es at = sum-with_state (weight_by p) by-cons s n e es at
@@ -65,7 +65,7 @@ module _ (p : Entry → Bool) where
       let rest = by-le es (λ i b at. h (suc i) b at) in
       omega (arith, by-cons e es, one, rest)
 
--- the weight of a track
+-- the wanted weight of a track over two lists is the sum of both
 pub weight-append : (t : Track) (xs ys : List Entry) → wanted_weight t (xs ++ ys) ≡ wanted_weight t xs + wanted_weight t ys
 weight-append t xs ys = by-append (of_track t) xs ys
 
