@@ -85,7 +85,7 @@ module _ (disk : Shape) (sound : IsSound disk) where
       let by = by_zone cylinder h in
       omega (arith, size-by_zone by.index by.zone cylinder by.holds, size_most disk.layout disk by.zone sound.few_heads (sound.few_slots by.index by.zone by.holds.zone_is))
 
-  -- numbers of sectors are small
+  -- at most 10^12 sectors are on the cylinders before one
   pub before-few : (cylinder : ℕ) → cylinder ≤ cylinders_of disk.zones → sectors_before disk cylinder ≤ 10 ^ 12
   unfolding sectors_before
   before-few cylinder h = omega (arith, length-most (data_list_at disk) 0 cylinder 640000 (λ c low high. size-few c (omega arith)), sound.few_cylinders)
@@ -135,7 +135,7 @@ module _ (disk : Shape) (sound : IsSound disk) where
   pub cylinder-of : (lbn : ℕ) (h : lbn < length (places disk)) → (track_at disk lbn).cylinder ≡ (has_place lbn h).cylinder
   cylinder-of lbn h = ap (λ place. place.track.cylinder) (has_place lbn h).placed_at ∙ (has_place lbn h).lies.cylinder_is
 
-  -- of two cylinders the lesser one's sectors come first
+  -- a sector with a lesser LBN isn't on a greater cylinder
   before_later : (a b cylinder other sector sector' : ℕ) → IsSectorOf disk cylinder sector a → IsSectorOf disk other sector' b → a ≤ b → cylinder ≤ other
   before_later a b cylinder other sector sector' h k le = elim (cases_lt other cylinder) [
     | inl less ↦ absurd (omega (arith, h.number, k.number, k.inside, before_next other, before-rise (other + 1) cylinder (omega arith)))

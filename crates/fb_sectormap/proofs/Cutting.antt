@@ -22,13 +22,13 @@ not_true false h = sym h
 abbrev cut_of : Shape → ℕ → ℕ → Cut
 cut_of disk lbn count = record { lbn = lbn; count = count; track = track_at disk lbn }
 
--- a sector whose block ends with it
+-- a sector whose block ends with it is a block of its own
 alone : (disk : Shape) (block lbn : ℕ) (cuts : List Cut) → (cuts ≡ []) ⊎ (is_cut_before disk block (lbn + 1) ≡ true) → with_sector disk block lbn cuts ≡ cut_of disk lbn 1 ∷ cuts
 alone disk block lbn [] h = refl
 alone disk block lbn (cut ∷ cuts) (inl none) = cc
 alone disk block lbn (cut ∷ cuts) (inr here) = rw here refl
 
--- a sector whose block goes on
+-- a sector whose block goes on joins the block of the next sector
 goes_on : (disk : Shape) (block lbn count : ℕ) (cuts : List Cut) → is_cut_before disk block (lbn + 1) ≡ false → with_sector disk block lbn (cut_of disk (lbn + 1) count ∷ cuts) ≡ cut_of disk lbn (count + 1) ∷ cuts
 goes_on disk block lbn count cuts here =
     let later = not_true (is_later disk (place_at disk (lbn + 1 - 1)) (place_at disk (lbn + 1))) (or_parts ((lbn + 1) % block == 0) (not (is_later disk (place_at disk (lbn + 1 - 1)) (place_at disk (lbn + 1)))) here).1 in
@@ -41,7 +41,7 @@ unfolding cutting
 ended disk block lbn zero ends = inl refl
 ended disk block lbn (suc n) ends = inr (ends (omega arith))
 
--- what begins a list, whatever its numbers are called
+-- the first block and the cutting of the rest, with numbers replaced by equal ones
 front : (disk : Shape) (block lbn count count' at at' n n' : ℕ) → count ≡ count' → at ≡ at' → n ≡ n'
     → cut_of disk lbn count ∷ cutting disk block at n ≡ cut_of disk lbn count' ∷ cutting disk block at' n'
 front disk block lbn count count' at at' n n' e f g =
@@ -76,7 +76,7 @@ at_block block first i some e =
     let whole : first % block + i ≡ block = omega arith in
     eq-eqb ((first + i) % block) 0 (sym (mod-add-mod first block i) ∙ (ap (λ n. n % block) whole ∙ mod_self block))
 
--- the block is as long as the turn goes on, and no longer than the range or up to the next multiple of the block size
+-- the first block has the sectors that come by in one turn, up to the end of the range or the next multiple of the block size
 pub first_cut-is : (disk : Shape) (block first count most k : ℕ) → 0 < block → most ≤ count → most ≤ block - first % block → (most < count → most ≡ block - first % block) → 0 < k → k ≤ most
     → ((i : ℕ) → 0 < i → i < k → is_later disk (place_at disk (first + i - 1)) (place_at disk (first + i)) ≡ true)
     → (k < most → is_later disk (place_at disk (first + k - 1)) (place_at disk (first + k)) ≡ false)
@@ -90,7 +90,7 @@ first_cut-is disk block first count most k some_block within small whole some bo
       | inr late ↦ or_left ((first + k) % block == 0) (not (is_later disk (place_at disk (first + k - 1)) (place_at disk (first + k)))) (at_block block first k some_block (omega (arith, whole (omega arith))))
     ])
 
--- the same of a turn, with the sector behind each
+-- sectors come by in one turn if each comes by later than the one before it
 pub one_turn-from : (disk : Shape) (first count : ℕ) → ((i : ℕ) → 0 < i → i < count → is_later disk (place_at disk (first + i - 1)) (place_at disk (first + i)) ≡ true) → IsOneTurn disk first count
 one_turn-from disk first count goes_on i less =
     let here : first + i ≡ first + (i + 1) - 1 = omega arith in

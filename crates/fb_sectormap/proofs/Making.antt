@@ -23,7 +23,7 @@ take-next (y ∷ xs) zero x at = ap (λ z. z ∷ []) (some_same y x at)
 take-next (y ∷ xs) (suc i) x at = ap (λ ys. y ∷ ys) (take-next xs i x at)
 
 module _ (disk : Shape) (sound : IsSound disk) where
-  -- the start of one zone more
+  -- the starts of the first i zones and of the next one are those of the first i + 1
   pub one_more : (i : ℕ) (zone : Zone) (starts : List ZoneStart) (lbn size : ℕ) → slice_get disk.zones i ≡ Some zone → starts ≡ map (start_of disk) (take i disk.zones)
       → lbn ≡ sectors_before disk (border 0 disk.zones i) → size ≡ length (data_list_at disk zone.first)
       → starts ++ record { cylinder = zone.first; lbn = lbn; cylinder_sectors = size } ∷ [] ≡ map (start_of disk) (take (i + 1) disk.zones)
@@ -46,7 +46,7 @@ module _ (disk : Shape) (sound : IsSound disk) where
       ap (λ n. n + (zone.last + 1 - zone.first) * size) begin ∙ ap (λ n. sectors_before disk zone.first + (zone.last + 1 - zone.first) * n) by_size ∙ sym (before-in_zone disk sound i zone (zone.last + 1) at (omega arith) (omega arith)) in
       (whole ∙ ap (sectors_before disk) (sym next), omega (arith, whole, before-few disk sound (zone.last + 1) (omega (arith, upto_last disk sound i zone at))))
 
-  -- all zones
+  -- after the last zone, the starts are those of all zones, and the count is that of all sectors
   pub all_made : (i : ℕ) (starts : List ZoneStart) (count : ℕ) → i ≡ length disk.zones → starts ≡ map (start_of disk) (take i disk.zones) → count ≡ sectors_before disk (border 0 disk.zones i) → IsMapped disk starts count
   all_made i starts count e are count_as = record {
     sound = sound;

@@ -13,7 +13,7 @@ range-split a zero n b k e h = ap (λ x. range_with_len x k) (let same : a ≡ b
 range-split a (suc m) n b zero e h = absurd (omega arith)
 range-split a (suc m) n b (suc k) e h = ap (λ xs. a ∷ xs) (range-split (a + 1) m n b k (omega arith) (omega arith))
 
--- the same of parts
+-- the parts of a range are those of one range after those of another
 pub parts-split : {A : Type 0} (f : ℕ → List A) (a m n b k : ℕ) → b ≡ a + m → k ≡ m + n
     → flat_map f (range_with_len a k) ≡ flat_map f (range_with_len a m) ++ flat_map f (range_with_len b n)
 parts-split f a m n b k e h = ap (flat_map f) (range-split a m n b k e h) ∙ flat_map-append f (range_with_len a m) (range_with_len b n)
@@ -24,7 +24,7 @@ same-parts f g a zero same = refl
 same-parts f g a (suc n) same = ap (λ xs. xs ++ flat_map f (range_with_len (a + 1) n)) (same a (omega arith) (omega arith))
     ∙ ap (λ xs. g a ++ xs) (same-parts f g (a + 1) n (λ x from below. same x (omega arith) (omega arith)))
 
--- parts of one length
+-- the length of a list of n parts that are all of one length
 pub length-same : {A : Type 0} (f : ℕ → List A) (a n m : ℕ) → ((x : ℕ) → a ≤ x → x < a + n → length (f x) ≡ m) → length (flat_map f (range_with_len a n)) ≡ n * m
 length-same f a zero m each = omega arith
 length-same f a (suc n) m each =
@@ -32,7 +32,7 @@ length-same f a (suc n) m each =
     let rest = length-same f (a + 1) n m (λ x from below. each x (omega arith) (omega arith)) in
     length-append (f a) (flat_map f (range_with_len (a + 1) n)) ∙ grind (arith, first, rest)
 
--- parts that are no longer than this
+-- a list of n parts is no longer than n times the greatest length of a part
 pub length-most : {A : Type 0} (f : ℕ → List A) (a n m : ℕ) → ((x : ℕ) → a ≤ x → x < a + n → length (f x) ≤ m) → length (flat_map f (range_with_len a n)) ≤ n * m
 length-most f a zero m each = omega arith
 length-most f a (suc n) m each =
@@ -62,7 +62,7 @@ in_part f n c j i h k e =
     ∙ get_left (f c ++ []) (flat_map f (range_with_len (c + 1) (n - c - 1))) j (omega (arith, length-append (f c) []))
     ∙ get_left (f c) [] j k
 
--- the element stands in a part
+-- the i-th element is in one of the first n parts
 pub record IsIn {A : Type 0} (f : ℕ → List A) (n i : ℕ) : Type 0 where
   pub part : ℕ
   pub index : ℕ
@@ -70,7 +70,7 @@ pub record IsIn {A : Type 0} (f : ℕ → List A) (n i : ℕ) : Type 0 where
   pub inside : index < length (f part)
   pub at : i ≡ before f part + index
 
--- and each does
+-- each element is in one of the parts
 pub some_part : {A : Type 0} (f : ℕ → List A) (n i : ℕ) → i < before f n → IsIn f n i
 some_part f zero i h = absurd (omega arith)
 some_part f (suc n) i h = elim (cases_lt i (before f n)) [

@@ -132,7 +132,7 @@ module _ (disk : Shape) (starts : List ZoneStart) (count : ℕ) (mapped : IsMapp
 mapped_as : (seen disk : Shape) (items starts : List ZoneStart) (count : ℕ) → IsMapped seen items count → seen ≡ disk → starts ≡ items → IsMapped disk starts count
 mapped_as seen disk items starts count mapped same are = subst (λ xs. IsMapped disk xs count) (sym are) (subst (λ d. IsMapped d items count) same mapped)
 
--- the same of the code's searches, whose closures make the tests
+-- the same for the searches of the code, in which closures make the tests
 module _ {F : Type 0} {g : Mut F (Bor ZoneStart × Unit {0}) Bool} {f : F} (seen disk : Shape) (items starts : List ZoneStart) (count : ℕ) (mapped : IsMapped seen items count) (same : seen ≡ disk) (are : starts ≡ items) where
   pub lbn-searched : (lbn i : ℕ) (d : ZoneStart) → i ≤ length starts → lbn < length (places disk)
       → ((q : ZoneStart → Bool) → ComputesKey g q f → IsPartitionedBy q starts → IsPartitionPoint (λ start. q start ≡ true) (λ start. q start ≡ false) starts i)

@@ -15,7 +15,7 @@ module _ (disk : Shape) (sound : IsSound disk) (cylinder j lbn : ℕ) (stretch :
   pub on_cylinder : stretch.place.track.cylinder ≡ cylinder
   on_cylinder = (own-at disk sound cylinder j stretch.place is.on_disk goes.first).cylinder_is
 
-  -- so many sectors on
+  -- the i-th sector of the stretch is i slots on
   pub listed-on : (i : ℕ) → i < stretch.count → slice_get (data_list_at disk cylinder) (j + i) ≡ Some (neighbour disk stretch.place i)
   listed-on i less = goes.next i less
       ∙ ap (λ c. Some (record { track = stretch.place.track; slot = (stretch.place.slot + i) % slots_at disk.zones c })) (sym on_cylinder)

@@ -22,7 +22,7 @@ offset-below (zone ∷ zones) heads track some = elim (cases_Bool (nat_le track.
   | inr later ↦ let rest : 0 < slots_at zones track.cylinder = rw later at some in rw later (offset-below zones heads track rest)
 ]
 
--- so many slots on in the turn
+-- a slot i slots on comes i slots later in the turn, as long as the turn doesn't end
 round : (slot i slots offset : ℕ) → 0 < slots → offset ≤ slots → (slot + slots - offset) % slots + i < slots → ((slot + i) % slots + slots - offset) % slots ≡ (slot + slots - offset) % slots + i
 round slot i slots offset some low inside =
     ap (λ x. x % slots) (let one : (slot + i) % slots + slots - offset ≡ (slot + i) % slots + (slots - offset) = omega arith in one)
@@ -40,7 +40,7 @@ module _ (disk : Shape) (lbn : ℕ) (place : Place) (count : ℕ) (slot : place.
       let low = offset-below disk.zones disk.heads place.track some in
       round place.slot i slots (offset_at disk.zones disk.heads place.track) some (omega arith) (omega (arith, one_turn))
 
-  -- each comes by later than the one before it
+  -- each sector of the stretch comes by later than the one before it
   pub later-within : (i : ℕ) → 0 < i → i < count → is_later disk (place_at disk (lbn + i - 1)) (place_at disk (lbn + i)) ≡ true
   later-within i some less =
       let before : place_at disk (lbn + i - 1) ≡ neighbour disk place (i - 1) = ap (place_at disk) (omega arith) ∙ next (i - 1) (omega arith) in
@@ -48,7 +48,7 @@ module _ (disk : Shape) (lbn : ℕ) (place : Place) (count : ℕ) (slot : place.
       ∙ and_from (same_track place.track place.track) (nat_lt (turn_position disk (neighbour disk place (i - 1))) (turn_position disk (neighbour disk place i)))
       (itself place.track) (lt-ltb (turn_position disk (neighbour disk place (i - 1))) (turn_position disk (neighbour disk place i)) (omega (arith, turn-of (i - 1) (omega arith), turn-of i less)))
 
-  -- a turn that goes on up to the stretch goes on through it
+  -- if sectors up to the stretch come by in one turn, so do they with those of the stretch
   pub later-through : (first length more : ℕ) → first + length ≡ lbn → more ≤ count
       → ((i : ℕ) → 0 < i → i < length → is_later disk (place_at disk (first + i - 1)) (place_at disk (first + i)) ≡ true)
       → is_later disk (place_at disk (lbn - 1)) (place_at disk lbn) ≡ true
@@ -65,7 +65,7 @@ module _ (disk : Shape) (lbn : ℕ) (place : Place) (count : ℕ) (slot : place.
     ]
   ]
 
-  -- from one of its sectors on, too
+  -- the same from any sector of the stretch on
   pub later-inside : (first : ℕ) → lbn ≤ first → (i : ℕ) → 0 < i → first - lbn + i < count → is_later disk (place_at disk (first + i - 1)) (place_at disk (first + i)) ≡ true
   later-inside first from i some less =
       let before : first + i - 1 ≡ lbn + (first - lbn + i) - 1 = omega arith in

@@ -72,7 +72,7 @@ zone_get [] i h = absurd (omega arith)
 zone_get (zone ∷ zones) zero h = (zone, refl)
 zone_get (zone ∷ zones) (suc i) h = zone_get zones i (omega arith)
 
--- the last zone ends the disk
+-- the disk ends where the last zone ends
 pub last_border : (begin : ℕ) (zones : List Zone) → 0 < length zones → border begin zones (length zones) ≡ cylinders_of zones
 last_border begin [] some = absurd (omega arith)
 last_border begin (zone ∷ []) some = refl
@@ -91,7 +91,7 @@ upto_end begin (other ∷ next ∷ zones) zero zone follow at =
     omega (arith, ap (λ zone. zone.last) (some_same other zone at), ends_after (other.last + 1) (next ∷ zones) follow.2 (omega arith))
 upto_end begin (other ∷ next ∷ zones) (suc i) zone follow at = upto_end (other.last + 1) (next ∷ zones) i zone follow.2 at
 
--- the list of a cylinder is that by its zone
+-- the data list of a cylinder is that of its zone
 pub list_in_zone : (disk : Shape) (begin : ℕ) (zones : List Zone) (i cylinder : ℕ) (zone : Zone) → AreFollowing begin zones → slice_get zones i ≡ Some zone → zone.first ≤ cylinder → cylinder ≤ zone.last
     → list_among disk zones cylinder ≡ data_list disk zone cylinder
 list_in_zone disk begin [] i cylinder zone follow at from upto = absurd (none_some zone at)
