@@ -13,7 +13,7 @@ use Rattle.fb_seek.specs.Faults.{first_bad, stays_near, falls, last_distance, is
 use Rattle.fb_seek.specs.Table.{IsTable}
 use Rattle.fb_seek.specs.Positioning.{seek_after, seek_along, seek}
 
--- none is bad after the one before it
+-- if a search found no bad point, no point is bad after the one before it
 adjacent : (is_bad : SeekPoint → SeekPoint → Bool) (index : ℕ) (before : SeekPoint) (points : List SeekPoint) → first_bad is_bad index before points ≡ None
     → (k : ℕ) (d : SeekPoint) → k < length points → is_bad (slice_index_or (before ∷ points) k d) (slice_index_or points k d) ≡ false
 adjacent is_bad index before [] h k d l = absurd (omega arith)
@@ -52,7 +52,7 @@ none_if : (fault : SeekFault) (is_so : Bool) → fault_if fault is_so ≡ None �
 none_if fault true h = absurd cc
 none_if fault false h = refl
 
--- what no fault says of the numbers
+-- the numbers of a mechanism without a fault are in their ranges
 record InRange (arm : Mechanics) : Type 0 where
   head_switch : arm.head_switch ≤ 10 ^ 9
   write_settle : arm.write_settle ≤ 10 ^ 9
@@ -122,7 +122,7 @@ along_at [] k distance d l passed reached = absurd (omega arith)
 along_at (first ∷ points) k distance d l passed reached =
     rw add-one (after_at first points k distance d (omega arith) (λ i h. passed (suc i) (omega arith)) (rw add-one at reached))
 
--- where the arm moves
+-- the time of a seek is that between the two neighbouring points around its distance
 pub seek_from : (arm : Mechanics) (points : List SeekPoint) (k distance : ℕ) (d : SeekPoint) → points ≡ arm.points → distance ≢ 0 → k ≢ 0 → k < length points
     → ((i : ℕ) (e : SeekPoint) → i < k → (slice_index_or points i e).distance < distance) → distance ≤ (slice_index_or points k d).distance
     → (slice_index_or points (k - 1) d).time + (distance - (slice_index_or points (k - 1) d).distance) * ((slice_index_or points k d).time - (slice_index_or points (k - 1) d).time)
@@ -160,7 +160,7 @@ along_one : (points : List SeekPoint) (distance : ℕ) (d : SeekPoint) → 0 < l
 along_one [] distance d l e rises = absurd (omega arith)
 along_one (first ∷ points) distance d l e rises = sym (at_first first points distance e (λ d l. rises d (omega arith)))
 
--- one cylinder
+-- the time of a seek over one cylinder is that of the first point
 pub seek_one : (arm : Mechanics) (points : List SeekPoint) (distance : ℕ) (d : SeekPoint) → IsTable arm → points ≡ arm.points → distance ≢ 0 → distance ≤ (slice_index_or points 0 d).distance
     → (slice_index_or points 0 d).time ≡ seek arm distance
 seek_one arm points distance d table same some near =
@@ -170,7 +170,7 @@ seek_one arm points distance d table same some near =
     rw moves (ap (λ (ps : List SeekPoint). (slice_index_or ps 0 d).time) same
     ∙ along_one arm.points distance d table.some (omega arith) (λ e l. table.rising 0 e (omega arith)))
 
--- the arm goes no further than the table
+-- a look-up of a distance on the disk doesn't go past the table
 pub within_table : (arm : Mechanics) (points : List SeekPoint) (k distance : ℕ) → IsTable arm → points ≡ arm.points → distance < arm.cylinders → k ≤ length points
     → ((i : ℕ) (e : SeekPoint) → i < k → (slice_index_or points i e).distance < distance) → k < length points
 within_table arm points k distance table same near le passed = elim (cases_lt k (length points)) [
