@@ -1,4 +1,4 @@
--- How long it is until a slot begins to pass.
+-- The time until a slot begins to pass.
 use Rattle.std.proofs.Common.{◌≡◌, ℕ, ◌+◌, ◌-◌, ◌%◌, ◌<◌, ◌≤◌, ap, sym, ◌∙◌, arith}
 use Rattle.std.proofs.Math.Nat.{mod-add-mod}
 use Rattle.fb_units.specs.Wait.{wait}
@@ -7,17 +7,17 @@ use Rattle.fb_units.proofs.Waits.{wait_least, least_unique, least_of, reaches_ah
 use Rattle.fb_geometry.specs.Shape.{Shape}
 use Rattle.fb_service.specs.Passing.{begin_from, begin_angle}
 
--- the way, and the wait at its end
+-- a slot begins to pass after the way and the wait at the end of the way
 pub passes_in : (shape : Shape) (place : Place) (instant way waited : ℕ) → waited ≡ wait shape.rotation (begin_angle shape place) (instant + way)
     → way + waited ≡ begin_from shape place (instant + way) - instant
 unfolding begin_from
 passes_in shape place instant way waited e = omega (arith, e)
 
--- the angle at the way's end
+-- the angle of the platter at the end of the way
 pub angle_behind : (rotation instant angle way here : ℕ) → angle ≡ instant % rotation → here ≡ (angle + way) % rotation → here ≡ (instant + way) % rotation
 angle_behind rotation instant angle way here e f = f ∙ (ap (λ a. (a + way) % rotation) e ∙ mod-add-mod instant rotation way)
 
--- forward to a later angle, and over the turn
+-- the wait for a later angle of this turn, and for an earlier one of the next turn
 pub waits_ahead : (rotation angle here now : ℕ) → angle < rotation → here ≤ angle → here ≡ now % rotation → angle - here ≡ wait rotation angle now
 waits_ahead rotation angle here now h le e =
     let short : angle - now % rotation < rotation = omega arith in

@@ -45,7 +45,7 @@ module _ (disk : Shape) (first other begin next end : ℕ) where
   in-time i zero t follow = omega arith
   in-time i (suc n) t follow = omega (arith, follow.0, in-time (i + 1) n (passage_from disk (other + i) next).end follow.1)
 
-  -- passages from the second extent's beginning on are those from the first one's
+  -- the passages from the beginning of the second extent on are those from the beginning of the first one on
   pub same-passages : (before i n t : ℕ) → first + before ≡ other
       → ((x : ℕ) → i ≤ x → x < i + n → begin_angle disk (place_at disk (other + x)) < disk.rotation)
       → ((x : ℕ) → i ≤ x → x < i + n → 0 < length_of disk (place_at disk (other + x)))

@@ -23,7 +23,7 @@ stays shape place t u h e le near =
     (wait_least shape.rotation (begin_angle shape place) t h) (least_of shape.rotation (begin_angle shape place) t (u - t) (omega arith) here) in
     omega (arith, same)
 
--- what begins from t on begins there
+-- the first beginning from t on is also the first from that beginning on
 pub settled : (shape : Shape) (place : Place) (t : ℕ) → begin_angle shape place < shape.rotation → begin_from shape place t ≡ begin_from shape place (begin_from shape place t)
 unfolding begin_from
 settled shape place t h =
@@ -33,7 +33,7 @@ settled shape place t h =
     let none : wait shape.rotation (begin_angle shape place) (t + w) ≤ 0 = now.least 0 (ap (λ x. x % shape.rotation) (omega arith) ∙ before.reaches) in
     omega arith
 
--- a passage that begins at u is the one from t on
+-- a passage that begins at u is the first one from t on, if t is less than a rotation before u
 pub same_passage : (shape : Shape) (lbn t u : ℕ) → begin_angle shape (place_at shape lbn) < shape.rotation → u ≡ begin_from shape (place_at shape lbn) u → t ≤ u → u < t + shape.rotation
     → passage_from shape lbn t ≡ passage_from shape lbn u
 same_passage shape lbn t u h e le near =

@@ -22,14 +22,14 @@ use Rattle.fb_service.proofs.Passes.{settled}
 abbrev pub arrived : Disk → Track → ℕ → Bool → ℕ → ℕ
 arrived disk source now write lbn = now + pos disk.mechanism source (place_at disk.map lbn).track write
 
--- a passage from where it begins is that passage
+-- the first passage from the beginning of a passage on is that passage
 pub from_begin : (shape : Shape) (lbn t begin : ℕ) → begin_angle shape (place_at shape lbn) < shape.rotation → begin ≡ begin_from shape (place_at shape lbn) t
     → passage_from shape lbn begin ≡ passage_from shape lbn t
 from_begin shape lbn t begin h e =
     ap (λ b. record { lbn = lbn; begin = b; end = b + (end_angle shape (place_at shape lbn) - begin_angle shape (place_at shape lbn)) })
     (ap (begin_from shape (place_at shape lbn)) e ∙ sym (settled shape (place_at shape lbn) t h))
 
--- no way leads from a track to itself
+-- the way from a track to itself takes no time
 pub stays_there : (arm : Mechanics) (a b : Track) (write : Bool) → a ≡ b → pos arm a b write ≡ 0
 unfolding pos
 stays_there arm a b write e = subst (λ c. pos arm a c write ≡ 0) e (rw itself refl)
@@ -105,7 +105,7 @@ served_extent disk source now write lbn left extent unbroken timed first begin =
     ∙ ap (λ n. map (λ x. passage_from disk.map (extent.first + x) extent.begin) (range_with_len 0 n) ++ passages disk extent.track extent.end write (extent.first + 0 + n) left) (sym count)
     ∙ ap (λ l. passages_of disk.map extent ++ passages disk extent.track extent.end write (l + extent.count) left) start
 
--- one extent more of a service
+-- the passages of a service with one more extent
 pub served_more : (disk : Disk) (source : Track) (now : ℕ) (write : Bool) (lbn n next left : ℕ) (extent : Extent) (end : ℕ) (track : Track) (front front' whole : List Passage)
     → IsUnbroken disk.map extent → ArePassing disk.map lbn extent.count → extent.first ≡ lbn
     → extent.begin ≡ begin_from disk.map (place_at disk.map lbn) (arrived disk source now write lbn)
@@ -154,7 +154,7 @@ finish-all shape now front rest whole extent unbroken none h =
     ∙ sym (finish-append now front (passages_of shape extent))
     ∙ ap (finish_of now) (sym (append-nil (front ++ passages_of shape extent)) ∙ ap (λ r. (front ++ passages_of shape extent) ++ r) (sym none) ∙ h)
 
--- sectors that pass for some time, and so many more
+-- sectors that each take some time to pass, and more such sectors behind them
 pub passing-more : (disk : Shape) (first served lbn count next : ℕ) → ((x : ℕ) → first ≤ x → x < lbn → 0 < length_of disk (place_at disk x)) → ArePassing disk lbn count → next ≡ lbn + count
     → (x : ℕ) → first ≤ x → x < next → 0 < length_of disk (place_at disk x)
 passing-more disk first served lbn count next before these e x from below = elim (cases_lt x lbn) [
@@ -162,7 +162,7 @@ passing-more disk first served lbn count next before these e x from below = elim
   | inr more ↦ subst (λ y. 0 < length_of disk (place_at disk y)) (let same : lbn + (x - lbn) ≡ x = omega arith in same) (these.long (x - lbn) (omega arith))
 ]
 
--- sectors that pass for some time have passages that do
+-- the passages of sectors that each take some time to pass take some time
 pub all_take : (disk : Disk) (source : Track) (now : ℕ) (write : Bool) (lbn n : ℕ) → ((x : ℕ) → lbn ≤ x → x < lbn + n → 0 < length_of disk.map (place_at disk.map x))
     → AllByRecursion (λ passage. passage.begin < passage.end) (passages disk source now write lbn n)
 unfolding passages

@@ -33,7 +33,7 @@ module _ (rotation n : ℕ) (some : 0 < n) (short : n ≤ rotation) where
   pub within-turn : (slot i : ℕ) → i ≤ n → angle (slot + i) ≤ angle slot + rotation
   within-turn slot i h = omega (arith, over slot, later-after (slot + i) (n - i), ap angle (let back : slot + i + (n - i) ≡ slot + n = omega arith in back))
 
-  -- the same slot, counted on or within its turn
+  -- a slot that is counted on past the end of the turn, or not past it
   pub slot-is : (slot i : ℕ) → slot < n → i < n → (((slot + i) % n ≡ slot + i) × (slot + i < n)) ⊎ ((((slot + i) % n) + n ≡ slot + i) × (n ≤ slot + i))
   slot-is slot i h less = elim (cases_lt (slot + i) n) [
     | inl inside ↦ inl (mod-eq_of_lt inside, inside)
@@ -43,7 +43,7 @@ module _ (rotation n : ℕ) (some : 0 < n) (short : n ≤ rotation) where
         inr (omega arith, past)
   ]
 
-  -- a slot passes as long as itself one rotation later
+  -- a slot takes as long to pass one rotation later
   pub as-long : (slot i : ℕ) → slot < n → i < n → angle ((slot + i) % n + 1) - angle ((slot + i) % n) ≡ angle (slot + i + 1) - angle (slot + i)
   as-long slot i h less = elim (slot-is slot i h less) [
     | inl inside ↦ ap (λ x. angle (x + 1) - angle x) inside.0

@@ -14,7 +14,7 @@ use Rattle.fb_service.specs.Service.{passage_from}
 use Rattle.fb_service.specs.Extents.{passages_of, FollowOn, IsUnbroken}
 use Rattle.fb_service.proofs.Turning.{begins-behind, as-long, in-turn, next-after, later-after}
 
--- what begins from t on begins at its angle
+-- a slot that begins to pass begins at its own angle
 pub at_angle : (disk : Shape) (place : Place) (t : ℕ) → begin_angle disk place < disk.rotation → begin_from disk place t % disk.rotation ≡ begin_angle disk place
 unfolding begin_from
 at_angle disk place t h = (wait_least disk.rotation (begin_angle disk place) t h).reaches
@@ -63,7 +63,7 @@ module _ (disk : Shape) (place : Place) (some : 0 < slots_at disk.zones place.tr
       long = λ i less. subst (λ (p : Place). 0 < length_of disk p) (sym (each i less)) (let next = next-after disk.rotation slots some short ((place.slot + i) % slots) in let h : 0 < length_of disk (neighbour disk place i) = omega arith in h);
     }
 
-    -- neighbouring slots from the beginning of the first one on
+    -- an extent of neighbouring slots, from the beginning of the first one on, is unbroken
     pub unbroken : 0 < count → (extent : Extent) → extent.track ≡ place.track → extent.first ≡ lbn → extent.count ≡ count → extent.begin ≡ t → extent.end ≡ t + turned disk place count → IsUnbroken disk extent
     unbroken many extent track first size begin end = record {
       some = omega arith;
