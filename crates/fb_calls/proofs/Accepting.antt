@@ -1,4 +1,4 @@
--- What is accepted keeps the rules.
+-- What is accepted obeys the rules.
 use Rattle.std.proofs.Common.{◌≡◌, ℕ, ◌+◌, ◌*◌, ◌^◌, ◌<◌, ◌≤◌, Bool, true, false, not, ◌&&◌, nat_le, nat_lt, nat_eq, List, length, max, get_or, Some, Result, Ok, position, is_some, refl, sym, ap, ◌∙◌, subst, arith}
 use Rattle.fb_units.specs.Judging.{◌>>◌, or_refuse, refuse}
 use Rattle.fb_units.proofs.Judged.{both_ok, value_ok, test_ok}
@@ -22,7 +22,7 @@ use Rattle.fb_calls.specs.declared.call.Kind.{Kind}
 use Rattle.fb_calls.specs.declared.call.Kind.TheVariants.{Plain}
 use Rattle.std.specs.Str.{bytes_eq}
 
--- a test that refused nothing, and the steps behind it
+-- if a check and those after it didn't refuse, its test doesn't hold, and those after it didn't refuse
 pub passed : {E B : Type 0} (reason : E) (test : Bool) (rest : Result B E) (b : B) → (refuse reason test >> rest) ≡ Ok b → (test ≡ false) × (rest ≡ Ok b)
 passed reason true rest b given = cc
 passed reason false rest b given = (refl, given)

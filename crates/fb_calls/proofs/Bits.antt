@@ -12,7 +12,7 @@ unfolding bits
 length-bits [] = refl
 length-bits (digit ∷ digits) = let rest = length-bits digits in omega arith
 
--- the block at a place is a bit of the digit of its four
+-- whether a block is live is a bit of the digit that has it
 pub bit_at : (digits : List ℕ) (block : ℕ) → block < 4 * length digits → get_or (bits digits) block false ≡ get_or (bits_of (get_or digits (block / 4) 0)) (block % 4) false
 unfolding bits
 bit_at [] block h = absurd (omega arith)
@@ -25,7 +25,7 @@ bit_at (digit ∷ digits) (suc (suc (suc (suc block)))) h =
     let rest : suc (suc (suc (suc block))) % 4 ≡ block % 4 = omega arith in
     rw (whole, rest) (bit_at digits block (omega arith))
 
--- what digits of so many blocks are
+-- what holds of the digits of this many blocks
 pub live_digits : (blocks : ℕ) (digits : List ℕ) → is_live blocks digits ≡ true → list_all (λ digit. is_digit digit 16) digits ≡ true
 unfolding is_live
 live_digits blocks digits h = grind (arith, nat_tests)

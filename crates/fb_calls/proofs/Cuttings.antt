@@ -31,7 +31,7 @@ module _ (disk : Shape) (block : ℕ) (some : 0 < block) where
   hold zero lbn = let rest = mod-lt lbn some in omega arith
   hold (suc n) lbn = one_more lbn (suc n) (cutting disk block (lbn + 1) (suc n)) (hold n (lbn + 1))
 
-  -- a range gives at least as many blocks as it has whole block sizes
+  -- a range is cut into at least as many blocks as it has whole block sizes
   pub at_least : (lbn n : ℕ) → n / block ≤ length (cutting disk block lbn n)
   unfolding cutting
   at_least lbn zero = div-le_of_le-mul block (omega arith)

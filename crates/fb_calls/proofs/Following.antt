@@ -1,4 +1,4 @@
--- What a call more leaves of a script.
+-- A script with one more call.
 use Rattle.std.proofs.Common.{◌≡◌, ℕ, ◌+◌, ◌*◌, ◌^◌, ◌≤◌, List, [], ◌∷◌, ◌++◌, length, map, length-append, append_assoc, append-nil, refl, sym, ap, subst, arith}
 use Rattle.std.specs.List.{AllByRecursion}
 use Rattle.fb_units.specs.Rising.{IsRising}
@@ -14,14 +14,14 @@ use Rattle.fb_calls.specs.Judgement.{Progress}
 use Rattle.fb_calls.specs.Promoted.{read_of, promoted_from, promoted}
 use Rattle.fb_calls.specs.Sessions.{session_of}
 
--- the kind and the block size
+-- the kind and the block size of a session
 abbrev pub of_session : Session → Kind × ℕ
 of_session session = (session.kind, session.block)
 
 abbrev pub of_task : Terms → Kind × ℕ
 of_task terms = (terms.kind, terms.block)
 
--- the calls so far are allowed, and the rest of what is known of them says the same
+-- the calls so far are allowed, and the names, sessions and counts agree with them
 pub record Knows (disk : Shape) (traced : ℕ) (so_far : Progress) : Type 0 where
   pub terms : map of_session so_far.sessions ≡ map of_task (tasks so_far.calls)
   pub names_are : length so_far.names ≡ length (tasks so_far.calls)
@@ -36,7 +36,7 @@ pub record Knows (disk : Shape) (traced : ℕ) (so_far : Progress) : Type 0 wher
   pub rising : IsRising (map (λ call. call.instant) so_far.calls)
   pub last : AllByRecursion (λ instant. instant ≤ so_far.instant) (map (λ call. call.instant) so_far.calls)
 
--- calls with one more
+-- allowed calls with one more that is allowed after them are allowed
 pub allowed_push : (disk : Shape) (before calls : List Call) (call : Call) → AreAllowed disk before calls → call.instant ≤ 10 ^ 15 → MayAsk disk (before ++ calls) call.task call.action
     → AreAllowed disk before (calls ++ call ∷ [])
 allowed_push disk before [] call allowed early may = (early, subst (λ front. MayAsk disk front call.task call.action) (append-nil before) may, tt)

@@ -1,4 +1,4 @@
--- Lists with an element more, or another.
+-- Lists with one more element, or with one replaced.
 use Rattle.std.proofs.Common.{◌≡◌, ℕ, zero, suc, ◌<◌, ◌≤◌, Bool, true, false, ◌||◌, nat_eq, List, [], ◌∷◌, ◌++◌, length, get_or, set, map, inl, inr, refl, sym, ap, ◌∙◌, arith}
 use Rattle.std.specs.List.{AllByRecursion}
 use Rattle.std.proofs.Math.Bool.{or-false, or-true}
@@ -18,14 +18,14 @@ pub rising_push : (xs : List ℕ) (x : ℕ) → IsRising xs → AllByRecursion (
 rising_push [] x rising all = (tt, tt)
 rising_push (y ∷ xs) x rising all = (all_push (λ later. y ≤ later) xs x rising.0 all.0, rising_push xs x rising.1 all.1)
 
--- what a function tells of each place, where a list has an element more that is like none
+-- a function has the same values at all indexes after one more element, if that has the value of the default
 pub get_or-push_like : {X Y : Type 0} (f : X → Y) (xs : List X) (x d : X) (i : ℕ) → f x ≡ f d → f (get_or (xs ++ x ∷ []) i d) ≡ f (get_or xs i d)
 get_or-push_like f [] x d zero same = same
 get_or-push_like f [] x d (suc i) same = refl
 get_or-push_like f (y ∷ xs) x d zero same = refl
 get_or-push_like f (y ∷ xs) x d (suc i) same = get_or-push_like f xs x d i same
 
--- where an element is replaced by one that is like it
+-- a function has the same values at all indexes after an element is replaced by one with the same value
 pub get_or-set_like : {X Y : Type 0} (f : X → Y) (xs : List X) (y d : X) (i j : ℕ) → f y ≡ f (get_or xs i d) → f (get_or (set xs i y) j d) ≡ f (get_or xs j d)
 get_or-set_like f [] y d i j same = refl
 get_or-set_like f (x ∷ xs) y d zero zero same = same
@@ -39,7 +39,7 @@ same_test i j = elim (cases_Bool (nat_eq i j)) [
   | inr other ↦ rw other (grind (arith, nat_tests))
 ]
 
--- where an element is replaced by one that passes
+-- a test holds where it held before, and at the index of an element that is replaced by one that passes
 pub get_or-set_marked : {X : Type 0} (f : X → Bool) (xs : List X) (y d : X) (i j : ℕ) → i < length xs → f y ≡ true → f (get_or (set xs i y) j d) ≡ (f (get_or xs j d) || nat_eq i j)
 get_or-set_marked f [] y d i j inside marked = absurd (omega arith)
 get_or-set_marked f (x ∷ xs) y d zero zero inside marked = marked ∙ sym (or-true (f x))

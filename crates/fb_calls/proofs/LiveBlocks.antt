@@ -9,7 +9,7 @@ use Rattle.fb_calls.specs.Blocks.{live_cuts}
 use Rattle.fb_calls.specs.Live.{bits, is_live}
 use Rattle.fb_calls.proofs.Bits.{length-bits, live_length}
 
--- how many blocks those from a place on give
+-- into how many blocks the live blocks from the i-th on are cut
 abbrev rest : Shape → ℕ → ℕ → List Bool → ℕ → ℕ
 rest disk block first lives i = length (live_cuts disk block (first + i * block) (drop i lives))
 
@@ -24,14 +24,14 @@ module _ (disk : Shape) (block first : ℕ) (lives : List Bool) where
       ∙ ap (λ n. length (if get_or lives i false then cutting disk block (first + i * block) block else []) + length (live_cuts disk block n (drop (i + 1) lives))) lbn
       ∙ ap (λ k. length (if get_or lives i false then cutting disk block (first + i * block) block else []) + length (live_cuts disk block (first + j * block) (drop k lives))) (sym next))
 
-  -- a block that isn't live, or none
+  -- a block that isn't live adds nothing
   dead_first : (i j : ℕ) → j ≡ i + 1 → get_or lives i false ≡ false → rest disk block first lives i ≡ rest disk block first lives j
   dead_first i j next dead = elim (cases_lt i (length lives)) [
     | inl inside ↦ block_first i j next inside ∙ rw dead (omega arith)
     | inr past ↦ rw (drop_all i lives past, drop_all j lives (omega arith)) refl
   ]
 
-  -- none of four blocks is live
+  -- four blocks of which none is live add nothing
   pub four_dead : (i : ℕ) → ((k : ℕ) → k < 4 → get_or lives (i + k) false ≡ false) → rest disk block first lives i ≡ rest disk block first lives (i + 4)
   four_dead i dead =
       dead_first i (i + 1) (omega arith) (ap (λ place. get_or lives place false) (omega arith) ∙ dead 0 (omega arith))

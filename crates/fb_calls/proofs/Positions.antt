@@ -1,4 +1,4 @@
--- The places of names.
+-- The indexes of names.
 use Rattle.std.proofs.Common.{◌≡◌, ℕ, Bool, false, List, [], ◌∷◌, ◌++◌, length, map, None, inl, inr, refl, sym, ap, ◌∙◌, subst, arith}
 use Rattle.std.specs.List.{list_any, position, position_or_len}
 use Rattle.std.specs.Str.{bytes_eq}
@@ -30,7 +30,7 @@ module _ {K : Type 0} (f : K → List ℕ) where
       let none = none-list_any (λ x. bytes_eq (f key) (f x)) keys (sym (position-map (bytes_eq (f key)) f keys) ∙ h) in
       rw (none, map-append f keys (key ∷ [])) refl)
 
--- lists of which one's values are the other's, with a value more each, are as long as one another
+-- two lists of one length are of one length again after one more element in each
 pub as_long : {X Y Z : Type 0} (f : X → Y) (old new : List X) (y : Y) (others : List Z) (z : Z) → map f new ≡ map f old ++ y ∷ [] → length others ≡ length old → length (others ++ z ∷ []) ≡ length new
 as_long f old new y others z names same =
     omega (arith, length-map new f, length-map old f, ap length names, length_push others z, length_push (map f old) y, same)

@@ -1,4 +1,4 @@
--- A script that is accepted keeps the rules.
+-- An accepted script obeys the rules.
 use Rattle.std.proofs.Common.{◌≡◌, ℕ, ◌+◌, ◌^◌, ◌<◌, ◌≤◌, nat_lt, List, [], ◌∷◌, length, Ok, refl, sym, subst, arith}
 use Rattle.std.proofs.lemmas.Bool.Decides.{nat_tests}
 use Rattle.fb_units.proofs.Judged.{both_ok, step_ok}
