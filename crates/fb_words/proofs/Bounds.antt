@@ -69,7 +69,7 @@ small-with_value : (given next : Options) (option : OptionName) (value : List �
 unfolding with_value
 small-with_value given next option value e is = small-with_form given next option value (both_ok (refuse NoValue (not (is_value value))) _ next e).2 is
 
--- the options so far are small
+-- the numbers of the options so far are within the limits
 abbrev IsSmallSoFar : Progress → Type 0
 IsSmallSoFar (ready given) = IsSmall given
 IsSmallSoFar (awaits given option place) = IsSmall given
@@ -176,7 +176,7 @@ within_limits [] terms e = cc
 within_limits (program ∷ []) terms e = cc
 within_limits (program ∷ name ∷ words) terms e = small-with_verb (length (program ∷ name ∷ words)) name words terms e
 
--- so an answer's numbers are
+-- the numbers of a result are within the limits
 pub answer_within : (words : List (List ℕ)) (result : Result Command WordsError) → Answers terms result (command_of words) → IfOk result (λ command. IsWithinLimits (terms command))
 answer_within words (Ok command) e = within_limits words (terms command) e
 answer_within words (Err error) e = tt

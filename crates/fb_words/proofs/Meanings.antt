@@ -1,4 +1,4 @@
--- A word that is none of the names.
+-- A word that isn't in the list stands for nothing.
 use Rattle.std.proofs.Common.{◌≡◌, ℕ, List, [], ◌∷◌, false, None, inl, inr, refl, sym}
 use Rattle.std.specs.List.{AllByRecursion}
 use Rattle.std.specs.Str.{bytes_eq}

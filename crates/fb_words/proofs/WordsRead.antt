@@ -1,4 +1,4 @@
--- Going on from the first word that is left.
+-- Reading words goes on after the first one that is left.
 use Rattle.std.proofs.Common.{◌≡◌, ℕ, ◌+◌, ◌<◌, ◌≤◌, List, ◌∷◌, map, length, drop, get_or, sym, ap, ◌∙◌, Result, Ok, Err}
 use Rattle.std.proofs.lemmas.List.{drop_more, drop_all}
 use Rattle.fb_units.specs.Judging.{◌>>=◌}
@@ -13,7 +13,7 @@ module _ {X : Type 0} (bytes : X → List ℕ) (verb : Verb) where
   split words i x word inside is at =
       ap (map bytes) (drop_more words i x inside) ∙ ap (λ y. bytes y ∷ map bytes (drop (i + 1) words)) (sym is) ∙ ap (λ w. w ∷ map bytes (drop (i + 1) words)) (sym at)
 
-  -- a word more
+  -- after one more word, the rest of the words gives the same result
   pub read_more : (place next_place : ℕ) (so_far next : Progress) (words : List X) (i : ℕ) (x : X) (word : List ℕ) (whole : Result Options UsageFault) → next_place ≡ place + 1
       → i < length words → x ≡ get_or words i x → word ≡ bytes x → with_word verb place so_far word ≡ Ok next
       → options_from verb place so_far (map bytes (drop i words)) ≡ whole → options_from verb next_place next (map bytes (drop (i + 1) words)) ≡ whole
@@ -23,7 +23,7 @@ module _ {X : Type 0} (bytes : X → List ℕ) (verb : Verb) where
       ∙ sym (ap (λ r. r >>= (λ n. options_from verb (place + 1) n (map bytes (drop (i + 1) words)))) taken)
       ∙ ap (options_from verb place so_far) (sym (split words i x word inside is at)) ∙ read
 
-  -- a faulty word
+  -- the fault of a word is the result of all words
   pub read_fault : (place : ℕ) (so_far : Progress) (words : List X) (i : ℕ) (x : X) (word : List ℕ) (whole : Result Options UsageFault) (fault : UsageFault)
       → i < length words → x ≡ get_or words i x → word ≡ bytes x → with_word verb place so_far word ≡ Err fault
       → options_from verb place so_far (map bytes (drop i words)) ≡ whole → whole ≡ Err fault
@@ -32,7 +32,7 @@ module _ {X : Type 0} (bytes : X → List ℕ) (verb : Verb) where
       sym read ∙ ap (options_from verb place so_far) (split words i x word inside is at)
       ∙ ap (λ r. r >>= (λ n. options_from verb (place + 1) n (map bytes (drop (i + 1) words)))) refused
 
-  -- no word is left
+  -- if no word is left, what was read is the result
   pub read_end : (place : ℕ) (so_far : Progress) (words : List X) (i : ℕ) (whole : Result Options UsageFault) → length words ≤ i
       → options_from verb place so_far (map bytes (drop i words)) ≡ whole → at_end so_far ≡ whole
   unfolding options_from
