@@ -1,4 +1,4 @@
--- The numbers of a file whose keys keep all rules.
+-- The numbers of a file whose keys obey all rules.
 use Rattle.std.proofs.Common.{◌≡◌, ℕ, ◌^◌, ◌≤◌, codes, true, Ok, None, ◌++◌, slice_get, Some, refl, false}
 use Rattle.std.specs.List.{list_all}
 use Rattle.toml.specs.Data.{Members, get_member}

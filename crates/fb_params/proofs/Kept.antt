@@ -37,14 +37,14 @@ none-unless_fault : {A B : Type 0} (a : A) (f : B → ParamsFault) (o : Option B
 none-unless_fault a f None ok = refl
 none-unless_fault a f (Some b) ok = absurd (cc)
 
--- where no key breaks the rule, the i-th keeps it
+-- if no key breaks the rule, the i-th obeys it
 pub kept_at : (rule : Rule) (keys : List Key) (table : Members) → first_in rule keys table ≡ None → (i : ℕ) (key : Key) → slice_get keys i ≡ Some key → breaks rule key (get_member key.name table) ≡ false
 kept_at Known keys table none i key at = refl
 kept_at Present keys table none i key at = none-find _ keys (none-option_map _ _ none) i key at
 kept_at OfKind keys table none i key at = none-find _ keys (none-option_map _ _ none) i key at
 kept_at InRange keys table none i key at = none-find _ keys (none-option_map _ _ none) i key at
 
--- what a file whose keys keep a rule says of its tables
+-- what holds of the tables of a file whose keys obey a rule
 pub record IsKept (rule : Rule) (layout : Layout) (table : Members) : Type 0 where
   pub front : first_in rule front_keys table ≡ None
   pub zones : first_some (first_in rule (zone_keys layout)) (zones_of table) ≡ None

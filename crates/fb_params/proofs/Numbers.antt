@@ -23,12 +23,12 @@ number_of-within range (datetime d) within = omega arith
 number_of-within range (array items) within = omega arith
 number_of-within range (table rest) within = omega arith
 
--- and so is what stands at a key
+-- the number at a key that obeys its range isn't above it
 pub number-within : (key : Key) (found : Option Data) → breaks InRange key found ≡ false → unwrap_or (option_map number_of found) 0 ≤ key.range.high
 number-within key None kept = omega arith
 number-within key (Some value) kept = number_of-within key.range value ((and_parts _ _ (not-false _ kept)).0)
 
--- the elements of what stands at a key are rows within its range
+-- the rows at a key that obeys its range are within it
 pub rows-within : (key : Key) (found : Option Data) → breaks InRange key found ≡ false → list_all (is_row_within key.range) (unwrap_or (option_map elements found) []) ≡ true
 rows-within key None kept = refl
 rows-within key (Some value) kept = (and_parts _ _ (not-false _ kept)).1
@@ -38,11 +38,11 @@ index-within range [] within i = omega arith
 index-within range (value ∷ values) within zero = number_of-within range value ((and_parts _ _ within).0)
 index-within range (value ∷ values) within (suc i) = index-within range values ((and_parts _ _ within).1) i
 
--- a number of a row within a range
+-- a number of a row within a range isn't above it
 pub nth-within : (range : Range) (row : Data) → is_row_within range row ≡ true → (i : ℕ) → nth i row ≤ range.high
 nth-within range row within i = index-within range (elements row) ((and_parts _ _ within).1) i
 
--- a number that has to be there lies in its range
+-- a required number is in its range
 pub record IsNumberOf (range : Range) (n : ℕ) : Type 0 where
   pub some : range.low ≤ n
   pub few : n ≤ range.high
@@ -58,7 +58,7 @@ number_of-required range (datetime d) kind within = absurd (false≢true kind)
 number_of-required range (array items) kind within = absurd (false≢true kind)
 number_of-required range (table rest) kind within = absurd (false≢true kind)
 
--- what stands at a key that has to be there, and is a number
+-- the number at a required key is in its range
 pub number-required : (name : List ℕ) (range : Range) (found : Option Data)
     → breaks Present (must name Number range) found ≡ false → breaks OfKind (must name Number range) found ≡ false → breaks InRange (must name Number range) found ≡ false
     → IsNumberOf range (unwrap_or (option_map number_of found) 0)
