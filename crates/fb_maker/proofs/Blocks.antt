@@ -1,4 +1,4 @@
--- How many blocks the first sectors of a disk have.
+-- Into how many blocks the first sectors of a disk are cut.
 use Rattle.std.proofs.Common.{◌≡◌, ℕ, zero, suc, ◌+◌, ◌-◌, ◌*◌, ◌%◌, ◌<◌, ◌≤◌, List, [], ◌∷◌, length, take, drop, true, false, refl, ap, ◌∙◌, arith, inl, inr}
 use Rattle.std.specs.Prelude.{◌==◌}
 use Rattle.std.proofs.lemmas.Bool.{cases_Bool}
@@ -72,7 +72,7 @@ module _ (disk : Shape) where
   few_of (suc k) [] is spread within = absurd (omega arith)
   few_of (suc k) (a ∷ xs) is spread within = let most = counted k 0 a xs is (omega arith) in let few = spread a (suc k) in omega arith
 
-  -- on tracks of sixteen sectors there are few blocks
+  -- with at least sixteen sectors a track, n sectors are cut into at most (2 n + 30) / 16 blocks
   pub few_blocks : (n : ℕ) → IsSpread (is_later disk) (places disk) → n ≤ length (places disk) → 16 * length (cutting disk 16 0 n) ≤ 2 * n + 30
   few_blocks n spread within = few_of n (places disk) refl spread within
 
@@ -80,7 +80,7 @@ module _ (disk : Shape) where
   add_one lbn [] = omega arith
   add_one lbn (cut ∷ cuts) = one_more lbn (cut ∷ cuts) (omega arith)
 
-  -- and nowhere more than sectors
+  -- on any disk there are no more blocks than sectors
   pub no_more_blocks : (n lbn : ℕ) → length (cutting disk 16 lbn n) ≤ n
   unfolding cutting
   no_more_blocks zero lbn = omega arith

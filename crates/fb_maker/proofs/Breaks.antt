@@ -5,21 +5,21 @@ use Rattle.std.specs.List.{AllByRecursion, flat_map, range_with_len}
 use Rattle.std.proofs.lemmas.Bool.{cases_Bool, cases_lt}
 
 module _ {A : Type 0} (later : A → A → Bool) where
-  -- from one before the list on
+  -- the number of breaks in a list that follows one more element
   abbrev pub breaks_from : A → List A → ℕ
   breaks_from a [] = 0
   breaks_from a (b ∷ xs) = (if later a b then 0 else 1) + breaks_from b xs
 
-  -- each comes later than the one before
+  -- each element comes later than the one before it
   abbrev pub Chain : A → List A → Type 0
   Chain a [] = Unit {0}
   Chain a (b ∷ xs) = (later a b ≡ true) × Chain b xs
 
-  -- at most one break in sixteen
+  -- the first n elements have at most one break for each sixteen of them, rounded up
   abbrev pub IsSpread : List A → Type 0
   IsSpread xs = (a : A) (n : ℕ) → 16 * breaks_from a (take n xs) ≤ n + 15
 
-  -- and so whatever follows
+  -- that holds of the list with any such list behind it
   abbrev pub SpreadsOn : List A → Type 0
   SpreadsOn xs = (rest : List A) → IsSpread rest → IsSpread (xs ++ rest)
 
@@ -42,7 +42,7 @@ module _ {A : Type 0} (later : A → A → Bool) where
   one_at_most true = omega arith
   one_at_most false = omega arith
 
-  -- a chain of sixteen at least
+  -- it holds of a chain of at least sixteen elements with any such list behind it
   pub spreads_chain : (a : A) (xs : List A) → Chain a xs → 15 ≤ length xs → SpreadsOn (a ∷ xs)
   spreads_chain a xs chain long rest spread before zero = omega arith
   spreads_chain a xs chain long rest spread before (suc n) = elim (cases_lt (length xs) n) [
@@ -60,7 +60,7 @@ module _ {A : Type 0} (later : A → A → Bool) where
   spreads_all f [] all = spreads_nothing
   spreads_all f (x ∷ xs) all = spreads_both (f x) (flat_map f xs) all.0 (spreads_all f xs all.1)
 
-  -- each comes later than all before
+  -- each element comes later than all before it
   abbrev pub Ascends : List A → Type 0
   Ascends [] = Unit {0}
   Ascends (a ∷ xs) = AllByRecursion (λ b. later a b ≡ true) xs × Ascends xs
@@ -93,7 +93,7 @@ module _ {A : Type 0} (later : A → A → Bool) where
   ascends_take (suc n) [] up = tt
   ascends_take (suc n) (x ∷ xs) up = (all_take (λ b. later x b ≡ true) n xs up.0, ascends_take n xs up.1)
 
-  -- an ascending list of sixteen at least
+  -- it holds of an ascending list of at least sixteen elements with any such list behind it
   pub spreads_ascending : (xs : List A) → Ascends xs → 16 ≤ length xs → SpreadsOn xs
   spreads_ascending [] up long = absurd (omega arith)
   spreads_ascending (a ∷ xs) up long = spreads_chain a xs (chain_of a xs up) (omega arith)

@@ -11,7 +11,7 @@ state_next : (number k : ℕ) → state_after number (k + 1) ≡ (mix_u64 (state
 unfolding state_after
 state_next number k = rw add-one refl
 
--- a word is drawn from this state, and this one is left
+-- a word that is drawn from the state after k words is the k-th word, from 0
 pub is_word : (number k word' old new : ℕ) → old ≡ state_after number k → (word', new) ≡ mix_u64 old → word' ≡ word number k
 unfolding word
 is_word number k word' old new at drawn = ap (λ (p : ℕ × ℕ). p.0) drawn ∙ ap (λ s. (mix_u64 s).0) at
@@ -19,7 +19,7 @@ is_word number k word' old new at drawn = ap (λ (p : ℕ × ℕ). p.0) drawn �
 pub is_state : (number k next word' old new : ℕ) → next ≡ k + 1 → old ≡ state_after number k → (word', new) ≡ mix_u64 old → new ≡ state_after number next
 is_state number k next word' old new e at drawn = ap (λ (p : ℕ × ℕ). p.1) drawn ∙ ap (λ s. (mix_u64 s).1) at ∙ sym (state_next number k) ∙ ap (state_after number) (sym e)
 
--- the request of four words
+-- the request that is made from four words
 pub is_request : (number sectors i before a b c d count : ℕ) → before ≡ arrival_before number i → a ≡ word number (4 * i) → b ≡ word number (4 * i + 1) → c ≡ word number (4 * i + 2) → d ≡ word number (4 * i + 3)
     → count ≡ min (8 * (1 + b % 16)) sectors
     → ◌≡◌ {A = Request} (record { name = Traced (i + 1); arrival = before + a % 12000001; lbn = c % (sectors - count + 1); count = count; write = d % 3 == 0 }) (request_at number sectors i)
@@ -30,7 +30,7 @@ pub none_drawn : (number : ℕ) → number ≡ state_after number 0
 unfolding state_after
 none_drawn number = refl
 
--- the next request comes behind this one
+-- the arrival of a request is the one before the next request
 pub arrival_of : (number sectors i : ℕ) (request : Request) → request ≡ request_at number sectors i → request.arrival ≡ arrival_before number (i + 1)
 unfolding request_at
 arrival_of number sectors i request is = ap (λ (r : Request). r.arrival) is ∙ rw (add-one) refl

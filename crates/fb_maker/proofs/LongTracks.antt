@@ -23,7 +23,7 @@ use Rattle.fb_maker.proofs.Left.{left_get, left_rest}
 use Rattle.fb_maker.proofs.Splitting.{and_parts}
 use Rattle.fb_maker.proofs.Breaks.{IsSpread, SpreadsOn, Ascends, ascends_filter, ascends_take, spreads_ascending, spreads_all, spread_nothing, Counts, counts_above, counts_both, counts_range}
 
--- what holds of each number of a range
+-- what holds of each number of a range holds of all elements of the list
 all_range : (P : ℕ → Type 0) (a n : ℕ) → ((k : ℕ) → a ≤ k → k < a + n → P k) → AllByRecursion P (range_with_len a n)
 all_range P a zero each = tt
 all_range P a (suc n) each = (each a (omega arith) (omega arith), all_range P (a + 1) n (λ k low high. each k (omega arith) (omega arith)))
@@ -70,7 +70,7 @@ module _ (disk : Shape) (track : Track) where
       (ascends_counts 0 (turn n o)
       (subst (λ (p : ℕ × ℕ). Counts (λ slot. (slot + p.0 - p.1) % p.0) 0 (turn n o)) (λ i. (sym slots i, sym offset i)) (counts_turn n o inside)))
 
--- lists that are as long as can be together are so each
+-- if lists are together as long as they can be, each of them is
 module _ {A : Type 0} (f : ℕ → List A) (m : ℕ) (bound : (k : ℕ) → length (f k) ≤ m) where
   at_most : (a h : ℕ) → length (flat_map f (range_with_len a h)) ≤ h * m
   at_most a zero = omega arith

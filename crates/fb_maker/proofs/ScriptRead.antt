@@ -1,4 +1,4 @@
--- A made script is read as its four calls.
+-- A generated script reads back as its four calls.
 use Rattle.std.proofs.Common.{◌≡◌, ℕ, ◌+◌, ◌-◌, ◌*◌, ◌^◌, ◌<◌, ◌≤◌, List, [], ◌∷◌, ◌++◌, length, min, true, false, refl, sym, ap, ◌∙◌, arith, append_assoc, subst, suc, inl, inr, Some, Ok}
 use Rattle.std.specs.Prelude.{nat_lt, ◌==◌, decimal, codes, slice_get}
 use Rattle.std.specs.List.{list_all, flat_map, range_with_len}
@@ -89,7 +89,7 @@ calls_end disk number so_far = refl
 want_printed : (front : List ℕ) (n : ℕ) → n < 2 ^ 64 → list_all printed front ≡ true → list_all printed (front ++ decimal n) ≡ true
 want_printed front n small is = list_all-append printed front (decimal n) ∙ rw (is, word_printed (decimal n) (decimal_word n small).plain) refl
 
--- the four lines
+-- the four lines are read as four calls
 four_read : (n m : ℕ) → n < 2 ^ 64 → m < 2 ^ 64
     → lines_of (codes "0.000000 open scrub scrub 1 16\n" ++ ((codes "0.000000 want scrub 0 " ++ decimal n ++ 10 ∷ []) ++ (codes "0.000000 open backup backup 2 16\n" ++ ((codes "0.000000 want backup 0 " ++ decimal m ++ 10 ∷ []) ++ []))))
     ≡ codes "0.000000 open scrub scrub 1 16" ∷ (codes "0.000000 want scrub 0 " ++ decimal n) ∷ codes "0.000000 open backup backup 2 16" ∷ (codes "0.000000 want backup 0 " ++ decimal m) ∷ []
@@ -105,7 +105,7 @@ four_read n m small_n small_m =
     ∙ ap (λ lines. a ∷ b ∷ c ∷ lines) (ap lines_of (append_assoc d (10 ∷ []) []) ∙ line_then d [] (want_printed (codes "0.000000 want backup 0 ") m small_m refl))
     ∙ ap (λ lines. a ∷ b ∷ c ∷ d ∷ lines) no_lines
 
--- a made script whose blocks are not too many
+-- a generated script reads back if its blocks are not too many
 pub few_read : (disk : Shape) (traced : ℕ) → 0 < first_zone disk disk.zones → first_zone disk disk.zones ≤ length (places disk) → length (places disk) ≤ 10 ^ 12
     → length (cutting disk 16 0 (min (length (places disk)) (most disk))) + length (cutting disk 16 0 (min (first_zone disk disk.zones) (most disk))) ≤ 16 * 10 ^ 6
     → 0 < most disk → calls_of disk traced (script_text disk) ≡ Ok (record { names = codes "scrub" ∷ codes "backup" ∷ []; calls = script_calls disk })
@@ -128,7 +128,7 @@ long_parts : (layout : Layout) (zones : List Zone) → has_long_tracks layout zo
 long_parts PerTrack zones long = (refl, long)
 long_parts PerCylinder zones long = cc
 
--- the blocks of both ranges are few
+-- both ranges together are cut into no more blocks than the limit
 blocks_fit : (disk : Shape) → IsSound disk → first_zone disk disk.zones ≤ length (places disk)
     → length (cutting disk 16 0 (min (length (places disk)) (most disk))) + length (cutting disk 16 0 (min (first_zone disk disk.zones) (most disk))) ≤ 16 * 10 ^ 6
 blocks_fit disk sound inside = elim (cases_Bool (has_long_tracks disk.layout disk.zones)) [
@@ -157,13 +157,13 @@ first_is_some : (disk : Shape) (zones : List Zone) → 0 < length zones → ((zo
 first_is_some disk [] some held = absurd (omega arith)
 first_is_some disk (zone ∷ zones) some held = (held zone refl, omega (arith, length-append (zone_places disk zone) (flat_map (zone_places disk) zones)))
 
--- the first zone has sectors of the disk
+-- the first zone has at least one sector, and no more than the disk
 some_first : (disk : Shape) → IsSound disk → (0 < first_zone disk disk.zones) × (first_zone disk disk.zones ≤ length (places disk))
 unfolding places
 some_first disk sound = first_is_some disk disk.zones sound.some_zones (λ zone is.
     let some = sound.some_cylinders 0 zone is in
     omega (arith, first_data disk zone some, sound.equal 0 zone zone.first (record { zone_is = is; from = omega arith; upto = some }), sound.some_data 0 zone is))
 
--- a made script is read as its calls
+-- a generated script reads back as its calls
 pub script_read : (disk : Shape) → IsSound disk → length (places disk) ≤ 10 ^ 12 → (traced : ℕ) → calls_of disk traced (script_text disk) ≡ Ok (record { names = codes "scrub" ∷ codes "backup" ∷ []; calls = script_calls disk })
 script_read disk sound few traced = let first = some_first disk sound in few_read disk traced first.0 first.1 few (blocks_fit disk sound first.1) (some_most disk)

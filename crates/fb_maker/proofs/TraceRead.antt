@@ -1,4 +1,4 @@
--- A made trace is read as its requests.
+-- A generated trace reads back as its requests.
 use Rattle.std.proofs.Common.{◌≡◌, ℕ, zero, suc, ◌+◌, ◌-◌, ◌*◌, ◌%◌, ◌^◌, ◌<◌, ◌≤◌, List, [], ◌∷◌, ◌++◌, length, map, Bool, true, false, refl, sym, ap, ◌∙◌, arith, append_assoc, append-nil, add-one, Some, Ok}
 use Rattle.std.proofs.Math.Nat.{mod-lt}
 use Rattle.std.proofs.lemmas.List.{length_push}
@@ -35,7 +35,7 @@ five_printed : (a b c d e : List ℕ) → IsWord a → IsWord b → IsWord c →
 five_printed a b c d e wa wb wc wd we =
     printed_more ((a ++ 32 ∷ b) ++ 32 ∷ c ++ 32 ∷ d) e (printed_more ((a ++ 32 ∷ b) ++ 32 ∷ c) d (printed_more (a ++ 32 ∷ b) c (printed_more a b (word_printed a wa.plain) wb.plain) wc.plain) wd.plain) we.plain
 
--- a request whose numbers are small
+-- a request whose numbers are within the limits
 pub record IsSmall (sectors number instant : ℕ) (request : Request) : Type 0 where
   pub name : request.name ≡ Traced number
   pub later : instant ≤ request.arrival
@@ -53,7 +53,7 @@ same_write : (write : Bool) → (marks write % 2 == 0) ≡ write
 same_write true = refl
 same_write false = refl
 
--- the progress with a request more
+-- the lines so far with one more request
 abbrev with_request : Progress → Request → Progress
 with_request so_far request = record { instant = request.arrival; trace = record { requests = so_far.trace.requests ++ request ∷ []; passed_over = so_far.trace.passed_over } }
 
@@ -81,7 +81,7 @@ request_printed device request known small few =
     five_printed (millis_text request.arrival) (decimal device) (decimal request.lbn) (decimal request.count) (flags_text request.write)
     (millis_word request.arrival (omega (arith, small.arrival))) (decimal_word device (omega arith)) (decimal_word request.lbn (omega (arith, small.inside))) (decimal_word request.count (omega (arith, small.few))) (flags_word request.write)
 
--- the line of a request asks for it
+-- the line of a request asks for that request
 line_asked : (device sectors line : ℕ) (so_far : Progress) (request : Request) → device ≤ 10 ^ 15 → sectors ≤ 10 ^ 12 → IsSmall sectors (length so_far.trace.requests + 1) so_far.instant request
     → next_progress device sectors line so_far (text device request) ≡ Ok (with_request so_far request)
 line_asked device sectors line so_far request known few small =
@@ -128,7 +128,7 @@ first_line : (device : ℕ) (request : Request) (rest : List ℕ) → line_of de
 unfolding line_of
 first_line device request rest = append_assoc (text device request) (10 ∷ []) rest
 
--- n requests from the i-th on
+-- the lines of n requests from the i-th on are read as these requests
 read_from : (number device sectors : ℕ) → device ≤ 10 ^ 15 → 1 ≤ sectors → sectors ≤ 10 ^ 12 → (n i line : ℕ) (so_far : Progress) → i + n ≤ 10 ^ 6
     → so_far.instant ≡ arrival_before number i → length so_far.trace.requests ≡ i → so_far.trace.passed_over ≡ 0
     → lines_from device sectors line so_far (lines_of (flat_map (λ line. line) (map (line_of device) (map (request_at number sectors) (range_with_len i n)))))

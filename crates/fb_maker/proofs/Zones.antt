@@ -20,7 +20,7 @@ begins_at_first (first ∷ zones) zone contiguous is = elim (cases_Bool (first.f
   | inr apart ↦ absurd (none-some 0 (sym contiguous ∙ rw apart refl))
 ]
 
--- lists of one length, one after another
+-- the length of n lists of one length, one after another
 pub same_lengths : {A : Type 0} (f : ℕ → List A) (size a n : ℕ) → ((k : ℕ) → a ≤ k → k < a + n → length (f k) ≡ size) → length (flat_map f (range_with_len a n)) ≡ n * size
 same_lengths f size a zero same = omega arith
 same_lengths f size a (suc n) same =
@@ -35,7 +35,7 @@ some_cylinders [] some = absurd (omega arith)
 some_cylinders (zone ∷ []) some = omega arith
 some_cylinders (zone ∷ next ∷ zones) some = some_cylinders (next ∷ zones) (omega arith)
 
--- as many cylinders as the first zone has, each with as many sectors as its first
+-- the sectors of the first zone are as many on each of its cylinders as on the first
 pub first_zone_is : (disk : Shape) (zones : List Zone) (zone : Zone) (n : ℕ) → slice_get zones 0 ≡ Some zone → zone.first ≤ zone.last → n ≡ length (list_among disk zones zone.first)
     → ((k : ℕ) → zone.first ≤ k → k ≤ zone.last → length (data_list disk zone k) ≡ length (data_list disk zone zone.first)) → (zone.last + 1 - zone.first) * n ≡ first_zone disk zones
 first_zone_is disk [] zone n is some count same = cc
