@@ -99,7 +99,7 @@ module _ (disk : Shape) (zones : HasZones disk) (marks others : List Mark) (i : 
 
 -- ---- twice
 
--- x stands at two indexes
+-- x is in the list at two indexes
 abbrev pub Twice : {A : Type 0} → List A → A → Type 0
 Twice xs x = (i : ℕ) × (j : ℕ) × (i < j) × (slice_get xs i ≡ Some x) × (slice_get xs j ≡ Some x)
 
@@ -137,7 +137,7 @@ twice-repeated (first ∷ places) place (suc i, suc j, h, at, again) =
     behind true one = among-tail first place (repeated places) one
     behind false one = one
 
--- how many pass is two at least
+-- at least two elements pass a test if an element that passes is in the list twice
 pub twice-count : {A : Type 0} (test : A → Bool) (xs : List A) (x : A) → test x ≡ true → Twice xs x → 2 ≤ length (filter test xs)
 twice-count test [] x e two = absurd (none-some x two.3)
 twice-count test (y ∷ xs) x e (zero, zero, h, at, again) = absurd (omega arith)
@@ -190,7 +190,7 @@ sorted-far marks up i (suc n) h =
     add_suc : (i n : ℕ) → i + suc n ≡ i + n + 1
     add_suc i n = omega arith
 
--- one that stands twice stands next to itself
+-- in a sorted list, an element that is there twice is next to itself
 pub twice-next : (marks : List Mark) → IsSortedBy is_mark_before marks → (mark : Mark) → Twice marks mark → (k : ℕ) × (k + 1 < length marks) × (mark_at marks k ≡ mark) × (mark_at marks (k + 1) ≡ mark)
 twice-next marks up mark two =
     let i = two.0 in

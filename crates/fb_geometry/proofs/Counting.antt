@@ -15,7 +15,7 @@ use Rattle.fb_geometry.specs.Turns.{position_in, slot_at, cylinder_slots}
 use Rattle.fb_geometry.proofs.Turns.{turn-is, round-back, offset_below, position_in-slot_at, length-cylinder_slots}
 use Rattle.fb_geometry.proofs.Order.{length-filter-map}
 
--- what passes and what doesn't is all
+-- the elements that pass a test and those that don't are all together
 pub kept_and_dropped : {A : Type 0} (bad : A → Bool) (xs : List A) → length (filter (λ x. not (bad x)) xs) + length (filter bad xs) ≡ length xs
 kept_and_dropped bad [] = refl
 kept_and_dropped bad (x ∷ xs) = step (bad x) x (filter (λ y. not (bad y)) xs) (filter bad xs) (length xs) (kept_and_dropped bad xs)
@@ -111,7 +111,7 @@ once_in test false q a n h = omega (arith, none_in test a n (λ i l. not_so (tes
 same_slot : (a b : Place) → same_place a b ≡ true → (same_track a.track b.track ≡ true) × (a.slot ≡ b.slot)
 same_slot a b h = let parts = and_parts (same_track a.track b.track) (a.slot == b.slot) h in (parts.0, eqb-true a.slot b.slot parts.1)
 
--- which two places are one
+-- two places are the same if their tracks and slots are
 pub same_places : (a b : Place) → same_place a b ≡ true → a ≡ b
 same_places a b h =
     let parts = same_slot a b h in

@@ -1,4 +1,4 @@
--- What an outline without a fault keeps.
+-- What holds of an outline without a fault.
 use Rattle.std.proofs.Common.{◌≡◌, ℕ, zero, suc, ◌+◌, ◌^◌, ◌<◌, ◌≤◌, List, [], ◌∷◌, length, refl, ap, sym, arith, Bool, true, false, cond, Option, Some, None, inl, inr, subst, get_or}
 use Rattle.std.specs.Prelude.{filter, find, position, nat_lt, nat_le, ◌==◌, ◌||◌, slice_get}
 use Rattle.std.specs.List.{list_any, AllByRecursion, position_or_len}
@@ -112,7 +112,7 @@ module _ (disk : Shape) (sound : HasZones disk) where
     cylinder_skew = grind (arith, nat_tests, k);
   }
 
-  -- each zone's numbers lie in their ranges
+  -- the numbers of each zone are in their ranges
   pub ranges_of : (i : ℕ) (zone : Zone) → slice_get disk.zones i ≡ Some zone → IsZone zone
   ranges_of i zone at = good_zone zone (all_get (λ zone. is_bad_zone disk zone ≡ false) disk.zones i zone good_zones at)
       (all_get (λ zone. is_too_skewed zone ≡ false) disk.zones i zone (position-none is_too_skewed disk.zones sound.skews) at)
@@ -283,7 +283,7 @@ point-zone cylinder (zone ∷ other ∷ zones) (suc i) d at h below =
     let rest = point-zone cylinder (other ∷ zones) i d (λ k e l m. at.0 (suc k) e (omega arith) (omega arith), λ k e l m. at.1 (suc k) e (omega arith) (omega arith)) (omega arith) below in
     (omega (arith, rest.0), rw (lt-leb cylinder zone.last (ltb-true zone.last cylinder (at.0 0 d (omega arith) (omega arith)))) rest.1)
 
--- the last zone ends the disk
+-- the disk ends where the last zone ends
 pub last-cylinder : (zones : List Zone) (n : ℕ) (d : Zone) → n + 1 ≡ length zones → (get_or zones n d).last + 1 ≡ cylinders_of zones
 last-cylinder [] n d h = absurd (omega arith)
 last-cylinder (zone ∷ []) n d h = ap (λ k. (get_or (zone ∷ []) k d).last + 1) (only n h)

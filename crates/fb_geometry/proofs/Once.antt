@@ -1,4 +1,4 @@
--- No place stands twice among the places of an accepted outline, and none that is bad.
+-- No place is twice among the places of an accepted outline, and no bad one is among them.
 use Rattle.std.proofs.Common.{◌≡◌, ◌≢◌, ℕ, zero, suc, ◌+◌, ◌-◌, ◌*◌, ◌<◌, ◌≤◌, List, [], ◌∷◌, ◌++◌, refl, ap, sym, ◌∙◌, arith, Bool, true, false, not, cond, Some, None, map, subst, take, drop}
 use Rattle.std.specs.Prelude.{filter, slice_get}
 use Rattle.std.specs.List.{AllByRecursion, flat_map, range_with_len}
@@ -25,7 +25,7 @@ abbrev pub Distinct : {A : Type 0} → List A → Type 0
 Distinct [] = Unit {0}
 Distinct (x ∷ xs) = AllByRecursion (λ y. x ≢ y) xs × Distinct xs
 
--- so it stands at one index
+-- in such a list an element has only one index
 pub one_index : {A : Type 0} (xs : List A) (i j : ℕ) (x : A) → Distinct xs → slice_get xs i ≡ Some x → slice_get xs j ≡ Some x → i ≡ j
 one_index [] i j x apart at again = absurd (none-some x at)
 one_index (y ∷ xs) zero zero x apart at again = refl
@@ -94,7 +94,7 @@ distinct-replaced disk (place ∷ list) spares h k apart = step (is_among disk.g
       rest spares k.1 (all_weaker (λ x. AllByRecursion (λ y. x ≢ y) (spare ∷ spares)) (λ x. AllByRecursion (λ y. x ≢ y) spares) (λ x all. all.1) list apart),
     )
 
--- of two parts of distinct elements
+-- if a list of two parts has distinct elements, each part has, and they have nothing in common
 distinct_left : {A : Type 0} (xs ys : List A) → Distinct (xs ++ ys) → Distinct xs × Distinct ys × AllByRecursion (λ x. AllByRecursion (λ y. x ≢ y) ys) xs
 distinct_left [] ys h = (tt, h, tt)
 distinct_left (x ∷ xs) ys h =

@@ -1,4 +1,4 @@
--- What is left of a list where those that pass a test are dropped.
+-- What is left of a list when the elements that pass a test are dropped.
 use Rattle.std.proofs.Common.{◌≡◌, ℕ, zero, suc, ◌+◌, ◌-◌, ◌<◌, ◌≤◌, List, [], ◌∷◌, length, refl, ap, sym, ◌∙◌, arith, Bool, true, false, not, cond, Some, take, inl, inr}
 use Rattle.std.specs.Prelude.{filter, slice_get, ◌==◌, nat_lt}
 use Rattle.std.specs.List.{list_any, AllByRecursion}
@@ -85,7 +85,7 @@ rank_cons number x numbers = elim (cases_lt x number) [
   | inr h ↦ rw (le-ltb x number h) (omega arith)
 ]
 
--- none stands before a number that all are behind
+-- no number is before one that all are behind
 pub rank_none : (number : ℕ) (numbers : List ℕ) → AllByRecursion (λ later. number ≤ later) numbers → rank number numbers ≡ 0
 rank_none number [] all = refl
 rank_none number (x ∷ numbers) all = rw (le-ltb x number all.0) (rank_none number numbers all.1)
@@ -200,7 +200,7 @@ slipped_here number x numbers h = rw (lt-ltb number x h) refl
 slipped_on : (number x : ℕ) (numbers : List ℕ) → x ≤ number → slipped number (x ∷ numbers) ≡ slipped (number + 1) numbers
 slipped_on number x numbers h = rw (le-ltb number x h) refl
 
--- a number that slipped has slipped on by those before where it stands
+-- a number has slipped on by as many as are before the place that it got to
 pub rank-slipped : (number q : ℕ) (numbers : List ℕ) → IsAscending numbers → slipped number numbers ≡ q → rank q numbers + number ≡ q
 rank-slipped number q [] up e = omega arith
 rank-slipped number q (x ∷ numbers) up e = elim (cases_lt number x) [
@@ -214,7 +214,7 @@ not_among_later : (number : ℕ) (numbers : List ℕ) → AllByRecursion (λ lat
 not_among_later number [] all = refl
 not_among_later number (x ∷ numbers) all = let off : (x == number) ≡ false = grind (arith, nat_tests, all.0) in rw off (not_among_later number numbers all.1)
 
--- and it stands at none of them
+-- a number doesn't slip to one of those that are passed over
 pub slipped-free : (number q : ℕ) (numbers : List ℕ) → IsAscending numbers → slipped number numbers ≡ q → list_any (λ other. other == q) numbers ≡ false
 slipped-free number q [] up e = refl
 slipped-free number q (x ∷ numbers) up e = elim (cases_lt number x) [
@@ -290,7 +290,7 @@ marked test a (y ∷ xs) zero x at = ap (λ n. list_any (λ other. other == n) (
 marked test a (y ∷ xs) (suc i) x at = marked_step (test y) a (a + suc i) (indexes test (a + 1) xs) (omega arith)
     ∙ ap (λ n. list_any (λ other. other == n) (indexes test (a + 1) xs)) (omega arith) ∙ marked test (a + 1) xs i x at
 
--- what is kept, and what is dropped, is all
+-- the elements that are kept and those that are dropped are all together
 length_step : {A : Type 0} (b : Bool) (x : A) (a : ℕ) (kept : List A) (numbers : List ℕ) (n : ℕ) → length kept + length numbers ≡ n
     → length (cond (not b) (x ∷ kept) kept) + length (with_index b a numbers) ≡ suc n
 length_step true x a kept numbers n h = omega arith

@@ -43,7 +43,7 @@ sum_of {A = A} p q r (x ∷ xs) all = step (p x) (q x) (r x) (filter p xs) (filt
     step false false true ps qs rs h e = absurd (omega arith)
     step false false false ps qs rs h e = omega arith
 
--- how many marks of a cylinder stand before a position
+-- how many marks of a cylinder are before a position
 rank_on : (cylinder position : ℕ) (marks : List Mark) → rank position (positions (marks_on cylinder marks)) ≡ length (filter (λ mark. (mark.cylinder == cylinder) && nat_lt mark.position position) marks)
 rank_on cylinder position marks = length-filter-map (λ passed. nat_lt passed position) (λ mark. mark.position) (marks_on cylinder marks) ∙ both marks
   where
@@ -60,7 +60,7 @@ rank_on cylinder position marks = length-filter-map (λ passed. nat_lt passed po
         more true e = ap suc e
         more false e = e
 
--- a defect stands before the end of the track just where it stands before the track or on it
+-- a defect is before the end of the track exactly if it is before the track or on it
 module _ (disk : Shape) (zones : HasZones disk) (zone : Zone) (track : Track) (at : IsZoneOf disk track.cylinder zone) where
   split_by_head : (head n turned : ℕ) → turned < n → cond (nat_lt (head * n + turned) (track.head * n + n)) 1 0 ≡ cond (nat_lt (head * n + turned) (track.head * n)) 1 0 + cond (track.head == head) 1 0
   split_by_head head n turned h = elim (cases_order track.head head) [
@@ -107,7 +107,7 @@ module _ (disk : Shape) (zones : HasZones disk) (zone : Zone) (track : Track) (a
       λ end. rank_on track.cylinder end marks ∙ (same_count (test end) (map (mark_of disk) places) marks are.same ∙ length-filter-map (test end) (mark_of disk) places) in
       omega (arith, count (first + zone.sectors), count first, sum_of (λ place. test (first + zone.sectors) (mark_of disk place)) (λ place. test first (mark_of disk place)) (λ place. same_track track place.track) places (split_all places are.inside))
 
--- and so where the part of the cylinder is known by an equation
+-- the same if the part of the cylinder is known by an equation
 pub between : (disk : Shape) (zones : HasZones disk) (zone : Zone) (track : Track) (at : IsZoneOf disk track.cylinder zone) (marks part : List Mark) (a b : ℕ) → AreMarksOf disk disk.defects marks → part ≡ marks_on track.cylinder marks
     → a ≡ rank (track.head * zone.sectors + zone.sectors) (positions part) → b ≡ rank (track.head * zone.sectors) (positions part)
     → a ≡ b + length (filter (λ place. same_track track place.track) disk.defects)
@@ -218,7 +218,7 @@ module _ (disk : Shape) (zones : HasZones disk) (defects grown : List Mark) (are
       let one = place_among disk zones places places marks marks are are (mark_at marks k) (k, slice_get-get_or marks k (record { cylinder = 0; position = 0 }) h) in
       subst (Among (map (λ place. place.track.cylinder) places)) (ap (λ mark. mark.cylinder) one.2) (among-map (λ place. place.track.cylinder) places one.0 one.1)
 
-  -- what is said of the marks of one list is so of the cylinders of its places
+  -- what the marks of a list show holds of the cylinders of its places
   none_below : (places : List Place) (marks : List Mark) (first : Option ℕ) → AreMarksOf disk places marks → FirstFull disk marks first → (cylinder : ℕ) → Among (map (λ place. place.track.cylinder) places) cylinder → is_full_cylinder disk cylinder ≡ true
       → (low : ℕ) × (first ≡ Some low) × (low ≤ cylinder)
   none_below places marks None are none cylinder one full =
