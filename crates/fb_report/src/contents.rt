@@ -14,6 +14,9 @@ use fb_units::NoMemory;
 use sha2::{Digest, Sha256};
 use std::alloc::Global;
 
+// The hexadecimal digits of a digest.
+const DIGEST_DIGITS: usize = 64;
+
 /// The bytes of contents as they are shown.
 pub fn shown(
     alloc: Global,
@@ -68,7 +71,7 @@ fn digest(alloc: Global, contents: &Contents, sector_bytes: u32) -> Result<Vec<u
 {
     let mut hasher = Sha256::new();
     pour(alloc, &mut hasher, contents, sector_bytes)?;
-    let mut text = Vec::new(alloc);
+    let mut text = Vec::with_capacity(alloc, DIGEST_DIGITS)?;
     push_hex(&mut text, &hasher.finalize())?;
     Ok(text)
 }
