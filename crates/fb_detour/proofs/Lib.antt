@@ -13,3 +13,4 @@ pub mod Shares
 pub mod InStretch
 pub mod InTime
 pub mod Slots
+pub mod Bare

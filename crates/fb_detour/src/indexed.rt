@@ -1,5 +1,9 @@
 // The planner that passes over tracks which can't be better.
-ghost use Rattle.std.specs.Prelude.{◌≡◌};
+ghost use Rattle.std.specs.Prelude.{◌≡◌, true};
+ghost use Rattle.fb_rows.specs.declared.gap.Plan.{Plan};
+ghost use Rattle.fb_wanted.specs.States.{wanted_of};
+ghost use Rattle.fb_model.specs.Plans.{IsBest};
+ghost use Rattle.fb_plan.specs.Ways.{IsGap};
 
 use crate::candidates::try_source;
 use crate::parts::late_parts;
@@ -23,8 +27,21 @@ impl IndexedPlanner {
     }
 }
 
+// Whether no track has a wanted block that weighs anything: then the direct plan that leaves at once is the best, as the
+// first in the order of ties.
+fn wants_nothing(disk: &Disk, wanted: &Wanted, gap: &Gap) -> bool
+    requires gap { IsGap disk.now gap.now }
+    ensures { result ≡ true → IsBest disk.now gap.entry.now (wanted_of wanted.now) (Plan.Direct gap.entry.now.now) }
+{
+    let _ = gap;
+    wanted.greatest_weight_in(0, disk.map.geometry().cylinders()) == 0
+}
+
 impl Planner for IndexedPlanner {
     fn best(&self, disk: &Disk, wanted: &Wanted, gap: &Gap) -> Plan {
+        if wants_nothing(disk, wanted, gap) {
+            return Plan::Direct { leave: gap.now };
+        }
         let late = late_parts(disk, wanted, gap);
         let first = scored(disk, wanted, gap, Plan::Direct { leave: gap.now });
         let direct = try_source(disk, wanted, gap, &late, first);
