@@ -3,10 +3,10 @@ ghost use Rattle.std.specs.Prelude.{◌≡◌, ℕ, ◌+◌, ◌≤◌, ◌^◌,
 ghost use Rattle.std.specs.List.{AllByRecursion, range_with_len};
 ghost use Rattle.fb_store.specs.declared.content.Content.{Content};
 ghost use Rattle.fb_store.specs.Index.{held_at};
-ghost use Rattle.fb_store.specs.Pieces.{Gives, EndsBy, after_take, after_dropping, held_in};
+ghost use Rattle.fb_store.specs.Sparse.{Gives, EndsBy, after_take, after_dropping, held_in};
 ghost use Rattle.fb_store.specs.Runs.{runs_of};
 
-use fb_store::{Contents, Pieces};
+use fb_store::{Contents, SparseContents};
 use fb_units::NoMemory;
 use fb_wanted::Block;
 use std::alloc::Global;
@@ -17,7 +17,7 @@ use std::marker::Model;
 /// A sector has the content that was taken last, unless it was dropped since.
 #[derive(Drop)]
 pub struct Image {
-    pieces: Pieces,
+    held: SparseContents,
 }
 
 impl Model for Image {
@@ -26,7 +26,7 @@ impl Model for Image {
 
     ghost Value = { List (ℕ × Option Content) };
 
-    ghost view = { λ image. image.pieces };
+    ghost view = { λ image. image.held };
 }
 
 impl Image {
@@ -35,7 +35,7 @@ impl Image {
         ensures { (lbn : ℕ) → held_at result lbn ≡ None }
     {
         Image {
-            pieces: Pieces::new(alloc),
+            held: SparseContents::new(alloc),
         }
     }
 
@@ -48,7 +48,7 @@ impl Image {
         ensures ok { OnOk result ((content_of : ℕ → Content) (lbn : ℕ) → Gives content.now content_of block.lbn block.count → held_at self.new lbn ≡ after_take content_of block.lbn block.count lbn (held_at self.old lbn)) }
         ensures err { OnErr result ((lbn : ℕ) → held_at self.new lbn ≡ held_at self.old lbn) }
     {
-        self.pieces.take(content)
+        self.held.take(content)
     }
 
     /// Drops `count` sectors from LBN `first` on.
@@ -59,7 +59,7 @@ impl Image {
         ensures ok { OnOk result ((lbn : ℕ) → held_at self.new lbn ≡ after_dropping first count lbn (held_at self.old lbn)) }
         ensures err { OnErr result ((lbn : ℕ) → held_at self.new lbn ≡ held_at self.old lbn) }
     {
-        self.pieces.drop_range(first, count)
+        self.held.drop_range(first, count)
     }
 
     /// The contents of the image's sectors as the fewest runs, by ascending LBN.
@@ -69,6 +69,6 @@ impl Image {
         ensures ends { EndsBy (held_at self.now) (10 ^ 12) }
         ensures fewest { IfOk result (λ runs. (end : ℕ) → EndsBy (held_at self.now) end → runs ≡ runs_of (held_in (held_at self.now) (range_with_len 0 end))) }
     {
-        self.pieces.contents(alloc)
+        self.held.contents(alloc)
     }
 }

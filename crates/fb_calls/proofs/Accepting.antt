@@ -7,7 +7,7 @@ use Rattle.fb_geometry.specs.Shape.{Shape}
 use Rattle.fb_geometry.specs.Places.{places}
 use Rattle.fb_calls.specs.declared.call.Action.{Action}
 use Rattle.fb_calls.specs.declared.call.Action.TheVariants.{Open, Want, Abort, Promote, Suspend, Resume, Close, Segment}
-use Rattle.fb_calls.specs.declared.session.Session.{Session}
+use Rattle.fb_calls.specs.declared.opened_task.OpenedTask.{OpenedTask}
 use Rattle.fb_calls.specs.declared.fault.CallsReason.TheVariants.{TaskTaken, UnknownTask, Closed, WrongKind, WantedTwice, Empty, BeyondDisk, TooLarge, WeightOutOfRange, BlockOutOfRange, TooManyBlocks, TooMany}
 use Rattle.fb_calls.specs.Allowed.{IsRange, IsOpen, MayAsk, tasks, terms_of, has_want}
 use Rattle.fb_calls.specs.Blocks.{blocks_in, reads_in}
@@ -52,7 +52,7 @@ abbrev pub IsWithinEntry : Entry → Type 0
 IsWithinEntry entry = (entry.instant ≤ 10 ^ 15) × ((action : Action) → entry.asked ≡ Ok action → IsSpelled action)
 
 -- what an action may ask for of a session
-abbrev pub MayAskOn : Shape → Progress → Session → Action → Type 0
+abbrev pub MayAskOn : Shape → Progress → OpenedTask → Action → Type 0
 MayAskOn disk so_far session (Open kind weight block) = Unit {0}
 MayAskOn disk so_far session (Want first count) = (is_clean session.kind ≡ false) × (is_backup session.kind && session.wanted ≡ false) × IsRange disk first count
 MayAskOn disk so_far session (Abort first count) = (is_clean session.kind ≡ false) × IsRange disk first count
@@ -61,11 +61,11 @@ MayAskOn disk so_far session (Segment first blocks age live) = (is_clean session
 MayAskOn disk so_far session _ = Unit {0}
 
 -- how much there may be with an action
-pub record IsRoomFor (disk : Shape) (so_far : Progress) (session : Session) (action : Action) : Type 0 where
+pub record IsRoomFor (disk : Shape) (so_far : Progress) (session : OpenedTask) (action : Action) : Type 0 where
   pub blocks : so_far.blocks + blocks_in disk session.block action ≤ 16 * 10 ^ 6
   pub reads : so_far.reads + reads_in action ≤ max (10 ^ 6) so_far.reads
 
-module _ (disk : Shape) (so_far : Progress) (few : so_far.blocks ≤ 16 * 10 ^ 6) (session : Session) where
+module _ (disk : Shape) (so_far : Progress) (few : so_far.blocks ≤ 16 * 10 ^ 6) (session : OpenedTask) where
   pub allowed_passed : (action : Action) (u : Unit {0}) → allowed disk so_far session action ≡ Ok u → MayAskOn disk so_far session action × IsRoomFor disk so_far session action
   unfolding allowed
   allowed_passed (Open kind weight block) u given = (tt, record { blocks = omega arith; reads = omega arith })

@@ -7,7 +7,7 @@ use Rattle.fb_calls.specs.declared.call.Action.{Action}
 use Rattle.fb_calls.specs.declared.call.Action.TheVariants.{Open, Want, Abort, Promote, Suspend, Resume, Close, Segment}
 use Rattle.fb_calls.specs.declared.call.Call.{Call}
 use Rattle.fb_calls.specs.declared.call.Kind.{Kind}
-use Rattle.fb_calls.specs.declared.session.Session.{Session}
+use Rattle.fb_calls.specs.declared.opened_task.OpenedTask.{OpenedTask}
 use Rattle.fb_calls.specs.Allowed.{Terms, tasks, terms_of, is_closed, has_want, MayAsk, AreAllowed, blocks_from}
 use Rattle.fb_calls.specs.Blocks.{blocks_in, reads_in}
 use Rattle.fb_calls.specs.Judgement.{Progress}
@@ -15,7 +15,7 @@ use Rattle.fb_calls.specs.Promoted.{read_of, promoted_from, promoted}
 use Rattle.fb_calls.specs.Sessions.{session_of}
 
 -- the kind and the block size of a session
-abbrev pub of_session : Session → Kind × ℕ
+abbrev pub of_session : OpenedTask → Kind × ℕ
 of_session session = (session.kind, session.block)
 
 abbrev pub of_task : Terms → Kind × ℕ

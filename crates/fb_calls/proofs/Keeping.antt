@@ -11,7 +11,7 @@ use Rattle.fb_calls.specs.declared.call.Action.{Action}
 use Rattle.fb_calls.specs.declared.call.Action.TheVariants.{Open, Want, Abort, Promote, Suspend, Resume, Close, Segment}
 use Rattle.fb_calls.specs.declared.call.Call.{Call}
 use Rattle.fb_calls.specs.declared.call.Kind.TheVariants.{Plain}
-use Rattle.fb_calls.specs.declared.session.Session.{Session}
+use Rattle.fb_calls.specs.declared.opened_task.OpenedTask.{OpenedTask}
 use Rattle.fb_calls.specs.Allowed.{Terms, terms_in, tasks, is_close, is_want}
 use Rattle.fb_calls.specs.Blocks.{blocks_in}
 use Rattle.fb_calls.specs.Judgement.{Progress, with_call}
@@ -33,7 +33,7 @@ unmarked before here = sym (ap (λ last. before || last) (and-false here) ∙ or
 marked : (before here : Bool) → (before || here) ≡ (before || (here && true))
 marked before here = ap (λ last. before || last) (sym (and-true here))
 
-terms_after : (sessions : List Session) (task : ℕ) (action : Action) (terms : List Terms) → map of_session sessions ≡ map of_task terms → map of_session (sessions_after sessions task action) ≡ map of_task (terms ++ terms_in action)
+terms_after : (sessions : List OpenedTask) (task : ℕ) (action : Action) (terms : List Terms) → map of_session sessions ≡ map of_task terms → map of_session (sessions_after sessions task action) ≡ map of_task (terms ++ terms_in action)
 terms_after sessions task (Open kind weight block) terms same =
     map_push of_session sessions (record { kind = kind; block = block; wanted = false; closed = false }) ∙ ap (λ front. front ++ (kind, block) ∷ []) same
     ∙ sym (map_push of_task terms (record { kind = kind; weight = weight; block = block }))
@@ -57,17 +57,17 @@ names_long names name Resume terms same = omega (arith, length-append terms [], 
 names_long names name Close terms same = omega (arith, length-append terms [], same)
 names_long names name (Segment first blocks age live) terms same = omega (arith, length-append terms [], same)
 
-abbrev no_session : Session
+abbrev no_session : OpenedTask
 no_session = record { kind = Plain; block = 1; wanted = false; closed = false }
 
 module _ (so_far : Progress) (task i : ℕ) where
   closed_after : (action : Action) → IsPlace so_far task action → (session_of (sessions_after so_far.sessions task action) i).closed ≡ ((session_of so_far.sessions i).closed || (nat_eq task i && is_close action))
   closed_after (Open kind weight block) place =
-      get_or-push_like (λ (s : Session). s.closed) so_far.sessions (record { kind = kind; block = block; wanted = false; closed = false }) no_session i refl ∙ unmarked _ (nat_eq task i)
+      get_or-push_like (λ (s : OpenedTask). s.closed) so_far.sessions (record { kind = kind; block = block; wanted = false; closed = false }) no_session i refl ∙ unmarked _ (nat_eq task i)
   closed_after (Want first count) place =
-      get_or-set_like (λ (s : Session). s.closed) so_far.sessions (record (session_of so_far.sessions task) { wanted = true }) no_session task i refl ∙ unmarked _ (nat_eq task i)
+      get_or-set_like (λ (s : OpenedTask). s.closed) so_far.sessions (record (session_of so_far.sessions task) { wanted = true }) no_session task i refl ∙ unmarked _ (nat_eq task i)
   closed_after Close place =
-      get_or-set_marked (λ (s : Session). s.closed) so_far.sessions (record (session_of so_far.sessions task) { closed = true }) no_session task i place refl ∙ marked _ (nat_eq task i)
+      get_or-set_marked (λ (s : OpenedTask). s.closed) so_far.sessions (record (session_of so_far.sessions task) { closed = true }) no_session task i place refl ∙ marked _ (nat_eq task i)
   closed_after (Abort first count) place = unmarked (session_of so_far.sessions i).closed (nat_eq task i)
   closed_after (Promote first count) place = unmarked (session_of so_far.sessions i).closed (nat_eq task i)
   closed_after Suspend place = unmarked (session_of so_far.sessions i).closed (nat_eq task i)
@@ -76,11 +76,11 @@ module _ (so_far : Progress) (task i : ℕ) where
 
   wanted_after : (action : Action) → IsPlace so_far task action → (session_of (sessions_after so_far.sessions task action) i).wanted ≡ ((session_of so_far.sessions i).wanted || (nat_eq task i && is_want action))
   wanted_after (Open kind weight block) place =
-      get_or-push_like (λ (s : Session). s.wanted) so_far.sessions (record { kind = kind; block = block; wanted = false; closed = false }) no_session i refl ∙ unmarked _ (nat_eq task i)
+      get_or-push_like (λ (s : OpenedTask). s.wanted) so_far.sessions (record { kind = kind; block = block; wanted = false; closed = false }) no_session i refl ∙ unmarked _ (nat_eq task i)
   wanted_after (Want first count) place =
-      get_or-set_marked (λ (s : Session). s.wanted) so_far.sessions (record (session_of so_far.sessions task) { wanted = true }) no_session task i place refl ∙ marked _ (nat_eq task i)
+      get_or-set_marked (λ (s : OpenedTask). s.wanted) so_far.sessions (record (session_of so_far.sessions task) { wanted = true }) no_session task i place refl ∙ marked _ (nat_eq task i)
   wanted_after Close place =
-      get_or-set_like (λ (s : Session). s.wanted) so_far.sessions (record (session_of so_far.sessions task) { closed = true }) no_session task i refl ∙ unmarked _ (nat_eq task i)
+      get_or-set_like (λ (s : OpenedTask). s.wanted) so_far.sessions (record (session_of so_far.sessions task) { closed = true }) no_session task i refl ∙ unmarked _ (nat_eq task i)
   wanted_after (Abort first count) place = unmarked (session_of so_far.sessions i).wanted (nat_eq task i)
   wanted_after (Promote first count) place = unmarked (session_of so_far.sessions i).wanted (nat_eq task i)
   wanted_after Suspend place = unmarked (session_of so_far.sessions i).wanted (nat_eq task i)
@@ -89,11 +89,11 @@ module _ (so_far : Progress) (task i : ℕ) where
 
 sizes_after : (so_far : Progress) (task : ℕ) (action : Action) → IsPlace so_far task action → ((i : ℕ) → 1 ≤ (session_of so_far.sessions i).block) → (i : ℕ) → 1 ≤ (session_of (sessions_after so_far.sessions task action) i).block
 sizes_after so_far task (Open kind weight block) place sizes i =
-    get_or-push_holds (λ (s : Session). 1 ≤ s.block) so_far.sessions (record { kind = kind; block = block; wanted = false; closed = false }) no_session sizes place.1 i
+    get_or-push_holds (λ (s : OpenedTask). 1 ≤ s.block) so_far.sessions (record { kind = kind; block = block; wanted = false; closed = false }) no_session sizes place.1 i
 sizes_after so_far task (Want first count) place sizes i =
-    subst (λ size. 1 ≤ size) (sym (get_or-set_like (λ (s : Session). s.block) so_far.sessions (record (session_of so_far.sessions task) { wanted = true }) no_session task i refl)) (sizes i)
+    subst (λ size. 1 ≤ size) (sym (get_or-set_like (λ (s : OpenedTask). s.block) so_far.sessions (record (session_of so_far.sessions task) { wanted = true }) no_session task i refl)) (sizes i)
 sizes_after so_far task Close place sizes i =
-    subst (λ size. 1 ≤ size) (sym (get_or-set_like (λ (s : Session). s.block) so_far.sessions (record (session_of so_far.sessions task) { closed = true }) no_session task i refl)) (sizes i)
+    subst (λ size. 1 ≤ size) (sym (get_or-set_like (λ (s : OpenedTask). s.block) so_far.sessions (record (session_of so_far.sessions task) { closed = true }) no_session task i refl)) (sizes i)
 sizes_after so_far task (Abort first count) place sizes i = sizes i
 sizes_after so_far task (Promote first count) place sizes i = sizes i
 sizes_after so_far task Suspend place sizes i = sizes i

@@ -8,7 +8,7 @@ use Rattle.fb_calls.specs.declared.call.Action.TheVariants.{Open, Want, Abort, P
 use Rattle.fb_calls.specs.declared.call.Call.{Call}
 use Rattle.fb_calls.specs.declared.fault.CallsReason.{CallsReason}
 use Rattle.fb_calls.specs.declared.fault.CallsReason.TheVariants.{OutOfOrder, TaskTaken, UnknownTask, Closed, WrongKind, WantedTwice, Empty, BeyondDisk, TooLarge, WeightOutOfRange, BlockOutOfRange, TooManyBlocks, TooMany}
-use Rattle.fb_calls.specs.declared.session.Session.{Session}
+use Rattle.fb_calls.specs.declared.opened_task.OpenedTask.{OpenedTask}
 use Rattle.fb_calls.specs.Blocks.{blocks_in, reads_in}
 use Rattle.fb_calls.specs.Line.{Entry}
 use Rattle.fb_calls.specs.Sessions.{is_backup, is_clean, task_of, session_of, names_after, sessions_after}
@@ -18,7 +18,7 @@ use Rattle.fb_calls.specs.Sessions.{is_backup, is_clean, task_of, session_of, na
 pub record Progress : Type 0 where
   pub instant : ℕ
   pub names : List (List ℕ)
-  pub sessions : List Session
+  pub sessions : List OpenedTask
   pub blocks : ℕ
   pub reads : ℕ
   pub calls : List Call
@@ -46,7 +46,7 @@ opened names name weight block = do
   Ok (length names)
 
 -- Ok if a session that isn't closed is allowed an action, else the first reason why not
-unfoldable pub allowed : Shape → Progress → Session → Action → Result (Unit {0}) CallsReason
+unfoldable pub allowed : Shape → Progress → OpenedTask → Action → Result (Unit {0}) CallsReason
 allowed disk so_far session (Want first count) = do
   refuse WrongKind (is_clean session.kind)
   refuse WantedTwice (is_backup session.kind && session.wanted)

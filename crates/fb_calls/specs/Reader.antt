@@ -10,7 +10,7 @@ use Rattle.fb_calls.specs.declared.entry.Asked.TheVariants.{Open as AskedOpen, W
 use Rattle.fb_calls.specs.declared.entry.Entry.{Entry}
 use Rattle.fb_calls.specs.declared.fault.CallsReason.{CallsReason}
 use Rattle.fb_calls.specs.declared.reader.Reader.{Reader}
-use Rattle.fb_calls.specs.declared.session.Session.{Session}
+use Rattle.fb_calls.specs.declared.opened_task.OpenedTask.{OpenedTask}
 use Rattle.fb_calls.specs.Live.{bits, is_live}
 use Rattle.fb_calls.specs.Line as line
 use Rattle.fb_calls.specs.Judgement.{Progress, with_call}
@@ -73,7 +73,7 @@ progress reader = record {
 }
 
 -- the session has a block size in its range
-abbrev pub HasBlock : Session → Type 0
+abbrev pub HasBlock : OpenedTask → Type 0
 HasBlock session = (1 ≤ session.block) × (session.block ≤ 2048)
 
 -- what holds of a reader: it has one session for each name, no more of them than calls, and its counts are within their limits
@@ -90,7 +90,7 @@ IsOnSession (AskedOpen kind weight block) = ⊥
 IsOnSession _ = Unit {0}
 
 -- the task of an open is the next one, that of any other action is opened
-abbrev pub IsTaskFor : List Session → Asked → ℕ → Type 0
+abbrev pub IsTaskFor : List OpenedTask → Asked → ℕ → Type 0
 IsTaskFor sessions (AskedOpen kind weight block) task = task ≡ length sessions
 IsTaskFor sessions _ task = task < length sessions
 

@@ -6,7 +6,7 @@ use Rattle.fb_calls.specs.declared.call.Kind.{Kind}
 use Rattle.fb_calls.specs.declared.call.Kind.TheVariants.{Plain, Backup, Clean}
 use Rattle.fb_calls.specs.declared.call.Action.{Action}
 use Rattle.fb_calls.specs.declared.call.Action.TheVariants.{Open, Want, Close}
-use Rattle.fb_calls.specs.declared.session.Session.{Session}
+use Rattle.fb_calls.specs.declared.opened_task.OpenedTask.{OpenedTask}
 
 abbrev pub is_backup : Kind → Bool
 is_backup Backup = true
@@ -21,7 +21,7 @@ abbrev pub task_of : List (List ℕ) → List ℕ → Option ℕ
 task_of names name = position (bytes_eq name) names
 
 -- the session of a task
-abbrev pub session_of : List Session → ℕ → Session
+abbrev pub session_of : List OpenedTask → ℕ → OpenedTask
 session_of sessions task = slice_index_or sessions task (record { kind = Plain; block = 1; wanted = false; closed = false })
 
 -- the names after an action: an open adds one
@@ -30,7 +30,7 @@ names_after names name (Open kind weight block) = names ++ name ∷ []
 names_after names name _ = names
 
 -- the sessions after an action: an open adds one, and a want and a close are noted in that of the task
-abbrev pub sessions_after : List Session → ℕ → Action → List Session
+abbrev pub sessions_after : List OpenedTask → ℕ → Action → List OpenedTask
 sessions_after sessions task (Open kind weight block) = sessions ++ record { kind = kind; block = block; wanted = false; closed = false } ∷ []
 sessions_after sessions task (Want first count) = set sessions task (record (session_of sessions task) { wanted = true })
 sessions_after sessions task Close = set sessions task (record (session_of sessions task) { closed = true })

@@ -15,8 +15,8 @@ ghost use Rattle.fb_calls.specs.Verdict.{Agrees};
 
 use crate::blocks::{count_cuts, count_live_cuts};
 use crate::entry::{Asked, Entry, read_entry};
+use crate::opened_task::OpenedTask;
 use crate::reader::Reader;
-use crate::session::Session;
 use crate::{CallsReason, Kind};
 use fb_sectormap::SectorMap;
 use fb_units::{Ns, next_field};
@@ -184,7 +184,7 @@ impl Reader {
     fn allowed(
         &self,
         map: &SectorMap,
-        session: Session,
+        session: OpenedTask,
         asked: Asked<'_>,
     ) -> Result<u64, CallsReason>
         requires few { self.now.blocks ≤ 16 * 10 ^ 6 }
@@ -222,7 +222,7 @@ impl Reader {
     fn wanted(
         &self,
         map: &SectorMap,
-        session: Session,
+        session: OpenedTask,
         first: u64,
         count: u64,
     ) -> Result<u64, CallsReason>
@@ -249,7 +249,7 @@ impl Reader {
     fn promoted(
         &self,
         map: &SectorMap,
-        session: Session,
+        session: OpenedTask,
         first: u64,
         count: u64,
     ) -> Result<(), CallsReason>
@@ -273,7 +273,7 @@ impl Reader {
     fn added(
         &self,
         map: &SectorMap,
-        session: Session,
+        session: OpenedTask,
         first: u64,
         blocks: u64,
         age: u64,
@@ -302,7 +302,7 @@ impl Reader {
 }
 
 // Ok unless the session is a clean one, which may not want or abort a range.
-fn not_clean(session: Session) -> Result<(), CallsReason>
+fn not_clean(session: OpenedTask) -> Result<(), CallsReason>
     ensures { result ≡ refuse WrongKind (is_clean session.kind) }
 {
     if session.kind == Kind::Clean {

@@ -17,9 +17,9 @@ mod judgement;
 mod live;
 mod live_digits;
 mod names;
+mod opened_task;
 mod reader;
 mod reads;
-mod session;
 mod words;
 
 pub use call::{Action, Call, Calls, Kind};

@@ -11,7 +11,7 @@ ghost use Rattle.fb_calls.specs.Verdict.{Answers, accepted};
 
 use crate::entry::Asked;
 use crate::judgement::Step;
-use crate::session::Session;
+use crate::opened_task::OpenedTask;
 use crate::{Action, Call, Calls, CallsError, CallsFault, Names};
 use fb_sectormap::SectorMap;
 use fb_units::{KeyText, NoMemory, Ns, next_line};
@@ -29,7 +29,7 @@ pub struct Reader {
     // The names of the tasks, in order of opening.
     pub names: IndexSet<Vec<u8>>,
     // Their sessions, in the same order.
-    pub sessions: Vec<Session>,
+    pub sessions: Vec<OpenedTask>,
     // The number of blocks into which the wanted ranges and live blocks are cut.
     pub blocks: u64,
     // The number of promotes and requests of the trace together.
@@ -147,7 +147,7 @@ impl Reader {
     {
         match step.asked {
             Asked::Open { kind, block, .. } => {
-                let session = Session {
+                let session = OpenedTask {
                     kind,
                     block: block as u32,
                     wanted: false,
@@ -157,14 +157,14 @@ impl Reader {
             }
             Asked::Want { .. } => {
                 let session = self.sessions[step.task];
-                self.sessions[step.task] = Session {
+                self.sessions[step.task] = OpenedTask {
                     wanted: true,
                     ..session
                 };
             }
             Asked::Close => {
                 let session = self.sessions[step.task];
-                self.sessions[step.task] = Session {
+                self.sessions[step.task] = OpenedTask {
                     closed: true,
                     ..session
                 };
@@ -176,7 +176,7 @@ impl Reader {
     }
 
     // Adds a session with a new name.
-    fn open(&mut self, alloc: Global, name: &[u8], session: Session) -> Result<(), NoMemory>
+    fn open(&mut self, alloc: Global, name: &[u8], session: OpenedTask) -> Result<(), NoMemory>
         requires free { task_of (names self.old.names.keys) name.now ≡ None }
         requires tasks { length self.old.sessions.items ≡ length self.old.names.keys }
         ensures names { OnOk result (names self.new.names.keys ≡ names self.old.names.keys ++ name.now ∷ []) }

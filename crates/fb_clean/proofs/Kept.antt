@@ -7,7 +7,7 @@ use Rattle.std.proofs.lemmas.List.{length_push, length-map, get_or_default, get_
 use Rattle.fb_store.specs.declared.content.Content.{Content}
 use Rattle.fb_store.specs.declared.content.ContentRun.{ContentRun}
 use Rattle.fb_store.specs.Index.{held_at}
-use Rattle.fb_store.specs.Pieces.{held_in}
+use Rattle.fb_store.specs.Sparse.{held_in}
 use Rattle.fb_store.specs.Runs.{runs_of}
 use Rattle.fb_clean.specs.Segments.{LogSegment, Cleaning, left_out, without, number_of, first_best, waiting, choice_while, packed_sectors}
 use Rattle.fb_clean.specs.Numbers.{AreNumbered, AreWithin, IsSound}
@@ -132,12 +132,12 @@ sound_left block segments now unfinished taken sound e =
     }
 
 -- one more or none
-pub sound_either : {T E : Type 0} (r : Result T E) (block : ℕ) (segments more : List LogSegment) (unfinished : Option ℕ) (taken more_taken : List (List (ℕ × Option Content))) (s : LogSegment) (pieces : List (ℕ × Option Content))
-    → IsSound block segments unfinished (length taken) → OnOk r ((more ≡ segments ++ s ∷ []) × (more_taken ≡ taken ++ pieces ∷ [])) → OnErr r ((more ≡ segments) × (more_taken ≡ taken))
+pub sound_either : {T E : Type 0} (r : Result T E) (block : ℕ) (segments more : List LogSegment) (unfinished : Option ℕ) (taken more_taken : List (List (ℕ × Option Content))) (s : LogSegment) (held : List (ℕ × Option Content))
+    → IsSound block segments unfinished (length taken) → OnOk r ((more ≡ segments ++ s ∷ []) × (more_taken ≡ taken ++ held ∷ [])) → OnErr r ((more ≡ segments) × (more_taken ≡ taken))
     → s.number ≡ length segments + 1 → AllByRecursion (λ lbn. lbn + block ≤ 10 ^ 12) s.live → length segments < 2 ^ 32 - 1 → IsSound block more unfinished (length more_taken)
-sound_either (Ok x) block segments more unfinished taken more_taken s pieces sound ok err number within room =
-    sound_more block segments more unfinished (length taken) (length more_taken) s sound ok.0 (ap length ok.1 ∙ length_push taken pieces) number within room
-sound_either (Err e) block segments more unfinished taken more_taken s pieces sound ok err number within room =
+sound_either (Ok x) block segments more unfinished taken more_taken s held sound ok err number within room =
+    sound_more block segments more unfinished (length taken) (length more_taken) s sound ok.0 (ap length ok.1 ∙ length_push taken held) number within room
+sound_either (Err e) block segments more unfinished taken more_taken s held sound ok err number within room =
     subst (λ n. IsSound block more unfinished n) (sym (ap length err.1)) (subst (λ xs. IsSound block xs unfinished (length taken)) (sym err.0) sound)
 
 pub get_one : (segments : List LogSegment) (i : ℕ) (s d : LogSegment) → slice_get segments i ≡ Some s → get_or segments i d ≡ s
@@ -162,12 +162,12 @@ number_chosen segments unfinished i s numbered at none best =
     ap Some same ∙ (ap number_of (sym at ∙ best) ∙ ap (λ o. choice_while o segments) (sym none))
 
 -- what is packed, by the place
-pub packed_at : (cleaning : Cleaning) (number : ℕ) (pieces : List (ℕ × Option Content)) (s : LogSegment) (lbns : List ℕ) → number - 1 < length cleaning.taken → number - 1 < length cleaning.segments
-    → pieces ≡ get_or cleaning.taken (number - 1) pieces → s ≡ get_or cleaning.segments (number - 1) s → lbns ≡ s.live
-    → flat_map (λ lbn. held_in (held_at pieces) (range_with_len lbn cleaning.block)) lbns ≡ packed_sectors cleaning number
-packed_at cleaning number pieces s lbns in_taken in_segments at_taken at_segments live =
+pub packed_at : (cleaning : Cleaning) (number : ℕ) (held : List (ℕ × Option Content)) (s : LogSegment) (lbns : List ℕ) → number - 1 < length cleaning.taken → number - 1 < length cleaning.segments
+    → held ≡ get_or cleaning.taken (number - 1) held → s ≡ get_or cleaning.segments (number - 1) s → lbns ≡ s.live
+    → flat_map (λ lbn. held_in (held_at held) (range_with_len lbn cleaning.block)) lbns ≡ packed_sectors cleaning number
+packed_at cleaning number held s lbns in_taken in_segments at_taken at_segments live =
     ap₂ (λ ps ls. flat_map (λ lbn. held_in (held_at ps) (range_with_len lbn cleaning.block)) ls)
-    (at_taken ∙ get_or_default cleaning.taken (number - 1) pieces [] in_taken)
+    (at_taken ∙ get_or_default cleaning.taken (number - 1) held [] in_taken)
     (live ∙ (ap (λ t. t.live) at_segments ∙ sym (get_or-map (λ (t : LogSegment). t.live) cleaning.segments (number - 1) s [] in_segments)))
 
 pub runs_same : {E : Type 0} (r : Result (List ContentRun) E) (xs ys : List (ℕ × Content)) → xs ≡ ys → IfOk r (λ runs. runs ≡ runs_of xs) → IfOk r (λ runs. runs ≡ runs_of ys)

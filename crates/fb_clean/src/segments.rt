@@ -3,7 +3,7 @@ ghost use Rattle.std.specs.Prelude.{◌≡◌, ◌≢◌, ℕ, List, [], ◌∷�
 ghost use Rattle.std.specs.List.{AllByRecursion, flat_map, list_any, range_with_len};
 ghost use Rattle.fb_store.specs.declared.content.Content.{Content};
 ghost use Rattle.fb_store.specs.Index.{held_at};
-ghost use Rattle.fb_store.specs.Pieces.{Gives, after_take, held_in};
+ghost use Rattle.fb_store.specs.Sparse.{Gives, after_take, held_in};
 ghost use Rattle.fb_store.specs.Runs.{runs_of};
 ghost use Rattle.fb_clean.specs.Greatest.{IsChoice};
 ghost use Rattle.fb_clean.specs.Segments.{live_blocks, left_out, after_add, choice_of, after_choice, after_drop, live_of, taken_for, packed_sectors};
@@ -11,7 +11,7 @@ ghost use Rattle.fb_clean.specs.Segments.{live_blocks, left_out, after_add, choi
 use crate::choice::best_waiting;
 use crate::segment::Segment;
 use fb_calls::Live;
-use fb_store::{Contents, Pieces};
+use fb_store::{Contents, SparseContents};
 use fb_units::NoMemory;
 use fb_wanted::Block;
 use std::alloc::Global;
@@ -24,7 +24,7 @@ pub struct Segments {
     block: u32,
     segments: Vec<Segment>,
     unfinished: Option<u32>,
-    taken: Vec<Pieces>,
+    taken: Vec<SparseContents>,
 }
 
 impl Model for Segments {
@@ -67,8 +67,8 @@ impl Segments {
     {
         let number = self.segments.len() as u32 + 1;
         let segment = Segment::new(self.alloc, number, first, self.block, age, live)?;
-        let pieces = Pieces::new(self.alloc);
-        push_both(&mut self.segments, segment, &mut self.taken, pieces)
+        let held = SparseContents::new(self.alloc);
+        push_both(&mut self.segments, segment, &mut self.taken, held)
     }
 
     /// How many segments were added so far.
@@ -194,7 +194,12 @@ fn leave_all(segments: &mut [Segment])
 }
 
 // The contents of the live blocks, one after another. The only error is out of memory.
-fn pack(alloc: Global, taken: &Pieces, live: &[u64], block: u32) -> Result<Contents, NoMemory>
+fn pack(
+    alloc: Global,
+    taken: &SparseContents,
+    live: &[u64],
+    block: u32,
+) -> Result<Contents, NoMemory>
     requires { AllByRecursion (λ lbn. lbn + block ≤ 10 ^ 12) live.now }
     ensures { IfOk result (λ runs. runs ≡ runs_of (flat_map (λ lbn. held_in (held_at taken.now) (range_with_len lbn block)) live.now)) }
 {
@@ -209,13 +214,13 @@ fn pack(alloc: Global, taken: &Pieces, live: &[u64], block: u32) -> Result<Conte
 fn push_both(
     segments: &mut Vec<Segment>,
     segment: Segment,
-    taken: &mut Vec<Pieces>,
-    pieces: Pieces,
+    taken: &mut Vec<SparseContents>,
+    held: SparseContents,
 ) -> Result<(), NoMemory>
-    ensures ok { OnOk result ((segments.new.items ≡ segments.old.items ++ segment ∷ []) × (taken.new.items ≡ taken.old.items ++ pieces ∷ [])) }
+    ensures ok { OnOk result ((segments.new.items ≡ segments.old.items ++ segment ∷ []) × (taken.new.items ≡ taken.old.items ++ held ∷ [])) }
     ensures err { OnErr result ((segments.new.items ≡ segments.old.items) × (taken.new.items ≡ taken.old.items)) }
 {
-    taken.push(pieces)?;
+    taken.push(held)?;
     match push(segments, segment) {
         Ok(()) => Ok(()),
         Err(NoMemory) => {

@@ -11,7 +11,7 @@ use Rattle.fb_calls.specs.Allowed.{blocks_from}
 use Rattle.fb_wanted.specs.declared.block.Entry.{Entry}
 use Rattle.fb_rows.specs.declared.back.DeliveryRow.{DeliveryRow}
 use Rattle.fb_model.specs.History.{Past, calls_of, called}
-use Rattle.fb_model.specs.Course.{take_call, calls_taken, calls_due, with_delivery}
+use Rattle.fb_model.specs.Steps.{take_call, calls_taken, calls_due, with_delivery}
 use Rattle.fb_tasks.specs.declared.session.Session.{Session}
 use Rattle.fb_tasks.specs.Taken.{delivery_of}
 use Rattle.fb_tasks.specs.Telling.{Tells, MayTake, MaySettle}

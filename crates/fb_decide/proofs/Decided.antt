@@ -10,7 +10,7 @@ use Rattle.fb_units.specs.Rising.{IsRising}
 use Rattle.fb_service.specs.declared.disk.Disk.{Disk}
 use Rattle.fb_model.specs.PlainReplay.{Key, Served, plain, service, finish, last_track, start_of, first_ready}
 use Rattle.fb_model.specs.Decisions.{serves, idles, idle_until, last_decision, decisions_from}
-use Rattle.fb_decide.specs.Waiting.{IsInOrder}
+use Rattle.fb_decide.specs.Waiting.{AreByArrival}
 use Rattle.fb_decide.proofs.Readiness.{start_ahead}
 use Rattle.fb_decide.proofs.Passed.{start_after}
 use Rattle.fb_decide.proofs.Instants.{IsAmong, LieApart, all_filtered, rising_filtered, one_filtered, filtered_below, idle_none, idle_next, last_after, last_passed}
@@ -53,11 +53,11 @@ ends_now disk instants until head now passed =
     ∙ ap (λ last. last_decision head last until ∷ []) (last_passed now instants passed)
 
 -- requests that have not arrived start as if the head had stayed until then
-pub start_same : (now t : ℕ) (left : List Request) → now ≤ t → IsInOrder left → AllByRecursion (λ r. t ≤ r.arrival) left → 0 < length left → start_of now left ≡ start_of t left
+pub start_same : (now t : ℕ) (left : List Request) → now ≤ t → AreByArrival left → AllByRecursion (λ r. t ≤ r.arrival) left → 0 < length left → start_of now left ≡ start_of t left
 start_same now t [] before order late some = absurd (omega arith)
 start_same now t (r ∷ rs) before order late some = start_ahead now r rs order ∙ ((let same : max r.arrival now ≡ max r.arrival t = omega (arith, late.0) in same) ∙ sym (start_ahead t r rs order))
 
-pub plain_same : (n : ℕ) (disk : Disk) (key : Key) (head : Track) (now t : ℕ) (left : List Request) → now ≤ t → IsInOrder left → AllByRecursion (λ r. t ≤ r.arrival) left
+pub plain_same : (n : ℕ) (disk : Disk) (key : Key) (head : Track) (now t : ℕ) (left : List Request) → now ≤ t → AreByArrival left → AllByRecursion (λ r. t ≤ r.arrival) left
     → plain n disk key head now left ≡ plain n disk key head t left
 unfolding plain
 plain_same zero disk key head now t left before order late = refl

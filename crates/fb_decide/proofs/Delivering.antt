@@ -19,11 +19,11 @@ use Rattle.fb_service.specs.declared.disk.Disk.{Disk}
 use Rattle.fb_store.specs.declared.content.Content.{Content}
 use Rattle.fb_store.specs.declared.content.ContentRun.{ContentRun}
 use Rattle.fb_store.specs.Index.{Holding, content_in}
-use Rattle.fb_store.specs.Pieces.{Gives}
+use Rattle.fb_store.specs.Sparse.{Gives}
 use Rattle.fb_store.specs.Runs.{runs_of, bad_of}
 use Rattle.fb_model.specs.History.{Past, tasks, same_block, bare_state, is_suspended, state, registered, wanted}
 use Rattle.fb_model.specs.Completion.{view}
-use Rattle.fb_model.specs.Course.{Delivery, with_delivery}
+use Rattle.fb_model.specs.Steps.{Delivery, with_delivery}
 use Rattle.fb_plan.specs.Ways.{FitsDisk, AreOnDisk}
 use Rattle.fb_tasks.specs.declared.session.Session.{Session}
 use Rattle.fb_tasks.specs.Taken.{delivery_of, rows_after}

@@ -19,11 +19,11 @@ use Rattle.fb_model.specs.Accepted.{IsRequestOf}
 use Rattle.fb_model.specs.Content.{Written, medium_of, fore_row}
 use Rattle.fb_model.specs.Decisions.{serves, idles, ends, instants_of, decisions_from, decisions, last_decision}
 use Rattle.fb_model.specs.History.{Past}
-use Rattle.fb_model.specs.Course.{history, take_call, calls_due}
+use Rattle.fb_model.specs.Steps.{history, take_call, calls_due}
 use Rattle.fb_tasks.specs.Telling.{calls_of}
 use Rattle.fb_decide.specs.declared.background.Background.{Background}
 use Rattle.fb_decide.specs.declared.deciding.Course.{Course}
-use Rattle.fb_decide.specs.Waiting.{left, IsWaiting, IsInOrder}
+use Rattle.fb_decide.specs.Waiting.{left, IsWaiting, AreByArrival}
 use Rattle.fb_decide.specs.Calls.{past_settled, part_by}
 use Rattle.fb_decide.specs.Standing.{Mirrors}
 use Rattle.fb_decide.specs.Deciding.{next_of, stay_of, prepared, HasServedNext, HasStayed, HasActed, serves_pick, stays_on, stays_last, ends_here, HasPrepared, HasDecided}
@@ -262,8 +262,8 @@ module _ (inputs : Inputs) (known : AreKnown inputs) (before : Course) (pending 
     less : before.now < instant
     less = to_come inputs before.now joined called come instant next
 
-    order_left : IsInOrder all_left
-    order_left = subst (λ ws. IsInOrder (ws ++ ahead)) (sym empty) (order_dropped joined (requests inputs) known.list.order)
+    order_left : AreByArrival all_left
+    order_left = subst (λ ws. AreByArrival (ws ++ ahead)) (sym empty) (order_dropped joined (requests inputs) known.list.order)
 
     late_left : AllByRecursion (λ r. instant ≤ r.arrival) all_left
     late_left = subst (λ ws. AllByRecursion (λ r. instant ≤ r.arrival) (ws ++ ahead)) (sym empty) (left_later inputs before.now joined called come instant next)

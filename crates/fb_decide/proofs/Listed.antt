@@ -13,7 +13,7 @@ use Rattle.fb_model.specs.Inputs.{Inputs, requests}
 use Rattle.fb_model.specs.Foreground.{behind, read_of, promoted_from, promoted}
 use Rattle.fb_model.specs.Accepted.{IsAccepted, IsRequestOf}
 use Rattle.fb_model.specs.Laws.{ForegroundListsAscend}
-use Rattle.fb_decide.specs.Waiting.{IsTraceOf}
+use Rattle.fb_decide.specs.Waiting.{IsForegroundOf}
 use Rattle.fb_decide.proofs.Passed.{all_append}
 use Rattle.fb_decide.proofs.OnDisk.{lie_all}
 use Rattle.fb_decide.proofs.Replayed.{in_order}
@@ -39,7 +39,7 @@ length_listed : (reads list : List Request) → length (fold behind list reads) 
 length_listed [] list = omega arith
 length_listed (read ∷ reads) list = omega (arith, length_listed reads (behind list read), length_behind list read)
 
-pub listed : (inputs : Inputs) → ForegroundListsAscend → IsAccepted inputs → IsTraceOf inputs.disk (requests inputs)
+pub listed : (inputs : Inputs) → ForegroundListsAscend → IsAccepted inputs → IsForegroundOf inputs.disk (requests inputs)
 listed inputs lists accepted = record {
   order = in_order (requests inputs) (lists inputs accepted).ascend;
   on_disk = lie_all (IsRequestOf inputs.disk.map) (promoted inputs.calls) inputs.trace accepted.requests (reads_on_disk inputs.disk.map [] inputs.calls 1 accepted.calls);

@@ -8,10 +8,10 @@ use Rattle.fb_model.specs.Inputs.{Inputs, requests}
 use Rattle.fb_model.specs.Accepted.{IsAccepted}
 use Rattle.fb_model.specs.Laws.{ForegroundListsAscend}
 use Rattle.fb_model.specs.History.{Past}
-use Rattle.fb_model.specs.Course.{history, past_after, task_rows}
+use Rattle.fb_model.specs.Steps.{history, past_after, task_rows}
 use Rattle.fb_tasks.specs.Telling.{Tells}
 use Rattle.fb_decide.specs.declared.deciding.Course.{Course}
-use Rattle.fb_decide.specs.Waiting.{IsWaiting, IsTraceOf}
+use Rattle.fb_decide.specs.Waiting.{IsWaiting, IsForegroundOf}
 use Rattle.fb_decide.specs.Calls.{IsScriptOf, IsCalled}
 use Rattle.fb_decide.specs.Deciding.{PassagesTakeTime, HasDecided}
 use Rattle.fb_decide.proofs.Listed.{listed}
@@ -30,8 +30,8 @@ module _ (inputs : Inputs) (steps : List Step) (list : List Request) (course : C
   list_is : now_list ≡ requests inputs
   list_is = same ∙ made.list_is
 
-  pub now_listed : IsTraceOf inputs.disk now_list
-  now_listed = subst (IsTraceOf inputs.disk) (sym list_is) made.known.list
+  pub now_listed : IsForegroundOf inputs.disk now_list
+  now_listed = subst (IsForegroundOf inputs.disk) (sym list_is) made.known.list
 
   pub now_scripted : IsScriptOf inputs.disk.map inputs.calls
   now_scripted = record { instants = made.known.accepted.instants; allowed = made.known.accepted.calls; few = made.known.accepted.few_calls }

@@ -9,7 +9,7 @@ use Rattle.fb_units.specs.declared.types.Track.{Track}
 use Rattle.fb_units.specs.declared.types.Request.{Request}
 use Rattle.fb_service.specs.declared.disk.Disk.{Disk}
 use Rattle.fb_model.specs.PlainReplay.{Key, has_arrived, better, first_least, first_ready, start_of, service, finish, last_track, plain, Served}
-use Rattle.fb_decide.specs.Waiting.{left, IsInOrder}
+use Rattle.fb_decide.specs.Waiting.{left, AreByArrival}
 
 has_come : (now : ℕ) (r : Request) → r.arrival ≤ now → has_arrived now r ≡ true
 has_come now r h = grind (arith, nat_tests)
@@ -27,7 +27,7 @@ none_any now [] all = refl
 none_any now (r ∷ rs) all = rw (not_come now r all.0) (none_any now rs all.1)
 
 -- the first of those ahead starts when it arrives
-pub start_ahead : (now : ℕ) (r : Request) (rs : List Request) → IsInOrder (r ∷ rs) → start_of now (r ∷ rs) ≡ max r.arrival now
+pub start_ahead : (now : ℕ) (r : Request) (rs : List Request) → AreByArrival (r ∷ rs) → start_of now (r ∷ rs) ≡ max r.arrival now
 start_ahead now r rs order = elim (cases_lt now r.arrival) [
   | inl h ↦ rw (not_come now r h, none_any now rs (none_come now r.arrival h rs order.0)) (omega arith)
   | inr h ↦ rw (has_come now r h) (omega arith)
@@ -77,13 +77,13 @@ pub picks_all : (P : Request → Type 0) (key : Request → ℕ) (rs : List Requ
 picks_all P key [] all = tt
 picks_all P key (r ∷ rs) all = pick_better P key r rs (first_least key rs) all.0 all.1 (picks_all P key rs all.1)
 
-pub order_dropped : (n : ℕ) (rs : List Request) → IsInOrder rs → IsInOrder (drop n rs)
+pub order_dropped : (n : ℕ) (rs : List Request) → AreByArrival rs → AreByArrival (drop n rs)
 order_dropped zero rs order = order
 order_dropped (suc n) [] order = order
 order_dropped (suc n) (r ∷ rs) order = order_dropped n rs order.1
 
 -- behind one that has not arrived, none has
-pub ahead_of : (now n : ℕ) (rs : List Request) → IsInOrder rs → IfSome (slice_get rs n) (λ r. now < r.arrival) → AllByRecursion (λ r. now < r.arrival) (drop n rs)
+pub ahead_of : (now n : ℕ) (rs : List Request) → AreByArrival rs → IfSome (slice_get rs n) (λ r. now < r.arrival) → AllByRecursion (λ r. now < r.arrival) (drop n rs)
 ahead_of now zero [] order h = tt
 ahead_of now zero (r ∷ rs) order h = (h, none_come now r.arrival h rs order.0)
 ahead_of now (suc n) [] order h = tt

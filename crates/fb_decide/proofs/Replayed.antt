@@ -22,7 +22,7 @@ use Rattle.fb_rows.specs.declared.fore.ForeRow.{ForeRow}
 use Rattle.fb_model.specs.PlainReplay.{Served, service, media, finish}
 use Rattle.fb_model.specs.Accepted.{IsRising}
 use Rattle.fb_model.specs.Content.{Written, Medium, writes_of, number_of, content, content_by, found, fore_row}
-use Rattle.fb_decide.specs.Waiting.{IsInOrder}
+use Rattle.fb_decide.specs.Waiting.{AreByArrival}
 use Rattle.fb_decide.specs.Contents.{found_in, left_by, IsRowOf}
 use Rattle.fb_decide.specs.Making.{all_writes, held_after, Replayed}
 use Rattle.fb_decide.proofs.Readiness.{one_more}
@@ -174,6 +174,6 @@ all_of_map : {X Y : Type 0} (P : Y → Type 0) (f : X → Y) (xs : List X) → A
 all_of_map P f [] all = tt
 all_of_map P f (x ∷ xs) all = (all.0, all_of_map P f xs all.1)
 
-pub in_order : (requests : List Request) → IsRising (map (λ (r : Request). r.arrival) requests) → IsInOrder requests
+pub in_order : (requests : List Request) → IsRising (map (λ (r : Request). r.arrival) requests) → AreByArrival requests
 in_order [] rising = tt
 in_order (r ∷ rs) rising = (all_of_map (λ later. r.arrival ≤ later) (λ (o : Request). o.arrival) rs rising.0, in_order rs rising.1)

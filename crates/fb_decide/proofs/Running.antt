@@ -6,7 +6,7 @@ use Rattle.fb_model.specs.PlainReplay.{Served}
 use Rattle.fb_model.specs.Inputs.{Inputs, served}
 use Rattle.fb_model.specs.Content.{medium_of}
 use Rattle.fb_model.specs.Decisions.{Decision, end_of, run_end}
-use Rattle.fb_model.specs.Course.{past_after, history}
+use Rattle.fb_model.specs.Steps.{past_after, history}
 use Rattle.fb_model.proofs.Steps.{history-append}
 use Rattle.fb_tasks.specs.Telling.{Tells}
 use Rattle.fb_decide.specs.declared.deciding.Course.{Course}

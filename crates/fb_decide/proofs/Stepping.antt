@@ -16,7 +16,7 @@ use Rattle.fb_model.specs.PlainReplay.{Served, service}
 use Rattle.fb_model.specs.Decisions.{Decision, serves, idles, ends, instant_of, end_of}
 use Rattle.fb_model.specs.Rides.{due}
 use Rattle.fb_model.specs.History.{Past, tested, tasks, registered, wanted, state, bare_state}
-use Rattle.fb_model.specs.Course.{Delivery, Part, settled_past, past_after, with_delivery, with_finish, opening, part_rows}
+use Rattle.fb_model.specs.Steps.{Delivery, Part, settled_past, past_after, with_delivery, with_finish, opening, part_rows}
 use Rattle.fb_model.specs.SoundRun.{HasPlan, IsTested}
 use Rattle.fb_model.specs.FullRun.{HasBestPlan}
 use Rattle.fb_service.specs.declared.disk.Disk.{Disk}

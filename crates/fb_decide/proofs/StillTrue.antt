@@ -18,7 +18,7 @@ use Rattle.fb_rows.specs.declared.back.BackRow.{BackRow}
 use Rattle.fb_model.specs.Content.{Medium, contents_at}
 use Rattle.fb_model.specs.History.{Event, called, chose, tested, Past, LogSegment, Terms, tasks, terms_of, registered, bare_state, content_of, is_sealed, is_seal_of, is_open_backup, ends_block, same_block, opened_by}
 use Rattle.fb_model.specs.Segments.{with_choices}
-use Rattle.fb_model.specs.Course.{take_call, calls_due}
+use Rattle.fb_model.specs.Steps.{take_call, calls_due}
 use Rattle.fb_model.specs.Images.{delivery_begin}
 use Rattle.fb_decide.specs.Calls.{settled_by}
 use Rattle.fb_decide.specs.Deliveries.{IsRegistered}

@@ -9,7 +9,7 @@ use Rattle.fb_model.specs.Content.{Medium}
 use Rattle.fb_model.specs.Inputs.{Inputs}
 use Rattle.fb_model.specs.Decisions.{Decision, serves, idles, ends, instant_of}
 use Rattle.fb_model.specs.History.{Past}
-use Rattle.fb_model.specs.Course.{settled_past, past_after}
+use Rattle.fb_model.specs.Steps.{settled_past, past_after}
 use Rattle.fb_model.specs.SoundRun.{IsTested}
 use Rattle.fb_tasks.specs.declared.session.Session.{Session}
 use Rattle.fb_tasks.specs.Telling.{Tells}

@@ -18,7 +18,7 @@ use Rattle.fb_rows.specs.declared.back.DeliveryRow.{DeliveryRow}
 use Rattle.fb_model.specs.Content.{Medium, contents_at, number_of}
 use Rattle.fb_model.specs.History.{Past, tested, delivered, finished, bare_state, content_of, is_open_backup, same_block}
 use Rattle.fb_model.specs.Images.{delivery_begin, test_rows, on_disk, findings}
-use Rattle.fb_model.specs.Course.{with_delivery}
+use Rattle.fb_model.specs.Steps.{with_delivery}
 use Rattle.fb_model.specs.SoundRun.{AreFollowed}
 use Rattle.fb_tasks.specs.Taken.{delivery_of, rows_after}
 use Rattle.fb_decide.specs.Calls.{settled_by, settling_rows, past_settled}

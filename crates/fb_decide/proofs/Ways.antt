@@ -1,4 +1,4 @@
--- Where pieces lead the head: through a gap by its plan, and through the passages of a service.
+-- Where legs lead the head: through a gap by its plan, and through the passages of a service.
 use Rattle.std.proofs.Common.{◌≡◌, ℕ, zero, suc, ◌+◌, ◌-◌, ◌<◌, ◌≤◌, List, [], ◌∷◌, ◌++◌, true, false, refl, ap, ◌∙◌, arith, inl, inr, append_assoc, subst}
 use Rattle.std.specs.Prelude.{Bool, ◌&&◌, ◌==◌, ◌%◌, if◌then◌else◌}
 use Rattle.std.proofs.lemmas.Bool.{cases_Bool}
@@ -17,24 +17,24 @@ use Rattle.fb_rows.specs.declared.gap.Gap.{Gap}
 use Rattle.fb_rows.specs.declared.gap.Plan.{Plan}
 use Rattle.fb_rows.specs.declared.gap.Plan.TheVariants.{Direct, Detour}
 use Rattle.fb_model.specs.Plans.{IsPlan}
-use Rattle.fb_model.specs.Timeline.{Piece, stay, move, pass, way, arrival, gap_pieces, passing, can_follow, leaves_on, leaves_at, led_to}
+use Rattle.fb_model.specs.Timeline.{Leg, stay, move, pass, way, arrival, gap_legs, passing, can_follow, leaves_on, leaves_at, led_to}
 use Rattle.fb_decide.proofs.Passed.{from_on}
 
 -- each sector from one on begins at an angle of the rotation
 abbrev pub HaveAngles : Shape → ℕ → ℕ → Type 0
 HaveAngles disk lbn n = (i : ℕ) → i < n → begin_angle disk (place_at disk (lbn + i)) < disk.rotation
 
--- the pieces lead from a track and an instant to another track and its instant
-abbrev pub Leads : Disk → Track → ℕ → List Piece → Track → ℕ → Type 0
-Leads disk from now pieces to end = (more : List Piece) → led_to disk from now (pieces ++ more) ≡ led_to disk to end more
+-- the legs lead from a track and an instant to another track and its instant
+abbrev pub Leads : Disk → Track → ℕ → List Leg → Track → ℕ → Type 0
+Leads disk from now legs to end = (more : List Leg) → led_to disk from now (legs ++ more) ≡ led_to disk to end more
 
--- ---- one piece, and one after another
+-- ---- one leg, and one after another
 
-lead_one : (disk : Disk) (from : Track) (now : ℕ) (piece : Piece) → can_follow disk from now piece ≡ true → Leads disk from now (piece ∷ []) (leaves_on disk piece) (leaves_at piece)
+lead_one : (disk : Disk) (from : Track) (now : ℕ) (leg : Leg) → can_follow disk from now leg ≡ true → Leads disk from now (leg ∷ []) (leaves_on disk leg) (leaves_at leg)
 unfolding led_to
-lead_one disk from now piece h more = rw h refl
+lead_one disk from now leg h more = rw h refl
 
-pub lead_on : (disk : Disk) (from on to : Track) (now between end : ℕ) (xs ys : List Piece) → Leads disk from now xs on between → Leads disk on between ys to end → Leads disk from now (xs ++ ys) to end
+pub lead_on : (disk : Disk) (from on to : Track) (now between end : ℕ) (xs ys : List Leg) → Leads disk from now xs on between → Leads disk on between ys to end → Leads disk from now (xs ++ ys) to end
 lead_on disk from on to now between end xs ys first later more = ap (led_to disk from now) (append_assoc xs ys more) ∙ (first (ys ++ more) ∙ later more)
 
 same_one : (a b : Track) → same_track a b ≡ true → a ≡ b
@@ -84,7 +84,7 @@ lead_to_target disk gap from leave h =
     (lead_way disk from gap.target gap.write leave) (lead_stay disk gap.target arrived gap.deadline h)
 
 -- a plan leads from the source to the target, where the head is at the deadline
-pub lead_gap : (disk : Disk) (gap : Gap) (plan : Plan) → IsPlan disk gap plan → Leads disk gap.source gap.now (gap_pieces disk gap plan) gap.target gap.deadline
+pub lead_gap : (disk : Disk) (gap : Gap) (plan : Plan) → IsPlan disk gap plan → Leads disk gap.source gap.now (gap_legs disk gap plan) gap.target gap.deadline
 lead_gap disk gap (Direct leave) plan =
     lead_on disk gap.source gap.source gap.target gap.now leave gap.deadline (stay gap.source gap.now leave ∷ []) (way disk gap.source gap.target gap.write leave ++ arrival disk gap gap.source leave ∷ [])
     (lead_stay disk gap.source gap.now leave plan.0) (lead_to_target disk gap gap.source leave plan.1)

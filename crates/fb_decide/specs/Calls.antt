@@ -9,7 +9,7 @@ use Rattle.fb_rows.specs.declared.gap.Plan.{Plan}
 use Rattle.fb_rows.specs.declared.back.DeliveryRow.{DeliveryRow}
 use Rattle.fb_rows.specs.declared.back.BackRow.{BackRow}
 use Rattle.fb_model.specs.History.{Past, tested}
-use Rattle.fb_model.specs.Course.{Part, take_call, calls_due}
+use Rattle.fb_model.specs.Steps.{Part, take_call, calls_due}
 use Rattle.fb_model.specs.Segments.{with_choices}
 use Rattle.fb_model.specs.Images.{test_rows}
 use Rattle.fb_tasks.specs.Taken.{by_deliveries}

@@ -17,7 +17,7 @@ use Rattle.fb_model.specs.Plans.{IsBest, block_begin, block_end, catches, early_
 use Rattle.fb_model.specs.PlainReplay.{Served}
 use Rattle.fb_model.specs.Rides.{in_order, lies_in, begin_at, end_at, missed, gap_of}
 use Rattle.fb_model.specs.History.{Past, finished, registered, same_block, wanted}
-use Rattle.fb_model.specs.Course.{Delivery, with_delivery}
+use Rattle.fb_model.specs.Steps.{Delivery, with_delivery}
 use Rattle.fb_tasks.specs.Taken.{delivery_of}
 use Rattle.fb_tasks.specs.Telling.{Tells, IsSettled}
 use Rattle.fb_plan.specs.declared.catching.Catch.{Catch}

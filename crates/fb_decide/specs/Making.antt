@@ -21,12 +21,12 @@ use Rattle.fb_model.specs.Accepted.{IsAccepted}
 use Rattle.fb_model.specs.Content.{Written, Medium, medium_of, writes_of, content_by, fore_row}
 use Rattle.fb_model.specs.Decisions.{Decision, serves, instants_of, decisions_from, decisions, run_end}
 use Rattle.fb_model.specs.History.{Past}
-use Rattle.fb_model.specs.Course.{Part, history, part_rows}
+use Rattle.fb_model.specs.Steps.{Part, history, part_rows}
 use Rattle.fb_model.specs.SoundRun.{IsPlanned, IsTested}
 use Rattle.fb_model.specs.FullRun.{IsBestPlanned, IsAllDelivered}
 use Rattle.fb_tasks.specs.Telling.{Tells, calls_of}
 use Rattle.fb_decide.specs.declared.deciding.Course.{Course}
-use Rattle.fb_decide.specs.Waiting.{left, IsWaiting, IsTraceOf}
+use Rattle.fb_decide.specs.Waiting.{left, IsWaiting, IsForegroundOf}
 use Rattle.fb_decide.specs.Calls.{IsCalled}
 use Rattle.fb_decide.specs.Standing.{IsTrue}
 use Rattle.fb_decide.specs.Deciding.{PassagesTakeTime}
@@ -126,7 +126,7 @@ HasComeTo inputs false course pending count steps = HasEnded inputs course steps
 -- what is assumed of the inputs
 pub record AreKnown (inputs : Inputs) : Type 0 where
   pub accepted : IsAccepted inputs
-  pub list : IsTraceOf inputs.disk (requests inputs)
+  pub list : IsForegroundOf inputs.disk (requests inputs)
   pub rising : IsRising (map (λ r. r.arrival) (requests inputs))
   pub sound : IsSound inputs.disk.map
   pub takes_time : PassagesTakeTime inputs.disk.map

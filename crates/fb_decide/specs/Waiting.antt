@@ -17,12 +17,12 @@ pub record IsWaiting (disk : Disk) (requests : List Request) (now next joined : 
   pub on_disk : AllByRecursion (IsRequestOf disk.map) (left requests next pending)
 
 -- requests in order of arrival
-abbrev pub IsInOrder : List Request → Type 0
-IsInOrder [] = Unit {0}
-IsInOrder (request ∷ requests) = AllByRecursion (λ other. request.arrival ≤ other.arrival) requests × IsInOrder requests
+abbrev pub AreByArrival : List Request → Type 0
+AreByArrival [] = Unit {0}
+AreByArrival (request ∷ requests) = AllByRecursion (λ other. request.arrival ≤ other.arrival) requests × AreByArrival requests
 
 -- requests that the disk can serve, by arrival
-pub record IsTraceOf (disk : Disk) (requests : List Request) : Type 0 where
-  pub order : IsInOrder requests
+pub record IsForegroundOf (disk : Disk) (requests : List Request) : Type 0 where
+  pub order : AreByArrival requests
   pub on_disk : AllByRecursion (IsRequestOf disk.map) requests
   pub few : length requests ≤ 10 ^ 6

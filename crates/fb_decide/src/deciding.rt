@@ -7,10 +7,10 @@ ghost use Rattle.fb_model.specs.Inputs.{Inputs};
 ghost use Rattle.fb_model.specs.Accepted.{IsAccepted, IsRequestOf};
 ghost use Rattle.fb_model.specs.Decisions.{decisions, run_end};
 ghost use Rattle.fb_model.specs.History.{Past};
-ghost use Rattle.fb_model.specs.Course.{history, task_rows};
+ghost use Rattle.fb_model.specs.Steps.{history, task_rows};
 ghost use Rattle.fb_model.specs.PlainReplay.{first_least};
 ghost use Rattle.fb_tasks.specs.Telling.{Tells};
-ghost use Rattle.fb_decide.specs.Waiting.{IsWaiting, IsTraceOf};
+ghost use Rattle.fb_decide.specs.Waiting.{IsWaiting, IsForegroundOf};
 ghost use Rattle.fb_decide.specs.Calls.{IsScriptOf, IsCalled};
 ghost use Rattle.fb_decide.specs.Deliveries.{IsCurrent};
 ghost use Rattle.fb_decide.specs.Deciding.{IsAtStart, next_of, HasServedNext, HasStayed, HasDecided};
@@ -210,7 +210,7 @@ fn advance<Q: Queue, P: Planner>(
     queue: &mut Q,
     course: &mut Course,
 ) -> Result<bool, NoMemory>
-    requires list { IsTraceOf disk.now requests.now }
+    requires list { IsForegroundOf disk.now requests.now }
     requires script { IsScriptOf disk.now.map calls.now.calls.items }
     requires serves { Q.serves queue.old disk.now }
     requires waiting { IsWaiting disk.now requests.now course.old.now course.old.joined (Q.joined queue.old) (Q.pending queue.old) }

@@ -3,7 +3,7 @@
 ghost use Rattle.std.specs.Prelude.{◌≡◌, ◌+◌, ◌≤◌, ◌<◌, length, IfOk, IfSome, slice_get};
 ghost use Rattle.std.specs.List.{fold};
 ghost use Rattle.fb_model.specs.History.{Past};
-ghost use Rattle.fb_model.specs.Course.{take_call, calls_due};
+ghost use Rattle.fb_model.specs.Steps.{take_call, calls_due};
 ghost use Rattle.fb_tasks.specs.Telling.{Tells};
 ghost use Rattle.fb_decide.specs.Calls.{IsScriptOf, IsCalled, HasSettled};
 

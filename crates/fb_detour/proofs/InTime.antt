@@ -64,13 +64,13 @@ worth_in_time disk gap es track leave depth slots left sound own on_disk is deep
       mul-le depth (early + late) depth (left / (rotation / slots) + 2) (omega arith) passing,
     )
 
--- nor is one that leaves in a stretch of time worth more than what passes by the end of the stretch,
+-- nor is one that leaves in an interval of time worth more than what passes by the end of the interval,
 -- and what the target gives after a leave at its beginning
-pub worth_by_stretch : (disk : Disk) (gap : Gap) (es : List Entry) (late : LateParts) (track : Track) (leave depth slots weight arrive on from time : ℕ) → IsSound disk.map → HasOwnPlaces disk.map → AreOnDisk disk es → IsLate disk gap es late
+pub worth_by_interval : (disk : Disk) (gap : Gap) (es : List Entry) (late : LateParts) (track : Track) (leave depth slots weight arrive on from time : ℕ) → IsSound disk.map → HasOwnPlaces disk.map → AreOnDisk disk es → IsLate disk gap es late
     → IsDetour disk gap track leave → ((lbn : ℕ) → depth_at track lbn es ≤ depth) → slots_at disk.map.zones track.cylinder ≤ slots → 0 < disk.map.rotation / slots → wanted_weight track es ≤ weight
     → arrive ≤ gap.now + pos disk.mechanism gap.source track false → on ≤ pos disk.mechanism track gap.target gap.write → gap.now ≤ from → from ≤ leave → leave ≤ arrive + time
     → value disk gap (wanted_of es) (Detour track leave) ≤ min weight (depth * (time / (disk.map.rotation / slots) + 1)) + part_at late (from + on)
-worth_by_stretch disk gap es late track leave depth slots weight arrive on from time sound own on_disk is-late is deep few some light there back now low high =
+worth_by_interval disk gap es late track leave depth slots weight arrive on from time sound own on_disk is-late is deep few some light there back now low high =
     let begin = gap.now + pos disk.mechanism gap.source track false in
     let rotation = disk.map.rotation in
     let passing = slots_within rotation (slots_at disk.map.zones track.cylinder) (leave - begin) in

@@ -18,9 +18,9 @@ use Rattle.fb_detour.proofs.Arrays.{over_all}
 use Rattle.fb_detour.proofs.Ceilings.{two_stays, longer_stay}
 use Rattle.fb_detour.proofs.Ways.{late-part}
 
--- the stretch in which the head leaves ends no sooner
-in_stretch : (n past : ℕ) → past ≤ n → past ≤ (min (past / (n / 16 + 1)) 15 + 1) * (n / 16 + 1)
-in_stretch n past le =
+-- the interval in which the head leaves ends no sooner
+in_interval : (n past : ℕ) → past ≤ n → past ≤ (min (past / (n / 16 + 1)) 15 + 1) * (n / 16 + 1)
+in_interval n past le =
     let step = n / 16 + 1 in
     let whole = div-add-mod' past step in
     let rest = mod-lt past {m = step} (omega arith) in
@@ -54,6 +54,6 @@ module _ (disk : Disk) (gap : Gap) (es : List Entry) where
       let step = n / 16 + 1 in
       let k = min ((leave - begin) / step) 15 in
       let within = bounds disk gap way leave is in
-      let upto : leave ≤ begin + (k + 1) * step = omega (arith, in_stretch n (leave - begin) (omega (arith, within.0, within.1, b, o)), within.0, b) in
+      let upto : leave ≤ begin + (k + 1) * step = omega (arith, in_interval n (leave - begin) (omega (arith, within.0, within.1, b, o)), within.0, b) in
       let target = late-part disk gap es late (leave + on) is-late (omega (arith, from_now way, within.0)) in
       omega (arith, two_stays disk gap (plan_by way leave) es, early_stay way leave begin (begin + (k + 1) * step) b upto, late_stay way leave on o, each k (omega arith), target)

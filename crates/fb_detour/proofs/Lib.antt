@@ -10,7 +10,7 @@ pub mod Within
 pub mod Rounds
 pub mod Packing
 pub mod Shares
-pub mod InStretch
+pub mod InInterval
 pub mod InTime
 pub mod Slots
 pub mod Bare

@@ -1,4 +1,4 @@
--- Stretches of leaves that last as long as a number of slots.
+-- Intervals of leaves that last as long as a number of slots.
 use Rattle.std.proofs.Common.{◌≡◌, ℕ, ◌+◌, ◌*◌, ◌/◌, ◌<◌, arith, ap, sym, ◌∙◌}
 use Rattle.std.proofs.lemmas.Nat.{div-add-mod'}
 use Rattle.std.proofs.Math.Nat.{mod-lt, mul_assoc, mul-div_cancel}

@@ -45,10 +45,10 @@ module _ (disk : Disk) (gap : Gap) (es : List Entry) (track : Track) (leave : �
   by_weight from le = omega (arith, both, weight_of_stay disk (early_dwell disk gap (Detour track leave)) es, late-le from le)
 
   -- by the time up to one leave on the track, and after another on the target
-  pub by_stretch : (arrive upto from way : ℕ) → arrive ≡ gap.now + pos disk.mechanism gap.source track false → way ≡ pos disk.mechanism track gap.target gap.write
+  pub by_interval : (arrive upto from way : ℕ) → arrive ≡ gap.now + pos disk.mechanism gap.source track false → way ≡ pos disk.mechanism track gap.target gap.write
       → from ≤ leave → leave ≤ upto
       → value disk gap (wanted_of es) (Detour track leave) ≤ stay disk (early_to track arrive upto) es + stay disk (late_most gap (from + way)) es
-  by_stretch arrive upto from way a w low high = omega (arith, both, early-le arrive upto a high, late-from (from + way) (omega (arith, w, low)))
+  by_interval arrive upto from way a w low high = omega (arith, both, early-le arrive upto a high, late-from (from + way) (omega (arith, w, low)))
 
   -- by the target alone where no block is registered on the track
   pub bare_weight : (HasBlock es track → ⊥) → value disk gap (wanted_of es) (Detour track leave) ≤ wanted_weight gap.target es
@@ -86,16 +86,16 @@ not_better disk gap wanted best ceiling first track leave scored enough later le
   ]
 ]
 
--- the leaves of one stretch more
-pub stretch_beaten : (disk : Disk) (gap : Gap) (es : List Entry) (best : Scored) (track : Track) (arrive way from upto early late : ℕ) → IsScored disk gap (wanted_of es) best → IsEnough best (early + late) track
+-- the leaves of one interval more
+pub interval_beaten : (disk : Disk) (gap : Gap) (es : List Entry) (best : Scored) (track : Track) (arrive way from upto early late : ℕ) → IsScored disk gap (wanted_of es) best → IsEnough best (early + late) track
     → arrive ≡ gap.now + pos disk.mechanism gap.source track false → way ≡ pos disk.mechanism track gap.target gap.write
     → stay disk (early_to track arrive upto) es ≤ early → stay disk (late_most gap (from + way)) es ≤ late
     → ((leave : ℕ) → leave < from → IsDetour disk gap track leave → Beats disk gap (wanted_of es) best.plan (Detour track leave))
     → (leave : ℕ) → leave ≤ upto → IsDetour disk gap track leave → Beats disk gap (wanted_of es) best.plan (Detour track leave)
-stretch_beaten disk gap es best track arrive way from upto early late scored enough a w e l before leave high is = elim (cases_lt leave from) [
+interval_beaten disk gap es best track arrive way from upto early late scored enough a w e l before leave high is = elim (cases_lt leave from) [
   | inl less ↦ before leave less is
   | inr low ↦ not_better disk gap (wanted_of es) best (early + late) track track leave scored enough (not_itself track)
-      (omega (arith, by_stretch disk gap es track leave is arrive upto from way a w low high, e, l))
+      (omega (arith, by_interval disk gap es track leave is arrive upto from way a w low high, e, l))
 ]
 
 -- a track that is not reached has no detour

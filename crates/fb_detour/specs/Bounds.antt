@@ -15,7 +15,7 @@ use Rattle.fb_model.specs.Plans.{block_end, catches, value, IsPlan, IsDetour, Is
 use Rattle.fb_plan.specs.declared.choice.Scored.{Scored}
 use Rattle.fb_plan.specs.declared.way.Way.{Way}
 use Rattle.fb_detour.specs.declared.bounds.Moves.{Moves}
-use Rattle.fb_detour.specs.declared.stretches.Ceilings.{Ceilings}
+use Rattle.fb_detour.specs.declared.intervals.Ceilings.{Ceilings}
 use Rattle.fb_detour.specs.declared.parts.LateParts.{LateParts}
 use Rattle.fb_detour.specs.declared.stop.Stop.{Stop}
 use Rattle.fb_plan.specs.Ways.{Beats, AreOnDisk, plan_by, early_track, arrival, move_on}
@@ -60,7 +60,7 @@ pub record IsLate (disk : Disk) (gap : Gap) (entries : List Entry) (late : LateP
   pub each : (k : ℕ) → k < 32 → stay disk (late_most gap (late.begin + k * late.step)) entries ≤ get_or late.parts k 0
   pub small : (k : ℕ) → k < 32 → get_or late.parts k 0 ≤ 16000000 * 2048000
 
--- the ceiling of the plan that leaves at an instant: what the track gives up to the end of that stretch, and the target after the move
+-- the ceiling of the plan that leaves at an instant: what the track gives up to the end of that interval, and the target after the move
 abbrev pub ceiling_at : Ceilings → ℕ → ℕ
 ceiling_at ceilings leave = get_or ceilings.early (min ((leave - ceilings.begin) / ceilings.step) 15) 0 + part_at ceilings.late.now (leave + ceilings.move_on)
 

@@ -8,9 +8,9 @@ ghost use Rattle.fb_plan.specs.Ways.{FitsDisk, AreOnDisk, IsGap, IsWay, IsScored
 ghost use Rattle.fb_plan.specs.Turns.{AreSides, stay_of};
 ghost use Rattle.fb_detour.specs.Bounds.{IsLate, AreCeilings};
 
+use crate::intervals::{Ceilings, ceiling_at, ceilings_of};
 use crate::parts::LateParts;
 use crate::stop::stop_at;
-use crate::stretches::{Ceilings, ceiling_at, ceilings_of};
 use fb_plan::{
     Scored, Sides, Way, blocks_on, is_wanted, move_on, plan_by, sides_of, stay_of, try_entry,
     try_plan,

@@ -1,4 +1,4 @@
-// The time on a track in stretches: in each of them it is shown that no leave is better than the
+// The time on a track in intervals: in each of them it is shown that no leave is better than the
 // best so far.
 ghost use Rattle.std.specs.Prelude.{◌≡◌, ◌+◌, ◌*◌, ◌≤◌, ◌<◌, true, false};
 ghost use Rattle.fb_units.specs.declared.types.Track.{Track};
@@ -9,8 +9,8 @@ ghost use Rattle.fb_plan.specs.Ways.{AreOnDisk, IsGap, IsScored};
 ghost use Rattle.fb_detour.specs.Bounds.{BeatsOver, BeatsRange, AreCeilings, AreLeast, IsLate};
 
 use crate::bounds::{LONG, Moves, is_enough, most_depth, most_slots};
+use crate::intervals::Ceilings;
 use crate::parts::{EARLY, LateParts, late_at};
-use crate::stretches::Ceilings;
 use fb_plan::Scored;
 use fb_rows::Gap;
 use fb_service::Disk;
@@ -18,7 +18,7 @@ use fb_units::Track;
 use fb_wanted::Wanted;
 
 // Whether it is shown that no detour over the track is better than the best so far. For all leaves
-// in a stretch of time, the track gives at most what it gives to a leave at the end of the stretch,
+// in an interval of time, the track gives at most what it gives to a leave at the end of the interval,
 // and the target at most what it gives after a leave at its beginning.
 pub fn leaves_beaten(
     disk: &Disk,
@@ -53,7 +53,7 @@ pub fn leaves_beaten(
 // Whether it is shown that no detour over a track of these cylinders is better than the best so
 // far. Up to the end of a stretch of time a track gives at most its weight, and at most the sectors
 // that can pass times the most weight that is wanted of one sector.
-pub fn stretches_beaten(
+pub fn intervals_beaten(
     disk: &Disk,
     wanted: &Wanted,
     gap: &Gap,

@@ -9,11 +9,11 @@
 mod bounds;
 mod candidates;
 mod indexed;
+mod intervals;
 mod leaves;
 mod missing;
 mod parts;
 mod search;
 mod stop;
-mod stretches;
 
 pub use indexed::IndexedPlanner;

@@ -123,17 +123,17 @@ pub fn late_at(late: &LateParts, from: Ns) -> u64
     late.parts[k.min(LATE as u64 - 1) as usize]
 }
 
-// Into how many stretches the time on a track is divided.
+// Into how many intervals the time on a track is divided.
 pub const EARLY: usize = 16;
 
-// Adds the worth of the block to the stretch in which its passage ends.
-fn add_entry(disk: &Disk, stop: &Stop, step: Ns, entry: Entry, stretches: &mut [u64; EARLY])
+// Adds the worth of the block to the interval in which its passage ends.
+fn add_entry(disk: &Disk, stop: &Stop, step: Ns, entry: Entry, intervals: &mut [u64; EARLY])
     requires fits { FitsDisk disk.now entry.block }
     requires passing { IsTurning disk.now stop.now.passing }
     requires begin { stop.now.passing.from ≡ stop.now.arrive }
     requires some { 0 < step }
-    requires room { (k : ℕ) → k < 16 → sum_of_first (k + 1) stretches.old ≤ 16000000 * 2048000 }
-    ensures { (k : ℕ) → k < 16 → sum_of_first (k + 1) stretches.new ≡ sum_of_first (k + 1) stretches.old + stay_gain disk.now (early_to stop.now.track stop.now.arrive (stop.now.arrive + (k + 1) * step)) entry }
+    requires room { (k : ℕ) → k < 16 → sum_of_first (k + 1) intervals.old ≤ 16000000 * 2048000 }
+    ensures { (k : ℕ) → k < 16 → sum_of_first (k + 1) intervals.new ≡ sum_of_first (k + 1) intervals.old + stay_gain disk.now (early_to stop.now.track stop.now.arrive (stop.now.arrive + (k + 1) * step)) entry }
 {
     if !is_wanted(entry.state) {
         return;
@@ -145,21 +145,21 @@ fn add_entry(disk: &Disk, stop: &Stop, step: Ns, entry: Entry, stretches: &mut [
     let end = stop.passing.end(disk, entry.block);
     let first = (end - stop.arrive - 1) / step;
     if first < EARLY as u64 {
-        stretches[first as usize] += worth;
+        intervals[first as usize] += worth;
     }
 }
 
 // Makes each number the sum of itself and all before it.
-fn add_up(stretches: &mut [u64; EARLY])
-    requires room { (k : ℕ) → k < 16 → sum_of_first (k + 1) stretches.old ≤ 16000000 * 2048000 }
-    ensures { (k : ℕ) → k < 16 → get_or stretches.new k 0 ≡ sum_of_first (k + 1) stretches.old }
+fn add_up(intervals: &mut [u64; EARLY])
+    requires room { (k : ℕ) → k < 16 → sum_of_first (k + 1) intervals.old ≤ 16000000 * 2048000 }
+    ensures { (k : ℕ) → k < 16 → get_or intervals.new k 0 ≡ sum_of_first (k + 1) intervals.old }
 {
     for k in 1..EARLY {
-        stretches[k] += stretches[k - 1];
+        intervals[k] += intervals[k - 1];
     }
 }
 
-// What a track gives to a head that stays from its arrival to the end of each stretch.
+// What a track gives to a head that stays from its arrival to the end of each interval.
 pub fn early_parts(disk: &Disk, wanted: &Wanted, stop: &Stop, step: Ns) -> [u64; EARLY]
     requires stop { IsStop disk.now wanted.now stop.now }
     requires some { 0 < step }

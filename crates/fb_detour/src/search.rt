@@ -11,11 +11,11 @@ ghost use Rattle.fb_detour.specs.Bounds.{BeatsOver, BeatsRange, IsAfter, IsLate}
 
 use crate::bounds::{LONG, is_enough, least_moves, most_in_time};
 use crate::candidates::try_leaves;
-use crate::leaves::{leaves_beaten, stretches_beaten};
+use crate::intervals::ceilings_of;
+use crate::leaves::{intervals_beaten, leaves_beaten};
 use crate::missing::misses_enough;
 use crate::parts::{LateParts, late_at};
 use crate::stop::stop_at;
-use crate::stretches::ceilings_of;
 use fb_plan::{Scored, Way, blocks_on, is_same};
 use fb_rows::Gap;
 use fb_service::Disk;
@@ -228,7 +228,7 @@ fn can_skip(
     if is_enough(best, weight + late_at(late, back), first) {
         return true;
     }
-    stretches_beaten(disk, wanted, gap, late, from, end, moves, weight, best)
+    intervals_beaten(disk, wanted, gap, late, from, end, moves, weight, best)
 }
 
 // The first cylinder from `from` on that can't be passed over, or `end`. Ranges are tried that grow

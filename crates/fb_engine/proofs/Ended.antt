@@ -13,8 +13,8 @@ use Rattle.fb_model.specs.Content.{Medium, medium_of, fore_row, fore_rows}
 use Rattle.fb_model.specs.Timeline.{timeline, IsPossible}
 use Rattle.fb_model.specs.Decisions.{Decision, serves, idles, ends, decisions, run_end}
 use Rattle.fb_model.specs.History.{Past}
-use Rattle.fb_model.specs.Course.{Part, past_after, history, AtEach, part_rows, task_rows}
-use Rattle.fb_model.specs.Course.{steps as steps_by}
+use Rattle.fb_model.specs.Steps.{Part, past_after, history, AtEach, part_rows, task_rows}
+use Rattle.fb_model.specs.Steps.{steps as steps_by}
 use Rattle.fb_model.specs.SoundRun.{IsSublist, IsPlanned, IsDelivered, IsTested, Throughout, none, taken}
 use Rattle.fb_model.specs.FullRun.{IsBestPlanned, IsAllDelivered, IsFull}
 use Rattle.fb_model.proofs.Steps.{AtEach-append}

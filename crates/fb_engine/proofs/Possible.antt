@@ -12,12 +12,12 @@ use Rattle.fb_model.specs.PlainReplay.{Served, service, media, target, finish, l
 use Rattle.fb_model.specs.Inputs.{Inputs, served}
 use Rattle.fb_model.specs.Content.{Medium, medium_of, fore_row, fore_rows}
 use Rattle.fb_model.specs.Accepted.{IsAccepted}
-use Rattle.fb_model.specs.Timeline.{stay, gap_pieces, service_pieces, timeline, led_to, IsPossible}
+use Rattle.fb_model.specs.Timeline.{stay, gap_legs, service_legs, timeline, led_to, IsPossible}
 use Rattle.fb_model.specs.Plans.{IsPlan}
 use Rattle.fb_model.specs.Rides.{gap_of}
 use Rattle.fb_model.specs.Decisions.{Decision, serves, idles, ends, end_of, decisions, run_end}
 use Rattle.fb_model.specs.History.{Past}
-use Rattle.fb_model.specs.Course.{Part, past_after, steps, AtEach, opening, part_rows, task_rows}
+use Rattle.fb_model.specs.Steps.{Part, past_after, steps, AtEach, opening, part_rows, task_rows}
 use Rattle.fb_model.specs.SoundRun.{IsPlanned, HasPlan, IsTested, Throughout}
 use Rattle.fb_decide.proofs.Ways.{Leads, lead_on, lead_gap, lead_service, lead_stay}
 use Rattle.fb_engine.proofs.Chain.{Follow, services, decisions_follow}
@@ -37,17 +37,17 @@ part_timeline disk step back fore quiet =
 -- a gap by one of its plans, and the service behind it
 lead_serve : (disk : Disk) (medium : Medium) (head : Track) (now : ℕ) (request : Request) (plan : Plan) → IsSound disk.map → LiesOnDisk disk.map request
     → (let served = service disk head now request in IsPlan disk (gap_of disk served) plan
-    → Leads disk head now (gap_pieces disk (gap_of disk served) plan ++ service_pieces disk (gap_of disk served) (fore_row medium served)) (last_track disk served) (finish served))
+    → Leads disk head now (gap_legs disk (gap_of disk served) plan ++ service_legs disk (gap_of disk served) (fore_row medium served)) (last_track disk served) (finish served))
 lead_serve disk medium head now request plan sound lies is_plan =
     let served = service disk head now request in
-    lead_on disk head (target disk served) (last_track disk served) now (media served) (finish served) (gap_pieces disk (gap_of disk served) plan) (service_pieces disk (gap_of disk served) (fore_row medium served))
+    lead_on disk head (target disk served) (last_track disk served) now (media served) (finish served) (gap_legs disk (gap_of disk served) plan) (service_legs disk (gap_of disk served) (fore_row medium served))
     (lead_gap disk (gap_of disk served) plan is_plan) (lead_service disk head now request.write request.lbn request.count lies.some (have_angles disk.map sound request lies))
 
 lead_served : (disk : Disk) (medium : Medium) (head : Track) (now : ℕ) (served : Served) (plan : Plan) → IsSound disk.map → served ≡ service disk head now served.request → LiesOnDisk disk.map served.request
     → IsPlan disk (gap_of disk served) plan
-    → Leads disk head now (gap_pieces disk (gap_of disk served) plan ++ service_pieces disk (gap_of disk served) (fore_row medium served)) (last_track disk served) (finish served)
+    → Leads disk head now (gap_legs disk (gap_of disk served) plan ++ service_legs disk (gap_of disk served) (fore_row medium served)) (last_track disk served) (finish served)
 lead_served disk medium head now served plan sound same lies is_plan =
-    subst (λ (s : Served). Leads disk head now (gap_pieces disk (gap_of disk s) plan ++ service_pieces disk (gap_of disk s) (fore_row medium s)) (last_track disk s) (finish s)) (sym same)
+    subst (λ (s : Served). Leads disk head now (gap_legs disk (gap_of disk s) plan ++ service_legs disk (gap_of disk s) (fore_row medium s)) (last_track disk s) (finish s)) (sym same)
     (lead_serve disk medium head now served.request plan sound lies (subst (λ (s : Served). IsPlan disk (gap_of disk s) plan) same is_plan))
 
 -- ---- one after another

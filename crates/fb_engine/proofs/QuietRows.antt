@@ -15,7 +15,7 @@ use Rattle.fb_model.specs.History.{Past, delivered, task_numbers, terms_of, is_o
 use Rattle.fb_model.specs.Completion.{Choice, choices, work, is_complete, was_complete}
 use Rattle.fb_model.specs.Segments.{live_count}
 use Rattle.fb_model.specs.Images.{Sources, bad_sectors, is_scrub, findings, is_newly_cleaned, on_disk, segment_rows, seal_rows, complete_rows, test_rows}
-use Rattle.fb_model.specs.Course.{Delivery, Part, with_delivery, tested_past, settled_past, task_row, task_rows}
+use Rattle.fb_model.specs.Steps.{Delivery, Part, with_delivery, tested_past, settled_past, task_row, task_rows}
 use Rattle.fb_model.specs.SoundRun.{AreFollowed, IsTested}
 use Rattle.fb_decide.proofs.Passed.{all_append}
 

@@ -4,20 +4,20 @@ use Rattle.std.specs.Prelude.{◌==◌}
 use Rattle.rand_xoshiro.specs.SplitMix64.{mix_u64}
 use Rattle.fb_units.specs.declared.types.Request.{Request}
 use Rattle.fb_units.specs.declared.types.Name.TheVariants.{Traced}
-use Rattle.fb_maker.specs.Words.{state_after, word}
+use Rattle.fb_maker.specs.Words.{generator_after, word}
 use Rattle.fb_maker.specs.Trace.{arrival_before, request_at}
 
-state_next : (number k : ℕ) → state_after number (k + 1) ≡ (mix_u64 (state_after number k)).1
-unfolding state_after
+state_next : (number k : ℕ) → generator_after number (k + 1) ≡ (mix_u64 (generator_after number k)).1
+unfolding generator_after
 state_next number k = rw add-one refl
 
 -- a word that is drawn from the state after k words is the k-th word, from 0
-pub is_word : (number k word' old new : ℕ) → old ≡ state_after number k → (word', new) ≡ mix_u64 old → word' ≡ word number k
+pub is_word : (number k word' old new : ℕ) → old ≡ generator_after number k → (word', new) ≡ mix_u64 old → word' ≡ word number k
 unfolding word
 is_word number k word' old new at drawn = ap (λ (p : ℕ × ℕ). p.0) drawn ∙ ap (λ s. (mix_u64 s).0) at
 
-pub is_state : (number k next word' old new : ℕ) → next ≡ k + 1 → old ≡ state_after number k → (word', new) ≡ mix_u64 old → new ≡ state_after number next
-is_state number k next word' old new e at drawn = ap (λ (p : ℕ × ℕ). p.1) drawn ∙ ap (λ s. (mix_u64 s).1) at ∙ sym (state_next number k) ∙ ap (state_after number) (sym e)
+pub is_state : (number k next word' old new : ℕ) → next ≡ k + 1 → old ≡ generator_after number k → (word', new) ≡ mix_u64 old → new ≡ generator_after number next
+is_state number k next word' old new e at drawn = ap (λ (p : ℕ × ℕ). p.1) drawn ∙ ap (λ s. (mix_u64 s).1) at ∙ sym (state_next number k) ∙ ap (generator_after number) (sym e)
 
 -- the request that is made from four words
 pub is_request : (number sectors i before a b c d count : ℕ) → before ≡ arrival_before number i → a ≡ word number (4 * i) → b ≡ word number (4 * i + 1) → c ≡ word number (4 * i + 2) → d ≡ word number (4 * i + 3)
@@ -26,8 +26,8 @@ pub is_request : (number sectors i before a b c d count : ℕ) → before ≡ ar
 unfolding request_at
 is_request number sectors i before a b c d count at ea eb ec ed size = rw (size, at, ea, eb, ec, ed) refl
 
-pub none_drawn : (number : ℕ) → number ≡ state_after number 0
-unfolding state_after
+pub none_drawn : (number : ℕ) → number ≡ generator_after number 0
+unfolding generator_after
 none_drawn number = refl
 
 -- the arrival of a request is the one before the next request

@@ -1,7 +1,7 @@
 -- What holds of a trace that is being generated.
 use Rattle.std.specs.Prelude.{◌≡◌, ℕ, ◌+◌, ◌*◌, ◌^◌, ◌≤◌}
 use Rattle.fb_units.specs.declared.types.Request.{Request}
-use Rattle.fb_maker.specs.Words.{state_after}
+use Rattle.fb_maker.specs.Words.{generator_after}
 use Rattle.fb_maker.specs.Trace.{request_at}
 
 -- the request that follows those that were made has been drawn, and no word after it; numbers are in their ranges
@@ -11,5 +11,5 @@ pub record IsMaking (number device sectors made : ℕ) (next : Request) (words :
   pub few_sectors : sectors ≤ 10 ^ 12
   pub few_lines : made ≤ 10 ^ 6
   pub drawn : next ≡ request_at number sectors made
-  pub left : words ≡ state_after number (4 * (made + 1))
+  pub left : words ≡ generator_after number (4 * (made + 1))
   pub early : next.arrival ≤ 12000000 * (made + 1)

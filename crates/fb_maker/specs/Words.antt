@@ -3,10 +3,10 @@ use Rattle.std.specs.Prelude.{ℕ, zero, suc}
 use Rattle.rand_xoshiro.specs.SplitMix64.{mix_u64}
 
 -- the state of SplitMix64 after this many words of a seed
-unfoldable pub state_after : ℕ → ℕ → ℕ
-state_after number zero = number
-state_after number (suc words) = (mix_u64 (state_after number words)).1
+unfoldable pub generator_after : ℕ → ℕ → ℕ
+generator_after number zero = number
+generator_after number (suc words) = (mix_u64 (generator_after number words)).1
 
 -- the k-th word of a seed, from 0
 unfoldable pub word : ℕ → ℕ → ℕ
-word number k = (mix_u64 (state_after number k)).0
+word number k = (mix_u64 (generator_after number k)).0

@@ -1,6 +1,6 @@
 // A trace that is generated from a seed.
 ghost use Rattle.std.specs.Prelude.{◌≡◌, ℕ, ◌+◌, ◌*◌, ◌<◌, ◌≤◌, ◌^◌, IfOk, OnOk, OnErr, Ok};
-ghost use Rattle.fb_maker.specs.Words.{state_after};
+ghost use Rattle.fb_maker.specs.Words.{generator_after};
 ghost use Rattle.fb_maker.specs.Trace.{arrival_before, request_at, made_requests, made_trace};
 ghost use Rattle.fb_trace.specs.Reading.{trace_of};
 ghost use Rattle.fb_maker.specs.Making.{begun, line_made};
@@ -88,8 +88,8 @@ fn draw(words: &mut SplitMix64, sectors: u64, behind: u64, before: Ns) -> Reques
     requires few { sectors ≤ 10 ^ 12 }
     requires early { before ≤ 12000000 * behind }
     requires room { behind ≤ 10 ^ 6 }
-    ensures request { (number : ℕ) → words.old ≡ state_after number (4 * behind) → before ≡ arrival_before number behind → result ≡ request_at number sectors behind }
-    ensures words { (number : ℕ) → words.old ≡ state_after number (4 * behind) → words.new ≡ state_after number (4 * (behind + 1)) }
+    ensures request { (number : ℕ) → words.old ≡ generator_after number (4 * behind) → before ≡ arrival_before number behind → result ≡ request_at number sectors behind }
+    ensures words { (number : ℕ) → words.old ≡ generator_after number (4 * behind) → words.new ≡ generator_after number (4 * (behind + 1)) }
     ensures early { result.arrival ≤ 12000000 * (behind + 1) }
 {
     let arrival = before + words.next_word() % (LONGEST_PAUSE + 1);

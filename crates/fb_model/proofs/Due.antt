@@ -16,7 +16,7 @@ use Rattle.fb_model.specs.Inputs.{Inputs}
 use Rattle.fb_model.specs.Decisions.{Decision, serves, idles, ends}
 use Rattle.fb_wanted.specs.States.{is_wanted}
 use Rattle.fb_model.specs.History.{Past, wanted, state, registered}
-use Rattle.fb_model.specs.Course.{Part, settled_past}
+use Rattle.fb_model.specs.Steps.{Part, settled_past}
 use Rattle.fb_model.specs.Rides.{gap_of, due, delivery, is_before, placed, in_order, caught, missed, lies_in, rides, due_in_gap, begin_at, end_at}
 use Rattle.fb_model.specs.SoundRun.{IsSublist, none, left_out, taken, IsDelivered}
 use Rattle.fb_model.proofs.Lists.{all_weaker, all_append, all_filter}

@@ -18,7 +18,7 @@ use Rattle.fb_model.specs.Decisions.{Decision, serves, idles, ends, decisions}
 use Rattle.fb_model.specs.History.{Past, tested, delivered, wanted}
 use Rattle.fb_model.specs.Rides.{gap_of, due}
 use Rattle.fb_model.specs.Images.{findings, test_rows, on_disk}
-use Rattle.fb_model.specs.Course.{Delivery, Part, settled_past, with_delivery, with_finish, past_after, steps, AtEach, opening, part_rows, task_rows}
+use Rattle.fb_model.specs.Steps.{Delivery, Part, settled_past, with_delivery, with_finish, past_after, steps, AtEach, opening, part_rows, task_rows}
 use Rattle.fb_model.specs.SoundRun.{AreFollowed, IsTested}
 use Rattle.fb_model.specs.FullRun.{HasBestPlan, IsBestPlanned, IsAllDelivered, IsFull}
 use Rattle.fb_model.proofs.Lists.{same_first, same_rest, not_none}

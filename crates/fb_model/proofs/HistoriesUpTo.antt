@@ -20,7 +20,7 @@ use Rattle.fb_model.specs.History.{Event, called, chose, tested, delivered, fini
 use Rattle.fb_model.specs.Completion.{work, segments, is_closed}
 use Rattle.fb_model.specs.Segments.{numbered, is_better, is_busy, unchosen, choose_best, choose_once, choose_up_to, choose_in, with_choices}
 use Rattle.fb_model.specs.Images.{delivery_begin}
-use Rattle.fb_model.specs.Course.{Delivery, Part, blocks_by, take_call, calls_due, calls_taken, settled_past, with_delivery, with_finish, tested_past, past_after}
+use Rattle.fb_model.specs.Steps.{Delivery, Part, blocks_by, take_call, calls_due, calls_taken, settled_past, with_delivery, with_finish, tested_past, past_after}
 use Rattle.fb_model.proofs.Lists.{all_append, all_filter, all_weaker, kept_twice, by_later}
 
 -- ---- each block has a sector

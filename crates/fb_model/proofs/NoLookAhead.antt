@@ -21,7 +21,7 @@ use Rattle.fb_model.specs.Decisions.{Decision, serves, idles, ends, instant_of, 
 use Rattle.fb_model.specs.History.{Past, tested, wanted}
 use Rattle.fb_model.specs.Images.{test_rows, on_disk}
 use Rattle.fb_model.specs.Rides.{due}
-use Rattle.fb_model.specs.Course.{Delivery, Part, settled_past, with_delivery, with_finish, tested_past, past_after, AtEach, opening, part_rows}
+use Rattle.fb_model.specs.Steps.{Delivery, Part, settled_past, with_delivery, with_finish, tested_past, past_after, AtEach, opening, part_rows}
 use Rattle.fb_model.specs.Accepted.{IsAccepted}
 use Rattle.fb_model.specs.SoundRun.{HasPlan, AreFollowed}
 use Rattle.fb_model.specs.FullRun.{HasBestPlan, IsFull}

@@ -15,7 +15,7 @@ use Rattle.fb_model.specs.History.{Past, delivered, task_numbers, terms_of, bloc
 use Rattle.fb_model.specs.Completion.{Choice, choices, work, is_complete, was_complete}
 use Rattle.fb_model.specs.Segments.{live_count}
 use Rattle.fb_model.specs.Images.{Sources, bad_sectors, is_scrub, findings, delivery_begin, packed, is_newly_cleaned, segment_rows, image, seal_rows, complete_rows, test_rows, on_disk}
-use Rattle.fb_model.specs.Course.{Delivery, with_delivery, task_row, task_rows}
+use Rattle.fb_model.specs.Steps.{Delivery, with_delivery, task_row, task_rows}
 use Rattle.fb_model.specs.SoundRun.{AreFollowed}
 use Rattle.fb_model.specs.Known.{is_known, follows_known, only_if, known_from}
 use Rattle.fb_model.proofs.Lists.{all_append, all_map, all_flat_map, all_dropped, same_map, same_flat_map, is_by, is_after, after_is, same_first, same_rest, not_none}

@@ -4,7 +4,7 @@ use Rattle.std.specs.List.{fold}
 use Rattle.fb_model.specs.Inputs.{Inputs}
 use Rattle.fb_model.specs.Decisions.{Decision}
 use Rattle.fb_model.specs.History.{Past}
-use Rattle.fb_model.specs.Course.{Part, past_after, AtEach}
+use Rattle.fb_model.specs.Steps.{Part, past_after, AtEach}
 
 -- the history goes on from what it was
 pub history-append : (inputs : Inputs) (past : Past) (xs ys : List (Decision × Part))

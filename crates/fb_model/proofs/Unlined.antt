@@ -29,7 +29,7 @@ use Rattle.fb_model.specs.Completion.{segment_by, segments, Choice, choices, is_
 use Rattle.fb_model.specs.Segments.{numbered, next_blocks, live_count, is_better, unchosen, is_busy, choose_best, choose_once, choose_up_to, choose_in, with_choices}
 use Rattle.fb_model.specs.Images.{bad_sectors, is_scrub, findings, begin_by, delivery_begin, packed, is_newly_cleaned, segment_rows, image, seal_rows, complete_rows, test_rows, on_disk}
 use Rattle.fb_model.specs.Rides.{due}
-use Rattle.fb_model.specs.Course.{Delivery, Part, blocks_by, take_call, is_call, calls_taken, calls_due, settled_past, with_delivery, with_finish, tested_past, past_after, AtEach}
+use Rattle.fb_model.specs.Steps.{Delivery, Part, blocks_by, take_call, is_call, calls_taken, calls_due, settled_past, with_delivery, with_finish, tested_past, past_after, AtEach}
 use Rattle.fb_model.specs.SoundRun.{AreFollowed}
 use Rattle.fb_model.specs.FullRun.{HasBestPlan}
 use Rattle.fb_model.specs.Known.{without_line}

@@ -119,8 +119,8 @@ abbrev pub is_open_backup : Past → ℕ → Bool
 is_open_backup past task = is_backup (terms_of past task).kind && not (is_sealed past task)
 
 -- the state of a block after an event, from its state before
-abbrev pub state_after : Past → Event → Block → State → State
-state_after past event block before =
+abbrev pub state_after_event : Past → Event → Block → State → State
+state_after_event past event block before =
     if registers event block then Wanted
     else if delivers event block then Delivered
     else if aborts event block && not (is_delivered before) then Aborted
@@ -131,7 +131,7 @@ state_after past event block before =
 -- matter
 unfoldable pub bare_state : Past → Block → State
 bare_state [] block = Wanted
-bare_state (event ∷ past) block = state_after past event block (bare_state past block)
+bare_state (event ∷ past) block = state_after_event past event block (bare_state past block)
 
 -- what the last delivery of a block found; only delivered blocks are asked
 unfoldable pub content_of : Past → Block → List ContentRun

@@ -14,7 +14,7 @@ use Rattle.fb_model.specs.Decisions.{Decision, serves, idles, ends, instant_of, 
 use Rattle.fb_model.specs.History.{Past, delivered, wanted}
 use Rattle.fb_model.specs.Images.{findings, test_rows, on_disk}
 use Rattle.fb_model.specs.Rides.{gap_of, due}
-use Rattle.fb_model.specs.Course.{Delivery, Part, settled_past, tested_past, with_delivery, history, steps, AtEach, part_rows, task_rows}
+use Rattle.fb_model.specs.Steps.{Delivery, Part, settled_past, tested_past, with_delivery, history, steps, AtEach, part_rows, task_rows}
 
 -- some of the elements, in their order
 pub data IsSublist {A : Type 0} : List A → List A → Type 0 where

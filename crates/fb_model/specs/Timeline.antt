@@ -16,24 +16,24 @@ use Rattle.fb_rows.specs.declared.back.BackRow.{BackRow}
 use Rattle.fb_rows.specs.declared.back.BackRow.TheVariants.{Gap as GapLine, Idle as IdleLine}
 use Rattle.fb_model.specs.PlainReplay.{first_track}
 
--- a piece of the head's way: a stay on a track, a move from one to another, a sector's passage
-pub data Piece : Type 0 where
-  stay : Track → ℕ → ℕ → Piece
-  move : Track → Track → Bool → ℕ → ℕ → Piece
-  pass : ℕ → ℕ → ℕ → Piece
+-- a leg of the head's way: a stay on a track, a move from one to another, a sector's passage
+pub data Leg : Type 0 where
+  stay : Track → ℕ → ℕ → Leg
+  move : Track → Track → Bool → ℕ → ℕ → Leg
+  pass : ℕ → ℕ → ℕ → Leg
 
 -- a move, if the tracks differ
-abbrev pub way : Disk → Track → Track → Bool → ℕ → List Piece
+abbrev pub way : Disk → Track → Track → Bool → ℕ → List Leg
 way disk from to write now = if same_track from to then [] else move from to write now (now + pos disk.mechanism from to write) ∷ []
 
 -- the stay on the target from the end of the move to it
-abbrev pub arrival : Disk → Gap → Track → ℕ → Piece
+abbrev pub arrival : Disk → Gap → Track → ℕ → Leg
 arrival disk gap from leave = stay gap.target (leave + pos disk.mechanism from gap.target gap.write) gap.deadline
 
 -- straight from the source to the target, or over a track that is neither
-abbrev pub gap_pieces : Disk → Gap → Plan → List Piece
-gap_pieces disk gap (Direct leave) = stay gap.source gap.now leave ∷ way disk gap.source gap.target gap.write leave ++ arrival disk gap gap.source leave ∷ []
-gap_pieces disk gap (Detour track leave) =
+abbrev pub gap_legs : Disk → Gap → Plan → List Leg
+gap_legs disk gap (Direct leave) = stay gap.source gap.now leave ∷ way disk gap.source gap.target gap.write leave ++ arrival disk gap gap.source leave ∷ []
+gap_legs disk gap (Detour track leave) =
     move gap.source track false gap.now (gap.now + pos disk.mechanism gap.source track false)
     ∷ stay track (gap.now + pos disk.mechanism gap.source track false) leave
     ∷ move track gap.target gap.write leave (leave + pos disk.mechanism track gap.target gap.write)
@@ -41,7 +41,7 @@ gap_pieces disk gap (Detour track leave) =
     ∷ []
 
 -- passages, with the moves and waits between them
-abbrev pub passing : Disk → Track → ℕ → Bool → List Passage → List Piece
+abbrev pub passing : Disk → Track → ℕ → Bool → List Passage → List Leg
 passing disk here now write [] = []
 passing disk here now write (passage ∷ passages) =
     let there = track_at disk.map passage.lbn in
@@ -51,20 +51,20 @@ passing disk here now write (passage ∷ passages) =
     ∷ passing disk there passage.end write passages
 
 -- the request of a gap
-abbrev pub service_pieces : Disk → Gap → ForeRow → List Piece
-service_pieces disk gap row = passing disk gap.target gap.deadline row.request.write
+abbrev pub service_legs : Disk → Gap → ForeRow → List Leg
+service_legs disk gap row = passing disk gap.target gap.deadline row.request.write
     (passages disk gap.source gap.now row.request.write row.request.lbn row.request.count)
 
 -- the whole way of the head, from the background rows in order, each gap row with the next foreground row
-unfoldable pub timeline : Disk → List BackRow → List ForeRow → List Piece
+unfoldable pub timeline : Disk → List BackRow → List ForeRow → List Leg
 timeline disk [] fore = []
 timeline disk (IdleLine dwell ∷ back) fore = stay dwell.track dwell.begin dwell.end ∷ timeline disk back fore
-timeline disk (GapLine row ∷ back) [] = gap_pieces disk row.gap row.plan ++ timeline disk back []
-timeline disk (GapLine row ∷ back) (served ∷ fore) = gap_pieces disk row.gap row.plan ++ service_pieces disk row.gap served ++ timeline disk back fore
+timeline disk (GapLine row ∷ back) [] = gap_legs disk row.gap row.plan ++ timeline disk back []
+timeline disk (GapLine row ∷ back) (served ∷ fore) = gap_legs disk row.gap row.plan ++ service_legs disk row.gap served ++ timeline disk back fore
 timeline disk (_ ∷ back) fore = timeline disk back fore
 
--- the piece can begin on this track at this instant
-abbrev pub can_follow : Disk → Track → ℕ → Piece → Bool
+-- the leg can begin on this track at this instant
+abbrev pub can_follow : Disk → Track → ℕ → Leg → Bool
 can_follow disk track now (stay on begin end) = same_track on track && (begin == now) && nat_le begin end
 can_follow disk track now (move from to write begin end) = same_track from track && not (same_track from to) && (begin == now)
     && (end == begin + pos disk.mechanism from to write)
@@ -73,24 +73,24 @@ can_follow disk track now (pass lbn begin end) =
     same_track place.track track && (begin == now) && (begin % disk.map.rotation == begin_angle disk.map place)
     && (end == begin + length_of disk.map place)
 
--- where a piece leaves the head, and when
-abbrev pub leaves_on : Disk → Piece → Track
+-- where a leg leaves the head, and when
+abbrev pub leaves_on : Disk → Leg → Track
 leaves_on disk (stay on begin end) = on
 leaves_on disk (move from to write begin end) = to
 leaves_on disk (pass lbn begin end) = track_at disk.map lbn
 
-abbrev pub leaves_at : Piece → ℕ
+abbrev pub leaves_at : Leg → ℕ
 leaves_at (stay on begin end) = end
 leaves_at (move from to write begin end) = end
 leaves_at (pass lbn begin end) = end
 
--- when the pieces end, begun on a track at an instant; none if they aren't possible
-unfoldable pub led_to : Disk → Track → ℕ → List Piece → Option ℕ
+-- when the legs end, begun on a track at an instant; none if they aren't possible
+unfoldable pub led_to : Disk → Track → ℕ → List Leg → Option ℕ
 led_to disk track now [] = Some now
-led_to disk track now (piece ∷ pieces) = if can_follow disk track now piece
-    then led_to disk (leaves_on disk piece) (leaves_at piece) pieces
+led_to disk track now (leg ∷ legs) = if can_follow disk track now leg
+    then led_to disk (leaves_on disk leg) (leaves_at leg) legs
     else None
 
--- the pieces are possible from the first track and the instant 0 on, and end at this instant
-abbrev pub IsPossible : Disk → List Piece → ℕ → Type 0
-IsPossible disk pieces end = led_to disk first_track 0 pieces ≡ Some end
+-- the legs are possible from the first track and the instant 0 on, and end at this instant
+abbrev pub IsPossible : Disk → List Leg → ℕ → Type 0
+IsPossible disk legs end = led_to disk first_track 0 legs ≡ Some end

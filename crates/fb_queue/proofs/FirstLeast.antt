@@ -6,7 +6,7 @@ use Rattle.std.proofs.lemmas.Bool.Decides.{nat_tests}
 use Rattle.std.proofs.lemmas.Option.{slice_get_within}
 use Rattle.fb_units.specs.declared.types.Request.{Request}
 use Rattle.fb_model.specs.PlainReplay.{first_least, better}
-use Rattle.fb_queue.specs.Least.{IsFirstLeast}
+use Rattle.fb_queue.specs.Least.{IsFirstLeastAt}
 
 some_injective : {X : Type 0} (x y : X) → Some x ≡ Some y → x ≡ y
 some_injective x y e = cc
@@ -15,8 +15,8 @@ same_value : {X : Type 0} (o : Option X) (x y : X) → o ≡ Some x → o ≡ So
 same_value o x y e f = some_injective x y (sym e ∙ f)
 
 -- one more request, which is not better
-pub keeps_best : (key : Request → ℕ) (rs : List Request) (i best least : ℕ) (r b : Request) → IsFirstLeast key rs i best → slice_get rs best ≡ Some b → least ≡ key b → slice_get rs i ≡ Some r → least ≤ key r
-    → IsFirstLeast key rs (i + 1) best
+pub keeps_best : (key : Request → ℕ) (rs : List Request) (i best least : ℕ) (r b : Request) → IsFirstLeastAt key rs i best → slice_get rs best ≡ Some b → least ≡ key b → slice_get rs i ≡ Some r → least ≤ key r
+    → IsFirstLeastAt key rs (i + 1) best
 keeps_best key rs i best least r b h at_best e at_i le = record {
   within = omega (arith, h.within);
   least = λ k x q lt at_k at_q. elim (cases_lt k i) [
@@ -28,8 +28,8 @@ keeps_best key rs i best least r b h at_best e at_i le = record {
 }
 
 -- one more request, which is better
-pub takes_best : (key : Request → ℕ) (rs : List Request) (i best least : ℕ) (r b : Request) → IsFirstLeast key rs i best → slice_get rs best ≡ Some b → least ≡ key b → slice_get rs i ≡ Some r → key r < least
-    → IsFirstLeast key rs (i + 1) i
+pub takes_best : (key : Request → ℕ) (rs : List Request) (i best least : ℕ) (r b : Request) → IsFirstLeastAt key rs i best → slice_get rs best ≡ Some b → least ≡ key b → slice_get rs i ≡ Some r → key r < least
+    → IsFirstLeastAt key rs (i + 1) i
 takes_best key rs i best least r b h at_best e at_i lt = record {
   within = omega arith;
   least = λ k x q l at_k at_q.
@@ -69,7 +69,7 @@ pub picked_is_there : (key : Request → ℕ) (rs : List Request) (b : Request �
 picked_is_there key rs b e = subst (IsIn rs) e (is_in key rs)
 
 -- the first of least key is what the plain replay takes
-pub first_least_at : (key : Request → ℕ) (rs : List Request) (place : ℕ) (q : Request) → IsFirstLeast key rs (length rs) place → slice_get rs place ≡ Some q → first_least key rs ≡ Some (q, remove rs place)
+pub first_least_at : (key : Request → ℕ) (rs : List Request) (place : ℕ) (q : Request) → IsFirstLeastAt key rs (length rs) place → slice_get rs place ≡ Some q → first_least key rs ≡ Some (q, remove rs place)
 first_least_at key [] place q h at_q = absurd (omega (arith, h.within))
 first_least_at key (r ∷ rs) zero q h at_q =
     let same : r ≡ q = some_injective r q at_q in
@@ -84,7 +84,7 @@ first_least_at key (r ∷ rs) (suc place) q h at_q =
     }) at_q)
     (h.first 0 r q (omega arith) refl at_q)
 
-pub first_is_best : (key : Request → ℕ) (rs : List Request) → IsFirstLeast key rs 1 0
+pub first_is_best : (key : Request → ℕ) (rs : List Request) → IsFirstLeastAt key rs 1 0
 first_is_best key rs = record {
   within = omega arith;
   least = λ k r q lt at_k at_q. let same : r ≡ q = same_value (slice_get rs 0) r q (ap (slice_get rs) (omega arith) ∙ at_k) at_q in omega (arith, ap key same);
@@ -98,7 +98,7 @@ got (x ∷ xs) (suc i) h = got xs i (omega arith)
 
 -- the best so far, and its key
 pub record IsBest (key : Request → ℕ) (rs : List Request) (i at value : ℕ) : Type 0 where
-  pub best : IsFirstLeast key rs i at
+  pub best : IsFirstLeastAt key rs i at
   pub least : (q : Request) → slice_get rs at ≡ Some q → value ≡ key q
 
 pub goes_on : (key : Request → ℕ) (rs : List Request) (i at least at' least' next : ℕ) → IsBest key rs i at least → i < length rs → ((r : Request) → slice_get rs i ≡ Some r → next ≡ key r)

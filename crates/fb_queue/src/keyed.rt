@@ -3,7 +3,7 @@ ghost use Rattle.std.specs.Prelude.{◌≡◌, [], ◌*◌, ◌<◌, ◌≤◌, 
 ghost use Rattle.std.specs.List.{AllByRecursion};
 ghost use Rattle.fb_geometry.specs.Shape.{IsTrackOf};
 ghost use Rattle.fb_model.specs.Accepted.{IsRequestOf};
-ghost use Rattle.fb_queue.specs.Least.{IsFirstLeast};
+ghost use Rattle.fb_queue.specs.Least.{IsFirstLeastAt};
 
 use crate::{Policy, Queue};
 use fb_service::Disk;
@@ -47,7 +47,7 @@ fn first_least<P: Policy>(
     requires on_disk { AllByRecursion (IsRequestOf disk.now.map) waiting.now }
     requires head { IsTrackOf disk.now.map head }
     requires now { now ≤ 9 * 10 ^ 18 }
-    ensures { IsFirstLeast (P.key disk.now head now) waiting.now (length waiting.now) result }
+    ensures { IsFirstLeastAt (P.key disk.now head now) waiting.now (length waiting.now) result }
 {
     let mut best = 0;
     let mut least = policy.key_of(disk, head, now, &waiting[0]);

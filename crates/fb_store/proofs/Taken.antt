@@ -9,7 +9,7 @@ use Rattle.fb_store.specs.declared.content.ContentRun.{ContentRun}
 use Rattle.fb_store.specs.Runs.{runs_of, sectors_of, sectors_in}
 use Rattle.fb_store.specs.Writes.{is_within}
 use Rattle.fb_store.specs.Index.{held_at, begins_at}
-use Rattle.fb_store.specs.Pieces.{after_taking, after_take, after_dropping, held_sector, held_in, EndsBy}
+use Rattle.fb_store.specs.Sparse.{after_taking, after_take, after_dropping, held_sector, held_in, EndsBy}
 use Rattle.fb_store.proofs.Held.{none_held}
 use Rattle.fb_store.proofs.Originals.{inside, before, after, goes_on}
 use Rattle.fb_store.proofs.Joined.{fewest-again}
@@ -121,9 +121,9 @@ held_none content_of first (suc n) all =
     ap₂ (λ o rest. held_sector first o ++ rest) (all first (omega arith) (omega arith)) (held_none content_of (first + 1) n (λ lbn a b. all lbn (omega arith) (omega arith)))
 
 -- the contents of the sectors up to the next range are one run, or none
-pub held_piece : (ranges : List (ℕ × Option Content)) (lbn next : ℕ) (content : Content) → lbn < next → ((begin : ℕ) → IsSome (begins_at ranges begin) → lbn < begin → next ≤ begin)
+pub held_range : (ranges : List (ℕ × Option Content)) (lbn next : ℕ) (content : Content) → lbn < next → ((begin : ℕ) → IsSome (begins_at ranges begin) → lbn < begin → next ≤ begin)
     → Some content ≡ held_at ranges lbn → held_in (held_at ranges) (range_with_len lbn (next - lbn)) ≡ sectors_in (record { first = lbn; count = next - lbn; content = content })
-held_piece ranges lbn next content some least held =
+held_range ranges lbn next content some least held =
     held_some (held_at ranges) content lbn (next - lbn) (λ l a b. goes_on ranges lbn next l least a (omega arith) ∙ sym held)
 
 pub held_gap : (ranges : List (ℕ × Option Content)) (lbn next : ℕ) → lbn < next → ((begin : ℕ) → IsSome (begins_at ranges begin) → lbn < begin → next ≤ begin)
@@ -141,12 +141,12 @@ pub added_more : (content_of : ℕ → Option Content) (start : List (ℕ × Con
     → more ≡ runs_of (start ++ held_in content_of (range_with_len first (next - first)))
 added_more content_of start runs more first lbn next from to so_far added =
     let before = held_in content_of (range_with_len first (lbn - first)) in
-    let piece = held_in content_of (range_with_len lbn (next - lbn)) in
+    let next_sectors = held_in content_of (range_with_len lbn (next - lbn)) in
     let own = (fewest-again (start ++ before) runs so_far).0 in
     let at : first + (lbn - first) ≡ lbn = omega arith in
     let size : next - first ≡ lbn - first + (next - lbn) = omega arith in
     let whole = ap (λ n. held_in content_of (range_with_len first n)) size ∙ (held_in-split content_of first (lbn - first) (next - lbn) ∙ ap (λ l. before ++ held_in content_of (range_with_len l (next - lbn))) at) in
-    added ∙ ap runs_of (ap (λ ss. ss ++ piece) own ∙ (append_assoc start before piece ∙ ap (λ ss. start ++ ss) (sym whole)))
+    added ∙ ap runs_of (ap (λ ss. ss ++ next_sectors) own ∙ (append_assoc start before next_sectors ∙ ap (λ ss. start ++ ss) (sym whole)))
 
 some_one : {X : Type 0} (x y : X) → Some x ≡ Some y → x ≡ y
 some_one x y e = grind arith

@@ -92,9 +92,9 @@ impl Store {
         requires end_in { end ≤ 10 ^ 12 }
         ensures { IsLongestRun (content_in self.now) first end result }
     {
-        let mut run = self.piece_at(first, end);
+        let mut run = self.run_in_range(first, end);
         while run.first + run.count < end {
-            let next = self.piece_at(run.first + run.count, end);
+            let next = self.run_in_range(run.first + run.count, end);
             if !is_same(run.content, next.content) {
                 return run;
             }
@@ -105,7 +105,7 @@ impl Store {
 
     // Sectors from the first on, before the end, that hold the same as the first: up to the next
     // range or the next latent sector.
-    fn piece_at(&self, first: u64, end: u64) -> ContentRun
+    fn run_in_range(&self, first: u64, end: u64) -> ContentRun
         requires { first < end }
         ensures { IsRun (content_in self.now) first end result }
     {
@@ -116,7 +116,7 @@ impl Store {
                 count: stop - first,
                 content,
             },
-            None => original_piece(&self.latent, first, stop),
+            None => original_run(&self.latent, first, stop),
         }
     }
 }
@@ -158,7 +158,7 @@ fn next_latent(latent: &BTreeSet<u64>, first: u64, end: u64) -> u64
 }
 
 // The first latent sector, or the sectors up to the next one.
-fn original_piece(latent: &BTreeSet<u64>, first: u64, end: u64) -> ContentRun
+fn original_run(latent: &BTreeSet<u64>, first: u64, end: u64) -> ContentRun
     requires { first < end }
     ensures { IsRun (unwritten latent.now.keys) first end result }
 {

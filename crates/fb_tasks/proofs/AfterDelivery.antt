@@ -18,7 +18,7 @@ use Rattle.fb_wanted.specs.declared.block.Entry.{Entry}
 use Rattle.fb_wanted.specs.declared.block.State.TheVariants.{Wanted}
 use Rattle.fb_wanted.specs.States.{after, is_block}
 use Rattle.fb_store.specs.declared.content.Content.{Content}
-use Rattle.fb_store.specs.Pieces.{Gives}
+use Rattle.fb_store.specs.Sparse.{Gives}
 use Rattle.fb_model.specs.History.{Past, tested, delivered, tasks, terms_of, registered, is_open_backup, is_seal_of}
 use Rattle.fb_model.specs.Completion.{Choice, TaskView, view, delivered_view, is_unsealed, is_done, is_cleaned, is_complete}
 use Rattle.fb_model.proofs.Views.{delivered-silent, delivered-view, tested-view}

@@ -17,7 +17,7 @@ use Rattle.fb_model.specs.History.{Past, LogSegment, called, chose, tested, deli
 use Rattle.fb_model.specs.Completion.{is_closed, segments, segment_by, view}
 use Rattle.fb_tasks.specs.declared.session.Session.{Session}
 use Rattle.fb_tasks.specs.Telling.{Tells, MayTake}
-use Rattle.fb_model.specs.Course.{take_call, blocks_by}
+use Rattle.fb_model.specs.Steps.{take_call, blocks_by}
 
 opened_more : (action : Action) (before : List Terms) → before ++ terms_in action ≡ opened_by action before
 opened_more (Open kind weight block) before = refl

@@ -13,7 +13,7 @@ use Rattle.fb_rows.specs.declared.back.BackRow.{BackRow}
 use Rattle.fb_rows.specs.declared.back.DeliveryRow.{DeliveryRow}
 use Rattle.fb_model.specs.History.{Past, tested, delivered, finished}
 use Rattle.fb_model.specs.Segments.{with_choices}
-use Rattle.fb_model.specs.Course.{take_call, with_delivery}
+use Rattle.fb_model.specs.Steps.{take_call, with_delivery}
 use Rattle.fb_tasks.specs.declared.session.Session.{Session}
 use Rattle.fb_tasks.specs.Taken.{delivery_of}
 use Rattle.fb_tasks.specs.Telling.{calls_of, Tells, MayTake}

@@ -4,7 +4,7 @@ use Rattle.std.specs.List.{AllByRecursion, list_any, list_all, flat_map, range_w
 use Rattle.std.proofs.lemmas.Bool.{cases_Bool, and_parts, or_parts, true≢false}
 use Rattle.std.proofs.lemmas.Bool.Decides.{nat_tests}
 use Rattle.fb_store.specs.declared.content.Content.{Content}
-use Rattle.fb_store.specs.Pieces.{Gives, after_take, held_in}
+use Rattle.fb_store.specs.Sparse.{Gives, after_take, held_in}
 use Rattle.fb_store.specs.Runs.{sectors_of}
 use Rattle.fb_store.specs.Writes.{is_within}
 use Rattle.fb_wanted.specs.declared.block.Block.{Block}

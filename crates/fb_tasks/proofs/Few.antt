@@ -21,7 +21,7 @@ use Rattle.fb_model.specs.History.{Past, LogSegment, called, chose, tested, deli
 use Rattle.fb_model.specs.Completion.{view, segments, segment_by}
 use Rattle.fb_model.proofs.Views.{called-silent, opened-silent, opened-view, added-view}
 use Rattle.fb_model.specs.Segments.{next_blocks, is_chosen, choose_in, with_choices}
-use Rattle.fb_model.specs.Course.{take_call, blocks_by}
+use Rattle.fb_model.specs.Steps.{take_call, blocks_by}
 use Rattle.fb_tasks.specs.Standing.{choosable_by, IsSegmentOf, IsUntouched}
 use Rattle.fb_tasks.specs.Telling.{calls_of, choosable}
 use Rattle.fb_tasks.proofs.Lists.{same_number, other_number, number_other}

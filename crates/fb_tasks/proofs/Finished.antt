@@ -13,7 +13,7 @@ use Rattle.fb_rows.specs.declared.back.BackRow.{BackRow}
 use Rattle.fb_rows.specs.declared.back.BackRow.TheVariants.{Segment as SegmentLine}
 use Rattle.fb_store.specs.declared.content.Content.{Content}
 use Rattle.fb_store.specs.declared.content.ContentRun.{ContentRun}
-use Rattle.fb_store.specs.Pieces.{held_sector, held_in}
+use Rattle.fb_store.specs.Sparse.{held_sector, held_in}
 use Rattle.fb_store.specs.Runs.{runs_of, sectors_of}
 use Rattle.fb_wanted.specs.declared.block.Block.{Block}
 use Rattle.fb_wanted.specs.declared.block.Counts.{Counts}

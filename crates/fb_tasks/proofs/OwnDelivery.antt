@@ -8,7 +8,7 @@ use Rattle.fb_geometry.specs.Shape.{Shape}
 use Rattle.fb_calls.specs.Sessions.{is_backup, is_clean}
 use Rattle.fb_store.specs.declared.content.Content.{Content}
 use Rattle.fb_store.specs.Index.{held_at}
-use Rattle.fb_store.specs.Pieces.{Gives, after_take}
+use Rattle.fb_store.specs.Sparse.{Gives, after_take}
 use Rattle.fb_wanted.specs.declared.block.Block.{Block}
 use Rattle.fb_wanted.specs.declared.block.Entry.{Entry}
 use Rattle.fb_wanted.specs.declared.block.State.{State}

@@ -11,7 +11,7 @@ use Rattle.fb_rows.specs.declared.back.BackRow.{BackRow}
 use Rattle.fb_rows.specs.declared.back.BackRow.TheVariants.{Task as TaskLine}
 use Rattle.fb_model.specs.History.{Past, registered}
 use Rattle.fb_model.specs.Completion.{view, is_complete}
-use Rattle.fb_model.specs.Course.{task_row}
+use Rattle.fb_model.specs.Steps.{task_row}
 use Rattle.fb_tasks.specs.declared.session.Session.{Session}
 use Rattle.fb_tasks.specs.Keeping.{complete_by}
 use Rattle.fb_tasks.specs.Standing.{entry_of, Stands, IsAtWork}

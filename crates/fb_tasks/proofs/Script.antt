@@ -8,7 +8,7 @@ use Rattle.fb_geometry.specs.Shape.{Shape}
 use Rattle.fb_calls.specs.declared.call.Call.{Call}
 use Rattle.fb_calls.specs.Allowed.{IsScript}
 use Rattle.fb_store.specs.declared.content.Content.{Content}
-use Rattle.fb_store.specs.Pieces.{Gives}
+use Rattle.fb_store.specs.Sparse.{Gives}
 use Rattle.fb_wanted.specs.declared.block.Block.{Block}
 use Rattle.fb_wanted.specs.declared.block.Entry.{Entry}
 use Rattle.fb_wanted.specs.declared.block.State.TheVariants.{Wanted}
@@ -20,7 +20,7 @@ use Rattle.fb_model.specs.History.{Past, finished, registered, state, tasks, wan
 use Rattle.fb_model.specs.Completion.{view}
 use Rattle.fb_model.specs.Segments.{with_choices}
 use Rattle.fb_model.specs.Images.{test_rows}
-use Rattle.fb_model.specs.Course.{take_call, with_delivery, task_row, task_rows}
+use Rattle.fb_model.specs.Steps.{take_call, with_delivery, task_row, task_rows}
 use Rattle.fb_tasks.specs.declared.session.Session.{Session}
 use Rattle.fb_tasks.specs.Taken.{by_deliveries, delivery_of}
 use Rattle.fb_tasks.specs.Telling.{Tells, MayTake, MaySettle, MayDeliver, IsSettled, settled_at, IsBlockOf, entry_of}

@@ -13,7 +13,7 @@ use Rattle.fb_calls.specs.Sessions.{is_backup}
 use Rattle.fb_store.specs.declared.content.Content.{Content}
 use Rattle.fb_store.specs.declared.content.ContentRun.{ContentRun}
 use Rattle.fb_store.specs.Index.{held_at}
-use Rattle.fb_store.specs.Pieces.{held_sector, held_in, EndsBy}
+use Rattle.fb_store.specs.Sparse.{held_sector, held_in, EndsBy}
 use Rattle.fb_store.specs.Runs.{runs_of, sectors_of}
 use Rattle.fb_store.specs.Writes.{is_within}
 use Rattle.fb_wanted.specs.declared.block.Block.{Block}

@@ -3,7 +3,7 @@ use Rattle.std.proofs.Common.{◌≡◌, ℕ, zero, suc, ◌+◌, ◌<◌, ◌�
 use Rattle.std.specs.List.{AllByRecursion, range_with_len}
 use Rattle.std.proofs.lemmas.Bool.Decides.{nat_tests}
 use Rattle.fb_store.specs.declared.content.Content.{Content}
-use Rattle.fb_store.specs.Pieces.{held_in, held_sector}
+use Rattle.fb_store.specs.Sparse.{held_in, held_sector}
 use Rattle.fb_store.specs.Writes.{is_within}
 use Rattle.fb_wanted.specs.declared.block.Block.{Block}
 use Rattle.fb_tasks.specs.Standing.{Ascend}

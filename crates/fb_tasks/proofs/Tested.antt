@@ -10,7 +10,7 @@ use Rattle.fb_rows.specs.declared.back.BackRow.{BackRow}
 use Rattle.fb_rows.specs.declared.back.BackRow.TheVariants.{Seal as SealLine, Complete as CompleteLine}
 use Rattle.fb_store.specs.declared.content.Content.{Content}
 use Rattle.fb_store.specs.Index.{held_at}
-use Rattle.fb_store.specs.Pieces.{held_sector}
+use Rattle.fb_store.specs.Sparse.{held_sector}
 use Rattle.fb_clean.specs.Segments as clean
 use Rattle.fb_model.specs.History.{Past, tested, tasks, task_numbers, bare_state, content_of, is_open_backup}
 use Rattle.fb_model.specs.Completion.{Choice, TaskView, view, tested_view, is_unsealed, is_cleaned, is_done, is_complete, is_segment_of}

@@ -23,7 +23,7 @@ use Rattle.fb_model.specs.History.{Past, called, calls_of, opened_by, tasks, reg
 use Rattle.fb_model.specs.Completion.{TaskView, view, own_of, wanted_view}
 use Rattle.fb_model.proofs.Views.{wanted-silent, wanted-view}
 use Rattle.fb_model.specs.Segments.{numbered}
-use Rattle.fb_model.specs.Course.{take_call, blocks_by}
+use Rattle.fb_model.specs.Steps.{take_call, blocks_by}
 use Rattle.fb_tasks.specs.declared.session.Session.{Session}
 use Rattle.fb_tasks.specs.Keeping.{new_entries}
 use Rattle.fb_tasks.specs.Standing.{entry_of, Told, Stands, HoldsBlock, AreIndexed, Ascend, IsBlockOf}

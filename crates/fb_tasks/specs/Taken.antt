@@ -10,7 +10,7 @@ use Rattle.fb_rows.specs.declared.back.BackRow.{BackRow}
 use Rattle.fb_model.specs.History.{delivered, Past}
 use Rattle.fb_model.specs.Completion.{Work, work}
 use Rattle.fb_model.specs.Images.{Sources, findings, test_rows}
-use Rattle.fb_model.specs.Course.{Delivery}
+use Rattle.fb_model.specs.Steps.{Delivery}
 
 -- what the last deliveries of these blocks found, in their order, as the fewest runs
 abbrev pub found_for : Work → List Block → List ContentRun

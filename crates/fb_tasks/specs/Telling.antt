@@ -9,11 +9,11 @@ use Rattle.fb_wanted.specs.declared.block.Entry.{Entry}
 use Rattle.fb_rows.specs.declared.back.DeliveryRow.{DeliveryRow}
 use Rattle.fb_rows.specs.Ranges.{AreRanges}
 use Rattle.fb_store.specs.declared.content.Content.{Content}
-use Rattle.fb_store.specs.Pieces.{Gives}
+use Rattle.fb_store.specs.Sparse.{Gives}
 use Rattle.fb_model.specs.History.{tested, Past, tasks, task_numbers, registered, wanted}
 use Rattle.fb_model.specs.Completion.{is_complete, was_complete, view}
 use Rattle.fb_model.specs.Segments.{with_choices}
-use Rattle.fb_model.specs.Course.{blocks_by}
+use Rattle.fb_model.specs.Steps.{blocks_by}
 use Rattle.fb_model.specs.Images.{Sources, test_rows}
 use Rattle.fb_tasks.specs.declared.session.Session.{Session}
 pub use Rattle.fb_model.specs.History.{calls_of}

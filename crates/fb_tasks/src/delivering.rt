@@ -3,7 +3,7 @@ ghost use Rattle.std.specs.Prelude.{◌≡◌, ◌≢◌, ℕ, [], ◌++◌, ◌
 ghost use Rattle.std.specs.List.{AllByRecursion, range_with_len};
 ghost use Rattle.fb_calls.specs.Sessions.{is_backup, is_clean};
 ghost use Rattle.fb_store.specs.declared.content.Content.{Content};
-ghost use Rattle.fb_store.specs.Pieces.{Gives};
+ghost use Rattle.fb_store.specs.Sparse.{Gives};
 ghost use Rattle.fb_rows.specs.declared.back.BackRow.TheVariants.{Bad as BadLine};
 ghost use Rattle.fb_model.specs.Images.{bad_sectors, is_scrub};
 ghost use Rattle.fb_tasks.specs.Keeping.{HasTaken};

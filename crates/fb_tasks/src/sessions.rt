@@ -9,7 +9,7 @@ ghost use Rattle.fb_wanted.specs.declared.block.Entry.{Entry};
 ghost use Rattle.fb_rows.specs.declared.back.BackRow.TheVariants.{Got as GotLine};
 ghost use Rattle.fb_model.specs.History.{Past, called, tested, finished, task_numbers};
 ghost use Rattle.fb_model.specs.Completion.{is_complete};
-ghost use Rattle.fb_model.specs.Course.{take_call, with_delivery, task_rows};
+ghost use Rattle.fb_model.specs.Steps.{take_call, with_delivery, task_rows};
 ghost use Rattle.fb_model.specs.Images.{test_rows, segment_rows, seal_rows, complete_rows};
 ghost use Rattle.fb_model.specs.Segments.{with_choices};
 ghost use Rattle.fb_tasks.specs.declared.session.Session.{Session};

@@ -3,7 +3,7 @@
 ghost use Rattle.std.specs.Prelude.{◌≡◌, ◌≤◌, ◌+◌, ◌^◌, ℕ, IfOk, cond, ◌==◌};
 ghost use Rattle.std.specs.List.{AllByRecursion};
 ghost use Rattle.fb_store.specs.declared.content.Content.{Content};
-ghost use Rattle.fb_store.specs.Pieces.{Gives};
+ghost use Rattle.fb_store.specs.Sparse.{Gives};
 
 use fb_backup::Image;
 use fb_store::{Content, ContentRun, Contents};

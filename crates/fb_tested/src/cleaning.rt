@@ -3,7 +3,7 @@
 ghost use Rattle.std.specs.Prelude.{◌≡◌, ◌≢◌, ◌≤◌, ◌+◌, ◌^◌, ℕ, None, length, IfOk};
 ghost use Rattle.std.specs.List.{AllByRecursion};
 ghost use Rattle.fb_store.specs.declared.content.Content.TheVariants.{Filled};
-ghost use Rattle.fb_store.specs.Pieces.{Gives};
+ghost use Rattle.fb_store.specs.Sparse.{Gives};
 
 use fb_calls::Live;
 use fb_clean::Segments;

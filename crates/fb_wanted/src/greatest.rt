@@ -119,7 +119,7 @@ impl Greatest {
 
 /// Brings the bound of its cylinder up to date after the weight of a track has changed to `weight`,
 /// by a gain or by a loss of at most `lost`.
-pub fn settle(
+pub fn update_greatest(
     greatest: &mut Greatest,
     tracks: &BTreeMap<Track, OnTrack>,
     track: Track,

@@ -18,7 +18,7 @@ use crate::changes::{is_abortable, state_after, wanted_unless};
 use crate::counting::{counts_of, no_counts};
 use crate::depths::{Depth, NO_DEPTH, deepen, most_in};
 use crate::falls::{next_fall, note_fall};
-use crate::greatest::{Greatest, settle};
+use crate::greatest::{Greatest, update_greatest};
 use crate::tasks::{OfTask, add_place, recount, take_place_back};
 use crate::tracks::{OnTrack, add_to_track, next_track, reweigh, weight_of};
 use crate::{Block, Change, Counts, Entry, State, TrackBlocks};
@@ -155,7 +155,7 @@ impl Wanted {
         let lost = weight_of(entry);
         let gained = weight_of(turned);
         let weight = reweigh(&mut self.tracks, entry.block.track, lost, gained);
-        settle(
+        update_greatest(
             &mut self.greatest,
             &self.tracks,
             entry.block.track,
@@ -365,7 +365,7 @@ impl Wanted {
         self.greatest.add_room(block.track.cylinder)?;
         add_bands(&mut self.depths, band, NO_DEPTH)?;
         let weight = add_to_index(&mut self.tasks, &mut self.tracks, self.alloc, place, entry)?;
-        settle(&mut self.greatest, &self.tracks, block.track, weight, 0);
+        update_greatest(&mut self.greatest, &self.tracks, block.track, weight, 0);
         deepen(&mut self.depths, band, block);
         self.entries.push(entry)?;
         Ok(())

@@ -6,7 +6,7 @@ use Rattle.fb_rows.specs.declared.gap.How.TheVariants.{Idle as ByIdle}
 use Rattle.fb_worked.specs.SmallDisk.{small_disk}
 use Rattle.fb_worked.specs.Rows.{at, gap, untouched, written, block, got, done_line, seal_line, task_line}
 use Rattle.fb_rows.specs.declared.back.BackRow.{BackRow}
-use Rattle.fb_model.specs.Course.{Part}
+use Rattle.fb_model.specs.Steps.{Part}
 use Rattle.fb_model.specs.SoundRun.{none, taken, IsSoundBy, Throughout}
 use Rattle.fb_model.specs.FullRun.{IsAllDelivered, IsBestPlanned, IsFull}
 use Rattle.fb_worked.specs.Backups.{overwritten_backup, backup_without_aborted}

@@ -6,7 +6,7 @@ use Rattle.fb_rows.specs.declared.gap.How.TheVariants.{Gap as ByGap, Idle as ByI
 use Rattle.fb_worked.specs.SmallDisk.{small_disk}
 use Rattle.fb_worked.specs.Rows.{at, gap, untouched, block, got, done_line, task_line}
 use Rattle.fb_rows.specs.declared.back.BackRow.{BackRow}
-use Rattle.fb_model.specs.Course.{Part}
+use Rattle.fb_model.specs.Steps.{Part}
 use Rattle.fb_model.specs.SoundRun.{none, taken, IsSoundBy, Throughout}
 use Rattle.fb_model.specs.FullRun.{IsAllDelivered, IsBestPlanned, IsFull}
 use Rattle.fb_worked.specs.Idle.{idle_to_the_end, idle_too_short, grown_defect_cuts, promoted_read_carries, caught_not_carried}

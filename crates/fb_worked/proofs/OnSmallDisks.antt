@@ -20,7 +20,7 @@ use Rattle.fb_model.specs.Completion.{is_complete}
 use Rattle.fb_model.specs.Segments.{with_choices}
 use Rattle.fb_model.specs.Images.{test_rows}
 use Rattle.fb_model.specs.Rides.{due}
-use Rattle.fb_model.specs.Course.{Delivery, Part, settled_past, past_after, task_rows}
+use Rattle.fb_model.specs.Steps.{Delivery, Part, settled_past, past_after, task_rows}
 use Rattle.fb_worked.specs.SmallDisk.{small_disk, quick_disk, uneven_disk, one_sector_disk, skewed_disk, turned_disk, slipped_disk, remapped_disk}
 
 unfoldable pub on_small_disks : ⊤

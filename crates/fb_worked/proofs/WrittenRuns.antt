@@ -6,7 +6,7 @@ use Rattle.fb_rows.specs.declared.gap.How.TheVariants.{Idle as ByIdle}
 use Rattle.fb_worked.specs.SmallDisk.{small_disk, one_sector_disk}
 use Rattle.fb_worked.specs.Rows.{at, gap, untouched, written, unreadable, block, got, done_line, bad_line, task_line}
 use Rattle.fb_rows.specs.declared.back.BackRow.{BackRow}
-use Rattle.fb_model.specs.Course.{Part}
+use Rattle.fb_model.specs.Steps.{Part}
 use Rattle.fb_model.specs.SoundRun.{none, taken, IsSoundBy, Throughout}
 use Rattle.fb_model.specs.FullRun.{IsAllDelivered, IsBestPlanned, IsFull}
 use Rattle.fb_worked.specs.Written.{overwritten_between, latent_until_written, read_as_the_write_ends, scrub_finds_latent}

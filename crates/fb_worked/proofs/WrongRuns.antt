@@ -13,7 +13,7 @@ use Rattle.fb_rows.specs.declared.back.DeliveryRow.{DeliveryRow}
 use Rattle.fb_rows.specs.declared.back.BackRow.{BackRow}
 use Rattle.fb_rows.specs.declared.back.BackRow.TheVariants.{Got as GotLine}
 use Rattle.fb_model.specs.Plans.{IsPlan}
-use Rattle.fb_model.specs.Course.{Delivery, Part}
+use Rattle.fb_model.specs.Steps.{Delivery, Part}
 use Rattle.fb_model.specs.SoundRun.{IsSublist, none, left_out, taken, IsSoundBy, IsSound, Throughout}
 use Rattle.fb_model.specs.FullRun.{IsFull, IsAllDelivered}
 use Rattle.fb_worked.specs.Rows.{at, untouched, block, got, done_line, task_line}

@@ -1,5 +1,5 @@
 // Tasks that read blocks.
-use super::course::{Step, follow};
+use super::played::{Step, follow};
 use fb_rows::How;
 use fb_wanted::State;
 use std::test::Fail;

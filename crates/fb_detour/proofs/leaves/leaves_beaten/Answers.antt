@@ -1,6 +1,6 @@
 use Rattle.std.proofs.Common.{arith, ap, ◌≡◌, ◌+◌, ◌*◌, get_or}
 use Rattle.std.proofs.lemmas.Nat.{mul-le}
-use Rattle.fb_detour.proofs.Ways.{stretch_beaten, late-part}
+use Rattle.fb_detour.proofs.Ways.{interval_beaten, late-part}
 use Rattle.fb_detour.proofs.leaves.leaves_beaten.Goals as goal
 
 pub loop-k-preserved : goal.loop-k-preserved
@@ -8,7 +8,7 @@ loop-k-preserved c = λ leave less is.
     let its = c.requires.ceilings in
     let ceilings = c.args.ceilings.now in
     let from = ceilings.begin + c.loop-k.k * ceilings.step in
-    stretch_beaten c.args.disk.now c.args.gap.now c.args.wanted.now c.args.best c.args.track ceilings.begin ceilings.move_on from (ceilings.begin + (c.loop-k.k + 1) * ceilings.step)
+    interval_beaten c.args.disk.now c.args.gap.now c.args.wanted.now c.args.best c.args.track ceilings.begin ceilings.move_on from (ceilings.begin + (c.loop-k.k + 1) * ceilings.step)
     (get_or ceilings.early c.loop-k.k 0) c.late_at-after.result
     c.requires.best (c.is_enough.ensures c.if-not-is_enough.false) its.begin its.on
     (its.each c.loop-k.k (omega (arith, c.loop-k-test.true)))

@@ -1,7 +1,7 @@
 use Rattle.std.proofs.Common.{arith, ap, subst, ◌+◌, ◌-◌, ◌≤◌}
 use Rattle.fb_wanted.specs.States.{wanted_of}
 use Rattle.fb_detour.specs.Bounds.{stay, early_to, IsEnough}
-use Rattle.fb_detour.proofs.Ways.{not_better, by_stretch, late-part}
+use Rattle.fb_detour.proofs.Ways.{not_better, by_interval, late-part}
 use Rattle.fb_detour.proofs.Ranges.{not_itself}
 use Rattle.fb_detour.proofs.search.try_stop.Goals as goal
 
@@ -21,7 +21,7 @@ returns-then-misses_enough-clause-tried c = λ leave is.
     c.requires.best enough (not_itself c.args.track)
     (omega (
       arith,
-      by_stretch disk gap c.args.wanted.now c.args.track leave is arrive latest arrive c.pos-on.result
+      by_interval disk gap c.args.wanted.now c.args.track leave is arrive latest arrive c.pos-on.result
           (ap (λ x. gap.now + x) c.pos.ensures.value) c.pos-on.ensures.value (omega (arith, is.after_arrival, c.pos.ensures.value)) (omega (arith, is.in_time, c.pos-on.ensures.value)),
       gives,
       late-part disk gap c.args.wanted.now c.args.late.now (arrive + c.pos-on.result) c.requires.late (omega arith),

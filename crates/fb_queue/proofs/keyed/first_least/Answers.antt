@@ -1,6 +1,6 @@
 use Rattle.std.proofs.Common.{◌≡◌, arith, ap, sym, ◌∙◌, inl, inr, refl, Some, subst, length}
 use Rattle.std.proofs.lemmas.Option.{get_or_from_slice_get}
-use Rattle.fb_queue.specs.Least.{IsFirstLeast}
+use Rattle.fb_queue.specs.Least.{IsFirstLeastAt}
 use Rattle.fb_queue.proofs.FirstLeast.{goes_on, first_is_best}
 use Rattle.fb_queue.proofs.keyed.first_least.Goals as goal
 use Rattle.fb_queue.proofs.keyed.first_least.Goals.{then-next-least, else-next-least}
@@ -25,4 +25,4 @@ loop-i-preserved g c =
     ])
 
 pub returns : goal.returns
-returns g c = subst (λ n. IsFirstLeast (g.P.Policy.key c.args.disk.now c.args.head c.args.now) c.args.waiting.now n c.loop-i.best) (omega arith) c.loop-i.invariant.best
+returns g c = subst (λ n. IsFirstLeastAt (g.P.Policy.key c.args.disk.now c.args.head c.args.now) c.args.waiting.now n c.loop-i.best) (omega arith) c.loop-i.invariant.best

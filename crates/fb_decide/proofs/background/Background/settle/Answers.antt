@@ -1,6 +1,6 @@
 use Rattle.std.proofs.Common.{◌++◌, ap, ◌∙◌}
 use Rattle.std.specs.List.{fold}
-use Rattle.fb_model.specs.Course.{take_call, calls_due}
+use Rattle.fb_model.specs.Steps.{take_call, calls_due}
 use Rattle.fb_model.specs.Segments.{with_choices}
 use Rattle.fb_decide.specs.Calls.{settling_rows}
 use Rattle.fb_tasks.proofs.Calls.{called-chosen, called-tested}

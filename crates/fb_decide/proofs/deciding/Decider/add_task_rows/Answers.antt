@@ -1,4 +1,4 @@
-use Rattle.fb_model.specs.Course.{history}
+use Rattle.fb_model.specs.Steps.{history}
 use Rattle.fb_decide.proofs.Delivering.{on_ok_map}
 use Rattle.fb_decide.proofs.Looping.{ended_fits, made_without}
 use Rattle.fb_decide.proofs.deciding.Decider.add_task_rows.Goals as goal

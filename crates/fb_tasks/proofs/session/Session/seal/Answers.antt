@@ -4,7 +4,7 @@ use Rattle.std.proofs.lemmas.Result.{IfOk-weaker}
 use Rattle.fb_store.specs.Index.{held_at}
 use Rattle.std.specs.List.{range_with_len}
 use Rattle.fb_geometry.specs.Shape.{Shape}
-use Rattle.fb_store.specs.Pieces.{held_in, EndsBy}
+use Rattle.fb_store.specs.Sparse.{held_in, EndsBy}
 use Rattle.fb_store.specs.Runs.{runs_of}
 use Rattle.fb_wanted.specs.States.{is_delivered}
 use Rattle.fb_model.specs.History.{Past, is_open_backup}

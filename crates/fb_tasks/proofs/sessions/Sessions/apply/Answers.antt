@@ -1,7 +1,7 @@
 use Rattle.std.proofs.Common.{ap, subst, refl}
 use Rattle.std.proofs.lemmas.Result.{on_ok_weaker}
 use Rattle.fb_calls.specs.Allowed.{MayAsk}
-use Rattle.fb_model.specs.Course.{blocks_by}
+use Rattle.fb_model.specs.Steps.{blocks_by}
 use Rattle.fb_tasks.specs.Telling.{calls_of}
 use Rattle.fb_tasks.proofs.Aborts.{promoted-tells, asked-aborts}
 use Rattle.fb_tasks.proofs.Asked.{room_for_one, session_there, takes_none}

@@ -1,7 +1,7 @@
 use Rattle.std.proofs.Common.{◌≡◌, ◌<◌, ◌++◌, Some, length, map, slice_get, ap, sym, ◌∙◌, arith, rules}
 use Rattle.std.specs.List.{range_with_len}
 use Rattle.std.proofs.lemmas.Option.{slice_get-get_or}
-use Rattle.fb_model.specs.Course.{task_row, task_rows}
+use Rattle.fb_model.specs.Steps.{task_row, task_rows}
 use Rattle.fb_tasks.proofs.Complete.{counts_small}
 use Rattle.fb_tasks.proofs.Rows.{map_more, row_same}
 use Rattle.fb_tasks.proofs.sessions.Sessions.task_rows.Goals as goal

@@ -2,7 +2,7 @@ use Rattle.std.proofs.Common.{◌≡◌, ◌++◌, map}
 use Rattle.std.specs.List.{range_with_len}
 use Rattle.fb_geometry.specs.Shape.{Shape}
 use Rattle.fb_model.specs.History.{Past}
-use Rattle.fb_model.specs.Course.{task_row}
+use Rattle.fb_model.specs.Steps.{task_row}
 use Rattle.fb_tasks.specs.Telling.{Tells}
 use Rattle.fb_tasks.proofs.sessions.Sessions.task_rows.Given as goal
 

@@ -22,8 +22,8 @@ add_to_index-requires-clause-room c = track_room c.self.inside.entries.items c.s
 pub add_to_index-requires-clause-few : goal.add_to_index-requires-clause-few
 add_to_index-requires-clause-few c = counts_room c.self.inside.entries.items c.self.inside.tasks.items c.self.inside.tracks c.self.invariant.0 c.args.block.task (record { block = c.args.block; state = c.wanted_unless-state.result }) _ refl
 
-pub settle-requires : goal.settle-requires
-settle-requires c =
+pub update_greatest-requires : goal.update_greatest-requires
+update_greatest-requires c =
     let items = c.self.inside.entries.items in
     let task = c.args.block.task in
     let entry : Entry = record { block = c.args.block; state = c.wanted_unless-state.result } in
@@ -65,7 +65,7 @@ invariant_of-self-2 c =
           c.in_ok-note_fall.ensures.noted (c.is_fall-is_fall.ensures i a before (ap (λ es. slice_get (lbns task es) i) (sym c.self.view_is) ∙ at) less))),
       greatest_settled c.self.inside.tracks c.add_to_index.new.tracks c.args.block.track (λ on. Some (grown c.len-place.result (wanted_weight c.args.block.track (entry ∷ [])) on)) c.add_room.new.self
           (greatest_still c.self.inside.tracks c.self.inside.greatest c.add_room.new.self c.self.invariant.2 c.in_ok-add_room.ensures.stay c.in_ok-add_room.ensures.longer) c.in_ok-weight.ensures.tracks
-          c.settle.new.greatest c.in_ok-add_room.ensures.there c.settle.ensures.length c.settle.ensures.weights,
+          c.update_greatest.new.greatest c.in_ok-add_room.ensures.there c.update_greatest.ensures.length c.update_greatest.ensures.weights,
       deep_pushed items c.push.new.self.items entry c.band_of-band.result c.add_bands.new.bands.items c.deepen.new.depths.items list c.band_of-band.ensures c.requires.light
           (deep_still items c.self.inside.depths.items c.add_bands.new.bands.items c.self.invariant.3 c.in_ok-add_bands.ensures.stay) c.deepen.ensures,
     )

@@ -42,8 +42,8 @@ reweigh-weight-requires c =
     let here = slice_get_read items (length items) c.args.place c.index-entry.result.now refl there c.index-entry.ensures in
     weight_room c.self.inside.entries.items c.self.inside.tasks.items c.self.inside.tracks c.self.invariant.0 c.args.place c.index-entry.result.now c.weight_of-lost.result c.weight_of-gained.result here c.weight_of-lost.ensures.value c.weight_of-gained.ensures.small
 
-pub settle-requires : goal.settle-requires
-settle-requires c =
+pub update_greatest-requires : goal.update_greatest-requires
+update_greatest-requires c =
     let items = c.self.inside.entries.items in
     let there = subst (λ es. c.args.place < length es) (sym c.self.view_is) c.requires in
     let here = slice_get_read items (length items) c.args.place c.index-entry.result.now refl there c.index-entry.ensures in
@@ -66,8 +66,8 @@ invariant_of-self c =
           c.self.invariant.0 c.counts_of.ensures c.counts_of-2.ensures c.weight_of-lost.ensures.value c.weight_of-gained.ensures.value c.recount.ensures c.reweigh-weight.ensures.tracks,
       subst (λ l. AreNoted l c.self.inside.falls) (sym same) (noted-with_state c.args.state c.args.place items c.self.inside.falls c.self.invariant.1),
       greatest_settled c.self.inside.tracks c.reweigh-weight.new.tracks c.index-entry.result.now.block.track (option_map (reweighed c.weight_of-lost.result c.weight_of-gained.result)) c.self.inside.greatest c.self.invariant.2 c.reweigh-weight.ensures.tracks
-          c.settle.new.greatest (c.self.invariant.2.there c.index-entry.result.now.block.track (its_track_there items c.self.inside.tasks.items c.self.inside.tracks c.self.invariant.0 c.args.place c.index-entry.result.now here))
-          c.settle.ensures.length c.settle.ensures.weights,
+          c.update_greatest.new.greatest (c.self.invariant.2.there c.index-entry.result.now.block.track (its_track_there items c.self.inside.tasks.items c.self.inside.tracks c.self.invariant.0 c.args.place c.index-entry.result.now here))
+          c.update_greatest.ensures.length c.update_greatest.ensures.weights,
       deep_set c.args.state c.args.place c.index-entry.result.now items c.self.inside.depths.items here c.self.invariant.3,
     )
 

@@ -1,0 +1,10 @@
+use Rattle.std.proofs.Common.{◌-◌, length, false}
+use Rattle.fb_tasks.specs.Script.{Follows}
+use Rattle.fb_tasks.proofs.tests.played.PlayedScript.call.Given as goal
+
+-- the calls so far have taken effect
+abbrev pub invariant-loop-self : goal.invariant-loop-self
+invariant-loop-self l = Follows false l.self.map l.self.calls.calls.items l.self.called l.self.sessions l.self.wanted
+
+abbrev pub decreases-loop-self : goal.decreases-loop-self
+decreases-loop-self l = length l.self.calls.calls.items - l.self.called

@@ -1,0 +1,20 @@
+use Rattle.std.proofs.Common.{Some, ap, ◌∙◌}
+use Rattle.fb_wanted.specs.declared.block.Counts.{Counts}
+use Rattle.fb_model.specs.Completion.{view}
+use Rattle.fb_tasks.specs.Standing.{entry_in}
+use Rattle.fb_tasks.proofs.Sealed.{entry_at, block_at}
+use Rattle.fb_tasks.proofs.tests.played.PlayedScript.entry.Goals as goal
+
+pub entry-requires : goal.entry-requires
+entry-requires c =
+    let h = c.requires.tells.blocks in
+    let block = block_at h c.args.task c.args.index c.counts.result.registered (ap (λ (x : Counts). x.registered) c.counts.ensures) c.if-index-counts.true in
+    let entry = entry_at h c.args.task c.args.index block.0 block.1 in
+    (entry_in (view c.requires.past c.args.task) block.0, entry.place, entry.at, entry.is_block)
+
+pub returns-then-index-counts : goal.returns-then-index-counts
+returns-then-index-counts c =
+    let h = c.requires.tells.blocks in
+    let block = block_at h c.args.task c.args.index c.counts.result.registered (ap (λ (x : Counts). x.registered) c.counts.ensures) c.if-index-counts.true in
+    let entry = entry_at h c.args.task c.args.index block.0 block.1 in
+    (entry.place, entry.at ∙ ap Some (c.entry.ensures (entry_in (view c.requires.past c.args.task) block.0) entry.place entry.at entry.is_block))

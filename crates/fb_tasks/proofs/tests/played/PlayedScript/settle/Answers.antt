@@ -1,0 +1,10 @@
+use Rattle.std.proofs.lemmas.Result.{on_ok_weaker}
+use Rattle.fb_tasks.proofs.Script.{follows-may-settle, follows-settled, on_ok_both}
+use Rattle.fb_tasks.proofs.tests.played.PlayedScript.settle.Goals as goal
+
+pub returns : goal.returns
+returns c =
+    let h = c.in_ok-call.ensures in
+    let may = follows-may-settle h in
+    on_ok_weaker c.settle.result (λ all. follows-settled h c.args.now c.settle.new.self c.settle.new.wanted (all.0 h.past may) (all.1 h.past may))
+    (on_ok_both _ _ c.settle.result c.settle.ensures.tells c.settle.ensures.settled)

@@ -1,0 +1,10 @@
+use Rattle.std.proofs.Common.{true, refl}
+use Rattle.fb_units.specs.declared.types.Request.{Request}
+use Rattle.fb_units.specs.declared.types.Name.TheVariants.{Traced}
+use Rattle.fb_tasks.proofs.Script.{follows-finished}
+use Rattle.fb_tasks.proofs.tests.played.PlayedScript.write.Goals as goal
+
+pub returns : goal.returns
+returns c =
+    let request : Request = record { name = Traced 1; arrival = 0; lbn = c.args.first; count = c.args.count; write = true } in
+    follows-finished c.requires request c.after_write.new.self c.after_write.new.wanted (c.after_write.ensures c.args.self.now.map c.requires.past request refl refl refl c.requires.tells)

@@ -1,0 +1,6 @@
+use Rattle.fb_tasks.specs.Script.{Follows}
+use Rattle.fb_tasks.proofs.tests.played.follow.Given as goal
+
+-- a history of the steps so far
+abbrev pub invariant-loop-step : goal.invariant-loop-step
+invariant-loop-step g l = Follows l.played.settled l.played.map l.played.calls.calls.items l.played.called l.played.sessions l.played.wanted

@@ -1,0 +1,237 @@
+// The course of a script on a disk of 96 sectors: what happens in order, and the rows that it gives.
+ghost use Rattle.std.specs.Prelude.{◌≡◌, ℕ, Some, true, false, slice_get, IfSome, IfOk, OnOk};
+ghost use Rattle.fb_tasks.specs.Script.{Follows};
+
+use super::lines::lines;
+use crate::Sessions;
+use fb_calls::{Calls, read_calls};
+use fb_geometry::{Geometry, Layout, Zone};
+use fb_rows::{BackRow, BackRows, DeliveryRow, How};
+use fb_sectormap::SectorMap;
+use fb_store::{Store, runs_are_fewest};
+use fb_units::{NoMemory, Ns};
+use fb_wanted::{Block, Entry, State, Wanted};
+use std::alloc::Global;
+use std::process::Abort;
+use std::test::Fail;
+
+const ZONE: Zone = Zone {
+    first: 0,
+    last: 3,
+    sectors: 12,
+    track_skew: 0,
+    cylinder_skew: 0,
+    spares: 0,
+    cylinder_spares: 0,
+};
+
+// 96 sectors on tracks of twelve.
+fn disk(alloc: Global) -> Result<SectorMap, Fail> {
+    let mut zones = Vec::new(alloc);
+    zones.push(ZONE)?;
+    let geometry = Geometry::new(
+        alloc,
+        Layout::PerTrack,
+        1200,
+        2,
+        zones,
+        Vec::new(alloc),
+        Vec::new(alloc),
+    )?;
+    Ok(SectorMap::new(alloc, geometry)?)
+}
+
+/// What happens.
+#[derive(Clone, Copy)]
+pub enum Step {
+    /// The calls up to an instant take effect, and all is settled.
+    Settle(Ns),
+    /// The block of this task and number is delivered between these instants.
+    Deliver(u32, u32, How, Ns, Ns),
+    /// A write has passed: its first sector, how many sectors, and the number that it leaves.
+    Write(u64, u32, u64),
+    /// The block of this task and number is in this state.
+    Check(u32, u32, State),
+}
+
+/// Follows a script step by step on a disk with these sectors unreadable, and compares the lines of its rows.
+pub fn follow(
+    rt: &impl Abort,
+    alloc: Global,
+    script: &[u8],
+    latent: &[u64],
+    steps: &[Step],
+    due: &str,
+) -> Result<(), Fail> {
+    let mut played = PlayedScript::new(alloc, script, latent)?;
+    for step in steps {
+        played.step(rt, alloc, *step)?;
+    }
+    played.end(rt, alloc)?;
+    let text = lines(alloc, &played.calls, &played.rows)?;
+    assert_eq!(rt; text.as_str(), due);
+    Ok(())
+}
+
+// How far a script has been played.
+#[derive(Drop)]
+struct PlayedScript {
+    map: SectorMap,
+    calls: Calls,
+    store: Store,
+    sessions: Sessions,
+    wanted: Wanted,
+    rows: BackRows,
+    // How many calls have taken effect.
+    called: usize,
+    // Whether all was settled since the last write.
+    settled: bool,
+}
+
+impl PlayedScript {
+    // Nothing has happened yet.
+    fn new(alloc: Global, script: &[u8], latent: &[u64]) -> Result<PlayedScript, Fail>
+        ensures { IfOk result (λ played. Follows played.settled played.map played.calls.calls.items played.called played.sessions played.wanted) }
+    {
+        let map = disk(alloc)?;
+        let calls = read_calls(alloc, script, &map, 0)?;
+        Ok(PlayedScript {
+            map,
+            calls,
+            store: Store::new(alloc, latent)?,
+            sessions: Sessions::new(alloc),
+            wanted: Wanted::new(alloc),
+            rows: BackRows::new(alloc),
+            called: 0,
+            settled: false,
+        })
+    }
+
+    // What happens next.
+    fn step(&mut self, rt: &impl Abort, alloc: Global, step: Step) -> Result<(), Fail>
+        requires { Follows self.old.settled self.old.map self.old.calls.calls.items self.old.called self.old.sessions self.old.wanted }
+        ensures { OnOk result (Follows self.new.settled self.new.map self.new.calls.calls.items self.new.called self.new.sessions self.new.wanted) }
+    {
+        match step {
+            Step::Settle(now) => Ok(self.settle(now)?),
+            Step::Deliver(task, index, how, begin, end) => {
+                let block = self.wanted_block(task, index)?;
+                Ok(self.deliver(alloc, block, how, begin, end)?)
+            }
+            Step::Write(first, count, writer) => Ok(self.write(first, count, writer)?),
+            Step::Check(task, index, state) => {
+                let entry = self.entry(task, index).ok_or("no block")?;
+                assert_eq!(rt; entry.state, state, "{task} {index}");
+                Ok(())
+            }
+        }
+    }
+
+    // The calls up to an instant take effect.
+    fn call(&mut self, now: Ns) -> Result<(), NoMemory>
+        requires { Follows false self.old.map self.old.calls.calls.items self.old.called self.old.sessions self.old.wanted }
+        ensures { OnOk result (Follows false self.new.map self.new.calls.calls.items self.new.called self.new.sessions self.new.wanted) }
+    {
+        while self.called < self.calls.calls.len() && self.calls.calls[self.called].instant <= now {
+            let call = &self.calls.calls[self.called];
+            self.sessions.apply(&self.map, &mut self.wanted, call)?;
+            self.called += 1;
+        }
+        Ok(())
+    }
+
+    // The calls up to an instant take effect, and all is settled.
+    fn settle(&mut self, now: Ns) -> Result<(), NoMemory>
+        requires { Follows self.old.settled self.old.map self.old.calls.calls.items self.old.called self.old.sessions self.old.wanted }
+        ensures { OnOk result (Follows self.new.settled self.new.map self.new.calls.calls.items self.new.called self.new.sessions self.new.wanted) }
+    {
+        self.call(now)?;
+        self.settled = true;
+        self.sessions
+            .settle(&self.map, &mut self.wanted, now, &mut self.rows)
+    }
+
+    // The task's block of that number.
+    fn entry(&self, task: u32, index: u32) -> Option<Entry>
+        requires { Follows self.now.settled self.now.map self.now.calls.calls.items self.now.called self.now.sessions self.now.wanted }
+        ensures { IfSome result (λ entry. (place : ℕ) × (slice_get self.now.wanted place ≡ Some entry)) }
+    {
+        if index < self.wanted.counts(task).registered {
+            Some(self.wanted.entry(task, index))
+        } else {
+            None
+        }
+    }
+
+    // The task's block of that number, if it may be delivered.
+    fn wanted_block(&self, task: u32, index: u32) -> Result<Block, Fail>
+        requires { Follows self.now.settled self.now.map self.now.calls.calls.items self.now.called self.now.sessions self.now.wanted }
+        ensures { IfOk result (λ block. (self.now.settled ≡ true) × (place : ℕ) × (slice_get self.now.wanted place ≡ Some (record { block = block; state = State.Wanted }))) }
+    {
+        match self.entry(task, index) {
+            Some(entry) => match entry.state {
+                State::Wanted if self.settled => Ok(entry.block),
+                _ => Err(Fail::from("not wanted")),
+            },
+            None => Err(Fail::from("no block")),
+        }
+    }
+
+    // A wanted block is delivered, with what the disk holds.
+    fn deliver(
+        &mut self,
+        alloc: Global,
+        block: Block,
+        how: How,
+        begin: Ns,
+        end: Ns,
+    ) -> Result<(), NoMemory>
+        requires follows { Follows true self.old.map self.old.calls.calls.items self.old.called self.old.sessions self.old.wanted }
+        requires wanted { (place : ℕ) × (slice_get self.old.wanted place ≡ Some (record { block = block; state = State.Wanted })) }
+        ensures { OnOk result (Follows self.new.settled self.new.map self.new.calls.calls.items self.new.called self.new.sessions self.new.wanted) }
+    {
+        let content = self.store.runs(alloc, block.lbn, block.count)?;
+        runs_are_fewest();
+        let got = DeliveryRow {
+            block,
+            begin,
+            end,
+            how,
+            bad: content.bad() as u32,
+            content,
+        };
+        self.sessions
+            .delivered(&mut self.wanted, got, &mut self.rows)
+    }
+
+    // A write passes.
+    fn write(&mut self, first: u64, count: u32, writer: u64) -> Result<(), Fail>
+        requires { Follows self.old.settled self.old.map self.old.calls.calls.items self.old.called self.old.sessions self.old.wanted }
+        ensures { OnOk result (Follows self.new.settled self.new.map self.new.calls.calls.items self.new.called self.new.sessions self.new.wanted) }
+    {
+        if first >= 96 || count > 96 {
+            return Err(Fail::from("beyond the disk"));
+        }
+        self.settled = false;
+        self.store.write_range(first, count, writer)?;
+        self.sessions.after_write(&mut self.wanted, first, count);
+        Ok(())
+    }
+
+    // The rows of the tasks follow, and each says whether its task is complete.
+    fn end(&mut self, rt: &impl Abort, alloc: Global) -> Result<(), Fail>
+        requires { Follows self.old.settled self.old.map self.old.calls.calls.items self.old.called self.old.sessions self.old.wanted }
+    {
+        self.sessions.task_rows(&self.wanted, &mut self.rows)?;
+        let mut rows = BackRows::new(alloc);
+        self.sessions.task_rows(&self.wanted, &mut rows)?;
+        for i in 0..rows.len() {
+            let task = u32::try_from(i)?;
+            let complete = self.sessions.complete(&self.wanted, task);
+            if let BackRow::Task(row) = rows.get(i) {
+                assert_eq!(rt; complete, row.complete);
+            }
+        }
+        Ok(())
+    }
+}
