@@ -51,7 +51,7 @@ pub fn leaves_beaten(
 }
 
 // Whether it is shown that no detour over a track of these cylinders is better than the best so
-// far. Up to the end of a stretch of time a track gives at most its weight, and at most the sectors
+// far. Up to the end of an interval of time a track gives at most its weight, and at most the sectors
 // that can pass times the most weight that is wanted of one sector.
 pub fn intervals_beaten(
     disk: &Disk,

@@ -3,4 +3,5 @@ pub mod Taken
 pub mod Listing
 pub mod Standing
 pub mod Telling
+pub mod Leaving
 pub mod Script

@@ -2,8 +2,9 @@
 //!
 //! The contracts tie the sessions and the wanted set to the history of a run: each method moves
 //! them by exactly the events that it stands for, and adds exactly the rows that these events give.
-//! Seals and segments take their contents from the deliveries. Out of memory, nothing is promised
-//! of the sessions.
+//! Seals and segments take their contents from the deliveries. Out of memory, a call of a script
+//! leaves all sessions and blocks as they were, except for what a want has registered; of the other
+//! methods nothing is promised then.
 #![tactic(auto)]
 
 mod choosing;

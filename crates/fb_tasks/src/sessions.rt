@@ -15,6 +15,7 @@ ghost use Rattle.fb_model.specs.Segments.{with_choices};
 ghost use Rattle.fb_tasks.specs.declared.session.Session.{Session};
 ghost use Rattle.fb_tasks.specs.Taken.{by_deliveries, rows_after, delivery_of};
 ghost use Rattle.fb_tasks.specs.Standing.{HaveChosen};
+ghost use Rattle.fb_tasks.specs.Leaving.{OnlyWants};
 ghost use Rattle.fb_tasks.specs.Telling.{Tells, MayTake, MaySettle, MayDeliver, IsSettled, IsCall, settled_at};
 
 use crate::delivering::push_findings;
@@ -68,7 +69,7 @@ impl Sessions {
         }
     }
 
-    /// A call takes effect.
+    /// A call takes effect. Out of memory all sessions and all blocks are as before, but for what a want has registered.
     pub fn apply(
         &mut self,
         map: &SectorMap,
@@ -77,6 +78,8 @@ impl Sessions {
     ) -> Result<(), NoMemory>
         requires { (past : Past) × MayTake map.now past self.old wanted.old call.now }
         ensures ok { OnOk result ((past : Past) → MayTake map.now past self.old wanted.old call.now → Tells map.now (take_call map.now past call.now) self.new wanted.new) }
+        ensures err_sessions { OnErr result (self.new ≡ self.old) }
+        ensures err_blocks { OnErr result (OnlyWants call.now.task call.now.action wanted.old wanted.new) }
     {
         match &call.action {
             Action::Open {
@@ -86,8 +89,9 @@ impl Sessions {
             } => self.open(*kind, *weight, *block),
             Action::Want { first, count } => self.want(map, wanted, call.task, *first, *count),
             Action::Abort { first, count } => {
+                self.touch(call.task)?;
                 wanted.abort(call.task, *first, *count);
-                self.touch(call.task)
+                Ok(())
             }
             Action::Promote { .. } => Ok(()),
             Action::Suspend => {
@@ -203,7 +207,8 @@ impl Sessions {
     // Opens a session.
     fn open(&mut self, kind: Kind, weight: u32, block: u32) -> Result<(), NoMemory>
         requires { length self.old < 2 ^ 32 - 1 }
-        ensures { OnOk result ((disk : Shape) (past : Past) (call : Asked) (held : List Entry) → call.action ≡ Open kind weight block → MayTake disk past self.old held call → Tells disk (called call [] ∷ past) self.new held) }
+        ensures ok { OnOk result ((disk : Shape) (past : Past) (call : Asked) (held : List Entry) → call.action ≡ Open kind weight block → MayTake disk past self.old held call → Tells disk (called call [] ∷ past) self.new held) }
+        ensures err { OnErr result (self.new ≡ self.old) }
     {
         let task = self.sessions.len() as u32;
         let session = Session::new(self.alloc, kind, weight, block);
@@ -223,7 +228,9 @@ impl Sessions {
         count: u64,
     ) -> Result<(), NoMemory>
         requires { (past : Past) × (call : Asked) × IsCall task (Want first count) call × MayTake map.now past self.old wanted.old call }
-        ensures { OnOk result ((past : Past) (call : Asked) → IsCall task (Want first count) call → MayTake map.now past self.old wanted.old call → Tells map.now (take_call map.now past call) self.new wanted.new) }
+        ensures ok { OnOk result ((past : Past) (call : Asked) → IsCall task (Want first count) call → MayTake map.now past self.old wanted.old call → Tells map.now (take_call map.now past call) self.new wanted.new) }
+        ensures err { OnErr result (self.new ≡ self.old) }
+        ensures blocks { OnlyWants task (Want first count) wanted.old wanted.new }
     {
         let _sectors = map.count();
         want_range(
@@ -256,7 +263,8 @@ impl Sessions {
     // Aborts what is left of the task, and drops the segments that it has not chosen.
     fn close(&mut self, map: &SectorMap, wanted: &mut Wanted, task: u32) -> Result<(), NoMemory>
         requires { task < length self.old }
-        ensures { OnOk result ((past : Past) (call : Asked) → IsCall task Close call → Tells map.now past self.old wanted.old → Tells map.now (called call [] ∷ past) self.new wanted.new) }
+        ensures ok { OnOk result ((past : Past) (call : Asked) → IsCall task Close call → Tells map.now past self.old wanted.old → Tells map.now (called call [] ∷ past) self.new wanted.new) }
+        ensures err { OnErr result ((self.new ≡ self.old) × (wanted.new ≡ wanted.old)) }
     {
         note_touch(&mut self.touched, &mut self.asked, task)?;
         let closing = &mut self.sessions[task as usize];
@@ -277,19 +285,22 @@ impl Sessions {
         live: &Live,
     ) -> Result<(), NoMemory>
         requires { (past : Past) × (call : Asked) × (held : List Entry) × IsCall task (Segment first blocks age live.now) call × MayTake map.now past self.old held call }
-        ensures { OnOk result ((past : Past) (call : Asked) (held : List Entry) → IsCall task (Segment first blocks age live.now) call → MayTake map.now past self.old held call → Tells map.now (called call [] ∷ past) self.new held) }
+        ensures ok { OnOk result ((past : Past) (call : Asked) (held : List Entry) → IsCall task (Segment first blocks age live.now) call → MayTake map.now past self.old held call → Tells map.now (called call [] ∷ past) self.new held) }
+        ensures err { OnErr result (self.new ≡ self.old) }
     {
         let _sectors = map.count();
         note_touch(&mut self.touched, &mut self.asked, task)?;
         let cleaner = &mut self.sessions[task as usize];
+        cleaner.log.add(first, blocks, age, live)?;
         cleaner.touched = true;
-        cleaner.log.add(first, blocks, age, live)
+        Ok(())
     }
 
     // Something was done to a task that may change what it chooses or what its test gives.
     fn touch(&mut self, task: u32) -> Result<(), NoMemory>
         requires { task < length self.old }
-        ensures { OnOk result ((session : Session) → slice_get self.old task ≡ Some session → self.new ≡ set self.old task (record session { touched = true })) }
+        ensures ok { OnOk result ((session : Session) → slice_get self.old task ≡ Some session → self.new ≡ set self.old task (record session { touched = true })) }
+        ensures err { OnErr result (self.new ≡ self.old) }
     {
         note_touch(&mut self.touched, &mut self.asked, task)?;
         self.sessions[task as usize].touched = true;

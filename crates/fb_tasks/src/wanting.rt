@@ -6,7 +6,9 @@ ghost use Rattle.fb_sectormap.specs.Cutting.{cutting};
 ghost use Rattle.fb_clean.specs.Segments.{live_of};
 ghost use Rattle.fb_wanted.specs.Numbering.{registered, blocks_of};
 ghost use Rattle.fb_model.specs.Segments.{numbered};
+ghost use Rattle.fb_calls.specs.declared.call.Action.TheVariants.{Want};
 ghost use Rattle.fb_tasks.specs.Keeping.{new_entries, cuts_of};
+ghost use Rattle.fb_tasks.specs.Leaving.{OnlyWants};
 
 use crate::session::Session;
 use fb_sectormap::{Cut, SectorMap};
@@ -26,7 +28,8 @@ pub fn want_range(
     requires weight { session.now.weight ≤ 1000 }
     requires on_disk { first + count ≤ length (places map.now) }
     requires few { length wanted.old + length (cutting map.now session.now.block first count) ≤ 16000000 }
-    ensures { OnOk result (wanted.new ≡ wanted.old ++ new_entries session.now (numbered task session.now.weight (registered task (blocks_of wanted.old)) (cutting map.now session.now.block first count))) }
+    ensures all { OnOk result (wanted.new ≡ wanted.old ++ new_entries session.now (numbered task session.now.weight (registered task (blocks_of wanted.old)) (cutting map.now session.now.block first count))) }
+    ensures only { OnlyWants task (Want first count) wanted.old wanted.new }
 {
     if count == 0 {
         return Ok(());

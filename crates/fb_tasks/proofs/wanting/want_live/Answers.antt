@@ -15,7 +15,7 @@ want_range-requires-clause-few c =
 pub loop-i-preserved : goal.loop-i-preserved
 loop-i-preserved c =
     let session = c.args.session.now in
-    let more = live-more c.args.map.now c.args.task session.block session.weight session c.loop-i.wanted c.want_range.new.wanted (live_of session.log c.args.segment) c.loop-i.i c.live_block-lbn.result c.live_block-lbn.ensures c.in_ok-want_range.ensures in
+    let more = live-more c.args.map.now c.args.task session.block session.weight session c.loop-i.wanted c.want_range.new.wanted (live_of session.log c.args.segment) c.loop-i.i c.live_block-lbn.result c.live_block-lbn.ensures c.in_ok-want_range.ensures.all in
     record {
       all = more.0 ∙ c.loop-i.invariant.all;
       few = omega (arith, more.1, c.loop-i.invariant.few);

@@ -1,4 +1,4 @@
-use Rattle.std.proofs.Common.{◌≡◌, ℕ, List, ◌++◌, refl, ap, sym, ◌∙◌, append-nil, arith}
+use Rattle.std.proofs.Common.{◌≡◌, ℕ, ◌+◌, ◌-◌, List, [], ◌∷◌, ◌++◌, length, length-append, refl, ap, sym, ◌∙◌, append-nil, arith}
 use Rattle.fb_geometry.specs.Shape.{Shape}
 use Rattle.fb_sectormap.specs.Cutting.{cutting}
 use Rattle.fb_wanted.specs.Numbering.{registered, blocks_of}
@@ -7,6 +7,9 @@ use Rattle.fb_model.specs.Segments.{numbered}
 use Rattle.fb_tasks.specs.declared.session.Session.{Session}
 use Rattle.fb_tasks.specs.Keeping.{new_entries}
 use Rattle.fb_tasks.proofs.Counting.{registered_count, registered_few}
+use Rattle.fb_calls.specs.declared.call.Action.TheVariants.{Want}
+use Rattle.fb_wanted.specs.States.{wanted_unless}
+use Rattle.fb_tasks.proofs.Leaving.{wants_none, wants_cut, cut_registered, one_counted}
 use Rattle.fb_tasks.proofs.wanting.want_range.Goals as goal
 
 -- a range without sectors gives nothing
@@ -14,8 +17,8 @@ none-new : (disk : Shape) (session : Session) (task index lbn left : ℕ) (wante
 unfolding cutting
 none-new disk session task index lbn left wanted none = sym (append-nil wanted) ∙ ap (λ n. wanted ++ new_entries session (numbered task session.weight index (cutting disk session.block lbn n))) (sym none)
 
-pub returns-then-count-eq0 : goal.returns-then-count-eq0
-returns-then-count-eq0 c = none-new c.args.map.now c.args.session.now c.args.task (registered c.args.task (blocks_of c.args.wanted.now)) c.args.first c.args.count c.args.wanted.now (omega arith)
+pub returns-then-count-eq0-clause-all : goal.returns-then-count-eq0-clause-all
+returns-then-count-eq0-clause-all c = none-new c.args.map.now c.args.session.now c.args.task (registered c.args.task (blocks_of c.args.wanted.now)) c.args.first c.args.count c.args.wanted.now (omega arith)
 
 pub loop-left-init : goal.loop-left-init
 loop-left-init c =
@@ -26,10 +29,36 @@ loop-left-init c =
       within = refl;
       span = c.span-span.ensures.span;
       few = c.requires.few;
+      low = omega arith;
+      only = wants_none c.args.task (Want c.args.first c.args.count) c.args.wanted.now;
     }
 
 pub overflow_add-index : goal.overflow_add-index
 overflow_add-index c = omega (arith, c.loop-left.invariant.next, c.loop-left.invariant.few, registered_few c.args.task c.loop-left.wanted)
 
-pub returns : goal.returns
-returns c = none-new c.args.map.now c.args.session.now c.args.task c.loop-left.index c.loop-left.lbn c.loop-left.left c.loop-left.wanted (omega (arith, c.loop-left-test.false)) ∙ c.loop-left.invariant.all
+pub returns-clause-all : goal.returns-clause-all
+returns-clause-all c = none-new c.args.map.now c.args.session.now c.args.task c.loop-left.index c.loop-left.lbn c.loop-left.left c.loop-left.wanted (omega (arith, c.loop-left-test.false)) ∙ c.loop-left.invariant.all
+
+pub returns-then-count-eq0-clause-only : goal.returns-then-count-eq0-clause-only
+returns-then-count-eq0-clause-only c = wants_none c.args.task (Want c.args.first c.args.count) c.args.wanted.now
+
+pub loop-left-preserved : goal.loop-left-preserved
+loop-left-preserved c =
+    let session = c.args.session.now in
+    let cut = c.next_cut-cut.result in
+    let before = c.loop-left.wanted in
+    let now = c.register.new.self in
+    let block = c.block_of.result in
+    let rest = cutting c.args.map.now session.block (c.loop-left.lbn + cut.count) (c.loop-left.left - cut.count) in
+    let entry : Entry = record { block = block; state = wanted_unless session.suspended } in
+    let is : now ≡ before ++ entry ∷ [] = c.in_ok-register.ensures.ok in
+    record {
+      all = cut_registered c.args.task c.loop-left.index session before now cut (cutting c.args.map.now session.block c.loop-left.lbn c.loop-left.left) rest block c.next_cut-cut.ensures.first c.block_of.ensures is ∙ c.loop-left.invariant.all;
+      next = one_counted c.args.task c.loop-left.index before now entry is (ap (λ b. b.task) c.block_of.ensures) c.loop-left.invariant.next;
+      within = omega (arith, c.next_cut-cut.ensures.within, c.loop-left.invariant.within);
+      span = c.next_cut-cut.ensures.span;
+      few = omega (arith, c.loop-left.invariant.few, ap length is, length-append before (entry ∷ []), ap length c.next_cut-cut.ensures.first);
+      low = omega (arith, c.loop-left.invariant.low);
+      only = wants_cut c.args.task c.args.first c.args.count c.loop-left.index c.loop-left.lbn cut.lbn cut.count c.loop-left.left session.weight cut.track c.args.wanted.now before now block (wanted_unless session.suspended)
+          c.loop-left.invariant.only is c.block_of.ensures c.next_cut-cut.ensures.lbn c.next_cut-cut.ensures.within c.loop-left.invariant.within c.loop-left.invariant.low;
+    }

@@ -1,6 +1,5 @@
 use Rattle.std.proofs.Common.{Some, ap, sym, ◌∙◌, subst, arith}
 use Rattle.std.proofs.lemmas.Option.{slice_get-get_or}
-use Rattle.std.proofs.lemmas.Result.{on_ok_weaker}
 use Rattle.fb_tasks.specs.Telling.{MayTake}
 use Rattle.fb_tasks.proofs.Listed.{listed-more, listed-noted}
 use Rattle.fb_tasks.proofs.Additions.{may_add, added-tells, asked_within}
@@ -28,12 +27,12 @@ add-requires-clause-room c =
     let may = may_add c.args.map.now r.0 r.1 c.args.task c.args.first c.args.blocks c.args.age c.args.live.now c.self.inside.sessions.items c.index_mut-cleaner.result.now r.2 r.3 there (subst (λ xs. MayTake c.args.map.now r.0 xs r.2 r.1) (sym c.self.view_is) r.4) in
     may.room
 
-pub returns : goal.returns
-returns c =
+pub returns-clause-ok : goal.returns-clause-ok
+returns-clause-ok c =
     let r = c.requires in
     let within = asked_within c.args.map.now r.0 r.1 c.args.task c.args.first c.args.blocks c.args.age c.args.live.now c.self.inside.sessions.items c.args.self.now r.2 r.3 c.self.view_is r.4 in
-    on_ok_weaker c.add.result (λ added past call held is h.
-    added-tells c.args.map.now past call c.args.task c.args.first c.args.blocks c.args.age c.args.live.now c.self.inside.sessions.items c.args.self.now c.index_mut-cleaner.result.now c.add.new.self held is c.self.view_is within c.index_mut-cleaner.ensures.value added h) c.add.ensures.ok
+    λ past call held is h.
+    added-tells c.args.map.now past call c.args.task c.args.first c.args.blocks c.args.age c.args.live.now c.self.inside.sessions.items c.args.self.now c.index_mut-cleaner.result.now c.add.new.self held is c.self.view_is within c.index_mut-cleaner.ensures.value c.in_ok-add.ensures.ok h
 
 pub invariant_of-self : goal.invariant_of-self
 invariant_of-self c =
@@ -43,6 +42,12 @@ invariant_of-self c =
 
 pub invariant_of-self-2 : goal.invariant_of-self-2
 invariant_of-self-2 c =
+    let r = c.requires in
+    let within = asked_within c.args.map.now r.0 r.1 c.args.task c.args.first c.args.blocks c.args.age c.args.live.now c.self.inside.sessions.items c.args.self.now r.2 r.3 c.self.view_is r.4 in
+    listed-noted c.self.invariant c.args.task within c.note_touch.new.touched c.note_touch.new.asked c.note_touch.ensures.stay c.note_touch.ensures.asked_stay c.note_touch.ensures.asked_only c.note_touch.ensures.covers c.in_ok-note_touch.ensures.noted c.in_ok-note_touch.ensures.asked_noted _
+
+pub invariant_of-self-in_err-add : goal.invariant_of-self-in_err-add
+invariant_of-self-in_err-add c =
     let r = c.requires in
     let within = asked_within c.args.map.now r.0 r.1 c.args.task c.args.first c.args.blocks c.args.age c.args.live.now c.self.inside.sessions.items c.args.self.now r.2 r.3 c.self.view_is r.4 in
     listed-noted c.self.invariant c.args.task within c.note_touch.new.touched c.note_touch.new.asked c.note_touch.ensures.stay c.note_touch.ensures.asked_stay c.note_touch.ensures.asked_only c.note_touch.ensures.covers c.in_ok-note_touch.ensures.noted c.in_ok-note_touch.ensures.asked_noted _

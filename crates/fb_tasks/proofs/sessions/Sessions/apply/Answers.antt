@@ -1,8 +1,11 @@
-use Rattle.std.proofs.Common.{ap, subst, refl}
-use Rattle.std.proofs.lemmas.Result.{on_ok_weaker}
+use Rattle.std.proofs.Common.{ap, sym, subst, refl}
+use Rattle.std.proofs.lemmas.Result.{on_ok_weaker, on_err_weaker}
 use Rattle.fb_calls.specs.Allowed.{MayAsk}
 use Rattle.fb_model.specs.Steps.{blocks_by}
 use Rattle.fb_tasks.specs.Telling.{calls_of}
+use Rattle.fb_tasks.specs.Leaving.{OnlyWants}
+use Rattle.fb_wanted.proofs.Lists.{on_err}
+use Rattle.fb_tasks.proofs.Leaving.{wants_none}
 use Rattle.fb_tasks.proofs.Aborts.{promoted-tells, asked-aborts}
 use Rattle.fb_tasks.proofs.Asked.{room_for_one, session_there, takes_none}
 use Rattle.fb_tasks.proofs.sessions.Sessions.apply.Goals as goal
@@ -23,40 +26,54 @@ pub touch-requires : goal.touch-requires
 touch-requires c = session_there c.args.map.now c.requires.0 c.args.self.now c.args.wanted.now c.args.call.now (λ a. (subst (λ x. MayAsk c.args.map.now (calls_of c.requires.0) c.args.call.now.task x) c.in-Abort.is a).0) c.requires.1
 
 pub returns-in-Open : goal.returns-in-Open
-returns-in-Open c = record { ok = on_ok_weaker c.open.result (λ says past h. takes_none c.args.map.now past c.args.call.now c.open.new.self c.args.wanted.now (ap (blocks_by c.args.map.now past c.args.call.now.task) c.in-Open.is) (says c.args.map.now past c.args.call.now c.args.wanted.now c.in-Open.is h)) c.open.ensures }
-
-pub returns-in-Abort : goal.returns-in-Abort
-returns-in-Abort c = record {
-  ok = on_ok_weaker c.touch.result (λ flagged past h. takes_none c.args.map.now past c.args.call.now c.touch.new.self c.abort.new.self (ap (blocks_by c.args.map.now past c.args.call.now.task) c.in-Abort.is)
-      (asked-aborts c.args.map.now past c.args.call.now c.in-Abort.first c.in-Abort.count c.args.self.now c.touch.new.self c.args.wanted.now c.abort.new.self c.in-Abort.is c.abort.ensures.states flagged h)) c.touch.ensures;
+returns-in-Open c = record {
+  ok = on_ok_weaker c.open.result (λ says past h. takes_none c.args.map.now past c.args.call.now c.open.new.self c.args.wanted.now (ap (blocks_by c.args.map.now past c.args.call.now.task) c.in-Open.is) (says c.args.map.now past c.args.call.now c.args.wanted.now c.in-Open.is h)) c.open.ensures.ok;
+  err_sessions = c.open.ensures.err;
+  err_blocks = on_err_weaker c.open.result (λ _. wants_none c.args.call.now.task c.args.call.now.action c.args.wanted.now) c.open.ensures.err;
 }
 
-pub returns-in-Promote : goal.returns-in-Promote
-returns-in-Promote c = record {
-  ok = λ past h. takes_none c.args.map.now past c.args.call.now c.args.self.now c.args.wanted.now (ap (blocks_by c.args.map.now past c.args.call.now.task) c.in-Promote.is)
-      (promoted-tells c.args.map.now past c.args.call.now c.in-Promote.first c.in-Promote.count c.args.self.now c.args.wanted.now c.in-Promote.is h.tells);
+pub returns-in-Want : goal.returns-in-Want
+returns-in-Want c = record {
+  ok = on_ok_weaker c.want.result (λ says past h. says past c.args.call.now (record { task = refl; action = c.in-Want.is }) h) c.want.ensures.ok;
+  err_sessions = c.want.ensures.err;
+  err_blocks = on_err_weaker c.want.result (λ _. subst (λ action. OnlyWants c.args.call.now.task action c.args.wanted.now c.want.new.wanted) (sym c.in-Want.is) c.want.ensures.blocks) c.want.ensures.err;
 }
 
-pub returns-in-Suspend : goal.returns-in-Suspend
-returns-in-Suspend c = record {
-  ok = λ past h. takes_none c.args.map.now past c.args.call.now c.suspend.new.self c.suspend.new.wanted (ap (blocks_by c.args.map.now past c.args.call.now.task) c.in-Suspend.is)
-      (c.suspend.ensures c.args.map.now past c.args.call.now (record { task = refl; action = c.in-Suspend.is }) h.tells);
+pub returns-in_err-touch-in-Abort-clause-err_blocks : goal.returns-in_err-touch-in-Abort-clause-err_blocks
+returns-in_err-touch-in-Abort-clause-err_blocks c = on_err c.from_residual.result (wants_none c.args.call.now.task c.args.call.now.action c.args.wanted.now)
+
+pub returns-in_ok-touch-in-Abort : goal.returns-in_ok-touch-in-Abort
+returns-in_ok-touch-in-Abort c = record {
+  ok = λ past h. takes_none c.args.map.now past c.args.call.now c.touch.new.self c.abort.new.self (ap (blocks_by c.args.map.now past c.args.call.now.task) c.in-Abort.is)
+      (asked-aborts c.args.map.now past c.args.call.now c.in-Abort.first c.in-Abort.count c.args.self.now c.touch.new.self c.args.wanted.now c.abort.new.self c.in-Abort.is c.abort.ensures.states c.in_ok-touch-in-Abort.ensures.ok h);
+  err_sessions = tt;
+  err_blocks = tt;
 }
 
-pub returns-in-Resume : goal.returns-in-Resume
-returns-in-Resume c = record {
-  ok = λ past h. takes_none c.args.map.now past c.args.call.now c.resume.new.self c.resume.new.wanted (ap (blocks_by c.args.map.now past c.args.call.now.task) c.in-Resume.is)
-      (c.resume.ensures c.args.map.now past c.args.call.now (record { task = refl; action = c.in-Resume.is }) h.tells);
-}
+pub returns-in-Promote-clause-ok : goal.returns-in-Promote-clause-ok
+returns-in-Promote-clause-ok c = λ past h. takes_none c.args.map.now past c.args.call.now c.args.self.now c.args.wanted.now (ap (blocks_by c.args.map.now past c.args.call.now.task) c.in-Promote.is)
+    (promoted-tells c.args.map.now past c.args.call.now c.in-Promote.first c.in-Promote.count c.args.self.now c.args.wanted.now c.in-Promote.is h.tells)
+
+pub returns-in-Suspend-clause-ok : goal.returns-in-Suspend-clause-ok
+returns-in-Suspend-clause-ok c = λ past h. takes_none c.args.map.now past c.args.call.now c.suspend.new.self c.suspend.new.wanted (ap (blocks_by c.args.map.now past c.args.call.now.task) c.in-Suspend.is)
+    (c.suspend.ensures c.args.map.now past c.args.call.now (record { task = refl; action = c.in-Suspend.is }) h.tells)
+
+pub returns-in-Resume-clause-ok : goal.returns-in-Resume-clause-ok
+returns-in-Resume-clause-ok c = λ past h. takes_none c.args.map.now past c.args.call.now c.resume.new.self c.resume.new.wanted (ap (blocks_by c.args.map.now past c.args.call.now.task) c.in-Resume.is)
+    (c.resume.ensures c.args.map.now past c.args.call.now (record { task = refl; action = c.in-Resume.is }) h.tells)
 
 pub returns-in-Close : goal.returns-in-Close
 returns-in-Close c = record {
   ok = on_ok_weaker c.close.result (λ says past h. takes_none c.args.map.now past c.args.call.now c.close.new.self c.close.new.wanted (ap (blocks_by c.args.map.now past c.args.call.now.task) c.in-Close.is)
-      (says past c.args.call.now (record { task = refl; action = c.in-Close.is }) h.tells)) c.close.ensures;
+      (says past c.args.call.now (record { task = refl; action = c.in-Close.is }) h.tells)) c.close.ensures.ok;
+  err_sessions = on_err_weaker c.close.result (λ same. same.0) c.close.ensures.err;
+  err_blocks = on_err_weaker c.close.result (λ same. subst (OnlyWants c.args.call.now.task c.args.call.now.action c.args.wanted.now) (sym same.1) (wants_none c.args.call.now.task c.args.call.now.action c.args.wanted.now)) c.close.ensures.err;
 }
 
 pub returns-in-Segment : goal.returns-in-Segment
 returns-in-Segment c = record {
   ok = on_ok_weaker c.add_segment.result (λ says past h. takes_none c.args.map.now past c.args.call.now c.add_segment.new.self c.args.wanted.now (ap (blocks_by c.args.map.now past c.args.call.now.task) c.in-Segment.is)
-      (says past c.args.call.now c.args.wanted.now (record { task = refl; action = c.in-Segment.is }) h)) c.add_segment.ensures;
+      (says past c.args.call.now c.args.wanted.now (record { task = refl; action = c.in-Segment.is }) h)) c.add_segment.ensures.ok;
+  err_sessions = c.add_segment.ensures.err;
+  err_blocks = on_err_weaker c.add_segment.result (λ _. wants_none c.args.call.now.task c.args.call.now.action c.args.wanted.now) c.add_segment.ensures.err;
 }

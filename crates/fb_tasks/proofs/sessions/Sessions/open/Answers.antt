@@ -4,8 +4,8 @@ use Rattle.fb_tasks.specs.Listing.{AreListed}
 use Rattle.fb_tasks.proofs.Opens.{opened-tells}
 use Rattle.fb_tasks.proofs.sessions.Sessions.open.Goals as goal
 
-pub returns : goal.returns
-returns c = λ disk past call held is h.
+pub returns-clause-ok : goal.returns-clause-ok
+returns-clause-ok c = λ disk past call held is h.
     opened-tells disk past call c.args.kind c.args.weight c.args.block c.self.inside.sessions.items c.args.self.now c.push.new.self.items c.new-session.result held is c.self.view_is (c.in_ok-push.ensures.items ∙ ap (λ xs. xs ++ c.new-session.result ∷ []) c.in_ok-reserve.ensures.items)
     (record { terms = c.new-session.ensures.terms; state = c.new-session.ensures.state; image = c.new-session.ensures.image; log = c.new-session.ensures.log }) h
 

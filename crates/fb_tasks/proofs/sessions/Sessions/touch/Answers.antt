@@ -15,8 +15,8 @@ invariant_of-self-2 c =
     let within : c.args.task < length c.self.inside.sessions.items = subst (λ xs. c.args.task < length xs) (sym c.self.view_is) c.requires in
     listed-noted c.self.invariant c.args.task within c.note_touch.new.touched c.note_touch.new.asked c.note_touch.ensures.stay c.note_touch.ensures.asked_stay c.note_touch.ensures.asked_only c.note_touch.ensures.covers c.in_ok-note_touch.ensures.noted c.in_ok-note_touch.ensures.asked_noted _
 
-pub returns : goal.returns
-returns c = λ session at.
+pub returns-clause-ok : goal.returns-clause-ok
+returns-clause-ok c = λ session at.
     let within : c.args.task < length c.self.inside.sessions.items = subst (λ xs. c.args.task < length xs) (sym c.self.view_is) c.requires in
     let there = slice_get-get_or c.self.inside.sessions.items c.args.task c.index_mut.result.now within ∙ ap Some (sym c.index_mut.ensures.value) in
     let same = some_same c.index_mut.result.now session (sym there ∙ (ap (λ xs. slice_get xs c.args.task) c.self.view_is ∙ at)) in

@@ -43,10 +43,10 @@ touch-requires c =
     let r = c.requires in
     subst (λ xs. c.args.task < length xs) c.self.view_is (want_within c.args.map.now r.0 r.1 c.args.task c.args.first c.args.count c.self.inside.sessions.items c.args.self.now c.args.wanted.now r.2 c.self.view_is r.3)
 
-pub returns : goal.returns
-returns c =
+pub returns-clause-ok : goal.returns-clause-ok
+returns-clause-ok c =
     let r = c.requires in
     let within = want_within c.args.map.now r.0 r.1 c.args.task c.args.first c.args.count c.self.inside.sessions.items c.args.self.now c.args.wanted.now r.2 c.self.view_is r.3 in
     on_ok_weaker c.touch.result (λ flagged past call is h.
     wanted-tells c.args.map.now past call c.args.task c.args.first c.args.count c.self.inside.sessions.items c.args.self.now c.touch.new.self c.index.result.now c.args.wanted.now c.want_range.new.wanted
-    (omega (arith, c.count-sectors.ensures.value, c.count-sectors.ensures.bound)) is c.self.view_is within c.index.ensures c.in_ok-want_range.ensures flagged h) c.touch.ensures
+    (omega (arith, c.count-sectors.ensures.value, c.count-sectors.ensures.bound)) is c.self.view_is within c.index.ensures c.in_ok-want_range.ensures.all flagged h) c.touch.ensures.ok
