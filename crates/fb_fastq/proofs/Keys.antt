@@ -1,6 +1,7 @@
 -- Keys of a spot and a number.
 use Rattle.std.proofs.Common.{◌≡◌, ◌≢◌, ℕ, ◌<◌, ◌≤◌, arith, true, false}
-use Rattle.std.specs.Ordering.{nat_cmp, ordering_then, is_gt, is_lt, is_eq}
+use Rattle.std.specs.Prelude.{◌&&◌, not}
+use Rattle.std.specs.Ordering.{nat_cmp, ordering_then, is_gt, is_lt, is_le, is_eq}
 use Rattle.std.specs.declared.cmp.Ordering.TheVariants.{Less, Equal}
 use Rattle.std.proofs.lemmas.Bool.Decides.{nat_tests}
 
@@ -27,3 +28,23 @@ before_spot a c d h = grind (arith, nat_tests)
 
 pub spots_fall : (a b c d : ℕ) → is_lt (ordering_then (nat_cmp a c) (nat_cmp b d)) ≡ false → c ≤ a
 spots_fall a b c d h = grind (arith, nat_tests)
+
+pub follows : (a b c d : ℕ) → ordering_then (nat_cmp a c) (nat_cmp b d) ≡ Less → a ≤ c
+follows a b c d h = grind (arith, nat_tests)
+
+pub not_at : (a b c d : ℕ) → ordering_then (nat_cmp a c) (nat_cmp b d) ≡ Less → is_eq (ordering_then (nat_cmp c a) (nat_cmp d b)) ≡ false
+not_at a b c d h = grind (arith, nat_tests)
+
+-- keys from the first one of a spot on
+pub is_from : (a c d : ℕ) → (is_le (ordering_then (nat_cmp a c) (nat_cmp 0 d)) && true) ≡ true → a ≤ c
+is_from a c d h = grind (arith, nat_tests)
+
+pub from_is : (a c d : ℕ) → a ≤ c → (is_le (ordering_then (nat_cmp a c) (nat_cmp 0 d)) && true) ≡ true
+from_is a c d h = grind (arith, nat_tests)
+
+-- keys before it
+pub is_before : (a c d : ℕ) → (true && not (is_le (ordering_then (nat_cmp a c) (nat_cmp 0 d)))) ≡ true → c < a
+is_before a c d h = grind (arith, nat_tests)
+
+pub before_is : (a c d : ℕ) → c < a → (true && not (is_le (ordering_then (nat_cmp a c) (nat_cmp 0 d)))) ≡ true
+before_is a c d h = grind (arith, nat_tests)

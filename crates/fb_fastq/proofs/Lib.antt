@@ -6,3 +6,4 @@ pub mod Far
 pub mod OnLanes
 pub mod Sweeps
 pub mod Alike
+pub mod Walks

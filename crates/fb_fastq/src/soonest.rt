@@ -17,6 +17,10 @@ use fb_service::{Approach, Departure, Disk, approach_on, approach_to, departure_
 use fb_units::{Ns, Request, Track};
 use std::collections::BTreeMap;
 
+// So many requests of each side are valued one after another: where they are spread over the disk, that is less than the
+// searches for their lanes.
+const FEW: u32 = 48;
+
 /// The soonest first passage first.
 #[derive(Clone, Copy, Default)]
 pub struct Soonest;
@@ -115,9 +119,8 @@ fn soonest_of_lane(
     }
 }
 
-// The soonest of a candidate and of the requests on the head's cylinder, where its lanes start, and
-// above it.
-fn soonest_above(
+// The soonest of a candidate and of the requests from a spot on, no lower than the head's cylinder, lane by lane.
+fn lanes_above(
     waiting: &BTreeMap<(u64, u64), Request>,
     disk: &Disk,
     from: Departure,
@@ -128,7 +131,7 @@ fn soonest_above(
     requires spots { AllHeld (λ key request. IsAlong disk.now request key.0) waiting.now }
     requires on_disk { AllHeld (λ key request. IsRequestOf disk.now.map request) waiting.now }
     requires from { IsDeparture disk.now from }
-    requires start { start ≡ from.track.cylinder * (128 * 10 ^ 9) }
+    requires start { from.track.cylinder * (128 * 10 ^ 9) ≤ start }
     requires any { IsApproach disk.now from any }
     requires first { IsCandidate disk.now from.track from.instant waiting.now first }
     ensures found { IsCandidate disk.now from.track from.instant waiting.now result }
@@ -150,8 +153,8 @@ fn soonest_above(
     best
 }
 
-// The soonest of a candidate and of the requests below the head's cylinder, where its lanes start.
-fn soonest_below(
+// The soonest of a candidate and of the requests before a spot, no higher than the head's cylinder, lane by lane.
+fn lanes_below(
     waiting: &BTreeMap<(u64, u64), Request>,
     disk: &Disk,
     from: Departure,
@@ -162,7 +165,7 @@ fn soonest_below(
     requires spots { AllHeld (λ key request. IsAlong disk.now request key.0) waiting.now }
     requires on_disk { AllHeld (λ key request. IsRequestOf disk.now.map request) waiting.now }
     requires from { IsDeparture disk.now from }
-    requires start { start ≡ from.track.cylinder * (128 * 10 ^ 9) }
+    requires start { start ≤ from.track.cylinder * (128 * 10 ^ 9) }
     requires any { IsApproach disk.now from any }
     requires first { IsCandidate disk.now from.track from.instant waiting.now first }
     ensures found { IsCandidate disk.now from.track from.instant waiting.now result }
@@ -180,6 +183,80 @@ fn soonest_below(
         let lane = lane_of(disk, &near, &request);
         best = soonest_of_lane(waiting, disk, from, near, lane, best);
         next = lane.start;
+    }
+    best
+}
+
+// The soonest of a candidate and of the requests on the head's cylinder, where its lanes start, and above it: the first few
+// one after another, and the others lane by lane.
+fn soonest_above(
+    waiting: &BTreeMap<(u64, u64), Request>,
+    disk: &Disk,
+    from: Departure,
+    start: u64,
+    any: Approach,
+    first: Candidate,
+) -> Candidate
+    requires spots { AllHeld (λ key request. IsAlong disk.now request key.0) waiting.now }
+    requires on_disk { AllHeld (λ key request. IsRequestOf disk.now.map request) waiting.now }
+    requires from { IsDeparture disk.now from }
+    requires start { start ≡ from.track.cylinder * (128 * 10 ^ 9) }
+    requires any { IsApproach disk.now from any }
+    requires first { IsCandidate disk.now from.track from.instant waiting.now first }
+    ensures found { IsCandidate disk.now from.track from.instant waiting.now result }
+    ensures first { IsBefore result first }
+    ensures least { BeatsFrom disk.now from.track from.instant waiting.now result start }
+{
+    let mut best = first;
+    let mut near = any;
+    let mut left = FEW;
+    for (key, request) in waiting.range((start, 0)..) {
+        near = approach_on(disk, from, near, request.lbn);
+        if is_too_far(disk, from, &near, best.wait) {
+            return best;
+        }
+        if left == 0 {
+            return lanes_above(waiting, disk, from, key.0, near, best);
+        }
+        left -= 1;
+        best = sooner(best, candidate_of(disk, from, near, *key, request));
+    }
+    best
+}
+
+// The soonest of a candidate and of the requests below the head's cylinder, where its lanes start, in the same way.
+fn soonest_below(
+    waiting: &BTreeMap<(u64, u64), Request>,
+    disk: &Disk,
+    from: Departure,
+    start: u64,
+    any: Approach,
+    first: Candidate,
+) -> Candidate
+    requires spots { AllHeld (λ key request. IsAlong disk.now request key.0) waiting.now }
+    requires on_disk { AllHeld (λ key request. IsRequestOf disk.now.map request) waiting.now }
+    requires from { IsDeparture disk.now from }
+    requires start { start ≡ from.track.cylinder * (128 * 10 ^ 9) }
+    requires few { start ≤ 128 * 10 ^ 15 }
+    requires any { IsApproach disk.now from any }
+    requires first { IsCandidate disk.now from.track from.instant waiting.now first }
+    ensures found { IsCandidate disk.now from.track from.instant waiting.now result }
+    ensures first { IsBefore result first }
+    ensures least { BeatsBetween disk.now from.track from.instant waiting.now result 0 start }
+{
+    let mut best = first;
+    let mut near = any;
+    let mut left = FEW;
+    for (key, request) in waiting.range(..(start, 0)).rev() {
+        near = approach_on(disk, from, near, request.lbn);
+        if is_too_far(disk, from, &near, best.wait) {
+            return best;
+        }
+        if left == 0 {
+            return lanes_below(waiting, disk, from, key.0 + 1, near, best);
+        }
+        left -= 1;
+        best = sooner(best, candidate_of(disk, from, near, *key, request));
     }
     best
 }

@@ -1,46 +1,121 @@
-use Rattle.std.proofs.Common.{◌≤◌, arith, inl, inr, sym, subst}
+use Rattle.std.specs.Iterator.Adapters.{rev_source}
+use Rattle.std.proofs.Common.{◌≡◌, ◌∙◌, ◌+◌, ◌<◌, ◌≤◌, length, ap, sym, subst, refl, inl, inr, arith}
 use Rattle.std.proofs.lemmas.Bool.{cases_lt}
 use Rattle.fb_sectormap.specs.Lookup.{track_at}
 use Rattle.fb_seek.specs.Positioning.{distance_of}
-use Rattle.fb_fastq.proofs.Least.{waits_there}
-use Rattle.fb_fastq.proofs.Sweeps.{no_later_trans, in_room, beats_more, farther_below}
+use Rattle.fb_fastq.specs.Joining.{Waiting}
+use Rattle.fb_fastq.proofs.Keys.{is_before, before_is}
+use Rattle.fb_fastq.proofs.Least.{IsIn}
+use Rattle.fb_fastq.proofs.Sweeps.{no_later_trans, beats_more, farther_below}
+use Rattle.fb_fastq.proofs.Walks.{SpotsRise, in_front, in_last, last_or_front, rise_front, nearest_last, walk_begins, walk_goes_on, walk_pauses, walk_stops, walk_ends}
 use Rattle.fb_fastq.proofs.soonest.soonest_below.Goals as goal
 
-pub loop-request-preserved : goal.loop-request-preserved
-loop-request-preserved c =
-    let disk = c.args.disk.now in
-    let waiting = c.args.waiting.now in
-    let old = c.loop-request.best in
-    let new = c.soonest_of_lane-best.result in
-    let lane = c.lane_of-lane.result in
-    let here = c.lane_of-lane.ensures in
-    let room = in_room disk c.args.from.track c.args.from.instant waiting c.requires.spots lane here.lane c.in-Some.field-0-0 c.in-Some.request c.in-Some.ensures.found here.track here.write in
-    let before = c.in-Some.ensures.before in
-    let below = c.loop-request.invariant.below in record {
-      near = c.approach_on-near.ensures.approach;
-      found = c.soonest_of_lane-best.ensures.found;
-      before = no_later_trans new.wait new.key.1 old.wait old.key.1 c.args.first.wait c.args.first.key.1 c.soonest_of_lane-best.ensures.first c.loop-request.invariant.before;
-      below = omega (arith, room.0, before, below);
-      seen = λ k s e from under. elim (cases_lt k.0 c.loop-request.next) [
-        | inl left ↦ c.soonest_of_lane-best.ensures.least k s e from (let le = c.in-Some.ensures.greatest k (waits_there waiting k s e) left in omega (arith, le, room.1))
-        | inr seen ↦ beats_more disk c.args.from.track c.args.from.instant waiting c.requires.spots new old k s c.soonest_of_lane-best.ensures.first (c.loop-request.invariant.seen k s e seen under)
-      ];
-    }
+pub loop-key-init : goal.loop-key-init
+loop-key-init c = (
+  tt,
+  tt,
+  c.requires.any,
+  walk_begins c.args.disk.now c.args.from.track c.args.from.instant c.args.waiting.now c.args.first (λ spot. spot < c.args.start) _ (rev_source c.into_iter-key-iterator.result) c.requires.first c.range.ensures.ordered (ap rev_source c.into_iter-key-iterator.ensures.into_iter_gives ∙ (c.rev-key-items.ensures.source ∙ c.range.ensures.between tt))
+      (λ w t. is_before c.args.start w.0.0 w.0.1 t) (λ w h. before_is c.args.start w.0.0 w.0.1 h),
+)
+
+pub approach_on-near-requires-clause-sector : goal.approach_on-near-requires-clause-sector
+approach_on-near-requires-clause-sector c =
+    let x : Waiting = (c.in-Some.key.now, c.in-Some.request.now) in
+    let rest = (rev_source c.next.new.self) in
+    let steps = c.in-Some.ensures.steps in
+    let walk = c.loop-key.invariant.3 in
+    let there : IsIn x (rev_source c.loop-key.key-iterator) = subst (IsIn x) (sym steps) (in_last x (rev_source c.next.new.self)) in
+    let own = walk.inside x there in
+    let range = (c.requires.on_disk x.0 x.1 own.0).range in omega (arith, range.some, range.inside)
+
+pub candidate_of-requires-clause-request : goal.candidate_of-requires-clause-request
+candidate_of-requires-clause-request c =
+    let x : Waiting = (c.in-Some.key.now, c.in-Some.request.now) in
+    let rest = (rev_source c.next.new.self) in
+    let steps = c.in-Some.ensures.steps in
+    let walk = c.loop-key.invariant.3 in
+    let there : IsIn x (rev_source c.loop-key.key-iterator) = subst (IsIn x) (sym steps) (in_last x (rev_source c.next.new.self)) in
+    let own = walk.inside x there in
+    c.requires.on_disk x.0 x.1 own.0
+
+pub overflow_add-key : goal.overflow_add-key
+overflow_add-key c =
+    let x : Waiting = (c.in-Some.key.now, c.in-Some.request.now) in
+    let rest = (rev_source c.next.new.self) in
+    let steps = c.in-Some.ensures.steps in
+    let walk = c.loop-key.invariant.3 in
+    let there : IsIn x (rev_source c.loop-key.key-iterator) = subst (IsIn x) (sym steps) (in_last x (rev_source c.next.new.self)) in
+    let own = walk.inside x there in
+    omega (arith, own.1, c.requires.few)
+
+pub lanes_below-requires-clause-start : goal.lanes_below-requires-clause-start
+lanes_below-requires-clause-start c =
+    let x : Waiting = (c.in-Some.key.now, c.in-Some.request.now) in
+    let rest = (rev_source c.next.new.self) in
+    let steps = c.in-Some.ensures.steps in
+    let walk = c.loop-key.invariant.3 in
+    let there : IsIn x (rev_source c.loop-key.key-iterator) = subst (IsIn x) (sym steps) (in_last x (rev_source c.next.new.self)) in
+    let own = walk.inside x there in
+    omega (arith, own.1, c.requires.start)
 
 pub returns-then-is_too_far-clause-least : goal.returns-then-is_too_far-clause-least
-returns-then-is_too_far-clause-least c = λ k s e from under. elim (cases_lt k.0 c.loop-request.next) [
-  | inl left ↦
-      let head = c.args.from.track in
-      let waiting = c.args.waiting.now in
-      let below = c.loop-request.invariant.below in
-      let next = c.in-Some.ensures.before in
-      let start = c.requires.start in
-      inl (c.is_too_far.ensures c.if-is_too_far.true c.args.from.instant s
-      (subst (λ n. distance_of head.cylinder n ≤ distance_of head.cylinder (track_at c.args.disk.now.map s.lbn).cylinder) (sym c.approach_on-near.ensures.cylinder)
-      (farther_below c.args.disk.now head c.args.from.instant waiting c.requires.spots c.in-Some.field-0-0 k c.in-Some.request s c.in-Some.ensures.found e
-      (omega (arith, below, next, start)) (c.in-Some.ensures.greatest k (waits_there waiting k s e) left))))
-  | inr seen ↦ c.loop-request.invariant.seen k s e seen under
-]
+returns-then-is_too_far-clause-least c = λ k s e from below.
+    let x : Waiting = (c.in-Some.key.now, c.in-Some.request.now) in
+    let rest = (rev_source c.next.new.self) in
+    let steps = c.in-Some.ensures.steps in
+    let walk = c.loop-key.invariant.3 in
+    let there : IsIn x (rev_source c.loop-key.key-iterator) = subst (IsIn x) (sym steps) (in_last x (rev_source c.next.new.self)) in
+    let own = walk.inside x there in
+    let head = c.args.from.track in
+    walk_stops c.args.disk.now c.args.from.track c.args.from.instant c.args.waiting.now c.args.first (λ spot. spot < c.args.start) c.loop-key.best (rev_source c.loop-key.key-iterator) walk (λ w left.
+    c.is_too_far.ensures c.if-is_too_far.true c.args.from.instant w.1
+    (subst (λ n. distance_of head.cylinder n ≤ distance_of head.cylinder (track_at c.args.disk.now.map w.1.lbn).cylinder) (sym c.approach_on-near.ensures.cylinder)
+    (farther_below c.args.disk.now head c.args.from.instant c.args.waiting.now c.requires.spots x.0 w.0 x.1 w.1 own.0 (walk.inside w left).0
+    (omega (arith, own.1, c.requires.start)) (nearest_last x w rest (subst SpotsRise steps walk.rise) (subst (IsIn w) steps left)))))
+    k s e below
+
+pub returns-then-left-eq0-clause-first : goal.returns-then-left-eq0-clause-first
+returns-then-left-eq0-clause-first c =
+    let new = c.lanes_below.result in
+    let old = c.loop-key.best in
+    no_later_trans new.wait new.key.1 old.wait old.key.1 c.args.first.wait c.args.first.key.1 c.lanes_below.ensures.first c.loop-key.invariant.3.before
+
+pub returns-then-left-eq0-clause-least : goal.returns-then-left-eq0-clause-least
+returns-then-left-eq0-clause-least c = λ k s e from below.
+    let x : Waiting = (c.in-Some.key.now, c.in-Some.request.now) in
+    let rest = (rev_source c.next.new.self) in
+    let steps = c.in-Some.ensures.steps in
+    let walk = c.loop-key.invariant.3 in
+    let there : IsIn x (rev_source c.loop-key.key-iterator) = subst (IsIn x) (sym steps) (in_last x (rev_source c.next.new.self)) in
+    let own = walk.inside x there in
+    let disk = c.args.disk.now in
+    let head = c.args.from.track in
+    let now = c.args.from.instant in
+    let waiting = c.args.waiting.now in
+    let new = c.lanes_below.result in
+    let old = c.loop-key.best in
+    let left = λ (w : Waiting) (is : IsIn w (rev_source c.loop-key.key-iterator)). nearest_last x w rest (subst SpotsRise steps walk.rise) (subst (IsIn w) steps is) in
+    elim (cases_lt k.0 (x.0.0 + 1)) [
+      | inl under ↦ c.lanes_below.ensures.least k s e from under
+      | inr above ↦ beats_more disk head now waiting c.requires.spots new old k s c.lanes_below.ensures.first (walk_pauses c.args.disk.now c.args.from.track c.args.from.instant c.args.waiting.now c.args.first (λ spot. spot < c.args.start) old (rev_source c.loop-key.key-iterator) (λ spot. spot ≤ x.0.0) walk left k s e below (λ le. omega (arith, le, above)))
+    ]
+
+pub loop-key-preserved : goal.loop-key-preserved
+loop-key-preserved c =
+    let x : Waiting = (c.in-Some.key.now, c.in-Some.request.now) in
+    let rest = (rev_source c.next.new.self) in
+    let steps = c.in-Some.ensures.steps in
+    let walk = c.loop-key.invariant.3 in
+    let there : IsIn x (rev_source c.loop-key.key-iterator) = subst (IsIn x) (sym steps) (in_last x (rev_source c.next.new.self)) in
+    let own = walk.inside x there in (
+      tt,
+      tt,
+      c.approach_on-near.ensures.approach,
+      walk_goes_on c.args.disk.now c.args.from.track c.args.from.instant c.args.waiting.now c.args.first (λ spot. spot < c.args.start) c.loop-key.best c.candidate_of.result c.sooner-best.result x (rev_source c.loop-key.key-iterator) rest walk
+          (rise_front x rest (subst SpotsRise steps walk.rise)).0 (λ w e. subst (IsIn w) (sym steps) (in_front w x rest e)) (λ w e. last_or_front w x rest (subst (IsIn w) steps e))
+          there c.candidate_of.ensures.key c.candidate_of.ensures.wait c.sooner-best.ensures.one c.sooner-best.ensures.first c.sooner-best.ensures.second,
+    )
 
 pub returns-clause-least : goal.returns-clause-least
-returns-clause-least c = λ k s e from under. c.loop-request.invariant.seen k s e (c.in_default.ensures.none k (waits_there c.args.waiting.now k s e)) under
+returns-clause-least c = λ k s e from below. walk_ends c.args.disk.now c.args.from.track c.args.from.instant c.args.waiting.now c.args.first (λ spot. spot < c.args.start) c.loop-key.best (rev_source c.loop-key.key-iterator) c.loop-key.invariant.3 c.in-None.ensures.steps.0 k s e below
