@@ -26,5 +26,3 @@ mod services;
 mod traces;
 #[cfg(test)]
 mod wishes;
-#[cfg(test)]
-mod words;
