@@ -26,3 +26,5 @@ mod services;
 mod traces;
 #[cfg(test)]
 mod wishes;
+#[cfg(test)]
+mod words;
