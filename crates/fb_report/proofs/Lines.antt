@@ -7,7 +7,7 @@ use Rattle.std.proofs.lemmas.Option.{slice_get-map, slice_get_within}
 use Rattle.fb_report.proofs.Ranges.{get_left, get_right, drop_got, part_more}
 use Rattle.fb_rows.specs.declared.run.Run.{Run}
 use Rattle.fb_report.specs.declared.bytes.Bytes.{Bytes}
-use Rattle.fb_report.specs.Fore.{fore_line, first_line, last_line, fore_lines}
+use Rattle.fb_report.specs.Fore.{fore_line, fore_first, fore_last, fore_lines}
 use Rattle.fb_report.specs.Back.{back_line, back_first, back_last, back_lines}
 
 -- these lines are a first one, a line for each row, and a last one
@@ -35,11 +35,11 @@ module _ {X : Type 0} (first : List ℕ) (line : X → List ℕ) (rows : List X)
       ∙ ap (λ xs. slice_get xs (suc (length rows))) h.are
       ∙ get_right (map line rows) (last ∷ []) 0 (length rows) (omega (arith, length-map rows line))
 
-pub fore_are : (size : ℕ) (bytes : Bytes) (run : Run) → AreLines first_line (fore_line size bytes) run.fore (last_line run) (fore_lines size bytes run)
+pub fore_are : (size : ℕ) (bytes : Bytes) (run : Run) → AreLines fore_first (fore_line size bytes) run.fore (fore_last (length run.fore) run.passed_over) (fore_lines size bytes run)
 unfolding fore_lines
 fore_are size bytes run = record { are = refl }
 
-pub back_are : (names : List (List ℕ)) (size : ℕ) (bytes : Bytes) (run : Run) → AreLines back_first (back_line names size bytes) run.back (back_last run) (back_lines names size bytes run)
+pub back_are : (names : List (List ℕ)) (size : ℕ) (bytes : Bytes) (run : Run) → AreLines back_first (back_line names size bytes) run.back (back_last run.end) (back_lines names size bytes run)
 unfolding back_lines
 back_are names size bytes run = record { are = refl }
 

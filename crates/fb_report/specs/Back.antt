@@ -123,12 +123,12 @@ abbrev pub back_first : List ℕ
 back_first = line_of (codes "freeblock") (codes "back" ∷ codes "1" ∷ [])
 
 -- the run's end
-abbrev pub back_last : Run → List ℕ
-back_last run = line_of (codes "end") (decimal run.end ∷ [])
+abbrev pub back_last : ℕ → List ℕ
+back_last end = line_of (codes "end") (decimal end ∷ [])
 
 -- the first line, a line for each row in order, and the last
 unfoldable pub back_lines : List (List ℕ) → ℕ → Bytes → Run → List (List ℕ)
-back_lines names size bytes run = back_first ∷ (map (back_line names size bytes) run.back ++ back_last run ∷ [])
+back_lines names size bytes run = back_first ∷ (map (back_line names size bytes) run.back ++ back_last run.end ∷ [])
 
 abbrev pub back_text : List (List ℕ) → ℕ → Bytes → Run → List ℕ
 back_text names size bytes run = flat_map (λ line. line) (back_lines names size bytes run)

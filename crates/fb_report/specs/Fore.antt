@@ -28,16 +28,16 @@ row_fields row found = kind_text row.request.write ∷ decimal row.request.lbn �
 abbrev pub fore_line : ℕ → Bytes → ForeRow → List ℕ
 fore_line size bytes row = line_of (name_text row.request.name) (row_fields row (row_bytes size bytes row))
 
-abbrev pub first_line : List ℕ
-first_line = line_of (codes "freeblock") (codes "fore" ∷ codes "1" ∷ [])
+abbrev pub fore_first : List ℕ
+fore_first = line_of (codes "freeblock") (codes "fore" ∷ codes "1" ∷ [])
 
 -- how many rows there are, and how many requests were passed over
-abbrev pub last_line : Run → List ℕ
-last_line run = line_of (codes "end") (decimal (length run.fore) ∷ decimal run.passed_over ∷ [])
+abbrev pub fore_last : ℕ → ℕ → List ℕ
+fore_last rows passed_over = line_of (codes "end") (decimal rows ∷ decimal passed_over ∷ [])
 
 -- the first line, a line for each row in order of service, and the last
 unfoldable pub fore_lines : ℕ → Bytes → Run → List (List ℕ)
-fore_lines size bytes run = first_line ∷ (map (fore_line size bytes) run.fore ++ last_line run ∷ [])
+fore_lines size bytes run = fore_first ∷ (map (fore_line size bytes) run.fore ++ fore_last (length run.fore) run.passed_over ∷ [])
 
 abbrev pub fore_text : ℕ → Bytes → Run → List ℕ
 fore_text size bytes run = flat_map (λ line. line) (fore_lines size bytes run)

@@ -3,3 +3,5 @@ pub mod Lines
 pub mod Fore
 pub mod Back
 pub mod Summary
+pub mod Grammar
+pub mod Reading

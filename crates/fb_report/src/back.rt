@@ -7,11 +7,11 @@ ghost use Rattle.fb_rows.specs.Ranges.{HasBackRanges};
 ghost use Rattle.fb_rows.specs.Tasks.{HasNamedTask};
 
 use crate::Bytes;
-use crate::back_line::back_line;
+use crate::back_rows::back_line;
 use crate::line::Line;
 use fb_calls::Names;
 use fb_rows::Run;
-use fb_units::NoMemory;
+use fb_units::{NoMemory, Ns};
 use std::alloc::Global;
 
 /// The number of lines of the background report: one for each row, the first and the last.
@@ -41,12 +41,12 @@ pub fn back_piece(
 {
     let rows = run.back.len() as u64;
     if k == 0 {
-        Ok(first_line(alloc)?)
+        Ok(back_first(alloc)?)
     } else if k <= rows {
         let row = run.back.get(k as usize - 1);
         Ok(back_line(alloc, row, names, sector_bytes, bytes)?)
     } else {
-        Ok(last_line(alloc, run)?)
+        Ok(back_last(alloc, run.end)?)
     }
 }
 
@@ -71,7 +71,8 @@ pub fn back_text(
     Ok(text)
 }
 
-fn first_line(alloc: Global) -> Result<Vec<u8>, NoMemory>
+/// The first line of every background report, with its line feed.
+pub fn back_first(alloc: Global) -> Result<Vec<u8>, NoMemory>
     ensures { IfOk result (λ line. line.items ≡ back_first) }
 {
     let mut line = Line::new(alloc, b"freeblock")?;
@@ -80,10 +81,12 @@ fn first_line(alloc: Global) -> Result<Vec<u8>, NoMemory>
     line.end()
 }
 
-fn last_line(alloc: Global, run: &Run) -> Result<Vec<u8>, NoMemory>
-    ensures { IfOk result (λ line. line.items ≡ back_last run.now) }
+/// The last line of a background report, with its line feed: the instant, in ns, at which the run
+/// ends.
+pub fn back_last(alloc: Global, end: Ns) -> Result<Vec<u8>, NoMemory>
+    ensures { IfOk result (λ line. line.items ≡ back_last end) }
 {
     let mut line = Line::new(alloc, b"end")?;
-    line.number(run.end)?;
+    line.number(end)?;
     line.end()
 }

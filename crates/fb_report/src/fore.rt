@@ -3,7 +3,7 @@ ghost use Rattle.std.specs.Prelude.{◌≡◌, ℕ, ◌+◌, ◌%◌, ◌<◌, l
 ghost use Rattle.std.specs.List.{AllByRecursion};
 ghost use Rattle.fb_report.specs.declared.bytes.Bytes.{Bytes};
 ghost use Rattle.fb_report.specs.Lines.{with_fields};
-ghost use Rattle.fb_report.specs.Fore.{bad_count, kind_text, row_bytes, row_fields, fore_line, first_line, last_line, fore_lines, fore_text};
+ghost use Rattle.fb_report.specs.Fore.{bad_count, kind_text, row_bytes, row_fields, fore_first, fore_line, fore_last, fore_lines, fore_text};
 ghost use Rattle.fb_rows.specs.Ranges.{HasRanges};
 
 use crate::Bytes;
@@ -38,12 +38,12 @@ pub fn fore_piece(
 {
     let rows = run.fore.len() as u64;
     if k == 0 {
-        Ok(first_line(alloc)?)
+        Ok(fore_first(alloc)?)
     } else if k <= rows {
         let row = run.fore.get(k as usize - 1);
         Ok(fore_line(alloc, row, sector_bytes, bytes)?)
     } else {
-        Ok(last_line(alloc, run)?)
+        Ok(fore_last(alloc, rows, run.passed_over)?)
     }
 }
 
@@ -66,8 +66,9 @@ pub fn fore_text(
     Ok(text)
 }
 
-fn first_line(alloc: Global) -> Result<Vec<u8>, NoMemory>
-    ensures { IfOk result (λ line. line.items ≡ first_line) }
+/// The first line of every foreground report, with its line feed.
+pub fn fore_first(alloc: Global) -> Result<Vec<u8>, NoMemory>
+    ensures { IfOk result (λ line. line.items ≡ fore_first) }
 {
     let mut line = Line::new(alloc, b"freeblock")?;
     line.word(b"fore")?;
@@ -75,17 +76,21 @@ fn first_line(alloc: Global) -> Result<Vec<u8>, NoMemory>
     line.end()
 }
 
-fn last_line(alloc: Global, run: &Run) -> Result<Vec<u8>, NoMemory>
-    ensures { IfOk result (λ line. line.items ≡ last_line run.now) }
+/// The last line of a foreground report, with its line feed: how many rows it has, and how many
+/// requests were passed over.
+pub fn fore_last(alloc: Global, rows: u64, passed_over: u64) -> Result<Vec<u8>, NoMemory>
+    ensures { IfOk result (λ line. line.items ≡ fore_last rows passed_over) }
 {
     let mut line = Line::new(alloc, b"end")?;
-    line.number(run.fore.len() as u64)?;
-    line.number(run.passed_over)?;
+    line.number(rows)?;
+    line.number(passed_over)?;
     line.end()
 }
 
-// The line of a row.
-fn fore_line(
+/// The line of a row, with its line feed.
+///
+/// `sector_bytes` is the size of a sector, a multiple of 16.
+pub fn fore_line(
     alloc: Global,
     row: &ForeRow,
     sector_bytes: u32,

@@ -8,16 +8,19 @@
 #![tactic(auto)]
 
 mod back;
-mod back_line;
+mod back_rows;
 mod bytes;
 mod contents;
 mod fore;
 mod line;
+mod reading;
 mod sectors;
 mod sink;
 mod summary;
 
-pub use back::{back_piece, back_pieces, back_text};
+pub use back::{back_first, back_last, back_piece, back_pieces, back_text};
+pub use back_rows::back_line;
 pub use bytes::Bytes;
-pub use fore::{fore_piece, fore_pieces, fore_text};
+pub use fore::{fore_first, fore_last, fore_line, fore_piece, fore_pieces, fore_text};
+pub use reading::{Report, ReportLines, ReportsError, ReportsFault, read_back, read_fore};
 pub use summary::summary_text;

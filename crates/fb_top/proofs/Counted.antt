@@ -4,12 +4,12 @@ use Rattle.std.proofs.lemmas.List.{length-append, length-map}
 use Rattle.fb_rows.specs.declared.run.Run.{Run}
 use Rattle.fb_report.specs.declared.bytes.Bytes.{Bytes}
 use Rattle.fb_report.specs.Back.{back_last, back_line, back_lines}
-use Rattle.fb_report.specs.Fore.{fore_line, fore_lines, last_line}
+use Rattle.fb_report.specs.Fore.{fore_last, fore_line, fore_lines}
 
 pub fore_counted : (size : ℕ) (bytes : Bytes) (run : Run) → length (fore_lines size bytes run) ≡ length run.fore + 2
 unfolding fore_lines
-fore_counted size bytes run = omega (arith, length-append (map (fore_line size bytes) run.fore) (last_line run ∷ []), length-map run.fore (fore_line size bytes))
+fore_counted size bytes run = omega (arith, length-append (map (fore_line size bytes) run.fore) (fore_last (length run.fore) run.passed_over ∷ []), length-map run.fore (fore_line size bytes))
 
 pub back_counted : (names : List (List ℕ)) (size : ℕ) (bytes : Bytes) (run : Run) → length (back_lines names size bytes run) ≡ length run.back + 2
 unfolding back_lines
-back_counted names size bytes run = omega (arith, length-append (map (back_line names size bytes) run.back) (back_last run ∷ []), length-map run.back (back_line names size bytes))
+back_counted names size bytes run = omega (arith, length-append (map (back_line names size bytes) run.back) (back_last run.end ∷ []), length-map run.back (back_line names size bytes))

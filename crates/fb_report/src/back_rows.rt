@@ -16,7 +16,9 @@ use fb_rows::{
 use fb_units::NoMemory;
 use std::alloc::Global;
 
-/// The line of a row.
+/// The line of a row, with its line feed.
+///
+/// `sector_bytes` is the size of a sector, a multiple of 16, and `names` are the tasks' names.
 pub fn back_line(
     alloc: Global,
     row: &BackRow,

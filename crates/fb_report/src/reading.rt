@@ -1,0 +1,109 @@
+// Reads printed reports.
+ghost use Rattle.std.specs.Prelude.{◌≡◌, ◌<◌, ◌^◌, length, Some, IfOk, slice_get};
+ghost use Rattle.std.specs.List.{flat_map};
+ghost use Rattle.fb_report.specs.declared.reading.Report.TheVariants as reports;
+ghost use Rattle.fb_report.specs.Grammar.{back_grammar, ended, fore_grammar, report_of};
+ghost use Rattle.fb_report.specs.Reading.{AnswersReport, ReportsEndOnce};
+
+use std::alloc::{AllocError, AllocFailed, Global};
+use std::marker::Model;
+
+/// The two reports of a run.
+#[derive(Clone, Copy)]
+pub enum Report {
+    /// The foreground report.
+    Fore,
+    /// The background report.
+    Back,
+}
+
+/// The first line of a printed report that isn't in its place.
+#[derive(Clone, Copy)]
+pub struct ReportsFault {
+    /// The report.
+    pub report: Report,
+    /// The line, counted from 1. For a report that ends too early it is the number of its lines
+    /// plus 1, where a rest without a line feed is no line.
+    pub line: u64,
+}
+
+/// Why no report was read.
+#[derive(Clone, Copy)]
+pub enum ReportsError {
+    /// The text isn't a report.
+    Fault(ReportsFault),
+    /// Out of memory, which says nothing about the text.
+    NoMemory,
+}
+
+impl From<AllocError> for ReportsError {
+    ghost use Rattle.std.specs.Prelude.{◌≡◌};
+    ghost use Rattle.fb_report.specs.declared.reading.ReportsError.TheVariants.{NoMemory};
+
+    ghost from_gives = { λ _ error. error ≡ NoMemory };
+
+    fn from(_: AllocError) -> ReportsError {
+        ReportsError::NoMemory
+    }
+}
+
+impl<T: Drop> From<AllocFailed<T>> for ReportsError {
+    ghost use Rattle.std.specs.Prelude.{◌≡◌};
+    ghost use Rattle.fb_report.specs.declared.reading.ReportsError.TheVariants.{NoMemory};
+
+    ghost from_gives = { λ _ error. error ≡ NoMemory };
+
+    fn from(_: AllocFailed<T>) -> ReportsError {
+        ReportsError::NoMemory
+    }
+}
+
+/// The lines of a printed report, as parts of its text.
+#[derive(Drop)]
+pub struct ReportLines<'a> {
+    lines: Vec<&'a [u8]>,
+}
+
+impl<'a> Model for ReportLines<'a> {
+    ghost use Rattle.std.specs.Prelude.{List, ℕ, map};
+
+    ghost Value = { List (List ℕ) };
+
+    ghost view = { λ r. map (λ line. line.now) r.lines.items };
+}
+
+impl<'a> ReportLines<'a> {
+    /// The number of lines.
+    pub fn len(&self) -> usize
+        ensures value { result ≡ length self.now }
+        ensures few { result < 2 ^ 63 }
+    {
+        self.lines.len()
+    }
+
+    /// The line with an index, counted from 0, without its line feed.
+    pub fn get(&self, i: usize) -> &[u8]
+        requires { i < length self.now }
+        ensures { slice_get self.now i ≡ Some result.now }
+    {
+        self.lines[i]
+    }
+}
+
+/// The lines of a foreground report. An error names the first line that isn't in its place; or it
+/// is `NoMemory`.
+pub fn read_fore(alloc: Global, text: &[u8]) -> Result<ReportLines<'_>, ReportsError>
+    ensures answer { AnswersReport reports.Fore result (report_of fore_grammar text.now) }
+    ensures whole { IfOk result (λ lines. flat_map ended lines ≡ text.now) }
+{
+    Err(ReportsError::NoMemory)
+}
+
+/// The lines of a background report. An error names the first line that isn't in its place; or it
+/// is `NoMemory`.
+pub fn read_back(alloc: Global, text: &[u8]) -> Result<ReportLines<'_>, ReportsError>
+    ensures answer { AnswersReport reports.Back result (report_of back_grammar text.now) }
+    ensures whole { IfOk result (λ lines. flat_map ended lines ≡ text.now) }
+{
+    Err(ReportsError::NoMemory)
+}
