@@ -2,3 +2,9 @@ pub mod Ranges
 pub mod Lines
 pub mod Digits
 pub mod Sums
+pub mod Numbers
+pub mod Cuts
+pub mod Rows
+pub mod Behind
+pub mod Whole
+pub mod EndsOnce

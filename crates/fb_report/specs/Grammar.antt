@@ -98,8 +98,7 @@ back_grammar = record {
       ∷ (is_word (codes "seal") ∷ is_name ∷ numbers 2 ++ are_bytes ∷ [])
       ∷ (is_word (codes "seg") ∷ is_name ∷ numbers 3 ++ are_bytes ∷ [])
       ∷ (is_word (codes "done") ∷ is_name ∷ is_number ∷ [])
-      ∷ (is_word (codes "task") ∷ is_name ∷ is_one_of (codes "plain" ∷ codes "backup" ∷ codes "scrub" ∷ codes "clean" ∷ [])
-          ∷ numbers 4 ++ is_one_of (codes "complete" ∷ codes "open" ∷ []) ∷ [])
+      ∷ (is_word (codes "task") ∷ is_name ∷ is_one_of (codes "plain" ∷ codes "backup" ∷ codes "scrub" ∷ codes "clean" ∷ []) ∷ numbers 4 ++ is_one_of (codes "complete" ∷ codes "open" ∷ []) ∷ [])
       ∷ [];
   last = is_word (codes "end") ∷ is_number ∷ [];
 }

@@ -5,3 +5,4 @@ pub mod Back
 pub mod Summary
 pub mod Grammar
 pub mod Reading
+pub mod Forms

@@ -1,10 +1,9 @@
 -- Printed reports that were read.
-use Rattle.std.specs.Prelude.{◌≡◌, ◌⊎◌, ℕ, ◌+◌, ◌<◌, ◌≤◌, List, [], ◌∷◌, length, Some, Result, Ok, Err, slice_get}
+use Rattle.std.specs.Prelude.{◌≡◌, ◌⊎◌, ℕ, ◌+◌, ◌<◌, ◌≤◌, List, ◌∷◌, length, Some, Result, Ok, Err, slice_get}
 use Rattle.std.specs.List.{AllByRecursion, flat_map}
 use Rattle.fb_report.specs.declared.reading.Report.{Report}
 use Rattle.fb_report.specs.declared.reading.ReportsError.{ReportsError}
 use Rattle.fb_report.specs.declared.reading.ReportsError.TheVariants.{Fault, NoMemory}
-use Rattle.fb_report.specs.declared.reading.ReportsFault.{ReportsFault}
 use Rattle.fb_report.specs.Grammar.{Grammar, fore_grammar, back_grammar, report_of, report_fields, ended}
 
 -- the lines of a report, or the first line that isn't in its place, or memory ran out

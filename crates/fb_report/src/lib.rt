@@ -12,6 +12,8 @@ mod back_rows;
 mod bytes;
 mod contents;
 mod fore;
+mod forms;
+mod grammar;
 mod line;
 mod reading;
 mod sectors;
@@ -22,5 +24,7 @@ pub use back::{back_first, back_last, back_piece, back_pieces, back_text};
 pub use back_rows::back_line;
 pub use bytes::Bytes;
 pub use fore::{fore_first, fore_last, fore_line, fore_piece, fore_pieces, fore_text};
-pub use reading::{Report, ReportLines, ReportsError, ReportsFault, read_back, read_fore};
+pub use reading::{
+    Report, ReportLines, ReportsError, ReportsFault, read_back, read_fore, reports_end_once,
+};
 pub use summary::summary_text;

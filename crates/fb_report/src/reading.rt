@@ -1,10 +1,14 @@
 // Reads printed reports.
-ghost use Rattle.std.specs.Prelude.{◌≡◌, ◌<◌, ◌^◌, length, Some, IfOk, slice_get};
-ghost use Rattle.std.specs.List.{flat_map};
+ghost use Rattle.std.specs.Prelude.{◌≡◌, ◌+◌, ◌<◌, ◌^◌, ◌==◌, length, map, Some, IfOk, slice_get};
+ghost use Rattle.std.specs.List.{flat_map, slice_split};
 ghost use Rattle.fb_report.specs.declared.reading.Report.TheVariants as reports;
-ghost use Rattle.fb_report.specs.Grammar.{back_grammar, ended, fore_grammar, report_of};
+ghost use Rattle.fb_report.specs.declared.reading.ReportsError.TheVariants.{Fault};
+ghost use Rattle.fb_report.specs.Forms.{grammar_of};
+ghost use Rattle.fb_report.specs.Grammar.{back_grammar, ended, ended_with, fore_grammar, report_of};
 ghost use Rattle.fb_report.specs.Reading.{AnswersReport, ReportsEndOnce};
 
+use crate::forms::split_once;
+use crate::grammar::table_of;
 use std::alloc::{AllocError, AllocFailed, Global};
 use std::marker::Model;
 
@@ -96,7 +100,7 @@ pub fn read_fore(alloc: Global, text: &[u8]) -> Result<ReportLines<'_>, ReportsE
     ensures answer { AnswersReport reports.Fore result (report_of fore_grammar text.now) }
     ensures whole { IfOk result (λ lines. flat_map ended lines ≡ text.now) }
 {
-    Err(ReportsError::NoMemory)
+    read(alloc, Report::Fore, text)
 }
 
 /// The lines of a background report. An error names the first line that isn't in its place; or it
@@ -105,5 +109,62 @@ pub fn read_back(alloc: Global, text: &[u8]) -> Result<ReportLines<'_>, ReportsE
     ensures answer { AnswersReport reports.Back result (report_of back_grammar text.now) }
     ensures whole { IfOk result (λ lines. flat_map ended lines ≡ text.now) }
 {
-    Err(ReportsError::NoMemory)
+    read(alloc, Report::Back, text)
 }
+
+// The lines of this report.
+fn read(alloc: Global, report: Report, text: &[u8]) -> Result<ReportLines<'_>, ReportsError>
+    ensures { AnswersReport report result (report_of (grammar_of report) text.now) }
+{
+    let table = table_of(report);
+    let mut lines = Vec::new(alloc);
+    let mut rest = text;
+    while let Some((line, behind)) = split_once(rest, b'\n') {
+        if table.may_follow(lines.as_slice(), line) {
+            lines.push(line)?;
+            rest = behind;
+        } else if table.may_end(lines.as_slice(), line) {
+            return end(report, lines, line, behind);
+        } else {
+            return Err(fault(report, lines.len()));
+        }
+    }
+    Err(fault(report, lines.len()))
+}
+
+// The lines of a report that ends with this line, if nothing stands behind it. Else the fault is
+// this line, with another one behind it, or the rest that has no line feed.
+fn end<'a>(
+    report: Report,
+    mut lines: Vec<&'a [u8]>,
+    line: &'a [u8],
+    behind: &[u8],
+) -> Result<ReportLines<'a>, ReportsError>
+    ensures { AnswersReport report result (ended_with (map (λ text. text.now) lines.entry.items) line.now (slice_split (λ byte. byte == 10) behind.now)) }
+{
+    if behind.is_empty() {
+        lines.push(line)?;
+        return Ok(ReportLines { lines });
+    }
+    match split_once(behind, b'\n') {
+        Some(_) => Err(fault(report, lines.len())),
+        None => Err(fault(report, lines.len() + 1)),
+    }
+}
+
+// The line behind this many isn't in its place.
+fn fault(report: Report, lines: usize) -> ReportsError
+    requires { lines < 2 ^ 63 }
+    ensures { result ≡ Fault (record { report = report; line = lines + 1 }) }
+{
+    ReportsError::Fault(ReportsFault {
+        report,
+        line: lines as u64 + 1,
+    })
+}
+
+/// The last line of a report begins with an e, and no other does; and each line has at most 16
+/// fields.
+pub fn reports_end_once()
+    ensures { ReportsEndOnce }
+{}

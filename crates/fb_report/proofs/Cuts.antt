@@ -1,0 +1,26 @@
+-- A text is cut at the first byte that passes a test.
+use Rattle.std.proofs.Common.{◌≡◌, ℕ, ◌+◌, ◌-◌, ◌<◌, ◌≤◌, List, [], ◌∷◌, Bool, length, take, drop, arith, length-drop, sym, ap, ◌∙◌, Option, Some, None}
+use Rattle.std.specs.List.{slice_split, position_or_len}
+use Rattle.std.proofs.lemmas.List.{take_all}
+use Rattle.std.proofs.lemmas.List.Splits.{slice_split_first, slice_split_none}
+use Rattle.std.proofs.lemmas.List.Sums.{fails_before_first}
+use Rattle.fb_report.specs.Forms.{listed}
+use Rattle.fb_report.specs.declared.grammar.Fields.{Fields}
+
+module _ (p : ℕ → Bool) (text : List ℕ) (place : ℕ) (at : place ≡ position_or_len p text) where
+  -- the part before that byte, and the parts behind it
+  pub cut_at : place < length text → slice_split p text ≡ take place text ∷ slice_split p (take (length text - (place + 1)) (drop (place + 1) text))
+  cut_at inside =
+      let whole : take (length text - (place + 1)) (drop (place + 1) text) ≡ drop (place + 1) text = take_all (length text - (place + 1)) (drop (place + 1) text) (omega (arith, length-drop (place + 1) text)) in
+      slice_split_first p text 0 (omega arith)
+      ∙ ap (λ i. take i text ∷ slice_split p (drop (i + 1) text)) (sym at)
+      ∙ ap (λ rest. take place text ∷ slice_split p rest) (sym whole)
+
+  -- there is no such byte
+  pub cut_nowhere : length text ≤ place → slice_split p text ≡ text ∷ []
+  cut_nowhere past = slice_split_none p text (λ k d low. fails_before_first p text k d (omega arith))
+
+-- the fields that are left
+abbrev pub listed_left : Option Fields → List (List ℕ)
+listed_left None = []
+listed_left (Some fields) = listed fields

@@ -1,0 +1,202 @@
+-- The end line is the only line that begins like it.
+use Rattle.std.proofs.Common.{◌≡◌, ℕ, zero, suc, ◌+◌, ◌≤◌, List, [], ◌∷◌, ◌++◌, ◌⊎◌, inl, inr, length, Bool, true, false, refl, sym, ap, ◌∙◌, arith, lit≤, true≢false, subst, length-append, Some, Ok}
+use Rattle.std.specs.Prelude.{◌==◌, ◌&&◌, codes, slice_get}
+use Rattle.std.specs.List.{AllByRecursion, onto_first, list_any}
+use Rattle.std.specs.Str.{bytes_eq}
+use Rattle.std.proofs.lemmas.Bool.{cases_Bool}
+use Rattle.std.proofs.lemmas.Bool.Decides.{Decides-eqb}
+use Rattle.std.proofs.lemmas.List.Splits.{slice_split-cons_yes, slice_split-cons_no}
+use Rattle.fb_report.specs.Grammar.{Grammar, Form, fore_grammar, back_grammar, have_forms, is_line_of, is_word, report_fields, may_follow, may_end, lines_behind}
+use Rattle.fb_report.specs.Reading.{BeginsLikeEnd, EndsOnce, ReportsEndOnce}
+use Rattle.fb_report.proofs.Ranges.{get_left, get_right}
+use Rattle.fb_report.proofs.Whole.{row_or_end}
+
+both : (a b : Bool) → (a && b) ≡ true → (a ≡ true) × (b ≡ true)
+both true b h = (refl, h)
+both false b h = absurd (cc)
+
+-- ---- forms of a line
+
+-- there are as many fields as forms
+as_many : (forms : List Form) (fields : List (List ℕ)) → have_forms forms fields ≡ true → length fields ≡ length forms
+as_many [] [] h = refl
+as_many [] (field ∷ fields) h = absurd (cc)
+as_many (form ∷ forms) [] h = absurd (cc)
+as_many (form ∷ forms) (field ∷ fields) h = ap suc (as_many forms fields (both (form field) (have_forms forms fields) h).1)
+
+-- the first byte of a line is that of its first field
+onto_begins : (byte : ℕ) (parts : List (List ℕ)) → (bytes : List ℕ) × (others : List (List ℕ)) × (onto_first byte parts ≡ (byte ∷ bytes) ∷ others)
+onto_begins byte [] = ([], [], refl)
+onto_begins byte (part ∷ parts) = (part, parts, refl)
+
+-- the first form refuses a field that begins with an e, and there are few forms
+pub record IsPlain (forms : List Form) : Type 0 where
+  pub first : Form
+  pub others : List Form
+  pub is : forms ≡ first ∷ others
+  pub refuses : (bytes : List ℕ) → first (101 ∷ bytes) ≡ false
+  pub few : length forms ≤ 16
+
+-- a row or a first line
+pub record IsPlainLine (line : List ℕ) : Type 0 where
+  pub unlike : BeginsLikeEnd line → ⊥
+  pub few : length (report_fields line) ≤ 16
+
+refused : (forms : List Form) → IsPlain forms → (rest : List ℕ) → is_line_of forms (101 ∷ rest) ≡ true → ⊥
+refused forms plain rest h =
+    let begins = onto_begins 101 (report_fields rest) in
+    let fields : report_fields (101 ∷ rest) ≡ (101 ∷ begins.0) ∷ begins.1 = slice_split-cons_no (λ byte. byte == 32) 101 rest refl ∙ begins.2 in
+    let first : (plain.first (101 ∷ begins.0) && have_forms plain.others begins.1) ≡ true =
+    sym (ap (λ forms. have_forms forms ((101 ∷ begins.0) ∷ begins.1)) plain.is) ∙ (sym (ap (have_forms forms) fields) ∙ h) in
+    true≢false (sym (both (plain.first (101 ∷ begins.0)) (have_forms plain.others begins.1) first).0 ∙ plain.refuses begins.0)
+
+plain_line : (forms : List Form) → IsPlain forms → (line : List ℕ) → is_line_of forms line ≡ true → IsPlainLine line
+plain_line forms plain line h = record {
+  unlike = λ begins. refused forms plain begins.0 (subst (λ line. is_line_of forms line ≡ true) begins.1 h);
+  few = omega (arith, as_many forms (report_fields line) h, plain.few);
+}
+
+-- one of the rows
+row_line : (rows : List (List Form)) → AllByRecursion IsPlain rows → (line : List ℕ) → list_any (λ forms. is_line_of forms line) rows ≡ true → IsPlainLine line
+row_line [] plain line h = absurd (cc)
+row_line (row ∷ rows) plain line h = elim (cases_Bool (is_line_of row line)) [
+  | inl is ↦ plain_line row plain.0 line is
+  | inr other ↦ row_line rows plain.1 line (rw other at h)
+]
+
+-- ---- the end line
+
+-- the only forms of an end line begin with the word
+pub record IsEndForms (forms : List Form) : Type 0 where
+  pub others : List Form
+  pub is : forms ≡ is_word (codes "end") ∷ others
+  pub few : length forms ≤ 16
+
+pub record IsEndLine (line : List ℕ) : Type 0 where
+  pub begins : BeginsLikeEnd line
+  pub few : length (report_fields line) ≤ 16
+
+word_begins : (field : List ℕ) → is_word (codes "end") field ≡ true → (bytes : List ℕ) × (field ≡ 101 ∷ bytes)
+word_begins [] h = absurd (cc)
+word_begins (byte ∷ bytes) h = (bytes, ap (λ first. first ∷ bytes) ((Decides-eqb byte 101).0 (both (byte == 101) (bytes_eq bytes (codes "nd")) h).0))
+
+-- a line begins as its first field does
+onto_same : (first byte : ℕ) (bytes : List ℕ) (parts others : List (List ℕ)) → onto_first first parts ≡ (byte ∷ bytes) ∷ others → first ≡ byte
+onto_same first byte bytes [] others h = cc
+onto_same first byte bytes (part ∷ parts) others h = cc
+
+line_begins : (line : List ℕ) (byte : ℕ) (bytes : List ℕ) (others : List (List ℕ)) → report_fields line ≡ (byte ∷ bytes) ∷ others → (rest : List ℕ) × (line ≡ byte ∷ rest)
+line_begins [] byte bytes others h = absurd (cc)
+line_begins (first ∷ rest) byte bytes others h = elim (cases_Bool (first == 32)) [
+  | inl space ↦ let wrong : [] ∷ report_fields rest ≡ (byte ∷ bytes) ∷ others = sym (slice_split-cons_yes (λ byte. byte == 32) first rest space) ∙ h in absurd (cc)
+  | inr other ↦ (rest, ap (λ byte. byte ∷ rest) (onto_same first byte bytes (report_fields rest) others (sym (slice_split-cons_no (λ byte. byte == 32) first rest other) ∙ h)))
+]
+
+has_word : (others : List Form) (fields : List (List ℕ)) → have_forms (is_word (codes "end") ∷ others) fields ≡ true → (bytes : List ℕ) × (more : List (List ℕ)) × (fields ≡ (101 ∷ bytes) ∷ more)
+has_word others [] h = absurd (cc)
+has_word others (field ∷ more) h =
+    let word = word_begins field (both (is_word (codes "end") field) (have_forms others more) h).0 in
+    (word.0, more, ap (λ field. field ∷ more) word.1)
+
+end_line : (forms : List Form) → IsEndForms forms → (line : List ℕ) → is_line_of forms line ≡ true → IsEndLine line
+end_line forms ends line h =
+    let word = has_word ends.others (report_fields line) (sym (ap (λ forms. have_forms forms (report_fields line)) ends.is) ∙ h) in
+    record {
+      begins = line_begins line 101 word.0 word.1 word.2;
+      few = omega (arith, as_many forms (report_fields line) h, ends.few);
+    }
+
+-- ---- reports
+
+-- the grammar's first lines and rows are plain, and its last line begins with the word
+pub record EndsByWord (grammar : Grammar) : Type 0 where
+  pub first : IsPlain grammar.first
+  pub rows : AllByRecursion IsPlain grammar.rows
+  pub last : IsEndForms grammar.last
+
+-- plain lines and an end line behind them
+pub record AreEnded (lines : List (List ℕ)) : Type 0 where
+  pub front : List (List ℕ)
+  pub last : List ℕ
+  pub is : lines ≡ front ++ last ∷ []
+  pub plain : AllByRecursion IsPlainLine front
+  pub end : IsEndLine last
+
+all_push : {X : Type 0} (P : X → Type 0) (xs : List X) (x : X) → AllByRecursion P xs → P x → AllByRecursion P (xs ++ x ∷ [])
+all_push P [] x all more = (more, tt)
+all_push P (y ∷ xs) x all more = (all.0, all_push P xs x all.1 more)
+
+all_weaker : {X : Type 0} (P Q : X → Type 0) → ((x : X) → P x → Q x) → (xs : List X) → AllByRecursion P xs → AllByRecursion Q xs
+all_weaker P Q weaker [] all = tt
+all_weaker P Q weaker (x ∷ xs) all = (weaker x all.0, all_weaker P Q weaker xs all.1)
+
+all_get : {X : Type 0} (P : X → Type 0) (xs : List X) (i : ℕ) (x : X) → AllByRecursion P xs → slice_get xs i ≡ Some x → P x
+all_get P [] i x all at = absurd (cc)
+all_get P (y ∷ xs) zero x all at = subst P (let same : y ≡ x = cc in same) all.0
+all_get P (y ∷ xs) (suc i) x all at = all_get P xs i x all.1 at
+
+module _ (grammar : Grammar) (by_word : EndsByWord grammar) where
+  follower : (lines : List (List ℕ)) (line : List ℕ) → may_follow grammar lines line ≡ true → IsPlainLine line
+  follower [] line h = plain_line grammar.first by_word.first line h
+  follower (first ∷ rows) line h = row_line grammar.rows by_word.rows line h
+
+  ender : (lines : List (List ℕ)) (line : List ℕ) → may_end grammar lines line ≡ true → IsEndLine line
+  ender [] line h = absurd (cc)
+  ender (first ∷ rows) line h = end_line grammar.last by_word.last line h
+
+  are_ended : (lines parts all : List (List ℕ)) → AllByRecursion IsPlainLine lines → lines_behind grammar lines parts ≡ Ok all → AreEnded all
+  unfolding lines_behind
+  are_ended lines [] all plain h = absurd (cc)
+  are_ended lines (rest ∷ []) all plain h = absurd (cc)
+  are_ended lines (line ∷ next ∷ parts) all plain h = elim (row_or_end grammar lines line next parts all h) [
+    | inl row ↦ are_ended (lines ++ line ∷ []) (next ∷ parts) all (all_push IsPlainLine lines line plain (follower lines line row.follows)) row.others
+    | inr end ↦ record { front = lines; last = line; is = end.whole; plain = plain; end = ender lines line end.ends }
+  ]
+
+same_some : {X : Type 0} (x y : X) → Some x ≡ Some y → x ≡ y
+same_some x y h = cc
+
+ends_once : (lines : List (List ℕ)) → AreEnded lines → EndsOnce lines
+ends_once lines ended =
+    let front = ended.front in
+    let last = ended.last in
+    let count : length lines ≡ length front + 1 = ap length ended.is ∙ length-append front (last ∷ []) in
+    record {
+      some = omega arith;
+      last = λ line index at found.
+          let same : last ≡ line = same_some last line (sym (ap (λ lines. slice_get lines index) ended.is ∙ get_right front (last ∷ []) 0 index (omega arith)) ∙ found) in
+          subst BeginsLikeEnd same ended.end.begins;
+      others = λ line index before found.
+          (all_get IsPlainLine front index line ended.plain (sym (ap (λ lines. slice_get lines index) ended.is ∙ get_left front (last ∷ []) index (omega arith)) ∙ found)).unlike;
+      few = let P : List (List ℕ) → Type 0 = AllByRecursion (λ line. length (report_fields line) ≤ 16) in
+          subst P (sym ended.is)
+          (all_push (λ line. length (report_fields line) ≤ 16) front last (all_weaker IsPlainLine (λ line. length (report_fields line) ≤ 16) (λ line plain. plain.few) front ended.plain) ended.end.few);
+    }
+
+-- ---- the two grammars
+
+plain : (first : Form) (others : List Form) → ((bytes : List ℕ) → first (101 ∷ bytes) ≡ false) → length (first ∷ others) ≤ 16 → IsPlain (first ∷ others)
+plain first others refuses few = record { first = first; others = others; is = refl; refuses = refuses; few = few }
+
+fore_by_word : EndsByWord fore_grammar
+fore_by_word = record {
+  first = plain _ _ (λ bytes. refl) (lit≤ tt);
+  rows = (plain _ _ (λ bytes. refl) (lit≤ tt), (plain _ _ (λ bytes. refl) (lit≤ tt), tt));
+  last = record { others = _; is = refl; few = lit≤ tt };
+}
+
+back_by_word : EndsByWord back_grammar
+back_by_word = record {
+  first = plain _ _ (λ bytes. refl) (lit≤ tt);
+  rows = (plain _ _ (λ bytes. refl) (lit≤ tt), (plain _ _ (λ bytes. refl) (lit≤ tt), (plain _ _ (λ bytes. refl) (lit≤ tt), (plain _ _ (λ bytes. refl) (lit≤ tt), (plain _ _ (λ bytes. refl) (lit≤ tt), (plain _ _ (λ bytes. refl) (lit≤ tt), (plain _ _ (λ bytes. refl) (lit≤ tt), (plain _ _ (λ bytes. refl) (lit≤ tt), (plain _ _ (λ bytes. refl) (lit≤ tt), tt)))))))));
+  last = record { others = _; is = refl; few = lit≤ tt };
+}
+
+by_word : (grammar : Grammar) → (grammar ≡ fore_grammar) ⊎ (grammar ≡ back_grammar) → EndsByWord grammar
+by_word grammar known = elim known [
+  | inl fore ↦ subst EndsByWord (sym fore) fore_by_word
+  | inr back ↦ subst EndsByWord (sym back) back_by_word
+]
+
+pub reports_end_once : ReportsEndOnce
+reports_end_once grammar lines known report = ends_once lines (are_ended grammar (by_word grammar known) [] _ lines tt report)

@@ -1,0 +1,32 @@
+-- A number is tested digit by digit.
+use Rattle.std.proofs.Common.{◌≡◌, ℕ, ◌+◌, ◌-◌, ◌*◌, ◌^◌, ◌<◌, ◌≤◌, List, [], ◌∷◌, Bool, true, false, refl, ap, ◌∙◌, inl, inr, length, drop, arith}
+use Rattle.std.specs.Prelude.{◌&&◌, nat_lt}
+use Rattle.std.specs.List.{list_all}
+use Rattle.std.specs.Char.{is_ascii_digit}
+use Rattle.std.proofs.lemmas.Bool.{cases_Bool}
+use Rattle.std.proofs.lemmas.Bool.Decides.{nat_tests}
+use Rattle.std.proofs.lemmas.List.{drop_all}
+use Rattle.std.proofs.Math.Bool.{and-false}
+use Rattle.fb_units.specs.Numbers.{digits_after}
+
+-- with these digits behind it the number is below 2^64
+abbrev pub stays_below : ℕ → List ℕ → Bool
+stays_below n digits = list_all is_ascii_digit digits && nat_lt (digits_after n digits) (2 ^ 64)
+
+-- more digits don't make a number smaller
+digits_grow : (n : ℕ) (digits : List ℕ) → n ≤ digits_after n digits
+digits_grow n [] = omega arith
+digits_grow n (digit ∷ digits) = omega (arith, digits_grow (10 * n + (digit - 48)) digits)
+
+-- a byte that is no digit, or one with which the number passes 2^64
+pub stays_below-not : (n byte : ℕ) (bytes : List ℕ) → (is_ascii_digit byte ≡ true → 2 ^ 64 ≤ 10 * n + (byte - 48)) → stays_below n (byte ∷ bytes) ≡ false
+stays_below-not n byte bytes past = elim (cases_Bool (is_ascii_digit byte)) [
+  | inl digit ↦ let above : 2 ^ 64 ≤ digits_after n (byte ∷ bytes) = omega (arith, past digit, digits_grow (10 * n + (byte - 48)) bytes) in
+      let not_below : nat_lt (digits_after n (byte ∷ bytes)) (2 ^ 64) ≡ false = grind (arith, nat_tests) in
+      rw not_below (and-false (list_all is_ascii_digit (byte ∷ bytes)))
+  | inr other ↦ rw other refl
+]
+
+-- no digit is left
+pub stays_below-end : (n : ℕ) (text : List ℕ) (i : ℕ) → n < 2 ^ 64 → length text ≤ i → stays_below n (drop i text) ≡ true
+stays_below-end n text i small past = ap (stays_below n) (drop_all i text past) ∙ grind (arith, nat_tests)

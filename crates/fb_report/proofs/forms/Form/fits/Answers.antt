@@ -1,0 +1,8 @@
+use Rattle.std.proofs.Common.{◌∙◌, sym, ap}
+use Rattle.std.specs.Str.{bytes_eq}
+use Rattle.fb_report.specs.Forms.{fits}
+use Rattle.fb_report.proofs.Rows.{list_any-map}
+use Rattle.fb_report.proofs.forms.Form.fits.Goals as goal
+
+pub returns-in-OneOf : goal.returns-in-OneOf
+returns-in-OneOf c = c.is_one_of.ensures ∙ sym (list_any-map (bytes_eq c.args.field.now) (λ word. word.now) c.in-OneOf.words.now) ∙ ap (λ form. fits form c.args.field.now) (sym c.in-OneOf.is)

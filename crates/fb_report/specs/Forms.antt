@@ -1,0 +1,43 @@
+-- The grammars of reports as tables.
+use Rattle.std.specs.Prelude.{ℕ, List, [], ◌∷◌, Bool, Option, Some, None, map}
+use Rattle.std.specs.Borrow.{Bor}
+use Rattle.fb_calls.specs.Words.{is_name}
+use Rattle.fb_report.specs.declared.forms.Form.{Form}
+use Rattle.fb_report.specs.declared.forms.Form.TheVariants.{Word, OneOf, Number, Track, Request, Task, Bytes}
+use Rattle.fb_report.specs.declared.grammar.Table.{Table}
+use Rattle.fb_report.specs.declared.grammar.Fields.{Fields}
+use Rattle.fb_report.specs.declared.reading.Report.{Report}
+use Rattle.fb_report.specs.declared.reading.Report.TheVariants.{Fore, Back}
+use Rattle.fb_report.specs.Grammar.{Grammar, fore_grammar, back_grammar, is_word, is_one_of, is_number, is_track, is_request, are_bytes, report_fields}
+
+-- the field is what a form asks for
+abbrev pub fits : Form → List ℕ → Bool
+fits (Word word) = is_word word.now
+fits (OneOf words) = is_one_of (map (λ word. word.now) words.now)
+fits Number = is_number
+fits Track = is_track
+fits Request = is_request
+fits Task = is_name
+fits Bytes = are_bytes
+
+-- the grammar that a table writes
+abbrev pub written : Table → Grammar
+written table = record {
+  first = map fits table.first.now;
+  rows = map (λ row. map fits row.now) table.rows.now;
+  last = map fits table.last.now;
+}
+
+-- the grammar of a report
+abbrev pub grammar_of : Report → Grammar
+grammar_of Fore = fore_grammar
+grammar_of Back = back_grammar
+
+-- the fields of what is left of a line, if anything is
+abbrev pub fields_left : Option (Bor (List ℕ)) → List (List ℕ)
+fields_left None = []
+fields_left (Some text) = report_fields text.now
+
+-- a first field and those behind it
+abbrev pub listed : Fields → List (List ℕ)
+listed fields = fields.first.now ∷ fields_left fields.rest
