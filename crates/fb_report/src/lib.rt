@@ -5,6 +5,12 @@
 //! the background text of the background rows, the tasks' names, the run's end, the sector size and
 //! the mode; the summary of the run alone.
 //! Digests are computed while the bytes are made, so that no bytes are held.
+//!
+//! A printed report is read back as its lines. A text is accepted exactly if its lines obey the
+//! grammar of that report, and its lines, each with its line feed, are then the text; a refused
+//! text names its first line that isn't in its place. The last line is the only one that begins
+//! with an e, and no line has more than 16 fields. Only the spelling is tested: nothing is said of
+//! what the numbers mean, or of the order of the rows.
 #![tactic(auto)]
 
 mod back;

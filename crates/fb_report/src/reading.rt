@@ -112,6 +112,12 @@ pub fn read_back(alloc: Global, text: &[u8]) -> Result<ReportLines<'_>, ReportsE
     read(alloc, Report::Back, text)
 }
 
+/// The last line of a report begins with an e, and no other does; and each line has at most 16
+/// fields.
+pub fn reports_end_once()
+    ensures { ReportsEndOnce }
+{}
+
 // The lines of this report.
 fn read(alloc: Global, report: Report, text: &[u8]) -> Result<ReportLines<'_>, ReportsError>
     ensures { AnswersReport report result (report_of (grammar_of report) text.now) }
@@ -162,9 +168,3 @@ fn fault(report: Report, lines: usize) -> ReportsError
         line: lines as u64 + 1,
     })
 }
-
-/// The last line of a report begins with an e, and no other does; and each line has at most 16
-/// fields.
-pub fn reports_end_once()
-    ensures { ReportsEndOnce }
-{}
