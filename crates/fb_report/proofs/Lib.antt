@@ -8,3 +8,7 @@ pub mod Rows
 pub mod Behind
 pub mod Whole
 pub mod EndsOnce
+pub mod ReadBack
+pub mod Fields
+pub mod Forms
+pub mod ShownForms

@@ -6,3 +6,4 @@ pub mod Summary
 pub mod Grammar
 pub mod Reading
 pub mod Forms
+pub mod Printed

@@ -21,6 +21,7 @@ mod fore;
 mod forms;
 mod grammar;
 mod line;
+mod printed;
 mod reading;
 mod sectors;
 mod sink;
@@ -30,6 +31,7 @@ pub use back::{back_first, back_last, back_piece, back_pieces, back_text};
 pub use back_rows::back_line;
 pub use bytes::Bytes;
 pub use fore::{fore_first, fore_last, fore_line, fore_piece, fore_pieces, fore_text};
+pub use printed::printed_reports_are_read;
 pub use reading::{
     Report, ReportLines, ReportsError, ReportsFault, read_back, read_fore, reports_end_once,
 };

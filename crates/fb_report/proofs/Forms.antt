@@ -1,0 +1,128 @@
+-- The fields of lines have their forms.
+use Rattle.std.proofs.Common.{◌≡◌, ℕ, ◌+◌, ◌-◌, ◌*◌, ◌%◌, ◌<◌, ◌^◌, List, [], ◌∷◌, ◌++◌, length, drop, get_or, Bool, true, false, refl, sym, ap, ◌∙◌, arith, subst, inl, inr}
+use Rattle.std.specs.Prelude.{◌==◌, nat_lt, decimal}
+use Rattle.std.specs.List.{list_all, position_or_len, before_first, after_first}
+use Rattle.std.specs.Char.{is_ascii_digit}
+use Rattle.std.specs.Str.{bytes_eq}
+use Rattle.std.proofs.Math.Seq.{drop-append-add}
+use Rattle.std.proofs.lemmas.Bool.{cases_Bool}
+use Rattle.std.proofs.lemmas.Bool.Decides.{nat_tests}
+use Rattle.std.proofs.lemmas.List.{take_at}
+use Rattle.std.proofs.lemmas.List.Folds.{list_all-append}
+use Rattle.std.proofs.lemmas.Slice.Eq.{bytes_eq-Decides}
+use Rattle.std.proofs.lemmas.Fmt.{decimal_by_steps, decimal_nonempty, decimal_digit, first_decimal}
+use Rattle.fb_units.specs.Numbers.{are_digits, digits_after}
+use Rattle.fb_units.specs.declared.types.Track.{Track}
+use Rattle.fb_units.specs.declared.types.Name.TheVariants.{Traced, Promoted}
+use Rattle.fb_calls.specs.Words.{is_name, is_name_byte}
+use Rattle.fb_report.specs.Lines.{name_text, track_text}
+use Rattle.fb_report.specs.Grammar.{has_no_leading_zero, is_number, is_point, is_track, is_request, is_word}
+use Rattle.fb_report.specs.Printed.{IsField}
+use Rattle.fb_report.proofs.ReadBack.{and_parts}
+use Rattle.fb_report.proofs.Fields.{plain}
+
+pub all_too : (p q : ℕ → Bool) → ((x : ℕ) → p x ≡ true → q x ≡ true) → (xs : List ℕ) → list_all p xs ≡ true → list_all q xs ≡ true
+all_too p q then [] all = refl
+all_too p q then (x ∷ xs) all = let both = and_parts (p x) (list_all p xs) all in rw (then x both.0, all_too p q then xs both.1) refl
+
+-- ---- words
+
+same_bytes : (text : List ℕ) → bytes_eq text text ≡ true
+same_bytes text = (bytes_eq-Decides text text).1 refl
+
+pub word_is : (word : List ℕ) → list_all plain word ≡ true → IsField (is_word word) word
+word_is word whole = record { fits = same_bytes word; whole = whole }
+
+-- ---- numbers
+
+digit : (n : ℕ) → n < 10 → is_ascii_digit (48 + n) ≡ true
+digit n h = grind (arith, nat_tests)
+
+-- digits that write n
+record Writes (n : ℕ) (digits : List ℕ) : Type 0 where
+  all : list_all is_ascii_digit digits ≡ true
+  value : digits_after 0 digits ≡ n
+
+value_end : (n : ℕ) (digits : List ℕ) (d : ℕ) → digits_after n (digits ++ d ∷ []) ≡ 10 * digits_after n digits + (d - 48)
+value_end n [] d = refl
+value_end n (c ∷ digits) d = value_end (10 * n + (c - 48)) digits d
+
+written : (n : ℕ) → n < 2 ^ 64 → Writes n (decimal n)
+written = decimal_by_steps Writes (λ n h. record { all = rw (digit n h) refl; value = omega arith })
+    (λ n digits small h. record {
+      all = list_all-append is_ascii_digit digits ((48 + n % 10) ∷ []) ∙ rw (h.all, digit (n % 10) (omega arith)) refl;
+      value = value_end 0 digits (48 + n % 10) ∙ omega (arith, h.value);
+    })
+
+above : (byte : ℕ) → is_ascii_digit byte ≡ true → plain byte ≡ true
+above byte is = grind (arith, nat_tests)
+
+some_digits : (digits : List ℕ) → 0 < length digits → list_all is_ascii_digit digits ≡ true → are_digits digits ≡ true
+some_digits [] some all = absurd (omega arith)
+some_digits (c ∷ digits) some all = all
+
+no_zero : (digits : List ℕ) → 48 < get_or digits 0 0 → has_no_leading_zero digits ≡ true
+no_zero [] above = refl
+no_zero (c ∷ digits) above = let other : (c == 48) ≡ false = grind (arith, nat_tests) in rw other refl
+
+leading : (n : ℕ) → n < 2 ^ 64 → has_no_leading_zero (decimal n) ≡ true
+leading n small = elim (cases_Bool (nat_lt 0 n)) [
+  | inl some ↦ let more : 0 < n = grind (arith, nat_tests) in no_zero (decimal n) (first_decimal n more small)
+  | inr none ↦ let zero : 0 ≡ n = grind (arith, nat_tests) in subst (λ m. has_no_leading_zero (decimal m) ≡ true) zero (ap has_no_leading_zero (decimal_digit 0 (omega arith)))
+]
+
+pub number_is : (n : ℕ) → n < 2 ^ 64 → IsField is_number (decimal n)
+number_is n small =
+    let small_too : nat_lt (digits_after 0 (decimal n)) (2 ^ 64) ≡ true = rw (written n small).value (grind (arith, nat_tests)) in
+    record {
+      fits = rw (some_digits (decimal n) (decimal_nonempty n small) (written n small).all, leading n small, small_too) refl;
+      whole = all_too is_ascii_digit plain above (decimal n) (written n small).all;
+    }
+
+-- ---- tracks and names
+
+no_point : (byte : ℕ) → is_ascii_digit byte ≡ true → is_point byte ≡ false
+no_point byte is = grind (arith, nat_tests)
+
+-- the first point is behind the digits
+point_at : (digits rest : List ℕ) → list_all is_ascii_digit digits ≡ true → position_or_len is_point (digits ++ 46 ∷ rest) ≡ length digits
+point_at [] rest all = refl
+point_at (c ∷ digits) rest all =
+    let both = and_parts (is_ascii_digit c) (list_all is_ascii_digit digits) all in
+    rw (no_point c both.0, point_at digits rest both.1) (omega arith)
+
+before_point : (digits rest : List ℕ) → list_all is_ascii_digit digits ≡ true → before_first is_point (digits ++ 46 ∷ rest) ≡ digits
+before_point digits rest all = take_at digits (46 ∷ rest) _ (sym (point_at digits rest all))
+
+after_point : (digits rest : List ℕ) → list_all is_ascii_digit digits ≡ true → after_first is_point (digits ++ 46 ∷ rest) ≡ rest
+after_point digits rest all = ap (λ n. drop (n + 1) (digits ++ 46 ∷ rest)) (point_at digits rest all) ∙ drop-append-add digits (46 ∷ rest) 1
+
+pub track_is : (track : Track) → track.cylinder < 2 ^ 64 → track.head < 2 ^ 64 → IsField is_track (track_text track)
+track_is track low small =
+    let cylinder = number_is track.cylinder low in
+    let head = number_is track.head small in
+    let digits = (written track.cylinder low).all in
+    record {
+      fits = rw (before_point (decimal track.cylinder) (decimal track.head) digits, after_point (decimal track.cylinder) (decimal track.head) digits, cylinder.fits, head.fits) refl;
+      whole = list_all-append plain (decimal track.cylinder) (46 ∷ decimal track.head) ∙ rw (cylinder.whole, head.whole) refl;
+    }
+
+no_mark : (byte : ℕ) → is_ascii_digit byte ≡ true → (byte == 80) ≡ false
+no_mark byte is = grind (arith, nat_tests)
+
+-- digits alone are no promoted read's name
+traced_is : (digits : List ℕ) → list_all is_ascii_digit digits ≡ true → is_number digits ≡ true → is_request digits ≡ true
+traced_is [] all number = number
+traced_is (c ∷ digits) all number = rw (no_mark c (and_parts (is_ascii_digit c) (list_all is_ascii_digit digits) all).0) number
+
+pub traced_name : (n : ℕ) → n < 2 ^ 64 → IsField is_request (name_text (Traced n))
+traced_name n small = let number = number_is n small in record { fits = traced_is (decimal n) (written n small).all number.fits; whole = number.whole }
+
+pub promoted_name : (n : ℕ) → n < 2 ^ 64 → IsField is_request (name_text (Promoted n))
+promoted_name n small = let number = number_is n small in record { fits = number.fits; whole = number.whole }
+
+name_byte : (byte : ℕ) → is_name_byte byte ≡ true → plain byte ≡ true
+name_byte byte is = grind (arith, nat_tests)
+
+pub task_is : (name : List ℕ) → is_name name ≡ true → IsField is_name name
+task_is name is = record { fits = is; whole = all_too is_name_byte plain name_byte name (and_parts _ (list_all is_name_byte name) is).1 }
