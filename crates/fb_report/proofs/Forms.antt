@@ -12,10 +12,7 @@ use Rattle.std.proofs.lemmas.List.Folds.{list_all-append}
 use Rattle.std.proofs.lemmas.Slice.Eq.{bytes_eq-Decides}
 use Rattle.std.proofs.lemmas.Fmt.{decimal_by_steps, decimal_nonempty, decimal_digit, first_decimal}
 use Rattle.fb_units.specs.Numbers.{are_digits, digits_after}
-use Rattle.fb_units.specs.declared.types.Track.{Track}
-use Rattle.fb_units.specs.declared.types.Name.TheVariants.{Traced, Promoted}
 use Rattle.fb_calls.specs.Words.{is_name, is_name_byte}
-use Rattle.fb_report.specs.Lines.{name_text, track_text}
 use Rattle.fb_report.specs.Grammar.{has_no_leading_zero, is_number, is_point, is_track, is_request, is_word}
 use Rattle.fb_report.specs.Printed.{IsField}
 use Rattle.fb_report.proofs.ReadBack.{and_parts}
@@ -97,15 +94,19 @@ before_point digits rest all = take_at digits (46 ∷ rest) _ (sym (point_at dig
 after_point : (digits rest : List ℕ) → list_all is_ascii_digit digits ≡ true → after_first is_point (digits ++ 46 ∷ rest) ≡ rest
 after_point digits rest all = ap (λ n. drop (n + 1) (digits ++ 46 ∷ rest)) (point_at digits rest all) ∙ drop-append-add digits (46 ∷ rest) 1
 
-pub track_is : (track : Track) → track.cylinder < 2 ^ 64 → track.head < 2 ^ 64 → IsField is_track (track_text track)
-track_is track low small =
-    let cylinder = number_is track.cylinder low in
-    let head = number_is track.head small in
-    let digits = (written track.cylinder low).all in
-    record {
-      fits = rw (before_point (decimal track.cylinder) (decimal track.head) digits, after_point (decimal track.cylinder) (decimal track.head) digits, cylinder.fits, head.fits) refl;
-      whole = list_all-append plain (decimal track.cylinder) (46 ∷ decimal track.head) ∙ rw (cylinder.whole, head.whole) refl;
-    }
+digits_are : (text : List ℕ) → are_digits text ≡ true → list_all is_ascii_digit text ≡ true
+digits_are [] are = refl
+digits_are (c ∷ text) are = are
+
+-- a number has only digits
+only_digits : (text : List ℕ) → IsField is_number text → list_all is_ascii_digit text ≡ true
+only_digits text is = digits_are text (and_parts (are_digits text) (has_no_leading_zero text) (and_parts _ (nat_lt (digits_after 0 text) (2 ^ 64)) is.fits).0).0
+
+pub track_is : (cylinder head : List ℕ) → IsField is_number cylinder → IsField is_number head → IsField is_track (cylinder ++ 46 ∷ head)
+track_is cylinder head is too = record {
+  fits = rw (before_point cylinder head (only_digits cylinder is), after_point cylinder head (only_digits cylinder is), is.fits, too.fits) refl;
+  whole = list_all-append plain cylinder (46 ∷ head) ∙ rw (is.whole, too.whole) refl;
+}
 
 no_mark : (byte : ℕ) → is_ascii_digit byte ≡ true → (byte == 80) ≡ false
 no_mark byte is = grind (arith, nat_tests)
@@ -115,11 +116,11 @@ traced_is : (digits : List ℕ) → list_all is_ascii_digit digits ≡ true → 
 traced_is [] all number = number
 traced_is (c ∷ digits) all number = rw (no_mark c (and_parts (is_ascii_digit c) (list_all is_ascii_digit digits) all).0) number
 
-pub traced_name : (n : ℕ) → n < 2 ^ 64 → IsField is_request (name_text (Traced n))
-traced_name n small = let number = number_is n small in record { fits = traced_is (decimal n) (written n small).all number.fits; whole = number.whole }
+pub traced_name : (number : List ℕ) → IsField is_number number → IsField is_request number
+traced_name number is = record { fits = traced_is number (only_digits number is) is.fits; whole = is.whole }
 
-pub promoted_name : (n : ℕ) → n < 2 ^ 64 → IsField is_request (name_text (Promoted n))
-promoted_name n small = let number = number_is n small in record { fits = number.fits; whole = number.whole }
+pub promoted_name : (number : List ℕ) → IsField is_number number → IsField is_request (80 ∷ number)
+promoted_name number is = record { fits = is.fits; whole = is.whole }
 
 name_byte : (byte : ℕ) → is_name_byte byte ≡ true → plain byte ≡ true
 name_byte byte is = grind (arith, nat_tests)

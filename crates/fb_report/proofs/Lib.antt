@@ -12,3 +12,5 @@ pub mod ReadBack
 pub mod Fields
 pub mod Forms
 pub mod ShownForms
+pub mod PrintedRows
+pub mod Places

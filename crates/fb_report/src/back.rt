@@ -3,6 +3,8 @@ ghost use Rattle.std.specs.Prelude.{◌≡◌, ℕ, ◌+◌, ◌%◌, ◌<◌, L
 ghost use Rattle.std.specs.List.{AllByRecursion};
 ghost use Rattle.fb_report.specs.declared.bytes.Bytes.{Bytes};
 ghost use Rattle.fb_report.specs.Back.{back_first, back_last, back_lines, back_text};
+ghost use Rattle.fb_report.specs.Grammar.{back_grammar};
+ghost use Rattle.fb_report.specs.Printed.{AreNames, CountsSectors, IsLine, is_first, is_in_place, is_last};
 ghost use Rattle.fb_rows.specs.Ranges.{HasBackRanges};
 ghost use Rattle.fb_rows.specs.Tasks.{HasNamedTask};
 
@@ -37,7 +39,8 @@ pub fn back_piece(
     requires ranges { AllByRecursion HasBackRanges run.now.back }
     requires named { AllByRecursion (HasNamedTask names.now) run.now.back }
     requires piece { k < length run.now.back + 2 }
-    ensures { IfOk result (λ line. slice_get (back_lines names.now sector_bytes bytes run.now) k ≡ Some line.items) }
+    ensures value { IfOk result (λ line. slice_get (back_lines names.now sector_bytes bytes run.now) k ≡ Some line.items) }
+    ensures form { IfOk result (λ line. 0 < sector_bytes → AreNames names.now → AllByRecursion CountsSectors run.now.back → IsLine (is_in_place back_grammar (length run.now.back + 2) k) line.items) }
 {
     let rows = run.back.len() as u64;
     if k == 0 {
@@ -73,7 +76,8 @@ pub fn back_text(
 
 /// The first line of every background report, with its line feed.
 pub fn back_first(alloc: Global) -> Result<Vec<u8>, NoMemory>
-    ensures { IfOk result (λ line. line.items ≡ back_first) }
+    ensures value { IfOk result (λ line. line.items ≡ back_first) }
+    ensures form { IfOk result (λ line. IsLine (is_first back_grammar) line.items) }
 {
     let mut line = Line::new(alloc, b"freeblock")?;
     line.word(b"back")?;
@@ -84,7 +88,8 @@ pub fn back_first(alloc: Global) -> Result<Vec<u8>, NoMemory>
 /// The last line of a background report, with its line feed: the instant, in ns, at which the run
 /// ends.
 pub fn back_last(alloc: Global, end: Ns) -> Result<Vec<u8>, NoMemory>
-    ensures { IfOk result (λ line. line.items ≡ back_last end) }
+    ensures value { IfOk result (λ line. line.items ≡ back_last end) }
+    ensures form { IfOk result (λ line. IsLine (is_last back_grammar) line.items) }
 {
     let mut line = Line::new(alloc, b"end")?;
     line.number(end)?;

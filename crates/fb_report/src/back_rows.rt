@@ -1,7 +1,10 @@
 // The lines of the background's rows.
-ghost use Rattle.std.specs.Prelude.{◌≡◌, ◌<◌, ◌%◌, length, OnOk, IfOk};
+ghost use Rattle.std.specs.Prelude.{◌≡◌, ◌<◌, ◌%◌, ◌^◌, [], ◌∷◌, codes, length, OnOk, IfOk};
+ghost use Rattle.std.specs.List.{sum_by};
 ghost use Rattle.fb_report.specs.Lines.{with_fields};
 ghost use Rattle.fb_report.specs.Back.{back_line, bad_line, complete_line, gap_fields, gap_line, got_fields, got_line, how_text, idle_line, is_complete_text, plan_fields, seal_line, segment_fields, segment_line, task_fields, task_kind_text, task_line};
+ghost use Rattle.fb_report.specs.Grammar.{are_bytes, back_grammar, is_number, is_track, is_word};
+ghost use Rattle.fb_report.specs.Printed.{AreNames, AreOneOf, CountsSectors, HasSectors, IsField, IsLine, is_row};
 ghost use Rattle.fb_rows.specs.Ranges.{AreRanges, HasBackRanges};
 ghost use Rattle.fb_rows.specs.Tasks.{HasNamedTask};
 
@@ -29,7 +32,8 @@ pub fn back_line(
     requires whole { sector_bytes % 16 ≡ 0 }
     requires ranges { HasBackRanges row.now }
     requires named { HasNamedTask names.now row.now }
-    ensures { IfOk result (λ line. line.items ≡ back_line names.now sector_bytes bytes row.now) }
+    ensures value { IfOk result (λ line. line.items ≡ back_line names.now sector_bytes bytes row.now) }
+    ensures form { IfOk result (λ line. 0 < sector_bytes → AreNames names.now → CountsSectors row.now → IsLine (is_row back_grammar) line.items) }
 {
     match row {
         BackRow::Gap(row) => gap_line(alloc, row),
@@ -44,7 +48,8 @@ pub fn back_line(
 }
 
 fn gap_line(alloc: Global, row: &GapRow) -> Result<Vec<u8>, NoMemory>
-    ensures { IfOk result (λ line. line.items ≡ gap_line row.now) }
+    ensures value { IfOk result (λ line. line.items ≡ gap_line row.now) }
+    ensures form { IfOk result (λ line. IsLine (is_row back_grammar) line.items) }
 {
     let mut line = Line::new(alloc, b"gap")?;
     push_gap(&mut line, row)?;
@@ -52,7 +57,8 @@ fn gap_line(alloc: Global, row: &GapRow) -> Result<Vec<u8>, NoMemory>
 }
 
 fn push_gap(line: &mut Line, row: &GapRow) -> Result<(), NoMemory>
-    ensures { OnOk result (line.new ≡ with_fields line.old (gap_fields row.now)) }
+    ensures value { OnOk result (line.new ≡ with_fields line.old (gap_fields row.now)) }
+    ensures form { OnOk result (AreOneOf back_grammar.rows (codes "gap" ∷ gap_fields row.now)) }
 {
     line.name(row.name)?;
     line.track(row.gap.source)?;
@@ -63,7 +69,8 @@ fn push_gap(line: &mut Line, row: &GapRow) -> Result<(), NoMemory>
 }
 
 fn push_plan(line: &mut Line, plan: Plan) -> Result<(), NoMemory>
-    ensures { OnOk result (line.new ≡ with_fields line.old (plan_fields plan)) }
+    ensures value { OnOk result (line.new ≡ with_fields line.old (plan_fields plan)) }
+    ensures form { OnOk result (AreOneOf ((is_word (codes "direct") ∷ is_number ∷ []) ∷ (is_word (codes "detour") ∷ is_track ∷ is_number ∷ []) ∷ []) (plan_fields plan)) }
 {
     match plan {
         Plan::Direct { leave } => {
@@ -79,7 +86,8 @@ fn push_plan(line: &mut Line, plan: Plan) -> Result<(), NoMemory>
 }
 
 fn idle_line(alloc: Global, dwell: &Dwell) -> Result<Vec<u8>, NoMemory>
-    ensures { IfOk result (λ line. line.items ≡ idle_line dwell.now) }
+    ensures value { IfOk result (λ line. line.items ≡ idle_line dwell.now) }
+    ensures form { IfOk result (λ line. IsLine (is_row back_grammar) line.items) }
 {
     let mut line = Line::new(alloc, b"idle")?;
     line.track(dwell.track)?;
@@ -98,7 +106,8 @@ fn got_line(
     requires whole { sector_bytes % 16 ≡ 0 }
     requires ranges { AreRanges row.now.content }
     requires named { row.now.block.task < length names.now }
-    ensures { IfOk result (λ line. line.items ≡ got_line names.now sector_bytes bytes row.now) }
+    ensures value { IfOk result (λ line. line.items ≡ got_line names.now sector_bytes bytes row.now) }
+    ensures form { IfOk result (λ line. 0 < sector_bytes → AreNames names.now → HasSectors row.now.content → IsLine (is_row back_grammar) line.items) }
 {
     let found = shown(alloc, &row.content, sector_bytes, bytes)?;
     let mut line = Line::new(alloc, b"got")?;
@@ -114,7 +123,8 @@ fn push_delivery(
     found: &[u8],
 ) -> Result<(), NoMemory>
     requires named { row.now.block.task < length names.now }
-    ensures { OnOk result (line.new ≡ with_fields line.old (got_fields names.now row.now found.now)) }
+    ensures value { OnOk result (line.new ≡ with_fields line.old (got_fields names.now row.now found.now)) }
+    ensures form { OnOk result (AreNames names.now → IsField are_bytes found.now → AreOneOf back_grammar.rows (codes "got" ∷ got_fields names.now row.now found.now)) }
 {
     line.task(names, row.block.task)?;
     line.number(row.block.index as u64)?;
@@ -139,7 +149,8 @@ fn how(how: How) -> &'static [u8]
 
 fn bad_line(alloc: Global, row: &BadRow, names: &Names) -> Result<Vec<u8>, NoMemory>
     requires named { row.now.task < length names.now }
-    ensures { IfOk result (λ line. line.items ≡ bad_line names.now row.now) }
+    ensures value { IfOk result (λ line. line.items ≡ bad_line names.now row.now) }
+    ensures form { IfOk result (λ line. AreNames names.now → IsLine (is_row back_grammar) line.items) }
 {
     let mut line = Line::new(alloc, b"bad")?;
     line.task(names, row.task)?;
@@ -157,7 +168,8 @@ fn seal_line(
     requires whole { sector_bytes % 16 ≡ 0 }
     requires ranges { AreRanges row.now.content }
     requires named { row.now.task < length names.now }
-    ensures { IfOk result (λ line. line.items ≡ seal_line names.now sector_bytes bytes row.now) }
+    ensures value { IfOk result (λ line. line.items ≡ seal_line names.now sector_bytes bytes row.now) }
+    ensures form { IfOk result (λ line. AreNames names.now → sum_by (λ run. run.count) row.now.content < 2 ^ 64 → IsLine (is_row back_grammar) line.items) }
 {
     let digest = shown_digest(alloc, &row.content, sector_bytes, bytes)?;
     let mut line = Line::new(alloc, b"seal")?;
@@ -178,7 +190,8 @@ fn segment_line(
     requires whole { sector_bytes % 16 ≡ 0 }
     requires ranges { AreRanges row.now.content }
     requires named { row.now.task < length names.now }
-    ensures { IfOk result (λ line. line.items ≡ segment_line names.now sector_bytes bytes row.now) }
+    ensures value { IfOk result (λ line. line.items ≡ segment_line names.now sector_bytes bytes row.now) }
+    ensures form { IfOk result (λ line. AreNames names.now → IsLine (is_row back_grammar) line.items) }
 {
     let digest = shown_digest(alloc, &row.content, sector_bytes, bytes)?;
     let mut line = Line::new(alloc, b"seg")?;
@@ -194,7 +207,8 @@ fn push_segment(
     digest: &[u8],
 ) -> Result<(), NoMemory>
     requires named { row.now.task < length names.now }
-    ensures { OnOk result (line.new ≡ with_fields line.old (segment_fields names.now row.now digest.now)) }
+    ensures value { OnOk result (line.new ≡ with_fields line.old (segment_fields names.now row.now digest.now)) }
+    ensures form { OnOk result (AreNames names.now → IsField are_bytes digest.now → AreOneOf back_grammar.rows (codes "seg" ∷ segment_fields names.now row.now digest.now)) }
 {
     line.task(names, row.task)?;
     line.number(row.segment as u64)?;
@@ -205,7 +219,8 @@ fn push_segment(
 
 fn complete_line(alloc: Global, row: &CompleteRow, names: &Names) -> Result<Vec<u8>, NoMemory>
     requires named { row.now.task < length names.now }
-    ensures { IfOk result (λ line. line.items ≡ complete_line names.now row.now) }
+    ensures value { IfOk result (λ line. line.items ≡ complete_line names.now row.now) }
+    ensures form { IfOk result (λ line. AreNames names.now → IsLine (is_row back_grammar) line.items) }
 {
     let mut line = Line::new(alloc, b"done")?;
     line.task(names, row.task)?;
@@ -215,7 +230,8 @@ fn complete_line(alloc: Global, row: &CompleteRow, names: &Names) -> Result<Vec<
 
 fn task_line(alloc: Global, row: &TaskRow, names: &Names) -> Result<Vec<u8>, NoMemory>
     requires named { row.now.task < length names.now }
-    ensures { IfOk result (λ line. line.items ≡ task_line names.now row.now) }
+    ensures value { IfOk result (λ line. line.items ≡ task_line names.now row.now) }
+    ensures form { IfOk result (λ line. AreNames names.now → IsLine (is_row back_grammar) line.items) }
 {
     let mut line = Line::new(alloc, b"task")?;
     push_task(&mut line, row, names)?;
@@ -224,7 +240,8 @@ fn task_line(alloc: Global, row: &TaskRow, names: &Names) -> Result<Vec<u8>, NoM
 
 fn push_task(line: &mut Line, row: &TaskRow, names: &Names) -> Result<(), NoMemory>
     requires named { row.now.task < length names.now }
-    ensures { OnOk result (line.new ≡ with_fields line.old (task_fields names.now row.now)) }
+    ensures value { OnOk result (line.new ≡ with_fields line.old (task_fields names.now row.now)) }
+    ensures form { OnOk result (AreNames names.now → AreOneOf back_grammar.rows (codes "task" ∷ task_fields names.now row.now)) }
 {
     let left = row
         .registered

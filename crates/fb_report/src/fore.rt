@@ -1,9 +1,11 @@
 // The foreground report.
-ghost use Rattle.std.specs.Prelude.{◌≡◌, ℕ, ◌+◌, ◌%◌, ◌<◌, length, Some, IfOk, OnOk, slice_get};
+ghost use Rattle.std.specs.Prelude.{◌≡◌, ℕ, ◌+◌, ◌%◌, ◌<◌, [], ◌∷◌, ◌++◌, length, codes, Some, IfOk, OnOk, slice_get};
 ghost use Rattle.std.specs.List.{AllByRecursion};
 ghost use Rattle.fb_report.specs.declared.bytes.Bytes.{Bytes};
 ghost use Rattle.fb_report.specs.Lines.{with_fields};
 ghost use Rattle.fb_report.specs.Fore.{bad_count, kind_text, row_bytes, row_fields, fore_first, fore_line, fore_last, fore_lines, fore_text};
+ghost use Rattle.fb_report.specs.Grammar.{are_bytes, fore_grammar, is_one_of, numbers};
+ghost use Rattle.fb_report.specs.Printed.{AreFields, IsField, IsLine, ReadsSectors, is_first, is_in_place, is_last, is_row};
 ghost use Rattle.fb_rows.specs.Ranges.{HasRanges};
 
 use crate::Bytes;
@@ -34,7 +36,8 @@ pub fn fore_piece(
     requires whole { sector_bytes % 16 ≡ 0 }
     requires ranges { AllByRecursion HasRanges run.now.fore }
     requires piece { k < length run.now.fore + 2 }
-    ensures { IfOk result (λ line. slice_get (fore_lines sector_bytes bytes run.now) k ≡ Some line.items) }
+    ensures value { IfOk result (λ line. slice_get (fore_lines sector_bytes bytes run.now) k ≡ Some line.items) }
+    ensures form { IfOk result (λ line. 0 < sector_bytes → AllByRecursion ReadsSectors run.now.fore → IsLine (is_in_place fore_grammar (length run.now.fore + 2) k) line.items) }
 {
     let rows = run.fore.len() as u64;
     if k == 0 {
@@ -68,7 +71,8 @@ pub fn fore_text(
 
 /// The first line of every foreground report, with its line feed.
 pub fn fore_first(alloc: Global) -> Result<Vec<u8>, NoMemory>
-    ensures { IfOk result (λ line. line.items ≡ fore_first) }
+    ensures value { IfOk result (λ line. line.items ≡ fore_first) }
+    ensures form { IfOk result (λ line. IsLine (is_first fore_grammar) line.items) }
 {
     let mut line = Line::new(alloc, b"freeblock")?;
     line.word(b"fore")?;
@@ -79,7 +83,8 @@ pub fn fore_first(alloc: Global) -> Result<Vec<u8>, NoMemory>
 /// The last line of a foreground report, with its line feed: how many rows it has, and how many
 /// requests were passed over.
 pub fn fore_last(alloc: Global, rows: u64, passed_over: u64) -> Result<Vec<u8>, NoMemory>
-    ensures { IfOk result (λ line. line.items ≡ fore_last rows passed_over) }
+    ensures value { IfOk result (λ line. line.items ≡ fore_last rows passed_over) }
+    ensures form { IfOk result (λ line. IsLine (is_last fore_grammar) line.items) }
 {
     let mut line = Line::new(alloc, b"end")?;
     line.number(rows)?;
@@ -98,7 +103,8 @@ pub fn fore_line(
 ) -> Result<Vec<u8>, NoMemory>
     requires whole { sector_bytes % 16 ≡ 0 }
     requires ranges { HasRanges row.now }
-    ensures { IfOk result (λ line. line.items ≡ fore_line sector_bytes bytes row.now) }
+    ensures value { IfOk result (λ line. line.items ≡ fore_line sector_bytes bytes row.now) }
+    ensures form { IfOk result (λ line. 0 < sector_bytes → ReadsSectors row.now → IsLine (is_row fore_grammar) line.items) }
 {
     let found = row_bytes(alloc, row, sector_bytes, bytes)?;
     let mut line = Line::named(alloc, row.request.name)?;
@@ -108,7 +114,8 @@ pub fn fore_line(
 
 // Adds the fields of a row behind its name, with the bytes that it found.
 fn push_row(line: &mut Line, row: &ForeRow, found: &[u8]) -> Result<(), NoMemory>
-    ensures { OnOk result (line.new ≡ with_fields line.old (row_fields row.now found.now)) }
+    ensures value { OnOk result (line.new ≡ with_fields line.old (row_fields row.now found.now)) }
+    ensures form { OnOk result (IsField are_bytes found.now → AreFields (is_one_of (codes "R" ∷ codes "W" ∷ []) ∷ numbers 7 ++ are_bytes ∷ []) (row_fields row.now found.now)) }
 {
     let count = row.request.count;
     let bad = bad_count(row);

@@ -1,15 +1,29 @@
-use Rattle.std.proofs.Common.{ap, sym, ◌∙◌, arith, Some}
+use Rattle.std.proofs.Common.{ap, sym, ◌∙◌, arith, Some, length, ◌+◌, ◌-◌}
+use Rattle.fb_report.specs.Grammar.{back_grammar}
+use Rattle.fb_report.specs.Printed.{CountsSectors}
+use Rattle.fb_report.proofs.Places.{at_first, at_row, at_last}
+use Rattle.fb_report.proofs.Ranges.{all_get}
 use Rattle.fb_report.proofs.Lines.{line_first, line_row, line_last, back_are}
 use Rattle.fb_report.proofs.back.back_piece.Goals as goal
 
-pub returns-in_ok-back_first : goal.returns-in_ok-back_first
-returns-in_ok-back_first c = line_first _ _ _ _ _ (back_are c.args.names.now c.args.sector_bytes c.args.bytes c.args.run.now) c.args.k c.if-k-eq0.true ∙ ap Some (sym c.in_ok-back_first.ensures)
+pub returns-in_ok-back_first-clause-value : goal.returns-in_ok-back_first-clause-value
+returns-in_ok-back_first-clause-value c = line_first _ _ _ _ _ (back_are c.args.names.now c.args.sector_bytes c.args.bytes c.args.run.now) c.args.k c.if-k-eq0.true ∙ ap Some (sym c.in_ok-back_first.ensures.value)
 
-pub returns-in_ok-back_line : goal.returns-in_ok-back_line
-returns-in_ok-back_line c =
+pub returns-in_ok-back_line-clause-value : goal.returns-in_ok-back_line-clause-value
+returns-in_ok-back_line-clause-value c =
     line_row _ _ _ _ _ (back_are c.args.names.now c.args.sector_bytes c.args.bytes c.args.run.now) c.args.k c.get-row.result.now (omega arith) c.get-row.ensures
-    ∙ ap Some (sym c.in_ok-back_line.ensures)
+    ∙ ap Some (sym c.in_ok-back_line.ensures.value)
 
-pub returns-in_ok-back_last : goal.returns-in_ok-back_last
-returns-in_ok-back_last c =
-    line_last _ _ _ _ _ (back_are c.args.names.now c.args.sector_bytes c.args.bytes c.args.run.now) c.args.k (omega (arith, c.requires.piece)) ∙ ap Some (sym c.in_ok-back_last.ensures)
+pub returns-in_ok-back_last-clause-value : goal.returns-in_ok-back_last-clause-value
+returns-in_ok-back_last-clause-value c =
+    line_last _ _ _ _ _ (back_are c.args.names.now c.args.sector_bytes c.args.bytes c.args.run.now) c.args.k (omega (arith, c.requires.piece)) ∙ ap Some (sym c.in_ok-back_last.ensures.value)
+
+pub returns-in_ok-back_first-clause-form : goal.returns-in_ok-back_first-clause-form
+returns-in_ok-back_first-clause-form c = λ big named counts. at_first back_grammar (length c.args.run.now.back + 2) c.args.k _ (omega arith) c.in_ok-back_first.ensures.form
+
+pub returns-in_ok-back_line-clause-form : goal.returns-in_ok-back_line-clause-form
+returns-in_ok-back_line-clause-form c = λ big named counts.
+    at_row back_grammar (length c.args.run.now.back + 2) c.args.k _ (omega arith) (omega arith) (c.in_ok-back_line.ensures.form big named (all_get CountsSectors c.args.run.now.back (c.args.k - 1) c.get-row.result.now counts c.get-row.ensures))
+
+pub returns-in_ok-back_last-clause-form : goal.returns-in_ok-back_last-clause-form
+returns-in_ok-back_last-clause-form c = λ big named counts. at_last back_grammar (length c.args.run.now.back + 2) c.args.k _ (omega arith) (omega arith) c.in_ok-back_last.ensures.form

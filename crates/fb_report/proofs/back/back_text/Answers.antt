@@ -9,7 +9,7 @@ back_piece-requires-clause-piece c = omega (arith, length_lines _ _ _ _ _ (back_
 pub loop-k-preserved : goal.loop-k-preserved
 loop-k-preserved c =
     text_more (back_lines c.args.names.now c.args.sector_bytes c.args.bytes c.args.run.now) c.loop-k.k c.loop-k.text.items c.extend_from_slice.new.self.items c.in_ok-line.line.items _ c.loop-k.invariant
-    c.in_ok-line.ensures (c.in_ok-extend_from_slice.ensures.items ∙ ap (λ xs. c.loop-k.text.items ++ xs) c.as_slice.ensures.value)
+    c.in_ok-line.ensures.value (c.in_ok-extend_from_slice.ensures.items ∙ ap (λ xs. c.loop-k.text.items ++ xs) c.as_slice.ensures.value)
 
 pub returns : goal.returns
 returns c =

@@ -1,0 +1,18 @@
+use Rattle.std.proofs.Common.{[], ◌∷◌, refl, inl, inr}
+use Rattle.std.specs.Prelude.{codes, decimal}
+use Rattle.fb_report.specs.Back.{task_text}
+use Rattle.fb_report.specs.Grammar.{back_grammar}
+use Rattle.fb_report.specs.Printed.{AreNames, IsLine, is_row}
+use Rattle.fb_report.proofs.Fields.{in_row}
+use Rattle.fb_report.proofs.Forms.{word_is}
+use Rattle.fb_report.proofs.PrintedRows.{◌&◌, ended_as, named_is}
+use Rattle.fb_report.proofs.back_rows.bad_line.Goals as goal
+
+pub returns-clause-form : goal.returns-clause-form
+returns-clause-form c =
+    let row = c.args.row.now in
+    let fields = task_text c.args.names.now row.task ∷ decimal row.lbn ∷ [] in
+    ended_as (λ line. AreNames c.args.names.now → IsLine (is_row back_grammar) line) c.end.result c.number.new.self (codes "bad") fields c.end.ensures
+    (rw (c.in_ok-number.ensures.value, c.in_ok-task.ensures, c.in_ok-line.ensures) refl)
+    (λ named. in_row back_grammar (codes "bad") fields
+    (inr (inr (inr (inr (inl (word_is (codes "bad") refl & named_is c.args.names.now row.task named c.requires.named & c.in_ok-number.ensures.form & tt)))))))
