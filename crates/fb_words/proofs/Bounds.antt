@@ -8,14 +8,14 @@ use Rattle.fb_units.specs.Numbers.{millis_of, number_of}
 use Rattle.fb_units.proofs.Judged.{both_ok, value_ok, test_ok, step_ok, number_small, millis_small}
 use Rattle.fb_words.specs.declared.fault.UsageReason.TheVariants.{NoValue, BadValue, OptionTwice, UnknownOption, UnknownCommand, MissingOption, CallsAndBack}
 use Rattle.fb_words.specs.declared.names.Verb.{Verb}
-use Rattle.fb_words.specs.declared.names.Verb.TheVariants.{Replay, Make}
+use Rattle.fb_words.specs.declared.names.Verb.TheVariants.{Replay, Make, Check}
 use Rattle.fb_words.specs.declared.names.OptionName.{OptionName}
-use Rattle.fb_words.specs.declared.names.OptionName.TheVariants.{Params, Trace, Policy, Calls, Back, Until, Device, Bytes, Number, Requests}
+use Rattle.fb_words.specs.declared.names.OptionName.TheVariants.{Params, Trace, Policy, Calls, Fore, Back, Until, Device, Bytes, Number, Requests}
 use Rattle.fb_words.specs.Names.{policy_of, bytes_of, option_of, verb_of}
 use Rattle.fb_words.specs.Options.{Options, no_options}
 use Rattle.fb_words.specs.Values.{is_given, is_value, request_count_of, with_form, with_value}
 use Rattle.fb_words.specs.Reading.{Progress, ready, awaits, Parts, parts_of, is_summary, fault_at, with_summary, with_part, with_option, with_name, with_word, at_end, options_from}
-use Rattle.fb_words.specs.Command.{Terms, replays, makes, ReplayTerms, MakeTerms, go_together, replay_of, make_of, terms_of, with_verb, command_of}
+use Rattle.fb_words.specs.Command.{Terms, replays, makes, checks, ReplayTerms, MakeTerms, CheckTerms, go_together, replay_of, make_of, check_of, terms_of, with_verb, command_of}
 use Rattle.fb_words.specs.declared.command.Command.{Command}
 use Rattle.fb_words.specs.declared.fault.WordsError.{WordsError}
 use Rattle.fb_words.specs.Verdict.{Answers, terms}
@@ -48,6 +48,7 @@ small-with_form given next Policy value e is =
     let p = both_ok (or_refuse BadValue (policy_of value)) _ next e in
     subst IsSmall (same_ok _ next p.2) (record { until = is.until; device = is.device; number = is.number; requests = is.requests })
 small-with_form given next Calls value e is = subst IsSmall (same_ok _ next e) (record { until = is.until; device = is.device; number = is.number; requests = is.requests })
+small-with_form given next Fore value e is = subst IsSmall (same_ok _ next e) (record { until = is.until; device = is.device; number = is.number; requests = is.requests })
 small-with_form given next Back value e is = subst IsSmall (same_ok _ next e) (record { until = is.until; device = is.device; number = is.number; requests = is.requests })
 small-with_form given next Until value e is =
     let p = both_ok (or_refuse BadValue (millis_of value)) _ next e in
@@ -151,6 +152,17 @@ small-make_of given terms e is =
       small-default given.device (10 ^ 15) is.device,
     )
 
+small-check_of : (given : Options) (terms : CheckTerms) → check_of given ≡ Ok terms → IsSmall given → IsWithinLimits (checks terms)
+unfolding check_of
+small-check_of given terms e is =
+    let params = both_ok (or_refuse (MissingOption 0) given.params) _ terms e in
+    let trace = both_ok (or_refuse (MissingOption 1) given.trace) _ terms params.2 in
+    let policy = both_ok (or_refuse (MissingOption 2) given.policy) _ terms trace.2 in
+    let calls = both_ok (or_refuse (MissingOption 3) given.calls) _ terms policy.2 in
+    let fore = both_ok (or_refuse (MissingOption 4) given.fore) _ terms calls.2 in
+    let back = both_ok (or_refuse (MissingOption 5) given.back) _ terms fore.2 in
+    subst (λ t. IsWithinLimits (checks t)) (same_ok _ terms back.2) (small-default given.until (10 ^ 15) is.until, small-default given.device (10 ^ 15) is.device)
+
 small-terms_of : (verb : Verb) (given : Options) (terms : Terms) → terms_of verb given ≡ Ok terms → IsSmall given → IsWithinLimits terms
 unfolding terms_of
 small-terms_of Replay given terms e is =
@@ -159,6 +171,9 @@ small-terms_of Replay given terms e is =
 small-terms_of Make given terms e is =
     let p = both_ok (make_of given) _ terms e in
     subst IsWithinLimits (same_ok _ terms p.2) (small-make_of given p.0 p.1 is)
+small-terms_of Check given terms e is =
+    let p = both_ok (check_of given) _ terms e in
+    subst IsWithinLimits (same_ok _ terms p.2) (small-check_of given p.0 p.1 is)
 
 nothing_small : IsSmall no_options
 nothing_small = record { until = tt; device = tt; number = tt; requests = tt }

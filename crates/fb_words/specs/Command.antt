@@ -1,5 +1,5 @@
 -- The command that the words of a command line give.
-use Rattle.std.specs.Prelude.{ℕ, List, [], ◌∷◌, length, Bool, not, ◌&&◌, ◌||◌, ◌==◌, Option, Result, Ok, Err, is_some, unwrap_or, if◌then◌else◌, false}
+use Rattle.std.specs.Prelude.{ℕ, List, [], ◌∷◌, length, Bool, not, ◌&&◌, ◌||◌, Option, Result, Ok, Err, is_some, unwrap_or}
 use Rattle.fb_report.specs.declared.bytes.Bytes.{Bytes}
 use Rattle.fb_report.specs.declared.bytes.Bytes.TheVariants.{Nothing}
 use Rattle.fb_units.specs.Judging.{◌>>=◌, ◌>>◌, or_refuse, refuse, refused_as}
@@ -8,7 +8,7 @@ use Rattle.fb_words.specs.declared.fault.UsageFault.{UsageFault}
 use Rattle.fb_words.specs.declared.fault.UsageReason.{UsageReason}
 use Rattle.fb_words.specs.declared.fault.UsageReason.TheVariants.{NoCommand, UnknownCommand, MissingOption, CallsAndBack}
 use Rattle.fb_words.specs.declared.names.Verb.{Verb}
-use Rattle.fb_words.specs.declared.names.Verb.TheVariants.{Replay, Make}
+use Rattle.fb_words.specs.declared.names.Verb.TheVariants.{Replay, Make, Check}
 use Rattle.fb_words.specs.Names.{verb_of}
 use Rattle.fb_words.specs.Options.{Options, no_options}
 use Rattle.fb_words.specs.Reading.{ready, fault_at, options_from}
@@ -34,10 +34,23 @@ pub record MakeTerms : Type 0 where
   pub requests : ℕ
   pub device : ℕ
 
--- a command: a replay, or generating a trace and a script
+-- the options for judging a foreground and a background report
+pub record CheckTerms : Type 0 where
+  pub params : List ℕ
+  pub trace : List ℕ
+  pub policy : Policy
+  pub calls : List ℕ
+  pub fore : List ℕ
+  pub back : List ℕ
+  pub until : ℕ
+  pub device : ℕ
+  pub bytes : Bytes
+
+-- a command: a replay, generating a trace and a script, or judging two reports
 pub data Terms : Type 0 where
   replays : ReplayTerms → Terms
   makes : MakeTerms → Terms
+  checks : CheckTerms → Terms
 
 -- a call script and a background report are both given, or neither is
 abbrev pub go_together : Options → Bool
@@ -72,10 +85,32 @@ make_of given = do
   requests ← or_refuse (MissingOption 4) given.requests
   Ok (record { params = params; trace = trace; calls = calls; number = number; requests = requests; device = unwrap_or given.device 0 })
 
+-- the judging of two reports with these options: the required ones, and the defaults of the others
+unfoldable pub check_of : Options → Result CheckTerms UsageReason
+check_of given = do
+  params ← or_refuse (MissingOption 0) given.params
+  trace ← or_refuse (MissingOption 1) given.trace
+  policy ← or_refuse (MissingOption 2) given.policy
+  calls ← or_refuse (MissingOption 3) given.calls
+  fore ← or_refuse (MissingOption 4) given.fore
+  back ← or_refuse (MissingOption 5) given.back
+  Ok (record {
+    params = params;
+    trace = trace;
+    policy = policy;
+    calls = calls;
+    fore = fore;
+    back = back;
+    until = unwrap_or given.until 0;
+    device = unwrap_or given.device 0;
+    bytes = unwrap_or given.bytes Nothing;
+  })
+
 -- the command with this verb and these options
 unfoldable pub terms_of : Verb → Options → Result Terms UsageReason
 terms_of Replay given = replay_of given >>= (λ terms. Ok (replays terms))
 terms_of Make given = make_of given >>= (λ terms. Ok (makes terms))
+terms_of Check given = check_of given >>= (λ terms. Ok (checks terms))
 
 -- the verb is the word with index 1, and the options follow it; what is missing is missing at index `count`
 unfoldable pub with_verb : ℕ → List ℕ → List (List ℕ) → Result Terms UsageFault

@@ -9,6 +9,7 @@ options given = record {
   trace = option_copied given.trace;
   policy = given.policy;
   calls = option_copied given.calls;
+  fore = option_copied given.fore;
   back = option_copied given.back;
   until = given.until;
   device = given.device;

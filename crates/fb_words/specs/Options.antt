@@ -9,6 +9,7 @@ pub record Options : Type 0 where
   pub trace : Option (List ℕ)
   pub policy : Option Policy
   pub calls : Option (List ℕ)
+  pub fore : Option (List ℕ)
   pub back : Option (List ℕ)
   pub until : Option ℕ
   pub device : Option ℕ
@@ -18,4 +19,4 @@ pub record Options : Type 0 where
   pub summary : Bool
 
 abbrev pub no_options : Options
-no_options = record { params = None; trace = None; policy = None; calls = None; back = None; until = None; device = None; bytes = None; number = None; requests = None; summary = false }
+no_options = record { params = None; trace = None; policy = None; calls = None; fore = None; back = None; until = None; device = None; bytes = None; number = None; requests = None; summary = false }

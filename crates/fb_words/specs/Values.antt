@@ -5,7 +5,7 @@ use Rattle.fb_units.specs.Numbers.{millis_of, number_of}
 use Rattle.fb_words.specs.declared.fault.UsageReason.{UsageReason}
 use Rattle.fb_words.specs.declared.fault.UsageReason.TheVariants.{NoValue, BadValue}
 use Rattle.fb_words.specs.declared.names.OptionName.{OptionName}
-use Rattle.fb_words.specs.declared.names.OptionName.TheVariants.{Params, Trace, Policy, Calls, Back, Until, Device, Bytes, Number, Requests}
+use Rattle.fb_words.specs.declared.names.OptionName.TheVariants.{Params, Trace, Policy, Calls, Fore, Back, Until, Device, Bytes, Number, Requests}
 use Rattle.fb_words.specs.Names.{policy_of, bytes_of}
 use Rattle.fb_words.specs.Options.{Options}
 
@@ -15,6 +15,7 @@ is_given given Params = is_some given.params
 is_given given Trace = is_some given.trace
 is_given given Policy = is_some given.policy
 is_given given Calls = is_some given.calls
+is_given given Fore = is_some given.fore
 is_given given Back = is_some given.back
 is_given given Until = is_some given.until
 is_given given Device = is_some given.device
@@ -39,6 +40,7 @@ with_form given Params value = Ok (record given { params = Some value })
 with_form given Trace value = Ok (record given { trace = Some value })
 with_form given Policy value = or_refuse BadValue (policy_of value) >>= (λ policy. Ok (record given { policy = Some policy }))
 with_form given Calls value = Ok (record given { calls = Some value })
+with_form given Fore value = Ok (record given { fore = Some value })
 with_form given Back value = Ok (record given { back = Some value })
 with_form given Until value = or_refuse BadValue (millis_of value) >>= (λ until. Ok (record given { until = Some until }))
 with_form given Device value = or_refuse BadValue (number_of value) >>= (λ device. Ok (record given { device = Some device }))

@@ -4,12 +4,13 @@ use Rattle.std.specs.Option.{option_map}
 use Rattle.std.specs.String.{string_bytes}
 use Rattle.fb_words.specs.declared.command.ReplayWords.{ReplayWords}
 use Rattle.fb_words.specs.declared.command.MakeWords.{MakeWords}
+use Rattle.fb_words.specs.declared.command.CheckWords.{CheckWords}
 use Rattle.fb_words.specs.declared.command.Command.{Command}
-use Rattle.fb_words.specs.declared.command.Command.TheVariants.{Replay, Make}
+use Rattle.fb_words.specs.declared.command.Command.TheVariants.{Replay, Make, Check}
 use Rattle.fb_words.specs.declared.fault.UsageFault.{UsageFault}
 use Rattle.fb_words.specs.declared.fault.WordsError.{WordsError}
 use Rattle.fb_words.specs.declared.fault.WordsError.TheVariants.{Fault, NoMemory}
-use Rattle.fb_words.specs.Command.{ReplayTerms, MakeTerms, Terms, replays, makes}
+use Rattle.fb_words.specs.Command.{ReplayTerms, MakeTerms, CheckTerms, Terms, replays, makes, checks}
 
 abbrev pub replay_terms : ReplayWords → ReplayTerms
 replay_terms words = record {
@@ -34,9 +35,23 @@ make_terms words = record {
   device = words.device;
 }
 
+abbrev pub check_terms : CheckWords → CheckTerms
+check_terms words = record {
+  params = string_bytes words.params;
+  trace = string_bytes words.trace;
+  policy = words.policy;
+  calls = string_bytes words.calls;
+  fore = string_bytes words.fore;
+  back = string_bytes words.back;
+  until = words.until;
+  device = words.device;
+  bytes = words.bytes;
+}
+
 abbrev pub terms : Command → Terms
 terms (Replay words) = replays (replay_terms words)
 terms (Make words) = makes (make_terms words)
+terms (Check words) = checks (check_terms words)
 
 -- the result is the verdict, or it is out of memory
 abbrev pub Answers : {A B : Type 0} → (A → B) → Result A WordsError → Result B UsageFault → Type 0

@@ -57,6 +57,30 @@ pub struct MakeWords {
     pub device: u64,
 }
 
+/// The options for judging a foreground and a background report against the inputs of a replay.
+#[derive(Drop)]
+pub struct CheckWords {
+    /// The parameter file.
+    pub params: String,
+    /// The trace.
+    pub trace: String,
+    /// The order in which requests are served.
+    pub policy: Policy,
+    /// The call script.
+    pub calls: String,
+    /// The foreground report.
+    pub fore: String,
+    /// The background report.
+    pub back: String,
+    /// The instant until which the head waits for background blocks at the end, when no request and
+    /// no call is left, in nanoseconds, at most 10^15.
+    pub until: Ns,
+    /// The device whose requests are replayed, at most 10^15.
+    pub device: u64,
+    /// How contents are shown in the reports.
+    pub bytes: Bytes,
+}
+
 /// What the program is to do.
 #[derive(Drop)]
 pub enum Command {
@@ -64,4 +88,6 @@ pub enum Command {
     Replay(ReplayWords),
     /// Generate a trace and a call script.
     Make(MakeWords),
+    /// Judge two reports.
+    Check(CheckWords),
 }

@@ -18,7 +18,7 @@ pub enum UsageReason {
     BadValue,
     /// A required option is missing. It is named by its index, from 0, among those that the command
     /// requires: for a replay params, trace, policy; for a make params, trace, calls, number,
-    /// requests.
+    /// requests; for a check params, trace, policy, calls, fore, back.
     MissingOption(u32),
     /// A replay has a call script but no background report, or the report but no script.
     CallsAndBack,

@@ -20,7 +20,9 @@ pub struct Given<'a> {
     pub policy: Option<Policy>,
     /// The file of the call script.
     pub calls: Option<&'a str>,
-    /// The file for the background report.
+    /// The file of the foreground report.
+    pub fore: Option<&'a str>,
+    /// The file of the background report.
     pub back: Option<&'a str>,
     /// The instant until which the head waits at the end, in nanoseconds.
     pub until: Option<Ns>,
@@ -46,6 +48,7 @@ impl Given<'_> {
             trace: None,
             policy: None,
             calls: None,
+            fore: None,
             back: None,
             until: None,
             device: None,
@@ -65,6 +68,7 @@ impl Given<'_> {
             OptionName::Trace => self.trace.is_some(),
             OptionName::Policy => self.policy.is_some(),
             OptionName::Calls => self.calls.is_some(),
+            OptionName::Fore => self.fore.is_some(),
             OptionName::Back => self.back.is_some(),
             OptionName::Until => self.until.is_some(),
             OptionName::Device => self.device.is_some(),

@@ -12,6 +12,8 @@ pub enum Verb {
     Replay,
     /// Generates a trace and a call script.
     Make,
+    /// Judges two reports.
+    Check,
 }
 
 /// An option that has a value.
@@ -25,7 +27,9 @@ pub enum OptionName {
     Policy,
     /// The file of the call script: `--calls`.
     Calls,
-    /// The file for the background report: `--back`.
+    /// The file of the foreground report: `--fore`.
+    Fore,
+    /// The file of the background report: `--back`.
     Back,
     /// The instant until which the head waits at the end: `--until`.
     Until,
@@ -47,6 +51,7 @@ pub fn verb_of(name: &str) -> Option<Verb>
     match name {
         "replay" => Some(Verb::Replay),
         "make" => Some(Verb::Make),
+        "check" => Some(Verb::Check),
         _ => None,
     }
 }
@@ -58,6 +63,7 @@ pub fn option_of(verb: Verb, name: &str) -> Option<OptionName>
     match verb {
         Verb::Replay => replay_option(name),
         Verb::Make => make_option(name),
+        Verb::Check => check_option(name),
     }
 }
 
@@ -90,6 +96,17 @@ fn make_option(name: &str) -> Option<OptionName>
         "--requests" => Some(OptionName::Requests),
         "--device" => Some(OptionName::Device),
         _ => None,
+    }
+}
+
+// A check has the options of a replay, and the foreground report.
+#[tactic(auto, unfolding(crate::specs::Names::option_of))]
+fn check_option(name: &str) -> Option<OptionName>
+    ensures { result ≡ option_of Verb.Check name.now }
+{
+    match name {
+        "--fore" => Some(OptionName::Fore),
+        _ => replay_option(name),
     }
 }
 

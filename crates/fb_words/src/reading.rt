@@ -113,6 +113,7 @@ fn is_summary(verb: Verb, word: &str) -> bool
     match verb {
         Verb::Replay => word == "--summary",
         Verb::Make => false,
+        Verb::Check => false,
     }
 }
 

@@ -68,6 +68,10 @@ fn with_form<'a>(
             calls: Some(value),
             ..given
         }),
+        OptionName::Fore => Ok(Given {
+            fore: Some(value),
+            ..given
+        }),
         OptionName::Back => Ok(Given {
             back: Some(value),
             ..given

@@ -7,16 +7,20 @@ ghost use Rattle.fb_words.specs.declared.fault.UsageReason.TheVariants.{UnknownC
 ghost use Rattle.fb_words.specs.Names.{verb_of};
 ghost use Rattle.fb_words.specs.Given.{options};
 ghost use Rattle.fb_words.specs.Reading.{fault_at};
-ghost use Rattle.fb_words.specs.Command.{command_of, go_together, make_of, replay_of, terms_of, with_verb};
+ghost use Rattle.fb_words.specs.Command.{check_of, command_of, go_together, make_of, replay_of, terms_of, with_verb};
 ghost use Rattle.fb_words.specs.Limits.{IsWithinLimits};
-ghost use Rattle.fb_words.specs.Verdict.{Agrees, Answers, make_terms, replay_terms, terms};
+ghost use Rattle.fb_words.specs.Verdict.{Agrees, Answers, check_terms, make_terms, replay_terms, terms};
 
 use crate::given::Given;
 use crate::names::{Verb, verb_of};
 use crate::reading::{fault_at, read_options};
-use crate::{Command, MakeWords, Policy, ReplayWords, UsageFault, UsageReason, WordsError};
+use crate::{
+    CheckWords, Command, MakeWords, Policy, ReplayWords, UsageFault, UsageReason, WordsError,
+};
 use fb_report::Bytes;
 use std::alloc::Global;
+
+const DEFAULT_BYTES: Bytes = Bytes::Nothing;
 
 /// The command that the words of a command line give. The first word is the name of the program and
 /// isn't looked at. An error names the first faulty word by its index, and the reason; or it is
@@ -70,6 +74,7 @@ fn command(alloc: Global, count: usize, verb: Verb, given: Given<'_>) -> Result<
     match verb {
         Verb::Replay => Ok(Command::Replay(replay(alloc, count, given)?)),
         Verb::Make => Ok(Command::Make(make(alloc, count, given)?)),
+        Verb::Check => Ok(Command::Check(check(alloc, count, given)?)),
     }
 }
 
@@ -91,7 +96,7 @@ fn replay(alloc: Global, count: usize, given: Given<'_>) -> Result<ReplayWords, 
         back: copied(alloc, given.back)?,
         until: given.until.unwrap_or(0),
         device: given.device.unwrap_or(0),
-        bytes: given.bytes.unwrap_or(Bytes::Nothing),
+        bytes: given.bytes.unwrap_or(DEFAULT_BYTES),
         summary: given.summary,
     })
 }
@@ -112,6 +117,29 @@ fn make(alloc: Global, count: usize, given: Given<'_>) -> Result<MakeWords, Word
         number,
         requests,
         device: given.device.unwrap_or(0),
+    })
+}
+
+#[tactic(auto, unfolding(crate::specs::Command::check_of))]
+fn check(alloc: Global, count: usize, given: Given<'_>) -> Result<CheckWords, WordsError>
+    ensures { Answers check_terms result (refused_as (fault_at count) (check_of (options given.entry))) }
+{
+    let params = required(given.params, count, 0)?;
+    let trace = required(given.trace, count, 1)?;
+    let policy = required(given.policy, count, 2)?;
+    let calls = required(given.calls, count, 3)?;
+    let fore = required(given.fore, count, 4)?;
+    let back = required(given.back, count, 5)?;
+    Ok(CheckWords {
+        params: String::from_str(alloc, params)?,
+        trace: String::from_str(alloc, trace)?,
+        policy,
+        calls: String::from_str(alloc, calls)?,
+        fore: String::from_str(alloc, fore)?,
+        back: String::from_str(alloc, back)?,
+        until: given.until.unwrap_or(0),
+        device: given.device.unwrap_or(0),
+        bytes: given.bytes.unwrap_or(DEFAULT_BYTES),
     })
 }
 
