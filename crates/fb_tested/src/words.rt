@@ -1,6 +1,6 @@
-// A command line with options in an order of their own.
+// Command lines with options in orders of their own, and their faults.
 use fb_report::Bytes;
-use fb_words::{Command, Policy, ReplayWords, read_words};
+use fb_words::{CheckWords, Command, Policy, ReplayWords, UsageReason, WordsError, read_words};
 use std::alloc::Global;
 use std::process::Abort;
 use std::test::Fail;
@@ -34,4 +34,75 @@ fn check_replay(rt: &impl Abort, words: &ReplayWords) {
     assert!(rt; words.back.is_none());
     assert_eq!(rt; (words.until, words.device), (0, 7));
     assert!(rt; !words.summary);
+}
+
+#[test]
+fn reads_a_check(rt: HostRuntime) -> Result<(), Fail> {
+    let text =
+        "freeblock check --back=b --fore=f --calls=c --bytes=hex --device=7 --until=0.012 --policy=clook --trace=t --params=k";
+    let words = split(rt.alloc(), text)?;
+    match &read_words(rt.alloc(), words.as_slice()) {
+        Ok(Command::Check(words)) => check_check(&rt, words),
+        _ => assert!(rt; false, "it is a check"),
+    }
+    Ok(())
+}
+
+fn check_check(rt: &impl Abort, words: &CheckWords) {
+    assert_eq!(rt; words.params.as_str(), "k");
+    assert_eq!(rt; words.trace.as_str(), "t");
+    assert!(rt; matches!(words.policy, Policy::Clook));
+    assert_eq!(rt; words.calls.as_str(), "c");
+    assert_eq!(rt; words.fore.as_str(), "f");
+    assert_eq!(rt; words.back.as_str(), "b");
+    assert_eq!(rt; (words.until, words.device), (12_000, 7));
+    assert!(rt; matches!(words.bytes, Bytes::Dump));
+}
+
+#[test]
+fn faults_of_checks(rt: HostRuntime) -> Result<(), Fail> {
+    let cases = [
+        (
+            "freeblock check --params=k --trace=t --policy=fcfs --calls=c --back=b",
+            7,
+            "MissingOption 4",
+        ),
+        (
+            "freeblock check --params=k --trace=t --policy=fcfs --calls=c --fore=f",
+            7,
+            "MissingOption 5",
+        ),
+        (
+            "freeblock check --params=k --summary --fore=f --fore=f",
+            3,
+            "UnknownOption",
+        ),
+        ("freeblock check --fore=f --fore f", 3, "OptionTwice"),
+        ("freeblock replay --params=k --fore=f", 3, "UnknownOption"),
+    ];
+    for (text, place, reason) in cases {
+        let words = split(rt.alloc(), text)?;
+        match &read_words(rt.alloc(), words.as_slice()) {
+            Err(WordsError::Fault(fault)) => {
+                assert_eq!(rt;
+                    (fault.place, spelled(fault.reason)),
+                    (place, reason),
+                    "for {text}"
+                )
+            }
+            _ => assert!(rt; false, "{text} is refused"),
+        }
+    }
+    Ok(())
+}
+
+// The reasons that are looked for here.
+fn spelled(reason: UsageReason) -> &'static str {
+    match reason {
+        UsageReason::UnknownOption => "UnknownOption",
+        UsageReason::OptionTwice => "OptionTwice",
+        UsageReason::MissingOption(4) => "MissingOption 4",
+        UsageReason::MissingOption(5) => "MissingOption 5",
+        _ => "another",
+    }
 }
