@@ -12,6 +12,9 @@ const FORE: &str = "freeblock replay --params k --trace t --policy fcfs --bytes 
 const BOTH: &str =
     "freeblock replay --params k --trace t --policy fcfs --bytes hex --calls c --back b";
 
+const UNTIL: &str =
+    "freeblock replay --params k --trace t --policy fcfs --bytes hex --calls c --back b --until 0.004";
+
 const MAKE: &str = "freeblock make --params k --trace t --calls c --number 7 --requests 2";
 
 const ONE_READ: &[u8] = b"0 0 5 1 1\n";
@@ -21,6 +24,14 @@ const WRITE_AND_READ: &[u8] = b"0 0 6 1 0\n0 0 6 1 1\n";
 const TWO_READS: &[u8] = b"0 0 5 1 1\n0 0 24 1 1\n";
 
 const THREE_BLOCKS: &[u8] = b"0 open a plain 1 1\n0 want a 6 2\n0 want a 35 1\n";
+
+const OVERWRITING: &[u8] = b"0.000250 0 0 1 0\n";
+
+const A_BACKUP: &[u8] = b"0 open b backup 1 2\n0 want b 0 4\n";
+
+const LATE_READ: &[u8] = b"0.000700 0 11 1 1\n";
+
+const TWO_SEGMENTS: &[u8] = b"0 open c clean 1 1\n0 segment c 0 4 10 a\n0 segment c 4 4 9 4\n";
 
 const PARAMS_LIMIT: usize = 1_048_576;
 
@@ -88,6 +99,42 @@ const FAULTS_OF_BOTH: &[Fault] = &[
     Fault {
         first: 15,
         last: 24,
+        status: 7,
+        note: "freeblock: write fault: back\n",
+    },
+];
+
+const FAULTS_OF_A_BACKUP: &[Fault] = &[
+    Fault {
+        first: 7,
+        last: 9,
+        status: 6,
+        note: "freeblock: read fault: calls\n",
+    },
+    Fault {
+        first: 10,
+        last: 13,
+        status: 7,
+        note: "freeblock: write fault: fore\n",
+    },
+    Fault {
+        first: 14,
+        last: 25,
+        status: 7,
+        note: "freeblock: write fault: back\n",
+    },
+];
+
+const FAULTS_OF_A_CLEANER: &[Fault] = &[
+    Fault {
+        first: 10,
+        last: 13,
+        status: 7,
+        note: "freeblock: write fault: fore\n",
+    },
+    Fault {
+        first: 14,
+        last: 26,
         status: 7,
         note: "freeblock: write fault: back\n",
     },
@@ -212,6 +259,22 @@ fn each_failing_call_of_both_reports_is_told(rt: HostRuntime) -> Result<(), Fail
     let params = disk(alloc, "", TWELVE)?;
     let scene = scripted(params.as_bytes(), TWO_READS, THREE_BLOCKS);
     check_faults(&rt, alloc, &scene, BOTH, FAULTS_OF_BOTH)
+}
+
+#[test]
+fn each_failing_call_of_a_backup_is_told(rt: HostRuntime) -> Result<(), Fail> {
+    let alloc = rt.alloc();
+    let params = disk(alloc, "", TWELVE)?;
+    let scene = scripted(params.as_bytes(), OVERWRITING, A_BACKUP);
+    check_faults(&rt, alloc, &scene, UNTIL, FAULTS_OF_A_BACKUP)
+}
+
+#[test]
+fn each_failing_call_of_a_cleaner_is_told(rt: HostRuntime) -> Result<(), Fail> {
+    let alloc = rt.alloc();
+    let params = disk(alloc, "", TWELVE)?;
+    let scene = scripted(params.as_bytes(), LATE_READ, TWO_SEGMENTS);
+    check_faults(&rt, alloc, &scene, UNTIL, FAULTS_OF_A_CLEANER)
 }
 
 #[test]
