@@ -10,7 +10,7 @@ pub mod Whole
 pub mod EndsOnce
 pub mod ReadBack
 pub mod Fields
-pub mod Forms
+pub mod PrintedForms
 pub mod ShownForms
 pub mod PrintedRows
 pub mod Places

@@ -19,7 +19,7 @@ use Rattle.fb_report.specs.Back.{task_text, task_kind_text, how_text, is_complet
 use Rattle.fb_report.specs.Grammar.{is_number, is_request, is_word, is_one_of, are_bytes, numbers, fore_grammar, back_grammar}
 use Rattle.fb_report.specs.Printed.{IsField, AreFields, AreOneOf, HasSectors, AreNames, IsLine, is_first, is_last}
 use Rattle.fb_report.proofs.Fields.{in_first, in_last}
-use Rattle.fb_report.proofs.Forms.{word_is, task_is}
+use Rattle.fb_report.proofs.PrintedForms.{word_is, task_is}
 use Rattle.fb_report.proofs.Ranges.{all_at}
 use Rattle.fb_report.proofs.ShownForms.{dash_is, shown_is}
 

@@ -26,7 +26,7 @@ use Rattle.fb_report.specs.Grammar.{is_lower_hex, are_bytes}
 use Rattle.fb_report.specs.Printed.{IsField, HasSectors}
 use Rattle.fb_report.proofs.ReadBack.{and_parts}
 use Rattle.fb_report.proofs.Fields.{plain}
-use Rattle.fb_report.proofs.Forms.{all_too}
+use Rattle.fb_report.proofs.PrintedForms.{all_too}
 
 -- ---- bytes
 

@@ -4,7 +4,7 @@ use Rattle.fb_report.specs.Back.{task_text}
 use Rattle.fb_report.specs.Grammar.{back_grammar}
 use Rattle.fb_report.specs.Printed.{AreNames, IsLine, is_row}
 use Rattle.fb_report.proofs.Fields.{in_row}
-use Rattle.fb_report.proofs.Forms.{word_is}
+use Rattle.fb_report.proofs.PrintedForms.{word_is}
 use Rattle.fb_report.proofs.PrintedRows.{◌&◌, ended_as, named_is}
 use Rattle.fb_report.proofs.back_rows.complete_line.Goals as goal
 

@@ -5,7 +5,7 @@ use Rattle.fb_report.specs.Back.{digest_text, task_text}
 use Rattle.fb_report.specs.Grammar.{back_grammar}
 use Rattle.fb_report.specs.Printed.{AreNames, IsLine, is_row}
 use Rattle.fb_report.proofs.Fields.{in_row}
-use Rattle.fb_report.proofs.Forms.{number_is, word_is}
+use Rattle.fb_report.proofs.PrintedForms.{number_is, word_is}
 use Rattle.fb_report.proofs.ShownForms.{digest_is}
 use Rattle.fb_report.proofs.PrintedRows.{◌&◌, ended_as, named_is}
 use Rattle.fb_report.proofs.back_rows.seal_line.Goals as goal

@@ -1,4 +1,4 @@
-use Rattle.fb_report.proofs.Forms.{number_is}
+use Rattle.fb_report.proofs.PrintedForms.{number_is}
 use Rattle.fb_report.proofs.line.push_number.Goals as goal
 
 pub returns-clause-form : goal.returns-clause-form

@@ -1,6 +1,6 @@
 use Rattle.std.specs.Prelude.{decimal}
 use Rattle.std.proofs.lemmas.Result.{on_ok_weaker}
-use Rattle.fb_report.proofs.Forms.{track_is}
+use Rattle.fb_report.proofs.PrintedForms.{track_is}
 use Rattle.fb_report.proofs.line.Line.track.Goals as goal
 
 pub returns-clause-form : goal.returns-clause-form
