@@ -6,3 +6,4 @@ pub mod Calls
 pub mod Standing
 pub mod Deciding
 pub mod Making
+pub mod FullRuns

@@ -10,6 +10,7 @@
 mod background;
 mod deciding;
 mod foreground;
+mod full_runs;
 mod joining;
 mod riding;
 mod serving;
@@ -17,3 +18,4 @@ mod settling;
 mod timing;
 
 pub use deciding::{Decider, Rows};
+pub use full_runs::decisions_make_a_run;

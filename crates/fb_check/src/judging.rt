@@ -1,0 +1,69 @@
+// Judges printed reports, decision by decision.
+ghost use Rattle.std.specs.Prelude.{◌≡◌, ◌%◌, [], length, IfOk};
+ghost use Rattle.fb_calls.specs.Allowed.{tasks};
+ghost use Rattle.fb_model.specs.Accepted.{IsAccepted};
+ghost use Rattle.fb_report.specs.Grammar.{back_grammar, fore_grammar};
+ghost use Rattle.fb_report.specs.Reading.{IsReport};
+ghost use Rattle.fb_check.specs.Asked.{inputs_of, reports_of};
+ghost use Rattle.fb_check.specs.Verdict.{IsVerdict};
+
+use crate::Verdict;
+use fb_calls::Calls;
+use fb_plan::Planner;
+use fb_queue::Queue;
+use fb_report::{Bytes, ReportLines};
+use fb_service::Disk;
+use fb_trace::Trace;
+use fb_units::{NoMemory, Ns};
+use std::alloc::Global;
+
+/// The accepted inputs of a replay.
+#[derive(Clone, Copy)]
+pub struct Asked<'a> {
+    /// The disk.
+    pub disk: &'a Disk,
+    /// The LBNs of the sectors that can't be read until a write has passed them.
+    pub latent: &'a [u64],
+    /// The requests of one device.
+    pub trace: &'a Trace,
+    /// The call script.
+    pub calls: &'a Calls,
+    /// The instant, in ns, up to which the head goes on reading background when nothing else is
+    /// left to do.
+    pub until: Ns,
+}
+
+/// Two printed reports.
+#[derive(Clone, Copy)]
+pub struct Printed<'a> {
+    /// How the bytes of reads and deliveries are shown.
+    pub bytes: Bytes,
+    /// The lines of the foreground report.
+    pub fore: &'a ReportLines<'a>,
+    /// The lines of the background report.
+    pub back: &'a ReportLines<'a>,
+}
+
+/// Judges whether two printed reports are those of the full run of these inputs.
+///
+/// The replay is made decision by decision, and each decision's lines are compared with the printed
+/// ones and let go. The first wrong foreground line ends it. The queue must be new: empty, and
+/// never used. The only error is out of memory.
+pub fn judge<Q: Queue, P: Planner>(
+    alloc: Global,
+    asked: Asked<'_>,
+    queue: Q,
+    planner: &P,
+    printed: Printed<'_>,
+) -> Result<Verdict, NoMemory>
+    requires empty { Q.pending queue ≡ [] }
+    requires fresh { Q.joined queue ≡ 0 }
+    requires accepted { IsAccepted (inputs_of asked Q.key) }
+    requires names { length asked.calls.now.names ≡ length (tasks asked.calls.now.calls.items) }
+    requires whole { asked.disk.now.sector_bytes % 16 ≡ 0 }
+    requires fore { IsReport fore_grammar printed.fore.now }
+    requires back { IsReport back_grammar printed.back.now }
+    ensures { IfOk result (IsVerdict (inputs_of asked.entry Q.key) (reports_of asked.entry printed.entry)) }
+{
+    Err(NoMemory)
+}

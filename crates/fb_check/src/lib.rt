@@ -1,0 +1,14 @@
+//! A judge of printed reports.
+//!
+//! Whoever has two printed reports, whatever program printed them, can have them judged. Its
+//! contract gives the layer above a verdict: yes says that the reports are the texts of the full
+//! run of the inputs; no names the first line that is wrong, the first field in it, and the rule
+//! that the due line keeps. It makes one decision after another (`fb_decide`) and holds no whole
+//! run. It promises nothing of the time that it takes.
+#![tactic(auto)]
+
+mod judging;
+mod verdict;
+
+pub use judging::{Asked, Printed, judge};
+pub use verdict::{Mismatch, Rule, Verdict};
