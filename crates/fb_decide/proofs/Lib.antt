@@ -33,3 +33,7 @@ pub mod Going
 pub mod FittingRows
 pub mod Begun
 pub mod Looping
+pub mod Chain
+pub mod QuietRows
+pub mod Possible
+pub mod FullRuns

@@ -7,5 +7,4 @@ ghost use Rattle.fb_decide.specs.FullRuns.{DecisionsMakeARun};
 /// far, and in the end, with the rows of the tasks, a full run.
 pub fn decisions_make_a_run()
     ensures { DecisionsMakeARun }
-{
-}
+{}

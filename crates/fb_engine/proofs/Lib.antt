@@ -1,4 +1,1 @@
-pub mod Chain
-pub mod QuietRows
-pub mod Possible
-pub mod Ended
+pub mod Looping

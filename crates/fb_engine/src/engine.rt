@@ -8,7 +8,7 @@ ghost use Rattle.fb_model.specs.Accepted.{IsAccepted};
 ghost use Rattle.fb_model.specs.FullRun.{IsFull};
 
 use fb_calls::Calls;
-use fb_decide::Decider;
+use fb_decide::{Decider, decisions_make_a_run};
 use fb_plan::Planner;
 use fb_queue::Queue;
 use fb_rows::Run;
@@ -42,6 +42,7 @@ pub fn replay<Q: Queue, P: Planner>(
     ensures back_ranges { IfOk result (λ run. AllByRecursion HasBackRanges run.back) }
     ensures named { IfOk result (λ run. (names : List (List ℕ)) → length names ≡ length (tasks calls.now.calls.items) → AllByRecursion (HasNamedTask names) run.back) }
 {
+    decisions_make_a_run();
     let mut decider = Decider::new(alloc, disk, latent, trace, calls, queue)?;
     let mut goes_on = true;
     while goes_on {

@@ -1,5 +1,5 @@
 use Rattle.fb_decide.specs.Making.{decisions_left}
-use Rattle.fb_engine.proofs.Ended.{HasGone}
+use Rattle.fb_engine.proofs.Looping.{HasGone}
 use Rattle.fb_engine.proofs.engine.replay.Given as goal
 
 abbrev pub invariant-loop-goes_on : goal.invariant-loop-goes_on

@@ -20,9 +20,9 @@ use Rattle.fb_model.specs.History.{Past}
 use Rattle.fb_model.specs.Steps.{Part, past_after, steps, AtEach, opening, part_rows, task_rows}
 use Rattle.fb_model.specs.SoundRun.{IsPlanned, HasPlan, IsTested, Throughout}
 use Rattle.fb_decide.proofs.Ways.{Leads, lead_on, lead_gap, lead_service, lead_stay}
-use Rattle.fb_engine.proofs.Chain.{Follow, services, decisions_follow}
+use Rattle.fb_decide.proofs.Chain.{Follow, services, decisions_follow}
 use Rattle.fb_decide.proofs.OnDisk.{LiesOnDisk, requests_lie, have_angles}
-use Rattle.fb_engine.proofs.QuietRows.{IsQuiet, quiet_before, all_quiet, tasks_quiet, delivered_rows, IsQuietPart, quiet_part}
+use Rattle.fb_decide.proofs.QuietRows.{IsQuiet, quiet_before, all_quiet, tasks_quiet, delivered_rows, IsQuietPart, quiet_part}
 
 -- ---- one decision
 

@@ -1,0 +1,84 @@
+-- What stands in the loop over decisions.
+use Rattle.std.proofs.Common.{◌≡◌, ℕ, List, [], ◌∷◌, ◌++◌, ◌≤◌, ◌<◌, ◌^◌, Bool, true, false, length, ap, sym, subst, arith}
+use Rattle.std.specs.List.{AllByRecursion}
+use Rattle.std.proofs.lemmas.List.{length-map}
+use Rattle.fb_units.specs.declared.types.Request.{Request}
+use Rattle.fb_calls.specs.Allowed as allowed
+use Rattle.fb_rows.specs.Ranges.{HasRanges}
+use Rattle.fb_rows.specs.declared.fore.ForeRow.{ForeRow}
+use Rattle.fb_rows.specs.declared.back.BackRow.{BackRow}
+use Rattle.fb_model.specs.Inputs.{Inputs, served}
+use Rattle.fb_model.specs.Content.{medium_of, fore_row, fore_rows}
+use Rattle.fb_model.specs.Decisions.{decisions, run_end}
+use Rattle.fb_model.specs.Steps.{history, task_rows}
+use Rattle.fb_model.specs.FullRun.{IsFull}
+use Rattle.fb_decide.specs.declared.deciding.Course.{Course}
+use Rattle.fb_decide.specs.Making.{Step, RowFits, HasMade, HasMadeOne, decisions_left}
+use Rattle.fb_decide.specs.FullRuns.{AreRowsOf, DecisionsMakeARun}
+use Rattle.fb_decide.proofs.Passed.{all_append}
+
+-- the rows that have been added so far are within their ranges
+pub record RowsFit (inputs : Inputs) (fore : List ForeRow) (back : List BackRow) : Type 0 where
+  pub ranges : AllByRecursion HasRanges fore
+  pub fits : AllByRecursion (RowFits (length (allowed.tasks inputs.calls))) back
+
+-- these decisions have been made, none of their rows has been taken, and perhaps more follow
+pub record HasGone (inputs : Inputs) (more : Bool) (list : List Request) (course : Course) (pending : List Request) (count : ℕ) : Type 0 where
+  pub steps : List Step
+  pub made : HasMade inputs more steps list course pending count
+  pub rows : AreRowsOf inputs steps course.fore course.background.rows
+  pub fit : RowsFit inputs course.fore course.background.rows
+
+-- at first
+pub at_first : {inputs : Inputs} {list : List Request} {course : Course} {pending : List Request} {count : ℕ}
+    → HasMade inputs true [] list course pending count → course.fore ≡ [] → course.background.rows ≡ [] → HasGone inputs true list course pending count
+at_first {inputs} made no_fore no_back = record {
+  steps = [];
+  made = made;
+  rows = record { each = tt; fore_so_far = no_fore; back_so_far = no_back };
+  fit = record { ranges = subst (AllByRecursion HasRanges) (sym no_fore) tt; fits = subst (AllByRecursion (RowFits (length (allowed.tasks inputs.calls)))) (sym no_back) tt };
+}
+
+-- where another decision follows, and where none does
+pub gone_on : {inputs : Inputs} {more goes_on : Bool} {list : List Request} {course : Course} {pending : List Request} {count : ℕ} → more ≡ goes_on → HasGone inputs more list course pending count → HasGone inputs goes_on list course pending count
+gone_on {inputs} {more} {goes_on} {list} {course} {pending} {count} e gone = subst (λ b. HasGone inputs b list course pending count) e gone
+
+-- after one more decision
+pub one_on : {inputs : Inputs} {more : Bool} {list now_list : List Request} {before after : Course} {pending pending_after : List Request} {count count_after : ℕ}
+    → DecisionsMakeARun → (gone : HasGone inputs true list before pending count) → now_list ≡ list → HasMadeOne inputs gone.steps more list before pending after pending_after count_after
+    → HasGone inputs more now_list after pending_after count_after
+one_on {inputs} {more} {list} {now_list} {before} {after} {pending} {pending_after} {count} {count_after} law gone same one = subst (λ list. HasGone inputs more list after pending_after count_after) (sym same) (record {
+  steps = gone.steps ++ one.step ∷ [];
+  made = one.made;
+  rows = rw (one.fore, one.back) (law.go_on inputs gone.steps one.step before.fore before.background.rows gone.rows one.is_made);
+  fit = record {
+    ranges = rw one.fore (all_append HasRanges before.fore _ gone.fit.ranges one.fore_ranges);
+    fits = rw one.back (all_append (RowFits (length (allowed.tasks inputs.calls))) before.background.rows _ gone.fit.fits one.back_fits);
+  };
+})
+
+-- and fewer are left
+pub less_by : {inputs : Inputs} {steps : List Step} {more was : Bool} {list : List Request} {before after : Course} {pending pending_after : List Request} {count_after : ℕ}
+    → was ≡ true → HasMadeOne inputs steps more list before pending after pending_after count_after → decisions_left inputs more after pending_after < decisions_left inputs was before pending
+less_by {inputs} {steps} {more} {was} {list} {before} {after} {pending} {pending_after} e one = subst (λ b. decisions_left inputs more after pending_after < decisions_left inputs b before pending) (sym e) one.fewer
+
+-- ---- where no decision follows
+
+module _ {inputs : Inputs} {list : List Request} {course : Course} {pending : List Request} {count : ℕ} (gone : HasGone inputs false list course pending count) where
+  pub is_full : (fore : List ForeRow) (back : List BackRow) → fore ≡ course.fore → back ≡ course.background.rows ++ task_rows (history inputs gone.steps)
+      → (end : ℕ) → DecisionsMakeARun → end ≡ run_end (decisions inputs) → IsFull inputs (record { fore = fore; back = back; passed_over = inputs.passed_over; end = end })
+  is_full fore back same rows end law ends = rw (same, rows, ends) (law.full inputs gone.steps list course pending count course.fore course.background.rows gone.made gone.rows)
+
+  pub is_few : (fore : List ForeRow) → fore ≡ course.fore → DecisionsMakeARun → length fore ≤ 10 ^ 6
+  unfolding fore_rows
+  is_few fore same law = omega (
+    arith,
+    ap length same,
+    ap length (law.end inputs gone.steps list course pending count course.fore course.background.rows gone.made gone.rows),
+    length-map (served inputs) (fore_row (medium_of inputs)),
+    gone.made.come_to.few,
+  )
+
+  pub rows_fit : (back : List BackRow) → back ≡ course.background.rows ++ task_rows (history inputs gone.steps)
+      → AllByRecursion (RowFits (length (allowed.tasks inputs.calls))) (task_rows (history inputs gone.steps)) → AllByRecursion (RowFits (length (allowed.tasks inputs.calls))) back
+  rows_fit back rows fits = rw rows (all_append (RowFits (length (allowed.tasks inputs.calls))) course.background.rows (task_rows (history inputs gone.steps)) gone.fit.fits fits)
