@@ -39,6 +39,7 @@ RowsAreFull = (inputs : Inputs) (steps : List Step) (list : List Request) (cours
     → HasMade inputs false steps list course pending count → AreRowsOf inputs steps fore back
     → IsFull inputs (record { fore = fore; back = back ++ task_rows (history inputs steps); passed_over = inputs.passed_over; end = run_end (decisions inputs) })
 
+-- whoever adds the rows of one decision after another has a full run in the end
 pub record DecisionsMakeARun : Type 0 where
   pub go_on : RowsGoOn
   pub begin : ForeRowsBegin

@@ -41,6 +41,7 @@ pub record Given : Type 0 where
   pub trace : List Request
   pub passed_over : ℕ
 
+-- the inputs of a replay: what it is given once, the disk, the calls, the queue's key, and the instant up to which it reads on
 abbrev pub inputs_with : Given → Disk → List Call → Key → ℕ → Inputs
 inputs_with given disk calls key until = record { disk = disk; latent = given.latent; trace = given.trace; passed_over = given.passed_over; calls = calls; key = key; until = until }
 
@@ -58,7 +59,7 @@ abbrev pub fore_row_of : Medium → Decision → List ForeRow
 fore_row_of medium (serves served) = fore_row medium served ∷ []
 fore_row_of medium _ = []
 
--- a row covers sectors of the disk, and its task is one of the first n
+-- the sectors of its contents lie below 10^12, and its task is one of the first n
 pub record RowFits (n : ℕ) (row : BackRow) : Type 0 where
   pub ranges : HasBackRanges row
   pub named : (names : List (List ℕ)) → length names ≡ n → HasNamedTask names row
@@ -79,6 +80,7 @@ pub record Replayed (latent : List ℕ) (whole : List Served) (rest : List Serve
   pub ended : AllByRecursion (λ (write : Written). write.passage.end ≤ now) (all_writes done)
   pub holds : (lbn : ℕ) → content_in holding lbn ≡ held_after latent done lbn
 
+-- the decisions, without what the background does at them
 abbrev pub decided_in : List Step → List Decision
 decided_in steps = map (λ step. step.0) steps
 
@@ -90,26 +92,37 @@ pub record HasRun (inputs : Inputs) (rest : List Served) (course : Course) (step
   pub finds : IsTrue (medium_of inputs) course.store (history inputs steps)
   pub ends_at : run_end (decided_in steps) ≡ course.now
 
--- how the requests that are left are served
+-- the plain replay of these requests, from where and when the head stands now
 abbrev pub rest_by : Inputs → Course → List Request → List Served
 rest_by inputs course waiting = plain (length waiting) inputs.disk inputs.key course.head course.now waiting
 
+-- the services that are left: of the requests that wait, and of those that haven't joined yet
 abbrev pub rest_of : Inputs → Course → List Request → List Served
 rest_of inputs course pending = rest_by inputs course (left (requests inputs) course.joined pending)
 
+-- the decisions that are left, if these are the services that are left
 abbrev pub decisions_by : Inputs → Course → List Served → List Decision
 decisions_by inputs course rest = decisions_from inputs.disk (instants_of inputs) inputs.until course.head course.now rest
 
 -- another decision follows
 pub record GoesOn (inputs : Inputs) (course : Course) (pending : List Request) (count : ℕ) (steps : List Step) : Type 0 where
+  -- these decisions have brought the disk and the background to where they are
   pub run : HasRun inputs (rest_of inputs course pending) course steps
+  -- they and those that are left are the run's decisions
   pub decided : decided_in steps ++ decisions_by inputs course (rest_of inputs course pending) ≡ decisions inputs
+  -- the first calls of the script have taken effect, and what all of them can register fits
   pub called : IsCalled inputs.disk.map inputs.calls (history inputs steps) course.called
+  -- no request has joined before it arrived, and no call has taken effect before its instant
   pub arrivals : AllByRecursion (λ r. r.arrival ≤ course.now) (take course.joined (requests inputs))
   pub calls_taken : AllByRecursion (λ c. c.instant ≤ course.now) (take course.called inputs.calls)
+  -- the requests that wait have arrived, and they and the later ones lie on the disk
   pub waits : IsWaiting inputs.disk (requests inputs) course.now course.joined count pending
+  -- the head is on a track of the disk
   pub stands : IsTrackOf inputs.disk.map course.head
+  -- arrivals and calls come by 10^15 ns, and no service takes longer than 2048 * (4 * 10^9) ns: of at most 2,048 sectors each is passed
+  -- within 4 s, in which the way to its track, the settle, the wait and the passage take at most 1 s each
   pub soon : course.now ≤ 10 ^ 15 + length run.done * (2048 * (4 * 10 ^ 9))
+  -- each request is served or left
   pub counted : length (left (requests inputs) course.joined pending) + length run.done ≡ length (requests inputs)
 
 -- the last decision was made
@@ -119,11 +132,12 @@ pub record HasEnded (inputs : Inputs) (course : Course) (steps : List Step) : Ty
   pub calls_made : calls_of (history inputs steps) ≡ take course.called inputs.calls
   pub few : length (served inputs) ≤ 10 ^ 6
 
+-- another decision follows, or the last one was made
 abbrev pub HasComeTo : Inputs → Bool → Course → List Request → ℕ → List Step → Type 0
 HasComeTo inputs true course pending count steps = GoesOn inputs course pending count steps
 HasComeTo inputs false course pending count steps = HasEnded inputs course steps
 
--- what is assumed of the inputs
+-- the inputs are accepted, with what follows for their requests and disk
 pub record AreKnown (inputs : Inputs) : Type 0 where
   pub accepted : IsAccepted inputs
   pub list : IsForegroundOf inputs.disk (requests inputs)

@@ -101,8 +101,10 @@ impl<Q: Queue> Decider<Q> {
     /// Makes the next decision and adds its rows; returns whether another decision follows.
     ///
     /// A request that is served has the best plan for its gap. `until` is the instant, in ns, up to
-    /// which the head goes on reading background when nothing else is left to do. The only error is
-    /// out of memory, after which nothing is promised of the decider.
+    /// which the head goes on reading background when nothing else is left to do. It must be the
+    /// same at each call, and so must the disk and the calls, which are those that `new` was given.
+    /// Once the answer was `false` it isn't called again. The only error is out of memory, after
+    /// which nothing is promised of the decider.
     pub fn decide<P: Planner>(
         &mut self,
         alloc: Global,
@@ -132,7 +134,7 @@ impl<Q: Queue> Decider<Q> {
 
     /// Adds the row of each task, as it stands at the end.
     ///
-    /// The only error is out of memory.
+    /// It is called once, when no decision follows. The only error is out of memory.
     pub fn add_task_rows(&mut self) -> Result<(), NoMemory>
         requires { (inputs : Inputs) × (steps : List Step) × HasMade inputs false steps self.old.requests.items self.old.course (Q.pending self.old.queue) (Q.joined self.old.queue) }
         ensures rows { OnOk result ((inputs : Inputs) (steps : List Step) → HasMade inputs false steps self.old.requests.items self.old.course (Q.pending self.old.queue) (Q.joined self.old.queue)

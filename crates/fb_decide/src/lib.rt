@@ -4,7 +4,7 @@
 //! decision of a full run: the best plan for the gap of the request that it serves, all deliveries
 //! that are due, and the rows of their tests. The rows can be taken after each decision, so that
 //! none need be held. All this holds for every queue and every planner that keep the contracts of
-//! their traits. After an error nothing is promised of a decider.
+//! their traits. After an error of `decide` nothing is promised of its decider.
 #![tactic(auto)]
 
 mod background;
