@@ -18,7 +18,7 @@ use Rattle.fb_tasks.specs.Taken.{by_deliveries}
 use Rattle.fb_tasks.specs.Standing.{AreRowsOf, IsAtWork, IsUntouched, IsQuiet, HasNoChoice, Stands, HoldsBlocks, HasChosen, HaveChosen}
 use Rattle.fb_tasks.specs.Telling.{Tells}
 use Rattle.fb_tasks.proofs.Lists.{same_number, other_number, some_at}
-use Rattle.fb_tasks.proofs.Frames.{kept-entries, get_set, get_own}
+use Rattle.fb_tasks.proofs.Frames.{kept-entries, get_other, get_set, get_own}
 use Rattle.fb_tasks.proofs.Findings.{range_more}
 use Rattle.fb_calls.specs.declared.call.Kind.TheVariants.{Plain}
 use Rattle.fb_tasks.proofs.Opens.{none-yet}
@@ -55,7 +55,7 @@ module _ (held : List Entry) (old now : List Session) (n : ℕ) (session new : S
   pub one_tested : AreTested held old (n + 1) (set now n (record new { touched = false }))
   one_tested = record {
     as_many = length-set now n cleared ∙ is.as_many;
-    later = λ k more. set_other now n k cleared (λ e. absurd (omega arith)) ∙ is.later k (omega arith);
+    later = λ k more. get_other now n k cleared (λ e. absurd (omega arith)) ∙ is.later k (omega arith);
     clear = λ k some less at. elim (cases_Bool (n == k)) [
       | inl own ↦ ap (λ (s : Session). s.touched) (get_own now n cleared some (ap (slice_get (set now n cleared)) (same_number n k own) ∙ at))
       | inr other ↦ is.clear k some (before k less (other_number n k other)) (get_set now n k cleared some at (other_number n k other))
@@ -71,13 +71,6 @@ module _ (held : List Entry) (old now : List Session) (n : ℕ) (session new : S
   } where
     before : (k : ℕ) → k < n + 1 → (n ≡ k → ⊥) → k < n
     before k less other = grind (arith, nat_tests)
-
-    set_other : {X : Type 0} (xs : List X) (i k : ℕ) (y : X) → (i ≡ k → ⊥) → slice_get (set xs i y) k ≡ slice_get xs k
-    set_other [] i k y other = refl
-    set_other (x ∷ xs) zero zero y other = absurd (other refl)
-    set_other (x ∷ xs) zero (suc k) y other = refl
-    set_other (x ∷ xs) (suc i) zero y other = refl
-    set_other (x ∷ xs) (suc i) (suc k) y other = set_other xs i k y (λ e. other (ap suc e))
 
 -- a quiet task stands as it did after the test, and gives no row
 module _ (task : ℕ) (v : TaskView) (rows : List BackRow) (given : AreRowsOf task v rows) (session : Session) (none : (is_unsealed v && is_done v.work) ≡ false) (noted : session.complete ≡ is_done v.work) where

@@ -25,6 +25,13 @@ get_set (x ∷ xs) zero (suc k) y z h other = h
 get_set (x ∷ xs) (suc i) zero y z h other = h
 get_set (x ∷ xs) (suc i) (suc k) y z h other = get_set xs i k y z h (λ e. other (ap suc e))
 
+pub get_other : {X : Type 0} (xs : List X) (i k : ℕ) (y : X) → (i ≡ k → ⊥) → slice_get (set xs i y) k ≡ slice_get xs k
+get_other [] i k y other = refl
+get_other (x ∷ xs) zero zero y other = absurd (other refl)
+get_other (x ∷ xs) zero (suc k) y other = refl
+get_other (x ∷ xs) (suc i) zero y other = refl
+get_other (x ∷ xs) (suc i) (suc k) y other = get_other xs i k y (λ e. other (ap suc e))
+
 pub get_own : {X : Type 0} (xs : List X) (i : ℕ) (y z : X) → slice_get (set xs i y) i ≡ Some z → z ≡ y
 get_own [] i y z h = absurd (grind arith)
 get_own (x ∷ xs) zero y z h = sym (some_same y z h)

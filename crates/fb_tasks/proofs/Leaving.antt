@@ -1,21 +1,24 @@
 -- Lists that only grow, and what a call leaves that ran out of memory.
-use Rattle.std.proofs.Common.{◌≡◌, ◌≤◌, ◌+◌, ◌==◌, ℕ, List, [], ◌∷◌, ◌++◌, length, filter, append-nil, append_assoc, length-append, refl, ap, sym, ◌∙◌, arith}
-use Rattle.std.proofs.lemmas.List.{map-append}
+use Rattle.std.proofs.Common.{◌≡◌, ◌≤◌, ◌+◌, ◌-◌, ◌==◌, ℕ, List, [], ◌∷◌, ◌++◌, true, false, Some, inl, inr, length, filter, map, set, slice_get, take, drop, append-nil, append_assoc, length-append, refl, ap, sym, ◌∙◌, subst, arith}
+use Rattle.std.specs.List.{AllByRecursion, range_with_len}
+use Rattle.std.proofs.Math.Seq.{map-set_same}
+use Rattle.std.proofs.lemmas.Bool.{cases_Bool, true≢false}
+use Rattle.std.proofs.lemmas.List.{map-append, append_cancel_left, length-map, take-append-drop}
 use Rattle.std.proofs.lemmas.List.Elements.{filter-append}
+use Rattle.std.proofs.lemmas.Option.{slice_get_within, get_or_from_slice_get}
 use Rattle.fb_sectormap.specs.declared.cut.Cut.{Cut}
-use Rattle.fb_units.specs.declared.types.Track.{Track}
-use Rattle.fb_calls.specs.declared.call.Action.{Action}
-use Rattle.fb_calls.specs.declared.call.Action.TheVariants.{Want}
+use Rattle.fb_calls.specs.Sessions.{is_clean}
 use Rattle.fb_wanted.specs.declared.block.Block.{Block}
 use Rattle.fb_wanted.specs.declared.block.Entry.{Entry}
-use Rattle.fb_wanted.specs.declared.block.State.{State}
 use Rattle.fb_wanted.specs.Numbering.{registered, blocks_of}
 use Rattle.fb_wanted.specs.States.{wanted_unless}
 use Rattle.fb_model.specs.Segments.{numbered}
 use Rattle.fb_tasks.specs.declared.session.Session.{Session}
 use Rattle.fb_tasks.specs.Keeping.{new_entries}
-use Rattle.fb_tasks.specs.Leaving.{HasGrown, IsWantedBy, OnlyWants}
-use Rattle.fb_tasks.proofs.Lists.{all_append, number_same}
+use Rattle.fb_tasks.specs.Leaving.{HasGrown, HasBegun, OnlyRegisters, MayClean, OnlyTouched, by_calls}
+use Rattle.fb_tasks.proofs.Lists.{all_append, all_left, all_map, all_weaker, map_at, some_at, some_same, number_same}
+use Rattle.fb_tasks.proofs.Frames.{get_other}
+use Rattle.fb_tasks.proofs.Cuts.{cuts_own, ranges_join}
 
 pub grown_not : {A : Type 0} (xs : List A) → HasGrown xs xs
 grown_not xs = record { added = []; is = sym (append-nil xs) }
@@ -23,21 +26,108 @@ grown_not xs = record { added = []; is = sym (append-nil xs) }
 pub grown_more : {A : Type 0} (xs ys zs : List A) → HasGrown xs ys → HasGrown ys zs → HasGrown xs zs
 grown_more xs ys zs a b = record { added = a.added ++ b.added; is = b.is ∙ (ap (λ l. l ++ b.added) a.is ∙ append_assoc xs a.added b.added) }
 
-pub wants_none : (task : ℕ) (action : Action) (held : List Entry) → OnlyWants task action held held
-wants_none task action held = record { grown = record { added = []; is = sym (append-nil held) }; own = tt }
+pub begun_not : {A : Type 0} {xs due : List A} → HasBegun xs due xs
+begun_not {A} {xs} {due} = record { added = []; left = due; is = sym (append-nil xs); first = refl }
 
--- a want has registered one more block
-pub wants_cut : (task first count index at lbn size left weight : ℕ) (track : Track) (held before now : List Entry) (block : Block) (state : State) → OnlyWants task (Want first count) held before
-    → now ≡ before ++ record { block = block; state = state } ∷ [] → block ≡ record { task = task; index = index; lbn = lbn; count = size; track = track; weight = weight }
-    → lbn ≡ at → size ≤ left → at + left ≡ first + count → first ≤ at → OnlyWants task (Want first count) held now
-wants_cut task first count index at lbn size left weight track held before now block state h is same here fits ends low =
-    let entry : Entry = record { block = block; state = state } in
-    let from : block.lbn ≡ at = ap (λ b. b.lbn) same ∙ here in
-    let long : block.count ≡ size = ap (λ b. b.count) same in
+pub begun_same : {A : Type 0} {old due new : List A} → new ≡ old → HasBegun old due new
+begun_same {A} {old} {due} same = subst (HasBegun old due) (sym same) begun_not
+
+pub begun_all : {A : Type 0} {old due new : List A} → new ≡ old ++ due → HasBegun old due new
+begun_all {A} {old} {due} h = record { added = due; left = []; is = h; first = sym (append-nil due) }
+
+-- more is due behind it
+pub begun_longer : {A : Type 0} {old due new : List A} (more : List A) → HasBegun old due new → HasBegun old (due ++ more) new
+begun_longer more h = record { added = h.added; left = h.left ++ more; is = h.is; first = ap (λ l. l ++ more) h.first ∙ append_assoc h.added h.left more }
+
+-- what was due first stands
+pub begun_after : {A : Type 0} {old more mid new : List A} (due : List A) → mid ≡ old ++ due → HasBegun mid more new → HasBegun old (due ++ more) new
+begun_after {A} {old} due all h = record {
+  added = due ++ h.added;
+  left = h.left;
+  is = h.is ∙ (ap (λ l. l ++ h.added) all ∙ append_assoc old due h.added);
+  first = ap (λ l. due ++ l) h.first ∙ sym (append_assoc due h.added h.left);
+}
+
+pub begun_grown : {A : Type 0} {old due new : List A} → HasBegun old due new → HasGrown old new
+begun_grown h = record { added = h.added; is = h.is }
+
+-- what stands and what is left are all that was due
+pub begun_by : {A : Type 0} {old due now : List A} (rest : List A) → HasGrown old now → now ++ rest ≡ old ++ due → HasBegun old due now
+begun_by {A} {old} {due} rest h all = record {
+  added = h.added;
+  left = rest;
+  is = h.is;
+  first = append_cancel_left old due (h.added ++ rest) (sym all ∙ (ap (λ l. l ++ rest) h.is ∙ append_assoc old h.added rest));
+}
+
+-- the first of a list give what is due for them
+pub begun_mapped : {A B : Type 0} {old new : List B} (f : A → B) (n : ℕ) (xs : List A) → new ≡ old ++ map f (take n xs) → HasBegun old (map f xs) new
+begun_mapped f n xs is = record { added = map f (take n xs); left = map f (drop n xs); is = is; first = sym (ap (map f) (take-append-drop n xs)) ∙ map-append f (take n xs) (drop n xs) }
+
+-- the first of as many as there are
+pub begun_counted : {B : Type 0} {old new : List B} (f : ℕ → B) (n all : ℕ) → n ≤ all → new ≡ old ++ map f (range_with_len 0 n) → HasBegun old (map f (range_with_len 0 all)) new
+begun_counted f n all within is =
+    let start : n ≡ 0 + n = omega arith in
+    let whole : n + (all - n) ≡ all = omega arith in
+    let join : range_with_len 0 n ++ range_with_len n (all - n) ≡ range_with_len 0 all = ap (λ k. range_with_len 0 n ++ range_with_len k (all - n)) start ∙ (ranges_join 0 n (all - n) ∙ ap (range_with_len 0) whole) in
+    record { added = map f (range_with_len 0 n); left = map f (range_with_len n (all - n)); is = is; first = sym (ap (map f) join) ∙ map-append f (range_with_len 0 n) (range_with_len n (all - n)) }
+
+pub registers_none : (P : ℕ → Type 0) (held : List Entry) → OnlyRegisters P held held
+unfolding grown_not
+registers_none P held = record { grown = grown_not held; own = tt }
+
+pub registers_more : (P : ℕ → Type 0) (xs ys zs : List Entry) → OnlyRegisters P xs ys → OnlyRegisters P ys zs → OnlyRegisters P xs zs
+unfolding grown_more
+registers_more P xs ys zs a b = record { grown = grown_more xs ys zs a.grown b.grown; own = all_append (λ e. P e.block.task) a.grown.added b.grown.added a.own b.own }
+
+pub registers_weaker : (P Q : ℕ → Type 0) (xs ys : List Entry) → ((task : ℕ) → P task → Q task) → OnlyRegisters P xs ys → OnlyRegisters Q xs ys
+registers_weaker P Q xs ys f h = record { grown = h.grown; own = all_weaker (λ e. P e.block.task) (λ e. Q e.block.task) (λ e. f e.block.task) h.grown.added h.own }
+
+-- a task's blocks of a range are its own
+pub begun_own : (task n : ℕ) (session : Session) (cuts : List Cut) (old new : List Entry) → HasBegun old (new_entries session (numbered task session.weight n cuts)) new → OnlyRegisters (λ other. other ≡ task) old new
+begun_own task n session cuts old new h =
+    let is_own = λ (entry : Entry). entry.block.task ≡ task in
+    let blocks = numbered task session.weight n cuts in
+    let all = all_map is_own (λ block. record { block = block; state = wanted_unless session.suspended }) blocks (cuts_own task session.weight n cuts) in
+    record { grown = record { added = h.added; is = h.is }; own = all_left is_own h.added h.left (subst (AllByRecursion is_own) h.first all) }
+
+pub touched_none : (sessions : List Session) → OnlyTouched sessions sessions
+touched_none sessions = record { calls = refl; untouched = λ _ _ at _. at }
+
+pub touched_more : (xs ys zs : List Session) → OnlyTouched xs ys → OnlyTouched ys zs → OnlyTouched xs zs
+touched_more xs ys zs a b = record { calls = b.calls ∙ a.calls; untouched = λ task session at free. b.untouched task session (a.untouched task session at free) free }
+
+-- a touched session changes
+pub touched_set : (olds items : List Session) (n : ℕ) (session new : Session) → slice_get items n ≡ Some session → session.touched ≡ true → by_calls new ≡ by_calls session → OnlyTouched olds items → OnlyTouched olds (set items n new)
+touched_set olds items n session new at touched same h = record {
+  calls = map-set_same by_calls items n new session (same ∙ ap by_calls (sym (get_or_from_slice_get items n session session at))) ∙ h.calls;
+  untouched = λ k other there free. let here = h.untouched k other there free in get_other items n k new (λ e. absurd (true≢false (sym touched ∙ (ap (λ (s : Session). s.touched) (some_same session other (sym at ∙ (ap (slice_get items) e ∙ here))) ∙ free)))) ∙ here;
+}
+
+-- an open clean session that was touched had been one before
+pub clean_before : (olds items : List Session) (n : ℕ) (session : Session) → slice_get items n ≡ Some session → is_clean session.kind ≡ true → session.closed ≡ false → session.touched ≡ true → OnlyTouched olds items → MayClean olds n
+clean_before olds items n session at clean is_open touched h =
+    let size : length olds ≡ length items = sym (length-map olds by_calls) ∙ (ap length (sym h.calls) ∙ length-map items by_calls) in
+    let was = some_at olds n (omega (arith, size, slice_get_within items n session at)) in
+    let same : by_calls was.0 ≡ by_calls session = some_same (by_calls was.0) (by_calls session) (sym (map_at by_calls olds n was.0 was.1) ∙ (ap (λ xs. slice_get xs n) (sym h.calls) ∙ map_at by_calls items n session at)) in
     record {
-      grown = record { added = h.grown.added ++ entry ∷ []; is = is ∙ (ap (λ l. l ++ entry ∷ []) h.grown.is ∙ append_assoc held h.grown.added (entry ∷ [])) };
-      own = all_append (λ e. IsWantedBy task (Want first count) e.block) h.grown.added (entry ∷ []) h.own ((ap (λ b. b.task) same, omega (arith, from, low), omega (arith, from, long, fits, ends)), tt);
+      session = was.0;
+      at = was.1;
+      clean = ap (λ t. is_clean t.0) same ∙ clean;
+      is_open = ap (λ t. t.4) same ∙ is_open;
+      touched = elim (cases_Bool was.0.touched) [
+        | inl yes_touched ↦ yes_touched
+        | inr free ↦ ap (λ (s : Session). s.touched) (some_same was.0 session (sym (h.untouched n was.0 was.1 free) ∙ at)) ∙ touched
+      ];
     }
+
+-- a touched session has chosen
+pub chosen_own : (olds items : List Session) (n : ℕ) (session : Session) (old before now : List Entry) → slice_get items n ≡ Some session → session.touched ≡ true → OnlyTouched olds items
+    → OnlyRegisters (MayClean olds) old before → OnlyRegisters (λ other. (other ≡ n) × (is_clean session.kind ≡ true) × (session.closed ≡ false)) before now → OnlyRegisters (MayClean olds) old now
+chosen_own olds items n session old before now at touched stay own more =
+    registers_more (MayClean olds) old before now own
+    (registers_weaker (λ other. (other ≡ n) × (is_clean session.kind ≡ true) × (session.closed ≡ false)) (MayClean olds) before now
+    (λ other is. subst (MayClean olds) (sym is.0) (clean_before olds items n session at is.1 is.2 touched stay)) more)
 
 -- the blocks that are registered and those that are left stay the same
 pub cut_registered : (task index : ℕ) (session : Session) (before now : List Entry) (cut : Cut) (cuts rest : List Cut) (block : Block) → cuts ≡ cut ∷ rest

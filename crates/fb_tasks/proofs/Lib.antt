@@ -28,6 +28,7 @@ pub mod Finished
 pub mod Deliveries
 pub mod OwnDelivery
 pub mod AfterDelivery
+pub mod DeliveryRows
 pub mod Turns
 pub mod LastChoice
 pub mod ChosenSegment

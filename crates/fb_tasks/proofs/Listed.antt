@@ -1,5 +1,5 @@
 -- The lists of touched sessions and of those that a write asks, as sessions change.
-use Rattle.std.proofs.Common.{◌≡◌, ◌⊎◌, ◌+◌, ◌^◌, ◌<◌, ◌≤◌, ◌==◌, ◌&&◌, not, ℕ, Bool, List, [], ◌∷◌, ◌++◌, length, true, false, Some, inl, inr, set, get_or, slice_get, length-append, refl, ap, sym, ◌∙◌, subst, arith}
+use Rattle.std.proofs.Common.{◌≡◌, ◌⊎◌, ◌<◌, ◌==◌, ◌&&◌, not, ℕ, Bool, List, [], ◌∷◌, ◌++◌, length, true, false, Some, inl, inr, set, get_or, slice_get, length-append, ap, sym, ◌∙◌, subst, arith}
 use Rattle.std.specs.BTreeSet.{BTreeSet, contains}
 use Rattle.std.specs.Ordering.{nat_cmp}
 use Rattle.std.proofs.lemmas.Bool.{cases_Bool, true≢false}
@@ -128,14 +128,7 @@ module _ {sessions : List Session} {touched asked : BTreeSet ℕ} (h : AreListed
     within = λ k is. h.within k (only k is);
   }
 
-  -- what isn't listed isn't touched
-  pub untouched-there : (k : ℕ) (session : Session) → contains nat_cmp touched k ≡ false → slice_get sessions k ≡ Some session → session.touched ≡ false
-  untouched-there k session none at = elim (cases_Bool session.touched) [
-    | inl is ↦ absurd (true≢false (sym (h.listed k session at is) ∙ none))
-    | inr not_it ↦ not_it
-  ]
-
-  -- and what isn't asked is no open backup
+  -- what isn't asked is no open backup
   pub no-backup-there : (k : ℕ) (session : Session) → contains nat_cmp asked k ≡ false → slice_get sessions k ≡ Some session → (is_backup session.kind && not session.sealed) ≡ false
   no-backup-there k session none at = elim (cases_Bool (is_backup session.kind && not session.sealed)) [
     | inl is ↦ absurd (true≢false (sym (h.backups k session at is) ∙ none))

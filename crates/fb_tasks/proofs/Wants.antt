@@ -1,8 +1,9 @@
 -- A range is wanted for a task that cleans no log.
-use Rattle.std.proofs.Common.{◌≡◌, ℕ, ◌+◌, ◌*◌, ◌^◌, ◌<◌, ◌≤◌, ◌==◌, ◌&&◌, not, if◌then◌else◌, List, [], ◌∷◌, ◌++◌, true, false, Some, length, set, get_or, slice_get, refl, ap, sym, ◌∙◌, arith, subst}
+use Rattle.std.proofs.Common.{◌≡◌, ℕ, ◌+◌, ◌*◌, ◌^◌, ◌<◌, ◌≤◌, ◌==◌, ◌&&◌, not, if◌then◌else◌, List, [], ◌∷◌, ◌++◌, true, false, Some, length, map, drop, set, get_or, slice_get, refl, ap, sym, ◌∙◌, arith, subst}
 use Rattle.std.specs.List.{AllByRecursion, list_any}
 use Rattle.std.proofs.lemmas.Bool.{and_parts, true≢false}
-use Rattle.std.proofs.lemmas.List.{length-map}
+use Rattle.std.proofs.lemmas.List.{length-map, map-append}
+use Rattle.std.proofs.Math.Seq.{drop-append_seam}
 use Rattle.std.proofs.lemmas.Option.{slice_get-get_or}
 use Rattle.fb_geometry.specs.Shape.{Shape}
 use Rattle.fb_geometry.specs.Places.{places}
@@ -26,9 +27,10 @@ use Rattle.fb_model.specs.Segments.{numbered}
 use Rattle.fb_model.specs.Steps.{take_call, blocks_by}
 use Rattle.fb_tasks.specs.declared.session.Session.{Session}
 use Rattle.fb_tasks.specs.Keeping.{new_entries}
+use Rattle.fb_tasks.specs.Leaving.{entries_by}
 use Rattle.fb_tasks.specs.Standing.{entry_of, Told, Stands, HoldsBlock, AreIndexed, Ascend, IsBlockOf}
 use Rattle.fb_tasks.specs.Telling.{Tells, MayTake, IsCall}
-use Rattle.fb_tasks.proofs.Lists.{all_with, all_append}
+use Rattle.fb_tasks.proofs.Lists.{some_same, all_with, all_append}
 use Rattle.fb_tasks.proofs.Frames.{one-tells}
 use Rattle.fb_tasks.proofs.Asked.{open_there, terms_there}
 use Rattle.fb_tasks.proofs.Registered.{named_same, indexed_append, all_member, registered-entries}
@@ -141,3 +143,17 @@ want_within disk past call task first count items seen held is view h =
     let asks = subst (λ a. MayAsk disk (calls_of past) call.task a) is.action h.asks in
     let there = open_there past task (subst (λ t. allowed.IsOpen (calls_of past) t) is.task asks.0) in
     omega (arith, there.0, h.tells.as_many, ap length view)
+
+-- what a want registers are the blocks that the call gives, in their states
+pub wanted_due : (disk : Shape) (past : Past) (call : Call) (task first count : ℕ) (items seen : List Session) (session : Session) (held : List Entry) → length (places disk) ≤ 10 ^ 12 → IsCall task (Want first count) call → items ≡ seen → task < length items → session ≡ get_or items task session
+    → MayTake disk past seen held call → new_entries session (numbered task session.weight (numbering.registered task (numbering.blocks_of held)) (cutting disk session.block first count)) ≡ entries_by disk past call
+wanted_due disk past call task first count items seen session held small is same within at h =
+    let there : slice_get seen task ≡ Some session = subst (λ xs. slice_get xs task ≡ Some session) same (slice_get-get_or items task session within ∙ ap Some (sym at)) in
+    let added = new_entries session (numbered task session.weight (numbering.registered task (numbering.blocks_of held)) (cutting disk session.block first count)) in
+    let entry = entry_of (take_call disk past call) in
+    let tells = wanted-tells disk past call task first count items seen (set seen task (record session { touched = true })) session held (held ++ added) small is same within at refl
+    (λ s here. ap (λ (x : Session). set seen task (record x { touched = true })) (some_same session s (sym there ∙ here))) h in
+    let all : held ++ added ≡ map entry (registered past) ++ entries_by disk past call = tells.entries ∙ map-append entry (registered past) (blocks_by disk past call.task call.action) in
+    let size : length held ≡ length (map entry (registered past)) = ap length h.tells.entries ∙ (length-map (registered past) (entry_of past) ∙ sym (length-map (registered past) entry)) in
+    sym (drop-append_seam held added) ∙ (ap (drop (length held)) all
+    ∙ (ap (λ n. drop n (map entry (registered past) ++ entries_by disk past call)) size ∙ drop-append_seam (map entry (registered past)) (entries_by disk past call)))

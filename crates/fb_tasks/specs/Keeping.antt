@@ -32,10 +32,12 @@ is_worked_off closed log = nat_lt 0 (length log.segments)
 abbrev pub are_over : Counts → Bool
 are_over counts = nat_lt 0 counts.registered && (counts.delivered + counts.aborted == counts.registered)
 
+-- the task of a session that was opened as this kind is complete: a log by its segments, else by its blocks
 abbrev pub complete_as : Kind → Session → Counts → Bool
 complete_as Clean session counts = is_worked_off session.closed session.log
 complete_as _ session counts = are_over counts
 
+-- the task of a session with these counts is complete
 abbrev pub complete_by : Session → Counts → Bool
 complete_by session counts = complete_as session.kind session counts
 

@@ -1,28 +1,50 @@
 -- What a call leaves that ran out of memory.
-use Rattle.std.specs.Prelude.{◌≡◌, ◌≤◌, ◌+◌, ℕ, List, ◌++◌}
+use Rattle.std.specs.Prelude.{◌≡◌, ℕ, List, ◌++◌, Bool, true, false, Some, map, slice_get}
 use Rattle.std.specs.List.{AllByRecursion}
-use Rattle.fb_calls.specs.declared.call.Action.{Action}
-use Rattle.fb_calls.specs.declared.call.Action.TheVariants.{Open, Want, Abort, Promote, Suspend, Resume, Close, Segment}
-use Rattle.fb_wanted.specs.declared.block.Block.{Block}
+use Rattle.fb_geometry.specs.Shape.{Shape}
+use Rattle.fb_calls.specs.declared.call.Call.{Call}
+use Rattle.fb_calls.specs.declared.call.Kind.{Kind}
+use Rattle.fb_calls.specs.Sessions.{is_clean}
 use Rattle.fb_wanted.specs.declared.block.Entry.{Entry}
+use Rattle.fb_model.specs.History.{Past}
+use Rattle.fb_model.specs.Steps.{blocks_by, take_call}
+use Rattle.fb_tasks.specs.declared.session.Session.{Session}
+use Rattle.fb_tasks.specs.Standing.{entry_of}
 
 -- what stood still stands, as it was, and at most more follows it
 pub record HasGrown {A : Type 0} (old new : List A) : Type 0 where
   pub added : List A
   pub is : new ≡ old ++ added
 
--- a block that a call registers: a want's, of its task and whole in its range
-abbrev pub IsWantedBy : ℕ → Action → Block → Type 0
-IsWantedBy task (Want first count) block = (block.task ≡ task) × (first ≤ block.lbn) × (block.lbn + block.count ≤ first + count)
-IsWantedBy task (Open kind weight size) block = ⊥
-IsWantedBy task (Abort first count) block = ⊥
-IsWantedBy task (Promote first count) block = ⊥
-IsWantedBy task Suspend block = ⊥
-IsWantedBy task Resume block = ⊥
-IsWantedBy task Close block = ⊥
-IsWantedBy task (Segment first blocks age live) block = ⊥
+-- what stood still stands, as it was, and at most the first of what was due follow it
+pub record HasBegun {A : Type 0} (old due new : List A) : Type 0 where
+  pub added : List A
+  pub left : List A
+  pub is : new ≡ old ++ added
+  pub first : due ≡ added ++ left
 
--- every block that stood is in its state, and what was registered is what the call wants
-pub record OnlyWants (task : ℕ) (action : Action) (old new : List Entry) : Type 0 where
+-- the blocks that a call registers, in their states
+abbrev pub entries_by : Shape → Past → Call → List Entry
+entries_by disk past call = map (entry_of (take_call disk past call)) (blocks_by disk past call.task call.action)
+
+-- every block that stood is in its state, and the task of each registered one is such a task
+pub record OnlyRegisters (IsSuch : ℕ → Type 0) (old new : List Entry) : Type 0 where
   pub grown : HasGrown old new
-  pub own : AllByRecursion (λ entry. IsWantedBy task action entry.block) grown.added
+  pub own : AllByRecursion (λ entry. IsSuch entry.block.task) grown.added
+
+-- the task is an open clean task that was touched since the last settling
+pub record MayClean (sessions : List Session) (task : ℕ) : Type 0 where
+  pub session : Session
+  pub at : slice_get sessions task ≡ Some session
+  pub clean : is_clean session.kind ≡ true
+  pub is_open : session.closed ≡ false
+  pub touched : session.touched ≡ true
+
+-- a session's terms, and whether it is suspended and closed: calls alone change these
+abbrev pub by_calls : Session → Kind × ℕ × ℕ × Bool × Bool
+by_calls session = (session.kind, session.weight, session.block, session.suspended, session.closed)
+
+-- each session is still on its terms, as open and as suspended, and one that was not touched since the last settling is as before
+pub record OnlyTouched (old new : List Session) : Type 0 where
+  pub calls : map by_calls new ≡ map by_calls old
+  pub untouched : (task : ℕ) (session : Session) → slice_get old task ≡ Some session → session.touched ≡ false → slice_get new task ≡ Some session

@@ -28,9 +28,11 @@ use Rattle.fb_tasks.specs.Keeping.{is_none}
 abbrev pub entry_in : TaskView → Block → Entry
 entry_in view block = record { block = block; state = state_in view block }
 
+-- a registered block with the state that its own task's view gives it
 abbrev pub entry_by : (ℕ → TaskView) → Block → Entry
 entry_by views block = entry_in (views block.task) block
 
+-- a registered block with its state after a history
 abbrev pub entry_of : Past → Block → Entry
 entry_of past block = entry_by (view past) block
 
@@ -74,6 +76,7 @@ kept_segment work segment = record {
   waits = not (is_chosen work.choices segment) && not work.closed;
 }
 
+-- the choice, if there is one
 abbrev pub choice_in : Option Choice → List Choice
 choice_in None = []
 choice_in (Some choice) = choice ∷ []
@@ -83,6 +86,7 @@ abbrev pub IsCutFrom : ℕ → Choice → Type 0
 IsCutFrom block choice = flat_map (λ part. range_with_len part.lbn part.count) choice.blocks
     ≡ flat_map (λ lbn. range_with_len lbn block) (clean.live_blocks block choice.segment.first choice.segment.live)
 
+-- what a log has taken for a choice's segment holds what the last deliveries of its blocks found
 abbrev pub HoldsChoice : Work → clean.Cleaning → Choice → Type 0
 HoldsChoice work log choice = AllByRecursion (HoldsBlock work (clean.taken_for log choice.segment.number)) choice.blocks
 

@@ -7,6 +7,7 @@ ghost use Rattle.fb_model.specs.Segments.{choose_once, choose_in};
 ghost use Rattle.fb_model.specs.Images.{segment_rows};
 ghost use Rattle.fb_model.specs.Completion.{view};
 ghost use Rattle.fb_tasks.specs.Taken.{by_deliveries};
+ghost use Rattle.fb_tasks.specs.Leaving.{HasGrown, OnlyRegisters, by_calls};
 ghost use Rattle.fb_tasks.specs.Standing.{MayChoose, HasChosen, AreReported};
 
 use crate::session::Session;
@@ -33,7 +34,9 @@ impl Session {
     ) -> Result<(), NoMemory>
         requires { (past : Past) × MayChoose map.now past task self.old wanted.old }
         ensures chosen { OnOk result ((past : Past) → MayChoose map.now past task self.old wanted.old → HasChosen map.now (choose_in map.now past task) task self.new wanted.new) }
-        ensures touched { OnOk result (self.new.touched ≡ self.old.touched) }
+        ensures same { (by_calls self.new ≡ by_calls self.old) × (self.new.touched ≡ self.old.touched) }
+        ensures own { OnlyRegisters (λ other. (other ≡ task) × (is_clean self.old.kind ≡ true) × (self.old.closed ≡ false)) wanted.old wanted.new }
+        ensures grown { HasGrown rows.old rows.new }
         ensures rows { OnOk result ((past : Past) → MayChoose map.now past task self.old wanted.old → AreReported (view past task).work → rows.new ≡ rows.old ++ segment_rows by_deliveries (choose_in map.now past task) now task) }
     {
         if !self.may_choose() {
@@ -70,7 +73,9 @@ impl Session {
         requires cleans { (is_clean self.old.kind ≡ true) × (self.old.closed ≡ false) }
         requires may { (past : Past) × MayChoose map.now past task self.old wanted.old }
         ensures chosen { IfOk result (λ some. (past : Past) → MayChoose map.now past task self.old wanted.old → MayChoose map.now (choose_once map.now task past) task self.new wanted.new) }
-        ensures same { (self.new.kind ≡ self.old.kind) × (self.new.closed ≡ self.old.closed) × (self.new.touched ≡ self.old.touched) }
+        ensures same { (by_calls self.new ≡ by_calls self.old) × (self.new.touched ≡ self.old.touched) }
+        ensures own { OnlyRegisters (λ other. other ≡ task) wanted.old wanted.new }
+        ensures grown { HasGrown rows.old rows.new }
         ensures none { IfOk result (λ some. some ≡ false → (past : Past) → MayChoose map.now past task self.old wanted.old → choose_once map.now task past ≡ past) }
         ensures rows { IfOk result (λ some. (past : Past) (before : List Row) → MayChoose map.now past task self.old wanted.old
             → rows.old ≡ before ++ segment_rows by_deliveries past now task → rows.new ≡ before ++ segment_rows by_deliveries (choose_once map.now task past) now task) }

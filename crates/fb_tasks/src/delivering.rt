@@ -1,5 +1,5 @@
 // What a delivery leaves in a session, and its findings.
-ghost use Rattle.std.specs.Prelude.{◌≡◌, ◌≢◌, ℕ, [], ◌++◌, ◌+◌, ◌≤◌, ◌^◌, None, map, true, IfOk, OnOk, if◌then◌else◌};
+ghost use Rattle.std.specs.Prelude.{◌≡◌, ◌≢◌, ℕ, [], ◌++◌, ◌+◌, ◌≤◌, ◌^◌, None, map, true, IfOk, OnOk, OnErr, if◌then◌else◌};
 ghost use Rattle.std.specs.List.{AllByRecursion, range_with_len};
 ghost use Rattle.fb_calls.specs.Sessions.{is_backup, is_clean};
 ghost use Rattle.fb_store.specs.declared.content.Content.{Content};
@@ -7,6 +7,7 @@ ghost use Rattle.fb_store.specs.Sparse.{Gives};
 ghost use Rattle.fb_rows.specs.declared.back.BackRow.TheVariants.{Bad as BadLine};
 ghost use Rattle.fb_model.specs.Images.{bad_sectors, is_scrub};
 ghost use Rattle.fb_tasks.specs.Keeping.{HasTaken};
+ghost use Rattle.fb_tasks.specs.Leaving.{HasBegun};
 
 use crate::session::Session;
 use fb_calls::Kind;
@@ -72,7 +73,8 @@ fn push_range(lbns: &mut Vec<u64>, first: u64, count: u64) -> Result<(), NoMemor
 
 /// Adds a finding's row for each sector.
 pub fn push_findings(rows: &mut BackRows, task: u32, lbns: &[u64]) -> Result<(), NoMemory>
-    ensures { OnOk result (rows.new ≡ rows.old ++ map (λ lbn. BadLine (record { task = task; lbn = lbn })) lbns.now) }
+    ensures ok { OnOk result (rows.new ≡ rows.old ++ map (λ lbn. BadLine (record { task = task; lbn = lbn })) lbns.now) }
+    ensures err { OnErr result (HasBegun rows.old (map (λ lbn. BadLine (record { task = task; lbn = lbn })) lbns.now) rows.new) }
 {
     for lbn in lbns {
         rows.push(BackRow::Bad(BadRow { task, lbn: *lbn }))?;

@@ -2,9 +2,9 @@
 //!
 //! The contracts tie the sessions and the wanted set to the history of a run: each method moves
 //! them by exactly the events that it stands for, and adds exactly the rows that these events give.
-//! Seals and segments take their contents from the deliveries. Out of memory, a call of a script
-//! leaves all sessions and blocks as they were, except for what a want has registered; of the other
-//! methods nothing is promised then.
+//! Seals and segments take their contents from the deliveries. Out of memory, no row is lost, and
+//! blocks and sessions other than the method's own are as before: `specs/Leaving.antt` has the words
+//! for what each method leaves.
 #![tactic(auto)]
 
 mod choosing;

@@ -23,7 +23,7 @@ pub struct Session {
     pub complete: bool,
     /// Whether a backup's seal row was given.
     pub sealed: bool,
-    /// Whether it was touched since its last test.
+    /// Whether it was touched since its last test: settling passes over the others.
     pub touched: bool,
     /// What the delivered blocks of a backup hold.
     pub image: Image,

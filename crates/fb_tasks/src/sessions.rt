@@ -6,6 +6,8 @@ ghost use Rattle.fb_units.specs.declared.types.Request.{Request};
 ghost use Rattle.fb_calls.specs.declared.call.Call.{Call as Asked};
 ghost use Rattle.fb_calls.specs.declared.call.Action.TheVariants.{Open, Want, Suspend, Resume, Close, Segment};
 ghost use Rattle.fb_wanted.specs.declared.block.Entry.{Entry};
+ghost use Rattle.fb_wanted.specs.declared.block.Change.TheVariants.{Deliver};
+ghost use Rattle.fb_wanted.specs.States.{after};
 ghost use Rattle.fb_rows.specs.declared.back.BackRow.TheVariants.{Got as GotLine};
 ghost use Rattle.fb_model.specs.History.{Past, called, tested, finished, task_numbers};
 ghost use Rattle.fb_model.specs.Completion.{is_complete};
@@ -15,12 +17,12 @@ ghost use Rattle.fb_model.specs.Segments.{with_choices};
 ghost use Rattle.fb_tasks.specs.declared.session.Session.{Session};
 ghost use Rattle.fb_tasks.specs.Taken.{by_deliveries, rows_after, delivery_of};
 ghost use Rattle.fb_tasks.specs.Standing.{HaveChosen};
-ghost use Rattle.fb_tasks.specs.Leaving.{OnlyWants};
+ghost use Rattle.fb_tasks.specs.Leaving.{HasGrown, HasBegun, entries_by, OnlyRegisters, MayClean, OnlyTouched};
 ghost use Rattle.fb_tasks.specs.Telling.{Tells, MayTake, MaySettle, MayDeliver, IsSettled, IsCall, settled_at};
 
 use crate::delivering::push_findings;
 use crate::session::Session;
-use crate::touched::{forget, next_noted, note, note_touch};
+use crate::touched::{forget, next_noted, next_touched, note, note_touch};
 use crate::wanting::want_range;
 use fb_calls::{Action, Call, Kind, Live};
 use fb_rows::{BackRow, BackRows, DeliveryRow, TaskRow};
@@ -34,8 +36,10 @@ use std::marker::Model;
 /// The sessions in order of opening: a session's place is its task's number.
 ///
 /// Settling costs time for each task that was touched since the last settling; a delivery or a call
-/// costs time for its own task. A write asks the open backups, and the tasks that were opened or
-/// touched since the last settling. A session to which nothing happens costs nothing.
+/// costs time for its own task. A write asks the open backups, and the tasks touched since the last
+/// settling. A task is touched by a delivery, a want, an abort, a new segment and its close; one
+/// whose call ran out of memory may also cost time until it is touched and settled again. A session
+/// to which nothing happens costs nothing.
 #[derive(Drop)]
 pub struct Sessions {
     alloc: Global,
@@ -69,7 +73,10 @@ impl Sessions {
         }
     }
 
-    /// A call takes effect. Out of memory all sessions and all blocks are as before, but for what a want has registered.
+    /// A call takes effect.
+    ///
+    /// Out of memory all sessions and blocks are as before, but the first blocks of a want may be
+    /// registered.
     pub fn apply(
         &mut self,
         map: &SectorMap,
@@ -79,7 +86,7 @@ impl Sessions {
         requires { (past : Past) × MayTake map.now past self.old wanted.old call.now }
         ensures ok { OnOk result ((past : Past) → MayTake map.now past self.old wanted.old call.now → Tells map.now (take_call map.now past call.now) self.new wanted.new) }
         ensures err_sessions { OnErr result (self.new ≡ self.old) }
-        ensures err_blocks { OnErr result (OnlyWants call.now.task call.now.action wanted.old wanted.new) }
+        ensures err_blocks { OnErr result ((past : Past) → MayTake map.now past self.old wanted.old call.now → HasBegun wanted.old (entries_by map.now past call.now) wanted.new) }
     {
         match &call.action {
             Action::Open {
@@ -114,6 +121,9 @@ impl Sessions {
 
     /// Lets sessions choose segments and tests what is complete; adds the rows that a decision has
     /// before its plan.
+    ///
+    /// Also out of memory, all rows and blocks that stood are as before, and so is each session that
+    /// was not touched; what was registered are blocks of open clean tasks.
     pub fn settle(
         &mut self,
         map: &SectorMap,
@@ -125,12 +135,18 @@ impl Sessions {
         ensures tells { OnOk result ((past : Past) → MaySettle map.now past self.old wanted.old → Tells map.now (settled_at map.now past now) self.new wanted.new) }
         ensures settled { OnOk result ((past : Past) → MaySettle map.now past self.old wanted.old → IsSettled (settled_at map.now past now)) }
         ensures rows { OnOk result ((past : Past) → MaySettle map.now past self.old wanted.old → rows.new ≡ rows.old ++ test_rows by_deliveries (with_choices map.now past) now) }
+        ensures stay_sessions { OnlyTouched self.old self.new }
+        ensures stay_blocks { OnlyRegisters (MayClean self.old) wanted.old wanted.new }
+        ensures stay_rows { HasGrown rows.old rows.new }
     {
         self.choose_all(map, wanted, now, rows)?;
         self.test_all(wanted, now, rows)
     }
 
     /// A wanted block is delivered: adds its row, then its findings and the rows of its test.
+    ///
+    /// Out of memory the block is delivered, no other block and no other task's session has changed,
+    /// and at most the first of these rows were added.
     pub fn delivered(
         &mut self,
         wanted: &mut Wanted,
@@ -141,11 +157,14 @@ impl Sessions {
         ensures tells { OnOk result ((disk : Shape) (past : Past) → MayDeliver disk past self.old wanted.old got → Tells disk (with_delivery past (delivery_of past got)) self.new wanted.new) }
         ensures settled { OnOk result ((disk : Shape) (past : Past) → MayDeliver disk past self.old wanted.old got → IsSettled (with_delivery past (delivery_of past got))) }
         ensures rows { OnOk result ((disk : Shape) (past : Past) → MayDeliver disk past self.old wanted.old got → rows.new ≡ rows.old ++ GotLine got ∷ rows_after past got) }
+        ensures stay_sessions { (session : Session) × (self.new ≡ set self.old got.block.task session) }
+        ensures blocks { wanted.new ≡ after got.block.task (Deliver got.block.index) wanted.old }
+        ensures err_rows { OnErr result ((disk : Shape) (past : Past) → MayDeliver disk past self.old wanted.old got → HasBegun rows.old (GotLine got ∷ rows_after past got) rows.new) }
     {
         let task = got.block.task;
         let end = got.end;
-        note_touch(&mut self.touched, &mut self.asked, task)?;
         wanted.deliver(task, got.block.index);
+        note_touch(&mut self.touched, &mut self.asked, task)?;
         let session = &mut self.sessions[task as usize];
         session.take(got.block, &got.content)?;
         let findings = session.findings(self.alloc, &got)?;
@@ -182,10 +201,12 @@ impl Sessions {
         self.sessions[task as usize].is_complete(wanted.counts(task))
     }
 
-    /// How each task stands, in order of opening.
+    /// How each task stands, in order of opening. Out of memory at most the first of the rows were
+    /// added.
     pub fn task_rows(&self, wanted: &Wanted, rows: &mut BackRows) -> Result<(), NoMemory>
         requires { (disk : Shape) × (past : Past) × Tells disk past self.now wanted.now }
-        ensures { OnOk result ((disk : Shape) (past : Past) → Tells disk past self.now wanted.now → rows.new ≡ rows.old ++ task_rows past) }
+        ensures ok { OnOk result ((disk : Shape) (past : Past) → Tells disk past self.now wanted.now → rows.new ≡ rows.old ++ task_rows past) }
+        ensures err { OnErr result ((disk : Shape) (past : Past) → Tells disk past self.now wanted.now → HasBegun rows.old (task_rows past) rows.new) }
     {
         for task in 0..self.sessions.len() {
             let session = &self.sessions[task];
@@ -230,7 +251,7 @@ impl Sessions {
         requires { (past : Past) × (call : Asked) × IsCall task (Want first count) call × MayTake map.now past self.old wanted.old call }
         ensures ok { OnOk result ((past : Past) (call : Asked) → IsCall task (Want first count) call → MayTake map.now past self.old wanted.old call → Tells map.now (take_call map.now past call) self.new wanted.new) }
         ensures err { OnErr result (self.new ≡ self.old) }
-        ensures blocks { OnlyWants task (Want first count) wanted.old wanted.new }
+        ensures blocks { (past : Past) (call : Asked) → IsCall task (Want first count) call → MayTake map.now past self.old wanted.old call → HasBegun wanted.old (entries_by map.now past call) wanted.new }
     {
         let _sectors = map.count();
         want_range(
@@ -318,9 +339,12 @@ impl Sessions {
         requires { (past : Past) × MaySettle map.now past self.old wanted.old }
         ensures chosen { OnOk result ((past : Past) → MaySettle map.now past self.old wanted.old → HaveChosen map.now (with_choices map.now past) self.new wanted.new) }
         ensures rows { OnOk result ((past : Past) → MaySettle map.now past self.old wanted.old → rows.new ≡ rows.old ++ flat_map (segment_rows by_deliveries (with_choices map.now past) now) (task_numbers (with_choices map.now past))) }
+        ensures stay_sessions { OnlyTouched self.old self.new }
+        ensures stay_blocks { OnlyRegisters (MayClean self.old) wanted.old wanted.new }
+        ensures stay_rows { HasGrown rows.old rows.new }
     {
         let mut from = 0;
-        while let Some(task) = next_noted(&self.touched, from) {
+        while let Some(task) = next_touched(&self.touched, &self.sessions, from) {
             self.sessions[task as usize].choose(self.alloc, map, wanted, task, now, rows)?;
             from = task + 1;
         }
@@ -332,9 +356,11 @@ impl Sessions {
         requires { (disk : Shape) × (past : Past) × HaveChosen disk past self.old wanted.now }
         ensures tells { OnOk result ((disk : Shape) (past : Past) → HaveChosen disk past self.old wanted.now → Tells disk (tested (test_rows by_deliveries past now) ∷ past) self.new wanted.now) }
         ensures rows { OnOk result ((disk : Shape) (past : Past) → HaveChosen disk past self.old wanted.now → rows.new ≡ rows.old ++ flat_map (λ task. seal_rows by_deliveries past now task ++ complete_rows past now task) (task_numbers past)) }
+        ensures stay_sessions { OnlyTouched self.old self.new }
+        ensures stay_rows { HasGrown rows.old rows.new }
     {
         let mut from = 0;
-        while let Some(task) = next_noted(&self.touched, from) {
+        while let Some(task) = next_touched(&self.touched, &self.sessions, from) {
             let session = &mut self.sessions[task as usize];
             session.test(self.alloc, wanted, task, now, rows)?;
             session.touched = false;

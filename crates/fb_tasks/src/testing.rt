@@ -1,5 +1,5 @@
 // What a test of completion makes of a session, and the rows that it gives.
-ghost use Rattle.std.specs.Prelude.{◌≡◌, ℕ, List, [], ◌∷◌, ◌++◌, ◌+◌, ◌<◌, ◌≤◌, ◌^◌, ◌&&◌, not, if◌then◌else◌, true, None, Some, filter, length, slice_get, OnOk, IfOk, IfSome};
+ghost use Rattle.std.specs.Prelude.{◌≡◌, ℕ, List, [], ◌∷◌, ◌++◌, ◌+◌, ◌<◌, ◌≤◌, ◌^◌, ◌&&◌, not, if◌then◌else◌, true, None, Some, filter, length, slice_get, OnOk, OnErr, IfOk, IfSome};
 ghost use Rattle.fb_geometry.specs.Shape.{Shape};
 ghost use Rattle.fb_calls.specs.Sessions.{is_backup, is_clean};
 ghost use Rattle.fb_store.specs.Index.{held_at};
@@ -14,6 +14,7 @@ ghost use Rattle.fb_model.specs.Completion.{view, is_complete};
 ghost use Rattle.fb_model.specs.Images.{segment_rows, seal_rows, complete_rows};
 ghost use Rattle.fb_tasks.specs.Keeping.{IsSameButImage, IsSealed, without_aborted};
 ghost use Rattle.fb_tasks.specs.Taken.{by_deliveries, found_for};
+ghost use Rattle.fb_tasks.specs.Leaving.{HasGrown, HasBegun, by_calls};
 ghost use Rattle.fb_tasks.specs.Standing.{Stands, HoldsBlocks, IsAtWork, AreRowsOf, HasChosen, MayFinish};
 
 use crate::session::Session;
@@ -34,8 +35,9 @@ impl Session {
         now: Ns,
         rows: &mut BackRows,
     ) -> Result<(), NoMemory>
-        ensures { OnOk result ((disk : Shape) (past : Past) → MayFinish disk past task self.old wanted.now
+        ensures ok { OnOk result ((disk : Shape) (past : Past) → MayFinish disk past task self.old wanted.now
             → (Stands (view past task) self.new) × (IsAtWork (view past task).work self.new) × (rows.new ≡ rows.old ++ segment_rows by_deliveries past now task)) }
+        ensures err { OnErr result (rows.new ≡ rows.old) }
     {
         let counts = wanted.counts(task);
         if counts.delivered != counts.registered {
@@ -74,6 +76,7 @@ impl Session {
         requires chosen { self.old.log.unfinished ≡ Some segment }
         ensures session { self.new ≡ record self.old { log = record self.old.log { unfinished = None } } }
         ensures row { OnOk result (rows.new ≡ rows.old ++ SegmentLine (record { task = task; segment = segment; instant = now; live = length (live_of self.old.log segment); content = content }) ∷ []) }
+        ensures no_row { OnErr result (rows.new ≡ rows.old) }
     {
         let live = self.log.live_count(segment);
         self.log.finish(segment);
@@ -100,6 +103,10 @@ impl Session {
             → (Stands (view (tested all ∷ past) task) self.new) × (IsAtWork (view (tested all ∷ past) task).work self.new)) }
         ensures rows { OnOk result ((disk : Shape) (past : Past) → HasChosen disk past task self.old wanted.now
             → rows.new ≡ rows.old ++ seal_rows by_deliveries past now task ++ complete_rows past now task) }
+        ensures err_rows { OnErr result ((disk : Shape) (past : Past) → HasChosen disk past task self.old wanted.now
+            → HasBegun rows.old (seal_rows by_deliveries past now task ++ complete_rows past now task) rows.new) }
+        ensures grown { HasGrown rows.old rows.new }
+        ensures same { by_calls self.new ≡ by_calls self.old }
     {
         let complete = self.is_complete(wanted.counts(task));
         self.add_seal(alloc, wanted, task, now, complete, rows)?;
@@ -117,9 +124,11 @@ impl Session {
         rows: &mut BackRows,
     ) -> Result<(), NoMemory>
         requires { (disk : Shape) × (past : Past) × HoldsBlocks disk past wanted.now }
-        ensures session { OnOk result (IsSealed (complete && (is_backup self.old.kind && not self.old.sealed)) self.old self.new) }
+        ensures session { IsSealed (complete && (is_backup self.old.kind && not self.old.sealed)) self.old self.new }
         ensures rows { OnOk result ((disk : Shape) (past : Past) → HoldsBlocks disk past wanted.now → Stands (view past task) self.old → complete ≡ is_complete past task
             → rows.new ≡ rows.old ++ seal_rows by_deliveries past now task) }
+        ensures grown { HasGrown rows.old rows.new }
+        ensures err { OnErr result (rows.new ≡ rows.old) }
     {
         if !complete || !self.is_open_backup() {
             return Ok(());
@@ -143,6 +152,8 @@ impl Session {
     ) -> Result<(), NoMemory>
         ensures session { self.new ≡ record self.old { complete = complete } }
         ensures rows { OnOk result (rows.new ≡ rows.old ++ (if complete && not self.old.complete then CompleteLine (record { task = task; instant = now }) ∷ [] else [])) }
+        ensures grown { HasGrown rows.old rows.new }
+        ensures err { OnErr result (rows.new ≡ rows.old) }
     {
         let was_complete = self.complete;
         self.complete = complete;
@@ -162,7 +173,7 @@ impl Session {
     ) -> Result<Contents, NoMemory>
         requires blocks { (disk : Shape) × (past : Past) × HoldsBlocks disk past wanted.now }
         requires registered { registered ≡ (counts_of task wanted.now).registered }
-        ensures session { OnOk result (IsSealed true self.old self.new) }
+        ensures session { IsSealed true self.old self.new }
         ensures content { IfOk result (λ content. (disk : Shape) (past : Past) → HoldsBlocks disk past wanted.now → Stands (view past task) self.old → is_open_backup past task ≡ true → is_complete past task ≡ true
             → content ≡ found_for (view past task).work (filter (λ block. is_delivered ((view past task).bare block)) (view past task).blocks)) }
     {

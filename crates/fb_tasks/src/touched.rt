@@ -1,8 +1,11 @@
 // The tasks that were touched since their last test, and those that a write asks: these and the open backups.
-ghost use Rattle.std.specs.Prelude.{◌≡◌, ◌⊎◌, ℕ, ◌<◌, ◌≤◌, true, false, IfSome, IfNone, OnOk, OnErr};
-ghost use Rattle.std.specs.BTreeSet.{contains};
+ghost use Rattle.std.specs.Prelude.{◌≡◌, ◌⊎◌, ℕ, ◌<◌, ◌≤◌, true, false, Some, slice_get, IfSome, IfNone, OnOk, OnErr};
+ghost use Rattle.std.specs.BTreeSet.{BTreeSet as Set, contains};
 ghost use Rattle.std.specs.Ordering.{nat_cmp};
+ghost use Rattle.fb_tasks.specs.declared.session.Session.{Session};
+ghost use Rattle.fb_tasks.specs.Listing.{AreListed};
 
+use crate::session::Session;
 use fb_units::NoMemory;
 use std::collections::BTreeSet;
 
@@ -50,6 +53,27 @@ pub fn note_touch(
 {
     note(asked, task, true)?;
     note(touched, task, true)
+}
+
+/// The first task from `from` on that was touched since its last test.
+///
+/// The list may also name a task that a call was about to touch when it ran out of memory.
+pub fn next_touched(listed: &BTreeSet<u32>, sessions: &[Session], from: u32) -> Option<u32>
+    requires { (asked : Set ℕ) × AreListed sessions.now listed.now asked }
+    ensures found { IfSome result (λ task. contains nat_cmp listed.now task ≡ true) }
+    ensures touched { IfSome result (λ task. (session : Session) → slice_get sessions.now task ≡ Some session → session.touched ≡ true) }
+    ensures from { IfSome result (λ task. from ≤ task) }
+    ensures first { IfSome result (λ task. (k : ℕ) (session : Session) → from ≤ k → k < task → slice_get sessions.now k ≡ Some session → session.touched ≡ false) }
+    ensures none { IfNone result ((k : ℕ) (session : Session) → from ≤ k → slice_get sessions.now k ≡ Some session → session.touched ≡ false) }
+{
+    let mut from = from;
+    while let Some(task) = next_noted(listed, from) {
+        if sessions[task as usize].touched {
+            return Some(task);
+        }
+        from = task + 1;
+    }
+    None
 }
 
 /// The first task of a list from `from` on.

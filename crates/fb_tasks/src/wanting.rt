@@ -6,9 +6,8 @@ ghost use Rattle.fb_sectormap.specs.Cutting.{cutting};
 ghost use Rattle.fb_clean.specs.Segments.{live_of};
 ghost use Rattle.fb_wanted.specs.Numbering.{registered, blocks_of};
 ghost use Rattle.fb_model.specs.Segments.{numbered};
-ghost use Rattle.fb_calls.specs.declared.call.Action.TheVariants.{Want};
 ghost use Rattle.fb_tasks.specs.Keeping.{new_entries, cuts_of};
-ghost use Rattle.fb_tasks.specs.Leaving.{OnlyWants};
+ghost use Rattle.fb_tasks.specs.Leaving.{HasBegun, OnlyRegisters};
 
 use crate::session::Session;
 use fb_sectormap::{Cut, SectorMap};
@@ -29,7 +28,7 @@ pub fn want_range(
     requires on_disk { first + count ≤ length (places map.now) }
     requires few { length wanted.old + length (cutting map.now session.now.block first count) ≤ 16000000 }
     ensures all { OnOk result (wanted.new ≡ wanted.old ++ new_entries session.now (numbered task session.now.weight (registered task (blocks_of wanted.old)) (cutting map.now session.now.block first count))) }
-    ensures only { OnlyWants task (Want first count) wanted.old wanted.new }
+    ensures begun { HasBegun wanted.old (new_entries session.now (numbered task session.now.weight (registered task (blocks_of wanted.old)) (cutting map.now session.now.block first count))) wanted.new }
 {
     if count == 0 {
         return Ok(());
@@ -76,7 +75,8 @@ pub fn want_live(
     requires added { (0 < segment) × (segment ≤ length session.now.log.segments) }
     requires on_disk { AllByRecursion (λ lbn. lbn + session.now.block ≤ length (places map.now)) (live_of session.now.log segment) }
     requires few { length wanted.old + length (cuts_of map.now session.now.block (live_of session.now.log segment)) ≤ 16000000 }
-    ensures { OnOk result (wanted.new ≡ wanted.old ++ new_entries session.now (numbered task session.now.weight (registered task (blocks_of wanted.old)) (cuts_of map.now session.now.block (live_of session.now.log segment)))) }
+    ensures all { OnOk result (wanted.new ≡ wanted.old ++ new_entries session.now (numbered task session.now.weight (registered task (blocks_of wanted.old)) (cuts_of map.now session.now.block (live_of session.now.log segment)))) }
+    ensures own { OnlyRegisters (λ other. other ≡ task) wanted.old wanted.new }
 {
     for i in 0..session.log.live_count(segment) {
         let lbn = session.log.live_block(segment, i);

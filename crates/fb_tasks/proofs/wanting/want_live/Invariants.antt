@@ -3,6 +3,7 @@ use Rattle.fb_clean.specs.Segments.{live_of}
 use Rattle.fb_wanted.specs.Numbering.{registered, blocks_of}
 use Rattle.fb_model.specs.Segments.{numbered}
 use Rattle.fb_tasks.specs.Keeping.{new_entries, cuts_of}
+use Rattle.fb_tasks.specs.Leaving.{OnlyRegisters}
 use Rattle.fb_tasks.proofs.wanting.want_live.Given as goal
 
 -- the registered blocks and those that are left are all that the live blocks give
@@ -11,4 +12,5 @@ invariant-loop-i l = record {
   all : l.wanted ++ new_entries l.session (numbered l.task l.session.weight (registered l.task (blocks_of l.wanted)) (cuts_of l.map l.session.block (drop l.i (live_of l.session.log l.segment))))
       ≡ l.initial.wanted ++ new_entries l.session (numbered l.task l.session.weight (registered l.task (blocks_of l.initial.wanted)) (cuts_of l.map l.session.block (live_of l.session.log l.segment)));
   few : length l.wanted + length (cuts_of l.map l.session.block (drop l.i (live_of l.session.log l.segment))) ≤ 16000000;
+  own : OnlyRegisters (λ other. other ≡ l.task) l.initial.wanted l.wanted;
 }

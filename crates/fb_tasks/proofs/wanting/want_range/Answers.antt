@@ -1,4 +1,4 @@
-use Rattle.std.proofs.Common.{◌≡◌, ℕ, ◌+◌, ◌-◌, List, [], ◌∷◌, ◌++◌, length, length-append, refl, ap, sym, ◌∙◌, append-nil, arith}
+use Rattle.std.proofs.Common.{◌≡◌, ℕ, ◌+◌, ◌-◌, List, [], ◌∷◌, ◌++◌, length, length-append, refl, ap, sym, subst, ◌∙◌, append-nil, arith}
 use Rattle.fb_geometry.specs.Shape.{Shape}
 use Rattle.fb_sectormap.specs.Cutting.{cutting}
 use Rattle.fb_wanted.specs.Numbering.{registered, blocks_of}
@@ -7,9 +7,9 @@ use Rattle.fb_model.specs.Segments.{numbered}
 use Rattle.fb_tasks.specs.declared.session.Session.{Session}
 use Rattle.fb_tasks.specs.Keeping.{new_entries}
 use Rattle.fb_tasks.proofs.Counting.{registered_count, registered_few}
-use Rattle.fb_calls.specs.declared.call.Action.TheVariants.{Want}
+use Rattle.fb_tasks.specs.Leaving.{HasBegun}
 use Rattle.fb_wanted.specs.States.{wanted_unless}
-use Rattle.fb_tasks.proofs.Leaving.{wants_none, wants_cut, cut_registered, one_counted}
+use Rattle.fb_tasks.proofs.Leaving.{grown_not, grown_more, begun_not, begun_by, cut_registered, one_counted}
 use Rattle.fb_tasks.proofs.wanting.want_range.Goals as goal
 
 -- a range without sectors gives nothing
@@ -29,8 +29,7 @@ loop-left-init c =
       within = refl;
       span = c.span-span.ensures.span;
       few = c.requires.few;
-      low = omega arith;
-      only = wants_none c.args.task (Want c.args.first c.args.count) c.args.wanted.now;
+      grown = grown_not c.args.wanted.now;
     }
 
 pub overflow_add-index : goal.overflow_add-index
@@ -39,8 +38,14 @@ overflow_add-index c = omega (arith, c.loop-left.invariant.next, c.loop-left.inv
 pub returns-clause-all : goal.returns-clause-all
 returns-clause-all c = none-new c.args.map.now c.args.session.now c.args.task c.loop-left.index c.loop-left.lbn c.loop-left.left c.loop-left.wanted (omega (arith, c.loop-left-test.false)) ∙ c.loop-left.invariant.all
 
-pub returns-then-count-eq0-clause-only : goal.returns-then-count-eq0-clause-only
-returns-then-count-eq0-clause-only c = wants_none c.args.task (Want c.args.first c.args.count) c.args.wanted.now
+pub returns-then-count-eq0-clause-begun : goal.returns-then-count-eq0-clause-begun
+returns-then-count-eq0-clause-begun c = begun_not
+
+pub returns-in_err-register-clause-begun : goal.returns-in_err-register-clause-begun
+returns-in_err-register-clause-begun c = subst (HasBegun c.args.wanted.now _) (sym c.in_err-register.ensures.err) (begun_by _ c.loop-left.invariant.grown c.loop-left.invariant.all)
+
+pub returns-clause-begun : goal.returns-clause-begun
+returns-clause-begun c = begun_by _ c.loop-left.invariant.grown c.loop-left.invariant.all
 
 pub loop-left-preserved : goal.loop-left-preserved
 loop-left-preserved c =
@@ -58,7 +63,5 @@ loop-left-preserved c =
       within = omega (arith, c.next_cut-cut.ensures.within, c.loop-left.invariant.within);
       span = c.next_cut-cut.ensures.span;
       few = omega (arith, c.loop-left.invariant.few, ap length is, length-append before (entry ∷ []), ap length c.next_cut-cut.ensures.first);
-      low = omega (arith, c.loop-left.invariant.low);
-      only = wants_cut c.args.task c.args.first c.args.count c.loop-left.index c.loop-left.lbn cut.lbn cut.count c.loop-left.left session.weight cut.track c.args.wanted.now before now block (wanted_unless session.suspended)
-          c.loop-left.invariant.only is c.block_of.ensures c.next_cut-cut.ensures.lbn c.next_cut-cut.ensures.within c.loop-left.invariant.within c.loop-left.invariant.low;
+      grown = grown_more c.args.wanted.now before now c.loop-left.invariant.grown (record { added = entry ∷ []; is = is });
     }

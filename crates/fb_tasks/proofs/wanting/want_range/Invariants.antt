@@ -3,9 +3,8 @@ use Rattle.fb_sectormap.specs.Cutting.{cutting}
 use Rattle.fb_sectormap.specs.Runs.{IsSpan}
 use Rattle.fb_wanted.specs.Numbering.{registered, blocks_of}
 use Rattle.fb_model.specs.Segments.{numbered}
-use Rattle.fb_calls.specs.declared.call.Action.TheVariants.{Want}
 use Rattle.fb_tasks.specs.Keeping.{new_entries}
-use Rattle.fb_tasks.specs.Leaving.{OnlyWants}
+use Rattle.fb_tasks.specs.Leaving.{HasGrown}
 use Rattle.fb_tasks.proofs.wanting.want_range.Given as goal
 
 -- the registered blocks and those that are left are all that the range gives
@@ -17,8 +16,7 @@ invariant-loop-left l = record {
   within : l.lbn + l.left ≡ l.first + l.count;
   span : IsSpan l.map l.span;
   few : length l.wanted + length (cutting l.map l.session.block l.lbn l.left) ≤ 16000000;
-  low : l.first ≤ l.lbn;
-  only : OnlyWants l.task (Want l.first l.count) l.initial.wanted l.wanted;
+  grown : HasGrown l.initial.wanted l.wanted;
 }
 
 abbrev pub decreases-loop-left : goal.decreases-loop-left

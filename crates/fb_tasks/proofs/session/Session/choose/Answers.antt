@@ -1,16 +1,41 @@
-use Rattle.std.proofs.Common.{◌≡◌, ◌++◌, not, Bool, true, false, append-nil, refl, ap, sym, ◌∙◌, subst, arith}
+use Rattle.std.proofs.Common.{◌≡◌, ◌&&◌, ℕ, List, ◌++◌, not, Bool, true, false, append-nil, refl, ap, sym, ◌∙◌, subst, arith}
 use Rattle.std.proofs.lemmas.Bool.{and_parts}
 use Rattle.fb_calls.specs.Sessions.{is_clean}
 use Rattle.fb_model.specs.Images.{segment_rows}
 use Rattle.fb_model.specs.Segments.{choose_up_to}
 use Rattle.fb_tasks.specs.Taken.{by_deliveries}
+use Rattle.fb_wanted.specs.declared.block.Entry.{Entry}
+use Rattle.fb_tasks.specs.declared.session.Session.{Session}
+use Rattle.fb_tasks.specs.Leaving.{OnlyRegisters}
 use Rattle.fb_tasks.specs.Standing.{MayChoose}
+use Rattle.fb_tasks.proofs.Leaving.{grown_not, grown_more, registers_none, registers_more, registers_weaker}
 use Rattle.fb_tasks.proofs.Turns.{up_to_more, reported_rows, idle-chosen, idle-rows, turns_in, turns_all, turned-chosen}
 use Rattle.fb_tasks.proofs.session.Session.choose.Goals as goal
 
 not_true : (b : Bool) → not b ≡ true → b ≡ false
 not_true true h = sym h
 not_true false h = refl
+
+-- what one session registers is of a clean task that is open
+own_clean : (task : ℕ) (session : Session) (held now : List Entry) → is_clean session.kind && not session.closed ≡ true → OnlyRegisters (λ other. other ≡ task) held now
+    → OnlyRegisters (λ other. (other ≡ task) × (is_clean session.kind ≡ true) × (session.closed ≡ false)) held now
+own_clean task session held now may h =
+    let may_be = and_parts (is_clean session.kind) (not session.closed) may in
+    registers_weaker (λ other. other ≡ task) (λ other. (other ≡ task) × (is_clean session.kind ≡ true) × (session.closed ≡ false)) held now (λ other own. (own, may_be.0, not_true session.closed may_be.1)) h
+
+pub returns-then-not-may_choose-clause-own : goal.returns-then-not-may_choose-clause-own
+returns-then-not-may_choose-clause-own c = registers_none (λ other. (other ≡ c.args.task) × (is_clean c.args.self.now.kind ≡ true) × (c.args.self.now.closed ≡ false)) c.args.wanted.now
+
+pub returns-in_err-choose_one-clause-own : goal.returns-in_err-choose_one-clause-own
+returns-in_err-choose_one-clause-own c = own_clean c.args.task c.args.self.now c.args.wanted.now c.choose_one.new.wanted (sym c.may_choose.ensures ∙ c.if-not-may_choose.false)
+    (registers_more (λ other. other ≡ c.args.task) c.args.wanted.now c.loop-turn.wanted c.choose_one.new.wanted c.loop-turn.invariant.own c.choose_one.ensures.own)
+
+pub returns-then-not-branch-clause-own : goal.returns-then-not-branch-clause-own
+returns-then-not-branch-clause-own c = own_clean c.args.task c.args.self.now c.args.wanted.now c.choose_one.new.wanted (sym c.may_choose.ensures ∙ c.if-not-may_choose.false)
+    (registers_more (λ other. other ≡ c.args.task) c.args.wanted.now c.loop-turn.wanted c.choose_one.new.wanted c.loop-turn.invariant.own c.choose_one.ensures.own)
+
+pub returns-clause-own : goal.returns-clause-own
+returns-clause-own c = own_clean c.args.task c.args.self.now c.args.wanted.now c.loop-turn.wanted (sym c.may_choose.ensures ∙ c.if-not-may_choose.false) c.loop-turn.invariant.own
 
 pub returns-then-not-may_choose-clause-chosen : goal.returns-then-not-may_choose-clause-chosen
 returns-then-not-may_choose-clause-chosen c = λ past may. idle-chosen c.args.map.now past c.args.task c.args.self.now c.args.wanted.now (sym c.may_choose.ensures ∙ c.if-not-may_choose.true) may
@@ -26,7 +51,9 @@ loop-turn-init c =
     let may_be = and_parts (is_clean c.args.self.now.kind) (not c.args.self.now.closed) (sym c.may_choose.ensures ∙ c.if-not-may_choose.false) in
     record {
       cleans = (may_be.0, not_true c.args.self.now.closed may_be.1);
-      touched = refl;
+      same = (refl, refl);
+      own = registers_none (λ other. other ≡ c.args.task) c.args.wanted.now;
+      grown = grown_not c.args.rows.now;
       chosen = λ past may. may;
       rows = λ past may reported. sym (append-nil c.args.rows.now) ∙ ap (λ rs. c.args.rows.now ++ rs) (sym (reported_rows past c.args.now c.args.task reported));
     }
@@ -53,8 +80,10 @@ pub loop-turn-preserved : goal.loop-turn-preserved
 loop-turn-preserved c =
     let disk = c.args.map.now in
     record {
-      cleans = (ap is_clean c.in_ok-choose_one.ensures.same.0 ∙ c.loop-turn.invariant.cleans.0, c.in_ok-choose_one.ensures.same.1 ∙ c.loop-turn.invariant.cleans.1);
-      touched = c.in_ok-choose_one.ensures.same.2 ∙ c.loop-turn.invariant.touched;
+      cleans = (ap (λ t. is_clean t.0) c.choose_one.ensures.same.0 ∙ c.loop-turn.invariant.cleans.0, ap (λ t. t.4) c.choose_one.ensures.same.0 ∙ c.loop-turn.invariant.cleans.1);
+      same = (c.choose_one.ensures.same.0 ∙ c.loop-turn.invariant.same.0, c.choose_one.ensures.same.1 ∙ c.loop-turn.invariant.same.1);
+      own = registers_more (λ other. other ≡ c.args.task) c.args.wanted.now c.loop-turn.wanted c.choose_one.new.wanted c.loop-turn.invariant.own c.choose_one.ensures.own;
+      grown = grown_more c.args.rows.now c.loop-turn.rows c.choose_one.new.rows c.loop-turn.invariant.grown c.choose_one.ensures.grown;
       chosen = λ past may. subst (λ p. MayChoose disk p c.args.task c.choose_one.new.self c.choose_one.new.wanted) (sym (up_to_more c.loop-turn._turn disk c.args.task past))
           (c.in_ok-choose_one.ensures.chosen (choose_up_to c.loop-turn._turn disk c.args.task past) (c.loop-turn.invariant.chosen past may));
       rows = λ past may reported. c.in_ok-choose_one.ensures.rows (choose_up_to c.loop-turn._turn disk c.args.task past) c.args.rows.now (c.loop-turn.invariant.chosen past may) (c.loop-turn.invariant.rows past may reported)

@@ -6,13 +6,16 @@ use Rattle.fb_model.specs.Images.{segment_rows}
 use Rattle.fb_tasks.specs.Taken.{by_deliveries}
 use Rattle.fb_model.specs.Completion.{view}
 use Rattle.fb_tasks.specs.Standing.{MayChoose, AreReported}
+use Rattle.fb_tasks.specs.Leaving.{HasGrown, OnlyRegisters, by_calls}
 use Rattle.fb_tasks.proofs.session.Session.choose.Given as goal
 
 -- so many choices were made as turns have passed
 abbrev pub invariant-loop-turn : goal.invariant-loop-turn
 invariant-loop-turn l = record {
   cleans : (is_clean l.self.kind ≡ true) × (l.self.closed ≡ false);
-  touched : l.self.touched ≡ l.initial.self.touched;
+  same : (by_calls l.self ≡ by_calls l.initial.self) × (l.self.touched ≡ l.initial.self.touched);
+  own : OnlyRegisters (λ other. other ≡ l.task) l.initial.wanted l.wanted;
+  grown : HasGrown l.initial.rows l.rows;
   chosen : (past : Past) → MayChoose l.map past l.task l.initial.self l.initial.wanted → MayChoose l.map (choose_up_to l._turn l.map l.task past) l.task l.self l.wanted;
   rows : (past : Past) → MayChoose l.map past l.task l.initial.self l.initial.wanted → AreReported (view past l.task).work → l.rows ≡ l.initial.rows ++ segment_rows by_deliveries (choose_up_to l._turn l.map l.task past) l.now l.task;
 }

@@ -1,4 +1,4 @@
-use Rattle.std.proofs.Common.{◌+◌, ◌≤◌, ◌++◌, length, ap, sym, ◌∙◌, subst, arith}
+use Rattle.std.proofs.Common.{◌≡◌, ◌+◌, ◌≤◌, ◌++◌, length, ap, sym, ◌∙◌, subst, arith}
 use Rattle.std.specs.List.{AllByRecursion}
 use Rattle.fb_geometry.specs.Places.{places}
 use Rattle.fb_clean.specs.Segments as clean
@@ -7,6 +7,7 @@ use Rattle.fb_model.specs.Images.{segment_rows}
 use Rattle.fb_tasks.specs.Keeping.{cuts_of}
 use Rattle.fb_tasks.specs.Taken.{by_deliveries}
 use Rattle.fb_tasks.specs.Standing.{MayChoose}
+use Rattle.fb_tasks.proofs.Leaving.{registers_none}
 use Rattle.fb_tasks.proofs.ChoiceSteps.{choice-step, none-step, live-on_disk, live-few, live-may, live-rows, empty-may, empty-rows}
 use Rattle.fb_tasks.proofs.session.Session.choose_one.Goals as goal
 
@@ -30,14 +31,14 @@ returns-in_ok-finish-in-Some-clause-chosen c = λ past may.
     let step = choice-step disk past c.args.task self c.args.wanted.now c.live_blocks_are_live.ensures c.requires.cleans.0 c.requires.cleans.1 may c.in-Some.segment (sym c.in-Some.ensures.choice) in
     subst (λ s. MayChoose disk (choose_once disk c.args.task past) c.args.task s c.want_live.new.wanted) (sym c.in_ok-finish-in-Some.ensures.session)
     (empty-may disk past c.args.task self c.args.wanted.now c.live_blocks_are_live.ensures c.requires.cleans.0 c.requires.cleans.1 may c.in-Some.segment step
-    (omega (arith, c.count-sectors.ensures.value, c.count-sectors.ensures.bound)) c.choose.new.self c.in-Some.ensures.state c.want_live.new.wanted c.in_ok-want_live-in-Some.ensures (sym c.live_count.ensures ∙ c.if-live_count-eq0.true))
+    (omega (arith, c.count-sectors.ensures.value, c.count-sectors.ensures.bound)) c.choose.new.self c.in-Some.ensures.state c.want_live.new.wanted c.in_ok-want_live-in-Some.ensures.all (sym c.live_count.ensures ∙ c.if-live_count-eq0.true))
 
 pub returns-in_ok-finish-in-Some-clause-rows : goal.returns-in_ok-finish-in-Some-clause-rows
 returns-in_ok-finish-in-Some-clause-rows c = λ past before may so_far.
     let self = c.args.self.now in let disk = c.args.map.now in
     let step = choice-step disk past c.args.task self c.args.wanted.now c.live_blocks_are_live.ensures c.requires.cleans.0 c.requires.cleans.1 may c.in-Some.segment (sym c.in-Some.ensures.choice) in
     empty-rows disk past c.args.task self c.args.wanted.now c.live_blocks_are_live.ensures c.requires.cleans.0 c.requires.cleans.1 may c.in-Some.segment step
-    (omega (arith, c.count-sectors.ensures.value, c.count-sectors.ensures.bound)) c.choose.new.self c.in-Some.ensures.state c.want_live.new.wanted c.in_ok-want_live-in-Some.ensures
+    (omega (arith, c.count-sectors.ensures.value, c.count-sectors.ensures.bound)) c.choose.new.self c.in-Some.ensures.state c.want_live.new.wanted c.in_ok-want_live-in-Some.ensures.all
     c.args.now before c.args.rows.now c.finish.new.rows c.new.result (sym c.live_count.ensures ∙ c.if-live_count-eq0.true) c.new.ensures so_far c.in_ok-finish-in-Some.ensures.row
 
 pub returns-else-live_count-eq0-clause-chosen : goal.returns-else-live_count-eq0-clause-chosen
@@ -45,14 +46,14 @@ returns-else-live_count-eq0-clause-chosen c = λ past may.
     let self = c.args.self.now in let disk = c.args.map.now in
     let step = choice-step disk past c.args.task self c.args.wanted.now c.live_blocks_are_live.ensures c.requires.cleans.0 c.requires.cleans.1 may c.in-Some.segment (sym c.in-Some.ensures.choice) in
     live-may disk past c.args.task self c.args.wanted.now c.live_blocks_are_live.ensures c.requires.cleans.0 c.requires.cleans.1 may c.in-Some.segment step
-    (omega (arith, c.count-sectors.ensures.value, c.count-sectors.ensures.bound)) c.choose.new.self c.in-Some.ensures.state c.want_live.new.wanted c.in_ok-want_live-in-Some.ensures (omega (arith, c.live_count.ensures, c.if-live_count-eq0.false))
+    (omega (arith, c.count-sectors.ensures.value, c.count-sectors.ensures.bound)) c.choose.new.self c.in-Some.ensures.state c.want_live.new.wanted c.in_ok-want_live-in-Some.ensures.all (omega (arith, c.live_count.ensures, c.if-live_count-eq0.false))
 
 pub returns-else-live_count-eq0-clause-rows : goal.returns-else-live_count-eq0-clause-rows
 returns-else-live_count-eq0-clause-rows c = λ past before may so_far.
     let self = c.args.self.now in let disk = c.args.map.now in
     let step = choice-step disk past c.args.task self c.args.wanted.now c.live_blocks_are_live.ensures c.requires.cleans.0 c.requires.cleans.1 may c.in-Some.segment (sym c.in-Some.ensures.choice) in
     live-rows disk past c.args.task self c.args.wanted.now c.live_blocks_are_live.ensures c.requires.cleans.0 c.requires.cleans.1 may c.in-Some.segment step
-    (omega (arith, c.count-sectors.ensures.value, c.count-sectors.ensures.bound)) c.choose.new.self c.in-Some.ensures.state c.want_live.new.wanted c.in_ok-want_live-in-Some.ensures
+    (omega (arith, c.count-sectors.ensures.value, c.count-sectors.ensures.bound)) c.choose.new.self c.in-Some.ensures.state c.want_live.new.wanted c.in_ok-want_live-in-Some.ensures.all
     c.args.now before c.args.rows.now (omega (arith, c.live_count.ensures, c.if-live_count-eq0.false)) so_far
 
 pub returns-in-None-clause-chosen : goal.returns-in-None-clause-chosen
@@ -67,3 +68,6 @@ returns-in-None-clause-none c = λ _ past may. none-step c.args.map.now past c.a
 pub returns-in-None-clause-rows : goal.returns-in-None-clause-rows
 returns-in-None-clause-rows c = λ past before may so_far.
     so_far ∙ ap (λ p. before ++ segment_rows by_deliveries p c.args.now c.args.task) (sym (none-step c.args.map.now past c.args.task c.args.self.now c.args.wanted.now c.live_blocks_are_live.ensures c.requires.cleans.0 c.requires.cleans.1 may (sym c.in-None.ensures.choice)))
+
+pub returns-in-None-clause-own : goal.returns-in-None-clause-own
+returns-in-None-clause-own c = registers_none (λ other. other ≡ c.args.task) c.args.wanted.now

@@ -1,5 +1,5 @@
 use Rattle.std.proofs.Common.{ap, ap₂, ◌∙◌, ◌++◌, ◌∷◌, [], ◌&&◌, not, if◌then◌else◌, subst, rules}
-use Rattle.std.proofs.lemmas.Result.{on_ok_weaker}
+use Rattle.std.proofs.lemmas.Result.{on_ok_weaker, on_err_weaker}
 use Rattle.fb_rows.specs.declared.back.BackRow.TheVariants.{Complete as CompleteLine}
 use Rattle.fb_model.specs.Completion.{view}
 use Rattle.fb_model.proofs.Views.{tested-view}
@@ -7,6 +7,8 @@ use Rattle.fb_model.specs.Images.{seal_rows}
 use Rattle.fb_tasks.specs.Keeping.{complete_by, IsSealed}
 use Rattle.fb_tasks.specs.Taken.{by_deliveries}
 use Rattle.fb_tasks.proofs.Complete.{done_same, done_is, was_is, counts_small}
+use Rattle.fb_wanted.proofs.Lists.{on_err}
+use Rattle.fb_tasks.proofs.Leaving.{grown_more, begun_after, begun_same}
 use Rattle.fb_tasks.proofs.Sealed.{seals_same}
 use Rattle.fb_tasks.proofs.Tested.{stands-tested, at_work-tested, noted}
 use Rattle.fb_tasks.proofs.session.Session.test.Goals as goal
@@ -17,7 +19,7 @@ is_complete-complete-requires c = counts_small c.requires.1 c.args.task c.args.w
 pub returns-clause-session : goal.returns-clause-session
 returns-clause-session c = on_ok_weaker c.add_completion.result (λ _ disk past all may given.
     let says = c.is_complete-complete.ensures ∙ (ap (complete_by c.args.self.now) c.counts.ensures ∙ done_same past c.args.task c.args.self.now c.args.wanted.now may.stands may.at_work may.blocks.entries) in
-    let sealed = subst (λ b. IsSealed b c.args.self.now c.add_seal.new.self) (seals_same c.args.self.now c.is_complete-complete.result may.stands says) c.in_ok-add_seal.ensures.session in
+    let sealed = subst (λ b. IsSealed b c.args.self.now c.add_seal.new.self) (seals_same c.args.self.now c.is_complete-complete.result may.stands says) c.add_seal.ensures.session in
     let is = noted c.add_seal.new.self c.add_completion.new.self c.is_complete-complete.result c.add_completion.ensures.session sealed in (
       rw (tested-view past all c.args.task) (stands-tested c.args.task (view past c.args.task) all given c.args.self.now c.add_completion.new.self is (ap (λ s. s.complete) c.add_completion.ensures.session ∙ says) may.stands may.at_work),
       rw (tested-view past all c.args.task) (at_work-tested c.args.task (view past c.args.task) all given c.args.self.now c.add_completion.new.self is (ap (λ s. s.complete) c.add_completion.ensures.session ∙ says) may.at_work),
@@ -26,7 +28,18 @@ returns-clause-session c = on_ok_weaker c.add_completion.result (λ _ disk past 
 pub returns-clause-rows : goal.returns-clause-rows
 returns-clause-rows c = on_ok_weaker c.add_completion.result (λ pushed disk past may.
     let says = c.is_complete-complete.ensures ∙ (ap (complete_by c.args.self.now) c.counts.ensures ∙ done_same past c.args.task c.args.self.now c.args.wanted.now may.stands may.at_work may.blocks.entries) in
-    let was = c.in_ok-add_seal.ensures.session.complete ∙ may.stands.complete in
+    let was = c.add_seal.ensures.session.complete ∙ may.stands.complete in
     pushed
     ∙ (ap (λ rows. rows ++ (if c.is_complete-complete.result && not c.add_seal.new.self.complete then CompleteLine (record { task = c.args.task; instant = c.args.now }) ∷ [] else [])) (c.in_ok-add_seal.ensures.rows disk past may.blocks may.stands (says ∙ done_is past c.args.task))
     ∙ ap₂ (λ a b. (c.args.rows.now ++ seal_rows by_deliveries past c.args.now c.args.task) ++ (if a && not b then CompleteLine (record { task = c.args.task; instant = c.args.now }) ∷ [] else [])) (says ∙ done_is past c.args.task) (was ∙ was_is past c.args.task))) c.add_completion.ensures.rows
+
+pub returns-clause-err_rows : goal.returns-clause-err_rows
+returns-clause-err_rows c = on_err_weaker c.add_completion.result (λ same disk past may.
+    let says = c.is_complete-complete.ensures ∙ (ap (complete_by c.args.self.now) c.counts.ensures ∙ done_same past c.args.task c.args.self.now c.args.wanted.now may.stands may.at_work may.blocks.entries) in
+    begun_after (seal_rows by_deliveries past c.args.now c.args.task) (c.in_ok-add_seal.ensures.rows disk past may.blocks may.stands (says ∙ done_is past c.args.task)) (begun_same same)) c.add_completion.ensures.err
+
+pub returns-clause-grown : goal.returns-clause-grown
+returns-clause-grown c = grown_more c.args.rows.now c.add_seal.new.rows c.add_completion.new.rows c.add_seal.ensures.grown c.add_completion.ensures.grown
+
+pub returns-in_err-add_seal-clause-err_rows : goal.returns-in_err-add_seal-clause-err_rows
+returns-in_err-add_seal-clause-err_rows c = on_err c.from_residual.result (λ disk past may. begun_same c.in_err-add_seal.ensures.err)

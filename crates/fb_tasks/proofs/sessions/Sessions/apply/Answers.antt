@@ -1,11 +1,10 @@
-use Rattle.std.proofs.Common.{ap, sym, subst, refl}
+use Rattle.std.proofs.Common.{ap, subst, refl}
 use Rattle.std.proofs.lemmas.Result.{on_ok_weaker, on_err_weaker}
 use Rattle.fb_calls.specs.Allowed.{MayAsk}
 use Rattle.fb_model.specs.Steps.{blocks_by}
 use Rattle.fb_tasks.specs.Telling.{calls_of}
-use Rattle.fb_tasks.specs.Leaving.{OnlyWants}
 use Rattle.fb_wanted.proofs.Lists.{on_err}
-use Rattle.fb_tasks.proofs.Leaving.{wants_none}
+use Rattle.fb_tasks.proofs.Leaving.{begun_not, begun_same}
 use Rattle.fb_tasks.proofs.Aborts.{promoted-tells, asked-aborts}
 use Rattle.fb_tasks.proofs.Asked.{room_for_one, session_there, takes_none}
 use Rattle.fb_tasks.proofs.sessions.Sessions.apply.Goals as goal
@@ -29,18 +28,18 @@ pub returns-in-Open : goal.returns-in-Open
 returns-in-Open c = record {
   ok = on_ok_weaker c.open.result (λ says past h. takes_none c.args.map.now past c.args.call.now c.open.new.self c.args.wanted.now (ap (blocks_by c.args.map.now past c.args.call.now.task) c.in-Open.is) (says c.args.map.now past c.args.call.now c.args.wanted.now c.in-Open.is h)) c.open.ensures.ok;
   err_sessions = c.open.ensures.err;
-  err_blocks = on_err_weaker c.open.result (λ _. wants_none c.args.call.now.task c.args.call.now.action c.args.wanted.now) c.open.ensures.err;
+  err_blocks = on_err_weaker c.open.result (λ _ past may. begun_not) c.open.ensures.err;
 }
 
 pub returns-in-Want : goal.returns-in-Want
 returns-in-Want c = record {
   ok = on_ok_weaker c.want.result (λ says past h. says past c.args.call.now (record { task = refl; action = c.in-Want.is }) h) c.want.ensures.ok;
   err_sessions = c.want.ensures.err;
-  err_blocks = on_err_weaker c.want.result (λ _. subst (λ action. OnlyWants c.args.call.now.task action c.args.wanted.now c.want.new.wanted) (sym c.in-Want.is) c.want.ensures.blocks) c.want.ensures.err;
+  err_blocks = on_err_weaker c.want.result (λ _ past may. c.want.ensures.blocks past c.args.call.now (record { task = refl; action = c.in-Want.is }) may) c.want.ensures.err;
 }
 
 pub returns-in_err-touch-in-Abort-clause-err_blocks : goal.returns-in_err-touch-in-Abort-clause-err_blocks
-returns-in_err-touch-in-Abort-clause-err_blocks c = on_err c.from_residual.result (wants_none c.args.call.now.task c.args.call.now.action c.args.wanted.now)
+returns-in_err-touch-in-Abort-clause-err_blocks c = on_err c.from_residual.result (λ past may. begun_not)
 
 pub returns-in_ok-touch-in-Abort : goal.returns-in_ok-touch-in-Abort
 returns-in_ok-touch-in-Abort c = record {
@@ -67,7 +66,7 @@ returns-in-Close c = record {
   ok = on_ok_weaker c.close.result (λ says past h. takes_none c.args.map.now past c.args.call.now c.close.new.self c.close.new.wanted (ap (blocks_by c.args.map.now past c.args.call.now.task) c.in-Close.is)
       (says past c.args.call.now (record { task = refl; action = c.in-Close.is }) h.tells)) c.close.ensures.ok;
   err_sessions = on_err_weaker c.close.result (λ same. same.0) c.close.ensures.err;
-  err_blocks = on_err_weaker c.close.result (λ same. subst (OnlyWants c.args.call.now.task c.args.call.now.action c.args.wanted.now) (sym same.1) (wants_none c.args.call.now.task c.args.call.now.action c.args.wanted.now)) c.close.ensures.err;
+  err_blocks = on_err_weaker c.close.result (λ same past may. begun_same same.1) c.close.ensures.err;
 }
 
 pub returns-in-Segment : goal.returns-in-Segment
@@ -75,5 +74,5 @@ returns-in-Segment c = record {
   ok = on_ok_weaker c.add_segment.result (λ says past h. takes_none c.args.map.now past c.args.call.now c.add_segment.new.self c.args.wanted.now (ap (blocks_by c.args.map.now past c.args.call.now.task) c.in-Segment.is)
       (says past c.args.call.now c.args.wanted.now (record { task = refl; action = c.in-Segment.is }) h)) c.add_segment.ensures.ok;
   err_sessions = c.add_segment.ensures.err;
-  err_blocks = on_err_weaker c.add_segment.result (λ _. wants_none c.args.call.now.task c.args.call.now.action c.args.wanted.now) c.add_segment.ensures.err;
+  err_blocks = on_err_weaker c.add_segment.result (λ _ past may. begun_not) c.add_segment.ensures.err;
 }

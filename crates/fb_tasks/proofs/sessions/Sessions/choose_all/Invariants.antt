@@ -2,6 +2,7 @@ use Rattle.std.proofs.Common.{◌≤◌, ◌-◌, length}
 use Rattle.fb_model.specs.History.{Past}
 use Rattle.fb_tasks.specs.Telling.{MaySettle}
 use Rattle.fb_tasks.specs.Listing.{AreListed}
+use Rattle.fb_tasks.specs.Leaving.{HasGrown, OnlyRegisters, MayClean, OnlyTouched}
 use Rattle.fb_tasks.proofs.AllChoices.{Partly, HasRows}
 use Rattle.fb_tasks.proofs.sessions.Sessions.choose_all.Given as goal
 
@@ -11,6 +12,9 @@ invariant-loop-task l = record {
   kept : AreListed l.self-inside.sessions.items l.self-inside.touched l.self-inside.asked;
   within : l.from ≤ length l.self-inside.sessions.items;
   partly : (past : Past) → MaySettle l.map past l.fn.self l.initial.wanted → Partly l.map past l.self-inside.sessions.items l.wanted l.from;
+  stay : OnlyTouched l.fn.self l.self-inside.sessions.items;
+  own : OnlyRegisters (MayClean l.fn.self) l.initial.wanted l.wanted;
+  grown : HasGrown l.initial.rows l.rows;
   rows : (past : Past) → MaySettle l.map past l.fn.self l.initial.wanted → HasRows l.map past l.now l.initial.rows l.rows l.from;
 }
 

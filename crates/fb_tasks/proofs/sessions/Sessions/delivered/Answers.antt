@@ -3,6 +3,10 @@ use Rattle.fb_model.specs.History.{delivered}
 use Rattle.fb_tasks.specs.Taken.{rows_after}
 use Rattle.fb_tasks.specs.Telling.{MayDeliver}
 use Rattle.fb_tasks.proofs.Listed.{listed-more, listed-noted}
+use Rattle.fb_wanted.proofs.Lists.{on_err}
+use Rattle.fb_tasks.proofs.Lists.{some_at}
+use Rattle.fb_tasks.proofs.Frames.{set_same}
+use Rattle.fb_tasks.proofs.DeliveryRows.{begun-findings, begun-segment, begun-ends}
 use Rattle.fb_tasks.proofs.AfterDelivery.{opened, own-there, wanted-entry, busy-own, kind-own, held-now, may-finish, all-given, tells-delivered, settled-delivered, rows-one_by_one}
 use Rattle.fb_tasks.proofs.sessions.Sessions.delivered.Goals as goal
 
@@ -24,7 +28,7 @@ test-requires c =
     let may = subst (λ xs. MayDeliver c.requires.0 c.requires.1 xs c.args.wanted.now c.args.got) (sym c.self.view_is) c.requires.2 in
     let there = own-there c.args.got may c.index_mut-session.result.now c.index_mut-session.ensures.value in
     let new = delivered c.args.got ∷ c.requires.1 in
-    let finished = c.in_ok-test_segment.ensures c.requires.0 new (may-finish c.args.got may c.index_mut-session.result.now there c.deliver.new.self c.take.new.self c.deliver.ensures c.in_ok-take.ensures) in
+    let finished = c.in_ok-test_segment.ensures.ok c.requires.0 new (may-finish c.args.got may c.index_mut-session.result.now there c.deliver.new.self c.take.new.self c.deliver.ensures c.in_ok-take.ensures) in
     (c.requires.0, new, record { blocks = held-now c.args.got may c.deliver.new.self c.deliver.ensures; stands = finished.0; at_work = finished.1 })
 
 pub invariant_of-self : goal.invariant_of-self
@@ -81,7 +85,7 @@ returns-clause-tells c = λ disk past outer.
     let there = own-there c.args.got may c.index_mut-session.result.now c.index_mut-session.ensures.value in
     let new = delivered c.args.got ∷ past in
     let held = held-now c.args.got may c.deliver.new.self c.deliver.ensures in
-    let finished = c.in_ok-test_segment.ensures disk new (may-finish c.args.got may c.index_mut-session.result.now there c.deliver.new.self c.take.new.self c.deliver.ensures c.in_ok-take.ensures) in
+    let finished = c.in_ok-test_segment.ensures.ok disk new (may-finish c.args.got may c.index_mut-session.result.now there c.deliver.new.self c.take.new.self c.deliver.ensures c.in_ok-take.ensures) in
     tells-delivered c.args.got may c.deliver.new.self held c.test.new.self
     (c.in_ok-test.ensures.session disk new (rows_after past c.args.got) (record { blocks = held; stands = finished.0; at_work = finished.1 }) (all-given c.args.got may c.deliver.new.self held c.args.got.block.task))
 
@@ -95,7 +99,37 @@ returns-clause-rows c = λ disk past outer.
     let may = subst (λ xs. MayDeliver disk past xs c.args.wanted.now c.args.got) (sym c.self.view_is) outer in
     let there = own-there c.args.got may c.index_mut-session.result.now c.index_mut-session.ensures.value in
     let new = delivered c.args.got ∷ past in
-    let finished = c.in_ok-test_segment.ensures disk new (may-finish c.args.got may c.index_mut-session.result.now there c.deliver.new.self c.take.new.self c.deliver.ensures c.in_ok-take.ensures) in
+    let finished = c.in_ok-test_segment.ensures.ok disk new (may-finish c.args.got may c.index_mut-session.result.now there c.deliver.new.self c.take.new.self c.deliver.ensures c.in_ok-take.ensures) in
     let kind = kind-own c.args.got may c.index_mut-session.result.now there ∙ sym (c.in_ok-take.ensures may.content_at may.content).same.kind in
     rows-one_by_one c.args.got may c.args.rows.now c.push.new.self c.push_findings.new.rows c.test_segment.new.rows c.test.new.rows c.take.new.self.kind c.deref.result.now kind (c.deref.ensures.value ∙ c.in_ok-findings.ensures)
-    c.in_ok-push.ensures.ok c.in_ok-push_findings.ensures finished.2 (c.in_ok-test.ensures.rows disk new (record { blocks = held-now c.args.got may c.deliver.new.self c.deliver.ensures; stands = finished.0; at_work = finished.1 }))
+    c.in_ok-push.ensures.ok c.in_ok-push_findings.ensures.ok finished.2 (c.in_ok-test.ensures.rows disk new (record { blocks = held-now c.args.got may c.deliver.new.self c.deliver.ensures; stands = finished.0; at_work = finished.1 }))
+
+pub returns-in_err-note_touch-clause-stay_sessions : goal.returns-in_err-note_touch-clause-stay_sessions
+returns-in_err-note_touch-clause-stay_sessions c =
+    let within : c.args.got.block.task < length c.args.self.now = omega (arith, opened c.args.got c.requires.2, c.requires.2.tells.as_many) in
+    let own = some_at c.args.self.now c.args.got.block.task within in
+    (own.0, c.self.view_is ∙ sym (set_same c.args.self.now c.args.got.block.task own.0 own.1))
+
+pub returns-in_err-push_findings-clause-err_rows : goal.returns-in_err-push_findings-clause-err_rows
+returns-in_err-push_findings-clause-err_rows c = on_err c.from_residual-in_err-push_findings.result (λ disk past outer.
+    let may = subst (λ xs. MayDeliver disk past xs c.args.wanted.now c.args.got) (sym c.self.view_is) outer in
+    let there = own-there c.args.got may c.index_mut-session.result.now c.index_mut-session.ensures.value in
+    let kind = kind-own c.args.got may c.index_mut-session.result.now there ∙ sym (c.in_ok-take.ensures may.content_at may.content).same.kind in
+    begun-findings c.args.got may c.args.rows.now c.push.new.self c.take.new.self.kind c.deref.result.now kind (c.deref.ensures.value ∙ c.in_ok-findings.ensures) c.in_ok-push.ensures.ok c.push_findings.new.rows c.in_err-push_findings.ensures.err)
+
+pub returns-in_err-test_segment-clause-err_rows : goal.returns-in_err-test_segment-clause-err_rows
+returns-in_err-test_segment-clause-err_rows c = on_err c.from_residual-in_err-test_segment.result (λ disk past outer.
+    let may = subst (λ xs. MayDeliver disk past xs c.args.wanted.now c.args.got) (sym c.self.view_is) outer in
+    let there = own-there c.args.got may c.index_mut-session.result.now c.index_mut-session.ensures.value in
+    let kind = kind-own c.args.got may c.index_mut-session.result.now there ∙ sym (c.in_ok-take.ensures may.content_at may.content).same.kind in
+    begun-segment c.args.got may c.args.rows.now c.push.new.self c.take.new.self.kind c.deref.result.now kind (c.deref.ensures.value ∙ c.in_ok-findings.ensures) c.in_ok-push.ensures.ok c.push_findings.new.rows c.in_ok-push_findings.ensures.ok c.test_segment.new.rows c.in_err-test_segment.ensures.err)
+
+pub returns-in_err-test-clause-err_rows : goal.returns-in_err-test-clause-err_rows
+returns-in_err-test-clause-err_rows c = on_err c.from_residual-in_err-test.result (λ disk past outer.
+    let may = subst (λ xs. MayDeliver disk past xs c.args.wanted.now c.args.got) (sym c.self.view_is) outer in
+    let there = own-there c.args.got may c.index_mut-session.result.now c.index_mut-session.ensures.value in
+    let kind = kind-own c.args.got may c.index_mut-session.result.now there ∙ sym (c.in_ok-take.ensures may.content_at may.content).same.kind in
+    let new = delivered c.args.got ∷ past in
+    let finished = c.in_ok-test_segment.ensures.ok disk new (may-finish c.args.got may c.index_mut-session.result.now there c.deliver.new.self c.take.new.self c.deliver.ensures c.in_ok-take.ensures) in
+    begun-ends c.args.got may c.args.rows.now c.push.new.self c.take.new.self.kind c.deref.result.now kind (c.deref.ensures.value ∙ c.in_ok-findings.ensures) c.in_ok-push.ensures.ok c.push_findings.new.rows c.in_ok-push_findings.ensures.ok c.test_segment.new.rows c.test.new.rows finished.2
+    (c.in_err-test.ensures.err_rows disk new (record { blocks = held-now c.args.got may c.deliver.new.self c.deliver.ensures; stands = finished.0; at_work = finished.1 })))

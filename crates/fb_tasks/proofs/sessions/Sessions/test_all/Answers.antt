@@ -9,7 +9,10 @@ use Rattle.fb_tasks.specs.declared.session.Session.{Session}
 use Rattle.fb_tasks.specs.Taken.{by_deliveries}
 use Rattle.fb_tasks.specs.Standing.{HaveChosen}
 use Rattle.fb_tasks.proofs.Lists.{some_at}
-use Rattle.fb_tasks.proofs.Listed.{listed-set, listed-less, untouched-there}
+use Rattle.fb_tasks.specs.Listing.{AreListed}
+use Rattle.fb_tasks.specs.Leaving.{OnlyTouched}
+use Rattle.fb_tasks.proofs.Leaving.{grown_not, grown_more, touched_none, touched_set}
+use Rattle.fb_tasks.proofs.Listed.{listed-set, listed-less}
 use Rattle.fb_tasks.proofs.AllTested.{AreAllRows, none_tested, chosen_at, one_tested, rows_more, ends_of, tested-to, rows-to, tells-tested}
 use Rattle.fb_tasks.proofs.RowsOf.{rows-given, nothing-mute}
 use Rattle.fb_tasks.proofs.sessions.Sessions.test_all.Goals as goal
@@ -20,6 +23,8 @@ loop-task-init c = record {
   within = omega arith;
   sessions = none_tested c.args.wanted.now c.self.inside.sessions.items;
   rows = λ disk past chosen. sym (append-nil c.args.rows.now);
+  stay = subst (OnlyTouched c.args.self.now) (sym c.self.view_is) (touched_none c.args.self.now);
+  grown = grown_not c.args.rows.now;
 }
 
 pub index_mut-session-requires : goal.index_mut-session-requires
@@ -34,8 +39,7 @@ test-requires c =
     let n = c.in-Some.task in
     let within : n < length items = inv.kept.within n (inv.kept.covered n c.in-Some.ensures.found) in
     let there = slice_get-get_or items n c.index_mut-session.result.now within ∙ ap Some (sym c.index_mut-session.ensures.value) in
-    let between = λ (k : ℕ) (s : Session) (low : c.loop-task.from ≤ k) (high : k < n) (at : slice_get items k ≡ Some s). untouched-there inv.kept k s (c.in-Some.ensures.first k low high) at in
-    let is = tested-to c.args.wanted.now olds items c.loop-task.from n c.in-Some.ensures.from (omega (arith, within)) between inv.sessions in
+    let is = tested-to c.args.wanted.now olds items c.loop-task.from n c.in-Some.ensures.from (omega (arith, within)) (λ k s low high at. c.in-Some.ensures.first k s low high (ap (λ xs. slice_get xs k) c.deref.ensures.value ∙ at)) inv.sessions in
     (c.requires.0, c.requires.1, chosen_at chosen n c.index_mut-session.result.now (sym (is.later n (omega arith)) ∙ there))
 
 pub invariant_of-self : goal.invariant_of-self
@@ -49,17 +53,18 @@ loop-task-preserved c =
     let n = c.in-Some.task in
     let within : n < length items = inv.kept.within n (inv.kept.covered n c.in-Some.ensures.found) in
     let there = slice_get-get_or items n c.index_mut-session.result.now within ∙ ap Some (sym c.index_mut-session.ensures.value) in
-    let between = λ (k : ℕ) (s : Session) (low : c.loop-task.from ≤ k) (high : k < n) (at : slice_get items k ≡ Some s). untouched-there inv.kept k s (c.in-Some.ensures.first k low high) at in
-    let is = tested-to c.args.wanted.now olds items c.loop-task.from n c.in-Some.ensures.from (omega (arith, within)) between inv.sessions in
+    let is = tested-to c.args.wanted.now olds items c.loop-task.from n c.in-Some.ensures.from (omega (arith, within)) (λ k s low high at. c.in-Some.ensures.first k s low high (ap (λ xs. slice_get xs k) c.deref.ensures.value ∙ at)) inv.sessions in
     record {
       kept = listed-less inv.kept n (record c.test.new.self { touched = false }) c.forget.new.list c.forget-in-Some.new.list c.is_open_backup-is_open_backup.result c.in-Some.ensures.found refl c.is_open_backup-is_open_backup.ensures
           c.forget.ensures.others c.forget.ensures.only (c.forget.ensures.gone refl) c.forget-in-Some.ensures.others c.forget-in-Some.ensures.only
           (λ stays is. ap (λ list. contains nat_cmp list n) (c.forget-in-Some.ensures.kept stays) ∙ is);
       within = omega (arith, within, length-set items n (record c.test.new.self { touched = false }));
       sessions = one_tested c.args.wanted.now olds items n c.index_mut-session.result.now c.test.new.self is there c.in_ok-test.ensures.session;
+      stay = touched_set c.args.self.now items n c.index_mut-session.result.now (record c.test.new.self { touched = false }) there (c.in-Some.ensures.touched c.index_mut-session.result.now (ap (λ xs. slice_get xs n) c.deref.ensures.value ∙ there)) c.test.ensures.same inv.stay;
+      grown = grown_more c.args.rows.now c.loop-task.rows c.test.new.rows inv.grown c.test.ensures.grown;
       rows = λ disk past chosen.
           rows_more (ends_of past c.args.now) c.args.rows.now c.loop-task.rows c.test.new.rows (ends_of past c.args.now n) n
-          (rows-to c.args.wanted.now olds items c.loop-task.from n c.in-Some.ensures.from (omega (arith, within)) between inv.sessions disk past c.args.now c.args.rows.now c.loop-task.rows chosen (inv.rows disk past chosen))
+          (rows-to c.args.wanted.now olds items c.loop-task.from n c.in-Some.ensures.from (omega (arith, within)) (λ k s low high at. c.in-Some.ensures.first k s low high (ap (λ xs. slice_get xs k) c.deref.ensures.value ∙ at)) inv.sessions disk past c.args.now c.args.rows.now c.loop-task.rows chosen (inv.rows disk past chosen))
           (c.in_ok-test.ensures.rows disk past (chosen_at chosen n c.index_mut-session.result.now (sym (is.later n (omega arith)) ∙ there)) ∙ append_assoc c.loop-task.rows (seal_rows by_deliveries past c.args.now n) (complete_rows past c.args.now n)) refl;
     }
 
@@ -69,7 +74,7 @@ returns-clause-tells c = λ disk past now_chosen.
     let inv = c.loop-task.invariant in
     let olds = c.self.inside.sessions.items in
     let items = c.loop-task.self-inside.sessions.items in
-    let between = λ (k : ℕ) (s : Session) (low : c.loop-task.from ≤ k) (high : k < length items) (at : slice_get items k ≡ Some s). untouched-there inv.kept k s (c.in_default.ensures.none k low) at in
+    let between = λ (k : ℕ) (s : Session) (low : c.loop-task.from ≤ k) (high : k < length items) (at : slice_get items k ≡ Some s). c.in_default.ensures.none k s low (ap (λ xs. slice_get xs k) c.deref.ensures.value ∙ at) in
     let is = tested-to c.args.wanted.now olds items c.loop-task.from (length items) inv.within (omega arith) between inv.sessions in
     let given : AreAllRows past (test_rows by_deliveries past c.args.now) = λ task. rows-given by_deliveries past c.args.now [] nothing-mute task (λ more. (chosen.blocks.unopened task more).choices) in
     tells-tested (test_rows by_deliveries past c.args.now) items chosen.blocks (is.as_many ∙ chosen.as_many) given
@@ -82,7 +87,21 @@ returns-clause-rows c = λ disk past now_chosen.
     let inv = c.loop-task.invariant in
     let olds = c.self.inside.sessions.items in
     let items = c.loop-task.self-inside.sessions.items in
-    let between = λ (k : ℕ) (s : Session) (low : c.loop-task.from ≤ k) (high : k < length items) (at : slice_get items k ≡ Some s). untouched-there inv.kept k s (c.in_default.ensures.none k low) at in
+    let between = λ (k : ℕ) (s : Session) (low : c.loop-task.from ≤ k) (high : k < length items) (at : slice_get items k ≡ Some s). c.in_default.ensures.none k s low (ap (λ xs. slice_get xs k) c.deref.ensures.value ∙ at) in
     let is = tested-to c.args.wanted.now olds items c.loop-task.from (length items) inv.within (omega arith) between inv.sessions in
     rows-to c.args.wanted.now olds items c.loop-task.from (length items) inv.within (omega arith) between inv.sessions disk past c.args.now c.args.rows.now c.loop-task.rows chosen (inv.rows disk past chosen)
     ∙ ap (λ n. c.args.rows.now ++ flat_map (ends_of past c.args.now) (range_with_len 0 n)) (is.as_many ∙ chosen.as_many)
+
+pub next_touched-requires : goal.next_touched-requires
+next_touched-requires c = (c.loop-task.self-inside.asked, subst (λ xs. AreListed xs c.loop-task.self-inside.touched c.loop-task.self-inside.asked) (sym c.deref.ensures.value) c.loop-task.invariant.kept)
+
+pub returns-in_err-test-clause-stay_sessions : goal.returns-in_err-test-clause-stay_sessions
+returns-in_err-test-clause-stay_sessions c =
+    let inv = c.loop-task.invariant in
+    let items = c.loop-task.self-inside.sessions.items in
+    let n = c.in-Some.task in
+    let there = slice_get-get_or items n c.index_mut-session.result.now (inv.kept.within n (inv.kept.covered n c.in-Some.ensures.found)) ∙ ap Some (sym c.index_mut-session.ensures.value) in
+    touched_set c.args.self.now items n c.index_mut-session.result.now c.test.new.self there (c.in-Some.ensures.touched c.index_mut-session.result.now (ap (λ xs. slice_get xs n) c.deref.ensures.value ∙ there)) c.test.ensures.same inv.stay
+
+pub returns-in_err-test-clause-stay_rows : goal.returns-in_err-test-clause-stay_rows
+returns-in_err-test-clause-stay_rows c = grown_more c.args.rows.now c.loop-task.rows c.test.new.rows c.loop-task.invariant.grown c.test.ensures.grown

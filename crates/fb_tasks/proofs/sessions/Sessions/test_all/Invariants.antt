@@ -4,6 +4,7 @@ use Rattle.fb_geometry.specs.Shape.{Shape}
 use Rattle.fb_model.specs.History.{Past}
 use Rattle.fb_tasks.specs.Standing.{HaveChosen}
 use Rattle.fb_tasks.specs.Listing.{AreListed}
+use Rattle.fb_tasks.specs.Leaving.{HasGrown, OnlyTouched}
 use Rattle.fb_tasks.proofs.AllTested.{AreTested, ends_of}
 use Rattle.fb_tasks.proofs.sessions.Sessions.test_all.Given as goal
 
@@ -13,6 +14,8 @@ invariant-loop-task l = record {
   kept : AreListed l.self-inside.sessions.items l.self-inside.touched l.self-inside.asked;
   within : l.from ≤ length l.self-inside.sessions.items;
   sessions : AreTested l.wanted l.initial.self-inside.sessions.items l.from l.self-inside.sessions.items;
+  stay : OnlyTouched l.fn.self l.self-inside.sessions.items;
+  grown : HasGrown l.initial.rows l.rows;
   rows : (disk : Shape) (past : Past) → HaveChosen disk past l.initial.self-inside.sessions.items l.wanted → l.rows ≡ l.initial.rows ++ flat_map (ends_of past l.now) (range_with_len 0 l.from);
 }
 

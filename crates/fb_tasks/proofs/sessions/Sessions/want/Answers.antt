@@ -1,8 +1,9 @@
 use Rattle.std.proofs.Common.{◌<◌, Some, length, ap, sym, ◌∙◌, subst, arith}
 use Rattle.std.proofs.lemmas.Option.{slice_get-get_or}
 use Rattle.std.proofs.lemmas.Result.{on_ok_weaker}
+use Rattle.fb_tasks.specs.Leaving.{HasBegun}
 use Rattle.fb_tasks.specs.Telling.{MayTake}
-use Rattle.fb_tasks.proofs.Wants.{may_want, wanted-tells, want_within}
+use Rattle.fb_tasks.proofs.Wants.{may_want, wanted-tells, want_within, wanted_due}
 use Rattle.fb_tasks.proofs.sessions.Sessions.want.Goals as goal
 
 pub index-requires : goal.index-requires
@@ -50,3 +51,19 @@ returns-clause-ok c =
     on_ok_weaker c.touch.result (λ flagged past call is h.
     wanted-tells c.args.map.now past call c.args.task c.args.first c.args.count c.self.inside.sessions.items c.args.self.now c.touch.new.self c.index.result.now c.args.wanted.now c.want_range.new.wanted
     (omega (arith, c.count-sectors.ensures.value, c.count-sectors.ensures.bound)) is c.self.view_is within c.index.ensures c.in_ok-want_range.ensures.all flagged h) c.touch.ensures.ok
+
+pub returns-in_err-want_range-clause-blocks : goal.returns-in_err-want_range-clause-blocks
+returns-in_err-want_range-clause-blocks c =
+    let r = c.requires in
+    let within = want_within c.args.map.now r.0 r.1 c.args.task c.args.first c.args.count c.self.inside.sessions.items c.args.self.now c.args.wanted.now r.2 c.self.view_is r.3 in
+    λ past call is h. subst (λ due. HasBegun c.args.wanted.now due c.want_range.new.wanted)
+    (wanted_due c.args.map.now past call c.args.task c.args.first c.args.count c.self.inside.sessions.items c.args.self.now c.index.result.now c.args.wanted.now
+    (omega (arith, c.count-sectors.ensures.value, c.count-sectors.ensures.bound)) is c.self.view_is within c.index.ensures h) c.want_range.ensures.begun
+
+pub returns-clause-blocks : goal.returns-clause-blocks
+returns-clause-blocks c =
+    let r = c.requires in
+    let within = want_within c.args.map.now r.0 r.1 c.args.task c.args.first c.args.count c.self.inside.sessions.items c.args.self.now c.args.wanted.now r.2 c.self.view_is r.3 in
+    λ past call is h. subst (λ due. HasBegun c.args.wanted.now due c.want_range.new.wanted)
+    (wanted_due c.args.map.now past call c.args.task c.args.first c.args.count c.self.inside.sessions.items c.args.self.now c.index.result.now c.args.wanted.now
+    (omega (arith, c.count-sectors.ensures.value, c.count-sectors.ensures.bound)) is c.self.view_is within c.index.ensures h) c.want_range.ensures.begun
