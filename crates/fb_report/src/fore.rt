@@ -5,7 +5,7 @@ ghost use Rattle.fb_report.specs.declared.bytes.Bytes.{Bytes};
 ghost use Rattle.fb_report.specs.Lines.{with_fields};
 ghost use Rattle.fb_report.specs.Fore.{bad_count, kind_text, row_bytes, row_fields, fore_first, fore_line, fore_last, fore_lines, fore_text};
 ghost use Rattle.fb_report.specs.Grammar.{are_bytes, fore_grammar, is_one_of, numbers};
-ghost use Rattle.fb_report.specs.Printed.{AreFields, IsField, IsLine, ReadsSectors, is_first, is_in_place, is_last, is_row};
+ghost use Rattle.fb_report.specs.Printed.{AreFields, IsField, IsLine, IsReadBack, ReadsSectors, is_first, is_in_place, is_last, is_row};
 ghost use Rattle.fb_rows.specs.Ranges.{HasRanges};
 
 use crate::Bytes;
@@ -59,7 +59,8 @@ pub fn fore_text(
 ) -> Result<Vec<u8>, NoMemory>
     requires whole { sector_bytes % 16 ≡ 0 }
     requires ranges { AllByRecursion HasRanges run.now.fore }
-    ensures { IfOk result (λ text. text.items ≡ fore_text sector_bytes bytes run.now) }
+    ensures value { IfOk result (λ text. text.items ≡ fore_text sector_bytes bytes run.now) }
+    ensures read { OnOk result (0 < sector_bytes → AllByRecursion ReadsSectors run.now.fore → IsReadBack fore_grammar (fore_lines sector_bytes bytes run.now)) }
 {
     let mut text = Vec::new(alloc);
     for k in 0..fore_pieces(run) {
