@@ -1,0 +1,4 @@
+pub mod FirstField
+pub mod Comparisons
+pub mod Beginnings
+pub mod Judged

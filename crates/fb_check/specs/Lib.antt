@@ -1,2 +1,4 @@
 pub mod Verdict
 pub mod Asked
+pub mod Comparing
+pub mod Judged

@@ -1,17 +1,20 @@
 // Judges printed reports, decision by decision.
-ghost use Rattle.std.specs.Prelude.{◌≡◌, ◌%◌, [], length, IfOk};
+ghost use Rattle.std.specs.Prelude.{◌≡◌, ◌%◌, [], false, length, None, IfOk};
 ghost use Rattle.fb_calls.specs.Allowed.{tasks};
 ghost use Rattle.fb_model.specs.Accepted.{IsAccepted};
 ghost use Rattle.fb_report.specs.Grammar.{back_grammar, fore_grammar};
 ghost use Rattle.fb_report.specs.Reading.{IsReport};
 ghost use Rattle.fb_check.specs.Asked.{inputs_of, reports_of};
+ghost use Rattle.fb_check.specs.Judged.{HasJudged};
 ghost use Rattle.fb_check.specs.Verdict.{IsVerdict};
 
 use crate::Verdict;
+use crate::comparing::Comparison;
 use fb_calls::Calls;
+use fb_decide::{Decider, decisions_make_a_run};
 use fb_plan::Planner;
 use fb_queue::Queue;
-use fb_report::{Bytes, ReportLines};
+use fb_report::{Bytes, ReportLines, reports_end_once};
 use fb_service::Disk;
 use fb_trace::Trace;
 use fb_units::{NoMemory, Ns};
@@ -65,5 +68,66 @@ pub fn judge<Q: Queue, P: Planner>(
     requires back { IsReport back_grammar printed.back.now }
     ensures { IfOk result (IsVerdict (inputs_of asked.entry Q.key) (reports_of asked.entry printed.entry)) }
 {
-    Err(NoMemory)
+    decisions_make_a_run();
+    reports_end_once();
+    let mut decider = Decider::new(
+        alloc,
+        asked.disk,
+        asked.latent,
+        asked.trace,
+        asked.calls,
+        queue,
+    )?;
+    let mut fore = Comparison::begin_fore(alloc, printed.fore)?;
+    let mut back = Comparison::begin_back(alloc, printed.back)?;
+    let sector_bytes = asked.disk.sector_bytes;
+    let names = &asked.calls.names;
+    let mut goes_on = true;
+    while goes_on {
+        goes_on = decider.decide(alloc, asked.disk, asked.calls, planner, asked.until)?;
+        let rows = decider.take_rows(alloc);
+        fore.compare_fore(alloc, &rows.fore, sector_bytes, printed.bytes)?;
+        if let Some(mismatch) = fore.wrong {
+            return Ok(Verdict::No(mismatch));
+        }
+        back.compare_back(alloc, &rows.back, names, sector_bytes, printed.bytes)?;
+    }
+    judge_ends(alloc, asked, printed, &mut decider, fore, back)
+}
+
+// The verdict where all decisions are made and no row of the foreground is wrong.
+fn judge_ends<Q: Queue>(
+    alloc: Global,
+    asked: Asked<'_>,
+    printed: Printed<'_>,
+    decider: &mut Decider<Q>,
+    mut fore: Comparison<'_>,
+    mut back: Comparison<'_>,
+) -> Result<Verdict, NoMemory>
+    requires judged { HasJudged (inputs_of asked Q.key) (reports_of asked printed) false decider.old.requests.items decider.old.course (Q.pending decider.old.queue) (Q.joined decider.old.queue) fore back }
+    requires right { fore.wrong ≡ None }
+    requires names { length asked.calls.now.names ≡ length (tasks asked.calls.now.calls.items) }
+    requires whole { asked.disk.now.sector_bytes % 16 ≡ 0 }
+    ensures { IfOk result (IsVerdict (inputs_of asked.entry Q.key) (reports_of asked.entry printed.entry)) }
+{
+    decisions_make_a_run();
+    fore.end_fore(alloc, asked.trace.passed_over)?;
+    if let Some(mismatch) = fore.wrong {
+        return Ok(Verdict::No(mismatch));
+    }
+    decider.add_task_rows()?;
+    let rows = decider.take_rows(alloc);
+    let sector_bytes = asked.disk.sector_bytes;
+    back.compare_back(
+        alloc,
+        &rows.back,
+        &asked.calls.names,
+        sector_bytes,
+        printed.bytes,
+    )?;
+    back.end_back(alloc, decider.instant())?;
+    match back.wrong {
+        Some(mismatch) => Ok(Verdict::No(mismatch)),
+        None => Ok(Verdict::Yes),
+    }
 }

@@ -7,6 +7,8 @@
 //! run. It promises nothing of the time that it takes.
 #![tactic(auto)]
 
+mod comparing;
+mod fields;
 mod judging;
 mod verdict;
 

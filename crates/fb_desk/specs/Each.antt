@@ -14,12 +14,16 @@ abbrev pub of_input : {T : Type 0} → EachInput T → Input → T
 of_input each input.Params = each.params
 of_input each input.Trace = each.trace
 of_input each input.Calls = each.calls
+of_input each input.ForeReport = each.fore_report
+of_input each input.BackReport = each.back_report
 
 -- the same with another value for this input
 abbrev pub with_input : {T : Type 0} → EachInput T → Input → T → EachInput T
 with_input each input.Params thing = record each { params = thing }
 with_input each input.Trace thing = record each { trace = thing }
 with_input each input.Calls thing = record each { calls = thing }
+with_input each input.ForeReport thing = record each { fore_report = thing }
+with_input each input.BackReport thing = record each { back_report = thing }
 
 -- the value of an output
 abbrev pub of_output : {T : Type 0} → EachOutput T → Output → T

@@ -16,6 +16,10 @@ pub struct EachInput<T> {
     pub trace: T,
     /// That of the call script.
     pub calls: T,
+    /// That of the printed foreground report.
+    pub fore_report: T,
+    /// That of the printed background report.
+    pub back_report: T,
 }
 
 impl<T: Copy> EachInput<T> {
@@ -27,6 +31,8 @@ impl<T: Copy> EachInput<T> {
             params: thing,
             trace: thing,
             calls: thing,
+            fore_report: thing,
+            back_report: thing,
         }
     }
 }
@@ -40,6 +46,8 @@ impl<T> EachInput<T> {
             Input::Params => &self.params,
             Input::Trace => &self.trace,
             Input::Calls => &self.calls,
+            Input::ForeReport => &self.fore_report,
+            Input::BackReport => &self.back_report,
         }
     }
 
@@ -52,6 +60,8 @@ impl<T> EachInput<T> {
             Input::Params => &mut self.params,
             Input::Trace => &mut self.trace,
             Input::Calls => &mut self.calls,
+            Input::ForeReport => &mut self.fore_report,
+            Input::BackReport => &mut self.back_report,
         }
     }
 }

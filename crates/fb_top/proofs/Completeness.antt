@@ -1,5 +1,5 @@
 -- A replay that goes well is made.
-use Rattle.std.proofs.Common.{◌≡◌, ℕ, ◌<◌, ◌≤◌, ◌^◌, List, length, Option, Some, None, true, sym, ap, subst, ◌∙◌, arith, Result, Ok, Err}
+use Rattle.std.proofs.Common.{◌≡◌, ℕ, ◌<◌, ◌≤◌, ◌^◌, List, length, Option, Some, None, true, refl, sym, ap, subst, ◌∙◌, arith, Result, Ok, Err}
 use Rattle.std.specs.Prelude.{IfSome, is_some}
 use Rattle.fb_geometry.specs.Places.{places}
 use Rattle.fb_params.specs.declared.fault.ParamsFault.{ParamsFault}
@@ -10,19 +10,23 @@ use Rattle.fb_calls.specs.declared.fault.CallsFault.{CallsFault}
 use Rattle.fb_calls.specs.Reading.{calls_of}
 use Rattle.fb_desk.specs.View.{DeskView}
 use Rattle.fb_desk.specs.declared.desk.Input.{Input}
-use Rattle.fb_desk.specs.declared.desk.Input.TheVariants.{Params, Trace, Calls}
+use Rattle.fb_desk.specs.declared.desk.Input.TheVariants.{Params, Trace, Calls, ForeReport, BackReport}
 use Rattle.fb_desk.specs.declared.desk.Output.TheVariants.{Fore, Back, Note, MadeTrace, MadeCalls}
-use Rattle.fb_words.specs.Command.{Terms, ReplayTerms, MakeTerms, replays, makes}
+use Rattle.fb_words.specs.Command.{Terms, ReplayTerms, CheckTerms, MakeTerms, replays, makes, checks}
+use Rattle.fb_top.specs.Sources.{InputTerms, replay_inputs, check_inputs}
 use Rattle.fb_words.specs.declared.fault.UsageFault.{UsageFault}
 use Rattle.fb_top.specs.declared.outcome.Outcome.{Outcome}
 use Rattle.fb_top.specs.declared.outcome.Outcome.TheVariants as outcomes
-use Rattle.fb_top.specs.Read.{RefusesDisk, ReadsCalls, ReadsScript}
+use Rattle.fb_report.specs.Grammar.{Grammar, fore_grammar, back_grammar, report_of}
+use Rattle.fb_report.specs.declared.reading.Report.{Report}
+use Rattle.fb_report.specs.declared.reading.Report.TheVariants as reports
+use Rattle.fb_top.specs.Read.{RefusesDisk, RefusesReport, ReadsCalls, ReadsScript}
 use Rattle.fb_top.specs.Streams.{IsLonger}
 use Rattle.fb_top.specs.Done.{IsCutShort}
-use Rattle.fb_top.specs.Causes.{AcceptsDisk, AcceptsTrace, HasCause, IsTooLong, RefusesTraceInTurn, RefusesCallsInTurn}
+use Rattle.fb_top.specs.Causes.{AcceptsDisk, AcceptsTrace, CheckHasCause, HasCause, IsTooLong, RefusesTraceInTurn, RefusesCallsInTurn, RefusesReportInTurn, StopsInputs}
 use Rattle.fb_top.specs.Answers.{AnswersWords}
 use Rattle.fb_top.specs.Make.{MakeHasCause, MakeGoesWell, MakesAll}
-use Rattle.fb_top.specs.Complete.{GoesWell, IsMade, IsComplete}
+use Rattle.fb_top.specs.Complete.{CheckGoesWell, GoesWell, IsComplete, IsJudged, IsMade, ReadsWell, TellsReport}
 
 -- the bytes under a name are told once
 same_bytes : (told : Option (List ℕ)) (one two : List ℕ) → is_some told ≡ true → IfSome told (λ held. one ≡ held) → IfSome told (λ held. two ≡ held) → one ≡ two
@@ -44,48 +48,48 @@ pub same_ok : {A E : Type 0} (verdict : Result A E) (a b : A) → verdict ≡ Ok
 same_ok verdict a b e f = cc
 
 -- what is accepted is not refused
-module _ (old new : DeskView) (terms : ReplayTerms) (well : GoesWell old new terms) where
-  disk_once : (fault : ParamsFault) → RefusesDisk old terms.params fault → ⊥
+module _ (old new : DeskView) (terms : InputTerms) (well : ReadsWell old new terms) where
+  disk_once : (fault : ParamsFault) → RefusesDisk old terms.sources.params fault → ⊥
   disk_once fault refuses =
       let reads = well.accepts.disk in
       not_both (params_of reads.bytes) _ fault reads.spells
-      (ap params_of (same_bytes (old.held terms.params) reads.bytes refuses.bytes well.params_told reads.held refuses.held) ∙ refuses.spells)
+      (ap params_of (same_bytes (old.held terms.sources.params) reads.bytes refuses.bytes well.params_told reads.held refuses.held) ∙ refuses.spells)
 
   -- the disk is read once
-  same_map : (other : AcceptsDisk old terms.params) → well.files.disk.map ≡ other.disk.map
+  same_map : (other : AcceptsDisk old terms.sources.params) → well.files.disk.map ≡ other.disk.map
   same_map other =
       let reads = well.accepts.disk in
       let again = other.reads_disk in
       ap (λ p. p.outline) (same_ok (params_of reads.bytes) _ _ reads.spells
-      (ap params_of (same_bytes (old.held terms.params) reads.bytes again.bytes well.params_told reads.held again.held) ∙ again.spells))
+      (ap params_of (same_bytes (old.held terms.sources.params) reads.bytes again.bytes well.params_told reads.held again.held) ∙ again.spells))
 
   -- bytes of a trace spell the same on the same disk
-  same_trace : (other : AcceptsDisk old terms.params) (bytes : List ℕ) → IfSome (old.held terms.trace) (λ held. bytes ≡ held)
-      → trace_of terms.device (length (places well.files.disk.map)) well.accepts.trace.bytes ≡ trace_of terms.device (length (places other.disk.map)) bytes
+  same_trace : (other : AcceptsDisk old terms.sources.params) (bytes : List ℕ) → IfSome (old.held terms.sources.trace) (λ held. bytes ≡ held)
+      → trace_of terms.sources.device (length (places well.files.disk.map)) well.accepts.trace.bytes ≡ trace_of terms.sources.device (length (places other.disk.map)) bytes
   same_trace other bytes held =
       let trace = well.accepts.trace in
-      ap (λ map. trace_of terms.device (length (places map)) trace.bytes) (same_map other)
-      ∙ ap (trace_of terms.device (length (places other.disk.map))) (same_bytes (old.held terms.trace) trace.bytes bytes well.trace_told trace.held held)
+      ap (λ map. trace_of terms.sources.device (length (places map)) trace.bytes) (same_map other)
+      ∙ ap (trace_of terms.sources.device (length (places other.disk.map))) (same_bytes (old.held terms.sources.trace) trace.bytes bytes well.trace_told trace.held held)
 
-  trace_once : (fault : TraceFault) → RefusesTraceInTurn old terms fault → ⊥
+  trace_once : (fault : TraceFault) → RefusesTraceInTurn old terms.sources fault → ⊥
   trace_once fault turn =
-      not_both (trace_of terms.device (length (places well.files.disk.map)) well.accepts.trace.bytes) _ fault well.accepts.trace.spells
+      not_both (trace_of terms.sources.device (length (places well.files.disk.map)) well.accepts.trace.bytes) _ fault well.accepts.trace.spells
       (same_trace turn.before turn.refuses.bytes turn.refuses.held ∙ turn.refuses.spells)
 
-  same_requests : (other : AcceptsTrace old terms) → well.files.trace ≡ other.trace
+  same_requests : (other : AcceptsTrace old terms.sources) → well.files.trace ≡ other.trace
   same_requests other =
-      same_ok (trace_of terms.device (length (places well.files.disk.map)) well.accepts.trace.bytes) _ _ well.accepts.trace.spells
+      same_ok (trace_of terms.sources.device (length (places well.files.disk.map)) well.accepts.trace.bytes) _ _ well.accepts.trace.spells
       (same_trace other.params other.reads_trace.bytes other.reads_trace.held ∙ other.reads_trace.spells)
 
   -- the script under the name that is given
-  script_under : (name : List ℕ) → terms.calls ≡ Some name → ReadsCalls old name well.files.disk (length well.files.trace.requests) well.files.script
+  script_under : (name : List ℕ) → terms.sources.calls ≡ Some name → ReadsCalls old name well.files.disk (length well.files.trace.requests) well.files.script
   script_under name given =
       subst (λ (told : Option (List ℕ)). ReadsScript old told well.files.disk (length well.files.trace.requests) well.files.script) given well.accepts.script
 
-  told_under : (name : List ℕ) → terms.calls ≡ Some name → is_some (old.held name) ≡ true
+  told_under : (name : List ℕ) → terms.sources.calls ≡ Some name → is_some (old.held name) ≡ true
   told_under name given = subst (λ (told : Option (List ℕ)). IfSome told (λ n. is_some (old.held n) ≡ true)) given well.calls_told
 
-  calls_once : (fault : CallsFault) → RefusesCallsInTurn old terms fault → ⊥
+  calls_once : (fault : CallsFault) → RefusesCallsInTurn old terms.sources fault → ⊥
   calls_once fault turn =
       let reads = script_under turn.name turn.given in
       not_both (calls_of well.files.disk.map (length well.files.trace.requests) reads.bytes) _ fault reads.spells
@@ -95,16 +99,49 @@ module _ (old new : DeskView) (terms : ReplayTerms) (well : GoesWell old new ter
       (same_bytes (old.held turn.name) reads.bytes turn.refuses.bytes (told_under turn.name turn.given) reads.held turn.refuses.held)
       ∙ turn.refuses.spells)
 
+  fore_tells : (name : List ℕ) → terms.fore ≡ Some name → TellsReport old fore_grammar name
+  fore_tells name given = subst (λ (told : Option (List ℕ)). IfSome told (TellsReport old fore_grammar)) given well.fore_told
+
+  back_tells : (name : List ℕ) → terms.back ≡ Some name → TellsReport old back_grammar name
+  back_tells name given = subst (λ (told : Option (List ℕ)). IfSome told (TellsReport old back_grammar)) given well.back_told
+
+  report_once : (grammar : Grammar) (name : List ℕ) (line : ℕ) → TellsReport old grammar name → RefusesReport old name grammar line → ⊥
+  report_once grammar name line tells refuses =
+      not_both (report_of grammar tells.reads.bytes) tells.lines line tells.reads.spells
+      (ap (report_of grammar) (same_bytes (old.held name) tells.reads.bytes refuses.bytes tells.told tells.reads.held refuses.held) ∙ refuses.spells)
+
+  reports_once : (report : Report) (line : ℕ) → RefusesReportInTurn old terms (record { report = report; line = line }) → ⊥
+  reports_once reports.Fore line turn = report_once fore_grammar turn.name line (fore_tells turn.name turn.given) turn.refuses
+  reports_once reports.Back line turn = report_once back_grammar turn.name line (back_tells turn.name turn.given) turn.refuses
+
   not_too_long : (input : Input) → IsTooLong old terms input → ⊥
   not_too_long Params long =
-      not_longer (old.held terms.params) well.accepts.disk.bytes (2 ^ 20) well.params_told well.accepts.disk.held well.accepts.disk.within
-      (subst (λ (name : List ℕ). IsLonger old name (2 ^ 20)) (sym (same_name terms.params long.name long.given)) long.longer)
+      not_longer (old.held terms.sources.params) well.accepts.disk.bytes (2 ^ 20) well.params_told well.accepts.disk.held well.accepts.disk.within
+      (subst (λ (name : List ℕ). IsLonger old name (2 ^ 20)) (sym (same_name terms.sources.params long.name long.given)) long.longer)
   not_too_long Trace long =
-      not_longer (old.held terms.trace) well.accepts.trace.bytes (2 ^ 28) well.trace_told well.accepts.trace.held well.accepts.trace.within
-      (subst (λ (name : List ℕ). IsLonger old name (2 ^ 28)) (sym (same_name terms.trace long.name long.given)) long.longer)
+      not_longer (old.held terms.sources.trace) well.accepts.trace.bytes (2 ^ 28) well.trace_told well.accepts.trace.held well.accepts.trace.within
+      (subst (λ (name : List ℕ). IsLonger old name (2 ^ 28)) (sym (same_name terms.sources.trace long.name long.given)) long.longer)
   not_too_long Calls long =
       let reads = script_under long.name long.given in not_longer (old.held long.name) reads.bytes (2 ^ 26) (told_under long.name long.given) reads.held reads.within long.longer
+  not_too_long ForeReport long = let tells = fore_tells long.name long.given in not_longer (old.held long.name) tells.reads.bytes (2 ^ 28) tells.told tells.reads.held tells.reads.within long.longer
+  not_too_long BackReport long = let tells = back_tells long.name long.given in not_longer (old.held long.name) tells.reads.bytes (2 ^ 28) tells.told tells.reads.held tells.reads.within long.longer
 
+  -- no input stops what goes well, but memory may
+  pub goes_on : (outcome : Outcome) → StopsInputs terms old new outcome → outcome ≡ outcomes.NoMemory
+  goes_on (outcomes.Params fault) cause = absurd (disk_once fault cause.0)
+  goes_on (outcomes.Trace fault) cause = absurd (trace_once fault cause.0)
+  goes_on (outcomes.Calls fault) cause = absurd (calls_once fault cause.0)
+  goes_on (outcomes.Reports fault) cause = absurd (reports_once fault.report fault.line cause.0)
+  goes_on (outcomes.TooLong input) cause = absurd (not_too_long input cause.0)
+  goes_on (outcomes.ReadFault input) cause = absurd (well.calm input cause.0.rose)
+  goes_on outcomes.NoMemory cause = refl
+  goes_on (outcomes.Done run) cause = absurd cause
+  goes_on (outcomes.Made n) cause = absurd cause
+  goes_on (outcomes.Checked verdict) cause = absurd cause
+  goes_on (outcomes.Usage fault) cause = absurd cause
+  goes_on (outcomes.WriteFault output) cause = absurd cause
+
+module _ (old new : DeskView) (terms : ReplayTerms) (well : GoesWell old new terms) where
   not_cut_short : (outcome : Outcome) → IsCutShort old new terms outcome → IsMade outcome
   not_cut_short (outcomes.WriteFault Fore) cut = absurd (well.fore cut.stops.0)
   not_cut_short (outcomes.WriteFault Back) cut = absurd (well.back cut.stops.0)
@@ -114,6 +151,8 @@ module _ (old new : DeskView) (terms : ReplayTerms) (well : GoesWell old new ter
   not_cut_short outcomes.NoMemory cut = tt
   not_cut_short (outcomes.Done run) cut = tt
   not_cut_short (outcomes.Made n) cut = absurd cut.stops
+  not_cut_short (outcomes.Checked verdict) cut = absurd cut.stops
+  not_cut_short (outcomes.Reports fault) cut = absurd cut.stops
   not_cut_short (outcomes.Usage fault) cut = absurd cut.stops
   not_cut_short (outcomes.Params fault) cut = absurd cut.stops
   not_cut_short (outcomes.Trace fault) cut = absurd cut.stops
@@ -121,17 +160,40 @@ module _ (old new : DeskView) (terms : ReplayTerms) (well : GoesWell old new ter
   not_cut_short (outcomes.TooLong input) cut = absurd cut.stops
   not_cut_short (outcomes.ReadFault input) cut = absurd cut.stops
 
+  stopped : (outcome : Outcome) → StopsInputs (replay_inputs terms) old new outcome → IsMade outcome
+  stopped outcome cause = subst IsMade (sym (goes_on old new (replay_inputs terms) well.inputs outcome cause)) tt
+
   made : (outcome : Outcome) → HasCause terms old new outcome → IsMade outcome
   made (outcomes.Done run) cause = tt
   made (outcomes.Made n) cause = absurd cause
+  made (outcomes.Checked verdict) cause = absurd cause
   made (outcomes.Usage fault) cause = absurd cause
-  made (outcomes.Params fault) cause = absurd (disk_once fault cause.0)
-  made (outcomes.Trace fault) cause = absurd (trace_once fault cause.0)
-  made (outcomes.Calls fault) cause = absurd (calls_once fault cause.0)
-  made (outcomes.TooLong input) cause = absurd (not_too_long input cause.0)
-  made (outcomes.ReadFault input) cause = absurd (well.inputs input cause.0.rose)
+  made (outcomes.Params fault) cause = stopped (outcomes.Params fault) cause
+  made (outcomes.Trace fault) cause = stopped (outcomes.Trace fault) cause
+  made (outcomes.Calls fault) cause = stopped (outcomes.Calls fault) cause
+  made (outcomes.Reports fault) cause = stopped (outcomes.Reports fault) cause
+  made (outcomes.TooLong input) cause = stopped (outcomes.TooLong input) cause
+  made (outcomes.ReadFault input) cause = stopped (outcomes.ReadFault input) cause
   made (outcomes.WriteFault output) cause = not_cut_short (outcomes.WriteFault output) cause
   made outcomes.NoMemory cause = tt
+
+module _ (old new : DeskView) (terms : CheckTerms) (well : CheckGoesWell old new terms) where
+  check_stopped : (outcome : Outcome) → StopsInputs (check_inputs terms) old new outcome → IsJudged outcome
+  check_stopped outcome cause = subst IsJudged (sym (goes_on old new (check_inputs terms) well.inputs outcome cause)) tt
+
+  judged : (outcome : Outcome) → CheckHasCause terms old new outcome → IsJudged outcome
+  judged (outcomes.Checked verdict) cause = tt
+  judged (outcomes.Done run) cause = absurd cause
+  judged (outcomes.Made n) cause = absurd cause
+  judged (outcomes.Usage fault) cause = absurd cause
+  judged (outcomes.Params fault) cause = check_stopped (outcomes.Params fault) cause
+  judged (outcomes.Trace fault) cause = check_stopped (outcomes.Trace fault) cause
+  judged (outcomes.Calls fault) cause = check_stopped (outcomes.Calls fault) cause
+  judged (outcomes.Reports fault) cause = check_stopped (outcomes.Reports fault) cause
+  judged (outcomes.TooLong input) cause = check_stopped (outcomes.TooLong input) cause
+  judged (outcomes.ReadFault input) cause = check_stopped (outcomes.ReadFault input) cause
+  judged (outcomes.WriteFault output) cause = absurd (well.fore cause.stops.1)
+  judged outcomes.NoMemory cause = tt
 
 -- nor is a make's parameter file refused
 make_disk_once : (old new : DeskView) (terms : MakeTerms) (fault : ParamsFault) → MakeGoesWell old new terms → RefusesDisk old terms.params fault → ⊥
@@ -144,6 +206,8 @@ made_texts : (old new : DeskView) (terms : MakeTerms) (outcome : Outcome) → Ma
 made_texts old new terms (outcomes.Made n) cause well = cause.count
 made_texts old new terms (outcomes.Done run) cause well = absurd cause
 made_texts old new terms (outcomes.Usage fault) cause well = absurd cause
+made_texts old new terms (outcomes.Checked verdict) cause well = absurd cause
+made_texts old new terms (outcomes.Reports fault) cause well = absurd cause
 made_texts old new terms (outcomes.Params fault) cause well = make_disk_once old new terms fault well cause.0
 made_texts old new terms (outcomes.Trace fault) cause well = absurd cause
 made_texts old new terms (outcomes.Calls fault) cause well = absurd cause
@@ -151,9 +215,13 @@ made_texts old new terms (outcomes.TooLong Params) cause well =
     not_longer (old.held terms.params) well.makes.reads_disk.bytes (2 ^ 20) well.params_told well.makes.reads_disk.held well.makes.reads_disk.within cause.0
 made_texts old new terms (outcomes.TooLong Trace) cause well = absurd cause
 made_texts old new terms (outcomes.TooLong Calls) cause well = absurd cause
+made_texts old new terms (outcomes.TooLong ForeReport) cause well = absurd cause
+made_texts old new terms (outcomes.TooLong BackReport) cause well = absurd cause
 made_texts old new terms (outcomes.ReadFault Params) cause well = well.params cause.0
 made_texts old new terms (outcomes.ReadFault Trace) cause well = absurd cause
 made_texts old new terms (outcomes.ReadFault Calls) cause well = absurd cause
+made_texts old new terms (outcomes.ReadFault ForeReport) cause well = absurd cause
+made_texts old new terms (outcomes.ReadFault BackReport) cause well = absurd cause
 made_texts old new terms (outcomes.WriteFault MadeTrace) cause well = absurd (well.trace cause.0)
 made_texts old new terms (outcomes.WriteFault MadeCalls) cause well = absurd (well.calls cause.0)
 made_texts old new terms (outcomes.WriteFault Fore) cause well = absurd cause
@@ -165,4 +233,5 @@ made_texts old new terms outcomes.NoMemory cause well = tt
 pub complete : (reading : Result Terms UsageFault) (old new : DeskView) (outcome : Outcome) → AnswersWords reading old new outcome → IsComplete reading old new outcome
 complete (Ok (replays terms)) old new outcome cause = λ well. made old new terms well outcome cause
 complete (Ok (makes terms)) old new outcome cause = made_texts old new terms outcome cause
+complete (Ok (checks terms)) old new outcome cause = λ well. judged old new terms well outcome cause
 complete (Err fault) old new outcome cause = tt

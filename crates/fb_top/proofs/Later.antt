@@ -14,14 +14,15 @@ use Rattle.fb_model.specs.Accepted.{IsAccepted, IsRequestOf}
 use Rattle.fb_model.specs.PlainReplay.{Key}
 use Rattle.fb_desk.specs.Calls.{Rose, ChangesInput}
 use Rattle.fb_desk.specs.View.{DeskView, InputView}
-use Rattle.fb_desk.specs.declared.desk.Input.TheVariants.{Params, Trace, Calls}
+use Rattle.fb_desk.specs.declared.desk.Input.TheVariants.{Params, Trace, Calls, ForeReport, BackReport}
 use Rattle.fb_words.specs.Command.{ReplayTerms}
+use Rattle.fb_top.specs.Sources.{SourceTerms, files_alone, replay_inputs}
 use Rattle.fb_top.specs.declared.outcome.Outcome.{Outcome}
 use Rattle.fb_top.specs.declared.outcome.Outcome.TheVariants as outcomes
 use Rattle.fb_top.specs.Read.{ReadsTrace, ReadsScript, Files, inputs_of}
 use Rattle.fb_top.specs.Written.{KeepsReports}
 use Rattle.fb_top.specs.Done.{IsRunOf, StopsReports}
-use Rattle.fb_top.specs.Causes.{AcceptsDisk, AcceptsTrace, EndsAt, HasCause, StopsDisk, StopsTrace, StopsCalls, StopsScript}
+use Rattle.fb_top.specs.Causes.{AcceptsDisk, AcceptsTrace, EndsAt, HasCause, StopsInputs, StopsDisk, StopsTrace, StopsCalls, StopsScript}
 use Rattle.fb_top.proofs.Moved.{stops_reports}
 
 pub trace_is_no_params : Trace ≢ Params
@@ -34,14 +35,29 @@ pub calls_are_no_trace : Calls ≢ Trace
 calls_are_no_trace e = cc
 
 ends_at_params : (old new : DeskView) → ChangesInput Params old new → EndsAt Params old new
-ends_at_params old new only = record { later = (only.inputs Trace trace_is_no_params, only.inputs Calls calls_are_no_params); reports = λ output no_note. only.outputs output }
+ends_at_params old new only = record {
+  later = (only.inputs Trace trace_is_no_params, only.inputs Calls calls_are_no_params, only.inputs ForeReport (λ e. cc), only.inputs BackReport (λ e. cc));
+  reports = λ output no_note. only.outputs output;
+}
 
 ends_at_trace : (old mid new : DeskView) → ChangesInput Params old mid → ChangesInput Trace mid new → EndsAt Trace old new
-ends_at_trace old mid new first second =
-    record { later = second.inputs Calls calls_are_no_trace ∙ first.inputs Calls calls_are_no_params; reports = λ output no_note. second.outputs output ∙ first.outputs output }
+ends_at_trace old mid new first second = record {
+  later = (
+    second.inputs Calls calls_are_no_trace ∙ first.inputs Calls calls_are_no_params,
+    second.inputs ForeReport (λ e. cc) ∙ first.inputs ForeReport (λ e. cc),
+    second.inputs BackReport (λ e. cc) ∙ first.inputs BackReport (λ e. cc),
+  );
+  reports = λ output no_note. second.outputs output ∙ first.outputs output;
+}
 
 ends_at_calls : (old mid late new : DeskView) → ChangesInput Params old mid → ChangesInput Trace mid late → ChangesInput Calls late new → EndsAt Calls old new
-ends_at_calls old mid late new first second third = record { later = tt; reports = λ output no_note. third.outputs output ∙ second.outputs output ∙ first.outputs output }
+ends_at_calls old mid late new first second third = record {
+  later = (
+    third.inputs ForeReport (λ e. cc) ∙ second.inputs ForeReport (λ e. cc) ∙ first.inputs ForeReport (λ e. cc),
+    third.inputs BackReport (λ e. cc) ∙ second.inputs BackReport (λ e. cc) ∙ first.inputs BackReport (λ e. cc),
+  );
+  reports = λ output no_note. third.outputs output ∙ second.outputs output ∙ first.outputs output;
+}
 
 -- the trace is held before as it is held after the parameter file was read
 pub trace_before : (old mid : DeskView) (name : List ℕ) (device : ℕ) (disk : Disk) (trace : Accepted) → ChangesInput Params old mid → ReadsTrace mid name device disk trace → ReadsTrace old name device disk trace
@@ -64,25 +80,31 @@ script_before old mid late (Some name) disk traced script first second reads = r
 }
 
 -- why the parameter file was not read
-pub at_params : (words : ReplayTerms) (old new : DeskView) (outcome : Outcome) → ChangesInput Params old new → StopsDisk words.params old new outcome → HasCause words old new outcome
+pub at_params : (words : SourceTerms) (old new : DeskView) (outcome : Outcome) → ChangesInput Params old new → StopsDisk words.params old new outcome → StopsInputs (files_alone words) old new outcome
 at_params words old new (outcomes.Params fault) only h = (h, ends_at_params old new only)
 at_params words old new (outcomes.TooLong Params) only h = (record { before = tt; name = words.params; given = refl; longer = h }, ends_at_params old new only)
 at_params words old new (outcomes.ReadFault Params) only h = (record { before = tt; given = refl; rose = h }, ends_at_params old new only)
-at_params words old new outcomes.NoMemory only h = inl (record { input = Params; before = tt; ends = ends_at_params old new only })
+at_params words old new outcomes.NoMemory only h = (record { input = Params; before = tt; ends = ends_at_params old new only })
 at_params words old new (outcomes.Done run) only h = absurd h
 at_params words old new (outcomes.Made n) only h = absurd h
+at_params words old new (outcomes.Checked verdict) only h = absurd h
+at_params words old new (outcomes.Reports fault) only h = absurd h
 at_params words old new (outcomes.Usage fault) only h = absurd h
 at_params words old new (outcomes.Trace fault) only h = absurd h
 at_params words old new (outcomes.Calls fault) only h = absurd h
 at_params words old new (outcomes.TooLong Trace) only h = absurd h
 at_params words old new (outcomes.TooLong Calls) only h = absurd h
+at_params words old new (outcomes.TooLong ForeReport) only h = absurd h
+at_params words old new (outcomes.TooLong BackReport) only h = absurd h
 at_params words old new (outcomes.ReadFault Trace) only h = absurd h
 at_params words old new (outcomes.ReadFault Calls) only h = absurd h
+at_params words old new (outcomes.ReadFault ForeReport) only h = absurd h
+at_params words old new (outcomes.ReadFault BackReport) only h = absurd h
 at_params words old new (outcomes.WriteFault output) only h = absurd h
 
 -- why the trace was not read
-pub at_trace : (words : ReplayTerms) (old mid new : DeskView) (outcome : Outcome) (before : AcceptsDisk old words.params) → ChangesInput Params old mid → ChangesInput Trace mid new
-    → StopsTrace words.trace words.device before.disk mid new outcome → HasCause words old new outcome
+pub at_trace : (words : SourceTerms) (old mid new : DeskView) (outcome : Outcome) (before : AcceptsDisk old words.params) → ChangesInput Params old mid → ChangesInput Trace mid new
+    → StopsTrace words.trace words.device before.disk mid new outcome → StopsInputs (files_alone words) old new outcome
 at_trace words old mid new (outcomes.Trace fault) before first second h = (
   record {
     before = before;
@@ -108,25 +130,31 @@ at_trace words old mid new (outcomes.ReadFault Trace) before first second h = (
   record { before = before; given = refl; rose = subst (λ (v : InputView). Rose v.faults (new.inputs Trace).faults) (first.inputs Trace trace_is_no_params) h },
   ends_at_trace old mid new first second,
 )
-at_trace words old mid new outcomes.NoMemory before first second h = inl (record { input = Trace; before = before; ends = ends_at_trace old mid new first second })
+at_trace words old mid new outcomes.NoMemory before first second h = (record { input = Trace; before = before; ends = ends_at_trace old mid new first second })
 at_trace words old mid new (outcomes.Done run) before first second h = absurd h
 at_trace words old mid new (outcomes.Made n) before first second h = absurd h
+at_trace words old mid new (outcomes.Checked verdict) before first second h = absurd h
+at_trace words old mid new (outcomes.Reports fault) before first second h = absurd h
 at_trace words old mid new (outcomes.Usage fault) before first second h = absurd h
 at_trace words old mid new (outcomes.Params fault) before first second h = absurd h
 at_trace words old mid new (outcomes.Calls fault) before first second h = absurd h
 at_trace words old mid new (outcomes.TooLong Params) before first second h = absurd h
 at_trace words old mid new (outcomes.TooLong Calls) before first second h = absurd h
+at_trace words old mid new (outcomes.TooLong ForeReport) before first second h = absurd h
+at_trace words old mid new (outcomes.TooLong BackReport) before first second h = absurd h
 at_trace words old mid new (outcomes.ReadFault Params) before first second h = absurd h
 at_trace words old mid new (outcomes.ReadFault Calls) before first second h = absurd h
+at_trace words old mid new (outcomes.ReadFault ForeReport) before first second h = absurd h
+at_trace words old mid new (outcomes.ReadFault BackReport) before first second h = absurd h
 at_trace words old mid new (outcomes.WriteFault output) before first second h = absurd h
 
 has_name : (given : Option (List ℕ)) (name : List ℕ) → given ≡ Some name → is_some given ≡ true
 has_name given name e = cc
 
 -- why the script of this name was not read
-at_calls : (words : ReplayTerms) (old mid late new : DeskView) (outcome : Outcome) (before : AcceptsTrace old words) (name : List ℕ) → words.calls ≡ Some name
+at_calls : (words : SourceTerms) (old mid late new : DeskView) (outcome : Outcome) (before : AcceptsTrace old words) (name : List ℕ) → words.calls ≡ Some name
     → ChangesInput Params old mid → ChangesInput Trace mid late → ChangesInput Calls late new
-    → StopsCalls name before.params.disk (length before.trace.requests) late new outcome → HasCause words old new outcome
+    → StopsCalls name before.params.disk (length before.trace.requests) late new outcome → StopsInputs (files_alone words) old new outcome
 at_calls words old mid late new (outcomes.Calls fault) before name given first second third h = (
   record {
     before = before;
@@ -158,23 +186,44 @@ at_calls words old mid late new (outcomes.ReadFault Calls) before name given fir
   },
   ends_at_calls old mid late new first second third,
 )
-at_calls words old mid late new outcomes.NoMemory before name given first second third h = inl (record { input = Calls; before = before; ends = ends_at_calls old mid late new first second third })
+at_calls words old mid late new outcomes.NoMemory before name given first second third h = (record { input = Calls; before = before; ends = ends_at_calls old mid late new first second third })
 at_calls words old mid late new (outcomes.Done run) before name given first second third h = absurd h
 at_calls words old mid late new (outcomes.Made n) before name given first second third h = absurd h
+at_calls words old mid late new (outcomes.Checked verdict) before name given first second third h = absurd h
+at_calls words old mid late new (outcomes.Reports fault) before name given first second third h = absurd h
 at_calls words old mid late new (outcomes.Usage fault) before name given first second third h = absurd h
 at_calls words old mid late new (outcomes.Params fault) before name given first second third h = absurd h
 at_calls words old mid late new (outcomes.Trace fault) before name given first second third h = absurd h
 at_calls words old mid late new (outcomes.TooLong Params) before name given first second third h = absurd h
 at_calls words old mid late new (outcomes.TooLong Trace) before name given first second third h = absurd h
+at_calls words old mid late new (outcomes.TooLong ForeReport) before name given first second third h = absurd h
+at_calls words old mid late new (outcomes.TooLong BackReport) before name given first second third h = absurd h
 at_calls words old mid late new (outcomes.ReadFault Params) before name given first second third h = absurd h
 at_calls words old mid late new (outcomes.ReadFault Trace) before name given first second third h = absurd h
+at_calls words old mid late new (outcomes.ReadFault ForeReport) before name given first second third h = absurd h
+at_calls words old mid late new (outcomes.ReadFault BackReport) before name given first second third h = absurd h
 at_calls words old mid late new (outcomes.WriteFault output) before name given first second third h = absurd h
 
 -- why the script that is given was not read
-pub at_script : (words : ReplayTerms) (old mid late new : DeskView) (outcome : Outcome) (before : AcceptsTrace old words)
+pub at_script : (words : SourceTerms) (old mid late new : DeskView) (outcome : Outcome) (before : AcceptsTrace old words)
     → ChangesInput Params old mid → ChangesInput Trace mid late → ChangesInput Calls late new
-    → StopsScript words.calls before.params.disk (length before.trace.requests) late new outcome → HasCause words old new outcome
+    → StopsScript words.calls before.params.disk (length before.trace.requests) late new outcome → StopsInputs (files_alone words) old new outcome
 at_script words old mid late new outcome before first second third h = at_calls words old mid late new outcome before h.0 h.1 first second third h.2
+
+-- why the files of a replay were not read
+pub replay_stopped : (terms : ReplayTerms) (old new : DeskView) (outcome : Outcome) → StopsInputs (replay_inputs terms) old new outcome → HasCause terms old new outcome
+replay_stopped terms old new (outcomes.Params fault) h = h
+replay_stopped terms old new (outcomes.Trace fault) h = h
+replay_stopped terms old new (outcomes.Calls fault) h = h
+replay_stopped terms old new (outcomes.Reports fault) h = h
+replay_stopped terms old new (outcomes.TooLong input) h = h
+replay_stopped terms old new (outcomes.ReadFault input) h = h
+replay_stopped terms old new outcomes.NoMemory h = inl h
+replay_stopped terms old new (outcomes.Done run) h = absurd h
+replay_stopped terms old new (outcomes.Made n) h = absurd h
+replay_stopped terms old new (outcomes.Checked verdict) h = absurd h
+replay_stopped terms old new (outcomes.Usage fault) h = absurd h
+replay_stopped terms old new (outcomes.WriteFault output) h = absurd h
 
 -- why the reports of a run were not written
 pub at_reports : (words : ReplayTerms) (run : Run) (old mid new : DeskView) (outcome : Outcome) (is_run : IsRunOf old words run) → KeepsReports old mid
@@ -185,6 +234,8 @@ at_reports words run old mid new outcomes.NoMemory is_run keeps h =
     inr (record { run = run; is_run = is_run; stops = stops_reports old mid new new keeps (λ output no_note. refl) words is_run.files run outcomes.NoMemory h })
 at_reports words run old mid new (outcomes.Done other) is_run keeps h = absurd h
 at_reports words run old mid new (outcomes.Made n) is_run keeps h = absurd h
+at_reports words run old mid new (outcomes.Checked verdict) is_run keeps h = absurd h
+at_reports words run old mid new (outcomes.Reports fault) is_run keeps h = absurd h
 at_reports words run old mid new (outcomes.Usage fault) is_run keeps h = absurd h
 at_reports words run old mid new (outcomes.Params fault) is_run keeps h = absurd h
 at_reports words run old mid new (outcomes.Trace fault) is_run keeps h = absurd h

@@ -11,3 +11,5 @@ pub mod Completeness
 pub mod Unnamed
 pub mod OneRun
 pub mod Opened
+mod Checking
+mod RightReports

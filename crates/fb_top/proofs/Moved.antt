@@ -9,7 +9,7 @@ use Rattle.fb_words.specs.Command.{ReplayTerms}
 use Rattle.fb_top.specs.declared.outcome.Outcome.{Outcome}
 use Rattle.fb_top.specs.declared.outcome.Outcome.TheVariants as outcomes
 use Rattle.fb_top.specs.Read.{Files}
-use Rattle.fb_top.specs.Written.{HoldsWhole, HoldsFront, KeepsReports, KeepsBut, KeepsButBoth, CutsOff, CutsSecond, OutputFaultsRose}
+use Rattle.fb_top.specs.Written.{HoldsWhole, HoldsFront, KeepsReports, KeepsBut, KeepsButBoth, CutsOff, CutsSecond, OutputFaultsRose, StopsText}
 use Rattle.fb_top.specs.Done.{HoldsWanted, HoldsReports, StopsReports, CutsFore, CutsBack, fore_told, back_told}
 
 pub fore_is_no_note : Fore ≢ Note
@@ -53,6 +53,20 @@ module _ (old mid late new : DeskView) (first : KeepsReports old mid) (last : Ke
     front = front two other_name other two_no_note cut.front;
   }
 
+  pub stops_text : (which : Output) (name text : List ℕ) (outcome : Outcome) → which ≢ Note → StopsText which name text mid late outcome → StopsText which name text old new outcome
+  stops_text which name text (outcomes.WriteFault output) no_note h = (h.0, faults_rose which no_note h.1, front which name text no_note h.2)
+  stops_text which name text outcomes.NoMemory no_note h = front which name text no_note h
+  stops_text which name text (outcomes.Done run) no_note h = absurd h
+  stops_text which name text (outcomes.Made n) no_note h = absurd h
+  stops_text which name text (outcomes.Checked verdict) no_note h = absurd h
+  stops_text which name text (outcomes.Usage fault) no_note h = absurd h
+  stops_text which name text (outcomes.Params fault) no_note h = absurd h
+  stops_text which name text (outcomes.Trace fault) no_note h = absurd h
+  stops_text which name text (outcomes.Calls fault) no_note h = absurd h
+  stops_text which name text (outcomes.Reports fault) no_note h = absurd h
+  stops_text which name text (outcomes.TooLong input) no_note h = absurd h
+  stops_text which name text (outcomes.ReadFault input) no_note h = absurd h
+
   wanted : (given : Option (List ℕ)) (text : List ℕ) → HoldsWanted given text (mid.outputs Back) (late.outputs Back) → HoldsWanted given text (old.outputs Back) (new.outputs Back)
   wanted None text same = last Back back_is_no_note ∙ same ∙ first Back back_is_no_note
   wanted (Some name) text holds = whole Back name text back_is_no_note holds
@@ -82,6 +96,8 @@ module _ (old mid late new : DeskView) (first : KeepsReports old mid) (last : Ke
   stops_reports terms files run (outcomes.WriteFault MadeCalls) stops = absurd stops
   stops_reports terms files run (outcomes.Done other) stops = absurd stops
   stops_reports terms files run (outcomes.Made n) stops = absurd stops
+  stops_reports terms files run (outcomes.Checked verdict) stops = absurd stops
+  stops_reports terms files run (outcomes.Reports fault) stops = absurd stops
   stops_reports terms files run (outcomes.Usage fault) stops = absurd stops
   stops_reports terms files run (outcomes.Params fault) stops = absurd stops
   stops_reports terms files run (outcomes.Trace fault) stops = absurd stops

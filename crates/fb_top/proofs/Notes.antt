@@ -1,26 +1,28 @@
 -- Notes, and what stays where one is written.
 use Rattle.std.proofs.Common.{◌≡◌, ℕ, ◌+◌, ◌≤◌, List, [], ◌∷◌, ◌++◌, length, take, drop, refl, sym, ap, ◌∙◌, inl, inr, append_assoc, append-nil, Option, Some, None, Result, Ok, Err, subst}
-use Rattle.std.specs.Prelude.{IfSome, OnOk, OnErr, slice_get}
+use Rattle.std.specs.Prelude.{IfSome, OnOk, OnErr, codes, slice_get}
 use Rattle.std.proofs.lemmas.List.{drop_more, drop_all, take-append-drop}
 use Rattle.std.proofs.lemmas.Option.{slice_get_within, get_or_from_slice_get}
-use Rattle.fb_words.specs.Command.{Terms, ReplayTerms, replays, makes}
+use Rattle.fb_words.specs.Command.{Terms, ReplayTerms, CheckTerms, replays, makes, checks}
 use Rattle.fb_words.specs.declared.fault.UsageFault.{UsageFault}
 use Rattle.fb_desk.specs.Calls.{ChangesOutput, Rose, behind}
 use Rattle.fb_desk.specs.View.{DeskView, InputView, OutputView}
 use Rattle.fb_desk.specs.declared.desk.Input.{Input}
-use Rattle.fb_desk.specs.declared.desk.Input.TheVariants.{Params, Trace, Calls}
-use Rattle.fb_desk.specs.declared.desk.Output.TheVariants.{Note}
+use Rattle.fb_desk.specs.declared.desk.Input.TheVariants.{Params, Trace, Calls, ForeReport, BackReport}
+use Rattle.fb_desk.specs.declared.desk.Output.TheVariants.{Fore, Note}
 use Rattle.fb_top.specs.declared.outcome.Outcome.{Outcome}
 use Rattle.fb_top.specs.declared.outcome.Outcome.TheVariants as outcomes
 use Rattle.fb_top.specs.Streams.{AppendsFront}
 use Rattle.fb_top.specs.Written.{KeepsReports}
 use Rattle.fb_top.specs.Done.{IsCutShort}
-use Rattle.fb_top.specs.Causes.{EndsAt, HasCause, KeepsLater}
+use Rattle.fb_top.specs.Sources.{InputTerms, replay_inputs, check_inputs}
+use Rattle.fb_top.specs.Checked.{IsVerdictCut, verdict_line}
+use Rattle.fb_top.specs.Causes.{CheckHasCause, EndsAt, HasCause, KeepsLater, RunsOut, StopsInputs, input_of}
 use Rattle.fb_top.specs.Answers.{AnswersWords}
 use Rattle.fb_top.specs.Noted.{IsNote}
 use Rattle.fb_top.proofs.Fronts.{rose_since}
 use Rattle.fb_top.proofs.Making.{keeps_reports, keeps_still, make_cause_still}
-use Rattle.fb_top.proofs.Moved.{holds_reports, stops_reports}
+use Rattle.fb_top.proofs.Moved.{fore_is_no_note, holds_reports, keeps_but, stops_reports, stops_text, whole}
 
 next_byte : (key : List ℕ) (i byte : ℕ) → slice_get key i ≡ Some byte → drop i key ≡ byte ∷ drop (i + 1) key
 next_byte key i byte e = drop_more key i byte (slice_get_within key i byte e) ∙ ap (λ y. y ∷ drop (i + 1) key) (get_or_from_slice_get key i byte byte e)
@@ -57,12 +59,35 @@ note_written (Ok x) first old new text line empty is whole front rose = whole_no
 note_written (Err e) first old new text line empty is whole front rose = cut_note first new old.written new.written text line empty is front rose
 
 later_still : (input : Input) (old mid new : DeskView) → KeepsLater input old mid → ChangesOutput Note mid new → KeepsLater input old new
-later_still Params old mid new later only = (only.inputs Trace ∙ later.0, only.inputs Calls ∙ later.1)
-later_still Trace old mid new later only = only.inputs Calls ∙ later
-later_still Calls old mid new later only = tt
+later_still Params old mid new later only = (only.inputs Trace ∙ later.0, only.inputs Calls ∙ later.1, only.inputs ForeReport ∙ later.2, only.inputs BackReport ∙ later.3)
+later_still Trace old mid new later only = (only.inputs Calls ∙ later.0, only.inputs ForeReport ∙ later.1, only.inputs BackReport ∙ later.2)
+later_still Calls old mid new later only = (only.inputs ForeReport ∙ later.0, only.inputs BackReport ∙ later.1)
+later_still ForeReport old mid new later only = only.inputs BackReport ∙ later
+later_still BackReport old mid new later only = tt
 
 ends_still : (input : Input) (old mid new : DeskView) → EndsAt input old mid → ChangesOutput Note mid new → EndsAt input old new
 ends_still input old mid new ends only = record { later = later_still input old mid new ends.later only; reports = keeps_still old mid new ends.reports only }
+
+module _ (terms : InputTerms) (old mid new : DeskView) (only : ChangesOutput Note mid new) where
+  out_still : RunsOut old mid terms → RunsOut old new terms
+  out_still out = record { input = out.input; before = out.before; ends = ends_still out.input old mid new out.ends only }
+
+  inputs_still : (outcome : Outcome) → StopsInputs terms old mid outcome → StopsInputs terms old new outcome
+  inputs_still (outcomes.Params fault) h = (h.0, ends_still Params old mid new h.1 only)
+  inputs_still (outcomes.Trace fault) h = (h.0, ends_still Trace old mid new h.1 only)
+  inputs_still (outcomes.Calls fault) h = (h.0, ends_still Calls old mid new h.1 only)
+  inputs_still (outcomes.Reports fault) h = (h.0, ends_still (input_of fault.report) old mid new h.1 only)
+  inputs_still (outcomes.TooLong input) h = (h.0, ends_still input old mid new h.1 only)
+  inputs_still (outcomes.ReadFault input) h = (
+    record { before = h.0.before; given = h.0.given; rose = subst (λ (v : InputView). Rose (old.inputs input).faults v.faults) (sym (only.inputs input)) h.0.rose },
+    ends_still input old mid new h.1 only,
+  )
+  inputs_still outcomes.NoMemory h = out_still h
+  inputs_still (outcomes.Done run) h = absurd h
+  inputs_still (outcomes.Made n) h = absurd h
+  inputs_still (outcomes.Checked verdict) h = absurd h
+  inputs_still (outcomes.Usage fault) h = absurd h
+  inputs_still (outcomes.WriteFault output) h = absurd h
 
 module _ (terms : ReplayTerms) (old mid new : DeskView) (only : ChangesOutput Note mid new) where
   same : KeepsReports old old
@@ -75,24 +100,64 @@ module _ (terms : ReplayTerms) (old mid new : DeskView) (only : ChangesOutput No
     stops = stops_reports old old mid new same (keeps_reports mid new only) terms cut.is_run.files cut.run outcome cut.stops;
   }
 
+  stop_still : (outcome : Outcome) → StopsInputs (replay_inputs terms) old mid outcome → StopsInputs (replay_inputs terms) old new outcome
+  stop_still outcome h = inputs_still (replay_inputs terms) old mid new only outcome h
+
   cause_still : (outcome : Outcome) → HasCause terms old mid outcome → HasCause terms old new outcome
   cause_still (outcomes.Done run) h = record { is_run = h.is_run; reports = holds_reports old old mid new same (keeps_reports mid new only) terms h.is_run.files run h.reports }
-  cause_still (outcomes.Params fault) h = (h.0, ends_still Params old mid new h.1 only)
-  cause_still (outcomes.Trace fault) h = (h.0, ends_still Trace old mid new h.1 only)
-  cause_still (outcomes.Calls fault) h = (h.0, ends_still Calls old mid new h.1 only)
-  cause_still (outcomes.TooLong input) h = (h.0, ends_still input old mid new h.1 only)
-  cause_still (outcomes.ReadFault input) h = (
-    record { before = h.0.before; given = h.0.given; rose = subst (λ (v : InputView). Rose (old.inputs input).faults v.faults) (sym (only.inputs input)) h.0.rose },
-    ends_still input old mid new h.1 only,
-  )
+  cause_still (outcomes.Params fault) h = stop_still (outcomes.Params fault) h
+  cause_still (outcomes.Trace fault) h = stop_still (outcomes.Trace fault) h
+  cause_still (outcomes.Calls fault) h = stop_still (outcomes.Calls fault) h
+  cause_still (outcomes.Reports fault) h = stop_still (outcomes.Reports fault) h
+  cause_still (outcomes.TooLong input) h = stop_still (outcomes.TooLong input) h
+  cause_still (outcomes.ReadFault input) h = stop_still (outcomes.ReadFault input) h
   cause_still (outcomes.WriteFault output) h = cut_short_still (outcomes.WriteFault output) h
-  cause_still outcomes.NoMemory (inl out) = inl (record { input = out.input; before = out.before; ends = ends_still out.input old mid new out.ends only })
+  cause_still outcomes.NoMemory (inl out) = inl (out_still (replay_inputs terms) old mid new only out)
   cause_still outcomes.NoMemory (inr cut) = inr (cut_short_still outcomes.NoMemory cut)
   cause_still (outcomes.Made n) h = absurd h
+  cause_still (outcomes.Checked verdict) h = absurd h
   cause_still (outcomes.Usage fault) h = absurd h
+
+module _ (terms : CheckTerms) (old mid new : DeskView) (only : ChangesOutput Note mid new) where
+  keeps : KeepsReports mid new
+  keeps = keeps_reports mid new only
+
+  unchanged : KeepsReports old old
+  unchanged = λ output no_note. refl
+
+  verdict_cut_still : (outcome : Outcome) → IsVerdictCut old mid terms outcome → IsVerdictCut old new terms outcome
+  verdict_cut_still outcome cut = record {
+    verdict = cut.verdict;
+    is_verdict = cut.is_verdict;
+    others = keeps_but old old mid new unchanged keeps Fore cut.others;
+    stops = stops_text old old mid new unchanged keeps Fore (codes "-") (verdict_line cut.verdict) outcome fore_is_no_note cut.stops;
+  }
+
+  check_stop_still : (outcome : Outcome) → StopsInputs (check_inputs terms) old mid outcome → StopsInputs (check_inputs terms) old new outcome
+  check_stop_still outcome h = inputs_still (check_inputs terms) old mid new only outcome h
+
+  check_still : (outcome : Outcome) → CheckHasCause terms old mid outcome → CheckHasCause terms old new outcome
+  check_still (outcomes.Checked verdict) h = record {
+    is_verdict = h.is_verdict;
+    others = keeps_but old old mid new unchanged keeps Fore h.others;
+    line = whole old old mid new unchanged keeps Fore (codes "-") (verdict_line verdict) fore_is_no_note h.line;
+  }
+  check_still (outcomes.Params fault) h = check_stop_still (outcomes.Params fault) h
+  check_still (outcomes.Trace fault) h = check_stop_still (outcomes.Trace fault) h
+  check_still (outcomes.Calls fault) h = check_stop_still (outcomes.Calls fault) h
+  check_still (outcomes.Reports fault) h = check_stop_still (outcomes.Reports fault) h
+  check_still (outcomes.TooLong input) h = check_stop_still (outcomes.TooLong input) h
+  check_still (outcomes.ReadFault input) h = check_stop_still (outcomes.ReadFault input) h
+  check_still (outcomes.WriteFault output) h = verdict_cut_still (outcomes.WriteFault output) h
+  check_still outcomes.NoMemory (inl out) = inl (out_still (check_inputs terms) old mid new only out)
+  check_still outcomes.NoMemory (inr cut) = inr (verdict_cut_still outcomes.NoMemory cut)
+  check_still (outcomes.Done run) h = absurd h
+  check_still (outcomes.Made n) h = absurd h
+  check_still (outcomes.Usage fault) h = absurd h
 
 -- an answer keeps its cause where nothing but the note changes
 pub answer_still : (reading : Result Terms UsageFault) (old mid new : DeskView) (outcome : Outcome) → ChangesOutput Note mid new → AnswersWords reading old mid outcome → AnswersWords reading old new outcome
 answer_still (Ok (replays terms)) old mid new outcome only h = cause_still terms old mid new only outcome h
 answer_still (Ok (makes terms)) old mid new outcome only h = make_cause_still terms old mid new only outcome h
+answer_still (Ok (checks terms)) old mid new outcome only h = check_still terms old mid new only outcome h
 answer_still (Err fault) old mid new outcome only h = (h.0, keeps_still old mid new h.1 only)

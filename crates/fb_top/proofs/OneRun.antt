@@ -11,13 +11,13 @@ use Rattle.fb_params.specs.Reading.{params_of}
 use Rattle.fb_trace.specs.Reading.{Accepted, trace_of}
 use Rattle.fb_calls.specs.Reading.{Accepted as Script, calls_of}
 use Rattle.fb_desk.specs.View.{DeskView}
-use Rattle.fb_words.specs.Command.{ReplayTerms}
+use Rattle.fb_top.specs.Sources.{SourceTerms}
 use Rattle.fb_top.specs.Read.{Accepts, Files, ReadsDisk, ReadsTrace, ReadsScript}
 use Rattle.fb_top.specs.Untouched.{HoldAlike, HoldOneInput}
 use Rattle.fb_top.proofs.Completeness.{same_ok}
 
 -- what was read are the bytes that are told
-held_here : (told : Option (List ℕ)) (bytes here : List ℕ) → told ≡ Some here → IfSome told (λ held. bytes ≡ held) → bytes ≡ here
+pub held_here : (told : Option (List ℕ)) (bytes here : List ℕ) → told ≡ Some here → IfSome told (λ held. bytes ≡ held) → bytes ≡ here
 held_here told bytes here e is = subst (λ (t : Option (List ℕ)). IfSome t (λ held. bytes ≡ held)) e is
 
 both_held : (one other : DeskView) (name : List ℕ) (bytes bytes' : List ℕ) → HoldAlike one other name → IfSome (one.held name) (λ held. bytes ≡ held) → IfSome (other.held name) (λ held. bytes' ≡ held) → bytes ≡ bytes'
@@ -90,7 +90,7 @@ all_one a b disk latent trace script =
     ∙ ap (λ s. record { disk = b.disk; latent = b.latent; trace = b.trace; script = s }) script
 
 -- the files of a replay
-pub one_reading : (one other : DeskView) (terms : ReplayTerms) (a b : Files) → HoldOneInput one other terms → Accepts one terms a → Accepts other terms b → a ≡ b
+pub one_reading : (one other : DeskView) (terms : SourceTerms) (a b : Files) → HoldOneInput one other terms → Accepts one terms a → Accepts other terms b → a ≡ b
 one_reading one other terms a b alike reads reads' =
     let value = one_value one other terms.params a.disk b.disk a.latent b.latent alike.params reads.disk reads'.disk in
     let disk : a.disk ≡ b.disk = one_disk one other terms.params a.disk b.disk a.latent b.latent alike.params reads.disk reads'.disk in

@@ -38,6 +38,8 @@ module _ (terms : ReplayTerms) (files : Files) (run : Run) where
   stopped_fore old new (outcomes.WriteFault MadeCalls) only h = absurd (let other = h.0 in cc)
   stopped_fore old new (outcomes.Done other) only h = absurd h
   stopped_fore old new (outcomes.Made n) only h = absurd h
+  stopped_fore old new (outcomes.Checked verdict) only h = absurd h
+  stopped_fore old new (outcomes.Reports fault) only h = absurd h
   stopped_fore old new (outcomes.Usage fault) only h = absurd h
   stopped_fore old new (outcomes.Params fault) only h = absurd h
   stopped_fore old new (outcomes.Trace fault) only h = absurd h
@@ -63,6 +65,8 @@ module _ (terms : ReplayTerms) (files : Files) (run : Run) where
     stopped_back (outcomes.WriteFault MadeCalls) name given h = absurd (let other = h.0 in cc)
     stopped_back (outcomes.Done other) name given h = absurd h
     stopped_back (outcomes.Made n) name given h = absurd h
+    stopped_back (outcomes.Checked verdict) name given h = absurd h
+    stopped_back (outcomes.Reports fault) name given h = absurd h
     stopped_back (outcomes.Usage fault) name given h = absurd h
     stopped_back (outcomes.Params fault) name given h = absurd h
     stopped_back (outcomes.Trace fault) name given h = absurd h

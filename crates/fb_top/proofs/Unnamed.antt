@@ -3,49 +3,57 @@ use Rattle.std.proofs.Common.{◌≡◌, ◌≢◌, ◌∙◌, Some, None, List,
 use Rattle.std.specs.Prelude.{Result, Ok, Err}
 use Rattle.fb_desk.specs.Calls.{ChangesInput, ChangesOutput}
 use Rattle.fb_desk.specs.View.{DeskView}
-use Rattle.fb_desk.specs.declared.desk.Input.TheVariants.{Params, Trace, Calls}
+use Rattle.fb_desk.specs.declared.desk.Input.TheVariants.{Params, Trace, Calls, ForeReport, BackReport}
 use Rattle.fb_desk.specs.declared.desk.Output.{Output}
-use Rattle.fb_words.specs.Command.{ReplayTerms, Terms, replays, makes}
+use Rattle.fb_words.specs.Command.{Terms, replays, makes, checks}
+use Rattle.fb_top.specs.Sources.{InputTerms, SourceTerms, files_alone}
 use Rattle.fb_words.specs.declared.fault.UsageFault.{UsageFault}
 use Rattle.fb_top.specs.Causes.{KeepsLater}
 use Rattle.fb_top.specs.Unnamed.{KeepsInputs, KeepsUnnamed, LeavesUnnamed}
 use Rattle.fb_top.proofs.Later.{trace_is_no_params, calls_are_no_params, calls_are_no_trace}
 
-is_named : (name : List ℕ) → Some name ≢ None
+pub is_named : (name : List ℕ) → Some name ≢ None
 is_named name e = cc
 
 -- the parameter file was read
-pub unnamed_at_params : (terms : ReplayTerms) (old new : DeskView) → ChangesInput Params old new → KeepsUnnamed terms old new
+pub unnamed_at_params : (terms : SourceTerms) (old new : DeskView) → ChangesInput Params old new → KeepsUnnamed (files_alone terms) old new
 unnamed_at_params terms old new only Params e = absurd (is_named terms.params e)
 unnamed_at_params terms old new only Trace e = only.inputs Trace trace_is_no_params
 unnamed_at_params terms old new only Calls e = only.inputs Calls calls_are_no_params
+unnamed_at_params terms old new only ForeReport e = only.inputs ForeReport (λ e. cc)
+unnamed_at_params terms old new only BackReport e = only.inputs BackReport (λ e. cc)
 
 -- and the trace
-pub unnamed_at_trace : (terms : ReplayTerms) (old mid new : DeskView) → ChangesInput Params old mid → ChangesInput Trace mid new → KeepsUnnamed terms old new
+pub unnamed_at_trace : (terms : SourceTerms) (old mid new : DeskView) → ChangesInput Params old mid → ChangesInput Trace mid new → KeepsUnnamed (files_alone terms) old new
 unnamed_at_trace terms old mid new first second Params e = absurd (is_named terms.params e)
 unnamed_at_trace terms old mid new first second Trace e = absurd (is_named terms.trace e)
 unnamed_at_trace terms old mid new first second Calls e = second.inputs Calls calls_are_no_trace ∙ first.inputs Calls calls_are_no_params
+unnamed_at_trace terms old mid new first second ForeReport e = second.inputs ForeReport (λ e. cc) ∙ first.inputs ForeReport (λ e. cc)
+unnamed_at_trace terms old mid new first second BackReport e = second.inputs BackReport (λ e. cc) ∙ first.inputs BackReport (λ e. cc)
 
 -- and the script, where it has a name
-pub unnamed_at_calls : (terms : ReplayTerms) (old mid late new : DeskView) → ChangesInput Params old mid → ChangesInput Trace mid late → (terms.calls ≡ None → new.inputs Calls ≡ late.inputs Calls) → KeepsUnnamed terms old new
-unnamed_at_calls terms old mid late new first second third Params e = absurd (is_named terms.params e)
-unnamed_at_calls terms old mid late new first second third Trace e = absurd (is_named terms.trace e)
-unnamed_at_calls terms old mid late new first second third Calls e = third e ∙ second.inputs Calls calls_are_no_trace ∙ first.inputs Calls calls_are_no_params
+pub unnamed_at_calls : (terms : SourceTerms) (old mid late new : DeskView) → ChangesInput Params old mid → ChangesInput Trace mid late → ChangesInput Calls late new → (terms.calls ≡ None → new.inputs Calls ≡ late.inputs Calls) → KeepsUnnamed (files_alone terms) old new
+unnamed_at_calls terms old mid late new first second third kept Params e = absurd (is_named terms.params e)
+unnamed_at_calls terms old mid late new first second third kept Trace e = absurd (is_named terms.trace e)
+unnamed_at_calls terms old mid late new first second third kept Calls e = kept e ∙ second.inputs Calls calls_are_no_trace ∙ first.inputs Calls calls_are_no_params
+unnamed_at_calls terms old mid late new first second third kept ForeReport e = third.inputs ForeReport (λ e. cc) ∙ second.inputs ForeReport (λ e. cc) ∙ first.inputs ForeReport (λ e. cc)
+unnamed_at_calls terms old mid late new first second third kept BackReport e = third.inputs BackReport (λ e. cc) ∙ second.inputs BackReport (λ e. cc) ∙ first.inputs BackReport (λ e. cc)
 
 -- a make reads the parameter file alone
 pub later_at_params : (old new : DeskView) → ChangesInput Params old new → KeepsLater Params old new
-later_at_params old new only = (only.inputs Trace trace_is_no_params, only.inputs Calls calls_are_no_params)
+later_at_params old new only = (only.inputs Trace trace_is_no_params, only.inputs Calls calls_are_no_params, only.inputs ForeReport (λ e. cc), only.inputs BackReport (λ e. cc))
 
 -- outputs leave the inputs alone
 pub later_after : (which : Output) (old mid new : DeskView) → KeepsLater Params old mid → ChangesOutput which mid new → KeepsLater Params old new
-later_after which old mid new keeps only = (only.inputs Trace ∙ keeps.0, only.inputs Calls ∙ keeps.1)
+later_after which old mid new keeps only = (only.inputs Trace ∙ keeps.0, only.inputs Calls ∙ keeps.1, only.inputs ForeReport ∙ keeps.2, only.inputs BackReport ∙ keeps.3)
 
 pub unnamed_after : (reading : Result Terms UsageFault) (which : Output) (old mid new : DeskView) → LeavesUnnamed reading old mid → ChangesOutput which mid new → LeavesUnnamed reading old new
 unnamed_after (Ok (replays terms)) which old mid new keeps only = λ input unnamed. only.inputs input ∙ keeps input unnamed
 unnamed_after (Ok (makes terms)) which old mid new keeps only = later_after which old mid new keeps only
+unnamed_after (Ok (checks terms)) which old mid new keeps only = λ input unnamed. only.inputs input ∙ keeps input unnamed
 unnamed_after (Err fault) which old mid new keeps only = λ input. only.inputs input ∙ keeps input
 
-pub unnamed_written : (terms : ReplayTerms) (old mid new : DeskView) → KeepsUnnamed terms old mid → KeepsInputs mid new → KeepsUnnamed terms old new
+pub unnamed_written : (terms : InputTerms) (old mid new : DeskView) → KeepsUnnamed terms old mid → KeepsInputs mid new → KeepsUnnamed terms old new
 unnamed_written terms old mid new unnamed inputs = λ input not_named. inputs input ∙ unnamed input not_named
 
 pub inputs_after : (one two : Output) (old mid new : DeskView) → ChangesOutput one old mid → ChangesOutput two mid new → KeepsInputs old new

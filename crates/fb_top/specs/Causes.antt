@@ -4,29 +4,33 @@ use Rattle.fb_service.specs.declared.disk.Disk.{Disk}
 use Rattle.fb_desk.specs.Calls.{Rose}
 use Rattle.fb_desk.specs.View.{DeskView}
 use Rattle.fb_desk.specs.declared.desk.Input.{Input}
-use Rattle.fb_desk.specs.declared.desk.Input.TheVariants.{Params, Trace, Calls}
-use Rattle.fb_words.specs.Command.{ReplayTerms}
+use Rattle.fb_desk.specs.declared.desk.Input.TheVariants.{Params, Trace, Calls, ForeReport, BackReport}
+use Rattle.fb_words.specs.Command.{ReplayTerms, CheckTerms}
 use Rattle.fb_trace.specs.Reading.{Accepted}
 use Rattle.fb_trace.specs.declared.trace.TraceFault.{TraceFault}
 use Rattle.fb_calls.specs.declared.fault.CallsFault.{CallsFault}
+use Rattle.fb_report.specs.Grammar.{Grammar, fore_grammar, back_grammar}
+use Rattle.fb_report.specs.declared.reading.Report.{Report}
+use Rattle.fb_report.specs.declared.reading.Report.TheVariants as reports
+use Rattle.fb_report.specs.declared.reading.ReportsFault.{ReportsFault}
+use Rattle.fb_report.specs.declared.reading.ReportsError.{ReportsError}
+use Rattle.fb_report.specs.declared.reading.ReportsError.TheVariants as errors
 use Rattle.fb_top.specs.declared.outcome.Outcome.{Outcome}
 use Rattle.fb_top.specs.declared.outcome.Outcome.TheVariants as outcomes
-use Rattle.fb_top.specs.Read.{ReadsDisk, ReadsTrace, RefusesDisk, RefusesTrace, RefusesCalls}
+use Rattle.fb_top.specs.Sources.{SourceTerms, InputTerms, name_of, replay_inputs, check_inputs}
+use Rattle.fb_top.specs.Read.{Files, Accepts, ReadsDisk, ReadsTrace, ReadsReport, RefusesDisk, RefusesTrace, RefusesCalls, RefusesReport}
 use Rattle.fb_top.specs.Streams.{IsLonger}
 use Rattle.fb_top.specs.Written.{KeepsReports}
 use Rattle.fb_top.specs.Done.{IsDone, IsCutShort}
-
--- the name under which the words give an input, if they give it
-abbrev pub name_of : ReplayTerms → Input → Option (List ℕ)
-name_of terms Params = Some terms.params
-name_of terms Trace = Some terms.trace
-name_of terms Calls = terms.calls
+use Rattle.fb_top.specs.Checked.{IsChecked, IsVerdictCut}
 
 -- how many bytes an input may have
 abbrev pub limit_of : Input → ℕ
 limit_of Params = 2 ^ 20
 limit_of Trace = 2 ^ 28
 limit_of Calls = 2 ^ 26
+limit_of ForeReport = 2 ^ 28
+limit_of BackReport = 2 ^ 28
 
 -- a count of faults rose
 abbrev pub FaultsRose : DeskView → DeskView → Input → Type 0
@@ -39,22 +43,40 @@ pub record AcceptsDisk (desk : DeskView) (name : List ℕ) : Type 0 where
   pub reads_disk : ReadsDisk desk name disk latent
 
 -- and a trace that is accepted for it
-pub record AcceptsTrace (desk : DeskView) (terms : ReplayTerms) : Type 0 where
+pub record AcceptsTrace (desk : DeskView) (terms : SourceTerms) : Type 0 where
   pub params : AcceptsDisk desk terms.params
   pub trace : Accepted
   pub reads_trace : ReadsTrace desk terms.trace terms.device params.disk trace
 
+-- all files of a run that are accepted
+pub record AcceptsFiles (desk : DeskView) (terms : SourceTerms) : Type 0 where
+  pub files : Files
+  pub accepts : Accepts desk terms files
+
+-- and a foreground report that is accepted
+pub record AcceptsFore (desk : DeskView) (terms : InputTerms) : Type 0 where
+  pub files : AcceptsFiles desk terms.sources
+  pub name : List ℕ
+  pub given : terms.fore ≡ Some name
+  pub lines : List (List ℕ)
+  pub reads_fore : ReadsReport desk name fore_grammar lines
+
 -- the inputs that come before this one are accepted
-abbrev pub AcceptsBefore : DeskView → ReplayTerms → Input → Type 0
+abbrev pub AcceptsBefore : DeskView → InputTerms → Input → Type 0
 AcceptsBefore desk terms Params = Unit {0}
-AcceptsBefore desk terms Trace = AcceptsDisk desk terms.params
-AcceptsBefore desk terms Calls = AcceptsTrace desk terms
+AcceptsBefore desk terms Trace = AcceptsDisk desk terms.sources.params
+AcceptsBefore desk terms Calls = AcceptsTrace desk terms.sources
+AcceptsBefore desk terms ForeReport = AcceptsFiles desk terms.sources
+AcceptsBefore desk terms BackReport = AcceptsFore desk terms
 
 -- no input that is read after this one was touched
 abbrev pub KeepsLater : Input → DeskView → DeskView → Type 0
-KeepsLater Params old new = (new.inputs Trace ≡ old.inputs Trace) × (new.inputs Calls ≡ old.inputs Calls)
-KeepsLater Trace old new = new.inputs Calls ≡ old.inputs Calls
-KeepsLater Calls old new = Unit {0}
+KeepsLater Params old new =
+    (new.inputs Trace ≡ old.inputs Trace) × (new.inputs Calls ≡ old.inputs Calls) × (new.inputs ForeReport ≡ old.inputs ForeReport) × (new.inputs BackReport ≡ old.inputs BackReport)
+KeepsLater Trace old new = (new.inputs Calls ≡ old.inputs Calls) × (new.inputs ForeReport ≡ old.inputs ForeReport) × (new.inputs BackReport ≡ old.inputs BackReport)
+KeepsLater Calls old new = (new.inputs ForeReport ≡ old.inputs ForeReport) × (new.inputs BackReport ≡ old.inputs BackReport)
+KeepsLater ForeReport old new = new.inputs BackReport ≡ old.inputs BackReport
+KeepsLater BackReport old new = Unit {0}
 
 -- no input that is read after this one was touched, and no output but the note
 pub record EndsAt (input : Input) (old new : DeskView) : Type 0 where
@@ -62,48 +84,76 @@ pub record EndsAt (input : Input) (old new : DeskView) : Type 0 where
   pub reports : KeepsReports old new
 
 -- an accepted disk, and a trace that is refused for it
-pub record RefusesTraceInTurn (desk : DeskView) (terms : ReplayTerms) (fault : TraceFault) : Type 0 where
+pub record RefusesTraceInTurn (desk : DeskView) (terms : SourceTerms) (fault : TraceFault) : Type 0 where
   pub before : AcceptsDisk desk terms.params
   pub refuses : RefusesTrace desk terms.trace terms.device before.disk fault
 
 -- an accepted disk and an accepted trace, and a script that is refused for them
-pub record RefusesCallsInTurn (desk : DeskView) (terms : ReplayTerms) (fault : CallsFault) : Type 0 where
+pub record RefusesCallsInTurn (desk : DeskView) (terms : SourceTerms) (fault : CallsFault) : Type 0 where
   pub before : AcceptsTrace desk terms
   pub name : List ℕ
   pub given : terms.calls ≡ Some name
   pub refuses : RefusesCalls desk name before.params.disk (length before.trace.requests) fault
 
+-- the input that holds a report
+abbrev pub input_of : Report → Input
+input_of reports.Fore = ForeReport
+input_of reports.Back = BackReport
+
+abbrev pub grammar_of : Report → Grammar
+grammar_of reports.Fore = fore_grammar
+grammar_of reports.Back = back_grammar
+
+-- accepted files, and a report that is refused; before the background report the foreground report is accepted
+pub record RefusesReportInTurn (desk : DeskView) (terms : InputTerms) (fault : ReportsFault) : Type 0 where
+  pub before : AcceptsBefore desk terms (input_of fault.report)
+  pub name : List ℕ
+  pub given : name_of terms (input_of fault.report) ≡ Some name
+  pub refuses : RefusesReport desk name (grammar_of fault.report) fault.line
+
 -- an input that the words give has more bytes than it may have
-pub record IsTooLong (desk : DeskView) (terms : ReplayTerms) (input : Input) : Type 0 where
+pub record IsTooLong (desk : DeskView) (terms : InputTerms) (input : Input) : Type 0 where
   pub before : AcceptsBefore desk terms input
   pub name : List ℕ
   pub given : name_of terms input ≡ Some name
   pub longer : IsLonger desk name (limit_of input)
 
 -- a call that reads an input that the words give has failed
-pub record IsUnread (old new : DeskView) (terms : ReplayTerms) (input : Input) : Type 0 where
+pub record IsUnread (old new : DeskView) (terms : InputTerms) (input : Input) : Type 0 where
   pub before : AcceptsBefore old terms input
   pub given : is_some (name_of terms input) ≡ true
   pub rose : FaultsRose old new input
 
 -- memory ran out at an input, or after all of them: those before it are accepted, and nothing after it was touched
-pub record RunsOut (old new : DeskView) (terms : ReplayTerms) : Type 0 where
+pub record RunsOut (old new : DeskView) (terms : InputTerms) : Type 0 where
   pub input : Input
   pub before : AcceptsBefore old terms input
   pub ends : EndsAt input old new
 
+-- why the inputs were not all accepted
+abbrev pub StopsInputs : InputTerms → DeskView → DeskView → Outcome → Type 0
+StopsInputs terms old new (outcomes.Params fault) = RefusesDisk old terms.sources.params fault × EndsAt Params old new
+StopsInputs terms old new (outcomes.Trace fault) = RefusesTraceInTurn old terms.sources fault × EndsAt Trace old new
+StopsInputs terms old new (outcomes.Calls fault) = RefusesCallsInTurn old terms.sources fault × EndsAt Calls old new
+StopsInputs terms old new (outcomes.Reports fault) = RefusesReportInTurn old terms fault × EndsAt (input_of fault.report) old new
+StopsInputs terms old new (outcomes.TooLong input) = IsTooLong old terms input × EndsAt input old new
+StopsInputs terms old new (outcomes.ReadFault input) = IsUnread old new terms input × EndsAt input old new
+StopsInputs terms old new outcomes.NoMemory = RunsOut old new terms
+StopsInputs terms old new _ = ⊥
+
 -- the cause of each answer to the terms of a replay
 abbrev pub HasCause : ReplayTerms → DeskView → DeskView → Outcome → Type 0
 HasCause terms old new (outcomes.Done run) = IsDone old new terms run
-HasCause terms old new (outcomes.Made n) = ⊥
-HasCause terms old new (outcomes.Usage fault) = ⊥
-HasCause terms old new (outcomes.Params fault) = RefusesDisk old terms.params fault × EndsAt Params old new
-HasCause terms old new (outcomes.Trace fault) = RefusesTraceInTurn old terms fault × EndsAt Trace old new
-HasCause terms old new (outcomes.Calls fault) = RefusesCallsInTurn old terms fault × EndsAt Calls old new
-HasCause terms old new (outcomes.TooLong input) = IsTooLong old terms input × EndsAt input old new
-HasCause terms old new (outcomes.ReadFault input) = IsUnread old new terms input × EndsAt input old new
 HasCause terms old new (outcomes.WriteFault output) = IsCutShort old new terms (outcomes.WriteFault output)
-HasCause terms old new outcomes.NoMemory = RunsOut old new terms ⊎ IsCutShort old new terms outcomes.NoMemory
+HasCause terms old new outcomes.NoMemory = RunsOut old new (replay_inputs terms) ⊎ IsCutShort old new terms outcomes.NoMemory
+HasCause terms old new outcome = StopsInputs (replay_inputs terms) old new outcome
+
+-- the cause of each answer to the terms of a check
+abbrev pub CheckHasCause : CheckTerms → DeskView → DeskView → Outcome → Type 0
+CheckHasCause terms old new (outcomes.Checked verdict) = IsChecked old new terms verdict
+CheckHasCause terms old new (outcomes.WriteFault output) = IsVerdictCut old new terms (outcomes.WriteFault output)
+CheckHasCause terms old new outcomes.NoMemory = RunsOut old new (check_inputs terms) ⊎ IsVerdictCut old new terms outcomes.NoMemory
+CheckHasCause terms old new outcome = StopsInputs (check_inputs terms) old new outcome
 
 -- why no disk was read
 abbrev pub StopsDisk : List ℕ → DeskView → DeskView → Outcome → Type 0
@@ -132,3 +182,31 @@ StopsCalls name disk traced old new _ = ⊥
 -- why no script was read where one is given
 abbrev pub StopsScript : Option (List ℕ) → Disk → ℕ → DeskView → DeskView → Outcome → Type 0
 StopsScript given disk traced old new outcome = (name : List ℕ) × (given ≡ Some name) × StopsCalls name disk traced old new outcome
+
+-- the outcome where a text is no report
+abbrev pub refused_as : ReportsError → Outcome
+refused_as (errors.Fault fault) = outcomes.Reports fault
+refused_as errors.NoMemory = outcomes.NoMemory
+
+-- why no report was read, or why reports were not judged
+abbrev pub StopsReport : Report → List ℕ → DeskView → DeskView → Outcome → Type 0
+StopsReport report name old new (outcomes.Reports fault) = (fault.report ≡ report) × RefusesReport old name (grammar_of report) fault.line
+StopsReport report name old new (outcomes.TooLong input) = (input ≡ input_of report) × IsLonger old name (2 ^ 28)
+StopsReport report name old new (outcomes.ReadFault input) = (input ≡ input_of report) × FaultsRose old new (input_of report)
+StopsReport report name old new outcomes.NoMemory = Unit {0}
+StopsReport report name old new _ = ⊥
+
+-- no foreground report was read, and the background report was not touched
+pub record StopsFore (terms : CheckTerms) (old new : DeskView) (outcome : Outcome) : Type 0 where
+  pub stops : StopsReport reports.Fore terms.fore old new outcome
+  pub later : KeepsLater ForeReport old new
+
+-- the foreground report is accepted, and no background report was read
+pub record StopsBack (terms : CheckTerms) (old new : DeskView) (outcome : Outcome) : Type 0 where
+  pub lines : List (List ℕ)
+  pub before : ReadsReport old terms.fore fore_grammar lines
+  pub stops : StopsReport reports.Back terms.back old new outcome
+
+-- why no verdict was reached
+abbrev pub StopsPrinted : CheckTerms → DeskView → DeskView → Outcome → Type 0
+StopsPrinted terms old new outcome = StopsFore terms old new outcome ⊎ StopsBack terms old new outcome

@@ -1,27 +1,46 @@
 -- What goes well is done.
-use Rattle.std.specs.Prelude.{◌≡◌, true, is_some, IfSome, Result, Ok, Err}
+use Rattle.std.specs.Prelude.{◌≡◌, ℕ, List, true, is_some, IfSome, Result, Ok, Err}
 use Rattle.fb_desk.specs.View.{DeskView}
 use Rattle.fb_desk.specs.declared.desk.Input.{Input}
 use Rattle.fb_desk.specs.declared.desk.Output.TheVariants.{Fore, Back}
-use Rattle.fb_words.specs.Command.{Terms, ReplayTerms, replays, makes}
+use Rattle.fb_report.specs.Grammar.{Grammar, fore_grammar, back_grammar}
+use Rattle.fb_words.specs.Command.{Terms, ReplayTerms, CheckTerms, replays, makes, checks}
 use Rattle.fb_words.specs.declared.fault.UsageFault.{UsageFault}
 use Rattle.fb_top.specs.declared.outcome.Outcome.{Outcome}
 use Rattle.fb_top.specs.declared.outcome.Outcome.TheVariants as outcomes
-use Rattle.fb_top.specs.Read.{Files, Accepts}
+use Rattle.fb_top.specs.Sources.{InputTerms, replay_inputs, check_inputs}
+use Rattle.fb_top.specs.Read.{Files, Accepts, ReadsReport}
 use Rattle.fb_top.specs.Written.{OutputFaultsRose}
 use Rattle.fb_top.specs.Causes.{FaultsRose}
 use Rattle.fb_top.specs.Make.{MakeGoesWell, MakesAll}
 
--- the desk tells what each input holds, all are accepted, and no count of faults rises but perhaps the note's
-pub record GoesWell (old new : DeskView) (terms : ReplayTerms) : Type 0 where
+-- the desk tells what a report holds, and it is accepted
+pub record TellsReport (desk : DeskView) (grammar : Grammar) (name : List ℕ) : Type 0 where
+  pub lines : List (List ℕ)
+  pub reads : ReadsReport desk name grammar lines
+  pub told : is_some (desk.held name) ≡ true
+
+-- the desk tells what each input holds, all are accepted, and no call of an input failed
+pub record ReadsWell (old new : DeskView) (terms : InputTerms) : Type 0 where
   pub files : Files
-  pub accepts : Accepts old terms files
-  pub params_told : is_some (old.held terms.params) ≡ true
-  pub trace_told : is_some (old.held terms.trace) ≡ true
-  pub calls_told : IfSome terms.calls (λ name. is_some (old.held name) ≡ true)
-  pub inputs : (input : Input) → FaultsRose old new input → ⊥
+  pub accepts : Accepts old terms.sources files
+  pub params_told : is_some (old.held terms.sources.params) ≡ true
+  pub trace_told : is_some (old.held terms.sources.trace) ≡ true
+  pub calls_told : IfSome terms.sources.calls (λ name. is_some (old.held name) ≡ true)
+  pub fore_told : IfSome terms.fore (TellsReport old fore_grammar)
+  pub back_told : IfSome terms.back (TellsReport old back_grammar)
+  pub calm : (input : Input) → FaultsRose old new input → ⊥
+
+-- the inputs of a replay are read well, and no count of faults rises but perhaps the note's
+pub record GoesWell (old new : DeskView) (terms : ReplayTerms) : Type 0 where
+  pub inputs : ReadsWell old new (replay_inputs terms)
   pub fore : OutputFaultsRose old new Fore → ⊥
   pub back : OutputFaultsRose old new Back → ⊥
+
+-- and so those of a check
+pub record CheckGoesWell (old new : DeskView) (terms : CheckTerms) : Type 0 where
+  pub inputs : ReadsWell old new (check_inputs terms)
+  pub fore : OutputFaultsRose old new Fore → ⊥
 
 -- the replay was made, unless memory ran out
 abbrev pub IsMade : Outcome → Type 0
@@ -29,8 +48,15 @@ IsMade (outcomes.Done run) = Unit {0}
 IsMade outcomes.NoMemory = Unit {0}
 IsMade outcome = ⊥
 
+-- the reports were judged, unless memory ran out
+abbrev pub IsJudged : Outcome → Type 0
+IsJudged (outcomes.Checked verdict) = Unit {0}
+IsJudged outcomes.NoMemory = Unit {0}
+IsJudged outcome = ⊥
+
 -- what goes well is done
 abbrev pub IsComplete : Result Terms UsageFault → DeskView → DeskView → Outcome → Type 0
 IsComplete (Ok (replays terms)) old new outcome = GoesWell old new terms → IsMade outcome
 IsComplete (Ok (makes terms)) old new outcome = MakeGoesWell old new terms → MakesAll terms outcome
+IsComplete (Ok (checks terms)) old new outcome = CheckGoesWell old new terms → IsJudged outcome
 IsComplete (Err fault) old new outcome = Unit {0}

@@ -16,12 +16,13 @@ use Rattle.fb_words.specs.Command.{ReplayTerms}
 use Rattle.fb_top.specs.declared.outcome.Outcome.{Outcome}
 use Rattle.fb_top.specs.declared.outcome.Outcome.TheVariants as outcomes
 use Rattle.fb_top.specs.Read.{Files, Accepts, inputs_of, key_of}
+use Rattle.fb_top.specs.Sources.{replay_sources}
 use Rattle.fb_top.specs.Written.{HoldsWhole, KeepsButBoth, CutsOff, CutsSecond, OutputFaultsRose}
 
 -- the full run of the accepted files; their disk has no fault, and they keep the rules that laws of full runs ask of inputs
 pub record IsRunOf (desk : DeskView) (terms : ReplayTerms) (run : Run) : Type 0 where
   pub files : Files
-  pub accepts : Accepts desk terms files
+  pub accepts : Accepts desk (replay_sources terms) files
   pub sound : IsSound files.disk.map
   pub accepted : IsAccepted (inputs_of files (key_of terms.policy) terms.until)
   pub full : IsFull (inputs_of files (key_of terms.policy) terms.until) run

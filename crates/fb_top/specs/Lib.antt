@@ -1,7 +1,9 @@
 pub mod Streams
 pub mod Written
+pub mod Sources
 pub mod Read
 pub mod Done
+pub mod Checked
 pub mod Causes
 pub mod Unnamed
 pub mod Opened

@@ -17,8 +17,9 @@ pub record TellsNote (line : List ℕ) (old new : OutputView) : Type 0 where
   pub name : new.begun ≡ true → IfSome new.name (λ name. name ≡ codes "-")
   pub written : new.begun ≡ true → IfSome new.written (IsNote line old new)
 
--- the note's output after an outcome: as before where a report was written
+-- the note's output after an outcome: as before where a command was done
 abbrev pub LeavesNote : Outcome → OutputView → OutputView → Type 0
 LeavesNote (outcomes.Done run) old new = new ≡ old
 LeavesNote (outcomes.Made n) old new = new ≡ old
+LeavesNote (outcomes.Checked verdict) old new = new ≡ old
 LeavesNote outcome old new = TellsNote (note_of outcome) old new

@@ -20,6 +20,7 @@ use Rattle.fb_desk.specs.declared.desk.Output.{Output}
 use Rattle.fb_desk.specs.declared.desk.Output.TheVariants as outputs
 use Rattle.fb_top.specs.declared.outcome.Outcome.{Outcome}
 use Rattle.fb_top.specs.declared.outcome.Outcome.TheVariants as outcomes
+use Rattle.fb_top.specs.Checked.{report_word}
 
 -- a reason's name and, after a space, the value that it carries
 abbrev pub valued : List ℕ → List ℕ → List ℕ
@@ -109,6 +110,8 @@ abbrev pub input_text : Input → List ℕ
 input_text inputs.Params = codes "params"
 input_text inputs.Trace = codes "trace"
 input_text inputs.Calls = codes "calls"
+input_text inputs.ForeReport = codes "fore report"
+input_text inputs.BackReport = codes "back report"
 
 -- what an output is called
 abbrev pub output_text : Output → List ℕ
@@ -126,10 +129,12 @@ numbered what number = what ++ decimal number ++ codes ": "
 abbrev pub cause_text : Outcome → List ℕ
 cause_text (outcomes.Done run) = []
 cause_text (outcomes.Made n) = []
+cause_text (outcomes.Checked verdict) = []
 cause_text (outcomes.Usage fault) = numbered (codes "usage: word ") fault.place ++ usage_reason fault.reason
 cause_text (outcomes.Params fault) = codes "params: " ++ params_fault fault
 cause_text (outcomes.Trace fault) = numbered (codes "trace: line ") fault.line ++ trace_reason fault.reason
 cause_text (outcomes.Calls fault) = numbered (codes "calls: line ") fault.line ++ calls_reason fault.reason
+cause_text (outcomes.Reports fault) = codes "reports: " ++ report_word fault.report ++ codes " line " ++ decimal fault.line
 cause_text (outcomes.TooLong input) = codes "too long: " ++ input_text input
 cause_text (outcomes.ReadFault input) = codes "read fault: " ++ input_text input
 cause_text (outcomes.WriteFault output) = codes "write fault: " ++ output_text output
@@ -143,4 +148,5 @@ note_line words = codes "freeblock: " ++ words ++ 10 ∷ []
 abbrev pub note_of : Outcome → List ℕ
 note_of (outcomes.Done run) = []
 note_of (outcomes.Made n) = []
+note_of (outcomes.Checked verdict) = []
 note_of outcome = note_line (cause_text outcome)

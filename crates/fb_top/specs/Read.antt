@@ -1,5 +1,6 @@
--- What the accepted inputs of a replay mean.
+-- What the accepted inputs of a replay or a check mean.
 use Rattle.std.specs.Prelude.{◌≡◌, ℕ, ◌≤◌, ◌^◌, List, [], length, Option, Some, None, Ok, Err}
+use Rattle.std.specs.List.{flat_map}
 use Rattle.fb_geometry.specs.Places.{places}
 use Rattle.fb_service.specs.declared.disk.Disk.{Disk}
 use Rattle.fb_params.specs.Reading.{params_of}
@@ -15,8 +16,9 @@ use Rattle.fb_model.specs.PlainReplay.{Key, fcfs, sstf, clook, sptf}
 use Rattle.fb_desk.specs.View.{DeskView}
 use Rattle.fb_words.specs.declared.command.Policy.{Policy}
 use Rattle.fb_words.specs.declared.command.Policy.TheVariants.{Fcfs, Sstf, Clook, Sptf}
-use Rattle.fb_words.specs.Command.{ReplayTerms}
+use Rattle.fb_report.specs.Grammar.{Grammar, report_of, ended}
 use Rattle.fb_top.specs.declared.reading.ReplayFiles.{ReplayFiles}
+use Rattle.fb_top.specs.Sources.{SourceTerms}
 use Rattle.fb_top.specs.Streams.{IsHeld}
 
 -- the parameter file under a name is accepted, with this disk and these latent sectors
@@ -82,7 +84,7 @@ files_of read = record {
 }
 
 -- all files that the words name are accepted, each for those before it, and say this
-pub record Accepts (desk : DeskView) (terms : ReplayTerms) (files : Files) : Type 0 where
+pub record Accepts (desk : DeskView) (terms : SourceTerms) (files : Files) : Type 0 where
   pub disk : ReadsDisk desk terms.params files.disk files.latent
   pub trace : ReadsTrace desk terms.trace terms.device files.disk files.trace
   pub script : ReadsScript desk terms.calls files.disk (length files.trace.requests) files.script
@@ -105,3 +107,18 @@ inputs_of files key until = record {
   key = key;
   until = until;
 }
+
+-- the report under a name is accepted by its grammar, with these lines
+pub record ReadsReport (desk : DeskView) (name : List ℕ) (grammar : Grammar) (lines : List (List ℕ)) : Type 0 where
+  pub bytes : List ℕ
+  pub held : IsHeld desk name bytes
+  pub within : length bytes ≤ 2 ^ 28
+  pub spells : report_of grammar bytes ≡ Ok lines
+  pub whole : flat_map ended lines ≡ bytes
+
+-- or refused, from this line
+pub record RefusesReport (desk : DeskView) (name : List ℕ) (grammar : Grammar) (line : ℕ) : Type 0 where
+  pub bytes : List ℕ
+  pub held : IsHeld desk name bytes
+  pub within : length bytes ≤ 2 ^ 28
+  pub spells : report_of grammar bytes ≡ Err line

@@ -1,15 +1,22 @@
--- Laws of the runs that the top call returns: background work leaves the foreground as it is, inputs have one run, and no decision looks
--- ahead.
-use Rattle.std.specs.Prelude.{◌≡◌, ℕ, ◌<◌, List, Some, IfSome}
+-- Laws of the runs that the top call returns: background work leaves the foreground as it is, inputs have one run, no decision looks ahead,
+-- and a run's own reports are right.
+use Rattle.std.specs.Prelude.{◌≡◌, ℕ, ◌<◌, List, Ok, Some, IfSome, map}
 use Rattle.fb_rows.specs.declared.run.Run.{Run}
 use Rattle.fb_model.specs.Foreground.{promoted}
 use Rattle.fb_model.specs.Known.{AgreeUpTo, SameKnown}
 use Rattle.fb_report.specs.declared.bytes.Bytes.{Bytes}
-use Rattle.fb_report.specs.Fore.{fore_text}
+use Rattle.fb_report.specs.Back.{back_lines}
+use Rattle.fb_report.specs.Fore.{fore_lines, fore_text}
+use Rattle.fb_report.specs.Grammar.{Grammar, back_grammar, ended, fore_grammar, report_of}
+use Rattle.fb_check.specs.declared.verdict.Verdict.{Verdict}
+use Rattle.fb_check.specs.declared.verdict.Verdict.TheVariants.{Yes}
 use Rattle.fb_desk.specs.View.{DeskView}
-use Rattle.fb_words.specs.Command.{ReplayTerms}
+use Rattle.fb_words.specs.Command.{CheckTerms, ReplayTerms}
+use Rattle.fb_top.specs.Checked.{IsVerdictOf}
+use Rattle.fb_top.specs.Sources.{SourceTerms, check_sources, replay_sources}
 use Rattle.fb_top.specs.Read.{Files, inputs_of, key_of}
 use Rattle.fb_top.specs.Done.{IsRunOf}
+use Rattle.fb_top.specs.Written.{joined}
 
 -- the same disk, latent sectors and trace, and scripts that ask for the same reads
 pub record AskForOneForeground (one other : Files) : Type 0 where
@@ -28,18 +35,42 @@ ScriptsLeaveForeground = (one other : DeskView) (terms others : ReplayTerms) (ru
 abbrev pub HoldAlike : DeskView → DeskView → List ℕ → Type 0
 HoldAlike one other name = (bytes : List ℕ) × (one.held name ≡ Some bytes) × (other.held name ≡ Some bytes)
 
--- and so under each name that the words of a replay give to an input
-pub record HoldOneInput (one other : DeskView) (terms : ReplayTerms) : Type 0 where
+-- and so under the name of each file of a run
+pub record HoldOneInput (one other : DeskView) (terms : SourceTerms) : Type 0 where
   pub params : HoldAlike one other terms.params
   pub trace : HoldAlike one other terms.trace
   pub calls : IfSome terms.calls (HoldAlike one other)
 
 -- the same words over the same bytes have one run
 abbrev pub InputsHaveOneRun : Type 0
-InputsHaveOneRun = (one other : DeskView) (terms : ReplayTerms) (run run' : Run) → HoldOneInput one other terms → IsRunOf one terms run → IsRunOf other terms run' → run ≡ run'
+InputsHaveOneRun = (one other : DeskView) (terms : ReplayTerms) (run run' : Run) → HoldOneInput one other (replay_sources terms) → IsRunOf one terms run → IsRunOf other terms run' → run ≡ run'
 
 -- two runs of files that agree up to an instant before both ends are the same in what is known by then
 abbrev pub RunsLookNotAhead : Type 0
 RunsLookNotAhead = (one other : DeskView) (terms others : ReplayTerms) (run run' : Run) (is_run : IsRunOf one terms run) (is_other : IsRunOf other others run') (t : ℕ)
     → t < run.end → t < run'.end → AgreeUpTo t (inputs_of is_run.files (key_of terms.policy) terms.until) (inputs_of is_other.files (key_of others.policy) others.until)
     → SameKnown t run run'
+
+-- a check asks for what a replay asked for: the same policy and end, and files of the same bytes
+pub record ChecksRun (one other : DeskView) (terms : ReplayTerms) (checks : CheckTerms) : Type 0 where
+  pub sources : check_sources checks ≡ replay_sources terms
+  pub policy : checks.policy ≡ terms.policy
+  pub until : checks.until ≡ terms.until
+  pub alike : HoldOneInput one other (replay_sources terms)
+
+-- the text of these lines is held under a name, and the grammar accepts it line by line
+pub record HoldsLines (desk : DeskView) (name : List ℕ) (grammar : Grammar) (lines : List (List ℕ)) : Type 0 where
+  pub held : desk.held name ≡ Some (joined lines)
+  pub parts : List (List ℕ)
+  pub are : map ended parts ≡ lines
+  pub spells : report_of grammar (joined lines) ≡ Ok parts
+
+-- under both names the texts of a run's reports are held
+pub record HoldsOwnReports (desk : DeskView) (checks : CheckTerms) (files : Files) (run : Run) : Type 0 where
+  pub fore : HoldsLines desk checks.fore fore_grammar (fore_lines files.disk.sector_bytes checks.bytes run)
+  pub back : HoldsLines desk checks.back back_grammar (back_lines files.script.names files.disk.sector_bytes checks.bytes run)
+
+-- the verdict on a run's own reports is yes
+abbrev pub RightReportsAreRight : Type 0
+RightReportsAreRight = (one other : DeskView) (terms : ReplayTerms) (checks : CheckTerms) (run : Run) (verdict : Verdict) (is_run : IsRunOf one terms run)
+    → IsVerdictOf other checks verdict → ChecksRun one other terms checks → HoldsOwnReports other checks is_run.files run → verdict ≡ Yes

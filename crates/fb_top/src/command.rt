@@ -4,6 +4,7 @@ ghost use Rattle.std.specs.String.{string_bytes};
 ghost use Rattle.fb_desk.specs.View.{IsUnused};
 ghost use Rattle.fb_words.specs.Command.{command_of};
 ghost use Rattle.fb_words.specs.Verdict.{replay_terms};
+ghost use Rattle.fb_top.specs.Sources.{replay_inputs, replay_sources, sources_of};
 ghost use Rattle.fb_top.specs.Answers.{AnswersWords};
 ghost use Rattle.fb_top.specs.Causes.{HasCause};
 ghost use Rattle.fb_top.specs.Complete.{IsComplete};
@@ -13,9 +14,10 @@ ghost use Rattle.fb_top.specs.Opened.{OpensNamed, OpensAsNamed};
 ghost use Rattle.fb_top.specs.Calm.{MeetsNoFault};
 ghost use Rattle.fb_top.specs.Ended.{EndsWith};
 
+use crate::check::run_check;
 use crate::make::run_make;
 use crate::policy::replay_by;
-use crate::reading::read_inputs;
+use crate::reading::{Sources, read_inputs};
 use crate::report::write_reports;
 use crate::writing::write_note;
 use crate::{Outcome, status};
@@ -31,7 +33,9 @@ use std::alloc::Global;
 /// accepted. Then the foreground report, or the summary if the words ask for it, goes to the output
 /// `Fore` under the name `-`. After it the background report, if the words name one, goes to the
 /// output `Back` under that name. A make reads the parameter file, and writes a trace and a call
-/// script that are accepted for that disk.
+/// script that are accepted for that disk. A check reads what a replay reads, then a printed
+/// foreground report and a printed background report, and judges whether they are those of the
+/// replay's run; one line that tells the verdict goes to the output `Fore` under the name `-`.
 ///
 /// Where a command fails, a line that says why goes to the output `Note` under the name `-`; the
 /// outcome is the same whether that line can be written or not. The desk must be unused.
@@ -50,7 +54,7 @@ pub fn run_command<D: Desk>(alloc: Global, desk: &mut D, words: &[String]) -> Ou
 }
 
 /// Does the same as `run_command`, and returns the exit status of its outcome: 0 where all was
-/// written, and otherwise 2 to 9.
+/// written and no report is wrong, 1 where a report is wrong, and otherwise 2 to 10.
 pub fn run<D: Desk>(alloc: Global, desk: &mut D, words: &[String]) -> u8
     requires { IsUnused (D.seen desk.old) }
     ensures { EndsWith (command_of (map string_bytes words.now)) (D.seen desk.old) (D.seen desk.new) result }
@@ -70,6 +74,7 @@ fn answer_words<D: Desk>(alloc: Global, desk: &mut D, words: &[String]) -> Outco
     match read_words(alloc, words) {
         Ok(Command::Replay(words)) => run_replay(alloc, desk, &words),
         Ok(Command::Make(words)) => run_make(alloc, desk, &words),
+        Ok(Command::Check(words)) => run_check(alloc, desk, &words),
         Err(WordsError::Fault(fault)) => Outcome::Usage(fault),
         Err(WordsError::NoMemory) => Outcome::NoMemory,
     }
@@ -80,12 +85,12 @@ fn run_replay<D: Desk>(alloc: Global, desk: &mut D, words: &ReplayWords) -> Outc
     requires unused { IsUnused (D.seen desk.old) }
     requires until { words.now.until ≤ 10 ^ 15 }
     ensures cause { HasCause (replay_terms words.now) (D.seen desk.old) (D.seen desk.new) result }
-    ensures unnamed { KeepsUnnamed (replay_terms words.now) (D.seen desk.old) (D.seen desk.new) }
-    ensures opened { OpensAsNamed (replay_terms words.now) (D.seen desk.old) (D.seen desk.new) }
+    ensures unnamed { KeepsUnnamed (replay_inputs (replay_terms words.now)) (D.seen desk.old) (D.seen desk.new) }
+    ensures opened { OpensAsNamed (replay_inputs (replay_terms words.now)) (D.seen desk.old) (D.seen desk.new) }
     ensures calm { MeetsNoFault result (D.seen desk.old) (D.seen desk.new) }
     ensures no_note { (D.seen desk.new).outputs Output.Note ≡ (D.seen desk.old).outputs Output.Note }
 {
-    let files = match read_inputs(alloc, desk, words) {
+    let files = match read_inputs(alloc, desk, &sources(words)) {
         Ok(files) => files,
         Err(outcome) => return outcome,
     };
@@ -96,5 +101,17 @@ fn run_replay<D: Desk>(alloc: Global, desk: &mut D, words: &ReplayWords) -> Outc
     match write_reports(alloc, desk, words, &files, &run) {
         Ok(()) => Outcome::Done(run),
         Err(outcome) => outcome,
+    }
+}
+
+// The files of the run.
+fn sources(words: &ReplayWords) -> Sources<'_>
+    ensures { sources_of result ≡ replay_sources (replay_terms words.now) }
+{
+    Sources {
+        params: words.params.as_str(),
+        trace: words.trace.as_str(),
+        calls: words.calls.as_deref(),
+        device: words.device,
     }
 }

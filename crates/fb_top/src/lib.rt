@@ -1,13 +1,14 @@
-//! The top call: it reads the words, then the inputs that they name, replays, and writes the
-//! reports.
+//! The top call: it reads the words, then the inputs that they name, and replays and writes the
+//! reports, or judges reports that were printed.
 //!
 //! Files are reached through a `Desk` (`fb_desk`). `run_command` returns an outcome. Its contract
 //! says that each outcome has its cause, in what was read or in a call of the desk that failed;
-//! that the texts written are those of the very run that it returns; and that a command whose
+//! that the texts written are those of the very run that it returns; that a verdict is right; and that a command whose
 //! inputs are accepted and whose calls don't fail is done, unless it runs out of memory. It doesn't
 //! promise how long a run takes.
 #![tactic(auto)]
 
+mod check;
 mod command;
 mod lines;
 mod make;
@@ -20,9 +21,12 @@ mod reading;
 mod report;
 mod streams;
 mod untouched;
+mod verdict_line;
 mod writing;
 
 pub use command::{run, run_command};
 pub use note::note_text;
 pub use outcome::{Outcome, status};
-pub use untouched::{inputs_have_one_run, runs_look_not_ahead, scripts_leave_the_foreground};
+pub use untouched::{
+    inputs_have_one_run, right_reports_are_right, runs_look_not_ahead, scripts_leave_the_foreground,
+};

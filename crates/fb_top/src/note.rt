@@ -1,4 +1,4 @@
-// The line that says why there is no report.
+// The line that says why a command failed.
 ghost use Rattle.std.specs.Prelude.{◌≡◌, ◌++◌, IfOk, OnOk};
 ghost use Rattle.fb_top.specs.Notes.{cause_text, input_text, note_of, output_text};
 
@@ -6,12 +6,13 @@ use crate::Outcome;
 use crate::note_faults::{
     push_calls_reason, push_params_fault, push_trace_reason, push_usage_reason,
 };
-use crate::note_words::{push_numbered, push_words};
+use crate::note_words::{push_number, push_numbered, push_words};
+use crate::verdict_line::push_report;
 use fb_desk::{Input, Output};
 use fb_units::NoMemory;
 use std::alloc::Global;
 
-/// The line that says why a command has no report, with its line feed; empty where there is one.
+/// The line that says why a command failed, with its line feed; empty where it was done.
 ///
 /// The only error is out of memory.
 pub fn note_text(alloc: Global, outcome: &Outcome) -> Result<Vec<u8>, NoMemory>
@@ -21,6 +22,7 @@ pub fn note_text(alloc: Global, outcome: &Outcome) -> Result<Vec<u8>, NoMemory>
     match outcome {
         Outcome::Done(_) => Ok(text),
         Outcome::Made(_) => Ok(text),
+        Outcome::Checked(_) => Ok(text),
         _ => {
             push_words(&mut text, "freeblock: ")?;
             push_cause(&mut text, outcome)?;
@@ -30,13 +32,14 @@ pub fn note_text(alloc: Global, outcome: &Outcome) -> Result<Vec<u8>, NoMemory>
     }
 }
 
-// Adds why there is no report.
+// Adds why a command failed.
 fn push_cause(text: &mut Vec<u8>, outcome: &Outcome) -> Result<(), NoMemory>
     ensures { OnOk result (text.new.items ≡ text.old.items ++ cause_text outcome.now) }
 {
     match outcome {
         Outcome::Done(_) => Ok(()),
         Outcome::Made(_) => Ok(()),
+        Outcome::Checked(_) => Ok(()),
         Outcome::Usage(fault) => {
             push_numbered(text, "usage: word ", u64::from(fault.place))?;
             push_usage_reason(text, fault.reason)
@@ -52,6 +55,12 @@ fn push_cause(text: &mut Vec<u8>, outcome: &Outcome) -> Result<(), NoMemory>
         Outcome::Calls(fault) => {
             push_numbered(text, "calls: line ", fault.line)?;
             push_calls_reason(text, fault.reason)
+        }
+        Outcome::Reports(fault) => {
+            push_words(text, "reports: ")?;
+            push_report(text, fault.report)?;
+            push_words(text, " line ")?;
+            push_number(text, fault.line)
         }
         Outcome::TooLong(input) => push_input(text, "too long: ", *input),
         Outcome::ReadFault(input) => push_input(text, "read fault: ", *input),
@@ -69,6 +78,8 @@ fn push_input(text: &mut Vec<u8>, what: &str, input: Input) -> Result<(), NoMemo
         Input::Params => push_words(text, "params"),
         Input::Trace => push_words(text, "trace"),
         Input::Calls => push_words(text, "calls"),
+        Input::ForeReport => push_words(text, "fore report"),
+        Input::BackReport => push_words(text, "back report"),
     }
 }
 

@@ -14,8 +14,8 @@ pub fn push_words(text: &mut Vec<u8>, words: &str) -> Result<(), NoMemory>
     Ok(())
 }
 
-// Adds a number in decimal digits.
-fn push_number(text: &mut Vec<u8>, number: u64) -> Result<(), NoMemory>
+/// Adds a number in decimal digits. The only error is out of memory.
+pub fn push_number(text: &mut Vec<u8>, number: u64) -> Result<(), NoMemory>
     ensures { OnOk result (text.new.items ≡ text.old.items ++ decimal number) }
 {
     let mut buffer = Buffer::new();

@@ -3,8 +3,10 @@ ghost use Rattle.std.specs.Prelude.{◌≡◌};
 ghost use Rattle.fb_top.specs.Status.{status_of};
 
 use fb_calls::CallsFault;
+use fb_check::Verdict;
 use fb_desk::{Input, Output};
 use fb_params::ParamsFault;
+use fb_report::ReportsFault;
 use fb_rows::Run;
 use fb_trace::TraceFault;
 use fb_words::UsageFault;
@@ -16,6 +18,8 @@ pub enum Outcome {
     Done(Run),
     /// A trace of this many requests and a call script were made and written whole.
     Made(u64),
+    /// The reports were judged, and the line that tells the verdict was written whole.
+    Checked(Verdict),
     /// The words of the command line are refused.
     Usage(UsageFault),
     /// The parameter file is refused.
@@ -24,6 +28,8 @@ pub enum Outcome {
     Trace(TraceFault),
     /// The call script is refused.
     Calls(CallsFault),
+    /// A printed report is refused: a line of it isn't in its place.
+    Reports(ReportsFault),
     /// The input has more bytes than its limit.
     TooLong(Input),
     /// A call that reads the input failed.
@@ -34,13 +40,16 @@ pub enum Outcome {
     NoMemory,
 }
 
-/// The exit status of an outcome: 0 where all was written, and otherwise 2 to 9.
+/// The exit status of an outcome: 0 where all was written and no report is wrong, 1 where a report
+/// is wrong, and otherwise 2 to 10.
 pub fn status(outcome: &Outcome) -> u8
     ensures { result ≡ status_of outcome.now }
 {
     match outcome {
         Outcome::Done(_) => 0,
         Outcome::Made(_) => 0,
+        Outcome::Checked(Verdict::Yes) => 0,
+        Outcome::Checked(Verdict::No(_)) => 1,
         Outcome::Usage(_) => 2,
         Outcome::Params(_) => 3,
         Outcome::Trace(_) => 4,
@@ -49,5 +58,6 @@ pub fn status(outcome: &Outcome) -> u8
         Outcome::WriteFault(_) => 7,
         Outcome::NoMemory => 8,
         Outcome::TooLong(_) => 9,
+        Outcome::Reports(_) => 10,
     }
 }

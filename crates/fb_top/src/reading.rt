@@ -1,8 +1,7 @@
-// The inputs of a replay, each read whole and judged before the next.
-ghost use Rattle.std.specs.Prelude.{◌≡◌, ℕ, ◌<◌, ◌≤◌, ◌^◌, [], None, false, length, IfOk, IfErr, IfSome};
+// The inputs of a replay or a check, each read whole and judged before the next.
+ghost use Rattle.std.specs.Prelude.{◌≡◌, List, ℕ, ◌<◌, ◌≤◌, ◌^◌, [], None, false, length, IfOk, IfErr, IfSome};
 ghost use Rattle.std.specs.List.{AllByRecursion};
 ghost use Rattle.std.specs.Option.{option_map};
-ghost use Rattle.std.specs.String.{string_bytes};
 ghost use Rattle.fb_geometry.specs.Places.{places};
 ghost use Rattle.fb_geometry.specs.Sound.{IsSound};
 ghost use Rattle.fb_desk.specs.Calls.{ChangesInput};
@@ -14,11 +13,12 @@ ghost use Rattle.fb_calls.specs.Allowed.{IsScript, tasks};
 ghost use Rattle.fb_calls.specs.Verdict.{accepted as accepted_calls};
 ghost use Rattle.fb_model.specs.Accepted.{IsAccepted};
 ghost use Rattle.fb_model.specs.PlainReplay.{Key};
-ghost use Rattle.fb_words.specs.Verdict.{replay_terms};
+ghost use Rattle.fb_top.specs.Sources.{files_alone, sources_of};
 ghost use Rattle.fb_top.specs.Read.{Accepts, ReadsCalls, ReadsDisk, ReadsScript, ReadsTrace, files_of, inputs_of};
-ghost use Rattle.fb_top.specs.Causes.{HasCause, StopsCalls, StopsDisk, StopsScript, StopsTrace};
+ghost use Rattle.fb_top.specs.Causes.{StopsCalls, StopsDisk, StopsInputs, StopsReport, StopsScript, StopsTrace, input_of};
 ghost use Rattle.fb_top.specs.Unnamed.{KeepsUnnamed};
 ghost use Rattle.fb_top.specs.Opened.{IsOpenedAs, OpensAsNamed};
+ghost use Rattle.fb_top.specs.Streams.{IsHeld};
 ghost use Rattle.fb_top.specs.Calm.{AreInputsCalm};
 
 use crate::Outcome;
@@ -26,9 +26,9 @@ use crate::streams::{InputError, read_whole};
 use fb_calls::{Calls, CallsError, Names, read_calls};
 use fb_desk::{Desk, Input};
 use fb_params::{Parameters, ParamsError, read_params};
+use fb_report::Report;
 use fb_service::Disk;
 use fb_trace::{Trace, TraceError, read_trace};
-use fb_words::ReplayWords;
 use std::alloc::Global;
 
 // The most bytes that a parameter file may have.
@@ -39,6 +39,22 @@ const TRACE_LIMIT: usize = 1 << 28;
 
 // The most bytes that a call script may have.
 const CALLS_LIMIT: usize = 1 << 26;
+
+// The most bytes that a printed report may have.
+const REPORT_LIMIT: usize = 1 << 28;
+
+/// The files of a run, by the names that the words give them.
+#[derive(Clone, Copy)]
+pub struct Sources<'a> {
+    /// The parameter file.
+    pub params: &'a str,
+    /// The trace.
+    pub trace: &'a str,
+    /// The call script, if there is one.
+    pub calls: Option<&'a str>,
+    /// The device whose requests are read from the trace.
+    pub device: u64,
+}
 
 /// What the files of a replay say.
 #[derive(Drop)]
@@ -51,44 +67,39 @@ pub struct ReplayFiles {
     pub calls: Calls,
 }
 
-/// Reads the files that the words name: the parameter file, then the trace, then the script, if
+/// Reads the files of a run: the parameter file, then the trace, then the script, if
 /// any.
 ///
 /// The error is the outcome of the first file that can't be read or is refused.
 pub fn read_inputs<D: Desk>(
     alloc: Global,
     desk: &mut D,
-    words: &ReplayWords,
+    sources: &Sources<'_>,
 ) -> Result<ReplayFiles, Outcome>
     requires { IsUnused (D.seen desk.old) }
+    ensures held { (name : List ℕ) → (D.seen desk.new).held name ≡ (D.seen desk.old).held name }
     ensures outputs { (output : Output) → (D.seen desk.new).outputs output ≡ (D.seen desk.old).outputs output }
-    ensures accepts { IfOk result (λ files. Accepts (D.seen desk.old) (replay_terms words.now) (files_of files)) }
+    ensures accepts { IfOk result (λ files. Accepts (D.seen desk.old) (sources_of sources.now) (files_of files)) }
     ensures fit { IfOk result (λ files. (key : Key) (until : ℕ) → until ≤ 10 ^ 15 → IsAccepted (inputs_of (files_of files) key until)) }
     ensures sound { IfOk result (λ files. IsSound files.params.disk.map) }
     ensures names { IfOk result (λ files. length files.calls.names ≡ length (tasks files.calls.calls.items)) }
-    ensures cause { IfErr result (HasCause (replay_terms words.now) (D.seen desk.old) (D.seen desk.new)) }
-    ensures unnamed { KeepsUnnamed (replay_terms words.now) (D.seen desk.old) (D.seen desk.new) }
-    ensures opened { OpensAsNamed (replay_terms words.now) (D.seen desk.old) (D.seen desk.new) }
+    ensures cause { IfErr result (StopsInputs (files_alone (sources_of sources.now)) (D.seen desk.old) (D.seen desk.new)) }
+    ensures unnamed { KeepsUnnamed (files_alone (sources_of sources.now)) (D.seen desk.old) (D.seen desk.new) }
+    ensures opened { OpensAsNamed (files_alone (sources_of sources.now)) (D.seen desk.old) (D.seen desk.new) }
     ensures calm { IfOk result (λ _. AreInputsCalm (D.seen desk.old) (D.seen desk.new)) }
 {
-    let params = match read_disk(alloc, desk, words.params.as_str()) {
+    let params = match read_disk(alloc, desk, sources.params) {
         Ok(params) => params,
         Err(outcome) => return Err(outcome),
     };
     params.disk.map.geometry().sound();
-    let trace = match read_requests(
-        alloc,
-        desk,
-        words.trace.as_str(),
-        words.device,
-        &params.disk,
-    ) {
+    let trace = match read_requests(alloc, desk, sources.trace, sources.device, &params.disk) {
         Ok(trace) => trace,
         Err(outcome) => return Err(outcome),
     };
     let requests = trace.requests.as_slice();
     let traced = requests.len() as u64;
-    match read_script(alloc, desk, &words.calls, &params.disk, traced) {
+    match read_script(alloc, desk, sources.calls, &params.disk, traced) {
         Ok(calls) => Ok(ReplayFiles {
             params,
             trace,
@@ -156,22 +167,22 @@ fn read_requests<D: Desk>(
 fn read_script<D: Desk>(
     alloc: Global,
     desk: &mut D,
-    name: &Option<String>,
+    name: Option<&str>,
     disk: &Disk,
     traced: u64,
 ) -> Result<Calls, Outcome>
     requires { ((D.seen desk.old).inputs Input.Calls).opened ≡ false }
     ensures only { ChangesInput Input.Calls (D.seen desk.old) (D.seen desk.new) }
-    ensures opened { IfSome (option_map string_bytes name.now) (λ given. IsOpenedAs given (D.seen desk.old) ((D.seen desk.new).inputs Input.Calls)) }
+    ensures opened { IfSome (option_map (λ given. given.now) name.entry) (λ given. IsOpenedAs given (D.seen desk.old) ((D.seen desk.new).inputs Input.Calls)) }
     ensures calm { IfOk result (λ _. ((D.seen desk.new).inputs Input.Calls).faults ≡ ((D.seen desk.old).inputs Input.Calls).faults) }
-    ensures unnamed { option_map string_bytes name.now ≡ None → (D.seen desk.new).inputs Input.Calls ≡ (D.seen desk.old).inputs Input.Calls }
-    ensures script { IfOk result (λ calls. ReadsScript (D.seen desk.old) (option_map string_bytes name.now) disk.now traced (accepted_calls calls)) }
+    ensures unnamed { option_map (λ given. given.now) name.entry ≡ None → (D.seen desk.new).inputs Input.Calls ≡ (D.seen desk.old).inputs Input.Calls }
+    ensures script { IfOk result (λ calls. ReadsScript (D.seen desk.old) (option_map (λ given. given.now) name.entry) disk.now traced (accepted_calls calls)) }
     ensures fit { IfOk result (λ calls. IsScript disk.now.map traced calls.calls.items) }
     ensures names { IfOk result (λ calls. length calls.names ≡ length (tasks calls.calls.items)) }
-    ensures stops { IfErr result (StopsScript (option_map string_bytes name.now) disk.now traced (D.seen desk.old) (D.seen desk.new)) }
+    ensures stops { IfErr result (StopsScript (option_map (λ given. given.now) name.entry) disk.now traced (D.seen desk.old) (D.seen desk.new)) }
 {
     match name {
-        Some(name) => read_named_script(alloc, desk, name.as_str(), disk, traced),
+        Some(name) => read_named_script(alloc, desk, name, disk, traced),
         None => Ok(no_calls(alloc)),
     }
 }
@@ -214,5 +225,41 @@ pub fn no_calls(alloc: Global) -> Calls
     Calls {
         names: Names::new(alloc),
         calls: Vec::new(alloc),
+    }
+}
+
+/// Reads the bytes of a printed report under this name.
+///
+/// The error is the outcome: it can't be read, has too many bytes, or memory ran out.
+pub fn read_printed<D: Desk>(
+    alloc: Global,
+    desk: &mut D,
+    report: Report,
+    name: &str,
+) -> Result<Vec<u8>, Outcome>
+    requires { ((D.seen desk.old).inputs (input_of report)).opened ≡ false }
+    ensures only { ChangesInput (input_of report) (D.seen desk.old) (D.seen desk.new) }
+    ensures opened { IsOpenedAs name.now (D.seen desk.old) ((D.seen desk.new).inputs (input_of report)) }
+    ensures calm { IfOk result (λ _. ((D.seen desk.new).inputs (input_of report)).faults ≡ ((D.seen desk.old).inputs (input_of report)).faults) }
+    ensures whole { IfOk result (λ bytes. IsHeld (D.seen desk.old) name.now bytes.items) }
+    ensures few { IfOk result (λ bytes. length bytes.items ≤ 2 ^ 28) }
+    ensures stops { IfErr result (StopsReport report name.now (D.seen desk.old) (D.seen desk.new)) }
+{
+    let which = input_of(report);
+    match read_whole(alloc, desk, which, name, REPORT_LIMIT) {
+        Ok(bytes) => Ok(bytes),
+        Err(InputError::Failed) => Err(Outcome::ReadFault(which)),
+        Err(InputError::TooLong) => Err(Outcome::TooLong(which)),
+        Err(InputError::NoMemory) => Err(Outcome::NoMemory),
+    }
+}
+
+// The input that holds a report.
+fn input_of(report: Report) -> Input
+    ensures { result ≡ input_of report }
+{
+    match report {
+        Report::Fore => Input::ForeReport,
+        Report::Back => Input::BackReport,
     }
 }

@@ -1,5 +1,5 @@
 // Laws of the runs that `run_command` returns.
-ghost use Rattle.fb_top.specs.Untouched.{InputsHaveOneRun, RunsLookNotAhead, ScriptsLeaveForeground};
+ghost use Rattle.fb_top.specs.Untouched.{InputsHaveOneRun, RightReportsAreRight, RunsLookNotAhead, ScriptsLeaveForeground};
 
 use fb_model::{foreground_is_untouched, no_look_ahead, one_full_run};
 
@@ -31,4 +31,14 @@ pub fn runs_look_not_ahead()
     ensures { RunsLookNotAhead }
 {
     no_look_ahead();
+}
+
+/// A run's own reports are right.
+///
+/// Where a check asks for what a replay asked for, over the same bytes, and the printed reports are
+/// that replay's, its verdict is yes.
+pub fn right_reports_are_right()
+    ensures { RightReportsAreRight }
+{
+    one_full_run();
 }

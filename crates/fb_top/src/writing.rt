@@ -58,6 +58,7 @@ pub fn write_note<D: Desk>(alloc: Global, desk: &mut D, outcome: &Outcome)
     match outcome {
         Outcome::Done(_) => {}
         Outcome::Made(_) => {}
+        Outcome::Checked(_) => {}
         _ => begin_note(alloc, desk, outcome),
     }
 }

@@ -1,15 +1,13 @@
-use Rattle.std.proofs.Common.{List, ℕ, ap, length, subst}
-use Rattle.fb_words.specs.Verdict.{replay_terms}
+use Rattle.std.proofs.Common.{ℕ, ap, length, subst}
+use Rattle.fb_top.specs.Sources.{sources_of}
 use Rattle.fb_trace.specs.Verdict.{accepted}
 use Rattle.fb_calls.specs.Verdict.{accepted as accepted_calls}
 use Rattle.fb_calls.specs.Allowed.{IsScript}
-use Rattle.fb_top.specs.Read.{ReadsDisk, ReadsScript, ReadsTrace, files_of}
-use Rattle.fb_top.specs.Causes.{AcceptsDisk, AcceptsTrace, StopsDisk, StopsScript, StopsTrace}
+use Rattle.fb_top.specs.Read.{ReadsScript, files_of}
+use Rattle.fb_top.specs.Causes.{AcceptsDisk, AcceptsTrace, StopsScript}
 use Rattle.fb_top.proofs.Later.{at_params, at_trace, at_script, is_accepted, script_before, trace_before}
 use Rattle.fb_top.proofs.Unnamed.{unnamed_at_params, unnamed_at_trace, unnamed_at_calls}
 use Rattle.fb_top.proofs.Opened.{calm_inputs, opened_at_params, opened_at_trace, opened_at_calls}
-use Rattle.fb_top.specs.Opened.{IsOpenedAs}
-use Rattle.fb_desk.specs.declared.desk.Input.TheVariants.{Params, Trace}
 use Rattle.fb_geometry.specs.Sound.{IsSound}
 use Rattle.fb_top.proofs.reading.read_inputs.Goals as goal
 
@@ -17,35 +15,35 @@ pub returns-in-Err-clause-cause : goal.returns-in-Err-clause-cause
 returns-in-Err-clause-cause g c =
     let old = g.D.Desk.seen c.args.desk.now in
     let new = g.D.Desk.seen c.read_disk.new.desk in
-    at_params (replay_terms c.args.words.now) old new c.in-Err.outcome c.in-Err.ensures.only
-    (subst (λ (name : List ℕ). StopsDisk name old new c.in-Err.outcome) c.as_str.ensures.value c.in-Err.ensures.stops)
+    at_params (sources_of c.args.sources.now) old new c.in-Err.outcome c.in-Err.ensures.only
+    c.in-Err.ensures.stops
 
 pub returns-in-Err-read_requests-clause-cause : goal.returns-in-Err-read_requests-clause-cause
 returns-in-Err-read_requests-clause-cause g c =
     let old = g.D.Desk.seen c.args.desk.now in
     let mid = g.D.Desk.seen c.read_disk.new.desk in
     let new = g.D.Desk.seen c.read_requests.new.desk in
-    let words = replay_terms c.args.words.now in
+    let words = sources_of c.args.sources.now in
     let params : AcceptsDisk old words.params = record {
       disk = c.in-Ok.params.disk;
       latent = c.in-Ok.params.latent.items;
-      reads_disk = subst (λ (name : List ℕ). ReadsDisk old name c.in-Ok.params.disk c.in-Ok.params.latent.items) c.as_str.ensures.value c.in-Ok.ensures.disk;
+      reads_disk = c.in-Ok.ensures.disk;
     } in
     at_trace words old mid new c.in-Err-read_requests.outcome params c.in-Ok.ensures.only c.in-Err-read_requests.ensures.only
-    (subst (λ (name : List ℕ). StopsTrace name words.device c.in-Ok.params.disk mid new c.in-Err-read_requests.outcome) c.as_str-2.ensures.value c.in-Err-read_requests.ensures.stops)
+    c.in-Err-read_requests.ensures.stops
 
 pub returns-in-Ok-read_script-clause-accepts : goal.returns-in-Ok-read_script-clause-accepts
 returns-in-Ok-read_script-clause-accepts g c =
     let old = g.D.Desk.seen c.args.desk.now in
     let mid = g.D.Desk.seen c.read_disk.new.desk in
     let late = g.D.Desk.seen c.read_requests.new.desk in
-    let words = replay_terms c.args.words.now in
+    let words = sources_of c.args.sources.now in
     let disk = c.in-Ok.params.disk in
     let trace = accepted c.in-Ok-read_requests.trace in
     record {
-      disk = subst (λ (name : List ℕ). ReadsDisk old name disk c.in-Ok.params.latent.items) c.as_str.ensures.value c.in-Ok.ensures.disk;
+      disk = c.in-Ok.ensures.disk;
       trace = trace_before old mid words.trace words.device disk trace c.in-Ok.ensures.only
-          (subst (λ (name : List ℕ). ReadsTrace mid name words.device disk trace) c.as_str-2.ensures.value c.in-Ok-read_requests.ensures.trace);
+          c.in-Ok-read_requests.ensures.trace;
       script = script_before old mid late words.calls disk (length trace.requests) (accepted_calls c.in-Ok-read_script.calls) c.in-Ok.ensures.only c.in-Ok-read_requests.ensures.only
           (subst (λ (traced : ℕ). ReadsScript late words.calls disk traced (accepted_calls c.in-Ok-read_script.calls)) (ap length c.as_slice-requests.ensures.value) c.in-Ok-read_script.ensures.script);
     }
@@ -62,66 +60,66 @@ returns-in-Err-read_script-clause-cause g c =
     let mid = g.D.Desk.seen c.read_disk.new.desk in
     let late = g.D.Desk.seen c.read_requests.new.desk in
     let new = g.D.Desk.seen c.read_script.new.desk in
-    let words = replay_terms c.args.words.now in
+    let words = sources_of c.args.sources.now in
     let params : AcceptsDisk old words.params = record {
       disk = c.in-Ok.params.disk;
       latent = c.in-Ok.params.latent.items;
-      reads_disk = subst (λ (name : List ℕ). ReadsDisk old name c.in-Ok.params.disk c.in-Ok.params.latent.items) c.as_str.ensures.value c.in-Ok.ensures.disk;
+      reads_disk = c.in-Ok.ensures.disk;
     } in
     let trace = accepted c.in-Ok-read_requests.trace in
     let before : AcceptsTrace old words = record {
       params = params;
       trace = trace;
       reads_trace = trace_before old mid words.trace words.device params.disk trace c.in-Ok.ensures.only
-          (subst (λ (name : List ℕ). ReadsTrace mid name words.device params.disk trace) c.as_str-2.ensures.value c.in-Ok-read_requests.ensures.trace);
+          c.in-Ok-read_requests.ensures.trace;
     } in
     at_script words old mid late new c.in-Err-read_script.outcome before c.in-Ok.ensures.only c.in-Ok-read_requests.ensures.only c.in-Err-read_script.ensures.only
     (subst (λ (traced : ℕ). StopsScript words.calls params.disk traced late new c.in-Err-read_script.outcome) (ap length c.as_slice-requests.ensures.value) c.in-Err-read_script.ensures.stops)
 
 pub returns-in-Err-clause-unnamed : goal.returns-in-Err-clause-unnamed
-returns-in-Err-clause-unnamed g c = unnamed_at_params (replay_terms c.args.words.now) (g.D.Desk.seen c.args.desk.now) (g.D.Desk.seen c.read_disk.new.desk) c.in-Err.ensures.only
+returns-in-Err-clause-unnamed g c = unnamed_at_params (sources_of c.args.sources.now) (g.D.Desk.seen c.args.desk.now) (g.D.Desk.seen c.read_disk.new.desk) c.in-Err.ensures.only
 
 pub returns-in-Err-read_requests-clause-unnamed : goal.returns-in-Err-read_requests-clause-unnamed
 returns-in-Err-read_requests-clause-unnamed g c =
-    unnamed_at_trace (replay_terms c.args.words.now) (g.D.Desk.seen c.args.desk.now) (g.D.Desk.seen c.read_disk.new.desk) (g.D.Desk.seen c.read_requests.new.desk)
+    unnamed_at_trace (sources_of c.args.sources.now) (g.D.Desk.seen c.args.desk.now) (g.D.Desk.seen c.read_disk.new.desk) (g.D.Desk.seen c.read_requests.new.desk)
     c.in-Ok.ensures.only c.in-Err-read_requests.ensures.only
 
 pub returns-in-Ok-read_script-clause-unnamed : goal.returns-in-Ok-read_script-clause-unnamed
 returns-in-Ok-read_script-clause-unnamed g c =
-    unnamed_at_calls (replay_terms c.args.words.now) (g.D.Desk.seen c.args.desk.now) (g.D.Desk.seen c.read_disk.new.desk) (g.D.Desk.seen c.read_requests.new.desk) (g.D.Desk.seen c.read_script.new.desk)
-    c.in-Ok.ensures.only c.in-Ok-read_requests.ensures.only c.in-Ok-read_script.ensures.unnamed
+    unnamed_at_calls (sources_of c.args.sources.now) (g.D.Desk.seen c.args.desk.now) (g.D.Desk.seen c.read_disk.new.desk) (g.D.Desk.seen c.read_requests.new.desk) (g.D.Desk.seen c.read_script.new.desk)
+    c.in-Ok.ensures.only c.in-Ok-read_requests.ensures.only c.in-Ok-read_script.ensures.only c.in-Ok-read_script.ensures.unnamed
 
 pub returns-in-Err-read_script-clause-unnamed : goal.returns-in-Err-read_script-clause-unnamed
 returns-in-Err-read_script-clause-unnamed g c =
-    unnamed_at_calls (replay_terms c.args.words.now) (g.D.Desk.seen c.args.desk.now) (g.D.Desk.seen c.read_disk.new.desk) (g.D.Desk.seen c.read_requests.new.desk) (g.D.Desk.seen c.read_script.new.desk)
-    c.in-Ok.ensures.only c.in-Ok-read_requests.ensures.only c.in-Err-read_script.ensures.unnamed
+    unnamed_at_calls (sources_of c.args.sources.now) (g.D.Desk.seen c.args.desk.now) (g.D.Desk.seen c.read_disk.new.desk) (g.D.Desk.seen c.read_requests.new.desk) (g.D.Desk.seen c.read_script.new.desk)
+    c.in-Ok.ensures.only c.in-Ok-read_requests.ensures.only c.in-Err-read_script.ensures.only c.in-Err-read_script.ensures.unnamed
 
 pub returns-in-Err-clause-opened : goal.returns-in-Err-clause-opened
 returns-in-Err-clause-opened g c =
-    opened_at_params (replay_terms c.args.words.now) (g.D.Desk.seen c.args.desk.now) c.requires (g.D.Desk.seen c.read_disk.new.desk) c.in-Err.ensures.only
-    (subst (λ (name : List ℕ). IsOpenedAs name (g.D.Desk.seen c.args.desk.now) ((g.D.Desk.seen c.read_disk.new.desk).inputs Params)) c.as_str.ensures.value c.in-Err.ensures.opened)
+    opened_at_params (sources_of c.args.sources.now) (g.D.Desk.seen c.args.desk.now) c.requires (g.D.Desk.seen c.read_disk.new.desk) c.in-Err.ensures.only
+    c.in-Err.ensures.opened
 
 pub returns-in-Err-read_requests-clause-opened : goal.returns-in-Err-read_requests-clause-opened
 returns-in-Err-read_requests-clause-opened g c =
-    opened_at_trace (replay_terms c.args.words.now) (g.D.Desk.seen c.args.desk.now) c.requires (g.D.Desk.seen c.read_disk.new.desk) c.in-Ok.ensures.only
-    (subst (λ (name : List ℕ). IsOpenedAs name (g.D.Desk.seen c.args.desk.now) ((g.D.Desk.seen c.read_disk.new.desk).inputs Params)) c.as_str.ensures.value c.in-Ok.ensures.opened)
+    opened_at_trace (sources_of c.args.sources.now) (g.D.Desk.seen c.args.desk.now) c.requires (g.D.Desk.seen c.read_disk.new.desk) c.in-Ok.ensures.only
+    c.in-Ok.ensures.opened
     (g.D.Desk.seen c.read_requests.new.desk) c.in-Err-read_requests.ensures.only
-    (subst (λ (name : List ℕ). IsOpenedAs name (g.D.Desk.seen c.read_disk.new.desk) ((g.D.Desk.seen c.read_requests.new.desk).inputs Trace)) c.as_str-2.ensures.value c.in-Err-read_requests.ensures.opened)
+    c.in-Err-read_requests.ensures.opened
 
 pub returns-in-Ok-read_script-clause-opened : goal.returns-in-Ok-read_script-clause-opened
 returns-in-Ok-read_script-clause-opened g c =
-    opened_at_calls (replay_terms c.args.words.now) (g.D.Desk.seen c.args.desk.now) c.requires (g.D.Desk.seen c.read_disk.new.desk) c.in-Ok.ensures.only
-    (subst (λ (name : List ℕ). IsOpenedAs name (g.D.Desk.seen c.args.desk.now) ((g.D.Desk.seen c.read_disk.new.desk).inputs Params)) c.as_str.ensures.value c.in-Ok.ensures.opened)
+    opened_at_calls (sources_of c.args.sources.now) (g.D.Desk.seen c.args.desk.now) c.requires (g.D.Desk.seen c.read_disk.new.desk) c.in-Ok.ensures.only
+    c.in-Ok.ensures.opened
     (g.D.Desk.seen c.read_requests.new.desk) (g.D.Desk.seen c.read_script.new.desk) c.in-Ok-read_requests.ensures.only
-    (subst (λ (name : List ℕ). IsOpenedAs name (g.D.Desk.seen c.read_disk.new.desk) ((g.D.Desk.seen c.read_requests.new.desk).inputs Trace)) c.as_str-2.ensures.value c.in-Ok-read_requests.ensures.opened)
+    c.in-Ok-read_requests.ensures.opened
     c.in-Ok-read_script.ensures.only c.in-Ok-read_script.ensures.opened
 
 pub returns-in-Err-read_script-clause-opened : goal.returns-in-Err-read_script-clause-opened
 returns-in-Err-read_script-clause-opened g c =
-    opened_at_calls (replay_terms c.args.words.now) (g.D.Desk.seen c.args.desk.now) c.requires (g.D.Desk.seen c.read_disk.new.desk) c.in-Ok.ensures.only
-    (subst (λ (name : List ℕ). IsOpenedAs name (g.D.Desk.seen c.args.desk.now) ((g.D.Desk.seen c.read_disk.new.desk).inputs Params)) c.as_str.ensures.value c.in-Ok.ensures.opened)
+    opened_at_calls (sources_of c.args.sources.now) (g.D.Desk.seen c.args.desk.now) c.requires (g.D.Desk.seen c.read_disk.new.desk) c.in-Ok.ensures.only
+    c.in-Ok.ensures.opened
     (g.D.Desk.seen c.read_requests.new.desk) (g.D.Desk.seen c.read_script.new.desk) c.in-Ok-read_requests.ensures.only
-    (subst (λ (name : List ℕ). IsOpenedAs name (g.D.Desk.seen c.read_disk.new.desk) ((g.D.Desk.seen c.read_requests.new.desk).inputs Trace)) c.as_str-2.ensures.value c.in-Ok-read_requests.ensures.opened)
+    c.in-Ok-read_requests.ensures.opened
     c.in-Err-read_script.ensures.only c.in-Err-read_script.ensures.opened
 
 pub returns-in-Ok-read_script-clause-calm : goal.returns-in-Ok-read_script-clause-calm

@@ -1,4 +1,4 @@
-use Rattle.std.proofs.Common.{◌≡◌, ◌≤◌, true}
+use Rattle.std.proofs.Common.{◌≡◌, true}
 use Rattle.std.specs.Prelude.{IfSome}
 use Rattle.fb_desk.specs.Calls.{ChangesOutput}
 use Rattle.fb_top.proofs.Fronts.{HoldsLines}

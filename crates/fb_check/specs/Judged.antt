@@ -1,0 +1,26 @@
+-- What was judged between two decisions.
+use Rattle.std.specs.Prelude.{◌≡◌, ℕ, List, [], Bool}
+use Rattle.fb_units.specs.declared.types.Request.{Request}
+use Rattle.fb_rows.specs.declared.fore.ForeRow.{ForeRow}
+use Rattle.fb_rows.specs.declared.back.BackRow.{BackRow}
+use Rattle.fb_model.specs.Inputs.{Inputs}
+use Rattle.fb_decide.specs.declared.deciding.Course.{Course}
+use Rattle.fb_decide.specs.Making.{Step, HasMade}
+use Rattle.fb_check.specs.declared.comparing.Comparison.{Comparison}
+use Rattle.fb_decide.specs.FullRuns.{AreRowsOf}
+use Rattle.fb_check.specs.Verdict.{Reports}
+use Rattle.fb_check.specs.Comparing.{IsReady, HasComparedFore, HasComparedBack}
+
+-- these decisions have been made, their rows were taken out, and the lines of the rows were compared
+pub record HasJudged (inputs : Inputs) (printed : Reports) (more : Bool) (list : List Request) (course : Course) (pending : List Request) (count : ℕ) (fore back : Comparison) : Type 0 where
+  pub steps : List Step
+  pub made : HasMade inputs more steps list course pending count
+  pub no_fore : course.fore ≡ []
+  pub no_back : course.background.rows ≡ []
+  pub fore_rows : List ForeRow
+  pub back_rows : List BackRow
+  pub rows : AreRowsOf inputs steps fore_rows back_rows
+  pub fore_compared : HasComparedFore inputs.disk.sector_bytes printed.bytes printed.fore fore fore_rows
+  pub back_compared : HasComparedBack printed.names inputs.disk.sector_bytes printed.bytes printed.back back back_rows
+  pub fore_ready : IsReady fore
+  pub back_ready : IsReady back

@@ -1,0 +1,203 @@
+-- What a check read and wrote, told of the desk at the start.
+use Rattle.std.proofs.Common.{◌≡◌, ◌∙◌, ℕ, ◌<◌, ◌^◌, List, length, Option, Some, true, refl, sym, ap, subst, inl, inr}
+use Rattle.std.specs.List.{flat_map}
+use Rattle.std.specs.Prelude.{◌≤◌, Err, IfErr, IfOk, IfSome, Ok, Result, codes, is_some}
+use Rattle.fb_report.specs.Grammar.{Grammar, back_grammar, ended, fore_grammar, report_of}
+use Rattle.fb_report.specs.Reading.{AnswersReport}
+use Rattle.fb_report.specs.declared.reading.ReportsError.{ReportsError}
+use Rattle.fb_report.specs.declared.reading.ReportsError.TheVariants as errors
+use Rattle.fb_report.specs.declared.reading.Report.{Report}
+use Rattle.fb_report.specs.declared.reading.Report.TheVariants as reports
+use Rattle.fb_check.specs.declared.verdict.Verdict.{Verdict}
+use Rattle.fb_desk.specs.Calls.{Rose, ChangesInput, ChangesOutput}
+use Rattle.fb_desk.specs.View.{DeskView, InputView, OutputView, IsUnused}
+use Rattle.fb_desk.specs.declared.desk.Input.{Input}
+use Rattle.fb_desk.specs.declared.desk.Input.TheVariants.{Params, Trace, Calls, ForeReport, BackReport}
+use Rattle.fb_desk.specs.declared.desk.Output.{Output}
+use Rattle.fb_desk.specs.declared.desk.Output.TheVariants.{Fore}
+use Rattle.fb_words.specs.Command.{CheckTerms}
+use Rattle.fb_top.specs.declared.outcome.Outcome.{Outcome}
+use Rattle.fb_top.specs.declared.outcome.Outcome.TheVariants as outcomes
+use Rattle.fb_top.specs.Calm.{AreInputsCalm, IsCalm}
+use Rattle.fb_top.specs.Causes.{AcceptsBefore, AcceptsFiles, AcceptsFore, CheckHasCause, EndsAt, FaultsRose, IsTooLong, IsUnread, KeepsLater, RefusesReportInTurn, RunsOut, StopsInputs, StopsPrinted, StopsReport, grammar_of, input_of, limit_of, refused_as}
+use Rattle.fb_top.specs.Checked.{ArePrintedCalm, ChangesPrinted, IsVerdictCut, IsVerdictOf, JudgesBack, JudgesBy, verdict_line}
+use Rattle.fb_top.specs.Opened.{IsOpenedAs, OpensAsNamed}
+use Rattle.fb_top.specs.Read.{Files, ReadsReport, RefusesReport}
+use Rattle.fb_top.specs.Sources.{SourceTerms, check_inputs, check_sources, files_alone, name_of}
+use Rattle.fb_top.specs.Streams.{IsHeld, IsLonger}
+use Rattle.fb_top.specs.Unnamed.{KeepsUnnamed}
+use Rattle.fb_top.specs.Written.{HoldsWhole, KeepsBut, KeepsReports, StopsText}
+use Rattle.fb_top.proofs.Moved.{fore_is_no_note, stops_text}
+use Rattle.fb_top.proofs.Opened.{calm_both, calm_output, told_before, unopened}
+use Rattle.fb_top.proofs.Unnamed.{is_named}
+
+-- the files alone have no reports
+no_report : (sources : SourceTerms) (report : Report) (name : List ℕ) → name_of (files_alone sources) (input_of report) ≡ Some name → ⊥
+no_report sources reports.Fore name given = is_named name (sym given)
+no_report sources reports.Back name given = is_named name (sym given)
+
+module _ (terms : CheckTerms) (old new : DeskView) where
+  same_name : (input : Input) (name : List ℕ) → name_of (files_alone (check_sources terms)) input ≡ Some name → name_of (check_inputs terms) input ≡ Some name
+  same_name Params name given = given
+  same_name Trace name given = given
+  same_name Calls name given = given
+  same_name ForeReport name given = absurd (is_named name (sym given))
+  same_name BackReport name given = absurd (is_named name (sym given))
+
+  also_named : (input : Input) → is_some (name_of (files_alone (check_sources terms)) input) ≡ true → is_some (name_of (check_inputs terms) input) ≡ true
+  also_named Params given = refl
+  also_named Trace given = refl
+  also_named Calls given = refl
+  also_named ForeReport given = refl
+  also_named BackReport given = refl
+
+  same_before : (input : Input) → AcceptsBefore old (files_alone (check_sources terms)) input → AcceptsBefore old (check_inputs terms) input
+  same_before Params before = tt
+  same_before Trace before = before
+  same_before Calls before = before
+  same_before ForeReport before = before
+  same_before BackReport before = absurd (is_named before.name (sym before.given))
+
+  -- why the files were not read
+  pub files_stopped : (outcome : Outcome) → StopsInputs (files_alone (check_sources terms)) old new outcome → CheckHasCause terms old new outcome
+  files_stopped (outcomes.Params fault) h = h
+  files_stopped (outcomes.Trace fault) h = h
+  files_stopped (outcomes.Calls fault) h = h
+  files_stopped (outcomes.Reports fault) h = absurd (no_report (check_sources terms) fault.report h.0.name h.0.given)
+  files_stopped (outcomes.TooLong input) h = (record { before = same_before input h.0.before; name = h.0.name; given = same_name input h.0.name h.0.given; longer = h.0.longer }, h.1)
+  files_stopped (outcomes.ReadFault input) h = (record { before = same_before input h.0.before; given = also_named input h.0.given; rose = h.0.rose }, h.1)
+  files_stopped outcomes.NoMemory h = inl (record { input = h.input; before = same_before h.input h.before; ends = h.ends })
+  files_stopped (outcomes.Done run) h = absurd h
+  files_stopped (outcomes.Made n) h = absurd h
+  files_stopped (outcomes.Checked verdict) h = absurd h
+  files_stopped (outcomes.Usage fault) h = absurd h
+  files_stopped (outcomes.WriteFault output) h = absurd h
+
+-- the files were read, and then the reports
+module _ (terms : CheckTerms) (old mid new : DeskView) (held : (name : List ℕ) → mid.held name ≡ old.held name) (outputs : (output : Output) → mid.outputs output ≡ old.outputs output) (only : ChangesPrinted mid new) where
+  reads_before : (name : List ℕ) (grammar : Grammar) (lines : List (List ℕ)) → ReadsReport mid name grammar lines → ReadsReport old name grammar lines
+  reads_before name grammar lines reads = record {
+    bytes = reads.bytes;
+    held = subst (λ (told : Option (List ℕ)). IfSome told (λ here. reads.bytes ≡ here)) (held name) reads.held;
+    within = reads.within;
+    spells = reads.spells;
+    whole = reads.whole;
+  }
+
+  refuses_before : (name : List ℕ) (grammar : Grammar) (line : ℕ) → RefusesReport mid name grammar line → RefusesReport old name grammar line
+  refuses_before name grammar line refuses = record {
+    bytes = refuses.bytes;
+    held = subst (λ (told : Option (List ℕ)). IfSome told (λ here. refuses.bytes ≡ here)) (held name) refuses.held;
+    within = refuses.within;
+    spells = refuses.spells;
+  }
+
+  longer_before : (name : List ℕ) → IsLonger mid name (2 ^ 28) → IsLonger old name (2 ^ 28)
+  longer_before name longer = subst (λ (told : Option (List ℕ)). IfSome told (λ here. 2 ^ 28 < length here)) (held name) longer
+
+  -- the verdict on what was read
+  pub judges_before : (files : Files) (verdict : Verdict) → JudgesBy mid terms files verdict → JudgesBy old terms files verdict
+  judges_before files verdict judges = record {
+    fore = judges.fore;
+    fore_read = reads_before terms.fore fore_grammar judges.fore judges.fore_read;
+    judges_back = record {
+      back = judges.judges_back.back;
+      back_read = reads_before terms.back back_grammar judges.judges_back.back judges.judges_back.back_read;
+      verdict_is = judges.judges_back.verdict_is;
+    };
+  }
+
+  keeps_reports : KeepsReports old new
+  keeps_reports = λ output no_note. only.outputs output ∙ outputs output
+
+  module _ (files : AcceptsFiles old (check_sources terms)) (untouched : KeepsLater Calls old mid) where
+    ends_fore : KeepsLater ForeReport mid new → EndsAt ForeReport old new
+    ends_fore later = record { later = later ∙ untouched.1; reports = keeps_reports }
+
+    ends_back : EndsAt BackReport old new
+    ends_back = record { later = tt; reports = keeps_reports }
+
+    fore_before : (lines : List (List ℕ)) → ReadsReport mid terms.fore fore_grammar lines → AcceptsFore old (check_inputs terms)
+    fore_before lines reads = record { files = files; name = terms.fore; given = refl; lines = lines; reads_fore = reads_before terms.fore fore_grammar lines reads }
+
+    -- the report that is refused is this one
+    in_turn : (report here : Report) (line : ℕ) (name : List ℕ) → report ≡ here → AcceptsBefore old (check_inputs terms) (input_of here) → name_of (check_inputs terms) (input_of here) ≡ Some name
+        → RefusesReport old name (grammar_of here) line → EndsAt (input_of here) old new
+        → RefusesReportInTurn old (check_inputs terms) (record { report = report; line = line }) × EndsAt (input_of report) old new
+    in_turn report here line name is before given refuses ends =
+        subst (λ (r : Report). RefusesReportInTurn old (check_inputs terms) (record { report = r; line = line }) × EndsAt (input_of r) old new) (sym is)
+        (record { before = before; name = name; given = given; refuses = refuses }, ends)
+
+    long_here : (input here : Input) (name : List ℕ) → input ≡ here → AcceptsBefore old (check_inputs terms) here → name_of (check_inputs terms) here ≡ Some name → IsLonger old name (limit_of here) → EndsAt here old new
+        → IsTooLong old (check_inputs terms) input × EndsAt input old new
+    long_here input here name is before given longer ends =
+        subst (λ (i : Input). IsTooLong old (check_inputs terms) i × EndsAt i old new) (sym is) (record { before = before; name = name; given = given; longer = longer }, ends)
+
+    unread_here : (input here : Input) → input ≡ here → AcceptsBefore old (check_inputs terms) here → is_some (name_of (check_inputs terms) here) ≡ true → mid.inputs here ≡ old.inputs here → FaultsRose mid new here → EndsAt here old new
+        → IsUnread old new (check_inputs terms) input × EndsAt input old new
+    unread_here input here is before given same rose ends =
+        subst (λ (i : Input). IsUnread old new (check_inputs terms) i × EndsAt i old new) (sym is)
+        (record { before = before; given = given; rose = subst (λ (v : InputView). Rose v.faults (new.inputs here).faults) same rose }, ends)
+
+    -- why the foreground report was not read
+    fore_stopped : (outcome : Outcome) → StopsReport reports.Fore terms.fore mid new outcome → KeepsLater ForeReport mid new → CheckHasCause terms old new outcome
+    fore_stopped (outcomes.Reports fault) h later = in_turn fault.report reports.Fore fault.line terms.fore h.0 files refl (refuses_before terms.fore fore_grammar fault.line h.1) (ends_fore later)
+    fore_stopped (outcomes.TooLong input) h later = long_here input ForeReport terms.fore h.0 files refl (longer_before terms.fore h.1) (ends_fore later)
+    fore_stopped (outcomes.ReadFault input) h later = unread_here input ForeReport h.0 files refl untouched.0 h.1 (ends_fore later)
+    fore_stopped outcomes.NoMemory h later = inl (record { input = ForeReport; before = files; ends = ends_fore later })
+    fore_stopped (outcomes.Done run) h later = absurd h
+    fore_stopped (outcomes.Made n) h later = absurd h
+    fore_stopped (outcomes.Checked verdict) h later = absurd h
+    fore_stopped (outcomes.Usage fault) h later = absurd h
+    fore_stopped (outcomes.Params fault) h later = absurd h
+    fore_stopped (outcomes.Trace fault) h later = absurd h
+    fore_stopped (outcomes.Calls fault) h later = absurd h
+    fore_stopped (outcomes.WriteFault output) h later = absurd h
+
+    -- or the background report
+    back_stopped : (outcome : Outcome) → AcceptsFore old (check_inputs terms) → StopsReport reports.Back terms.back mid new outcome → CheckHasCause terms old new outcome
+    back_stopped (outcomes.Reports fault) before h = in_turn fault.report reports.Back fault.line terms.back h.0 before refl (refuses_before terms.back back_grammar fault.line h.1) ends_back
+    back_stopped (outcomes.TooLong input) before h = long_here input BackReport terms.back h.0 before refl (longer_before terms.back h.1) ends_back
+    back_stopped (outcomes.ReadFault input) before h = unread_here input BackReport h.0 before refl untouched.1 h.1 ends_back
+    back_stopped outcomes.NoMemory before h = inl (record { input = BackReport; before = before; ends = ends_back })
+    back_stopped (outcomes.Done run) before h = absurd h
+    back_stopped (outcomes.Made n) before h = absurd h
+    back_stopped (outcomes.Checked verdict) before h = absurd h
+    back_stopped (outcomes.Usage fault) before h = absurd h
+    back_stopped (outcomes.Params fault) before h = absurd h
+    back_stopped (outcomes.Trace fault) before h = absurd h
+    back_stopped (outcomes.Calls fault) before h = absurd h
+    back_stopped (outcomes.WriteFault output) before h = absurd h
+
+    -- why no verdict was reached
+    pub printed_stopped : (outcome : Outcome) → StopsPrinted terms mid new outcome → CheckHasCause terms old new outcome
+    printed_stopped outcome (inl h) = fore_stopped outcome h.stops h.later
+    printed_stopped outcome (inr h) = back_stopped outcome (fore_before h.lines h.before) h.stops
+
+-- and then the line was written
+module _ (terms : CheckTerms) (old mid new : DeskView) (verdict : Verdict) (is_verdict : IsVerdictOf old terms verdict) (outputs : (output : Output) → mid.outputs output ≡ old.outputs output) (only : ChangesOutput Fore mid new) where
+  pub but_fore : KeepsBut Fore old new
+  but_fore = λ output no_fore no_note. only.outputs output no_fore ∙ outputs output
+
+  cut : (outcome : Outcome) → StopsText Fore (codes "-") (verdict_line verdict) mid new outcome → IsVerdictCut old new terms outcome
+  cut outcome stops = record {
+    verdict = verdict;
+    is_verdict = is_verdict;
+    others = but_fore;
+    stops = stops_text old mid new new (λ output no_note. outputs output) (λ output no_note. refl) Fore (codes "-") (verdict_line verdict) outcome fore_is_no_note stops;
+  }
+
+  -- or not
+  pub line_stopped : (outcome : Outcome) → StopsText Fore (codes "-") (verdict_line verdict) mid new outcome → CheckHasCause terms old new outcome
+  line_stopped (outcomes.WriteFault output) h = cut (outcomes.WriteFault output) h
+  line_stopped outcomes.NoMemory h = inr (cut outcomes.NoMemory h)
+  line_stopped (outcomes.Done run) h = absurd h
+  line_stopped (outcomes.Made n) h = absurd h
+  line_stopped (outcomes.Checked other) h = absurd h
+  line_stopped (outcomes.Usage fault) h = absurd h
+  line_stopped (outcomes.Params fault) h = absurd h
+  line_stopped (outcomes.Trace fault) h = absurd h
+  line_stopped (outcomes.Calls fault) h = absurd h
+  line_stopped (outcomes.Reports fault) h = absurd h
+  line_stopped (outcomes.TooLong input) h = absurd h
+  line_stopped (outcomes.ReadFault input) h = absurd h

@@ -1,0 +1,48 @@
+-- The verdict on right reports.
+use Rattle.std.proofs.Common.{◌≡◌, ◌⊎◌, ℕ, List, refl, sym, ap, subst, ◌∙◌, inl, inr}
+use Rattle.std.specs.Prelude.{map, slice_get}
+use Rattle.fb_rows.specs.declared.run.Run.{Run}
+use Rattle.fb_model.specs.Accepted.{IsAccepted}
+use Rattle.fb_model.specs.FullRun.{IsFull}
+use Rattle.fb_model.specs.Inputs.{Inputs}
+use Rattle.fb_model.specs.Known.{OneFullRun}
+use Rattle.fb_report.specs.Back.{back_lines}
+use Rattle.fb_desk.specs.View.{DeskView}
+use Rattle.fb_report.specs.Grammar.{Grammar, ended, report_of}
+use Rattle.fb_report.specs.declared.reading.Report.{Report}
+use Rattle.fb_report.specs.declared.reading.Report.TheVariants as reports
+use Rattle.fb_check.specs.Verdict.{HasBackLines, HasForeLines, IsVerdict, IsWrong, Reports}
+use Rattle.fb_check.specs.declared.verdict.Mismatch.{Mismatch}
+use Rattle.fb_check.specs.declared.verdict.Verdict.{Verdict}
+use Rattle.fb_check.specs.declared.verdict.Verdict.TheVariants.{Yes, No}
+use Rattle.fb_top.specs.Read.{ReadsReport}
+use Rattle.fb_top.specs.Untouched.{HoldsLines}
+use Rattle.fb_top.specs.Written.{joined}
+use Rattle.fb_top.proofs.Completeness.{same_ok}
+use Rattle.fb_top.proofs.OneRun.{held_here}
+
+one_of_two : (report : Report) → (report ≡ reports.Fore) ⊎ (report ≡ reports.Back)
+one_of_two reports.Fore = inl refl
+one_of_two reports.Back = inr refl
+
+module _ (one_run : OneFullRun) (inputs : Inputs) (printed : Reports) (run : Run) (accepted : IsAccepted inputs) (full : IsFull inputs run) (fore : HasForeLines inputs printed run) (back : HasBackLines inputs printed run) where
+  not_wrong : (mismatch : Mismatch) → IsWrong inputs printed mismatch → ⊥
+  not_wrong mismatch wrong = elim (one_of_two mismatch.report) [
+    | inl is ↦
+        let there = wrong.0 is run (record { fore = full.sound.fore; passed_over = full.sound.passed_over }) in
+        there.lines.there (ap (λ lines. slice_get lines there.index) fore)
+    | inr is ↦
+        let here = wrong.1 is in
+        here.wrong.lines.there (ap (λ lines. slice_get lines here.wrong.index) (ap (λ (r : Run). back_lines printed.names inputs.disk.sector_bytes printed.bytes r) (one_run inputs here.run run accepted here.full full) ∙ back))
+  ]
+
+  -- right reports are not refused
+  pub is_yes : (verdict : Verdict) → IsVerdict inputs printed verdict → verdict ≡ Yes
+  is_yes Yes h = refl
+  is_yes (No mismatch) h = absurd (not_wrong mismatch h)
+
+-- a report of these lines is read as these lines
+pub read_as : (desk : DeskView) (name : List ℕ) (grammar : Grammar) (lines found : List (List ℕ)) → HoldsLines desk name grammar lines → ReadsReport desk name grammar found → lines ≡ map ended found
+read_as desk name grammar lines found holds reads =
+    sym holds.are ∙ ap (map ended) (same_ok (report_of grammar reads.bytes) holds.parts found
+    (ap (report_of grammar) (held_here (desk.held name) reads.bytes (joined lines) holds.held reads.held) ∙ holds.spells) reads.spells)

@@ -1,0 +1,51 @@
+-- The inputs that words name.
+use Rattle.std.specs.Prelude.{ℕ, List, Option, Some, None}
+use Rattle.std.specs.Option.{option_map}
+use Rattle.fb_desk.specs.declared.desk.Input.{Input}
+use Rattle.fb_desk.specs.declared.desk.Input.TheVariants.{Params, Trace, Calls, ForeReport, BackReport}
+use Rattle.fb_words.specs.Command.{ReplayTerms, CheckTerms}
+use Rattle.fb_top.specs.declared.reading.Sources.{Sources}
+
+-- the names of a run's files, and the device whose requests are read
+pub record SourceTerms : Type 0 where
+  pub params : List ℕ
+  pub trace : List ℕ
+  pub calls : Option (List ℕ)
+  pub device : ℕ
+
+-- and the names of printed reports, which a check reads behind them
+pub record InputTerms : Type 0 where
+  pub sources : SourceTerms
+  pub fore : Option (List ℕ)
+  pub back : Option (List ℕ)
+
+abbrev pub sources_of : Sources → SourceTerms
+sources_of sources = record { params = sources.params.now; trace = sources.trace.now; calls = option_map (λ name. name.now) sources.calls; device = sources.device }
+
+-- the files of a run without reports
+abbrev pub files_alone : SourceTerms → InputTerms
+files_alone sources = record { sources = sources; fore = None; back = None }
+
+-- the files of a replay
+abbrev pub replay_sources : ReplayTerms → SourceTerms
+replay_sources terms = record { params = terms.params; trace = terms.trace; calls = terms.calls; device = terms.device }
+
+-- the inputs of a replay: its files alone
+abbrev pub replay_inputs : ReplayTerms → InputTerms
+replay_inputs terms = files_alone (replay_sources terms)
+
+-- the files of a check
+abbrev pub check_sources : CheckTerms → SourceTerms
+check_sources terms = record { params = terms.params; trace = terms.trace; calls = Some terms.calls; device = terms.device }
+
+-- the inputs of a check: its files and both reports
+abbrev pub check_inputs : CheckTerms → InputTerms
+check_inputs terms = record { sources = check_sources terms; fore = Some terms.fore; back = Some terms.back }
+
+-- the name under which the words give an input, if they give it
+abbrev pub name_of : InputTerms → Input → Option (List ℕ)
+name_of terms Params = Some terms.sources.params
+name_of terms Trace = Some terms.sources.trace
+name_of terms Calls = terms.sources.calls
+name_of terms ForeReport = terms.fore
+name_of terms BackReport = terms.back

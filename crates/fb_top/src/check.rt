@@ -1,0 +1,165 @@
+// The command that judges printed reports.
+ghost use Rattle.std.specs.Prelude.{◌≡◌, ◌≤◌, ◌^◌, ℕ, false, codes, length, IfErr, IfOk, OnOk};
+ghost use Rattle.fb_calls.specs.Allowed.{tasks};
+ghost use Rattle.fb_desk.specs.Calls.{ChangesInput, ChangesOutput};
+ghost use Rattle.fb_desk.specs.View.{IsUnused};
+ghost use Rattle.fb_model.specs.Accepted.{IsAccepted};
+ghost use Rattle.fb_words.specs.Verdict.{check_terms};
+ghost use Rattle.fb_top.specs.Calm.{MeetsNoFault};
+ghost use Rattle.fb_report.specs.Grammar.{fore_grammar};
+ghost use Rattle.fb_report.specs.Reading.{IsReport};
+ghost use Rattle.fb_report.specs.declared.reading.Report.TheVariants as reports;
+ghost use Rattle.fb_top.specs.Causes.{CheckHasCause, StopsPrinted, StopsReport, refused_as};
+ghost use Rattle.fb_top.specs.Checked.{ArePrintedCalm, ChangesPrinted, JudgesBack, JudgesBy, verdict_line};
+ghost use Rattle.fb_top.specs.Opened.{IsOpenedAs, OpensAsNamed};
+ghost use Rattle.fb_top.specs.Read.{files_of, inputs_of, key_of};
+ghost use Rattle.fb_top.specs.Sources.{check_inputs, check_sources, sources_of};
+ghost use Rattle.fb_top.specs.Unnamed.{KeepsUnnamed};
+ghost use Rattle.fb_top.specs.Written.{HoldsWhole, StopsText};
+
+use crate::Outcome;
+use crate::policy::judge_by;
+use crate::reading::{ReplayFiles, Sources, read_inputs, read_printed};
+use crate::streams::write_whole;
+use crate::verdict_line::verdict_line;
+use fb_check::{Printed, Verdict};
+use fb_desk::{Desk, Failed, Input, Output};
+use fb_report::{Report, ReportLines, ReportsError, read_back, read_fore};
+use fb_units::NoMemory;
+use fb_words::CheckWords;
+use std::alloc::Global;
+
+/// Judges two printed reports against the full run of the files that the words name.
+pub fn run_check<D: Desk>(alloc: Global, desk: &mut D, words: &CheckWords) -> Outcome
+    requires unused { IsUnused (D.seen desk.old) }
+    requires until { words.now.until ≤ 10 ^ 15 }
+    ensures cause { CheckHasCause (check_terms words.now) (D.seen desk.old) (D.seen desk.new) result }
+    ensures unnamed { KeepsUnnamed (check_inputs (check_terms words.now)) (D.seen desk.old) (D.seen desk.new) }
+    ensures opened { OpensAsNamed (check_inputs (check_terms words.now)) (D.seen desk.old) (D.seen desk.new) }
+    ensures calm { MeetsNoFault result (D.seen desk.old) (D.seen desk.new) }
+    ensures no_note { (D.seen desk.new).outputs Output.Note ≡ (D.seen desk.old).outputs Output.Note }
+{
+    let files = match read_inputs(alloc, desk, &sources(words)) {
+        Ok(files) => files,
+        Err(outcome) => return outcome,
+    };
+    let verdict = match judge_printed(alloc, desk, words, &files) {
+        Ok(verdict) => verdict,
+        Err(outcome) => return outcome,
+    };
+    match write_verdict(alloc, desk, &verdict) {
+        Ok(()) => Outcome::Checked(verdict),
+        Err(outcome) => outcome,
+    }
+}
+
+// The files of the run.
+fn sources(words: &CheckWords) -> Sources<'_>
+    ensures { sources_of result ≡ check_sources (check_terms words.now) }
+{
+    Sources {
+        params: words.params.as_str(),
+        trace: words.trace.as_str(),
+        calls: Some(words.calls.as_str()),
+        device: words.device,
+    }
+}
+
+// Reads the foreground report and then the background report, and judges them.
+//
+// The error is the outcome of the first that can't be read or is refused, or memory ran out.
+fn judge_printed<D: Desk>(
+    alloc: Global,
+    desk: &mut D,
+    words: &CheckWords,
+    files: &ReplayFiles,
+) -> Result<Verdict, Outcome>
+    requires fresh_fore { ((D.seen desk.old).inputs Input.ForeReport).opened ≡ false }
+    requires fresh_back { ((D.seen desk.old).inputs Input.BackReport).opened ≡ false }
+    requires fit { IsAccepted (inputs_of (files_of files.now) (key_of words.now.policy) words.now.until) }
+    requires names { length files.now.calls.names ≡ length (tasks files.now.calls.calls.items) }
+    ensures only { ChangesPrinted (D.seen desk.old) (D.seen desk.new) }
+    ensures fore { IsOpenedAs (check_terms words.now).fore (D.seen desk.old) ((D.seen desk.new).inputs Input.ForeReport) }
+    ensures back { IsOpenedAs (check_terms words.now).back (D.seen desk.old) ((D.seen desk.new).inputs Input.BackReport) }
+    ensures calm { IfOk result (λ _. ArePrintedCalm (D.seen desk.old) (D.seen desk.new)) }
+    ensures judges { IfOk result (JudgesBy (D.seen desk.old) (check_terms words.now) (files_of files.now)) }
+    ensures stops { IfErr result (StopsPrinted (check_terms words.now) (D.seen desk.old) (D.seen desk.new)) }
+{
+    let text = match read_printed(alloc, desk, Report::Fore, words.fore.as_str()) {
+        Ok(text) => text,
+        Err(outcome) => return Err(outcome),
+    };
+    match read_fore(alloc, text.as_slice()) {
+        Ok(fore) => judge_with(alloc, desk, words, files, &fore),
+        Err(error) => Err(refused(error)),
+    }
+}
+
+// Reads the background report, and judges both.
+fn judge_with<D: Desk>(
+    alloc: Global,
+    desk: &mut D,
+    words: &CheckWords,
+    files: &ReplayFiles,
+    fore: &ReportLines<'_>,
+) -> Result<Verdict, Outcome>
+    requires fresh { ((D.seen desk.old).inputs Input.BackReport).opened ≡ false }
+    requires fit { IsAccepted (inputs_of (files_of files.now) (key_of words.now.policy) words.now.until) }
+    requires names { length files.now.calls.names ≡ length (tasks files.now.calls.calls.items) }
+    requires fore { IsReport fore_grammar fore.now }
+    ensures only { ChangesInput Input.BackReport (D.seen desk.old) (D.seen desk.new) }
+    ensures opened { IsOpenedAs (check_terms words.now).back (D.seen desk.old) ((D.seen desk.new).inputs Input.BackReport) }
+    ensures calm { IfOk result (λ _. ((D.seen desk.new).inputs Input.BackReport).faults ≡ ((D.seen desk.old).inputs Input.BackReport).faults) }
+    ensures judges { IfOk result (JudgesBack (D.seen desk.old) (check_terms words.now) (files_of files.now) fore.now) }
+    ensures stops { IfErr result (StopsReport reports.Back (check_terms words.now).back (D.seen desk.old) (D.seen desk.new)) }
+{
+    let text = match read_printed(alloc, desk, Report::Back, words.back.as_str()) {
+        Ok(text) => text,
+        Err(outcome) => return Err(outcome),
+    };
+    let back = match read_back(alloc, text.as_slice()) {
+        Ok(lines) => lines,
+        Err(error) => return Err(refused(error)),
+    };
+    let printed = Printed {
+        bytes: words.bytes,
+        fore,
+        back: &back,
+    };
+    match judge_by(alloc, words.policy, files, words.until, printed) {
+        Ok(verdict) => Ok(verdict),
+        Err(NoMemory) => Err(Outcome::NoMemory),
+    }
+}
+
+// The outcome where no report was read from a text.
+fn refused(error: ReportsError) -> Outcome
+    ensures { result ≡ refused_as error }
+{
+    match error {
+        ReportsError::Fault(fault) => Outcome::Reports(fault),
+        ReportsError::NoMemory => Outcome::NoMemory,
+    }
+}
+
+// Writes the line that tells a verdict, under the name `-`.
+fn write_verdict<D: Desk>(alloc: Global, desk: &mut D, verdict: &Verdict) -> Result<(), Outcome>
+    requires fresh { ((D.seen desk.old).outputs Output.Fore).begun ≡ false }
+    ensures only { ChangesOutput Output.Fore (D.seen desk.old) (D.seen desk.new) }
+    ensures whole { OnOk result (HoldsWhole ((D.seen desk.new).outputs Output.Fore) (codes "-") (verdict_line verdict.now)) }
+    ensures calm { OnOk result (((D.seen desk.new).outputs Output.Fore).faults ≡ ((D.seen desk.old).outputs Output.Fore).faults) }
+    ensures stops { IfErr result (StopsText Output.Fore (codes "-") (verdict_line verdict.now) (D.seen desk.old) (D.seen desk.new)) }
+{
+    match desk.begin_output(Output::Fore, "-") {
+        Ok(()) => {}
+        Err(Failed) => return Err(Outcome::WriteFault(Output::Fore)),
+    }
+    let text = match verdict_line(alloc, verdict) {
+        Ok(text) => text,
+        Err(NoMemory) => return Err(Outcome::NoMemory),
+    };
+    match write_whole(desk, Output::Fore, text.as_slice()) {
+        Ok(()) => Ok(()),
+        Err(Failed) => Err(Outcome::WriteFault(Output::Fore)),
+    }
+}
