@@ -2,3 +2,8 @@ pub mod FirstField
 pub mod Comparisons
 pub mod Beginnings
 pub mod Judged
+pub mod PrintingNames
+pub mod PrintingSectors
+pub mod PrintingReads
+pub mod PrintingHistories
+pub mod PrintingRows

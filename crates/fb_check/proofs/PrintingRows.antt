@@ -1,0 +1,154 @@
+-- Each delivery of a full run has a sector, and each sealed image fewer than 2^64.
+use Rattle.std.proofs.Common.{ℕ, List, [], ◌∷◌, ◌++◌, sym, subst, arith, inl, inr}
+use Rattle.std.specs.Prelude.{◌&&◌, not, filter, map}
+use Rattle.std.specs.List.{AllByRecursion, flat_map}
+use Rattle.std.proofs.lemmas.Bool.{cases_Bool, and_parts}
+use Rattle.fb_calls.specs.Sessions.{is_backup}
+use Rattle.fb_wanted.specs.declared.block.Block.{Block}
+use Rattle.fb_wanted.specs.States.{is_delivered, is_wanted}
+use Rattle.fb_rows.specs.declared.gap.Plan.{Plan}
+use Rattle.fb_rows.specs.declared.back.DeliveryRow.{DeliveryRow}
+use Rattle.fb_rows.specs.declared.back.BackRow.TheVariants.{Got as GotLine}
+use Rattle.fb_model.specs.Inputs.{Inputs}
+use Rattle.fb_model.specs.Accepted.{IsAccepted}
+use Rattle.fb_model.specs.Content.{Medium, medium_of, contents_at}
+use Rattle.fb_model.specs.Rides.{due}
+use Rattle.fb_model.specs.Decisions.{Decision, serves, idles, ends, instant_of}
+use Rattle.fb_model.specs.History.{delivered, Past, task_numbers, terms_of, blocks_of, registered, wanted, state, is_sealed, is_open_backup}
+use Rattle.fb_model.specs.Completion.{work, choices, is_complete, was_complete}
+use Rattle.fb_model.specs.Images.{findings, is_scrub, bad_sectors, is_newly_cleaned, segment_rows, seal_rows, complete_rows, test_rows, on_disk}
+use Rattle.fb_model.specs.Steps.{Delivery, Part, settled_past, with_delivery, tested_past, past_after, AtEach, opening, part_rows, task_row, task_rows, history, steps}
+use Rattle.fb_model.specs.SoundRun.{AreFollowed, IsTested}
+use Rattle.fb_model.specs.FullRun.{IsAllDelivered}
+use Rattle.fb_model.proofs.Due.{HasBytes, IsDueRow, due_true}
+use Rattle.fb_tasks.proofs.Lists.{all_weaker, all_any, all_append, all_filter, all_map, flat_all}
+use Rattle.fb_report.specs.Printed.{HasSectors, CountsSectors}
+use Rattle.fb_check.specs.Printing.{RunsCanBePrinted}
+use Rattle.fb_check.proofs.PrintingSectors.{IsSome, runs_have, contents_have, some_have, blocks_have}
+use Rattle.fb_check.proofs.PrintingHistories.{HoldsOf, at_first, settled_holds, after_holds}
+use Rattle.fb_check.proofs.PrintingReads.{reads_have}
+
+-- ---- deliveries
+
+bytes_some : (medium : Medium) (got : DeliveryRow) → HasBytes medium got → IsSome got.block → HasSectors got.content
+bytes_some medium got bytes some =
+    subst HasSectors (sym bytes.content) (omega (arith, some, runs_have (contents_at medium got.block.lbn got.block.count got.begin), contents_have medium got.block.lbn got.block.count got.begin))
+
+due_some : (medium : Medium) (decision : Decision) (plan : Plan) (got : DeliveryRow) → IsDueRow medium decision plan IsSome got → HasSectors got.content
+due_some medium (serves served) plan got is_due = elim is_due [
+  | inl early ↦ bytes_some medium got early.bytes early.one_of
+  | inr later ↦ elim later [
+    | inl late ↦ bytes_some medium got late.bytes late.one_of
+    | inr ridden ↦ bytes_some medium got ridden.bytes ridden.one_of
+  ]
+]
+due_some medium (idles dwell) plan got is_due = bytes_some medium got is_due.bytes is_due.one_of
+due_some medium (ends now) plan got is_due = absurd is_due
+
+-- ---- the rows of tests
+
+module _ (inputs : Inputs) where
+  abbrev medium : Medium
+  medium = medium_of inputs
+
+  wanted_some : (past : Past) → HoldsOf inputs past → AllByRecursion IsSome (wanted past)
+  unfolding wanted
+  wanted_some past h = all_filter IsSome (λ block. is_wanted (state past block)) (registered past) h.some
+
+  gots_some : (past : Past) (step : Decision × Part) → HoldsOf inputs (settled_past inputs past step.0) → IsAllDelivered inputs medium past step
+      → AllByRecursion (λ (got : DeliveryRow). HasSectors got.content) (map (λ delivery. delivery.got) step.1.deliveries)
+  gots_some past step h all =
+      let settled = settled_past inputs past step.0 in
+      subst (AllByRecursion (λ (got : DeliveryRow). HasSectors got.content)) (sym all)
+      (all_weaker (IsDueRow medium step.0 step.1.plan IsSome) (λ got. HasSectors got.content) (due_some medium step.0 step.1.plan) (due medium step.0 step.1.plan (wanted settled))
+      (due_true medium step.0 step.1.plan IsSome (wanted settled) (wanted_some settled h)))
+
+  module _ (past : Past) (now : ℕ) (h : HoldsOf inputs past) where
+    seals_count : (task : ℕ) → AllByRecursion CountsSectors (seal_rows (on_disk medium) past now task)
+    seals_count task = elim (cases_Bool (is_open_backup past task && is_complete past task)) [
+      | inr unsealed ↦ rw unsealed tt
+      | inl sealed ↦
+          let is_delivered = λ (block : Block). is_delivered ((work past task).bare block) in
+          let blocks = filter is_delivered (blocks_of past task) in
+          let backup = and_parts (is_backup (terms_of past task).kind) (not (is_sealed past task)) (and_parts (is_open_backup past task) (is_complete past task) sealed).0 in
+          let few = (h.backups task backup.0).few in
+          rw sealed (
+            omega (
+              arith,
+              few,
+              some_have is_delivered (blocks_of past task),
+              blocks_have medium now blocks,
+              runs_have (flat_map (λ (block : Block). contents_at medium block.lbn block.count now) blocks),
+              inputs.disk.few_blocks,
+            ),
+            tt,
+          )
+    ]
+
+    completes_count : (task : ℕ) → AllByRecursion CountsSectors (complete_rows past now task)
+    completes_count task = elim (cases_Bool (is_complete past task && not (was_complete past task))) [
+      | inl new ↦ rw new (tt, tt)
+      | inr old ↦ rw old tt
+    ]
+
+    tests_count : AllByRecursion CountsSectors (test_rows (on_disk medium) past now)
+    unfolding test_rows
+    tests_count = all_append CountsSectors (flat_map (segment_rows (on_disk medium) past now) (task_numbers past)) (flat_map (λ task. seal_rows (on_disk medium) past now task ++ complete_rows past now task) (task_numbers past))
+        (flat_all CountsSectors (segment_rows (on_disk medium) past now) (task_numbers past)
+        (all_any _ (λ task. all_map CountsSectors _ (filter (is_newly_cleaned (work past task)) (choices past task)) (all_any _ (λ choice. tt) (filter (is_newly_cleaned (work past task)) (choices past task)))) (task_numbers past)))
+        (flat_all CountsSectors (λ task. seal_rows (on_disk medium) past now task ++ complete_rows past now task) (task_numbers past)
+        (all_any _ (λ task. all_append CountsSectors (seal_rows (on_disk medium) past now task) (complete_rows past now task) (seals_count task) (completes_count task)) (task_numbers past)))
+
+  findings_count : (past : Past) (got : DeliveryRow) → AllByRecursion CountsSectors (findings past got)
+  findings_count past got = elim (cases_Bool (is_scrub (terms_of past got.block.task).kind)) [
+    | inl scrubs ↦ rw scrubs (all_map CountsSectors _ (bad_sectors got.content) (all_any _ (λ lbn. tt) (bad_sectors got.content)))
+    | inr other ↦ rw other tt
+  ]
+
+  -- ---- the rows of decisions
+
+  followed_count : (past : Past) (deliveries : List Delivery) → HoldsOf inputs past → AllByRecursion (λ (got : DeliveryRow). HasSectors got.content) (map (λ delivery. delivery.got) deliveries)
+      → AreFollowed medium past deliveries → AllByRecursion CountsSectors (flat_map (λ (delivery : Delivery). GotLine delivery.got ∷ delivery.after) deliveries)
+  followed_count past [] h gots follows = tt
+  followed_count past (delivery ∷ deliveries) h gots follows = (
+    gots.0,
+    all_append CountsSectors delivery.after (flat_map (λ (delivery : Delivery). GotLine delivery.got ∷ delivery.after) deliveries)
+        (subst (AllByRecursion CountsSectors) (sym follows.0) (all_append CountsSectors (findings past delivery.got) (test_rows (on_disk medium) (delivered delivery.got ∷ past) delivery.got.end)
+        (findings_count past delivery.got) (tests_count (delivered delivery.got ∷ past) delivery.got.end h)))
+        (followed_count (with_delivery past delivery) deliveries h gots.1 follows.1),
+  )
+
+  opening_counts : (decision : Decision) (plan : Plan) → AllByRecursion CountsSectors (opening inputs.disk decision plan)
+  opening_counts (serves served) plan = (tt, tt)
+  opening_counts (idles dwell) plan = (tt, tt)
+  opening_counts (ends now) plan = tt
+
+  step_counts : (past : Past) (step : Decision × Part) → HoldsOf inputs (settled_past inputs past step.0) → IsTested inputs medium past step → IsAllDelivered inputs medium past step → AllByRecursion CountsSectors (part_rows inputs.disk step)
+  step_counts past step h tests all =
+      all_append CountsSectors (step.1.settled ++ opening inputs.disk step.0 step.1.plan) (flat_map (λ (delivery : Delivery). GotLine delivery.got ∷ delivery.after) step.1.deliveries)
+      (all_append CountsSectors step.1.settled (opening inputs.disk step.0 step.1.plan)
+      (subst (AllByRecursion CountsSectors) (sym tests.settled) (tests_count (settled_past inputs past step.0) (instant_of step.0) h)) (opening_counts step.0 step.1.plan))
+      (followed_count (tested_past inputs past step) step.1.deliveries h (gots_some past step h all) tests.followed)
+
+  module _ (accepted : IsAccepted inputs) where
+    steps_count : (past : Past) (list : List (Decision × Part)) → HoldsOf inputs past → AtEach (IsTested inputs medium) inputs past list → AtEach (IsAllDelivered inputs medium) inputs past list
+        → AllByRecursion CountsSectors (flat_map (part_rows inputs.disk) list)
+    steps_count past [] h tests all = tt
+    steps_count past (step ∷ list) h tests all =
+        let settled = settled_holds inputs accepted past step.0 h in
+        all_append CountsSectors (part_rows inputs.disk step) (flat_map (part_rows inputs.disk) list) (step_counts past step settled tests.0 all.0)
+        (steps_count (past_after inputs past step) list (after_holds inputs past step settled) tests.1 all.1)
+
+tasks_count : (past : Past) → AllByRecursion CountsSectors (task_rows past)
+unfolding task_rows
+tasks_count past = all_map CountsSectors (task_row past) (task_numbers past) (all_any _ (λ task. tt) (task_numbers past))
+
+pub can_be_printed : RunsCanBePrinted
+can_be_printed inputs run accepted full =
+    let list = steps inputs full.parts in
+    let rows = flat_map (part_rows inputs.disk) list in
+    let sound = full.sound in (
+      subst (AllByRecursion _) (sym sound.fore) (reads_have inputs accepted),
+      subst (AllByRecursion CountsSectors) (sym sound.back) (all_append CountsSectors rows sound.tasks (steps_count inputs accepted [] list (at_first inputs accepted) sound.tested full.all)
+          (subst (AllByRecursion CountsSectors) (sym sound.counted) (tasks_count (history inputs list)))),
+    )

@@ -1,0 +1,124 @@
+-- How many sectors runs, cuts and blocks have.
+use Rattle.std.proofs.Common.{◌≡◌, ℕ, zero, suc, ◌+◌, ◌<◌, ◌≤◌, ◌==◌, List, [], ◌∷◌, true, false, inl, inr, length, length-append, filter, refl, arith}
+use Rattle.std.specs.Prelude.{Bool, ◌&&◌, not}
+use Rattle.std.specs.List.{AllByRecursion, flat_map, sum_by}
+use Rattle.std.proofs.lemmas.Bool.{cases_Bool}
+use Rattle.std.proofs.lemmas.List.Sums.{sum_by-cons}
+use Rattle.std.proofs.lemmas.List.Filters.{sum_by-filter_both}
+use Rattle.std.proofs.lemmas.List.FromFn.{length-map-range_with_len}
+use Rattle.fb_geometry.specs.Shape.{Shape}
+use Rattle.fb_sectormap.specs.declared.cut.Cut.{Cut}
+use Rattle.fb_sectormap.specs.Lookup.{track_at}
+use Rattle.fb_sectormap.specs.Cutting.{cutting, with_sector, is_cut_before}
+use Rattle.fb_calls.specs.Blocks.{live_cuts}
+use Rattle.fb_store.specs.declared.content.Content.{Content}
+use Rattle.fb_store.specs.declared.content.ContentRun.{ContentRun}
+use Rattle.fb_store.specs.Runs.{runs_of, with_content, same_content}
+use Rattle.fb_wanted.specs.declared.block.Block.{Block}
+use Rattle.fb_model.specs.Content.{Medium, content, contents_at}
+use Rattle.fb_model.specs.Segments.{numbered}
+use Rattle.fb_tasks.proofs.Lists.{all_append}
+
+-- ---- runs
+
+abbrev pub run_sectors : List ContentRun → ℕ
+run_sectors runs = sum_by (λ run. run.count) runs
+
+one_more : (lbn : ℕ) (content : Content) (runs : List ContentRun) → run_sectors (with_content lbn content runs) ≡ run_sectors runs + 1
+one_more lbn content [] = refl
+one_more lbn content (run ∷ runs) =
+    let count = λ (run : ContentRun). run.count in
+    let before = sum_by-cons count run runs in
+    elim (cases_Bool ((run.first == lbn + 1) && same_content content run.content)) [
+      | inl joins ↦ rw joins (omega (arith, before, sum_by-cons count (record { first = lbn; count = run.count + 1; content = content }) runs))
+      | inr apart ↦ rw apart (omega (arith, sum_by-cons count (record { first = lbn; count = 1; content = content }) (run ∷ runs)))
+    ]
+
+-- the runs of sectors have all of them
+pub runs_have : (sectors : List (ℕ × Content)) → run_sectors (runs_of sectors) ≡ length sectors
+runs_have [] = refl
+runs_have (sector ∷ sectors) = omega (arith, one_more sector.0 sector.1 (runs_of sectors), runs_have sectors)
+
+pub contents_have : (medium : Medium) (lbn n t : ℕ) → length (contents_at medium lbn n t) ≡ n
+contents_have medium lbn n t = length-map-range_with_len (λ sector. (sector, content medium sector t)) lbn n
+
+-- ---- cuts
+
+abbrev pub HasSector : Cut → Type 0
+HasSector cut = 0 < cut.count
+
+abbrev cut_sectors : List Cut → ℕ
+cut_sectors cuts = sum_by (λ cut. cut.count) cuts
+
+some_with : (disk : Shape) (block lbn : ℕ) (cuts : List Cut) → AllByRecursion HasSector cuts → AllByRecursion HasSector (with_sector disk block lbn cuts)
+some_with disk block lbn [] all = (omega arith, tt)
+some_with disk block lbn (cut ∷ cuts) all = elim (cases_Bool (is_cut_before disk block (lbn + 1))) [
+  | inl alone ↦ rw alone (omega arith, all)
+  | inr joined ↦ rw joined (omega arith, all.1)
+]
+
+pub some_cut : (disk : Shape) (block lbn n : ℕ) → AllByRecursion HasSector (cutting disk block lbn n)
+unfolding cutting
+some_cut disk block lbn zero = tt
+some_cut disk block lbn (suc n) = some_with disk block lbn (cutting disk block (lbn + 1) n) (some_cut disk block (lbn + 1) n)
+
+pub some_live : (disk : Shape) (block lbn : ℕ) (lives : List Bool) → AllByRecursion HasSector (live_cuts disk block lbn lives)
+some_live disk block lbn [] = tt
+some_live disk block lbn (true ∷ lives) = all_append HasSector (cutting disk block lbn block) (live_cuts disk block (lbn + block) lives) (some_cut disk block lbn block) (some_live disk block (lbn + block) lives)
+some_live disk block lbn (false ∷ lives) = some_live disk block (lbn + block) lives
+
+with_one : (disk : Shape) (block lbn : ℕ) (cuts : List Cut) → cut_sectors (with_sector disk block lbn cuts) ≡ cut_sectors cuts + 1
+with_one disk block lbn [] = refl
+with_one disk block lbn (cut ∷ cuts) =
+    let count = λ (cut : Cut). cut.count in
+    let before = sum_by-cons count cut cuts in
+    elim (cases_Bool (is_cut_before disk block (lbn + 1))) [
+      | inl alone ↦ rw alone (omega (arith, sum_by-cons count (record { lbn = lbn; count = 1; track = track_at disk lbn }) (cut ∷ cuts)))
+      | inr joined ↦ rw joined (omega (arith, before, sum_by-cons count (record { lbn = lbn; count = cut.count + 1; track = cut.track }) cuts))
+    ]
+
+-- a range is cut into all its sectors
+pub cuts_have : (disk : Shape) (block lbn n : ℕ) → cut_sectors (cutting disk block lbn n) ≡ n
+unfolding cutting
+cuts_have disk block lbn zero = refl
+cuts_have disk block lbn (suc n) = omega (arith, with_one disk block lbn (cutting disk block (lbn + 1) n), cuts_have disk block (lbn + 1) n)
+
+-- ---- blocks
+
+abbrev pub IsSome : Block → Type 0
+IsSome block = 0 < block.count
+
+abbrev pub sectors : List Block → ℕ
+sectors blocks = sum_by (λ block. block.count) blocks
+
+-- the blocks of one task
+abbrev pub own : ℕ → List Block → List Block
+own task blocks = filter (λ block. block.task == task) blocks
+
+pub some_numbered : (task weight n : ℕ) (cuts : List Cut) → AllByRecursion HasSector cuts → AllByRecursion IsSome (numbered task weight n cuts)
+some_numbered task weight n [] all = tt
+some_numbered task weight n (cut ∷ cuts) all = (all.0, some_numbered task weight (n + 1) cuts all.1)
+
+pub numbered_have : (task weight n : ℕ) (cuts : List Cut) → sectors (numbered task weight n cuts) ≡ cut_sectors cuts
+numbered_have task weight n [] = refl
+numbered_have task weight n (cut ∷ cuts) =
+    let block : Block = record { task = task; index = n; lbn = cut.lbn; count = cut.count; track = cut.track; weight = weight } in
+    omega (arith, sum_by-cons (λ (block : Block). block.count) block (numbered task weight (n + 1) cuts), sum_by-cons (λ (cut : Cut). cut.count) cut cuts, numbered_have task weight (n + 1) cuts)
+
+pub none_other : (owner task weight n : ℕ) (cuts : List Cut) → (owner == task) ≡ false → own task (numbered owner weight n cuts) ≡ []
+none_other owner task weight n [] other = refl
+none_other owner task weight n (cut ∷ cuts) other = rw other (none_other owner task weight (n + 1) cuts other)
+
+pub some_have : (p : Block → Bool) (blocks : List Block) → sectors (filter p blocks) ≤ sectors blocks
+some_have p blocks = omega (arith, sum_by-filter_both p (λ block. not (p block)) (λ block. refl) (λ (block : Block). block.count) blocks)
+
+-- their contents are those of all their sectors
+pub blocks_have : (medium : Medium) (t : ℕ) (blocks : List Block) → length (flat_map (λ block. contents_at medium block.lbn block.count t) blocks) ≡ sectors blocks
+blocks_have medium t [] = refl
+blocks_have medium t (block ∷ blocks) = omega (
+  arith,
+  length-append (contents_at medium block.lbn block.count t) (flat_map (λ (block : Block). contents_at medium block.lbn block.count t) blocks),
+  contents_have medium block.lbn block.count t,
+  blocks_have medium t blocks,
+  sum_by-cons (λ (block : Block). block.count) block blocks,
+)
