@@ -1,16 +1,12 @@
 -- What a check read and wrote, told of the desk at the start.
-use Rattle.std.proofs.Common.{◌≡◌, ◌∙◌, ℕ, ◌<◌, ◌^◌, List, length, Option, Some, true, refl, sym, ap, subst, inl, inr}
-use Rattle.std.specs.List.{flat_map}
-use Rattle.std.specs.Prelude.{◌≤◌, Err, IfErr, IfOk, IfSome, Ok, Result, codes, is_some}
-use Rattle.fb_report.specs.Grammar.{Grammar, back_grammar, ended, fore_grammar, report_of}
-use Rattle.fb_report.specs.Reading.{AnswersReport}
-use Rattle.fb_report.specs.declared.reading.ReportsError.{ReportsError}
-use Rattle.fb_report.specs.declared.reading.ReportsError.TheVariants as errors
+use Rattle.std.proofs.Common.{◌≡◌, ◌∙◌, ℕ, ◌<◌, ◌^◌, List, length, Option, Some, true, refl, sym, subst, inl, inr}
+use Rattle.std.specs.Prelude.{IfSome, codes, is_some}
+use Rattle.fb_report.specs.Grammar.{Grammar, back_grammar, fore_grammar}
 use Rattle.fb_report.specs.declared.reading.Report.{Report}
 use Rattle.fb_report.specs.declared.reading.Report.TheVariants as reports
 use Rattle.fb_check.specs.declared.verdict.Verdict.{Verdict}
-use Rattle.fb_desk.specs.Calls.{Rose, ChangesInput, ChangesOutput}
-use Rattle.fb_desk.specs.View.{DeskView, InputView, OutputView, IsUnused}
+use Rattle.fb_desk.specs.Calls.{Rose, ChangesOutput}
+use Rattle.fb_desk.specs.View.{DeskView, InputView}
 use Rattle.fb_desk.specs.declared.desk.Input.{Input}
 use Rattle.fb_desk.specs.declared.desk.Input.TheVariants.{Params, Trace, Calls, ForeReport, BackReport}
 use Rattle.fb_desk.specs.declared.desk.Output.{Output}
@@ -18,17 +14,13 @@ use Rattle.fb_desk.specs.declared.desk.Output.TheVariants.{Fore}
 use Rattle.fb_words.specs.Command.{CheckTerms}
 use Rattle.fb_top.specs.declared.outcome.Outcome.{Outcome}
 use Rattle.fb_top.specs.declared.outcome.Outcome.TheVariants as outcomes
-use Rattle.fb_top.specs.Calm.{AreInputsCalm, IsCalm}
-use Rattle.fb_top.specs.Causes.{AcceptsBefore, AcceptsFiles, AcceptsFore, CheckHasCause, EndsAt, FaultsRose, IsTooLong, IsUnread, KeepsLater, RefusesReportInTurn, RunsOut, StopsInputs, StopsPrinted, StopsReport, grammar_of, input_of, limit_of, refused_as}
-use Rattle.fb_top.specs.Checked.{ArePrintedCalm, ChangesPrinted, IsVerdictCut, IsVerdictOf, JudgesBack, JudgesBy, verdict_line}
-use Rattle.fb_top.specs.Opened.{IsOpenedAs, OpensAsNamed}
+use Rattle.fb_top.specs.Causes.{AcceptsBefore, AcceptsFiles, AcceptsFore, CheckHasCause, EndsAt, FaultsRose, IsTooLong, IsUnread, KeepsLater, RefusesReportInTurn, StopsInputs, StopsPrinted, StopsReport, grammar_of, input_of, limit_of}
+use Rattle.fb_top.specs.Checked.{ChangesPrinted, IsVerdictCut, IsVerdictOf, JudgesBy, verdict_line}
 use Rattle.fb_top.specs.Read.{Files, ReadsReport, RefusesReport}
 use Rattle.fb_top.specs.Sources.{SourceTerms, check_inputs, check_sources, files_alone, name_of}
-use Rattle.fb_top.specs.Streams.{IsHeld, IsLonger}
-use Rattle.fb_top.specs.Unnamed.{KeepsUnnamed}
-use Rattle.fb_top.specs.Written.{HoldsWhole, KeepsBut, KeepsReports, StopsText}
+use Rattle.fb_top.specs.Streams.{IsLonger}
+use Rattle.fb_top.specs.Written.{KeepsBut, KeepsReports, StopsText}
 use Rattle.fb_top.proofs.Moved.{fore_is_no_note, stops_text}
-use Rattle.fb_top.proofs.Opened.{calm_both, calm_output, told_before, unopened}
 use Rattle.fb_top.proofs.Unnamed.{is_named}
 
 -- the files alone have no reports

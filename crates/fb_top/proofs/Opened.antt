@@ -7,8 +7,8 @@ use Rattle.fb_desk.specs.declared.desk.Input.{Input}
 use Rattle.fb_desk.specs.declared.desk.Input.TheVariants.{Params, Trace, Calls, ForeReport, BackReport}
 use Rattle.fb_desk.specs.declared.desk.Output.{Output}
 use Rattle.fb_desk.specs.declared.desk.Output.TheVariants.{Fore, Back, Note, MadeTrace, MadeCalls}
-use Rattle.fb_words.specs.Command.{CheckTerms, Terms, replays, makes, checks}
-use Rattle.fb_top.specs.Sources.{InputTerms, SourceTerms, check_inputs, check_sources, files_alone, name_of, replay_inputs}
+use Rattle.fb_words.specs.Command.{Terms, replays, makes, checks}
+use Rattle.fb_top.specs.Sources.{InputTerms, SourceTerms, check_inputs, files_alone, name_of, replay_inputs}
 use Rattle.fb_words.specs.declared.fault.UsageFault.{UsageFault}
 use Rattle.fb_top.specs.declared.outcome.Outcome.{Outcome}
 use Rattle.fb_top.specs.declared.outcome.Outcome.TheVariants as outcomes
@@ -30,11 +30,11 @@ pub left_kept : (bytes : List ℕ) (left now held : Option (List ℕ)) → now �
 left_kept bytes left now held same e = left_here bytes now held (ap (before bytes) same ∙ e)
 
 -- an input that was not touched is not opened
-pub unopened : (which : Input) (name : List ℕ) (old new : DeskView) → IsUnused old → new.inputs which ≡ old.inputs which → IsOpenedAs name old (new.inputs which)
+unopened : (which : Input) (name : List ℕ) (old new : DeskView) → IsUnused old → new.inputs which ≡ old.inputs which → IsOpenedAs name old (new.inputs which)
 unopened which name old new unused same = λ is. let was = ap (λ (v : InputView). v.opened) same ∙ unused.inputs which in cc
 
 -- the same name, told of the desk before
-pub told_before : (name named : List ℕ) (old mid : DeskView) (input : InputView) → mid.held name ≡ old.held name → ◌≡◌ {A = Option (List ℕ)} (Some name) (Some named) → IsOpenedAs name mid input → IsOpenedAs named old input
+told_before : (name named : List ℕ) (old mid : DeskView) (input : InputView) → mid.held name ≡ old.held name → ◌≡◌ {A = Option (List ℕ)} (Some name) (Some named) → IsOpenedAs name mid input → IsOpenedAs named old input
 told_before name named old mid input held same opened =
     let one : name ≡ named = cc in
     subst (λ (n : List ℕ). IsOpenedAs n old input) one (subst (λ (told : Option (List ℕ)). input.opened ≡ true → IsLeftOf told input.left) held opened)
