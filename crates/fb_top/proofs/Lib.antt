@@ -11,5 +11,7 @@ pub mod Completeness
 pub mod Unnamed
 pub mod OneRun
 pub mod Opened
+pub mod Readable
+pub mod Printed
 mod Checking
 mod RightReports

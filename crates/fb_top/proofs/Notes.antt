@@ -104,7 +104,7 @@ module _ (terms : ReplayTerms) (old mid new : DeskView) (only : ChangesOutput No
   stop_still outcome h = inputs_still (replay_inputs terms) old mid new only outcome h
 
   cause_still : (outcome : Outcome) → HasCause terms old mid outcome → HasCause terms old new outcome
-  cause_still (outcomes.Done run) h = record { is_run = h.is_run; reports = holds_reports old old mid new same (keeps_reports mid new only) terms h.is_run.files run h.reports }
+  cause_still (outcomes.Done run) h = record { is_run = h.is_run; reports = holds_reports old old mid new same (keeps_reports mid new only) terms h.is_run.files run h.reports; read = h.read }
   cause_still (outcomes.Params fault) h = stop_still (outcomes.Params fault) h
   cause_still (outcomes.Trace fault) h = stop_still (outcomes.Trace fault) h
   cause_still (outcomes.Calls fault) h = stop_still (outcomes.Calls fault) h

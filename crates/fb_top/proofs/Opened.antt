@@ -1,5 +1,5 @@
 -- Inputs are opened under the names of the words, and no call failed where all is done.
-use Rattle.std.proofs.Common.{◌≡◌, ◌∙◌, ℕ, List, [], ◌++◌, Option, Some, None, true, false, refl, sym, ap, subst}
+use Rattle.std.proofs.Common.{◌≡◌, ◌∙◌, ℕ, List, ◌++◌, Option, Some, None, true, refl, sym, ap, subst}
 use Rattle.std.specs.Prelude.{IfSome, Result, Ok, Err}
 use Rattle.fb_desk.specs.Calls.{ChangesInput, ChangesOutput, before}
 use Rattle.fb_desk.specs.View.{DeskView, InputView, OutputView, IsUnused}

@@ -1,5 +1,5 @@
 -- What a replay has written.
-use Rattle.std.specs.Prelude.{◌≡◌, ◌⊎◌, ℕ, List, Option, Some, None, codes, if◌then◌else◌}
+use Rattle.std.specs.Prelude.{◌≡◌, ◌⊎◌, ℕ, ◌<◌, List, Option, Some, None, false, codes, IfSome, if◌then◌else◌}
 use Rattle.std.specs.List.{AllByRecursion}
 use Rattle.fb_geometry.specs.Sound.{IsSound}
 use Rattle.fb_rows.specs.declared.run.Run.{Run}
@@ -7,8 +7,10 @@ use Rattle.fb_rows.specs.Ranges.{HasRanges, HasBackRanges}
 use Rattle.fb_rows.specs.Tasks.{HasNamedTask}
 use Rattle.fb_model.specs.Accepted.{IsAccepted}
 use Rattle.fb_model.specs.FullRun.{IsFull}
-use Rattle.fb_report.specs.Back.{back_text}
-use Rattle.fb_report.specs.Fore.{fore_text}
+use Rattle.fb_report.specs.Back.{back_lines, back_text}
+use Rattle.fb_report.specs.Fore.{fore_lines, fore_text}
+use Rattle.fb_report.specs.Grammar.{back_grammar, fore_grammar}
+use Rattle.fb_report.specs.Printed.{AreNames, CountsSectors, IsReadBack, ReadsSectors}
 use Rattle.fb_report.specs.Summary.{summary_text}
 use Rattle.fb_desk.specs.View.{DeskView, OutputView}
 use Rattle.fb_desk.specs.declared.desk.Output.TheVariants.{Fore, Back}
@@ -32,6 +34,18 @@ pub record CanBeTold (names : List (List ℕ)) (run : Run) : Type 0 where
   pub fore : AllByRecursion HasRanges run.fore
   pub back : AllByRecursion HasBackRanges run.back
   pub named : AllByRecursion (HasNamedTask names) run.back
+
+-- what the lines of both reports need to be in their places: bytes in a sector, names of tasks, and the sectors that rows must have
+pub record CanBeRead (files : Files) (run : Run) : Type 0 where
+  pub some_bytes : 0 < files.disk.sector_bytes
+  pub names : AreNames files.script.names
+  pub fore : AllByRecursion ReadsSectors run.fore
+  pub back : AllByRecursion CountsSectors run.back
+
+-- a reader accepts the reports that the words ask for: the foreground where no summary is asked for, and the background if any
+pub record AreReadBack (terms : ReplayTerms) (files : Files) (run : Run) : Type 0 where
+  pub fore : terms.summary ≡ false → IsReadBack fore_grammar (fore_lines files.disk.sector_bytes terms.bytes run)
+  pub back : IfSome terms.back (λ name. IsReadBack back_grammar (back_lines files.script.names files.disk.sector_bytes terms.bytes run))
 
 -- what the words ask for of a run's foreground: its report, or the summary of the run
 abbrev pub fore_told : ReplayTerms → Files → Run → List ℕ
@@ -67,10 +81,11 @@ StopsReports terms files run old new (outcomes.WriteFault Back) = OutputFaultsRo
 StopsReports terms files run old new outcomes.NoMemory = CutsFore terms files run old new ⊎ CutsBack terms files run old new
 StopsReports terms files run old new _ = ⊥
 
--- the run is that of the files that were accepted, and its reports are written
+-- the run is that of the files that were accepted, its reports are written, and a reader accepts them
 pub record IsDone (old new : DeskView) (terms : ReplayTerms) (run : Run) : Type 0 where
   pub is_run : IsRunOf old terms run
   pub reports : HoldsReports terms is_run.files run old new
+  pub read : AreReadBack terms is_run.files run
 
 -- there is such a run, and its reports were not written whole
 pub record IsCutShort (old new : DeskView) (terms : ReplayTerms) (outcome : Outcome) : Type 0 where

@@ -1,6 +1,6 @@
 -- Laws of the runs that the top call returns: background work leaves the foreground as it is, inputs have one run, no decision looks ahead,
--- and a run's own reports are right.
-use Rattle.std.specs.Prelude.{◌≡◌, ℕ, ◌<◌, List, Ok, Some, IfSome, map}
+-- and a run's own reports are right, as are the reports that were printed.
+use Rattle.std.specs.Prelude.{◌≡◌, ◌⊎◌, ℕ, ◌<◌, ◌≤◌, ◌^◌, List, length, false, Ok, Some, IfSome, map}
 use Rattle.fb_rows.specs.declared.run.Run.{Run}
 use Rattle.fb_model.specs.Foreground.{promoted}
 use Rattle.fb_model.specs.Known.{AgreeUpTo, SameKnown}
@@ -10,13 +10,19 @@ use Rattle.fb_report.specs.Fore.{fore_lines, fore_text}
 use Rattle.fb_report.specs.Grammar.{Grammar, back_grammar, ended, fore_grammar, report_of}
 use Rattle.fb_check.specs.declared.verdict.Verdict.{Verdict}
 use Rattle.fb_check.specs.declared.verdict.Verdict.TheVariants.{Yes}
-use Rattle.fb_desk.specs.View.{DeskView}
+use Rattle.fb_desk.specs.View.{DeskView, OutputView}
+use Rattle.fb_desk.specs.declared.desk.Input.{Input}
+use Rattle.fb_desk.specs.declared.desk.Output.TheVariants.{Back, Fore}
 use Rattle.fb_words.specs.Command.{CheckTerms, ReplayTerms}
+use Rattle.fb_top.specs.declared.outcome.Outcome.{Outcome}
+use Rattle.fb_top.specs.declared.outcome.Outcome.TheVariants.{Checked, NoMemory}
+use Rattle.fb_top.specs.Causes.{CheckHasCause, FaultsRose}
 use Rattle.fb_top.specs.Checked.{IsVerdictOf}
+use Rattle.fb_top.specs.Complete.{TellsReport}
 use Rattle.fb_top.specs.Sources.{SourceTerms, check_sources, replay_sources}
 use Rattle.fb_top.specs.Read.{Files, inputs_of, key_of}
-use Rattle.fb_top.specs.Done.{IsRunOf}
-use Rattle.fb_top.specs.Written.{joined}
+use Rattle.fb_top.specs.Done.{IsDone, IsRunOf}
+use Rattle.fb_top.specs.Written.{OutputFaultsRose, joined}
 
 -- the same disk, latent sectors and trace, and scripts that ask for the same reads
 pub record AskForOneForeground (one other : Files) : Type 0 where
@@ -74,3 +80,36 @@ pub record HoldsOwnReports (desk : DeskView) (checks : CheckTerms) (files : File
 abbrev pub RightReportsAreRight : Type 0
 RightReportsAreRight = (one other : DeskView) (terms : ReplayTerms) (checks : CheckTerms) (run : Run) (verdict : Verdict) (is_run : IsRunOf one terms run)
     → IsVerdictOf other checks verdict → ChecksRun one other terms checks → HoldsOwnReports other checks is_run.files run → verdict ≡ Yes
+
+-- what was written to an output is held under a name, and is no longer than a report may be
+pub record HoldsWritten (output : OutputView) (desk : DeskView) (name : List ℕ) : Type 0 where
+  pub bytes : List ℕ
+  pub written : output.written ≡ Some bytes
+  pub held : desk.held name ≡ Some bytes
+  pub within : length bytes ≤ 2 ^ 28
+
+-- a check asks for what a replay asked for, and both reports that the replay wrote are held under the names of the check
+pub record ChecksPrinted (old new other : DeskView) (terms : ReplayTerms) (checks : CheckTerms) : Type 0 where
+  pub checks_run : ChecksRun old other terms checks
+  pub bytes : checks.bytes ≡ terms.bytes
+  pub no_summary : terms.summary ≡ false
+  pub back_name : List ℕ
+  pub back_given : terms.back ≡ Some back_name
+  pub fore : HoldsWritten (new.outputs Fore) other checks.fore
+  pub back : HoldsWritten (new.outputs Back) other checks.back
+
+-- no call of an input or of the output for the verdict has failed
+pub record MeetsNoFailure (old new : DeskView) : Type 0 where
+  pub inputs : (input : Input) → FaultsRose old new input → ⊥
+  pub fore : OutputFaultsRose old new Fore → ⊥
+
+-- both reports are accepted, no verdict on them is another than yes, and so a check answers yes, unless memory runs out
+pub record AreRight (desk : DeskView) (checks : CheckTerms) : Type 0 where
+  pub fore : TellsReport desk fore_grammar checks.fore
+  pub back : TellsReport desk back_grammar checks.back
+  pub yes : (verdict : Verdict) → IsVerdictOf desk checks verdict → verdict ≡ Yes
+  pub answer : (after : DeskView) (outcome : Outcome) → CheckHasCause checks desk after outcome → MeetsNoFailure desk after → (outcome ≡ Checked Yes) ⊎ (outcome ≡ NoMemory)
+
+-- the reports that a replay printed are right
+abbrev pub PrintedReportsAreRight : Type 0
+PrintedReportsAreRight = (old new other : DeskView) (terms : ReplayTerms) (checks : CheckTerms) (run : Run) → IsDone old new terms run → ChecksPrinted old new other terms checks → AreRight other checks

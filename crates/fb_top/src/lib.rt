@@ -3,9 +3,10 @@
 //!
 //! Files are reached through a `Desk` (`fb_desk`). `run_command` returns an outcome. Its contract
 //! says that each outcome has its cause, in what was read or in a call of the desk that failed;
-//! that the texts written are those of the very run that it returns; that a verdict is right; and that a command whose
-//! inputs are accepted and whose calls don't fail is done, unless it runs out of memory. It doesn't
-//! promise how long a run takes.
+//! that the texts written are those of the very run that it returns, and reports that a check
+//! accepts; that a verdict is right; and that a command whose inputs are accepted and whose calls
+//! don't fail is done, unless it runs out of memory. It doesn't promise how long a run takes.
+//! `printed_reports_are_right` says that the reports of a replay are answered yes.
 #![tactic(auto)]
 
 mod check;
@@ -28,5 +29,6 @@ pub use command::{run, run_command};
 pub use note::note_text;
 pub use outcome::{Outcome, status};
 pub use untouched::{
-    inputs_have_one_run, right_reports_are_right, runs_look_not_ahead, scripts_leave_the_foreground,
+    inputs_have_one_run, printed_reports_are_right, right_reports_are_right, runs_look_not_ahead,
+    scripts_leave_the_foreground,
 };

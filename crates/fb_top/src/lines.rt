@@ -1,5 +1,7 @@
 // Texts that are made line by line.
-ghost use Rattle.std.specs.Prelude.{◌≡◌, ℕ, ◌<◌, List, Some, length, slice_get, IfOk};
+ghost use Rattle.std.specs.Prelude.{◌≡◌, ℕ, ◌<◌, ◌≤◌, List, Some, length, slice_get, IfOk};
+ghost use Rattle.fb_report.specs.Grammar.{Grammar};
+ghost use Rattle.fb_report.specs.Printed.{IsLine, is_in_place};
 
 use fb_calls::Names;
 use fb_report::{Bytes, back_piece, back_pieces, fore_piece, fore_pieces};
@@ -15,9 +17,16 @@ pub trait Lines {
     /// What must hold so that each line can be made.
     ghost can_be_told: { Self → Type 0 };
 
-    /// How many lines there are.
+    /// The grammar of the text.
+    ghost grammar: { Self → Grammar };
+
+    /// What must hold so that each line is in its place by the grammar.
+    ghost can_be_read: { Self → Type 0 };
+
+    /// How many lines there are; a first and a last are among them.
     fn count(&self) -> u64
-        ensures { result ≡ length (lines self.now) };
+        ensures value { result ≡ length (lines self.now) }
+        ensures ends { 2 ≤ result };
 
     /// The line at a place, counted from 0, with its line feed.
     ///
@@ -25,7 +34,8 @@ pub trait Lines {
     fn line(&self, alloc: Global, place: u64) -> Result<Vec<u8>, NoMemory>
         requires told { can_be_told self.now }
         requires inside { place < length (lines self.now) }
-        ensures { IfOk result (λ line. slice_get (lines self.now) place ≡ Some line.items) };
+        ensures value { IfOk result (λ line. slice_get (lines self.now) place ≡ Some line.items) }
+        ensures form { IfOk result (λ line. can_be_read self.now → IsLine (is_in_place (grammar self.now) (length (lines self.now)) place) line.items) };
 }
 
 /// The lines of the foreground report.
@@ -40,14 +50,20 @@ pub struct ForeLines<'a> {
 }
 
 impl Lines for ForeLines<'_> {
-    ghost use Rattle.std.specs.Prelude.{◌≡◌, ◌%◌};
+    ghost use Rattle.std.specs.Prelude.{◌≡◌, ◌%◌, ◌<◌};
     ghost use Rattle.std.specs.List.{AllByRecursion};
     ghost use Rattle.fb_rows.specs.Ranges.{HasRanges};
     ghost use Rattle.fb_report.specs.Fore.{fore_lines};
+    ghost use Rattle.fb_report.specs.Grammar.{fore_grammar};
+    ghost use Rattle.fb_report.specs.Printed.{ReadsSectors};
 
     ghost lines = { λ t. fore_lines t.sector_bytes t.bytes t.run.now };
 
     ghost can_be_told = { λ t. (t.sector_bytes % 16 ≡ 0) × AllByRecursion HasRanges t.run.now.fore };
+
+    ghost grammar = { λ t. fore_grammar };
+
+    ghost can_be_read = { λ t. (0 < t.sector_bytes) × AllByRecursion ReadsSectors t.run.now.fore };
 
     fn count(&self) -> u64 {
         fore_pieces(self.run)
@@ -72,15 +88,21 @@ pub struct BackLines<'a> {
 }
 
 impl Lines for BackLines<'_> {
-    ghost use Rattle.std.specs.Prelude.{◌≡◌, ◌%◌};
+    ghost use Rattle.std.specs.Prelude.{◌≡◌, ◌%◌, ◌<◌};
     ghost use Rattle.std.specs.List.{AllByRecursion};
     ghost use Rattle.fb_rows.specs.Ranges.{HasBackRanges};
     ghost use Rattle.fb_rows.specs.Tasks.{HasNamedTask};
     ghost use Rattle.fb_report.specs.Back.{back_lines};
+    ghost use Rattle.fb_report.specs.Grammar.{back_grammar};
+    ghost use Rattle.fb_report.specs.Printed.{AreNames, CountsSectors};
 
     ghost lines = { λ t. back_lines t.names.now t.sector_bytes t.bytes t.run.now };
 
     ghost can_be_told = { λ t. (t.sector_bytes % 16 ≡ 0) × AllByRecursion HasBackRanges t.run.now.back × AllByRecursion (HasNamedTask t.names.now) t.run.now.back };
+
+    ghost grammar = { λ t. back_grammar };
+
+    ghost can_be_read = { λ t. (0 < t.sector_bytes) × AreNames t.names.now × AllByRecursion CountsSectors t.run.now.back };
 
     fn count(&self) -> u64 {
         back_pieces(self.run)

@@ -1,12 +1,15 @@
 // The reports of a run that the words ask for.
 ghost use Rattle.std.specs.Prelude.{◌≡◌, false, codes, IfErr, OnOk};
-ghost use Rattle.fb_report.specs.Back.{back_text};
+ghost use Rattle.fb_report.specs.Back.{back_lines, back_text};
+ghost use Rattle.fb_report.specs.Fore.{fore_lines};
+ghost use Rattle.fb_report.specs.Grammar.{back_grammar, fore_grammar};
+ghost use Rattle.fb_report.specs.Printed.{IsReadBack};
 ghost use Rattle.fb_report.specs.Summary.{summary_text};
 ghost use Rattle.fb_desk.specs.Calls.{ChangesOutput};
 ghost use Rattle.fb_words.specs.Verdict.{replay_terms};
 ghost use Rattle.fb_top.specs.Read.{files_of};
 ghost use Rattle.fb_top.specs.Written.{HoldsWhole, StopsText};
-ghost use Rattle.fb_top.specs.Done.{CanBeTold, HoldsReports, StopsReports, fore_told};
+ghost use Rattle.fb_top.specs.Done.{AreReadBack, CanBeRead, CanBeTold, HoldsReports, StopsReports, fore_told};
 ghost use Rattle.fb_top.specs.Unnamed.{KeepsInputs};
 ghost use Rattle.fb_top.specs.Calm.{AreOutputsCalm};
 
@@ -39,6 +42,7 @@ pub fn write_reports<D: Desk>(
     ensures whole { OnOk result (HoldsReports (replay_terms words.now) (files_of files.now) run.now (D.seen desk.old) (D.seen desk.new)) }
     ensures stops { IfErr result (StopsReports (replay_terms words.now) (files_of files.now) run.now (D.seen desk.old) (D.seen desk.new)) }
     ensures calm { OnOk result (AreOutputsCalm (D.seen desk.old) (D.seen desk.new)) }
+    ensures read { OnOk result (CanBeRead (files_of files.now) run.now → AreReadBack (replay_terms words.now) (files_of files.now) run.now) }
     ensures no_note { (D.seen desk.new).outputs Output.Note ≡ (D.seen desk.old).outputs Output.Note }
     ensures inputs { KeepsInputs (D.seen desk.old) (D.seen desk.new) }
 {
@@ -65,6 +69,7 @@ fn write_fore<D: Desk>(
     ensures only { ChangesOutput Output.Fore (D.seen desk.old) (D.seen desk.new) }
     ensures whole { OnOk result (HoldsWhole ((D.seen desk.new).outputs Output.Fore) (codes "-") (fore_told (replay_terms words.now) (files_of files.now) run.now)) }
     ensures calm { OnOk result (((D.seen desk.new).outputs Output.Fore).faults ≡ ((D.seen desk.old).outputs Output.Fore).faults) }
+    ensures read { OnOk result (CanBeRead (files_of files.now) run.now → (replay_terms words.now).summary ≡ false → IsReadBack fore_grammar (fore_lines files.now.params.disk.sector_bytes words.now.bytes run.now)) }
     ensures stops { IfErr result (StopsText Output.Fore (codes "-") (fore_told (replay_terms words.now) (files_of files.now) run.now) (D.seen desk.old) (D.seen desk.new)) }
 {
     if words.summary {
@@ -114,6 +119,7 @@ fn write_back<D: Desk>(
     ensures only { ChangesOutput Output.Back (D.seen desk.old) (D.seen desk.new) }
     ensures whole { OnOk result (HoldsWhole ((D.seen desk.new).outputs Output.Back) name.now (back_text files.now.calls.names files.now.params.disk.sector_bytes bytes run.now)) }
     ensures calm { OnOk result (((D.seen desk.new).outputs Output.Back).faults ≡ ((D.seen desk.old).outputs Output.Back).faults) }
+    ensures read { OnOk result (CanBeRead (files_of files.now) run.now → IsReadBack back_grammar (back_lines files.now.calls.names files.now.params.disk.sector_bytes bytes run.now)) }
     ensures stops { IfErr result (StopsText Output.Back name.now (back_text files.now.calls.names files.now.params.disk.sector_bytes bytes run.now) (D.seen desk.old) (D.seen desk.new)) }
 {
     let lines = BackLines {

@@ -1,5 +1,5 @@
 // Laws of the runs that `run_command` returns.
-ghost use Rattle.fb_top.specs.Untouched.{InputsHaveOneRun, RightReportsAreRight, RunsLookNotAhead, ScriptsLeaveForeground};
+ghost use Rattle.fb_top.specs.Untouched.{InputsHaveOneRun, PrintedReportsAreRight, RightReportsAreRight, RunsLookNotAhead, ScriptsLeaveForeground};
 
 use fb_model::{foreground_is_untouched, no_look_ahead, one_full_run};
 
@@ -41,4 +41,15 @@ pub fn right_reports_are_right()
     ensures { RightReportsAreRight }
 {
     one_full_run();
+}
+
+/// The reports that a replay printed are right.
+///
+/// A replay was done that wrote both reports, and a check asks for the same over the same bytes.
+/// Where it finds under its names what the replay wrote, each at most 2^28 bytes, it accepts both
+/// reports; unless a call fails or memory runs out, its verdict is yes.
+pub fn printed_reports_are_right()
+    ensures { PrintedReportsAreRight }
+{
+    right_reports_are_right();
 }

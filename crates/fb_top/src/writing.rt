@@ -1,6 +1,7 @@
 // Writes texts line by line, and the note.
 ghost use Rattle.std.specs.Prelude.{◌≡◌, false, IfErr, OnOk};
 ghost use Rattle.fb_desk.specs.Calls.{ChangesOutput};
+ghost use Rattle.fb_report.specs.Printed.{IsReadBack};
 ghost use Rattle.fb_top.specs.Noted.{LeavesNote, TellsNote};
 ghost use Rattle.fb_top.specs.Notes.{note_of};
 ghost use Rattle.fb_top.specs.Written.{HoldsWhole, StopsText, joined};
@@ -28,6 +29,7 @@ pub fn write_lines<D: Desk, L: Lines>(
     ensures only { ChangesOutput which (D.seen desk.old) (D.seen desk.new) }
     ensures whole { OnOk result (HoldsWhole ((D.seen desk.new).outputs which) name.now (joined (L.lines lines.now))) }
     ensures calm { OnOk result (((D.seen desk.new).outputs which).faults ≡ ((D.seen desk.old).outputs which).faults) }
+    ensures read { OnOk result (L.can_be_read lines.now → IsReadBack (L.grammar lines.now) (L.lines lines.now)) }
     ensures stops { IfErr result (StopsText which name.now (joined (L.lines lines.now)) (D.seen desk.old) (D.seen desk.new)) }
 {
     match desk.begin_output(which, name) {

@@ -10,6 +10,7 @@ use Rattle.fb_top.specs.Read.{Accepts, files_of, key_of}
 use Rattle.fb_top.specs.Done.{IsRunOf}
 use Rattle.fb_top.proofs.Later.{at_reports, replay_stopped}
 use Rattle.fb_top.proofs.Moved.{holds_reports}
+use Rattle.fb_top.proofs.Readable.{run_can_be_read}
 use Rattle.fb_top.proofs.Unnamed.{unnamed_written}
 use Rattle.fb_top.proofs.Opened.{calm_both, opened_written}
 use Rattle.fb_top.proofs.command.run_replay.Goals as goal
@@ -25,16 +26,18 @@ returns-in-Ok-write_reports-clause-cause g c =
     let old = g.D.Desk.seen c.args.desk.now in
     let mid = g.D.Desk.seen c.read_inputs.new.desk in
     let new = g.D.Desk.seen c.write_reports.new.desk in
+    let is_run : IsRunOf old (replay_terms c.args.words.now) c.in-Ok-replay_by.run' = record {
+      files = files_of c.in-Ok.files;
+      accepts = subst (λ (s : SourceTerms). Accepts old s (files_of c.in-Ok.files)) c.sources.ensures c.in-Ok.ensures.accepts;
+      sound = c.in-Ok.ensures.sound;
+      accepted = c.in-Ok.ensures.fit (key_of c.args.words.now.policy) c.args.words.now.until c.requires.until;
+      full = c.in-Ok-replay_by.ensures.full;
+    } in
     record {
-      is_run = record {
-        files = files_of c.in-Ok.files;
-        accepts = subst (λ (s : SourceTerms). Accepts old s (files_of c.in-Ok.files)) c.sources.ensures c.in-Ok.ensures.accepts;
-        sound = c.in-Ok.ensures.sound;
-        accepted = c.in-Ok.ensures.fit (key_of c.args.words.now.policy) c.args.words.now.until c.requires.until;
-        full = c.in-Ok-replay_by.ensures.full;
-      };
+      is_run = is_run;
       reports = holds_reports old mid new new (λ output no_note. c.in-Ok.ensures.outputs output) (λ output no_note. refl) (replay_terms c.args.words.now) (files_of c.in-Ok.files) c.in-Ok-replay_by.run'
           c.in-Ok-write_reports.ensures.whole;
+      read = c.in-Ok-write_reports.ensures.read (run_can_be_read old (replay_terms c.args.words.now) c.in-Ok-replay_by.run' is_run);
     }
 
 pub returns-in-Err-replay_by-clause-cause : goal.returns-in-Err-replay_by-clause-cause

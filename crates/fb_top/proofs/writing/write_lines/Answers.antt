@@ -1,5 +1,7 @@
-use Rattle.std.proofs.Common.{◌≡◌, ◌∙◌, ap, arith, sym, refl}
+use Rattle.std.proofs.Common.{◌≡◌, ◌∙◌, ap, arith, length, sym, refl}
 use Rattle.std.specs.Prelude.{Some, slice_get}
+use Rattle.fb_report.specs.Printed.{IsLine, is_in_place}
+use Rattle.fb_report.proofs.Places.{all_in_place, one_place_more}
 use Rattle.fb_top.proofs.Pieces.{output_on}
 use Rattle.fb_top.proofs.Fronts.{front_of, front_more, holds_more, holds_all, holds_none, rose_since, same_name}
 use Rattle.fb_top.proofs.writing.write_lines.Goals as goal
@@ -11,6 +13,7 @@ loop-place-init g c = record {
   begun = c.in-Ok.ensures.begun;
   name = c.in-Ok.ensures.named;
   lines = holds_none ((g.D.Desk.seen c.begin_output.new.self).outputs c.args.which).written (g.L.Lines.lines c.args.lines.now) c.in-Ok.ensures.empty;
+  in_place = λ can place line inside got. absurd (omega arith);
 }
 
 pub returns-in-Err-line : goal.returns-in-Err-line
@@ -18,6 +21,7 @@ returns-in-Err-line g c = record {
   only = c.loop-place.invariant.only;
   whole = tt;
   calm = tt;
+  read = tt;
   stops = λ begun. record {
     named = c.loop-place.invariant.name;
     written = front_of ((g.D.Desk.seen c.loop-place.desk).outputs c.args.which).written (g.L.Lines.lines c.args.lines.now) c.loop-place.place c.loop-place.invariant.lines;
@@ -31,11 +35,12 @@ returns-in-Err-write_whole g c =
     let old = g.D.Desk.seen c.args.desk.now in
     let now = g.D.Desk.seen c.loop-place.desk in
     let new = g.D.Desk.seen c.write_whole.new.desk in
-    let line : slice_get lines c.loop-place.place ≡ Some c.as_slice.result.now = c.in-Ok-line.ensures ∙ ap Some (sym c.as_slice.ensures.value) in
+    let line : slice_get lines c.loop-place.place ≡ Some c.as_slice.result.now = c.in-Ok-line.ensures.value ∙ ap Some (sym c.as_slice.ensures.value) in
     record {
       only = output_on which old now new c.loop-place.invariant.only c.in-Err-write_whole.ensures.only;
       whole = tt;
       calm = tt;
+      read = tt;
       stops = (
         refl,
         rose_since (old.outputs which).faults (now.outputs which).faults (new.outputs which).faults c.loop-place.invariant.calm c.in-Err-write_whole.ensures.cause.failed,
@@ -54,13 +59,15 @@ loop-place-preserved g c =
     let now = g.D.Desk.seen c.loop-place.desk in
     let new = g.D.Desk.seen c.write_whole.new.desk in
     let told = c.in-Ok-write_whole.ensures in
-    let line : slice_get lines c.loop-place.place ≡ Some c.as_slice.result.now = c.in-Ok-line.ensures ∙ ap Some (sym c.as_slice.ensures.value) in
+    let line : slice_get lines c.loop-place.place ≡ Some c.as_slice.result.now = c.in-Ok-line.ensures.value ∙ ap Some (sym c.as_slice.ensures.value) in
     record {
       only = output_on which old now new c.loop-place.invariant.only told.only;
       calm = told.cause.calm ∙ c.loop-place.invariant.calm;
       begun = told.begun;
       name = same_name c.args.name.now (now.outputs which).name (new.outputs which).name told.name c.loop-place.invariant.name;
       lines = holds_more (now.outputs which).written (new.outputs which).written lines c.loop-place.place c.as_slice.result.now c.loop-place.invariant.lines line told.whole;
+      in_place = λ can. one_place_more (λ place line. IsLine (is_in_place (g.L.Lines.grammar c.args.lines.now) (length lines) place) line) lines c.loop-place.place c.in-Ok-line.line.items c.in-Ok-line.ensures.value
+          (c.loop-place.invariant.in_place can) (c.in-Ok-line.ensures.form can);
     }
 
 pub returns : goal.returns
@@ -71,8 +78,10 @@ returns g c =
       whole = record {
         begun = c.loop-place.invariant.begun;
         named = c.loop-place.invariant.name;
-        written = holds_all ((g.D.Desk.seen c.loop-place.desk).outputs c.args.which).written lines c.loop-place.place c.loop-place.invariant.lines (omega (arith, c.count-place-end.ensures, c.loop-place-test.false));
+        written = holds_all ((g.D.Desk.seen c.loop-place.desk).outputs c.args.which).written lines c.loop-place.place c.loop-place.invariant.lines (omega (arith, c.count-place-end.ensures.value, c.loop-place-test.false));
       };
       calm = c.loop-place.invariant.calm;
+      read = λ can. all_in_place (g.L.Lines.grammar c.args.lines.now) lines c.loop-place.place (length lines) refl (omega (arith, c.count-place-end.ensures.value, c.count-place-end.ensures.ends))
+          (omega (arith, c.count-place-end.ensures.value, c.loop-place-test.false)) (c.loop-place.invariant.in_place can);
       stops = tt;
     }

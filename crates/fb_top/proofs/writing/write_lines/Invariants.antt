@@ -1,5 +1,6 @@
-use Rattle.std.proofs.Common.{◌≡◌, true}
-use Rattle.std.specs.Prelude.{IfSome}
+use Rattle.std.proofs.Common.{◌≡◌, ◌<◌, ℕ, List, length, Some, true}
+use Rattle.std.specs.Prelude.{IfSome, slice_get}
+use Rattle.fb_report.specs.Printed.{IsLine, is_in_place}
 use Rattle.fb_desk.specs.Calls.{ChangesOutput}
 use Rattle.fb_top.proofs.Fronts.{HoldsLines}
 use Rattle.fb_top.proofs.writing.write_lines.Given as goal
@@ -14,4 +15,6 @@ invariant-loop-place g l =
       begun : (new.outputs l.which).begun ≡ true;
       name : IfSome (new.outputs l.which).name (λ told. told ≡ l.name);
       lines : HoldsLines (new.outputs l.which).written (g.L.Lines.lines l.lines) l.place;
+      in_place : g.L.Lines.can_be_read l.lines → (place : ℕ) (line : List ℕ) → place < l.place → slice_get (g.L.Lines.lines l.lines) place ≡ Some line
+          → IsLine (is_in_place (g.L.Lines.grammar l.lines) (length (g.L.Lines.lines l.lines)) place) line;
     }

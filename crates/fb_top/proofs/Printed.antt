@@ -1,0 +1,79 @@
+-- Reports that a replay printed, and that a check reads.
+use Rattle.std.proofs.Common.{◌≡◌, ◌⊎◌, ℕ, List, length, Option, Some, None, true, refl, sym, ap, subst, ◌∙◌, inl, inr}
+use Rattle.std.proofs.lemmas.List.Folds.{flat_map-map}
+use Rattle.std.specs.Prelude.{IfSome, is_some}
+use Rattle.fb_service.specs.declared.disk.Disk.{Disk}
+use Rattle.fb_calls.specs.Reading.{Accepted as Script}
+use Rattle.fb_report.specs.Grammar.{Grammar, ended, report_of}
+use Rattle.fb_report.specs.Printed.{IsReadBack}
+use Rattle.fb_check.specs.declared.verdict.Verdict.{Verdict}
+use Rattle.fb_check.specs.declared.verdict.Verdict.TheVariants.{Yes}
+use Rattle.fb_desk.specs.View.{DeskView, OutputView}
+use Rattle.fb_words.specs.Command.{CheckTerms}
+use Rattle.fb_top.specs.declared.outcome.Outcome.{Outcome}
+use Rattle.fb_top.specs.declared.outcome.Outcome.TheVariants as outcomes
+use Rattle.fb_top.specs.Causes.{CheckHasCause}
+use Rattle.fb_top.specs.Checked.{IsVerdictOf}
+use Rattle.fb_top.specs.Complete.{IsJudged, TellsReport}
+use Rattle.fb_top.specs.Read.{Accepts, Files, ReadsScript}
+use Rattle.fb_top.specs.Sources.{SourceTerms}
+use Rattle.fb_top.specs.Streams.{IsHeld}
+use Rattle.fb_top.specs.Untouched.{HoldAlike, HoldOneInput, HoldsLines, HoldsWritten}
+use Rattle.fb_top.specs.Written.{HoldsWhole, joined}
+use Rattle.fb_top.proofs.OneRun.{held_here}
+
+-- a text that is read back, that was written to an output and is held under a name
+module _ (output : OutputView) (desk : DeskView) (name under : List ℕ) (grammar : Grammar) (lines : List (List ℕ)) (holds : HoldsWritten output desk name) (whole : HoldsWhole output under (joined lines)) (read : IsReadBack grammar lines) where
+  one_text : holds.bytes ≡ joined lines
+  one_text = subst (λ (told : Option (List ℕ)). IfSome told (λ bytes. bytes ≡ joined lines)) holds.written whole.written
+
+  pub held_lines : HoldsLines desk name grammar lines
+  held_lines = record { held = holds.held ∙ ap Some one_text; parts = read.parts; are = read.are; spells = read.read }
+
+  pub told_lines : TellsReport desk grammar name
+  told_lines = record {
+    lines = read.parts;
+    reads = record {
+      bytes = holds.bytes;
+      held = subst (λ (told : Option (List ℕ)). IfSome told (λ bytes. holds.bytes ≡ bytes)) (sym holds.held) refl;
+      within = holds.within;
+      spells = ap (report_of grammar) one_text ∙ read.read;
+      whole = sym (flat_map-map (λ (line : List ℕ). line) ended read.parts) ∙ ap joined read.are ∙ sym one_text;
+    };
+    told = ap is_some holds.held;
+  }
+
+-- files of the same bytes are accepted on both desks
+module _ (one other : DeskView) where
+  held_there : (name bytes : List ℕ) → HoldAlike one other name → IsHeld one name bytes → IsHeld other name bytes
+  held_there name bytes alike held = subst (λ (told : Option (List ℕ)). IfSome told (λ here. bytes ≡ here)) (sym alike.2) (held_here (one.held name) bytes alike.0 alike.1 held)
+
+  pub told_there : (name : List ℕ) → HoldAlike one other name → is_some (other.held name) ≡ true
+  told_there name alike = ap is_some alike.2
+
+  script_there : (given : Option (List ℕ)) (disk : Disk) (traced : ℕ) (script : Script) → IfSome given (HoldAlike one other) → ReadsScript one given disk traced script → ReadsScript other given disk traced script
+  script_there None disk traced script alike reads = reads
+  script_there (Some name) disk traced script alike reads = record { bytes = reads.bytes; held = held_there name reads.bytes alike reads.held; within = reads.within; spells = reads.spells }
+
+  pub accepted_there : (terms : SourceTerms) (files : Files) → HoldOneInput one other terms → Accepts one terms files → Accepts other terms files
+  accepted_there terms files alike reads = record {
+    disk = record { bytes = reads.disk.bytes; held = held_there terms.params reads.disk.bytes alike.params reads.disk.held; within = reads.disk.within; spells = reads.disk.spells };
+    trace = record { bytes = reads.trace.bytes; held = held_there terms.trace reads.trace.bytes alike.trace reads.trace.held; within = reads.trace.within; spells = reads.trace.spells };
+    script = script_there terms.calls files.disk (length files.trace.requests) files.script alike.calls reads.script;
+  }
+
+-- a judgement whose only verdict is yes
+pub answers_yes : (old new : DeskView) (terms : CheckTerms) (outcome : Outcome) → ((verdict : Verdict) → IsVerdictOf old terms verdict → verdict ≡ Yes) → CheckHasCause terms old new outcome → IsJudged outcome
+    → (outcome ≡ outcomes.Checked Yes) ⊎ (outcome ≡ outcomes.NoMemory)
+answers_yes old new terms (outcomes.Checked verdict) right cause judged = inl (ap outcomes.Checked (right verdict cause.is_verdict))
+answers_yes old new terms outcomes.NoMemory right cause judged = inr refl
+answers_yes old new terms (outcomes.Done run) right cause judged = absurd judged
+answers_yes old new terms (outcomes.Made n) right cause judged = absurd judged
+answers_yes old new terms (outcomes.Usage fault) right cause judged = absurd judged
+answers_yes old new terms (outcomes.Params fault) right cause judged = absurd judged
+answers_yes old new terms (outcomes.Trace fault) right cause judged = absurd judged
+answers_yes old new terms (outcomes.Calls fault) right cause judged = absurd judged
+answers_yes old new terms (outcomes.Reports fault) right cause judged = absurd judged
+answers_yes old new terms (outcomes.TooLong input) right cause judged = absurd judged
+answers_yes old new terms (outcomes.ReadFault input) right cause judged = absurd judged
+answers_yes old new terms (outcomes.WriteFault output) right cause judged = absurd judged
