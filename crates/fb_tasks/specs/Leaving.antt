@@ -27,7 +27,7 @@ pub record HasBegun {A : Type 0} (old due new : List A) : Type 0 where
 abbrev pub entries_by : Shape → Past → Call → List Entry
 entries_by disk past call = map (entry_of (take_call disk past call)) (blocks_by disk past call.task call.action)
 
--- every block that stood is in its state, and the task of each registered one is such a task
+-- every block that stood is in its state, and each that was registered is of such a task
 pub record OnlyRegisters (IsSuch : ℕ → Type 0) (old new : List Entry) : Type 0 where
   pub grown : HasGrown old new
   pub own : AllByRecursion (λ entry. IsSuch entry.block.task) grown.added
@@ -40,11 +40,11 @@ pub record MayClean (sessions : List Session) (task : ℕ) : Type 0 where
   pub is_open : session.closed ≡ false
   pub touched : session.touched ≡ true
 
--- a session's terms, and whether it is suspended and closed: calls alone change these
+-- what calls alone make of a session: its terms, and whether it is suspended and closed
 abbrev pub by_calls : Session → Kind × ℕ × ℕ × Bool × Bool
 by_calls session = (session.kind, session.weight, session.block, session.suspended, session.closed)
 
--- each session is still on its terms, as open and as suspended, and one that was not touched since the last settling is as before
+-- nothing that calls make of a session has changed, and nothing at all of one that was not touched since the last settling
 pub record OnlyTouched (old new : List Session) : Type 0 where
   pub calls : map by_calls new ≡ map by_calls old
   pub untouched : (task : ℕ) (session : Session) → slice_get old task ≡ Some session → session.touched ≡ false → slice_get new task ≡ Some session

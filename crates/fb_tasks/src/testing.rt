@@ -76,7 +76,7 @@ impl Session {
         requires chosen { self.old.log.unfinished ≡ Some segment }
         ensures session { self.new ≡ record self.old { log = record self.old.log { unfinished = None } } }
         ensures row { OnOk result (rows.new ≡ rows.old ++ SegmentLine (record { task = task; segment = segment; instant = now; live = length (live_of self.old.log segment); content = content }) ∷ []) }
-        ensures no_row { OnErr result (rows.new ≡ rows.old) }
+        ensures err { OnErr result (rows.new ≡ rows.old) }
     {
         let live = self.log.live_count(segment);
         self.log.finish(segment);
