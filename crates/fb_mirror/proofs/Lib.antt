@@ -1,1 +1,2 @@
 pub mod ScriptRead
+pub mod CopyLines
