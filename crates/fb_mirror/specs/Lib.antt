@@ -1,2 +1,4 @@
 pub mod Script
 pub mod Copy
+pub mod Replacement
+pub mod Changes

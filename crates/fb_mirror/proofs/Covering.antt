@@ -1,0 +1,122 @@
+-- The runs of a disk over which contents were taken.
+use Rattle.std.proofs.Common.{◌≡◌, ℕ, zero, suc, ◌+◌, ◌<◌, ◌≤◌, List, [], ◌∷◌, ◌++◌, map, length, Option, Some, None, Bool, cond, refl, sym, ap, ap₂, ◌∙◌, arith, append-nil, inl, inr}
+use Rattle.std.specs.Prelude.{filter, is_some, ◌&&◌, ◌==◌}
+use Rattle.std.specs.List.{AllByRecursion, range_with_len, sum_by}
+use Rattle.std.specs.Option.{unwrap_or}
+use Rattle.std.proofs.lemmas.Bool.{cases_Bool}
+use Rattle.std.proofs.lemmas.List.{length-append}
+use Rattle.std.proofs.lemmas.List.Sums.{sum_by-cons}
+use Rattle.fb_store.specs.declared.content.Content.{Content}
+use Rattle.fb_store.specs.declared.content.Content.TheVariants.{Unreadable}
+use Rattle.fb_store.specs.declared.content.ContentRun.{ContentRun}
+use Rattle.fb_store.specs.Runs.{runs_of, sectors_in, sectors_of, same_content, with_content}
+use Rattle.fb_store.specs.Sparse.{after_taking, held_sector, held_in, EndsBy}
+use Rattle.fb_store.proofs.Originals.{inside, after}
+use Rattle.fb_store.proofs.Runs.{sectors_of-runs_of}
+use Rattle.fb_store.proofs.Taken.{taken_block, taken_past}
+use Rattle.fb_mirror.proofs.Taking.{over, taken_over}
+
+-- what is held of some sectors, told by another function
+held_same : (f g : ℕ → Option Content) (lbns : List ℕ) → ((lbn : ℕ) → f lbn ≡ g lbn) → held_in f lbns ≡ held_in g lbns
+held_same f g [] same = refl
+held_same f g (lbn ∷ lbns) same = ap₂ (λ o rest. held_sector lbn o ++ rest) (same lbn) (held_same f g lbns same)
+
+held_all : (f : ℕ → Option Content) (g : ℕ → Content) (first n : ℕ) → ((lbn : ℕ) → first ≤ lbn → lbn < first + n → f lbn ≡ Some (g lbn)) → held_in f (range_with_len first n) ≡ map (λ lbn. (lbn, g lbn)) (range_with_len first n)
+held_all f g first zero all = refl
+held_all f g first (suc n) all = ap₂ (λ o rest. held_sector first o ++ rest) (all first (omega arith) (omega arith)) (held_all f g (first + 1) n (λ lbn from to. all lbn (omega arith) (omega arith)))
+
+-- contents that were taken where nothing was held
+pub taken_runs : (contents runs : List ContentRun) (held old : ℕ → Option Content) → ((lbn : ℕ) → old lbn ≡ None) → ((lbn : ℕ) → held lbn ≡ after_taking (sectors_of contents) lbn (old lbn))
+    → ((end : ℕ) → EndsBy held end → runs ≡ runs_of (held_in held (range_with_len 0 end)))
+    → (end : ℕ) → AllByRecursion (λ run. run.first + run.count ≤ end) contents → runs ≡ runs_of (held_in (λ lbn. after_taking (sectors_of contents) lbn None) (range_with_len 0 end))
+taken_runs contents runs held old none took fewest end within =
+    let at = λ (lbn : ℕ). took lbn ∙ ap (after_taking (sectors_of contents) lbn) (none lbn) in
+    fewest end (λ lbn past. at lbn ∙ taken_past end lbn contents None within past)
+    ∙ ap runs_of (held_same held (λ lbn. after_taking (sectors_of contents) lbn None) (range_with_len 0 end) at)
+
+over_some : (top : Option Content) → over top (Some Unreadable) ≡ Some (unwrap_or top Unreadable)
+over_some None = refl
+over_some (Some content) = refl
+
+lost_here : (count lbn : ℕ) → lbn < count → after_taking (sectors_of (record { first = 0; count = count; content = Unreadable } ∷ [])) lbn None ≡ Some Unreadable
+lost_here count lbn less =
+    taken_block (λ lbn. Unreadable) 0 count lbn (sectors_of (record { first = 0; count = count; content = Unreadable } ∷ [])) None (append-nil (sectors_in (record { first = 0; count = count; content = Unreadable })))
+    ∙ ap (λ b. cond b (Some Unreadable) None) (inside 0 count lbn (omega arith) (omega arith))
+
+lost_past : (count lbn : ℕ) → count ≤ lbn → after_taking (sectors_of (record { first = 0; count = count; content = Unreadable } ∷ [])) lbn None ≡ None
+lost_past count lbn past =
+    taken_block (λ lbn. Unreadable) 0 count lbn (sectors_of (record { first = 0; count = count; content = Unreadable } ∷ [])) None (append-nil (sectors_in (record { first = 0; count = count; content = Unreadable })))
+    ∙ ap (λ b. cond b (Some Unreadable) None) (after 0 count lbn (omega arith))
+
+-- contents that were taken over a disk that can't be read
+pub whole_runs : (count : ℕ) (contents lost runs : List ContentRun) (held base old : ℕ → Option Content) → lost ≡ record { first = 0; count = count; content = Unreadable } ∷ [] → ((lbn : ℕ) → old lbn ≡ None)
+    → ((lbn : ℕ) → base lbn ≡ after_taking (sectors_of lost) lbn (old lbn)) → ((lbn : ℕ) → held lbn ≡ after_taking (sectors_of contents) lbn (base lbn))
+    → AllByRecursion (λ run. run.first + run.count ≤ count) contents → ((end : ℕ) → EndsBy held end → runs ≡ runs_of (held_in held (range_with_len 0 end)))
+    → runs ≡ runs_of (map (λ lbn. (lbn, unwrap_or (after_taking (sectors_of contents) lbn None) Unreadable)) (range_with_len 0 count))
+whole_runs count contents lost runs held base old is none took_lost took within fewest =
+    let before = λ (lbn : ℕ). took_lost lbn ∙ ap (after_taking (sectors_of lost) lbn) (none lbn) ∙ ap (λ rs. after_taking (sectors_of rs) lbn None) is in
+    fewest count (λ lbn past. took lbn ∙ taken_past count lbn contents (base lbn) within past ∙ before lbn ∙ lost_past count lbn past)
+    ∙ ap runs_of (held_all held (λ lbn. unwrap_or (after_taking (sectors_of contents) lbn None) Unreadable) 0 count
+    (λ lbn from to. took lbn ∙ ap (after_taking (sectors_of contents) lbn) (before lbn ∙ lost_here count lbn (omega arith))
+    ∙ taken_over (sectors_of contents) lbn (Some Unreadable) ∙ over_some (after_taking (sectors_of contents) lbn None)))
+
+range_long : (first n : ℕ) → length (range_with_len first n) ≡ n
+range_long first zero = refl
+range_long first (suc n) = let rest = range_long (first + 1) n in omega arith
+
+map_long : {X Y : Type 0} (f : X → Y) (xs : List X) → length (map f xs) ≡ length xs
+map_long f [] = refl
+map_long f (x ∷ xs) = let rest = map_long f xs in omega arith
+
+runs_long : (runs : List ContentRun) → length (sectors_of runs) ≡ sum_by (λ run. run.count) runs
+runs_long [] = refl
+runs_long (run ∷ runs) =
+    length-append (sectors_in run) (sectors_of runs)
+    ∙ ap₂ (λ here rest. here + rest) (map_long (λ lbn. (lbn, run.content)) (range_with_len run.first run.count) ∙ range_long run.first run.count) (runs_long runs)
+    ∙ sym (sum_by-cons (λ (r : ContentRun). r.count) run runs)
+
+held_long : (held : ℕ → Option Content) (lbns : List ℕ) → length (held_in held lbns) ≡ length (filter (λ lbn. is_some (held lbn)) lbns)
+held_long held [] = refl
+held_long held (lbn ∷ lbns) = one (held lbn) (held_long held lbns) where
+  one : (here : Option Content) → length (held_in held lbns) ≡ length (filter (λ lbn. is_some (held lbn)) lbns)
+      → length (held_sector lbn here ++ held_in held lbns) ≡ length (cond (is_some here) (lbn ∷ filter (λ lbn. is_some (held lbn)) lbns) (filter (λ lbn. is_some (held lbn)) lbns))
+  one None rest = rest
+  one (Some content) rest = omega arith
+
+kept_same : (f g : ℕ → Option Content) (lbns : List ℕ) → ((lbn : ℕ) → f lbn ≡ g lbn) → filter (λ lbn. is_some (f lbn)) lbns ≡ filter (λ lbn. is_some (g lbn)) lbns
+kept_same f g [] same = refl
+kept_same f g (lbn ∷ lbns) same = ap₂ (λ o rest. cond (is_some o) (lbn ∷ rest) rest) (same lbn) (kept_same f g lbns same)
+
+kept_long : (p : ℕ → Bool) (lbns : List ℕ) → length (filter p lbns) ≤ length lbns
+kept_long p [] = omega arith
+kept_long p (lbn ∷ lbns) = let rest = kept_long p lbns in elim (cases_Bool (p lbn)) [
+  | inl kept ↦ rw kept (omega arith)
+  | inr left ↦ rw left (omega arith)
+]
+
+-- the sectors of the runs of what is held
+pub held_sum : (held kept : ℕ → Option Content) (runs : List ContentRun) (lbns : List ℕ) → runs ≡ runs_of (held_in held lbns) → ((lbn : ℕ) → held lbn ≡ kept lbn) → sum_by (λ run. run.count) runs ≡ length (filter (λ lbn. is_some (kept lbn)) lbns)
+held_sum held kept runs lbns are same =
+    sym (runs_long runs) ∙ ap (λ rs. length (sectors_of rs)) are ∙ ap length (sectors_of-runs_of (held_in held lbns)) ∙ held_long held lbns ∙ ap length (kept_same held kept lbns same)
+
+pub kept_few : (p : ℕ → Bool) (first n : ℕ) → length (filter p (range_with_len first n)) ≤ n
+kept_few p first n = omega (arith, kept_long p (range_with_len first n), range_long first n)
+
+with_long : (lbn : ℕ) (content : Content) (runs : List ContentRun) → length (with_content lbn content runs) ≤ 1 + length runs
+with_long lbn content [] = omega arith
+with_long lbn content (run ∷ runs) = elim (cases_Bool ((run.first == lbn + 1) && same_content content run.content)) [
+  | inl joined ↦ rw joined (omega arith)
+  | inr apart ↦ rw apart (omega arith)
+]
+
+few_runs : (sectors : List (ℕ × Content)) → length (runs_of sectors) ≤ length sectors
+few_runs [] = omega arith
+few_runs (sector ∷ sectors) = omega (arith, with_long sector.0 sector.1 (runs_of sectors), few_runs sectors)
+
+-- a disk has no more runs than sectors
+pub whole_few : (f : ℕ → ℕ × Content) (runs : List ContentRun) (count : ℕ) → runs ≡ runs_of (map f (range_with_len 0 count)) → length runs ≤ count
+whole_few f runs count are = omega (arith, ap length are, few_runs (map f (range_with_len 0 count)), map_long f (range_with_len 0 count), range_long 0 count)
+
+pub within_more : (end most : ℕ) (runs : List ContentRun) → end ≤ most → AllByRecursion (λ run. run.first + run.count ≤ end) runs → AllByRecursion (λ run. run.first + run.count ≤ most) runs
+within_more end most [] less within = tt
+within_more end most (run ∷ runs) less within = let here = within.0 in (omega arith, within_more end most runs less within.1)

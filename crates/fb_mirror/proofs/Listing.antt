@@ -1,0 +1,60 @@
+-- Lists that grow with the rows that were seen.
+use Rattle.std.proofs.Common.{◌≡◌, ℕ, zero, suc, ◌+◌, List, [], ◌∷◌, ◌++◌, map, take, drop, slice_get, Option, Some, refl, sym, ap, ◌∙◌, arith, append_assoc, append-nil}
+use Rattle.std.specs.List.{flat_map}
+use Rattle.std.proofs.lemmas.Grind.{flat_map-append}
+use Rattle.fb_rows.specs.declared.back.BackRow.{BackRow}
+use Rattle.fb_rows.specs.declared.back.BackRow.TheVariants.{Gap, Idle, Got, Bad, Seal, Segment, Complete, Task}
+use Rattle.fb_rows.specs.declared.back.SealRow.{SealRow}
+use Rattle.fb_store.specs.declared.content.ContentRun.{ContentRun}
+use Rattle.fb_mirror.specs.declared.changes.Change.{Change}
+use Rattle.fb_mirror.specs.Changes.{changes_in, changes_of}
+use Rattle.fb_mirror.specs.Replacement.{Event, sealed_by, sealed_in}
+
+some_one : {X : Type 0} (x y : X) → Some x ≡ Some y → x ≡ y
+some_one x y e = grind arith
+
+taken_one : {X : Type 0} (xs : List X) (i : ℕ) (x : X) → slice_get xs i ≡ Some x → take (i + 1) xs ≡ take i xs ++ x ∷ []
+taken_one [] i x is = absurd (grind arith)
+taken_one (first ∷ xs) zero x is = ap (λ y. y ∷ []) (some_one first x is)
+taken_one (first ∷ xs) (suc i) x is = let more : suc i + 1 ≡ suc (i + 1) = omega arith in rw more (ap (λ rest. first ∷ rest) (taken_one xs i x is))
+
+dropped_one : {X : Type 0} (xs : List X) (i : ℕ) (x : X) → slice_get xs i ≡ Some x → drop i xs ≡ x ∷ drop (i + 1) xs
+dropped_one [] i x is = absurd (grind arith)
+dropped_one (first ∷ xs) zero x is = ap (λ y. y ∷ xs) (some_one first x is)
+dropped_one (first ∷ xs) (suc i) x is = let more : suc i + 1 ≡ suc (i + 1) = omega arith in rw more (dropped_one xs i x is)
+
+-- the changes of the rows so far, and of the next row
+pub row_added : {X : Type 0} (f : X → List Event) (rows : List X) (i : ℕ) (row : X) (old now new : List Change) → slice_get rows i ≡ Some row
+    → now ≡ old ++ changes_of (flat_map f (take i rows)) → new ≡ now ++ changes_of (f row) → new ≡ old ++ changes_of (flat_map f (take (i + 1) rows))
+row_added f rows i row old now new is so_far added =
+    let before = flat_map f (take i rows) in
+    let whole : flat_map f (take (i + 1) rows) ≡ before ++ f row = ap (flat_map f) (taken_one rows i row is) ∙ flat_map-append f (take i rows) (row ∷ []) ∙ ap (λ es. before ++ es) (append-nil (f row)) in
+    added ∙ ap (λ cs. cs ++ changes_of (f row)) so_far ∙ append_assoc old (changes_of before) (changes_of (f row))
+    ∙ ap (λ cs. old ++ cs) (sym (ap changes_of whole ∙ flat_map-append changes_in before (f row)))
+
+map-append : {X Y : Type 0} (f : X → Y) (xs ys : List X) → map f (xs ++ ys) ≡ map f xs ++ map f ys
+map-append f [] ys = refl
+map-append f (x ∷ xs) ys = ap (λ rest. f x ∷ rest) (map-append f xs ys)
+
+pub run_added : (f : ContentRun → Change) (runs : List ContentRun) (i : ℕ) (run : ContentRun) (old now new : List Change) → slice_get runs i ≡ Some run
+    → now ≡ old ++ map f (take i runs) → new ≡ now ++ f run ∷ [] → new ≡ old ++ map f (take (i + 1) runs)
+run_added f runs i run old now new is so_far added =
+    added ∙ ap (λ cs. cs ++ f run ∷ []) so_far ∙ append_assoc old (map f (take i runs)) (f run ∷ [])
+    ∙ ap (λ cs. old ++ cs) (sym (ap (map f) (taken_one runs i run is) ∙ map-append f (take i runs) (run ∷ [])))
+
+-- a seal row ends the search for one, and any other row is passed over
+pub seal_found : (rows : List BackRow) (i : ℕ) (got : BackRow) (row : SealRow) → slice_get rows i ≡ Some got → got ≡ Seal row → sealed_in (drop i rows) ≡ sealed_in rows → Some row.instant ≡ sealed_in rows
+seal_found rows i got row is seal so_far = sym (ap sealed_in (dropped_one rows i got is) ∙ ap (λ r. sealed_by r (sealed_in (drop (i + 1) rows))) seal) ∙ so_far
+
+no_seal : (got : BackRow) (behind : Option ℕ) → ((row : SealRow) → got ≡ Seal row → ⊥) → sealed_by got behind ≡ behind
+no_seal (Gap row) behind other = refl
+no_seal (Idle row) behind other = refl
+no_seal (Got row) behind other = refl
+no_seal (Bad row) behind other = refl
+no_seal (Seal row) behind other = absurd (other row refl)
+no_seal (Segment row) behind other = refl
+no_seal (Complete row) behind other = refl
+no_seal (Task row) behind other = refl
+
+pub seal_passed : (rows : List BackRow) (i : ℕ) (got : BackRow) → slice_get rows i ≡ Some got → ((row : SealRow) → got ≡ Seal row → ⊥) → sealed_in (drop i rows) ≡ sealed_in rows → sealed_in (drop (i + 1) rows) ≡ sealed_in rows
+seal_passed rows i got is other so_far = sym (ap sealed_in (dropped_one rows i got is) ∙ no_seal got (sealed_in (drop (i + 1) rows)) other) ∙ so_far

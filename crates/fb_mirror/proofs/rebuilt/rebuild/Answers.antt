@@ -1,0 +1,41 @@
+use Rattle.std.proofs.Common.{◌^◌, None, arith, ◌∙◌}
+use Rattle.std.specs.Prelude.{is_some}
+use Rattle.std.specs.List.{range_with_len}
+use Rattle.std.specs.Option.{unwrap_or}
+use Rattle.fb_store.specs.declared.content.Content.TheVariants.{Unreadable}
+use Rattle.fb_store.specs.Runs.{sectors_of}
+use Rattle.fb_store.specs.Sparse.{after_taking}
+use Rattle.fb_mirror.specs.Replacement.{events, held_after}
+use Rattle.fb_mirror.proofs.Covering.{held_sum, kept_few, whole_few, within_more}
+use Rattle.fb_mirror.proofs.rebuilt.rebuild.Goals as goal
+
+pub covered-requires : goal.covered-requires
+covered-requires c = within_more c.args.count (10 ^ 12) c.in_ok-contents.contents c.requires.disk (c.in_ok-contents.ensures.within c.args.count c.requires.ranges)
+
+pub over_unreadable-requires-clause-ranges : goal.over_unreadable-requires-clause-ranges
+over_unreadable-requires-clause-ranges c = c.in_ok-contents.ensures.within c.args.count c.requires.ranges
+
+pub sectors-requires : goal.sectors-requires
+sectors-requires c =
+    let lbns = range_with_len 0 c.args.count in
+    let held = held_after (events c.args.run.now) in
+    let are = c.in_ok-covered.ensures c.args.count (c.in_ok-contents.ensures.within c.args.count c.requires.ranges) in
+    let sum = held_sum (λ lbn. after_taking (sectors_of c.in_ok-contents.contents) lbn None) held c.in_ok-covered.covered lbns are c.in_ok-contents.ensures.held in
+    let few = kept_few (λ lbn. is_some (held lbn)) 0 c.args.count in
+    omega (arith, sum, few, c.requires.disk)
+
+pub returns-clause-covered : goal.returns-clause-covered
+returns-clause-covered c =
+    let are = c.in_ok-covered.ensures c.args.count (c.in_ok-contents.ensures.within c.args.count c.requires.ranges) in
+    c.sectors.ensures
+    ∙ held_sum (λ lbn. after_taking (sectors_of c.in_ok-contents.contents) lbn None) (held_after (events c.args.run.now)) c.in_ok-covered.covered (range_with_len 0 c.args.count) are c.in_ok-contents.ensures.held
+
+pub returns-clause-most : goal.returns-clause-most
+returns-clause-most c =
+    let held = held_after (events c.args.run.now) in
+    let few = kept_few (λ lbn. is_some (held lbn)) 0 c.args.count in
+    omega (arith, few, returns-clause-covered c)
+
+pub returns-clause-few : goal.returns-clause-few
+returns-clause-few c =
+    whole_few (λ lbn. (lbn, unwrap_or (after_taking (sectors_of c.in_ok-contents.contents) lbn None) Unreadable)) c.in_ok-content.content c.args.count c.in_ok-content.ensures

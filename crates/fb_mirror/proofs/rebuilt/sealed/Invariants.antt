@@ -1,0 +1,6 @@
+use Rattle.std.proofs.Common.{◌≡◌, drop}
+use Rattle.fb_mirror.specs.Replacement.{sealed_in}
+use Rattle.fb_mirror.proofs.rebuilt.sealed.Given as goal
+
+abbrev pub invariant-loop-i : goal.invariant-loop-i
+invariant-loop-i l = sealed_in (drop l.i l.rows) ≡ sealed_in l.rows
