@@ -5,3 +5,4 @@ pub mod Taking
 pub mod Deciding
 pub mod Order
 pub mod Covering
+pub mod EventLaws

@@ -1,5 +1,5 @@
 -- What the replacement of a lost disk holds: what the writes and the deliveries of the survivor's run give it.
-use Rattle.std.specs.Prelude.{ℕ, ◌+◌, ◌≤◌, List, [], ◌∷◌, ◌++◌, length, Option, None, Some, nat_lt, map, filter, is_some, if◌then◌else◌}
+use Rattle.std.specs.Prelude.{◌≡◌, ℕ, ◌+◌, ◌<◌, ◌≤◌, List, [], ◌∷◌, ◌++◌, length, Option, None, Some, nat_lt, map, filter, is_some, if◌then◌else◌}
 use Rattle.std.specs.List.{AllByRecursion, flat_map, range_with_len}
 use Rattle.std.specs.Option.{option_map, unwrap_or}
 use Rattle.fb_store.specs.declared.content.Content.{Content}
@@ -51,6 +51,16 @@ later (Some first) (Some second) = if nat_lt second.0 first.0 then Some first el
 abbrev pub decided : ℕ → List Event → Option (ℕ × Content)
 decided lbn [] = None
 decided lbn (event ∷ events) = later (given lbn event) (decided lbn events)
+
+-- an event of the list gives a sector this at this instant; those before it that concern the sector are no later, those behind it are earlier
+pub record Decides (lbn : ℕ) (events : List Event) (last : ℕ × Content) : Type 0 where
+  pub before : List Event
+  pub event : Event
+  pub behind : List Event
+  pub split : events ≡ before ++ event ∷ behind
+  pub gives : given lbn event ≡ Some last
+  pub no_later : AllByRecursion (λ other. (that : ℕ × Content) → given lbn other ≡ Some that → that.0 ≤ last.0) before
+  pub earlier : AllByRecursion (λ other. (that : ℕ × Content) → given lbn other ≡ Some that → that.0 < last.0) behind
 
 -- what a sector holds after the events, if one of them concerned it
 abbrev pub held_after : List Event → ℕ → Option Content

@@ -32,8 +32,8 @@ pub fn contents_in_order(alloc: Global, run: &Run) -> Result<Contents, NoMemory>
 }
 
 // The contents of the changes, in their order.
-fn contents_of(alloc: Global, changes: &Vec<Change>) -> Result<Contents, NoMemory>
-    ensures { IfOk result (λ contents. contents ≡ map (λ change. change.run) changes.now.items) }
+fn contents_of(alloc: Global, changes: &[Change]) -> Result<Contents, NoMemory>
+    ensures { IfOk result (λ contents. contents ≡ map (λ change. change.run) changes.now) }
 {
     let mut contents = Contents::new(alloc);
     for change in changes {

@@ -4,15 +4,18 @@
 //! its free gaps; the replacement gets each delivered block and each foreground write. The layers
 //! above may rely on this: the script of a rebuild is one definition, down to the last byte, and
 //! what it reads as is known for each disk; what the replacement holds is one definition over the
-//! events of the run, and so is the text of a copy. Work and memory grow with the rows of the run
-//! and their runs, not with the sectors of the disk.
+//! events of the run, and laws say what an event gives a sector and which of them decides; the text
+//! of a copy is one definition too. Work and memory grow with the rows of the run and their runs,
+//! not with the sectors of the disk. Whether the run was made by that script is not asked.
 #![tactic(auto)]
 
 mod changes;
 mod copy;
+mod laws;
 mod rebuilt;
 mod script;
 
 pub use copy::{copy_piece, copy_pieces};
+pub use laws::{events_concern_their_sectors, latest_events_decide};
 pub use rebuilt::{Rebuilt, rebuild};
 pub use script::{rebuild_script, rebuild_scripts_are_read};

@@ -1,0 +1,8 @@
+use Rattle.fb_mirror.proofs.EventLaws.{latest_decides, none_given}
+use Rattle.fb_mirror.proofs.laws.latest_events_decide.Goals as goal
+
+pub returns-clause-decides : goal.returns-clause-decides
+returns-clause-decides c = latest_decides
+
+pub returns-clause-none : goal.returns-clause-none
+returns-clause-none c = none_given
