@@ -61,7 +61,7 @@ is_reported [] task number = false
 is_reported (tested rows ∷ past) task number = list_any (is_segment_of task number) rows || is_reported past task number
 is_reported (_ ∷ past) task number = is_reported past task number
 
--- the task's own block with that block's number: a task answers only for its own blocks
+-- a task's block of the same index: a task answers only for its own blocks
 abbrev pub own_of : ℕ → Block → Block
 own_of task block = record block { task = task }
 
@@ -131,7 +131,7 @@ was_complete [] task = false
 was_complete (tested rows ∷ past) task = is_complete past task
 was_complete (_ ∷ past) task = was_complete past task
 
--- everything that a history says of a task
+-- what a history says of a task: its work, and how far its calls, its seal and its last test have come
 pub record TaskView : Type 0 where
   pub work : Work
   pub open work use *

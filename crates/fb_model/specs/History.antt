@@ -80,26 +80,31 @@ registered (_ ∷ past) = registered past
 abbrev pub blocks_of : Past → ℕ → List Block
 blocks_of past task = filter (λ block. block.task == task) (registered past)
 
+-- two blocks are one: the same task and the same index in it
 abbrev pub same_block : Block → Block → Bool
 same_block a b = (a.task == b.task) && (a.index == b.index)
 
--- the events that concern a block
+-- the event registers the block
 abbrev pub registers : Event → Block → Bool
 registers event block = list_any (same_block block) (registered_by event)
 
+-- the event delivers the block
 abbrev pub delivers : Event → Block → Bool
 delivers (delivered row) block = same_block row.block block
 delivers _ block = false
 
+-- the action takes the block from its task: an abort of a range that it shares a sector with, or a close
 abbrev pub ends_block : Action → Block → Bool
 ends_block (Abort first count) block = shares first count block
 ends_block Close block = true
 ends_block _ block = false
 
+-- the event is a call of the block's task that takes the block from it
 abbrev pub aborts : Event → Block → Bool
 aborts (called call blocks) block = (call.task == block.task) && ends_block call.action block
 aborts _ block = false
 
+-- the event is the finish of a write to a sector of the block
 abbrev pub overwrites : Event → Block → Bool
 overwrites (finished request) block = request.write && shares request.lbn request.count block
 overwrites _ block = false
@@ -115,6 +120,7 @@ is_sealed [] task = false
 is_sealed (tested rows ∷ past) task = list_any (is_seal_of task) rows || is_sealed past task
 is_sealed (_ ∷ past) task = is_sealed past task
 
+-- the task is a backup without its seal
 abbrev pub is_open_backup : Past → ℕ → Bool
 is_open_backup past task = is_backup (terms_of past task).kind && not (is_sealed past task)
 

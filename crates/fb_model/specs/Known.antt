@@ -31,14 +31,17 @@ follows_known t follows (GotLine row) = nat_le row.end t
 follows_known t follows (BadLine row) = follows
 follows_known t follows _ = false
 
+-- the row before others, if the test holds
 abbrev pub only_if : Bool → BackRow → List BackRow → List BackRow
 only_if true row rows = row ∷ rows
 only_if false row rows = rows
 
+-- of these rows those that are known by t; whether the first of them follows a delivery that is known
 abbrev pub known_from : ℕ → Bool → List BackRow → List BackRow
 known_from t follows [] = []
 known_from t follows (row ∷ rows) = only_if (is_known t follows row) row (known_from t (follows_known t follows row) rows)
 
+-- the background rows that are known by t
 abbrev pub back_known : ℕ → List BackRow → List BackRow
 back_known t rows = known_from t false rows
 

@@ -40,6 +40,7 @@ blocks_by disk past task _ = []
 abbrev pub take_call : Shape → Past → Call → Past
 take_call disk past call = called call (blocks_by disk past call.task call.action) ∷ past
 
+-- the event is a call
 abbrev pub is_call : Event → Bool
 is_call (called call blocks) = true
 is_call _ = false

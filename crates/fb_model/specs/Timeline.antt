@@ -73,12 +73,13 @@ can_follow disk track now (pass lbn begin end) =
     same_track place.track track && (begin == now) && (begin % disk.map.rotation == begin_angle disk.map place)
     && (end == begin + length_of disk.map place)
 
--- where a leg leaves the head, and when
+-- the track on which a leg leaves the head
 abbrev pub leaves_on : Disk → Leg → Track
 leaves_on disk (stay on begin end) = on
 leaves_on disk (move from to write begin end) = to
 leaves_on disk (pass lbn begin end) = track_at disk.map lbn
 
+-- the instant at which a leg ends
 abbrev pub leaves_at : Leg → ℕ
 leaves_at (stay on begin end) = end
 leaves_at (move from to write begin end) = end

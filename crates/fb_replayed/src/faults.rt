@@ -262,17 +262,11 @@ fn each_failing_call_of_both_reports_is_told(rt: HostRuntime) -> Result<(), Fail
 }
 
 #[test]
-fn each_failing_call_of_a_backup_is_told(rt: HostRuntime) -> Result<(), Fail> {
+fn each_failing_call_of_a_backup_and_a_cleaner_is_told(rt: HostRuntime) -> Result<(), Fail> {
     let alloc = rt.alloc();
     let params = disk(alloc, "", TWELVE)?;
     let scene = scripted(params.as_bytes(), OVERWRITING, A_BACKUP);
-    check_faults(&rt, alloc, &scene, UNTIL, FAULTS_OF_A_BACKUP)
-}
-
-#[test]
-fn each_failing_call_of_a_cleaner_is_told(rt: HostRuntime) -> Result<(), Fail> {
-    let alloc = rt.alloc();
-    let params = disk(alloc, "", TWELVE)?;
+    check_faults(&rt, alloc, &scene, UNTIL, FAULTS_OF_A_BACKUP)?;
     let scene = scripted(params.as_bytes(), LATE_READ, TWO_SEGMENTS);
     check_faults(&rt, alloc, &scene, UNTIL, FAULTS_OF_A_CLEANER)
 }

@@ -10,7 +10,7 @@ use Rattle.fb_report.specs.Grammar.{Grammar, Form, is_line_of, report_of, ended}
 
 -- ---- fields
 
--- a field of this form, without a space or a line feed in it, or anything else up to the space
+-- a field of this form, in which no byte is a space or a control character
 pub record IsField (form : Form) (field : List ℕ) : Type 0 where
   pub fits : form field ≡ true
   pub whole : list_all (λ byte. nat_lt 32 byte) field ≡ true

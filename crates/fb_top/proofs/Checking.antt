@@ -1,6 +1,7 @@
 -- What a check read and wrote, told of the desk at the start.
 use Rattle.std.proofs.Common.{◌≡◌, ◌∙◌, ℕ, ◌<◌, ◌^◌, List, length, Option, Some, true, refl, sym, subst, inl, inr}
 use Rattle.std.specs.Prelude.{IfSome, codes, is_some}
+use Rattle.fb_report.specs.Forms.{grammar_of}
 use Rattle.fb_report.specs.Grammar.{Grammar, back_grammar, fore_grammar}
 use Rattle.fb_report.specs.declared.reading.Report.{Report}
 use Rattle.fb_report.specs.declared.reading.Report.TheVariants as reports
@@ -14,7 +15,7 @@ use Rattle.fb_desk.specs.declared.desk.Output.TheVariants.{Fore}
 use Rattle.fb_words.specs.Command.{CheckTerms}
 use Rattle.fb_top.specs.declared.outcome.Outcome.{Outcome}
 use Rattle.fb_top.specs.declared.outcome.Outcome.TheVariants as outcomes
-use Rattle.fb_top.specs.Causes.{AcceptsBefore, AcceptsFiles, AcceptsFore, CheckHasCause, EndsAt, FaultsRose, IsTooLong, IsUnread, KeepsLater, RefusesReportInTurn, StopsInputs, StopsPrinted, StopsReport, grammar_of, input_of, limit_of}
+use Rattle.fb_top.specs.Causes.{AcceptsBefore, AcceptsFiles, AcceptsFore, CheckHasCause, EndsAt, FaultsRose, IsTooLong, IsUnread, KeepsLater, RefusesReportInTurn, StopsInputs, StopsPrinted, StopsReport, input_of, limit_of}
 use Rattle.fb_top.specs.Checked.{ChangesPrinted, IsVerdictCut, IsVerdictOf, JudgesBy, verdict_line}
 use Rattle.fb_top.specs.Read.{Files, ReadsReport, RefusesReport}
 use Rattle.fb_top.specs.Sources.{SourceTerms, check_inputs, check_sources, files_alone, name_of}

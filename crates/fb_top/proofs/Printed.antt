@@ -28,7 +28,7 @@ module _ (output : OutputView) (desk : DeskView) (name under : List ℕ) (gramma
   one_text = subst (λ (told : Option (List ℕ)). IfSome told (λ bytes. bytes ≡ joined lines)) holds.written whole.written
 
   pub held_lines : HoldsLines desk name grammar lines
-  held_lines = record { held = holds.held ∙ ap Some one_text; parts = read.parts; are = read.are; spells = read.read }
+  held_lines = record { held = holds.held ∙ ap Some one_text; read = read }
 
   pub told_lines : TellsReport desk grammar name
   told_lines = record {

@@ -9,7 +9,8 @@ use Rattle.fb_words.specs.Command.{ReplayTerms, CheckTerms}
 use Rattle.fb_trace.specs.Reading.{Accepted}
 use Rattle.fb_trace.specs.declared.trace.TraceFault.{TraceFault}
 use Rattle.fb_calls.specs.declared.fault.CallsFault.{CallsFault}
-use Rattle.fb_report.specs.Grammar.{Grammar, fore_grammar, back_grammar}
+use Rattle.fb_report.specs.Forms.{grammar_of}
+use Rattle.fb_report.specs.Grammar.{fore_grammar}
 use Rattle.fb_report.specs.declared.reading.Report.{Report}
 use Rattle.fb_report.specs.declared.reading.Report.TheVariants as reports
 use Rattle.fb_report.specs.declared.reading.ReportsFault.{ReportsFault}
@@ -100,10 +101,6 @@ abbrev pub input_of : Report → Input
 input_of reports.Fore = ForeReport
 input_of reports.Back = BackReport
 
-abbrev pub grammar_of : Report → Grammar
-grammar_of reports.Fore = fore_grammar
-grammar_of reports.Back = back_grammar
-
 -- accepted files, and a report that is refused; before the background report the foreground report is accepted
 pub record RefusesReportInTurn (desk : DeskView) (terms : InputTerms) (fault : ReportsFault) : Type 0 where
   pub before : AcceptsBefore desk terms (input_of fault.report)
@@ -191,7 +188,7 @@ refused_as errors.NoMemory = outcomes.NoMemory
 -- why no report was read, or why reports were not judged
 abbrev pub StopsReport : Report → List ℕ → DeskView → DeskView → Outcome → Type 0
 StopsReport report name old new (outcomes.Reports fault) = (fault.report ≡ report) × RefusesReport old name (grammar_of report) fault.line
-StopsReport report name old new (outcomes.TooLong input) = (input ≡ input_of report) × IsLonger old name (2 ^ 28)
+StopsReport report name old new (outcomes.TooLong input) = (input ≡ input_of report) × IsLonger old name (limit_of (input_of report))
 StopsReport report name old new (outcomes.ReadFault input) = (input ≡ input_of report) × FaultsRose old new (input_of report)
 StopsReport report name old new outcomes.NoMemory = Unit {0}
 StopsReport report name old new _ = ⊥

@@ -1,13 +1,14 @@
 -- Laws of the runs that the top call returns: background work leaves the foreground as it is, inputs have one run, no decision looks ahead,
 -- and a run's own reports are right, as are the reports that were printed.
-use Rattle.std.specs.Prelude.{◌≡◌, ◌⊎◌, ℕ, ◌<◌, ◌≤◌, ◌^◌, List, length, false, Ok, Some, IfSome, map}
+use Rattle.std.specs.Prelude.{◌≡◌, ◌⊎◌, ℕ, ◌<◌, ◌≤◌, ◌^◌, List, length, false, Some, IfSome}
 use Rattle.fb_rows.specs.declared.run.Run.{Run}
 use Rattle.fb_model.specs.Foreground.{promoted}
 use Rattle.fb_model.specs.Known.{AgreeUpTo, SameKnown}
 use Rattle.fb_report.specs.declared.bytes.Bytes.{Bytes}
 use Rattle.fb_report.specs.Back.{back_lines}
 use Rattle.fb_report.specs.Fore.{fore_lines, fore_text}
-use Rattle.fb_report.specs.Grammar.{Grammar, back_grammar, ended, fore_grammar, report_of}
+use Rattle.fb_report.specs.Grammar.{Grammar, back_grammar, fore_grammar}
+use Rattle.fb_report.specs.Printed.{IsReadBack}
 use Rattle.fb_check.specs.declared.verdict.Verdict.{Verdict}
 use Rattle.fb_check.specs.declared.verdict.Verdict.TheVariants.{Yes}
 use Rattle.fb_desk.specs.View.{DeskView, OutputView}
@@ -64,12 +65,10 @@ pub record ChecksRun (one other : DeskView) (terms : ReplayTerms) (checks : Chec
   pub until : checks.until ≡ terms.until
   pub alike : HoldOneInput one other (replay_sources terms)
 
--- the text of these lines is held under a name, and the grammar accepts it line by line
+-- the text of these lines is held under a name, and is read as these lines
 pub record HoldsLines (desk : DeskView) (name : List ℕ) (grammar : Grammar) (lines : List (List ℕ)) : Type 0 where
   pub held : desk.held name ≡ Some (joined lines)
-  pub parts : List (List ℕ)
-  pub are : map ended parts ≡ lines
-  pub spells : report_of grammar (joined lines) ≡ Ok parts
+  pub read : IsReadBack grammar lines
 
 -- under both names the texts of a run's reports are held
 pub record HoldsOwnReports (desk : DeskView) (checks : CheckTerms) (files : Files) (run : Run) : Type 0 where
