@@ -28,3 +28,4 @@ pub use live::Live;
 pub use names::Names;
 pub use reader::read_calls;
 pub use reads::promoted;
+pub use words::is_name;

@@ -3,9 +3,10 @@ ghost use Rattle.std.specs.Prelude.{◌≡◌, ◌+◌, ◌-◌, ◌*◌, ◌<�
 ghost use Rattle.std.specs.Char.{is_ascii_digit};
 ghost use Rattle.std.specs.List.{after_first, before_first, list_all, list_any, position_or_len, slice_split};
 ghost use Rattle.std.specs.Str.{bytes_eq};
-ghost use Rattle.fb_calls.specs.Words.{is_name, is_name_byte};
 ghost use Rattle.fb_report.specs.Forms.{fits};
 ghost use Rattle.fb_report.specs.Grammar.{are_bytes, is_lower_hex, is_number, is_one_of, is_request, is_track};
+
+use fb_calls::is_name;
 
 /// What a field must be.
 #[derive(Clone, Copy)]
@@ -37,7 +38,7 @@ impl Form {
             Form::Number => is_number(field),
             Form::Track => is_track(field),
             Form::Request => is_request(field),
-            Form::Task => is_task_name(field),
+            Form::Task => is_name(field),
             Form::Bytes => are_bytes(field),
         }
     }
@@ -94,25 +95,6 @@ fn is_request(text: &[u8]) -> bool
         [b'P', number @ ..] => is_number(number),
         _ => is_number(text),
     }
-}
-
-// Whether a text can be the name of a task: 1 to 32 letters, digits, underscores and hyphens.
-fn is_task_name(text: &[u8]) -> bool
-    ensures { result ≡ is_name text.now }
-{
-    text.len() >= 1 && text.len() <= 32 && are_name_bytes(text)
-}
-
-fn are_name_bytes(text: &[u8]) -> bool
-    ensures { result ≡ list_all is_name_byte text.now }
-{
-    text.iter().all(|byte| is_name_byte(*byte))
-}
-
-fn is_name_byte(byte: u8) -> bool
-    ensures { result ≡ is_name_byte byte }
-{
-    byte.is_ascii_alphanumeric() || byte == b'_' || byte == b'-'
 }
 
 fn are_bytes(text: &[u8]) -> bool
