@@ -32,6 +32,7 @@ of_output each output.Back = each.back
 of_output each output.Note = each.note
 of_output each output.MadeTrace = each.made_trace
 of_output each output.MadeCalls = each.made_calls
+of_output each output.Copied = each.copied
 
 -- the same with another value for this output
 abbrev pub with_output : {T : Type 0} → EachOutput T → Output → T → EachOutput T
@@ -40,6 +41,7 @@ with_output each output.Back thing = record each { back = thing }
 with_output each output.Note thing = record each { note = thing }
 with_output each output.MadeTrace thing = record each { made_trace = thing }
 with_output each output.MadeCalls thing = record each { made_calls = thing }
+with_output each output.Copied thing = record each { copied = thing }
 
 -- the reference lends the value of this input: what is behind it at its end is then the input's value
 abbrev pub lends_input : (T : RattleType) → MutBor (EachInput T.Denot) → Input → MutBor T.Denot → Fml

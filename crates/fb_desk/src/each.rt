@@ -79,6 +79,8 @@ pub struct EachOutput<T> {
     pub made_trace: T,
     /// That of the generated call script.
     pub made_calls: T,
+    /// That of the text of the replacement of a lost disk.
+    pub copied: T,
 }
 
 impl<T: Copy> EachOutput<T> {
@@ -92,6 +94,7 @@ impl<T: Copy> EachOutput<T> {
             note: thing,
             made_trace: thing,
             made_calls: thing,
+            copied: thing,
         }
     }
 }
@@ -107,6 +110,7 @@ impl<T> EachOutput<T> {
             Output::Note => &self.note,
             Output::MadeTrace => &self.made_trace,
             Output::MadeCalls => &self.made_calls,
+            Output::Copied => &self.copied,
         }
     }
 
@@ -121,6 +125,7 @@ impl<T> EachOutput<T> {
             Output::Note => &mut self.note,
             Output::MadeTrace => &mut self.made_trace,
             Output::MadeCalls => &mut self.made_calls,
+            Output::Copied => &mut self.copied,
         }
     }
 }
