@@ -1,21 +1,21 @@
 -- The numbers that words give are within the limits.
 use Rattle.std.proofs.Common.{◌≡◌, ℕ, ◌+◌, ◌≤◌, ◌^◌, List, [], ◌∷◌, true, false, subst, inl, inr, arith, Option, Some, None, Result, Ok, Err}
-use Rattle.std.specs.Prelude.{IfSome, IfOk, not, nat_lt, unwrap_or, length}
+use Rattle.std.specs.Prelude.{IfSome, IfOk, not, ◌||◌, ◌==◌, ◌<◌, nat_lt, unwrap_or, length}
 use Rattle.std.proofs.lemmas.Bool.{cases_Bool}
 use Rattle.std.proofs.lemmas.Bool.Decides.{nat_tests}
 use Rattle.fb_units.specs.Judging.{or_refuse, refuse, refused_as}
 use Rattle.fb_units.specs.Numbers.{millis_of, number_of}
 use Rattle.fb_units.proofs.Judged.{both_ok, value_ok, test_ok, step_ok, number_small, millis_small}
-use Rattle.fb_words.specs.declared.fault.UsageReason.TheVariants.{NoValue, BadValue, OptionTwice, UnknownOption, UnknownCommand, MissingOption, CallsAndBack}
+use Rattle.fb_words.specs.declared.fault.UsageReason.TheVariants.{NoValue, BadValue, OptionTwice, UnknownOption, UnknownCommand, MissingOption, CallsAndBack, RebuildIncomplete, RebuildBeyond}
 use Rattle.fb_words.specs.declared.names.Verb.{Verb}
-use Rattle.fb_words.specs.declared.names.Verb.TheVariants.{Replay, Make, Check}
+use Rattle.fb_words.specs.declared.names.Verb.TheVariants.{Replay, Make, Check, Array}
 use Rattle.fb_words.specs.declared.names.OptionName.{OptionName}
-use Rattle.fb_words.specs.declared.names.OptionName.TheVariants.{Params, Trace, Policy, Calls, Fore, Back, Until, Device, Bytes, Number, Requests}
+use Rattle.fb_words.specs.declared.names.OptionName.TheVariants.{Params, Trace, Policy, Calls, Fore, Back, Until, Device, Bytes, Number, Requests, Devices, Rebuild, Copy}
 use Rattle.fb_words.specs.Names.{policy_of, bytes_of, option_of, verb_of}
 use Rattle.fb_words.specs.Options.{Options, no_options}
-use Rattle.fb_words.specs.Values.{is_given, is_value, request_count_of, with_form, with_value}
+use Rattle.fb_words.specs.Values.{is_given, is_value, request_count_of, device_count_of, with_form, with_value}
 use Rattle.fb_words.specs.Reading.{Progress, ready, awaits, Parts, parts_of, is_summary, fault_at, with_summary, with_part, with_option, with_name, with_word, at_end, options_from}
-use Rattle.fb_words.specs.Command.{Terms, replays, makes, checks, ReplayTerms, MakeTerms, CheckTerms, go_together, replay_of, make_of, check_of, terms_of, with_verb, command_of}
+use Rattle.fb_words.specs.Command.{Terms, replays, makes, checks, arrays, ReplayTerms, MakeTerms, CheckTerms, RebuildTerms, ArrayTerms, go_together, replay_of, make_of, check_of, rebuild_incomplete, rebuild_beyond, rebuild_with, rebuild_of, array_of, terms_of, with_verb, command_of}
 use Rattle.fb_words.specs.declared.command.Command.{Command}
 use Rattle.fb_words.specs.declared.fault.WordsError.{WordsError}
 use Rattle.fb_words.specs.Verdict.{Answers, terms}
@@ -26,6 +26,7 @@ record IsSmall (given : Options) : Type 0 where
   device : IfSome given.device (λ device. device ≤ 10 ^ 15)
   number : IfSome given.number (λ number. number ≤ 10 ^ 15)
   requests : IfSome given.requests (λ requests. requests ≤ 10 ^ 6)
+  devices : IfSome given.devices (λ devices. (0 < devices) × (devices ≤ 16))
 
 same_ok : {A E : Type 0} (a b : A) → ◌≡◌ {A = Result A E} (Ok a) (Ok b) → a ≡ b
 same_ok a b e = cc
@@ -40,31 +41,48 @@ requests_small value m given =
     let small = both_ok (refuse BadValue (nat_lt 1000000 count.0)) _ m count.2 in
     few count.0 m (test_ok BadValue (nat_lt 1000000 count.0) small.0 small.1) (same_ok count.0 m small.2)
 
+a_few : (n m : ℕ) → (n == 0 || nat_lt 16 n) ≡ false → n ≡ m → (0 < m) × (m ≤ 16)
+a_few n m few same = (grind (arith, nat_tests), grind (arith, nat_tests))
+
+devices_small : (value : List ℕ) (m : ℕ) → device_count_of value ≡ Ok m → (0 < m) × (m ≤ 16)
+unfolding device_count_of
+devices_small value m given =
+    let count = both_ok (or_refuse BadValue (number_of value)) _ m given in
+    let small = both_ok (refuse BadValue (count.0 == 0 || nat_lt 16 count.0)) _ m count.2 in
+    a_few count.0 m (test_ok BadValue (count.0 == 0 || nat_lt 16 count.0) small.0 small.1) (same_ok count.0 m small.2)
+
 small-with_form : (given next : Options) (option : OptionName) (value : List ℕ) → with_form given option value ≡ Ok next → IsSmall given → IsSmall next
 unfolding with_form
-small-with_form given next Params value e is = subst IsSmall (same_ok _ next e) (record { until = is.until; device = is.device; number = is.number; requests = is.requests })
-small-with_form given next Trace value e is = subst IsSmall (same_ok _ next e) (record { until = is.until; device = is.device; number = is.number; requests = is.requests })
+small-with_form given next Params value e is = subst IsSmall (same_ok _ next e) (record { until = is.until; device = is.device; number = is.number; requests = is.requests; devices = is.devices })
+small-with_form given next Trace value e is = subst IsSmall (same_ok _ next e) (record { until = is.until; device = is.device; number = is.number; requests = is.requests; devices = is.devices })
 small-with_form given next Policy value e is =
     let p = both_ok (or_refuse BadValue (policy_of value)) _ next e in
-    subst IsSmall (same_ok _ next p.2) (record { until = is.until; device = is.device; number = is.number; requests = is.requests })
-small-with_form given next Calls value e is = subst IsSmall (same_ok _ next e) (record { until = is.until; device = is.device; number = is.number; requests = is.requests })
-small-with_form given next Fore value e is = subst IsSmall (same_ok _ next e) (record { until = is.until; device = is.device; number = is.number; requests = is.requests })
-small-with_form given next Back value e is = subst IsSmall (same_ok _ next e) (record { until = is.until; device = is.device; number = is.number; requests = is.requests })
+    subst IsSmall (same_ok _ next p.2) (record { until = is.until; device = is.device; number = is.number; requests = is.requests; devices = is.devices })
+small-with_form given next Calls value e is = subst IsSmall (same_ok _ next e) (record { until = is.until; device = is.device; number = is.number; requests = is.requests; devices = is.devices })
+small-with_form given next Fore value e is = subst IsSmall (same_ok _ next e) (record { until = is.until; device = is.device; number = is.number; requests = is.requests; devices = is.devices })
+small-with_form given next Back value e is = subst IsSmall (same_ok _ next e) (record { until = is.until; device = is.device; number = is.number; requests = is.requests; devices = is.devices })
 small-with_form given next Until value e is =
     let p = both_ok (or_refuse BadValue (millis_of value)) _ next e in
-    subst IsSmall (same_ok _ next p.2) (record { until = millis_small value p.0 (value_ok BadValue (millis_of value) p.0 p.1); device = is.device; number = is.number; requests = is.requests })
+    subst IsSmall (same_ok _ next p.2) (record { until = millis_small value p.0 (value_ok BadValue (millis_of value) p.0 p.1); device = is.device; number = is.number; requests = is.requests; devices = is.devices })
 small-with_form given next Device value e is =
     let p = both_ok (or_refuse BadValue (number_of value)) _ next e in
-    subst IsSmall (same_ok _ next p.2) (record { until = is.until; device = number_small value p.0 (value_ok BadValue (number_of value) p.0 p.1); number = is.number; requests = is.requests })
+    subst IsSmall (same_ok _ next p.2) (record { until = is.until; device = number_small value p.0 (value_ok BadValue (number_of value) p.0 p.1); number = is.number; requests = is.requests; devices = is.devices })
 small-with_form given next Bytes value e is =
     let p = both_ok (or_refuse BadValue (bytes_of value)) _ next e in
-    subst IsSmall (same_ok _ next p.2) (record { until = is.until; device = is.device; number = is.number; requests = is.requests })
+    subst IsSmall (same_ok _ next p.2) (record { until = is.until; device = is.device; number = is.number; requests = is.requests; devices = is.devices })
 small-with_form given next Number value e is =
     let p = both_ok (or_refuse BadValue (number_of value)) _ next e in
-    subst IsSmall (same_ok _ next p.2) (record { until = is.until; device = is.device; number = number_small value p.0 (value_ok BadValue (number_of value) p.0 p.1); requests = is.requests })
+    subst IsSmall (same_ok _ next p.2) (record { until = is.until; device = is.device; number = number_small value p.0 (value_ok BadValue (number_of value) p.0 p.1); requests = is.requests; devices = is.devices })
 small-with_form given next Requests value e is =
     let p = both_ok (request_count_of value) _ next e in
-    subst IsSmall (same_ok _ next p.2) (record { until = is.until; device = is.device; number = is.number; requests = requests_small value p.0 p.1 })
+    subst IsSmall (same_ok _ next p.2) (record { until = is.until; device = is.device; number = is.number; requests = requests_small value p.0 p.1; devices = is.devices })
+small-with_form given next Devices value e is =
+    let p = both_ok (device_count_of value) _ next e in
+    subst IsSmall (same_ok _ next p.2) (record { until = is.until; device = is.device; number = is.number; requests = is.requests; devices = devices_small value p.0 p.1 })
+small-with_form given next Rebuild value e is =
+    let p = both_ok (or_refuse BadValue (number_of value)) _ next e in
+    subst IsSmall (same_ok _ next p.2) (record { until = is.until; device = is.device; number = is.number; requests = is.requests; devices = is.devices })
+small-with_form given next Copy value e is = subst IsSmall (same_ok _ next e) (record { until = is.until; device = is.device; number = is.number; requests = is.requests; devices = is.devices })
 
 small-with_value : (given next : Options) (option : OptionName) (value : List ℕ) → with_value given option value ≡ Ok next → IsSmall given → IsSmall next
 unfolding with_value
@@ -79,7 +97,7 @@ small-with_summary : (given : Options) (next : Progress) → with_summary given 
 unfolding with_summary
 small-with_summary given next e is =
     let p = both_ok (refuse OptionTwice given.summary) _ next e in
-    subst IsSmallSoFar (same_ok _ next p.2) (let same : IsSmall (record given { summary = true }) = record { until = is.until; device = is.device; number = is.number; requests = is.requests } in same)
+    subst IsSmallSoFar (same_ok _ next p.2) (let same : IsSmall (record given { summary = true }) = record { until = is.until; device = is.device; number = is.number; requests = is.requests; devices = is.devices } in same)
 
 small-with_part : (place : ℕ) (given : Options) (option : OptionName) (value : Option (List ℕ)) (next : Progress) → with_part place given option value ≡ Ok next → IsSmall given → IsSmallSoFar next
 unfolding with_part
@@ -163,6 +181,33 @@ small-check_of given terms e is =
     let back = both_ok (or_refuse (MissingOption 5) given.back) _ terms fore.2 in
     subst (λ t. IsWithinLimits (checks t)) (same_ok _ terms back.2) (small-default given.until (10 ^ 15) is.until, small-default given.device (10 ^ 15) is.device)
 
+-- a device that isn't beyond the devices is below them
+within : (devices : ℕ) (device : Option ℕ) (back copy : Option (List ℕ)) → rebuild_beyond devices device ≡ false
+    → IfSome (rebuild_with device back copy) (λ rebuild. rebuild.device < devices)
+within devices None back copy inside = tt
+within devices (Some device) None copy inside = tt
+within devices (Some device) (Some back) None inside = tt
+within devices (Some device) (Some back) (Some copy) inside = grind (arith, nat_tests)
+
+rebuild_within : (devices : ℕ) (given : Options) (rebuild : Option RebuildTerms) → rebuild_of devices given ≡ Ok rebuild → IfSome rebuild (λ r. r.device < devices)
+unfolding rebuild_of
+rebuild_within devices given rebuild e =
+    let whole = both_ok (refuse RebuildIncomplete (rebuild_incomplete given)) _ rebuild e in
+    let inside = both_ok (refuse RebuildBeyond (rebuild_beyond devices given.rebuild)) _ rebuild whole.2 in
+    subst (λ r. IfSome r (λ words. words.device < devices)) (same_ok _ rebuild inside.2)
+    (within devices given.rebuild given.back given.copy (test_ok RebuildBeyond (rebuild_beyond devices given.rebuild) inside.0 inside.1))
+
+small-array_of : (given : Options) (terms : ArrayTerms) → array_of given ≡ Ok terms → IsSmall given → IsWithinLimits (arrays terms)
+unfolding array_of
+small-array_of given terms e is =
+    let params = both_ok (or_refuse (MissingOption 0) given.params) _ terms e in
+    let trace = both_ok (or_refuse (MissingOption 1) given.trace) _ terms params.2 in
+    let policy = both_ok (or_refuse (MissingOption 2) given.policy) _ terms trace.2 in
+    let devices = both_ok (or_refuse (MissingOption 3) given.devices) _ terms policy.2 in
+    let rebuild = both_ok (rebuild_of devices.0 given) _ terms devices.2 in
+    let few = subst (λ o. IfSome o (λ n. (0 < n) × (n ≤ 16))) (value_ok (MissingOption 3) given.devices devices.0 devices.1) is.devices in
+    subst (λ t. IsWithinLimits (arrays t)) (same_ok _ terms rebuild.2) (few.0, few.1, rebuild_within devices.0 given rebuild.0 rebuild.1, small-default given.until (10 ^ 15) is.until)
+
 small-terms_of : (verb : Verb) (given : Options) (terms : Terms) → terms_of verb given ≡ Ok terms → IsSmall given → IsWithinLimits terms
 unfolding terms_of
 small-terms_of Replay given terms e is =
@@ -174,9 +219,12 @@ small-terms_of Make given terms e is =
 small-terms_of Check given terms e is =
     let p = both_ok (check_of given) _ terms e in
     subst IsWithinLimits (same_ok _ terms p.2) (small-check_of given p.0 p.1 is)
+small-terms_of Array given terms e is =
+    let p = both_ok (array_of given) _ terms e in
+    subst IsWithinLimits (same_ok _ terms p.2) (small-array_of given p.0 p.1 is)
 
 nothing_small : IsSmall no_options
-nothing_small = record { until = tt; device = tt; number = tt; requests = tt }
+nothing_small = record { until = tt; device = tt; number = tt; requests = tt; devices = tt }
 
 small-with_verb : (count : ℕ) (name : List ℕ) (words : List (List ℕ)) (terms : Terms) → with_verb count name words ≡ Ok terms → IsWithinLimits terms
 unfolding with_verb

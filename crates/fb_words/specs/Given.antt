@@ -16,5 +16,8 @@ options given = record {
   bytes = given.bytes;
   number = given.number;
   requests = given.requests;
+  devices = given.devices;
+  rebuild = given.rebuild;
+  copy = option_copied given.copy;
   summary = given.summary;
 }

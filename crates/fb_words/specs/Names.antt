@@ -7,16 +7,16 @@ use Rattle.fb_report.specs.declared.bytes.Bytes.TheVariants.{Nothing, Digest, Du
 use Rattle.fb_words.specs.declared.command.Policy as policies
 use Rattle.fb_words.specs.declared.command.Policy.TheVariants.{Fcfs, Sstf, Clook, Sptf}
 use Rattle.fb_words.specs.declared.names.Verb.{Verb}
-use Rattle.fb_words.specs.declared.names.Verb.TheVariants.{Replay, Make, Check}
+use Rattle.fb_words.specs.declared.names.Verb.TheVariants.{Replay, Make, Check, Array}
 use Rattle.fb_words.specs.declared.names.OptionName.{OptionName}
-use Rattle.fb_words.specs.declared.names.OptionName.TheVariants.{Params, Trace, Policy, Calls, Fore, Back, Until, Device, Bytes, Number, Requests}
+use Rattle.fb_words.specs.declared.names.OptionName.TheVariants.{Params, Trace, Policy, Calls, Fore, Back, Until, Device, Bytes, Number, Requests, Devices, Rebuild, Copy}
 
 -- what a word stands for according to this list of words, if it is in it
 abbrev pub meaning : {A : Type 0} → List (List ℕ × A) → List ℕ → Option A
 meaning names word = option_map (λ name. name.1) (find (λ name. bytes_eq name.0 word) names)
 
 unfoldable pub verb_of : List ℕ → Option Verb
-verb_of = meaning ((codes "replay", Replay) ∷ (codes "make", Make) ∷ (codes "check", Check) ∷ [])
+verb_of = meaning ((codes "replay", Replay) ∷ (codes "make", Make) ∷ (codes "check", Check) ∷ (codes "array", Array) ∷ [])
 
 -- the options of a replay that take a value
 abbrev pub replay_options : List (List ℕ × OptionName)
@@ -29,6 +29,8 @@ options_of Replay = replay_options
 options_of Make = (codes "--params", Params) ∷ (codes "--trace", Trace) ∷ (codes "--calls", Calls) ∷ (codes "--number", Number)
     ∷ (codes "--requests", Requests) ∷ (codes "--device", Device) ∷ []
 options_of Check = (codes "--fore", Fore) ∷ replay_options
+options_of Array = (codes "--params", Params) ∷ (codes "--trace", Trace) ∷ (codes "--policy", Policy) ∷ (codes "--devices", Devices)
+    ∷ (codes "--rebuild", Rebuild) ∷ (codes "--back", Back) ∷ (codes "--copy", Copy) ∷ (codes "--until", Until) ∷ (codes "--bytes", Bytes) ∷ []
 
 unfoldable pub option_of : Verb → List ℕ → Option OptionName
 option_of verb = meaning (options_of verb)

@@ -16,7 +16,10 @@ pub record Options : Type 0 where
   pub bytes : Option Bytes
   pub number : Option ℕ
   pub requests : Option ℕ
+  pub devices : Option ℕ
+  pub rebuild : Option ℕ
+  pub copy : Option (List ℕ)
   pub summary : Bool
 
 abbrev pub no_options : Options
-no_options = record { params = None; trace = None; policy = None; calls = None; fore = None; back = None; until = None; device = None; bytes = None; number = None; requests = None; summary = false }
+no_options = record { params = None; trace = None; policy = None; calls = None; fore = None; back = None; until = None; device = None; bytes = None; number = None; requests = None; devices = None; rebuild = None; copy = None; summary = false }

@@ -7,7 +7,7 @@ use Rattle.fb_words.specs.declared.fault.UsageFault.{UsageFault}
 use Rattle.fb_words.specs.declared.fault.UsageReason.{UsageReason}
 use Rattle.fb_words.specs.declared.fault.UsageReason.TheVariants.{UnknownOption, NoValue, OptionTwice}
 use Rattle.fb_words.specs.declared.names.Verb.{Verb}
-use Rattle.fb_words.specs.declared.names.Verb.TheVariants.{Replay, Make, Check}
+use Rattle.fb_words.specs.declared.names.Verb.TheVariants.{Replay, Make, Check, Array}
 use Rattle.fb_words.specs.declared.names.OptionName.{OptionName}
 use Rattle.fb_words.specs.Names.{option_of}
 use Rattle.fb_words.specs.Options.{Options}
@@ -43,6 +43,7 @@ abbrev pub is_summary : Verb → List ℕ → Bool
 is_summary Replay word = bytes_eq word (codes "--summary")
 is_summary Make word = false
 is_summary Check word = false
+is_summary Array word = false
 
 -- the options with a summary, unless it was wanted before
 unfoldable pub with_summary : Options → Result Progress UsageReason

@@ -1,11 +1,11 @@
 -- The values of options.
-use Rattle.std.specs.Prelude.{ℕ, List, length, slice_index, Bool, not, ◌&&◌, ◌==◌, nat_lt, Some, Result, Ok, is_some}
+use Rattle.std.specs.Prelude.{ℕ, List, length, slice_index, Bool, not, ◌&&◌, ◌||◌, ◌==◌, nat_lt, Some, Result, Ok, is_some}
 use Rattle.fb_units.specs.Judging.{◌>>=◌, ◌>>◌, or_refuse, refuse}
 use Rattle.fb_units.specs.Numbers.{millis_of, number_of}
 use Rattle.fb_words.specs.declared.fault.UsageReason.{UsageReason}
 use Rattle.fb_words.specs.declared.fault.UsageReason.TheVariants.{NoValue, BadValue}
 use Rattle.fb_words.specs.declared.names.OptionName.{OptionName}
-use Rattle.fb_words.specs.declared.names.OptionName.TheVariants.{Params, Trace, Policy, Calls, Fore, Back, Until, Device, Bytes, Number, Requests}
+use Rattle.fb_words.specs.declared.names.OptionName.TheVariants.{Params, Trace, Policy, Calls, Fore, Back, Until, Device, Bytes, Number, Requests, Devices, Rebuild, Copy}
 use Rattle.fb_words.specs.Names.{policy_of, bytes_of}
 use Rattle.fb_words.specs.Options.{Options}
 
@@ -22,6 +22,9 @@ is_given given Device = is_some given.device
 is_given given Bytes = is_some given.bytes
 is_given given Number = is_some given.number
 is_given given Requests = is_some given.requests
+is_given given Devices = is_some given.devices
+is_given given Rebuild = is_some given.rebuild
+is_given given Copy = is_some given.copy
 
 -- the word can be a value: it isn't empty and doesn't begin with a dash
 abbrev pub is_value : List ℕ → Bool
@@ -32,6 +35,13 @@ unfoldable pub request_count_of : List ℕ → Result ℕ UsageReason
 request_count_of value = do
   count ← or_refuse BadValue (number_of value)
   refuse BadValue (nat_lt 1000000 count)
+  Ok count
+
+-- a number of devices, which is from 1 to 16
+unfoldable pub device_count_of : List ℕ → Result ℕ UsageReason
+device_count_of value = do
+  count ← or_refuse BadValue (number_of value)
+  refuse BadValue (count == 0 || nat_lt 16 count)
   Ok count
 
 -- the options with the value of one more option, if it is of the option's form
@@ -47,6 +57,9 @@ with_form given Device value = or_refuse BadValue (number_of value) >>= (λ devi
 with_form given Bytes value = or_refuse BadValue (bytes_of value) >>= (λ bytes. Ok (record given { bytes = Some bytes }))
 with_form given Number value = or_refuse BadValue (number_of value) >>= (λ number. Ok (record given { number = Some number }))
 with_form given Requests value = request_count_of value >>= (λ requests. Ok (record given { requests = Some requests }))
+with_form given Devices value = device_count_of value >>= (λ devices. Ok (record given { devices = Some devices }))
+with_form given Rebuild value = or_refuse BadValue (number_of value) >>= (λ device. Ok (record given { rebuild = Some device }))
+with_form given Copy value = Ok (record given { copy = Some value })
 
 -- the options with the value of one more option, or why that value is refused
 unfoldable pub with_value : Options → OptionName → List ℕ → Result Options UsageReason

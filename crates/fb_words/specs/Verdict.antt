@@ -5,12 +5,14 @@ use Rattle.std.specs.String.{string_bytes}
 use Rattle.fb_words.specs.declared.command.ReplayWords.{ReplayWords}
 use Rattle.fb_words.specs.declared.command.MakeWords.{MakeWords}
 use Rattle.fb_words.specs.declared.command.CheckWords.{CheckWords}
+use Rattle.fb_words.specs.declared.command.ArrayWords.{ArrayWords}
+use Rattle.fb_words.specs.declared.command.RebuildWords.{RebuildWords}
 use Rattle.fb_words.specs.declared.command.Command.{Command}
-use Rattle.fb_words.specs.declared.command.Command.TheVariants.{Replay, Make, Check}
+use Rattle.fb_words.specs.declared.command.Command.TheVariants.{Replay, Make, Check, Array}
 use Rattle.fb_words.specs.declared.fault.UsageFault.{UsageFault}
 use Rattle.fb_words.specs.declared.fault.WordsError.{WordsError}
 use Rattle.fb_words.specs.declared.fault.WordsError.TheVariants.{Fault, NoMemory}
-use Rattle.fb_words.specs.Command.{ReplayTerms, MakeTerms, CheckTerms, Terms, replays, makes, checks}
+use Rattle.fb_words.specs.Command.{ReplayTerms, MakeTerms, CheckTerms, RebuildTerms, ArrayTerms, Terms, replays, makes, checks, arrays}
 
 abbrev pub replay_terms : ReplayWords → ReplayTerms
 replay_terms words = record {
@@ -48,10 +50,25 @@ check_terms words = record {
   bytes = words.bytes;
 }
 
+abbrev pub rebuild_terms : RebuildWords → RebuildTerms
+rebuild_terms words = record { device = words.device; back = string_bytes words.back; copy = string_bytes words.copy }
+
+abbrev pub array_terms : ArrayWords → ArrayTerms
+array_terms words = record {
+  params = string_bytes words.params;
+  trace = string_bytes words.trace;
+  policy = words.policy;
+  devices = words.devices;
+  rebuild = option_map rebuild_terms words.rebuild;
+  until = words.until;
+  bytes = words.bytes;
+}
+
 abbrev pub terms : Command → Terms
 terms (Replay words) = replays (replay_terms words)
 terms (Make words) = makes (make_terms words)
 terms (Check words) = checks (check_terms words)
+terms (Array words) = arrays (array_terms words)
 
 -- the result is the verdict, or it is out of memory
 abbrev pub Answers : {A B : Type 0} → (A → B) → Result A WordsError → Result B UsageFault → Type 0

@@ -81,6 +81,37 @@ pub struct CheckWords {
     pub bytes: Bytes,
 }
 
+/// The options for replaying the trace of several devices, each on a disk of its own.
+#[derive(Drop)]
+pub struct ArrayWords {
+    /// The parameter file, which is that of every device.
+    pub params: String,
+    /// The trace.
+    pub trace: String,
+    /// The order in which requests are served.
+    pub policy: Policy,
+    /// The number of devices, from 1 to 16. The devices are 0, 1, .. below it.
+    pub devices: u32,
+    /// The rebuild of a device, if there is one.
+    pub rebuild: Option<RebuildWords>,
+    /// The instant until which the heads wait for background blocks at the end, when no request and
+    /// no call is left, in nanoseconds, at most 10^15.
+    pub until: Ns,
+    /// How contents are shown in the reports.
+    pub bytes: Bytes,
+}
+
+/// The options for rebuilding the replacement of a lost disk from a device with the same contents.
+#[derive(Drop)]
+pub struct RebuildWords {
+    /// The device that is read, below the number of devices.
+    pub device: u32,
+    /// The file for the background report of that device.
+    pub back: String,
+    /// The file for the text of the replacement.
+    pub copy: String,
+}
+
 /// What the program is to do.
 #[derive(Drop)]
 pub enum Command {
@@ -90,4 +121,6 @@ pub enum Command {
     Make(MakeWords),
     /// Judge two reports.
     Check(CheckWords),
+    /// Replay a trace on several devices.
+    Array(ArrayWords),
 }

@@ -18,18 +18,24 @@ pub enum UsageReason {
     BadValue,
     /// A required option is missing. It is named by its index, from 0, among those that the command
     /// requires: for a replay params, trace, policy; for a make params, trace, calls, number,
-    /// requests; for a check params, trace, policy, calls, fore, back.
+    /// requests; for a check params, trace, policy, calls, fore, back; for an array params, trace,
+    /// policy, devices.
     MissingOption(u32),
     /// A replay has a call script but no background report, or the report but no script.
     CallsAndBack,
+    /// An array has some, but not all, of the three options of a rebuild: the device, the background
+    /// report and the copy.
+    RebuildIncomplete,
+    /// The device that an array is to rebuild from isn't below the number of devices.
+    RebuildBeyond,
 }
 
 /// The first faulty word, and why it is refused.
 #[derive(Clone, Copy)]
 pub struct UsageFault {
     /// The index of the word, where the name of the program has index 0. For `NoCommand`,
-    /// `MissingOption` and `CallsAndBack` it is the number of words. An index that doesn't fit in
-    /// 32 bits is the last one that does.
+    /// `MissingOption`, `CallsAndBack`, `RebuildIncomplete` and `RebuildBeyond` it is the number of
+    /// words. An index that doesn't fit in 32 bits is the last one that does.
     pub place: u32,
     /// The reason.
     pub reason: UsageReason,

@@ -34,6 +34,12 @@ pub struct Given<'a> {
     pub number: Option<u64>,
     /// The number of requests of a generated trace.
     pub requests: Option<u64>,
+    /// The number of devices of an array.
+    pub devices: Option<u32>,
+    /// The device to rebuild from.
+    pub rebuild: Option<u64>,
+    /// The file for the text of the replacement.
+    pub copy: Option<&'a str>,
     /// Whether a summary is wanted.
     pub summary: bool,
 }
@@ -55,6 +61,9 @@ impl Given<'_> {
             bytes: None,
             number: None,
             requests: None,
+            devices: None,
+            rebuild: None,
+            copy: None,
             summary: false,
         }
     }
@@ -75,6 +84,9 @@ impl Given<'_> {
             OptionName::Bytes => self.bytes.is_some(),
             OptionName::Number => self.number.is_some(),
             OptionName::Requests => self.requests.is_some(),
+            OptionName::Devices => self.devices.is_some(),
+            OptionName::Rebuild => self.rebuild.is_some(),
+            OptionName::Copy => self.copy.is_some(),
         }
     }
 }

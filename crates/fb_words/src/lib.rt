@@ -14,6 +14,6 @@ mod reading;
 mod values;
 mod words;
 
-pub use command::{CheckWords, Command, MakeWords, Policy, ReplayWords};
+pub use command::{ArrayWords, CheckWords, Command, MakeWords, Policy, RebuildWords, ReplayWords};
 pub use fault::{UsageFault, UsageReason, WordsError};
 pub use words::read_words;

@@ -14,6 +14,8 @@ pub enum Verb {
     Make,
     /// Judges two reports.
     Check,
+    /// Replays a trace on several devices.
+    Array,
 }
 
 /// An option that has a value.
@@ -41,6 +43,12 @@ pub enum OptionName {
     Number,
     /// The number of requests of a generated trace: `--requests`.
     Requests,
+    /// The number of devices of an array: `--devices`.
+    Devices,
+    /// The device to rebuild from: `--rebuild`.
+    Rebuild,
+    /// The file for the text of the replacement: `--copy`.
+    Copy,
 }
 
 /// The command for which a word stands, if it is known.
@@ -52,6 +60,7 @@ pub fn verb_of(name: &str) -> Option<Verb>
         "replay" => Some(Verb::Replay),
         "make" => Some(Verb::Make),
         "check" => Some(Verb::Check),
+        "array" => Some(Verb::Array),
         _ => None,
     }
 }
@@ -64,6 +73,7 @@ pub fn option_of(verb: Verb, name: &str) -> Option<OptionName>
         Verb::Replay => replay_option(name),
         Verb::Make => make_option(name),
         Verb::Check => check_option(name),
+        Verb::Array => array_option(name),
     }
 }
 
@@ -107,6 +117,24 @@ fn check_option(name: &str) -> Option<OptionName>
     match name {
         "--fore" => Some(OptionName::Fore),
         _ => replay_option(name),
+    }
+}
+
+#[tactic(auto, unfolding(crate::specs::Names::option_of))]
+fn array_option(name: &str) -> Option<OptionName>
+    ensures { result ≡ option_of Verb.Array name.now }
+{
+    match name {
+        "--params" => Some(OptionName::Params),
+        "--trace" => Some(OptionName::Trace),
+        "--policy" => Some(OptionName::Policy),
+        "--devices" => Some(OptionName::Devices),
+        "--rebuild" => Some(OptionName::Rebuild),
+        "--back" => Some(OptionName::Back),
+        "--copy" => Some(OptionName::Copy),
+        "--until" => Some(OptionName::Until),
+        "--bytes" => Some(OptionName::Bytes),
+        _ => None,
     }
 }
 

@@ -114,6 +114,7 @@ fn is_summary(verb: Verb, word: &str) -> bool
         Verb::Replay => word == "--summary",
         Verb::Make => false,
         Verb::Check => false,
+        Verb::Array => false,
     }
 }
 

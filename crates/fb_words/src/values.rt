@@ -5,7 +5,7 @@ ghost use Rattle.fb_units.specs.Numbers.{millis_of, number_of};
 ghost use Rattle.fb_words.specs.declared.fault.UsageReason.TheVariants.{BadValue};
 ghost use Rattle.fb_words.specs.Names.{policy_of, bytes_of};
 ghost use Rattle.fb_words.specs.Given.{options};
-ghost use Rattle.fb_words.specs.Values.{is_value, request_count_of, with_form, with_value};
+ghost use Rattle.fb_words.specs.Values.{device_count_of, is_value, request_count_of, with_form, with_value};
 ghost use Rattle.fb_words.specs.Verdict.{Agrees};
 
 use crate::given::Given;
@@ -15,6 +15,8 @@ use fb_report::Bytes;
 use fb_units::{Ns, read_millis, read_number};
 
 const MOST_REQUESTS: u64 = 1_000_000;
+
+const MOST_DEVICES: u64 = 16;
 
 /// The options with the value of one more option, or why that value is refused.
 #[tactic(auto, unfolding(crate::specs::Values::with_value))]
@@ -96,6 +98,18 @@ fn with_form<'a>(
             requests: Some(request_count(value)?),
             ..given
         }),
+        OptionName::Devices => Ok(Given {
+            devices: Some(device_count(value)?),
+            ..given
+        }),
+        OptionName::Rebuild => Ok(Given {
+            rebuild: Some(number(value)?),
+            ..given
+        }),
+        OptionName::Copy => Ok(Given {
+            copy: Some(value),
+            ..given
+        }),
     }
 }
 
@@ -133,4 +147,16 @@ fn request_count(value: &str) -> Result<u64, UsageReason>
         return Err(UsageReason::BadValue);
     }
     Ok(count)
+}
+
+// A number of devices, from 1 to 16.
+#[tactic(auto, unfolding(crate::specs::Values::device_count_of))]
+fn device_count(value: &str) -> Result<u32, UsageReason>
+    ensures { result ≡ device_count_of value.now }
+{
+    let count = number(value)?;
+    if count == 0 || count > MOST_DEVICES {
+        return Err(UsageReason::BadValue);
+    }
+    Ok(count as u32)
 }

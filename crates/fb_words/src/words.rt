@@ -7,15 +7,16 @@ ghost use Rattle.fb_words.specs.declared.fault.UsageReason.TheVariants.{UnknownC
 ghost use Rattle.fb_words.specs.Names.{verb_of};
 ghost use Rattle.fb_words.specs.Given.{options};
 ghost use Rattle.fb_words.specs.Reading.{fault_at};
-ghost use Rattle.fb_words.specs.Command.{check_of, command_of, go_together, make_of, replay_of, terms_of, with_verb};
+ghost use Rattle.fb_words.specs.Command.{array_of, check_of, command_of, go_together, make_of, rebuild_of, replay_of, terms_of, with_verb};
 ghost use Rattle.fb_words.specs.Limits.{IsWithinLimits};
-ghost use Rattle.fb_words.specs.Verdict.{Agrees, Answers, check_terms, make_terms, replay_terms, terms};
+ghost use Rattle.fb_words.specs.Verdict.{Agrees, Answers, array_terms, check_terms, make_terms, rebuild_terms, replay_terms, terms};
 
 use crate::given::Given;
 use crate::names::{Verb, verb_of};
 use crate::reading::{fault_at, read_options};
 use crate::{
-    CheckWords, Command, MakeWords, Policy, ReplayWords, UsageFault, UsageReason, WordsError,
+    ArrayWords, CheckWords, Command, MakeWords, Policy, RebuildWords, ReplayWords, UsageFault,
+    UsageReason, WordsError,
 };
 use fb_report::Bytes;
 use std::alloc::Global;
@@ -75,6 +76,7 @@ fn command(alloc: Global, count: usize, verb: Verb, given: Given<'_>) -> Result<
         Verb::Replay => Ok(Command::Replay(replay(alloc, count, given)?)),
         Verb::Make => Ok(Command::Make(make(alloc, count, given)?)),
         Verb::Check => Ok(Command::Check(check(alloc, count, given)?)),
+        Verb::Array => Ok(Command::Array(array(alloc, count, given)?)),
     }
 }
 
@@ -141,6 +143,50 @@ fn check(alloc: Global, count: usize, given: Given<'_>) -> Result<CheckWords, Wo
         device: given.device.unwrap_or(0),
         bytes: given.bytes.unwrap_or(DEFAULT_BYTES),
     })
+}
+
+#[tactic(auto, unfolding(crate::specs::Command::array_of))]
+fn array(alloc: Global, count: usize, given: Given<'_>) -> Result<ArrayWords, WordsError>
+    ensures { Answers array_terms result (refused_as (fault_at count) (array_of (options given.entry))) }
+{
+    let params = required(given.params, count, 0)?;
+    let trace = required(given.trace, count, 1)?;
+    let policy = required(given.policy, count, 2)?;
+    let devices = required(given.devices, count, 3)?;
+    Ok(ArrayWords {
+        rebuild: rebuild(alloc, count, devices, given)?,
+        params: String::from_str(alloc, params)?,
+        trace: String::from_str(alloc, trace)?,
+        policy,
+        devices,
+        until: given.until.unwrap_or(0),
+        bytes: given.bytes.unwrap_or(DEFAULT_BYTES),
+    })
+}
+
+// The rebuild of an array of so many devices, if its three options are given.
+#[tactic(auto, unfolding(crate::specs::Command::rebuild_of))]
+fn rebuild(
+    alloc: Global,
+    count: usize,
+    devices: u32,
+    given: Given<'_>,
+) -> Result<Option<RebuildWords>, WordsError>
+    ensures { Answers (λ words. option_map rebuild_terms words) result (refused_as (fault_at count) (rebuild_of devices (options given.entry))) }
+{
+    let (device, back, copy) = match (given.rebuild, given.back, given.copy) {
+        (None, None, None) => return Ok(None),
+        (Some(device), Some(back), Some(copy)) => (device, back, copy),
+        _ => return Err(WordsError::Fault(fault_at(count, UsageReason::RebuildIncomplete))),
+    };
+    if device >= u64::from(devices) {
+        return Err(WordsError::Fault(fault_at(count, UsageReason::RebuildBeyond)));
+    }
+    Ok(Some(RebuildWords {
+        device: device as u32,
+        back: String::from_str(alloc, back)?,
+        copy: String::from_str(alloc, copy)?,
+    }))
 }
 
 // The value of a required option, which has this index among the required ones.
