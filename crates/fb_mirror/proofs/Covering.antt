@@ -60,7 +60,7 @@ whole_runs count contents lost runs held base old is none took_lost took within 
     (λ lbn from to. took lbn ∙ ap (after_taking (sectors_of contents) lbn) (before lbn ∙ lost_here count lbn (omega arith))
     ∙ taken_over (sectors_of contents) lbn (Some Unreadable) ∙ over_some (after_taking (sectors_of contents) lbn None)))
 
-range_long : (first n : ℕ) → length (range_with_len first n) ≡ n
+pub range_long : (first n : ℕ) → length (range_with_len first n) ≡ n
 range_long first zero = refl
 range_long first (suc n) = let rest = range_long (first + 1) n in omega arith
 

@@ -43,7 +43,8 @@ some_later a b = elim (cases_Bool (nat_lt b.0 a.0)) [
   | inr more ↦ rw more refl
 ]
 
-later-assoc : (a b c : Option (ℕ × Content)) → later (later a b) c ≡ later a (later b c)
+-- of three the one that decides
+pub later-assoc : (a b c : Option (ℕ × Content)) → later (later a b) c ≡ later a (later b c)
 later-assoc None b c = refl
 later-assoc (Some a) None c = refl
 later-assoc (Some a) (Some b) None = some_later a b

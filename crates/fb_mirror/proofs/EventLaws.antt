@@ -35,10 +35,10 @@ pub delivery_gives : (row : DeliveryRow) (content_of : ℕ → Content) (lbn : �
 delivery_gives row content_of lbn gives =
     one_decides (is_within row.block.lbn row.block.count lbn) row.end (content_of lbn) (after_taking (sectors_of row.content) lbn None) (taken_block content_of row.block.lbn row.block.count lbn (sectors_of row.content) None gives)
 
-none_some : {X : Type 0} (x : X) → None ≡ Some x → ⊥
+pub none_some : {X : Type 0} (x : X) → None ≡ Some x → ⊥
 none_some x e = grind arith
 
-same_one : {X : Type 0} (x y : X) → Some x ≡ Some y → x ≡ y
+pub same_one : {X : Type 0} (x y : X) → Some x ≡ Some y → x ≡ y
 same_one x y e = grind arith
 
 one_or : (one other : ℕ × Content) (b : Bool) → cond b (Some one) (Some other) ≡ None → ⊥

@@ -6,3 +6,12 @@ pub mod Deciding
 pub mod Order
 pub mod Covering
 pub mod EventLaws
+pub mod Writing
+pub mod Between
+pub mod RunRows
+pub mod Survival
+pub mod CutCover
+pub mod RebuildPast
+pub mod Rebuilds
+pub mod LaidBlocks
+pub mod OnTheDisk

@@ -10,6 +10,9 @@ ghost use Rattle.fb_rows.specs.declared.back.DeliveryRow.{DeliveryRow};
 ghost use Rattle.fb_rows.specs.declared.fore.ForeRow.{ForeRow};
 ghost use Rattle.fb_model.specs.Content.{number_of};
 ghost use Rattle.fb_mirror.specs.Replacement.{decided, Decides, deliveries_in, Event, given, writes_in};
+ghost use Rattle.fb_mirror.specs.Survivor.{CoveredSectorsAreTheSurvivors, RunsLieOnTheDisk, SealedRebuildsAreWhole};
+
+use fb_model::{foreground_lists_ascend, one_plain_replay};
 
 /// A write leaves its number in the sectors of its request, at its finish; a delivery gives the
 /// sectors of its block what they held, at its end. Neither concerns any other sector.
@@ -24,3 +27,28 @@ pub fn latest_events_decide()
     ensures decides { (lbn : ℕ) (events : List Event) (last : ℕ × Content) → decided lbn events ≡ Some last → Decides lbn events last }
     ensures none { (lbn : ℕ) (events : List Event) → decided lbn events ≡ None → AllByRecursion (λ event. given lbn event ≡ None) events }
 {}
+
+/// All sectors that the events of a full run concern are sectors of its disk.
+pub fn runs_lie_on_the_disk()
+    ensures { RunsLieOnTheDisk }
+{
+    foreground_lists_ascend();
+    one_plain_replay();
+}
+
+/// A sector that a write or a delivery of a full run concerned holds in the replacement what it
+/// holds on the survivor at the run's end.
+pub fn covered_sectors_are_the_survivors()
+    ensures { CoveredSectorsAreTheSurvivors }
+{
+    foreground_lists_ascend();
+    one_plain_replay();
+}
+
+/// If a rebuild was sealed, every sector is covered: the replacement is the survivor as it is at the
+/// end of the run.
+pub fn sealed_rebuilds_are_whole()
+    ensures { SealedRebuildsAreWhole }
+{
+    covered_sectors_are_the_survivors();
+}

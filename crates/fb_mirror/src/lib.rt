@@ -16,6 +16,9 @@ mod rebuilt;
 mod script;
 
 pub use copy::{copy_piece, copy_pieces};
-pub use laws::{events_concern_their_sectors, latest_events_decide};
+pub use laws::{
+    covered_sectors_are_the_survivors, events_concern_their_sectors, latest_events_decide,
+    runs_lie_on_the_disk, sealed_rebuilds_are_whole,
+};
 pub use rebuilt::{Rebuilt, rebuild};
 pub use script::{rebuild_script, rebuild_scripts_are_read};

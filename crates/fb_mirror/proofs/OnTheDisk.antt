@@ -1,0 +1,99 @@
+-- The events of a full run concern sectors of its disk alone.
+use Rattle.std.proofs.Common.{◌≡◌, ℕ, ◌+◌, ◌≤◌, List, [], ◌∷◌, ◌++◌, length, map, Bool, true, false, refl, ap, sym, subst, ◌∙◌}
+use Rattle.std.specs.Prelude.{if◌then◌else◌}
+use Rattle.std.specs.List.{AllByRecursion, flat_map}
+use Rattle.fb_units.specs.Rising.{IsRising}
+use Rattle.fb_geometry.specs.Places.{places}
+use Rattle.fb_service.specs.declared.disk.Disk.{Disk}
+use Rattle.fb_store.specs.declared.content.Content.TheVariants.{Filled}
+use Rattle.fb_store.specs.declared.content.ContentRun.{ContentRun}
+use Rattle.fb_store.specs.Runs.{runs_of}
+use Rattle.fb_store.proofs.Longest.{ends-runs_of-held}
+use Rattle.fb_rows.specs.declared.back.BackRow.{BackRow}
+use Rattle.fb_rows.specs.declared.back.BackRow.TheVariants.{Gap, Idle, Got, Bad, Seal, Segment, Complete, Task}
+use Rattle.fb_rows.specs.declared.back.DeliveryRow.{DeliveryRow}
+use Rattle.fb_rows.specs.declared.run.Run.{Run}
+use Rattle.fb_calls.specs.declared.call.Call.{Call}
+use Rattle.fb_model.specs.Accepted.{IsAccepted}
+use Rattle.fb_model.specs.Content.{Medium, content, contents_at, fore_row, fore_rows, medium_of, number_of}
+use Rattle.fb_model.specs.Decisions.{Decision}
+use Rattle.fb_model.specs.FullRun.{IsFull}
+use Rattle.fb_model.specs.History.{Past}
+use Rattle.fb_model.specs.Inputs.{Inputs, served}
+use Rattle.fb_model.specs.Laws.{ForegroundListsAscend, OnePlainReplay}
+use Rattle.fb_model.specs.PlainReplay.{Served, finish}
+use Rattle.fb_model.specs.SoundRun.{IsDelivered, IsTested}
+use Rattle.fb_model.specs.Steps.{AtEach, Delivery, Part, history, part_rows, past_after, settled_past, steps}
+use Rattle.fb_model.proofs.Due.{HasBytes, IsDueRow, delivery_true}
+use Rattle.fb_model.proofs.Lists.{all_append, all_weaker}
+use Rattle.fb_mirror.specs.Replacement.{Event, IsWithin, deliveries_in, events, writes_in}
+use Rattle.fb_mirror.specs.Survivor.{sectors}
+use Rattle.fb_mirror.proofs.LaidBlocks.{AreLaid, LiesOn, laid_after, laid_first, laid_settled, wanted_lies}
+use Rattle.fb_mirror.proofs.RunRows.{RowFits, RowsFit, all_fit, part_fits, tasks_fit}
+use Rattle.fb_mirror.proofs.Survival.{any_past, due_block, due_bytes}
+use Rattle.fb_mirror.proofs.Writing.{AreServed, are_served}
+
+-- ---- writes
+
+write_within : (disk : Disk) (medium : Medium) (served : Served) → served.request.lbn + served.request.count ≤ length (places disk.map) → AllByRecursion (IsWithin (length (places disk.map))) (writes_in (fore_row medium served))
+write_within disk medium served within = by served.request.write
+  where
+    by : (write : Bool) → AllByRecursion (IsWithin (length (places disk.map))) (if write then record { instant = finish served; contents = record { first = served.request.lbn; count = served.request.count; content = Filled (number_of served.request.name) } ∷ [] } ∷ [] else [])
+    by true = ((within, tt), tt)
+    by false = tt
+
+writes_within : (disk : Disk) (medium : Medium) (now : ℕ) (replay : List Served) → AreServed disk now replay → AllByRecursion (IsWithin (length (places disk.map))) (flat_map writes_in (map (fore_row medium) replay))
+writes_within disk medium now [] are = tt
+writes_within disk medium now (served ∷ replay) are =
+    all_append (IsWithin (length (places disk.map))) (writes_in (fore_row medium served)) (flat_map writes_in (map (fore_row medium) replay))
+    (write_within disk medium served are.2.inside) (writes_within disk medium (finish served) replay are.3)
+
+-- ---- deliveries
+
+-- its runs end by the end of the disk
+abbrev EndsOn : ℕ → DeliveryRow → Type 0
+EndsOn end row = AllByRecursion (λ (run : ContentRun). run.first + run.count ≤ end) row.content
+
+ends_on : (medium : Medium) (end : ℕ) (row : DeliveryRow) → HasBytes medium row → row.block.lbn + row.block.count ≤ end → EndsOn end row
+ends_on medium end row bytes within = subst (AllByRecursion (λ (run : ContentRun). run.first + run.count ≤ end)) (sym bytes.content)
+    (ends-runs_of-held (λ lbn. content medium lbn row.begin) row.block.lbn row.block.count end within)
+
+deliveries_within : (end : ℕ) (rows : List BackRow) → RowsFit (EndsOn end) (Unit {0}) rows → AllByRecursion (IsWithin end) (flat_map deliveries_in rows)
+deliveries_within end [] fit = tt
+deliveries_within end (Got row ∷ rows) fit = (fit.0, deliveries_within end rows fit.1)
+deliveries_within end (Gap row ∷ rows) fit = deliveries_within end rows fit.1
+deliveries_within end (Idle row ∷ rows) fit = deliveries_within end rows fit.1
+deliveries_within end (Bad row ∷ rows) fit = deliveries_within end rows fit.1
+deliveries_within end (Seal row ∷ rows) fit = deliveries_within end rows fit.1
+deliveries_within end (Segment row ∷ rows) fit = deliveries_within end rows fit.1
+deliveries_within end (Complete row ∷ rows) fit = deliveries_within end rows fit.1
+deliveries_within end (Task row ∷ rows) fit = deliveries_within end rows fit.1
+
+steps_within : (inputs : Inputs) (medium : Medium) → IsRising (map (λ (call : Call). call.instant) inputs.calls) → (past : Past) (steps : List (Decision × Part)) → AreLaid inputs past
+    → AtEach (IsDelivered inputs medium) inputs past steps → AtEach (IsTested inputs medium) inputs past steps
+    → AtEach (λ past step. RowsFit (EndsOn (sectors inputs)) (Unit {0}) (part_rows inputs.disk step)) inputs past steps
+steps_within inputs medium rising past [] laid some tests = tt
+steps_within inputs medium rising past (step ∷ steps) laid some tests = (
+  part_fits (EndsOn (sectors inputs)) (Unit {0}) (λ past. Unit {0}) (any_past (EndsOn (sectors inputs))) inputs medium past step tt tests.0
+  (all_weaker (IsDueRow medium step.0 step.1.plan (LiesOn inputs.disk.map)) (EndsOn (sectors inputs))
+  (λ row due_row. ends_on medium (sectors inputs) row (due_bytes medium step.0 step.1.plan (LiesOn inputs.disk.map) row due_row) (due_block medium step.0 step.1.plan (LiesOn inputs.disk.map) row due_row))
+  (map (λ (delivery : Delivery). delivery.got) step.1.deliveries)
+  (delivery_true inputs medium past step (LiesOn inputs.disk.map) some.0 (wanted_lies inputs rising (settled_past inputs past step.0) (laid_settled inputs rising past step.0 laid)))),
+  steps_within inputs medium rising (past_after inputs past step) steps (laid_after inputs rising past step laid) some.1 tests.1,
+)
+
+-- ---- the law
+
+pub all_within : ForegroundListsAscend → OnePlainReplay → (inputs : Inputs) (run : Run) → IsAccepted inputs → IsFull inputs run → AllByRecursion (IsWithin (sectors inputs)) (events run)
+unfolding fore_rows
+all_within ascend one inputs run accepted full =
+    let end = sectors inputs in
+    let medium = medium_of inputs in
+    let rows = subst (RowsFit (EndsOn end) (Unit {0})) (sym full.sound.back)
+    (all_append (RowFits (EndsOn end) (Unit {0})) (flat_map (part_rows inputs.disk) (steps inputs full.parts)) full.sound.tasks
+    (all_fit (EndsOn end) (Unit {0}) inputs [] (steps inputs full.parts)
+    (steps_within inputs medium accepted.instants [] (steps inputs full.parts) (laid_first inputs accepted) full.sound.deliveries full.sound.tested))
+    (subst (RowsFit (EndsOn end) (Unit {0})) (sym full.sound.counted) (tasks_fit (EndsOn end) (Unit {0}) (history inputs (steps inputs full.parts))))) in
+    all_append (IsWithin end) (flat_map writes_in run.fore) (flat_map deliveries_in run.back)
+    (subst (λ rows. AllByRecursion (IsWithin end) (flat_map writes_in rows)) (sym full.sound.fore) (writes_within inputs.disk medium 0 (served inputs) (are_served inputs accepted ascend one)))
+    (deliveries_within end run.back rows)

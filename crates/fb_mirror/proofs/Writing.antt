@@ -1,0 +1,284 @@
+-- The services of a replay: one after another, what they write takes time, and what it leaves.
+use Rattle.std.proofs.Common.{◌≡◌, ℕ, zero, suc, ◌+◌, ◌<◌, ◌≤◌, List, [], ◌∷◌, ◌++◌, length, map, Option, Some, None, Bool, true, false, refl, ap, sym, subst, ◌∙◌, arith, inl, inr, append-nil, nat_le}
+use Rattle.std.specs.Prelude.{filter, slice_get, ◌==◌, ◌&&◌, if◌then◌else◌}
+use Rattle.std.specs.List.{AllByRecursion, flat_map, last_or}
+use Rattle.std.proofs.lemmas.Bool.{cases_Bool}
+use Rattle.std.proofs.lemmas.Bool.Decides.{nat_tests}
+use Rattle.std.proofs.lemmas.List.Elements.{filter-append}
+use Rattle.std.proofs.lemmas.List.Concat.{flat_map-append}
+use Rattle.fb_units.specs.declared.types.Place.{Place}
+use Rattle.fb_units.specs.declared.types.Request.{Request}
+use Rattle.fb_units.specs.declared.types.Track.{Track}
+use Rattle.fb_geometry.specs.declared.zone.Zone.{Zone}
+use Rattle.fb_geometry.specs.Shape.{Shape, slots_at}
+use Rattle.fb_geometry.specs.Places.{places}
+use Rattle.fb_geometry.specs.Sound.{IsSound}
+use Rattle.fb_geometry.proofs.Rotation.{cover}
+use Rattle.fb_sectormap.specs.Lookup.{place_at, track_at}
+use Rattle.fb_sectormap.proofs.ByCylinder.{has_place}
+use Rattle.fb_seek.specs.Positioning.{pos}
+use Rattle.fb_service.specs.declared.disk.Disk.{Disk}
+use Rattle.fb_service.specs.declared.passage.Passage.{Passage}
+use Rattle.fb_service.specs.Passing.{length_of}
+use Rattle.fb_service.specs.Service.{passages, passage_from, finish_of, media_of}
+use Rattle.fb_store.specs.declared.content.Content.{Content}
+use Rattle.fb_store.specs.declared.content.Content.TheVariants.{Filled}
+use Rattle.fb_store.specs.Writes.{is_within, unwritten}
+use Rattle.fb_model.specs.PlainReplay.{Key, Served, finish, first_track, last_track, media, plain_replay, service}
+use Rattle.fb_model.specs.Inputs.{Inputs, requests, served}
+use Rattle.fb_model.specs.Accepted.{IsAccepted}
+use Rattle.fb_model.specs.Content.{Medium, Written, content, content_by, number_of, writes_of}
+use Rattle.fb_model.specs.Laws.{FollowsRules, ForegroundListsAscend, IsFirstReady, OnePlainReplay}
+use Rattle.fb_model.proofs.Lists.{all_append, all_both, all_left, all_map, all_right, all_weaker}
+use Rattle.fb_model.proofs.Passages.{IsServiceOf, LiesOnDisk, passed_between, requests_lie, served_between}
+
+-- ---- one after another
+
+-- from an instant on, each of a request for sectors of the disk
+abbrev pub AreServed : Disk → ℕ → List Served → Type 0
+AreServed disk now [] = Unit {0}
+AreServed disk now (served ∷ later) = (now ≤ served.start) × IsServiceOf disk served × LiesOnDisk disk.map served.request × AreServed disk (finish served) later
+
+-- what holds of all requests holds of the one that is picked, and of the others
+all_picked : (P : Request → Type 0) (key : Request → ℕ) (now : ℕ) (left others : List Request) (pick : Request) → IsFirstReady key now left pick others → AllByRecursion P left → P pick × AllByRecursion P others
+all_picked P key now left others pick is all =
+    let whole : AllByRecursion P (is.front ++ pick ∷ is.back) = subst (AllByRecursion P) is.whole all in
+    let behind = all_right P is.front (pick ∷ is.back) whole in
+    (behind.0, subst (AllByRecursion P) (sym is.rest) (all_append P is.front is.back (all_left P is.front (pick ∷ is.back) whole) behind.1))
+
+follow : (disk : Disk) (key : Key) (head : Track) (now : ℕ) (left : List Request) (replay : List Served) → FollowsRules disk key head now left replay → AllByRecursion (LiesOnDisk disk.map) left → AreServed disk now replay
+follow disk key head now left [] rules lie = tt
+follow disk key head now left (served ∷ later) rules lie =
+    let next = rules.1 in
+    let all = all_picked (LiesOnDisk disk.map) (key disk head served.start) served.start left rules.0 served.request next.pick lie in (
+      next.start.from,
+      next.passes ∙ ap (λ h. service disk h served.start served.request) (sym (ap (λ (s : Served). s.source) next.passes)),
+      all.0,
+      follow disk key (last_track disk served) (finish served) rules.0 later rules.2 all.1,
+    )
+
+-- those of accepted inputs
+pub are_served : (inputs : Inputs) → IsAccepted inputs → ForegroundListsAscend → OnePlainReplay → AreServed inputs.disk 0 (served inputs)
+unfolding served
+are_served inputs accepted ascend one = follow inputs.disk inputs.key first_track 0 (requests inputs) (plain_replay inputs.disk inputs.key (requests inputs))
+    (one inputs.disk inputs.key (requests inputs) (ascend inputs accepted).ascend).follows (requests_lie inputs accepted)
+
+-- ---- each passage takes time
+
+slots_short : (rotation : ℕ) (zones : List Zone) (cylinder : ℕ) → ((i : ℕ) (zone : Zone) → slice_get zones i ≡ Some zone → zone.sectors ≤ rotation) → slots_at zones cylinder ≤ rotation
+slots_short rotation [] cylinder short = omega arith
+slots_short rotation (zone ∷ zones) cylinder short = elim (cases_Bool (nat_le cylinder zone.last)) [
+  | inl here ↦ rw here (short 0 zone refl)
+  | inr on ↦ rw on (slots_short rotation zones cylinder (λ i. short (suc i)))
+]
+
+long_slots : (disk : Shape) → IsSound disk → (lbn : ℕ) → lbn < length (places disk) → 0 < length_of disk (place_at disk lbn)
+long_slots disk sound lbn inside =
+    let found = has_place disk sound lbn inside in
+    let lies = found.lies in
+    let n = slots_at disk.zones found.place.track.cylinder in
+    let slot : found.place.slot < n = subst (λ c. found.place.slot < slots_at disk.zones c) (sym lies.cylinder_is) lies.slot in
+    let more = (cover disk.rotation n (omega (arith, slot)) (slots_short disk.rotation disk.zones found.place.track.cylinder sound.short_slots)).ascend found.place.slot slot in
+    subst (λ (place : Place). 0 < length_of disk place) (sym found.placed_at) (omega (arith, more))
+
+passages_long : (disk : Disk) → IsSound disk.map → (source : Track) (now : ℕ) (write : Bool) (lbn n : ℕ) → lbn + n ≤ length (places disk.map)
+    → AllByRecursion (λ (p : Passage). p.begin < p.end) (passages disk source now write lbn n)
+unfolding passages
+passages_long disk sound source now write lbn zero inside = tt
+passages_long disk sound source now write lbn (suc n) inside =
+    let some = long_slots disk.map sound lbn (omega (arith, inside)) in (
+      (let h : (passage_from disk.map lbn (now + pos disk.mechanism source (track_at disk.map lbn) write)).begin < (passage_from disk.map lbn (now + pos disk.mechanism source (track_at disk.map lbn) write)).end = omega (arith, some) in h),
+      passages_long disk sound (track_at disk.map lbn) (passage_from disk.map lbn (now + pos disk.mechanism source (track_at disk.map lbn) write)).end write (lbn + 1) n (omega (arith, inside)),
+    )
+
+-- no passage begins before the first one
+begun_after : (disk : Disk) (source : Track) (now : ℕ) (write : Bool) (lbn n : ℕ)
+    → AllByRecursion (λ (p : Passage). media_of (passages disk source now write lbn n) ≤ p.begin) (passages disk source now write lbn n)
+unfolding passages
+begun_after disk source now write lbn zero = tt
+begun_after disk source now write lbn (suc n) =
+    let first = passage_from disk.map lbn (now + pos disk.mechanism source (track_at disk.map lbn) write) in
+    let rest = passed_between disk (track_at disk.map lbn) first.end write (lbn + 1) n in
+    ((let h : first.begin ≤ first.begin = omega arith in h), all_weaker _ _ (λ (p : Passage) h. (let le : first.begin ≤ p.begin = omega (arith, h.0) in le)) _ rest.1)
+
+media_first : (disk : Disk) (source : Track) (start : ℕ) (write : Bool) (lbn n : ℕ) → 0 < n
+    → (start ≤ media_of (passages disk source start write lbn n)) × (media_of (passages disk source start write lbn n) ≤ finish_of start (passages disk source start write lbn n))
+unfolding passages
+media_first disk source start write lbn zero some = absurd (omega arith)
+media_first disk source start write lbn (suc n) some = let all = (passed_between disk source start write lbn (suc n)).1 in (all.0.0, omega (arith, all.0.1, all.0.2))
+
+-- ---- until when nothing of a service's writes has passed: the first passage of a write, the end of a read
+
+abbrev free : Bool → ℕ → List Passage → ℕ
+free write start passages = if write then media_of passages else finish_of start passages
+
+abbrev pub free_until : Served → ℕ
+free_until served = if served.request.write then media served else finish served
+
+abbrev pub written_by : ℕ → Passage → Written
+written_by writer passage = record { writer = writer; passage = passage }
+
+abbrev writes_by : Bool → ℕ → List Passage → List Written
+writes_by write number passages = if write then map (written_by number) passages else []
+
+free_between : (disk : Disk) (source : Track) (start : ℕ) (write : Bool) (lbn n : ℕ) (way : Bool) → 0 < n
+    → (start ≤ free write start (passages disk source start way lbn n)) × (free write start (passages disk source start way lbn n) ≤ finish_of start (passages disk source start way lbn n))
+free_between disk source start true lbn n way some = media_first disk source start way lbn n some
+free_between disk source start false lbn n way some = ((passed_between disk source start way lbn n).0, omega arith)
+
+pub free_within : (disk : Disk) (served : Served) → IsServiceOf disk served → LiesOnDisk disk.map served.request → (served.start ≤ free_until served) × (free_until served ≤ finish served)
+free_within disk served is lies = subst (λ (s : Served). (served.start ≤ free served.request.write served.start s.passages) × (free served.request.write served.start s.passages ≤ finish_of served.start s.passages)) (sym is)
+    (free_between disk served.source served.start served.request.write served.request.lbn served.request.count served.request.write lies.some)
+
+late_by : (disk : Disk) → IsSound disk.map → (source : Track) (start : ℕ) (write way : Bool) (lbn n number : ℕ) → lbn + n ≤ length (places disk.map)
+    → AllByRecursion (λ (w : Written). free write start (passages disk source start way lbn n) < w.passage.end) (writes_by write number (passages disk source start way lbn n))
+late_by disk sound source start true way lbn n number inside =
+    all_map (λ (w : Written). media_of (passages disk source start way lbn n) < w.passage.end) (written_by number) (passages disk source start way lbn n)
+    (all_weaker _ _ (λ (p : Passage) h. omega (arith, h.0, h.1)) (passages disk source start way lbn n)
+    (all_both _ _ (passages disk source start way lbn n) (begun_after disk source start way lbn n) (passages_long disk sound source start way lbn n inside)))
+late_by disk sound source start false way lbn n number inside = tt
+
+-- what is written by a service has passed after that
+pub late : (disk : Disk) → IsSound disk.map → (served : Served) → IsServiceOf disk served → LiesOnDisk disk.map served.request → AllByRecursion (λ (w : Written). free_until served < w.passage.end) (writes_of served)
+late disk sound served is lies = subst (λ (s : Served). AllByRecursion (λ (w : Written). free served.request.write served.start s.passages < w.passage.end) (writes_by served.request.write (number_of served.request.name) s.passages)) (sym is)
+    (late_by disk sound served.source served.start served.request.write served.request.write served.request.lbn served.request.count (number_of served.request.name) lies.inside)
+
+-- and by its finish
+pub ended : (disk : Disk) (served : Served) → IsServiceOf disk served → AllByRecursion (λ (w : Written). w.passage.end ≤ finish served) (writes_of served)
+ended disk served is = by served.request.write
+  where
+    by : (write : Bool) → AllByRecursion (λ (w : Written). w.passage.end ≤ finish served) (writes_by write (number_of served.request.name) served.passages)
+    by true = all_map (λ (w : Written). w.passage.end ≤ finish served) (written_by (number_of served.request.name)) served.passages
+        (all_weaker _ _ (λ (p : Passage) h. h.2) served.passages (served_between disk served is).1)
+    by false = tt
+
+-- the writes of services
+abbrev pub all_writes : List Served → List Written
+all_writes replay = flat_map writes_of replay
+
+pub all_late : (disk : Disk) → IsSound disk.map → (now : ℕ) (replay : List Served) → AreServed disk now replay → AllByRecursion (λ (w : Written). now < w.passage.end) (all_writes replay)
+all_late disk sound now [] are = tt
+all_late disk sound now (served ∷ later) are =
+    let between = free_within disk served are.1 are.2 in
+    all_append (λ (w : Written). now < w.passage.end) (writes_of served) (all_writes later)
+    (all_weaker _ _ (λ (w : Written) h. omega (arith, h, are.0, between.0)) (writes_of served) (late disk sound served are.1 are.2))
+    (all_weaker _ _ (λ (w : Written) h. omega (arith, h, are.0, between.0, between.1)) (all_writes later) (all_late disk sound (finish served) later are.3))
+
+-- ---- what they leave
+
+abbrev pub is_of : ℕ → Written → Bool
+is_of lbn write = write.passage.lbn == lbn
+
+abbrev is_of_by : ℕ → ℕ → Written → Bool
+is_of_by lbn t write = (write.passage.lbn == lbn) && nat_le write.passage.end t
+
+ended_by : (lbn t : ℕ) (writes : List Written) → AllByRecursion (λ (w : Written). w.passage.end ≤ t) writes → filter (is_of_by lbn t) writes ≡ filter (is_of lbn) writes
+ended_by lbn t [] all = refl
+ended_by lbn t (w ∷ writes) all =
+    let ends : nat_le w.passage.end t ≡ true = let h = all.0 in grind (arith, nat_tests) in
+    elim (cases_Bool (w.passage.lbn == lbn)) [
+      | inl same ↦ rw (same, ends) (ap (λ ws. w ∷ ws) (ended_by lbn t writes all.1))
+      | inr other ↦ rw other (ended_by lbn t writes all.1)
+    ]
+
+not_yet : (lbn t : ℕ) (writes : List Written) → AllByRecursion (λ (w : Written). t < w.passage.end) writes → filter (is_of_by lbn t) writes ≡ []
+not_yet lbn t [] all = refl
+not_yet lbn t (w ∷ writes) all =
+    let late : nat_le w.passage.end t ≡ false = let h = all.0 in grind (arith, nat_tests) in
+    elim (cases_Bool (w.passage.lbn == lbn)) [
+      | inl same ↦ rw (same, late) (not_yet lbn t writes all.1)
+      | inr other ↦ rw other (not_yet lbn t writes all.1)
+    ]
+
+-- the last of these writes that passed a sector
+abbrev pub last_of : Option Written → ℕ → List Served → Option Written
+last_of before lbn replay = last_or before (filter (is_of lbn) (all_writes replay))
+
+-- what a sector holds after these services
+abbrev pub left_after : List ℕ → List Served → ℕ → Content
+left_after latent replay lbn = content_by (last_of None lbn replay) (unwritten latent lbn)
+
+abbrev pub medium_with : Disk → List ℕ → List Served → Medium
+medium_with disk latent replay = record { disk = disk; latent = latent; writes = all_writes replay }
+
+-- at an instant by which some of the services have written all, and the others nothing
+pub content_then : (disk : Disk) (latent : List ℕ) (before after : List Served) (lbn t : ℕ)
+    → AllByRecursion (λ (w : Written). w.passage.end ≤ t) (all_writes before) → AllByRecursion (λ (w : Written). t < w.passage.end) (all_writes after)
+    → content (medium_with disk latent (before ++ after)) lbn t ≡ left_after latent before lbn
+content_then disk latent before after lbn t passed to_come =
+    ap (λ ws. content_by (last_or None (filter (is_of_by lbn t) ws)) (unwritten latent lbn)) (flat_map-append writes_of before after)
+    ∙ ap (λ ws. content_by (last_or None ws) (unwritten latent lbn))
+    (filter-append (is_of_by lbn t) (all_writes before) (all_writes after)
+    ∙ ap (λ ws. filter (is_of_by lbn t) (all_writes before) ++ ws) (not_yet lbn t (all_writes after) to_come)
+    ∙ append-nil (filter (is_of_by lbn t) (all_writes before))
+    ∙ ended_by lbn t (all_writes before) passed)
+
+last_joined : {X : Type 0} (o : Option X) (xs ys : List X) → last_or o (xs ++ ys) ≡ last_or (last_or o xs) ys
+last_joined o [] ys = refl
+last_joined o (x ∷ xs) ys = last_joined (Some x) xs ys
+
+-- first a service, and then others
+pub last_of-more : (before : Option Written) (lbn : ℕ) (served : Served) (later : List Served) → last_of before lbn (served ∷ later) ≡ last_of (last_or before (filter (is_of lbn) (writes_of served))) lbn later
+last_of-more before lbn served later =
+    ap (last_or before) (filter-append (is_of lbn) (writes_of served) (all_writes later))
+    ∙ last_joined before (filter (is_of lbn) (writes_of served)) (filter (is_of lbn) (all_writes later))
+
+-- first some services, and then others
+pub last_of-append : (before : Option Written) (lbn : ℕ) (xs ys : List Served) → last_of before lbn (xs ++ ys) ≡ last_of (last_of before lbn xs) lbn ys
+last_of-append before lbn xs ys =
+    ap (λ ws. last_or before (filter (is_of lbn) ws)) (flat_map-append writes_of xs ys)
+    ∙ ap (last_or before) (filter-append (is_of lbn) (all_writes xs) (all_writes ys))
+    ∙ last_joined before (filter (is_of lbn) (all_writes xs)) (filter (is_of lbn) (all_writes ys))
+
+-- of the passages of a range the last one of a sector is the only one
+own_writes : (disk : Disk) (source : Track) (now : ℕ) (write : Bool) (lbn n writer x : ℕ) (before : Option Written) (first : Content)
+    → content_by (last_or before (filter (is_of x) (map (written_by writer) (passages disk source now write lbn n)))) first
+    ≡ (if is_within lbn n x then Filled writer else content_by before first)
+unfolding passages
+own_writes disk source now write lbn zero writer x before first =
+    let none : is_within lbn 0 x ≡ false = grind (arith, nat_tests) in rw none refl
+own_writes disk source now write lbn (suc n) writer x before first = elim (cases_Bool (lbn == x)) [
+  | inl same ↦
+      let inside : is_within lbn (suc n) x ≡ true = grind (arith, nat_tests) in
+      let behind : is_within (lbn + 1) n x ≡ false = grind (arith, nat_tests) in
+      rw (same, inside) (own_writes disk (track_at disk.map lbn) (passage_from disk.map lbn (now + pos disk.mechanism source (track_at disk.map lbn) write)).end write (lbn + 1) n writer x _ first ∙ rw behind refl)
+  | inr other ↦
+      let again : is_within (lbn + 1) n x ≡ is_within lbn (suc n) x = grind (arith, nat_tests) in
+      rw other (own_writes disk (track_at disk.map lbn) (passage_from disk.map lbn (now + pos disk.mechanism source (track_at disk.map lbn) write)).end write (lbn + 1) n writer x before first ∙ ap (λ b. if b then Filled writer else content_by before first) again)
+]
+
+-- what a service leaves
+pub left_by : (disk : Disk) (served : Served) → IsServiceOf disk served → (lbn : ℕ) (before : Option Written) (first : Content)
+    → content_by (last_or before (filter (is_of lbn) (writes_of served))) first
+    ≡ (if served.request.write && is_within served.request.lbn served.request.count lbn then Filled (number_of served.request.name) else content_by before first)
+left_by disk served is lbn before first = by served.request.write
+  where
+    number : ℕ
+    number = number_of served.request.name
+
+    by : (write : Bool) → content_by (last_or before (filter (is_of lbn) (writes_by write number served.passages))) first
+        ≡ (if write && is_within served.request.lbn served.request.count lbn then Filled number else content_by before first)
+    by true = subst (λ (s : Served). content_by (last_or before (filter (is_of lbn) (map (written_by number) s.passages))) first
+        ≡ (if is_within served.request.lbn served.request.count lbn then Filled number else content_by before first)) (sym is)
+        (own_writes disk served.source served.start served.request.write served.request.lbn served.request.count number lbn before first)
+    by false = refl
+
+-- a write whose passages all end after an instant finishes after it
+late_end : (disk : Disk) (source : Track) (now : ℕ) (write : Bool) (lbn n t : ℕ) → 0 < n → AllByRecursion (λ (p : Passage). t < p.end) (passages disk source now write lbn n) → t < finish_of now (passages disk source now write lbn n)
+unfolding passages
+late_end disk source now write lbn zero t some all = absurd (omega arith)
+late_end disk source now write lbn (suc n) t some all =
+    let passes = (passed_between disk source now write lbn (suc n)).1 in
+    omega (arith, all.0, passes.0.2)
+
+all_of_map : {X Y : Type 0} (P : Y → Type 0) (f : X → Y) (xs : List X) → AllByRecursion P (map f xs) → AllByRecursion (λ x. P (f x)) xs
+all_of_map P f [] all = tt
+all_of_map P f (x ∷ xs) all = (all.0, all_of_map P f xs all.1)
+
+pub finishes_late : (disk : Disk) (served : Served) (t : ℕ) → IsServiceOf disk served → LiesOnDisk disk.map served.request → AllByRecursion (λ (w : Written). t < w.passage.end) (writes_of served) → served.request.write ≡ true → t < finish served
+finishes_late disk served t is lies all writes =
+    let whole : AllByRecursion (λ (w : Written). t < w.passage.end) (map (written_by (number_of served.request.name)) served.passages) =
+    subst (λ write. AllByRecursion (λ (w : Written). t < w.passage.end) (writes_by write (number_of served.request.name) served.passages)) writes all in
+    let each = all_of_map (λ (w : Written). t < w.passage.end) (written_by (number_of served.request.name)) served.passages whole in
+    subst (λ (s : Served). AllByRecursion (λ (p : Passage). t < p.end) s.passages → t < finish_of served.start s.passages) (sym is)
+    (late_end disk served.source served.start served.request.write served.request.lbn served.request.count t lies.some) each
