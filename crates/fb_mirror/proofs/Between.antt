@@ -1,7 +1,7 @@
 -- When decisions and their deliveries are: all writes have passed before, or pass after.
-use Rattle.std.proofs.Common.{◌≡◌, ◌⊎◌, ℕ, ◌+◌, ◌-◌, ◌<◌, ◌≤◌, max, List, [], ◌∷◌, ◌++◌, length, map, Bool, true, false, refl, ap, sym, subst, ◌∙◌, arith, inl, inr, nat_le}
+use Rattle.std.proofs.Common.{◌≡◌, ℕ, ◌<◌, ◌≤◌, max, List, [], ◌∷◌, ◌++◌, Bool, true, false, refl, ap, arith, inl, inr, nat_le}
 use Rattle.std.specs.Prelude.{filter, nat_lt, if◌then◌else◌}
-use Rattle.std.specs.List.{AllByRecursion, fold, zip}
+use Rattle.std.specs.List.{AllByRecursion, fold}
 use Rattle.std.proofs.lemmas.Bool.{cases_Bool}
 use Rattle.std.proofs.lemmas.Bool.Decides.{nat_tests}
 use Rattle.fb_units.specs.declared.types.Track.{Track}
@@ -21,7 +21,7 @@ use Rattle.fb_model.specs.Decisions.{Decision, serves, idles, ends, instant_of, 
 use Rattle.fb_model.specs.Rides.{gap_of}
 use Rattle.fb_model.specs.SoundRun.{HasPlan}
 use Rattle.fb_model.proofs.Lists.{all_append, all_weaker, is_by}
-use Rattle.fb_model.proofs.Due.{HasBytes, IsCarriedBy, IsCaughtIn, IsDueRow}
+use Rattle.fb_model.proofs.Due.{HasBytes, IsCaughtIn, IsDueRow}
 use Rattle.fb_model.proofs.Passages.{IsServiceOf, LiesOnDisk, block_passes, media_by}
 use Rattle.fb_mirror.proofs.Writing.{AreServed, all_late, all_writes, ended, free_until, free_within, late}
 
@@ -139,15 +139,14 @@ module _ (disk : Disk) (sound : IsSound disk.map) where
         of_disk = tt;
         between = record { before = []; after = served ∷ later; is = refl; passed = tt; to_come = all_to_come end served later are.1 are.2 are.3 (omega (arith, is, within.0)) };
       })
-      (kept_by served.start instants))
-      (
+      (kept_by served.start instants)) (
         record {
           from = are.0;
           of_disk = (are.1, are.2);
           between = record { before = []; after = served ∷ later; is = refl; passed = tt; to_come = all_to_come (free_until served) served later are.1 are.2 are.3 (omega arith) };
         },
         all_weaker (IsPlaced disk (finish served) later) (IsPlaced disk now (served ∷ later)) (λ decision placed. placed_behind disk now served later decision (omega (arith, are.0, within.0, within.1)) are.1 placed)
-        (decisions_from disk instants until (last_track disk served) (finish served) later) (decisions_placed instants until (last_track disk served) (finish served) later are.3),
+            (decisions_from disk instants until (last_track disk served) (finish served) later) (decisions_placed instants until (last_track disk served) (finish served) later are.3),
       )
 
 -- ---- deliveries

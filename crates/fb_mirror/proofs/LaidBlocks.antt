@@ -1,7 +1,7 @@
 -- Whatever blocks a run registers are sectors of its disk.
-use Rattle.std.proofs.Common.{◌≡◌, ◌⊎◌, ℕ, zero, suc, ◌+◌, ◌*◌, ◌<◌, ◌≤◌, List, [], ◌∷◌, ◌++◌, length, map, drop, Bool, true, false, cond, refl, ap, sym, subst, ◌∙◌, arith, inl, inr, append-nil, append_assoc, nat_le}
+use Rattle.std.proofs.Common.{◌≡◌, ℕ, zero, suc, ◌+◌, ◌*◌, ◌<◌, ◌≤◌, List, [], ◌∷◌, ◌++◌, length, map, drop, Bool, true, false, refl, ap, sym, subst, ◌∙◌, arith, inl, inr, append-nil, append_assoc, nat_le}
 use Rattle.std.specs.Prelude.{filter, ◌&&◌, ◌==◌, not, if◌then◌else◌}
-use Rattle.std.specs.List.{AllByRecursion, best_of, flat_map, fold, slice_index_or}
+use Rattle.std.specs.List.{AllByRecursion, best_of, fold, slice_index_or}
 use Rattle.std.proofs.lemmas.Bool.{cases_Bool, eqb-true}
 use Rattle.std.proofs.lemmas.Bool.Decides.{nat_tests}
 use Rattle.std.proofs.lemmas.List.{length-append}
@@ -27,11 +27,11 @@ use Rattle.fb_rows.specs.declared.back.DeliveryRow.{DeliveryRow}
 use Rattle.fb_model.specs.Accepted.{IsAccepted}
 use Rattle.fb_model.specs.Inputs.{Inputs}
 use Rattle.fb_model.specs.Decisions.{Decision, serves, idles, ends, instant_of}
-use Rattle.fb_model.specs.History.{Event, called, chose, tested, delivered, finished, LogSegment, Past, blocks_of, calls_of, opened_by, registered, state, task_numbers, tasks, terms_of, wanted}
+use Rattle.fb_model.specs.History.{called, chose, tested, delivered, finished, LogSegment, Past, blocks_of, calls_of, opened_by, registered, state, task_numbers, tasks, terms_of, wanted}
 use Rattle.fb_model.specs.Completion.{is_closed, segment_by, segments, work}
 use Rattle.fb_model.specs.Segments.{choose_best, choose_in, choose_once, choose_up_to, is_better, is_busy, is_chosen, next_blocks, numbered, unchosen, with_choices}
-use Rattle.fb_model.specs.Steps.{Delivery, Part, blocks_by, calls_due, calls_taken, is_call, past_after, settled_past, take_call, tested_past, with_delivery, with_finish}
-use Rattle.fb_model.proofs.Lists.{all_append, all_filter, all_weaker, by_is, after_is, is_after, none_kept}
+use Rattle.fb_model.specs.Steps.{Delivery, Part, blocks_by, calls_due, calls_taken, past_after, settled_past, take_call, tested_past, with_delivery, with_finish}
+use Rattle.fb_model.proofs.Lists.{all_append, all_filter, after_is, is_after}
 use Rattle.fb_mirror.proofs.CutCover.{EndsBy, cuts_end}
 
 -- the block ends by the end of the disk

@@ -1,5 +1,5 @@
 -- The events of a full run concern sectors of its disk alone.
-use Rattle.std.proofs.Common.{◌≡◌, ℕ, ◌+◌, ◌≤◌, List, [], ◌∷◌, ◌++◌, length, map, Bool, true, false, refl, ap, sym, subst, ◌∙◌}
+use Rattle.std.proofs.Common.{ℕ, ◌+◌, ◌≤◌, List, [], ◌∷◌, length, map, Bool, true, false, sym, subst}
 use Rattle.std.specs.Prelude.{if◌then◌else◌}
 use Rattle.std.specs.List.{AllByRecursion, flat_map}
 use Rattle.fb_units.specs.Rising.{IsRising}
@@ -7,7 +7,6 @@ use Rattle.fb_geometry.specs.Places.{places}
 use Rattle.fb_service.specs.declared.disk.Disk.{Disk}
 use Rattle.fb_store.specs.declared.content.Content.TheVariants.{Filled}
 use Rattle.fb_store.specs.declared.content.ContentRun.{ContentRun}
-use Rattle.fb_store.specs.Runs.{runs_of}
 use Rattle.fb_store.proofs.Longest.{ends-runs_of-held}
 use Rattle.fb_rows.specs.declared.back.BackRow.{BackRow}
 use Rattle.fb_rows.specs.declared.back.BackRow.TheVariants.{Gap, Idle, Got, Bad, Seal, Segment, Complete, Task}
@@ -15,7 +14,7 @@ use Rattle.fb_rows.specs.declared.back.DeliveryRow.{DeliveryRow}
 use Rattle.fb_rows.specs.declared.run.Run.{Run}
 use Rattle.fb_calls.specs.declared.call.Call.{Call}
 use Rattle.fb_model.specs.Accepted.{IsAccepted}
-use Rattle.fb_model.specs.Content.{Medium, content, contents_at, fore_row, fore_rows, medium_of, number_of}
+use Rattle.fb_model.specs.Content.{Medium, content, fore_row, fore_rows, medium_of, number_of}
 use Rattle.fb_model.specs.Decisions.{Decision}
 use Rattle.fb_model.specs.FullRun.{IsFull}
 use Rattle.fb_model.specs.History.{Past}
@@ -26,7 +25,7 @@ use Rattle.fb_model.specs.SoundRun.{IsDelivered, IsTested}
 use Rattle.fb_model.specs.Steps.{AtEach, Delivery, Part, history, part_rows, past_after, settled_past, steps}
 use Rattle.fb_model.proofs.Due.{HasBytes, IsDueRow, delivery_true}
 use Rattle.fb_model.proofs.Lists.{all_append, all_weaker}
-use Rattle.fb_mirror.specs.Replacement.{Event, IsWithin, deliveries_in, events, writes_in}
+use Rattle.fb_mirror.specs.Replacement.{IsWithin, deliveries_in, events, writes_in}
 use Rattle.fb_mirror.specs.Survivor.{sectors}
 use Rattle.fb_mirror.proofs.LaidBlocks.{AreLaid, LiesOn, laid_after, laid_first, laid_settled, wanted_lies}
 use Rattle.fb_mirror.proofs.RunRows.{RowFits, RowsFit, all_fit, part_fits, tasks_fit}
@@ -75,10 +74,10 @@ steps_within : (inputs : Inputs) (medium : Medium) → IsRising (map (λ (call :
 steps_within inputs medium rising past [] laid some tests = tt
 steps_within inputs medium rising past (step ∷ steps) laid some tests = (
   part_fits (EndsOn (sectors inputs)) (Unit {0}) (λ past. Unit {0}) (any_past (EndsOn (sectors inputs))) inputs medium past step tt tests.0
-  (all_weaker (IsDueRow medium step.0 step.1.plan (LiesOn inputs.disk.map)) (EndsOn (sectors inputs))
-  (λ row due_row. ends_on medium (sectors inputs) row (due_bytes medium step.0 step.1.plan (LiesOn inputs.disk.map) row due_row) (due_block medium step.0 step.1.plan (LiesOn inputs.disk.map) row due_row))
-  (map (λ (delivery : Delivery). delivery.got) step.1.deliveries)
-  (delivery_true inputs medium past step (LiesOn inputs.disk.map) some.0 (wanted_lies inputs rising (settled_past inputs past step.0) (laid_settled inputs rising past step.0 laid)))),
+      (all_weaker (IsDueRow medium step.0 step.1.plan (LiesOn inputs.disk.map)) (EndsOn (sectors inputs))
+      (λ row due_row. ends_on medium (sectors inputs) row (due_bytes medium step.0 step.1.plan (LiesOn inputs.disk.map) row due_row) (due_block medium step.0 step.1.plan (LiesOn inputs.disk.map) row due_row))
+      (map (λ (delivery : Delivery). delivery.got) step.1.deliveries)
+      (delivery_true inputs medium past step (LiesOn inputs.disk.map) some.0 (wanted_lies inputs rising (settled_past inputs past step.0) (laid_settled inputs rising past step.0 laid)))),
   steps_within inputs medium rising (past_after inputs past step) steps (laid_after inputs rising past step laid) some.1 tests.1,
 )
 

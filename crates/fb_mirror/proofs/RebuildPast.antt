@@ -1,9 +1,8 @@
 -- The history of a rebuild: its two calls, and then nothing but deliveries, tests and finished requests.
-use Rattle.std.proofs.Common.{◌≡◌, ◌⊎◌, ℕ, zero, suc, ◌+◌, ◌<◌, ◌≤◌, List, [], ◌∷◌, ◌++◌, length, map, drop, Option, Some, None, Bool, true, false, cond, refl, ap, sym, subst, ◌∙◌, arith, inl, inr, nat_le}
-use Rattle.std.specs.Prelude.{filter, slice_get, nat_lt, ◌&&◌, ◌||◌, ◌==◌, not, if◌then◌else◌}
-use Rattle.std.specs.List.{AllByRecursion, fold, list_all, list_any, range_with_len, slice_index_or}
+use Rattle.std.proofs.Common.{◌≡◌, ◌⊎◌, ℕ, zero, suc, ◌+◌, List, [], ◌∷◌, ◌++◌, length, map, drop, Some, Bool, true, false, refl, ap, sym, subst, ◌∙◌, arith, inl, inr, nat_le}
+use Rattle.std.specs.Prelude.{filter, slice_get, nat_lt, ◌&&◌, ◌==◌, not, if◌then◌else◌}
+use Rattle.std.specs.List.{AllByRecursion, fold, list_all, range_with_len, slice_index_or}
 use Rattle.std.proofs.lemmas.Bool.{cases_Bool, true≢false, and_parts, eqb-true}
-use Rattle.std.proofs.lemmas.Bool.Decides.{nat_tests}
 use Rattle.fb_geometry.specs.Shape.{Shape}
 use Rattle.fb_geometry.specs.Places.{places}
 use Rattle.fb_sectormap.specs.declared.cut.Cut.{Cut}
@@ -17,14 +16,13 @@ use Rattle.fb_wanted.specs.declared.block.Block.{Block}
 use Rattle.fb_wanted.specs.declared.block.State.{State}
 use Rattle.fb_wanted.specs.declared.block.State.TheVariants.{Wanted, Delivered}
 use Rattle.fb_wanted.specs.States.{is_delivered, is_wanted}
-use Rattle.fb_rows.specs.declared.back.BackRow.{BackRow}
 use Rattle.fb_rows.specs.declared.back.DeliveryRow.{DeliveryRow}
 use Rattle.fb_model.specs.Inputs.{Inputs}
 use Rattle.fb_model.specs.Decisions.{Decision, serves, idles, ends, instant_of}
-use Rattle.fb_model.specs.History.{Event, called, chose, tested, delivered, finished, Past, aborts, bare_state, blocks_of, delivers, is_open_backup, is_sealed, overwrites, registered, registers, same_block, state, state_after_event, task_numbers, tasks, terms_of, wanted}
+use Rattle.fb_model.specs.History.{Event, called, chose, tested, delivered, finished, Past, aborts, bare_state, blocks_of, is_open_backup, is_sealed, overwrites, registered, registers, same_block, state, state_after_event, tasks, terms_of, wanted}
 use Rattle.fb_model.specs.Completion.{is_complete, is_complete_as, is_closed, is_over, own_of, segments, work}
 use Rattle.fb_model.specs.Segments.{choose_in, choose_up_to, numbered, with_choices}
-use Rattle.fb_model.specs.Steps.{Delivery, Part, calls_due, calls_taken, is_call, past_after, settled_past, take_call, tested_past, with_delivery, with_finish}
+use Rattle.fb_model.specs.Steps.{Delivery, Part, calls_due, calls_taken, past_after, settled_past, take_call, tested_past, with_delivery, with_finish}
 use Rattle.fb_model.proofs.Lists.{all_filter, all_weaker, by_is}
 use Rattle.fb_mirror.specs.Script.{rebuild_calls}
 

@@ -1,12 +1,10 @@
 -- A rebuild that was sealed has covered every sector of the disk.
-use Rattle.std.proofs.Common.{◌≡◌, ◌⊎◌, ℕ, zero, suc, ◌+◌, ◌<◌, ◌≤◌, List, [], ◌∷◌, ◌++◌, length, map, Option, Some, None, Bool, true, false, cond, refl, ap, sym, subst, ◌∙◌, arith, inl, inr}
+use Rattle.std.proofs.Common.{◌≡◌, ℕ, zero, suc, ◌+◌, ◌<◌, ◌≤◌, List, [], ◌∷◌, length, map, Option, Some, None, Bool, true, false, cond, refl, ap, sym, subst, ◌∙◌, arith, inl, inr}
 use Rattle.std.specs.Prelude.{filter, is_some, nat_lt}
 use Rattle.std.specs.List.{AllByRecursion, flat_map, range_with_len}
 use Rattle.std.specs.Option.{option_map, unwrap_or}
 use Rattle.std.proofs.lemmas.Bool.{true≢false}
 use Rattle.fb_geometry.specs.Sound.{IsSound}
-use Rattle.fb_geometry.specs.Places.{places}
-use Rattle.fb_geometry.specs.Shape.{Shape}
 use Rattle.fb_sectormap.specs.declared.cut.Cut.{Cut}
 use Rattle.fb_sectormap.specs.Cutting.{cutting}
 use Rattle.fb_store.specs.declared.content.Content.{Content}
@@ -20,12 +18,11 @@ use Rattle.fb_wanted.specs.declared.block.Block.{Block}
 use Rattle.fb_rows.specs.declared.back.BackRow.{BackRow}
 use Rattle.fb_rows.specs.declared.back.BackRow.TheVariants.{Gap, Idle, Got, Bad, Seal, Segment, Complete, Task}
 use Rattle.fb_rows.specs.declared.back.DeliveryRow.{DeliveryRow}
-use Rattle.fb_rows.specs.declared.gap.Plan.{Plan}
 use Rattle.fb_rows.specs.declared.run.Run.{Run}
 use Rattle.fb_model.specs.Inputs.{Inputs}
 use Rattle.fb_model.specs.Accepted.{IsAccepted}
 use Rattle.fb_model.specs.Content.{Medium, content, contents_at, medium_of}
-use Rattle.fb_model.specs.Decisions.{Decision, serves, idles, ends}
+use Rattle.fb_model.specs.Decisions.{Decision}
 use Rattle.fb_model.specs.FullRun.{IsFull}
 use Rattle.fb_model.specs.History.{Past, delivered, is_open_backup, tested, wanted}
 use Rattle.fb_model.specs.Completion.{is_complete}
@@ -34,7 +31,7 @@ use Rattle.fb_model.specs.SoundRun.{IsDelivered, IsTested}
 use Rattle.fb_model.specs.Steps.{AtEach, Delivery, Part, history, part_rows, past_after, settled_past, steps}
 use Rattle.fb_model.proofs.Due.{HasBytes, IsDueRow, delivery_true}
 use Rattle.fb_model.proofs.Lists.{all_append, all_both, all_left, all_weaker, same_map_where}
-use Rattle.fb_mirror.specs.Replacement.{Event, contents_after, covered_after, decided, deliveries_in, events, given, held_after, later, sealed_in, writes_in}
+use Rattle.fb_mirror.specs.Replacement.{decided, deliveries_in, events, given, held_after, later, sealed_in, writes_in}
 use Rattle.fb_mirror.specs.Script.{rebuild_calls}
 use Rattle.fb_mirror.specs.Survivor.{CoveredSectorsAreTheSurvivors, IsWhole, sectors, survives}
 use Rattle.fb_mirror.proofs.Covering.{range_long}
@@ -81,7 +78,7 @@ all_cover [] fit = tt
 all_cover (Got row ∷ rows) fit = (
   row_covers row rows fit.0,
   rows_weaker (CoversIn rows) (CoversIn (Got row ∷ rows)) (Unit {0}) (λ other covers lbn within. some_behind (given lbn (record { instant = row.end; contents = row.content })) (decided lbn (flat_map deliveries_in rows)) (covers lbn within))
-  rows (all_cover rows fit.1),
+      rows (all_cover rows fit.1),
 )
 all_cover (Gap row ∷ rows) fit = (tt, all_cover rows fit.1)
 all_cover (Idle row ∷ rows) fit = (tt, all_cover rows fit.1)
@@ -114,8 +111,8 @@ bytes_each : (inputs : Inputs) (medium : Medium) (past : Past) (steps : List (De
 bytes_each inputs medium past [] some is = tt
 bytes_each inputs medium past (step ∷ steps) some is = (
   part_fits HasItsBytes (Unit {0}) (λ past. Unit {0}) (any_past HasItsBytes) inputs medium past step tt is.0
-  (all_weaker (IsDueRow medium step.0 step.1.plan AnyBlock) HasItsBytes (λ row due_row. (medium, due_bytes medium step.0 step.1.plan AnyBlock row due_row)) (gots step.1)
-  (delivery_true inputs medium past step AnyBlock some.0 (any_blocks (wanted (settled_past inputs past step.0))))),
+      (all_weaker (IsDueRow medium step.0 step.1.plan AnyBlock) HasItsBytes (λ row due_row. (medium, due_bytes medium step.0 step.1.plan AnyBlock row due_row)) (gots step.1)
+      (delivery_true inputs medium past step AnyBlock some.0 (any_blocks (wanted (settled_past inputs past step.0))))),
   bytes_each inputs medium (past_after inputs past step) steps some.1 is.1,
 )
 

@@ -1,14 +1,13 @@
 -- The background rows of a run: what its deliveries and seals have, all its rows have.
-use Rattle.std.proofs.Common.{◌≡◌, ℕ, List, [], ◌∷◌, ◌++◌, map, Bool, true, false, refl, sym, subst, inl, inr}
+use Rattle.std.proofs.Common.{◌≡◌, ℕ, List, [], ◌∷◌, ◌++◌, map, Bool, true, false, refl, sym, subst}
 use Rattle.std.specs.Prelude.{◌&&◌, filter, not, if◌then◌else◌}
 use Rattle.std.specs.List.{AllByRecursion, flat_map}
-use Rattle.std.proofs.lemmas.Bool.{cases_Bool, and_parts}
+use Rattle.std.proofs.lemmas.Bool.{and_parts}
 use Rattle.fb_service.specs.declared.disk.Disk.{Disk}
 use Rattle.fb_rows.specs.declared.gap.Plan.{Plan}
 use Rattle.fb_rows.specs.declared.back.BackRow.{BackRow}
 use Rattle.fb_rows.specs.declared.back.BackRow.TheVariants.{Gap as GapLine, Idle as IdleLine, Got as GotLine, Bad as BadLine, Seal as SealLine, Segment as SegmentLine, Complete as CompleteLine, Task as TaskLine}
 use Rattle.fb_rows.specs.declared.back.DeliveryRow.{DeliveryRow}
-use Rattle.fb_calls.specs.declared.call.Kind.{Kind}
 use Rattle.fb_model.specs.Content.{Medium}
 use Rattle.fb_model.specs.Inputs.{Inputs}
 use Rattle.fb_model.specs.Decisions.{Decision, serves, idles, ends, instant_of}
@@ -100,10 +99,12 @@ module _ (P : DeliveryRow → Type 0) (C : Type 0) where
     followed_fit medium past [] holds followed each = tt
     followed_fit medium past (delivery ∷ deliveries) holds followed each =
         let next = kept.delivers past delivery.got holds each.0 in
-        all_append (RowFits P C) (GotLine delivery.got ∷ delivery.after) (flat_map (λ (delivery : Delivery). GotLine delivery.got ∷ delivery.after) deliveries)
-        (each.0, subst (RowsFit P C) (sym followed.0)
-        (all_append (RowFits P C) (findings past delivery.got) (test_rows (on_disk medium) (delivered delivery.got ∷ past) delivery.got.end)
-        (findings_fit past delivery.got) (test_fits (on_disk medium) (delivered delivery.got ∷ past) delivery.got.end next)))
+        all_append (RowFits P C) (GotLine delivery.got ∷ delivery.after) (flat_map (λ (delivery : Delivery). GotLine delivery.got ∷ delivery.after) deliveries) (
+          each.0,
+          subst (RowsFit P C) (sym followed.0)
+              (all_append (RowFits P C) (findings past delivery.got) (test_rows (on_disk medium) (delivered delivery.got ∷ past) delivery.got.end)
+              (findings_fit past delivery.got) (test_fits (on_disk medium) (delivered delivery.got ∷ past) delivery.got.end next)),
+        )
         (followed_fit medium (with_delivery past delivery) deliveries (kept.tests (delivered delivery.got ∷ past) delivery.after next) followed.1 each.1)
 
     -- a decision's rows have what its deliveries have
@@ -127,9 +128,10 @@ all_fit P C inputs past (step ∷ steps) each = all_append (RowFits P C) (part_r
 gots_of : (P : DeliveryRow → Type 0) (C : Type 0) (deliveries : List Delivery) → RowsFit P C (flat_map (λ (delivery : Delivery). GotLine delivery.got ∷ delivery.after) deliveries)
     → AllByRecursion P (map (λ (delivery : Delivery). delivery.got) deliveries)
 gots_of P C [] fit = tt
-gots_of P C (delivery ∷ deliveries) fit =
-    ((all_left (RowFits P C) (GotLine delivery.got ∷ delivery.after) (flat_map (λ (delivery : Delivery). GotLine delivery.got ∷ delivery.after) deliveries) fit).0,
-    gots_of P C deliveries (all_right (RowFits P C) (GotLine delivery.got ∷ delivery.after) (flat_map (λ (delivery : Delivery). GotLine delivery.got ∷ delivery.after) deliveries) fit))
+gots_of P C (delivery ∷ deliveries) fit = (
+  (all_left (RowFits P C) (GotLine delivery.got ∷ delivery.after) (flat_map (λ (delivery : Delivery). GotLine delivery.got ∷ delivery.after) deliveries) fit).0,
+  gots_of P C deliveries (all_right (RowFits P C) (GotLine delivery.got ∷ delivery.after) (flat_map (λ (delivery : Delivery). GotLine delivery.got ∷ delivery.after) deliveries) fit),
+)
 
 -- the deliveries of each decision
 pub gots_fit : (P : DeliveryRow → Type 0) (C : Type 0) (inputs : Inputs) (past : Past) (steps : List (Decision × Part)) → RowsFit P C (flat_map (part_rows inputs.disk) steps)
@@ -137,7 +139,7 @@ pub gots_fit : (P : DeliveryRow → Type 0) (C : Type 0) (inputs : Inputs) (past
 gots_fit P C inputs past [] fit = tt
 gots_fit P C inputs past (step ∷ steps) fit = (
   gots_of P C step.1.deliveries
-  (all_right (RowFits P C) (step.1.settled ++ opening inputs.disk step.0 step.1.plan) (flat_map (λ (delivery : Delivery). GotLine delivery.got ∷ delivery.after) step.1.deliveries)
-  (all_left (RowFits P C) (part_rows inputs.disk step) (flat_map (part_rows inputs.disk) steps) fit)),
+      (all_right (RowFits P C) (step.1.settled ++ opening inputs.disk step.0 step.1.plan) (flat_map (λ (delivery : Delivery). GotLine delivery.got ∷ delivery.after) step.1.deliveries)
+      (all_left (RowFits P C) (part_rows inputs.disk step) (flat_map (part_rows inputs.disk) steps) fit)),
   gots_fit P C inputs (past_after inputs past step) steps (all_right (RowFits P C) (part_rows inputs.disk step) (flat_map (part_rows inputs.disk) steps) fit),
 )

@@ -1,6 +1,6 @@
 -- A sector that an event concerned holds in the replacement what it holds on the survivor at the run's end.
-use Rattle.std.proofs.Common.{◌≡◌, ◌⊎◌, ℕ, ◌+◌, ◌<◌, ◌≤◌, max, List, [], ◌∷◌, ◌++◌, length, map, Option, Some, None, Bool, true, false, cond, refl, ap, sym, subst, ◌∙◌, arith, inl, inr, append-nil}
-use Rattle.std.specs.Prelude.{nat_lt, nat_le, filter, ◌&&◌, if◌then◌else◌}
+use Rattle.std.proofs.Common.{◌≡◌, ◌⊎◌, ℕ, ◌<◌, ◌≤◌, max, List, [], ◌∷◌, ◌++◌, map, Option, Some, None, Bool, true, false, cond, refl, ap, sym, subst, ◌∙◌, arith, inl, inr, append-nil}
+use Rattle.std.specs.Prelude.{nat_lt, nat_le, filter, ◌&&◌}
 use Rattle.std.specs.List.{AllByRecursion, flat_map, fold, zip}
 use Rattle.std.specs.Option.{option_map, unwrap_or}
 use Rattle.std.proofs.lemmas.Bool.{cases_Bool}
@@ -11,8 +11,7 @@ use Rattle.fb_geometry.specs.Sound.{IsSound}
 use Rattle.fb_service.specs.declared.disk.Disk.{Disk}
 use Rattle.fb_store.specs.declared.content.Content.{Content}
 use Rattle.fb_store.specs.declared.content.Content.TheVariants.{Filled}
-use Rattle.fb_store.specs.Runs.{runs_of, sectors_of}
-use Rattle.fb_store.specs.Sparse.{after_taking}
+use Rattle.fb_store.specs.Runs.{sectors_of}
 use Rattle.fb_store.specs.Writes.{is_within, unwritten}
 use Rattle.fb_store.proofs.Runs.{sectors_of-runs_of}
 use Rattle.fb_store.proofs.Taken.{taken_block}
@@ -181,9 +180,10 @@ are_behind disk now (served ∷ before) after are = are_behind disk (finish serv
 finish_to_come : (disk : Disk) (now t : ℕ) (replay : List Served) → AreServed disk now replay → AllByRecursion (λ (w : Written). t < w.passage.end) (all_writes replay)
     → AllByRecursion (λ (s : Served). s.request.write ≡ true → t < finish s) replay
 finish_to_come disk now t [] are all = tt
-finish_to_come disk now t (served ∷ replay) are all =
-    (finishes_late disk served t are.1 are.2 (all_left (λ (w : Written). t < w.passage.end) (writes_of served) (all_writes replay) all),
-    finish_to_come disk (finish served) t replay are.3 (all_right (λ (w : Written). t < w.passage.end) (writes_of served) (all_writes replay) all))
+finish_to_come disk now t (served ∷ replay) are all = (
+  finishes_late disk served t are.1 are.2 (all_left (λ (w : Written). t < w.passage.end) (writes_of served) (all_writes replay) all),
+  finish_to_come disk (finish served) t replay are.3 (all_right (λ (w : Written). t < w.passage.end) (writes_of served) (all_writes replay) all),
+)
 
 -- if no write of the sector decides later, nothing was written there since
 module _ (disk : Disk) (medium : Medium) (latent : List ℕ) (lbn : ℕ) where
@@ -192,9 +192,9 @@ module _ (disk : Disk) (medium : Medium) (latent : List ℕ) (lbn : ℕ) where
   nothing_since now before after last are holds to_come by =
       let behind = are_behind disk now before after are in
       holds ∙ sym (
-        ap (λ o. content_by o (unwritten latent lbn)) (last_of-append None lbn before after)
-        ∙ left_decided disk medium lbn (unwritten latent lbn) behind.0 after (last_of None lbn before) behind.1
-        ∙ ap (λ d. unwrap_or (given_content d) (left_after latent before lbn)) (none (decided lbn (wrote medium after)) refl)
+      ap (λ o. content_by o (unwritten latent lbn)) (last_of-append None lbn before after)
+      ∙ left_decided disk medium lbn (unwritten latent lbn) behind.0 after (last_of None lbn before) behind.1
+      ∙ ap (λ d. unwrap_or (given_content d) (left_after latent before lbn)) (none (decided lbn (wrote medium after)) refl)
       )
     where
       none : (d : Option (ℕ × Content)) → decided lbn (wrote medium after) ≡ d → decided lbn (wrote medium after) ≡ None

@@ -4,9 +4,11 @@
 //! its free gaps; the replacement gets each delivered block and each foreground write. The layers
 //! above may rely on this: the script of a rebuild is one definition, down to the last byte, and
 //! what it reads as is known for each disk; what the replacement holds is one definition over the
-//! events of the run, and laws say what an event gives a sector and which of them decides; the text
-//! of a copy is one definition too. Work and memory grow with the rows of the run and their runs,
-//! not with the sectors of the disk. Whether the run was made by that script is not asked.
+//! events of the run, and laws say what an event gives a sector and which of them decides; for full
+//! runs other laws say that all events lie on the disk, that what the replacement got is what the
+//! survivor has at the run's end, and that a sealed rebuild has got every sector; the text of a copy
+//! is one definition too. Work and memory grow with the rows of the run and their runs, not with the
+//! sectors of the disk. Whether the run was made by that script `rebuild` doesn't ask.
 #![tactic(auto)]
 
 mod changes;
