@@ -30,6 +30,7 @@ pub record IsBetween (replay : List Served) (from to : ℕ) : Type 0 where
   pub before : List Served
   pub after : List Served
   pub is : replay ≡ before ++ after
+  pub finished : AllByRecursion (λ (s : Served). finish s ≤ from) before
   pub passed : AllByRecursion (λ (w : Written). w.passage.end ≤ from) (all_writes before)
   pub to_come : AllByRecursion (λ (w : Written). to < w.passage.end) (all_writes after)
 
@@ -39,6 +40,7 @@ between_within replay from to begin end later earlier is = record {
   before = is.before;
   after = is.after;
   is = is.is;
+  finished = all_weaker _ _ (λ (s : Served) h. omega (arith, h, later)) is.before is.finished;
   passed = all_weaker _ _ (λ (w : Written) h. omega (arith, h, later)) (all_writes is.before) is.passed;
   to_come = all_weaker _ _ (λ (w : Written) h. omega (arith, h, earlier)) (all_writes is.after) is.to_come;
 }
@@ -88,7 +90,7 @@ greatest_from now [] = omega arith
 greatest_from now (x ∷ instants) = let rest = greatest_from (max now x) instants in omega arith
 
 none_left : (from to : ℕ) → IsBetween [] from to
-none_left from to = record { before = []; after = []; is = refl; passed = tt; to_come = tt }
+none_left from to = record { before = []; after = []; is = refl; finished = tt; passed = tt; to_come = tt }
 
 last_placed : (disk : Disk) (head : Track) (now last until : ℕ) → now ≤ last → IsPlaced disk now [] (last_decision head last until)
 last_placed disk head now last until from = elim (cases_Bool (nat_lt last until)) [
@@ -107,6 +109,7 @@ placed_behind disk now served later decision order is placed =
         before = served ∷ placed.between.before;
         after = placed.between.after;
         is = ap (λ rest. served ∷ rest) placed.between.is;
+        finished = (from, placed.between.finished);
         passed = all_append (λ (w : Written). w.passage.end ≤ instant_of decision) (writes_of served) (all_writes placed.between.before)
             (all_weaker _ _ (λ (w : Written) h. omega (arith, h, from)) (writes_of served) (ended disk served is)) placed.between.passed;
         to_come = placed.between.to_come;
@@ -137,13 +140,13 @@ module _ (disk : Disk) (sound : IsSound disk.map) where
       (λ begin end from is. record {
         from = from;
         of_disk = tt;
-        between = record { before = []; after = served ∷ later; is = refl; passed = tt; to_come = all_to_come end served later are.1 are.2 are.3 (omega (arith, is, within.0)) };
+        between = record { before = []; after = served ∷ later; is = refl; finished = tt; passed = tt; to_come = all_to_come end served later are.1 are.2 are.3 (omega (arith, is, within.0)) };
       })
       (kept_by served.start instants)) (
         record {
           from = are.0;
           of_disk = (are.1, are.2);
-          between = record { before = []; after = served ∷ later; is = refl; passed = tt; to_come = all_to_come (free_until served) served later are.1 are.2 are.3 (omega arith) };
+          between = record { before = []; after = served ∷ later; is = refl; finished = tt; passed = tt; to_come = all_to_come (free_until served) served later are.1 are.2 are.3 (omega arith) };
         },
         all_weaker (IsPlaced disk (finish served) later) (IsPlaced disk now (served ∷ later)) (λ decision placed. placed_behind disk now served later decision (omega (arith, are.0, within.0, within.1)) are.1 placed)
             (decisions_from disk instants until (last_track disk served) (finish served) later) (decisions_placed instants until (last_track disk served) (finish served) later are.3),

@@ -15,3 +15,4 @@ pub mod RebuildPast
 pub mod Rebuilds
 pub mod LaidBlocks
 pub mod OnTheDisk
+pub mod AtRest

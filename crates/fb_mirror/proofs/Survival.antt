@@ -49,7 +49,7 @@ pub decided-append : (lbn : ℕ) (xs ys : List Event) → decided lbn (xs ++ ys)
 decided-append lbn [] ys = refl
 decided-append lbn (x ∷ xs) ys = ap (later (given lbn x)) (decided-append lbn xs ys) ∙ sym (later-assoc (given lbn x) (decided lbn xs) (decided lbn ys))
 
-abbrev given_content : Option (ℕ × Content) → Option Content
+abbrev pub given_content : Option (ℕ × Content) → Option Content
 given_content last = option_map (λ last. last.1) last
 
 -- the instant has a property, if there is one
@@ -85,7 +85,7 @@ one_of_two (Some a) (Some b) last is = elim (cases_Bool (nat_lt b.0 a.0)) [
 ]
 
 -- what each event gives has a property, so what decides has it
-one_decides : (R : ℕ × Content → Type 0) (lbn : ℕ) (events : List Event) → AllByRecursion (λ event. (last : ℕ × Content) → given lbn event ≡ Some last → R last) events
+pub one_decides : (R : ℕ × Content → Type 0) (lbn : ℕ) (events : List Event) → AllByRecursion (λ event. (last : ℕ × Content) → given lbn event ≡ Some last → R last) events
     → (last : ℕ × Content) → decided lbn events ≡ Some last → R last
 one_decides R lbn [] all last is = absurd (none_some last is)
 one_decides R lbn (event ∷ events) all last is = elim (one_of_two (given lbn event) (decided lbn events) last is) [
@@ -95,7 +95,7 @@ one_decides R lbn (event ∷ events) all last is = elim (one_of_two (given lbn e
 
 -- ---- the writes of services
 
-abbrev wrote : Medium → List Served → List Event
+abbrev pub wrote : Medium → List Served → List Event
 wrote medium replay = flat_map writes_in (map (fore_row medium) replay)
 
 abbrev leaves : ℕ → ForeRow → Bool
@@ -170,6 +170,7 @@ pub record IsFoundAfter (latent : List ℕ) (replay : List Served) (lbn : ℕ) (
   pub before : List Served
   pub after : List Served
   pub is : replay ≡ before ++ after
+  pub finished : AllByRecursion (λ (s : Served). finish s ≤ last.0) before
   pub holds : last.1 ≡ left_after latent before lbn
   pub to_come : AllByRecursion (λ (w : Written). last.0 < w.passage.end) (all_writes after)
 
@@ -258,6 +259,7 @@ module _ (disk : Disk) (latent : List ℕ) (replay : List Served) where
         before = between.before;
         after = between.after;
         is = between.is;
+        finished = all_weaker _ _ (λ (s : Served) h. omega (arith, h, order)) between.before between.finished;
         holds = ap (λ services. content (medium_with disk latent services) lbn row.begin) between.is
             ∙ content_then disk latent between.before between.after lbn row.begin between.passed
             (all_weaker _ _ (λ (w : Written) h. omega (arith, h, order)) (all_writes between.after) between.to_come);
@@ -271,7 +273,7 @@ module _ (disk : Disk) (latent : List ℕ) (replay : List Served) where
       by false without = absurd (none_some last (sym (value ∙ ap (λ b. option_map (λ c. (row.end, c)) (cond b (Some (held lbn)) None)) without) ∙ gives))
 
   -- what deliveries give a sector
-  rows_found : (lbn : ℕ) (rows : List BackRow) → RowsFit (IsFound (medium_with disk latent replay) replay) (Unit {0}) rows
+  pub rows_found : (lbn : ℕ) (rows : List BackRow) → RowsFit (IsFound (medium_with disk latent replay) replay) (Unit {0}) rows
       → AllByRecursion (λ event. (last : ℕ × Content) → given lbn event ≡ Some last → IsFoundAfter latent replay lbn last) (flat_map deliveries_in rows)
   rows_found lbn [] fit = tt
   rows_found lbn (Gap row ∷ rows) fit = rows_found lbn rows fit.1
@@ -387,7 +389,7 @@ module _ (disk : Disk) (instants : List ℕ) (until : ℕ) where
 abbrev pub IsFoundIn : Inputs → DeliveryRow → Type 0
 IsFoundIn inputs row = IsFound (medium_with inputs.disk inputs.latent (served inputs)) (served inputs) row
 
-back_found : (inputs : Inputs) (run : Run) → IsSound inputs.disk.map → AreServed inputs.disk 0 (served inputs) → IsFull inputs run → RowsFit (IsFoundIn inputs) (Unit {0}) run.back
+pub back_found : (inputs : Inputs) (run : Run) → IsSound inputs.disk.map → AreServed inputs.disk 0 (served inputs) → IsFull inputs run → RowsFit (IsFoundIn inputs) (Unit {0}) run.back
 unfolding decisions medium_of
 back_found inputs run sound are full =
     let P = IsFoundIn inputs in
@@ -406,7 +408,7 @@ end_holds inputs run lbn are full =
     ∙ ap (λ replay. content (medium_with inputs.disk inputs.latent replay) lbn (run_end (decisions inputs))) (sym (append-nil (served inputs)))
     ∙ content_then inputs.disk inputs.latent (served inputs) [] lbn (run_end (decisions inputs)) (all_passed inputs.disk (instants_of inputs) inputs.until first_track 0 (served inputs) 0 are) tt
 
-some_decided : (last : Option (ℕ × Content)) (held : Content) → given_content last ≡ Some held → (one : ℕ × Content) × (last ≡ Some one) × (one.1 ≡ held)
+pub some_decided : (last : Option (ℕ × Content)) (held : Content) → given_content last ≡ Some held → (one : ℕ × Content) × (last ≡ Some one) × (one.1 ≡ held)
 some_decided None held is = absurd (none_some held is)
 some_decided (Some one) held is = (one, refl, same_one one.1 held is)
 

@@ -271,7 +271,7 @@ late_end disk source now write lbn (suc n) t some all =
     let passes = (passed_between disk source now write lbn (suc n)).1 in
     omega (arith, all.0, passes.0.2)
 
-all_of_map : {X Y : Type 0} (P : Y → Type 0) (f : X → Y) (xs : List X) → AllByRecursion P (map f xs) → AllByRecursion (λ x. P (f x)) xs
+pub all_of_map : {X Y : Type 0} (P : Y → Type 0) (f : X → Y) (xs : List X) → AllByRecursion P (map f xs) → AllByRecursion (λ x. P (f x)) xs
 all_of_map P f [] all = tt
 all_of_map P f (x ∷ xs) all = (all.0, all_of_map P f xs all.1)
 

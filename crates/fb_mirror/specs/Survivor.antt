@@ -1,5 +1,5 @@
 -- What the replacement has of the survivor.
-use Rattle.std.specs.Prelude.{◌≡◌, ℕ, ◌<◌, length, Some}
+use Rattle.std.specs.Prelude.{◌≡◌, ◌⊎◌, ℕ, ◌<◌, ◌≤◌, List, length, true, Some, nat_le, filter}
 use Rattle.std.specs.List.{AllByRecursion}
 use Rattle.fb_geometry.specs.Sound.{IsSound}
 use Rattle.fb_geometry.specs.Places.{places}
@@ -10,7 +10,7 @@ use Rattle.fb_model.specs.Inputs.{Inputs}
 use Rattle.fb_model.specs.Accepted.{IsAccepted}
 use Rattle.fb_model.specs.Content.{content, contents_at, medium_of}
 use Rattle.fb_model.specs.FullRun.{IsFull}
-use Rattle.fb_mirror.specs.Replacement.{contents_after, covered_after, events, held_after, IsWithin, sealed_in}
+use Rattle.fb_mirror.specs.Replacement.{Event, contents_after, covered_after, events, held_after, IsWithin, sealed_in}
 use Rattle.fb_mirror.specs.Script.{rebuild_calls}
 
 -- what a sector of the survivor holds at the end of its run
@@ -29,6 +29,19 @@ RunsLieOnTheDisk = (inputs : Inputs) (run : Run) → IsAccepted inputs → IsFul
 abbrev pub CoveredSectorsAreTheSurvivors : Type 0
 CoveredSectorsAreTheSurvivors = (inputs : Inputs) (run : Run) (lbn : ℕ) (held : Content) → IsSound inputs.disk.map → IsAccepted inputs → IsFull inputs run
     → held_after (events run) lbn ≡ Some held → held ≡ survives inputs run lbn
+
+-- the events that have taken effect by an instant
+abbrev pub events_by : ℕ → Run → List Event
+events_by t run = filter (λ event. nat_le event.instant t) (events run)
+
+-- at that instant no write is under way: each has finished, or its first sector hasn't begun to pass
+abbrev pub IsAtRest : ℕ → Run → Type 0
+IsAtRest t run = AllByRecursion (λ row. row.request.write ≡ true → (row.finish ≤ t) ⊎ (t ≤ row.media)) run.fore
+
+-- so it is at each instant at which no write is under way
+abbrev pub CoveredSectorsAreTheSurvivorsAtRest : Type 0
+CoveredSectorsAreTheSurvivorsAtRest = (inputs : Inputs) (run : Run) (t lbn : ℕ) (held : Content) → IsSound inputs.disk.map → IsAccepted inputs → IsFull inputs run → IsAtRest t run
+    → held_after (events_by t run) lbn ≡ Some held → held ≡ content (medium_of inputs) lbn t
 
 -- all sectors of the disk are covered, and the replacement is the survivor
 pub record IsWhole (inputs : Inputs) (run : Run) : Type 0 where

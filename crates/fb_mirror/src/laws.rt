@@ -10,7 +10,7 @@ ghost use Rattle.fb_rows.specs.declared.back.DeliveryRow.{DeliveryRow};
 ghost use Rattle.fb_rows.specs.declared.fore.ForeRow.{ForeRow};
 ghost use Rattle.fb_model.specs.Content.{number_of};
 ghost use Rattle.fb_mirror.specs.Replacement.{decided, Decides, deliveries_in, Event, given, writes_in};
-ghost use Rattle.fb_mirror.specs.Survivor.{CoveredSectorsAreTheSurvivors, RunsLieOnTheDisk, SealedRebuildsAreWhole};
+ghost use Rattle.fb_mirror.specs.Survivor.{CoveredSectorsAreTheSurvivors, CoveredSectorsAreTheSurvivorsAtRest, RunsLieOnTheDisk, SealedRebuildsAreWhole};
 
 use fb_model::{foreground_lists_ascend, one_plain_replay};
 
@@ -39,7 +39,8 @@ pub fn runs_lie_on_the_disk()
 /// A sector that a write or a delivery of a full run concerned holds in the replacement what it
 /// holds on the survivor at the run's end.
 pub fn covered_sectors_are_the_survivors()
-    ensures { CoveredSectorsAreTheSurvivors }
+    ensures at_end { CoveredSectorsAreTheSurvivors }
+    ensures at_rest { CoveredSectorsAreTheSurvivorsAtRest }
 {
     foreground_lists_ascend();
     one_plain_replay();
