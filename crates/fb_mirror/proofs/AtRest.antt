@@ -126,7 +126,7 @@ found_past disk t latent replay lbn last cut by found =
 
 -- ---- the events that have taken effect by then
 
-abbrev by_then : ℕ → Event → Bool
+abbrev pub by_then : ℕ → Event → Bool
 by_then t event = nat_le event.instant t
 
 given_at : (lbn : ℕ) (event : Event) (last : ℕ × Content) → given lbn event ≡ Some last → event.instant ≡ last.0

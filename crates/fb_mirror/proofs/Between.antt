@@ -78,14 +78,14 @@ any_instant : (instants : List ℕ) → AllByRecursion (λ (x : ℕ). Unit {0}) 
 any_instant [] = tt
 any_instant (x ∷ instants) = (tt, any_instant instants)
 
-kept_by : (t : ℕ) (instants : List ℕ) → AllByRecursion (λ x. x ≤ t) (filter (λ instant. nat_le instant t) instants)
+pub kept_by : (t : ℕ) (instants : List ℕ) → AllByRecursion (λ x. x ≤ t) (filter (λ instant. nat_le instant t) instants)
 kept_by t [] = tt
 kept_by t (x ∷ instants) = elim (cases_Bool (nat_le x t)) [
   | inl by ↦ rw by (is_by x t by, kept_by t instants)
   | inr after ↦ rw after (kept_by t instants)
 ]
 
-greatest_from : (now : ℕ) (instants : List ℕ) → now ≤ fold max now instants
+pub greatest_from : (now : ℕ) (instants : List ℕ) → now ≤ fold max now instants
 greatest_from now [] = omega arith
 greatest_from now (x ∷ instants) = let rest = greatest_from (max now x) instants in omega arith
 
@@ -154,14 +154,14 @@ module _ (disk : Disk) (sound : IsSound disk.map) where
 
 -- ---- deliveries
 
-begins_later : (disk : Disk) (block : Block) (t : ℕ) → t ≤ block_begin disk.map block t
+pub begins_later : (disk : Disk) (block : Block) (t : ℕ) → t ≤ block_begin disk.map block t
 unfolding begin_from
 begins_later disk block t = omega arith
 
-ends_behind : (disk : Disk) (block : Block) (t : ℕ) → block_begin disk.map block t ≤ block_end disk.map block t
+pub ends_behind : (disk : Disk) (block : Block) (t : ℕ) → block_begin disk.map block t ≤ block_end disk.map block t
 ends_behind disk block t = omega arith
 
-ends_in_time : (disk : Disk) (dwell : Dwell) (block : Block) → catches disk dwell block ≡ true → block_end disk.map block dwell.begin ≤ dwell.end
+pub ends_in_time : (disk : Disk) (dwell : Dwell) (block : Block) → catches disk dwell block ≡ true → block_end disk.map block dwell.begin ≤ dwell.end
 ends_in_time disk dwell block is_caught = grind (arith, nat_tests)
 
 -- a delivery from one instant to another, with the bytes of its beginning

@@ -15,4 +15,5 @@ pub mod RebuildPast
 pub mod Rebuilds
 pub mod LaidBlocks
 pub mod OnTheDisk
+pub mod Ordered
 pub mod AtRest

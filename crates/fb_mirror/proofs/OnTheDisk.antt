@@ -22,14 +22,14 @@ use Rattle.fb_model.specs.Inputs.{Inputs, served}
 use Rattle.fb_model.specs.Laws.{ForegroundListsAscend, OnePlainReplay}
 use Rattle.fb_model.specs.PlainReplay.{Served, finish}
 use Rattle.fb_model.specs.SoundRun.{IsDelivered, IsTested}
-use Rattle.fb_model.specs.Steps.{AtEach, Delivery, Part, history, part_rows, past_after, settled_past, steps}
+use Rattle.fb_model.specs.Steps.{AtEach, Delivery, Part, part_rows, past_after, settled_past, steps}
 use Rattle.fb_model.proofs.Due.{HasBytes, IsDueRow, delivery_true}
 use Rattle.fb_model.proofs.Lists.{all_append, all_weaker}
 use Rattle.fb_mirror.specs.Replacement.{IsWithin, deliveries_in, events, writes_in}
 use Rattle.fb_mirror.specs.Survivor.{sectors}
 use Rattle.fb_mirror.proofs.LaidBlocks.{AreLaid, LiesOn, laid_after, laid_first, laid_settled, wanted_lies}
-use Rattle.fb_mirror.proofs.RunRows.{RowFits, RowsFit, all_fit, part_fits, tasks_fit}
-use Rattle.fb_mirror.proofs.Survival.{any_past, due_block, due_bytes}
+use Rattle.fb_mirror.proofs.RunRows.{NoFact, RowsFit, back_fits, gots_fit_part}
+use Rattle.fb_mirror.proofs.Survival.{due_block, due_bytes}
 use Rattle.fb_mirror.proofs.Writing.{AreServed, are_served}
 
 -- ---- writes
@@ -57,7 +57,7 @@ ends_on : (medium : Medium) (end : ℕ) (row : DeliveryRow) → HasBytes medium 
 ends_on medium end row bytes within = subst (AllByRecursion (λ (run : ContentRun). run.first + run.count ≤ end)) (sym bytes.content)
     (ends-runs_of-held (λ lbn. content medium lbn row.begin) row.block.lbn row.block.count end within)
 
-deliveries_within : (end : ℕ) (rows : List BackRow) → RowsFit (EndsOn end) (Unit {0}) rows → AllByRecursion (IsWithin end) (flat_map deliveries_in rows)
+deliveries_within : (end : ℕ) (rows : List BackRow) → RowsFit (EndsOn end) NoFact rows → AllByRecursion (IsWithin end) (flat_map deliveries_in rows)
 deliveries_within end [] fit = tt
 deliveries_within end (Got row ∷ rows) fit = (fit.0, deliveries_within end rows fit.1)
 deliveries_within end (Gap row ∷ rows) fit = deliveries_within end rows fit.1
@@ -70,10 +70,10 @@ deliveries_within end (Task row ∷ rows) fit = deliveries_within end rows fit.1
 
 steps_within : (inputs : Inputs) (medium : Medium) → IsRising (map (λ (call : Call). call.instant) inputs.calls) → (past : Past) (steps : List (Decision × Part)) → AreLaid inputs past
     → AtEach (IsDelivered inputs medium) inputs past steps → AtEach (IsTested inputs medium) inputs past steps
-    → AtEach (λ past step. RowsFit (EndsOn (sectors inputs)) (Unit {0}) (part_rows inputs.disk step)) inputs past steps
+    → AtEach (λ past step. RowsFit (EndsOn (sectors inputs)) NoFact (part_rows inputs.disk step)) inputs past steps
 steps_within inputs medium rising past [] laid some tests = tt
 steps_within inputs medium rising past (step ∷ steps) laid some tests = (
-  part_fits (EndsOn (sectors inputs)) (Unit {0}) (λ past. Unit {0}) (any_past (EndsOn (sectors inputs))) inputs medium past step tt tests.0
+  gots_fit_part (EndsOn (sectors inputs)) inputs medium past step tests.0
       (all_weaker (IsDueRow medium step.0 step.1.plan (LiesOn inputs.disk.map)) (EndsOn (sectors inputs))
       (λ row due_row. ends_on medium (sectors inputs) row (due_bytes medium step.0 step.1.plan (LiesOn inputs.disk.map) row due_row) (due_block medium step.0 step.1.plan (LiesOn inputs.disk.map) row due_row))
       (map (λ (delivery : Delivery). delivery.got) step.1.deliveries)
@@ -88,11 +88,8 @@ unfolding fore_rows
 all_within ascend one inputs run accepted full =
     let end = sectors inputs in
     let medium = medium_of inputs in
-    let rows = subst (RowsFit (EndsOn end) (Unit {0})) (sym full.sound.back)
-    (all_append (RowFits (EndsOn end) (Unit {0})) (flat_map (part_rows inputs.disk) (steps inputs full.parts)) full.sound.tasks
-    (all_fit (EndsOn end) (Unit {0}) inputs [] (steps inputs full.parts)
-    (steps_within inputs medium accepted.instants [] (steps inputs full.parts) (laid_first inputs accepted) full.sound.deliveries full.sound.tested))
-    (subst (RowsFit (EndsOn end) (Unit {0})) (sym full.sound.counted) (tasks_fit (EndsOn end) (Unit {0}) (history inputs (steps inputs full.parts))))) in
+    let rows = back_fits (EndsOn end) NoFact inputs run full.parts full.sound
+    (steps_within inputs medium accepted.instants [] (steps inputs full.parts) (laid_first inputs accepted) full.sound.deliveries full.sound.tested) in
     all_append (IsWithin end) (flat_map writes_in run.fore) (flat_map deliveries_in run.back)
     (subst (λ rows. AllByRecursion (IsWithin end) (flat_map writes_in rows)) (sym full.sound.fore) (writes_within inputs.disk medium 0 (served inputs) (are_served inputs accepted ascend one)))
     (deliveries_within end run.back rows)

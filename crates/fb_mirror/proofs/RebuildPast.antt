@@ -1,5 +1,5 @@
 -- The history of a rebuild: its two calls, and then nothing but deliveries, tests and finished requests.
-use Rattle.std.proofs.Common.{◌≡◌, ◌⊎◌, ℕ, zero, suc, ◌+◌, List, [], ◌∷◌, ◌++◌, length, map, drop, Some, Bool, true, false, refl, ap, sym, subst, ◌∙◌, arith, inl, inr, nat_le}
+use Rattle.std.proofs.Common.{◌≡◌, ◌⊎◌, ◌<◌, ℕ, zero, suc, ◌+◌, List, [], ◌∷◌, ◌++◌, length, map, drop, Some, Bool, true, false, refl, ap, sym, subst, ◌∙◌, arith, inl, inr, nat_le}
 use Rattle.std.specs.Prelude.{filter, slice_get, nat_lt, ◌&&◌, ◌==◌, not, if◌then◌else◌}
 use Rattle.std.specs.List.{AllByRecursion, fold, list_all, range_with_len, slice_index_or}
 use Rattle.std.proofs.lemmas.Bool.{cases_Bool, true≢false, and_parts, eqb-true}
@@ -25,6 +25,7 @@ use Rattle.fb_model.specs.Segments.{choose_in, choose_up_to, numbered, with_choi
 use Rattle.fb_model.specs.Steps.{Delivery, Part, calls_due, calls_taken, past_after, settled_past, take_call, tested_past, with_delivery, with_finish}
 use Rattle.fb_model.proofs.Lists.{all_filter, all_weaker, by_is}
 use Rattle.fb_mirror.specs.Script.{rebuild_calls}
+use Rattle.fb_mirror.proofs.CutCover.{HasSectors, cuts_some}
 
 -- the blocks of the whole disk
 abbrev pub disk_blocks : Shape → List Block
@@ -61,6 +62,16 @@ pub record IsRebuilding (P : DeliveryRow → Type 0) (disk : Shape) (past : Past
 
 pub rebuilding_more : (P : DeliveryRow → Type 0) (disk : Shape) (past : Past) (event : Event) → IsRebuilding P disk past → IsQuiet P event → IsRebuilding P disk (event ∷ past)
 rebuilding_more P disk past event is quiet = record { events = event ∷ is.events; is = ap (λ events. event ∷ events) is.is; quiet = (quiet, is.quiet) }
+
+quiet_weaker : (P Q : DeliveryRow → Type 0) → ((row : DeliveryRow) → P row → Q row) → (event : Event) → IsQuiet P event → IsQuiet Q event
+quiet_weaker P Q more (called call blocks) quiet = absurd quiet
+quiet_weaker P Q more (chose task segment blocks) quiet = absurd quiet
+quiet_weaker P Q more (tested rows) quiet = tt
+quiet_weaker P Q more (delivered row) quiet = more row quiet
+quiet_weaker P Q more (finished request) quiet = tt
+
+pub rebuilding_weaker : (P Q : DeliveryRow → Type 0) (disk : Shape) (past : Past) → ((row : DeliveryRow) → P row → Q row) → IsRebuilding P disk past → IsRebuilding Q disk past
+rebuilding_weaker P Q disk past more is = record { events = is.events; is = is.is; quiet = all_weaker (IsQuiet P) (IsQuiet Q) (quiet_weaker P Q more) is.events is.quiet }
 
 -- ---- its task and its blocks
 
@@ -165,10 +176,21 @@ each_one : (blocks : List Block) → AllByRecursion (IsOneOf blocks) blocks
 each_one [] = tt
 each_one (block ∷ blocks) = ((0, refl), all_weaker (IsOneOf blocks) (IsOneOf (block ∷ blocks)) (λ b there. (suc there.0, there.1)) blocks (each_one blocks))
 
-pub wanted_ones : (P : DeliveryRow → Type 0) (disk : Shape) (past : Past) → IsRebuilding P disk past → AllByRecursion (IsOneOf (disk_blocks disk)) (wanted past)
+pub disk_ones : (disk : Shape) → AllByRecursion (IsOneOf (disk_blocks disk)) (disk_blocks disk)
+disk_ones disk = each_one (disk_blocks disk)
+
+numbered_some : (task weight n : ℕ) (cuts : List Cut) → AllByRecursion HasSectors cuts → AllByRecursion (λ (block : Block). 0 < block.count) (numbered task weight n cuts)
+numbered_some task weight n [] all = tt
+numbered_some task weight n (cut ∷ cuts) all = (all.0, numbered_some task weight (n + 1) cuts all.1)
+
+-- each has a sector
+pub disk_some : (disk : Shape) → AllByRecursion (λ (block : Block). 0 < block.count) (disk_blocks disk)
+disk_some disk = numbered_some 0 1 0 (cutting disk 16 0 (length (places disk))) (cuts_some disk 16 0 (length (places disk)))
+
+-- what the blocks of the disk have, the wanted ones have
+pub wanted_have : (P : DeliveryRow → Type 0) (disk : Shape) (past : Past) (Q : Block → Type 0) → IsRebuilding P disk past → AllByRecursion Q (disk_blocks disk) → AllByRecursion Q (wanted past)
 unfolding wanted
-wanted_ones P disk past is = all_filter (IsOneOf (disk_blocks disk)) (λ block. is_wanted (state past block)) (registered past)
-    (subst (AllByRecursion (IsOneOf (disk_blocks disk))) (sym (blocks_are P disk past is)) (each_one (disk_blocks disk)))
+wanted_have P disk past Q is all = all_filter Q (λ block. is_wanted (state past block)) (registered past) (subst (AllByRecursion Q) (sym (blocks_are P disk past is)) all)
 
 numbered_at : (task weight n : ℕ) (cuts : List Cut) (i : ℕ) (block : Block) → slice_get (numbered task weight n cuts) i ≡ Some block → (block.task ≡ task) × (block.index ≡ n + i)
 numbered_at task weight n [] i block at = absurd (grind arith)

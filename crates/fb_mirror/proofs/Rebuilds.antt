@@ -1,9 +1,10 @@
 -- A rebuild that was sealed has covered every sector of the disk.
-use Rattle.std.proofs.Common.{◌≡◌, ℕ, zero, suc, ◌+◌, ◌<◌, ◌≤◌, List, [], ◌∷◌, length, map, Option, Some, None, Bool, true, false, cond, refl, ap, sym, subst, ◌∙◌, arith, inl, inr}
+use Rattle.std.proofs.Common.{◌≡◌, ℕ, zero, suc, ◌+◌, ◌<◌, ◌≤◌, List, [], ◌∷◌, length, Option, Some, None, Bool, true, false, cond, refl, ap, sym, subst, ◌∙◌, arith, inl, inr}
 use Rattle.std.specs.Prelude.{filter, is_some, nat_lt}
-use Rattle.std.specs.List.{AllByRecursion, flat_map, range_with_len}
+use Rattle.std.specs.List.{AllByRecursion, flat_map, range_with_len, zip}
 use Rattle.std.specs.Option.{option_map, unwrap_or}
 use Rattle.std.proofs.lemmas.Bool.{true≢false}
+use Rattle.std.proofs.lemmas.List.Elements.{filter-append}
 use Rattle.fb_geometry.specs.Sound.{IsSound}
 use Rattle.fb_sectormap.specs.declared.cut.Cut.{Cut}
 use Rattle.fb_sectormap.specs.Cutting.{cutting}
@@ -19,33 +20,43 @@ use Rattle.fb_rows.specs.declared.back.BackRow.{BackRow}
 use Rattle.fb_rows.specs.declared.back.BackRow.TheVariants.{Gap, Idle, Got, Bad, Seal, Segment, Complete, Task}
 use Rattle.fb_rows.specs.declared.back.DeliveryRow.{DeliveryRow}
 use Rattle.fb_rows.specs.declared.run.Run.{Run}
-use Rattle.fb_model.specs.Inputs.{Inputs}
+use Rattle.fb_model.specs.Inputs.{Inputs, served}
 use Rattle.fb_model.specs.Accepted.{IsAccepted}
 use Rattle.fb_model.specs.Content.{Medium, content, contents_at, medium_of}
-use Rattle.fb_model.specs.Decisions.{Decision}
-use Rattle.fb_model.specs.FullRun.{IsFull}
+use Rattle.fb_model.specs.Decisions.{Decision, decisions, decisions_from, end_of, instant_of, instants_of}
+use Rattle.fb_model.specs.FullRun.{IsAllDelivered, IsFull}
 use Rattle.fb_model.specs.History.{Past, delivered, is_open_backup, tested, wanted}
 use Rattle.fb_model.specs.Completion.{is_complete}
+use Rattle.fb_model.specs.Laws.{ForegroundListsAscend, OnePlainReplay}
+use Rattle.fb_model.specs.PlainReplay.{Served, first_track}
 use Rattle.fb_model.specs.Segments.{numbered}
-use Rattle.fb_model.specs.SoundRun.{IsDelivered, IsTested}
-use Rattle.fb_model.specs.Steps.{AtEach, Delivery, Part, history, part_rows, past_after, settled_past, steps}
+use Rattle.fb_model.specs.SoundRun.{IsDelivered, IsPlanned, IsTested}
+use Rattle.fb_model.specs.Steps.{AtEach, Part, part_rows, past_after, settled_past}
 use Rattle.fb_model.proofs.Due.{HasBytes, IsDueRow, delivery_true}
-use Rattle.fb_model.proofs.Lists.{all_append, all_both, all_left, all_weaker, same_map_where}
-use Rattle.fb_mirror.specs.Replacement.{decided, deliveries_in, events, given, held_after, later, sealed_in, writes_in}
+use Rattle.fb_model.proofs.Lists.{all_both, all_weaker, by_is, same_map_where}
+use Rattle.fb_mirror.specs.Replacement.{Event, decided, deliveries_in, events, given, held_after, later, sealed_in, writes_in}
 use Rattle.fb_mirror.specs.Script.{rebuild_calls}
-use Rattle.fb_mirror.specs.Survivor.{CoveredSectorsAreTheSurvivors, IsWhole, sectors, survives}
+use Rattle.fb_mirror.specs.Survivor.{CoveredSectorsAreTheSurvivors, CoveredSectorsAreTheSurvivorsAtRest, IsAtRest, IsWhole, events_by, sectors, survives}
+use Rattle.fb_mirror.proofs.AtRest.{by_then}
+use Rattle.fb_mirror.proofs.Between.{IsPlaced, decisions_placed, due_between, quiet_until}
 use Rattle.fb_mirror.proofs.Covering.{range_long}
 use Rattle.fb_mirror.proofs.CutCover.{HoldsIn, cuts_hold}
-use Rattle.fb_mirror.proofs.EventLaws.{none_some}
-use Rattle.fb_mirror.proofs.RebuildPast.{IsOneOf, IsRebuilding, IsUnderWay, after_rebuilds, complete_delivered, disk_blocks, rebuilding_more, settled_rebuilds, wanted_ones}
-use Rattle.fb_mirror.proofs.RunRows.{IsKept, RowFits, RowsFit, all_fit, gots_fit, part_fits, rows_weaker, tasks_fit}
-use Rattle.fb_mirror.proofs.Survival.{AnyBlock, any_blocks, any_past, decided-append, due_block, due_bytes}
+use Rattle.fb_mirror.proofs.EventLaws.{none_some, same_one}
+use Rattle.fb_mirror.proofs.Ordered.{AreInTurn, HasSector, NoEarlier, decisions_in_turn, due_ascends}
+use Rattle.fb_mirror.proofs.RebuildPast.{IsOneOf, IsRebuilding, IsUnderWay, after_rebuilds, complete_delivered, disk_blocks, disk_ones, disk_some, rebuilding_more, rebuilding_weaker, settled_rebuilds, wanted_have}
+use Rattle.fb_mirror.proofs.RunRows.{AreLinked, IsKept, NoFact, RowsFit, back_fits, gots, gots_of_back, part_fits, rows_weaker}
+use Rattle.fb_mirror.proofs.Survival.{IsFoundIn, back_found, decided-append, due_block, event_of}
+use Rattle.fb_mirror.proofs.Writing.{are_served, medium_with}
 
 -- ---- what deliveries cover
 
--- a delivery covers its sectors among these rows
-abbrev CoversIn : List BackRow → DeliveryRow → Type 0
-CoversIn rows row = (lbn : ℕ) → is_within row.block.lbn row.block.count lbn ≡ true → is_some (decided lbn (flat_map deliveries_in rows)) ≡ true
+-- of the events of these rows those that a test keeps
+abbrev kept_in : (Event → Bool) → List BackRow → List Event
+kept_in keep rows = filter keep (flat_map deliveries_in rows)
+
+-- a delivery that is kept covers its sectors
+abbrev CoversIn : (Event → Bool) → List BackRow → DeliveryRow → Type 0
+CoversIn keep rows row = keep (event_of row) ≡ true → (lbn : ℕ) → is_within row.block.lbn row.block.count lbn ≡ true → is_some (decided lbn (kept_in keep rows)) ≡ true
 
 some_first : (a : ℕ × Content) (b : Option (ℕ × Content)) → is_some (later (Some a) b) ≡ true
 some_first a None = refl
@@ -64,158 +75,218 @@ some_behind (Some a) (Some b) h = some_first a (Some b)
 abbrev HasItsBytes : DeliveryRow → Type 0
 HasItsBytes row = (medium : Medium) × HasBytes medium row
 
-row_covers : (row : DeliveryRow) (rows : List BackRow) → HasItsBytes row → CoversIn (Got row ∷ rows) row
-row_covers row rows has lbn within =
+row_covers : (keep : Event → Bool) (row : DeliveryRow) (rows : List BackRow) → HasItsBytes row → CoversIn keep (Got row ∷ rows) row
+row_covers keep row rows has is_kept lbn within =
     let medium = has.0 in
     let held = λ (l : ℕ). content medium l row.begin in
     let value = taken_block held row.block.lbn row.block.count lbn (sectors_of row.content) None
     (ap sectors_of has.1.content ∙ sectors_of-runs_of (contents_at medium row.block.lbn row.block.count row.begin)) in
-    ap (λ o. is_some (later (option_map (λ c. (row.end, c)) o) (decided lbn (flat_map deliveries_in rows)))) (value ∙ ap (λ b. cond b (Some (held lbn)) None) within)
-    ∙ some_first (row.end, held lbn) (decided lbn (flat_map deliveries_in rows))
+    let behind = kept_in keep rows in
+    ap (λ b. is_some (decided lbn (cond b (event_of row ∷ behind) behind))) is_kept
+    ∙ ap (λ o. is_some (later (option_map (λ c. (row.end, c)) o) (decided lbn behind))) (value ∙ ap (λ b. cond b (Some (held lbn)) None) within)
+    ∙ some_first (row.end, held lbn) (decided lbn behind)
 
-all_cover : (rows : List BackRow) → RowsFit HasItsBytes (Unit {0}) rows → RowsFit (CoversIn rows) (Unit {0}) rows
-all_cover [] fit = tt
-all_cover (Got row ∷ rows) fit = (
-  row_covers row rows fit.0,
-  rows_weaker (CoversIn rows) (CoversIn (Got row ∷ rows)) (Unit {0}) (λ other covers lbn within. some_behind (given lbn (record { instant = row.end; contents = row.content })) (decided lbn (flat_map deliveries_in rows)) (covers lbn within))
-      rows (all_cover rows fit.1),
+still_covered : (lbn : ℕ) (event : Event) (events : List Event) (is_kept : Bool) → is_some (decided lbn events) ≡ true → is_some (decided lbn (cond is_kept (event ∷ events) events)) ≡ true
+still_covered lbn event events true covered = some_behind (given lbn event) (decided lbn events) covered
+still_covered lbn event events false covered = covered
+
+all_cover : (keep : Event → Bool) (rows : List BackRow) → RowsFit HasItsBytes NoFact rows → RowsFit (CoversIn keep rows) NoFact rows
+all_cover keep [] fit = tt
+all_cover keep (Got row ∷ rows) fit = (
+  row_covers keep row rows fit.0,
+  rows_weaker (CoversIn keep rows) (CoversIn keep (Got row ∷ rows)) NoFact (λ other covers is_kept lbn within. still_covered lbn (event_of row) (kept_in keep rows) (keep (event_of row)) (covers is_kept lbn within))
+      rows (all_cover keep rows fit.1),
 )
-all_cover (Gap row ∷ rows) fit = (tt, all_cover rows fit.1)
-all_cover (Idle row ∷ rows) fit = (tt, all_cover rows fit.1)
-all_cover (Bad row ∷ rows) fit = (tt, all_cover rows fit.1)
-all_cover (Seal row ∷ rows) fit = (tt, all_cover rows fit.1)
-all_cover (Segment row ∷ rows) fit = (tt, all_cover rows fit.1)
-all_cover (Complete row ∷ rows) fit = (tt, all_cover rows fit.1)
-all_cover (Task row ∷ rows) fit = (tt, all_cover rows fit.1)
+all_cover keep (Gap row ∷ rows) fit = (tt, all_cover keep rows fit.1)
+all_cover keep (Idle row ∷ rows) fit = (tt, all_cover keep rows fit.1)
+all_cover keep (Bad row ∷ rows) fit = (tt, all_cover keep rows fit.1)
+all_cover keep (Seal row ∷ rows) fit = (tt, all_cover keep rows fit.1)
+all_cover keep (Segment row ∷ rows) fit = (tt, all_cover keep rows fit.1)
+all_cover keep (Complete row ∷ rows) fit = (tt, all_cover keep rows fit.1)
+all_cover keep (Task row ∷ rows) fit = (tt, all_cover keep rows fit.1)
 
 -- where there is a seal there is the fact that comes with it
-sealed_fact : (P : DeliveryRow → Type 0) (C : Type 0) (rows : List BackRow) (instant : ℕ) → RowsFit P C rows → sealed_in rows ≡ Some instant → C
-sealed_fact P C [] instant fit is = absurd (none_some instant is)
-sealed_fact P C (Seal row ∷ rows) instant fit is = fit.0
-sealed_fact P C (Gap row ∷ rows) instant fit is = sealed_fact P C rows instant fit.1 is
-sealed_fact P C (Idle row ∷ rows) instant fit is = sealed_fact P C rows instant fit.1 is
-sealed_fact P C (Got row ∷ rows) instant fit is = sealed_fact P C rows instant fit.1 is
-sealed_fact P C (Bad row ∷ rows) instant fit is = sealed_fact P C rows instant fit.1 is
-sealed_fact P C (Segment row ∷ rows) instant fit is = sealed_fact P C rows instant fit.1 is
-sealed_fact P C (Complete row ∷ rows) instant fit is = sealed_fact P C rows instant fit.1 is
-sealed_fact P C (Task row ∷ rows) instant fit is = sealed_fact P C rows instant fit.1 is
+sealed_fact : (P : DeliveryRow → Type 0) (C : ℕ → Type 0) (rows : List BackRow) (sealed : ℕ) → RowsFit P C rows → sealed_in rows ≡ Some sealed → C sealed
+sealed_fact P C [] sealed fit is = absurd (none_some sealed is)
+sealed_fact P C (Seal row ∷ rows) sealed fit is = subst C (same_one row.instant sealed is) fit.0
+sealed_fact P C (Gap row ∷ rows) sealed fit is = sealed_fact P C rows sealed fit.1 is
+sealed_fact P C (Idle row ∷ rows) sealed fit is = sealed_fact P C rows sealed fit.1 is
+sealed_fact P C (Got row ∷ rows) sealed fit is = sealed_fact P C rows sealed fit.1 is
+sealed_fact P C (Bad row ∷ rows) sealed fit is = sealed_fact P C rows sealed fit.1 is
+sealed_fact P C (Segment row ∷ rows) sealed fit is = sealed_fact P C rows sealed fit.1 is
+sealed_fact P C (Complete row ∷ rows) sealed fit is = sealed_fact P C rows sealed fit.1 is
+sealed_fact P C (Task row ∷ rows) sealed fit is = sealed_fact P C rows sealed fit.1 is
 
 -- ---- decision by decision
 
-abbrev gots : Part → List DeliveryRow
-gots part = map (λ (delivery : Delivery). delivery.got) part.deliveries
+-- the deliveries that a test keeps, among them all up to an instant
+module _ (inputs : Inputs) (replay : List Served) (rows : List BackRow) (calls : inputs.calls ≡ rebuild_calls inputs.disk.map)
+    (keep : Event → Bool) (limit : ℕ) (keeps : (row : DeliveryRow) → row.end ≤ limit → keep (event_of row) ≡ true) where
+  abbrev survivor : Medium
+  survivor = medium_with inputs.disk inputs.latent replay
 
--- any decision's deliveries have bytes
-bytes_each : (inputs : Inputs) (medium : Medium) (past : Past) (steps : List (Decision × Part)) → AtEach (IsDelivered inputs medium) inputs past steps
-    → AtEach (IsTested inputs medium) inputs past steps → AtEach (λ past step. RowsFit HasItsBytes (Unit {0}) (part_rows inputs.disk step)) inputs past steps
-bytes_each inputs medium past [] some is = tt
-bytes_each inputs medium past (step ∷ steps) some is = (
-  part_fits HasItsBytes (Unit {0}) (λ past. Unit {0}) (any_past HasItsBytes) inputs medium past step tt is.0
-      (all_weaker (IsDueRow medium step.0 step.1.plan AnyBlock) HasItsBytes (λ row due_row. (medium, due_bytes medium step.0 step.1.plan AnyBlock row due_row)) (gots step.1)
-      (delivery_true inputs medium past step AnyBlock some.0 (any_blocks (wanted (settled_past inputs past step.0))))),
-  bytes_each inputs medium (past_after inputs past step) steps some.1 is.1,
-)
-
-module _ (inputs : Inputs) (medium : Medium) (rows : List BackRow) (calls : inputs.calls ≡ rebuild_calls inputs.disk.map) where
   -- a delivery of one of the disk's blocks, which covers it
   abbrev IsCopied : DeliveryRow → Type 0
-  IsCopied row = IsOneOf (disk_blocks inputs.disk.map) row.block × CoversIn rows row
+  IsCopied row = IsOneOf (disk_blocks inputs.disk.map) row.block × CoversIn keep rows row
+
+  -- by then
+  abbrev IsCopiedBy : ℕ → DeliveryRow → Type 0
+  IsCopiedBy now row = IsOneOf (disk_blocks inputs.disk.map) row.block × CoversIn keep rows row × (row.end ≤ now)
+
+  copied_later : (now next : ℕ) → now ≤ next → (row : DeliveryRow) → IsCopiedBy now row → IsCopiedBy next row
+  copied_later now next order row copied = (copied.0, copied.1, omega (arith, copied.2, order))
 
   abbrev IsCovered : ℕ → Type 0
-  IsCovered lbn = is_some (decided lbn (flat_map deliveries_in rows)) ≡ true
+  IsCovered lbn = is_some (decided lbn (kept_in keep rows)) ≡ true
 
-  abbrev AreAllCovered : Type 0
-  AreAllCovered = (lbn : ℕ) → lbn < sectors inputs → IsCovered lbn
+  -- a seal by the limit comes with the fact that all sectors are covered
+  abbrev AreAllCovered : ℕ → Type 0
+  AreAllCovered sealed = sealed ≤ limit → (lbn : ℕ) → lbn < sectors inputs → IsCovered lbn
 
   cuts_of : (task weight n : ℕ) (cuts : List Cut) → AllByRecursion (λ (block : Block). (lbn : ℕ) → is_within block.lbn block.count lbn ≡ true → IsCovered lbn) (numbered task weight n cuts) → AllByRecursion (HoldsIn IsCovered) cuts
   cuts_of task weight n [] all = tt
   cuts_of task weight n (cut ∷ cuts) all = (λ lbn from to. all.0 lbn (inside cut.lbn cut.count lbn from to), cuts_of task weight (n + 1) cuts all.1)
 
-  sealed_covers : (past : Past) (task : ℕ) → IsRebuilding IsCopied inputs.disk.map past → is_open_backup past task ≡ true → is_complete past task ≡ true → AreAllCovered
-  sealed_covers past task is unsealed done lbn less =
+  abbrev IsRebuiltBy : ℕ → Past → Type 0
+  IsRebuiltBy now past = IsRebuilding (IsCopiedBy now) inputs.disk.map past
+
+  sealed_covers : (now : ℕ) (past : Past) (task : ℕ) → IsRebuiltBy now past → is_open_backup past task ≡ true → is_complete past task ≡ true → AreAllCovered now
+  sealed_covers now past task is unsealed done early lbn less =
       cuts_hold IsCovered inputs.disk.map 16 0 (sectors inputs)
       (cuts_of 0 1 0 (cutting inputs.disk.map 16 0 (sectors inputs))
-      (all_weaker (λ (block : Block). (row : DeliveryRow) × IsCopied row × (row.block ≡ block)) (λ (block : Block). (lbn : ℕ) → is_within block.lbn block.count lbn ≡ true → IsCovered lbn)
-      (λ block copied lbn within. copied.1.1 lbn (ap (λ (b : Block). is_within b.lbn b.count lbn) copied.2 ∙ within)) (disk_blocks inputs.disk.map)
-      (complete_delivered IsCopied inputs.disk.map past task (λ row copied. copied.0) is unsealed done)))
+      (all_weaker (λ (block : Block). (row : DeliveryRow) × IsCopiedBy now row × (row.block ≡ block)) (λ (block : Block). (lbn : ℕ) → is_within block.lbn block.count lbn ≡ true → IsCovered lbn)
+      (λ block copied lbn within.
+      copied.1.1 (keeps copied.0 (let over = copied.1.2 in omega arith)) lbn (ap (λ (b : Block). is_within b.lbn b.count lbn) copied.2 ∙ within)) (disk_blocks inputs.disk.map)
+      (complete_delivered (IsCopiedBy now) inputs.disk.map past task (λ row copied. copied.0) is unsealed done)))
       lbn (omega arith) (omega arith)
 
-  rebuild_kept : IsKept IsCopied AreAllCovered (IsRebuilding IsCopied inputs.disk.map)
+  rebuild_kept : IsKept IsCopied AreAllCovered IsRebuiltBy NoEarlier
   rebuild_kept = record {
     seals = sealed_covers;
-    delivers = λ past row is copied. rebuilding_more IsCopied inputs.disk.map past (delivered row) is copied;
-    tests = λ past rows is. rebuilding_more IsCopied inputs.disk.map past (tested rows) is tt;
+    delivers = λ now past row is copied order. rebuilding_more (IsCopiedBy row.end) inputs.disk.map past (delivered row)
+        (rebuilding_weaker (IsCopiedBy now) (IsCopiedBy row.end) inputs.disk.map past (copied_later now row.end order) is) (copied.0, copied.1, omega arith);
+    tests = λ now past rows is. rebuilding_more (IsCopiedBy now) inputs.disk.map past (tested rows) is tt;
   }
 
-  got_copied : (past : Past) (step : Decision × Part) → IsUnderWay IsCopied inputs calls past → IsDelivered inputs medium past step → AllByRecursion (CoversIn rows) (gots step.1) → AllByRecursion IsCopied (gots step.1)
-  got_copied past step is some cover =
-      let settled = settled_rebuilds IsCopied inputs calls past step.0 is in
-      let due = delivery_true inputs medium past step (IsOneOf (disk_blocks inputs.disk.map)) some (wanted_ones IsCopied inputs.disk.map (settled_past inputs past step.0) settled) in
-      all_both (λ row. IsOneOf (disk_blocks inputs.disk.map) row.block) (CoversIn rows) (gots step.1)
-      (all_weaker (IsDueRow medium step.0 step.1.plan (IsOneOf (disk_blocks inputs.disk.map))) (λ row. IsOneOf (disk_blocks inputs.disk.map) row.block)
-      (λ row due_row. due_block medium step.0 step.1.plan (IsOneOf (disk_blocks inputs.disk.map)) row due_row) (gots step.1) due)
-      cover
+  -- nothing has happened, or the blocks that were delivered were copied by then
+  abbrev HasComeTo : ℕ → Past → Type 0
+  HasComeTo now past = IsUnderWay (IsCopiedBy now) inputs calls past
 
-  steps_copied : (past : Past) (steps : List (Decision × Part)) → IsUnderWay IsCopied inputs calls past → AtEach (IsDelivered inputs medium) inputs past steps → AtEach (IsTested inputs medium) inputs past steps
-      → AtEach (λ past step. AllByRecursion (CoversIn rows) (gots step.1)) inputs past steps → AtEach (λ past step. RowsFit IsCopied AreAllCovered (part_rows inputs.disk step)) inputs past steps
-  steps_copied past [] is some tests cover = tt
-  steps_copied past (step ∷ steps) is some tests cover =
-      let copied = got_copied past step is some.0 cover.0 in (
-        part_fits IsCopied AreAllCovered (IsRebuilding IsCopied inputs.disk.map) rebuild_kept inputs medium past step (settled_rebuilds IsCopied inputs calls past step.0 is) tests.0 copied,
-        steps_copied (past_after inputs past step) steps (inr (after_rebuilds IsCopied inputs calls past step is copied)) some.1 tests.1 cover.1,
+  come_later : (now next : ℕ) (past : Past) → now ≤ next → HasComeTo now past → HasComeTo next past
+  come_later now next past order (inl none) = inl none
+  come_later now next past order (inr is) = inr (rebuilding_weaker (IsCopiedBy now) (IsCopiedBy next) inputs.disk.map past (copied_later now next order) is)
+
+  module _ (past : Past) (step : Decision × Part) (come : HasComeTo (instant_of step.0) past) (placed : IsPlaced inputs.disk 0 replay step.0) (planned : IsPlanned inputs survivor past step)
+      (some : IsDelivered inputs survivor past step) where
+    settled_then : IsRebuiltBy (instant_of step.0) (settled_past inputs past step.0)
+    settled_then = settled_rebuilds (IsCopiedBy (instant_of step.0)) inputs calls past step.0 come
+
+    wanted_some : AllByRecursion HasSector (wanted (settled_past inputs past step.0))
+    wanted_some = wanted_have (IsCopiedBy (instant_of step.0)) inputs.disk.map (settled_past inputs past step.0) HasSector settled_then (disk_some inputs.disk.map)
+
+    got_copied : AllByRecursion (CoversIn keep rows) (gots step.1) → AllByRecursion IsCopied (gots step.1)
+    got_copied cover =
+        let One = IsOneOf (disk_blocks inputs.disk.map) in
+        let due = delivery_true inputs survivor past step One some (wanted_have (IsCopiedBy (instant_of step.0)) inputs.disk.map (settled_past inputs past step.0) One settled_then (disk_ones inputs.disk.map)) in
+        all_both (λ row. One row.block) (CoversIn keep rows) (gots step.1)
+        (all_weaker (IsDueRow survivor step.0 step.1.plan One) (λ row. One row.block) (λ row due_row. due_block survivor step.0 step.1.plan One row due_row) (gots step.1) due) cover
+
+    got_by : (bound : ℕ) → quiet_until step.0 ≤ bound → AllByRecursion (λ (row : DeliveryRow). row.end ≤ bound) (gots step.1)
+    got_by bound order = all_weaker (IsDueRow survivor step.0 step.1.plan HasSector) (λ (row : DeliveryRow). row.end ≤ bound)
+        (λ row due_row. let over = (due_between survivor step.0 step.1.plan HasSector placed.of_disk planned row (due_block survivor step.0 step.1.plan HasSector row due_row) due_row).ends_by in omega arith)
+        (gots step.1) (delivery_true inputs survivor past step HasSector some wanted_some)
+
+    got_linked : IsAllDelivered inputs survivor past step → AreLinked NoEarlier (instant_of step.0) (gots step.1)
+    got_linked all = subst (AreLinked NoEarlier (instant_of step.0)) (sym all) (due_ascends survivor step.0 step.1.plan (wanted (settled_past inputs past step.0)) placed.of_disk planned wanted_some)
+
+  abbrev Copies : Past → List (Decision × Part) → Type 0
+  Copies past steps = AtEach (λ past step. RowsFit IsCopied AreAllCovered (part_rows inputs.disk step)) inputs past steps
+
+  steps_copied : (now : ℕ) (past : Past) (ds : List Decision) (parts : List Part) → HasComeTo now past → AreInTurn now ds → AllByRecursion (IsPlaced inputs.disk 0 replay) ds → AtEach (IsPlanned inputs survivor) inputs past (zip ds parts)
+      → AtEach (IsDelivered inputs survivor) inputs past (zip ds parts) → AtEach (IsAllDelivered inputs survivor) inputs past (zip ds parts) → AtEach (IsTested inputs survivor) inputs past (zip ds parts)
+      → AtEach (λ past step. AllByRecursion (CoversIn keep rows) (gots step.1)) inputs past (zip ds parts) → Copies past (zip ds parts)
+  steps_copied now past [] parts come turns placed planned some all tests cover = tt
+  steps_copied now past (d ∷ ds) [] come turns placed planned some all tests cover = tt
+  steps_copied now past (d ∷ ds) (part ∷ parts) come turns placed planned some all tests cover =
+      let step : Decision × Part = (d, part) in
+      let here = come_later now (instant_of d) past turns.0 come in
+      let copied = got_copied past step here placed.0 planned.0 some.0 cover.0 in
+      let over = got_by past step here placed.0 planned.0 some.0 (end_of d) turns.2 in
+      let after = come_later (instant_of d) (end_of d) past (omega (arith, turns.1, turns.2)) here in
+      let copied_by = all_weaker (λ row. IsCopied row × (row.end ≤ end_of d)) (IsCopiedBy (end_of d)) (λ row both. (both.0.0, both.0.1, both.1)) (gots part)
+      (all_both IsCopied (λ (row : DeliveryRow). row.end ≤ end_of d) (gots part) copied over) in (
+        part_fits IsCopied AreAllCovered IsRebuiltBy NoEarlier rebuild_kept inputs survivor past step (settled_then past step here placed.0 planned.0 some.0) tests.0 copied (got_linked past step here placed.0 planned.0 some.0 all.0),
+        steps_copied (end_of d) (past_after inputs past step) ds parts (inr (after_rebuilds (IsCopiedBy (end_of d)) inputs calls past step after copied_by)) turns.3 placed.1 planned.1 some.1 all.1 tests.1 cover.1,
       )
 
 -- ---- the law
 
--- every sector of the disk was delivered
-all_covered : (inputs : Inputs) (run : Run) (instant : ℕ) → IsFull inputs run → inputs.calls ≡ rebuild_calls inputs.disk.map → sealed_in run.back ≡ Some instant
-    → (lbn : ℕ) → lbn < sectors inputs → is_some (decided lbn (flat_map deliveries_in run.back)) ≡ true
-all_covered inputs run instant full calls sealed =
-    let medium = medium_of inputs in
-    let decided_steps = steps inputs full.parts in
-    let parts = flat_map (part_rows inputs.disk) decided_steps in
-    let tasks = λ (P : DeliveryRow → Type 0) (C : Type 0). subst (RowsFit P C) (sym full.sound.counted) (tasks_fit P C (history inputs decided_steps)) in
-    let bytes = subst (RowsFit HasItsBytes (Unit {0})) (sym full.sound.back)
-    (all_append (RowFits HasItsBytes (Unit {0})) parts full.sound.tasks
-    (all_fit HasItsBytes (Unit {0}) inputs [] decided_steps (bytes_each inputs medium [] decided_steps full.sound.deliveries full.sound.tested)) (tasks HasItsBytes (Unit {0}))) in
-    let covers = all_left (RowFits (CoversIn run.back) (Unit {0})) parts full.sound.tasks (subst (RowsFit (CoversIn run.back) (Unit {0})) full.sound.back (all_cover run.back bytes)) in
-    let P = IsCopied inputs medium run.back calls in
-    let C = AreAllCovered inputs medium run.back calls in
-    let fits = subst (RowsFit P C) (sym full.sound.back)
-    (all_append (RowFits P C) parts full.sound.tasks
-    (all_fit P C inputs [] decided_steps
-    (steps_copied inputs medium run.back calls [] decided_steps (inl refl) full.sound.deliveries full.sound.tested (gots_fit (CoversIn run.back) (Unit {0}) inputs [] decided_steps covers)))
-    (tasks P C)) in
-    sealed_fact P C run.back instant fits sealed
+module _ (ascend : ForegroundListsAscend) (one : OnePlainReplay) (inputs : Inputs) (run : Run) (sealed : ℕ) (sound : IsSound inputs.disk.map) (accepted : IsAccepted inputs) (full : IsFull inputs run)
+    (calls : inputs.calls ≡ rebuild_calls inputs.disk.map) (is : sealed_in run.back ≡ Some sealed) where
+  -- every sector of the disk was delivered
+  all_covered : (keep : Event → Bool) (limit : ℕ) → ((row : DeliveryRow) → row.end ≤ limit → keep (event_of row) ≡ true) → sealed ≤ limit → (lbn : ℕ) → lbn < sectors inputs
+      → is_some (decided lbn (filter keep (flat_map deliveries_in run.back))) ≡ true
+  unfolding decisions medium_of
+  all_covered keep limit keeps early =
+      let are = are_served inputs accepted ascend one in
+      let replay = served inputs in
+      let ds = decisions_from inputs.disk (instants_of inputs) inputs.until first_track 0 replay in
+      let bytes = rows_weaker (IsFoundIn inputs) HasItsBytes NoFact (λ row found. (medium_with inputs.disk inputs.latent replay, found.bytes)) run.back (back_found inputs run sound are full) in
+      let covers = gots_of_back (CoversIn keep run.back) NoFact inputs run full.parts full.sound (all_cover keep run.back bytes) in
+      let fits = back_fits (IsCopied inputs replay run.back calls keep limit keeps) (AreAllCovered inputs replay run.back calls keep limit keeps) inputs run full.parts full.sound
+      (steps_copied inputs replay run.back calls keep limit keeps 0 [] ds full.parts (inl refl) (decisions_in_turn inputs.disk (instants_of inputs) inputs.until first_track 0 replay are)
+      (decisions_placed inputs.disk sound (instants_of inputs) inputs.until first_track 0 replay are) full.sound.planned full.sound.deliveries full.all full.sound.tested covers) in
+      sealed_fact (IsCopied inputs replay run.back calls keep limit keeps) (AreAllCovered inputs replay run.back calls keep limit keeps) run.back sealed fits is early
 
 some_held : (o : Option (ℕ × Content)) → is_some o ≡ true → (held : Content) × (option_map (λ last. last.1) o ≡ Some held)
 some_held None h = absurd (true≢false (sym h))
 some_held (Some last) h = (last.1, refl)
 
+-- where a delivery that is kept covers a sector, it holds something after the events that are kept
+kept_held : (keep : Event → Bool) (run : Run) (lbn : ℕ) → is_some (decided lbn (filter keep (flat_map deliveries_in run.back))) ≡ true → (held : Content) × (held_after (filter keep (events run)) lbn ≡ Some held)
+kept_held keep run lbn got =
+    let writes = filter keep (flat_map writes_in run.fore) in
+    let gots = filter keep (flat_map deliveries_in run.back) in
+    let split = filter-append keep (flat_map writes_in run.fore) (flat_map deliveries_in run.back) in
+    some_held (decided lbn (filter keep (events run)))
+    (ap (λ es. is_some (decided lbn es)) split ∙ ap is_some (decided-append lbn writes gots) ∙ some_behind (decided lbn writes) (decided lbn gots) got)
+
 range_all : (Q : ℕ → Type 0) (first n : ℕ) → ((x : ℕ) → first ≤ x → x < first + n → Q x) → AllByRecursion Q (range_with_len first n)
 range_all Q first zero each = tt
 range_all Q first (suc n) each = (each first (omega arith) (omega arith), range_all Q (first + 1) n (λ x from to. each x (omega arith) (omega arith)))
 
-all_kept : (p : ℕ → Bool) (xs : List ℕ) → AllByRecursion (λ x. p x ≡ true) xs → filter p xs ≡ xs
+all_kept : {X : Type 0} (p : X → Bool) (xs : List X) → AllByRecursion (λ x. p x ≡ true) xs → filter p xs ≡ xs
 all_kept p [] all = refl
 all_kept p (x ∷ xs) all = ap (λ b. cond b (x ∷ filter p xs) (filter p xs)) all.0 ∙ ap (λ ys. x ∷ ys) (all_kept p xs all.1)
 
-pub sealed_whole : CoveredSectorsAreTheSurvivors → (inputs : Inputs) (run : Run) (instant : ℕ) → IsSound inputs.disk.map → IsAccepted inputs → IsFull inputs run → inputs.calls ≡ rebuild_calls inputs.disk.map
-    → sealed_in run.back ≡ Some instant → IsWhole inputs run
-sealed_whole covered_survive inputs run instant sound accepted full calls sealed =
-    let count = sectors inputs in
-    let all = range_all (λ lbn. held_after (events run) lbn ≡ Some (survives inputs run lbn)) 0 count (λ lbn from to. each lbn (omega arith)) in
-    record {
-      each = each;
-      covered = ap length (all_kept (λ lbn. is_some (held_after (events run) lbn)) (range_with_len 0 count)
-          (all_weaker (λ lbn. held_after (events run) lbn ≡ Some (survives inputs run lbn)) (λ lbn. is_some (held_after (events run) lbn) ≡ true) (λ lbn is. ap is_some is) (range_with_len 0 count) all)) ∙ range_long 0 count;
-      content = ap runs_of (same_map_where (λ lbn. held_after (events run) lbn ≡ Some (survives inputs run lbn)) (λ lbn. (lbn, unwrap_or (held_after (events run) lbn) Unreadable)) (λ lbn. (lbn, survives inputs run lbn))
-          (λ lbn is. ap (λ o. (lbn, unwrap_or o Unreadable)) is) (range_with_len 0 count) all);
-    }
-  where
-    each : (lbn : ℕ) → lbn < sectors inputs → held_after (events run) lbn ≡ Some (survives inputs run lbn)
-    each lbn less =
-        let got = all_covered inputs run instant full calls sealed lbn less in
-        let any = ap is_some (decided-append lbn (flat_map writes_in run.fore) (flat_map deliveries_in run.back)) ∙ some_behind (decided lbn (flat_map writes_in run.fore)) (decided lbn (flat_map deliveries_in run.back)) got in
-        let held = some_held (decided lbn (events run)) any in
-        held.1 ∙ ap Some (covered_survive inputs run lbn held.0 sound accepted full held.1)
+any_event : (es : List Event) → AllByRecursion (λ event. ◌≡◌ {A = Bool} true true) es
+any_event [] = tt
+any_event (e ∷ es) = (refl, any_event es)
+
+module _ (ascend : ForegroundListsAscend) (one : OnePlainReplay) where
+  pub sealed_stays : CoveredSectorsAreTheSurvivorsAtRest → (inputs : Inputs) (run : Run) (sealed t : ℕ) → IsSound inputs.disk.map → IsAccepted inputs → IsFull inputs run → inputs.calls ≡ rebuild_calls inputs.disk.map
+      → sealed_in run.back ≡ Some sealed → sealed ≤ t → IsAtRest t run → (lbn : ℕ) → lbn < sectors inputs → held_after (events_by t run) lbn ≡ Some (content (medium_of inputs) lbn t)
+  sealed_stays survive inputs run sealed t sound accepted full calls is early rests lbn less =
+      let got = all_covered ascend one inputs run sealed sound accepted full calls is (by_then t) t (λ row by. by_is row.end t by) early lbn less in
+      let held = kept_held (by_then t) run lbn got in
+      held.1 ∙ ap Some (survive inputs run t lbn held.0 sound accepted full rests held.1)
+
+  pub sealed_whole : CoveredSectorsAreTheSurvivors → (inputs : Inputs) (run : Run) (sealed : ℕ) → IsSound inputs.disk.map → IsAccepted inputs → IsFull inputs run → inputs.calls ≡ rebuild_calls inputs.disk.map
+      → sealed_in run.back ≡ Some sealed → IsWhole inputs run
+  sealed_whole survive inputs run sealed sound accepted full calls is =
+      let count = sectors inputs in
+      let all = range_all (λ lbn. held_after (events run) lbn ≡ Some (survives inputs run lbn)) 0 count (λ lbn from to. each lbn (omega arith)) in
+      record {
+        each = each;
+        covered = ap length (all_kept (λ lbn. is_some (held_after (events run) lbn)) (range_with_len 0 count)
+            (all_weaker (λ lbn. held_after (events run) lbn ≡ Some (survives inputs run lbn)) (λ lbn. is_some (held_after (events run) lbn) ≡ true) (λ lbn is. ap is_some is) (range_with_len 0 count) all)) ∙ range_long 0 count;
+        content = ap runs_of (same_map_where (λ lbn. held_after (events run) lbn ≡ Some (survives inputs run lbn)) (λ lbn. (lbn, unwrap_or (held_after (events run) lbn) Unreadable)) (λ lbn. (lbn, survives inputs run lbn))
+            (λ lbn is. ap (λ o. (lbn, unwrap_or o Unreadable)) is) (range_with_len 0 count) all);
+      }
+    where
+      each : (lbn : ℕ) → lbn < sectors inputs → held_after (events run) lbn ≡ Some (survives inputs run lbn)
+      each lbn less =
+          let got = all_covered ascend one inputs run sealed sound accepted full calls is (λ event. true) sealed (λ row by. refl) (omega arith) lbn less in
+          let held = kept_held (λ event. true) run lbn got in
+          let holds = sym (ap (λ es. held_after es lbn) (all_kept (λ event. true) (events run) (any_event (events run)))) ∙ held.1 in
+          holds ∙ ap Some (survive inputs run lbn held.0 sound accepted full holds)

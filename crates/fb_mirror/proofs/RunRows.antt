@@ -8,6 +8,7 @@ use Rattle.fb_rows.specs.declared.gap.Plan.{Plan}
 use Rattle.fb_rows.specs.declared.back.BackRow.{BackRow}
 use Rattle.fb_rows.specs.declared.back.BackRow.TheVariants.{Gap as GapLine, Idle as IdleLine, Got as GotLine, Bad as BadLine, Seal as SealLine, Segment as SegmentLine, Complete as CompleteLine, Task as TaskLine}
 use Rattle.fb_rows.specs.declared.back.DeliveryRow.{DeliveryRow}
+use Rattle.fb_rows.specs.declared.run.Run.{Run}
 use Rattle.fb_model.specs.Content.{Medium}
 use Rattle.fb_model.specs.Inputs.{Inputs}
 use Rattle.fb_model.specs.Decisions.{Decision, serves, idles, ends, instant_of}
@@ -15,20 +16,24 @@ use Rattle.fb_model.specs.History.{Past, delivered, is_open_backup, task_numbers
 use Rattle.fb_model.specs.Completion.{Choice, choices, is_complete, was_complete, work}
 use Rattle.fb_model.specs.Segments.{live_count}
 use Rattle.fb_model.specs.Images.{Sources, bad_sectors, complete_rows, findings, is_newly_cleaned, is_scrub, on_disk, seal_rows, segment_rows, test_rows}
-use Rattle.fb_model.specs.Steps.{AtEach, Delivery, Part, opening, part_rows, past_after, settled_past, task_row, task_rows, tested_past, with_delivery}
-use Rattle.fb_model.specs.SoundRun.{AreFollowed, IsTested}
+use Rattle.fb_model.specs.Steps.{AtEach, Delivery, Part, history, opening, part_rows, past_after, settled_past, steps, task_row, task_rows, tested_past, with_delivery}
+use Rattle.fb_model.specs.SoundRun.{AreFollowed, IsSoundBy, IsTested}
 use Rattle.fb_model.proofs.Lists.{all_append, all_flat_map, all_left, all_right, all_weaker}
 
--- a row is a delivery with a property, or a seal that a fact comes with, or another row
-abbrev pub RowFits : (DeliveryRow → Type 0) → Type 0 → BackRow → Type 0
+-- a row is a delivery with a property, or a seal whose instant a fact comes with, or another row
+abbrev pub RowFits : (DeliveryRow → Type 0) → (ℕ → Type 0) → BackRow → Type 0
 RowFits P C (GotLine row) = P row
-RowFits P C (SealLine row) = C
+RowFits P C (SealLine row) = C row.instant
 RowFits P C _ = Unit {0}
 
-abbrev pub RowsFit : (DeliveryRow → Type 0) → Type 0 → List BackRow → Type 0
+abbrev pub RowsFit : (DeliveryRow → Type 0) → (ℕ → Type 0) → List BackRow → Type 0
 RowsFit P C rows = AllByRecursion (RowFits P C) rows
 
-row_weaker : (P Q : DeliveryRow → Type 0) (C : Type 0) → ((row : DeliveryRow) → P row → Q row) → (row : BackRow) → RowFits P C row → RowFits Q C row
+-- no fact comes with seals
+abbrev pub NoFact : ℕ → Type 0
+NoFact instant = Unit {0}
+
+row_weaker : (P Q : DeliveryRow → Type 0) (C : ℕ → Type 0) → ((row : DeliveryRow) → P row → Q row) → (row : BackRow) → RowFits P C row → RowFits Q C row
 row_weaker P Q C more (GapLine row) fit = tt
 row_weaker P Q C more (IdleLine row) fit = tt
 row_weaker P Q C more (GotLine row) fit = more row fit
@@ -38,20 +43,37 @@ row_weaker P Q C more (SegmentLine row) fit = tt
 row_weaker P Q C more (CompleteLine row) fit = tt
 row_weaker P Q C more (TaskLine row) fit = tt
 
-pub rows_weaker : (P Q : DeliveryRow → Type 0) (C : Type 0) → ((row : DeliveryRow) → P row → Q row) → (rows : List BackRow) → RowsFit P C rows → RowsFit Q C rows
+pub rows_weaker : (P Q : DeliveryRow → Type 0) (C : ℕ → Type 0) → ((row : DeliveryRow) → P row → Q row) → (rows : List BackRow) → RowsFit P C rows → RowsFit Q C rows
 rows_weaker P Q C more rows fit = all_weaker (RowFits P C) (RowFits Q C) (row_weaker P Q C more) rows fit
 
 all_any : {X Y : Type 0} (Q : Y → Type 0) (f : X → Y) → ((x : X) → Q (f x)) → (xs : List X) → AllByRecursion Q (map f xs)
 all_any Q f each [] = tt
 all_any Q f each (x ∷ xs) = (each x, all_any Q f each xs)
 
--- ---- what a past has that a run keeps up: deliveries go on with it, and where a backup is complete in it the fact holds
-pub record IsKept (P : DeliveryRow → Type 0) (C : Type 0) (I : Past → Type 0) : Type 0 where
-  pub seals : (past : Past) (task : ℕ) → I past → is_open_backup past task ≡ true → is_complete past task ≡ true → C
-  pub delivers : (past : Past) (row : DeliveryRow) → I past → P row → I (delivered row ∷ past)
-  pub tests : (past : Past) (rows : List BackRow) → I past → I (tested rows ∷ past)
+-- ---- one delivery after another
 
-module _ (P : DeliveryRow → Type 0) (C : Type 0) where
+abbrev pub gots : Part → List DeliveryRow
+gots part = map (λ (delivery : Delivery). delivery.got) part.deliveries
+
+-- each end is in a relation to the one before it
+abbrev pub AreLinked : (ℕ → ℕ → Type 0) → ℕ → List DeliveryRow → Type 0
+AreLinked R now [] = Unit {0}
+AreLinked R now (row ∷ rows) = R now row.end × AreLinked R row.end rows
+
+abbrev pub AnyEnds : ℕ → ℕ → Type 0
+AnyEnds now end = Unit {0}
+
+any_linked : (now : ℕ) (rows : List DeliveryRow) → AreLinked AnyEnds now rows
+any_linked now [] = tt
+any_linked now (row ∷ rows) = (tt, any_linked row.end rows)
+
+-- what the history has at an instant stays with deliveries and tests, and where a backup is complete then the fact comes with its seal
+pub record IsKept (P : DeliveryRow → Type 0) (C : ℕ → Type 0) (I : ℕ → Past → Type 0) (R : ℕ → ℕ → Type 0) : Type 0 where
+  pub seals : (now : ℕ) (past : Past) (task : ℕ) → I now past → is_open_backup past task ≡ true → is_complete past task ≡ true → C now
+  pub delivers : (now : ℕ) (past : Past) (row : DeliveryRow) → I now past → P row → R now row.end → I row.end (delivered row ∷ past)
+  pub tests : (now : ℕ) (past : Past) (rows : List BackRow) → I now past → I now (tested rows ∷ past)
+
+module _ (P : DeliveryRow → Type 0) (C : ℕ → Type 0) where
   complete_fits : (past : Past) (now task : ℕ) → RowsFit P C (complete_rows past now task)
   complete_fits past now task = by (is_complete past task && not (was_complete past task))
     where
@@ -71,19 +93,19 @@ module _ (P : DeliveryRow → Type 0) (C : Type 0) where
   opening_fits disk (idles dwell) plan = (tt, tt)
   opening_fits disk (ends now) plan = tt
 
-  pub tasks_fit : (past : Past) → RowsFit P C (task_rows past)
+  tasks_fit : (past : Past) → RowsFit P C (task_rows past)
   unfolding task_rows
   tasks_fit past = all_any (RowFits P C) (task_row past) (λ task. tt) (task_numbers past)
 
-  module _ (I : Past → Type 0) (kept : IsKept P C I) where
-    seal_fits : (sources : Sources) (past : Past) (now task : ℕ) → I past → RowsFit P C (seal_rows sources past now task)
+  module _ (I : ℕ → Past → Type 0) (R : ℕ → ℕ → Type 0) (kept : IsKept P C I R) where
+    seal_fits : (sources : Sources) (past : Past) (now task : ℕ) → I now past → RowsFit P C (seal_rows sources past now task)
     seal_fits sources past now task holds = by (is_open_backup past task && is_complete past task) refl
       where
         by : (b : Bool) → (is_open_backup past task && is_complete past task) ≡ b → RowsFit P C (if b then SealLine (record { task = task; instant = now; content = sources.image_at past task now }) ∷ [] else [])
-        by true is = let both = and_parts (is_open_backup past task) (is_complete past task) is in (kept.seals past task holds both.0 both.1, tt)
+        by true is = let both = and_parts (is_open_backup past task) (is_complete past task) is in (kept.seals now past task holds both.0 both.1, tt)
         by false is = tt
 
-    test_fits : (sources : Sources) (past : Past) (now : ℕ) → I past → RowsFit P C (test_rows sources past now)
+    test_fits : (sources : Sources) (past : Past) (now : ℕ) → I now past → RowsFit P C (test_rows sources past now)
     unfolding test_rows
     test_fits sources past now holds =
         all_append (RowFits P C) (flat_map (segment_rows sources past now) (task_numbers past)) (flat_map (λ task. seal_rows sources past now task ++ complete_rows past now task) (task_numbers past))
@@ -94,38 +116,54 @@ module _ (P : DeliveryRow → Type 0) (C : Type 0) where
         (all_flat_map (RowFits P C) (λ task. seal_rows sources past now task ++ complete_rows past now task)
         (λ task. all_append (RowFits P C) (seal_rows sources past now task) (complete_rows past now task) (seal_fits sources past now task holds) (complete_fits past now task)) (task_numbers past))
 
-    followed_fit : (medium : Medium) (past : Past) (deliveries : List Delivery) → I past → AreFollowed medium past deliveries → AllByRecursion P (map (λ (delivery : Delivery). delivery.got) deliveries)
-        → RowsFit P C (flat_map (λ (delivery : Delivery). GotLine delivery.got ∷ delivery.after) deliveries)
-    followed_fit medium past [] holds followed each = tt
-    followed_fit medium past (delivery ∷ deliveries) holds followed each =
-        let next = kept.delivers past delivery.got holds each.0 in
+    followed_fit : (medium : Medium) (now : ℕ) (past : Past) (deliveries : List Delivery) → I now past → AreFollowed medium past deliveries → AllByRecursion P (map (λ (delivery : Delivery). delivery.got) deliveries)
+        → AreLinked R now (map (λ (delivery : Delivery). delivery.got) deliveries) → RowsFit P C (flat_map (λ (delivery : Delivery). GotLine delivery.got ∷ delivery.after) deliveries)
+    followed_fit medium now past [] holds followed each linked = tt
+    followed_fit medium now past (delivery ∷ deliveries) holds followed each linked =
+        let next = kept.delivers now past delivery.got holds each.0 linked.0 in
         all_append (RowFits P C) (GotLine delivery.got ∷ delivery.after) (flat_map (λ (delivery : Delivery). GotLine delivery.got ∷ delivery.after) deliveries) (
           each.0,
           subst (RowsFit P C) (sym followed.0)
               (all_append (RowFits P C) (findings past delivery.got) (test_rows (on_disk medium) (delivered delivery.got ∷ past) delivery.got.end)
               (findings_fit past delivery.got) (test_fits (on_disk medium) (delivered delivery.got ∷ past) delivery.got.end next)),
         )
-        (followed_fit medium (with_delivery past delivery) deliveries (kept.tests (delivered delivery.got ∷ past) delivery.after next) followed.1 each.1)
+        (followed_fit medium delivery.got.end (with_delivery past delivery) deliveries (kept.tests delivery.got.end (delivered delivery.got ∷ past) delivery.after next) followed.1 each.1 linked.1)
 
     -- a decision's rows have what its deliveries have
-    pub part_fits : (inputs : Inputs) (medium : Medium) (past : Past) (step : Decision × Part) → I (settled_past inputs past step.0) → IsTested inputs medium past step
-        → AllByRecursion P (map (λ (delivery : Delivery). delivery.got) step.1.deliveries) → RowsFit P C (part_rows inputs.disk step)
-    part_fits inputs medium past step holds is each =
+    pub part_fits : (inputs : Inputs) (medium : Medium) (past : Past) (step : Decision × Part) → I (instant_of step.0) (settled_past inputs past step.0) → IsTested inputs medium past step
+        → AllByRecursion P (gots step.1) → AreLinked R (instant_of step.0) (gots step.1) → RowsFit P C (part_rows inputs.disk step)
+    part_fits inputs medium past step holds is each linked =
         all_append (RowFits P C) (step.1.settled ++ opening inputs.disk step.0 step.1.plan) (flat_map (λ (delivery : Delivery). GotLine delivery.got ∷ delivery.after) step.1.deliveries)
         (all_append (RowFits P C) step.1.settled (opening inputs.disk step.0 step.1.plan)
         (subst (RowsFit P C) (sym is.settled) (test_fits (on_disk medium) (settled_past inputs past step.0) (instant_of step.0) holds))
         (opening_fits inputs.disk step.0 step.1.plan))
-        (followed_fit medium (tested_past inputs past step) step.1.deliveries (kept.tests (settled_past inputs past step.0) step.1.settled holds) is.followed each)
+        (followed_fit medium (instant_of step.0) (tested_past inputs past step) step.1.deliveries (kept.tests (instant_of step.0) (settled_past inputs past step.0) step.1.settled holds) is.followed each linked)
 
--- the rows of all decisions have what those of each have
-pub all_fit : (P : DeliveryRow → Type 0) (C : Type 0) (inputs : Inputs) (past : Past) (steps : List (Decision × Part)) → AtEach (λ past step. RowsFit P C (part_rows inputs.disk step)) inputs past steps
+-- where no fact comes with seals
+any_kept : (P : DeliveryRow → Type 0) → IsKept P NoFact (λ now past. Unit {0}) AnyEnds
+any_kept P = record { seals = λ now past task holds is_open done. tt; delivers = λ now past row holds is linked. tt; tests = λ now past rows holds. tt }
+
+pub gots_fit_part : (P : DeliveryRow → Type 0) (inputs : Inputs) (medium : Medium) (past : Past) (step : Decision × Part) → IsTested inputs medium past step → AllByRecursion P (gots step.1) → RowsFit P NoFact (part_rows inputs.disk step)
+gots_fit_part P inputs medium past step is each = part_fits P NoFact (λ now past. Unit {0}) AnyEnds (any_kept P) inputs medium past step tt is each (any_linked (instant_of step.0) (gots step.1))
+
+-- ---- the rows of all decisions, and of all tasks behind them
+
+all_fit : (P : DeliveryRow → Type 0) (C : ℕ → Type 0) (inputs : Inputs) (past : Past) (steps : List (Decision × Part)) → AtEach (λ past step. RowsFit P C (part_rows inputs.disk step)) inputs past steps
     → RowsFit P C (flat_map (part_rows inputs.disk) steps)
 all_fit P C inputs past [] each = tt
 all_fit P C inputs past (step ∷ steps) each = all_append (RowFits P C) (part_rows inputs.disk step) (flat_map (part_rows inputs.disk) steps) each.0 (all_fit P C inputs (past_after inputs past step) steps each.1)
 
+-- the background of a run has what the rows of each decision have
+pub back_fits : (P : DeliveryRow → Type 0) (C : ℕ → Type 0) (inputs : Inputs) (run : Run) (parts : List Part) → IsSoundBy inputs parts run
+    → AtEach (λ past step. RowsFit P C (part_rows inputs.disk step)) inputs [] (steps inputs parts) → RowsFit P C run.back
+back_fits P C inputs run parts is each = subst (RowsFit P C) (sym is.back)
+    (all_append (RowFits P C) (flat_map (part_rows inputs.disk) (steps inputs parts)) is.tasks
+    (all_fit P C inputs [] (steps inputs parts) each)
+    (subst (RowsFit P C) (sym is.counted) (tasks_fit P C (history inputs (steps inputs parts)))))
+
 -- ---- and the deliveries have what the rows have
 
-gots_of : (P : DeliveryRow → Type 0) (C : Type 0) (deliveries : List Delivery) → RowsFit P C (flat_map (λ (delivery : Delivery). GotLine delivery.got ∷ delivery.after) deliveries)
+gots_of : (P : DeliveryRow → Type 0) (C : ℕ → Type 0) (deliveries : List Delivery) → RowsFit P C (flat_map (λ (delivery : Delivery). GotLine delivery.got ∷ delivery.after) deliveries)
     → AllByRecursion P (map (λ (delivery : Delivery). delivery.got) deliveries)
 gots_of P C [] fit = tt
 gots_of P C (delivery ∷ deliveries) fit = (
@@ -134,8 +172,8 @@ gots_of P C (delivery ∷ deliveries) fit = (
 )
 
 -- the deliveries of each decision
-pub gots_fit : (P : DeliveryRow → Type 0) (C : Type 0) (inputs : Inputs) (past : Past) (steps : List (Decision × Part)) → RowsFit P C (flat_map (part_rows inputs.disk) steps)
-    → AtEach (λ past step. AllByRecursion P (map (λ (delivery : Delivery). delivery.got) step.1.deliveries)) inputs past steps
+gots_fit : (P : DeliveryRow → Type 0) (C : ℕ → Type 0) (inputs : Inputs) (past : Past) (steps : List (Decision × Part)) → RowsFit P C (flat_map (part_rows inputs.disk) steps)
+    → AtEach (λ past step. AllByRecursion P (gots step.1)) inputs past steps
 gots_fit P C inputs past [] fit = tt
 gots_fit P C inputs past (step ∷ steps) fit = (
   gots_of P C step.1.deliveries
@@ -143,3 +181,8 @@ gots_fit P C inputs past (step ∷ steps) fit = (
       (all_left (RowFits P C) (part_rows inputs.disk step) (flat_map (part_rows inputs.disk) steps) fit)),
   gots_fit P C inputs (past_after inputs past step) steps (all_right (RowFits P C) (part_rows inputs.disk step) (flat_map (part_rows inputs.disk) steps) fit),
 )
+
+pub gots_of_back : (P : DeliveryRow → Type 0) (C : ℕ → Type 0) (inputs : Inputs) (run : Run) (parts : List Part) → IsSoundBy inputs parts run → RowsFit P C run.back
+    → AtEach (λ past step. AllByRecursion P (gots step.1)) inputs [] (steps inputs parts)
+gots_of_back P C inputs run parts is fit = gots_fit P C inputs [] (steps inputs parts)
+    (all_left (RowFits P C) (flat_map (part_rows inputs.disk) (steps inputs parts)) is.tasks (subst (RowsFit P C) is.back fit))

@@ -28,7 +28,7 @@ use Rattle.fb_model.specs.Accepted.{IsAccepted}
 use Rattle.fb_model.specs.Content.{Medium, Written, content, content_by, contents_at, fore_row, fore_rows, medium_of, number_of, writes_of}
 use Rattle.fb_model.specs.Decisions.{Decision, serves, idles, ends, decisions, decisions_from, end_of, idle_until, instant_of, instants_of, last_decision, run_end}
 use Rattle.fb_model.specs.History.{Past, wanted}
-use Rattle.fb_model.specs.Steps.{AtEach, Delivery, Part, history, part_rows, past_after, settled_past, steps}
+use Rattle.fb_model.specs.Steps.{AtEach, Delivery, Part, part_rows, past_after, settled_past}
 use Rattle.fb_model.specs.SoundRun.{HasPlan, IsDelivered, IsPlanned, IsTested}
 use Rattle.fb_model.specs.Laws.{ForegroundListsAscend, OnePlainReplay}
 use Rattle.fb_model.specs.FullRun.{IsFull}
@@ -39,8 +39,8 @@ use Rattle.fb_mirror.specs.Replacement.{Event, decided, deliveries_in, events, g
 use Rattle.fb_mirror.specs.Survivor.{survives}
 use Rattle.fb_mirror.proofs.Deciding.{later-assoc}
 use Rattle.fb_mirror.proofs.EventLaws.{none_some, same_one, write_gives}
-use Rattle.fb_mirror.proofs.Between.{IsBetween, IsPlaced, between_within, decisions_placed, due_between, quiet_until}
-use Rattle.fb_mirror.proofs.RunRows.{IsKept, RowFits, RowsFit, all_fit, part_fits, tasks_fit}
+use Rattle.fb_mirror.proofs.Between.{IsBetween, IsPlaced, between_within, decisions_placed, due_between, greatest_from, quiet_until}
+use Rattle.fb_mirror.proofs.RunRows.{NoFact, RowsFit, back_fits, gots_fit_part}
 use Rattle.fb_mirror.proofs.Writing.{AreServed, all_writes, are_served, content_then, ended, finishes_late, last_of, last_of-append, last_of-more, left_after, left_by, medium_with}
 
 -- ---- events one after another
@@ -236,7 +236,7 @@ pub record IsFound (medium : Medium) (replay : List Served) (row : DeliveryRow) 
   pub order : 0 < row.block.count → row.begin ≤ row.end
   pub between : 0 < row.block.count → IsBetween replay row.begin row.end
 
-abbrev event_of : DeliveryRow → Event
+abbrev pub event_of : DeliveryRow → Event
 event_of row = record { instant = row.end; contents = row.content }
 
 module _ (disk : Disk) (latent : List ℕ) (replay : List Served) where
@@ -273,7 +273,7 @@ module _ (disk : Disk) (latent : List ℕ) (replay : List Served) where
       by false without = absurd (none_some last (sym (value ∙ ap (λ b. option_map (λ c. (row.end, c)) (cond b (Some (held lbn)) None)) without) ∙ gives))
 
   -- what deliveries give a sector
-  pub rows_found : (lbn : ℕ) (rows : List BackRow) → RowsFit (IsFound (medium_with disk latent replay) replay) (Unit {0}) rows
+  pub rows_found : (lbn : ℕ) (rows : List BackRow) → RowsFit (IsFound (medium_with disk latent replay) replay) NoFact rows
       → AllByRecursion (λ event. (last : ℕ × Content) → given lbn event ≡ Some last → IsFoundAfter latent replay lbn last) (flat_map deliveries_in rows)
   rows_found lbn [] fit = tt
   rows_found lbn (Gap row ∷ rows) fit = rows_found lbn rows fit.1
@@ -317,9 +317,6 @@ pub any_blocks : (blocks : List Block) → AllByRecursion AnyBlock blocks
 any_blocks [] = tt
 any_blocks (block ∷ blocks) = (tt, any_blocks blocks)
 
-pub any_past : (P : DeliveryRow → Type 0) → IsKept P (Unit {0}) (λ past. Unit {0})
-any_past P = record { seals = λ past task holds unsealed done. tt; delivers = λ past row holds is. tt; tests = λ past rows holds. tt }
-
 module _ (inputs : Inputs) (medium : Medium) (replay : List Served) (same_disk : medium.disk ≡ inputs.disk) where
   got_found : (past : Past) (step : Decision × Part) → IsPlaced medium.disk 0 replay step.0 → IsPlanned inputs medium past step → IsDelivered inputs medium past step
       → AllByRecursion (IsFound medium replay) (map (λ (delivery : Delivery). delivery.got) step.1.deliveries)
@@ -335,11 +332,11 @@ module _ (inputs : Inputs) (medium : Medium) (replay : List Served) (same_disk :
       (delivery_true inputs medium past step AnyBlock some (any_blocks (wanted (settled_past inputs past step.0))))
 
   steps_found : (past : Past) (ds : List Decision) (parts : List Part) → AllByRecursion (IsPlaced medium.disk 0 replay) ds → AtEach (IsPlanned inputs medium) inputs past (zip ds parts) → AtEach (IsDelivered inputs medium) inputs past (zip ds parts)
-      → AtEach (IsTested inputs medium) inputs past (zip ds parts) → AtEach (λ past step. RowsFit (IsFound medium replay) (Unit {0}) (part_rows inputs.disk step)) inputs past (zip ds parts)
+      → AtEach (IsTested inputs medium) inputs past (zip ds parts) → AtEach (λ past step. RowsFit (IsFound medium replay) NoFact (part_rows inputs.disk step)) inputs past (zip ds parts)
   steps_found past [] parts placed planned some is = tt
   steps_found past (d ∷ ds) [] placed planned some is = tt
   steps_found past (d ∷ ds) (part ∷ parts) placed planned some is = (
-    part_fits (IsFound medium replay) (Unit {0}) (λ past. Unit {0}) (any_past (IsFound medium replay)) inputs medium past (d, part) tt is.0 (got_found past (d, part) placed.0 planned.0 some.0),
+    gots_fit_part (IsFound medium replay) inputs medium past (d, part) is.0 (got_found past (d, part) placed.0 planned.0 some.0),
     steps_found (past_after inputs past (d, part)) ds parts placed.1 planned.1 some.1 is.1,
   )
 
@@ -347,10 +344,6 @@ module _ (inputs : Inputs) (medium : Medium) (replay : List Served) (same_disk :
 
 abbrev end_from : ℕ → List Decision → ℕ
 end_from end ds = fold (λ end decision. end_of decision) end ds
-
-greatest_from : (now : ℕ) (instants : List ℕ) → now ≤ fold max now instants
-greatest_from now [] = omega arith
-greatest_from now (x ∷ instants) = let rest = greatest_from (max now x) instants in omega arith
 
 last_end : (head : Track) (now until : ℕ) → now ≤ end_of (last_decision head now until)
 last_end head now until = elim (cases_Bool (nat_lt now until)) [
@@ -389,17 +382,13 @@ module _ (disk : Disk) (instants : List ℕ) (until : ℕ) where
 abbrev pub IsFoundIn : Inputs → DeliveryRow → Type 0
 IsFoundIn inputs row = IsFound (medium_with inputs.disk inputs.latent (served inputs)) (served inputs) row
 
-pub back_found : (inputs : Inputs) (run : Run) → IsSound inputs.disk.map → AreServed inputs.disk 0 (served inputs) → IsFull inputs run → RowsFit (IsFoundIn inputs) (Unit {0}) run.back
+pub back_found : (inputs : Inputs) (run : Run) → IsSound inputs.disk.map → AreServed inputs.disk 0 (served inputs) → IsFull inputs run → RowsFit (IsFoundIn inputs) NoFact run.back
 unfolding decisions medium_of
 back_found inputs run sound are full =
-    let P = IsFoundIn inputs in
     let medium = medium_with inputs.disk inputs.latent (served inputs) in
     let ds = decisions_from inputs.disk (instants_of inputs) inputs.until first_track 0 (served inputs) in
-    subst (RowsFit P (Unit {0})) (sym full.sound.back)
-    (all_append (RowFits P (Unit {0})) (flat_map (part_rows inputs.disk) (steps inputs full.parts)) full.sound.tasks
-    (all_fit P (Unit {0}) inputs [] (steps inputs full.parts)
-    (steps_found inputs medium (served inputs) refl [] ds full.parts (decisions_placed inputs.disk sound (instants_of inputs) inputs.until first_track 0 (served inputs) are) full.sound.planned full.sound.deliveries full.sound.tested))
-    (subst (RowsFit P (Unit {0})) (sym full.sound.counted) (tasks_fit P (Unit {0}) (history inputs (steps inputs full.parts)))))
+    back_fits (IsFoundIn inputs) NoFact inputs run full.parts full.sound
+    (steps_found inputs medium (served inputs) refl [] ds full.parts (decisions_placed inputs.disk sound (instants_of inputs) inputs.until first_track 0 (served inputs) are) full.sound.planned full.sound.deliveries full.sound.tested)
 
 end_holds : (inputs : Inputs) (run : Run) (lbn : ℕ) → AreServed inputs.disk 0 (served inputs) → IsFull inputs run → survives inputs run lbn ≡ left_after inputs.latent (served inputs) lbn
 unfolding decisions medium_of

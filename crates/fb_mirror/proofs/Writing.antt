@@ -92,7 +92,7 @@ passages_long disk sound source now write lbn (suc n) inside =
     )
 
 -- no passage begins before the first one
-begun_after : (disk : Disk) (source : Track) (now : ℕ) (write : Bool) (lbn n : ℕ)
+pub begun_after : (disk : Disk) (source : Track) (now : ℕ) (write : Bool) (lbn n : ℕ)
     → AllByRecursion (λ (p : Passage). media_of (passages disk source now write lbn n) ≤ p.begin) (passages disk source now write lbn n)
 unfolding passages
 begun_after disk source now write lbn zero = tt

@@ -10,7 +10,7 @@ ghost use Rattle.fb_rows.specs.declared.back.DeliveryRow.{DeliveryRow};
 ghost use Rattle.fb_rows.specs.declared.fore.ForeRow.{ForeRow};
 ghost use Rattle.fb_model.specs.Content.{number_of};
 ghost use Rattle.fb_mirror.specs.Replacement.{decided, Decides, deliveries_in, Event, given, writes_in};
-ghost use Rattle.fb_mirror.specs.Survivor.{CoveredSectorsAreTheSurvivors, CoveredSectorsAreTheSurvivorsAtRest, RunsLieOnTheDisk, SealedRebuildsAreWhole};
+ghost use Rattle.fb_mirror.specs.Survivor.{CoveredSectorsAreTheSurvivors, CoveredSectorsAreTheSurvivorsAtRest, RunsLieOnTheDisk, SealedRebuildsAreWhole, SealedRebuildsStayWhole};
 
 use fb_model::{foreground_lists_ascend, one_plain_replay};
 
@@ -37,7 +37,8 @@ pub fn runs_lie_on_the_disk()
 }
 
 /// A sector that a write or a delivery of a full run concerned holds in the replacement what it
-/// holds on the survivor at the run's end.
+/// holds on the survivor: at the end of the run, and before it at each instant at which no write is
+/// under way.
 pub fn covered_sectors_are_the_survivors()
     ensures at_end { CoveredSectorsAreTheSurvivors }
     ensures at_rest { CoveredSectorsAreTheSurvivorsAtRest }
@@ -46,10 +47,13 @@ pub fn covered_sectors_are_the_survivors()
     one_plain_replay();
 }
 
-/// If a rebuild was sealed, every sector is covered: the replacement is the survivor as it is at the
-/// end of the run.
+/// If a rebuild was sealed, every sector is covered: the replacement is the survivor, from the seal
+/// on whenever no write is under way, and so at the end of the run.
 pub fn sealed_rebuilds_are_whole()
-    ensures { SealedRebuildsAreWhole }
+    ensures at_end { SealedRebuildsAreWhole }
+    ensures at_rest { SealedRebuildsStayWhole }
 {
+    foreground_lists_ascend();
+    one_plain_replay();
     covered_sectors_are_the_survivors();
 }
