@@ -114,13 +114,13 @@ same_laid disk calls past after added same_calls same_tasks same_segments more l
 }
 
 module _ (disk : Shape) (calls : List Call) (past : Past) (laid : IsLaid disk calls past) where
-  pub laid_tested : (rows : List BackRow) → IsLaid disk calls (tested rows ∷ past)
+  laid_tested : (rows : List BackRow) → IsLaid disk calls (tested rows ∷ past)
   laid_tested rows = same_laid disk calls past (tested rows ∷ past) [] refl refl (λ task. refl) (sym (append-nil (registered past))) tt laid
 
-  pub laid_delivered : (row : DeliveryRow) → IsLaid disk calls (delivered row ∷ past)
+  laid_delivered : (row : DeliveryRow) → IsLaid disk calls (delivered row ∷ past)
   laid_delivered row = same_laid disk calls past (delivered row ∷ past) [] refl refl (λ task. refl) (sym (append-nil (registered past))) tt laid
 
-  pub laid_finished : (request : Request) → IsLaid disk calls (finished request ∷ past)
+  laid_finished : (request : Request) → IsLaid disk calls (finished request ∷ past)
   laid_finished request = same_laid disk calls past (finished request ∷ past) [] refl refl (λ task. refl) (sym (append-nil (registered past))) tt laid
 
 -- ---- the next call

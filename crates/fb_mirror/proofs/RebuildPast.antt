@@ -101,10 +101,10 @@ module _ (P : DeliveryRow → Type 0) (disk : Shape) where
   taken_then (finished request ∷ events) quiet = taken_then events quiet.1
 
   module _ (past : Past) (is : IsRebuilding P disk past) where
-    pub task_is : tasks past ≡ backup_terms ∷ []
+    task_is : tasks past ≡ backup_terms ∷ []
     task_is = ap tasks is.is ∙ tasks_then is.events is.quiet
 
-    pub blocks_are : registered past ≡ disk_blocks disk
+    blocks_are : registered past ≡ disk_blocks disk
     blocks_are = ap registered is.is ∙ registered_then is.events is.quiet
 
     taken_are : calls_taken past ≡ 2

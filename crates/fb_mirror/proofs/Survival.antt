@@ -49,7 +49,7 @@ pub decided-append : (lbn : ℕ) (xs ys : List Event) → decided lbn (xs ++ ys)
 decided-append lbn [] ys = refl
 decided-append lbn (x ∷ xs) ys = ap (later (given lbn x)) (decided-append lbn xs ys) ∙ sym (later-assoc (given lbn x) (decided lbn xs) (decided lbn ys))
 
-abbrev pub given_content : Option (ℕ × Content) → Option Content
+abbrev given_content : Option (ℕ × Content) → Option Content
 given_content last = option_map (λ last. last.1) last
 
 -- the instant has a property, if there is one
@@ -153,7 +153,6 @@ left_decided disk medium lbn first now [] before are = refl
 left_decided disk medium lbn first now (served ∷ replay) before are =
     let row = fore_row medium served in
     let behind = decided lbn (wrote medium replay) in
-    let after = last_of before lbn (served ∷ []) in
     let left = Filled (number_of served.request.name) in
     let mid = content_by before first in
     ap (λ o. content_by o first) (last_of-more before lbn served replay)
@@ -310,10 +309,10 @@ due_block medium (serves served) plan Q row due_row = elim due_row [
 due_block medium (idles dwell) plan Q row due_row = due_row.one_of
 due_block medium (ends now) plan Q row due_row = absurd due_row
 
-abbrev pub AnyBlock : Block → Type 0
+abbrev AnyBlock : Block → Type 0
 AnyBlock block = Unit {0}
 
-pub any_blocks : (blocks : List Block) → AllByRecursion AnyBlock blocks
+any_blocks : (blocks : List Block) → AllByRecursion AnyBlock blocks
 any_blocks [] = tt
 any_blocks (block ∷ blocks) = (tt, any_blocks blocks)
 
