@@ -1,2 +1,5 @@
+pub mod Lists
 pub mod Keeping
 pub mod LinesRead
+pub mod ByDevice
+pub mod DevicesRead

@@ -3,4 +3,5 @@ pub mod Line
 pub mod Reading
 pub mod Verdict
 pub mod Servable
-pub mod Following
+pub mod Devices
+pub mod Progress

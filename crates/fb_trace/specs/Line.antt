@@ -1,5 +1,5 @@
 -- What a line adds to the trace of a device.
-use Rattle.std.specs.Prelude.{ℕ, ◌+◌, ◌%◌, ◌==◌, nat_lt, List, [], ◌∷◌, Result, Ok, if◌then◌else◌}
+use Rattle.std.specs.Prelude.{ℕ, ◌+◌, ◌%◌, ◌==◌, nat_lt, List, [], ◌∷◌, Option, Some, None, Result, Ok, if◌then◌else◌}
 use Rattle.fb_units.specs.declared.types.Request.{Request}
 use Rattle.fb_units.specs.declared.types.Name.TheVariants.{Traced}
 use Rattle.fb_trace.specs.declared.entry.Entry.{Entry}
@@ -26,11 +26,19 @@ of_device device sectors number entry =
     then request_of sectors number entry >>= (λ request. Ok (Asked request))
     else Ok (PassedOver entry.arrival)
 
--- what an entry adds; it may not arrive before the instant of the entry before it
-unfoldable pub added_by : ℕ → ℕ → ℕ → ℕ → Entry → Result Line TraceReason
-added_by device sectors instant number entry = refuse OutOfOrder (nat_lt entry.arrival instant) >> of_device device sectors number entry
+-- the entry of a line that may not arrive before this instant; a line without fields is blank, and has none
+abbrev pub entry_after : ℕ → List (List ℕ) → Result (Option Entry) TraceReason
+entry_after instant [] = Ok None
+entry_after instant (field ∷ fields) = do
+  entry ← entry_of (field ∷ fields)
+  refuse OutOfOrder (nat_lt entry.arrival instant)
+  Ok (Some entry)
 
--- what a line adds; one without fields is blank
+-- what the entry of a line adds
+unfoldable pub added_by : ℕ → ℕ → ℕ → Option Entry → Result Line TraceReason
+added_by device sectors number None = Ok Blank
+added_by device sectors number (Some entry) = of_device device sectors number entry
+
+-- what a line adds; it may not arrive before the instant of the line before it that isn't blank
 unfoldable pub line_of : ℕ → ℕ → ℕ → ℕ → List (List ℕ) → Result Line TraceReason
-line_of device sectors instant number [] = Ok Blank
-line_of device sectors instant number (field ∷ fields) = entry_of (field ∷ fields) >>= added_by device sectors instant number
+line_of device sectors instant number fields = entry_after instant fields >>= added_by device sectors number

@@ -1,13 +1,18 @@
-// The five fields of a line.
-ghost use Rattle.std.specs.Prelude.{◌≡◌, ◌≤◌, ◌^◌, [], ◌∷◌, IfOk, MatchResult};
+// The five fields of a line, and the request that they ask for.
+ghost use Rattle.std.specs.Prelude.{◌≡◌, ◌≤◌, ◌^◌, [], ◌∷◌, IfOk, IfSome, MatchResult};
 ghost use Rattle.fb_units.specs.Lines.{fields_of};
 ghost use Rattle.fb_units.specs.Numbers.{millis_of, number_of, flags_of};
 ghost use Rattle.fb_units.specs.Judging.{or_refuse};
 ghost use Rattle.fb_trace.specs.Entry.{entry_of, spelled};
+ghost use Rattle.fb_trace.specs.Line.{entry_after, request_of};
 ghost use Rattle.fb_trace.specs.declared.trace.TraceReason.TheVariants.{TooFewFields, BadTime, BadNumber};
 
 use crate::TraceReason;
-use fb_units::{Ns, next_field, read_flags, read_millis, read_number};
+use fb_units::{Name, Ns, Request, next_field, read_flags, read_millis, read_number};
+
+const MOST_SECTORS: u64 = 2_048;
+
+const MOST_REQUESTS: u64 = 1_000_000;
 
 /// The values of the five fields of a line.
 #[derive(Clone, Copy)]
@@ -24,11 +29,56 @@ pub struct Entry {
     pub flags: u64,
 }
 
-/// The values of the fields of a line that isn't blank, or the first reason why they have none.
+impl Entry {
+    /// The request with this number that the values ask for, on a disk of this many sectors; or the
+    /// first reason why there is none.
+    #[tactic(auto, unfolding(crate::specs::Line::request_of))]
+    pub fn request(&self, number: u64, sectors: u64) -> Result<Request, TraceReason>
+        requires { self.now.first ≤ 10 ^ 15 }
+        ensures { result ≡ request_of sectors number self.now }
+    {
+        if self.size == 0 {
+            return Err(TraceReason::Empty);
+        }
+        if self.size > MOST_SECTORS {
+            return Err(TraceReason::TooLarge);
+        }
+        if self.first + self.size > sectors {
+            return Err(TraceReason::BeyondDisk);
+        }
+        if number > MOST_REQUESTS {
+            return Err(TraceReason::TooMany);
+        }
+        Ok(Request {
+            name: Name::Traced(number),
+            arrival: self.arrival,
+            lbn: self.first,
+            count: self.size as u32,
+            write: self.flags % 2 == 0,
+        })
+    }
+}
+
+/// The values of a line whose request may not arrive before this instant, or none if the line is
+/// blank; or the first reason why the line is refused for every device.
+pub fn entry_after(instant: Ns, line: &[u8]) -> Result<Option<Entry>, TraceReason>
+    ensures value { result ≡ entry_after instant (fields_of line.now) }
+    ensures first { IfOk result (λ entry. IfSome entry (λ entry. entry.first ≤ 10 ^ 15)) }
+{
+    if next_field(line).is_none() {
+        return Ok(None);
+    }
+    let entry = read_entry(line)?;
+    if entry.arrival < instant {
+        return Err(TraceReason::OutOfOrder);
+    }
+    Ok(Some(entry))
+}
+
+// The values of the fields of a line that isn't blank, or the first reason why they have none.
 #[tactic(auto, unfolding(crate::specs::Entry::entry_of))]
-pub fn read_entry(line: &[u8]) -> Result<Entry, TraceReason>
+fn read_entry(line: &[u8]) -> Result<Entry, TraceReason>
     ensures value { result ≡ entry_of (fields_of line.now) }
-    ensures arrival { IfOk result (λ entry. entry.arrival ≤ 10 ^ 15) }
     ensures first { IfOk result (λ entry. entry.first ≤ 10 ^ 15) }
 {
     let (arrival, rest) = field(line)?;
@@ -59,7 +109,6 @@ fn spelled(
     flags: &[u8],
 ) -> Result<Entry, TraceReason>
     ensures value { result ≡ spelled arrival.now device.now first.now size.now flags.now }
-    ensures arrival { IfOk result (λ entry. entry.arrival ≤ 10 ^ 15) }
     ensures first { IfOk result (λ entry. entry.first ≤ 10 ^ 15) }
 {
     Ok(Entry {
@@ -73,8 +122,7 @@ fn spelled(
 
 // The time in the first field.
 fn time(text: &[u8]) -> Result<Ns, TraceReason>
-    ensures value { result ≡ or_refuse BadTime (millis_of text.now) }
-    ensures bound { IfOk result (λ time. time ≤ 10 ^ 15) }
+    ensures { result ≡ or_refuse BadTime (millis_of text.now) }
 {
     match read_millis(text) {
         Some(time) => Ok(time),

@@ -2,20 +2,16 @@
 ghost use Rattle.std.specs.Prelude.{◌≡◌, ◌+◌, ◌<◌, ◌≤◌, ◌^◌, length, IfOk, IfErr, OnOk};
 ghost use Rattle.fb_units.specs.Lines.{fields_of};
 ghost use Rattle.fb_trace.specs.declared.trace.TraceError.TheVariants.{NoMemory};
-ghost use Rattle.fb_trace.specs.Line.{request_of, of_device, added_by, line_of};
+ghost use Rattle.fb_trace.specs.Line.{of_device, line_of};
 ghost use Rattle.fb_trace.specs.Servable.{IsTraceOf};
 ghost use Rattle.fb_trace.specs.Reading.{trace_of, next_progress, with_line};
 ghost use Rattle.fb_trace.specs.Verdict.{Answers, accepted};
-ghost use Rattle.fb_trace.specs.Following.{IsNext, MayFollow, IsProgress, progress};
+ghost use Rattle.fb_trace.specs.Progress.{progress};
 
-use crate::entry::{Entry, read_entry};
+use crate::entry::{Entry, entry_after};
 use crate::{Trace, TraceError, TraceFault, TraceReason};
-use fb_units::{Name, Ns, Request, next_field, next_line};
+use fb_units::{Ns, Request, next_line};
 use std::alloc::Global;
-
-const MOST_SECTORS: u64 = 2_048;
-
-const MOST_REQUESTS: u64 = 1_000_000;
 
 // What a line adds to the trace of a device.
 enum Line {
@@ -73,7 +69,6 @@ impl Reader {
         ensures device { self.new.device ≡ self.old.device }
         ensures sectors { self.new.sectors ≡ self.old.sectors }
         ensures few { OnOk result (self.new.trace.passed_over ≤ number) }
-        ensures keeps { OnOk result (IsProgress self.old.sectors (progress self.old) → IsProgress self.new.sectors (progress self.new)) }
     {
         match self.line(line) {
             Ok(line) => self.add(line),
@@ -107,75 +102,27 @@ impl Reader {
     }
 
     // What a line adds.
-    #[tactic(auto, unfolding(crate::specs::Line::line_of))]
+    #[tactic(auto, unfolding(crate::specs::Line::line_of, crate::specs::Line::added_by))]
     fn line(&self, text: &[u8]) -> Result<Line, TraceReason>
-        ensures value { result ≡ line_of self.now.device self.now.sectors self.now.instant (length self.now.trace.requests.items + 1) (fields_of text.now) }
-        ensures next { IfOk result (MayFollow self.now.sectors (progress self.now)) }
+        ensures { result ≡ line_of self.now.device self.now.sectors self.now.instant (length self.now.trace.requests.items + 1) (fields_of text.now) }
     {
-        if next_field(text).is_none() {
-            return Ok(Line::Blank);
+        match entry_after(self.instant, text)? {
+            None => Ok(Line::Blank),
+            Some(entry) => self.of_device(entry),
         }
-        self.added_by(read_entry(text)?)
-    }
-
-    // What an entry adds.
-    #[tactic(auto, unfolding(crate::specs::Line::added_by))]
-    fn added_by(&self, entry: Entry) -> Result<Line, TraceReason>
-        requires arrival { entry.arrival ≤ 10 ^ 15 }
-        requires first { entry.first ≤ 10 ^ 15 }
-        ensures value { result ≡ added_by self.now.device self.now.sectors self.now.instant (length self.now.trace.requests.items + 1) entry }
-        ensures next { IfOk result (MayFollow self.now.sectors (progress self.now)) }
-    {
-        if entry.arrival < self.instant {
-            return Err(TraceReason::OutOfOrder);
-        }
-        self.of_device(entry)
     }
 
     // The request that an entry asks for, or one that is passed over if it is for another device.
     #[tactic(auto, unfolding(crate::specs::Line::of_device))]
     fn of_device(&self, entry: Entry) -> Result<Line, TraceReason>
-        requires later { self.now.instant ≤ entry.arrival }
-        requires arrival { entry.arrival ≤ 10 ^ 15 }
-        requires first { entry.first ≤ 10 ^ 15 }
-        ensures value { result ≡ of_device self.now.device self.now.sectors (length self.now.trace.requests.items + 1) entry }
-        ensures next { IfOk result (MayFollow self.now.sectors (progress self.now)) }
+        requires { entry.first ≤ 10 ^ 15 }
+        ensures { result ≡ of_device self.now.device self.now.sectors (length self.now.trace.requests.items + 1) entry }
     {
         if entry.device == self.device {
-            Ok(Line::Asked(self.request_of(entry)?))
+            let number = self.trace.requests.len() as u64 + 1;
+            Ok(Line::Asked(entry.request(number, self.sectors)?))
         } else {
             Ok(Line::PassedOver(entry.arrival))
         }
-    }
-
-    // The request that an entry asks for.
-    #[tactic(auto, unfolding(crate::specs::Line::request_of))]
-    fn request_of(&self, entry: Entry) -> Result<Request, TraceReason>
-        requires later { self.now.instant ≤ entry.arrival }
-        requires arrival { entry.arrival ≤ 10 ^ 15 }
-        requires first { entry.first ≤ 10 ^ 15 }
-        ensures value { result ≡ request_of self.now.sectors (length self.now.trace.requests.items + 1) entry }
-        ensures next { IfOk result (IsNext self.now.sectors (progress self.now)) }
-    {
-        if entry.size == 0 {
-            return Err(TraceReason::Empty);
-        }
-        if entry.size > MOST_SECTORS {
-            return Err(TraceReason::TooLarge);
-        }
-        if entry.first + entry.size > self.sectors {
-            return Err(TraceReason::BeyondDisk);
-        }
-        let number = self.trace.requests.len() as u64 + 1;
-        if number > MOST_REQUESTS {
-            return Err(TraceReason::TooMany);
-        }
-        Ok(Request {
-            name: Name::Traced(number),
-            arrival: entry.arrival,
-            lbn: entry.first,
-            count: entry.size as u32,
-            write: entry.flags % 2 == 0,
-        })
     }
 }

@@ -2,7 +2,9 @@ use Rattle.std.proofs.Common.{◌+◌, ap, ◌∙◌, arith}
 use Rattle.std.proofs.lemmas.Result.{err_from_is_err_and}
 use Rattle.fb_units.specs.Lines.{lines_of}
 use Rattle.fb_trace.specs.Reading.{lines_from, trace_of}
-use Rattle.fb_trace.specs.Following.{progress}
+use Rattle.fb_trace.specs.Progress.{progress}
+use Rattle.fb_trace.specs.Verdict.{accepted}
+use Rattle.fb_trace.proofs.Keeping.{fit_trace}
 use Rattle.fb_trace.proofs.LinesRead.{read_more, read_error, read_end}
 use Rattle.fb_trace.proofs.reader.read_trace.Goals as goal
 
@@ -27,10 +29,15 @@ loop-line-preserved c =
           (trace_of c.args.device c.args.sectors c.args.bytes.now) c.in-Some.ensures.line c.in_ok-read_line.ensures.answer l.invariant.read;
       number = omega (arith, c.in-Some.ensures.shorter);
       passed_over = omega (arith, c.in_ok-read_line.ensures.few);
-      progress = c.in_ok-read_line.ensures.keeps l.invariant.progress;
     }
 
 pub returns-clause-answer : goal.returns-clause-answer
 returns-clause-answer c =
     let l = c.loop-line in
     read_end l.reader.device l.reader.sectors (l.number + 1) (progress l.reader) (lines_of l.rest.now) (trace_of c.args.device c.args.sectors c.args.bytes.now) c.in_default.ensures.line l.invariant.read
+
+pub returns-clause-trace : goal.returns-clause-trace
+returns-clause-trace c =
+    let l = c.loop-line in
+    fit_trace c.args.device c.args.sectors c.args.bytes.now (accepted l.reader.trace)
+    (read_end l.reader.device l.reader.sectors (l.number + 1) (progress l.reader) (lines_of l.rest.now) (trace_of c.args.device c.args.sectors c.args.bytes.now) c.in_default.ensures.line l.invariant.read)
