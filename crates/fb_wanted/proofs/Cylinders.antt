@@ -1,49 +1,31 @@
 -- The upper bounds of the weights of tracks, by cylinder and by band.
-use Rattle.std.proofs.Common.{◌≡◌, ℕ, ◌/◌, ◌<◌, ◌≤◌, inl, inr, List, Option, Some, None, IsSome, false, if◌then◌else◌, length, get_or, set, refl, ap, sym, ◌∙◌, arith, subst}
-use Rattle.std.specs.BTreeMap.{BTreeMap, get, ContainsKey}
-use Rattle.std.proofs.lemmas.Bool.{cases_Bool, cases_eq}
+use Rattle.std.proofs.Common.{◌≡◌, ℕ, ◌/◌, ◌<◌, ◌≤◌, inl, inr, List, false, if◌then◌else◌, length, get_or, set, refl, ap, sym, ◌∙◌, arith, subst}
+use Rattle.std.proofs.lemmas.Bool.{cases_eq}
 use Rattle.std.proofs.lemmas.Grind.{get_or-set_at}
 use Rattle.std.proofs.lemmas.List.{get_or-set_other, length-set}
 use Rattle.fb_units.specs.declared.types.Track.{Track}
 use Rattle.fb_units.specs.Tracks.{same_track}
-use Rattle.fb_wanted.specs.declared.tracks.OnTrack.{OnTrack}
-use Rattle.fb_wanted.specs.Index.{track_cmp, weight_of_kept, weight_kept, AreGreatest, AreBands}
-use Rattle.fb_wanted.proofs.Kept.{same_one}
-
-no_weight : (k : Option OnTrack) → (IsSome k → ⊥) → weight_of_kept k ≡ 0
-no_weight None none = refl
-no_weight (Some on) none = absurd (none refl)
-
-pub unkept : (tracks : BTreeMap Track OnTrack) (t : Track) → (ContainsKey track_cmp tracks t → ⊥) → weight_kept tracks t ≡ 0
-unkept tracks t none = no_weight (get track_cmp tracks t) none
-
-pub weight_there : (tracks : BTreeMap Track OnTrack) (t : Track) (c h : ℕ) → t.cylinder ≡ c → t.head ≡ h → weight_kept tracks t ≡ weight_kept tracks (record { cylinder = c; head = h })
-weight_there tracks t c h its head = ap (λ x. weight_kept tracks (record { cylinder = x; head = t.head })) its ∙ ap (λ x. weight_kept tracks (record { cylinder = c; head = x })) head
+use Rattle.fb_wanted.specs.declared.heads.OnTrack.{OnTrack}
+use Rattle.fb_wanted.specs.Index.{track_at, weight_kept, AreGreatest, AreBands}
 
 -- the bounds hold too with room for more cylinders
-pub greatest_still : (tracks : BTreeMap Track OnTrack) (was is : List ℕ) → AreGreatest tracks was → ((c : ℕ) → get_or is c 0 ≡ get_or was c 0) → length was ≤ length is → AreGreatest tracks is
+pub greatest_still : (tracks : List (List OnTrack)) (was is : List ℕ) → AreGreatest tracks was → ((c : ℕ) → get_or is c 0 ≡ get_or was c 0) → length was ≤ length is → AreGreatest tracks is
 greatest_still tracks was is h stay longer = record {
   weights = λ t. subst (λ n. weight_kept tracks t ≤ n) (sym (stay t.cylinder)) (h.weights t);
-  there = λ t has. omega (arith, h.there t has, longer);
+  there = omega (arith, h.there, longer);
 }
 
 -- the bounds after the weight of one track has changed
-module _ (old new : BTreeMap Track OnTrack) (track : Track) (change : Option OnTrack → Option OnTrack) (was : List ℕ) (h : AreGreatest old was)
-    (changed : (t : Track) → get track_cmp new t ≡ (if same_track track t then change (get track_cmp old t) else get track_cmp old t)) where
-  elsewhere : (t : Track) → same_track track t ≡ false → get track_cmp new t ≡ get track_cmp old t
+module _ (old new : List (List OnTrack)) (track : Track) (change : OnTrack → OnTrack) (was : List ℕ) (h : AreGreatest old was)
+    (changed : (t : Track) → track_at new t ≡ (if same_track track t then change (track_at old t) else track_at old t)) where
+  elsewhere : (t : Track) → same_track track t ≡ false → track_at new t ≡ track_at old t
   elsewhere t other = changed t ∙ rw other refl
 
   pub others_within : (t : Track) → same_track track t ≡ false → weight_kept new t ≤ get_or was t.cylinder 0
-  others_within t other = subst (λ k. weight_of_kept k ≤ get_or was t.cylinder 0) (sym (elsewhere t other)) (h.weights t)
+  others_within t other = subst (λ k. k.weight ≤ get_or was t.cylinder 0) (sym (elsewhere t other)) (h.weights t)
 
-  pub greatest_settled : (is : List ℕ) → track.cylinder < length was → length is ≡ length was → ((t : Track) → weight_kept new t ≤ get_or is t.cylinder 0) → AreGreatest new is
-  greatest_settled is room size weights = record {
-    weights = weights;
-    there = λ t has. elim (cases_Bool (same_track track t)) [
-      | inl here ↦ let same = ap (λ u. u.cylinder) (same_one track t here) in omega (arith, same, room, size)
-      | inr other ↦ omega (arith, h.there t (subst IsSome (elsewhere t other) has), size)
-    ];
-  }
+  pub greatest_settled : (is : List ℕ) → length new ≤ length was → length is ≡ length was → ((t : Track) → weight_kept new t ≤ get_or is t.cylinder 0) → AreGreatest new is
+  greatest_settled is room size weights = record { weights = weights; there = omega (arith, room, size) }
 
 -- the bounds of bands hold after the bound of a cylinder and that of its band have changed
 pub bands_set : (cylinders bands : List ℕ) (c weight greatest : ℕ) → AreBands cylinders bands → c < length cylinders → weight ≤ 32768000000000

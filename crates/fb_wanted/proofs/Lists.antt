@@ -1,48 +1,17 @@
--- Lists of lists, and tracks as keys.
-use Rattle.std.proofs.Common.{◌≡◌, ℕ, ◌≤◌, ◌⊎◌, inl, inr, ◌==◌, List, [], ◌∷◌, true, false, Result, Ok, Err, OnErr, if◌then◌else◌, get_or, refl, ap, ◌∙◌, arith}
-use Rattle.std.specs.Ordering.{is_eq, is_gt}
-use Rattle.std.specs.declared.cmp.Ordering.TheVariants.{Less}
-use Rattle.std.proofs.lemmas.Bool.{cases_Bool, cases_lt}
+-- Lists of lists.
+use Rattle.std.proofs.Common.{◌≡◌, ℕ, ◌≤◌, inl, inr, ◌==◌, List, [], ◌∷◌, true, false, Result, Ok, Err, OnErr, if◌then◌else◌, get_or, refl, ap, ◌∙◌, arith}
+use Rattle.std.specs.Ordering.{is_gt}
+use Rattle.std.proofs.lemmas.Bool.{cases_Bool}
 use Rattle.std.proofs.lemmas.Bool.Decides.{nat_tests}
-use Rattle.fb_units.specs.declared.types.Track.{Track}
-use Rattle.fb_units.specs.Tracks.{same_track}
 use Rattle.fb_wanted.specs.declared.block.Counts.{Counts}
 use Rattle.fb_wanted.specs.declared.block.Entry.{Entry}
 use Rattle.fb_wanted.specs.declared.tasks.OfTask.{OfTask}
 use Rattle.fb_wanted.specs.Counting.{counts_of, no_counts}
-use Rattle.fb_wanted.specs.Index.{track_cmp, fall_cmp, no_blocks, joined, counted_anew, grown_task}
-use Rattle.fb_wanted.specs.Tracks.{IsTrackBefore}
+use Rattle.fb_wanted.specs.Index.{fall_cmp, no_blocks, joined, counted_anew, grown_task}
 
 pub on_err : {T E P : Type 0} (r : Result T E) → P → OnErr r P
 on_err (Ok x) p = tt
 on_err (Err e) p = p
-
-pub at_track : (a b : Track) → is_eq (track_cmp a b) ≡ same_track a b
-at_track a b = grind (arith, nat_tests)
-
-pub from_track : (a b : Track) → (IsTrackBefore b a → ⊥) → is_gt (track_cmp a b) ≡ false
-from_track a b h = grind (arith, nat_tests)
-
-pub not_behind : (a b : Track) → is_gt (track_cmp a b) ≡ false → IsTrackBefore b a → ⊥
-not_behind a b le h = grind (arith, nat_tests)
-
-pub behind_track : (a b : Track) → IsTrackBefore a b → track_cmp a b ≡ Less
-behind_track a b h = grind (arith, nat_tests)
-
-pub between_heads : (a b t : Track) → track_cmp a b ≡ Less → is_gt (track_cmp b t) ≡ false → t.cylinder ≡ a.cylinder → b.cylinder ≡ a.cylinder
-between_heads a b t behind up its = grind (arith, nat_tests)
-
-pub before_or_not : (a b : Track) → IsTrackBefore a b ⊎ (IsTrackBefore a b → ⊥)
-before_or_not a b = elim (cases_lt a.cylinder b.cylinder) [
-  | inl less ↦ inl (inl less)
-  | inr more ↦ elim (cases_lt b.cylinder a.cylinder) [
-    | inl beyond ↦ inr (λ h. elim h [ inl l ↦ absurd (omega arith) | inr s ↦ absurd (omega (arith, s.0)) ])
-    | inr level ↦ elim (cases_lt a.head b.head) [
-      | inl above ↦ let same : a.cylinder ≡ b.cylinder = omega arith in inl (inr (same, above))
-      | inr below ↦ inr (λ h. elim h [ inl l ↦ absurd (omega arith) | inr s ↦ absurd (omega (arith, s.1)) ])
-    ]
-  ]
-]
 
 -- if the index that was added last to a task is removed again, all tasks are as before
 pub taken_back : (old one two : List OfTask) (n place : ℕ)

@@ -1,5 +1,5 @@
 -- The weight of the wanted blocks of a track, or of any that pass a test.
-use Rattle.std.proofs.Common.{◌≡◌, ℕ, suc, ◌+◌, ◌*◌, ◌≤◌, inl, inr, List, [], ◌∷◌, ◌++◌, Some, Bool, if◌then◌else◌, true, false, length, map, filter, slice_get, refl, ap, ◌∙◌, arith}
+use Rattle.std.proofs.Common.{◌≡◌, ℕ, suc, ◌+◌, ◌*◌, ◌≤◌, inl, inr, List, [], ◌∷◌, ◌++◌, Some, Bool, false, length, filter, slice_get, refl, ap, ◌∙◌, arith}
 use Rattle.std.specs.List.{sum_by}
 use Rattle.std.proofs.lemmas.Bool.{cases_Bool}
 use Rattle.std.proofs.lemmas.List.Elements.{filter-append}
@@ -13,7 +13,7 @@ use Rattle.fb_wanted.specs.declared.block.State.{State}
 use Rattle.fb_wanted.specs.States.{is_wanted, wanted_of}
 use Rattle.fb_wanted.specs.Numbering.{AreSmall, blocks_of}
 use Rattle.fb_wanted.specs.Tracks.{wanted_weight}
-use Rattle.fb_wanted.specs.Index.{places, of_track, with_state}
+use Rattle.fb_wanted.specs.Index.{of_track, with_state}
 use Rattle.fb_wanted.proofs.Sums.{sum-with_state, sum_at}
 
 wanted-append : (xs ys : List Entry) → wanted_of (xs ++ ys) ≡ wanted_of xs ++ wanted_of ys
@@ -81,14 +81,3 @@ weight_at t n e es at = by_at (of_track t) n e es at
 
 pub weight-le : (t : Track) (es : List Entry) → AreSmall (blocks_of es) → wanted_weight t es ≤ 2048000 * length es
 weight-le t es h = by-le (of_track t) es h
-
-none_pass : (b : Bool) (ps : List ℕ) → (if b then 0 ∷ map (λ n. suc n) ps else map (λ n. suc n) ps) ≡ [] → (b ≡ false) × (ps ≡ [])
-none_pass true ps h = let more : ◌≡◌ {A = ℕ} (suc (length (map (λ n. suc n) ps))) 0 = ap length h in absurd (omega (arith, more))
-none_pass false [] h = (refl, refl)
-none_pass false (p ∷ ps) h = let more : ◌≡◌ {A = ℕ} (suc (length (map (λ n. suc n) ps))) 0 = ap length h in absurd (omega (arith, more))
-
-pub weight_none : (t : Track) (es : List Entry) → places (of_track t) es ≡ [] → wanted_weight t es ≡ 0
-weight_none t [] h = refl
-weight_none t (e ∷ es) h =
-    let none = none_pass (same_track t e.block.track) (places (of_track t) es) h in
-    omega (arith, by-cons (of_track t) e es, weight_elsewhere t e none.0, weight_none t es none.1)

@@ -1,8 +1,7 @@
 -- The indexes that are kept beside the list of registered blocks.
-use Rattle.std.specs.Prelude.{◌≡◌, ℕ, zero, suc, ◌+◌, ◌-◌, ◌*◌, ◌/◌, ◌≤◌, ◌<◌, ◌==◌, Bool, true, false, List, [], ◌∷◌, ◌++◌, Option, Some, None, length, map, filter, get_or, slice_get, if◌then◌else◌}
+use Rattle.std.specs.Prelude.{◌≡◌, ℕ, zero, suc, ◌+◌, ◌-◌, ◌*◌, ◌/◌, ◌≤◌, ◌<◌, ◌==◌, Bool, true, false, List, [], ◌∷◌, ◌++◌, Some, length, map, filter, get_or, slice_get, if◌then◌else◌}
 use Rattle.std.specs.Ordering.{nat_cmp, ordering_then}
 use Rattle.std.specs.declared.cmp.Ordering.{Ordering}
-use Rattle.std.specs.BTreeMap.{BTreeMap, get, ContainsKey}
 use Rattle.std.specs.BTreeSet.{BTreeSet, contains}
 use Rattle.fb_units.specs.declared.types.Track.{Track}
 use Rattle.fb_units.specs.Tracks.{same_track}
@@ -12,15 +11,11 @@ use Rattle.fb_wanted.specs.declared.block.Counts.{Counts}
 use Rattle.fb_wanted.specs.declared.block.Entry.{Entry}
 use Rattle.fb_wanted.specs.declared.block.State.{State}
 use Rattle.fb_wanted.specs.declared.tasks.OfTask.{OfTask}
-use Rattle.fb_wanted.specs.declared.tracks.OnTrack.{OnTrack}
+use Rattle.fb_wanted.specs.declared.heads.OnTrack.{OnTrack}
 use Rattle.fb_wanted.specs.Counting.{counts_of, no_counts, recounted}
 use Rattle.fb_wanted.specs.States.{shares, state_after}
 use Rattle.fb_wanted.specs.Numbering.{AreInOrder, AreSmall, blocks_of}
 use Rattle.fb_wanted.specs.Tracks.{wanted_weight}
-
--- tracks are ordered by cylinder, and then by head
-abbrev pub track_cmp : Track → Track → Ordering
-track_cmp a b = ordering_then (nat_cmp a.cylinder b.cylinder) (nat_cmp a.head b.head)
 
 -- the indexes in the list of the entries that pass a test
 abbrev pub places : (Entry → Bool) → List Entry → List ℕ
@@ -53,28 +48,34 @@ grown_task place entry blocks = counted_anew no_counts (counts_of entry.block.ta
 abbrev pub kept_of_task : ℕ → List Entry → OfTask
 kept_of_task task entries = record { places = places (of_task task) entries; counts = counts_of task entries }
 
+-- a track with no block
+abbrev pub no_block_on : OnTrack
+no_block_on = record { places = []; weight = 0 }
+
 -- a track with one more block
-abbrev pub grown : ℕ → ℕ → Option OnTrack → OnTrack
-grown place weight None = record { places = place ∷ []; weight = weight }
-grown place weight (Some on) = record { places = on.places ++ place ∷ []; weight = on.weight + weight }
+abbrev pub grown : ℕ → ℕ → OnTrack → OnTrack
+grown place weight on = record { places = on.places ++ place ∷ []; weight = on.weight + weight }
 
 -- a track whose weight is without `lost` and with `gained`
 abbrev pub reweighed : ℕ → ℕ → OnTrack → OnTrack
 reweighed lost gained on = record { places = on.places; weight = on.weight - lost + gained }
 
--- what the index has for a track with these blocks and this weight: nothing if it has no block
-abbrev pub kept_from : List ℕ → ℕ → Option OnTrack
-kept_from [] weight = None
-kept_from (p ∷ ps) weight = Some (record { places = p ∷ ps; weight = weight })
-
 -- what the index has for a track
-abbrev pub kept_of : Track → List Entry → Option OnTrack
-kept_of track entries = kept_from (places (of_track track) entries) (wanted_weight track entries)
+abbrev pub kept_of : Track → List Entry → OnTrack
+kept_of track entries = record { places = places (of_track track) entries; weight = wanted_weight track entries }
+
+-- what stands for a track in lists by cylinder and by head
+abbrev pub track_at : List (List OnTrack) → Track → OnTrack
+track_at tracks track = get_or (get_or tracks track.cylinder []) track.head no_block_on
+
+-- the lists reach to the track
+abbrev pub IsThere : List (List OnTrack) → Track → Type 0
+IsThere tracks track = (track.cylinder < length tracks) × (track.head < length (get_or tracks track.cylinder []))
 
 -- the indexes by task and by track are those of the list
-pub record IsIndex (entries : List Entry) (tasks : List OfTask) (tracks : BTreeMap Track OnTrack) : Type 0 where
+pub record IsIndex (entries : List Entry) (tasks : List OfTask) (tracks : List (List OnTrack)) : Type 0 where
   pub by_task : (task : ℕ) → get_or tasks task no_blocks ≡ kept_of_task task entries
-  pub by_track : (track : Track) → get track_cmp tracks track ≡ kept_of track entries
+  pub by_track : (track : Track) → track_at tracks track ≡ kept_of track entries
 
 -- the LBNs of a task's blocks, in order of registration
 abbrev pub lbns : ℕ → List Entry → List ℕ
@@ -88,18 +89,14 @@ fall_cmp a b = ordering_then (nat_cmp a.0 b.0) (nat_cmp a.1 b.1)
 abbrev pub AreNoted : List Entry → BTreeSet (ℕ × ℕ) → Type 0
 AreNoted entries falls = (task i a b : ℕ) → slice_get (lbns task entries) i ≡ Some a → slice_get (lbns task entries) (suc i) ≡ Some b → b < a → contains fall_cmp falls (task, suc i) ≡ true
 
--- the wanted weight that the index has for a track: 0 if the track has no block
-abbrev pub weight_of_kept : Option OnTrack → ℕ
-weight_of_kept None = 0
-weight_of_kept (Some on) = on.weight
+-- the wanted weight that the index has for a track
+abbrev pub weight_kept : List (List OnTrack) → Track → ℕ
+weight_kept tracks track = (track_at tracks track).weight
 
-abbrev pub weight_kept : BTreeMap Track OnTrack → Track → ℕ
-weight_kept tracks track = weight_of_kept (get track_cmp tracks track)
-
--- no track has more wanted weight than the bound of its cylinder, and each cylinder with a block has a bound
-pub record AreGreatest (tracks : BTreeMap Track OnTrack) (greatest : List ℕ) : Type 0 where
+-- no track has more wanted weight than the bound of its cylinder, and each cylinder in the index has a bound
+pub record AreGreatest (tracks : List (List OnTrack)) (greatest : List ℕ) : Type 0 where
   pub weights : (t : Track) → weight_kept tracks t ≤ get_or greatest t.cylinder 0
-  pub there : (t : Track) → ContainsKey track_cmp tracks t → t.cylinder < length greatest
+  pub there : length tracks ≤ length greatest
 
 -- no cylinder's bound is above that of its band, each cylinder has a band, and no band's bound is above what all blocks can weigh
 pub record AreBands (cylinders bands : List ℕ) : Type 0 where
@@ -116,7 +113,7 @@ abbrev pub IsWithin : Change → ℕ → ℕ → Type 0
 IsWithin change first count = (block : Block) (state : State) → shares first count block ≡ false → state_after change block state ≡ state
 
 -- what holds of the registered blocks and their indexes
-pub record IsKept (entries : List Entry) (tasks : List OfTask) (tracks : BTreeMap Track OnTrack) : Type 0 where
+pub record IsKept (entries : List Entry) (tasks : List OfTask) (tracks : List (List OnTrack)) : Type 0 where
   pub in_order : AreInOrder (blocks_of entries)
   pub few : length entries ≤ 16000000
   pub small : AreSmall (blocks_of entries)

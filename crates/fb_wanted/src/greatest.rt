@@ -5,10 +5,9 @@ ghost use Rattle.fb_units.specs.Tracks.{same_track};
 ghost use Rattle.fb_wanted.specs.Index.{weight_kept};
 
 use crate::bands::{BAND, add_bands};
-use crate::tracks::{OnTrack, greatest_on};
+use crate::tracks::Tracks;
 use fb_units::{NoMemory, Track};
 use std::alloc::Global;
-use std::collections::BTreeMap;
 use std::marker::Model;
 
 /// For each cylinder an upper bound of the weight of its tracks, and for each band one of its
@@ -121,7 +120,7 @@ impl Greatest {
 /// by a gain or by a loss of at most `lost`.
 pub fn update_greatest(
     greatest: &mut Greatest,
-    tracks: &BTreeMap<Track, OnTrack>,
+    tracks: &Tracks,
     track: Track,
     weight: u64,
     lost: u64,
@@ -139,6 +138,6 @@ pub fn update_greatest(
     if weight >= was {
         greatest.set(track.cylinder, weight);
     } else if was - weight <= lost {
-        greatest.set(track.cylinder, greatest_on(tracks, track.cylinder));
+        greatest.set(track.cylinder, tracks.greatest_on(track.cylinder));
     }
 }

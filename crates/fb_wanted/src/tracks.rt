@@ -1,26 +1,29 @@
 // The index of the registered blocks by track.
-ghost use Rattle.std.specs.Prelude.{◌≡◌, ℕ, ◌≤◌, ◌<◌, ◌+◌, ◌-◌, ◌^◌, ◌∷◌, ◌++◌, [], List, Option, Some, IfSome, IfNone, IfOk, OnOk, OnErr, if◌then◌else◌};
-ghost use Rattle.std.specs.Option.{option_map};
-ghost use Rattle.std.specs.BTreeMap.{get, ContainsKey};
+ghost use Rattle.std.specs.Prelude.{◌≡◌, ℕ, ◌≤◌, ◌<◌, ◌+◌, ◌-◌, ◌^◌, ◌∷◌, ◌++◌, [], List, IfSome, IfNone, IfOk, OnOk, OnErr, length, get_or, if◌then◌else◌};
 ghost use Rattle.fb_units.specs.declared.types.Track.{Track};
 ghost use Rattle.fb_units.specs.Tracks.{same_track};
-ghost use Rattle.fb_wanted.specs.Index.{track_cmp, grown, reweighed, weight_kept};
-ghost use Rattle.fb_wanted.specs.Tracks.{wanted_weight, IsTrackBefore};
+ghost use Rattle.fb_wanted.specs.Index.{track_at, grown, reweighed, weight_kept, no_block_on, IsThere};
+ghost use Rattle.fb_wanted.specs.Tracks.{wanted_weight};
 
-use crate::places::Places;
+use crate::heads::{Heads, OnTrack};
 use crate::{Entry, State};
 use fb_units::{NoMemory, Track};
 use std::alloc::Global;
-use std::collections::BTreeMap;
-use std::ops::Bound;
+use std::marker::Model;
 
-/// The registered blocks of a track.
+/// The tracks of all cylinders, up to the last one with a block.
 #[derive(Drop)]
-pub struct OnTrack {
-    /// Their indexes among all registered blocks.
-    pub places: Places,
-    /// The sum of weight times sectors over the wanted ones.
-    pub weight: u64,
+pub struct Tracks {
+    cylinders: Vec<Heads>,
+}
+
+impl Model for Tracks {
+    ghost use Rattle.std.specs.Prelude.{List};
+    ghost use Rattle.fb_wanted.specs.declared.heads.OnTrack.{OnTrack};
+
+    ghost Value = { List (List OnTrack) };
+
+    ghost view = { λ t. t.cylinders.items };
 }
 
 /// What a block adds to the wanted weight of its track: weight times sectors if it is wanted, else
@@ -37,105 +40,79 @@ pub fn weight_of(entry: Entry) -> u64
     }
 }
 
-/// Adds a block to a track, and returns the wanted weight of the track afterwards. Out of memory,
-/// it returns `NoMemory` and no track has changed.
-pub fn add_to_track(
-    tracks: &mut BTreeMap<Track, OnTrack>,
-    alloc: Global,
-    track: Track,
-    place: u32,
-    weight: u64,
-) -> Result<u64, NoMemory>
-    requires { IfSome (get track_cmp tracks.old track) (λ on. on.weight + weight < 2 ^ 64) }
-    ensures ok { OnOk result ((t : Track) → get track_cmp tracks.new t ≡ (if same_track track t then Some (grown place weight (get track_cmp tracks.old t)) else get track_cmp tracks.old t)) }
-    ensures weight { IfOk result (λ kept. kept ≡ weight_kept tracks.new track) }
-    ensures err { OnErr result ((t : Track) → get track_cmp tracks.new t ≡ get track_cmp tracks.old t) }
+// Makes room for all cylinders up to this one. Tracks stay as they are, also out of memory.
+fn add_cylinders(cylinders: &mut Vec<Heads>, alloc: Global, cylinder: u32) -> Result<(), NoMemory>
+    ensures stay { (c : ℕ) → get_or cylinders.new.items c [] ≡ get_or cylinders.old.items c [] }
+    ensures no_longer { (n : ℕ) → length cylinders.old.items ≤ n → cylinder < n → length cylinders.new.items ≤ n }
+    ensures there { OnOk result (cylinder < length cylinders.new.items) }
 {
-    match tracks.get_mut(&track) {
-        Some(on) => {
-            on.places.push(place)?;
-            on.weight += weight;
-            Ok(on.weight)
-        }
-        None => {
-            let mut places = Places::new(alloc);
-            places.push(place)?;
-            tracks.insert(track, OnTrack { places, weight })?;
-            Ok(weight)
-        }
+    for _ in cylinders.len()..cylinder as usize + 1 {
+        cylinders.push(Heads::new(alloc))?;
     }
+    Ok(())
 }
 
-/// Takes `lost` from the wanted weight of a track and adds `gained`, and returns the weight
-/// afterwards; 0 if the track has no block.
-pub fn reweigh(tracks: &mut BTreeMap<Track, OnTrack>, track: Track, lost: u64, gained: u64) -> u64
-    requires { IfSome (get track_cmp tracks.old track) (λ on. (lost ≤ on.weight) × (on.weight + gained < 2 ^ 64)) }
-    ensures tracks { (t : Track) → get track_cmp tracks.new t ≡ (if same_track track t then option_map (reweighed lost gained) (get track_cmp tracks.old t) else get track_cmp tracks.old t) }
-    ensures weight { result ≡ weight_kept tracks.new track }
-{
-    match tracks.get_mut(&track) {
-        Some(on) => {
-            on.weight = on.weight - lost + gained;
-            on.weight
-        }
-        None => 0,
-    }
-}
-
-/// The least track that has a block and is not before this one.
-pub fn next_track(tracks: &BTreeMap<Track, OnTrack>, from: Track) -> Option<Track>
-    ensures found { IfSome result (λ t. ContainsKey track_cmp tracks.now t) }
-    ensures from { IfSome result (λ t. IsTrackBefore t from → ⊥) }
-    ensures least { IfSome result (λ t. (k : Track) → ContainsKey track_cmp tracks.now k → (IsTrackBefore k from → ⊥) → IsTrackBefore k t → ⊥) }
-    ensures none { IfNone result ((k : Track) → ContainsKey track_cmp tracks.now k → IsTrackBefore k from) }
-{
-    match tracks.range(from..).next() {
-        Some((track, _)) => Some(*track),
-        None => None,
-    }
-}
-
-/// The wanted weight of a track; 0 if it has no block.
-pub fn weight_on(tracks: &BTreeMap<Track, OnTrack>, track: Track) -> u64
-    ensures { result ≡ weight_kept tracks.now track }
-{
-    match tracks.get(&track) {
-        Some(on) => on.weight,
-        None => 0,
-    }
-}
-
-// The least head above that of the track, on the same cylinder, whose track has a block.
-fn next_head(tracks: &BTreeMap<Track, OnTrack>, track: Track) -> Option<u32>
-    ensures behind { IfSome result (λ h. track.head < h) }
-    ensures least { IfSome result (λ h. (t : Track) → t.cylinder ≡ track.cylinder → track.head < t.head → t.head < h → weight_kept tracks.now t ≡ 0) }
-    ensures none { IfNone result ((t : Track) → t.cylinder ≡ track.cylinder → track.head < t.head → weight_kept tracks.now t ≡ 0) }
-{
-    match tracks
-        .range((Bound::Excluded(track), Bound::Unbounded))
-        .next()
+impl Tracks {
+    /// No track with a block.
+    pub fn new(alloc: Global) -> Self
+        ensures { result ≡ [] }
     {
-        Some((next, _)) => {
-            if next.cylinder == track.cylinder {
-                Some(next.head)
-            } else {
-                None
-            }
+        Tracks {
+            cylinders: Vec::new(alloc),
         }
-        None => None,
     }
-}
 
-/// The greatest wanted weight of the tracks of a cylinder.
-pub fn greatest_on(tracks: &BTreeMap<Track, OnTrack>, cylinder: u32) -> u64
-    ensures each { (t : Track) → t.cylinder ≡ cylinder → weight_kept tracks.now t ≤ result }
-    ensures least { (most : ℕ) → ((t : Track) → t.cylinder ≡ cylinder → weight_kept tracks.now t ≤ most) → result ≤ most }
-{
-    let mut head = 0;
-    let mut greatest = weight_on(tracks, Track { cylinder, head });
-    while let Some(next) = next_head(tracks, Track { cylinder, head }) {
-        head = next;
-        greatest = greatest.max(weight_on(tracks, Track { cylinder, head }));
+    /// Adds a block to a track, and returns the wanted weight of the track afterwards. Out of
+    /// memory, it returns `NoMemory` and no track has changed.
+    pub fn add(
+        &mut self,
+        alloc: Global,
+        track: Track,
+        place: u32,
+        weight: u64,
+    ) -> Result<u64, NoMemory>
+        requires { weight_kept self.old track + weight < 2 ^ 64 }
+        ensures ok { OnOk result ((t : Track) → track_at self.new t ≡ (if same_track track t then grown place weight (track_at self.old t) else track_at self.old t)) }
+        ensures weight { IfOk result (λ kept. kept ≡ weight_kept self.new track) }
+        ensures err { OnErr result ((t : Track) → track_at self.new t ≡ track_at self.old t) }
+        ensures no_longer { (n : ℕ) → length self.old ≤ n → track.cylinder < n → length self.new ≤ n }
+    {
+        add_cylinders(&mut self.cylinders, alloc, track.cylinder)?;
+        self.cylinders[track.cylinder as usize].add(alloc, track.head, place, weight)
     }
-    greatest
+
+    /// Takes `lost` from the wanted weight of a track and adds `gained`, and returns the weight
+    /// afterwards.
+    pub fn reweigh(&mut self, track: Track, lost: u64, gained: u64) -> u64
+        requires there { IsThere self.old track }
+        requires part { lost ≤ weight_kept self.old track }
+        requires room { weight_kept self.old track + gained < 2 ^ 64 }
+        ensures tracks { (t : Track) → track_at self.new t ≡ (if same_track track t then reweighed lost gained (track_at self.old t) else track_at self.old t) }
+        ensures weight { result ≡ weight_kept self.new track }
+        ensures length { length self.new ≡ length self.old }
+    {
+        self.cylinders[track.cylinder as usize].reweigh(track.head, lost, gained)
+    }
+
+    /// The registered blocks of a track; none if there is no place for it yet.
+    pub fn at(&self, track: Track) -> Option<&OnTrack>
+        ensures some { IfSome result (λ on. on.now ≡ track_at self.now track) }
+        ensures none { IfNone result (no_block_on ≡ track_at self.now track) }
+    {
+        match self.cylinders.get(track.cylinder as usize) {
+            Some(heads) => heads.at(track.head),
+            None => None,
+        }
+    }
+
+    /// The greatest wanted weight of the tracks of a cylinder; 0 if it has none.
+    pub fn greatest_on(&self, cylinder: u32) -> u64
+        ensures each { (t : Track) → t.cylinder ≡ cylinder → weight_kept self.now t ≤ result }
+        ensures least { (most : ℕ) → ((t : Track) → t.cylinder ≡ cylinder → weight_kept self.now t ≤ most) → result ≤ most }
+    {
+        match self.cylinders.get(cylinder as usize) {
+            Some(heads) => heads.greatest(),
+            None => 0,
+        }
+    }
 }

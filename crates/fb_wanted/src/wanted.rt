@@ -1,15 +1,14 @@
 // The registered blocks, in order of registration, with their indexes by task, by track, by
 // cylinder and by band of cylinders.
 ghost use Rattle.std.specs.Prelude.{◌≡◌, List, suc, true, false, take, ◌⊎◌, ◌+◌, ◌<◌, ◌≤◌, ℕ, [], ◌∷◌, ◌++◌, ◌*◌, ◌/◌, length, filter, map, IfOk, OnOk, OnErr, IfSome, IfNone, Some, slice_get, get_or, ◌==◌, if◌then◌else◌};
-ghost use Rattle.std.specs.BTreeMap.{get};
 ghost use Rattle.fb_wanted.specs.declared.block.Block.{Block};
 ghost use Rattle.fb_wanted.specs.declared.block.Entry.{Entry};
 ghost use Rattle.fb_wanted.specs.States.{after, shares, entry_after, is_abortable, is_wanted, wanted_unless, on_track, is_block};
 ghost use Rattle.fb_wanted.specs.Numbering.{AreInOrder, blocks_of, registered};
 ghost use Rattle.fb_wanted.specs.Counting.{counts_of, sum_of, Fit};
-ghost use Rattle.fb_wanted.specs.Tracks.{wanted_weight, HasBlock, IsTrackBefore, IsNextTrack};
+ghost use Rattle.fb_wanted.specs.Tracks.{wanted_weight};
 ghost use Rattle.fb_wanted.specs.Depth.{depth_at};
-ghost use Rattle.fb_wanted.specs.Index.{places, of_task, lbns, Rises, IsWithin, with_state, change_nth, change_first, track_cmp, grown, weight_kept, no_blocks, grown_task};
+ghost use Rattle.fb_wanted.specs.Index.{places, of_task, lbns, Rises, IsWithin, with_state, change_nth, change_first, track_at, grown, weight_kept, no_blocks, grown_task};
 ghost use Rattle.fb_units.specs.declared.types.Track.{Track};
 ghost use Rattle.fb_units.specs.Tracks.{same_track};
 
@@ -20,28 +19,30 @@ use crate::depths::{Depth, NO_DEPTH, deepen, most_in};
 use crate::falls::{next_fall, note_fall};
 use crate::greatest::{Greatest, update_greatest};
 use crate::tasks::{OfTask, add_place, recount, take_place_back};
-use crate::tracks::{OnTrack, add_to_track, next_track, reweigh, weight_of};
+use crate::tracks::{Tracks, weight_of};
 use crate::{Block, Change, Counts, Entry, State, TrackBlocks};
 use fb_units::{NoMemory, Track};
 use std::alloc::Global;
-use std::collections::{BTreeMap, BTreeSet};
+use std::collections::BTreeSet;
 use std::marker::Model;
 
 /// Registered blocks, each with its state, in order of registration.
 ///
-/// Costs: to register, to deliver or to look up a block takes time logarithmic in the number of
-/// tracks or blocks; the counts of a task and the bounds of a band take constant time. To suspend
-/// or to resume takes logarithmic time for each block of the task, and so does an abort or a want
-/// again for each of its blocks near the range and for each time that its LBNs fall. When the
-/// heaviest track of a cylinder loses weight, each track of that cylinder is looked at, and
-/// likewise each cylinder of a band when its heaviest one does. There is an entry for each task
-/// number up to the greatest one, and for each cylinder up to the last one with a block.
+/// Costs: to register, to deliver or to look up a block, to look up the blocks of a track, the
+/// counts of a task and the bounds of a band take constant time, and a block whose LBN falls takes
+/// time logarithmic in the number of such falls. To suspend or to resume takes constant time for
+/// each block of the task. An abort or a want again takes constant time for each of the task's
+/// blocks near the range, and logarithmic time for each time that its LBNs fall. When the heaviest
+/// track of a cylinder loses weight, each track of that cylinder is looked at, and likewise each
+/// cylinder of a band when its heaviest one does. There is an entry for each task number up to the
+/// greatest one, for each cylinder up to the last one with a block, and for each head of a cylinder
+/// up to the last one with a block.
 #[derive(Drop)]
 pub struct Wanted {
     alloc: Global,
     entries: Vec<Entry>,
     tasks: Vec<OfTask>,
-    tracks: BTreeMap<Track, OnTrack>,
+    tracks: Tracks,
     falls: BTreeSet<(u32, u32)>,
     greatest: Greatest,
     depths: Vec<Depth>,
@@ -71,24 +72,25 @@ impl Model for Wanted {
 // weight of its track afterwards. Out of memory, it returns `NoMemory` and no index has changed.
 fn add_to_index(
     tasks: &mut Vec<OfTask>,
-    tracks: &mut BTreeMap<Track, OnTrack>,
+    tracks: &mut Tracks,
     alloc: Global,
     place: u32,
     entry: Entry,
 ) -> Result<u64, NoMemory>
     requires light { entry.block.weight ≤ 1000 }
     requires short { entry.block.count ≤ 2048 }
-    requires room { IfSome (get track_cmp tracks.old entry.block.track) (λ on. on.weight ≤ 16000000 * 2048000) }
+    requires room { weight_kept tracks.old entry.block.track ≤ 16000000 * 2048000 }
     requires few { Fit (sum_of (get_or tasks.old.items entry.block.task no_blocks).counts (counts_of entry.block.task (entry ∷ []))) }
     ensures tasks { OnOk result ((k : ℕ) → get_or tasks.new.items k no_blocks ≡ (if entry.block.task == k then grown_task place entry (get_or tasks.old.items k no_blocks) else get_or tasks.old.items k no_blocks)) }
-    ensures tracks { OnOk result ((t : Track) → get track_cmp tracks.new t ≡ (if same_track entry.block.track t then Some (grown place (wanted_weight entry.block.track (entry ∷ [])) (get track_cmp tracks.old t)) else get track_cmp tracks.old t)) }
+    ensures tracks { OnOk result ((t : Track) → track_at tracks.new t ≡ (if same_track entry.block.track t then grown place (wanted_weight entry.block.track (entry ∷ [])) (track_at tracks.old t) else track_at tracks.old t)) }
     ensures weight { IfOk result (λ kept. kept ≡ weight_kept tracks.new entry.block.track) }
     ensures tasks_stay { OnErr result ((k : ℕ) → get_or tasks.new.items k no_blocks ≡ get_or tasks.old.items k no_blocks) }
-    ensures tracks_stay { OnErr result ((t : Track) → get track_cmp tracks.new t ≡ get track_cmp tracks.old t) }
+    ensures no_longer { (n : ℕ) → length tracks.old ≤ n → entry.block.track.cylinder < n → length tracks.new ≤ n }
+    ensures tracks_stay { OnErr result ((t : Track) → track_at tracks.new t ≡ track_at tracks.old t) }
 {
     let block = entry.block;
     add_place(tasks, alloc, block.task, place)?;
-    match add_to_track(tracks, alloc, block.track, place, weight_of(entry)) {
+    match tracks.add(alloc, block.track, place, weight_of(entry)) {
         Ok(weight) => {
             recount(tasks, block.task, no_counts(), counts_of(entry));
             Ok(weight)
@@ -154,7 +156,7 @@ impl Wanted {
         );
         let lost = weight_of(entry);
         let gained = weight_of(turned);
-        let weight = reweigh(&mut self.tracks, entry.block.track, lost, gained);
+        let weight = self.tracks.reweigh(entry.block.track, lost, gained);
         update_greatest(
             &mut self.greatest,
             &self.tracks,
@@ -338,7 +340,7 @@ impl Wanted {
             alloc,
             entries: Vec::new(alloc),
             tasks: Vec::new(alloc),
-            tracks: BTreeMap::new(alloc),
+            tracks: Tracks::new(alloc),
             falls: BTreeSet::new(alloc),
             greatest: Greatest::new(alloc),
             depths: Vec::new(alloc),
@@ -461,7 +463,7 @@ impl Wanted {
     pub fn on(&self, track: Track) -> TrackBlocks<'_>
         ensures { result ≡ on_track track self.now }
     {
-        match self.tracks.get(&track) {
+        match self.tracks.at(track) {
             Some(on) => TrackBlocks::new(
                 track,
                 self.entries.as_slice(),
@@ -516,13 +518,5 @@ impl Wanted {
         ensures small { result ≤ 16000000 * 1000 }
     {
         most_in(&self.depths, band)
-    }
-
-    /// The least track that has a registered block and is not before this one.
-    pub fn next_registered_track(&self, from: Track) -> Option<Track>
-        ensures some { IfSome result (λ track. IsNextTrack from self.now track) }
-        ensures none { IfNone result ((track : Track) → HasBlock self.now track → IsTrackBefore track from) }
-    {
-        next_track(&self.tracks, from)
     }
 }

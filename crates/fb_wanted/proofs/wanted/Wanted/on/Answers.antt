@@ -1,11 +1,25 @@
 use Rattle.std.proofs.Common.{◌∙◌, ap, sym}
+use Rattle.fb_wanted.specs.Index.{no_block_on, places, of_track}
 use Rattle.fb_wanted.specs.Tracks.{wanted_weight}
-use Rattle.fb_wanted.proofs.Reading.{track_weight, no_track}
+use Rattle.fb_wanted.proofs.Reading.{track_kept, track_weight}
 use Rattle.fb_wanted.proofs.wanted.Wanted.on.Goals as goal
 
+pub new-requires-clause-its : goal.new-requires-clause-its
+new-requires-clause-its c = c.as_slice-in-Some.ensures
+    ∙ ((track_kept c.self.inside.entries.items c.self.inside.tasks.items c.self.inside.tracks c.self.invariant.0 c.args.track c.in-Some.on.now c.in-Some.ensures.some).0
+    ∙ ap (places (of_track c.args.track)) (sym c.as_slice.ensures.value))
+
+pub new-requires-clause-weight : goal.new-requires-clause-weight
+new-requires-clause-weight c = (track_kept c.self.inside.entries.items c.self.inside.tasks.items c.self.inside.tracks c.self.invariant.0 c.args.track c.in-Some.on.now c.in-Some.ensures.some).1
+    ∙ ap (wanted_weight c.args.track) (sym c.as_slice.ensures.value)
+
 pub new-requires-clause-small : goal.new-requires-clause-small
-new-requires-clause-small c = track_weight c.self.inside.entries.items c.self.inside.tasks.items c.self.inside.tracks c.self.invariant.0 c.args.track c.in-Some.on.now c.in-Some.ensures.value
+new-requires-clause-small c = track_weight c.self.inside.entries.items c.self.inside.tasks.items c.self.inside.tracks c.self.invariant.0 c.args.track c.in-Some.on.now c.in-Some.ensures.some
+
+pub new-requires-in-None-clause-its : goal.new-requires-in-None-clause-its
+new-requires-in-None-clause-its c = (track_kept c.self.inside.entries.items c.self.inside.tasks.items c.self.inside.tracks c.self.invariant.0 c.args.track no_block_on c.in-None.ensures.none).0
+    ∙ ap (places (of_track c.args.track)) (sym c.as_slice-in-None.ensures.value)
 
 pub new-requires-in-None-clause-weight : goal.new-requires-in-None-clause-weight
-new-requires-in-None-clause-weight c = (no_track c.self.inside.entries.items c.self.inside.tasks.items c.self.inside.tracks c.self.invariant.0 c.args.track c.in-None.ensures.value).1
+new-requires-in-None-clause-weight c = (track_kept c.self.inside.entries.items c.self.inside.tasks.items c.self.inside.tracks c.self.invariant.0 c.args.track no_block_on c.in-None.ensures.none).1
     ∙ ap (wanted_weight c.args.track) (sym c.as_slice-in-None.ensures.value)

@@ -1,11 +1,11 @@
-use Rattle.std.proofs.Common.{◌<◌, ◌∙◌, ◌++◌, ◌∷◌, [], Some, ap, sym, refl, subst, length, filter, slice_get}
+use Rattle.std.proofs.Common.{◌<◌, ◌∙◌, ◌++◌, ◌∷◌, [], ap, sym, refl, subst, length, filter, slice_get}
 use Rattle.std.proofs.lemmas.List.{length-map}
 use Rattle.fb_wanted.specs.declared.block.Entry.{Entry}
 use Rattle.fb_wanted.specs.Tracks.{wanted_weight}
 use Rattle.fb_wanted.specs.Numbering.{blocks_of, registered}
 use Rattle.fb_wanted.specs.Index.{of_task, lbns, grown, AreNoted}
 use Rattle.fb_wanted.proofs.Numbers.{task-blocks}
-use Rattle.fb_wanted.proofs.Reading.{track_room, counts_room, weight_small}
+use Rattle.fb_wanted.proofs.Reading.{counts_room, weight_small}
 use Rattle.fb_wanted.proofs.Kept.{kept_pushed}
 use Rattle.fb_wanted.proofs.Ranges.{noted-more, noted_still}
 use Rattle.fb_wanted.proofs.Cylinders.{greatest_still, others_within, greatest_settled}
@@ -17,7 +17,7 @@ is_fall-is_fall-requires c =
     c.requires.numbered ∙ (ap length (task-blocks c.args.block.task c.args.self.now) ∙ length-map (filter (of_task c.args.block.task) c.args.self.now) (λ entry. entry.block))
 
 pub add_to_index-requires-clause-room : goal.add_to_index-requires-clause-room
-add_to_index-requires-clause-room c = track_room c.self.inside.entries.items c.self.inside.tasks.items c.self.inside.tracks c.self.invariant.0 c.args.block.track
+add_to_index-requires-clause-room c = weight_small c.self.inside.entries.items c.self.inside.tasks.items c.self.inside.tracks c.self.invariant.0 c.args.block.track
 
 pub add_to_index-requires-clause-few : goal.add_to_index-requires-clause-few
 add_to_index-requires-clause-few c = counts_room c.self.inside.entries.items c.self.inside.tasks.items c.self.inside.tracks c.self.invariant.0 c.args.block.task (record { block = c.args.block; state = c.wanted_unless-state.result }) _ refl
@@ -37,7 +37,7 @@ update_greatest-requires c =
       weight = c.in_ok-weight.ensures.weight;
       there = c.in_ok-add_room.ensures.there;
       small = weight_small (items ++ entry ∷ []) c.add_to_index.new.tasks.items c.add_to_index.new.tracks kept;
-      others = others_within c.self.inside.tracks c.add_to_index.new.tracks c.args.block.track (λ on. Some (grown c.len-place.result (wanted_weight c.args.block.track (entry ∷ [])) on)) c.add_room.new.self roomy c.in_ok-weight.ensures.tracks;
+      others = others_within c.self.inside.tracks c.add_to_index.new.tracks c.args.block.track (grown c.len-place.result (wanted_weight c.args.block.track (entry ∷ []))) c.add_room.new.self roomy c.in_ok-weight.ensures.tracks;
     }
 
 pub deepen-requires-clause-room : goal.deepen-requires-clause-room
@@ -57,15 +57,15 @@ invariant_of-self-2 c =
     let list = c.in_ok-push.ensures.items ∙ ap (λ l. l ++ entry ∷ []) c.in_ok-reserve.ensures.items in
     let place = c.len-place.ensures ∙ c.self.inside.entries.ok.0 in
     let next = free ∙ (ap length (task-blocks task items) ∙ length-map (filter (of_task task) items) (λ e. e.block)) in
+    let roomy = greatest_still c.self.inside.tracks c.self.inside.greatest c.add_room.new.self c.self.invariant.2 c.in_ok-add_room.ensures.stay c.in_ok-add_room.ensures.longer in
     let noted = noted_still items c.self.inside.falls c.note_fall.new.falls c.self.invariant.1 c.in_ok-note_fall.ensures.stay in (
       kept_pushed entry items c.self.inside.tasks.items c.add_to_index.new.tasks.items c.self.inside.tracks c.add_to_index.new.tracks c.push.new.self.items c.len-place.result list place c.self.invariant.0 free room c.requires.light c.requires.short
           c.in_ok-weight.ensures.tasks c.in_ok-weight.ensures.tracks,
       subst (λ l. AreNoted l c.note_fall.new.falls) (sym list)
           (noted-more items entry c.note_fall.new.falls noted next (λ i a before at less.
           c.in_ok-note_fall.ensures.noted (c.is_fall-is_fall.ensures i a before (ap (λ es. slice_get (lbns task es) i) (sym c.self.view_is) ∙ at) less))),
-      greatest_settled c.self.inside.tracks c.add_to_index.new.tracks c.args.block.track (λ on. Some (grown c.len-place.result (wanted_weight c.args.block.track (entry ∷ [])) on)) c.add_room.new.self
-          (greatest_still c.self.inside.tracks c.self.inside.greatest c.add_room.new.self c.self.invariant.2 c.in_ok-add_room.ensures.stay c.in_ok-add_room.ensures.longer) c.in_ok-weight.ensures.tracks
-          c.update_greatest.new.greatest c.in_ok-add_room.ensures.there c.update_greatest.ensures.length c.update_greatest.ensures.weights,
+      greatest_settled c.self.inside.tracks c.add_to_index.new.tracks c.args.block.track (grown c.len-place.result (wanted_weight c.args.block.track (entry ∷ []))) c.add_room.new.self roomy c.in_ok-weight.ensures.tracks
+          c.update_greatest.new.greatest (c.in_ok-weight.ensures.no_longer (length c.add_room.new.self) roomy.there c.in_ok-add_room.ensures.there) c.update_greatest.ensures.length c.update_greatest.ensures.weights,
       deep_pushed items c.push.new.self.items entry c.band_of-band.result c.add_bands.new.bands.items c.deepen.new.depths.items list c.band_of-band.ensures c.requires.light
           (deep_still items c.self.inside.depths.items c.add_bands.new.bands.items c.self.invariant.3 c.in_ok-add_bands.ensures.stay) c.deepen.ensures,
     )

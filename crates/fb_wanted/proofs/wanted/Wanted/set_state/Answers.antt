@@ -1,9 +1,9 @@
-use Rattle.std.proofs.Common.{◌<◌, ◌∙◌, ap, sym, subst, refl, length, option_map}
+use Rattle.std.proofs.Common.{◌<◌, ◌∙◌, ap, sym, subst, refl, length, arith}
 use Rattle.std.proofs.lemmas.Option.{slice_get_read}
 use Rattle.fb_wanted.specs.Index.{with_state, reweighed, AreNoted}
 use Rattle.fb_wanted.proofs.Standing.{items-with_state}
 use Rattle.fb_wanted.proofs.Numbers.{small_at}
-use Rattle.fb_wanted.proofs.Reading.{its_task_there, its_track_there, weight_small, counts_part, counts_room, weight_room}
+use Rattle.fb_wanted.proofs.Reading.{its_task_there, its_track_there, weight_small, counts_part, counts_room, weight_part}
 use Rattle.fb_wanted.proofs.Kept.{kept_set}
 use Rattle.fb_wanted.proofs.Ranges.{noted-with_state}
 use Rattle.fb_wanted.proofs.Cylinders.{others_within, greatest_settled}
@@ -40,20 +40,26 @@ reweigh-weight-requires c =
     let items = c.self.inside.entries.items in
     let there = subst (λ es. c.args.place < length es) (sym c.self.view_is) c.requires in
     let here = slice_get_read items (length items) c.args.place c.index-entry.result.now refl there c.index-entry.ensures in
-    weight_room c.self.inside.entries.items c.self.inside.tasks.items c.self.inside.tracks c.self.invariant.0 c.args.place c.index-entry.result.now c.weight_of-lost.result c.weight_of-gained.result here c.weight_of-lost.ensures.value c.weight_of-gained.ensures.small
+    let tracks = c.self.inside.tracks in
+    let small = weight_small items c.self.inside.tasks.items tracks c.self.invariant.0 c.index-entry.result.now.block.track in
+    record {
+      there = its_track_there items c.self.inside.tasks.items tracks c.self.invariant.0 c.args.place c.index-entry.result.now here;
+      part = weight_part items c.self.inside.tasks.items tracks c.self.invariant.0 c.args.place c.index-entry.result.now c.weight_of-lost.result here c.weight_of-lost.ensures.value;
+      room = omega (arith, small, c.weight_of-gained.ensures.small);
+    }
 
 pub update_greatest-requires : goal.update_greatest-requires
 update_greatest-requires c =
     let items = c.self.inside.entries.items in
     let there = subst (λ es. c.args.place < length es) (sym c.self.view_is) c.requires in
     let here = slice_get_read items (length items) c.args.place c.index-entry.result.now refl there c.index-entry.ensures in
-    let kept = kept_set c.args.state c.args.place c.index-entry.result.now items c.self.inside.tracks c.reweigh-weight.new.tracks here c.self.inside.tasks.items c.recount.new.tasks.items c.counts_of.result c.counts_of-2.result c.weight_of-lost.result c.weight_of-gained.result
+    let kept = kept_set c.args.state c.args.place c.index-entry.result.now items c.self.inside.tracks c.reweigh-weight.new.self here c.self.inside.tasks.items c.recount.new.tasks.items c.counts_of.result c.counts_of-2.result c.weight_of-lost.result c.weight_of-gained.result
     c.self.invariant.0 c.counts_of.ensures c.counts_of-2.ensures c.weight_of-lost.ensures.value c.weight_of-gained.ensures.value c.recount.ensures c.reweigh-weight.ensures.tracks in
     record {
       weight = c.reweigh-weight.ensures.weight;
-      there = c.self.invariant.2.there c.index-entry.result.now.block.track (its_track_there items c.self.inside.tasks.items c.self.inside.tracks c.self.invariant.0 c.args.place c.index-entry.result.now here);
-      small = weight_small _ c.recount.new.tasks.items c.reweigh-weight.new.tracks kept;
-      others = others_within c.self.inside.tracks c.reweigh-weight.new.tracks c.index-entry.result.now.block.track (option_map (reweighed c.weight_of-lost.result c.weight_of-gained.result)) c.self.inside.greatest c.self.invariant.2 c.reweigh-weight.ensures.tracks;
+      there = omega (arith, (its_track_there items c.self.inside.tasks.items c.self.inside.tracks c.self.invariant.0 c.args.place c.index-entry.result.now here).0, c.self.invariant.2.there);
+      small = weight_small _ c.recount.new.tasks.items c.reweigh-weight.new.self kept;
+      others = others_within c.self.inside.tracks c.reweigh-weight.new.self c.index-entry.result.now.block.track (reweighed c.weight_of-lost.result c.weight_of-gained.result) c.self.inside.greatest c.self.invariant.2 c.reweigh-weight.ensures.tracks;
     }
 
 pub invariant_of-self : goal.invariant_of-self
@@ -62,11 +68,11 @@ invariant_of-self c =
     let there = subst (λ es. c.args.place < length es) (sym c.self.view_is) c.requires in
     let here = slice_get_read items (length items) c.args.place c.index-entry.result.now refl there c.index-entry.ensures in
     let same = items-with_state c.args.state c.args.place c.index-entry.result.now items here in (
-      kept_set c.args.state c.args.place c.index-entry.result.now items c.self.inside.tracks c.reweigh-weight.new.tracks here c.self.inside.tasks.items c.recount.new.tasks.items c.counts_of.result c.counts_of-2.result c.weight_of-lost.result c.weight_of-gained.result
+      kept_set c.args.state c.args.place c.index-entry.result.now items c.self.inside.tracks c.reweigh-weight.new.self here c.self.inside.tasks.items c.recount.new.tasks.items c.counts_of.result c.counts_of-2.result c.weight_of-lost.result c.weight_of-gained.result
           c.self.invariant.0 c.counts_of.ensures c.counts_of-2.ensures c.weight_of-lost.ensures.value c.weight_of-gained.ensures.value c.recount.ensures c.reweigh-weight.ensures.tracks,
       subst (λ l. AreNoted l c.self.inside.falls) (sym same) (noted-with_state c.args.state c.args.place items c.self.inside.falls c.self.invariant.1),
-      greatest_settled c.self.inside.tracks c.reweigh-weight.new.tracks c.index-entry.result.now.block.track (option_map (reweighed c.weight_of-lost.result c.weight_of-gained.result)) c.self.inside.greatest c.self.invariant.2 c.reweigh-weight.ensures.tracks
-          c.update_greatest.new.greatest (c.self.invariant.2.there c.index-entry.result.now.block.track (its_track_there items c.self.inside.tasks.items c.self.inside.tracks c.self.invariant.0 c.args.place c.index-entry.result.now here))
+      greatest_settled c.self.inside.tracks c.reweigh-weight.new.self c.index-entry.result.now.block.track (reweighed c.weight_of-lost.result c.weight_of-gained.result) c.self.inside.greatest c.self.invariant.2 c.reweigh-weight.ensures.tracks
+          c.update_greatest.new.greatest (omega (arith, c.reweigh-weight.ensures.length, c.self.invariant.2.there))
           c.update_greatest.ensures.length c.update_greatest.ensures.weights,
       deep_set c.args.state c.args.place c.index-entry.result.now items c.self.inside.depths.items here c.self.invariant.3,
     )

@@ -1,0 +1,140 @@
+// The index of the registered blocks of one cylinder's tracks.
+ghost use Rattle.std.specs.Prelude.{◌≡◌, ℕ, ◌≤◌, ◌<◌, ◌+◌, ◌-◌, ◌^◌, ◌==◌, ◌∷◌, ◌++◌, [], List, IfSome, IfNone, IfOk, OnOk, OnErr, length, get_or, if◌then◌else◌};
+ghost use Rattle.fb_wanted.specs.Index.{grown, reweighed, no_block_on};
+
+use crate::places::Places;
+use fb_units::NoMemory;
+use std::alloc::Global;
+use std::marker::Model;
+
+/// The registered blocks of a track.
+#[derive(Drop)]
+pub struct OnTrack {
+    /// Their indexes among all registered blocks.
+    pub places: Places,
+    /// The sum of weight times sectors over the wanted ones.
+    pub weight: u64,
+}
+
+/// The tracks of a cylinder, by head, up to the last one with a block.
+#[derive(Drop)]
+pub struct Heads {
+    items: Vec<OnTrack>,
+}
+
+impl Model for Heads {
+    ghost use Rattle.std.specs.Prelude.{List};
+    ghost use Rattle.fb_wanted.specs.declared.heads.OnTrack.{OnTrack};
+
+    ghost Value = { List OnTrack };
+
+    ghost view = { λ h. h.items.items };
+}
+
+// Adds a block to a track, and returns the wanted weight of the track afterwards. Out of memory,
+// it returns `NoMemory` and no track has changed.
+fn add_to(
+    tracks: &mut Vec<OnTrack>,
+    alloc: Global,
+    head: u32,
+    place: u32,
+    weight: u64,
+) -> Result<u64, NoMemory>
+    requires { (get_or tracks.old.items head no_block_on).weight + weight < 2 ^ 64 }
+    ensures ok { OnOk result ((h : ℕ) → get_or tracks.new.items h no_block_on ≡ (if head == h then grown place weight (get_or tracks.old.items h no_block_on) else get_or tracks.old.items h no_block_on)) }
+    ensures weight { IfOk result (λ kept. kept ≡ (get_or tracks.new.items head no_block_on).weight) }
+    ensures err { OnErr result ((h : ℕ) → get_or tracks.new.items h no_block_on ≡ get_or tracks.old.items h no_block_on) }
+{
+    let head = head as usize;
+    for _ in tracks.len()..head + 1 {
+        tracks.push(OnTrack {
+            places: Places::new(alloc),
+            weight: 0,
+        })?;
+    }
+    tracks[head].places.push(place)?;
+    tracks[head].weight += weight;
+    Ok(tracks[head].weight)
+}
+
+// Takes `lost` from the wanted weight of a track and adds `gained`, and returns the weight
+// afterwards.
+fn reweigh(tracks: &mut Vec<OnTrack>, head: u32, lost: u64, gained: u64) -> u64
+    requires there { head < length tracks.old.items }
+    requires part { lost ≤ (get_or tracks.old.items head no_block_on).weight }
+    requires room { (get_or tracks.old.items head no_block_on).weight + gained < 2 ^ 64 }
+    ensures tracks { (h : ℕ) → get_or tracks.new.items h no_block_on ≡ (if head == h then reweighed lost gained (get_or tracks.old.items h no_block_on) else get_or tracks.old.items h no_block_on) }
+    ensures weight { result ≡ (get_or tracks.new.items head no_block_on).weight }
+{
+    let on = &mut tracks[head as usize];
+    on.weight = on.weight - lost + gained;
+    on.weight
+}
+
+// The greatest wanted weight of these tracks; 0 if there are none.
+fn greatest(tracks: &[OnTrack]) -> u64
+    ensures each { (h : ℕ) → (get_or tracks.now h no_block_on).weight ≤ result }
+    ensures least { (most : ℕ) → ((h : ℕ) → (get_or tracks.now h no_block_on).weight ≤ most) → result ≤ most }
+{
+    let mut greatest: u64 = 0;
+    for i in 0..tracks.len() {
+        greatest = greatest.max(tracks[i].weight);
+    }
+    greatest
+}
+
+impl Heads {
+    /// No track with a block.
+    pub fn new(alloc: Global) -> Self
+        ensures { result ≡ [] }
+    {
+        Heads {
+            items: Vec::new(alloc),
+        }
+    }
+
+    /// Adds a block to the track of a head, and returns the wanted weight of the track afterwards.
+    /// Out of memory, it returns `NoMemory` and no track has changed.
+    pub fn add(
+        &mut self,
+        alloc: Global,
+        head: u32,
+        place: u32,
+        weight: u64,
+    ) -> Result<u64, NoMemory>
+        requires { (get_or self.old head no_block_on).weight + weight < 2 ^ 64 }
+        ensures ok { OnOk result ((h : ℕ) → get_or self.new h no_block_on ≡ (if head == h then grown place weight (get_or self.old h no_block_on) else get_or self.old h no_block_on)) }
+        ensures weight { IfOk result (λ kept. kept ≡ (get_or self.new head no_block_on).weight) }
+        ensures err { OnErr result ((h : ℕ) → get_or self.new h no_block_on ≡ get_or self.old h no_block_on) }
+    {
+        add_to(&mut self.items, alloc, head, place, weight)
+    }
+
+    /// Takes `lost` from the wanted weight of a head's track and adds `gained`, and returns the
+    /// weight afterwards.
+    pub fn reweigh(&mut self, head: u32, lost: u64, gained: u64) -> u64
+        requires there { head < length self.old }
+        requires part { lost ≤ (get_or self.old head no_block_on).weight }
+        requires room { (get_or self.old head no_block_on).weight + gained < 2 ^ 64 }
+        ensures tracks { (h : ℕ) → get_or self.new h no_block_on ≡ (if head == h then reweighed lost gained (get_or self.old h no_block_on) else get_or self.old h no_block_on) }
+        ensures weight { result ≡ (get_or self.new head no_block_on).weight }
+    {
+        reweigh(&mut self.items, head, lost, gained)
+    }
+
+    /// The registered blocks of a head's track; none if there is no place for it yet.
+    pub fn at(&self, head: u32) -> Option<&OnTrack>
+        ensures some { IfSome result (λ on. on.now ≡ get_or self.now head no_block_on) }
+        ensures none { IfNone result (no_block_on ≡ get_or self.now head no_block_on) }
+    {
+        self.items.get(head as usize)
+    }
+
+    /// The greatest wanted weight of the tracks; 0 if there are none.
+    pub fn greatest(&self) -> u64
+        ensures each { (h : ℕ) → (get_or self.now h no_block_on).weight ≤ result }
+        ensures least { (most : ℕ) → ((h : ℕ) → (get_or self.now h no_block_on).weight ≤ most) → result ≤ most }
+    {
+        greatest(&self.items)
+    }
+}
