@@ -6,13 +6,12 @@ use Rattle.std.proofs.lemmas.Bool.Decides.{nat_tests}
 use Rattle.std.proofs.lemmas.List.Sums.{sum_by-cons, sum_by_more}
 use Rattle.std.proofs.Math.Seq.{take-length}
 use Rattle.std.proofs.lemmas.Option.{slice_get_within, get_or_from_slice_get}
-use Rattle.fb_units.specs.declared.types.Track.{Track}
 use Rattle.fb_units.specs.Tracks.{same_track}
 use Rattle.fb_service.specs.declared.disk.Disk.{Disk}
 use Rattle.fb_wanted.specs.declared.block.Block.{Block}
 use Rattle.fb_wanted.specs.declared.block.Entry.{Entry}
 use Rattle.fb_wanted.specs.States.{is_wanted, on_track, wanted_of}
-use Rattle.fb_wanted.specs.Tracks.{wanted_weight, HasBlock}
+use Rattle.fb_wanted.specs.Tracks.{wanted_weight}
 use Rattle.fb_rows.specs.declared.gap.Dwell.{Dwell}
 use Rattle.fb_rows.specs.declared.gap.Gap.{Gap}
 use Rattle.fb_rows.specs.declared.gap.Plan.{Plan}
@@ -120,23 +119,6 @@ weighs disk dwell (e ∷ es) = elim (cases_Bool (is_wanted e.state)) [
 pub weight_of_stay : (disk : Disk) (dwell : Dwell) (es : List Entry) → stay disk dwell es ≤ wanted_weight dwell.track es
 unfolding stay
 weight_of_stay disk dwell es = weighs disk dwell (on_track dwell.track es)
-
-none-sum : (f : Entry → ℕ) (es : List Entry) → (0 < length es → ⊥) → sum_by f es ≡ 0
-none-sum f [] none = refl
-none-sum f (e ∷ es) none = absurd (none (omega arith))
-
--- and none anything where no block is registered
-pub bare_track : (disk : Disk) (dwell : Dwell) (es : List Entry) → (HasBlock es dwell.track → ⊥) → stay disk dwell es ≡ 0
-unfolding stay
-bare_track disk dwell es none = none-sum (stay_gain disk dwell) (on_track dwell.track es) none
-
-none-wanted : (es : List Entry) → (0 < length es → ⊥) → sum_by worth (wanted_of es) ≡ 0
-none-wanted [] none = refl
-none-wanted (e ∷ es) none = absurd (none (omega arith))
-
--- a track without registered blocks weighs nothing
-pub bare-weight : (track : Track) (es : List Entry) → (HasBlock es track → ⊥) → wanted_weight track es ≡ 0
-bare-weight track es none = none-wanted (on_track track es) none
 
 gain_small : (disk : Disk) (dwell : Dwell) (e : Entry) → FitsDisk disk e.block → stay_gain disk dwell e ≤ 2048000
 gain_small disk dwell e fits = omega (arith, gain-worth disk dwell e, mul-le e.block.weight e.block.count 1000 2048 fits.light fits.few)

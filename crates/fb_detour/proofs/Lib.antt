@@ -4,6 +4,7 @@ pub mod Ranges
 pub mod Arrays
 pub mod Missed
 pub mod Leaving
+pub mod Noted
 pub mod Counted
 pub mod Spread
 pub mod Within

@@ -8,7 +8,7 @@ use Rattle.fb_service.specs.declared.disk.Disk.{Disk}
 use Rattle.fb_wanted.specs.declared.block.Block.{Block}
 use Rattle.fb_wanted.specs.declared.block.Entry.{Entry}
 use Rattle.fb_wanted.specs.States.{wanted_of}
-use Rattle.fb_wanted.specs.Tracks.{wanted_weight, HasBlock}
+use Rattle.fb_wanted.specs.Tracks.{wanted_weight}
 use Rattle.fb_rows.specs.declared.gap.Gap.{Gap}
 use Rattle.fb_rows.specs.declared.gap.Plan.{Plan}
 use Rattle.fb_rows.specs.declared.gap.Plan.TheVariants.{Detour}
@@ -18,7 +18,7 @@ use Rattle.fb_detour.specs.declared.parts.LateParts.{LateParts}
 use Rattle.fb_plan.specs.Ways.{IsScored, Beats}
 use Rattle.fb_detour.specs.Bounds.{stay, early_to, late_most, IsEnough, IsLate, part_at}
 use Rattle.fb_detour.proofs.Ranges.{not_itself}
-use Rattle.fb_detour.proofs.Ceilings.{two_stays, longer_stay, weight_of_stay, bare_track}
+use Rattle.fb_detour.proofs.Ceilings.{two_stays, longer_stay, weight_of_stay}
 
 module _ (disk : Disk) (gap : Gap) (es : List Entry) (track : Track) (leave : ℕ) (is : IsDetour disk gap track leave) where
   pub late-le : (from : ℕ) → from ≤ gap.now + pos disk.mechanism gap.source track false + pos disk.mechanism track gap.target gap.write
@@ -49,14 +49,6 @@ module _ (disk : Disk) (gap : Gap) (es : List Entry) (track : Track) (leave : �
       → from ≤ leave → leave ≤ upto
       → value disk gap (wanted_of es) (Detour track leave) ≤ stay disk (early_to track arrive upto) es + stay disk (late_most gap (from + way)) es
   by_interval arrive upto from way a w low high = omega (arith, both, early-le arrive upto a high, late-from (from + way) (omega (arith, w, low)))
-
-  -- by the target alone where no block is registered on the track
-  pub bare_weight : (HasBlock es track → ⊥) → value disk gap (wanted_of es) (Detour track leave) ≤ wanted_weight gap.target es
-  bare_weight none = omega (arith, both, bare_track disk (early_dwell disk gap (Detour track leave)) es none, weight_of_stay disk (late_dwell disk gap (Detour track leave)) es)
-
-  pub bare_stay : (from : ℕ) → from ≤ gap.now + pos disk.mechanism gap.source track false + pos disk.mechanism track gap.target gap.write
-      → (HasBlock es track → ⊥) → value disk gap (wanted_of es) (Detour track leave) ≤ stay disk (late_most gap from) es
-  bare_stay from le none = omega (arith, both, bare_track disk (early_dwell disk gap (Detour track leave)) es none, late-le from le)
 
 min-below : (n : ℕ) → min n 31 ≤ n
 min-below n = omega arith

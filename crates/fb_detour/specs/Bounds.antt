@@ -15,6 +15,7 @@ use Rattle.fb_model.specs.Plans.{block_end, catches, value, IsPlan, IsDetour, Is
 use Rattle.fb_plan.specs.declared.choice.Scored.{Scored}
 use Rattle.fb_plan.specs.declared.way.Way.{Way}
 use Rattle.fb_detour.specs.declared.bounds.Moves.{Moves}
+use Rattle.fb_detour.specs.declared.candidates.Tried.{Tried}
 use Rattle.fb_detour.specs.declared.intervals.Ceilings.{Ceilings}
 use Rattle.fb_detour.specs.declared.parts.LateParts.{LateParts}
 use Rattle.fb_detour.specs.declared.stop.Stop.{Stop}
@@ -76,6 +77,14 @@ pub record AreCeilings (disk : Disk) (gap : Gap) (entries : List Entry) (way : W
   pub close : ceilings.begin + ceilings.move_on + 16 * ceilings.step ≤ gap.deadline + 16
   pub small : (k : ℕ) → k < 16 → get_or ceilings.early k 0 ≤ 16000000 * 2048000
   pub most : (leave : ℕ) → IsPlan disk gap (plan_by way leave) → value disk gap (wanted_of entries) (plan_by way leave) ≤ ceiling_at ceilings leave
+
+-- the best so far is at least as good as the plan of the way that leaves then, if that is in time
+abbrev pub IsBeaten : Disk → Gap → List Block → Way → Plan → ℕ → Type 0
+IsBeaten disk gap wanted way best leave = leave + move_on disk gap way ≤ gap.deadline → Beats disk gap wanted best (plan_by way leave)
+
+-- each leave that is noted was tried
+abbrev pub AreNotes : Disk → Gap → List Block → Way → Tried → Type 0
+AreNotes disk gap wanted way tried = (k : ℕ) → k < 64 → (get_or tried.leaves k 0 ≡ 0) ⊎ IsBeaten disk gap wanted way tried.best.plan (get_or tried.leaves k 0)
 
 -- the blocks of a track, and how they pass from the arrival on
 pub record IsStop (disk : Disk) (entries : List Entry) (stop : Stop) : Type 0 where

@@ -1,15 +1,15 @@
 // The plans of a way that can be better than the best so far.
-ghost use Rattle.std.specs.Prelude.{◌≡◌, ◌+◌, ◌≤◌, ℕ, true};
+ghost use Rattle.std.specs.Prelude.{◌≡◌, ◌+◌, ◌<◌, ◌≤◌, ℕ, true};
 ghost use Rattle.fb_geometry.specs.Shape.{IsTrackOf};
 ghost use Rattle.fb_rows.specs.declared.gap.Plan.{Plan};
 ghost use Rattle.fb_model.specs.Plans.{IsPlan, block_end};
 ghost use Rattle.fb_wanted.specs.States.{is_wanted, wanted_of};
 ghost use Rattle.fb_plan.specs.Ways.{FitsDisk, AreOnDisk, IsGap, IsWay, IsScored, Beats, plan_by, early_track, arrival, move_on};
 ghost use Rattle.fb_plan.specs.Turns.{AreSides, stay_of};
-ghost use Rattle.fb_detour.specs.Bounds.{IsLate, AreCeilings};
+ghost use Rattle.fb_detour.specs.Bounds.{IsLate, AreCeilings, AreNotes};
 
 use crate::intervals::{Ceilings, ceiling_at, ceilings_of};
-use crate::parts::LateParts;
+use crate::parts::{EARLY, LateParts};
 use crate::stop::stop_at;
 use fb_plan::{
     Scored, Sides, Way, blocks_on, is_wanted, move_on, plan_by, sides_of, stay_of, try_entry,
@@ -17,6 +17,7 @@ use fb_plan::{
 };
 use fb_rows::Gap;
 use fb_service::Disk;
+use fb_units::Ns;
 use fb_wanted::{Entry, Wanted};
 
 // Tries to leave as the passage of a wanted block ends, unless the ceiling shows that this isn't
@@ -58,7 +59,66 @@ fn try_leave(
     try_entry(disk, wanted, gap, way, sides, entry, best)
 }
 
-// Tries all plans of a way.
+// Into how many parts the time on a track is divided to note which leaves were tried.
+const NOTED: usize = 64;
+
+// The number of the part of the time on a track that the instant lies in.
+fn part_of(ceilings: &Ceilings, instant: Ns) -> usize
+    ensures { result < 64 }
+{
+    let part = ceilings.step / (NOTED / EARLY) as u64 + 1;
+    (instant.saturating_sub(ceilings.begin) / part).min(NOTED as u64 - 1) as usize
+}
+
+// The best plan so far, and for each part of the time on a track the leave that was tried there last;
+// 0 where there is none.
+#[derive(Clone, Copy)]
+struct Tried {
+    best: Scored,
+    leaves: [Ns; NOTED],
+}
+
+// Tries to leave as the passage of a wanted block ends, unless that leave is noted, and notes it.
+fn try_once(
+    disk: &Disk,
+    wanted: &Wanted,
+    gap: &Gap,
+    way: Way,
+    sides: &Sides,
+    ceilings: &Ceilings,
+    entry: Entry,
+    tried: &mut Tried,
+)
+    requires way { IsWay disk.now gap.now way }
+    requires track { IsTrackOf disk.now.map (early_track gap.now way) }
+    requires fits { FitsDisk disk.now entry.block }
+    requires gap { IsGap disk.now gap.now }
+    requires sides { AreSides disk.now gap.now.target wanted.now (stay_of disk.now gap.now way) sides.now }
+    requires early { AreOnDisk disk.now sides.now.early }
+    requires late { AreOnDisk disk.now sides.now.late }
+    requires ceilings { AreCeilings disk.now gap.now wanted.now way ceilings.now }
+    requires best { IsScored disk.now gap.now (wanted_of wanted.now) tried.old.best }
+    requires notes { AreNotes disk.now gap.now (wanted_of wanted.now) way tried.old }
+    ensures scored { IsScored disk.now gap.entry.now (wanted_of wanted.now) tried.new.best }
+    ensures keeps { Beats disk.now gap.entry.now (wanted_of wanted.now) tried.new.best.plan tried.old.best.plan }
+    ensures tried { is_wanted entry.state ≡ true → block_end disk.now.map entry.block (arrival disk.now gap.entry.now way) + move_on disk.now gap.entry.now way ≤ gap.entry.now.deadline
+        → Beats disk.now gap.entry.now (wanted_of wanted.now) tried.new.best.plan (plan_by way (block_end disk.now.map entry.block (arrival disk.now gap.entry.now way))) }
+    ensures notes { AreNotes disk.now gap.entry.now (wanted_of wanted.now) way tried.new }
+{
+    if !is_wanted(entry.state) {
+        return;
+    }
+    let end = sides.passing.end(disk, entry.block);
+    let part = part_of(ceilings, end);
+    if tried.leaves[part] == end {
+        return;
+    }
+    tried.best = try_leave(disk, wanted, gap, way, sides, ceilings, entry, tried.best);
+    tried.leaves[part] = end;
+}
+
+// Tries all plans of a way. Of leaves at one instant, as many blocks may pass at once, most are
+// tried once.
 pub fn try_leaves(
     disk: &Disk,
     wanted: &Wanted,
@@ -81,12 +141,16 @@ pub fn try_leaves(
     let stay = stay_of(disk, gap, way);
     let both = sides_of(disk, wanted, gap.target, stay);
     let first = plan_by(way, stay.begin);
-    let mut best = try_plan(disk, wanted, gap, &both, first, start);
+    let best = try_plan(disk, wanted, gap, &both, first, start);
+    let mut tried = Tried {
+        best,
+        leaves: [0; NOTED],
+    };
     for i in 0..both.early.len() {
         let entry = both.early.get(i);
-        best = try_leave(disk, wanted, gap, way, &both, ceilings, entry, best);
+        try_once(disk, wanted, gap, way, &both, ceilings, entry, &mut tried);
     }
-    best
+    tried.best
 }
 
 // Tries all plans that wait at the source.

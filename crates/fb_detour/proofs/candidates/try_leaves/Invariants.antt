@@ -3,11 +3,13 @@ use Rattle.fb_wanted.specs.declared.block.Entry.{Entry}
 use Rattle.fb_wanted.specs.States.{on_track, is_wanted, wanted_of}
 use Rattle.fb_model.specs.Plans.{block_end}
 use Rattle.fb_plan.specs.Ways.{IsScored, Beats, plan_by, early_track, arrival, move_on}
+use Rattle.fb_detour.specs.Bounds.{AreNotes}
 use Rattle.fb_detour.proofs.candidates.try_leaves.Given as goal
 
 abbrev pub invariant-loop-i : goal.invariant-loop-i
-invariant-loop-i l = IsScored l.disk l.gap (wanted_of l.wanted) l.best
-    × Beats l.disk l.gap (wanted_of l.wanted) l.best.plan l.initial.best.plan
+invariant-loop-i l = IsScored l.disk l.gap (wanted_of l.wanted) l.tried.best
+    × Beats l.disk l.gap (wanted_of l.wanted) l.tried.best.plan l.initial.tried.best.plan
     × ((k : ℕ) (e : Entry) → k < l.i → slice_get (on_track (early_track l.gap l.way) l.wanted) k ≡ Some e → is_wanted e.state ≡ true
     → block_end l.disk.map e.block (arrival l.disk l.gap l.way) + move_on l.disk l.gap l.way ≤ l.gap.deadline
-    → Beats l.disk l.gap (wanted_of l.wanted) l.best.plan (plan_by l.way (block_end l.disk.map e.block (arrival l.disk l.gap l.way))))
+    → Beats l.disk l.gap (wanted_of l.wanted) l.tried.best.plan (plan_by l.way (block_end l.disk.map e.block (arrival l.disk l.gap l.way))))
+    × AreNotes l.disk l.gap (wanted_of l.wanted) l.way l.tried
