@@ -1,5 +1,5 @@
 -- Gaps of a disk on which nothing is wanted.
-use Rattle.std.proofs.Common.{◌≡◌, ℕ, ◌≤◌, ◌<◌, List, arith}
+use Rattle.std.proofs.Common.{◌≤◌, List, arith}
 use Rattle.fb_units.specs.declared.types.Track.{Track}
 use Rattle.fb_geometry.specs.Shape.{IsTrackOf}
 use Rattle.fb_service.specs.declared.disk.Disk.{Disk}

@@ -11,6 +11,7 @@ ghost use Rattle.fb_detour.specs.Bounds.{BeatsOver, BeatsRange, IsAfter, IsLate}
 
 use crate::bounds::{LONG, is_enough, least_moves, most_in_time};
 use crate::candidates::try_leaves;
+use crate::guess::most_promising;
 use crate::intervals::ceilings_of;
 use crate::leaves::{intervals_beaten, leaves_beaten};
 use crate::missing::misses_enough;
@@ -159,6 +160,21 @@ fn try_cylinder(
         best = try_track(disk, wanted, gap, late, track, after, best);
     }
     best
+}
+
+// Tries the tracks of the cylinder that seems to promise most.
+pub fn try_guess(disk: &Disk, wanted: &Wanted, gap: &Gap, late: &LateParts, start: Scored) -> Scored
+    requires gap { IsGap disk.now gap.now }
+    requires blocks { AreOnDisk disk.now wanted.now }
+    requires late { IsLate disk.now gap.now wanted.now late.now }
+    requires best { IsScored disk.now gap.now (wanted_of wanted.now) start }
+    ensures scored { IsScored disk.now gap.entry.now (wanted_of wanted.now) result }
+    ensures keeps { Beats disk.now gap.entry.now (wanted_of wanted.now) result.plan start.plan }
+{
+    match most_promising(disk, wanted, gap, late, start.value) {
+        Some(cylinder) => try_cylinder(disk, wanted, gap, late, cylinder, start),
+        None => start,
+    }
 }
 
 // Whether so little time is left that no detour over a track of these cylinders is better than the
