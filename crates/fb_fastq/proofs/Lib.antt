@@ -4,6 +4,8 @@ pub mod Least
 pub mod Turns
 pub mod Far
 pub mod OnLanes
+pub mod Visiting
 pub mod Sweeps
 pub mod Alike
 pub mod Walks
+pub mod Breaks

@@ -7,13 +7,13 @@ use Rattle.fb_units.specs.declared.types.Request.{Request}
 use Rattle.fb_fastq.specs.Joining.{Waits, IsNoLater}
 use Rattle.fb_fastq.specs.Turns.{turn}
 
-ahead : (c h n : ℕ) → h ≤ c → c < n → (c + n - h) % n ≡ c - h
+pub ahead : (c h n : ℕ) → h ≤ c → c < n → (c + n - h) % n ≡ c - h
 ahead c h n le lt =
     let sum : c + n - h ≡ n + (c - h) = omega arith in
     let small : c - h < n = omega arith in
     ap (λ x. x % n) sum ∙ (add-mod_left n (c - h) ∙ mod-eq_of_lt small)
 
-round : (c h n : ℕ) → c < h → h < n → (c + n - h) % n ≡ c + n - h
+pub round : (c h n : ℕ) → c < h → h < n → (c + n - h) % n ≡ c + n - h
 round c h n lt below = let small : c + n - h < n = omega arith in mod-eq_of_lt small
 
 -- the least spot from the first one on comes first

@@ -2,6 +2,7 @@
 use Rattle.std.specs.Prelude.{◌≡◌, ℕ, ◌+◌, ◌*◌, ◌<◌, ◌≤◌, ◌^◌, Bool, if◌then◌else◌}
 use Rattle.fb_units.specs.declared.types.Track.{Track}
 use Rattle.fb_units.specs.declared.types.Request.{Request}
+use Rattle.fb_geometry.specs.Shape.{cylinders_of}
 use Rattle.fb_sectormap.specs.Lookup.{place_at, track_at}
 use Rattle.fb_service.specs.declared.disk.Disk.{Disk}
 use Rattle.fb_service.specs.Passing.{begin_angle}
@@ -22,3 +23,4 @@ pub record IsAlong (disk : Disk) (request : Request) (spot : ℕ) : Type 0 where
   pub value : spot ≡ lane_start (track_at disk.map request.lbn) request.write + begin_angle disk.map (place_at disk.map request.lbn)
   pub within : begin_angle disk.map (place_at disk.map request.lbn) < disk.map.rotation
   pub head : (track_at disk.map request.lbn).head < 64
+  pub on_disk : spot < cylinders_of disk.map.zones * (128 * 10 ^ 9)

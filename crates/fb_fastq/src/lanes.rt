@@ -1,12 +1,10 @@
 // Lanes: the tracks laid end to end, each once for reads and once for writes.
 ghost use Rattle.std.specs.Prelude.{◌≡◌, ◌+◌, ◌*◌, ◌<◌, ◌≤◌, ◌^◌};
 ghost use Rattle.fb_geometry.specs.Shape.{IsTrackOf, cylinders_of};
-ghost use Rattle.fb_sectormap.specs.Lookup.{track_at};
 ghost use Rattle.fb_model.specs.Accepted.{IsRequestOf};
-ghost use Rattle.fb_sectormap.specs.Runs.{IsRun};
 ghost use Rattle.fb_fastq.specs.Lanes.{IsLane, IsAlong};
 
-use fb_service::{Approach, Disk};
+use fb_service::Disk;
 use fb_units::{Ns, Request, Track};
 
 /// The length of each lane, in ns: room for the longest rotation.
@@ -61,18 +59,26 @@ fn lane_at(disk: &Disk, track: Track, write: bool) -> Lane
     }
 }
 
-/// The lane of a request whose cylinder the approach has looked up already.
-pub fn lane_of(disk: &Disk, near: &Approach, request: &Request) -> Lane
-    requires near { IsRun disk.now.map near.now.run }
-    requires first { near.now.run.first ≤ request.now.lbn }
-    requires end { request.now.lbn < near.now.run.end }
+/// The lane in whose room a spot lies.
+pub fn lane_around(disk: &Disk, spot: Ns) -> Lane
+    requires { spot < cylinders_of disk.now.map.zones * (128 * 10 ^ 9) }
     ensures lane { IsLane result }
-    ensures track { result.track ≡ track_at disk.now.map request.now.lbn }
-    ensures cylinder { result.track.cylinder ≡ near.now.run.on.number }
-    ensures write { result.write ≡ request.now.write }
+    ensures cylinder { result.track.cylinder < cylinders_of disk.now.map.zones }
+    ensures from { result.start ≤ spot }
+    ensures before { spot < result.start + 10 ^ 9 }
 {
-    let place = disk.map.place_in(&near.run, request.lbn);
-    lane_at(disk, place.track, request.write)
+    few_tracks(disk);
+    let along = spot % CYLINDER;
+    let number = along / LANE;
+    let track = Track {
+        cylinder: (spot / CYLINDER) as u32,
+        head: (number / 2) as u32,
+    };
+    Lane {
+        track,
+        write: number % 2 == 1,
+        start: spot - along % LANE,
+    }
 }
 
 /// Where a request's first sector begins along all lanes laid end to end, in ns.

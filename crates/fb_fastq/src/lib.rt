@@ -24,6 +24,7 @@ mod soonest;
 #[cfg(test)]
 mod tests;
 mod upwards;
+mod visit;
 
 pub use choice::Choice;
 pub use indexed::Indexed;

@@ -1,25 +1,26 @@
 // Shortest positioning time first.
-ghost use Rattle.std.specs.Prelude.{◌≡◌, ℕ, ◌+◌, ◌*◌, ◌%◌, ◌<◌, ◌≤◌, ◌^◌, ◌⊎◌, true};
+ghost use Rattle.std.specs.Prelude.{◌≡◌, ℕ, ◌+◌, ◌*◌, ◌<◌, ◌≤◌, ◌^◌, ◌⊎◌, true, IfSome, MatchOption};
 ghost use Rattle.fb_units.specs.declared.types.Request.{Request};
 ghost use Rattle.fb_sectormap.specs.Lookup.{track_at};
-ghost use Rattle.fb_seek.specs.Positioning.{pos, distance_of};
-ghost use Rattle.fb_service.specs.Approaching.{IsDeparture, IsApproach};
-ghost use Rattle.fb_model.specs.Accepted.{IsRequestOf};
+ghost use Rattle.fb_seek.specs.Positioning.{distance_of};
+ghost use Rattle.fb_service.specs.declared.approach.Departure.{Departure};
+ghost use Rattle.fb_service.specs.Approaching.{IsDeparture};
 ghost use Rattle.fb_model.specs.PlainReplay.{sptf};
 ghost use Rattle.fb_fastq.specs.Joining.{AllHeld};
 ghost use Rattle.fb_fastq.specs.Lanes.{IsLane, IsAlong};
+ghost use Rattle.fb_fastq.specs.Visits.{IsVisit};
 ghost use Rattle.fb_fastq.specs.Candidates.{IsCandidate, IsBefore, BeatsFrom, BeatsBetween};
 
-use crate::index::{last_before, next_from, next_round};
-use crate::lanes::{LANE, Lane, along, cylinder_start, lane_of};
+use crate::index::{next_from, next_round};
+use crate::lanes::{LANE, along, cylinder_start};
+use crate::visit::{Visit, visit_after, visit_to};
 use crate::{Choice, Indexed};
-use fb_service::{Approach, Departure, Disk, approach_on, approach_to, departure_from, wait_on};
+use fb_service::{Departure, Disk, departure_from};
 use fb_units::{Ns, Request, Track};
 use std::collections::BTreeMap;
 
-// So many requests of each side are valued one after another: where they are spread over the disk, that is less than the
-// searches for their lanes.
-const FEW: u32 = 48;
+// So many requests of a lane are valued one after another. Where more wait, a search for the first to pass is less work.
+const FEW: u32 = 16;
 
 /// The soonest first passage first.
 #[derive(Clone, Copy, Default)]
@@ -35,24 +36,12 @@ pub struct Candidate {
     pub wait: Ns,
 }
 
-// The request under a key as a candidate; `near` saves the look-up where it is of the same
-// cylinder.
-fn candidate_of(
-    disk: &Disk,
-    from: Departure,
-    near: Approach,
-    key: (u64, u64),
-    request: &Request,
-) -> Candidate
-    requires from { IsDeparture disk.now from }
-    requires near { IsApproach disk.now from near }
-    requires request { IsRequestOf disk.now.map request.now }
-    ensures key { result.key ≡ key }
-    ensures wait { result.wait ≡ sptf disk.now from.track from.instant request.now }
-{
-    let near = approach_on(disk, from, near, request.lbn);
-    let wait = wait_on(disk, from, &near, request.lbn, request.write);
-    Candidate { key, wait }
+/// What a walk along one side of the arm found.
+#[derive(Clone, Copy)]
+pub struct Walked {
+    pub best: Candidate,
+    /// The lane at which the walk broke off, since more wait there than are valued one after another.
+    pub full: Option<Visit>,
 }
 
 // The sooner of two; of two with the same wait, the one that joined first.
@@ -68,197 +57,188 @@ fn sooner(a: Candidate, b: Candidate) -> Candidate
     }
 }
 
-// Whether the seek to a cylinder alone takes longer than this wait, in ns.
-fn is_too_far(disk: &Disk, from: Departure, near: &Approach, wait: Ns) -> bool
-    requires near { IsApproach disk.now from near.now }
-    ensures { result ≡ true → (now : ℕ) (r : Request) → distance_of from.track.cylinder near.now.run.on.number ≤ distance_of from.track.cylinder (track_at disk.now.map r.lbn).cylinder → wait < sptf disk.now from.track now r }
+// Whether the seek to a lane's cylinder alone takes longer than this wait, in ns.
+fn is_too_far(disk: &Disk, from: Departure, visit: &Visit, wait: Ns) -> bool
+    requires visit { IsVisit disk.now from visit.now }
+    ensures { result ≡ true → (now : ℕ) (r : Request) → distance_of from.track.cylinder visit.now.lane.track.cylinder ≤ distance_of from.track.cylinder (track_at disk.now.map r.lbn).cylinder → wait < sptf disk.now from.track now r }
 {
     disk.mechanism.seeks_rise();
-    wait < near.seek
+    wait < visit.seek
 }
 
-// The angle at which the platter stands when the head comes to a lane.
-fn angle_on(disk: &Disk, from: Departure, near: &Approach, lane: Lane) -> Ns
-    requires from { IsDeparture disk.now from }
-    requires near { IsApproach disk.now from near.now }
-    requires cylinder { lane.track.cylinder ≡ near.now.run.on.number }
-    ensures value { result ≡ (from.instant + pos disk.now.mechanism from.track lane.track lane.write) % disk.now.map.rotation }
-    ensures bound { result < disk.now.map.rotation }
-{
-    let way = disk
-        .mechanism
-        .pos_with(near.seek, from.track, lane.track, lane.write);
-    (from.instant + way) % disk.map.geometry().rotation()
-}
-
-// The soonest among a candidate and the requests of a lane.
+// The soonest among a candidate and the requests of a lane, by a search.
 fn soonest_of_lane(
     waiting: &BTreeMap<(u64, u64), Request>,
     disk: &Disk,
-    from: Departure,
-    near: Approach,
-    lane: Lane,
+    visit: &Visit,
     best: Candidate,
 ) -> Candidate
     requires spots { AllHeld (λ key request. IsAlong disk.now request key.0) waiting.now }
-    requires on_disk { AllHeld (λ key request. IsRequestOf disk.now.map request) waiting.now }
-    requires from { IsDeparture disk.now from }
-    requires near { IsApproach disk.now from near }
-    requires cylinder { lane.track.cylinder ≡ near.run.on.number }
-    requires lane { IsLane lane }
-    requires best { IsCandidate disk.now from.track from.instant waiting.now best }
-    ensures found { IsCandidate disk.now from.track from.instant waiting.now result }
+    requires lane { IsLane visit.now.lane }
+    requires way { visit.now.way ≤ 2 * 10 ^ 9 }
+    requires angle { visit.now.angle < disk.now.map.rotation }
+    ensures found { (from : Departure) → IsVisit disk.now from visit.now → IsCandidate disk.now from.track from.instant waiting.now best → IsCandidate disk.now from.track from.instant waiting.now result }
     ensures first { IsBefore result best }
-    ensures least { BeatsBetween disk.now from.track from.instant waiting.now result lane.start (lane.start + 10 ^ 9) }
+    ensures least { (from : Departure) → IsVisit disk.now from visit.now → BeatsBetween disk.now from.track from.instant waiting.now result visit.now.lane.start (visit.now.lane.start + 10 ^ 9) }
 {
     let rotation = disk.map.geometry().rotation();
-    let angle = angle_on(disk, from, &near, lane);
-    match next_round(waiting, lane.start, rotation, angle) {
-        Some((key, request)) => sooner(best, candidate_of(disk, from, near, key, &request)),
+    match next_round(waiting, visit.lane.start, rotation, visit.angle) {
+        Some((key, _)) => {
+            let wait = visit.wait(disk, key.0);
+            sooner(best, Candidate { key, wait })
+        }
         None => best,
     }
 }
 
-// The soonest of a candidate and of the requests from a spot on, no lower than the head's cylinder, lane by lane.
-fn lanes_above(
+// The soonest of a candidate and of the requests from a spot on, no lower than the head's cylinder, up to the first lane
+// on which more than a few wait.
+fn walk_up(
     waiting: &BTreeMap<(u64, u64), Request>,
     disk: &Disk,
     from: Departure,
     start: u64,
-    any: Approach,
+    any: Visit,
     first: Candidate,
-) -> Candidate
+) -> Walked
     requires spots { AllHeld (λ key request. IsAlong disk.now request key.0) waiting.now }
-    requires on_disk { AllHeld (λ key request. IsRequestOf disk.now.map request) waiting.now }
     requires from { IsDeparture disk.now from }
     requires start { from.track.cylinder * (128 * 10 ^ 9) ≤ start }
-    requires any { IsApproach disk.now from any }
+    requires any { IsVisit disk.now from any }
     requires first { IsCandidate disk.now from.track from.instant waiting.now first }
-    ensures found { IsCandidate disk.now from.track from.instant waiting.now result }
-    ensures first { IsBefore result first }
-    ensures least { BeatsFrom disk.now from.track from.instant waiting.now result start }
+    ensures found { IsCandidate disk.now from.track from.instant waiting.now result.best }
+    ensures first { IsBefore result.best first }
+    ensures full { IfSome result.full (IsVisit disk.now from) }
+    ensures on { IfSome result.full (λ visit. start < visit.lane.start + 10 ^ 9) }
+    ensures least { MatchOption result.full (BeatsFrom disk.now from.track from.instant waiting.now result.best start)
+        (λ visit. BeatsBetween disk.now from.track from.instant waiting.now result.best start visit.lane.start) }
 {
     let mut best = first;
-    let mut near = any;
-    let mut next = start;
-    while let Some((_, request)) = next_from(waiting, next) {
-        near = approach_on(disk, from, near, request.lbn);
-        if is_too_far(disk, from, &near, best.wait) {
-            return best;
+    let mut visit = any;
+    let mut left = FEW;
+    for (key, _) in waiting.range((start, 0)..) {
+        let last = visit;
+        visit = visit_after(disk, from, last, key.0);
+        if is_too_far(disk, from, &visit, best.wait) {
+            return Walked { best, full: None };
         }
-        let lane = lane_of(disk, &near, &request);
-        best = soonest_of_lane(waiting, disk, from, near, lane, best);
-        next = lane.start + LANE;
+        left = if visit.lane.start == last.lane.start {
+            left
+        } else {
+            FEW
+        };
+        if left == 0 {
+            return Walked {
+                best,
+                full: Some(visit),
+            };
+        }
+        left -= 1;
+        let wait = visit.wait(disk, key.0);
+        best = sooner(best, Candidate { key: *key, wait });
     }
-    best
+    Walked { best, full: None }
 }
 
-// The soonest of a candidate and of the requests before a spot, no higher than the head's cylinder, lane by lane.
-fn lanes_below(
+// The soonest of a candidate and of the requests before a spot, no higher than the head's cylinder, down to the first
+// lane on which more than a few wait.
+fn walk_down(
     waiting: &BTreeMap<(u64, u64), Request>,
     disk: &Disk,
     from: Departure,
-    start: u64,
-    any: Approach,
+    end: u64,
+    any: Visit,
     first: Candidate,
-) -> Candidate
+) -> Walked
     requires spots { AllHeld (λ key request. IsAlong disk.now request key.0) waiting.now }
-    requires on_disk { AllHeld (λ key request. IsRequestOf disk.now.map request) waiting.now }
     requires from { IsDeparture disk.now from }
-    requires start { start ≤ from.track.cylinder * (128 * 10 ^ 9) }
-    requires any { IsApproach disk.now from any }
+    requires end { end ≤ from.track.cylinder * (128 * 10 ^ 9) }
+    requires any { IsVisit disk.now from any }
     requires first { IsCandidate disk.now from.track from.instant waiting.now first }
-    ensures found { IsCandidate disk.now from.track from.instant waiting.now result }
-    ensures first { IsBefore result first }
-    ensures least { BeatsBetween disk.now from.track from.instant waiting.now result 0 start }
+    ensures found { IsCandidate disk.now from.track from.instant waiting.now result.best }
+    ensures first { IsBefore result.best first }
+    ensures full { IfSome result.full (IsVisit disk.now from) }
+    ensures on { IfSome result.full (λ visit. visit.lane.start < end) }
+    ensures least { MatchOption result.full (BeatsBetween disk.now from.track from.instant waiting.now result.best 0 end)
+        (λ visit. BeatsBetween disk.now from.track from.instant waiting.now result.best (visit.lane.start + 10 ^ 9) end) }
 {
     let mut best = first;
-    let mut near = any;
-    let mut next = start;
-    while let Some((_, request)) = last_before(waiting, next) {
-        near = approach_on(disk, from, near, request.lbn);
-        if is_too_far(disk, from, &near, best.wait) {
-            return best;
+    let mut visit = any;
+    let mut left = FEW;
+    for (key, _) in waiting.range(..(end, 0)).rev() {
+        let last = visit;
+        visit = visit_after(disk, from, last, key.0);
+        if is_too_far(disk, from, &visit, best.wait) {
+            return Walked { best, full: None };
         }
-        let lane = lane_of(disk, &near, &request);
-        best = soonest_of_lane(waiting, disk, from, near, lane, best);
-        next = lane.start;
+        left = if visit.lane.start == last.lane.start {
+            left
+        } else {
+            FEW
+        };
+        if left == 0 {
+            return Walked {
+                best,
+                full: Some(visit),
+            };
+        }
+        left -= 1;
+        let wait = visit.wait(disk, key.0);
+        best = sooner(best, Candidate { key: *key, wait });
     }
-    best
+    Walked { best, full: None }
 }
 
-// The soonest of a candidate and of the requests on the head's cylinder, where its lanes start, and above it: the first few
-// one after another, and the others lane by lane.
+// The soonest of a candidate and of the requests from a spot on, no lower than the head's cylinder.
 fn soonest_above(
     waiting: &BTreeMap<(u64, u64), Request>,
     disk: &Disk,
     from: Departure,
     start: u64,
-    any: Approach,
+    any: Visit,
     first: Candidate,
 ) -> Candidate
     requires spots { AllHeld (λ key request. IsAlong disk.now request key.0) waiting.now }
-    requires on_disk { AllHeld (λ key request. IsRequestOf disk.now.map request) waiting.now }
     requires from { IsDeparture disk.now from }
-    requires start { start ≡ from.track.cylinder * (128 * 10 ^ 9) }
-    requires any { IsApproach disk.now from any }
+    requires start { from.track.cylinder * (128 * 10 ^ 9) ≤ start }
+    requires any { IsVisit disk.now from any }
     requires first { IsCandidate disk.now from.track from.instant waiting.now first }
     ensures found { IsCandidate disk.now from.track from.instant waiting.now result }
     ensures first { IsBefore result first }
     ensures least { BeatsFrom disk.now from.track from.instant waiting.now result start }
 {
-    let mut best = first;
-    let mut near = any;
-    let mut left = FEW;
-    for (key, request) in waiting.range((start, 0)..) {
-        near = approach_on(disk, from, near, request.lbn);
-        if is_too_far(disk, from, &near, best.wait) {
-            return best;
-        }
-        if left == 0 {
-            return lanes_above(waiting, disk, from, key.0, near, best);
-        }
-        left -= 1;
-        best = sooner(best, candidate_of(disk, from, near, *key, request));
+    let mut walked = walk_up(waiting, disk, from, start, any, first);
+    while let Some(visit) = walked.full {
+        let best = soonest_of_lane(waiting, disk, &visit, walked.best);
+        walked = walk_up(waiting, disk, from, visit.lane.start + LANE, visit, best);
     }
-    best
+    walked.best
 }
 
-// The soonest of a candidate and of the requests below the head's cylinder, where its lanes start, in the same way.
+// The soonest of a candidate and of the requests before a spot, no higher than the head's cylinder.
 fn soonest_below(
     waiting: &BTreeMap<(u64, u64), Request>,
     disk: &Disk,
     from: Departure,
-    start: u64,
-    any: Approach,
+    end: u64,
+    any: Visit,
     first: Candidate,
 ) -> Candidate
     requires spots { AllHeld (λ key request. IsAlong disk.now request key.0) waiting.now }
-    requires on_disk { AllHeld (λ key request. IsRequestOf disk.now.map request) waiting.now }
     requires from { IsDeparture disk.now from }
-    requires start { start ≡ from.track.cylinder * (128 * 10 ^ 9) }
-    requires few { start ≤ 128 * 10 ^ 15 }
-    requires any { IsApproach disk.now from any }
+    requires end { end ≤ from.track.cylinder * (128 * 10 ^ 9) }
+    requires any { IsVisit disk.now from any }
     requires first { IsCandidate disk.now from.track from.instant waiting.now first }
     ensures found { IsCandidate disk.now from.track from.instant waiting.now result }
     ensures first { IsBefore result first }
-    ensures least { BeatsBetween disk.now from.track from.instant waiting.now result 0 start }
+    ensures least { BeatsBetween disk.now from.track from.instant waiting.now result 0 end }
 {
-    let mut best = first;
-    let mut near = any;
-    let mut left = FEW;
-    for (key, request) in waiting.range(..(start, 0)).rev() {
-        near = approach_on(disk, from, near, request.lbn);
-        if is_too_far(disk, from, &near, best.wait) {
-            return best;
-        }
-        if left == 0 {
-            return lanes_below(waiting, disk, from, key.0 + 1, near, best);
-        }
-        left -= 1;
-        best = sooner(best, candidate_of(disk, from, near, *key, request));
+    let mut walked = walk_down(waiting, disk, from, end, any, first);
+    while let Some(visit) = walked.full {
+        let best = soonest_of_lane(waiting, disk, &visit, walked.best);
+        walked = walk_down(waiting, disk, from, visit.lane.start, visit, best);
     }
-    best
+    walked.best
 }
 
 impl Choice for Soonest {
@@ -279,12 +259,12 @@ impl Choice for Soonest {
     ) -> (u64, u64) {
         let from = departure_from(disk, head, now);
         let start = cylinder_start(disk, head.cylinder);
-        let Some((key, request)) = next_from(waiting, 0) else {
+        let Some((key, _)) = next_from(waiting, 0) else {
             unreachable!()
         };
-        let near = approach_to(disk, from, request.lbn);
-        let any = candidate_of(disk, from, near, key, &request);
-        let above = soonest_above(waiting, disk, from, start, near, any);
-        soonest_below(waiting, disk, from, start, near, above).key
+        let visit = visit_to(disk, from, key.0);
+        let wait = visit.wait(disk, key.0);
+        let above = soonest_above(waiting, disk, from, start, visit, Candidate { key, wait });
+        soonest_below(waiting, disk, from, start, visit, above).key
     }
 }

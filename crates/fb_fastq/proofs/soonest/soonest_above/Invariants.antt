@@ -1,12 +1,20 @@
-use Rattle.std.proofs.Common.{◌≤◌, ◌<◌}
-use Rattle.fb_service.specs.Approaching.{IsApproach}
-use Rattle.fb_fastq.proofs.Walks.{IsWalk}
+use Rattle.std.proofs.Common.{◌+◌, ◌^◌, ◌<◌}
+use Rattle.std.specs.Prelude.{IfSome, MatchOption}
+use Rattle.fb_fastq.specs.Visits.{IsVisit}
+use Rattle.fb_fastq.specs.Candidates.{IsCandidate, IsBefore, BeatsFrom, BeatsBetween}
+use Rattle.fb_fastq.proofs.Visiting.{above_of}
 use Rattle.fb_fastq.proofs.soonest.soonest_above.Given as goal
 
--- the best of those that are seen
-abbrev pub invariant-loop-key : goal.invariant-loop-key
-invariant-loop-key l =
-    (goal.iterator-loop-key).can_next l.key-iterator ×
-    (goal.iterator-loop-key).is_finite l.key-iterator ×
-    IsApproach l.disk l.from l.near ×
-    IsWalk l.disk l.from.track l.from.instant l.waiting l.fn.first (λ spot. l.start ≤ spot) l.best l.key-iterator
+-- the best of the walks so far
+abbrev pub invariant-loop-walked : goal.invariant-loop-walked
+invariant-loop-walked l = record {
+  found : IsCandidate l.disk l.from.track l.from.instant l.waiting l.walked.best;
+  before : IsBefore l.walked.best l.fn.first;
+  full : IfSome l.walked.full (IsVisit l.disk l.from);
+  on : IfSome l.walked.full (λ visit. l.start < visit.lane.start + 10 ^ 9);
+  seen : MatchOption l.walked.full (BeatsFrom l.disk l.from.track l.from.instant l.waiting l.walked.best l.start)
+      (λ visit. BeatsBetween l.disk l.from.track l.from.instant l.waiting l.walked.best l.start visit.lane.start);
+}
+
+abbrev pub decreases-loop-walked : goal.decreases-loop-walked
+decreases-loop-walked l = above_of l.walked.full

@@ -1,121 +1,32 @@
-use Rattle.std.specs.Iterator.Adapters.{rev_source}
-use Rattle.std.proofs.Common.{◌≡◌, ◌∙◌, ◌+◌, ◌<◌, ◌≤◌, length, ap, sym, subst, refl, inl, inr, arith}
-use Rattle.std.proofs.lemmas.Bool.{cases_lt}
-use Rattle.fb_sectormap.specs.Lookup.{track_at}
-use Rattle.fb_seek.specs.Positioning.{distance_of}
-use Rattle.fb_fastq.specs.Joining.{Waiting}
-use Rattle.fb_fastq.proofs.Keys.{is_before, before_is}
-use Rattle.fb_fastq.proofs.Least.{IsIn}
-use Rattle.fb_fastq.proofs.Sweeps.{no_later_trans, beats_more, farther_below}
-use Rattle.fb_fastq.proofs.Walks.{SpotsRise, in_front, in_last, last_or_front, rise_front, nearest_last, walk_begins, walk_goes_on, walk_pauses, walk_stops, walk_ends}
+use Rattle.std.proofs.Common.{◌+◌, ◌^◌, ◌<◌, subst, arith, IfSome}
+use Rattle.std.specs.Prelude.{MatchOption}
+use Rattle.fb_fastq.specs.Visits.{IsVisit}
+use Rattle.fb_fastq.specs.Candidates.{BeatsBetween}
+use Rattle.fb_fastq.proofs.Sweeps.{no_later_trans}
+use Rattle.fb_fastq.proofs.Breaks.{if_some, beats_down, goes_down}
 use Rattle.fb_fastq.proofs.soonest.soonest_below.Goals as goal
 
-pub loop-key-init : goal.loop-key-init
-loop-key-init c = (
-  tt,
-  tt,
-  c.requires.any,
-  walk_begins c.args.disk.now c.args.from.track c.args.from.instant c.args.waiting.now c.args.first (λ spot. spot < c.args.start) _ (rev_source c.into_iter-key-iterator.result) c.requires.first c.range.ensures.ordered (ap rev_source c.into_iter-key-iterator.ensures.into_iter_gives ∙ (c.rev-key-items.ensures.source ∙ c.range.ensures.between tt))
-      (λ w t. is_before c.args.start w.0.0 w.0.1 t) (λ w h. before_is c.args.start w.0.0 w.0.1 h),
-)
-
-pub approach_on-near-requires-clause-sector : goal.approach_on-near-requires-clause-sector
-approach_on-near-requires-clause-sector c =
-    let x : Waiting = (c.in-Some.key.now, c.in-Some.request.now) in
-    let rest = (rev_source c.next.new.self) in
-    let steps = c.in-Some.ensures.steps in
-    let walk = c.loop-key.invariant.3 in
-    let there : IsIn x (rev_source c.loop-key.key-iterator) = subst (IsIn x) (sym steps) (in_last x (rev_source c.next.new.self)) in
-    let own = walk.inside x there in
-    let range = (c.requires.on_disk x.0 x.1 own.0).range in omega (arith, range.some, range.inside)
-
-pub candidate_of-requires-clause-request : goal.candidate_of-requires-clause-request
-candidate_of-requires-clause-request c =
-    let x : Waiting = (c.in-Some.key.now, c.in-Some.request.now) in
-    let rest = (rev_source c.next.new.self) in
-    let steps = c.in-Some.ensures.steps in
-    let walk = c.loop-key.invariant.3 in
-    let there : IsIn x (rev_source c.loop-key.key-iterator) = subst (IsIn x) (sym steps) (in_last x (rev_source c.next.new.self)) in
-    let own = walk.inside x there in
-    c.requires.on_disk x.0 x.1 own.0
-
-pub overflow_add-key : goal.overflow_add-key
-overflow_add-key c =
-    let x : Waiting = (c.in-Some.key.now, c.in-Some.request.now) in
-    let rest = (rev_source c.next.new.self) in
-    let steps = c.in-Some.ensures.steps in
-    let walk = c.loop-key.invariant.3 in
-    let there : IsIn x (rev_source c.loop-key.key-iterator) = subst (IsIn x) (sym steps) (in_last x (rev_source c.next.new.self)) in
-    let own = walk.inside x there in
-    omega (arith, own.1, c.requires.few)
-
-pub lanes_below-requires-clause-start : goal.lanes_below-requires-clause-start
-lanes_below-requires-clause-start c =
-    let x : Waiting = (c.in-Some.key.now, c.in-Some.request.now) in
-    let rest = (rev_source c.next.new.self) in
-    let steps = c.in-Some.ensures.steps in
-    let walk = c.loop-key.invariant.3 in
-    let there : IsIn x (rev_source c.loop-key.key-iterator) = subst (IsIn x) (sym steps) (in_last x (rev_source c.next.new.self)) in
-    let own = walk.inside x there in
-    omega (arith, own.1, c.requires.start)
-
-pub returns-then-is_too_far-clause-least : goal.returns-then-is_too_far-clause-least
-returns-then-is_too_far-clause-least c = λ k s e from below.
-    let x : Waiting = (c.in-Some.key.now, c.in-Some.request.now) in
-    let rest = (rev_source c.next.new.self) in
-    let steps = c.in-Some.ensures.steps in
-    let walk = c.loop-key.invariant.3 in
-    let there : IsIn x (rev_source c.loop-key.key-iterator) = subst (IsIn x) (sym steps) (in_last x (rev_source c.next.new.self)) in
-    let own = walk.inside x there in
-    let head = c.args.from.track in
-    walk_stops c.args.disk.now c.args.from.track c.args.from.instant c.args.waiting.now c.args.first (λ spot. spot < c.args.start) c.loop-key.best (rev_source c.loop-key.key-iterator) walk (λ w left.
-    c.is_too_far.ensures c.if-is_too_far.true c.args.from.instant w.1
-    (subst (λ n. distance_of head.cylinder n ≤ distance_of head.cylinder (track_at c.args.disk.now.map w.1.lbn).cylinder) (sym c.approach_on-near.ensures.cylinder)
-    (farther_below c.args.disk.now head c.args.from.instant c.args.waiting.now c.requires.spots x.0 w.0 x.1 w.1 own.0 (walk.inside w left).0
-    (omega (arith, own.1, c.requires.start)) (nearest_last x w rest (subst SpotsRise steps walk.rise) (subst (IsIn w) steps left)))))
-    k s e below
-
-pub returns-then-left-eq0-clause-first : goal.returns-then-left-eq0-clause-first
-returns-then-left-eq0-clause-first c =
-    let new = c.lanes_below.result in
-    let old = c.loop-key.best in
-    no_later_trans new.wait new.key.1 old.wait old.key.1 c.args.first.wait c.args.first.key.1 c.lanes_below.ensures.first c.loop-key.invariant.3.before
-
-pub returns-then-left-eq0-clause-least : goal.returns-then-left-eq0-clause-least
-returns-then-left-eq0-clause-least c = λ k s e from below.
-    let x : Waiting = (c.in-Some.key.now, c.in-Some.request.now) in
-    let rest = (rev_source c.next.new.self) in
-    let steps = c.in-Some.ensures.steps in
-    let walk = c.loop-key.invariant.3 in
-    let there : IsIn x (rev_source c.loop-key.key-iterator) = subst (IsIn x) (sym steps) (in_last x (rev_source c.next.new.self)) in
-    let own = walk.inside x there in
+pub loop-walked-preserved : goal.loop-walked-preserved
+loop-walked-preserved c =
     let disk = c.args.disk.now in
     let head = c.args.from.track in
     let now = c.args.from.instant in
     let waiting = c.args.waiting.now in
-    let new = c.lanes_below.result in
-    let old = c.loop-key.best in
-    let left = λ (w : Waiting) (is : IsIn w (rev_source c.loop-key.key-iterator)). nearest_last x w rest (subst SpotsRise steps walk.rise) (subst (IsIn w) steps is) in
-    elim (cases_lt k.0 (x.0.0 + 1)) [
-      | inl under ↦ c.lanes_below.ensures.least k s e from under
-      | inr above ↦ beats_more disk head now waiting c.requires.spots new old k s c.lanes_below.ensures.first (walk_pauses c.args.disk.now c.args.from.track c.args.from.instant c.args.waiting.now c.args.first (λ spot. spot < c.args.start) old (rev_source c.loop-key.key-iterator) (λ spot. spot ≤ x.0.0) walk left k s e below (λ le. omega (arith, le, above)))
-    ]
-
-pub loop-key-preserved : goal.loop-key-preserved
-loop-key-preserved c =
-    let x : Waiting = (c.in-Some.key.now, c.in-Some.request.now) in
-    let rest = (rev_source c.next.new.self) in
-    let steps = c.in-Some.ensures.steps in
-    let walk = c.loop-key.invariant.3 in
-    let there : IsIn x (rev_source c.loop-key.key-iterator) = subst (IsIn x) (sym steps) (in_last x (rev_source c.next.new.self)) in
-    let own = walk.inside x there in (
-      tt,
-      tt,
-      c.approach_on-near.ensures.approach,
-      walk_goes_on c.args.disk.now c.args.from.track c.args.from.instant c.args.waiting.now c.args.first (λ spot. spot < c.args.start) c.loop-key.best c.candidate_of.result c.sooner-best.result x (rev_source c.loop-key.key-iterator) rest walk
-          (rise_front x rest (subst SpotsRise steps walk.rise)).0 (λ w e. subst (IsIn w) (sym steps) (in_front w x rest e)) (λ w e. last_or_front w x rest (subst (IsIn w) steps e))
-          there c.candidate_of.ensures.key c.candidate_of.ensures.wait c.sooner-best.ensures.one c.sooner-best.ensures.first c.sooner-best.ensures.second,
-    )
-
-pub returns-clause-least : goal.returns-clause-least
-returns-clause-least c = λ k s e from below. walk_ends c.args.disk.now c.args.from.track c.args.from.instant c.args.waiting.now c.args.first (λ spot. spot < c.args.start) c.loop-key.best (rev_source c.loop-key.key-iterator) c.loop-key.invariant.3 c.in-None.ensures.steps.0 k s e below
+    let old = c.loop-walked.walked in
+    let visit = c.in-Some.visit in
+    let is = subst (λ full. IfSome full (IsVisit disk c.args.from)) c.in-Some.is c.loop-walked.invariant.full in
+    let on : visit.lane.start < c.args.end = subst (λ full. IfSome full (λ v. v.lane.start < c.args.end)) c.in-Some.is c.loop-walked.invariant.on in
+    let seen = subst (λ full. MatchOption full (BeatsBetween disk head now waiting old.best 0 c.args.end) (λ v. BeatsBetween disk head now waiting old.best (v.lane.start + 10 ^ 9) c.args.end)) c.in-Some.is c.loop-walked.invariant.seen in
+    let best = c.soonest_of_lane-best.result in
+    let first = c.soonest_of_lane-best.ensures.first in
+    let lane = c.soonest_of_lane-best.ensures.least c.args.from is in
+    let new = c.walk_down-walked-in-Some.result in
+    let more = c.walk_down-walked-in-Some.ensures in
+    let over = beats_down disk head now waiting c.requires.spots old.best best first visit.lane.start (visit.lane.start + 10 ^ 9) c.args.end lane seen in record {
+      found = more.found;
+      before = no_later_trans new.best.wait new.best.key.1 best.wait best.key.1 c.args.first.wait c.args.first.key.1 more.first
+          (no_later_trans best.wait best.key.1 old.best.wait old.best.key.1 c.args.first.wait c.args.first.key.1 first c.loop-walked.invariant.before);
+      full = more.full;
+      on = if_some (λ v. v.lane.start < visit.lane.start) (λ v. v.lane.start < c.args.end) new.full (λ v less. omega (arith, less, on)) more.on;
+      seen = goes_down disk head now waiting c.requires.spots best new.best more.first visit.lane.start c.args.end new.full over more.least;
+    }

@@ -1,13 +1,20 @@
-use Rattle.std.proofs.Common.{◌≤◌, ◌<◌}
-use Rattle.std.specs.Iterator.Adapters.{rev_source}
-use Rattle.fb_service.specs.Approaching.{IsApproach}
-use Rattle.fb_fastq.proofs.Walks.{IsWalk}
+use Rattle.std.proofs.Common.{◌+◌, ◌^◌, ◌<◌}
+use Rattle.std.specs.Prelude.{IfSome, MatchOption}
+use Rattle.fb_fastq.specs.Visits.{IsVisit}
+use Rattle.fb_fastq.specs.Candidates.{IsCandidate, IsBefore, BeatsBetween}
+use Rattle.fb_fastq.proofs.Visiting.{below_of}
 use Rattle.fb_fastq.proofs.soonest.soonest_below.Given as goal
 
--- the best of those that are seen
-abbrev pub invariant-loop-key : goal.invariant-loop-key
-invariant-loop-key l =
-    (goal.iterator-loop-key).can_next l.key-iterator ×
-    (goal.iterator-loop-key).is_finite l.key-iterator ×
-    IsApproach l.disk l.from l.near ×
-    IsWalk l.disk l.from.track l.from.instant l.waiting l.fn.first (λ spot. spot < l.start) l.best (rev_source l.key-iterator)
+-- the best of the walks so far
+abbrev pub invariant-loop-walked : goal.invariant-loop-walked
+invariant-loop-walked l = record {
+  found : IsCandidate l.disk l.from.track l.from.instant l.waiting l.walked.best;
+  before : IsBefore l.walked.best l.fn.first;
+  full : IfSome l.walked.full (IsVisit l.disk l.from);
+  on : IfSome l.walked.full (λ visit. visit.lane.start < l.end);
+  seen : MatchOption l.walked.full (BeatsBetween l.disk l.from.track l.from.instant l.waiting l.walked.best 0 l.end)
+      (λ visit. BeatsBetween l.disk l.from.track l.from.instant l.waiting l.walked.best (visit.lane.start + 10 ^ 9) l.end);
+}
+
+abbrev pub decreases-loop-walked : goal.decreases-loop-walked
+decreases-loop-walked l = below_of l.walked.full

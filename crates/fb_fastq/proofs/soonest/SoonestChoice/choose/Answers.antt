@@ -25,3 +25,6 @@ unreachable-requires c =
     let waiting = c.args.waiting.now in
     let held = some_held waiting c.requires.some in
     let none = c.in_default.ensures.none held.0 (waits_there waiting held.0 held.1.0 held.1.1) in absurd (omega (arith, none))
+
+pub visit_to-visit-requires-clause-spot : goal.visit_to-visit-requires-clause-spot
+visit_to-visit-requires-clause-spot c = (c.requires.spots c.in-Some.key c.in-Some.field-0-1 c.in-Some.ensures.found).on_disk

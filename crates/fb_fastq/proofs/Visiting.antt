@@ -1,0 +1,55 @@
+-- The wait for a request of a lane that the head visits.
+use Rattle.std.proofs.Common.{◌≡◌, ℕ, ◌+◌, ◌-◌, ◌%◌, ◌^◌, ◌<◌, ◌≤◌, sym, ap, ◌∙◌, arith, Option, Some, None}
+use Rattle.fb_units.specs.declared.types.Request.{Request}
+use Rattle.fb_sectormap.specs.Lookup.{track_at}
+use Rattle.fb_seek.specs.Positioning.{pos}
+use Rattle.fb_service.specs.declared.disk.Disk.{Disk}
+use Rattle.fb_service.specs.declared.approach.Departure.{Departure}
+use Rattle.fb_model.specs.PlainReplay.{sptf}
+use Rattle.fb_fastq.specs.declared.visit.Visit.{Visit}
+use Rattle.fb_fastq.specs.Turns.{turn}
+use Rattle.fb_fastq.specs.Lanes.{IsAlong}
+use Rattle.fb_fastq.specs.Visits.{IsVisit}
+use Rattle.fb_fastq.proofs.Turns.{ahead, round}
+use Rattle.fb_fastq.proofs.OnLanes.{on_lane, begins, waits_on_lane}
+
+module _ (disk : Disk) (from : Departure) (visit : Visit) (is : IsVisit disk from visit) (r : Request) (spot : ℕ) (along : IsAlong disk r spot) (start : visit.lane.start ≤ spot) (end : spot < visit.lane.start + 10 ^ 9) where
+  -- the request is one of the lane's
+  pub is_there : visit.lane.track ≡ track_at disk.map r.lbn
+  is_there = sym (on_lane disk r spot along visit.lane is.lane start end).0
+
+  within : spot - visit.lane.start < disk.map.rotation
+  within =
+      let same = on_lane disk r spot along visit.lane is.lane start end in
+      let inside = (begins disk r spot along visit.lane is.lane same.0 same.1).1 in
+      omega (arith, inside, start)
+
+  turns : sptf disk from.track from.instant r ≡ visit.way + turn disk.map.rotation visit.angle (spot - visit.lane.start)
+  turns =
+      let rotation = disk.map.rotation in
+      let way = pos disk.mechanism from.track visit.lane.track visit.lane.write in
+      let same = on_lane disk r spot along visit.lane is.lane start end in
+      waits_on_lane disk r spot along visit.lane is.lane from.track from.instant same.0 same.1
+      ∙ (ap (λ w. w + turn rotation ((from.instant + way) % rotation) (spot - visit.lane.start)) (sym is.way_is)
+      ∙ ap (λ a. visit.way + turn rotation a (spot - visit.lane.start)) (sym is.angle_is))
+
+  -- where the spot is still to come in this turn of the platter
+  pub waits_ahead : visit.angle ≤ spot - visit.lane.start → visit.way + (spot - visit.lane.start - visit.angle) ≡ sptf disk from.track from.instant r
+  waits_ahead le = ap (λ x. visit.way + x) (sym (ahead (spot - visit.lane.start) visit.angle disk.map.rotation le within)) ∙ sym turns
+
+  -- where it comes in the next one
+  pub waits_round : spot - visit.lane.start < visit.angle → visit.way + (disk.map.rotation - visit.angle + (spot - visit.lane.start)) ≡ sptf disk from.track from.instant r
+  waits_round lt =
+      let turned = is.turned in
+      let sum : disk.map.rotation - visit.angle + (spot - visit.lane.start) ≡ spot - visit.lane.start + disk.map.rotation - visit.angle = omega arith in
+      ap (λ x. visit.way + x) (sum ∙ sym (round (spot - visit.lane.start) visit.angle disk.map.rotation lt turned)) ∙ sym turns
+
+-- the spots above a lane, where the walk broke off
+abbrev pub above_of : Option Visit → ℕ
+above_of None = 0
+above_of (Some visit) = 2 ^ 64 - visit.lane.start
+
+-- and those below
+abbrev pub below_of : Option Visit → ℕ
+below_of None = 0
+below_of (Some visit) = visit.lane.start + 1

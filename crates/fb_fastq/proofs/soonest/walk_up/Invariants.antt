@@ -1,0 +1,12 @@
+use Rattle.std.proofs.Common.{◌≤◌}
+use Rattle.fb_fastq.specs.Visits.{IsVisit}
+use Rattle.fb_fastq.proofs.Walks.{IsWalk}
+use Rattle.fb_fastq.proofs.soonest.walk_up.Given as goal
+
+-- the best of those that are seen
+abbrev pub invariant-loop-key : goal.invariant-loop-key
+invariant-loop-key l =
+    (goal.iterator-loop-key).can_next l.key-iterator ×
+    (goal.iterator-loop-key).is_finite l.key-iterator ×
+    IsVisit l.disk l.from l.visit ×
+    IsWalk l.disk l.from.track l.from.instant l.waiting l.fn.first (λ spot. l.start ≤ spot) l.best l.key-iterator
