@@ -57,13 +57,6 @@ impl Segment {
         })
     }
 
-    /// The number of the segment in its session, from 1.
-    pub fn number(&self) -> u32
-        ensures { result ≡ self.now.number }
-    {
-        self.number
-    }
-
     /// Whether the segment is still to be chosen.
     pub fn waits(&self) -> bool
         ensures { result ≡ self.now.waits }
