@@ -117,6 +117,37 @@ fn try_once(
     tried.leaves[part] = end;
 }
 
+// Tries to leave on arrival, unless the ceiling shows that this isn't better.
+fn try_arrival(
+    disk: &Disk,
+    wanted: &Wanted,
+    gap: &Gap,
+    way: Way,
+    sides: &Sides,
+    ceilings: &Ceilings,
+    best: Scored,
+) -> Scored
+    requires way { IsWay disk.now gap.now way }
+    requires track { IsTrackOf disk.now.map (early_track gap.now way) }
+    requires gap { IsGap disk.now gap.now }
+    requires sides { AreSides disk.now gap.now.target wanted.now (stay_of disk.now gap.now way) sides.now }
+    requires early { AreOnDisk disk.now sides.now.early }
+    requires late { AreOnDisk disk.now sides.now.late }
+    requires ceilings { AreCeilings disk.now gap.now wanted.now way ceilings.now }
+    requires in_time { ceilings.now.begin + ceilings.now.move_on ≤ gap.now.deadline }
+    requires best { IsScored disk.now gap.now (wanted_of wanted.now) best }
+    ensures scored { IsScored disk.now gap.entry.now (wanted_of wanted.now) result }
+    ensures keeps { Beats disk.now gap.entry.now (wanted_of wanted.now) result.plan best.plan }
+    ensures tried { Beats disk.now gap.entry.now (wanted_of wanted.now) result.plan (plan_by way (arrival disk.now gap.entry.now way)) }
+{
+    let leave = ceilings.begin;
+    if ceiling_at(ceilings, leave) < best.value {
+        return best;
+    }
+    let plan = plan_by(way, leave);
+    try_plan(disk, wanted, gap, sides, plan, best)
+}
+
 // Tries all plans of a way. Of leaves at one instant, as many blocks may pass at once, most are
 // tried once.
 pub fn try_leaves(
@@ -140,8 +171,7 @@ pub fn try_leaves(
 {
     let stay = stay_of(disk, gap, way);
     let both = sides_of(disk, wanted, gap.target, stay);
-    let first = plan_by(way, stay.begin);
-    let best = try_plan(disk, wanted, gap, &both, first, start);
+    let best = try_arrival(disk, wanted, gap, way, &both, ceilings, start);
     let mut tried = Tried {
         best,
         leaves: [0; NOTED],
