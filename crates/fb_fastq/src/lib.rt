@@ -8,9 +8,9 @@
 //! one or of the next one is found at once. For `SptfLanes` all tracks are laid end to end, each
 //! once for reads and once for writes, since a write has to settle. The spot is how far along these
 //! lanes the request's first sector begins, so that in each lane the next request from the angle of
-//! arrival on is found at once. The search goes outwards from the head's cylinder, on each side until
-//! the seek alone takes longer than the shortest wait found: the first few requests are valued one
-//! after another, and the others lane by lane.
+//! arrival on is found at once. The walk goes outwards from the head's cylinder, on each side until
+//! the seek alone takes longer than the shortest wait found. The requests of a lane are valued one
+//! after another, by their spots alone; where more than a few wait, the lane is searched.
 #![tactic(auto)]
 
 mod choice;

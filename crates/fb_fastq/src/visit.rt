@@ -1,8 +1,7 @@
 // The head's way to a lane.
-ghost use Rattle.std.specs.Prelude.{◌≡◌, true, ◌+◌, ◌*◌, ◌<◌, ◌≤◌, ◌^◌};
+ghost use Rattle.std.specs.Prelude.{◌≡◌, true, ◌+◌, ◌*◌, ◌%◌, ◌<◌, ◌≤◌, ◌^◌};
 ghost use Rattle.fb_units.specs.declared.types.Request.{Request};
 ghost use Rattle.fb_geometry.specs.Shape.{cylinders_of};
-ghost use Rattle.fb_seek.specs.Positioning.{seek, distance_of};
 ghost use Rattle.fb_service.specs.declared.approach.Departure.{Departure};
 ghost use Rattle.fb_service.specs.Approaching.{IsDeparture};
 ghost use Rattle.fb_model.specs.PlainReplay.{sptf};
@@ -53,26 +52,6 @@ impl Visit {
     }
 }
 
-// The visit to a lane, where the seek to its cylinder is known.
-fn visit_by(disk: &Disk, from: Departure, lane: Lane, seek_time: Ns) -> Visit
-    requires from { IsDeparture disk.now from }
-    requires lane { IsLane lane }
-    requires seek { seek_time ≡ seek disk.now.mechanism (distance_of from.track.cylinder lane.track.cylinder) }
-    requires short { seek_time ≤ 10 ^ 9 }
-    ensures visit { IsVisit disk.now from result }
-    ensures lane { result.lane ≡ lane }
-{
-    let way = disk
-        .mechanism
-        .pos_with(seek_time, from.track, lane.track, lane.write);
-    Visit {
-        lane,
-        seek: seek_time,
-        way,
-        angle: (from.instant + way) % disk.map.geometry().rotation(),
-    }
-}
-
 /// The visit to the lane in whose room a spot lies.
 pub fn visit_to(disk: &Disk, from: Departure, spot: Ns) -> Visit
     requires from { IsDeparture disk.now from }
@@ -85,7 +64,15 @@ pub fn visit_to(disk: &Disk, from: Departure, spot: Ns) -> Visit
     let seek = disk
         .mechanism
         .seek(from.track.cylinder.abs_diff(lane.track.cylinder));
-    visit_by(disk, from, lane, seek)
+    let way = disk
+        .mechanism
+        .pos_with(seek, from.track, lane.track, lane.write);
+    Visit {
+        lane,
+        seek,
+        way,
+        angle: (from.instant + way) % disk.map.geometry().rotation(),
+    }
 }
 
 /// The same as `visit_to`, but with no more of it worked out than differs from another visit.
@@ -101,8 +88,30 @@ pub fn visit_after(disk: &Disk, from: Departure, last: Visit, spot: Ns) -> Visit
         return last;
     }
     let lane = lane_around(disk, spot);
-    if lane.track.cylinder == last.lane.track.cylinder {
-        return visit_by(disk, from, lane, last.seek);
+    if lane.track.cylinder != last.lane.track.cylinder {
+        return visit_to(disk, from, spot);
     }
-    visit_to(disk, from, spot)
+    let way = disk
+        .mechanism
+        .pos_with(last.seek, from.track, lane.track, lane.write);
+    Visit {
+        lane,
+        seek: last.seek,
+        way,
+        angle: angle_after(disk, from, last, way),
+    }
+}
+
+// The angle of the platter a time after the departure, in ns; that of another visit, if its way takes as long.
+fn angle_after(disk: &Disk, from: Departure, last: Visit, time: Ns) -> Ns
+    requires from { IsDeparture disk.now from }
+    requires last { IsVisit disk.now from last }
+    requires short { time ≤ 2 * 10 ^ 9 }
+    ensures value { result ≡ (from.instant + time) % disk.now.map.rotation }
+    ensures bound { result < disk.now.map.rotation }
+{
+    if time == last.way {
+        return last.angle;
+    }
+    (from.instant + time) % disk.map.geometry().rotation()
 }
