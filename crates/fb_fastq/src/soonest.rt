@@ -13,7 +13,7 @@ ghost use Rattle.fb_fastq.specs.Candidates.{IsCandidate, IsBefore, BeatsFrom, Be
 
 use crate::index::{next_from, next_round};
 use crate::lanes::{LANE, along, cylinder_start};
-use crate::visit::{Visit, visit_after, visit_to};
+use crate::visit::{Visit, visit_on, visit_to};
 use crate::{Choice, Indexed};
 use fb_service::{Departure, Disk, departure_from};
 use fb_units::{Ns, Request, Track};
@@ -118,7 +118,7 @@ fn walk_up(
     let mut left = FEW;
     for (key, _) in waiting.range((start, 0)..) {
         let last = visit;
-        visit = visit_after(disk, from, last, key.0);
+        visit = visit_on(disk, from, last, key.0);
         if is_too_far(disk, from, &visit, best.wait) {
             return Walked { best, full: None };
         }
@@ -167,7 +167,7 @@ fn walk_down(
     let mut left = FEW;
     for (key, _) in waiting.range(..(end, 0)).rev() {
         let last = visit;
-        visit = visit_after(disk, from, last, key.0);
+        visit = visit_on(disk, from, last, key.0);
         if is_too_far(disk, from, &visit, best.wait) {
             return Walked { best, full: None };
         }

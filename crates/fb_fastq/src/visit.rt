@@ -75,8 +75,8 @@ pub fn visit_to(disk: &Disk, from: Departure, spot: Ns) -> Visit
     }
 }
 
-/// The same as `visit_to`, but with no more of it worked out than differs from another visit.
-pub fn visit_after(disk: &Disk, from: Departure, last: Visit, spot: Ns) -> Visit
+/// The same as `visit_to`, but the same visit as before for another spot of its lane.
+pub fn visit_on(disk: &Disk, from: Departure, last: Visit, spot: Ns) -> Visit
     requires from { IsDeparture disk.now from }
     requires last { IsVisit disk.now from last }
     requires spot { spot < cylinders_of disk.now.map.zones * (128 * 10 ^ 9) }
@@ -85,8 +85,21 @@ pub fn visit_after(disk: &Disk, from: Departure, last: Visit, spot: Ns) -> Visit
     ensures end { spot < result.lane.start + 10 ^ 9 }
 {
     if last.has(spot) {
-        return last;
+        last
+    } else {
+        visit_after(disk, from, &last, spot)
     }
+}
+
+// The same as `visit_to`, but with no more of it worked out than differs from another visit.
+fn visit_after(disk: &Disk, from: Departure, last: &Visit, spot: Ns) -> Visit
+    requires from { IsDeparture disk.now from }
+    requires last { IsVisit disk.now from last.now }
+    requires spot { spot < cylinders_of disk.now.map.zones * (128 * 10 ^ 9) }
+    ensures visit { IsVisit disk.now from result }
+    ensures start { result.lane.start ≤ spot }
+    ensures end { spot < result.lane.start + 10 ^ 9 }
+{
     let lane = lane_around(disk, spot);
     if lane.track.cylinder != last.lane.track.cylinder {
         return visit_to(disk, from, spot);
@@ -103,9 +116,9 @@ pub fn visit_after(disk: &Disk, from: Departure, last: Visit, spot: Ns) -> Visit
 }
 
 // The angle of the platter a time after the departure, in ns; that of another visit, if its way takes as long.
-fn angle_after(disk: &Disk, from: Departure, last: Visit, time: Ns) -> Ns
+fn angle_after(disk: &Disk, from: Departure, last: &Visit, time: Ns) -> Ns
     requires from { IsDeparture disk.now from }
-    requires last { IsVisit disk.now from last }
+    requires last { IsVisit disk.now from last.now }
     requires short { time ≤ 2 * 10 ^ 9 }
     ensures value { result ≡ (from.instant + time) % disk.now.map.rotation }
     ensures bound { result < disk.now.map.rotation }
