@@ -64,6 +64,7 @@ module _ (terms : CheckTerms) (old new : DeskView) where
   files_stopped (outcomes.Made n) h = absurd h
   files_stopped (outcomes.Checked verdict) h = absurd h
   files_stopped (outcomes.Usage fault) h = absurd h
+  files_stopped (outcomes.Arrayed runs copy) h = absurd h
   files_stopped (outcomes.WriteFault output) h = absurd h
 
 -- the files were read, and then the reports
@@ -142,6 +143,7 @@ module _ (terms : CheckTerms) (old mid new : DeskView) (held : (name : List ℕ)
     fore_stopped (outcomes.Made n) h later = absurd h
     fore_stopped (outcomes.Checked verdict) h later = absurd h
     fore_stopped (outcomes.Usage fault) h later = absurd h
+    fore_stopped (outcomes.Arrayed runs copy) h later = absurd h
     fore_stopped (outcomes.Params fault) h later = absurd h
     fore_stopped (outcomes.Trace fault) h later = absurd h
     fore_stopped (outcomes.Calls fault) h later = absurd h
@@ -157,6 +159,7 @@ module _ (terms : CheckTerms) (old mid new : DeskView) (held : (name : List ℕ)
     back_stopped (outcomes.Made n) before h = absurd h
     back_stopped (outcomes.Checked verdict) before h = absurd h
     back_stopped (outcomes.Usage fault) before h = absurd h
+    back_stopped (outcomes.Arrayed runs copy) before h = absurd h
     back_stopped (outcomes.Params fault) before h = absurd h
     back_stopped (outcomes.Trace fault) before h = absurd h
     back_stopped (outcomes.Calls fault) before h = absurd h
@@ -188,6 +191,7 @@ module _ (terms : CheckTerms) (old mid new : DeskView) (verdict : Verdict) (is_v
   line_stopped (outcomes.Made n) h = absurd h
   line_stopped (outcomes.Checked other) h = absurd h
   line_stopped (outcomes.Usage fault) h = absurd h
+  line_stopped (outcomes.Arrayed runs copy) h = absurd h
   line_stopped (outcomes.Params fault) h = absurd h
   line_stopped (outcomes.Trace fault) h = absurd h
   line_stopped (outcomes.Calls fault) h = absurd h

@@ -1,32 +1,41 @@
 -- A replay that goes well is made.
 use Rattle.std.proofs.Common.{◌≡◌, ℕ, ◌<◌, ◌≤◌, ◌^◌, List, length, Option, Some, None, true, refl, sym, ap, subst, ◌∙◌, arith, Result, Ok, Err}
 use Rattle.std.specs.Prelude.{IfSome, is_some}
+use Rattle.fb_geometry.specs.Shape.{Shape}
 use Rattle.fb_geometry.specs.Places.{places}
+use Rattle.fb_service.specs.declared.disk.Disk.{Disk}
 use Rattle.fb_params.specs.declared.fault.ParamsFault.{ParamsFault}
 use Rattle.fb_params.specs.Reading.{params_of}
 use Rattle.fb_trace.specs.declared.trace.TraceFault.{TraceFault}
 use Rattle.fb_trace.specs.Reading.{trace_of}
+use Rattle.fb_trace.specs.Devices.{traces_of}
 use Rattle.fb_calls.specs.declared.fault.CallsFault.{CallsFault}
 use Rattle.fb_calls.specs.Reading.{calls_of}
+use Rattle.fb_mirror.specs.Script.{rebuild_text}
 use Rattle.fb_desk.specs.View.{DeskView}
 use Rattle.fb_desk.specs.declared.desk.Input.{Input}
 use Rattle.fb_desk.specs.declared.desk.Input.TheVariants.{Params, Trace, Calls, ForeReport, BackReport}
-use Rattle.fb_desk.specs.declared.desk.Output.TheVariants.{Fore, Back, Note, MadeTrace, MadeCalls}
-use Rattle.fb_words.specs.Command.{Terms, ReplayTerms, CheckTerms, MakeTerms, replays, makes, checks}
-use Rattle.fb_top.specs.Sources.{InputTerms, replay_inputs, check_inputs}
+use Rattle.fb_desk.specs.declared.desk.Output.TheVariants.{Fore, Back, Note, MadeTrace, MadeCalls, Copied}
+use Rattle.fb_words.specs.Command.{Terms, ReplayTerms, CheckTerms, MakeTerms, ArrayTerms, RebuildTerms, replays, makes, checks, arrays}
+use Rattle.fb_top.specs.Sources.{InputTerms, replay_inputs, check_inputs, array_inputs}
 use Rattle.fb_words.specs.declared.fault.UsageFault.{UsageFault}
 use Rattle.fb_top.specs.declared.outcome.Outcome.{Outcome}
 use Rattle.fb_top.specs.declared.outcome.Outcome.TheVariants as outcomes
 use Rattle.fb_report.specs.Grammar.{Grammar, fore_grammar, back_grammar, report_of}
 use Rattle.fb_report.specs.declared.reading.Report.{Report}
 use Rattle.fb_report.specs.declared.reading.Report.TheVariants as reports
-use Rattle.fb_top.specs.Read.{RefusesDisk, RefusesReport, ReadsCalls, ReadsScript}
+use Rattle.fb_top.specs.Read.{ReadsDisk, RefusesDisk, RefusesReport, ReadsCalls, ReadsScript}
 use Rattle.fb_top.specs.Streams.{IsLonger}
 use Rattle.fb_top.specs.Done.{IsCutShort}
 use Rattle.fb_top.specs.Causes.{AcceptsDisk, AcceptsTrace, CheckHasCause, HasCause, IsTooLong, RefusesTraceInTurn, RefusesCallsInTurn, RefusesReportInTurn, StopsInputs}
 use Rattle.fb_top.specs.Answers.{AnswersWords}
 use Rattle.fb_top.specs.Make.{MakeHasCause, MakeGoesWell, MakesAll}
+use Rattle.fb_top.specs.Devices.{ReadsRebuild, RefusesDeviceInTurn, RefusesRebuild, RefusesRebuildInTurn}
+use Rattle.fb_top.specs.Array.{ArrayGoesWell, ArrayHasCause, IsReplayed, array_texts}
 use Rattle.fb_top.specs.Complete.{CheckGoesWell, GoesWell, IsComplete, IsJudged, IsMade, ReadsWell, TellsReport}
+use Rattle.fb_top.proofs.Arrayed.{texts_no_note}
+use Rattle.fb_top.proofs.Texts.{cut_is_no_note}
+use Rattle.fb_top.proofs.Unnamed.{is_named}
 
 -- the bytes under a name are told once
 same_bytes : (told : Option (List ℕ)) (one two : List ℕ) → is_some told ≡ true → IfSome told (λ held. one ≡ held) → IfSome told (λ held. two ≡ held) → one ≡ two
@@ -47,21 +56,26 @@ not_longer None bytes limit is same within longer = cc
 pub same_ok : {A E : Type 0} (verdict : Result A E) (a b : A) → verdict ≡ Ok a → verdict ≡ Ok b → a ≡ b
 same_ok verdict a b e f = cc
 
+-- a disk that is accepted is not refused, and is read once
+module _ (desk : DeskView) (name : List ℕ) (disk : Disk) (latent : List ℕ) (told : is_some (desk.held name) ≡ true) (reads : ReadsDisk desk name disk latent) where
+  not_refused : (fault : ParamsFault) → RefusesDisk desk name fault → ⊥
+  not_refused fault refuses =
+      not_both (params_of reads.bytes) _ fault reads.spells
+      (ap params_of (same_bytes (desk.held name) reads.bytes refuses.bytes told reads.held refuses.held) ∙ refuses.spells)
+
+  one_map : (other : AcceptsDisk desk name) → disk.map ≡ other.disk.map
+  one_map other =
+      let again = other.reads_disk in
+      ap (λ p. p.outline) (same_ok (params_of reads.bytes) _ _ reads.spells
+      (ap params_of (same_bytes (desk.held name) reads.bytes again.bytes told reads.held again.held) ∙ again.spells))
+
 -- what is accepted is not refused
 module _ (old new : DeskView) (terms : InputTerms) (well : ReadsWell old new terms) where
   disk_once : (fault : ParamsFault) → RefusesDisk old terms.sources.params fault → ⊥
-  disk_once fault refuses =
-      let reads = well.accepts.disk in
-      not_both (params_of reads.bytes) _ fault reads.spells
-      (ap params_of (same_bytes (old.held terms.sources.params) reads.bytes refuses.bytes well.params_told reads.held refuses.held) ∙ refuses.spells)
+  disk_once fault refuses = not_refused old terms.sources.params well.files.disk well.files.latent well.params_told well.accepts.disk fault refuses
 
-  -- the disk is read once
   same_map : (other : AcceptsDisk old terms.sources.params) → well.files.disk.map ≡ other.disk.map
-  same_map other =
-      let reads = well.accepts.disk in
-      let again = other.reads_disk in
-      ap (λ p. p.outline) (same_ok (params_of reads.bytes) _ _ reads.spells
-      (ap params_of (same_bytes (old.held terms.sources.params) reads.bytes again.bytes well.params_told reads.held again.held) ∙ again.spells))
+  same_map other = one_map old terms.sources.params well.files.disk well.files.latent well.params_told well.accepts.disk other
 
   -- bytes of a trace spell the same on the same disk
   same_trace : (other : AcceptsDisk old terms.sources.params) (bytes : List ℕ) → IfSome (old.held terms.sources.trace) (λ held. bytes ≡ held)
@@ -139,6 +153,7 @@ module _ (old new : DeskView) (terms : InputTerms) (well : ReadsWell old new ter
   goes_on (outcomes.Made n) cause = absurd cause
   goes_on (outcomes.Checked verdict) cause = absurd cause
   goes_on (outcomes.Usage fault) cause = absurd cause
+  goes_on (outcomes.Arrayed runs copy) cause = absurd cause
   goes_on (outcomes.WriteFault output) cause = absurd cause
 
 module _ (old new : DeskView) (terms : ReplayTerms) (well : GoesWell old new terms) where
@@ -146,6 +161,7 @@ module _ (old new : DeskView) (terms : ReplayTerms) (well : GoesWell old new ter
   not_cut_short (outcomes.WriteFault Fore) cut = absurd (well.fore cut.stops.0)
   not_cut_short (outcomes.WriteFault Back) cut = absurd (well.back cut.stops.0)
   not_cut_short (outcomes.WriteFault Note) cut = absurd cut.stops
+  not_cut_short (outcomes.WriteFault Copied) cut = absurd cut.stops
   not_cut_short (outcomes.WriteFault MadeTrace) cut = absurd cut.stops
   not_cut_short (outcomes.WriteFault MadeCalls) cut = absurd cut.stops
   not_cut_short outcomes.NoMemory cut = tt
@@ -154,6 +170,7 @@ module _ (old new : DeskView) (terms : ReplayTerms) (well : GoesWell old new ter
   not_cut_short (outcomes.Checked verdict) cut = absurd cut.stops
   not_cut_short (outcomes.Reports fault) cut = absurd cut.stops
   not_cut_short (outcomes.Usage fault) cut = absurd cut.stops
+  not_cut_short (outcomes.Arrayed runs copy) cut = absurd cut.stops
   not_cut_short (outcomes.Params fault) cut = absurd cut.stops
   not_cut_short (outcomes.Trace fault) cut = absurd cut.stops
   not_cut_short (outcomes.Calls fault) cut = absurd cut.stops
@@ -168,6 +185,7 @@ module _ (old new : DeskView) (terms : ReplayTerms) (well : GoesWell old new ter
   made (outcomes.Made n) cause = absurd cause
   made (outcomes.Checked verdict) cause = absurd cause
   made (outcomes.Usage fault) cause = absurd cause
+  made (outcomes.Arrayed runs copy) cause = absurd cause
   made (outcomes.Params fault) cause = stopped (outcomes.Params fault) cause
   made (outcomes.Trace fault) cause = stopped (outcomes.Trace fault) cause
   made (outcomes.Calls fault) cause = stopped (outcomes.Calls fault) cause
@@ -186,6 +204,7 @@ module _ (old new : DeskView) (terms : CheckTerms) (well : CheckGoesWell old new
   judged (outcomes.Done run) cause = absurd cause
   judged (outcomes.Made n) cause = absurd cause
   judged (outcomes.Usage fault) cause = absurd cause
+  judged (outcomes.Arrayed runs copy) cause = absurd cause
   judged (outcomes.Params fault) cause = check_stopped (outcomes.Params fault) cause
   judged (outcomes.Trace fault) cause = check_stopped (outcomes.Trace fault) cause
   judged (outcomes.Calls fault) cause = check_stopped (outcomes.Calls fault) cause
@@ -195,20 +214,14 @@ module _ (old new : DeskView) (terms : CheckTerms) (well : CheckGoesWell old new
   judged (outcomes.WriteFault output) cause = absurd (well.fore cause.stops.1)
   judged outcomes.NoMemory cause = tt
 
--- nor is a make's parameter file refused
-make_disk_once : (old new : DeskView) (terms : MakeTerms) (fault : ParamsFault) → MakeGoesWell old new terms → RefusesDisk old terms.params fault → ⊥
-make_disk_once old new terms fault well refuses =
-    let reads = well.makes.reads_disk in
-    not_both (params_of reads.bytes) _ fault reads.spells
-    (ap params_of (same_bytes (old.held terms.params) reads.bytes refuses.bytes well.params_told reads.held refuses.held) ∙ refuses.spells)
-
 made_texts : (old new : DeskView) (terms : MakeTerms) (outcome : Outcome) → MakeHasCause terms old new outcome → MakeGoesWell old new terms → MakesAll terms outcome
 made_texts old new terms (outcomes.Made n) cause well = cause.count
 made_texts old new terms (outcomes.Done run) cause well = absurd cause
 made_texts old new terms (outcomes.Usage fault) cause well = absurd cause
+made_texts old new terms (outcomes.Arrayed runs copy) cause well = absurd cause
 made_texts old new terms (outcomes.Checked verdict) cause well = absurd cause
 made_texts old new terms (outcomes.Reports fault) cause well = absurd cause
-made_texts old new terms (outcomes.Params fault) cause well = make_disk_once old new terms fault well cause.0
+made_texts old new terms (outcomes.Params fault) cause well = not_refused old terms.params well.makes.disk well.makes.latent well.params_told well.makes.reads_disk fault cause.0
 made_texts old new terms (outcomes.Trace fault) cause well = absurd cause
 made_texts old new terms (outcomes.Calls fault) cause well = absurd cause
 made_texts old new terms (outcomes.TooLong Params) cause well =
@@ -227,11 +240,64 @@ made_texts old new terms (outcomes.WriteFault MadeCalls) cause well = absurd (we
 made_texts old new terms (outcomes.WriteFault Fore) cause well = absurd cause
 made_texts old new terms (outcomes.WriteFault Back) cause well = absurd cause
 made_texts old new terms (outcomes.WriteFault Note) cause well = absurd cause
+made_texts old new terms (outcomes.WriteFault Copied) cause well = absurd cause
 made_texts old new terms outcomes.NoMemory cause well = tt
+
+-- nor is what an array needs
+module _ (old new : DeskView) (terms : ArrayTerms) (well : ArrayGoesWell old new terms) where
+  array_map : (other : AcceptsDisk old terms.params) → well.array.disk.map ≡ other.disk.map
+  array_map other = one_map old terms.params well.array.disk well.array.latent well.params_told well.accepts.disk other
+
+  devices_once : (fault : TraceFault) → RefusesDeviceInTurn old terms fault → ⊥
+  devices_once fault turn =
+      let reads = well.accepts.traces in
+      not_both (traces_of terms.devices (length (places well.array.disk.map)) reads.bytes) _ fault reads.spells
+      (ap (λ map. traces_of terms.devices (length (places map)) reads.bytes) (array_map turn.before)
+      ∙ ap (traces_of terms.devices (length (places turn.before.disk.map))) (same_bytes (old.held terms.trace) reads.bytes turn.refuses.bytes well.trace_told reads.held turn.refuses.held)
+      ∙ turn.refuses.spells)
+
+  rebuild_once : (rebuild : Option RebuildTerms) (fault : CallsFault) → is_some rebuild ≡ true → ReadsRebuild rebuild well.array.disk.map well.array.script → RefusesRebuild well.array.disk.map fault → ⊥
+  rebuild_once (Some rebuild) fault given reads refuses = not_both (calls_of well.array.disk.map 0 (rebuild_text well.array.disk.map)) well.array.script fault (reads 0) (refuses.spells 0)
+  rebuild_once None fault given reads refuses = cc
+
+  rebuilds_once : (fault : CallsFault) → RefusesRebuildInTurn old terms fault → ⊥
+  rebuilds_once fault turn = rebuild_once terms.rebuild fault turn.given well.accepts.script (subst (λ (map : Shape). RefusesRebuild map fault) (sym (array_map turn.before)) turn.refuses)
+
+  array_not_too_long : (input : Input) → IsTooLong old (array_inputs terms) input → ⊥
+  array_not_too_long Params long =
+      not_longer (old.held terms.params) well.accepts.disk.bytes (2 ^ 20) well.params_told well.accepts.disk.held well.accepts.disk.within
+      (subst (λ (name : List ℕ). IsLonger old name (2 ^ 20)) (sym (same_name terms.params long.name long.given)) long.longer)
+  array_not_too_long Trace long =
+      not_longer (old.held terms.trace) well.accepts.traces.bytes (2 ^ 28) well.trace_told well.accepts.traces.held well.accepts.traces.within
+      (subst (λ (name : List ℕ). IsLonger old name (2 ^ 28)) (sym (same_name terms.trace long.name long.given)) long.longer)
+  array_not_too_long Calls long = is_named long.name (sym long.given)
+  array_not_too_long ForeReport long = is_named long.name (sym long.given)
+  array_not_too_long BackReport long = is_named long.name (sym long.given)
+
+  no_report : (report : Report) (line : ℕ) → RefusesReportInTurn old (array_inputs terms) (record { report = report; line = line }) → ⊥
+  no_report reports.Fore line turn = is_named turn.name (sym turn.given)
+  no_report reports.Back line turn = is_named turn.name (sym turn.given)
+
+  replayed : (outcome : Outcome) → ArrayHasCause terms old new outcome → IsReplayed outcome
+  replayed (outcomes.Arrayed runs copy) cause = tt
+  replayed (outcomes.Params fault) cause = absurd (not_refused old terms.params well.array.disk well.array.latent well.params_told well.accepts.disk fault cause.0)
+  replayed (outcomes.Trace fault) cause = absurd (devices_once fault cause.0)
+  replayed (outcomes.Calls fault) cause = absurd (rebuilds_once fault cause.0)
+  replayed (outcomes.Reports fault) cause = absurd (no_report fault.report fault.line cause.0)
+  replayed (outcomes.TooLong input) cause = absurd (array_not_too_long input cause.0)
+  replayed (outcomes.ReadFault input) cause = absurd (well.inputs input cause.0.rose)
+  replayed (outcomes.WriteFault output) cause =
+      absurd (well.outputs output (cut_is_no_note output (array_texts terms cause.are_runs.array cause.runs) old new (texts_no_note terms cause.are_runs.array cause.runs) cause.stops.1) cause.stops.0)
+  replayed outcomes.NoMemory cause = tt
+  replayed (outcomes.Done run) cause = absurd cause
+  replayed (outcomes.Made n) cause = absurd cause
+  replayed (outcomes.Checked verdict) cause = absurd cause
+  replayed (outcomes.Usage fault) cause = absurd cause
 
 -- an answer with its cause is complete
 pub complete : (reading : Result Terms UsageFault) (old new : DeskView) (outcome : Outcome) → AnswersWords reading old new outcome → IsComplete reading old new outcome
 complete (Ok (replays terms)) old new outcome cause = λ well. made old new terms well outcome cause
 complete (Ok (makes terms)) old new outcome cause = made_texts old new terms outcome cause
 complete (Ok (checks terms)) old new outcome cause = λ well. judged old new terms well outcome cause
+complete (Ok (arrays terms)) old new outcome cause = λ well. replayed old new terms well outcome cause
 complete (Err fault) old new outcome cause = tt

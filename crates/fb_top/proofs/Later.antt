@@ -40,7 +40,7 @@ ends_at_params old new only = record {
   reports = λ output no_note. only.outputs output;
 }
 
-ends_at_trace : (old mid new : DeskView) → ChangesInput Params old mid → ChangesInput Trace mid new → EndsAt Trace old new
+pub ends_at_trace : (old mid new : DeskView) → ChangesInput Params old mid → ChangesInput Trace mid new → EndsAt Trace old new
 ends_at_trace old mid new first second = record {
   later = (
     second.inputs Calls calls_are_no_trace ∙ first.inputs Calls calls_are_no_params,
@@ -90,6 +90,7 @@ at_params words old new (outcomes.Made n) only h = absurd h
 at_params words old new (outcomes.Checked verdict) only h = absurd h
 at_params words old new (outcomes.Reports fault) only h = absurd h
 at_params words old new (outcomes.Usage fault) only h = absurd h
+at_params words old new (outcomes.Arrayed runs copy) only h = absurd h
 at_params words old new (outcomes.Trace fault) only h = absurd h
 at_params words old new (outcomes.Calls fault) only h = absurd h
 at_params words old new (outcomes.TooLong Trace) only h = absurd h
@@ -136,6 +137,7 @@ at_trace words old mid new (outcomes.Made n) before first second h = absurd h
 at_trace words old mid new (outcomes.Checked verdict) before first second h = absurd h
 at_trace words old mid new (outcomes.Reports fault) before first second h = absurd h
 at_trace words old mid new (outcomes.Usage fault) before first second h = absurd h
+at_trace words old mid new (outcomes.Arrayed runs copy) before first second h = absurd h
 at_trace words old mid new (outcomes.Params fault) before first second h = absurd h
 at_trace words old mid new (outcomes.Calls fault) before first second h = absurd h
 at_trace words old mid new (outcomes.TooLong Params) before first second h = absurd h
@@ -192,6 +194,7 @@ at_calls words old mid late new (outcomes.Made n) before name given first second
 at_calls words old mid late new (outcomes.Checked verdict) before name given first second third h = absurd h
 at_calls words old mid late new (outcomes.Reports fault) before name given first second third h = absurd h
 at_calls words old mid late new (outcomes.Usage fault) before name given first second third h = absurd h
+at_calls words old mid late new (outcomes.Arrayed runs copy) before name given first second third h = absurd h
 at_calls words old mid late new (outcomes.Params fault) before name given first second third h = absurd h
 at_calls words old mid late new (outcomes.Trace fault) before name given first second third h = absurd h
 at_calls words old mid late new (outcomes.TooLong Params) before name given first second third h = absurd h
@@ -223,6 +226,7 @@ replay_stopped terms old new (outcomes.Done run) h = absurd h
 replay_stopped terms old new (outcomes.Made n) h = absurd h
 replay_stopped terms old new (outcomes.Checked verdict) h = absurd h
 replay_stopped terms old new (outcomes.Usage fault) h = absurd h
+replay_stopped terms old new (outcomes.Arrayed runs copy) h = absurd h
 replay_stopped terms old new (outcomes.WriteFault output) h = absurd h
 
 -- why the reports of a run were not written
@@ -237,6 +241,7 @@ at_reports words run old mid new (outcomes.Made n) is_run keeps h = absurd h
 at_reports words run old mid new (outcomes.Checked verdict) is_run keeps h = absurd h
 at_reports words run old mid new (outcomes.Reports fault) is_run keeps h = absurd h
 at_reports words run old mid new (outcomes.Usage fault) is_run keeps h = absurd h
+at_reports words run old mid new (outcomes.Arrayed runs copy) is_run keeps h = absurd h
 at_reports words run old mid new (outcomes.Params fault) is_run keeps h = absurd h
 at_reports words run old mid new (outcomes.Trace fault) is_run keeps h = absurd h
 at_reports words run old mid new (outcomes.Calls fault) is_run keeps h = absurd h

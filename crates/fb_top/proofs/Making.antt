@@ -3,8 +3,8 @@ use Rattle.std.proofs.Common.{◌≡◌, ◌≢◌, ℕ, ◌+◌, ◌-◌, ◌<�
 use Rattle.std.specs.Prelude.{slice_get, Ok, codes}
 use Rattle.std.specs.List.{flat_map, range_with_len}
 use Rattle.std.proofs.lemmas.List.{length-append, length-map}
-use Rattle.std.proofs.lemmas.List.FromFn.{get_or-range_with_len, length-range_with_len, length-map-range_with_len}
-use Rattle.std.proofs.lemmas.Option.{slice_get-get_or, slice_get-map}
+use Rattle.std.proofs.lemmas.List.FromFn.{length-map-range_with_len}
+use Rattle.std.proofs.lemmas.Option.{slice_get-map}
 use Rattle.std.specs.Option.{option_map}
 use Rattle.fb_geometry.specs.Shape.{Shape}
 use Rattle.fb_geometry.specs.Places.{places, zone_places, data_list}
@@ -18,13 +18,14 @@ use Rattle.fb_calls.specs.Reading.{calls_of}
 use Rattle.fb_desk.specs.Calls.{Rose, ChangesInput, ChangesOutput}
 use Rattle.fb_desk.specs.View.{DeskView, InputView, OutputView}
 use Rattle.fb_desk.specs.declared.desk.Input.TheVariants.{Params, Trace, Calls, ForeReport, BackReport}
-use Rattle.fb_desk.specs.declared.desk.Output.TheVariants.{Fore, Back, Note, MadeTrace, MadeCalls}
+use Rattle.fb_desk.specs.declared.desk.Output.TheVariants.{Fore, Back, Note, MadeTrace, MadeCalls, Copied}
 use Rattle.fb_words.specs.Command.{MakeTerms}
 use Rattle.fb_top.specs.declared.outcome.Outcome.{Outcome}
 use Rattle.fb_top.specs.declared.outcome.Outcome.TheVariants as outcomes
 use Rattle.fb_top.specs.Causes.{AcceptsDisk}
 use Rattle.fb_top.specs.Written.{HoldsWhole, HoldsFront, KeepsReports, KeepsButBoth, StopsText}
 use Rattle.fb_top.specs.Make.{MakeHasCause, WritesBoth, CutsTrace, CutsCalls, trace_text, sectors_of}
+use Rattle.fb_top.proofs.Each.{counted}
 use Rattle.fb_top.proofs.Moved.{trace_is_no_note, calls_are_no_note, keeps_but_both, faults_rose, whole, cuts_off, cuts_second}
 
 calls_are_no_trace : MadeCalls ≢ MadeTrace
@@ -74,6 +75,7 @@ module _ (terms : MakeTerms) (old mid new : DeskView) (only : ChangesOutput Note
   make_cause_still outcomes.NoMemory (inr (inr cut)) = inr (inr (cuts_calls_still cut))
   make_cause_still (outcomes.Done run) h = absurd h
   make_cause_still (outcomes.Usage fault) h = absurd h
+  make_cause_still (outcomes.Arrayed runs copy) h = absurd h
   make_cause_still (outcomes.Checked verdict) h = absurd h
   make_cause_still (outcomes.Reports fault) h = absurd h
   make_cause_still (outcomes.Trace fault) h = absurd h
@@ -89,6 +91,7 @@ module _ (terms : MakeTerms) (old mid new : DeskView) (only : ChangesOutput Note
   make_cause_still (outcomes.WriteFault Fore) h = absurd h
   make_cause_still (outcomes.WriteFault Back) h = absurd h
   make_cause_still (outcomes.WriteFault Note) h = absurd h
+  make_cause_still (outcomes.WriteFault Copied) h = absurd h
 
 cuts_trace : (terms : MakeTerms) (old mid new : DeskView) (makes : AcceptsDisk old terms.params) → ChangesInput Params old mid → ChangesOutput MadeTrace mid new
     → HoldsFront (new.outputs MadeTrace) terms.trace (trace_text terms makes.disk) → CutsTrace old new terms
@@ -104,12 +107,14 @@ stopped_trace terms old mid new (outcomes.WriteFault MadeCalls) makes first seco
 stopped_trace terms old mid new (outcomes.WriteFault Fore) makes first second h = absurd (let other = h.0 in cc)
 stopped_trace terms old mid new (outcomes.WriteFault Back) makes first second h = absurd (let other = h.0 in cc)
 stopped_trace terms old mid new (outcomes.WriteFault Note) makes first second h = absurd (let other = h.0 in cc)
+stopped_trace terms old mid new (outcomes.WriteFault Copied) makes first second h = absurd (let other = h.0 in cc)
 stopped_trace terms old mid new outcomes.NoMemory makes first second h = inr (inl (cuts_trace terms old mid new makes first second h))
 stopped_trace terms old mid new (outcomes.Done run) makes first second h = absurd h
 stopped_trace terms old mid new (outcomes.Made n) makes first second h = absurd h
 stopped_trace terms old mid new (outcomes.Checked verdict) makes first second h = absurd h
 stopped_trace terms old mid new (outcomes.Reports fault) makes first second h = absurd h
 stopped_trace terms old mid new (outcomes.Usage fault) makes first second h = absurd h
+stopped_trace terms old mid new (outcomes.Arrayed runs copy) makes first second h = absurd h
 stopped_trace terms old mid new (outcomes.Params fault) makes first second h = absurd h
 stopped_trace terms old mid new (outcomes.Trace fault) makes first second h = absurd h
 stopped_trace terms old mid new (outcomes.Calls fault) makes first second h = absurd h
@@ -141,12 +146,14 @@ stopped_calls terms old mid late new (outcomes.WriteFault MadeTrace) makes first
 stopped_calls terms old mid late new (outcomes.WriteFault Fore) makes first second third trace h = absurd (let other = h.0 in cc)
 stopped_calls terms old mid late new (outcomes.WriteFault Back) makes first second third trace h = absurd (let other = h.0 in cc)
 stopped_calls terms old mid late new (outcomes.WriteFault Note) makes first second third trace h = absurd (let other = h.0 in cc)
+stopped_calls terms old mid late new (outcomes.WriteFault Copied) makes first second third trace h = absurd (let other = h.0 in cc)
 stopped_calls terms old mid late new outcomes.NoMemory makes first second third trace h = inr (inr (cuts_calls terms old mid late new makes first second third trace h))
 stopped_calls terms old mid late new (outcomes.Done run) makes first second third trace h = absurd h
 stopped_calls terms old mid late new (outcomes.Made n) makes first second third trace h = absurd h
 stopped_calls terms old mid late new (outcomes.Checked verdict) makes first second third trace h = absurd h
 stopped_calls terms old mid late new (outcomes.Reports fault) makes first second third trace h = absurd h
 stopped_calls terms old mid late new (outcomes.Usage fault) makes first second third trace h = absurd h
+stopped_calls terms old mid late new (outcomes.Arrayed runs copy) makes first second third trace h = absurd h
 stopped_calls terms old mid late new (outcomes.Params fault) makes first second third trace h = absurd h
 stopped_calls terms old mid late new (outcomes.Trace fault) makes first second third trace h = absurd h
 stopped_calls terms old mid late new (outcomes.Calls fault) makes first second third trace h = absurd h
@@ -168,9 +175,6 @@ wrote_both terms old mid late new makes n count first second third trace calls r
   trace_read = read;
   calls_read = script;
 }
-
-counted : (n i : ℕ) → i < n → slice_get (range_with_len 0 n) i ≡ Some i
-counted n i inside = slice_get-get_or (range_with_len 0 n) i 0 (omega (arith, length-range_with_len 0 n)) ∙ ap Some (get_or-range_with_len 0 n i 0 inside ∙ omega arith)
 
 -- the i-th line of a made trace
 pub line_at : (number device sectors n i : ℕ) → i < n → slice_get (made_lines number device sectors n) i ≡ Some (line_of device (request_at number sectors i))

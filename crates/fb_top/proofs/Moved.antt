@@ -4,7 +4,7 @@ use Rattle.fb_rows.specs.declared.run.Run.{Run}
 use Rattle.fb_desk.specs.Calls.{Rose}
 use Rattle.fb_desk.specs.View.{DeskView, OutputView}
 use Rattle.fb_desk.specs.declared.desk.Output.{Output}
-use Rattle.fb_desk.specs.declared.desk.Output.TheVariants.{Fore, Back, Note, MadeTrace, MadeCalls}
+use Rattle.fb_desk.specs.declared.desk.Output.TheVariants.{Fore, Back, Note, MadeTrace, MadeCalls, Copied}
 use Rattle.fb_words.specs.Command.{ReplayTerms}
 use Rattle.fb_top.specs.declared.outcome.Outcome.{Outcome}
 use Rattle.fb_top.specs.declared.outcome.Outcome.TheVariants as outcomes
@@ -60,6 +60,7 @@ module _ (old mid late new : DeskView) (first : KeepsReports old mid) (last : Ke
   stops_text which name text (outcomes.Made n) no_note h = absurd h
   stops_text which name text (outcomes.Checked verdict) no_note h = absurd h
   stops_text which name text (outcomes.Usage fault) no_note h = absurd h
+  stops_text which name text (outcomes.Arrayed runs copy) no_note h = absurd h
   stops_text which name text (outcomes.Params fault) no_note h = absurd h
   stops_text which name text (outcomes.Trace fault) no_note h = absurd h
   stops_text which name text (outcomes.Calls fault) no_note h = absurd h
@@ -92,6 +93,7 @@ module _ (old mid late new : DeskView) (first : KeepsReports old mid) (last : Ke
   stops_reports terms files run outcomes.NoMemory (inl cut) = inl (cuts_fore terms files run cut)
   stops_reports terms files run outcomes.NoMemory (inr cut) = inr (cuts_back terms files run cut)
   stops_reports terms files run (outcomes.WriteFault Note) stops = absurd stops
+  stops_reports terms files run (outcomes.WriteFault Copied) stops = absurd stops
   stops_reports terms files run (outcomes.WriteFault MadeTrace) stops = absurd stops
   stops_reports terms files run (outcomes.WriteFault MadeCalls) stops = absurd stops
   stops_reports terms files run (outcomes.Done other) stops = absurd stops
@@ -99,6 +101,7 @@ module _ (old mid late new : DeskView) (first : KeepsReports old mid) (last : Ke
   stops_reports terms files run (outcomes.Checked verdict) stops = absurd stops
   stops_reports terms files run (outcomes.Reports fault) stops = absurd stops
   stops_reports terms files run (outcomes.Usage fault) stops = absurd stops
+  stops_reports terms files run (outcomes.Arrayed runs copy) stops = absurd stops
   stops_reports terms files run (outcomes.Params fault) stops = absurd stops
   stops_reports terms files run (outcomes.Trace fault) stops = absurd stops
   stops_reports terms files run (outcomes.Calls fault) stops = absurd stops

@@ -3,7 +3,7 @@ use Rattle.std.proofs.Common.{◌≡◌, ℕ, ◌+◌, ◌≤◌, List, [], ◌�
 use Rattle.std.specs.Prelude.{IfSome, OnOk, OnErr, codes, slice_get}
 use Rattle.std.proofs.lemmas.List.{drop_more, drop_all, take-append-drop}
 use Rattle.std.proofs.lemmas.Option.{slice_get_within, get_or_from_slice_get}
-use Rattle.fb_words.specs.Command.{Terms, ReplayTerms, CheckTerms, replays, makes, checks}
+use Rattle.fb_words.specs.Command.{Terms, ReplayTerms, CheckTerms, ArrayTerms, replays, makes, checks, arrays}
 use Rattle.fb_words.specs.declared.fault.UsageFault.{UsageFault}
 use Rattle.fb_desk.specs.Calls.{ChangesOutput, Rose, behind}
 use Rattle.fb_desk.specs.View.{DeskView, InputView, OutputView}
@@ -15,11 +15,13 @@ use Rattle.fb_top.specs.declared.outcome.Outcome.TheVariants as outcomes
 use Rattle.fb_top.specs.Streams.{AppendsFront}
 use Rattle.fb_top.specs.Written.{KeepsReports}
 use Rattle.fb_top.specs.Done.{IsCutShort}
-use Rattle.fb_top.specs.Sources.{InputTerms, replay_inputs, check_inputs}
+use Rattle.fb_top.specs.Sources.{InputTerms, replay_inputs, check_inputs, array_inputs}
 use Rattle.fb_top.specs.Checked.{IsVerdictCut, verdict_line}
 use Rattle.fb_top.specs.Causes.{CheckHasCause, EndsAt, HasCause, KeepsLater, RunsOut, StopsInputs, input_of}
 use Rattle.fb_top.specs.Answers.{AnswersWords}
+use Rattle.fb_top.specs.Array.{ArrayHasCause, IsArrayCut}
 use Rattle.fb_top.specs.Noted.{IsNote}
+use Rattle.fb_top.proofs.Arrayed.{array_cut, arrayed}
 use Rattle.fb_top.proofs.Fronts.{rose_since}
 use Rattle.fb_top.proofs.Making.{keeps_reports, keeps_still, make_cause_still}
 use Rattle.fb_top.proofs.Moved.{fore_is_no_note, holds_reports, keeps_but, stops_reports, stops_text, whole}
@@ -87,6 +89,7 @@ module _ (terms : InputTerms) (old mid new : DeskView) (only : ChangesOutput Not
   inputs_still (outcomes.Made n) h = absurd h
   inputs_still (outcomes.Checked verdict) h = absurd h
   inputs_still (outcomes.Usage fault) h = absurd h
+  inputs_still (outcomes.Arrayed runs copy) h = absurd h
   inputs_still (outcomes.WriteFault output) h = absurd h
 
 module _ (terms : ReplayTerms) (old mid new : DeskView) (only : ChangesOutput Note mid new) where
@@ -117,6 +120,7 @@ module _ (terms : ReplayTerms) (old mid new : DeskView) (only : ChangesOutput No
   cause_still (outcomes.Made n) h = absurd h
   cause_still (outcomes.Checked verdict) h = absurd h
   cause_still (outcomes.Usage fault) h = absurd h
+  cause_still (outcomes.Arrayed runs copy) h = absurd h
 
 module _ (terms : CheckTerms) (old mid new : DeskView) (only : ChangesOutput Note mid new) where
   keeps : KeepsReports mid new
@@ -154,10 +158,35 @@ module _ (terms : CheckTerms) (old mid new : DeskView) (only : ChangesOutput Not
   check_still (outcomes.Done run) h = absurd h
   check_still (outcomes.Made n) h = absurd h
   check_still (outcomes.Usage fault) h = absurd h
+  check_still (outcomes.Arrayed runs copy) h = absurd h
+
+module _ (terms : ArrayTerms) (old mid new : DeskView) (only : ChangesOutput Note mid new) where
+  array_cut_still : (outcome : Outcome) → IsArrayCut old mid terms outcome → IsArrayCut old new terms outcome
+  array_cut_still outcome cut = array_cut terms old old mid new cut.runs cut.are_runs (λ output no_note. refl) (keeps_reports mid new only) outcome cut.stops
+
+  array_stop_still : (outcome : Outcome) → StopsInputs (array_inputs terms) old mid outcome → StopsInputs (array_inputs terms) old new outcome
+  array_stop_still outcome h = inputs_still (array_inputs terms) old mid new only outcome h
+
+  array_still : (outcome : Outcome) → ArrayHasCause terms old mid outcome → ArrayHasCause terms old new outcome
+  array_still (outcomes.Arrayed runs copy) h = arrayed terms old old mid new runs h.are_runs (λ output no_note. refl) (keeps_reports mid new only) copy h.copied h.texts
+  array_still (outcomes.Params fault) h = array_stop_still (outcomes.Params fault) h
+  array_still (outcomes.Trace fault) h = (h.0, ends_still Trace old mid new h.1 only)
+  array_still (outcomes.Calls fault) h = (h.0, ends_still Trace old mid new h.1 only)
+  array_still (outcomes.Reports fault) h = array_stop_still (outcomes.Reports fault) h
+  array_still (outcomes.TooLong input) h = array_stop_still (outcomes.TooLong input) h
+  array_still (outcomes.ReadFault input) h = array_stop_still (outcomes.ReadFault input) h
+  array_still (outcomes.WriteFault output) h = array_cut_still (outcomes.WriteFault output) h
+  array_still outcomes.NoMemory (inl out) = inl (out_still (array_inputs terms) old mid new only out)
+  array_still outcomes.NoMemory (inr cut) = inr (array_cut_still outcomes.NoMemory cut)
+  array_still (outcomes.Done run) h = absurd h
+  array_still (outcomes.Made n) h = absurd h
+  array_still (outcomes.Checked verdict) h = absurd h
+  array_still (outcomes.Usage fault) h = absurd h
 
 -- an answer keeps its cause where nothing but the note changes
 pub answer_still : (reading : Result Terms UsageFault) (old mid new : DeskView) (outcome : Outcome) → ChangesOutput Note mid new → AnswersWords reading old mid outcome → AnswersWords reading old new outcome
 answer_still (Ok (replays terms)) old mid new outcome only h = cause_still terms old mid new only outcome h
 answer_still (Ok (makes terms)) old mid new outcome only h = make_cause_still terms old mid new only outcome h
 answer_still (Ok (checks terms)) old mid new outcome only h = check_still terms old mid new only outcome h
+answer_still (Ok (arrays terms)) old mid new outcome only h = array_still terms old mid new only outcome h
 answer_still (Err fault) old mid new outcome only h = (h.0, keeps_still old mid new h.1 only)

@@ -23,7 +23,7 @@ held_here told bytes here e is = subst (λ (t : Option (List ℕ)). IfSome t (λ
 both_held : (one other : DeskView) (name : List ℕ) (bytes bytes' : List ℕ) → HoldAlike one other name → IfSome (one.held name) (λ held. bytes ≡ held) → IfSome (other.held name) (λ held. bytes' ≡ held) → bytes ≡ bytes'
 both_held one other name bytes bytes' alike held held' = held_here (one.held name) bytes alike.0 alike.1 held ∙ sym (held_here (other.held name) bytes' alike.0 alike.2 held')
 
-one_value : (one other : DeskView) (name : List ℕ) (disk disk' : Disk) (latent latent' : List ℕ) → HoldAlike one other name → ReadsDisk one name disk latent → ReadsDisk other name disk' latent'
+pub one_value : (one other : DeskView) (name : List ℕ) (disk disk' : Disk) (latent latent' : List ℕ) → HoldAlike one other name → ReadsDisk one name disk latent → ReadsDisk other name disk' latent'
     → ◌≡◌ {A = ParamsValue} (record { outline = disk.map; mechanics = disk.mechanism; sector_bytes = disk.sector_bytes; latent = latent }) (record { outline = disk'.map; mechanics = disk'.mechanism; sector_bytes = disk'.sector_bytes; latent = latent' })
 one_value one other name disk disk' latent latent' alike reads reads' =
     same_ok (params_of reads.bytes) _ _ reads.spells (ap params_of (both_held one other name reads.bytes reads'.bytes alike reads.held reads'.held) ∙ reads'.spells)
@@ -60,11 +60,11 @@ kept_by disk latent =
 same_with : (v w : ParamsValue) → v ≡ w → (kept : Keeps v) (also : Keeps w) → disk_with v kept ≡ disk_with w also
 same_with v w e = subst (λ (x : ParamsValue). (kept : Keeps v) (also : Keeps x) → disk_with v kept ≡ disk_with x also) e (λ kept also. ap (disk_with v) (Keeps-prop v kept also))
 
-one_disk : (one other : DeskView) (name : List ℕ) (disk disk' : Disk) (latent latent' : List ℕ) → HoldAlike one other name → ReadsDisk one name disk latent → ReadsDisk other name disk' latent' → disk ≡ disk'
+pub one_disk : (one other : DeskView) (name : List ℕ) (disk disk' : Disk) (latent latent' : List ℕ) → HoldAlike one other name → ReadsDisk one name disk latent → ReadsDisk other name disk' latent' → disk ≡ disk'
 one_disk one other name disk disk' latent latent' alike reads reads' =
     same_with _ _ (one_value one other name disk disk' latent latent' alike reads reads') (kept_by disk latent) (kept_by disk' latent')
 
-one_trace : (one other : DeskView) (name : List ℕ) (device : ℕ) (disk disk' : Disk) (trace trace' : Accepted) → disk ≡ disk' → HoldAlike one other name
+pub one_trace : (one other : DeskView) (name : List ℕ) (device : ℕ) (disk disk' : Disk) (trace trace' : Accepted) → disk ≡ disk' → HoldAlike one other name
     → ReadsTrace one name device disk trace → ReadsTrace other name device disk' trace' → trace ≡ trace'
 one_trace one other name device disk disk' trace trace' same alike reads reads' =
     same_ok (trace_of device (length (places disk.map)) reads.bytes) _ _ reads.spells

@@ -6,9 +6,9 @@ use Rattle.fb_desk.specs.View.{DeskView, InputView, OutputView, IsUnused}
 use Rattle.fb_desk.specs.declared.desk.Input.{Input}
 use Rattle.fb_desk.specs.declared.desk.Input.TheVariants.{Params, Trace, Calls, ForeReport, BackReport}
 use Rattle.fb_desk.specs.declared.desk.Output.{Output}
-use Rattle.fb_desk.specs.declared.desk.Output.TheVariants.{Fore, Back, Note, MadeTrace, MadeCalls}
-use Rattle.fb_words.specs.Command.{Terms, replays, makes, checks}
-use Rattle.fb_top.specs.Sources.{InputTerms, SourceTerms, check_inputs, files_alone, name_of, replay_inputs}
+use Rattle.fb_desk.specs.declared.desk.Output.TheVariants.{Fore, Back, Note, MadeTrace, MadeCalls, Copied}
+use Rattle.fb_words.specs.Command.{Terms, replays, makes, checks, arrays}
+use Rattle.fb_top.specs.Sources.{InputTerms, SourceTerms, array_inputs, check_inputs, files_alone, name_of, replay_inputs}
 use Rattle.fb_words.specs.declared.fault.UsageFault.{UsageFault}
 use Rattle.fb_top.specs.declared.outcome.Outcome.{Outcome}
 use Rattle.fb_top.specs.declared.outcome.Outcome.TheVariants as outcomes
@@ -80,6 +80,7 @@ pub opened_after : (reading : Result Terms UsageFault) (which : Output) (old mid
 opened_after (Ok (replays terms)) which old mid new opened only = opened_written (replay_inputs terms) old mid new opened (λ input. only.inputs input)
 opened_after (Ok (makes terms)) which old mid new opened only = subst (λ (v : InputView). IsOpenedAs terms.params old v) (sym (only.inputs Params)) opened
 opened_after (Ok (checks terms)) which old mid new opened only = opened_written (check_inputs terms) old mid new opened (λ input. only.inputs input)
+opened_after (Ok (arrays terms)) which old mid new opened only = opened_written (array_inputs terms) old mid new opened (λ input. only.inputs input)
 opened_after (Err fault) which old mid new opened only = tt
 
 -- no call failed while the three inputs were read
@@ -110,26 +111,37 @@ calm_output Fore old new only calm Back = ap (λ (v : OutputView). v.faults) (on
 calm_output Fore old new only calm Note = ap (λ (v : OutputView). v.faults) (only.outputs Note (λ e. cc))
 calm_output Fore old new only calm MadeTrace = ap (λ (v : OutputView). v.faults) (only.outputs MadeTrace (λ e. cc))
 calm_output Fore old new only calm MadeCalls = ap (λ (v : OutputView). v.faults) (only.outputs MadeCalls (λ e. cc))
+calm_output Fore old new only calm Copied = ap (λ (v : OutputView). v.faults) (only.outputs Copied (λ e. cc))
 calm_output Back old new only calm Fore = ap (λ (v : OutputView). v.faults) (only.outputs Fore (λ e. cc))
 calm_output Back old new only calm Back = calm
 calm_output Back old new only calm Note = ap (λ (v : OutputView). v.faults) (only.outputs Note (λ e. cc))
 calm_output Back old new only calm MadeTrace = ap (λ (v : OutputView). v.faults) (only.outputs MadeTrace (λ e. cc))
 calm_output Back old new only calm MadeCalls = ap (λ (v : OutputView). v.faults) (only.outputs MadeCalls (λ e. cc))
+calm_output Back old new only calm Copied = ap (λ (v : OutputView). v.faults) (only.outputs Copied (λ e. cc))
 calm_output Note old new only calm Fore = ap (λ (v : OutputView). v.faults) (only.outputs Fore (λ e. cc))
 calm_output Note old new only calm Back = ap (λ (v : OutputView). v.faults) (only.outputs Back (λ e. cc))
 calm_output Note old new only calm Note = calm
 calm_output Note old new only calm MadeTrace = ap (λ (v : OutputView). v.faults) (only.outputs MadeTrace (λ e. cc))
 calm_output Note old new only calm MadeCalls = ap (λ (v : OutputView). v.faults) (only.outputs MadeCalls (λ e. cc))
+calm_output Note old new only calm Copied = ap (λ (v : OutputView). v.faults) (only.outputs Copied (λ e. cc))
 calm_output MadeTrace old new only calm Fore = ap (λ (v : OutputView). v.faults) (only.outputs Fore (λ e. cc))
 calm_output MadeTrace old new only calm Back = ap (λ (v : OutputView). v.faults) (only.outputs Back (λ e. cc))
 calm_output MadeTrace old new only calm Note = ap (λ (v : OutputView). v.faults) (only.outputs Note (λ e. cc))
 calm_output MadeTrace old new only calm MadeTrace = calm
 calm_output MadeTrace old new only calm MadeCalls = ap (λ (v : OutputView). v.faults) (only.outputs MadeCalls (λ e. cc))
+calm_output MadeTrace old new only calm Copied = ap (λ (v : OutputView). v.faults) (only.outputs Copied (λ e. cc))
 calm_output MadeCalls old new only calm Fore = ap (λ (v : OutputView). v.faults) (only.outputs Fore (λ e. cc))
 calm_output MadeCalls old new only calm Back = ap (λ (v : OutputView). v.faults) (only.outputs Back (λ e. cc))
 calm_output MadeCalls old new only calm Note = ap (λ (v : OutputView). v.faults) (only.outputs Note (λ e. cc))
 calm_output MadeCalls old new only calm MadeTrace = ap (λ (v : OutputView). v.faults) (only.outputs MadeTrace (λ e. cc))
 calm_output MadeCalls old new only calm MadeCalls = calm
+calm_output MadeCalls old new only calm Copied = ap (λ (v : OutputView). v.faults) (only.outputs Copied (λ e. cc))
+calm_output Copied old new only calm Fore = ap (λ (v : OutputView). v.faults) (only.outputs Fore (λ e. cc))
+calm_output Copied old new only calm Back = ap (λ (v : OutputView). v.faults) (only.outputs Back (λ e. cc))
+calm_output Copied old new only calm Note = ap (λ (v : OutputView). v.faults) (only.outputs Note (λ e. cc))
+calm_output Copied old new only calm MadeTrace = ap (λ (v : OutputView). v.faults) (only.outputs MadeTrace (λ e. cc))
+calm_output Copied old new only calm MadeCalls = ap (λ (v : OutputView). v.faults) (only.outputs MadeCalls (λ e. cc))
+calm_output Copied old new only calm Copied = calm
 
 pub calm_outputs : (old mid new : DeskView) → AreOutputsCalm old mid → AreOutputsCalm mid new → AreOutputsCalm old new
 calm_outputs old mid new first second = λ output. second output ∙ first output
@@ -145,6 +157,7 @@ pub calm_after : (outcome : Outcome) (old mid new : DeskView) → MeetsNoFault o
 calm_after (outcomes.Done run) old mid new calm only note = is_calm_after old mid new calm only (ap (λ (v : OutputView). v.faults) note)
 calm_after (outcomes.Made n) old mid new calm only note = is_calm_after old mid new calm only (ap (λ (v : OutputView). v.faults) note)
 calm_after (outcomes.Checked verdict) old mid new calm only note = is_calm_after old mid new calm only (ap (λ (v : OutputView). v.faults) note)
+calm_after (outcomes.Arrayed runs copy) old mid new calm only note = is_calm_after old mid new calm only (ap (λ (v : OutputView). v.faults) note)
 calm_after (outcomes.Usage fault) old mid new calm only note = tt
 calm_after (outcomes.Params fault) old mid new calm only note = tt
 calm_after (outcomes.Trace fault) old mid new calm only note = tt

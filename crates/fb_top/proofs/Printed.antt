@@ -70,6 +70,7 @@ answers_yes old new terms outcomes.NoMemory right cause judged = inr refl
 answers_yes old new terms (outcomes.Done run) right cause judged = absurd judged
 answers_yes old new terms (outcomes.Made n) right cause judged = absurd judged
 answers_yes old new terms (outcomes.Usage fault) right cause judged = absurd judged
+answers_yes old new terms (outcomes.Arrayed runs copy) right cause judged = absurd judged
 answers_yes old new terms (outcomes.Params fault) right cause judged = absurd judged
 answers_yes old new terms (outcomes.Trace fault) right cause judged = absurd judged
 answers_yes old new terms (outcomes.Calls fault) right cause judged = absurd judged

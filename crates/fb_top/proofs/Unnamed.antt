@@ -5,7 +5,7 @@ use Rattle.fb_desk.specs.Calls.{ChangesInput, ChangesOutput}
 use Rattle.fb_desk.specs.View.{DeskView}
 use Rattle.fb_desk.specs.declared.desk.Input.TheVariants.{Params, Trace, Calls, ForeReport, BackReport}
 use Rattle.fb_desk.specs.declared.desk.Output.{Output}
-use Rattle.fb_words.specs.Command.{Terms, replays, makes, checks}
+use Rattle.fb_words.specs.Command.{Terms, replays, makes, checks, arrays}
 use Rattle.fb_top.specs.Sources.{InputTerms, SourceTerms, files_alone}
 use Rattle.fb_words.specs.declared.fault.UsageFault.{UsageFault}
 use Rattle.fb_top.specs.Causes.{KeepsLater}
@@ -51,6 +51,7 @@ pub unnamed_after : (reading : Result Terms UsageFault) (which : Output) (old mi
 unnamed_after (Ok (replays terms)) which old mid new keeps only = λ input unnamed. only.inputs input ∙ keeps input unnamed
 unnamed_after (Ok (makes terms)) which old mid new keeps only = later_after which old mid new keeps only
 unnamed_after (Ok (checks terms)) which old mid new keeps only = λ input unnamed. only.inputs input ∙ keeps input unnamed
+unnamed_after (Ok (arrays terms)) which old mid new keeps only = λ input unnamed. only.inputs input ∙ keeps input unnamed
 unnamed_after (Err fault) which old mid new keeps only = λ input. only.inputs input ∙ keeps input
 
 pub unnamed_written : (terms : InputTerms) (old mid new : DeskView) → KeepsUnnamed terms old mid → KeepsInputs mid new → KeepsUnnamed terms old new

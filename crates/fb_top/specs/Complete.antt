@@ -4,7 +4,7 @@ use Rattle.fb_desk.specs.View.{DeskView}
 use Rattle.fb_desk.specs.declared.desk.Input.{Input}
 use Rattle.fb_desk.specs.declared.desk.Output.TheVariants.{Fore, Back}
 use Rattle.fb_report.specs.Grammar.{Grammar, fore_grammar, back_grammar}
-use Rattle.fb_words.specs.Command.{Terms, ReplayTerms, CheckTerms, replays, makes, checks}
+use Rattle.fb_words.specs.Command.{Terms, ReplayTerms, CheckTerms, replays, makes, checks, arrays}
 use Rattle.fb_words.specs.declared.fault.UsageFault.{UsageFault}
 use Rattle.fb_top.specs.declared.outcome.Outcome.{Outcome}
 use Rattle.fb_top.specs.declared.outcome.Outcome.TheVariants as outcomes
@@ -13,6 +13,7 @@ use Rattle.fb_top.specs.Read.{Files, Accepts, ReadsReport}
 use Rattle.fb_top.specs.Written.{OutputFaultsRose}
 use Rattle.fb_top.specs.Causes.{FaultsRose}
 use Rattle.fb_top.specs.Make.{MakeGoesWell, MakesAll}
+use Rattle.fb_top.specs.Array.{ArrayGoesWell, IsReplayed}
 
 -- the desk tells what a report holds, and it is accepted
 pub record TellsReport (desk : DeskView) (grammar : Grammar) (name : List ℕ) : Type 0 where
@@ -59,4 +60,5 @@ abbrev pub IsComplete : Result Terms UsageFault → DeskView → DeskView → Ou
 IsComplete (Ok (replays terms)) old new outcome = GoesWell old new terms → IsMade outcome
 IsComplete (Ok (makes terms)) old new outcome = MakeGoesWell old new terms → MakesAll terms outcome
 IsComplete (Ok (checks terms)) old new outcome = CheckGoesWell old new terms → IsJudged outcome
+IsComplete (Ok (arrays terms)) old new outcome = ArrayGoesWell old new terms → IsReplayed outcome
 IsComplete (Err fault) old new outcome = Unit {0}

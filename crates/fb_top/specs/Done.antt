@@ -1,5 +1,5 @@
 -- What a replay has written.
-use Rattle.std.specs.Prelude.{◌≡◌, ◌⊎◌, ℕ, ◌<◌, List, Option, Some, None, false, codes, IfSome, if◌then◌else◌}
+use Rattle.std.specs.Prelude.{◌≡◌, ◌⊎◌, ℕ, ◌<◌, ◌≤◌, ◌^◌, List, length, Option, Some, None, false, codes, IfSome, if◌then◌else◌}
 use Rattle.std.specs.List.{AllByRecursion}
 use Rattle.fb_geometry.specs.Sound.{IsSound}
 use Rattle.fb_rows.specs.declared.run.Run.{Run}
@@ -31,6 +31,7 @@ pub record IsRunOf (desk : DeskView) (terms : ReplayTerms) (run : Run) : Type 0 
 
 -- rows whose contents and tasks a report can show
 pub record CanBeTold (names : List (List ℕ)) (run : Run) : Type 0 where
+  pub few : length run.fore ≤ 10 ^ 6
   pub fore : AllByRecursion HasRanges run.fore
   pub back : AllByRecursion HasBackRanges run.back
   pub named : AllByRecursion (HasNamedTask names) run.back

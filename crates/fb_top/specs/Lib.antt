@@ -9,6 +9,8 @@ pub mod Unnamed
 pub mod Opened
 pub mod Calm
 pub mod Make
+pub mod Devices
+pub mod Array
 pub mod Answers
 pub mod Complete
 pub mod Untouched

@@ -22,4 +22,5 @@ abbrev pub LeavesNote : Outcome → OutputView → OutputView → Type 0
 LeavesNote (outcomes.Done run) old new = new ≡ old
 LeavesNote (outcomes.Made n) old new = new ≡ old
 LeavesNote (outcomes.Checked verdict) old new = new ≡ old
+LeavesNote (outcomes.Arrayed runs copy) old new = new ≡ old
 LeavesNote outcome old new = TellsNote (note_of outcome) old new

@@ -40,6 +40,8 @@ usage_reason usage.OptionTwice = codes "OptionTwice"
 usage_reason usage.BadValue = codes "BadValue"
 usage_reason (usage.MissingOption number) = valued (codes "MissingOption") (decimal number)
 usage_reason usage.CallsAndBack = codes "CallsAndBack"
+usage_reason usage.RebuildIncomplete = codes "RebuildIncomplete"
+usage_reason usage.RebuildBeyond = codes "RebuildBeyond"
 
 -- why a line of a trace is refused
 abbrev pub trace_reason : TraceReason → List ℕ
@@ -120,6 +122,7 @@ output_text outputs.Back = codes "back"
 output_text outputs.Note = codes "note"
 output_text outputs.MadeTrace = codes "trace"
 output_text outputs.MadeCalls = codes "calls"
+output_text outputs.Copied = codes "copy"
 
 -- which word or line it is
 abbrev pub numbered : List ℕ → ℕ → List ℕ
@@ -130,6 +133,7 @@ abbrev pub cause_text : Outcome → List ℕ
 cause_text (outcomes.Done run) = []
 cause_text (outcomes.Made n) = []
 cause_text (outcomes.Checked verdict) = []
+cause_text (outcomes.Arrayed runs copy) = []
 cause_text (outcomes.Usage fault) = numbered (codes "usage: word ") fault.place ++ usage_reason fault.reason
 cause_text (outcomes.Params fault) = codes "params: " ++ params_fault fault
 cause_text (outcomes.Trace fault) = numbered (codes "trace: line ") fault.line ++ trace_reason fault.reason
@@ -149,4 +153,5 @@ abbrev pub note_of : Outcome → List ℕ
 note_of (outcomes.Done run) = []
 note_of (outcomes.Made n) = []
 note_of (outcomes.Checked verdict) = []
+note_of (outcomes.Arrayed runs copy) = []
 note_of outcome = note_line (cause_text outcome)

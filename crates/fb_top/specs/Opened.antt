@@ -3,10 +3,10 @@ use Rattle.std.specs.Prelude.{◌≡◌, List, ℕ, true, Some, Result, Ok, Err}
 use Rattle.fb_desk.specs.View.{DeskView, InputView}
 use Rattle.fb_desk.specs.declared.desk.Input.{Input}
 use Rattle.fb_desk.specs.declared.desk.Input.TheVariants.{Params}
-use Rattle.fb_words.specs.Command.{Terms, replays, makes, checks}
+use Rattle.fb_words.specs.Command.{Terms, replays, makes, checks, arrays}
 use Rattle.fb_words.specs.declared.fault.UsageFault.{UsageFault}
 use Rattle.fb_top.specs.Streams.{IsLeftOf}
-use Rattle.fb_top.specs.Sources.{InputTerms, name_of, replay_inputs, check_inputs}
+use Rattle.fb_top.specs.Sources.{InputTerms, name_of, replay_inputs, check_inputs, array_inputs}
 
 -- an input that is opened was opened under this name
 abbrev pub IsOpenedAs : List ℕ → DeskView → InputView → Type 0
@@ -21,4 +21,5 @@ abbrev pub OpensNamed : Result Terms UsageFault → DeskView → DeskView → Ty
 OpensNamed (Ok (replays terms)) old new = OpensAsNamed (replay_inputs terms) old new
 OpensNamed (Ok (makes terms)) old new = IsOpenedAs terms.params old (new.inputs Params)
 OpensNamed (Ok (checks terms)) old new = OpensAsNamed (check_inputs terms) old new
+OpensNamed (Ok (arrays terms)) old new = OpensAsNamed (array_inputs terms) old new
 OpensNamed (Err fault) old new = Unit {0}

@@ -3,7 +3,7 @@ use Rattle.std.specs.Prelude.{ℕ, List, Option, Some, None}
 use Rattle.std.specs.Option.{option_map}
 use Rattle.fb_desk.specs.declared.desk.Input.{Input}
 use Rattle.fb_desk.specs.declared.desk.Input.TheVariants.{Params, Trace, Calls, ForeReport, BackReport}
-use Rattle.fb_words.specs.Command.{ReplayTerms, CheckTerms}
+use Rattle.fb_words.specs.Command.{ReplayTerms, CheckTerms, ArrayTerms}
 use Rattle.fb_top.specs.declared.reading.Sources.{Sources}
 
 -- the names of a run's files, and the device whose requests are read
@@ -41,6 +41,10 @@ check_sources terms = record { params = terms.params; trace = terms.trace; calls
 -- the inputs of a check: its files and both reports
 abbrev pub check_inputs : CheckTerms → InputTerms
 check_inputs terms = record { sources = check_sources terms; fore = Some terms.fore; back = Some terms.back }
+
+-- the inputs of an array: a parameter file, and a trace, in which device 0 comes first
+abbrev pub array_inputs : ArrayTerms → InputTerms
+array_inputs terms = files_alone (record { params = terms.params; trace = terms.trace; calls = None; device = 0 })
 
 -- the name under which the words give an input, if they give it
 abbrev pub name_of : InputTerms → Input → Option (List ℕ)

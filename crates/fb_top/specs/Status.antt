@@ -2,13 +2,14 @@
 use Rattle.std.specs.Prelude.{ℕ}
 use Rattle.fb_check.specs.declared.verdict.Verdict.TheVariants.{Yes, No}
 use Rattle.fb_top.specs.declared.outcome.Outcome.{Outcome}
-use Rattle.fb_top.specs.declared.outcome.Outcome.TheVariants.{Done, Made, Checked, Usage, Params, Trace, Calls, Reports, TooLong, ReadFault, WriteFault, NoMemory}
+use Rattle.fb_top.specs.declared.outcome.Outcome.TheVariants.{Done, Made, Checked, Arrayed, Usage, Params, Trace, Calls, Reports, TooLong, ReadFault, WriteFault, NoMemory}
 
 abbrev pub status_of : Outcome → ℕ
 status_of (Done run) = 0
 status_of (Made n) = 0
 status_of (Checked Yes) = 0
 status_of (Checked (No mismatch)) = 1
+status_of (Arrayed runs copy) = 0
 status_of (Usage fault) = 2
 status_of (Params fault) = 3
 status_of (Trace fault) = 4

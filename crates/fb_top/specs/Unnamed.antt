@@ -3,9 +3,9 @@ use Rattle.std.specs.Prelude.{◌≡◌, None, Result, Ok, Err}
 use Rattle.fb_desk.specs.View.{DeskView}
 use Rattle.fb_desk.specs.declared.desk.Input.{Input}
 use Rattle.fb_desk.specs.declared.desk.Input.TheVariants.{Params}
-use Rattle.fb_words.specs.Command.{Terms, replays, makes, checks}
+use Rattle.fb_words.specs.Command.{Terms, replays, makes, checks, arrays}
 use Rattle.fb_words.specs.declared.fault.UsageFault.{UsageFault}
-use Rattle.fb_top.specs.Sources.{InputTerms, name_of, replay_inputs, check_inputs}
+use Rattle.fb_top.specs.Sources.{InputTerms, name_of, replay_inputs, check_inputs, array_inputs}
 use Rattle.fb_top.specs.Causes.{KeepsLater}
 
 -- no input has changed
@@ -21,4 +21,5 @@ abbrev pub LeavesUnnamed : Result Terms UsageFault → DeskView → DeskView →
 LeavesUnnamed (Ok (replays terms)) old new = KeepsUnnamed (replay_inputs terms) old new
 LeavesUnnamed (Ok (makes terms)) old new = KeepsLater Params old new
 LeavesUnnamed (Ok (checks terms)) old new = KeepsUnnamed (check_inputs terms) old new
+LeavesUnnamed (Ok (arrays terms)) old new = KeepsUnnamed (array_inputs terms) old new
 LeavesUnnamed (Err fault) old new = KeepsInputs old new

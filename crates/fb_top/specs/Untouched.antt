@@ -1,6 +1,6 @@
 -- Laws of the runs that the top call returns: background work leaves the foreground as it is, inputs have one run, no decision looks ahead,
--- and a run's own reports are right, as are the reports that were printed.
-use Rattle.std.specs.Prelude.{◌≡◌, ◌⊎◌, ℕ, ◌<◌, ◌≤◌, ◌^◌, List, length, false, Some, IfSome}
+-- a run's own reports are right, as are the reports that were printed, and the sections of an array are those of single replays.
+use Rattle.std.specs.Prelude.{◌≡◌, ◌⊎◌, ℕ, ◌<◌, ◌≤◌, ◌^◌, List, ◌++◌, length, slice_get, false, None, Some, IfSome}
 use Rattle.fb_rows.specs.declared.run.Run.{Run}
 use Rattle.fb_model.specs.Foreground.{promoted}
 use Rattle.fb_model.specs.Known.{AgreeUpTo, SameKnown}
@@ -14,7 +14,7 @@ use Rattle.fb_check.specs.declared.verdict.Verdict.TheVariants.{Yes}
 use Rattle.fb_desk.specs.View.{DeskView, OutputView}
 use Rattle.fb_desk.specs.declared.desk.Input.{Input}
 use Rattle.fb_desk.specs.declared.desk.Output.TheVariants.{Back, Fore}
-use Rattle.fb_words.specs.Command.{CheckTerms, ReplayTerms}
+use Rattle.fb_words.specs.Command.{ArrayTerms, CheckTerms, ReplayTerms}
 use Rattle.fb_top.specs.declared.outcome.Outcome.{Outcome}
 use Rattle.fb_top.specs.declared.outcome.Outcome.TheVariants.{Checked, NoMemory}
 use Rattle.fb_top.specs.Causes.{CheckHasCause, FaultsRose}
@@ -22,7 +22,8 @@ use Rattle.fb_top.specs.Checked.{IsVerdictOf}
 use Rattle.fb_top.specs.Complete.{TellsReport}
 use Rattle.fb_top.specs.Sources.{SourceTerms, check_sources, replay_sources}
 use Rattle.fb_top.specs.Read.{Files, inputs_of, key_of}
-use Rattle.fb_top.specs.Done.{IsDone, IsRunOf}
+use Rattle.fb_top.specs.Array.{AreRunsOf, device_line, section}
+use Rattle.fb_top.specs.Done.{IsDone, IsRunOf, fore_told}
 use Rattle.fb_top.specs.Written.{OutputFaultsRose, joined}
 
 -- the same disk, latent sectors and trace, and scripts that ask for the same reads
@@ -112,3 +113,20 @@ pub record AreRight (desk : DeskView) (checks : CheckTerms) : Type 0 where
 -- the reports that a replay printed are right
 abbrev pub PrintedReportsAreRight : Type 0
 PrintedReportsAreRight = (old new other : DeskView) (terms : ReplayTerms) (checks : CheckTerms) (run : Run) → IsDone old new terms run → ChecksPrinted old new other terms checks → AreRight other checks
+
+-- a replay asks for one of the devices of an array: files of the same bytes, the same policy and the same form, without a script and without a summary
+pub record ReplaysDevice (one other : DeskView) (terms : ArrayTerms) (replay : ReplayTerms) : Type 0 where
+  pub params : replay.params ≡ terms.params
+  pub trace : replay.trace ≡ terms.trace
+  pub no_calls : replay.calls ≡ None
+  pub policy : replay.policy ≡ terms.policy
+  pub bytes : replay.bytes ≡ terms.bytes
+  pub no_summary : replay.summary ≡ false
+  pub params_alike : HoldAlike one other terms.params
+  pub trace_alike : HoldAlike one other terms.trace
+
+-- behind the line that names its device, each section of an array is the text that such a replay writes to its foreground, also where the device has the calls of a rebuild
+abbrev pub SectionsAreReplays : Type 0
+SectionsAreReplays = (one other : DeskView) (terms : ArrayTerms) (replay : ReplayTerms) (runs : List Run) (run run' : Run) (are_runs : AreRunsOf one terms runs) (is_run : IsRunOf other replay run')
+    → ReplaysDevice one other terms replay → slice_get runs replay.device ≡ Some run
+    → joined (section are_runs.array.disk.sector_bytes terms.bytes replay.device run) ≡ device_line replay.device ++ fore_told replay is_run.files run'

@@ -1,6 +1,6 @@
 -- What outputs hold.
-use Rattle.std.specs.Prelude.{◌≡◌, ◌≢◌, ℕ, List, true, IfSome}
-use Rattle.std.specs.List.{flat_map}
+use Rattle.std.specs.Prelude.{◌≡◌, ◌≢◌, ℕ, List, [], ◌∷◌, ◌++◌, true, IfSome}
+use Rattle.std.specs.List.{AllByRecursion, flat_map}
 use Rattle.fb_desk.specs.Calls.{Rose}
 use Rattle.fb_desk.specs.View.{DeskView, OutputView}
 use Rattle.fb_desk.specs.declared.desk.Output.{Output}
@@ -60,3 +60,39 @@ abbrev pub StopsText : Output → List ℕ → List ℕ → DeskView → DeskVie
 StopsText which name text old new (outcomes.WriteFault output) = (output ≡ which) × OutputFaultsRose old new which × HoldsFront (new.outputs which) name text
 StopsText which name text old new outcomes.NoMemory = HoldsFront (new.outputs which) name text
 StopsText which name text old new _ = ⊥
+
+-- a text, with the output and the name under which it is written
+pub record Text : Type 0 where
+  pub output : Output
+  pub name : List ℕ
+  pub text : List ℕ
+
+-- no output but those of these texts and the note has changed
+abbrev pub KeepsButTexts : List Text → DeskView → DeskView → Type 0
+KeepsButTexts texts old new = (output : Output) → AllByRecursion (λ text. output ≢ text.output) texts → output ≢ Note → new.outputs output ≡ old.outputs output
+
+-- each of these texts stands whole in its output
+abbrev pub HoldsTexts : List Text → DeskView → Type 0
+HoldsTexts texts desk = AllByRecursion (λ text. HoldsWhole (desk.outputs text.output) text.name text.text) texts
+
+-- these texts were written whole, and nothing else
+pub record WritesAll (texts : List Text) (old new : DeskView) : Type 0 where
+  pub others : KeepsButTexts texts old new
+  pub whole : HoldsTexts texts new
+
+-- the text of this output was cut off: those before it were written whole, and nothing else was written
+pub record CutsAt (which : Output) (texts : List Text) (old new : DeskView) : Type 0 where
+  pub before : List Text
+  pub cut : Text
+  pub behind : List Text
+  pub are : texts ≡ before ++ cut ∷ behind
+  pub here : cut.output ≡ which
+  pub others : KeepsButTexts (before ++ cut ∷ []) old new
+  pub whole : HoldsTexts before new
+  pub front : HoldsFront (new.outputs which) cut.name cut.text
+
+-- why texts were not all written
+abbrev pub StopsTexts : List Text → DeskView → DeskView → Outcome → Type 0
+StopsTexts texts old new (outcomes.WriteFault output) = OutputFaultsRose old new output × CutsAt output texts old new
+StopsTexts texts old new outcomes.NoMemory = (output : Output) × CutsAt output texts old new
+StopsTexts texts old new _ = ⊥

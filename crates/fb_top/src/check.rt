@@ -126,7 +126,7 @@ fn judge_with<D: Desk>(
         fore,
         back: &back,
     };
-    match judge_by(alloc, words.policy, files, words.until, printed) {
+    match judge_by(alloc, words.policy, files.asked(words.until), printed) {
         Ok(verdict) => Ok(verdict),
         Err(NoMemory) => Err(Outcome::NoMemory),
     }

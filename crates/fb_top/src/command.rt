@@ -14,6 +14,7 @@ ghost use Rattle.fb_top.specs.Opened.{OpensNamed, OpensAsNamed};
 ghost use Rattle.fb_top.specs.Calm.{MeetsNoFault};
 ghost use Rattle.fb_top.specs.Ended.{EndsWith};
 
+use crate::array::run_array;
 use crate::check::run_check;
 use crate::make::run_make;
 use crate::policy::replay_by;
@@ -35,7 +36,12 @@ use std::alloc::Global;
 /// output `Back` under that name. A make reads the parameter file, and writes a trace and a call
 /// script that are accepted for that disk. A check reads what a replay reads, then a printed
 /// foreground report and a printed background report, and judges whether they are those of the
-/// replay's run; one line that tells the verdict goes to the output `Fore` under the name `-`.
+/// replay's run; one line that tells the verdict goes to the output `Fore` under the name `-`. An
+/// array reads the parameter file and the trace, which is judged for all its devices, and replays
+/// each; a section for each device goes to the output `Fore` under the name `-`. Where the words ask
+/// for a rebuild, one device is replayed beside a backup of its whole disk: its background report
+/// goes to the output `Back`, and then what the replacement holds to the output `Copied`, each under
+/// the name that the words give.
 ///
 /// Where a command fails, a line that says why goes to the output `Note` under the name `-`; the
 /// outcome is the same whether that line can be written or not. The desk must be unused.
@@ -75,6 +81,7 @@ fn answer_words<D: Desk>(alloc: Global, desk: &mut D, words: &[String]) -> Outco
         Ok(Command::Replay(words)) => run_replay(alloc, desk, &words),
         Ok(Command::Make(words)) => run_make(alloc, desk, &words),
         Ok(Command::Check(words)) => run_check(alloc, desk, &words),
+        Ok(Command::Array(words)) => run_array(alloc, desk, &words),
         Err(WordsError::Fault(fault)) => Outcome::Usage(fault),
         Err(WordsError::NoMemory) => Outcome::NoMemory,
     }
@@ -94,7 +101,7 @@ fn run_replay<D: Desk>(alloc: Global, desk: &mut D, words: &ReplayWords) -> Outc
         Ok(files) => files,
         Err(outcome) => return outcome,
     };
-    let run = match replay_by(alloc, words.policy, &files, words.until) {
+    let run = match replay_by(alloc, words.policy, files.asked(words.until)) {
         Ok(run) => run,
         Err(NoMemory) => return Outcome::NoMemory,
     };

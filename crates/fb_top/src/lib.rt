@@ -1,16 +1,20 @@
-//! The top call: it reads the words, then the inputs that they name, and replays and writes the
-//! reports, or judges reports that were printed.
+//! The top call: it reads the words, then the inputs that they name, and replays them, for one
+//! device or for several, and writes the reports; or it judges reports that were printed.
 //!
 //! Files are reached through a `Desk` (`fb_desk`). `run_command` returns an outcome. Its contract
 //! says that each outcome has its cause, in what was read or in a call of the desk that failed;
-//! that the texts written are those of the very run that it returns, and reports that a check
+//! that the texts written are those of the very runs that it returns, and reports that a check
 //! accepts; that a verdict is right; and that a command whose inputs are accepted and whose calls
 //! don't fail is done, unless it runs out of memory. It doesn't promise how long a run takes.
-//! `printed_reports_are_right` says that the reports of a replay are answered yes.
+//! `printed_reports_are_right` says that the reports of a replay are answered yes, and
+//! `sections_are_replays` that what an array prints of a device is what a replay of it prints.
 #![tactic(auto)]
 
+mod array;
+mod array_text;
 mod check;
 mod command;
+mod devices;
 mod lines;
 mod make;
 mod note;
@@ -20,6 +24,7 @@ mod outcome;
 mod policy;
 mod reading;
 mod report;
+mod runs;
 mod streams;
 mod untouched;
 mod verdict_line;
@@ -28,7 +33,8 @@ mod writing;
 pub use command::{run, run_command};
 pub use note::note_text;
 pub use outcome::{Outcome, status};
+pub use runs::Runs;
 pub use untouched::{
     inputs_have_one_run, printed_reports_are_right, right_reports_are_right, runs_look_not_ahead,
-    scripts_leave_the_foreground,
+    scripts_leave_the_foreground, sections_are_replays,
 };

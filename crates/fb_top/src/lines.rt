@@ -25,6 +25,7 @@ pub trait Lines {
 
     /// How many lines there are; a first and a last are among them.
     fn count(&self) -> u64
+        requires told { can_be_told self.now }
         ensures value { result ≡ length (lines self.now) }
         ensures ends { 2 ≤ result };
 

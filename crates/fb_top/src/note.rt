@@ -23,6 +23,7 @@ pub fn note_text(alloc: Global, outcome: &Outcome) -> Result<Vec<u8>, NoMemory>
         Outcome::Done(_) => Ok(text),
         Outcome::Made(_) => Ok(text),
         Outcome::Checked(_) => Ok(text),
+        Outcome::Arrayed { .. } => Ok(text),
         _ => {
             push_words(&mut text, "freeblock: ")?;
             push_cause(&mut text, outcome)?;
@@ -40,6 +41,7 @@ fn push_cause(text: &mut Vec<u8>, outcome: &Outcome) -> Result<(), NoMemory>
         Outcome::Done(_) => Ok(()),
         Outcome::Made(_) => Ok(()),
         Outcome::Checked(_) => Ok(()),
+        Outcome::Arrayed { .. } => Ok(()),
         Outcome::Usage(fault) => {
             push_numbered(text, "usage: word ", u64::from(fault.place))?;
             push_usage_reason(text, fault.reason)
@@ -94,5 +96,6 @@ fn push_output(text: &mut Vec<u8>, what: &str, output: Output) -> Result<(), NoM
         Output::Note => push_words(text, "note"),
         Output::MadeTrace => push_words(text, "trace"),
         Output::MadeCalls => push_words(text, "calls"),
+        Output::Copied => push_words(text, "copy"),
     }
 }

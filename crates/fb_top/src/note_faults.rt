@@ -28,6 +28,8 @@ pub fn push_usage_reason(text: &mut Vec<u8>, reason: UsageReason) -> Result<(), 
             push_with_number(text, "MissingOption", u64::from(number))
         }
         UsageReason::CallsAndBack => push_words(text, "CallsAndBack"),
+        UsageReason::RebuildIncomplete => push_words(text, "RebuildIncomplete"),
+        UsageReason::RebuildBeyond => push_words(text, "RebuildBeyond"),
     }
 }
 

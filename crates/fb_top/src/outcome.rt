@@ -2,9 +2,11 @@
 ghost use Rattle.std.specs.Prelude.{◌≡◌};
 ghost use Rattle.fb_top.specs.Status.{status_of};
 
+use crate::Runs;
 use fb_calls::CallsFault;
 use fb_check::Verdict;
 use fb_desk::{Input, Output};
+use fb_mirror::Rebuilt;
 use fb_params::ParamsFault;
 use fb_report::ReportsFault;
 use fb_rows::Run;
@@ -20,6 +22,13 @@ pub enum Outcome {
     Made(u64),
     /// The reports were judged, and the line that tells the verdict was written whole.
     Checked(Verdict),
+    /// The trace was replayed on each device, and all that the words ask for was written whole.
+    Arrayed {
+        /// The runs of the devices, by device.
+        runs: Runs,
+        /// What the replacement of a lost disk holds, where the words ask for a rebuild.
+        copy: Option<Rebuilt>,
+    },
     /// The words of the command line are refused.
     Usage(UsageFault),
     /// The parameter file is refused.
@@ -50,6 +59,7 @@ pub fn status(outcome: &Outcome) -> u8
         Outcome::Made(_) => 0,
         Outcome::Checked(Verdict::Yes) => 0,
         Outcome::Checked(Verdict::No(_)) => 1,
+        Outcome::Arrayed { .. } => 0,
         Outcome::Usage(_) => 2,
         Outcome::Params(_) => 3,
         Outcome::Trace(_) => 4,

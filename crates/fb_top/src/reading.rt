@@ -11,6 +11,7 @@ ghost use Rattle.fb_trace.specs.Servable.{IsTraceOf};
 ghost use Rattle.fb_trace.specs.Verdict.{accepted};
 ghost use Rattle.fb_calls.specs.Allowed.{IsScript, tasks};
 ghost use Rattle.fb_calls.specs.Verdict.{accepted as accepted_calls};
+ghost use Rattle.fb_check.specs.Asked.{inputs_of as asked_inputs};
 ghost use Rattle.fb_model.specs.Accepted.{IsAccepted};
 ghost use Rattle.fb_model.specs.PlainReplay.{Key};
 ghost use Rattle.fb_top.specs.Sources.{files_alone, sources_of};
@@ -24,18 +25,20 @@ ghost use Rattle.fb_top.specs.Calm.{AreInputsCalm};
 use crate::Outcome;
 use crate::streams::{InputError, read_whole};
 use fb_calls::{Calls, CallsError, Names, read_calls};
+use fb_check::Asked;
 use fb_desk::{Desk, Input};
 use fb_params::{Parameters, ParamsError, read_params};
 use fb_report::Report;
 use fb_service::Disk;
 use fb_trace::{Trace, TraceError, read_trace};
+use fb_units::Ns;
 use std::alloc::Global;
 
 // The most bytes that a parameter file may have.
 const PARAMS_LIMIT: usize = 1 << 20;
 
-// The most bytes that a trace may have.
-const TRACE_LIMIT: usize = 1 << 28;
+/// The most bytes that a trace may have.
+pub const TRACE_LIMIT: usize = 1 << 28;
 
 // The most bytes that a call script may have.
 const CALLS_LIMIT: usize = 1 << 26;
@@ -65,6 +68,22 @@ pub struct ReplayFiles {
     pub trace: Trace,
     /// The calls, in order of instant, and the names of their tasks.
     pub calls: Calls,
+}
+
+impl ReplayFiles {
+    /// What a run of these files is asked that goes on up to an instant, in ns.
+    pub fn asked(&self, until: Ns) -> Asked<'_>
+        ensures inputs { (key : Key) → asked_inputs result key ≡ inputs_of (files_of self.now) key until }
+        ensures calls { result.calls.now ≡ self.now.calls }
+    {
+        Asked {
+            disk: &self.params.disk,
+            latent: self.params.latent.as_slice(),
+            trace: &self.trace,
+            calls: &self.calls,
+            until,
+        }
+    }
 }
 
 /// Reads the files of a run: the parameter file, then the trace, then the script, if

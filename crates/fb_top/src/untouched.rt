@@ -1,5 +1,5 @@
 // Laws of the runs that `run_command` returns.
-ghost use Rattle.fb_top.specs.Untouched.{InputsHaveOneRun, PrintedReportsAreRight, RightReportsAreRight, RunsLookNotAhead, ScriptsLeaveForeground};
+ghost use Rattle.fb_top.specs.Untouched.{InputsHaveOneRun, PrintedReportsAreRight, RightReportsAreRight, RunsLookNotAhead, ScriptsLeaveForeground, SectionsAreReplays};
 
 use fb_model::{foreground_is_untouched, no_look_ahead, one_full_run};
 
@@ -52,4 +52,15 @@ pub fn printed_reports_are_right()
     ensures { PrintedReportsAreRight }
 {
     right_reports_are_right();
+}
+
+/// The section of a device is what a replay of that device prints.
+///
+/// Behind the line that names the device, it is byte for byte the foreground report of a replay of
+/// the same parameter file and trace for that device alone, by the same policy and without a
+/// script, even if the rebuild is made from the device.
+pub fn sections_are_replays()
+    ensures { SectionsAreReplays }
+{
+    foreground_is_untouched();
 }

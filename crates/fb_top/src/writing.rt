@@ -61,6 +61,7 @@ pub fn write_note<D: Desk>(alloc: Global, desk: &mut D, outcome: &Outcome)
         Outcome::Done(_) => {}
         Outcome::Made(_) => {}
         Outcome::Checked(_) => {}
+        Outcome::Arrayed { .. } => {}
         _ => begin_note(alloc, desk, outcome),
     }
 }

@@ -1,6 +1,11 @@
-use Rattle.std.proofs.Common.{◌∙◌, refl, inl, subst}
+use Rattle.std.proofs.Common.{◌≡◌, ◌∙◌, length, refl, inl, sym, subst}
+use Rattle.fb_calls.specs.Allowed.{tasks}
+use Rattle.fb_calls.specs.declared.call.Calls.{Calls}
+use Rattle.fb_model.specs.Accepted.{IsAccepted}
+use Rattle.fb_model.specs.FullRun.{IsFull}
+use Rattle.fb_model.specs.Inputs.{Inputs}
 use Rattle.fb_words.specs.Verdict.{replay_terms}
-use Rattle.fb_desk.specs.declared.desk.Input.TheVariants.{Calls, ForeReport, BackReport}
+use Rattle.fb_desk.specs.declared.desk.Input.TheVariants.{Calls as CallsInput, ForeReport, BackReport}
 use Rattle.fb_desk.specs.declared.desk.Output.TheVariants.{Note}
 use Rattle.fb_top.specs.Causes.{StopsInputs}
 use Rattle.fb_top.specs.Opened.{OpensAsNamed}
@@ -17,8 +22,8 @@ use Rattle.fb_top.proofs.command.run_replay.Goals as goal
 
 pub replay_by-requires : goal.replay_by-requires
 replay_by-requires g c = record {
-  fit = c.in-Ok.ensures.fit (key_of c.args.words.now.policy) c.args.words.now.until c.requires.until;
-  names = c.in-Ok.ensures.names;
+  fit = subst IsAccepted (sym (c.asked.ensures.inputs (key_of c.args.words.now.policy))) (c.in-Ok.ensures.fit (key_of c.args.words.now.policy) c.args.words.now.until c.requires.until);
+  names = subst (λ (calls : Calls). length calls.names ≡ length (tasks calls.calls.items)) (sym c.asked.ensures.calls) c.in-Ok.ensures.names;
 }
 
 pub returns-in-Ok-write_reports-clause-cause : goal.returns-in-Ok-write_reports-clause-cause
@@ -31,7 +36,7 @@ returns-in-Ok-write_reports-clause-cause g c =
       accepts = subst (λ (s : SourceTerms). Accepts old s (files_of c.in-Ok.files)) c.sources.ensures c.in-Ok.ensures.accepts;
       sound = c.in-Ok.ensures.sound;
       accepted = c.in-Ok.ensures.fit (key_of c.args.words.now.policy) c.args.words.now.until c.requires.until;
-      full = c.in-Ok-replay_by.ensures.full;
+      full = subst (λ (inputs : Inputs). IsFull inputs c.in-Ok-replay_by.run') (c.asked.ensures.inputs (key_of c.args.words.now.policy)) c.in-Ok-replay_by.ensures.full;
     } in
     record {
       is_run = is_run;
@@ -47,7 +52,7 @@ returns-in-Err-replay_by-clause-cause g c =
     let accepts : Accepts old (replay_sources (replay_terms c.args.words.now)) files = subst (λ (s : SourceTerms). Accepts old s files) c.sources.ensures c.in-Ok.ensures.accepts in
     let unnamed = c.in-Ok.ensures.unnamed in
     inl (record {
-      input = Calls;
+      input = CallsInput;
       before = record { params = record { disk = files.disk; latent = files.latent; reads_disk = accepts.disk }; trace = files.trace; reads_trace = accepts.trace };
       ends = record { later = (unnamed ForeReport refl, unnamed BackReport refl); reports = λ output no_note. c.in-Ok.ensures.outputs output };
     })
@@ -63,7 +68,7 @@ returns-clause-cause g c =
       accepts = subst (λ (s : SourceTerms). Accepts old s (files_of c.in-Ok.files)) c.sources.ensures c.in-Ok.ensures.accepts;
       sound = c.in-Ok.ensures.sound;
       accepted = c.in-Ok.ensures.fit (key_of c.args.words.now.policy) c.args.words.now.until c.requires.until;
-      full = c.in-Ok-replay_by.ensures.full;
+      full = subst (λ (inputs : Inputs). IsFull inputs c.in-Ok-replay_by.run') (c.asked.ensures.inputs (key_of c.args.words.now.policy)) c.in-Ok-replay_by.ensures.full;
     } in
     at_reports words c.in-Ok-replay_by.run' old mid new c.in-Err-write_reports.outcome is_run (λ output no_note. c.in-Ok.ensures.outputs output) c.in-Err-write_reports.ensures.stops
 

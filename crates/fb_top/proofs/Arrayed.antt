@@ -1,0 +1,117 @@
+-- What an array has written, and why it has its answer.
+use Rattle.std.proofs.Common.{◌≡◌, ◌≢◌, ◌∙◌, ℕ, List, [], ◌∷◌, Option, Some, None, true, refl, sym, ap, subst, arith, inl, inr}
+use Rattle.std.proofs.lemmas.Bool.Decides.{nat_tests}
+use Rattle.std.specs.List.{AllByRecursion}
+use Rattle.std.specs.Option.{option_map}
+use Rattle.fb_rows.specs.declared.run.Run.{Run}
+use Rattle.fb_report.specs.Back.{back_text}
+use Rattle.fb_mirror.specs.Copy.{copy_lines}
+use Rattle.fb_mirror.specs.declared.rebuilt.Rebuilt.{Rebuilt}
+use Rattle.fb_desk.specs.View.{DeskView}
+use Rattle.fb_desk.specs.declared.desk.Input.TheVariants.{Trace, Calls, ForeReport, BackReport}
+use Rattle.fb_desk.specs.declared.desk.Output.{Output}
+use Rattle.fb_desk.specs.declared.desk.Output.TheVariants.{Fore, Back, Copied, Note}
+use Rattle.fb_words.specs.Command.{ArrayTerms, RebuildTerms}
+use Rattle.fb_top.specs.declared.outcome.Outcome.{Outcome}
+use Rattle.fb_top.specs.declared.outcome.Outcome.TheVariants as outcomes
+use Rattle.fb_top.specs.Array.{AreRunsOf, ArrayHasCause, IsArrayCut, IsArrayed, array_texts, rebuild_texts, replacement, sectors_of, survivor}
+use Rattle.fb_top.specs.Causes.{RunsOut}
+use Rattle.fb_top.specs.Devices.{AcceptsArray, Array, StopsArray, is_rebuilt_from}
+use Rattle.fb_top.specs.Sources.{array_inputs}
+use Rattle.fb_top.specs.Unnamed.{KeepsUnnamed}
+use Rattle.fb_top.specs.Written.{KeepsReports, StopsTexts, Text, WritesAll, joined}
+use Rattle.fb_top.proofs.Texts.{stops_texts, writes_all}
+
+-- what holds of the outputs of a rebuild holds of the texts that it asks for
+all_rebuild : (P : Output → Type 0) (terms : ArrayTerms) (array : Array) (rebuild : Option RebuildTerms) (run : Option Run) → P Back → P Copied → AllByRecursion (λ text. P text.output) (rebuild_texts terms array rebuild run)
+all_rebuild P terms array (Some rebuild) (Some run) back copied = (back, (copied, tt))
+all_rebuild P terms array (Some rebuild) None back copied = tt
+all_rebuild P terms array None (Some run) back copied = tt
+all_rebuild P terms array None None back copied = tt
+
+pub rebuild_apart : (terms : ArrayTerms) (array : Array) (runs : List Run) → AllByRecursion (λ text. Fore ≢ text.output) (rebuild_texts terms array terms.rebuild (survivor terms.rebuild runs))
+rebuild_apart terms array runs = all_rebuild (λ output. Fore ≢ output) terms array terms.rebuild (survivor terms.rebuild runs) (λ e. cc) (λ e. cc)
+
+-- no text of an array is the note
+pub texts_no_note : (terms : ArrayTerms) (array : Array) (runs : List Run) → AllByRecursion (λ text. text.output ≢ Note) (array_texts terms array runs)
+texts_no_note terms array runs = (λ e. cc, all_rebuild (λ output. output ≢ Note) terms array terms.rebuild (survivor terms.rebuild runs) (λ e. cc) (λ e. cc))
+
+-- the first desk keeps the reports of one before it, and one after the second keeps those of the second
+module _ (terms : ArrayTerms) (old mid late new : DeskView) (runs : List Run) (are_runs : AreRunsOf old terms runs) (first : KeepsReports old mid) (last : KeepsReports late new) where
+  pub arrayed : (copy : Option Rebuilt) → copy ≡ option_map (replacement (sectors_of are_runs.array)) (survivor terms.rebuild runs) → WritesAll (array_texts terms are_runs.array runs) mid late → IsArrayed old new terms runs copy
+  arrayed copy copied wrote = record {
+    are_runs = are_runs;
+    copied = copied;
+    texts = writes_all old mid late new first last (array_texts terms are_runs.array runs) (texts_no_note terms are_runs.array runs) wrote;
+  }
+
+  pub array_cut : (outcome : Outcome) → StopsTexts (array_texts terms are_runs.array runs) mid late outcome → IsArrayCut old new terms outcome
+  array_cut outcome h = record {
+    runs = runs;
+    are_runs = are_runs;
+    stops = stops_texts old mid late new first last (array_texts terms are_runs.array runs) (texts_no_note terms are_runs.array runs) outcome h;
+  }
+
+  -- why the texts were not written
+  pub at_texts : (outcome : Outcome) → StopsTexts (array_texts terms are_runs.array runs) mid late outcome → ArrayHasCause terms old new outcome
+  at_texts (outcomes.WriteFault output) h = array_cut (outcomes.WriteFault output) h
+  at_texts outcomes.NoMemory h = inr (array_cut outcomes.NoMemory h)
+  at_texts (outcomes.Done run) h = absurd h
+  at_texts (outcomes.Made n) h = absurd h
+  at_texts (outcomes.Checked verdict) h = absurd h
+  at_texts (outcomes.Arrayed others copy) h = absurd h
+  at_texts (outcomes.Usage fault) h = absurd h
+  at_texts (outcomes.Params fault) h = absurd h
+  at_texts (outcomes.Trace fault) h = absurd h
+  at_texts (outcomes.Calls fault) h = absurd h
+  at_texts (outcomes.Reports fault) h = absurd h
+  at_texts (outcomes.TooLong input) h = absurd h
+  at_texts (outcomes.ReadFault input) h = absurd h
+
+-- why the inputs were not accepted
+pub array_stopped : (terms : ArrayTerms) (old new : DeskView) (outcome : Outcome) → StopsArray terms old new outcome → ArrayHasCause terms old new outcome
+array_stopped terms old new outcomes.NoMemory h = inl h
+array_stopped terms old new (outcomes.Done run) h = absurd h
+array_stopped terms old new (outcomes.Made n) h = absurd h
+array_stopped terms old new (outcomes.Checked verdict) h = absurd h
+array_stopped terms old new (outcomes.Arrayed runs copy) h = absurd h
+array_stopped terms old new (outcomes.Usage fault) h = absurd h
+array_stopped terms old new (outcomes.Params fault) h = h
+array_stopped terms old new (outcomes.Trace fault) h = h
+array_stopped terms old new (outcomes.Calls fault) h = h
+array_stopped terms old new (outcomes.Reports fault) h = h
+array_stopped terms old new (outcomes.TooLong input) h = h
+array_stopped terms old new (outcomes.ReadFault input) h = h
+array_stopped terms old new (outcomes.WriteFault output) h = absurd h
+
+-- memory ran out after the files were read
+pub ran_out : (terms : ArrayTerms) (old new : DeskView) (array : Array) → AcceptsArray old terms array → KeepsUnnamed (array_inputs terms) old new → ((output : Output) → new.outputs output ≡ old.outputs output) → RunsOut old new (array_inputs terms)
+ran_out terms old new array accepts unnamed outputs = record {
+  input = Trace;
+  before = record { disk = array.disk; latent = array.latent; reads_disk = accepts.disk };
+  ends = record { later = (unnamed Calls refl, unnamed ForeReport refl, unnamed BackReport refl); reports = λ output no_note. outputs output };
+}
+
+-- what is told of a rebuild is what its texts are
+module _ (terms : ArrayTerms) (array : Array) (rebuild : RebuildTerms) (run : Run) (sectors : ℕ) (are : sectors ≡ sectors_of array) where
+  abbrev told : Rebuilt → List Text
+  told copy =
+      record { output = Back; name = rebuild.back; text = back_text array.script.names array.disk.sector_bytes terms.bytes run }
+      ∷ record { output = Copied; name = rebuild.copy; text = joined (copy_lines copy sectors) }
+      ∷ []
+
+  one_copy : (one other : Rebuilt) → ◌≡◌ {A = Option Rebuilt} (Some one) (Some other) → one ≡ other
+  one_copy one other e = cc
+
+  pub rebuild_told : (given : Option RebuildTerms) (there : Option Run) (copy : Rebuilt) → given ≡ Some rebuild → there ≡ Some run → Some copy ≡ option_map (replacement (sectors_of array)) there
+      → told copy ≡ rebuild_texts terms array given there
+  rebuild_told given there copy is at made =
+      subst (λ (r : Option RebuildTerms). told copy ≡ rebuild_texts terms array r there) (sym is)
+      (subst (λ (o : Option Run). Some copy ≡ option_map (replacement (sectors_of array)) o → told copy ≡ rebuild_texts terms array (Some rebuild) o) (sym at) (λ same.
+      ap (λ n. record { output = Back; name = rebuild.back; text = back_text array.script.names array.disk.sector_bytes terms.bytes run } ∷ record { output = Copied; name = rebuild.copy; text = joined (copy_lines copy n) } ∷ []) are
+      ∙ ap (λ c. record { output = Back; name = rebuild.back; text = back_text array.script.names array.disk.sector_bytes terms.bytes run } ∷ record { output = Copied; name = rebuild.copy; text = joined (copy_lines c (sectors_of array)) } ∷ [])
+      (one_copy copy (replacement (sectors_of array) run) same)) made)
+
+-- the rebuild is made from its device
+pub is_from : (given : Option RebuildTerms) (rebuild : RebuildTerms) → given ≡ Some rebuild → is_rebuilt_from given rebuild.device ≡ true
+is_from given rebuild is = subst (λ (r : Option RebuildTerms). is_rebuilt_from r rebuild.device ≡ true) (sym is) (grind (arith, nat_tests))

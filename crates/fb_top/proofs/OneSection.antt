@@ -1,0 +1,59 @@
+-- The trace and the calls of one device of an array.
+use Rattle.std.proofs.Common.{◌≡◌, ◌∙◌, ℕ, ◌≤◌, ◌^◌, List, [], length, map, refl, sym, ap, arith, inl, inr, Option, Some, None, true, false, Result, Ok, Err}
+use Rattle.std.specs.Prelude.{Bool, nat_eq, slice_get, if◌then◌else◌}
+use Rattle.std.specs.List.{range_with_len}
+use Rattle.std.specs.Option.{option_map}
+use Rattle.std.proofs.lemmas.Bool.{cases_Bool}
+use Rattle.std.proofs.lemmas.List.FromFn.{length-map-range_with_len}
+use Rattle.std.proofs.lemmas.Option.{slice_get-map, slice_get_within}
+use Rattle.fb_geometry.specs.Shape.{Shape}
+use Rattle.fb_geometry.specs.Places.{places}
+use Rattle.fb_geometry.specs.Sound.{IsSound}
+use Rattle.fb_service.specs.declared.disk.Disk.{Disk}
+use Rattle.fb_trace.specs.Reading.{Accepted, trace_of}
+use Rattle.fb_calls.specs.Judgement.{are_too_many}
+use Rattle.fb_calls.specs.Reading.{Accepted as Script, calls_of, fault_at}
+use Rattle.fb_calls.specs.declared.fault.CallsFault.{CallsFault}
+use Rattle.fb_calls.specs.declared.fault.CallsReason.TheVariants.{TooManyBlocks}
+use Rattle.fb_model.specs.Foreground.{promoted}
+use Rattle.fb_mirror.specs.Script.{disk_blocks, rebuild_text}
+use Rattle.fb_mirror.proofs.ScriptRead.{script_read}
+use Rattle.fb_desk.specs.View.{DeskView}
+use Rattle.fb_words.specs.Command.{RebuildTerms}
+use Rattle.fb_top.specs.Read.{ReadsTrace}
+use Rattle.fb_top.specs.Devices.{Array, ReadsRebuild, ReadsTraces, device_files}
+use Rattle.fb_top.proofs.Each.{counted, one_element}
+use Rattle.fb_top.proofs.Values.{each_of_all}
+
+-- the trace of a device is what is read for it alone
+module _ (desk : DeskView) (name : List ℕ) (devices : ℕ) (disk : Disk) (traces : List Accepted) (reads : ReadsTraces desk name devices disk traces) where
+  pub device_reads : (device : ℕ) (trace : Accepted) → slice_get traces device ≡ Some trace → ReadsTrace desk name device disk trace
+  device_reads device trace at =
+      let read = λ (d : ℕ). trace_of d (length (places disk.map)) reads.bytes in
+      let there = each_of_all (map read (range_with_len 0 devices)) traces device trace reads.spells at in
+      let inside = slice_get_within (map read (range_with_len 0 devices)) device (Ok trace) there in
+      record {
+        bytes = reads.bytes;
+        held = reads.held;
+        within = reads.within;
+        spells = one_element (slice_get (map read (range_with_len 0 devices)) device) (read device) (Ok trace)
+            (slice_get-map read (range_with_len 0 devices) device ∙ ap (option_map read) (counted devices device (omega (arith, length-map-range_with_len read 0 devices)))) there;
+      }
+
+only_script : (many : Bool) (fault : CallsFault) (one script : Script) → ◌≡◌ {A = Result Script CallsFault} (if many then Err fault else Ok one) (Ok script) → script ≡ one
+only_script true fault one script e = absurd cc
+only_script false fault one script e = cc
+
+-- the script of a rebuild promotes no reads
+rebuilds_promote_none : (disk : Shape) (script : Script) → IsSound disk → length (places disk) ≤ 10 ^ 12 → ((traced : ℕ) → calls_of disk traced (rebuild_text disk) ≡ Ok script) → promoted script.calls ≡ []
+rebuilds_promote_none disk script sound few reads =
+    ap (λ (s : Script). promoted s.calls) (only_script (are_too_many 0 (disk_blocks disk)) (fault_at 2 TooManyBlocks) _ script (sym (script_read disk sound few 0) ∙ reads 0))
+
+-- nor does the script of any device
+pub devices_promote_none : (rebuild : Option RebuildTerms) (array : Array) (device : ℕ) (trace : Accepted) → IsSound array.disk.map → ReadsRebuild rebuild array.disk.map array.script
+    → promoted (device_files rebuild array device trace).script.calls ≡ []
+devices_promote_none None array device trace sound reads = refl
+devices_promote_none (Some rebuild) array device trace sound reads = elim (cases_Bool (nat_eq rebuild.device device)) [
+  | inl here ↦ rw here (rebuilds_promote_none array.disk.map array.script sound array.disk.few_blocks reads)
+  | inr other ↦ rw other refl
+]

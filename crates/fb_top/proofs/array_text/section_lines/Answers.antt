@@ -1,0 +1,15 @@
+use Rattle.std.proofs.Common.{arith}
+use Rattle.fb_report.proofs.Ranges.{all_get}
+use Rattle.fb_top.specs.Array.{CanTellFore}
+use Rattle.fb_top.proofs.Sections.{one_counted}
+use Rattle.fb_top.proofs.array_text.section_lines.Goals as goal
+
+pub loop-device-preserved : goal.loop-device-preserved
+loop-device-preserved c =
+    let loop = c.loop-device in
+    let run = c.get.result.now in
+    let told = all_get CanTellFore c.args.runs.now loop.device run c.requires.told c.get.ensures in
+    record {
+      few = omega (arith, loop.invariant.few, c.fore_pieces.ensures.value, told.few);
+      counted = λ size bytes. omega (arith, c.fore_pieces.ensures.value, one_counted size bytes c.args.runs.now loop.device run c.get.ensures, loop.invariant.counted size bytes);
+    }
