@@ -1,6 +1,6 @@
 use Rattle.std.proofs.Common.{ap, arith, ◌∙◌}
 use Rattle.fb_geometry.specs.Shape.{cylinders_of}
-use Rattle.fb_tested.proofs.services.disk_of.Goals as goal
+use Rattle.fb_placed.proofs.services.disk_of.Goals as goal
 
 pub invariant_of-result-clause-same_cylinders : goal.invariant_of-result-clause-same_cylinders
 invariant_of-result-clause-same_cylinders c = ap (λ arm. arm.cylinders) c.in_ok-mechanism.ensures.0 ∙ c.cylinders.ensures.value ∙ ap (λ map. cylinders_of map.zones) c.geometry-geometry.ensures

@@ -1,6 +1,6 @@
 use Rattle.std.proofs.Common.{◌≡◌, ◌+◌}
 use Rattle.fb_sectormap.specs.Runs.{IsSpan}
-use Rattle.fb_tested.proofs.sectors.cuts.Given as goal
+use Rattle.fb_placed.proofs.sectors.cuts.Given as goal
 
 abbrev pub invariant-loop-left : goal.invariant-loop-left
 invariant-loop-left l = record {
