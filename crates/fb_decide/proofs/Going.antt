@@ -378,6 +378,7 @@ module _ (inputs : Inputs) (known : AreKnown inputs) (before : Course) (pending 
                 (last_is ∙ ap (λ b. (if b then step_last.0 else ends before.now) ∷ []) idle);
             calls_made = (called_more inputs rest [] before steps run step_last after last_is_stepped).taken;
             few = few_served;
+            early = omega (arith, until, known.accepted.until);
           }
 
       leads_last : (count_after : ℕ) → LeadsOn inputs before pending steps false after waiting count_after
@@ -408,6 +409,7 @@ module _ (inputs : Inputs) (known : AreKnown inputs) (before : Course) (pending 
                 (last_is ∙ ap (λ b. (if b then idles (stay_of before inputs.until) else step_end.0) ∷ []) ends_now);
             calls_made = (called_more inputs rest [] before steps run step_end (prepared before background joined called) end_is_stepped).taken;
             few = few_served;
+            early = omega (arith, so_far.soon, so_far.counted, known.list.few);
           }
 
       leads_to_end : (count_after : ℕ) → LeadsOn inputs before pending steps false (prepared before background joined called) waiting count_after

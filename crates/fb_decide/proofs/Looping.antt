@@ -96,6 +96,7 @@ come_without inputs false steps course pending count fore rows h = record {
   decided = h.decided;
   calls_made = h.calls_made;
   few = h.few;
+  early = h.early;
 }
 
 pub made_without : (inputs : Inputs) (more : Bool) (steps : List Step) (list : List Request) (course : Course) (pending : List Request) (count : ℕ) (fore : List ForeRow) (rows : List BackRow)

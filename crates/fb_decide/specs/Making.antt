@@ -131,6 +131,8 @@ pub record HasEnded (inputs : Inputs) (course : Course) (steps : List Step) : Ty
   pub decided : decided_in steps ≡ decisions inputs
   pub calls_made : calls_of (history inputs steps) ≡ take course.called inputs.calls
   pub few : length (served inputs) ≤ 10 ^ 6
+  -- a million services of the greatest length, and the latest arrival before them, end by then
+  pub early : course.now ≤ 9 * 10 ^ 18
 
 -- another decision follows, or the last one was made
 abbrev pub HasComeTo : Inputs → Bool → Course → List Request → ℕ → List Step → Type 0

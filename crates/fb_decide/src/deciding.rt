@@ -155,6 +155,7 @@ impl<Q: Queue> Decider<Q> {
     pub fn instant(&self) -> Ns
         ensures now { result ≡ self.now.course.now }
         ensures end { (inputs : Inputs) (steps : List Step) → HasMade inputs false steps self.now.requests.items self.now.course (Q.pending self.now.queue) (Q.joined self.now.queue) → result ≡ run_end (decisions inputs) }
+        ensures early { (inputs : Inputs) (steps : List Step) → HasMade inputs false steps self.now.requests.items self.now.course (Q.pending self.now.queue) (Q.joined self.now.queue) → result ≤ 9 * 10 ^ 18 }
     {
         self.course.now
     }

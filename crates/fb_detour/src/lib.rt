@@ -17,4 +17,5 @@ mod parts;
 mod search;
 mod stop;
 
+pub use bounds::most_slots;
 pub use indexed::IndexedPlanner;

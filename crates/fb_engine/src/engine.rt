@@ -1,5 +1,5 @@
 // The loop over decisions.
-ghost use Rattle.std.specs.Prelude.{◌≡◌, ◌≤◌, ◌^◌, ℕ, List, [], length, IfOk};
+ghost use Rattle.std.specs.Prelude.{◌≡◌, ◌*◌, ◌≤◌, ◌^◌, ℕ, List, [], length, IfOk};
 ghost use Rattle.std.specs.List.{AllByRecursion};
 ghost use Rattle.fb_rows.specs.Ranges.{HasRanges, HasBackRanges};
 ghost use Rattle.fb_rows.specs.Tasks.{HasNamedTask};
@@ -40,6 +40,7 @@ pub fn replay<Q: Queue, P: Planner>(
     ensures ranges { IfOk result (λ run. AllByRecursion HasRanges run.fore) }
     ensures few { IfOk result (λ run. length run.fore ≤ 10 ^ 6) }
     ensures back_ranges { IfOk result (λ run. AllByRecursion HasBackRanges run.back) }
+    ensures early { IfOk result (λ run. run.end ≤ 9 * 10 ^ 18) }
     ensures named { IfOk result (λ run. (names : List (List ℕ)) → length names ≡ length (tasks calls.now.calls.items) → AllByRecursion (HasNamedTask names) run.back) }
 {
     decisions_make_a_run();

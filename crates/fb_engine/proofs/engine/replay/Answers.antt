@@ -62,3 +62,6 @@ returns-clause-named g c = λ names e.
     let gone = gone_on c.loop-goes_on-test.false c.loop-goes_on.invariant.gone in
     all_weaker (RowFits (length (tasks c.args.calls.now.calls.items))) (HasNamedTask names) (λ row fits. fits.named names e) c.take_rows-rows.result.back
     (rows_fit gone c.take_rows-rows.result.back (c.take_rows-rows.ensures.back ∙ c.in_ok-add_task_rows.ensures.rows _ gone.steps gone.made) (c.in_ok-add_task_rows.ensures.fits _ gone.steps gone.made))
+
+pub returns-clause-early : goal.returns-clause-early
+returns-clause-early g c = c.instant-end.ensures.early _ (gone_on c.loop-goes_on-test.false c.loop-goes_on.invariant.gone).steps (gone_on c.loop-goes_on-test.false c.loop-goes_on.invariant.gone).made

@@ -1,0 +1,149 @@
+-- One more row keeps all that holds of the rows.
+use Rattle.std.proofs.Common.{◌≡◌, ℕ, zero, suc, ◌+◌, ◌*◌, ◌^◌, ◌≤◌, List, [], ◌∷◌, ◌++◌, Bool, true, false, not, Some, slice_get, take, drop, map, length, refl, sym, ap, ◌∙◌, subst, arith, if◌then◌else◌}
+use Rattle.std.specs.Prelude.{◌==◌, ◌&&◌, filter}
+use Rattle.std.specs.List.{AllByRecursion, sum_by}
+use Rattle.std.proofs.lemmas.Bool.Decides.{nat_tests}
+use Rattle.std.proofs.lemmas.List.Sums.{sum_by_push}
+use Rattle.fb_geometry.specs.Places.{places}
+use Rattle.fb_service.specs.declared.disk.Disk.{Disk}
+use Rattle.fb_wanted.specs.declared.block.Block.{Block}
+use Rattle.fb_wanted.specs.declared.block.Entry.{Entry}
+use Rattle.fb_wanted.specs.declared.block.State.TheVariants.{Wanted, Delivered}
+use Rattle.fb_wanted.specs.declared.block.Change.TheVariants.{Deliver}
+use Rattle.fb_wanted.specs.States.{after, is_block}
+use Rattle.fb_plan.specs.declared.catching.Catch.{Catch}
+use Rattle.fb_bgwrite.specs.declared.items.SpillItem.{SpillItem}
+use Rattle.fb_bgwrite.specs.declared.items.SpillItem.TheVariants.{Spill as SpillLine, Wrote as WroteLine}
+use Rattle.fb_bgwrite.specs.declared.items.SpillRow.{SpillRow}
+use Rattle.fb_bgwrite.specs.declared.puts.Put.{Put}
+use Rattle.fb_bgwrite.specs.declared.spilling.Spilling.{Spilling}
+use Rattle.fb_bgwrite.specs.Blocks.{PutBlock, blocks_from, is_written, put_blocks, sectors, writes}
+use Rattle.fb_bgwrite.specs.Spilled.{left_over, sectors_in, AreOnce, IsInTime}
+use Rattle.fb_bgwrite.specs.Standing.{entry_of, first_blocks, ArePutsOn, IsSpilling, IsToWrite, IsUpTo}
+use Rattle.fb_bgwrite.specs.Steps.{wrote_row}
+use Rattle.fb_bgwrite.specs.Text.{HasRange}
+use Rattle.fb_bgwrite.proofs.Admitting.{first_in_order, numbered_first}
+use Rattle.fb_bgwrite.proofs.Appending.{at_append}
+use Rattle.fb_bgwrite.proofs.Lists.{all_none, all_push, at_all, some_one}
+use Rattle.fb_bgwrite.proofs.PutBlocks.{all_of_puts, all_sectors, blocks_split, its_blocks, puts_in_order, IsOfPuts}
+use Rattle.fb_bgwrite.proofs.Writing.{delivered, left_less, once_more, once_stay, stay_left, stay_registered, told}
+
+-- ---- before the first row
+
+all_left : (blocks : List Block) → filter (λ b. not (is_written [] b)) blocks ≡ blocks
+all_left [] = refl
+all_left (b ∷ bs) = ap (λ xs. b ∷ xs) (all_left bs)
+
+none_first : (disk : Disk) (puts : List Put) → first_blocks disk puts 0 ≡ []
+unfolding blocks_from
+none_first disk puts = refl
+
+pub new_spilling : (spilling : Spilling) → spilling.items ≡ [] → spilling.pending ≡ [] → spilling.admitted ≡ 0 → spilling.written ≡ 0 → IsSpilling spilling
+new_spilling s items pending admitted written =
+    let disk = s.disk.now in
+    let puts = s.puts.now in
+    record {
+      first = omega (arith, admitted);
+      come = subst (λ n. AllByRecursion (λ (put : Put). put.instant ≤ s.instant) (take n puts)) (sym admitted) tt;
+      registered = pending ∙ sym (ap (λ n. map (entry_of s.items) (first_blocks disk puts n)) admitted ∙ ap (map (entry_of s.items)) (none_first disk puts));
+      upto = subst (AllByRecursion (IsUpTo s.admitted)) (sym items) tt;
+      written = written ∙ sym (ap (sum_by sectors_in) items);
+      parts = omega (arith, written, ap (left_over disk puts) items, ap sectors (all_left (its_blocks (put_blocks disk.map puts))));
+      once = subst AreOnce (sym items) tt;
+      in_time = subst (AllByRecursion (IsInTime disk puts)) (sym items) tt;
+      ranges = subst (AllByRecursion HasRange) (sym items) tt;
+    }
+
+-- ---- a stay
+
+pub stay_added : (old : Spilling) (row : SpillRow) (items : List SpillItem) → IsSpilling old → items ≡ old.items ++ SpillLine row ∷ []
+    → IsSpilling (record { alloc = old.alloc; disk = old.disk; puts = old.puts; pending = old.pending; admitted = old.admitted; instant = old.instant; items = items; written = old.written })
+stay_added old row items is added =
+    let disk = old.disk.now in
+    let puts = old.puts.now in
+    subst (λ rows. IsSpilling (record { alloc = old.alloc; disk = old.disk; puts = old.puts; pending = old.pending; admitted = old.admitted; instant = old.instant; items = rows; written = old.written })) (sym added) (record {
+      first = is.first;
+      come = is.come;
+      registered = is.registered ∙ sym (stay_registered old.items row (first_blocks disk puts old.admitted));
+      upto = all_push (IsUpTo old.admitted) old.items (SpillLine row) is.upto tt;
+      written = omega (arith, is.written, sum_by_push sectors_in old.items (SpillLine row));
+      parts = omega (arith, is.parts, stay_left old.items row (put_blocks disk.map puts));
+      once = once_stay old.items row is.once;
+      in_time = all_push (IsInTime disk puts) old.items (SpillLine row) is.in_time tt;
+      ranges = all_push HasRange old.items (SpillLine row) is.ranges tt;
+    })
+
+-- ---- a block
+
+among_all : (disk : Disk) (puts : List Put) (n i : ℕ) (put : PutBlock) → n ≤ length puts → slice_get (first_blocks disk puts n) i ≡ Some put → slice_get (put_blocks disk.map puts) i ≡ Some put
+among_all disk puts n i put le at = ap (λ bs. slice_get bs i) (blocks_split disk.map 1 n puts le) ∙ at_append (first_blocks disk puts n) (blocks_from disk.map (1 + n) (drop n puts)) i put at
+
+mapped : {X Y : Type 0} (f : X → Y) (xs : List X) (i : ℕ) (x : X) → slice_get xs i ≡ Some x → slice_get (map f xs) i ≡ Some (f x)
+mapped f [] i x at = absurd (grind arith)
+mapped f (y ∷ ys) zero x at = ap (λ z. Some (f z)) (some_one y x at)
+mapped f (y ∷ ys) (suc i) x at = mapped f ys i x at
+
+itself : (n : ℕ) → (n == n) ≡ true
+itself n = grind (arith, nat_tests)
+
+both : (a b : Bool) → a ≡ true → b ≡ true → a && b ≡ true
+both a b on_a on_b = rw (on_a, on_b) refl
+
+pub wanted_there : (old : Spilling) (catch : Catch) → IsSpilling old → IsToWrite old catch
+    → (e : Entry) × (i : ℕ) × (slice_get old.pending i ≡ Some e) × (is_block catch.block.task catch.block.index e ≡ true) × (e.state ≡ Wanted)
+wanted_there old catch is to =
+    let entry = entry_of old.items to.put in
+    let at : slice_get old.pending to.index ≡ Some entry = ap (λ es. slice_get es to.index) is.registered ∙ mapped (entry_of old.items) (first_blocks old.disk.now old.puts.now old.admitted) to.index to.put to.stands in
+    let task : (to.put.block.task == catch.block.task) ≡ true = ap (λ (b : Block). to.put.block.task == b.task) to.block ∙ itself to.put.block.task in
+    let index : (to.put.block.index == catch.block.index) ≡ true = ap (λ (b : Block). to.put.block.index == b.index) to.block ∙ itself to.put.block.index in
+    (entry, to.index, at, both (to.put.block.task == catch.block.task) (to.put.block.index == catch.block.index) task index, ap (λ b. if b then Delivered else Wanted) to.unwritten)
+
+pub block_added : (old : Spilling) (catch : Catch) (pending : List Entry) (items : List SpillItem) (written : ℕ) → IsSpilling old → ArePutsOn (length (places old.disk.now.map)) old.puts.now → IsToWrite old catch
+    → items ≡ old.items ++ WroteLine (wrote_row catch) ∷ [] → pending ≡ after catch.block.task (Deliver catch.block.index) old.pending → written ≡ old.written + catch.block.count
+    → IsSpilling (record { alloc = old.alloc; disk = old.disk; puts = old.puts; pending = pending; admitted = old.admitted; instant = old.instant; items = items; written = written })
+block_added old catch pending items written is are to added delivers more_written =
+    let disk = old.disk.now in
+    let puts = old.puts.now in
+    let n = old.admitted in
+    let row = wrote_row catch in
+    let block = catch.block in
+    let own : to.put.block ≡ block = sym to.block in
+    let first_order = first_in_order disk puts n are is.first in
+    let all_order = puts_in_order disk 1 puts are.on_disk are.apart in
+    let at_all' = among_all disk puts n to.index to.put is.first to.stands in
+    let of_puts = at_all (IsOfPuts disk 1 puts) (put_blocks disk.map puts) to.index to.put (all_of_puts disk 1 puts are.on_disk) at_all' in
+    let unwritten : is_written old.items block ≡ false = ap (is_written old.items) to.block ∙ to.unwritten in
+    let upto = at_all (λ (p : PutBlock). p.block.task ≤ n) (first_blocks disk puts n) to.index to.put (numbered_first disk puts n are) to.stands in
+    let task = ap (λ (b : Block). b.task) to.block in
+    let count = ap (λ (b : Block). b.count) to.block in
+    let lbn = ap (λ (b : Block). b.lbn) to.block in
+    let less = left_less old.items row block refl refl (put_blocks disk.map puts) to.index to.put all_order at_all' own unwritten in
+    subst (λ rows. IsSpilling (record { alloc = old.alloc; disk = old.disk; puts = old.puts; pending = pending; admitted = n; instant = old.instant; items = rows; written = written })) (sym added) (record {
+      first = is.first;
+      come = is.come;
+      registered = delivers ∙ ap (after block.task (Deliver block.index)) is.registered ∙ delivered old.items row block refl refl (first_blocks disk puts n) to.index to.put first_order to.stands own;
+      upto = all_push (IsUpTo n) old.items (WroteLine row) is.upto (omega (arith, upto, task));
+      written = omega (arith, more_written, is.written, sum_by_push sectors_in old.items (WroteLine row));
+      parts = omega (arith, more_written, is.parts, less);
+      once = once_more old.items row block refl refl old.items (all_none (writes block) old.items unwritten) is.once;
+      in_time = all_push (IsInTime disk puts) old.items (WroteLine row) is.in_time (record {
+        put = to.put;
+        among = (to.index, at_all');
+        writes = ap (λ (b : Block). writes b (WroteLine row)) own ∙ told old.items row block refl refl;
+        count = count;
+        after = to.after;
+      });
+      ranges = all_push HasRange old.items (WroteLine row) is.ranges (omega (arith, upto, task, is.first, are.few), omega (arith, lbn, count, of_puts.is.fits.on_disk, disk.few_blocks));
+    })
+
+sum_of_all : (disk : Disk) (puts : List Put) → sectors (its_blocks (put_blocks disk.map puts)) ≡ sum_by (λ (put : Put). put.count) puts
+sum_of_all disk puts = all_sectors disk.map 1 puts
+
+-- what is written fits
+pub written_few : (old : Spilling) (catch : Catch) → IsSpilling old → ArePutsOn (length (places old.disk.now.map)) old.puts.now → IsToWrite old catch → old.written + catch.block.count ≤ 16 * 10 ^ 6 + 2048
+written_few old catch is are to =
+    let disk = old.disk.now in
+    let puts = old.puts.now in
+    let at_all' = among_all disk puts old.admitted to.index to.put is.first to.stands in
+    let of_puts = at_all (IsOfPuts disk 1 puts) (put_blocks disk.map puts) to.index to.put (all_of_puts disk 1 puts are.on_disk) at_all' in
+    omega (arith, is.parts, sum_of_all disk puts, are.few_sectors, ap (λ (b : Block). b.count) to.block, of_puts.is.fits.few)

@@ -1,0 +1,194 @@
+-- What a stay catches are pending blocks, each once.
+use Rattle.std.proofs.Common.{Bor, ◌≡◌, ℕ, zero, suc, ◌+◌, ◌≤◌, List, [], ◌∷◌, ◌++◌, Bool, true, false, ◌||◌, Some, slice_get, take, drop, map, length, refl, sym, ap, ◌∙◌, subst, arith, inl, inr}
+use Rattle.std.specs.Prelude.{◌==◌, ◌&&◌, filter}
+use Rattle.std.specs.List.{AllByRecursion, fold, list_any}
+use Rattle.std.proofs.lemmas.Bool.{cases_Bool}
+use Rattle.std.proofs.lemmas.Bool.Decides.{nat_tests}
+use Rattle.std.proofs.lemmas.List.Folds.{list_any-append}
+use Rattle.fb_geometry.specs.Places.{places}
+use Rattle.fb_service.specs.declared.disk.Disk.{Disk}
+use Rattle.fb_wanted.specs.States.{wanted_of}
+use Rattle.fb_rows.specs.declared.gap.Dwell.{Dwell}
+use Rattle.fb_model.specs.Plans.{catches}
+use Rattle.fb_plan.specs.declared.catching.Catch.{Catch}
+use Rattle.fb_plan.specs.Order.{is_before, slot_of, place_in, catch_of, caught_of}
+use Rattle.fb_plan.proofs.Ends.{begin-from-le}
+use Rattle.fb_bgwrite.specs.declared.items.SpillItem.{SpillItem}
+use Rattle.fb_bgwrite.specs.declared.items.SpillItem.TheVariants.{Spill as SpillLine, Wrote as WroteLine}
+use Rattle.fb_bgwrite.specs.declared.items.SpillRow.{SpillRow}
+use Rattle.fb_bgwrite.specs.declared.puts.Put.{Put}
+use Rattle.fb_bgwrite.specs.declared.spilling.Spilling.{Spilling}
+use Rattle.fb_bgwrite.specs.Blocks.{PutBlock, is_written, writes}
+use Rattle.fb_bgwrite.specs.Standing.{entry_of, first_blocks, ArePutsOn, HasKept, IsSpilling, IsToWrite}
+use Rattle.fb_bgwrite.specs.Steps.{wrote_row}
+use Rattle.fb_bgwrite.proofs.Admitting.{first_come, first_in_order}
+use Rattle.fb_bgwrite.proofs.Lists.{all_of, all_weaker, at_all, none_any}
+use Rattle.fb_bgwrite.proofs.PutBlocks.{AreInOrder, IsBefore}
+use Rattle.fb_bgwrite.proofs.Writing.{before_other}
+
+-- ---- in the order of delivery
+
+one_plus : (n : ℕ) → 1 + n ≡ suc n
+one_plus n = omega arith
+
+put_front : (x c : Catch) (xs : List Catch) → is_before c x ≡ true → place_in (x ∷ xs) c ≡ c ∷ x ∷ xs
+put_front x c xs h =
+    let slot : slot_of (x ∷ xs) c ≡ 0 = rw h refl in
+    ap (λ n. take n (x ∷ xs) ++ c ∷ drop n (x ∷ xs)) slot
+
+put_behind : (x c : Catch) (xs : List Catch) → is_before c x ≡ false → place_in (x ∷ xs) c ≡ x ∷ place_in xs c
+put_behind x c xs h =
+    let slot : slot_of (x ∷ xs) c ≡ 1 + slot_of xs c = rw h refl in
+    ap (λ n. take n (x ∷ xs) ++ c ∷ drop n (x ∷ xs)) (slot ∙ one_plus (slot_of xs c))
+
+all_place : (P : Catch → Type 0) (c : Catch) (xs : List Catch) → P c → AllByRecursion P xs → AllByRecursion P (place_in xs c)
+all_place P c [] p h = (p, tt)
+all_place P c (x ∷ xs) p h = elim (cases_Bool (is_before c x)) [
+  | inl t ↦ subst (AllByRecursion P) (sym (put_front x c xs t)) (p, h)
+  | inr f ↦ subst (AllByRecursion P) (sym (put_behind x c xs f)) (h.0, all_place P c xs p h.1)
+]
+
+all_placed : (P : Catch → Type 0) (xs ys : List Catch) → AllByRecursion P xs → AllByRecursion P ys → AllByRecursion P (fold place_in xs ys)
+all_placed P xs [] a b = a
+all_placed P xs (y ∷ ys) a b = all_placed P (place_in xs y) ys (all_place P y xs b.0 a) b.1
+
+-- the catches are of different blocks
+abbrev pub Differ : Catch → Catch → Type 0
+Differ a b = (a.block.task == b.block.task) && (a.block.lbn == b.block.lbn) ≡ false
+
+differ_turned : (a b : Catch) → Differ a b → Differ b a
+differ_turned a b h = grind (arith, nat_tests)
+
+abbrev pub AreDifferent : List Catch → Type 0
+AreDifferent [] = Unit {0}
+AreDifferent (c ∷ cs) = AllByRecursion (Differ c) cs × AreDifferent cs
+
+different_place : (c : Catch) (xs : List Catch) → AllByRecursion (Differ c) xs → AreDifferent xs → AreDifferent (place_in xs c)
+different_place c [] apart h = (tt, tt)
+different_place c (x ∷ xs) apart h = elim (cases_Bool (is_before c x)) [
+  | inl t ↦ subst AreDifferent (sym (put_front x c xs t)) (apart, h)
+  | inr f ↦ subst AreDifferent (sym (put_behind x c xs f)) (all_place (Differ x) c xs (differ_turned c x apart.0) h.0, different_place c xs apart.1 h.1)
+]
+
+more_apart : (y : Catch) (xs ys : List Catch) → AllByRecursion (Differ y) ys → AllByRecursion (λ z. AllByRecursion (Differ z) xs) ys → AllByRecursion (λ z. AllByRecursion (Differ z) (place_in xs y)) ys
+more_apart y xs [] own all = tt
+more_apart y xs (z ∷ zs) own all = (all_place (Differ z) y xs (differ_turned y z own.0) all.0, more_apart y xs zs own.1 all.1)
+
+different_placed : (xs ys : List Catch) → AreDifferent xs → AreDifferent ys → AllByRecursion (λ y. AllByRecursion (Differ y) xs) ys → AreDifferent (fold place_in xs ys)
+different_placed xs [] a b all = a
+different_placed xs (y ∷ ys) a b all = different_placed (place_in xs y) ys (different_place y xs all.0 a) b.1 (more_apart y xs ys b.0 all.1)
+
+none_before : (ys : List Catch) → AllByRecursion (λ y. AllByRecursion (Differ y) []) ys
+none_before [] = tt
+none_before (y ∷ ys) = (tt, none_before ys)
+
+-- ---- each is of a block that is pending
+
+-- a catch of one of the first blocks, not written so far, whose passage begins once its put's instant has come
+pub record IsCaught (disk : Disk) (puts : List Put) (n : ℕ) (items : List SpillItem) (catch : Catch) : Type 0 where
+  pub index : ℕ
+  pub put : PutBlock
+  pub stands : slice_get (first_blocks disk puts n) index ≡ Some put
+  pub block : catch.block ≡ put.block
+  pub unwritten : is_written items put.block ≡ false
+  pub after : put.instant ≤ catch.begin
+
+module _ (disk : Disk) (puts : List Put) (n : ℕ) (items : List SpillItem) (dwell : Dwell) where
+  abbrev found : PutBlock → Catch
+  found put = catch_of disk dwell put.block
+
+  -- the catches of the wanted blocks among these
+  abbrev of_blocks : List PutBlock → List Catch
+  of_blocks blocks = map (catch_of disk dwell) (filter (catches disk dwell) (wanted_of (map (entry_of items) blocks)))
+
+  IsAt : PutBlock → Type 0
+  IsAt put = (i : ℕ) × (slice_get (first_blocks disk puts n) i ≡ Some put)
+
+  each_caught : (blocks : List PutBlock) → AllByRecursion IsAt blocks → AllByRecursion (λ (put : PutBlock). put.instant ≤ dwell.begin) blocks → AllByRecursion (IsCaught disk puts n items) (of_blocks blocks)
+  unfolding IsAt
+  each_caught [] at come = tt
+  each_caught (put ∷ blocks) at come = elim (cases_Bool (is_written items put.block)) [
+    | inl written ↦ rw written (each_caught blocks at.1 come.1)
+    | inr unwritten ↦ elim (cases_Bool (catches disk dwell put.block)) [
+      | inl yes' ↦ rw (unwritten, yes') (
+        record { index = at.0.0; put = put; stands = at.0.1; block = refl; unwritten = unwritten; after = omega (arith, come.0, begin-from-le disk.map put.block dwell.begin) },
+        each_caught blocks at.1 come.1,
+      )
+      | inr no' ↦ rw (unwritten, no') (each_caught blocks at.1 come.1)
+    ]
+  ]
+
+  all_behind : (own : PutBlock) (blocks : List PutBlock) → AllByRecursion (λ other. IsBefore own.block other.block) blocks → AllByRecursion (Differ (found own)) (of_blocks blocks)
+  all_behind own [] all = tt
+  all_behind own (put ∷ blocks) all = elim (cases_Bool (is_written items put.block)) [
+    | inl written ↦ rw written (all_behind own blocks all.1)
+    | inr unwritten ↦ elim (cases_Bool (catches disk dwell put.block)) [
+      | inl yes' ↦ rw (unwritten, yes') ((before_other own.block put.block all.0).turned, all_behind own blocks all.1)
+      | inr no' ↦ rw (unwritten, no') (all_behind own blocks all.1)
+    ]
+  ]
+
+  all_different : (blocks : List PutBlock) → AreInOrder blocks → AreDifferent (of_blocks blocks)
+  all_different [] order = tt
+  all_different (put ∷ blocks) order = elim (cases_Bool (is_written items put.block)) [
+    | inl written ↦ rw written (all_different blocks order.1)
+    | inr unwritten ↦ elim (cases_Bool (catches disk dwell put.block)) [
+      | inl yes' ↦ rw (unwritten, yes') (all_behind put blocks order.0, all_different blocks order.1)
+      | inr no' ↦ rw (unwritten, no') (all_different blocks order.1)
+    ]
+  ]
+
+  pub caught_are : AllByRecursion (λ (put : PutBlock). put.instant ≤ dwell.begin) (first_blocks disk puts n) → AllByRecursion (IsCaught disk puts n items) (caught_of disk dwell (wanted_of (map (entry_of items) (first_blocks disk puts n))))
+  unfolding caught_of IsAt
+  caught_are come = all_placed (IsCaught disk puts n items) [] (of_blocks (first_blocks disk puts n)) tt
+      (each_caught (first_blocks disk puts n) (all_of IsAt (first_blocks disk puts n) (λ k put at. (k, at))) come)
+
+  pub caught_differ : AreInOrder (first_blocks disk puts n) → AreDifferent (caught_of disk dwell (wanted_of (map (entry_of items) (first_blocks disk puts n))))
+  unfolding caught_of
+  caught_differ order = different_placed [] (of_blocks (first_blocks disk puts n)) tt (all_different (first_blocks disk puts n) order) (none_before (of_blocks (first_blocks disk puts n)))
+
+-- ---- one after another
+
+abbrev pub wrote_rows : List Catch → List SpillItem
+wrote_rows cs = map (λ catch. WroteLine (wrote_row catch)) cs
+
+-- the rows of the catches before one don't tell of its block
+earlier_told : (cs : List Catch) (i : ℕ) (catch : Catch) → AreDifferent cs → slice_get cs i ≡ Some catch → AllByRecursion (λ item. writes catch.block item ≡ false) (wrote_rows (take i cs))
+earlier_told [] i catch apart at = absurd (grind arith)
+earlier_told (c ∷ cs) zero catch apart at = tt
+earlier_told (c ∷ cs) (suc i) catch apart at = (at_all (Differ c) cs i catch apart.0 at, earlier_told cs i catch apart.1 at)
+
+neither : (a b : Bool) → a ≡ false → b ≡ false → (a || b) ≡ false
+neither a b off_a off_b = rw (off_a, off_b) refl
+
+not_told : (items : List SpillItem) (row : SpillRow) (cs : List Catch) (i : ℕ) (catch : Catch) → AreDifferent cs → slice_get cs i ≡ Some catch → is_written items catch.block ≡ false
+    → is_written (items ++ SpillLine row ∷ wrote_rows (take i cs)) catch.block ≡ false
+not_told items row cs i catch apart at unwritten =
+    let later : list_any (writes catch.block) (SpillLine row ∷ wrote_rows (take i cs)) ≡ false = none_any (writes catch.block) (SpillLine row ∷ wrote_rows (take i cs)) (refl, earlier_told cs i catch apart at) in
+    list_any-append (writes catch.block) items (SpillLine row ∷ wrote_rows (take i cs)) ∙ neither (is_written items catch.block) (list_any (writes catch.block) (SpillLine row ∷ wrote_rows (take i cs))) unwritten later
+
+-- the next catch is of a block that is still to write
+pub to_write : (old new : Spilling) (dwell : Dwell) (row : SpillRow) (i : ℕ) (catch : Catch) → IsSpilling old → ArePutsOn (length (places old.disk.now.map)) old.puts.now → old.instant ≤ dwell.begin
+    → HasKept old new → new.admitted ≡ old.admitted → (let cs = caught_of old.disk.now dwell (wanted_of old.pending) in
+    slice_get cs i ≡ Some catch → new.items ≡ old.items ++ SpillLine row ∷ wrote_rows (take i cs) → IsToWrite new catch)
+to_write old new dwell row i catch is are begin kept admitted at items =
+    let disk = old.disk.now in
+    let puts = old.puts.now in
+    let n = old.admitted in
+    let cs = caught_of disk dwell (wanted_of (map (entry_of old.items) (first_blocks disk puts n))) in
+    let here : slice_get cs i ≡ Some catch = ap (λ es. slice_get (caught_of disk dwell (wanted_of es)) i) (sym is.registered) ∙ at in
+    let come = all_weaker (λ (p : PutBlock). p.instant ≤ old.instant) (λ (p : PutBlock). p.instant ≤ dwell.begin) (λ p le. omega (arith, le, begin)) (first_blocks disk puts n) (first_come old is are) in
+    let its = at_all (IsCaught disk puts n old.items) cs i catch (caught_are disk puts n old.items dwell come) here in
+    let apart = caught_differ disk puts n old.items dwell (first_in_order disk puts n are is.first) in
+    let rows : new.items ≡ old.items ++ SpillLine row ∷ wrote_rows (take i cs) = items ∙ ap (λ es. old.items ++ SpillLine row ∷ wrote_rows (take i (caught_of disk dwell (wanted_of es)))) is.registered in
+    let unwritten = not_told old.items row cs i catch apart here (ap (is_written old.items) its.block ∙ its.unwritten) in
+    record {
+      index = its.index;
+      put = its.put;
+      stands = ap (λ (d : Bor Disk). slice_get (first_blocks d.now new.puts.now new.admitted) its.index) kept.disk
+          ∙ ap (λ (p : Bor (List Put)). slice_get (first_blocks disk p.now new.admitted) its.index) kept.puts
+          ∙ ap (λ m. slice_get (first_blocks disk puts m) its.index) admitted ∙ its.stands;
+      block = its.block;
+      unwritten = ap (λ xs. is_written xs its.put.block) rows ∙ ap (is_written (old.items ++ SpillLine row ∷ wrote_rows (take i cs))) (sym its.block) ∙ unwritten;
+      after = its.after;
+    }

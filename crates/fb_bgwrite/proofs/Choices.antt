@@ -1,0 +1,173 @@
+-- The best so far beats what it beat before.
+use Rattle.std.proofs.Common.{◌≡◌, ℕ, ◌+◌, ◌<◌, ◌≤◌, List, [], ◌∷◌, Option, Some, None, inl, inr, refl, sym, ◌∙◌, subst, arith}
+use Rattle.std.specs.List.{sum_by}
+use Rattle.std.proofs.lemmas.Bool.{cases_Bool, cases_lt}
+use Rattle.fb_units.specs.declared.types.Track.{Track}
+use Rattle.fb_units.specs.Tracks.{same_track}
+use Rattle.fb_geometry.specs.Shape.{cylinders_of}
+use Rattle.fb_service.specs.declared.disk.Disk.{Disk}
+use Rattle.fb_wanted.specs.declared.block.Block.{Block}
+use Rattle.fb_wanted.specs.declared.block.Entry.{Entry}
+use Rattle.fb_wanted.specs.States.{on_track, wanted_of}
+use Rattle.fb_wanted.specs.Tracks.{wanted_weight}
+use Rattle.fb_rows.specs.declared.gap.Dwell.{Dwell}
+use Rattle.fb_rows.specs.declared.gap.Gap.{Gap}
+use Rattle.fb_model.specs.Plans.{IsTrackBefore}
+use Rattle.fb_plan.specs.Ways.{AreOnDisk}
+use Rattle.fb_detour.specs.Bounds.{stay, stay_gain}
+use Rattle.fb_detour.proofs.Ceilings.{longer_stay, stay-of, weight_of_stay}
+use Rattle.fb_bgwrite.specs.declared.choice.Spill.{Spill}
+use Rattle.fb_bgwrite.specs.declared.choice.Valued.{Valued}
+use Rattle.fb_bgwrite.specs.Spilling.{ready, stay_of, value, IsNoLater, IsSpill}
+use Rattle.fb_bgwrite.specs.Choosing.{ArePending, Beats, BeatsOn, BeatsRange, IsBestIf, IsEnough, IsLast, IsOver, IsValuedIf, Keeps}
+use Rattle.fb_bgwrite.proofs.Values.{as_much_by_last, less_before_last, value_stay, AreLight}
+
+before_on : (s t u : Track) → IsTrackBefore s t → IsTrackBefore t u → IsTrackBefore s u
+before_on s t u st tu = elim st [
+  | inl x ↦ elim tu [ inl y ↦ inl (omega (arith, x, y)) | inr y ↦ inl (omega (arith, x, y.0)) ]
+  | inr x ↦ elim tu [ inl y ↦ inl (omega (arith, x.0, y)) | inr y ↦ inr (omega (arith, x.0, y.0), omega (arith, x.1, y.1)) ]
+]
+
+no_later_on : (a b c : Spill) → IsNoLater a b → IsNoLater b c → IsNoLater a c
+no_later_on a b c ab bc = elim ab [
+  | inl x ↦ elim bc [
+    | inl y ↦ inl (before_on a.track b.track c.track x y)
+    | inr y ↦ inl (subst (λ t. IsTrackBefore a.track t) y.0 x)
+  ]
+  | inr x ↦ elim bc [
+    | inl y ↦ inl (subst (λ t. IsTrackBefore t c.track) (sym x.0) y)
+    | inr y ↦ inr (x.0 ∙ y.0, omega (arith, x.1, y.1))
+  ]
+]
+
+module _ (disk : Disk) (gap : Gap) (pending : List Block) where
+  -- a better one beats the same
+  pub over_beats : (new old : Valued) (other : Spill) → IsOver new old → Beats disk gap pending (Some old) other → Beats disk gap pending (Some new) other
+  over_beats new old other over beats = elim over [
+    | inl x ↦ elim beats [ inl y ↦ inl (omega (arith, x, y)) | inr y ↦ inl (omega (arith, x, y.0)) ]
+    | inr x ↦ elim beats [ inl y ↦ inl (omega (arith, x.0, y)) | inr y ↦ inr (omega (arith, x.0, y.0), no_later_on new.spill old.spill other x.1 y.1) ]
+  ]
+
+  -- what writes nothing is beaten by anything
+  pub nothing_beaten : (new : Option Valued) (other : Spill) → IsValuedIf disk gap pending new → value disk gap pending other ≡ 0 → Beats disk gap pending new other
+  nothing_beaten None other valued none = none
+  nothing_beaten (Some best) other valued none = inl (omega (arith, none, valued.some))
+
+  pub kept_none : (new : Option Valued) → IsValuedIf disk gap pending new → Keeps disk gap pending None new
+  kept_none new valued other none = nothing_beaten new other valued none
+
+  pub kept_on : (a b c : Option Valued) → Keeps disk gap pending a b → Keeps disk gap pending b c → Keeps disk gap pending a c
+  kept_on a b c ab bc other beats = bc other (ab other beats)
+
+  pub on_kept : (old new : Option Valued) (track : Track) → Keeps disk gap pending old new → BeatsOn disk gap pending old track → BeatsOn disk gap pending new track
+  on_kept old new track keeps beats leave is = keeps (record { track = track; leave = leave }) (beats leave is)
+
+  pub range_kept : (old new : Option Valued) (from end : ℕ) → Keeps disk gap pending old new → BeatsRange disk gap pending old from end → BeatsRange disk gap pending new from end
+  range_kept old new from end keeps beats track low high = on_kept old new track keeps (beats track low high)
+
+  pub none_yet : (best : Option Valued) (from : ℕ) → BeatsRange disk gap pending best from from
+  none_yet best from track low high = absurd (omega (arith, low, high))
+
+  pub range_more : (best : Option Valued) (from mid end : ℕ) → BeatsRange disk gap pending best from mid → BeatsRange disk gap pending best mid end → BeatsRange disk gap pending best from end
+  range_more best from mid end before after track low high = elim (cases_lt track.cylinder mid) [
+    | inl less ↦ before track low less
+    | inr more ↦ after track more high
+  ]
+
+  pub cylinder_done : (best : Option Valued) (cylinder n : ℕ) → disk.map.heads ≤ n → ((head : ℕ) → head < n → BeatsOn disk gap pending best (record { cylinder = cylinder; head = head }))
+      → BeatsRange disk gap pending best cylinder (cylinder + 1)
+  cylinder_done best cylinder n all each track low high leave is =
+      let here : track.cylinder ≡ cylinder = omega (arith, low, high) in
+      subst (λ c. (let spill : Spill = record { track = record { cylinder = c; head = track.head }; leave = leave } in IsSpill disk gap spill → Beats disk gap pending best spill)) (sym here)
+      (each track.head (omega (arith, is.on_disk.head)) leave) is
+
+  -- more heads
+  pub heads_more : (old new : Option Valued) (cylinder n : ℕ) → Keeps disk gap pending old new → BeatsOn disk gap pending new (record { cylinder = cylinder; head = n })
+      → ((head : ℕ) → head < n → BeatsOn disk gap pending old (record { cylinder = cylinder; head = head })) → (head : ℕ) → head < n + 1 → BeatsOn disk gap pending new (record { cylinder = cylinder; head = head })
+  heads_more old new cylinder n keeps here before head less = elim (cases_lt head n) [
+    | inl earlier ↦ on_kept old new (record { cylinder = cylinder; head = head }) keeps (before head earlier)
+    | inr last ↦ subst (λ h. BeatsOn disk gap pending new (record { cylinder = cylinder; head = h })) (let same : n ≡ head = omega (arith, less, last) in same) here
+  ]
+
+  -- spills of little value on later tracks are beaten
+  pub enough_beats : (best : Option Valued) (most from : ℕ) (other : Spill) → IsEnough best most from → value disk gap pending other ≤ most → from ≤ other.track.cylinder → Beats disk gap pending best other
+  enough_beats None most from other enough few behind = omega (arith, enough, few)
+  enough_beats (Some best) most from other enough few behind = elim enough [
+    | inl less ↦ inl (omega (arith, less, few))
+    | inr same ↦ elim (cases_lt (value disk gap pending other) best.value) [
+      | inl less ↦ inl less
+      | inr more ↦ inr (omega (arith, more, same.0, few), inl (inl (omega (arith, same.1, behind))))
+    ]
+  ]
+
+  -- the best of all tracks
+  pub best_is : (best : Option Valued) → IsValuedIf disk gap pending best → BeatsRange disk gap pending best 0 (cylinders_of disk.map.zones) → IsBestIf disk gap pending best
+  best_is None valued beats = λ spill is. beats spill.track (omega arith) is.on_disk.cylinder spill.leave is
+  best_is (Some best) valued beats = record {
+    is_spill = valued.is_spill;
+    some = omega (arith, valued.some, valued.value_is);
+    greatest = λ other is. elim (beats other.track (omega arith) is.on_disk.cylinder other.leave is) [
+      | inl less ↦ omega (arith, less, valued.value_is)
+      | inr same ↦ omega (arith, same.0, valued.value_is)
+    ];
+    first = λ other is equal. elim (beats other.track (omega arith) is.on_disk.cylinder other.leave is) [
+      | inl less ↦ absurd (omega (arith, less, valued.value_is, equal))
+      | inr same ↦ same.1
+    ];
+  }
+
+-- ---- one track
+
+pub light_on : (track : Track) (es : List Entry) → AreLight es → AreLight (on_track track es)
+light_on track [] light = tt
+light_on track (e ∷ es) light = elim (cases_Bool (same_track track e.block.track)) [
+  | inl on ↦ rw on (light.0, light_on track es light.1)
+  | inr off ↦ rw off (light_on track es light.1)
+]
+
+module _ (disk : Disk) (gap : Gap) (entries : List Entry) (pending : ArePending disk entries) (track : Track) where
+  -- no more than the track's blocks
+  pub by_weight : (leave : ℕ) → value disk gap (wanted_of entries) (record { track = track; leave = leave }) ≤ wanted_weight track entries
+  by_weight leave =
+      let spill : Spill = record { track = track; leave = leave } in
+      omega (arith, value_stay disk gap entries spill pending.light, weight_of_stay disk (stay_of disk gap spill) entries)
+
+  abbrev longest : ℕ → Dwell
+  longest end = record { track = track; begin = ready disk gap track; end = end }
+
+  -- no more than what passes by a later instant
+  pub by_longest : (leave end : ℕ) → leave ≤ end → value disk gap (wanted_of entries) (record { track = track; leave = leave }) ≤ stay disk (longest end) entries
+  by_longest leave end le =
+      let spill : Spill = record { track = track; leave = leave } in
+      omega (arith, value_stay disk gap entries spill pending.light, longer_stay disk (stay_of disk gap spill) (longest end) entries disk.some_rotation refl (omega arith) le)
+
+  module _ (blocks : List Entry) (its : blocks ≡ on_track track entries) (on_disk : AreOnDisk disk blocks) (light : AreLight blocks) (end sectors last : ℕ) (sum : sectors ≡ sum_by (stay_gain disk (longest end)) blocks)
+      (is_last : IsLast disk (longest end) blocks sectors last) where
+    whole : sectors ≡ stay disk (longest end) entries
+    whole = stay-of disk (longest end) entries blocks sectors its sum
+
+    pub nothing_there : sectors ≡ 0 → (leave : ℕ) → leave ≤ end → value disk gap (wanted_of entries) (record { track = track; leave = leave }) ≡ 0
+    nothing_there none leave le = omega (arith, whole, none, by_longest leave end le)
+
+    at_leave : (leave : ℕ) → sum_by (stay_gain disk (longest leave)) blocks ≡ value disk gap (wanted_of entries) (record { track = track; leave = leave })
+    at_leave leave =
+        let spill : Spill = record { track = track; leave = leave } in
+        stay-of disk (longest leave) entries blocks (sum_by (stay_gain disk (longest leave)) blocks) its refl ∙ sym (value_stay disk gap entries spill pending.light)
+
+    pub last_value : sectors ≡ value disk gap (wanted_of entries) (record { track = track; leave = last })
+    last_value =
+        let most = by_longest last end is_last.upto in
+        omega (arith, as_much_by_last disk (longest end) blocks sectors last is_last, at_leave last, sum, whole, most)
+
+    -- no other leave is better
+    pub last_beats : 0 < sectors → (leave : ℕ) → leave ≤ end → Beats disk gap (wanted_of entries) (Some (record { spill = record { track = track; leave = last }; value = sectors })) (record { track = track; leave = leave })
+    last_beats some leave le = elim (cases_lt (value disk gap (wanted_of entries) (record { track = track; leave = leave })) sectors) [
+      | inl less ↦ inl less
+      | inr more ↦ elim is_last.reached [
+        | inl none ↦ absurd (omega (arith, none.0, some))
+        | inr ends ↦ elim (cases_lt leave last) [
+          | inl early ↦ absurd (omega (arith, less_before_last disk (longest end) blocks last leave on_disk light ends le early, at_leave leave, sum, more))
+          | inr late ↦ inr (omega (arith, more, whole, by_longest leave end le), inr (refl, late))
+        ]
+      ]
+    ]

@@ -1,0 +1,145 @@
+-- Blocks that share no sector pass one slot each.
+use Rattle.std.proofs.Common.{◌≡◌, ℕ, zero, suc, ◌+◌, ◌-◌, ◌/◌, ◌<◌, ◌≤◌, List, [], ◌∷◌, Bool, true, false, map, inl, inr, refl, sym, arith}
+use Rattle.std.specs.Prelude.{◌==◌, nat_le, nat_lt}
+use Rattle.std.specs.List.{AllByRecursion, sum_by}
+use Rattle.std.proofs.lemmas.Bool.{cases_Bool, and_parts, leb-true, ltb-true}
+use Rattle.std.proofs.lemmas.Bool.Decides.{nat_tests}
+use Rattle.std.proofs.lemmas.List.Sums.{sum_by-cons}
+use Rattle.std.proofs.lemmas.Nat.{le-div, mul-le}
+use Rattle.std.proofs.Math.Nat.{div-mul-le_self}
+use Rattle.fb_units.specs.declared.types.Track.{Track}
+use Rattle.fb_units.specs.Tracks.{same_track}
+use Rattle.fb_geometry.specs.Shape.{slots_at}
+use Rattle.fb_geometry.specs.Sound.{IsSound, HasOwnPlaces}
+use Rattle.fb_seek.specs.Mechanics.{Mechanics}
+use Rattle.fb_seek.specs.Positioning.{pos, distance_of}
+use Rattle.fb_seek.specs.Rising.{SeeksRise}
+use Rattle.fb_service.specs.declared.disk.Disk.{Disk}
+use Rattle.fb_wanted.specs.declared.block.Entry.{Entry}
+use Rattle.fb_wanted.specs.Depth.{depth_at, is_in, weight_on}
+use Rattle.fb_wanted.specs.States.{on_track, wanted_of}
+use Rattle.fb_wanted.specs.Tracks.{wanted_weight}
+use Rattle.fb_rows.specs.declared.gap.Gap.{Gap}
+use Rattle.fb_detour.specs.Bounds.{slots_within}
+use Rattle.fb_detour.proofs.Ceilings.{weight_of_stay}
+use Rattle.fb_detour.proofs.Packing.{div-rises, packing}
+use Rattle.fb_bgwrite.specs.declared.choice.Spill.{Spill}
+use Rattle.fb_bgwrite.specs.declared.search.Moves.{Moves}
+use Rattle.fb_bgwrite.specs.Ranges.{share, AreApart}
+use Rattle.fb_bgwrite.specs.Choosing.{block_range, AreLeast, ArePending}
+use Rattle.fb_bgwrite.specs.Spilling.{ready, stay_of, value, IsSpill}
+use Rattle.fb_bgwrite.proofs.TakenRanges.{is_shares}
+use Rattle.fb_bgwrite.proofs.Values.{value_stay, AreLight}
+
+both_in : (a b : Entry) (lbn : ℕ) → is_in lbn a.block ≡ true → is_in lbn b.block ≡ true → share (block_range a.block) (block_range b.block) ≡ false → ⊥
+both_in a b lbn in_a in_b apart =
+    let at_a = and_parts (nat_le a.block.lbn lbn) (nat_lt lbn (a.block.lbn + a.block.count)) in_a in
+    let at_b = and_parts (nat_le b.block.lbn lbn) (nat_lt lbn (b.block.lbn + b.block.count)) in_b in
+    let from_a : a.block.lbn ≤ lbn = leb-true a.block.lbn lbn at_a.0 in
+    let to_a : lbn < a.block.lbn + a.block.count = ltb-true lbn (a.block.lbn + a.block.count) at_a.1 in
+    let from_b : b.block.lbn ≤ lbn = leb-true b.block.lbn lbn at_b.0 in
+    let to_b : lbn < b.block.lbn + b.block.count = ltb-true lbn (b.block.lbn + b.block.count) at_b.1 in
+    let on = is_shares (block_range a.block) (block_range b.block) (omega arith) (omega arith) (omega arith) (omega arith) in
+    absurd (grind arith)
+
+-- none of the others has the sector
+none_others : (e : Entry) (lbn : ℕ) → is_in lbn e.block ≡ true → (es : List Entry) → AllByRecursion (λ other. share (block_range e.block) other ≡ false) (map (λ entry. block_range entry.block) es)
+    → sum_by (weight_on lbn) es ≡ 0
+none_others e lbn in_e [] apart = refl
+none_others e lbn in_e (x ∷ xs) apart = elim (cases_Bool (is_in lbn x.block)) [
+  | inl here ↦ absurd (both_in e x lbn in_e here apart.0)
+  | inr other ↦
+      let none : weight_on lbn x ≡ 0 = rw other refl in
+      omega (arith, sum_by-cons (weight_on lbn) x xs, none, none_others e lbn in_e xs apart.1)
+]
+
+at_most_one : (lbn : ℕ) (es : List Entry) → AreLight es → AreApart (map (λ entry. block_range entry.block) es) → sum_by (weight_on lbn) es ≤ 1
+at_most_one lbn [] light apart = omega arith
+at_most_one lbn (e ∷ es) light apart = elim (cases_Bool (is_in lbn e.block)) [
+  | inl here ↦
+      let one : weight_on lbn e ≡ e.block.weight = rw here refl in
+      omega (arith, sum_by-cons (weight_on lbn) e es, one, light.0, none_others e lbn here es apart.0)
+  | inr other ↦
+      let none : weight_on lbn e ≡ 0 = rw other refl in
+      omega (arith, sum_by-cons (weight_on lbn) e es, none, at_most_one lbn es light.1 apart.1)
+]
+
+fewer : (lbn : ℕ) (track : Track) (es : List Entry) → sum_by (weight_on lbn) (on_track track es) ≤ sum_by (weight_on lbn) es
+fewer lbn track [] = omega arith
+fewer lbn track (e ∷ es) = elim (cases_Bool (same_track track e.block.track)) [
+  | inl on ↦ rw on (omega (arith, sum_by-cons (weight_on lbn) e es, sum_by-cons (weight_on lbn) e (on_track track es), fewer lbn track es))
+  | inr off ↦ rw off (omega (arith, sum_by-cons (weight_on lbn) e es, fewer lbn track es))
+]
+
+pub one_deep : (track : Track) (lbn : ℕ) (es : List Entry) → AreLight es → AreApart (map (λ entry. block_range entry.block) es) → depth_at track lbn es ≤ 1
+one_deep track lbn es light apart = omega (arith, fewer lbn track es, at_most_one lbn es light apart)
+
+-- ---- bounds
+
+module _ (disk : Disk) (gap : Gap) (entries : List Entry) (pending : ArePending disk entries) (sound : IsSound disk.map) (own : HasOwnPlaces disk.map) (from end : ℕ) (moves : Moves) (least : AreLeast disk gap from end moves) (spill : Spill)
+    (low : from ≤ spill.track.cylinder) (high : spill.track.cylinder < end) (is : IsSpill disk gap spill) where
+  -- there is time for both moves
+  pub there_is_time : gap.now + moves.there + moves.on ≤ gap.deadline
+  there_is_time = let both = least spill.track low high in omega (arith, both.0, both.1, is.after_ready, is.in_time)
+
+  pub value_in_time : (most : ℕ) → slots_within disk.map.rotation (slots_at disk.map.zones spill.track.cylinder) (gap.deadline - (gap.now + moves.there + moves.on)) ≤ most → value disk gap (wanted_of entries) spill ≤ most
+  value_in_time most enough =
+      let both = least spill.track low high in
+      let begin = ready disk gap spill.track in
+      let share = disk.map.rotation / slots_at disk.map.zones spill.track.cylinder in
+      omega (
+        arith,
+        value_stay disk gap entries spill pending.light,
+        packing disk spill.track begin spill.leave sound entries 1 own pending.on_disk (λ lbn. one_deep spill.track lbn entries pending.light pending.apart),
+        div-rises (spill.leave - begin) (gap.deadline - (gap.now + moves.there + moves.on)) share (omega (arith, both.0, both.1, is.after_ready, is.in_time)),
+        enough,
+      )
+
+  pub value_by_weight : (most : ℕ) → wanted_weight spill.track entries ≤ most → value disk gap (wanted_of entries) spill ≤ most
+  value_by_weight most enough = omega (arith, value_stay disk gap entries spill pending.light, weight_of_stay disk (stay_of disk gap spill) entries, enough)
+
+shorter : (rotation n most : ℕ) → 0 < n → n ≤ most → rotation / most ≤ rotation / n
+shorter rotation n most some le = le-div (rotation / most) rotation n some (omega (arith, mul-le (rotation / most) n (rotation / most) most (omega arith) le, div-mul-le_self rotation most))
+
+-- of more slots no fewer pass
+pub more_pass : (rotation n most time : ℕ) → n ≤ most → 0 < rotation / most → time / (rotation / n) ≤ time / (rotation / most)
+more_pass rotation zero most time le some = let none : rotation / 0 ≡ 0 = omega arith in rw none (omega arith)
+more_pass rotation (suc n) most time le some =
+    let passed = time / (rotation / suc n) in
+    le-div passed time (rotation / most) some
+    (omega (arith, mul-le passed (rotation / most) passed (rotation / suc n) (omega arith) (shorter rotation (suc n) most (omega arith) le), div-mul-le_self time (rotation / suc n)))
+
+-- ---- moves
+
+no_distance : (a b : Track) → same_track a b ≡ true → distance_of a.cylinder b.cylinder ≡ 0
+no_distance a b same = grind (arith, nat_tests)
+
+same_head : (a b : Track) → a.head ≡ b.head → distance_of a.cylinder b.cylinder ≡ 0 → same_track a b ≡ true
+same_head a b head near = let cylinder : a.cylinder ≡ b.cylinder = omega (arith, near) in grind (arith, nat_tests)
+
+-- the move from the nearest track with the target's head takes no more time
+pub nearer_on : (arm : Mechanics) (a b near : Track) (write : Bool) → SeeksRise arm → near.head ≡ b.head → distance_of near.cylinder b.cylinder ≤ distance_of a.cylinder b.cylinder → pos arm near b write ≤ pos arm a b write
+unfolding pos
+nearer_on arm a b near write rises head le = elim (cases_Bool (same_track near b)) [
+  | inl here ↦ rw here (omega arith)
+  | inr away ↦ elim (cases_Bool (same_track a b)) [
+    | inl there ↦ let none = no_distance a b there in let same = same_head near b head (omega (arith, none, le)) in absurd (grind arith)
+    | inr apart ↦
+        let seeks = rises (distance_of near.cylinder b.cylinder) (distance_of a.cylinder b.cylinder) le in
+        let heads : (near.head == b.head) ≡ true = grind (arith, nat_tests) in
+        rw (away, apart, heads) (omega (arith, seeks))
+  ]
+]
+
+pub nearer_there : (arm : Mechanics) (a b near : Track) (write : Bool) → SeeksRise arm → near.head ≡ b.head → distance_of b.cylinder near.cylinder ≤ distance_of b.cylinder a.cylinder → pos arm b near write ≤ pos arm b a write
+unfolding pos
+nearer_there arm a b near write rises head le = elim (cases_Bool (same_track b near)) [
+  | inl here ↦ rw here (omega arith)
+  | inr away ↦ elim (cases_Bool (same_track b a)) [
+    | inl there ↦ let none = no_distance b a there in let same = same_head b near (sym head) (omega (arith, none, le)) in absurd (grind arith)
+    | inr apart ↦
+        let seeks = rises (distance_of b.cylinder near.cylinder) (distance_of b.cylinder a.cylinder) le in
+        let heads : (b.head == near.head) ≡ true = grind (arith, nat_tests) in
+        rw (away, apart, heads) (omega (arith, seeks))
+  ]
+]

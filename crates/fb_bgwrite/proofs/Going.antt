@@ -1,0 +1,202 @@
+-- Gap by gap.
+use Rattle.std.proofs.Common.{Bor, ◌≡◌, ℕ, zero, suc, ◌+◌, ◌*◌, ◌^◌, ◌≤◌, List, [], ◌∷◌, ◌++◌, true, false, Option, Some, None, drop, length, slice_get, not, refl, sym, ap, ap₂, ◌∙◌, subst, arith, inl, inr, append_assoc, append-nil}
+use Rattle.std.specs.List.{AllByRecursion, flat_map, sum_by}
+use Rattle.fb_geometry.specs.Sound.{IsSound}
+use Rattle.fb_geometry.specs.Places.{places}
+use Rattle.fb_service.specs.declared.disk.Disk.{Disk}
+use Rattle.fb_rows.specs.declared.back.GapRow.{GapRow}
+use Rattle.fb_rows.specs.declared.back.BackRow.{BackRow}
+use Rattle.fb_rows.specs.declared.back.BackRow.TheVariants.{Gap as GapLine}
+use Rattle.fb_bgwrite.specs.declared.choice.Spill.{Spill}
+use Rattle.fb_bgwrite.specs.declared.items.SpillItem.{SpillItem}
+use Rattle.fb_bgwrite.specs.declared.puts.Put.{Put}
+use Rattle.fb_bgwrite.specs.declared.puts.Puts.{Puts}
+use Rattle.fb_bgwrite.specs.declared.spilling.Spilling.{Spilling}
+use Rattle.fb_rows.specs.declared.run.Run.{Run}
+use Rattle.fb_model.specs.PlainReplay.{first_track}
+use Rattle.fb_model.specs.Timeline.{timeline, IsPossible}
+use Rattle.fb_bgwrite.specs.Spilled.{left_over, AreGaps, IsInTime, IsSpillRun}
+use Rattle.fb_bgwrite.specs.Rules.{ArePuts}
+use Rattle.fb_bgwrite.specs.Verdict.{accepted}
+use Rattle.fb_bgwrite.specs.Blocks.{PutBlock, put_blocks}
+use Rattle.fb_bgwrite.specs.Gaps.{RunGap, delivers, gaps, HasNoFree}
+use Rattle.fb_bgwrite.specs.Standing.{HasChosen, HasKept, ArePutsOn, IsSpilling}
+use Rattle.fb_bgwrite.specs.Steps.{Step, IsRight, rows_in, step_of, steps}
+use Rattle.fb_bgwrite.proofs.Lists.{all_push, some_one}
+use Rattle.fb_bgwrite.proofs.Amended.{AreFit, all_fit, amended_leads, fit_earlier, kept_is, right_fits}
+use Rattle.fb_bgwrite.proofs.PutBlocks.{all_sectors}
+use Rattle.fb_bgwrite.proofs.Totals.{puts_on}
+
+-- what was done in all gaps but the rest
+pub record HasGone (disk : Disk) (blocks : List PutBlock) (all rest : List RunGap) (items : List SpillItem) : Type 0 where
+  pub spills : List (Option Spill)
+  pub done : List Step
+  pub split : (more : List (Option Spill)) → steps disk blocks [] all (spills ++ more) ≡ done ++ steps disk blocks items rest more
+  pub count : length spills + length rest ≡ length all
+  pub right : AllByRecursion (IsRight disk) done
+  pub rows : items ≡ flat_map (rows_in disk) done
+
+pub none_gone : (disk : Disk) (blocks : List PutBlock) (all : List RunGap) (items : List SpillItem) → items ≡ [] → HasGone disk blocks all all items
+none_gone disk blocks all items none = subst (HasGone disk blocks all all) (sym none) (record { spills = []; done = []; split = λ more. refl; count = omega arith; right = tt; rows = refl })
+
+flat_push : (disk : Disk) (done : List Step) (step : Step) → flat_map (rows_in disk) (done ++ step ∷ []) ≡ flat_map (rows_in disk) done ++ rows_in disk step
+flat_push disk [] step = append-nil (rows_in disk step)
+flat_push disk (x ∷ xs) step = ap (λ ys. rows_in disk x ++ ys) (flat_push disk xs step) ∙ sym (append_assoc (rows_in disk x) (flat_map (rows_in disk) xs) (rows_in disk step))
+
+length_one_more : {X : Type 0} (xs : List X) (x : X) → length (xs ++ x ∷ []) ≡ length xs + 1
+length_one_more [] x = omega arith
+length_one_more (y ∷ ys) x = omega (arith, length_one_more ys x)
+
+pub one_gone : (disk : Disk) (blocks : List PutBlock) (all rest : List RunGap) (items new : List SpillItem) (gap : RunGap) (spill : Option Spill) → IsRight disk (step_of blocks items gap spill) → new ≡ items ++ rows_in disk (step_of blocks items gap spill)
+    → HasGone disk blocks all (gap ∷ rest) items → HasGone disk blocks all rest new
+one_gone disk blocks all rest items new gap spill right rows gone =
+    let step = step_of blocks items gap spill in
+    record {
+      spills = gone.spills ++ spill ∷ [];
+      done = gone.done ++ step ∷ [];
+      split = λ more.
+          ap (steps disk blocks [] all) (append_assoc gone.spills (spill ∷ []) more)
+          ∙ gone.split (spill ∷ more)
+          ∙ ap (λ xs. gone.done ++ step ∷ steps disk blocks xs rest more) (sym rows)
+          ∙ sym (append_assoc gone.done (step ∷ []) (steps disk blocks new rest more));
+      count = omega (arith, gone.count, length_one_more gone.spills spill);
+      right = all_push (IsRight disk) gone.done step gone.right right;
+      rows = rows ∙ ap (λ xs. xs ++ rows_in disk step) gone.rows ∙ sym (flat_push disk gone.done step);
+    }
+
+-- a free gap
+pub free_gone : (disk : Disk) (puts : List Put) (all here rest : List RunGap) (items new : List SpillItem) (row : GapRow) → here ≡ (let gap : RunGap = record { row = row; free = true } in gap) ∷ rest → HasChosen disk puts row items new
+    → HasGone disk (put_blocks disk.map puts) all here items → HasGone disk (put_blocks disk.map puts) all rest new
+free_gone disk puts all here rest items new row split chosen gone =
+    let gap : RunGap = record { row = row; free = true } in
+    one_gone disk (put_blocks disk.map puts) all rest items new gap chosen.spill chosen.chosen chosen.rows (subst (λ gs. HasGone disk (put_blocks disk.map puts) all gs items) split gone)
+
+-- none
+pub busy_gone : (disk : Disk) (blocks : List PutBlock) (all here rest : List RunGap) (items : List SpillItem) → HasNoFree here rest → HasGone disk blocks all here items → HasGone disk blocks all rest items
+busy_gone disk blocks all here rest items busy gone = elim busy [
+  | inl same ↦ subst (λ gs. HasGone disk blocks all gs items) same gone
+  | inr one ↦
+      let gap : RunGap = record { row = one.0; free = false } in
+      one_gone disk blocks all rest items items gap None refl (sym (append-nil items)) (subst (λ gs. HasGone disk blocks all gs items) one.1 gone)
+]
+
+-- ---- rows
+
+pub drop_got : {X : Type 0} (xs : List X) (i : ℕ) (x : X) → slice_get xs i ≡ Some x → drop i xs ≡ x ∷ drop (i + 1) xs
+drop_got [] i x at = absurd (grind arith)
+drop_got (y ∷ ys) zero x at = ap (λ z. z ∷ ys) (some_one y x at)
+drop_got (y ∷ ys) (suc i) x at = drop_got ys i x at ∙ ap (λ n. x ∷ drop n (y ∷ ys)) (let next : suc (i + 1) ≡ suc i + 1 = omega arith in next)
+
+pub past_all : {X : Type 0} (xs : List X) (i : ℕ) → length xs ≤ i → drop i xs ≡ []
+past_all [] zero past = refl
+past_all [] (suc i) past = refl
+past_all (x ∷ xs) zero past = absurd (omega (arith, past))
+past_all (x ∷ xs) (suc i) past = past_all xs i (omega (arith, past))
+
+pub free_from : (rows : List BackRow) (i : ℕ) (row : GapRow) → slice_get rows i ≡ Some (GapLine row) → false ≡ delivers (drop (i + 1) rows) → gaps (drop i rows) ≡ (let gap : RunGap = record { row = row; free = true } in gap) ∷ gaps (drop (i + 1) rows)
+free_from rows i row at none =
+    ap gaps (drop_got rows i (GapLine row) at) ∙ ap (λ b. (let gap : RunGap = record { row = row; free = not b } in gap) ∷ gaps (drop (i + 1) rows)) (sym none)
+
+pub busy_from : (rows : List BackRow) (i : ℕ) (row : GapRow) → slice_get rows i ≡ Some (GapLine row) → true ≡ delivers (drop (i + 1) rows) → HasNoFree (gaps (drop i rows)) (gaps (drop (i + 1) rows))
+busy_from rows i row at some =
+    inr (row, ap gaps (drop_got rows i (GapLine row) at) ∙ ap (λ b. (let gap : RunGap = record { row = row; free = not b } in gap) ∷ gaps (drop (i + 1) rows)) (sym some))
+
+no_gap : (row : BackRow) (rest : List BackRow) → ((own : GapRow) → row ≡ GapLine own → ⊥) → gaps (row ∷ rest) ≡ gaps rest
+no_gap (GapLine own) rest other = absurd (other own refl)
+no_gap (_) rest other = refl
+
+pub other_from : (rows : List BackRow) (i : ℕ) (row : BackRow) → slice_get rows i ≡ Some row → ((own : GapRow) → row ≡ GapLine own → ⊥) → HasNoFree (gaps (drop i rows)) (gaps (drop (i + 1) rows))
+other_from rows i row at other = inl (ap gaps (drop_got rows i row at) ∙ no_gap row (drop (i + 1) rows) other)
+
+-- ---- row by row
+
+-- how far the writing is, before the row of this index
+pub record IsGoing (disk : Disk) (puts : List Put) (rows : List BackRow) (i : ℕ) (now : Spilling) : Type 0 where
+  pub spilling : IsSpilling now
+  pub same_disk : now.disk.now ≡ disk
+  pub same_puts : now.puts.now ≡ puts
+  pub fit : AreFit disk now.instant (gaps (drop i rows))
+  pub gone : HasGone disk (put_blocks disk.map puts) (gaps rows) (gaps (drop i rows)) now.items
+
+pub going_first : (disk : Disk) (puts : List Put) (run : Run) (spilling : Spilling) → IsSound disk.map → IsPossible disk (timeline disk run.back run.fore) run.end → run.end ≤ 9 * 10 ^ 18 → AreGaps disk run.back run.fore
+    → IsSpilling spilling → spilling.disk.now ≡ disk → spilling.puts.now ≡ puts → spilling.instant ≡ 0 → spilling.items ≡ [] → IsGoing disk puts run.back 0 spilling
+going_first disk puts run spilling sound possible early areGaps is same_disk same_puts start none = record {
+  spilling = is;
+  same_disk = same_disk;
+  same_puts = same_puts;
+  fit = subst (λ n. AreFit disk n (gaps run.back)) (sym start) (all_fit disk sound first_track 0 run.end run.back run.fore (record { cylinder = disk.some_cylinders; head = disk.some_heads }) early areGaps possible);
+  gone = none_gone disk (put_blocks disk.map puts) (gaps run.back) spilling.items none;
+}
+
+pub going_busy : (disk : Disk) (puts : List Put) (rows : List BackRow) (i : ℕ) (spilling : Spilling) → HasNoFree (gaps (drop i rows)) (gaps (drop (i + 1) rows)) → IsGoing disk puts rows i spilling → IsGoing disk puts rows (i + 1) spilling
+going_busy disk puts rows i spilling busy going = record {
+  spilling = going.spilling;
+  same_disk = going.same_disk;
+  same_puts = going.same_puts;
+  fit = elim busy [
+    | inl same ↦ subst (AreFit disk spilling.instant) same going.fit
+    | inr one ↦
+        let gap : RunGap = record { row = one.0; free = false } in
+        let fit = subst (AreFit disk spilling.instant) one.1 going.fit in
+        fit_earlier disk gap.row.gap.now spilling.instant (gaps (drop (i + 1) rows)) fit.0 fit.2
+  ];
+  gone = busy_gone disk (put_blocks disk.map puts) (gaps rows) (gaps (drop i rows)) (gaps (drop (i + 1) rows)) spilling.items busy going.gone;
+}
+
+pub going_free : (disk : Disk) (puts : List Put) (rows : List BackRow) (i : ℕ) (row : GapRow) (old new : Spilling) → gaps (drop i rows) ≡ (let gap : RunGap = record { row = row; free = true } in gap) ∷ gaps (drop (i + 1) rows)
+    → IsSpilling new → HasKept old new → new.instant ≡ row.gap.now → HasChosen old.disk.now old.puts.now row old.items new.items → IsGoing disk puts rows i old → IsGoing disk puts rows (i + 1) new
+going_free disk puts rows i row old new split is kept instant chosen going =
+    let fit = subst (AreFit disk old.instant) split going.fit in
+    let here : HasChosen disk puts row old.items new.items = subst (λ d. HasChosen d puts row old.items new.items) going.same_disk (subst (λ ps. HasChosen old.disk.now ps row old.items new.items) going.same_puts chosen) in
+    record {
+      spilling = is;
+      same_disk = ap (λ (d : Bor Disk). d.now) kept.disk ∙ going.same_disk;
+      same_puts = ap (λ (ps : Bor (List Put)). ps.now) kept.puts ∙ going.same_puts;
+      fit = subst (λ n. AreFit disk n (gaps (drop (i + 1) rows))) (sym instant) fit.2;
+      gone = free_gone disk puts (gaps rows) (gaps (drop i rows)) (gaps (drop (i + 1) rows)) old.items new.items row split here going.gone;
+    }
+
+pub going_puts : (disk : Disk) (puts : Puts) (rows : List BackRow) (i : ℕ) (spilling : Spilling) → ArePuts (length (places disk.map)) (accepted puts) → IsGoing disk puts.puts.items rows i spilling → ArePutsOn (length (places spilling.disk.now.map)) spilling.puts.now
+going_puts disk puts rows i spilling are going =
+    subst (λ (d : Disk). ArePutsOn (length (places d.map)) spilling.puts.now) (sym going.same_disk) (subst (ArePutsOn (length (places disk.map))) (sym going.same_puts) (puts_on (length (places disk.map)) (accepted puts) are))
+
+-- ---- the end
+
+no_rows : (disk : Disk) (blocks : List PutBlock) (items : List SpillItem) (rest : List RunGap) → rest ≡ [] → steps disk blocks items rest [] ≡ []
+no_rows disk blocks items [] none = refl
+no_rows disk blocks items (gap ∷ rest) none = absurd (grind arith)
+
+pub all_gone : (disk : Disk) (puts : List Put) (run : Run) (i : ℕ) (spilling : Spilling) → IsSound disk.map → IsPossible disk (timeline disk run.back run.fore) run.end → AreGaps disk run.back run.fore
+    → length run.back ≤ i → IsGoing disk puts run.back i spilling → IsSpillRun disk run puts spilling.items
+all_gone disk puts run i spilling sound possible areGaps past going =
+    let blocks = put_blocks disk.map puts in
+    let gone = going.gone in
+    let none : gaps (drop i run.back) ≡ [] = ap gaps (past_all run.back i past) in
+    let done : steps disk blocks [] (gaps run.back) gone.spills ≡ gone.done =
+    ap (steps disk blocks [] (gaps run.back)) (sym (append-nil gone.spills))
+    ∙ gone.split []
+    ∙ ap (λ xs. gone.done ++ xs) (no_rows disk blocks spilling.items (gaps (drop i run.back)) none)
+    ∙ append-nil gone.done
+    in
+    let each : length gone.spills ≡ length (gaps run.back) = omega (arith, gone.count, ap length none) in
+    let right = subst (AllByRecursion (IsRight disk)) (sym done) gone.right in
+    let fit = right_fits disk sound blocks [] (gaps run.back) gone.spills each right in
+    record {
+      spills = gone.spills;
+      are = record {
+        each = each;
+        right = right;
+        rows = gone.rows ∙ ap (flat_map (rows_in disk)) (sym done);
+        possible = amended_leads disk sound first_track 0 run.end run.back run.fore gone.spills (record { cylinder = disk.some_cylinders; head = disk.some_heads }) areGaps fit possible;
+        keeps = kept_is disk sound run.back run.fore gone.spills areGaps fit;
+      };
+    }
+
+pub all_written : (disk : Disk) (puts : List Put) (rows : List BackRow) (i : ℕ) (spilling : Spilling) → IsGoing disk puts rows i spilling → spilling.written + left_over disk puts spilling.items ≡ sum_by (λ (put : Put). put.count) puts
+all_written disk puts rows i spilling going =
+    let parts = going.spilling.parts ∙ all_sectors spilling.disk.now.map 1 spilling.puts.now in
+    let same : left_over spilling.disk.now spilling.puts.now spilling.items ≡ left_over disk puts spilling.items = ap₂ (λ d ps. left_over d ps spilling.items) going.same_disk going.same_puts in
+    omega (arith, parts, same, ap (λ ps. sum_by (λ (put : Put). put.count) ps) going.same_puts)
+
+pub all_in_time : (disk : Disk) (puts : List Put) (rows : List BackRow) (i : ℕ) (spilling : Spilling) → IsGoing disk puts rows i spilling → AllByRecursion (IsInTime disk puts) spilling.items
+all_in_time disk puts rows i spilling going = subst (λ d. AllByRecursion (IsInTime d puts) spilling.items) going.same_disk (subst (λ ps. AllByRecursion (IsInTime spilling.disk.now ps) spilling.items) going.same_puts going.spilling.in_time)

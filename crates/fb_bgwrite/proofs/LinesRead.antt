@@ -1,0 +1,91 @@
+-- Reading a text goes on after its first line, and what was read obeys the rules.
+use Rattle.std.proofs.Common.{◌≡◌, ℕ, ◌+◌, ◌≤◌, List, [], ◌∷◌, ◌++◌, map, length, Option, None, sym, ap, ◌∙◌, subst, arith, Result, Ok, Err}
+use Rattle.std.specs.List.{AllByRecursion}
+use Rattle.std.proofs.lemmas.List.{map_push, length_push}
+use Rattle.std.proofs.lemmas.Bool.{and_parts, leb-true}
+use Rattle.std.specs.Prelude.{nat_le}
+use Rattle.fb_units.specs.Judging.{◌>>=◌}
+use Rattle.fb_units.specs.Rising.{IsRising}
+use Rattle.fb_bgwrite.specs.declared.fault.PutsFault.{PutsFault}
+use Rattle.fb_bgwrite.specs.declared.fault.PutsError.{PutsError}
+use Rattle.fb_bgwrite.specs.declared.fault.PutsError.TheVariants.{Fault, NoMemory}
+use Rattle.fb_bgwrite.specs.declared.puts.Put.{Put}
+use Rattle.fb_bgwrite.specs.declared.puts.Puts.{Puts}
+use Rattle.fb_bgwrite.specs.declared.range.SectorRange.{SectorRange}
+use Rattle.fb_bgwrite.specs.declared.reader.Reader.{Reader}
+use Rattle.fb_bgwrite.specs.Reading.{Accepted, Progress, Terms, at_end, lines_from, next_progress, range_of, reserve_or_none}
+use Rattle.fb_bgwrite.specs.Reader.{progress, IsNextPut, IsNextReserve, IsReader}
+use Rattle.fb_bgwrite.specs.Rules.{IsPutOf, ArePuts}
+use Rattle.fb_bgwrite.specs.Taken.{AreTaken}
+use Rattle.fb_bgwrite.specs.Verdict.{accepted, Answers}
+use Rattle.fb_bgwrite.proofs.Lists.{all_push, all_weaker}
+use Rattle.fb_bgwrite.proofs.Appending.{rising_push}
+
+module _ (terms : Terms) (number : ℕ) (so_far : Progress) (lines : List (List ℕ)) (whole : Result Accepted PutsFault) where
+  -- after one more line, the rest of the text gives the same result
+  pub read_more : (next : Progress) (line : List ℕ) (rest : List (List ℕ)) → lines ≡ line ∷ rest → next_progress terms number so_far line ≡ Ok next
+      → lines_from terms number so_far lines ≡ whole → lines_from terms (number + 1) next rest ≡ whole
+  unfolding lines_from
+  read_more next line rest split step read =
+      sym (ap (λ r. r >>= (λ p. lines_from terms (number + 1) p rest)) step) ∙ ap (lines_from terms number so_far) (sym split) ∙ read
+
+  -- the fault of a line is the result of the whole text
+  read_fault : (line : List ℕ) (rest : List (List ℕ)) (fault : PutsFault) → lines ≡ line ∷ rest → next_progress terms number so_far line ≡ Err fault
+      → lines_from terms number so_far lines ≡ whole → whole ≡ Err fault
+  unfolding lines_from
+  read_fault line rest fault split step read =
+      sym read ∙ ap (lines_from terms number so_far) split ∙ ap (λ r. r >>= (λ p. lines_from terms (number + 1) p rest)) step
+
+  -- the error of a line that wasn't read is one of the whole text
+  pub read_error : (new : Progress) (line : List ℕ) (rest : List (List ℕ)) (error : PutsError) → lines ≡ line ∷ rest
+      → Answers {A = Unit {0}} (λ _. new) (Err error) (next_progress terms number so_far line) → lines_from terms number so_far lines ≡ whole → Answers accepted (Err error) whole
+  read_error new line rest (Fault fault) split step read = read_fault line rest fault split step read
+  read_error new line rest NoMemory split step read = tt
+
+  -- if no line is left, what was read is the result
+  pub read_end : lines ≡ [] → lines_from terms number so_far lines ≡ whole → whole ≡ Ok (at_end so_far)
+  unfolding lines_from
+  read_end none read = sym read ∙ ap (lines_from terms number so_far) none
+
+-- no put lies in an empty reserve
+nowhere : (put : Put) → IsPutOf (record { first = 0; count = 0 }) put → ⊥
+nowhere put is =
+    let both = and_parts (nat_le 0 put.first) (nat_le (put.first + put.count) 0) is.inside in
+    let none : put.first + put.count ≤ 0 = leb-true (put.first + put.count) 0 both.1 in
+    let some = is.some in
+    omega arith
+
+none_in : (reserve : Option SectorRange) (put : Put) → reserve ≡ None → IsPutOf (reserve_or_none reserve) put → ⊥
+none_in reserve put none is = nowhere put (subst (λ r. IsPutOf (reserve_or_none r) put) none is)
+
+-- one more put
+pub put_kept : (terms : Terms) (old new : Reader) (put : Put) → IsReader terms old → IsNextPut terms (progress old) put → new.reserve ≡ old.reserve → new.instant ≡ put.instant
+    → new.puts.items ≡ old.puts.items ++ put ∷ [] → AreTaken new.ends (map range_of old.puts.items ++ range_of put ∷ []) → IsReader terms new
+put_kept terms old new put is next same_reserve instant puts taken =
+    let old_puts = old.puts.items in
+    let reserve = reserve_or_none old.reserve in
+    let later = next.later in
+    let last = all_weaker (λ i. i ≤ old.instant) (λ i. i ≤ new.instant) (λ i le. omega (arith, le, later, instant)) (map (λ (p : Put). p.instant) old_puts) is.last in
+    let instants : map (λ (p : Put). p.instant) new.puts.items ≡ map (λ (p : Put). p.instant) old_puts ++ put.instant ∷ [] = ap (map (λ (p : Put). p.instant)) puts ∙ map_push (λ (p : Put). p.instant) old_puts put in
+    record {
+      reserve = subst (λ r. IsNextReserve terms (reserve_or_none r)) (sym same_reserve) is.reserve;
+      none = λ none. absurd (none_in old.reserve put (sym same_reserve ∙ none) next.is);
+      each = subst (λ r. AllByRecursion (IsPutOf (reserve_or_none r)) new.puts.items) (sym same_reserve)
+          (subst (AllByRecursion (IsPutOf reserve)) (sym puts) (all_push (IsPutOf reserve) old_puts put is.each next.is));
+      rising = subst IsRising (sym instants) (rising_push (map (λ (p : Put). p.instant) old_puts) put.instant is.rising
+          (all_weaker (λ i. i ≤ old.instant) (λ i. i ≤ put.instant) (λ i le. omega (arith, le, later)) (map (λ (p : Put). p.instant) old_puts) is.last));
+      last = subst (AllByRecursion (λ i. i ≤ new.instant)) (sym instants) (all_push (λ i. i ≤ new.instant) (map (λ (p : Put). p.instant) old_puts) put.instant last (omega (arith, instant)));
+      few = omega (arith, next.few, ap length puts, length_push old_puts put);
+      taken = subst (AreTaken new.ends) (sym (ap (map range_of) puts ∙ map_push range_of old_puts put)) taken;
+    }
+
+-- what was read obeys the rules
+pub rules_kept : (terms : Terms) (reader : Reader) (puts : Puts) → IsReader terms reader → accepted puts ≡ at_end (progress reader) → ArePuts terms.sectors (accepted puts)
+rules_kept terms reader puts is end = subst (ArePuts terms.sectors) (sym end) (record {
+  on_disk = is.reserve.on_disk;
+  few_sectors = is.reserve.few;
+  each = is.each;
+  rising = is.rising;
+  apart = is.taken.apart;
+  few = is.few;
+})

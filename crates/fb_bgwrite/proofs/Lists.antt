@@ -1,0 +1,48 @@
+-- Elements of lists, by their index.
+use Rattle.std.proofs.Common.{◌≡◌, ℕ, zero, suc, List, [], ◌∷◌, ◌++◌, Bool, true, false, Option, Some, None, slice_get, inl, inr, refl, sym, subst, ap, ◌∙◌, arith, rules}
+use Rattle.std.specs.List.{AllByRecursion, list_any}
+use Rattle.std.specs.Option.{IsSome}
+use Rattle.std.proofs.lemmas.Bool.{cases_Bool, true≢false}
+
+pub some_one : {X : Type 0} (x y : X) → Some x ≡ Some y → x ≡ y
+some_one x y e = grind arith
+
+pub all_of : {X : Type 0} (P : X → Type 0) (xs : List X) → ((k : ℕ) (x : X) → slice_get xs k ≡ Some x → P x) → AllByRecursion P xs
+all_of P [] each = tt
+all_of P (x ∷ xs) each = (each 0 x refl, all_of P xs (λ k. each (suc k)))
+
+pub at_all : {X : Type 0} (P : X → Type 0) (xs : List X) (k : ℕ) (x : X) → AllByRecursion P xs → slice_get xs k ≡ Some x → P x
+at_all P [] k x all is = absurd (grind arith)
+at_all P (y ∷ ys) zero x all is = subst P (some_one y x is) all.0
+at_all P (y ∷ ys) (suc k) x all is = at_all P ys k x all.1 is
+
+pub any_at : {X : Type 0} (p : X → Bool) (xs : List X) (k : ℕ) (x : X) → slice_get xs k ≡ Some x → p x ≡ true → list_any p xs ≡ true
+any_at p [] k x is h = absurd (grind arith)
+any_at p (y ∷ ys) zero x is h = let here : p y ≡ true = ap p (some_one y x is) ∙ h in rw here refl
+any_at p (y ∷ ys) (suc k) x is h = elim (cases_Bool (p y)) [
+  | inl here ↦ rw here refl
+  | inr other ↦ rw other (any_at p ys k x is h)
+]
+
+pub none_any : {X : Type 0} (p : X → Bool) (xs : List X) → AllByRecursion (λ x. p x ≡ false) xs → list_any p xs ≡ false
+none_any p [] all = refl
+none_any p (x ∷ xs) all = let here : p x ≡ false = all.0 in rw here (none_any p xs all.1)
+
+pub all_none : {X : Type 0} (p : X → Bool) (xs : List X) → list_any p xs ≡ false → AllByRecursion (λ x. p x ≡ false) xs
+all_none p [] none = tt
+all_none p (x ∷ xs) none = elim (cases_Bool (p x)) [
+  | inl here ↦ absurd (true≢false (sym (let any : list_any p (x ∷ xs) ≡ true = rw here refl in any) ∙ none))
+  | inr other ↦ (other, all_none p xs (let rest : list_any p xs ≡ false = rw other at none in rest))
+]
+
+pub all_push : {X : Type 0} (P : X → Type 0) (xs : List X) (x : X) → AllByRecursion P xs → P x → AllByRecursion P (xs ++ x ∷ [])
+all_push P [] x all h = (h, tt)
+all_push P (y ∷ ys) x all h = (all.0, all_push P ys x all.1 h)
+
+pub all_weaker : {X : Type 0} (P Q : X → Type 0) → ((x : X) → P x → Q x) → (xs : List X) → AllByRecursion P xs → AllByRecursion Q xs
+all_weaker P Q f [] all = tt
+all_weaker P Q f (x ∷ xs) all = (f x all.0, all_weaker P Q f xs all.1)
+
+pub some_there : {X : Type 0} (o : Option X) (x : X) → o ≡ Some x → IsSome o
+some_there None x e = absurd (grind arith)
+some_there (Some y) x e = search rules

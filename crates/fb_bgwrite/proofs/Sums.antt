@@ -1,0 +1,22 @@
+-- Sums over lists.
+use Rattle.std.proofs.Common.{◌≡◌, ℕ, zero, suc, ◌<◌, ◌≤◌, List, [], ◌∷◌, Some, slice_get, subst, sym, arith}
+use Rattle.std.specs.List.{AllByRecursion, sum_by}
+use Rattle.std.proofs.lemmas.List.Sums.{sum_by-cons}
+use Rattle.fb_bgwrite.proofs.Lists.{some_one}
+
+-- no element adds more
+pub sum_le_on : {X : Type 0} (f g : X → ℕ) (xs : List X) → AllByRecursion (λ x. f x ≤ g x) xs → sum_by f xs ≤ sum_by g xs
+sum_le_on f g [] all = omega arith
+sum_le_on f g (x ∷ xs) all = omega (arith, sum_by-cons f x xs, sum_by-cons g x xs, all.0, sum_le_on f g xs all.1)
+
+pub sum_le : {X : Type 0} (f g : X → ℕ) → ((x : X) → f x ≤ g x) → (xs : List X) → sum_by f xs ≤ sum_by g xs
+sum_le f g le [] = omega arith
+sum_le f g le (x ∷ xs) = omega (arith, sum_by-cons f x xs, sum_by-cons g x xs, le x, sum_le f g le xs)
+
+-- and one adds less
+pub sum_less : {X : Type 0} (f g : X → ℕ) → ((x : X) → f x ≤ g x) → (xs : List X) (k : ℕ) (x : X) → slice_get xs k ≡ Some x → f x < g x → sum_by f xs < sum_by g xs
+sum_less f g le [] k x at less = absurd (grind arith)
+sum_less f g le (y ∷ ys) zero x at less =
+    let here : f y < g y = subst (λ z. f z < g z) (sym (some_one y x at)) less in
+    omega (arith, sum_by-cons f y ys, sum_by-cons g y ys, here, sum_le f g le ys)
+sum_less f g le (y ∷ ys) (suc k) x at less = omega (arith, sum_by-cons f y ys, sum_by-cons g y ys, le y, sum_less f g le ys k x at less)

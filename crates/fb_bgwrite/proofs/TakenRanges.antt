@@ -1,0 +1,84 @@
+-- A range shares a sector with one of those that are kept by their ends just if the first of them to end behind its begin does.
+use Rattle.std.proofs.Common.{◌≡◌, ℕ, zero, suc, ◌+◌, ◌-◌, ◌<◌, ◌≤◌, List, [], ◌∷◌, true, false, Some, slice_get, max, min, inl, inr, sym, ap, ◌∙◌, arith}
+use Rattle.std.specs.Prelude.{nat_lt}
+use Rattle.std.specs.List.{list_any}
+use Rattle.std.specs.Ordering.{nat_cmp}
+use Rattle.std.specs.BTreeMap.{BTreeMap, get, ContainsKey}
+use Rattle.std.proofs.lemmas.Bool.{cases_Bool, cases_lt, ltb-true}
+use Rattle.std.proofs.lemmas.Bool.Decides.{nat_tests}
+use Rattle.fb_bgwrite.specs.declared.range.SectorRange.{SectorRange}
+use Rattle.fb_bgwrite.specs.Ranges.{share, AreApart}
+use Rattle.fb_bgwrite.specs.Taken.{AreTaken}
+use Rattle.fb_bgwrite.proofs.Lists.{all_of, at_all, any_at, none_any, some_one, some_there}
+
+pub lt-true : (a b : ℕ) → a < b → nat_lt a b ≡ true
+lt-true a b less = grind (arith, nat_tests)
+
+pub lt-false : (a b : ℕ) → b ≤ a → nat_lt a b ≡ false
+lt-false a b le = grind (arith, nat_tests)
+
+-- what it means to share a sector
+pub record Shares (a b : SectorRange) : Type 0 where
+  pub before : a.first < b.first + b.count
+  pub behind : b.first < a.first + a.count
+  pub some : 0 < a.count
+  pub some_other : 0 < b.count
+
+pub shares_is : (a b : SectorRange) → share a b ≡ true → Shares a b
+shares_is a b is = let less = ltb-true (max a.first b.first) (min (a.first + a.count) (b.first + b.count)) is in record {
+  before = omega (arith, less);
+  behind = omega (arith, less);
+  some = omega (arith, less);
+  some_other = omega (arith, less);
+}
+
+pub is_shares : (a b : SectorRange) → a.first < b.first + b.count → b.first < a.first + a.count → 0 < a.count → 0 < b.count → share a b ≡ true
+is_shares a b before behind some some_other = lt-true (max a.first b.first) (min (a.first + a.count) (b.first + b.count)) (omega arith)
+
+pub not_share : (a b : SectorRange) → (Shares a b → ⊥) → share a b ≡ false
+not_share a b never = elim (cases_Bool (share a b)) [
+  | inl is ↦ absurd (never (shares_is a b is))
+  | inr not' ↦ not'
+]
+
+pub share_either : (a b : SectorRange) → share a b ≡ false → share b a ≡ false
+share_either a b apart = grind (arith, nat_tests)
+
+-- ranges of the list that share a sector are the same
+pub one_of_apart : (ranges : List SectorRange) (i j : ℕ) (a b : SectorRange) → AreApart ranges → slice_get ranges i ≡ Some a → slice_get ranges j ≡ Some b → Shares a b → a ≡ b
+one_of_apart [] i j a b apart at_i at_j shares = absurd (grind arith)
+one_of_apart (r ∷ rs) zero zero a b apart at_i at_j shares = sym (some_one r a at_i) ∙ some_one r b at_j
+one_of_apart (r ∷ rs) zero (suc j) a b apart at_i at_j shares =
+    let off : share r b ≡ false = at_all (λ other. share r other ≡ false) rs j b apart.0 at_j in
+    let on : share r b ≡ true = ap (λ x. share x b) (some_one r a at_i) ∙ is_shares a b shares.before shares.behind shares.some shares.some_other in
+    absurd (grind arith)
+one_of_apart (r ∷ rs) (suc i) zero a b apart at_i at_j shares =
+    let off : share r a ≡ false = at_all (λ other. share r other ≡ false) rs i a apart.0 at_i in
+    let on : share r a ≡ true = ap (λ x. share x a) (some_one r b at_j) ∙ is_shares b a shares.behind shares.before shares.some_other shares.some in
+    absurd (grind arith)
+one_of_apart (r ∷ rs) (suc i) (suc j) a b apart at_i at_j shares = one_of_apart rs i j a b apart.1 at_i at_j shares
+
+module _ (ends : BTreeMap ℕ ℕ) (ranges : List SectorRange) (range : SectorRange) (taken : AreTaken ends ranges) (some : 0 < range.count) where
+  has_end : (k : ℕ) (other : SectorRange) → slice_get ranges k ≡ Some other → ContainsKey nat_cmp ends (other.first + other.count)
+  has_end k other at = some_there (get nat_cmp ends (other.first + other.count)) other.first (at_all (λ r. get nat_cmp ends (r.first + r.count) ≡ Some r.first) ranges k other taken.each at)
+
+  -- none of them ends behind the begin of the range
+  pub none_taken : ((other : ℕ) → ContainsKey nat_cmp ends other → other ≤ range.first) → false ≡ list_any (share range) ranges
+  none_taken before = sym (none_any (share range) ranges (all_of (λ other. share range other ≡ false) ranges (λ k other at.
+      not_share range other (λ shares. let end = before (other.first + other.count) (has_end k other at) in omega (arith, end, shares.before)))))
+
+  -- the first that does begins before the range ends, or not
+  pub first_taken : (end first : ℕ) → get nat_cmp ends end ≡ Some first → range.first < end → ((other : ℕ) → ContainsKey nat_cmp ends other → range.first < other → end ≤ other)
+      → nat_lt first (range.first + range.count) ≡ list_any (share range) ranges
+  first_taken end first has behind least =
+      let its = taken.only end first has in
+      let own : SectorRange = record { first = first; count = end - first } in
+      elim (cases_lt first (range.first + range.count)) [
+        | inl less ↦ lt-true first (range.first + range.count) less ∙ sym (any_at (share range) ranges its.0 own its.1 (is_shares range own (omega (arith, its.2)) less some (omega (arith, its.2))))
+        | inr more ↦ lt-false first (range.first + range.count) more ∙ sym (none_any (share range) ranges (all_of (λ other. share range other ≡ false) ranges (λ k other at.
+            not_share range other (λ shares.
+            let later = least (other.first + other.count) (has_end k other at) shares.before in
+            let same = one_of_apart ranges k its.0 other own taken.apart at its.1 (record { before = omega (arith, shares.behind, its.2); behind = omega (arith, later, its.2, shares.behind); some = shares.some_other; some_other = omega (arith, its.2) }) in
+            let firsts : other.first ≡ first = ap (λ (r : SectorRange). r.first) same in
+            omega (arith, firsts, shares.behind)))))
+      ]

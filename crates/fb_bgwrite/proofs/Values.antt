@@ -1,0 +1,186 @@
+-- The value of a spill is what its stay catches of the registered blocks.
+use Rattle.std.proofs.Common.{◌≡◌, ℕ, zero, suc, ◌+◌, ◌*◌, ◌<◌, ◌≤◌, ◌⊎◌, List, [], ◌∷◌, Bool, true, false, Some, slice_get, max, length, inl, inr, refl, sym, ap, ◌∙◌, subst, arith, if◌then◌else◌, filter}
+use Rattle.std.specs.List.{AllByRecursion, sum_by}
+use Rattle.std.proofs.lemmas.Bool.{cases_Bool, cases_lt}
+use Rattle.std.proofs.lemmas.Bool.Decides.{nat_tests}
+use Rattle.std.proofs.lemmas.List.Sums.{sum_by-cons}
+use Rattle.fb_units.specs.Tracks.{same_track}
+use Rattle.fb_service.specs.declared.disk.Disk.{Disk}
+use Rattle.fb_wanted.specs.declared.block.Block.{Block}
+use Rattle.fb_wanted.specs.declared.block.Entry.{Entry}
+use Rattle.fb_wanted.specs.States.{is_wanted, wanted_of}
+use Rattle.fb_rows.specs.declared.gap.Dwell.{Dwell}
+use Rattle.fb_rows.specs.declared.gap.Gap.{Gap}
+use Rattle.fb_model.specs.Plans.{block_end, catches}
+use Rattle.fb_plan.specs.Ways.{AreOnDisk, FitsDisk}
+use Rattle.fb_plan.proofs.Ends.{end-from-le}
+use Rattle.fb_plan.proofs.Gains.{one_part}
+use Rattle.fb_detour.specs.Bounds.{stay, stay_gain}
+use Rattle.fb_detour.proofs.Ceilings.{and_false}
+use Rattle.fb_bgwrite.specs.declared.choice.Spill.{Spill}
+use Rattle.fb_bgwrite.specs.Spilling.{stay_of, value}
+use Rattle.fb_bgwrite.specs.Choosing.{EndsAt, IsLast, passes}
+use Rattle.fb_bgwrite.proofs.Lists.{all_of, at_all, some_one}
+use Rattle.fb_bgwrite.proofs.Sums.{sum_le_on, sum_less}
+
+abbrev pub AreLight : List Entry → Type 0
+AreLight entries = AllByRecursion (λ entry. entry.block.weight ≡ 1) entries
+
+-- a block that is caught adds its sectors
+adds : (disk : Disk) (dwell : Dwell) (e : Entry) → e.block.weight ≡ 1 → is_wanted e.state ≡ true → catches disk dwell e.block ≡ true → stay_gain disk dwell e ≡ e.block.count
+adds disk dwell e light w y =
+    let one : stay_gain disk dwell e ≡ e.block.weight * e.block.count = rw (w, y) refl in
+    let counts : e.block.weight * e.block.count ≡ 1 * e.block.count = ap (λ n. n * e.block.count) light in
+    omega (arith, one, counts)
+
+sectors_caught : (disk : Disk) (dwell : Dwell) (es : List Entry) → AreLight es
+    → sum_by (λ (b : Block). b.count) (filter (catches disk dwell) (wanted_of es)) ≡ sum_by (stay_gain disk dwell) es
+sectors_caught disk dwell [] light = refl
+sectors_caught disk dwell (e ∷ es) light = elim (cases_Bool (is_wanted e.state)) [
+  | inl w ↦ elim (cases_Bool (catches disk dwell e.block)) [
+    | inl y ↦
+        let left : sum_by (λ (b : Block). b.count) (filter (catches disk dwell) (wanted_of (e ∷ es))) ≡ e.block.count + sum_by (λ (b : Block). b.count) (filter (catches disk dwell) (wanted_of es)) =
+        rw (w, y) (sum_by-cons (λ (b : Block). b.count) e.block (filter (catches disk dwell) (wanted_of es))) in
+        omega (arith, left, sum_by-cons (stay_gain disk dwell) e es, adds disk dwell e light.0 w y, sectors_caught disk dwell es light.1)
+    | inr n ↦
+        let left : sum_by (λ (b : Block). b.count) (filter (catches disk dwell) (wanted_of (e ∷ es))) ≡ sum_by (λ (b : Block). b.count) (filter (catches disk dwell) (wanted_of es)) = rw (w, n) refl in
+        let one : stay_gain disk dwell e ≡ 0 = rw (w, n) refl in
+        omega (arith, left, sum_by-cons (stay_gain disk dwell) e es, one, sectors_caught disk dwell es light.1)
+  ]
+  | inr n ↦
+      let left : sum_by (λ (b : Block). b.count) (filter (catches disk dwell) (wanted_of (e ∷ es))) ≡ sum_by (λ (b : Block). b.count) (filter (catches disk dwell) (wanted_of es)) = rw n refl in
+      let one : stay_gain disk dwell e ≡ 0 = rw n refl in
+      omega (arith, left, sum_by-cons (stay_gain disk dwell) e es, one, sectors_caught disk dwell es light.1)
+]
+
+elsewhere : (disk : Disk) (dwell : Dwell) (e : Entry) → same_track dwell.track e.block.track ≡ false → stay_gain disk dwell e ≡ 0
+elsewhere disk dwell e off = rw (off, and_false (is_wanted e.state)) refl
+
+-- the blocks of other tracks add nothing
+all_add : (disk : Disk) (dwell : Dwell) (es : List Entry) → sum_by (stay_gain disk dwell) es ≡ stay disk dwell es
+unfolding stay
+all_add disk dwell es = one_part (stay_gain disk dwell) (λ e. same_track dwell.track e.block.track) (λ e off. elsewhere disk dwell e off) es
+
+pub value_stay : (disk : Disk) (gap : Gap) (es : List Entry) (spill : Spill) → AreLight es → value disk gap (wanted_of es) spill ≡ stay disk (stay_of disk gap spill) es
+unfolding value
+value_stay disk gap es spill light = sectors_caught disk (stay_of disk gap spill) es light ∙ all_add disk (stay_of disk gap spill) es
+
+-- the same stay up to another instant
+abbrev pub upto : Dwell → ℕ → Dwell
+upto dwell end = record { track = dwell.track; begin = dwell.begin; end = end }
+
+if_le : (a b : Bool) (n : ℕ) → (a ≡ true → b ≡ true) → (if a then n else 0) ≤ (if b then n else 0)
+if_le true b n h = rw (h refl) (omega arith)
+if_le false b n h = omega arith
+
+-- what passes by an earlier instant passes by a later one
+no_less : (disk : Disk) (dwell : Dwell) (a b : ℕ) → a ≤ b → (e : Entry) → stay_gain disk (upto dwell a) e ≤ stay_gain disk (upto dwell b) e
+no_less disk dwell a b le e = if_le (passes disk (upto dwell a) e) (passes disk (upto dwell b) e) (e.block.weight * e.block.count) (λ h. grind (arith, nat_tests))
+
+-- what passes by the end passes by the end of the last passage
+by_last : (disk : Disk) (dwell : Dwell) (last : ℕ) (e : Entry) → (passes disk dwell e ≡ true → block_end disk.map e.block dwell.begin ≤ last) → stay_gain disk dwell e ≤ stay_gain disk (upto dwell last) e
+by_last disk dwell last e ends = if_le (passes disk dwell e) (passes disk (upto dwell last) e) (e.block.weight * e.block.count) (λ h. let end = ends h in grind (arith, nat_tests))
+
+pub as_much_by_last : (disk : Disk) (dwell : Dwell) (entries : List Entry) (worth last : ℕ) → IsLast disk dwell entries worth last
+    → sum_by (stay_gain disk dwell) entries ≤ sum_by (stay_gain disk (upto dwell last)) entries
+as_much_by_last disk dwell entries worth last is =
+    sum_le_on (stay_gain disk dwell) (stay_gain disk (upto dwell last)) entries
+    (all_of (λ e. stay_gain disk dwell e ≤ stay_gain disk (upto dwell last) e) entries (λ k e at. by_last disk dwell last e (λ h. is.each k e at h)))
+
+missed_before : (disk : Disk) (dwell : Dwell) (e : Entry) (leave : ℕ) → leave < block_end disk.map e.block dwell.begin → stay_gain disk (upto dwell leave) e ≡ 0
+missed_before disk dwell e leave less =
+    let late : passes disk (upto dwell leave) e ≡ false = grind (arith, nat_tests) in
+    rw late refl
+
+weighs_some : (disk : Disk) (dwell : Dwell) (e : Entry) → FitsDisk disk e.block → e.block.weight ≡ 1 → passes disk dwell e ≡ true → 0 < stay_gain disk dwell e
+weighs_some disk dwell e fits light passing =
+    let all : stay_gain disk dwell e ≡ e.block.weight * e.block.count = rw passing refl in
+    let counts : e.block.weight * e.block.count ≡ 1 * e.block.count = ap (λ n. n * e.block.count) light in
+    omega (arith, all, counts, fits.some)
+
+-- a stay that ends before the last passage does catches less
+pub less_before_last : (disk : Disk) (dwell : Dwell) (entries : List Entry) (last leave : ℕ) → AreOnDisk disk entries → AreLight entries → EndsAt disk dwell entries last → leave ≤ dwell.end → leave < last
+    → sum_by (stay_gain disk (upto dwell leave)) entries < sum_by (stay_gain disk dwell) entries
+less_before_last disk dwell entries last leave on_disk light is in_time less =
+    let fits = on_disk is.index is.entry is.stands in
+    let weighs = weighs_some disk dwell is.entry fits (at_all (λ (e : Entry). e.block.weight ≡ 1) entries is.index is.entry light is.stands) is.passing in
+    let missed = missed_before disk dwell is.entry leave (omega (arith, is.ends, less)) in
+    sum_less (stay_gain disk (upto dwell leave)) (stay_gain disk dwell) (no_less disk dwell leave dwell.end in_time) entries is.index is.entry is.stands (omega (arith, weighs, missed))
+
+-- ---- the loop
+
+-- the same as IsLast for the first of the entries
+pub record IsLastOf (disk : Disk) (dwell : Dwell) (entries : List Entry) (n worth last : ℕ) : Type 0 where
+  pub from : dwell.begin ≤ last
+  pub upto : last ≤ dwell.end
+  pub each : (i : ℕ) (entry : Entry) → i < n → slice_get entries i ≡ Some entry → passes disk dwell entry ≡ true → block_end disk.map entry.block dwell.begin ≤ last
+  pub reached : ((worth ≡ 0) × (last ≡ dwell.begin)) ⊎ EndsAt disk dwell entries last
+
+pub none_last : (disk : Disk) (dwell : Dwell) (entries : List Entry) → dwell.begin ≤ dwell.end → IsLastOf disk dwell entries 0 0 dwell.begin
+none_last disk dwell entries order = record { from = omega arith; upto = order; each = λ i entry less. absurd (omega (arith, less)); reached = inl (refl, refl) }
+
+within : {X : Type 0} (xs : List X) (i : ℕ) (x : X) → slice_get xs i ≡ Some x → i < length xs
+within [] i x at = absurd (grind arith)
+within (y ∷ ys) zero x at = omega arith
+within (y ∷ ys) (suc i) x at = omega (arith, within ys i x at)
+
+pub all_last : (disk : Disk) (dwell : Dwell) (entries : List Entry) (n worth last : ℕ) → length entries ≤ n → IsLastOf disk dwell entries n worth last → IsLast disk dwell entries worth last
+all_last disk dwell entries n worth last all is = record {
+  from = is.from;
+  upto = is.upto;
+  each = λ i entry at. is.each i entry (omega (arith, within entries i entry at, all)) at;
+  reached = is.reached;
+}
+
+one_entry : (entries : List Entry) (n : ℕ) (a b : Entry) → slice_get entries n ≡ Some a → slice_get entries n ≡ Some b → a ≡ b
+one_entry entries n a b at_a at_b = some_one a b (sym at_a ∙ at_b)
+
+ends_in_time : (disk : Disk) (dwell : Dwell) (e : Entry) → passes disk dwell e ≡ true → block_end disk.map e.block dwell.begin ≤ dwell.end
+ends_in_time disk dwell e passing = grind (arith, nat_tests)
+
+pub more_last : (disk : Disk) (dwell : Dwell) (entries : List Entry) (n worth last new_worth new_last : ℕ) (e : Entry) → slice_get entries n ≡ Some e
+    → new_worth ≡ worth + stay_gain disk dwell e → new_last ≡ (if passes disk dwell e then max last (block_end disk.map e.block dwell.begin) else last)
+    → IsLastOf disk dwell entries n worth last → IsLastOf disk dwell entries (n + 1) new_worth new_last
+more_last disk dwell entries n worth last new_worth new_last e at sum is_new is = elim (cases_Bool (passes disk dwell e)) [
+  | inl yes' ↦
+      let end = block_end disk.map e.block dwell.begin in
+      let new : new_last ≡ max last end = rw yes' at is_new in
+      let in_time = ends_in_time disk dwell e yes' in
+      record {
+        from = omega (arith, new, is.from);
+        upto = omega (arith, new, is.upto, in_time);
+        each = λ i entry less there passing. elim (cases_lt i n) [
+          | inl before ↦ omega (arith, is.each i entry before there passing, new)
+          | inr here ↦
+              let same : i ≡ n = omega (arith, less, here) in
+              let own = one_entry entries n e entry at (subst (λ k. slice_get entries k ≡ Some entry) same there) in
+              omega (arith, ap (λ (x : Entry). block_end disk.map x.block dwell.begin) own, new)
+        ];
+        reached = elim (cases_lt last end) [
+          | inl later ↦ inr (record { index = n; entry = e; stands = at; passing = yes'; ends = omega (arith, new, later) })
+          | inr earlier ↦ elim is.reached [
+            | inl none ↦ inr (record { index = n; entry = e; stands = at; passing = yes'; ends = omega (arith, new, earlier, none.1, end-from-le disk.map e.block dwell.begin) })
+            | inr some ↦ inr (record { index = some.index; entry = some.entry; stands = some.stands; passing = some.passing; ends = omega (arith, some.ends, new, earlier) })
+          ]
+        ];
+      }
+  | inr no' ↦
+      let new : new_last ≡ last = rw no' at is_new in
+      let none : stay_gain disk dwell e ≡ 0 = rw no' refl in
+      record {
+        from = omega (arith, new, is.from);
+        upto = omega (arith, new, is.upto);
+        each = λ i entry less there passing. elim (cases_lt i n) [
+          | inl before ↦ omega (arith, is.each i entry before there passing, new)
+          | inr here ↦
+              let same : i ≡ n = omega (arith, less, here) in
+              let own = one_entry entries n e entry at (subst (λ k. slice_get entries k ≡ Some entry) same there) in
+              let both : passes disk dwell e ≡ true = ap (passes disk dwell) own ∙ passing in
+              absurd (grind arith)
+        ];
+        reached = elim is.reached [
+          | inl nothing ↦ inl (omega (arith, sum, none, nothing.0), omega (arith, new, nothing.1))
+          | inr some ↦ inr (record { index = some.index; entry = some.entry; stands = some.stands; passing = some.passing; ends = omega (arith, some.ends, new) })
+        ];
+      }
+]

@@ -1,0 +1,238 @@
+-- One more row: which blocks are pending after it, and how many sectors are left.
+use Rattle.std.proofs.Common.{◌≡◌, ℕ, zero, suc, ◌+◌, ◌<◌, ◌≤◌, List, [], ◌∷◌, ◌++◌, Bool, true, false, ◌&&◌, ◌||◌, not, Some, slice_get, map, refl, sym, ap, ap₂, ◌∙◌, subst, arith, inl, inr, if◌then◌else◌}
+use Rattle.std.specs.Prelude.{◌==◌, filter, nat_le}
+use Rattle.std.specs.List.{AllByRecursion, list_any}
+use Rattle.std.proofs.lemmas.Bool.{cases_Bool, true≢false, and_parts, eqb-true}
+use Rattle.std.proofs.lemmas.Bool.Decides.{nat_tests}
+use Rattle.std.proofs.lemmas.List.Folds.{list_any-append}
+use Rattle.std.proofs.lemmas.List.Sums.{sum_by-cons}
+use Rattle.fb_wanted.specs.declared.block.Block.{Block}
+use Rattle.fb_wanted.specs.declared.block.Entry.{Entry}
+use Rattle.fb_wanted.specs.declared.block.State.{State}
+use Rattle.fb_wanted.specs.declared.block.State.TheVariants.{Wanted, Delivered}
+use Rattle.fb_wanted.specs.declared.block.Change.TheVariants.{Deliver}
+use Rattle.fb_wanted.specs.States.{after, entry_after, wanted_of}
+use Rattle.fb_bgwrite.specs.declared.items.SpillItem.{SpillItem}
+use Rattle.fb_bgwrite.specs.declared.items.SpillItem.TheVariants.{Spill as SpillLine, Wrote as WroteLine}
+use Rattle.fb_bgwrite.specs.declared.items.SpillRow.{SpillRow}
+use Rattle.fb_bgwrite.specs.declared.items.WroteRow.{WroteRow}
+use Rattle.fb_bgwrite.specs.Blocks.{PutBlock, is_pending, is_written, pending, sectors, writes}
+use Rattle.fb_bgwrite.specs.Spilled.{AreOnce, IsElsewhere}
+use Rattle.fb_bgwrite.specs.Standing.{entry_of}
+use Rattle.fb_bgwrite.proofs.Lists.{all_push, some_one}
+use Rattle.fb_bgwrite.proofs.PutBlocks.{its_blocks, AreInOrder, IsBefore}
+
+-- ---- blocks that are told apart
+
+-- neither by index nor by sector is it the same block
+pub record IsOther (a b : Block) : Type 0 where
+  pub by_index : (a.task == b.task) && (a.index == b.index) ≡ false
+  pub by_lbn : (b.task == a.task) && (b.lbn == a.lbn) ≡ false
+  pub turned : (a.task == b.task) && (a.lbn == b.lbn) ≡ false
+
+pub before_other : (a b : Block) → IsBefore a b → IsOther a b
+before_other a b is = elim is.order [
+  | inl less ↦ record { by_index = grind (arith, nat_tests); by_lbn = grind (arith, nat_tests); turned = grind (arith, nat_tests) }
+  | inr same ↦
+      let index = same.1 in
+      let lbn = same.2 in
+      record { by_index = grind (arith, nat_tests); by_lbn = grind (arith, nat_tests); turned = grind (arith, nat_tests) }
+]
+
+pub behind_other : (a b : Block) → IsBefore b a → IsOther a b
+behind_other a b is = elim is.order [
+  | inl less ↦ record { by_index = grind (arith, nat_tests); by_lbn = grind (arith, nat_tests); turned = grind (arith, nat_tests) }
+  | inr same ↦
+      let index = same.1 in
+      let lbn = same.2 in
+      record { by_index = grind (arith, nat_tests); by_lbn = grind (arith, nat_tests); turned = grind (arith, nat_tests) }
+]
+
+module _ (items : List SpillItem) (row : WroteRow) (block : Block) (put_is : row.put ≡ block.task) (lbn_is : row.lbn ≡ block.lbn) where
+  abbrev more : List SpillItem
+  more = items ++ WroteLine row ∷ []
+
+  -- the row tells of no other block
+  not_told : (other : Block) → IsOther other block → writes other (WroteLine row) ≡ false
+  not_told other is = let off = is.by_lbn in grind (arith, nat_tests)
+
+  pub told : writes block (WroteLine row) ≡ true
+  told = grind (arith, nat_tests)
+
+  tail : (p : SpillItem → Bool) (item : SpillItem) (a : Bool) → p item ≡ false → (a || list_any p (item ∷ [])) ≡ a
+  tail p item true off = refl
+  tail p item false off = rw off refl
+
+  as_before : (other : Block) → IsOther other block → is_written more other ≡ is_written items other
+  as_before other is = list_any-append (writes other) items (WroteLine row ∷ []) ∙ tail (writes other) (WroteLine row) (is_written items other) (not_told other is)
+
+  tail_on : (p : SpillItem → Bool) (item : SpillItem) (a : Bool) → p item ≡ true → (a || list_any p (item ∷ [])) ≡ true
+  tail_on p item true on = refl
+  tail_on p item false on = rw on refl
+
+  now_written : is_written more block ≡ true
+  now_written = list_any-append (writes block) items (WroteLine row ∷ []) ∙ tail_on (writes block) (WroteLine row) (is_written items block) told
+
+  -- ---- registered blocks
+
+  neither : (a b : Bool) (state : State) → a && b ≡ false → (if a then (if b then Delivered else state) else state) ≡ state
+  neither true true state off = absurd (true≢false off)
+  neither true false state off = refl
+  neither false b state off = refl
+
+  deliver_other : (put : PutBlock) → IsOther put.block block → entry_after block.task (Deliver block.index) (entry_of items put) ≡ entry_of more put
+  deliver_other put is =
+      let state : State = if is_written items put.block then Delivered else Wanted in
+      let kept : (if put.block.task == block.task then (if put.block.index == block.index then Delivered else state) else state) ≡ state = neither (put.block.task == block.task) (put.block.index == block.index) state is.by_index in
+      ap (λ s. let e : Entry = record { block = put.block; state = s } in e) kept
+      ∙ ap (λ b. let e : Entry = record { block = put.block; state = if b then Delivered else Wanted } in e) (sym (as_before put.block is))
+
+  itself : (n : ℕ) → (n == n) ≡ true
+  itself n = grind (arith, nat_tests)
+
+  both : (a b : Bool) (state : State) → a ≡ true → b ≡ true → (if a then (if b then Delivered else state) else state) ≡ Delivered
+  both a b state on_a on_b = rw (on_a, on_b) refl
+
+  deliver_own : (put : PutBlock) → put.block ≡ block → entry_after block.task (Deliver block.index) (entry_of items put) ≡ entry_of more put
+  deliver_own put same =
+      let state : State = if is_written items put.block then Delivered else Wanted in
+      let task : (put.block.task == block.task) ≡ true = ap (λ (b : Block). b.task == block.task) same ∙ itself block.task in
+      let index : (put.block.index == block.index) ≡ true = ap (λ (b : Block). b.index == block.index) same ∙ itself block.index in
+      ap (λ s. let e : Entry = record { block = put.block; state = s } in e) (both (put.block.task == block.task) (put.block.index == block.index) state task index)
+      ∙ ap (λ b. let e : Entry = record { block = put.block; state = if b then Delivered else Wanted } in e) (sym (ap (is_written more) same ∙ now_written))
+
+  others_delivered : (puts : List PutBlock) → AllByRecursion (λ (put : PutBlock). IsOther put.block block) puts → map (entry_after block.task (Deliver block.index)) (map (entry_of items) puts) ≡ map (entry_of more) puts
+  others_delivered [] all = refl
+  others_delivered (put ∷ puts) all = ap₂ (λ e es. e ∷ es) (deliver_other put all.0) (others_delivered puts all.1)
+
+  all_behind : (own : PutBlock) (puts : List PutBlock) → own.block ≡ block → AllByRecursion (λ other. IsBefore own.block other.block) puts → AllByRecursion (λ (put : PutBlock). IsOther put.block block) puts
+  all_behind own [] same all = tt
+  all_behind own (put ∷ puts) same all = (behind_other put.block block (subst (λ b. IsBefore b put.block) same all.0), all_behind own puts same all.1)
+
+  is_behind : (put : PutBlock) (puts : List PutBlock) (i : ℕ) (own : PutBlock) → slice_get puts i ≡ Some own → own.block ≡ block → AllByRecursion (λ other. IsBefore put.block other.block) puts → IsOther put.block block
+  is_behind put [] i own at same all = absurd (grind arith)
+  is_behind put (p ∷ puts) zero own at same all = before_other put.block block (subst (λ b. IsBefore put.block b) (ap (λ (q : PutBlock). q.block) (some_one p own at) ∙ same) all.0)
+  is_behind put (p ∷ puts) (suc i) own at same all = is_behind put puts i own at same all.1
+
+  pub delivered : (puts : List PutBlock) (i : ℕ) (own : PutBlock) → AreInOrder puts → slice_get puts i ≡ Some own → own.block ≡ block
+      → after block.task (Deliver block.index) (map (entry_of items) puts) ≡ map (entry_of more) puts
+  delivered [] i own order at same = absurd (grind arith)
+  delivered (put ∷ puts) zero own order at same =
+      let its : put.block ≡ block = ap (λ (q : PutBlock). q.block) (some_one put own at) ∙ same in
+      ap₂ (λ e es. e ∷ es) (deliver_own put its) (others_delivered puts (all_behind put puts its order.0))
+  delivered (put ∷ puts) (suc i) own order at same = ap₂ (λ e es. e ∷ es) (deliver_other put (is_behind put puts i own at same order.0)) (delivered puts i own order.1 at same)
+
+  -- ---- sectors that are left
+
+  abbrev left_in : List SpillItem → List PutBlock → ℕ
+  left_in rows puts = sectors (filter (λ b. not (is_written rows b)) (its_blocks puts))
+
+  left_other : (put : PutBlock) (puts : List PutBlock) (gone : ℕ) → IsOther put.block block → left_in more puts + gone ≡ left_in items puts → left_in more (put ∷ puts) + gone ≡ left_in items (put ∷ puts)
+  left_other put puts gone is rest = elim (cases_Bool (is_written items put.block)) [
+    | inl yes' ↦
+        let now : is_written more put.block ≡ true = as_before put.block is ∙ yes' in
+        rw (now, yes') rest
+    | inr no' ↦
+        let now : is_written more put.block ≡ false = as_before put.block is ∙ no' in
+        rw (now, no') (omega (arith, sum_by-cons (λ (b : Block). b.count) put.block (filter (λ b. not (is_written more b)) (its_blocks puts)), sum_by-cons (λ (b : Block). b.count) put.block (filter (λ b. not (is_written items b)) (its_blocks puts)), rest))
+  ]
+
+  others_left : (puts : List PutBlock) → AllByRecursion (λ (put : PutBlock). IsOther put.block block) puts → left_in more puts + 0 ≡ left_in items puts
+  others_left [] all = refl
+  others_left (put ∷ puts) all = left_other put puts 0 all.0 (others_left puts all.1)
+
+  pub left_less : (puts : List PutBlock) (i : ℕ) (own : PutBlock) → AreInOrder puts → slice_get puts i ≡ Some own → own.block ≡ block → is_written items block ≡ false → left_in more puts + block.count ≡ left_in items puts
+  left_less [] i own order at same unwritten = absurd (grind arith)
+  left_less (put ∷ puts) zero own order at same unwritten =
+      let its : put.block ≡ block = ap (λ (q : PutBlock). q.block) (some_one put own at) ∙ same in
+      let rest = others_left puts (all_behind put puts its order.0) in
+      let now : is_written more put.block ≡ true = ap (is_written more) its ∙ now_written in
+      let before : is_written items put.block ≡ false = ap (is_written items) its ∙ unwritten in
+      rw (now, before) (omega (arith, sum_by-cons (λ (b : Block). b.count) put.block (filter (λ b. not (is_written items b)) (its_blocks puts)), rest, ap (λ (b : Block). b.count) its))
+  left_less (put ∷ puts) (suc i) own order at same unwritten = left_other put puts block.count (is_behind put puts i own at same order.0) (left_less puts i own order.1 at same unwritten)
+
+  -- ---- once
+
+  same_told : (other : Block) (own : WroteRow) → writes other (WroteLine row) ≡ true → writes block (WroteLine own) ≡ false → writes other (WroteLine own) ≡ false
+  same_told other own on off =
+      let parts = and_parts (row.put == other.task) (row.lbn == other.lbn) on in
+      let task : other.task ≡ block.task = sym (eqb-true row.put other.task parts.0) ∙ put_is in
+      let lbn : other.lbn ≡ block.lbn = sym (eqb-true row.lbn other.lbn parts.1) ∙ lbn_is in
+      ap₂ (λ t l. (own.put == t) && (own.lbn == l)) task lbn ∙ off
+
+  elsewhere_more : (item : SpillItem) (rows : List SpillItem) → writes block item ≡ false → IsElsewhere item rows → IsElsewhere item (rows ++ WroteLine row ∷ [])
+  elsewhere_more (SpillLine stay) rows off is = tt
+  elsewhere_more (WroteLine own) rows off is = all_push (λ item. (other : Block) → writes other item ≡ true → writes other (WroteLine own) ≡ false) rows (WroteLine row) is (λ other on. same_told other own on off)
+
+  pub once_more : (rows : List SpillItem) → AllByRecursion (λ item. writes block item ≡ false) rows → AreOnce rows → AreOnce (rows ++ WroteLine row ∷ [])
+  once_more [] off once = (tt, tt)
+  once_more (item ∷ rows) off once = (elsewhere_more item rows off.0 once.0, once_more rows off.1 once.1)
+
+none : (a : Bool) → (a || false) ≡ a
+none true = refl
+none false = refl
+
+-- a stay writes nothing
+pub stay_writes : (items : List SpillItem) (row : SpillRow) (block : Block) → is_written (items ++ SpillLine row ∷ []) block ≡ is_written items block
+stay_writes items row block = list_any-append (writes block) items (SpillLine row ∷ []) ∙ none (is_written items block)
+
+pub stay_registered : (items : List SpillItem) (row : SpillRow) (puts : List PutBlock) → map (entry_of (items ++ SpillLine row ∷ [])) puts ≡ map (entry_of items) puts
+stay_registered items row [] = refl
+stay_registered items row (put ∷ puts) =
+    ap₂ (λ e es. e ∷ es) (ap (λ b. let e : Entry = record { block = put.block; state = if b then Delivered else Wanted } in e) (stay_writes items row put.block)) (stay_registered items row puts)
+
+pub stay_left : (items : List SpillItem) (row : SpillRow) (puts : List PutBlock)
+    → sectors (filter (λ b. not (is_written (items ++ SpillLine row ∷ []) b)) (its_blocks puts)) ≡ sectors (filter (λ b. not (is_written items b)) (its_blocks puts))
+stay_left items row [] = refl
+stay_left items row (put ∷ puts) = elim (cases_Bool (is_written items put.block)) [
+  | inl yes' ↦
+      let now : is_written (items ++ SpillLine row ∷ []) put.block ≡ true = stay_writes items row put.block ∙ yes' in
+      rw (now, yes') (stay_left items row puts)
+  | inr no' ↦
+      let now : is_written (items ++ SpillLine row ∷ []) put.block ≡ false = stay_writes items row put.block ∙ no' in
+      rw (now, no') (omega (arith, sum_by-cons (λ (b : Block). b.count) put.block (filter (λ b. not (is_written (items ++ SpillLine row ∷ []) b)) (its_blocks puts)), sum_by-cons (λ (b : Block). b.count) put.block (filter (λ b. not (is_written items b)) (its_blocks puts)), stay_left items row puts))
+]
+
+elsewhere_stay : (item : SpillItem) (rows : List SpillItem) (row : SpillRow) → IsElsewhere item rows → IsElsewhere item (rows ++ SpillLine row ∷ [])
+elsewhere_stay (SpillLine stay) rows row is = tt
+elsewhere_stay (WroteLine own) rows row is = all_push (λ item. (other : Block) → writes other item ≡ true → writes other (WroteLine own) ≡ false) rows (SpillLine row) is (λ other on. absurd (true≢false (sym on)))
+
+pub once_stay : (rows : List SpillItem) (row : SpillRow) → AreOnce rows → AreOnce (rows ++ SpillLine row ∷ [])
+once_stay [] row once = (tt, tt)
+once_stay (item ∷ rows) row once = (elsewhere_stay item rows row once.0, once_stay rows row once.1)
+
+-- ---- the pending blocks are the registered ones that are wanted
+
+module _ (items : List SpillItem) (now : ℕ) where
+  come_pending : (puts : List PutBlock) → AllByRecursion (λ (put : PutBlock). put.instant ≤ now) puts → wanted_of (map (entry_of items) puts) ≡ its_blocks (filter (is_pending items now) puts)
+  come_pending [] come = refl
+  come_pending (put ∷ puts) come =
+      let in_time : nat_le put.instant now ≡ true = let le = come.0 in grind (arith, nat_tests) in
+      elim (cases_Bool (is_written items put.block)) [
+        | inl yes' ↦ rw (yes', in_time) (come_pending puts come.1)
+        | inr no' ↦ rw (no', in_time) (ap (λ bs. put.block ∷ bs) (come_pending puts come.1))
+      ]
+
+  none_pending : (puts : List PutBlock) → AllByRecursion (λ (put : PutBlock). now < put.instant) puts → filter (is_pending items now) puts ≡ []
+  none_pending [] later = refl
+  none_pending (put ∷ puts) later =
+      let early : nat_le put.instant now ≡ false = let less = later.0 in grind (arith, nat_tests) in
+      rw early (none_pending puts later.1)
+
+  filter_append : (xs ys : List PutBlock) → filter (is_pending items now) (xs ++ ys) ≡ filter (is_pending items now) xs ++ filter (is_pending items now) ys
+  filter_append [] ys = refl
+  filter_append (x ∷ xs) ys = elim (cases_Bool (is_pending items now x)) [
+    | inl yes' ↦ rw yes' (ap (λ zs. x ∷ zs) (filter_append xs ys))
+    | inr no' ↦ rw no' (filter_append xs ys)
+  ]
+
+  append_nil : {X : Type 0} (xs : List X) → xs ++ [] ≡ xs
+  append_nil [] = refl
+  append_nil (x ∷ xs) = ap (λ ys. x ∷ ys) (append_nil xs)
+
+  pub pending_is : (all first rest : List PutBlock) → all ≡ first ++ rest → AllByRecursion (λ (put : PutBlock). put.instant ≤ now) first → AllByRecursion (λ (put : PutBlock). now < put.instant) rest
+      → wanted_of (map (entry_of items) first) ≡ pending all items now
+  unfolding pending
+  pending_is all first rest split come later =
+      come_pending first come
+      ∙ ap its_blocks (sym (append_nil (filter (is_pending items now) first)) ∙ ap (λ xs. filter (is_pending items now) first ++ xs) (sym (none_pending rest later)) ∙ sym (filter_append first rest) ∙ ap (filter (is_pending items now)) (sym split))

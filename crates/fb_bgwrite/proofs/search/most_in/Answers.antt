@@ -1,0 +1,23 @@
+use Rattle.std.proofs.Common.{arith, subst}
+use Rattle.fb_geometry.specs.Sound.{IsSound, HasOwnPlaces}
+use Rattle.fb_bgwrite.proofs.Depths.{there_is_time, value_by_weight, value_in_time}
+use Rattle.fb_bgwrite.proofs.search.most_in.Goals as goal
+
+pub returns-then-gap-back : goal.returns-then-gap-back
+returns-then-gap-back c = λ spill low high is.
+    let moves = c.least_moves-moves in
+    let late = there_is_time c.args.disk.now c.args.gap.now c.args.pending.now c.requires.blocks (subst IsSound c.geometry.ensures c.sound.ensures) (subst HasOwnPlaces c.geometry-2.ensures c.own_places.ensures)
+    c.args.from c.args.end moves.result moves.ensures.least spill low high is in
+    absurd (omega (arith, late))
+
+pub returns : goal.returns
+returns c = λ spill low high is.
+    let moves = c.least_moves-moves in
+    let disk = c.args.disk.now in
+    let gap = c.args.gap.now in
+    let entries = c.args.pending.now in
+    let sound = subst IsSound c.geometry.ensures c.sound.ensures in
+    let own = subst HasOwnPlaces c.geometry-2.ensures c.own_places.ensures in
+    let weight = value_by_weight disk gap entries c.requires.blocks sound own c.args.from c.args.end moves.result moves.ensures.least spill low high is c.greatest_weight_in-weight.result (c.greatest_weight_in-weight.ensures.each spill.track low high) in
+    let time = value_in_time disk gap entries c.requires.blocks sound own c.args.from c.args.end moves.result moves.ensures.least spill low high is c.most_in_time.result (c.most_in_time.ensures spill.track.cylinder low high) in
+    omega (arith, weight, time, c.min.ensures)

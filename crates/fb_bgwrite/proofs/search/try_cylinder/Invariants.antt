@@ -1,0 +1,11 @@
+use Rattle.std.proofs.Common.{◌<◌, ℕ}
+use Rattle.fb_wanted.specs.States.{wanted_of}
+use Rattle.fb_bgwrite.specs.Choosing.{BeatsOn, IsValuedIf, Keeps}
+use Rattle.fb_bgwrite.proofs.search.try_cylinder.Given as goal
+
+abbrev pub invariant-loop-head : goal.invariant-loop-head
+invariant-loop-head l = record {
+  valued : IsValuedIf l.disk l.gap (wanted_of l.pending) l.best;
+  keeps : Keeps l.disk l.gap (wanted_of l.pending) l.initial.best l.best;
+  tried : (head : ℕ) → head < l.head → BeatsOn l.disk l.gap (wanted_of l.pending) l.best (record { cylinder = l.cylinder; head = head });
+}

@@ -1,0 +1,30 @@
+use Rattle.std.proofs.Common.{◌≡◌, ◌∷◌, ◌++◌, ◌≤◌, slice_get, take, ap, sym, ◌∙◌, arith}
+use Rattle.std.specs.List.{slice_index_or}
+use Rattle.std.proofs.lemmas.Option.{slice_get-get_or}
+use Rattle.fb_rows.specs.declared.gap.Dwell.{Dwell}
+use Rattle.fb_wanted.specs.States.{wanted_of}
+use Rattle.fb_plan.specs.declared.catching.Catch.{Catch}
+use Rattle.fb_plan.specs.Order.{caught_of}
+use Rattle.fb_bgwrite.specs.declared.items.SpillItem.TheVariants.{Spill as SpillLine}
+use Rattle.fb_bgwrite.specs.Steps.{spill_row}
+use Rattle.fb_bgwrite.proofs.Admitting.{are_pending}
+use Rattle.fb_bgwrite.proofs.Catching.{to_write, wrote_rows}
+use Rattle.fb_bgwrite.proofs.spilling.Spilling.write.Goals as goal
+
+pub caught-requires-clause-blocks : goal.caught-requires-clause-blocks
+caught-requires-clause-blocks c = (are_pending c.args.self.now c.requires.spilling c.requires.puts).on_disk
+
+pub write_block-requires-clause-pending : goal.write_block-requires-clause-pending
+write_block-requires-clause-pending c =
+    let old = c.args.self.now in
+    let row = c.args.row.now in
+    let l = c.loop-catch in
+    let stay = c.stay_of-stay in
+    let items = c.deref-catch-items.result.now in
+    let none : Catch = record { block = record { task = 0; index = 0; lbn = 0; count = 0; track = record { cylinder = 0; head = 0 }; weight = 0 }; begin = 0; end = 0 } in
+    let catch = slice_index_or items l.catch-index none in
+    let are : items ≡ caught_of old.disk.now stay.result (wanted_of old.pending) = c.deref-catch-items.ensures.value ∙ c.in_ok-found.ensures.all in
+    let at = ap (λ xs. slice_get xs l.catch-index) (sym are) ∙ slice_get-get_or items l.catch-index none c.loop-catch-test.true in
+    let begin : old.instant ≤ stay.result.begin = omega (arith, c.requires.come, ap (λ (d : Dwell). d.begin) stay.ensures.stay) in
+    to_write old l.self stay.result (spill_row old.disk.now row c.args.spill) l.catch-index catch c.requires.spilling c.requires.puts begin l.invariant.kept l.invariant.admitted at
+    (l.invariant.items ∙ ap (λ xs. old.items ++ SpillLine (spill_row old.disk.now row c.args.spill) ∷ wrote_rows (take l.catch-index xs)) are)

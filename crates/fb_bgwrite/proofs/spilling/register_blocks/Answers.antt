@@ -1,0 +1,32 @@
+use Rattle.std.proofs.Common.{◌+◌, ◌-◌, length, refl, sym, ap, ◌∙◌, arith}
+use Rattle.std.proofs.lemmas.List.{length_push}
+use Rattle.fb_sectormap.specs.Cutting.{cutting}
+use Rattle.fb_wanted.specs.declared.block.Block.{Block}
+use Rattle.fb_wanted.specs.Numbering.{blocks_of, registered}
+use Rattle.fb_bgwrite.specs.Standing.{wanted_entry}
+use Rattle.fb_bgwrite.proofs.Admitting.{cut_more, none_left, one_counted, registered_few}
+use Rattle.fb_bgwrite.proofs.spilling.register_blocks.Goals as goal
+
+pub loop-left-init : goal.loop-left-init
+loop-left-init c = record { all = refl; next = sym c.requires.none; within = refl; span = c.span-span.ensures.span; few = c.requires.room }
+
+pub overflow_add-index : goal.overflow_add-index
+overflow_add-index c = omega (arith, c.loop-left.invariant.next, c.loop-left.invariant.few, registered_few c.args.number c.loop-left.pending)
+
+pub loop-left-preserved : goal.loop-left-preserved
+loop-left-preserved c =
+    let cut = c.next_cut-cut.result in
+    let before = c.loop-left.pending in
+    let block = c.block_of.result in
+    let rest = cutting c.args.sectors.now 2048 (c.loop-left.lbn + cut.count) (c.loop-left.left - cut.count) in
+    let is = c.in_ok-register.ensures.ok in
+    record {
+      all = cut_more c.args.number c.loop-left.index before c.register.new.self cut (cutting c.args.sectors.now 2048 c.loop-left.lbn c.loop-left.left) rest block c.next_cut-cut.ensures.first c.block_of.ensures is ∙ c.loop-left.invariant.all;
+      next = omega (arith, c.loop-left.invariant.next, ap (λ es. registered c.args.number (blocks_of es)) is, one_counted c.args.number before (wanted_entry block) (ap (λ (b : Block). b.task) c.block_of.ensures));
+      within = omega (arith, c.next_cut-cut.ensures.within, c.loop-left.invariant.within);
+      span = c.next_cut-cut.ensures.span;
+      few = omega (arith, c.loop-left.invariant.few, ap length is, length_push before (wanted_entry block), c.next_cut-cut.ensures.within, c.next_cut-cut.ensures.some);
+    }
+
+pub returns : goal.returns
+returns c = none_left c.args.sectors.now c.args.number c.loop-left.index c.loop-left.lbn c.loop-left.left c.loop-left.pending (omega (arith, c.loop-left-test.false)) ∙ c.loop-left.invariant.all

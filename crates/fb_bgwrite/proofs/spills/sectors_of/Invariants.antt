@@ -1,0 +1,7 @@
+use Rattle.std.proofs.Common.{◌≡◌, take}
+use Rattle.std.specs.List.{sum_by}
+use Rattle.fb_bgwrite.specs.declared.puts.Put.{Put}
+use Rattle.fb_bgwrite.proofs.spills.sectors_of.Given as goal
+
+abbrev pub invariant-loop-put : goal.invariant-loop-put
+invariant-loop-put l = l.sectors ≡ sum_by (λ (put : Put). put.count) (take l.put-index l.puts)

@@ -1,0 +1,102 @@
+-- The search for the best spill of a gap: what is known of the best so far.
+use Rattle.std.specs.Prelude.{◌≡◌, ◌⊎◌, ℕ, ◌*◌, ◌^◌, ◌<◌, ◌≤◌, List, Bool, true, ◌&&◌, map, Option, Some, None, slice_get}
+use Rattle.std.specs.List.{AllByRecursion}
+use Rattle.fb_units.specs.declared.types.Track.{Track}
+use Rattle.fb_geometry.specs.Shape.{IsTrackOf}
+use Rattle.fb_seek.specs.Positioning.{pos}
+use Rattle.fb_service.specs.declared.disk.Disk.{Disk}
+use Rattle.fb_wanted.specs.declared.block.Block.{Block}
+use Rattle.fb_wanted.specs.declared.block.Entry.{Entry}
+use Rattle.fb_wanted.specs.States.{is_wanted}
+use Rattle.fb_rows.specs.declared.gap.Dwell.{Dwell}
+use Rattle.fb_rows.specs.declared.gap.Gap.{Gap}
+use Rattle.fb_model.specs.Plans.{block_end, catches}
+use Rattle.fb_plan.specs.Ways.{AreOnDisk}
+use Rattle.fb_bgwrite.specs.declared.choice.Spill.{Spill}
+use Rattle.fb_bgwrite.specs.declared.choice.Valued.{Valued}
+use Rattle.fb_bgwrite.specs.declared.range.SectorRange.{SectorRange}
+use Rattle.fb_bgwrite.specs.declared.search.Moves.{Moves}
+use Rattle.fb_bgwrite.specs.Ranges.{AreApart}
+use Rattle.fb_bgwrite.specs.Spilling.{value, IsBest, IsNoLater, IsSpill, WritesNothing}
+
+-- a gap between tracks of the disk that doesn't end too late to be computed
+pub record IsGap (disk : Disk) (gap : Gap) : Type 0 where
+  pub source : IsTrackOf disk.map gap.source
+  pub target : IsTrackOf disk.map gap.target
+  pub forward : gap.now ≤ gap.deadline
+  pub early : gap.deadline ≤ 9 * 10 ^ 18
+
+-- the sectors of a block
+abbrev pub block_range : Block → SectorRange
+block_range block = record { first = block.lbn; count = block.count }
+
+-- the registered blocks are on the disk, weigh 1 a sector, and no two of them share a sector
+pub record ArePending (disk : Disk) (entries : List Entry) : Type 0 where
+  pub on_disk : AreOnDisk disk entries
+  pub light : AllByRecursion (λ entry. entry.block.weight ≡ 1) entries
+  pub apart : AreApart (map (λ entry. block_range entry.block) entries)
+
+-- a spill of the gap that writes so many sectors
+pub record IsValued (disk : Disk) (gap : Gap) (pending : List Block) (best : Valued) : Type 0 where
+  pub is_spill : IsSpill disk gap best.spill
+  pub value_is : best.value ≡ value disk gap pending best.spill
+  pub some : 0 < best.value
+
+abbrev pub IsValuedIf : Disk → Gap → List Block → Option Valued → Type 0
+IsValuedIf disk gap pending None = Unit {0}
+IsValuedIf disk gap pending (Some best) = IsValued disk gap pending best
+
+-- of greater value, or of the same and no later in the order of ties
+abbrev pub IsOver : Valued → Valued → Type 0
+IsOver a b = (b.value < a.value) ⊎ ((b.value ≡ a.value) × IsNoLater a.spill b.spill)
+
+-- the best so far is at least as good as the spill; where there is none, the spill writes nothing
+abbrev pub Beats : Disk → Gap → List Block → Option Valued → Spill → Type 0
+Beats disk gap pending None other = value disk gap pending other ≡ 0
+Beats disk gap pending (Some best) other = (value disk gap pending other < best.value) ⊎ ((value disk gap pending other ≡ best.value) × IsNoLater best.spill other)
+
+-- whatever the first beats, the second beats
+abbrev pub Keeps : Disk → Gap → List Block → Option Valued → Option Valued → Type 0
+Keeps disk gap pending old new = (other : Spill) → Beats disk gap pending old other → Beats disk gap pending new other
+
+-- at least as good as each spill on the track
+abbrev pub BeatsOn : Disk → Gap → List Block → Option Valued → Track → Type 0
+BeatsOn disk gap pending best track = (leave : ℕ) → (let spill : Spill = record { track = track; leave = leave } in IsSpill disk gap spill → Beats disk gap pending best spill)
+
+-- and on each track of these cylinders
+abbrev pub BeatsRange : Disk → Gap → List Block → Option Valued → ℕ → ℕ → Type 0
+BeatsRange disk gap pending best from end = (track : Track) → from ≤ track.cylinder → track.cylinder < end → BeatsOn disk gap pending best track
+
+-- at least as good as each spill of this value at most, on a track from this cylinder on
+abbrev pub IsEnough : Option Valued → ℕ → ℕ → Type 0
+IsEnough None most from = most ≡ 0
+IsEnough (Some best) most from = (most < best.value) ⊎ ((most ≤ best.value) × (best.spill.track.cylinder < from))
+
+-- lower bounds on the times of both moves of a spill on a track of these cylinders
+abbrev pub AreLeast : Disk → Gap → ℕ → ℕ → Moves → Type 0
+AreLeast disk gap from end moves = (track : Track) → from ≤ track.cylinder → track.cylinder < end
+    → (moves.there ≤ pos disk.mechanism gap.source track true) × (moves.on ≤ pos disk.mechanism track gap.target gap.write)
+
+-- the best spill, or none where none writes anything
+abbrev pub IsBestIf : Disk → Gap → List Block → Option Valued → Type 0
+IsBestIf disk gap pending None = WritesNothing disk gap pending
+IsBestIf disk gap pending (Some best) = IsBest disk gap pending best.spill
+
+-- the block is pending, and passes whole in the stay
+abbrev pub passes : Disk → Dwell → Entry → Bool
+passes disk dwell entry = is_wanted entry.state && catches disk dwell entry.block
+
+-- one of these passes ends at this instant
+pub record EndsAt (disk : Disk) (dwell : Dwell) (entries : List Entry) (end : ℕ) : Type 0 where
+  pub index : ℕ
+  pub entry : Entry
+  pub stands : slice_get entries index ≡ Some entry
+  pub passing : passes disk dwell entry ≡ true
+  pub ends : block_end disk.map entry.block dwell.begin ≡ end
+
+-- the last of them ends at this instant
+pub record IsLast (disk : Disk) (dwell : Dwell) (entries : List Entry) (worth last : ℕ) : Type 0 where
+  pub from : dwell.begin ≤ last
+  pub upto : last ≤ dwell.end
+  pub each : (i : ℕ) (entry : Entry) → slice_get entries i ≡ Some entry → passes disk dwell entry ≡ true → block_end disk.map entry.block dwell.begin ≤ last
+  pub reached : ((worth ≡ 0) × (last ≡ dwell.begin)) ⊎ EndsAt disk dwell entries last

@@ -1,0 +1,14 @@
+-- Ranges of sectors that are kept by their ends.
+use Rattle.std.specs.Prelude.{◌≡◌, ℕ, ◌+◌, ◌-◌, ◌<◌, List, Some, slice_get}
+use Rattle.std.specs.List.{AllByRecursion}
+use Rattle.std.specs.Ordering.{nat_cmp}
+use Rattle.std.specs.BTreeMap.{BTreeMap, get}
+use Rattle.fb_bgwrite.specs.declared.range.SectorRange.{SectorRange}
+use Rattle.fb_bgwrite.specs.Ranges.{AreApart}
+
+-- the map has the first sector of each of these ranges by its end, and no other; no two of them share a sector, and each has one
+pub record AreTaken (ends : BTreeMap ℕ ℕ) (ranges : List SectorRange) : Type 0 where
+  pub each : AllByRecursion (λ range. get nat_cmp ends (range.first + range.count) ≡ Some range.first) ranges
+  pub only : (end first : ℕ) → get nat_cmp ends end ≡ Some first → (i : ℕ) × (slice_get ranges i ≡ Some (let range : SectorRange = record { first = first; count = end - first } in range)) × (first < end)
+  pub apart : AreApart ranges
+  pub some : AllByRecursion (λ range. 0 < range.count) ranges

@@ -1,0 +1,60 @@
+// A spill with its value, and the better of two.
+ghost use Rattle.std.specs.Prelude.{◌≡◌, ◌⊎◌, true, false};
+ghost use Rattle.fb_bgwrite.specs.Choosing.{IsOver};
+ghost use Rattle.fb_bgwrite.specs.Spilling.{IsNoLater};
+
+use fb_units::{Ns, Track};
+
+/// Where the head stays in a gap to write, and when it leaves for the request's first track.
+#[derive(Clone, Copy)]
+pub struct Spill {
+    /// The track.
+    pub track: Track,
+    /// The instant at which the head leaves it, in nanoseconds.
+    pub leave: Ns,
+}
+
+/// A spill, and how many sectors it writes.
+#[derive(Clone, Copy)]
+pub struct Valued {
+    /// The spill.
+    pub spill: Spill,
+    /// The number of sectors that it writes, at least 1.
+    pub value: u64,
+}
+
+// Whether the first spill comes no later in the order of ties: by cylinder, then by head, then by
+// the instant at which the head leaves.
+fn is_no_later(a: Spill, b: Spill) -> bool
+    ensures yes { result ≡ true → IsNoLater a b }
+    ensures no { result ≡ false → IsNoLater b a }
+{
+    if a.track.cylinder < b.track.cylinder {
+        return true;
+    }
+    if b.track.cylinder < a.track.cylinder {
+        return false;
+    }
+    if a.track.head < b.track.head {
+        return true;
+    }
+    if b.track.head < a.track.head {
+        return false;
+    }
+    a.leave <= b.leave
+}
+
+/// The spill of greater value; of two with the same value, the first in the order of ties.
+pub fn better(a: Valued, b: Valued) -> Valued
+    ensures either { (result ≡ a) ⊎ (result ≡ b) }
+    ensures over_a { IsOver result a }
+    ensures over_b { IsOver result b }
+{
+    if a.value < b.value {
+        return b;
+    }
+    if b.value < a.value {
+        return a;
+    }
+    if is_no_later(a.spill, b.spill) { a } else { b }
+}

@@ -1,0 +1,320 @@
+// The search for the best spill of a gap. Ranges of cylinders are passed over where no spill can be
+// better than the best so far.
+ghost use Rattle.std.specs.Prelude.{◌≡◌, ◌+◌, ◌-◌, ◌*◌, ◌<◌, ◌≤◌, ◌^◌, ◌⊎◌, ℕ, true, max, if◌then◌else◌};
+ghost use Rattle.std.specs.List.{sum_by};
+ghost use Rattle.fb_geometry.specs.Shape.{slots_at, IsTrackOf};
+ghost use Rattle.fb_seek.specs.Positioning.{distance_of};
+ghost use Rattle.fb_wanted.specs.States.{on_track, wanted_of};
+ghost use Rattle.fb_plan.specs.Ways.{AreOnDisk, FitsDisk};
+ghost use Rattle.fb_plan.specs.Turns.{IsOfDwell};
+ghost use Rattle.fb_model.specs.Plans.{block_end};
+ghost use Rattle.fb_detour.specs.Bounds.{slots_within, stay_gain};
+ghost use Rattle.fb_bgwrite.specs.declared.choice.Spill.{Spill};
+ghost use Rattle.fb_bgwrite.specs.Choosing.{AreLeast, ArePending, BeatsOn, BeatsRange, IsBestIf, IsEnough, IsGap, IsLast, IsValuedIf, Keeps, passes};
+ghost use Rattle.fb_bgwrite.specs.Spilling.{value, IsSpill};
+
+use crate::choice::{Spill, Valued, better};
+use fb_detour::most_slots;
+use fb_plan::{Turning, Until, blocks_on, is_wanted};
+use fb_rows::{Dwell, Gap};
+use fb_service::Disk;
+use fb_units::{Ns, Track};
+use fb_wanted::{Entry, TrackBlocks, Wanted};
+
+// The least time, in ns, of a move to a track, and of the move on from it to the target.
+#[derive(Clone, Copy)]
+struct Moves {
+    there: Ns,
+    on: Ns,
+}
+
+// What a stay writes, and when the last passage of that ends, in ns.
+#[derive(Clone, Copy)]
+struct Written {
+    sectors: u64,
+    last: Ns,
+}
+
+/// The best spill of a gap, where these are the registered blocks; none where none writes anything.
+pub fn best_spill(disk: &Disk, pending: &Wanted, gap: &Gap) -> Option<Valued>
+    requires gap { IsGap disk.now gap.now }
+    requires blocks { ArePending disk.now pending.now }
+    ensures best { IsBestIf disk.now gap.entry.now (wanted_of pending.now) result }
+    ensures valued { IsValuedIf disk.now gap.entry.now (wanted_of pending.now) result }
+{
+    let source = gap.source.cylinder;
+    let end = disk.map.geometry().cylinders();
+    let above = try_cylinders(disk, pending, gap, source, end, None);
+    try_cylinders(disk, pending, gap, 0, source, above)
+}
+
+// Tries the tracks of the cylinders from `first` on, before `end`.
+fn try_cylinders(
+    disk: &Disk,
+    pending: &Wanted,
+    gap: &Gap,
+    first: u32,
+    end: u32,
+    start: Option<Valued>,
+) -> Option<Valued>
+    requires order { first ≤ end }
+    requires within { end ≤ disk.now.mechanism.cylinders }
+    requires gap { IsGap disk.now gap.now }
+    requires blocks { ArePending disk.now pending.now }
+    requires best { IsValuedIf disk.now gap.now (wanted_of pending.now) start }
+    ensures valued { IsValuedIf disk.now gap.entry.now (wanted_of pending.now) result }
+    ensures keeps { Keeps disk.now gap.entry.now (wanted_of pending.now) start result }
+    ensures tried { BeatsRange disk.now gap.entry.now (wanted_of pending.now) result first end }
+{
+    let mut best = start;
+    let mut from = first;
+    while from < end {
+        let next = skip(disk, pending, gap, from, end, best);
+        if from < next {
+            from = next;
+        } else {
+            best = try_cylinder(disk, pending, gap, from, best);
+            from += 1;
+        }
+    }
+    best
+}
+
+// The first cylinder from `from` on that can't be passed over, or `end`. Ranges are tried that grow
+// twofold at each step.
+fn skip(disk: &Disk, pending: &Wanted, gap: &Gap, from: u32, end: u32, best: Option<Valued>) -> u32
+    requires order { from ≤ end }
+    requires within { end ≤ disk.now.mechanism.cylinders }
+    requires gap { IsGap disk.now gap.now }
+    requires blocks { ArePending disk.now pending.now }
+    ensures after { from ≤ result }
+    ensures within { result ≤ end }
+    ensures passed { BeatsRange disk.now gap.entry.now (wanted_of pending.now) best from result }
+{
+    let mut next = from;
+    while next < end {
+        let upto = next + (end - next).min(next - from + 1);
+        if !is_enough(best, most_in(disk, pending, gap, next, upto), next) {
+            return next;
+        }
+        next = upto;
+    }
+    next
+}
+
+// Whether the best so far is at least as good as each spill that writes `most` sectors at most, on
+// a track from this cylinder on.
+fn is_enough(best: Option<Valued>, most: u64, from: u32) -> bool
+    ensures { result ≡ true → IsEnough best most from }
+{
+    match best {
+        Some(best) => {
+            most < best.value || (most == best.value && best.spill.track.cylinder < from)
+        }
+        None => most == 0,
+    }
+}
+
+// An upper bound on what a spill writes on a track of these cylinders: by the blocks of the
+// heaviest track, and by the slots that pass in the time that is left beside the moves.
+fn most_in(disk: &Disk, pending: &Wanted, gap: &Gap, from: u32, end: u32) -> u64
+    requires some { from < end }
+    requires within { end ≤ disk.now.mechanism.cylinders }
+    requires gap { IsGap disk.now gap.now }
+    requires blocks { ArePending disk.now pending.now }
+    ensures { (spill : Spill) → from ≤ spill.track.cylinder → spill.track.cylinder < end → IsSpill disk.now gap.entry.now spill
+        → value disk.now gap.entry.now (wanted_of pending.now) spill ≤ result }
+{
+    disk.map.geometry().sound();
+    disk.map.geometry().own_places();
+    let moves = least_moves(disk, gap, from, end);
+    let back = gap.now + moves.there + moves.on;
+    if gap.deadline < back {
+        return 0;
+    }
+    let weight = pending.greatest_weight_in(from, end);
+    weight.min(most_in_time(disk, gap, from, end, gap.deadline - back))
+}
+
+// An upper bound on how many slots pass in this time, in ns, over all tracks of these cylinders.
+fn most_in_time(disk: &Disk, gap: &Gap, from: u32, end: u32, time: Ns) -> u64
+    requires some { from < end }
+    requires gap { IsGap disk.now gap.now }
+    requires time { time ≤ 9 * 10 ^ 18 }
+    ensures { (cylinder : ℕ) → from ≤ cylinder → cylinder < end → slots_within disk.now.map.rotation (slots_at disk.now.map.zones cylinder) time ≤ result }
+{
+    let geometry = disk.map.geometry();
+    let share = geometry.rotation() / most_slots(disk, from, end, gap.target) as u64;
+    time / share + 1
+}
+
+// Lower bounds on the times of both moves, over all tracks of these cylinders.
+fn least_moves(disk: &Disk, gap: &Gap, from: u32, end: u32) -> Moves
+    requires some { from < end }
+    requires within { end ≤ disk.now.mechanism.cylinders }
+    requires gap { IsGap disk.now gap.now }
+    ensures least { AreLeast disk.now gap.entry.now from end result }
+    ensures small { (result.there ≤ 2 * 10 ^ 9) × (result.on ≤ 2 * 10 ^ 9) }
+{
+    disk.mechanism.seeks_rise();
+    let near_source = Track {
+        cylinder: nearest(from, end, gap.source.cylinder),
+        head: gap.source.head,
+    };
+    let near_target = Track {
+        cylinder: nearest(from, end, gap.target.cylinder),
+        head: gap.target.head,
+    };
+    Moves {
+        there: disk.mechanism.pos(gap.source, near_source, true),
+        on: disk.mechanism.pos(near_target, gap.target, gap.write),
+    }
+}
+
+// The cylinder of the range that is nearest to this one.
+fn nearest(from: u32, end: u32, cylinder: u32) -> u32
+    requires some { from < end }
+    ensures after { from ≤ result }
+    ensures within { result < end }
+    ensures near { (other : ℕ) → from ≤ other → other < end → distance_of result cylinder ≤ distance_of other cylinder }
+{
+    if cylinder < from {
+        from
+    } else if cylinder < end {
+        cylinder
+    } else {
+        end - 1
+    }
+}
+
+// Tries the tracks of a cylinder.
+fn try_cylinder(
+    disk: &Disk,
+    pending: &Wanted,
+    gap: &Gap,
+    cylinder: u32,
+    start: Option<Valued>,
+) -> Option<Valued>
+    requires cylinder { cylinder < disk.now.mechanism.cylinders }
+    requires gap { IsGap disk.now gap.now }
+    requires blocks { ArePending disk.now pending.now }
+    requires best { IsValuedIf disk.now gap.now (wanted_of pending.now) start }
+    ensures valued { IsValuedIf disk.now gap.entry.now (wanted_of pending.now) result }
+    ensures keeps { Keeps disk.now gap.entry.now (wanted_of pending.now) start result }
+    ensures tried { BeatsRange disk.now gap.entry.now (wanted_of pending.now) result cylinder (cylinder + 1) }
+{
+    let mut best = start;
+    for head in 0..disk.map.geometry().heads() {
+        best = try_track(disk, pending, gap, Track { cylinder, head }, best);
+    }
+    best
+}
+
+// Tries the spills on a track, unless its blocks are too few.
+fn try_track(
+    disk: &Disk,
+    pending: &Wanted,
+    gap: &Gap,
+    track: Track,
+    start: Option<Valued>,
+) -> Option<Valued>
+    requires track { IsTrackOf disk.now.map track }
+    requires gap { IsGap disk.now gap.now }
+    requires blocks { ArePending disk.now pending.now }
+    requires best { IsValuedIf disk.now gap.now (wanted_of pending.now) start }
+    ensures valued { IsValuedIf disk.now gap.entry.now (wanted_of pending.now) result }
+    ensures keeps { Keeps disk.now gap.entry.now (wanted_of pending.now) start result }
+    ensures tried { BeatsOn disk.now gap.entry.now (wanted_of pending.now) result track }
+{
+    let blocks = blocks_on(disk, pending, track);
+    match start {
+        None => spill_on(disk, pending, gap, track, &blocks),
+        Some(best) => {
+            if blocks.wanted_weight() < best.value {
+                return start;
+            }
+            match spill_on(disk, pending, gap, track, &blocks) {
+                Some(found) => Some(better(best, found)),
+                None => start,
+            }
+        }
+    }
+}
+
+// The best spill on a track with these blocks: it leaves as the last passage ends that the head can
+// wait for.
+fn spill_on(
+    disk: &Disk,
+    pending: &Wanted,
+    gap: &Gap,
+    track: Track,
+    blocks: &TrackBlocks,
+) -> Option<Valued>
+    requires track { IsTrackOf disk.now.map track }
+    requires gap { IsGap disk.now gap.now }
+    requires blocks { ArePending disk.now pending.now }
+    requires its { blocks.now ≡ on_track track pending.now }
+    requires on_disk { AreOnDisk disk.now blocks.now }
+    ensures valued { IsValuedIf disk.now gap.entry.now (wanted_of pending.now) result }
+    ensures tried { BeatsOn disk.now gap.entry.now (wanted_of pending.now) result track }
+{
+    let _ = pending;
+    let begin = gap.now + disk.mechanism.pos(gap.source, track, true);
+    let on = disk.mechanism.pos(track, gap.target, gap.write);
+    if gap.deadline < begin + on {
+        return None;
+    }
+    let stay = Dwell {
+        track,
+        begin,
+        end: gap.deadline - on,
+    };
+    let written = written_in(disk, blocks, stay);
+    if written.sectors == 0 {
+        return None;
+    }
+    Some(Valued {
+        spill: Spill {
+            track,
+            leave: written.last,
+        },
+        value: written.sectors,
+    })
+}
+
+// What is written of a track's blocks in a stay there.
+fn written_in(disk: &Disk, blocks: &TrackBlocks, stay: Dwell) -> Written
+    requires blocks { AreOnDisk disk.now blocks.now }
+    requires order { stay.begin ≤ stay.end }
+    requires early { stay.begin ≤ 9 * 10 ^ 18 }
+    ensures sectors { result.sectors ≡ sum_by (stay_gain disk.now stay) blocks.now }
+    ensures last { IsLast disk.now stay blocks.now result.sectors result.last }
+{
+    let until = Turning::new(disk, blocks, stay.begin).until(disk, stay.end);
+    let mut written = Written {
+        sectors: 0,
+        last: stay.begin,
+    };
+    for i in 0..blocks.len() {
+        written = with_entry(disk, stay, &until, blocks.get(i), written);
+    }
+    written
+}
+
+// The same with one more block.
+fn with_entry(disk: &Disk, stay: Dwell, until: &Until, entry: Entry, so_far: Written) -> Written
+    requires fits { FitsDisk disk.now entry.block }
+    requires until { IsOfDwell disk.now stay until.now }
+    requires room { so_far.sectors < 2 ^ 62 }
+    ensures sectors { result.sectors ≡ so_far.sectors + stay_gain disk.now stay entry }
+    ensures last { result.last ≡ (if passes disk.now stay entry then max so_far.last (block_end disk.now.map entry.block stay.begin) else so_far.last) }
+{
+    if !is_wanted(entry.state) || !until.catches(disk, stay, entry.block) {
+        return so_far;
+    }
+    let sectors = entry.block.weight as u64 * entry.block.count as u64;
+    Written {
+        sectors: so_far.sectors + sectors,
+        last: so_far.last.max(until.passing.end(disk, entry.block)),
+    }
+}
