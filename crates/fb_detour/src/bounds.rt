@@ -85,7 +85,8 @@ fn slots_from(zone: Zone, cylinder: u32) -> u32
     }
 }
 
-// An upper bound on the slots of a track, over these cylinders and one other track.
+/// An upper bound on the slots of a track, over the cylinders from the first one up to, but without,
+/// `end`, and one other track. It is no greater than the nanoseconds of a rotation.
 pub fn most_slots(disk: &Disk, from: u32, end: u32, other: Track) -> u32
     requires some { from < end }
     requires other { IsTrackOf disk.now.map other }
