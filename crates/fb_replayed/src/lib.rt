@@ -8,6 +8,8 @@
 #[cfg(test)]
 mod ahead;
 #[cfg(test)]
+mod arrays;
+#[cfg(test)]
 mod crowds;
 #[cfg(test)]
 mod faults;

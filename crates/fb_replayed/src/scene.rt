@@ -83,6 +83,8 @@ pub struct Ending {
     pub made_trace: Vec<u8>,
     /// The bytes of the call script that a make writes.
     pub made_calls: Vec<u8>,
+    /// The bytes of the text of a replacement.
+    pub copy: Vec<u8>,
 }
 
 impl Ending {
@@ -92,6 +94,7 @@ impl Ending {
             && self.back.is_empty()
             && self.made_trace.is_empty()
             && self.made_calls.is_empty()
+            && self.copy.is_empty()
     }
 }
 
@@ -189,6 +192,7 @@ fn written(alloc: Global, desk: &MemoryDesk, status: u8) -> Result<Ending, NoMem
         note: copied(alloc, desk.written(Output::Note))?,
         made_trace: copied(alloc, desk.written(Output::MadeTrace))?,
         made_calls: copied(alloc, desk.written(Output::MadeCalls))?,
+        copy: copied(alloc, desk.written(Output::Copied))?,
     })
 }
 
