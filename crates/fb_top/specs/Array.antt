@@ -31,6 +31,7 @@ use Rattle.fb_top.specs.Devices.{Array, AcceptsArray, StopsArray, device_inputs}
 use Rattle.fb_top.specs.Written.{OutputFaultsRose, StopsTexts, Text, WritesAll, joined}
 use Rattle.fb_top.specs.Causes.{FaultsRose, RunsOut}
 
+-- the first line of the text
 abbrev pub array_first : List ℕ
 array_first = codes "freeblock array 1\n"
 
@@ -38,7 +39,7 @@ array_first = codes "freeblock array 1\n"
 abbrev pub device_line : ℕ → List ℕ
 device_line device = codes "device " ++ decimal device ++ 10 ∷ []
 
--- how many devices there are
+-- the last line, which tells how many devices there are
 abbrev pub array_last : ℕ → List ℕ
 array_last devices = codes "end " ++ decimal devices ++ 10 ∷ []
 
