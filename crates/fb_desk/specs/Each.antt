@@ -14,6 +14,7 @@ abbrev pub of_input : {T : Type 0} → EachInput T → Input → T
 of_input each input.Params = each.params
 of_input each input.Trace = each.trace
 of_input each input.Calls = each.calls
+of_input each input.Puts = each.puts
 of_input each input.ForeReport = each.fore_report
 of_input each input.BackReport = each.back_report
 
@@ -22,6 +23,7 @@ abbrev pub with_input : {T : Type 0} → EachInput T → Input → T → EachInp
 with_input each input.Params thing = record each { params = thing }
 with_input each input.Trace thing = record each { trace = thing }
 with_input each input.Calls thing = record each { calls = thing }
+with_input each input.Puts thing = record each { puts = thing }
 with_input each input.ForeReport thing = record each { fore_report = thing }
 with_input each input.BackReport thing = record each { back_report = thing }
 
@@ -29,6 +31,7 @@ with_input each input.BackReport thing = record each { back_report = thing }
 abbrev pub of_output : {T : Type 0} → EachOutput T → Output → T
 of_output each output.Fore = each.fore
 of_output each output.Back = each.back
+of_output each output.Spill = each.spill
 of_output each output.Note = each.note
 of_output each output.MadeTrace = each.made_trace
 of_output each output.MadeCalls = each.made_calls
@@ -38,6 +41,7 @@ of_output each output.Copied = each.copied
 abbrev pub with_output : {T : Type 0} → EachOutput T → Output → T → EachOutput T
 with_output each output.Fore thing = record each { fore = thing }
 with_output each output.Back thing = record each { back = thing }
+with_output each output.Spill thing = record each { spill = thing }
 with_output each output.Note thing = record each { note = thing }
 with_output each output.MadeTrace thing = record each { made_trace = thing }
 with_output each output.MadeCalls thing = record each { made_calls = thing }

@@ -16,6 +16,8 @@ pub struct EachInput<T> {
     pub trace: T,
     /// That of the call script.
     pub calls: T,
+    /// That of the file of background writes.
+    pub puts: T,
     /// That of the printed foreground report.
     pub fore_report: T,
     /// That of the printed background report.
@@ -31,6 +33,7 @@ impl<T: Copy> EachInput<T> {
             params: thing,
             trace: thing,
             calls: thing,
+            puts: thing,
             fore_report: thing,
             back_report: thing,
         }
@@ -46,6 +49,7 @@ impl<T> EachInput<T> {
             Input::Params => &self.params,
             Input::Trace => &self.trace,
             Input::Calls => &self.calls,
+            Input::Puts => &self.puts,
             Input::ForeReport => &self.fore_report,
             Input::BackReport => &self.back_report,
         }
@@ -60,6 +64,7 @@ impl<T> EachInput<T> {
             Input::Params => &mut self.params,
             Input::Trace => &mut self.trace,
             Input::Calls => &mut self.calls,
+            Input::Puts => &mut self.puts,
             Input::ForeReport => &mut self.fore_report,
             Input::BackReport => &mut self.back_report,
         }
@@ -73,6 +78,8 @@ pub struct EachOutput<T> {
     pub fore: T,
     /// That of the background report.
     pub back: T,
+    /// That of the text of what was written in free gaps.
+    pub spill: T,
     /// That of the note.
     pub note: T,
     /// That of the generated trace.
@@ -91,6 +98,7 @@ impl<T: Copy> EachOutput<T> {
         EachOutput {
             fore: thing,
             back: thing,
+            spill: thing,
             note: thing,
             made_trace: thing,
             made_calls: thing,
@@ -107,6 +115,7 @@ impl<T> EachOutput<T> {
         match which {
             Output::Fore => &self.fore,
             Output::Back => &self.back,
+            Output::Spill => &self.spill,
             Output::Note => &self.note,
             Output::MadeTrace => &self.made_trace,
             Output::MadeCalls => &self.made_calls,
@@ -122,6 +131,7 @@ impl<T> EachOutput<T> {
         match which {
             Output::Fore => &mut self.fore,
             Output::Back => &mut self.back,
+            Output::Spill => &mut self.spill,
             Output::Note => &mut self.note,
             Output::MadeTrace => &mut self.made_trace,
             Output::MadeCalls => &mut self.made_calls,
