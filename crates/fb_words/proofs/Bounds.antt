@@ -6,11 +6,11 @@ use Rattle.std.proofs.lemmas.Bool.Decides.{nat_tests}
 use Rattle.fb_units.specs.Judging.{or_refuse, refuse, refused_as}
 use Rattle.fb_units.specs.Numbers.{millis_of, number_of}
 use Rattle.fb_units.proofs.Judged.{both_ok, value_ok, test_ok, step_ok, number_small, millis_small}
-use Rattle.fb_words.specs.declared.fault.UsageReason.TheVariants.{NoValue, BadValue, OptionTwice, UnknownOption, UnknownCommand, MissingOption, CallsAndBack, RebuildIncomplete, RebuildBeyond}
+use Rattle.fb_words.specs.declared.fault.UsageReason.TheVariants.{NoValue, BadValue, OptionTwice, UnknownOption, UnknownCommand, MissingOption, CallsAndBack, PutsAndSpill, RebuildIncomplete, RebuildBeyond}
 use Rattle.fb_words.specs.declared.names.Verb.{Verb}
 use Rattle.fb_words.specs.declared.names.Verb.TheVariants.{Replay, Make, Check, Array}
 use Rattle.fb_words.specs.declared.names.OptionName.{OptionName}
-use Rattle.fb_words.specs.declared.names.OptionName.TheVariants.{Params, Trace, Policy, Calls, Fore, Back, Until, Device, Bytes, Number, Requests, Devices, Rebuild, Copy}
+use Rattle.fb_words.specs.declared.names.OptionName.TheVariants.{Params, Trace, Policy, Calls, Fore, Back, Puts, Spill, Until, Device, Bytes, Number, Requests, Devices, Rebuild, Copy}
 use Rattle.fb_words.specs.Names.{policy_of, bytes_of, option_of, verb_of}
 use Rattle.fb_words.specs.Options.{Options, no_options}
 use Rattle.fb_words.specs.Values.{is_given, is_value, request_count_of, device_count_of, with_form, with_value}
@@ -61,6 +61,8 @@ small-with_form given next Policy value e is =
 small-with_form given next Calls value e is = subst IsSmall (same_ok _ next e) (record { until = is.until; device = is.device; number = is.number; requests = is.requests; devices = is.devices })
 small-with_form given next Fore value e is = subst IsSmall (same_ok _ next e) (record { until = is.until; device = is.device; number = is.number; requests = is.requests; devices = is.devices })
 small-with_form given next Back value e is = subst IsSmall (same_ok _ next e) (record { until = is.until; device = is.device; number = is.number; requests = is.requests; devices = is.devices })
+small-with_form given next Puts value e is = subst IsSmall (same_ok _ next e) (record { until = is.until; device = is.device; number = is.number; requests = is.requests; devices = is.devices })
+small-with_form given next Spill value e is = subst IsSmall (same_ok _ next e) (record { until = is.until; device = is.device; number = is.number; requests = is.requests; devices = is.devices })
 small-with_form given next Until value e is =
     let p = both_ok (or_refuse BadValue (millis_of value)) _ next e in
     subst IsSmall (same_ok _ next p.2) (record { until = millis_small value p.0 (value_ok BadValue (millis_of value) p.0 p.1); device = is.device; number = is.number; requests = is.requests; devices = is.devices })
@@ -153,8 +155,9 @@ small-replay_of given terms e is =
     let params = both_ok (or_refuse (MissingOption 0) given.params) _ terms e in
     let trace = both_ok (or_refuse (MissingOption 1) given.trace) _ terms params.2 in
     let policy = both_ok (or_refuse (MissingOption 2) given.policy) _ terms trace.2 in
-    let together = both_ok (refuse CallsAndBack (not (go_together given))) _ terms policy.2 in
-    subst (λ t. IsWithinLimits (replays t)) (same_ok _ terms together.2) (small-default given.until (10 ^ 15) is.until, small-default given.device (10 ^ 15) is.device)
+    let calls = both_ok (refuse CallsAndBack (not (go_together given.calls given.back))) _ terms policy.2 in
+    let puts = both_ok (refuse PutsAndSpill (not (go_together given.puts given.spill))) _ terms calls.2 in
+    subst (λ t. IsWithinLimits (replays t)) (same_ok _ terms puts.2) (small-default given.until (10 ^ 15) is.until, small-default given.device (10 ^ 15) is.device)
 
 small-make_of : (given : Options) (terms : MakeTerms) → make_of given ≡ Ok terms → IsSmall given → IsWithinLimits (makes terms)
 unfolding make_of

@@ -7,7 +7,7 @@ use Rattle.fb_units.specs.Judging.{◌>>=◌, ◌>>◌, or_refuse, refuse, refus
 use Rattle.fb_words.specs.declared.command.Policy.{Policy}
 use Rattle.fb_words.specs.declared.fault.UsageFault.{UsageFault}
 use Rattle.fb_words.specs.declared.fault.UsageReason.{UsageReason}
-use Rattle.fb_words.specs.declared.fault.UsageReason.TheVariants.{NoCommand, UnknownCommand, MissingOption, CallsAndBack, RebuildIncomplete, RebuildBeyond}
+use Rattle.fb_words.specs.declared.fault.UsageReason.TheVariants.{NoCommand, UnknownCommand, MissingOption, CallsAndBack, PutsAndSpill, RebuildIncomplete, RebuildBeyond}
 use Rattle.fb_words.specs.declared.names.Verb.{Verb}
 use Rattle.fb_words.specs.declared.names.Verb.TheVariants.{Replay, Make, Check, Array}
 use Rattle.fb_words.specs.Names.{verb_of}
@@ -21,6 +21,8 @@ pub record ReplayTerms : Type 0 where
   pub policy : Policy
   pub calls : Option (List ℕ)
   pub back : Option (List ℕ)
+  pub puts : Option (List ℕ)
+  pub spill : Option (List ℕ)
   pub until : ℕ
   pub device : ℕ
   pub bytes : Bytes
@@ -70,9 +72,9 @@ pub data Terms : Type 0 where
   checks : CheckTerms → Terms
   arrays : ArrayTerms → Terms
 
--- a call script and a background report are both given, or neither is
-abbrev pub go_together : Options → Bool
-go_together given = (is_some given.calls && is_some given.back) || not (is_some given.calls || is_some given.back)
+-- both options are given, or neither is
+abbrev pub go_together : {A B : Type 0} → Option A → Option B → Bool
+go_together one other = (is_some one && is_some other) || not (is_some one || is_some other)
 
 -- a replay with these options: the required ones, and the defaults of the others
 unfoldable pub replay_of : Options → Result ReplayTerms UsageReason
@@ -80,13 +82,16 @@ replay_of given = do
   params ← or_refuse (MissingOption 0) given.params
   trace ← or_refuse (MissingOption 1) given.trace
   policy ← or_refuse (MissingOption 2) given.policy
-  refuse CallsAndBack (not (go_together given))
+  refuse CallsAndBack (not (go_together given.calls given.back))
+  refuse PutsAndSpill (not (go_together given.puts given.spill))
   Ok (record {
     params = params;
     trace = trace;
     policy = policy;
     calls = given.calls;
     back = given.back;
+    puts = given.puts;
+    spill = given.spill;
     until = unwrap_or given.until 0;
     device = unwrap_or given.device 0;
     bytes = unwrap_or given.bytes Nothing;

@@ -9,7 +9,7 @@ use Rattle.fb_words.specs.declared.command.Policy.TheVariants.{Fcfs, Sstf, Clook
 use Rattle.fb_words.specs.declared.names.Verb.{Verb}
 use Rattle.fb_words.specs.declared.names.Verb.TheVariants.{Replay, Make, Check, Array}
 use Rattle.fb_words.specs.declared.names.OptionName.{OptionName}
-use Rattle.fb_words.specs.declared.names.OptionName.TheVariants.{Params, Trace, Policy, Calls, Fore, Back, Until, Device, Bytes, Number, Requests, Devices, Rebuild, Copy}
+use Rattle.fb_words.specs.declared.names.OptionName.TheVariants.{Params, Trace, Policy, Calls, Fore, Back, Puts, Spill, Until, Device, Bytes, Number, Requests, Devices, Rebuild, Copy}
 
 -- what a word stands for according to this list of words, if it is in it
 abbrev pub meaning : {A : Type 0} → List (List ℕ × A) → List ℕ → Option A
@@ -18,17 +18,17 @@ meaning names word = option_map (λ name. name.1) (find (λ name. bytes_eq name.
 unfoldable pub verb_of : List ℕ → Option Verb
 verb_of = meaning ((codes "replay", Replay) ∷ (codes "make", Make) ∷ (codes "check", Check) ∷ (codes "array", Array) ∷ [])
 
--- the options of a replay that take a value
-abbrev pub replay_options : List (List ℕ × OptionName)
-replay_options = (codes "--params", Params) ∷ (codes "--trace", Trace) ∷ (codes "--policy", Policy) ∷ (codes "--calls", Calls)
+-- the options that a replay and a check share
+abbrev pub run_options : List (List ℕ × OptionName)
+run_options = (codes "--params", Params) ∷ (codes "--trace", Trace) ∷ (codes "--policy", Policy) ∷ (codes "--calls", Calls)
     ∷ (codes "--back", Back) ∷ (codes "--until", Until) ∷ (codes "--device", Device) ∷ (codes "--bytes", Bytes) ∷ []
 
--- the options of a command that take a value; a check has those of a replay, and the foreground report
+-- the options of a command that take a value
 abbrev pub options_of : Verb → List (List ℕ × OptionName)
-options_of Replay = replay_options
+options_of Replay = (codes "--puts", Puts) ∷ (codes "--spill", Spill) ∷ run_options
 options_of Make = (codes "--params", Params) ∷ (codes "--trace", Trace) ∷ (codes "--calls", Calls) ∷ (codes "--number", Number)
     ∷ (codes "--requests", Requests) ∷ (codes "--device", Device) ∷ []
-options_of Check = (codes "--fore", Fore) ∷ replay_options
+options_of Check = (codes "--fore", Fore) ∷ run_options
 options_of Array = (codes "--params", Params) ∷ (codes "--trace", Trace) ∷ (codes "--policy", Policy) ∷ (codes "--devices", Devices)
     ∷ (codes "--rebuild", Rebuild) ∷ (codes "--back", Back) ∷ (codes "--copy", Copy) ∷ (codes "--until", Until) ∷ (codes "--bytes", Bytes) ∷ []
 

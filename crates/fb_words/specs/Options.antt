@@ -11,6 +11,8 @@ pub record Options : Type 0 where
   pub calls : Option (List ℕ)
   pub fore : Option (List ℕ)
   pub back : Option (List ℕ)
+  pub puts : Option (List ℕ)
+  pub spill : Option (List ℕ)
   pub until : Option ℕ
   pub device : Option ℕ
   pub bytes : Option Bytes
@@ -22,4 +24,4 @@ pub record Options : Type 0 where
   pub summary : Bool
 
 abbrev pub no_options : Options
-no_options = record { params = None; trace = None; policy = None; calls = None; fore = None; back = None; until = None; device = None; bytes = None; number = None; requests = None; devices = None; rebuild = None; copy = None; summary = false }
+no_options = record { params = None; trace = None; policy = None; calls = None; fore = None; back = None; puts = None; spill = None; until = None; device = None; bytes = None; number = None; requests = None; devices = None; rebuild = None; copy = None; summary = false }

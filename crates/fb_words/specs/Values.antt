@@ -5,7 +5,7 @@ use Rattle.fb_units.specs.Numbers.{millis_of, number_of}
 use Rattle.fb_words.specs.declared.fault.UsageReason.{UsageReason}
 use Rattle.fb_words.specs.declared.fault.UsageReason.TheVariants.{NoValue, BadValue}
 use Rattle.fb_words.specs.declared.names.OptionName.{OptionName}
-use Rattle.fb_words.specs.declared.names.OptionName.TheVariants.{Params, Trace, Policy, Calls, Fore, Back, Until, Device, Bytes, Number, Requests, Devices, Rebuild, Copy}
+use Rattle.fb_words.specs.declared.names.OptionName.TheVariants.{Params, Trace, Policy, Calls, Fore, Back, Puts, Spill, Until, Device, Bytes, Number, Requests, Devices, Rebuild, Copy}
 use Rattle.fb_words.specs.Names.{policy_of, bytes_of}
 use Rattle.fb_words.specs.Options.{Options}
 
@@ -17,6 +17,8 @@ is_given given Policy = is_some given.policy
 is_given given Calls = is_some given.calls
 is_given given Fore = is_some given.fore
 is_given given Back = is_some given.back
+is_given given Puts = is_some given.puts
+is_given given Spill = is_some given.spill
 is_given given Until = is_some given.until
 is_given given Device = is_some given.device
 is_given given Bytes = is_some given.bytes
@@ -52,6 +54,8 @@ with_form given Policy value = or_refuse BadValue (policy_of value) >>= (λ poli
 with_form given Calls value = Ok (record given { calls = Some value })
 with_form given Fore value = Ok (record given { fore = Some value })
 with_form given Back value = Ok (record given { back = Some value })
+with_form given Puts value = Ok (record given { puts = Some value })
+with_form given Spill value = Ok (record given { spill = Some value })
 with_form given Until value = or_refuse BadValue (millis_of value) >>= (λ until. Ok (record given { until = Some until }))
 with_form given Device value = or_refuse BadValue (number_of value) >>= (λ device. Ok (record given { device = Some device }))
 with_form given Bytes value = or_refuse BadValue (bytes_of value) >>= (λ bytes. Ok (record given { bytes = Some bytes }))

@@ -29,6 +29,11 @@ pub struct ReplayWords {
     pub calls: Option<String>,
     /// The file for the background report; there is one exactly if there is a call script.
     pub back: Option<String>,
+    /// The file of background writes, if there is one.
+    pub puts: Option<String>,
+    /// The file for the text of what was written; there is one exactly if there is a file of
+    /// background writes.
+    pub spill: Option<String>,
     /// The instant until which the head waits for background blocks at the end, when no request and
     /// no call is left, in nanoseconds, at most 10^15.
     pub until: Ns,

@@ -23,6 +23,9 @@ pub enum UsageReason {
     MissingOption(u32),
     /// A replay has a call script but no background report, or the report but no script.
     CallsAndBack,
+    /// A replay has a file of background writes but no file for the text of what was written, or
+    /// that file but no background writes.
+    PutsAndSpill,
     /// An array has some, but not all, of the three options of a rebuild: the device, the background
     /// report and the copy.
     RebuildIncomplete,
@@ -34,8 +37,8 @@ pub enum UsageReason {
 #[derive(Clone, Copy)]
 pub struct UsageFault {
     /// The index of the word, where the name of the program has index 0. For `NoCommand`,
-    /// `MissingOption`, `CallsAndBack`, `RebuildIncomplete` and `RebuildBeyond` it is the number of
-    /// words. An index that doesn't fit in 32 bits is the last one that does.
+    /// `MissingOption`, `CallsAndBack`, `PutsAndSpill`, `RebuildIncomplete` and `RebuildBeyond` it
+    /// is the number of words. An index that doesn't fit in 32 bits is the last one that does.
     pub place: u32,
     /// The reason.
     pub reason: UsageReason,

@@ -24,6 +24,10 @@ pub struct Given<'a> {
     pub fore: Option<&'a str>,
     /// The file of the background report.
     pub back: Option<&'a str>,
+    /// The file of background writes.
+    pub puts: Option<&'a str>,
+    /// The file for the text of what was written.
+    pub spill: Option<&'a str>,
     /// The instant until which the head waits at the end, in nanoseconds.
     pub until: Option<Ns>,
     /// The device of the requests.
@@ -56,6 +60,8 @@ impl Given<'_> {
             calls: None,
             fore: None,
             back: None,
+            puts: None,
+            spill: None,
             until: None,
             device: None,
             bytes: None,
@@ -79,6 +85,8 @@ impl Given<'_> {
             OptionName::Calls => self.calls.is_some(),
             OptionName::Fore => self.fore.is_some(),
             OptionName::Back => self.back.is_some(),
+            OptionName::Puts => self.puts.is_some(),
+            OptionName::Spill => self.spill.is_some(),
             OptionName::Until => self.until.is_some(),
             OptionName::Device => self.device.is_some(),
             OptionName::Bytes => self.bytes.is_some(),

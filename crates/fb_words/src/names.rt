@@ -1,6 +1,6 @@
 // The words for commands, options and values.
 ghost use Rattle.std.specs.Prelude.{◌≡◌};
-ghost use Rattle.fb_words.specs.Names.{verb_of, option_of, policy_of, bytes_of};
+ghost use Rattle.fb_words.specs.Names.{verb_of, option_of, meaning, run_options, policy_of, bytes_of};
 
 use crate::Policy;
 use fb_report::Bytes;
@@ -33,6 +33,10 @@ pub enum OptionName {
     Fore,
     /// The file of the background report: `--back`.
     Back,
+    /// The file of background writes: `--puts`.
+    Puts,
+    /// The file for the text of what was written: `--spill`.
+    Spill,
     /// The instant until which the head waits at the end: `--until`.
     Until,
     /// The device: `--device`.
@@ -77,9 +81,21 @@ pub fn option_of(verb: Verb, name: &str) -> Option<OptionName>
     }
 }
 
+// A replay has the options that it shares with a check, and the two of background writes.
 #[tactic(auto, unfolding(crate::specs::Names::option_of))]
 fn replay_option(name: &str) -> Option<OptionName>
     ensures { result ≡ option_of Verb.Replay name.now }
+{
+    match name {
+        "--puts" => Some(OptionName::Puts),
+        "--spill" => Some(OptionName::Spill),
+        _ => run_option(name),
+    }
+}
+
+// The options that a replay and a check share.
+fn run_option(name: &str) -> Option<OptionName>
+    ensures { result ≡ meaning run_options name.now }
 {
     match name {
         "--params" => Some(OptionName::Params),
@@ -109,14 +125,14 @@ fn make_option(name: &str) -> Option<OptionName>
     }
 }
 
-// A check has the options of a replay, and the foreground report.
+// A check has the options that it shares with a replay, and the foreground report.
 #[tactic(auto, unfolding(crate::specs::Names::option_of))]
 fn check_option(name: &str) -> Option<OptionName>
     ensures { result ≡ option_of Verb.Check name.now }
 {
     match name {
         "--fore" => Some(OptionName::Fore),
-        _ => replay_option(name),
+        _ => run_option(name),
     }
 }
 

@@ -78,6 +78,14 @@ fn with_form<'a>(
             back: Some(value),
             ..given
         }),
+        OptionName::Puts => Ok(Given {
+            puts: Some(value),
+            ..given
+        }),
+        OptionName::Spill => Ok(Given {
+            spill: Some(value),
+            ..given
+        }),
         OptionName::Until => Ok(Given {
             until: Some(time(value)?),
             ..given

@@ -90,12 +90,17 @@ fn replay(alloc: Global, count: usize, given: Given<'_>) -> Result<ReplayWords, 
     if given.calls.is_some() != given.back.is_some() {
         return Err(WordsError::Fault(fault_at(count, UsageReason::CallsAndBack)));
     }
+    if given.puts.is_some() != given.spill.is_some() {
+        return Err(WordsError::Fault(fault_at(count, UsageReason::PutsAndSpill)));
+    }
     Ok(ReplayWords {
         params: String::from_str(alloc, params)?,
         trace: String::from_str(alloc, trace)?,
         policy,
         calls: copied(alloc, given.calls)?,
         back: copied(alloc, given.back)?,
+        puts: copied(alloc, given.puts)?,
+        spill: copied(alloc, given.spill)?,
         until: given.until.unwrap_or(0),
         device: given.device.unwrap_or(0),
         bytes: given.bytes.unwrap_or(DEFAULT_BYTES),
