@@ -1,8 +1,8 @@
 // The command that the words of a command line give.
-ghost use Rattle.std.specs.Prelude.{◌≡◌, IfOk, Ok, map};
+ghost use Rattle.std.specs.Prelude.{◌≡◌, IfOk, Ok, map, not};
 ghost use Rattle.std.specs.Option.{option_copied, option_map};
 ghost use Rattle.std.specs.String.{string_bytes};
-ghost use Rattle.fb_units.specs.Judging.{or_refuse, refused_as};
+ghost use Rattle.fb_units.specs.Judging.{or_refuse, refuse, refused_as};
 ghost use Rattle.fb_words.specs.declared.fault.UsageReason.TheVariants.{UnknownCommand, MissingOption};
 ghost use Rattle.fb_words.specs.Names.{verb_of};
 ghost use Rattle.fb_words.specs.Given.{options};
@@ -87,12 +87,8 @@ fn replay(alloc: Global, count: usize, given: Given<'_>) -> Result<ReplayWords, 
     let params = required(given.params, count, 0)?;
     let trace = required(given.trace, count, 1)?;
     let policy = required(given.policy, count, 2)?;
-    if given.calls.is_some() != given.back.is_some() {
-        return Err(WordsError::Fault(fault_at(count, UsageReason::CallsAndBack)));
-    }
-    if given.puts.is_some() != given.spill.is_some() {
-        return Err(WordsError::Fault(fault_at(count, UsageReason::PutsAndSpill)));
-    }
+    together(given.calls, given.back, count, UsageReason::CallsAndBack)?;
+    together(given.puts, given.spill, count, UsageReason::PutsAndSpill)?;
     Ok(ReplayWords {
         params: String::from_str(alloc, params)?,
         trace: String::from_str(alloc, trace)?,
@@ -202,6 +198,21 @@ fn required<T: Copy>(value: Option<T>, count: usize, number: u32) -> Result<T, U
         Some(value) => Ok(value),
         None => Err(fault_at(count, UsageReason::MissingOption(number))),
     }
+}
+
+// Ok if both options are given, or neither is; else this reason.
+fn together(
+    one: Option<&str>,
+    other: Option<&str>,
+    count: usize,
+    reason: UsageReason,
+) -> Result<(), UsageFault>
+    ensures { result ≡ refused_as (fault_at count) (refuse reason (not (go_together (option_copied one.entry) (option_copied other.entry)))) }
+{
+    if one.is_some() != other.is_some() {
+        return Err(fault_at(count, reason));
+    }
+    Ok(())
 }
 
 fn copied(alloc: Global, text: Option<&str>) -> Result<Option<String>, WordsError>
