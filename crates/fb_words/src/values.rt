@@ -53,72 +53,26 @@ fn with_form<'a>(
 ) -> Result<Given<'a>, UsageReason>
     ensures { Agrees options result (with_form (options given.entry) option value.now) }
 {
+    let mut now = given;
     match option {
-        OptionName::Params => Ok(Given {
-            params: Some(value),
-            ..given
-        }),
-        OptionName::Trace => Ok(Given {
-            trace: Some(value),
-            ..given
-        }),
-        OptionName::Policy => Ok(Given {
-            policy: Some(policy(value)?),
-            ..given
-        }),
-        OptionName::Calls => Ok(Given {
-            calls: Some(value),
-            ..given
-        }),
-        OptionName::Fore => Ok(Given {
-            fore: Some(value),
-            ..given
-        }),
-        OptionName::Back => Ok(Given {
-            back: Some(value),
-            ..given
-        }),
-        OptionName::Puts => Ok(Given {
-            puts: Some(value),
-            ..given
-        }),
-        OptionName::Spill => Ok(Given {
-            spill: Some(value),
-            ..given
-        }),
-        OptionName::Until => Ok(Given {
-            until: Some(time(value)?),
-            ..given
-        }),
-        OptionName::Device => Ok(Given {
-            device: Some(number(value)?),
-            ..given
-        }),
-        OptionName::Bytes => Ok(Given {
-            bytes: Some(bytes(value)?),
-            ..given
-        }),
-        OptionName::Number => Ok(Given {
-            number: Some(number(value)?),
-            ..given
-        }),
-        OptionName::Requests => Ok(Given {
-            requests: Some(request_count(value)?),
-            ..given
-        }),
-        OptionName::Devices => Ok(Given {
-            devices: Some(device_count(value)?),
-            ..given
-        }),
-        OptionName::Rebuild => Ok(Given {
-            rebuild: Some(number(value)?),
-            ..given
-        }),
-        OptionName::Copy => Ok(Given {
-            copy: Some(value),
-            ..given
-        }),
+        OptionName::Params => now.params = Some(value),
+        OptionName::Trace => now.trace = Some(value),
+        OptionName::Policy => now.policy = Some(policy(value)?),
+        OptionName::Calls => now.calls = Some(value),
+        OptionName::Fore => now.fore = Some(value),
+        OptionName::Back => now.back = Some(value),
+        OptionName::Puts => now.puts = Some(value),
+        OptionName::Spill => now.spill = Some(value),
+        OptionName::Until => now.until = Some(time(value)?),
+        OptionName::Device => now.device = Some(number(value)?),
+        OptionName::Bytes => now.bytes = Some(bytes(value)?),
+        OptionName::Number => now.number = Some(number(value)?),
+        OptionName::Requests => now.requests = Some(request_count(value)?),
+        OptionName::Devices => now.devices = Some(device_count(value)?),
+        OptionName::Rebuild => now.rebuild = Some(number(value)?),
+        OptionName::Copy => now.copy = Some(value),
     }
+    Ok(now)
 }
 
 fn policy(value: &str) -> Result<Policy, UsageReason>
