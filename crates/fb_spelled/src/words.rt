@@ -16,7 +16,8 @@ fn split(alloc: Global, text: &str) -> Result<Vec<String>, Fail> {
 
 #[test]
 fn reads_a_replay(rt: HostRuntime) -> Result<(), Fail> {
-    let text = "freeblock replay --bytes=sha256 --trace=t=1 --device 007 --policy sptf --params k";
+    let text =
+        "freeblock replay --bytes=sha256 --trace=t=1 --device 007 --spill s --policy sptf --params k --puts=p";
     let words = split(rt.alloc(), text)?;
     match &read_words(rt.alloc(), words.as_slice()) {
         Ok(Command::Replay(words)) => check_replay(&rt, words),
@@ -32,6 +33,8 @@ fn check_replay(rt: &impl Abort, words: &ReplayWords) {
     assert!(rt; matches!(words.bytes, Bytes::Digest));
     assert!(rt; words.calls.is_none());
     assert!(rt; words.back.is_none());
+    assert_eq!(rt; words.puts.as_deref(), Some("p"));
+    assert_eq!(rt; words.spill.as_deref(), Some("s"));
     assert_eq!(rt; (words.until, words.device), (0, 7));
     assert!(rt; !words.summary);
 }
@@ -81,17 +84,65 @@ fn faults_of_checks(rt: HostRuntime) -> Result<(), Fail> {
         ("freeblock replay --params=k --fore=f", 3, "UnknownOption"),
     ];
     for (text, place, reason) in cases {
-        let words = split(rt.alloc(), text)?;
-        match &read_words(rt.alloc(), words.as_slice()) {
-            Err(WordsError::Fault(fault)) => {
-                assert_eq!(rt;
-                    (fault.place, spelled(fault.reason)),
-                    (place, reason),
-                    "for {text}"
-                )
-            }
-            _ => assert!(rt; false, "{text} is refused"),
+        check_fault(&rt, rt.alloc(), text, place, reason)?;
+    }
+    Ok(())
+}
+
+#[test]
+fn faults_of_puts(rt: HostRuntime) -> Result<(), Fail> {
+    let cases = [
+        (
+            "freeblock replay --params=k --trace=t --policy=fcfs --puts=p",
+            6,
+            "PutsAndSpill",
+        ),
+        (
+            "freeblock replay --params=k --trace=t --policy=fcfs --spill=s --calls=c --back=b",
+            8,
+            "PutsAndSpill",
+        ),
+        (
+            "freeblock replay --params=k --trace=t --policy=fcfs --puts=p --back=b",
+            7,
+            "CallsAndBack",
+        ),
+        (
+            "freeblock replay --params=k --trace=t --puts=p",
+            5,
+            "MissingOption 2",
+        ),
+        ("freeblock replay --puts=p --puts=q", 3, "OptionTwice"),
+        ("freeblock replay --spill", 2, "NoValue"),
+        ("freeblock make --puts=p", 2, "UnknownOption"),
+        ("freeblock check --puts=p", 2, "UnknownOption"),
+        ("freeblock check --spill=s", 2, "UnknownOption"),
+        ("freeblock array --puts=p", 2, "UnknownOption"),
+    ];
+    for (text, place, reason) in cases {
+        check_fault(&rt, rt.alloc(), text, place, reason)?;
+    }
+    Ok(())
+}
+
+// The words of the text are refused for this reason at this place.
+fn check_fault(
+    rt: &impl Abort,
+    alloc: Global,
+    text: &str,
+    place: u32,
+    reason: &str,
+) -> Result<(), Fail> {
+    let words = split(alloc, text)?;
+    match &read_words(alloc, words.as_slice()) {
+        Err(WordsError::Fault(fault)) => {
+            assert_eq!(rt;
+                (fault.place, spelled(fault.reason)),
+                (place, reason),
+                "for {text}"
+            )
         }
+        _ => assert!(rt; false, "{text} is refused"),
     }
     Ok(())
 }
@@ -100,9 +151,13 @@ fn faults_of_checks(rt: HostRuntime) -> Result<(), Fail> {
 fn spelled(reason: UsageReason) -> &'static str {
     match reason {
         UsageReason::UnknownOption => "UnknownOption",
+        UsageReason::NoValue => "NoValue",
         UsageReason::OptionTwice => "OptionTwice",
+        UsageReason::MissingOption(2) => "MissingOption 2",
         UsageReason::MissingOption(4) => "MissingOption 4",
         UsageReason::MissingOption(5) => "MissingOption 5",
+        UsageReason::CallsAndBack => "CallsAndBack",
+        UsageReason::PutsAndSpill => "PutsAndSpill",
         _ => "another",
     }
 }
