@@ -13,7 +13,7 @@ ghost use Rattle.fb_fastq.specs.Candidates.{IsCandidate, IsBefore, BeatsFrom, Be
 
 use crate::index::{next_from, next_round};
 use crate::lanes::{LANE, along, cylinder_start};
-use crate::visit::{Visit, visit_on, visit_to};
+use crate::visit::{Visit, visit_to};
 use crate::{Choice, Indexed};
 use fb_service::{Departure, Disk, departure_from};
 use fb_units::{Ns, Request, Track};
@@ -117,16 +117,12 @@ fn walk_up(
     let mut visit = any;
     let mut left = FEW;
     for (key, _) in waiting.range((start, 0)..) {
-        let last = visit;
-        visit = visit_on(disk, from, last, key.0);
-        if is_too_far(disk, from, &visit, best.wait) {
-            return Walked { best, full: None };
+        if visit.go_on(disk, &from, key.0) {
+            if is_too_far(disk, from, &visit, best.wait) {
+                return Walked { best, full: None };
+            }
+            left = FEW;
         }
-        left = if visit.lane.start == last.lane.start {
-            left
-        } else {
-            FEW
-        };
         if left == 0 {
             return Walked {
                 best,
@@ -166,16 +162,12 @@ fn walk_down(
     let mut visit = any;
     let mut left = FEW;
     for (key, _) in waiting.range(..(end, 0)).rev() {
-        let last = visit;
-        visit = visit_on(disk, from, last, key.0);
-        if is_too_far(disk, from, &visit, best.wait) {
-            return Walked { best, full: None };
+        if visit.go_on(disk, &from, key.0) {
+            if is_too_far(disk, from, &visit, best.wait) {
+                return Walked { best, full: None };
+            }
+            left = FEW;
         }
-        left = if visit.lane.start == last.lane.start {
-            left
-        } else {
-            FEW
-        };
         if left == 0 {
             return Walked {
                 best,
@@ -262,7 +254,7 @@ impl Choice for Soonest {
         let Some((key, _)) = next_from(waiting, 0) else {
             unreachable!()
         };
-        let visit = visit_to(disk, from, key.0);
+        let visit = visit_to(disk, &from, key.0);
         let wait = visit.wait(disk, key.0);
         let above = soonest_above(waiting, disk, from, start, visit, Candidate { key, wait });
         soonest_below(waiting, disk, from, start, visit, above).key
