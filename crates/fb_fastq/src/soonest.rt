@@ -79,7 +79,7 @@ fn soonest_of_lane(
     requires angle { visit.now.angle < disk.now.map.rotation }
     ensures found { (from : Departure) → IsVisit disk.now from visit.now → IsCandidate disk.now from.track from.instant waiting.now best → IsCandidate disk.now from.track from.instant waiting.now result }
     ensures first { IsBefore result best }
-    ensures least { (from : Departure) → IsVisit disk.now from visit.now → BeatsBetween disk.now from.track from.instant waiting.now result visit.now.lane.start (visit.now.lane.start + 10 ^ 9) }
+    ensures least { (from : Departure) → IsVisit disk.now from visit.now → BeatsBetween disk.now from.track from.instant waiting.now result visit.now.lane.start (visit.now.lane.start + 2 ^ 30) }
 {
     let rotation = disk.map.geometry().rotation();
     match next_round(waiting, visit.lane.start, rotation, visit.angle) {
@@ -103,13 +103,13 @@ fn walk_up(
 ) -> Walked
     requires spots { AllHeld (λ key request. IsAlong disk.now request key.0) waiting.now }
     requires from { IsDeparture disk.now from }
-    requires start { from.track.cylinder * (128 * 10 ^ 9) ≤ start }
+    requires start { from.track.cylinder * 2 ^ 37 ≤ start }
     requires any { IsVisit disk.now from any }
     requires first { IsCandidate disk.now from.track from.instant waiting.now first }
     ensures found { IsCandidate disk.now from.track from.instant waiting.now result.best }
     ensures first { IsBefore result.best first }
     ensures full { IfSome result.full (IsVisit disk.now from) }
-    ensures on { IfSome result.full (λ visit. start < visit.lane.start + 10 ^ 9) }
+    ensures on { IfSome result.full (λ visit. start < visit.lane.start + 2 ^ 30) }
     ensures least { MatchOption result.full (BeatsFrom disk.now from.track from.instant waiting.now result.best start)
         (λ visit. BeatsBetween disk.now from.track from.instant waiting.now result.best start visit.lane.start) }
 {
@@ -148,7 +148,7 @@ fn walk_down(
 ) -> Walked
     requires spots { AllHeld (λ key request. IsAlong disk.now request key.0) waiting.now }
     requires from { IsDeparture disk.now from }
-    requires end { end ≤ from.track.cylinder * (128 * 10 ^ 9) }
+    requires end { end ≤ from.track.cylinder * 2 ^ 37 }
     requires any { IsVisit disk.now from any }
     requires first { IsCandidate disk.now from.track from.instant waiting.now first }
     ensures found { IsCandidate disk.now from.track from.instant waiting.now result.best }
@@ -156,7 +156,7 @@ fn walk_down(
     ensures full { IfSome result.full (IsVisit disk.now from) }
     ensures on { IfSome result.full (λ visit. visit.lane.start < end) }
     ensures least { MatchOption result.full (BeatsBetween disk.now from.track from.instant waiting.now result.best 0 end)
-        (λ visit. BeatsBetween disk.now from.track from.instant waiting.now result.best (visit.lane.start + 10 ^ 9) end) }
+        (λ visit. BeatsBetween disk.now from.track from.instant waiting.now result.best (visit.lane.start + 2 ^ 30) end) }
 {
     let mut best = first;
     let mut visit = any;
@@ -192,7 +192,7 @@ fn soonest_above(
 ) -> Candidate
     requires spots { AllHeld (λ key request. IsAlong disk.now request key.0) waiting.now }
     requires from { IsDeparture disk.now from }
-    requires start { from.track.cylinder * (128 * 10 ^ 9) ≤ start }
+    requires start { from.track.cylinder * 2 ^ 37 ≤ start }
     requires any { IsVisit disk.now from any }
     requires first { IsCandidate disk.now from.track from.instant waiting.now first }
     ensures found { IsCandidate disk.now from.track from.instant waiting.now result }
@@ -218,7 +218,7 @@ fn soonest_below(
 ) -> Candidate
     requires spots { AllHeld (λ key request. IsAlong disk.now request key.0) waiting.now }
     requires from { IsDeparture disk.now from }
-    requires end { end ≤ from.track.cylinder * (128 * 10 ^ 9) }
+    requires end { end ≤ from.track.cylinder * 2 ^ 37 }
     requires any { IsVisit disk.now from any }
     requires first { IsCandidate disk.now from.track from.instant waiting.now first }
     ensures found { IsCandidate disk.now from.track from.instant waiting.now result }

@@ -28,7 +28,7 @@ impl Visit {
     /// Whether a spot lies in the room of the lane.
     pub fn has(&self, spot: Ns) -> bool
         requires { IsLane self.now.lane }
-        ensures { result ≡ true → (self.now.lane.start ≤ spot) × (spot < self.now.lane.start + 10 ^ 9) }
+        ensures { result ≡ true → (self.now.lane.start ≤ spot) × (spot < self.now.lane.start + 2 ^ 30) }
     {
         self.lane.start <= spot && spot < self.lane.start + LANE
     }
@@ -38,7 +38,7 @@ impl Visit {
         requires way { self.now.way ≤ 2 * 10 ^ 9 }
         requires angle { self.now.angle < disk.now.map.rotation }
         requires from { self.now.lane.start ≤ spot }
-        requires before { spot < self.now.lane.start + 10 ^ 9 }
+        requires before { spot < self.now.lane.start + 2 ^ 30 }
         ensures { (from : Departure) (request : Request) → IsVisit disk.now from self.now → IsAlong disk.now request spot
             → result ≡ sptf disk.now from.track from.instant request }
     {
@@ -55,10 +55,10 @@ impl Visit {
     pub fn go_on(&mut self, disk: &Disk, from: &Departure, spot: Ns) -> bool
         requires from { IsDeparture disk.now from.now }
         requires last { IsVisit disk.now from.now self.old }
-        requires spot { spot < cylinders_of disk.now.map.zones * (128 * 10 ^ 9) }
+        requires spot { spot < cylinders_of disk.now.map.zones * 2 ^ 37 }
         ensures visit { IsVisit disk.now from.now self.new }
         ensures start { self.new.lane.start ≤ spot }
-        ensures end { spot < self.new.lane.start + 10 ^ 9 }
+        ensures end { spot < self.new.lane.start + 2 ^ 30 }
     {
         if self.has(spot) {
             return false;
@@ -96,10 +96,10 @@ impl Visit {
 /// The visit to the lane in whose room a spot lies.
 pub fn visit_to(disk: &Disk, from: &Departure, spot: Ns) -> Visit
     requires from { IsDeparture disk.now from.now }
-    requires spot { spot < cylinders_of disk.now.map.zones * (128 * 10 ^ 9) }
+    requires spot { spot < cylinders_of disk.now.map.zones * 2 ^ 37 }
     ensures visit { IsVisit disk.now from.now result }
     ensures start { result.lane.start ≤ spot }
-    ensures end { spot < result.lane.start + 10 ^ 9 }
+    ensures end { spot < result.lane.start + 2 ^ 30 }
 {
     visit_of(disk, from, lane_around(disk, spot))
 }
