@@ -11,7 +11,7 @@ ghost use Rattle.fb_fastq.specs.Lanes.{IsLane, IsAlong};
 ghost use Rattle.fb_fastq.specs.Visits.{IsVisit};
 ghost use Rattle.fb_fastq.specs.Candidates.{IsCandidate, IsBefore, BeatsFrom, BeatsBetween};
 
-use crate::index::{next_from, next_round};
+use crate::index::{next_or_first, next_round};
 use crate::lanes::{LANE, along, cylinder_start};
 use crate::visit::{Visit, visit_to};
 use crate::{Choice, Indexed};
@@ -251,9 +251,7 @@ impl Choice for Soonest {
     ) -> (u64, u64) {
         let from = departure_from(disk, head, now);
         let start = cylinder_start(disk, head.cylinder);
-        let Some((key, _)) = next_from(waiting, 0) else {
-            unreachable!()
-        };
+        let (key, _) = next_or_first(waiting, start);
         let visit = visit_to(disk, &from, key.0);
         let wait = visit.wait(disk, key.0);
         let above = soonest_above(waiting, disk, from, start, visit, Candidate { key, wait });
