@@ -38,7 +38,7 @@ module _ (disk : Disk) (head : Track) (now : ℕ) (waiting : BTreeMap (ℕ × �
 
   -- downwards, before a spot or down to the next lane
   pub goes_down : (middle end : ℕ) (full : Option Visit) → BeatsBetween disk head now waiting old middle end
-      → MatchOption full (BeatsBetween disk head now waiting new 0 middle) (λ visit. BeatsBetween disk head now waiting new (visit.lane.start + 10 ^ 9) middle)
-      → MatchOption full (BeatsBetween disk head now waiting new 0 end) (λ visit. BeatsBetween disk head now waiting new (visit.lane.start + 10 ^ 9) end)
+      → MatchOption full (BeatsBetween disk head now waiting new 0 middle) (λ visit. BeatsBetween disk head now waiting new (visit.lane.start + 2 ^ 30) middle)
+      → MatchOption full (BeatsBetween disk head now waiting new 0 end) (λ visit. BeatsBetween disk head now waiting new (visit.lane.start + 2 ^ 30) end)
   goes_down middle end None over under = beats_down 0 middle end under over
-  goes_down middle end (Some visit) over under = beats_down (visit.lane.start + 10 ^ 9) middle end under over
+  goes_down middle end (Some visit) over under = beats_down (visit.lane.start + 2 ^ 30) middle end under over

@@ -19,33 +19,33 @@ same_fields a b c h =
     ap (λ x. made x a.head) c ∙ ap (λ y. made b.cylinder y) h
 
 -- a spot in the room of a lane is one of this lane
-same_numbers : (c h d k b : ℕ) (w v : Bool) → h < 64 → k < 64 → b < 10 ^ 9
-    → c * (128 * 10 ^ 9) + h * (2 * 10 ^ 9) + (if w then 10 ^ 9 else 0) ≤ d * (128 * 10 ^ 9) + k * (2 * 10 ^ 9) + (if v then 10 ^ 9 else 0) + b
-    → d * (128 * 10 ^ 9) + k * (2 * 10 ^ 9) + (if v then 10 ^ 9 else 0) + b < c * (128 * 10 ^ 9) + h * (2 * 10 ^ 9) + (if w then 10 ^ 9 else 0) + 10 ^ 9
+same_numbers : (c h d k b : ℕ) (w v : Bool) → h < 64 → k < 64 → b < 2 ^ 30
+    → c * 2 ^ 37 + h * 2 ^ 31 + (if w then 2 ^ 30 else 0) ≤ d * 2 ^ 37 + k * 2 ^ 31 + (if v then 2 ^ 30 else 0) + b
+    → d * 2 ^ 37 + k * 2 ^ 31 + (if v then 2 ^ 30 else 0) + b < c * 2 ^ 37 + h * 2 ^ 31 + (if w then 2 ^ 30 else 0) + 2 ^ 30
     → (d ≡ c) × (k ≡ h) × (v ≡ w)
 same_numbers c h d k b true true on_h on_k short from below = (omega arith, omega arith, refl)
 same_numbers c h d k b false false on_h on_k short from below = (omega arith, omega arith, refl)
 same_numbers c h d k b true false on_h on_k short from below = absurd (omega arith)
 same_numbers c h d k b false true on_h on_k short from below = absurd (omega arith)
 
-write_room : (w : Bool) → (if w then 10 ^ 9 else 0) ≤ 10 ^ 9
+write_room : (w : Bool) → (if w then 2 ^ 30 else 0) ≤ 2 ^ 30
 write_room true = omega arith
 write_room false = omega arith
 
 module _ (disk : Disk) (r : Request) (spot : ℕ) (along : IsAlong disk r spot) where
   -- the spots of a cylinder
-  pub on_cylinder : ((track_at disk.map r.lbn).cylinder * (128 * 10 ^ 9) ≤ spot) × (spot < (track_at disk.map r.lbn).cylinder * (128 * 10 ^ 9) + 128 * 10 ^ 9)
+  pub on_cylinder : ((track_at disk.map r.lbn).cylinder * 2 ^ 37 ≤ spot) × (spot < (track_at disk.map r.lbn).cylinder * 2 ^ 37 + 2 ^ 37)
   on_cylinder =
       let room = write_room r.write in
       let short = disk.short_rotation in
       (omega (arith, along.value, room), omega (arith, along.value, along.within, along.head, room, short))
 
   module _ (lane : Lane) (is_lane : IsLane lane) where
-    pub on_lane : lane.start ≤ spot → spot < lane.start + 10 ^ 9 → (track_at disk.map r.lbn ≡ lane.track) × (r.write ≡ lane.write)
+    pub on_lane : lane.start ≤ spot → spot < lane.start + 2 ^ 30 → (track_at disk.map r.lbn ≡ lane.track) × (r.write ≡ lane.write)
     on_lane from below =
         let track = track_at disk.map r.lbn in
         let b = begin_angle disk.map (place_at disk.map r.lbn) in
-        let short : b < 10 ^ 9 = (let within = along.within in let rotation = disk.short_rotation in omega (arith, within, rotation)) in
+        let short : b < 2 ^ 30 = (let within = along.within in let rotation = disk.short_rotation in omega (arith, within, rotation)) in
         let same = same_numbers lane.track.cylinder lane.track.head track.cylinder track.head b lane.write r.write is_lane.head along.head short
         (omega (arith, from, along.value, is_lane.start)) (omega (arith, below, along.value, is_lane.start)) in
         (same_fields track lane.track same.0 same.1, same.2)

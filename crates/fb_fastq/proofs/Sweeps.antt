@@ -45,7 +45,7 @@ module _ (disk : Disk) (head : Track) (now : ℕ) (waiting : BTreeMap (ℕ × �
   beats_more a b key r before beats = no_later_trans a.wait a.key.1 b.wait b.key.1 (sptf disk head now r) key.1 before beats
 
   -- a request's spot is in the room of its lane
-  pub in_room : (lane : Lane) → IsLane lane → (key : ℕ × ℕ) (r : Request) → Holds waiting key r → lane.track ≡ track_at disk.map r.lbn → lane.write ≡ r.write → (lane.start ≤ key.0) × (key.0 < lane.start + 10 ^ 9)
+  pub in_room : (lane : Lane) → IsLane lane → (key : ℕ × ℕ) (r : Request) → Holds waiting key r → lane.track ≡ track_at disk.map r.lbn → lane.write ≡ r.write → (lane.start ≤ key.0) × (key.0 < lane.start + 2 ^ 30)
   in_room lane is_lane key r held track write =
       let begin = begins disk r key.0 (spots key r held) lane is_lane (sym track) (sym write) in
       let short = disk.short_rotation in
@@ -56,7 +56,7 @@ module _ (disk : Disk) (head : Track) (now : ℕ) (waiting : BTreeMap (ℕ × �
       -- what comes first round the lane from the angle of arrival on beats the whole lane
       pub beats_lane : (angle : ℕ) (w : (ℕ × ℕ) × Request) (candidate : Candidate) → angle ≡ (now + pos disk.mechanism head lane.track lane.write) % disk.map.rotation
           → Holds waiting w.0 w.1 → lane.start ≤ w.0.0 → w.0.0 < lane.start + length → ComesFirst waiting lane.start length angle w
-          → candidate.key ≡ w.0 → candidate.wait ≡ sptf disk head now w.1 → BeatsBetween disk head now waiting candidate lane.start (lane.start + 10 ^ 9)
+          → candidate.key ≡ w.0 → candidate.wait ≡ sptf disk head now w.1 → BeatsBetween disk head now waiting candidate lane.start (lane.start + 2 ^ 30)
       beats_lane angle w candidate is held from below first key wait = λ k s other inside under.
           let way = pos disk.mechanism head lane.track lane.write in
           let short = disk.short_rotation in
@@ -78,7 +78,7 @@ module _ (disk : Disk) (head : Track) (now : ℕ) (waiting : BTreeMap (ℕ × �
 
       -- where the ring has none, the lane has none
       pub beats_none : (candidate : Candidate) → ((k : ℕ × ℕ) → Waits waiting k → lane.start ≤ k.0 → lane.start + length ≤ k.0)
-          → BeatsBetween disk head now waiting candidate lane.start (lane.start + 10 ^ 9)
+          → BeatsBetween disk head now waiting candidate lane.start (lane.start + 2 ^ 30)
       beats_none candidate none = λ k s other inside under.
           let its = spots k s other in
           let there = on_lane disk s k.0 its lane is_lane inside under in
@@ -88,10 +88,10 @@ module _ (disk : Disk) (head : Track) (now : ℕ) (waiting : BTreeMap (ℕ × �
 
   -- outwards from the head's cylinder, spots that are farther lie on cylinders that are no nearer
   module _ (x w : ℕ × ℕ) (r s : Request) (held : Holds waiting x r) (other : Holds waiting w s) where
-    pub farther_above : head.cylinder * (128 * 10 ^ 9) ≤ x.0 → x.0 ≤ w.0 → distance_of head.cylinder (track_at disk.map r.lbn).cylinder ≤ distance_of head.cylinder (track_at disk.map s.lbn).cylinder
+    pub farther_above : head.cylinder * 2 ^ 37 ≤ x.0 → x.0 ≤ w.0 → distance_of head.cylinder (track_at disk.map r.lbn).cylinder ≤ distance_of head.cylinder (track_at disk.map s.lbn).cylinder
     farther_above from more = let here = on_cylinder disk r x.0 (spots x r held) in let there = on_cylinder disk s w.0 (spots w s other) in omega (arith, here.0, here.1, there.0, there.1, from, more)
 
-    pub farther_below : x.0 < head.cylinder * (128 * 10 ^ 9) → w.0 ≤ x.0 → distance_of head.cylinder (track_at disk.map r.lbn).cylinder ≤ distance_of head.cylinder (track_at disk.map s.lbn).cylinder
+    pub farther_below : x.0 < head.cylinder * 2 ^ 37 → w.0 ≤ x.0 → distance_of head.cylinder (track_at disk.map r.lbn).cylinder ≤ distance_of head.cylinder (track_at disk.map s.lbn).cylinder
     farther_below below less = let here = on_cylinder disk r x.0 (spots x r held) in let there = on_cylinder disk s w.0 (spots w s other) in omega (arith, here.0, here.1, there.0, there.1, below, less)
 
   -- one row of spots after another

@@ -1,11 +1,15 @@
 -- The turns of the spots of a ring.
 use Rattle.std.proofs.Common.{◌≡◌, ℕ, ◌+◌, ◌-◌, ◌%◌, ◌<◌, ◌≤◌, arith, inl, inr, ap, ◌∙◌, IfSome, Option, Some, None}
 use Rattle.std.proofs.lemmas.Bool.{cases_lt}
-use Rattle.std.proofs.Math.Nat.{add-mod_left, mod-eq_of_lt}
+use Rattle.std.proofs.Math.Nat.{add-mod_left, mod-eq_of_lt, mod-add-mod}
 use Rattle.std.specs.BTreeMap.{BTreeMap}
 use Rattle.fb_units.specs.declared.types.Request.{Request}
 use Rattle.fb_fastq.specs.Joining.{Waits, IsNoLater}
 use Rattle.fb_fastq.specs.Turns.{turn}
+
+-- the platter turns on from the angle of an instant as from the instant
+pub turns_on : (rotation instant angle time : ℕ) → angle ≡ instant % rotation → (angle + time) % rotation ≡ (instant + time) % rotation
+turns_on rotation instant angle time e = ap (λ a. (a + time) % rotation) e ∙ mod-add-mod instant rotation time
 
 pub ahead : (c h n : ℕ) → h ≤ c → c < n → (c + n - h) % n ≡ c - h
 ahead c h n le lt =

@@ -13,7 +13,7 @@ use Rattle.fb_fastq.specs.Visits.{IsVisit}
 use Rattle.fb_fastq.proofs.Turns.{ahead, round}
 use Rattle.fb_fastq.proofs.OnLanes.{on_lane, begins, waits_on_lane}
 
-module _ (disk : Disk) (from : Departure) (visit : Visit) (is : IsVisit disk from visit) (r : Request) (spot : ℕ) (along : IsAlong disk r spot) (start : visit.lane.start ≤ spot) (end : spot < visit.lane.start + 10 ^ 9) where
+module _ (disk : Disk) (from : Departure) (visit : Visit) (is : IsVisit disk from visit) (r : Request) (spot : ℕ) (along : IsAlong disk r spot) (start : visit.lane.start ≤ spot) (end : spot < visit.lane.start + 2 ^ 30) where
   -- the request is one of the lane's
   pub is_there : visit.lane.track ≡ track_at disk.map r.lbn
   is_there = sym (on_lane disk r spot along visit.lane is.lane start end).0

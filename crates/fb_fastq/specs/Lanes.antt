@@ -10,7 +10,7 @@ use Rattle.fb_fastq.specs.declared.lanes.Lane.{Lane}
 
 -- where the lane of a track for reads or for writes starts: each has room for the longest rotation, and each cylinder for 64 heads
 abbrev pub lane_start : Track → Bool → ℕ
-lane_start track write = track.cylinder * (128 * 10 ^ 9) + track.head * (2 * 10 ^ 9) + (if write then 10 ^ 9 else 0)
+lane_start track write = track.cylinder * 2 ^ 37 + track.head * 2 ^ 31 + (if write then 2 ^ 30 else 0)
 
 -- the lane starts where that of its track does, and all lanes fit a machine's numbers
 pub record IsLane (lane : Lane) : Type 0 where
@@ -23,4 +23,4 @@ pub record IsAlong (disk : Disk) (request : Request) (spot : ℕ) : Type 0 where
   pub value : spot ≡ lane_start (track_at disk.map request.lbn) request.write + begin_angle disk.map (place_at disk.map request.lbn)
   pub within : begin_angle disk.map (place_at disk.map request.lbn) < disk.map.rotation
   pub head : (track_at disk.map request.lbn).head < 64
-  pub on_disk : spot < cylinders_of disk.map.zones * (128 * 10 ^ 9)
+  pub on_disk : spot < cylinders_of disk.map.zones * 2 ^ 37

@@ -1,5 +1,5 @@
 // Pending requests by spot and number of joining.
-ghost use Rattle.std.specs.Prelude.{◌≡◌, ℕ, ◌+◌, ◌-◌, ◌<◌, ◌≤◌, ◌^◌, ◌∷◌, ◌++◌, [], Some, IfSome, IfNone, OnOk, OnErr, ◌⊎◌};
+ghost use Rattle.std.specs.Prelude.{◌≡◌, ℕ, ◌+◌, ◌-◌, ◌<◌, ◌≤◌, ◌^◌, ◌∷◌, ◌++◌, [], Some, IfSome, IfNone, OnOk, OnErr, ◌⊎◌, length};
 ghost use Rattle.std.specs.BTreeMap.{insert_entry, is_at};
 ghost use Rattle.std.specs.Map.{remove_entry};
 ghost use Rattle.fb_model.specs.PlainReplay.{first_least};
@@ -24,6 +24,20 @@ pub fn next_from(
     match waiting.range((spot, 0)..).next() {
         Some((key, request)) => Some((*key, *request)),
         None => None,
+    }
+}
+
+/// The request of the least spot from this one on; if there is none, that of the least spot of all.
+pub fn next_or_first(waiting: &BTreeMap<(u64, u64), Request>, spot: u64) -> ((u64, u64), Request)
+    requires { 0 < length waiting.now.entries }
+    ensures { Holds waiting.now result.0 result.1 }
+{
+    if let Some(next) = next_from(waiting, spot) {
+        return next;
+    }
+    match next_from(waiting, 0) {
+        Some(first) => first,
+        None => unreachable!(),
     }
 }
 

@@ -7,8 +7,9 @@ ghost use Rattle.fb_fastq.specs.Lanes.{IsLane, IsAlong};
 use fb_service::Disk;
 use fb_units::{Ns, Request, Track};
 
-/// The length of each lane, in ns: room for the longest rotation.
-pub const LANE: Ns = 1_000_000_000;
+/// The length of each lane, in ns: room for the longest rotation. It is a power of two, so that no
+/// division tells the lane of a spot.
+pub const LANE: Ns = 1_073_741_824;
 
 /// The length of a cylinder's lanes, in ns: room for two lanes for each of 64 heads.
 const CYLINDER: Ns = 128 * LANE;
@@ -35,8 +36,8 @@ fn few_tracks(disk: &Disk)
 /// Where the lanes of a cylinder start.
 pub fn cylinder_start(disk: &Disk, cylinder: u32) -> Ns
     requires { cylinder < cylinders_of disk.now.map.zones }
-    ensures value { result ≡ cylinder * (128 * 10 ^ 9) }
-    ensures few { result ≤ 128 * 10 ^ 15 }
+    ensures value { result ≡ cylinder * 2 ^ 37 }
+    ensures few { result ≤ 2 ^ 57 }
 {
     few_tracks(disk);
     cylinder as u64 * CYLINDER
@@ -61,11 +62,11 @@ fn lane_at(disk: &Disk, track: Track, write: bool) -> Lane
 
 /// The lane in whose room a spot lies.
 pub fn lane_around(disk: &Disk, spot: Ns) -> Lane
-    requires { spot < cylinders_of disk.now.map.zones * (128 * 10 ^ 9) }
+    requires { spot < cylinders_of disk.now.map.zones * 2 ^ 37 }
     ensures lane { IsLane result }
     ensures cylinder { result.track.cylinder < cylinders_of disk.now.map.zones }
     ensures from { result.start ≤ spot }
-    ensures before { spot < result.start + 10 ^ 9 }
+    ensures before { spot < result.start + 2 ^ 30 }
 {
     few_tracks(disk);
     let along = spot % CYLINDER;

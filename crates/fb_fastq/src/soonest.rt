@@ -11,9 +11,9 @@ ghost use Rattle.fb_fastq.specs.Lanes.{IsLane, IsAlong};
 ghost use Rattle.fb_fastq.specs.Visits.{IsVisit};
 ghost use Rattle.fb_fastq.specs.Candidates.{IsCandidate, IsBefore, BeatsFrom, BeatsBetween};
 
-use crate::index::{next_from, next_round};
+use crate::index::{next_or_first, next_round};
 use crate::lanes::{LANE, along, cylinder_start};
-use crate::visit::{Visit, visit_on, visit_to};
+use crate::visit::{Visit, visit_to};
 use crate::{Choice, Indexed};
 use fb_service::{Departure, Disk, departure_from};
 use fb_units::{Ns, Request, Track};
@@ -79,7 +79,7 @@ fn soonest_of_lane(
     requires angle { visit.now.angle < disk.now.map.rotation }
     ensures found { (from : Departure) → IsVisit disk.now from visit.now → IsCandidate disk.now from.track from.instant waiting.now best → IsCandidate disk.now from.track from.instant waiting.now result }
     ensures first { IsBefore result best }
-    ensures least { (from : Departure) → IsVisit disk.now from visit.now → BeatsBetween disk.now from.track from.instant waiting.now result visit.now.lane.start (visit.now.lane.start + 10 ^ 9) }
+    ensures least { (from : Departure) → IsVisit disk.now from visit.now → BeatsBetween disk.now from.track from.instant waiting.now result visit.now.lane.start (visit.now.lane.start + 2 ^ 30) }
 {
     let rotation = disk.map.geometry().rotation();
     match next_round(waiting, visit.lane.start, rotation, visit.angle) {
@@ -103,13 +103,13 @@ fn walk_up(
 ) -> Walked
     requires spots { AllHeld (λ key request. IsAlong disk.now request key.0) waiting.now }
     requires from { IsDeparture disk.now from }
-    requires start { from.track.cylinder * (128 * 10 ^ 9) ≤ start }
+    requires start { from.track.cylinder * 2 ^ 37 ≤ start }
     requires any { IsVisit disk.now from any }
     requires first { IsCandidate disk.now from.track from.instant waiting.now first }
     ensures found { IsCandidate disk.now from.track from.instant waiting.now result.best }
     ensures first { IsBefore result.best first }
     ensures full { IfSome result.full (IsVisit disk.now from) }
-    ensures on { IfSome result.full (λ visit. start < visit.lane.start + 10 ^ 9) }
+    ensures on { IfSome result.full (λ visit. start < visit.lane.start + 2 ^ 30) }
     ensures least { MatchOption result.full (BeatsFrom disk.now from.track from.instant waiting.now result.best start)
         (λ visit. BeatsBetween disk.now from.track from.instant waiting.now result.best start visit.lane.start) }
 {
@@ -117,16 +117,12 @@ fn walk_up(
     let mut visit = any;
     let mut left = FEW;
     for (key, _) in waiting.range((start, 0)..) {
-        let last = visit;
-        visit = visit_on(disk, from, last, key.0);
-        if is_too_far(disk, from, &visit, best.wait) {
-            return Walked { best, full: None };
+        if visit.go_on(disk, &from, key.0) {
+            if is_too_far(disk, from, &visit, best.wait) {
+                return Walked { best, full: None };
+            }
+            left = FEW;
         }
-        left = if visit.lane.start == last.lane.start {
-            left
-        } else {
-            FEW
-        };
         if left == 0 {
             return Walked {
                 best,
@@ -152,7 +148,7 @@ fn walk_down(
 ) -> Walked
     requires spots { AllHeld (λ key request. IsAlong disk.now request key.0) waiting.now }
     requires from { IsDeparture disk.now from }
-    requires end { end ≤ from.track.cylinder * (128 * 10 ^ 9) }
+    requires end { end ≤ from.track.cylinder * 2 ^ 37 }
     requires any { IsVisit disk.now from any }
     requires first { IsCandidate disk.now from.track from.instant waiting.now first }
     ensures found { IsCandidate disk.now from.track from.instant waiting.now result.best }
@@ -160,22 +156,18 @@ fn walk_down(
     ensures full { IfSome result.full (IsVisit disk.now from) }
     ensures on { IfSome result.full (λ visit. visit.lane.start < end) }
     ensures least { MatchOption result.full (BeatsBetween disk.now from.track from.instant waiting.now result.best 0 end)
-        (λ visit. BeatsBetween disk.now from.track from.instant waiting.now result.best (visit.lane.start + 10 ^ 9) end) }
+        (λ visit. BeatsBetween disk.now from.track from.instant waiting.now result.best (visit.lane.start + 2 ^ 30) end) }
 {
     let mut best = first;
     let mut visit = any;
     let mut left = FEW;
     for (key, _) in waiting.range(..(end, 0)).rev() {
-        let last = visit;
-        visit = visit_on(disk, from, last, key.0);
-        if is_too_far(disk, from, &visit, best.wait) {
-            return Walked { best, full: None };
+        if visit.go_on(disk, &from, key.0) {
+            if is_too_far(disk, from, &visit, best.wait) {
+                return Walked { best, full: None };
+            }
+            left = FEW;
         }
-        left = if visit.lane.start == last.lane.start {
-            left
-        } else {
-            FEW
-        };
         if left == 0 {
             return Walked {
                 best,
@@ -200,7 +192,7 @@ fn soonest_above(
 ) -> Candidate
     requires spots { AllHeld (λ key request. IsAlong disk.now request key.0) waiting.now }
     requires from { IsDeparture disk.now from }
-    requires start { from.track.cylinder * (128 * 10 ^ 9) ≤ start }
+    requires start { from.track.cylinder * 2 ^ 37 ≤ start }
     requires any { IsVisit disk.now from any }
     requires first { IsCandidate disk.now from.track from.instant waiting.now first }
     ensures found { IsCandidate disk.now from.track from.instant waiting.now result }
@@ -226,7 +218,7 @@ fn soonest_below(
 ) -> Candidate
     requires spots { AllHeld (λ key request. IsAlong disk.now request key.0) waiting.now }
     requires from { IsDeparture disk.now from }
-    requires end { end ≤ from.track.cylinder * (128 * 10 ^ 9) }
+    requires end { end ≤ from.track.cylinder * 2 ^ 37 }
     requires any { IsVisit disk.now from any }
     requires first { IsCandidate disk.now from.track from.instant waiting.now first }
     ensures found { IsCandidate disk.now from.track from.instant waiting.now result }
@@ -259,10 +251,8 @@ impl Choice for Soonest {
     ) -> (u64, u64) {
         let from = departure_from(disk, head, now);
         let start = cylinder_start(disk, head.cylinder);
-        let Some((key, _)) = next_from(waiting, 0) else {
-            unreachable!()
-        };
-        let visit = visit_to(disk, from, key.0);
+        let (key, _) = next_or_first(waiting, start);
+        let visit = visit_to(disk, &from, key.0);
         let wait = visit.wait(disk, key.0);
         let above = soonest_above(waiting, disk, from, start, visit, Candidate { key, wait });
         soonest_below(waiting, disk, from, start, visit, above).key

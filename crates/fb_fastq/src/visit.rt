@@ -28,7 +28,7 @@ impl Visit {
     /// Whether a spot lies in the room of the lane.
     pub fn has(&self, spot: Ns) -> bool
         requires { IsLane self.now.lane }
-        ensures { result ≡ true → (self.now.lane.start ≤ spot) × (spot < self.now.lane.start + 10 ^ 9) }
+        ensures { result ≡ true → (self.now.lane.start ≤ spot) × (spot < self.now.lane.start + 2 ^ 30) }
     {
         self.lane.start <= spot && spot < self.lane.start + LANE
     }
@@ -38,7 +38,7 @@ impl Visit {
         requires way { self.now.way ≤ 2 * 10 ^ 9 }
         requires angle { self.now.angle < disk.now.map.rotation }
         requires from { self.now.lane.start ≤ spot }
-        requires before { spot < self.now.lane.start + 10 ^ 9 }
+        requires before { spot < self.now.lane.start + 2 ^ 30 }
         ensures { (from : Departure) (request : Request) → IsVisit disk.now from self.now → IsAlong disk.now request spot
             → result ≡ sptf disk.now from.track from.instant request }
     {
@@ -50,17 +50,68 @@ impl Visit {
             self.way + (rotation - self.angle + angle)
         }
     }
+
+    /// Goes on to the lane in whose room a spot lies. Whether that is another lane.
+    pub fn go_on(&mut self, disk: &Disk, from: &Departure, spot: Ns) -> bool
+        requires from { IsDeparture disk.now from.now }
+        requires last { IsVisit disk.now from.now self.old }
+        requires spot { spot < cylinders_of disk.now.map.zones * 2 ^ 37 }
+        ensures visit { IsVisit disk.now from.now self.new }
+        ensures start { self.new.lane.start ≤ spot }
+        ensures end { spot < self.new.lane.start + 2 ^ 30 }
+    {
+        if self.has(spot) {
+            return false;
+        }
+        let lane = lane_around(disk, spot);
+        if lane.track.cylinder != self.lane.track.cylinder {
+            *self = visit_of(disk, from, lane);
+            return true;
+        }
+        let way = disk
+            .mechanism
+            .pos_with(self.seek, from.track, lane.track, lane.write);
+        self.angle = self.angle_after(disk, from, way);
+        self.way = way;
+        self.lane = lane;
+        true
+    }
+
+    // The angle of the platter a time after the departure, in ns; the same as before if the way takes as long.
+    fn angle_after(&self, disk: &Disk, from: &Departure, time: Ns) -> Ns
+        requires from { IsDeparture disk.now from.now }
+        requires last { IsVisit disk.now from.now self.now }
+        requires short { time ≤ 2 * 10 ^ 9 }
+        ensures value { result ≡ (from.now.instant + time) % disk.now.map.rotation }
+        ensures bound { result < disk.now.map.rotation }
+    {
+        if time == self.way {
+            self.angle
+        } else {
+            angle_at(disk, from, time)
+        }
+    }
 }
 
 /// The visit to the lane in whose room a spot lies.
-pub fn visit_to(disk: &Disk, from: Departure, spot: Ns) -> Visit
-    requires from { IsDeparture disk.now from }
-    requires spot { spot < cylinders_of disk.now.map.zones * (128 * 10 ^ 9) }
-    ensures visit { IsVisit disk.now from result }
+pub fn visit_to(disk: &Disk, from: &Departure, spot: Ns) -> Visit
+    requires from { IsDeparture disk.now from.now }
+    requires spot { spot < cylinders_of disk.now.map.zones * 2 ^ 37 }
+    ensures visit { IsVisit disk.now from.now result }
     ensures start { result.lane.start ≤ spot }
-    ensures end { spot < result.lane.start + 10 ^ 9 }
+    ensures end { spot < result.lane.start + 2 ^ 30 }
 {
-    let lane = lane_around(disk, spot);
+    visit_of(disk, from, lane_around(disk, spot))
+}
+
+// The visit to a lane.
+fn visit_of(disk: &Disk, from: &Departure, lane: Lane) -> Visit
+    requires from { IsDeparture disk.now from.now }
+    requires lane { IsLane lane }
+    requires cylinder { lane.track.cylinder < cylinders_of disk.now.map.zones }
+    ensures visit { IsVisit disk.now from.now result }
+    ensures lane { result.lane ≡ lane }
+{
     let seek = disk
         .mechanism
         .seek(from.track.cylinder.abs_diff(lane.track.cylinder));
@@ -71,60 +122,22 @@ pub fn visit_to(disk: &Disk, from: Departure, spot: Ns) -> Visit
         lane,
         seek,
         way,
-        angle: (from.instant + way) % disk.map.geometry().rotation(),
+        angle: angle_at(disk, from, way),
     }
 }
 
-/// The same as `visit_to`, but the same visit as before for another spot of its lane.
-pub fn visit_on(disk: &Disk, from: Departure, last: Visit, spot: Ns) -> Visit
-    requires from { IsDeparture disk.now from }
-    requires last { IsVisit disk.now from last }
-    requires spot { spot < cylinders_of disk.now.map.zones * (128 * 10 ^ 9) }
-    ensures visit { IsVisit disk.now from result }
-    ensures start { result.lane.start ≤ spot }
-    ensures end { spot < result.lane.start + 10 ^ 9 }
-{
-    if last.has(spot) {
-        last
-    } else {
-        visit_after(disk, from, &last, spot)
-    }
-}
-
-// The same as `visit_to`, but with no more of it worked out than differs from another visit.
-fn visit_after(disk: &Disk, from: Departure, last: &Visit, spot: Ns) -> Visit
-    requires from { IsDeparture disk.now from }
-    requires last { IsVisit disk.now from last.now }
-    requires spot { spot < cylinders_of disk.now.map.zones * (128 * 10 ^ 9) }
-    ensures visit { IsVisit disk.now from result }
-    ensures start { result.lane.start ≤ spot }
-    ensures end { spot < result.lane.start + 10 ^ 9 }
-{
-    let lane = lane_around(disk, spot);
-    if lane.track.cylinder != last.lane.track.cylinder {
-        return visit_to(disk, from, spot);
-    }
-    let way = disk
-        .mechanism
-        .pos_with(last.seek, from.track, lane.track, lane.write);
-    Visit {
-        lane,
-        seek: last.seek,
-        way,
-        angle: angle_after(disk, from, last, way),
-    }
-}
-
-// The angle of the platter a time after the departure, in ns; that of another visit, if its way takes as long.
-fn angle_after(disk: &Disk, from: Departure, last: &Visit, time: Ns) -> Ns
-    requires from { IsDeparture disk.now from }
-    requires last { IsVisit disk.now from last.now }
+// The angle of the platter a time after the departure, in ns.
+fn angle_at(disk: &Disk, from: &Departure, time: Ns) -> Ns
+    requires from { IsDeparture disk.now from.now }
     requires short { time ≤ 2 * 10 ^ 9 }
-    ensures value { result ≡ (from.instant + time) % disk.now.map.rotation }
+    ensures value { result ≡ (from.now.instant + time) % disk.now.map.rotation }
     ensures bound { result < disk.now.map.rotation }
 {
-    if time == last.way {
-        return last.angle;
+    let rotation = disk.map.geometry().rotation();
+    let turned = from.angle + time;
+    if turned < rotation {
+        turned
+    } else {
+        turned % rotation
     }
-    (from.instant + time) % disk.map.geometry().rotation()
 }

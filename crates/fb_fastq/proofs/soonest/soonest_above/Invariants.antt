@@ -11,7 +11,7 @@ invariant-loop-walked l = record {
   found : IsCandidate l.disk l.from.track l.from.instant l.waiting l.walked.best;
   before : IsBefore l.walked.best l.fn.first;
   full : IfSome l.walked.full (IsVisit l.disk l.from);
-  on : IfSome l.walked.full (λ visit. l.start < visit.lane.start + 10 ^ 9);
+  on : IfSome l.walked.full (λ visit. l.start < visit.lane.start + 2 ^ 30);
   seen : MatchOption l.walked.full (BeatsFrom l.disk l.from.track l.from.instant l.waiting l.walked.best l.start)
       (λ visit. BeatsBetween l.disk l.from.track l.from.instant l.waiting l.walked.best l.start visit.lane.start);
 }

@@ -13,7 +13,7 @@ invariant-loop-walked l = record {
   full : IfSome l.walked.full (IsVisit l.disk l.from);
   on : IfSome l.walked.full (λ visit. visit.lane.start < l.end);
   seen : MatchOption l.walked.full (BeatsBetween l.disk l.from.track l.from.instant l.waiting l.walked.best 0 l.end)
-      (λ visit. BeatsBetween l.disk l.from.track l.from.instant l.waiting l.walked.best (visit.lane.start + 10 ^ 9) l.end);
+      (λ visit. BeatsBetween l.disk l.from.track l.from.instant l.waiting l.walked.best (visit.lane.start + 2 ^ 30) l.end);
 }
 
 abbrev pub decreases-loop-walked : goal.decreases-loop-walked

@@ -21,8 +21,8 @@ loop-key-init c = (
       (λ w t. is_before c.args.end w.0.0 w.0.1 t) (λ w h. before_is c.args.end w.0.0 w.0.1 h),
 )
 
-pub visit_on-visit-requires-clause-spot : goal.visit_on-visit-requires-clause-spot
-visit_on-visit-requires-clause-spot c =
+pub go_on-requires-clause-spot : goal.go_on-requires-clause-spot
+go_on-requires-clause-spot c =
     let x : Waiting = (c.in-Some.key.now, c.in-Some.field-0-1.now) in
     let rest = (rev_source c.next.new.self) in
     let steps = c.in-Some.ensures.steps in
@@ -41,8 +41,8 @@ returns-then-is_too_far-clause-least c = λ k s e from below.
     let own = walk.inside x there in
     let disk = c.args.disk.now in
     let head = c.args.from.track in
-    let visit = c.visit_on-visit.result in
-    let here = is_there disk c.args.from visit c.visit_on-visit.ensures.visit x.1 x.0.0 (c.requires.spots x.0 x.1 own.0) c.visit_on-visit.ensures.start c.visit_on-visit.ensures.end in
+    let visit = c.go_on.new.self in
+    let here = is_there disk c.args.from visit c.go_on.ensures.visit x.1 x.0.0 (c.requires.spots x.0 x.1 own.0) c.go_on.ensures.start c.go_on.ensures.end in
     walk_stops c.args.disk.now c.args.from.track c.args.from.instant c.args.waiting.now c.args.first (λ spot. spot < c.args.end) c.loop-key.best (rev_source c.loop-key.key-iterator) walk (λ w left.
     c.is_too_far.ensures c.if-is_too_far.true c.args.from.instant w.1
     (subst (λ (t : Track). distance_of head.cylinder t.cylinder ≤ distance_of head.cylinder (track_at disk.map w.1.lbn).cylinder) (sym here)
@@ -58,7 +58,7 @@ returns-then-left-eq0-clause-on c =
     let walk = c.loop-key.invariant.3 in
     let there : IsIn x (rev_source c.loop-key.key-iterator) = subst (IsIn x) (sym steps) (in_last x (rev_source c.next.new.self)) in
     let own = walk.inside x there in
-    omega (arith, own.1, c.visit_on-visit.ensures.start, c.visit_on-visit.ensures.end)
+    omega (arith, own.1, c.go_on.ensures.start, c.go_on.ensures.end)
 
 pub returns-then-left-eq0-clause-least : goal.returns-then-left-eq0-clause-least
 returns-then-left-eq0-clause-least c = λ k s e from below.
@@ -69,7 +69,7 @@ returns-then-left-eq0-clause-least c = λ k s e from below.
     let there : IsIn x (rev_source c.loop-key.key-iterator) = subst (IsIn x) (sym steps) (in_last x (rev_source c.next.new.self)) in
     let own = walk.inside x there in
     let left = λ (w : Waiting) (is : IsIn w (rev_source c.loop-key.key-iterator)). nearest_last x w rest (subst SpotsRise steps walk.rise) (subst (IsIn w) steps is) in
-    walk_pauses c.args.disk.now c.args.from.track c.args.from.instant c.args.waiting.now c.args.first (λ spot. spot < c.args.end) c.loop-key.best (rev_source c.loop-key.key-iterator) (λ spot. spot ≤ x.0.0) walk left k s e below (λ le. omega (arith, le, from, c.visit_on-visit.ensures.end))
+    walk_pauses c.args.disk.now c.args.from.track c.args.from.instant c.args.waiting.now c.args.first (λ spot. spot < c.args.end) c.loop-key.best (rev_source c.loop-key.key-iterator) (λ spot. spot ≤ x.0.0) walk left k s e below (λ le. omega (arith, le, from, c.go_on.ensures.end))
 
 pub loop-key-preserved : goal.loop-key-preserved
 loop-key-preserved c =
@@ -80,10 +80,10 @@ loop-key-preserved c =
     let there : IsIn x (rev_source c.loop-key.key-iterator) = subst (IsIn x) (sym steps) (in_last x (rev_source c.next.new.self)) in
     let own = walk.inside x there in
     let next : Candidate = record { key = x.0; wait = c.wait-wait.result } in
-    let wait = c.wait-wait.ensures c.args.from x.1 c.visit_on-visit.ensures.visit (c.requires.spots x.0 x.1 own.0) in (
+    let wait = c.wait-wait.ensures c.args.from x.1 c.go_on.ensures.visit (c.requires.spots x.0 x.1 own.0) in (
       tt,
       tt,
-      c.visit_on-visit.ensures.visit,
+      c.go_on.ensures.visit,
       walk_goes_on c.args.disk.now c.args.from.track c.args.from.instant c.args.waiting.now c.args.first (λ spot. spot < c.args.end) c.loop-key.best next c.sooner-best.result x (rev_source c.loop-key.key-iterator) rest walk
           (rise_front x rest (subst SpotsRise steps walk.rise)).0 (λ w e. subst (IsIn w) (sym steps) (in_front w x rest e)) (λ w e. last_or_front w x rest (subst (IsIn w) steps e))
           there refl wait c.sooner-best.ensures.one c.sooner-best.ensures.first c.sooner-best.ensures.second,

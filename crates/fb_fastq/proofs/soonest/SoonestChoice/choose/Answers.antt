@@ -1,8 +1,8 @@
-use Rattle.std.proofs.Common.{ℕ, arith, subst}
+use Rattle.std.proofs.Common.{ℕ, subst}
 use Rattle.fb_units.specs.declared.types.Track.{Track}
 use Rattle.fb_model.specs.PlainReplay.{sptf}
 use Rattle.fb_fastq.specs.Joining.{IsFirstHeld}
-use Rattle.fb_fastq.proofs.Least.{some_held, waits_there}
+use Rattle.fb_fastq.proofs.Least.{waits_there}
 use Rattle.fb_fastq.proofs.Sweeps.{soonest_is_first}
 use Rattle.fb_fastq.proofs.soonest.SoonestChoice.choose.Goals as goal
 
@@ -20,11 +20,5 @@ returns-clause-first c =
     (soonest_is_first disk from.track from.instant c.cylinder_start-start.result waiting c.soonest_above-above.result c.soonest_below.result
     c.soonest_below.ensures.found c.soonest_below.ensures.first c.soonest_above-above.ensures.least c.soonest_below.ensures.least))
 
-pub unreachable-requires : goal.unreachable-requires
-unreachable-requires c =
-    let waiting = c.args.waiting.now in
-    let held = some_held waiting c.requires.some in
-    let none = c.in_default.ensures.none held.0 (waits_there waiting held.0 held.1.0 held.1.1) in absurd (omega (arith, none))
-
 pub visit_to-visit-requires-clause-spot : goal.visit_to-visit-requires-clause-spot
-visit_to-visit-requires-clause-spot c = (c.requires.spots c.in-Some.key c.in-Some.field-0-1 c.in-Some.ensures.found).on_disk
+visit_to-visit-requires-clause-spot c = (c.requires.spots c.next_or_first.result.0 c.next_or_first.result.1 c.next_or_first.ensures).on_disk
