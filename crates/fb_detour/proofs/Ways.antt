@@ -67,6 +67,12 @@ late-part disk gap es late from is after =
     let begin : late.begin + k * late.step ≤ from = omega (arith, least_step (from - late.begin) late.step, is.from_now, after) in
     omega (arith, longer_stay disk (late_most gap from) (late_most gap (late.begin + k * late.step)) es disk.some_rotation refl begin (omega arith), is.each k small)
 
+-- a detour that reaches the target at an instant or later is worth no more than its stay on the track, and what the target gives from that instant on
+pub worth_from : (disk : Disk) (gap : Gap) (es : List Entry) (track : Track) (leave limit part : ℕ) → IsDetour disk gap track leave → limit ≤ leave + pos disk.mechanism track gap.target gap.write
+    → stay disk (late_most gap limit) es ≤ part
+    → value disk gap (wanted_of es) (Detour track leave) ≤ stay disk (early_to track (gap.now + pos disk.mechanism gap.source track false) leave) es + part
+worth_from disk gap es track leave limit part is le gives = omega (arith, both disk gap es track leave is, late-from disk gap es track leave is limit le, gives)
+
 -- a detour of no more value than that is not better than the best so far
 pub not_better : (disk : Disk) (gap : Gap) (wanted : List Block) (best : Scored) (ceiling : ℕ) (first track : Track) (leave : ℕ) → IsScored disk gap wanted best → IsEnough best ceiling first
     → (IsTrackBefore track first → ⊥) → value disk gap wanted (Detour track leave) ≤ ceiling → Beats disk gap wanted best.plan (Detour track leave)
