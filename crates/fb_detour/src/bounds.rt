@@ -2,11 +2,9 @@
 ghost use Rattle.std.specs.Prelude.{◌≡◌, ◌+◌, ◌*◌, ◌≤◌, ◌<◌, ◌^◌, ℕ, true, false, nat_le, if◌then◌else◌};
 ghost use Rattle.fb_units.specs.declared.types.Track.{Track};
 ghost use Rattle.fb_geometry.specs.Shape.{IsTrackOf, slots_at};
-ghost use Rattle.fb_seek.specs.Positioning.{pos};
-ghost use Rattle.fb_model.specs.Plans.{value, IsDetour, IsTrackBefore};
+ghost use Rattle.fb_model.specs.Plans.{IsTrackBefore};
 ghost use Rattle.fb_wanted.specs.Depth.{depth_at};
-ghost use Rattle.fb_wanted.specs.States.{wanted_of};
-ghost use Rattle.fb_plan.specs.Ways.{AreOnDisk, IsGap};
+ghost use Rattle.fb_plan.specs.Ways.{IsGap};
 ghost use Rattle.fb_detour.specs.Bounds.{distance_to, AreLeast, IsAhead, IsEnough};
 
 use fb_geometry::Zone;

@@ -3,10 +3,9 @@
 ghost use Rattle.std.specs.Prelude.{◌≡◌, ◌+◌, ◌*◌, ◌≤◌, ◌<◌, true, false};
 ghost use Rattle.fb_units.specs.declared.types.Track.{Track};
 ghost use Rattle.fb_wanted.specs.States.{wanted_of};
-ghost use Rattle.fb_wanted.specs.Tracks.{wanted_weight};
 ghost use Rattle.fb_plan.specs.declared.way.Way.{Way};
-ghost use Rattle.fb_plan.specs.Ways.{AreOnDisk, IsGap, IsScored};
-ghost use Rattle.fb_detour.specs.Bounds.{BeatsOver, BeatsRange, AreCeilings, AreLeast, IsLate};
+ghost use Rattle.fb_plan.specs.Ways.{IsGap, IsScored};
+ghost use Rattle.fb_detour.specs.Bounds.{BeatsOver, AreCeilings};
 
 use crate::bounds::is_enough;
 use crate::intervals::Ceilings;
