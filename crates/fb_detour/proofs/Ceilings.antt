@@ -86,10 +86,15 @@ still_caught : (disk : Disk) (a b : Dwell) (block : Block) → a.track ≡ b.tra
     → catches disk a block ≡ true → catches disk b block ≡ true
 still_caught disk a b block same end le h = grind (arith, nat_tests)
 
--- a longer stay catches as much
+-- a longer stay catches each block that a shorter one does
+pub gain-falls : (disk : Disk) (a b : Dwell) (e : Entry) → 0 < disk.map.rotation → a.track ≡ b.track → b.begin ≤ a.begin → a.end ≤ b.end → stay_gain disk a e ≤ stay_gain disk b e
+gain-falls disk a b e some same begin end =
+    if-le _ _ _ (and_both (is_wanted e.state) _ _ (still_caught disk a b e.block same (end-le disk.map e.block b.begin a.begin some begin) end))
+
+-- so it catches as much
 pub longer_stay : (disk : Disk) (a b : Dwell) (es : List Entry) → 0 < disk.map.rotation → a.track ≡ b.track → b.begin ≤ a.begin → a.end ≤ b.end → stay disk a es ≤ stay disk b es
 longer_stay disk a b es some same begin end =
-    let each = sums-le (stay_gain disk a) (stay_gain disk b) (λ e. if-le _ _ _ (and_both (is_wanted e.state) _ _ (still_caught disk a b e.block same (end-le disk.map e.block b.begin a.begin some begin) end))) es in
+    let each = sums-le (stay_gain disk a) (stay_gain disk b) (λ e. gain-falls disk a b e some same begin end) es in
     omega (arith, each, stay-all disk a es, stay-all disk b es)
 
 abbrev pub worth : Block → ℕ

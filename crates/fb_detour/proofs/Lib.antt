@@ -10,8 +10,9 @@ pub mod Spread
 pub mod Within
 pub mod Rounds
 pub mod Packing
-pub mod Shares
 pub mod InInterval
 pub mod InTime
 pub mod Slots
 pub mod Bare
+pub mod Limits
+pub mod Keys

@@ -25,8 +25,8 @@ use Rattle.fb_plan.specs.Ways.{FitsDisk, AreOnDisk}
 use Rattle.fb_detour.specs.Bounds.{stay, stay_gain, early_to, slots_within}
 use Rattle.fb_detour.proofs.Ceilings.{sums-le}
 use Rattle.fb_detour.proofs.Counted.{no_more}
-use Rattle.fb_detour.proofs.Within.{its_track, place_of, sectors_pass}
-use Rattle.fb_detour.proofs.Spread.{same_share}
+use Rattle.fb_detour.proofs.Within.{its_track, place_of, from-le, sectors_pass}
+use Rattle.fb_detour.proofs.Spread.{same_share, slots_short}
 
 pub div-rises : (a b n : ℕ) → a ≤ b → a / n ≤ b / n
 div-rises a b zero le = omega arith
@@ -49,11 +49,11 @@ module _ (disk : Disk) (track : Track) (from upto : ℕ) where
   abbrev share : ℕ → ℕ
   share lbn = (begin_from disk.map (place_at disk.map lbn) from - from) / (disk.map.rotation / slots_at disk.map.zones track.cylinder)
 
-  -- the sector is on the track and begins to pass in time
+  -- the sector is on the track and passes in time
   record Passes (lbn : ℕ) : Type 0 where
     on_disk : lbn < length (places disk.map)
     its : (place_at disk.map lbn).track ≡ track
-    in_time : begin_from disk.map (place_at disk.map lbn) from < upto
+    in_time : begin_from disk.map (place_at disk.map lbn) from + disk.map.rotation / slots_at disk.map.zones track.cylinder ≤ upto
 
   gain-caught : (e : Entry) → stay_gain disk (early_to track from upto) e ≤ e.block.weight * caught e
   unfolding caught
@@ -72,10 +72,11 @@ module _ (disk : Disk) (track : Track) (from upto : ℕ) where
   module _ (sound : IsSound disk.map) where
     in_passing : (e : Entry) → FitsDisk disk e.block → catches disk (early_to track from upto) e.block ≡ true → (i : ℕ) → i < e.block.count → Passes (e.block.lbn + i)
     in_passing e fits caught' i inside =
-        let both = and_parts (same_track track e.block.track) (nat_le (block_end disk.map e.block from) upto) caught' in record {
+        let both = and_parts (same_track track e.block.track) (nat_le (block_end disk.map e.block from) upto) caught' in
+        let share = ap (λ (t : Track). disk.map.rotation / slots_at disk.map.zones t.cylinder) (same_tracks track e.block.track both.0) in record {
           on_disk = omega (arith, fits.on_disk, inside);
           its = its_track disk e.block i fits inside ∙ sym (same_tracks track e.block.track both.0);
-          in_time = sectors_pass disk e.block from upto i sound fits inside (leb-true (block_end disk.map e.block from) upto both.1);
+          in_time = omega (arith, sectors_pass disk e.block from upto i sound fits inside (leb-true (block_end disk.map e.block from) upto both.1), share);
         }
 
     each_passes : (e : Entry) → FitsDisk disk e.block → (i : ℕ) → i < caught e → Passes (e.block.lbn + i)
@@ -96,7 +97,12 @@ module _ (disk : Disk) (track : Track) (from upto : ℕ) where
 
     in_share : (lbn : ℕ) → Passes lbn → share lbn < slots_within disk.map.rotation (slots_at disk.map.zones track.cylinder) (upto - from)
     in_share lbn is =
-        omega (arith, div-rises (begin_from disk.map (place_at disk.map lbn) from - from) (upto - from) (disk.map.rotation / slots_at disk.map.zones track.cylinder) (omega (arith, is.in_time)))
+        let place = place_at disk.map lbn in
+        let slots = slots_at disk.map.zones track.cylinder in
+        let wait = begin_from disk.map place from - from in
+        let some : 0 < slots = omega (arith, (place_of disk.map lbn sound is.on_disk).slot, ap (λ (t : Track). slots_at disk.map.zones t.cylinder) is.its) in
+        let long : 0 < disk.map.rotation / slots = le-div 1 disk.map.rotation slots some (omega (arith, slots_short disk.map.rotation disk.map.zones track.cylinder sound.short_slots)) in
+        omega (arith, le-div (wait / (disk.map.rotation / slots) + 1) (upto - from) (disk.map.rotation / slots) long (omega (arith, div-mul-le_self wait (disk.map.rotation / slots), is.in_time, from-le disk.map place from)))
 
     -- a stay catches no more than the sectors that can pass, each in blocks of so much weight
     pub packing : (entries : List Entry) (depth : ℕ) → HasOwnPlaces disk.map → AreOnDisk disk entries → ((lbn : ℕ) → depth_at track lbn entries ≤ depth)

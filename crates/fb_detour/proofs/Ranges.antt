@@ -1,5 +1,5 @@
 -- Ranges of cylinders.
-use Rattle.std.proofs.Common.{◌≡◌, ℕ, ◌+◌, ◌<◌, ◌≤◌, inl, inr, List, Bool, true, false, arith, sym, subst}
+use Rattle.std.proofs.Common.{◌≡◌, ℕ, ◌+◌, ◌-◌, ◌<◌, ◌≤◌, ◌==◌, min, max, inl, inr, List, Bool, true, false, arith, sym, subst}
 use Rattle.std.proofs.lemmas.Bool.{cases_Bool, cases_lt}
 use Rattle.std.proofs.lemmas.Bool.Decides.{nat_tests}
 use Rattle.fb_units.specs.declared.types.Track.{Track}
@@ -35,10 +35,20 @@ module _ (arm : Mechanics) (rises : SeeksRise arm) (from end : ℕ) (track : Tra
       let near = rises (distance_to from end source.cylinder) (distance_of source.cylinder track.cylinder) (omega (arith, low, high)) in
       omega (arith, near, seek-pos arm source track false)
 
-  pub way-on : (target : Track) (write : Bool) → seek arm (distance_to from end target.cylinder) ≤ pos arm track target write
-  way-on target write =
-      let near = rises (distance_to from end target.cylinder) (distance_of track.cylinder target.cylinder) (omega (arith, low, high)) in
-      omega (arith, near, seek-pos arm track target write)
+  -- nor to the target than that from the nearest cylinder, with the same head
+  pub way-on : (target : Track) (nearest : ℕ) (write : Bool) → nearest ≡ min (max target.cylinder from) (end - 1)
+      → pos arm (record { cylinder = nearest; head = target.head }) target write ≤ pos arm track target write
+  unfolding pos
+  way-on target nearest write is =
+      let near = rises (distance_of nearest target.cylinder) (distance_of track.cylinder target.cylinder) (omega (arith, low, high, is)) in
+      elim (cases_Bool (same_track (record { cylinder = nearest; head = target.head }) target)) [
+        | inl same ↦ rw same (omega arith)
+        | inr other ↦
+            let apart : (nearest ≡ target.cylinder) → ⊥ = λ e. absurd (grind (arith, nat_tests)) in
+            let off : same_track track target ≡ false = grind (arith, nat_tests) in
+            let head : (target.head == target.head) ≡ true = grind (arith, nat_tests) in
+            rw (other, off, head) (omega (arith, near))
+      ]
 
 -- no track of a cylinder is before its first
 pub first-of : (from : ℕ) (track : Track) → from ≤ track.cylinder → IsTrackBefore track (record { cylinder = from; head = 0 }) → ⊥

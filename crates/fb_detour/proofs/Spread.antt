@@ -46,7 +46,7 @@ module _ (rotation n : ℕ) (some : 0 < n) (short : n ≤ rotation) where
   next-apart slot = le-div (slot * rotation / n + rotation / n) ((slot + 1) * rotation) n some (omega (arith, div-add-mod' (slot * rotation) n, div-add-mod' rotation n))
 
   -- each slot is at least so long
-  apart : (a b : ℕ) → a < b → angle a + share ≤ angle b
+  pub apart : (a b : ℕ) → a < b → angle a + share ≤ angle b
   apart a b less = omega (arith, next-apart a, later-after rotation n some short (a + 1) (b - (a + 1)), ap angle (let same : a + 1 + (b - (a + 1)) ≡ b = omega arith in same))
 
   lesser-differs : (a b now : ℕ) → a < b → b < n → wait rotation (angle a) now / share ≡ wait rotation (angle b) now / share → ⊥

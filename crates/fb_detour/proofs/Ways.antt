@@ -1,5 +1,5 @@
 -- What no detour over a track can exceed.
-use Rattle.std.proofs.Common.{◌≡◌, ℕ, ◌+◌, ◌-◌, ◌<◌, ◌≤◌, ◌*◌, ◌/◌, min, inl, inr, List, false, refl, arith}
+use Rattle.std.proofs.Common.{◌≡◌, ℕ, ◌+◌, ◌-◌, ◌<◌, ◌≤◌, ◌*◌, ◌/◌, ◌⊎◌, min, inl, inr, List, false, refl, arith}
 use Rattle.std.proofs.lemmas.Bool.{cases_lt}
 use Rattle.std.proofs.Math.Nat.{div-mul-le_self, mul-le-mul_right}
 use Rattle.fb_units.specs.declared.types.Track.{Track}
@@ -12,7 +12,7 @@ use Rattle.fb_wanted.specs.Tracks.{wanted_weight}
 use Rattle.fb_rows.specs.declared.gap.Gap.{Gap}
 use Rattle.fb_rows.specs.declared.gap.Plan.{Plan}
 use Rattle.fb_rows.specs.declared.gap.Plan.TheVariants.{Detour}
-use Rattle.fb_model.specs.Plans.{value, early_dwell, late_dwell, IsDetour, IsTrackBefore}
+use Rattle.fb_model.specs.Plans.{value, early_dwell, late_dwell, IsDetour, IsNoLater, IsTrackBefore}
 use Rattle.fb_plan.specs.declared.choice.Scored.{Scored}
 use Rattle.fb_detour.specs.declared.parts.LateParts.{LateParts}
 use Rattle.fb_plan.specs.Ways.{IsScored, Beats}
@@ -67,6 +67,12 @@ late-part disk gap es late from is after =
     let begin : late.begin + k * late.step ≤ from = omega (arith, least_step (from - late.begin) late.step, is.from_now, after) in
     omega (arith, longer_stay disk (late_most gap from) (late_most gap (late.begin + k * late.step)) es disk.some_rotation refl begin (omega arith), is.each k small)
 
+-- a detour that reaches the target at an instant or later is worth no more than its stay on the track, and what the target gives from that instant on
+pub worth_from : (disk : Disk) (gap : Gap) (es : List Entry) (track : Track) (leave limit part : ℕ) → IsDetour disk gap track leave → limit ≤ leave + pos disk.mechanism track gap.target gap.write
+    → stay disk (late_most gap limit) es ≤ part
+    → value disk gap (wanted_of es) (Detour track leave) ≤ stay disk (early_to track (gap.now + pos disk.mechanism gap.source track false) leave) es + part
+worth_from disk gap es track leave limit part is le gives = omega (arith, both disk gap es track leave is, late-from disk gap es track leave is limit le, gives)
+
 -- a detour of no more value than that is not better than the best so far
 pub not_better : (disk : Disk) (gap : Gap) (wanted : List Block) (best : Scored) (ceiling : ℕ) (first track : Track) (leave : ℕ) → IsScored disk gap wanted best → IsEnough best ceiling first
     → (IsTrackBefore track first → ⊥) → value disk gap wanted (Detour track leave) ≤ ceiling → Beats disk gap wanted best.plan (Detour track leave)
@@ -75,6 +81,17 @@ not_better disk gap wanted best ceiling first track leave scored enough later le
   | inr same ↦ elim (cases_lt (value disk gap wanted (Detour track leave)) (value disk gap wanted best.plan)) [
     | inl less ↦ inl less
     | inr more ↦ inr (omega (arith, scored.score, le, same.0, more), same.1 track leave later)
+  ]
+]
+
+-- nor is a plan of no more value than a ceiling that is less, or the same and not ahead in the order of ties
+pub no_better_plan : (disk : Disk) (gap : Gap) (wanted : List Block) (best : Scored) (ceiling : ℕ) (other : Plan) → IsScored disk gap wanted best
+    → (ceiling < best.value) ⊎ ((ceiling ≡ best.value) × IsNoLater best.plan other) → value disk gap wanted other ≤ ceiling → Beats disk gap wanted best.plan other
+no_better_plan disk gap wanted best ceiling other scored enough le = elim enough [
+  | inl less ↦ inl (omega (arith, scored.score, le, less))
+  | inr same ↦ elim (cases_lt (value disk gap wanted other) (value disk gap wanted best.plan)) [
+    | inl less ↦ inl less
+    | inr more ↦ inr (omega (arith, scored.score, le, same.0, more), same.1)
   ]
 ]
 

@@ -1,4 +1,4 @@
--- The sectors of a block begin to pass before the block has passed.
+-- The sectors of a block pass, each for the least length of a slot, before the block has passed.
 use Rattle.std.proofs.Common.{◌≡◌, ℕ, zero, suc, ◌+◌, ◌-◌, ◌*◌, ◌/◌, ◌%◌, ◌<◌, ◌≤◌, List, [], ◌∷◌, length, refl, ap, sym, subst, ◌∙◌, inl, inr, arith}
 use Rattle.std.specs.Prelude.{nat_le, nat_lt}
 use Rattle.std.proofs.Math.Nat.{mod-add-mod, mod-eq_of_lt, mod-lt, add-mod_right, mul-add-mod_self_right}
@@ -26,7 +26,7 @@ use Rattle.fb_wanted.specs.declared.block.Block.{Block}
 use Rattle.fb_model.specs.Plans.{block_end}
 use Rattle.fb_plan.specs.Ways.{FitsDisk}
 use Rattle.fb_plan.proofs.Ends.{next-le}
-use Rattle.fb_detour.proofs.Spread.{slots_short}
+use Rattle.fb_detour.proofs.Spread.{apart, slots_short}
 
 -- ---- where sectors are
 
@@ -139,7 +139,7 @@ waits-on : (disk : Shape) (place : Place) (t u : ℕ) → 0 < disk.rotation → 
 unfolding begin_from
 waits-on disk place t u some le = next-le disk.rotation (begin_angle disk place) t u some le
 
-from-le : (disk : Shape) (place : Place) (t : ℕ) → t ≤ begin_from disk place t
+pub from-le : (disk : Shape) (place : Place) (t : ℕ) → t ≤ begin_from disk place t
 unfolding begin_from
 from-le disk place t = omega arith
 
@@ -199,23 +199,25 @@ module _ (disk : Shape) (sound : IsSound disk) (lbn count from : ℕ) (some : 0 
       let angle : end_angle disk (sector i) ≡ end_angle disk (neighbour disk (sector 0) (behind i)) = ap (end_angle disk) (is-behind i inside) in
       omega (arith, there, ap (λ a. wait disk.rotation (a % disk.rotation) (begin + 1)) angle)
 
-  -- so each begins before the last one ends
-  pub begins-before : (i last : ℕ) → i ≤ last → last < count → begin_from disk (sector i) from < end_after disk (lbn + 0) (lbn + last) from
-  begins-before i last le inside =
+  -- so each passes before the last one ends
+  pub passes-before : (i last : ℕ) → i ≤ last → last < count → begin_from disk (sector i) from + disk.rotation / slots ≤ end_after disk (lbn + 0) (lbn + last) from
+  passes-before i last le inside =
       let on = rises disk lbn count one i last le inside in
       let angle : ℕ → ℕ = slot_begin disk.rotation slots in
       let slot = (sector 0).slot in
-      let more : angle (slot + behind i) < angle (slot + (behind last + 1)) =
-      omega (arith, later-after disk.rotation slots some-slots short (slot + behind i) (behind last + 1 - behind i), ap angle (let same : slot + behind i + (behind last + 1 - behind i) ≡ slot + (behind last + 1) = omega (arith, on.1) in same), on.1) in
+      let more : angle (slot + behind i) + disk.rotation / slots ≤ angle (slot + (behind last + 1)) =
+      apart disk.rotation slots some-slots short (slot + behind i) (slot + (behind last + 1)) (omega (arith, on.1)) in
       omega (arith, begins i (omega arith), ends last inside, more, later-after disk.rotation slots some-slots short slot (behind i))
 
--- each sector of a block that has passed by then has begun to pass before
+-- each sector of a block that has passed by then has begun to pass before, by the least length of a slot
 pub sectors_pass : (disk : Disk) (block : Block) (from upto i : ℕ) → IsSound disk.map → FitsDisk disk block → i < block.count → block_end disk.map block from ≤ upto
-    → begin_from disk.map (place_at disk.map (block.lbn + i)) from < upto
+    → begin_from disk.map (place_at disk.map (block.lbn + i)) from + disk.map.rotation / slots_at disk.map.zones block.track.cylinder ≤ upto
 sectors_pass disk block from upto i sound fits inside ended =
     let last = block.count - 1 in
-    let before = begins-before disk.map sound block.lbn block.count from fits.some fits.on_disk fits.one_turn i last (omega arith) (omega arith) in
+    let before = passes-before disk.map sound block.lbn block.count from fits.some fits.on_disk fits.one_turn i last (omega arith) (omega arith) in
     let end : end_after disk.map (block.lbn + 0) (block.lbn + last) from ≡ block_end disk.map block from =
     ap (λ first. end_after disk.map first (block.lbn + last) from) (let same : block.lbn + 0 ≡ block.lbn = omega arith in same)
     ∙ ap (λ l. end_after disk.map block.lbn l from) (let same : block.lbn + last ≡ block.lbn + block.count - 1 = omega arith in same) in
-    omega (arith, before, end, ended)
+    let share : disk.map.rotation / slots_at disk.map.zones (place_at disk.map (block.lbn + 0)).track.cylinder ≡ disk.map.rotation / slots_at disk.map.zones block.track.cylinder =
+    ap (λ (t : Track). disk.map.rotation / slots_at disk.map.zones t.cylinder) (its_track disk block 0 fits fits.some) in
+    omega (arith, before, end, share, ended)

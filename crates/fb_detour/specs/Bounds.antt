@@ -1,5 +1,5 @@
 -- Upper bounds on the value of detours.
-use Rattle.std.specs.Prelude.{◌≡◌, ℕ, false, ◌+◌, ◌-◌, ◌*◌, ◌/◌, ◌^◌, ◌<◌, ◌≤◌, ◌⊎◌, min, nat_lt, get_or, take, List, ◌&&◌, if◌then◌else◌}
+use Rattle.std.specs.Prelude.{◌≡◌, ℕ, false, ◌+◌, ◌-◌, ◌*◌, ◌/◌, ◌%◌, ◌^◌, ◌<◌, ◌≤◌, ◌⊎◌, min, nat_lt, get_or, take, List, ◌&&◌, if◌then◌else◌}
 use Rattle.std.specs.List.{sum_by}
 use Rattle.fb_units.specs.declared.types.Track.{Track}
 use Rattle.fb_seek.specs.Positioning.{pos}
@@ -18,6 +18,7 @@ use Rattle.fb_detour.specs.declared.bounds.Moves.{Moves}
 use Rattle.fb_detour.specs.declared.candidates.Tried.{Tried}
 use Rattle.fb_detour.specs.declared.intervals.Ceilings.{Ceilings}
 use Rattle.fb_detour.specs.declared.parts.LateParts.{LateParts}
+use Rattle.fb_detour.specs.declared.steps.Reach.{Reach}
 use Rattle.fb_detour.specs.declared.stop.Stop.{Stop}
 use Rattle.fb_plan.specs.Ways.{Beats, AreOnDisk, plan_by, early_track, arrival, move_on}
 use Rattle.fb_plan.specs.Turns.{IsTurning}
@@ -54,12 +55,15 @@ early_to track arrive upto = record { track = track; begin = arrive; end = upto 
 abbrev pub part_at : LateParts → ℕ → ℕ
 part_at late from = get_or late.parts (min ((from - late.begin) / late.step) 31) 0
 
--- each part is an upper bound on what the target can still give from the beginning of that part on
+-- each part is an upper bound on what the target can still give from the beginning of that part on, and from its limit on; behind the last limit it gives nothing
 pub record IsLate (disk : Disk) (gap : Gap) (entries : List Entry) (late : LateParts) : Type 0 where
   pub some : 0 < late.step
   pub from_now : late.begin ≤ gap.now
   pub each : (k : ℕ) → k < 32 → stay disk (late_most gap (late.begin + k * late.step)) entries ≤ get_or late.parts k 0
   pub small : (k : ℕ) → k < 32 → get_or late.parts k 0 ≤ 16000000 * 2048000
+  pub start : get_or late.limits 0 0 ≡ gap.now
+  pub limits : (k : ℕ) → k < 32 → stay disk (late_most gap (get_or late.limits k 0)) entries ≤ get_or late.parts k 0
+  pub end : stay disk (late_most gap (get_or late.limits 32 0)) entries ≡ 0
 
 -- the ceiling of the plan that leaves at an instant: what the track gives up to the end of that interval, and the target after the move
 abbrev pub ceiling_at : Ceilings → ℕ → ℕ
@@ -119,10 +123,25 @@ abbrev pub AreLeast : Disk → Gap → ℕ → ℕ → Moves → Type 0
 AreLeast disk gap from end moves = (track : Track) → from ≤ track.cylinder → track.cylinder < end
     → (moves.there ≤ pos disk.mechanism gap.source track false) × (moves.on ≤ pos disk.mechanism track gap.target gap.write)
 
--- an upper bound on what the target can still give after a detour over the track
-abbrev pub IsAfter : Disk → Gap → List Entry → Track → ℕ → Type 0
-IsAfter disk gap entries track most = stay disk (late_most gap (gap.now + pos disk.mechanism gap.source track false + pos disk.mechanism track gap.target gap.write)) entries ≤ most
+-- no stay on the track catches more in each nanosecond, in units of 2^-24
+abbrev pub IsRate : Disk → List Entry → Track → ℕ → Type 0
+IsRate disk entries track rate = (from upto : ℕ) → stay disk (early_to track from upto) entries * 2 ^ 24 ≤ (upto - from) * rate
+
+-- no detour over the track reaches the target earlier, nor is more caught there in each nanosecond
+abbrev pub IsReach : Disk → Gap → List Entry → Track → Reach → Type 0
+IsReach disk gap entries track reach = (reach.back ≤ gap.now + pos disk.mechanism gap.source track false + pos disk.mechanism track gap.target gap.write) × IsRate disk entries track reach.rate
+
+-- no detour over a track of these cylinders is worth more
+abbrev pub IsCeiling : Disk → Gap → List Block → ℕ → ℕ → ℕ → Type 0
+IsCeiling disk gap wanted from end ceiling = (track : Track) (leave : ℕ) → from ≤ track.cylinder → track.cylinder < end → IsDetour disk gap track leave → value disk gap wanted (Detour track leave) ≤ ceiling
+
+-- the number is eight times a bound on detours over the part of this index, with eight for the first part, seven for the second and so on
+pub record IsKey (disk : Disk) (gap : Gap) (wanted : List Block) (from end width j key : ℕ) : Type 0 where
+  pub some : 0 < key
+  pub small : key ≤ 8 * (2 * (16000000 * 2048000)) + 8
+  pub part : (key - 1) % 8 ≡ 7 - j
+  pub ceiling : IsCeiling disk gap wanted (from + j * width) (min end (from + j * width + width)) ((key - 1) / 8)
 
 -- an upper bound on how many slots, of n on a track, begin and end within a time
 abbrev pub slots_within : ℕ → ℕ → ℕ → ℕ
-slots_within rotation n time = time / (rotation / n) + 1
+slots_within rotation n time = time / (rotation / n)

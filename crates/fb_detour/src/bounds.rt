@@ -2,11 +2,9 @@
 ghost use Rattle.std.specs.Prelude.{◌≡◌, ◌+◌, ◌*◌, ◌≤◌, ◌<◌, ◌^◌, ℕ, true, false, nat_le, if◌then◌else◌};
 ghost use Rattle.fb_units.specs.declared.types.Track.{Track};
 ghost use Rattle.fb_geometry.specs.Shape.{IsTrackOf, slots_at};
-ghost use Rattle.fb_seek.specs.Positioning.{pos};
-ghost use Rattle.fb_model.specs.Plans.{value, IsDetour, IsTrackBefore};
+ghost use Rattle.fb_model.specs.Plans.{IsTrackBefore};
 ghost use Rattle.fb_wanted.specs.Depth.{depth_at};
-ghost use Rattle.fb_wanted.specs.States.{wanted_of};
-ghost use Rattle.fb_plan.specs.Ways.{AreOnDisk, IsGap};
+ghost use Rattle.fb_plan.specs.Ways.{IsGap};
 ghost use Rattle.fb_detour.specs.Bounds.{distance_to, AreLeast, IsAhead, IsEnough};
 
 use fb_geometry::Zone;
@@ -15,10 +13,6 @@ use fb_rows::{Gap, Plan};
 use fb_service::Disk;
 use fb_units::{Ns, Track};
 use fb_wanted::{BAND, Wanted};
-
-// The longest time, in ns, for which a bound is computed: in more time more may pass than a number
-// holds.
-pub const LONG: Ns = 1_000_000_000;
 
 // How many cylinders the cylinder lies outside a range; 0 inside it.
 fn distance_to(from: u32, end: u32, cylinder: u32) -> u32
@@ -41,21 +35,25 @@ pub struct Moves {
     pub on: Ns,
 }
 
-// Lower bounds on the times of both moves, over all tracks of these cylinders.
+// Lower bounds on the times of both moves, over all tracks of these cylinders. That of the move on
+// is the time from the nearest cylinder, with the same head as the target, so that it has the settle
+// of a write.
 pub fn least_moves(disk: &Disk, gap: &Gap, from: u32, end: u32) -> Moves
     requires gap { IsGap disk.now gap.now }
     requires some { from < end }
     requires cylinders { end ≤ disk.now.mechanism.cylinders }
     ensures least { AreLeast disk.now gap.entry.now from end result }
-    ensures small { (result.there ≤ 10 ^ 9) × (result.on ≤ 10 ^ 9) }
+    ensures small { (result.there ≤ 10 ^ 9) × (result.on ≤ 2 * 10 ^ 9) }
 {
     disk.mechanism.seeks_rise();
     let there = disk
         .mechanism
         .seek(distance_to(from, end, gap.source.cylinder));
-    let on = disk
-        .mechanism
-        .seek(distance_to(from, end, gap.target.cylinder));
+    let nearest = Track {
+        cylinder: gap.target.cylinder.max(from).min(end - 1),
+        head: gap.target.head,
+    };
+    let on = disk.mechanism.pos(nearest, gap.target, gap.write);
     Moves { there, on }
 }
 
@@ -106,27 +104,6 @@ pub fn most_slots(disk: &Disk, from: u32, end: u32, other: Track) -> u32
         }
     }
     slots
-}
-
-// An upper bound on the value of a detour over a track of these cylinders, by the time that is left
-// beside the moves: no more sectors can pass than slots do, and none counts for more than the most
-// weight that is wanted of one sector.
-pub fn most_in_time(disk: &Disk, wanted: &Wanted, gap: &Gap, from: u32, end: u32, left: Ns) -> u64
-    requires some { from < end }
-    requires gap { IsGap disk.now gap.now }
-    requires blocks { AreOnDisk disk.now wanted.now }
-    requires short { left ≤ 10 ^ 9 }
-    requires left { (track : Track) → from ≤ track.cylinder → track.cylinder < end
-        → gap.now.deadline ≤ gap.now.now + left + (pos disk.now.mechanism gap.now.source track false + pos disk.now.mechanism track gap.now.target gap.now.write) }
-    ensures { (track : Track) (leave : ℕ) → from ≤ track.cylinder → track.cylinder < end → IsDetour disk.now gap.entry.now track leave
-        → value disk.now gap.entry.now (wanted_of wanted.now) (Plan.Detour track leave) ≤ result }
-{
-    let geometry = disk.map.geometry();
-    geometry.sound();
-    geometry.own_places();
-    let slots = most_slots(disk, from, end, gap.target);
-    let share = geometry.rotation() / slots as u64;
-    most_depth(wanted, from, end, gap.target) * (left / share + 2)
 }
 
 fn is_track_before(a: Track, b: Track) -> bool

@@ -1,8 +1,8 @@
 // The plans of a way that can be better than the best so far.
-ghost use Rattle.std.specs.Prelude.{◌≡◌, ◌+◌, ◌<◌, ◌≤◌, ℕ, true};
+ghost use Rattle.std.specs.Prelude.{◌≡◌, ◌+◌, ◌<◌, ◌≤◌, ◌⊎◌, ℕ, true};
 ghost use Rattle.fb_geometry.specs.Shape.{IsTrackOf};
 ghost use Rattle.fb_rows.specs.declared.gap.Plan.{Plan};
-ghost use Rattle.fb_model.specs.Plans.{IsPlan, block_end};
+ghost use Rattle.fb_model.specs.Plans.{IsPlan, IsNoLater, block_end};
 ghost use Rattle.fb_wanted.specs.States.{is_wanted, wanted_of};
 ghost use Rattle.fb_plan.specs.Ways.{FitsDisk, AreOnDisk, IsGap, IsWay, IsScored, Beats, plan_by, early_track, arrival, move_on};
 ghost use Rattle.fb_plan.specs.Turns.{AreSides, stay_of};
@@ -12,13 +12,47 @@ use crate::intervals::{Ceilings, ceiling_at, ceilings_of};
 use crate::parts::{EARLY, LateParts};
 use crate::stop::stop_at;
 use fb_plan::{
-    Scored, Sides, Way, blocks_on, is_wanted, move_on, plan_by, sides_of, stay_of, try_entry,
-    try_plan,
+    Scored, Sides, Way, blocks_on, is_same, is_wanted, move_on, plan_by, sides_of, stay_of,
+    try_entry, try_plan,
 };
-use fb_rows::Gap;
+use fb_rows::{Gap, Plan};
 use fb_service::Disk;
 use fb_units::Ns;
 use fb_wanted::{Entry, Wanted};
+
+// Whether the best so far comes no later, in the order of ties, than the plan of the way that leaves
+// at this instant.
+fn is_no_later(best: Plan, way: Way, leave: Ns) -> bool
+    ensures { result ≡ true → IsNoLater best (plan_by way leave) }
+{
+    match way {
+        Way::Source => match best {
+            Plan::Direct { leave: own } => own <= leave,
+            Plan::Detour { track: _, leave: _ } => false,
+        },
+        Way::Over(track) => match best {
+            Plan::Direct { leave: _ } => true,
+            Plan::Detour {
+                track: own,
+                leave: first,
+            } => is_same(own, track) && first <= leave,
+        },
+    }
+}
+
+// Whether the plan of the way that leaves at this instant, of no more value than the ceiling, is no
+// better than the best so far.
+fn is_beaten(best: Scored, ceiling: u64, way: Way, leave: Ns) -> bool
+    ensures { result ≡ true → (ceiling < best.value) ⊎ ((ceiling ≡ best.value) × IsNoLater best.plan (plan_by way leave)) }
+{
+    if ceiling < best.value {
+        return true;
+    }
+    if best.value < ceiling {
+        return false;
+    }
+    is_no_later(best.plan, way, leave)
+}
 
 // Tries to leave as the passage of a wanted block ends, unless the ceiling shows that this isn't
 // better.
@@ -53,7 +87,8 @@ fn try_leave(
     if gap.deadline < end + ceilings.move_on {
         return best;
     }
-    if ceiling_at(ceilings, end) < best.value {
+    let ceiling = ceiling_at(ceilings, end);
+    if is_beaten(best, ceiling, way, end) {
         return best;
     }
     try_entry(disk, wanted, gap, way, sides, entry, best)

@@ -7,7 +7,7 @@ ghost use Rattle.fb_plan.specs.Ways.{IsGap};
 
 use crate::candidates::try_source;
 use crate::parts::late_parts;
-use crate::search::{try_all, try_guess};
+use crate::search::try_all;
 use fb_plan::{Planner, scored};
 use fb_rows::{Gap, Plan};
 use fb_service::Disk;
@@ -45,7 +45,6 @@ impl Planner for IndexedPlanner {
         let late = late_parts(disk, wanted, gap);
         let first = scored(disk, wanted, gap, Plan::Direct { leave: gap.now });
         let direct = try_source(disk, wanted, gap, &late, first);
-        let guessed = try_guess(disk, wanted, gap, &late, direct);
-        try_all(disk, wanted, gap, &late, guessed).plan
+        try_all(disk, wanted, gap, &late, direct).plan
     }
 }

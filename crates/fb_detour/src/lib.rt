@@ -8,13 +8,13 @@
 
 mod bounds;
 mod candidates;
-mod guess;
 mod indexed;
 mod intervals;
 mod leaves;
 mod missing;
 mod parts;
 mod search;
+mod steps;
 mod stop;
 
 pub use bounds::most_slots;

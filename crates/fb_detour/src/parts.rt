@@ -13,15 +13,21 @@ use fb_units::Ns;
 use fb_wanted::{Block, Entry, Wanted};
 
 // Into how many parts the time of the gap is divided.
-const LATE: usize = 32;
+pub const LATE: usize = 32;
+
+// How many limits there are: one for each part, and one behind the last.
+const LIMITS: usize = 33;
 
 // What the target can still give to a head that comes there later and later: one entry for each
-// step.
+// step. From the limit of a part on it is no more than that part, and from the last limit on it is
+// nothing. A limit lies right behind the last instant at which some block of the part before can be
+// caught, so that bounds that change at limits lose nothing.
 #[derive(Clone, Copy)]
 pub struct LateParts {
     pub begin: Ns,
     pub step: Ns,
     pub parts: [u64; LATE],
+    pub limits: [Ns; LIMITS],
 }
 
 // The worth if the instant comes no later than the other, and else 0.
@@ -40,6 +46,7 @@ fn last_catch(disk: &Disk, gap: &Gap, passing: &Turning, block: Block) -> Option
     requires passing { IsTurning disk.now passing.now }
     requires from { passing.now.from ≡ gap.now.now }
     ensures some { IfSome result (λ last. (from : ℕ) → gap.entry.now.now ≤ from → block_end disk.now.map block from ≤ gap.entry.now.deadline → from ≤ last) }
+    ensures within { IfSome result (λ last. (gap.entry.now.now ≤ last) × (last ≤ gap.entry.now.deadline)) }
     ensures none { IfNone result ((from : ℕ) → gap.entry.now.now ≤ from → gap.entry.now.deadline < block_end disk.now.map block from) }
 {
     let end = passing.end(disk, block);
@@ -64,7 +71,38 @@ fn add_last(last: Ns, worth: u64, begin: Ns, step: Ns, parts: &mut [u64; LATE])
     }
 }
 
-// Adds the worth of the block to each part from whose beginning on it can still be caught.
+// The limits before any block is known: the beginnings of the parts, that of the first one twice.
+fn first_limits(begin: Ns, step: Ns) -> [Ns; LIMITS]
+    requires begin { begin ≤ 9 * 10 ^ 18 }
+    requires step { step ≤ 29 * 10 ^ 16 }
+    ensures { (k : ℕ) → k < 33 → get_or result k 0 ≡ begin + (k - 1) * step }
+{
+    let mut limits = [begin; LIMITS];
+    for k in 0..LATE {
+        limits[k + 1] = begin + k as u64 * step;
+    }
+    limits
+}
+
+// Moves the limit behind the part in which the last instant lies, so that it lies behind this
+// instant.
+fn add_limit(last: Ns, begin: Ns, step: Ns, limits: &mut [Ns; LIMITS])
+    requires order { begin ≤ last }
+    requires some { 0 < step }
+    requires inside { last < begin + 32 * step }
+    requires early { last ≤ 9 * 10 ^ 18 }
+    requires spread { (k : ℕ) → k < 33 → begin + (k - 1) * step ≤ get_or limits.old k 0 }
+    ensures first { get_or limits.new 0 0 ≡ get_or limits.old 0 0 }
+    ensures grow { (k : ℕ) → get_or limits.old k 0 ≤ get_or limits.new k 0 }
+    ensures behind { (k : ℕ) → k < 33 → last < begin + k * step → last < get_or limits.new k 0 }
+{
+    let k = (last - begin) / step;
+    let limit = limits[k as usize + 1].max(last + 1);
+    limits[k as usize + 1] = limit;
+}
+
+// Adds the worth of the block to each part from whose beginning on it can still be caught, and moves
+// the limit behind the last of these.
 fn add_late(
     disk: &Disk,
     gap: &Gap,
@@ -72,15 +110,23 @@ fn add_late(
     step: Ns,
     entry: Entry,
     parts: &mut [u64; LATE],
+    limits: &mut [Ns; LIMITS],
 )
     requires gap { IsGap disk.now gap.now }
     requires fits { FitsDisk disk.now entry.block }
     requires passing { IsTurning disk.now passing.now }
     requires from { passing.now.from ≡ gap.now.now }
+    requires some { 0 < step }
     requires step { step ≤ 29 * 10 ^ 16 }
+    requires over { gap.now.deadline < gap.now.now + 32 * step }
+    requires spread { (k : ℕ) → k < 33 → gap.now.now + (k - 1) * step ≤ get_or limits.old k 0 }
     requires room { (k : ℕ) → k < 32 → get_or parts.old k 0 ≤ 16000000 * 2048000 }
     ensures most { (k : ℕ) → k < 32 → get_or parts.old k 0 + stay_gain disk.now (late_most gap.entry.now (gap.entry.now.now + k * step)) entry ≤ get_or parts.new k 0 }
     ensures small { (k : ℕ) → k < 32 → get_or parts.new k 0 ≤ get_or parts.old k 0 + 2048000 }
+    ensures first { get_or limits.new 0 0 ≡ get_or limits.old 0 0 }
+    ensures grow { (k : ℕ) → get_or limits.old k 0 ≤ get_or limits.new k 0 }
+    ensures limits { (k : ℕ) → k < 32 → get_or parts.old k 0 + stay_gain disk.now (late_most gap.entry.now (get_or limits.new k 0)) entry ≤ get_or parts.new k 0 }
+    ensures end { stay_gain disk.now (late_most gap.entry.now (get_or limits.new 32 0)) entry ≡ 0 }
 {
     if !is_wanted(entry.state) {
         return;
@@ -88,6 +134,7 @@ fn add_late(
     if let Some(last) = last_catch(disk, gap, passing, entry.block) {
         let worth = entry.block.weight as u64 * entry.block.count as u64;
         add_last(last, worth, gap.now, step, parts);
+        add_limit(last, gap.now, step, limits);
     }
 }
 
@@ -101,13 +148,16 @@ pub fn late_parts(disk: &Disk, wanted: &Wanted, gap: &Gap) -> LateParts
     let passing = Turning::new(disk, &blocks, gap.now);
     let step = (gap.deadline - gap.now) / LATE as u64 + 1;
     let mut parts = [0; LATE];
+    let mut limits = first_limits(gap.now, step);
     for i in 0..blocks.len() {
-        add_late(disk, gap, &passing, step, blocks.get(i), &mut parts);
+        let entry = blocks.get(i);
+        add_late(disk, gap, &passing, step, entry, &mut parts, &mut limits);
     }
     LateParts {
         begin: gap.now,
         step,
         parts,
+        limits,
     }
 }
 

@@ -1,64 +1,26 @@
 // The search over tracks: a track is passed over where it is shown that no detour over it is better
 // than the best so far.
-ghost use Rattle.std.specs.Prelude.{◌≡◌, ◌+◌, ◌*◌, ◌≤◌, ◌<◌, true, false};
+ghost use Rattle.std.specs.Prelude.{◌≡◌, ◌+◌, ◌*◌, ◌≤◌, ◌<◌, ◌^◌, ◌⊎◌, ℕ, get_or, false};
 ghost use Rattle.fb_units.specs.declared.types.Track.{Track};
 ghost use Rattle.fb_units.specs.Tracks.{same_track};
 ghost use Rattle.fb_geometry.specs.Shape.{IsTrackOf};
-ghost use Rattle.fb_seek.specs.Positioning.{pos};
 ghost use Rattle.fb_wanted.specs.States.{on_track, wanted_of};
 ghost use Rattle.fb_plan.specs.Ways.{AreOnDisk, IsGap, IsScored, Beats};
-ghost use Rattle.fb_detour.specs.Bounds.{BeatsOver, BeatsRange, IsAfter, IsLate};
+ghost use Rattle.fb_detour.specs.Bounds.{BeatsOver, BeatsRange, IsCeiling, IsKey, IsLate, IsReach};
 
-use crate::bounds::{LONG, is_enough, least_moves, most_in_time};
+use crate::bounds::is_enough;
 use crate::candidates::try_leaves;
-use crate::guess::most_promising;
 use crate::intervals::ceilings_of;
-use crate::leaves::{intervals_beaten, leaves_beaten};
+use crate::leaves::leaves_beaten;
 use crate::missing::misses_enough;
 use crate::parts::{LateParts, late_at};
+use crate::steps::{Reach, most_by_steps, most_over, reach_of};
 use crate::stop::stop_at;
 use fb_plan::{Scored, Way, blocks_on, is_same};
 use fb_rows::Gap;
 use fb_service::Disk;
 use fb_units::{Ns, Track};
 use fb_wanted::{TrackBlocks, Wanted};
-
-// Whether the track's blocks, with what the target can still give after them, weigh too little.
-fn is_too_light(
-    disk: &Disk,
-    wanted: &Wanted,
-    gap: &Gap,
-    track: Track,
-    blocks: &TrackBlocks,
-    after: u64,
-    best: Scored,
-) -> bool
-    requires gap { IsGap disk.now gap.now }
-    requires its { blocks.now ≡ on_track track wanted.now }
-    requires best { IsScored disk.now gap.now (wanted_of wanted.now) best }
-    requires after { IsAfter disk.now gap.now wanted.now track after }
-    requires small { after ≤ 16000000 * 2048000 }
-    ensures { result ≡ true → BeatsOver disk.now gap.entry.now (wanted_of wanted.now) best.plan track }
-{
-    let _ = disk;
-    let _ = wanted;
-    let _ = gap;
-    is_enough(best, blocks.wanted_weight() + after, track)
-}
-
-// An upper bound on what the target can still give after a detour over a track of the cylinder.
-fn most_after(disk: &Disk, wanted: &Wanted, gap: &Gap, late: &LateParts, cylinder: u32) -> u64
-    requires cylinder { cylinder < disk.now.mechanism.cylinders }
-    requires gap { IsGap disk.now gap.now }
-    requires late { IsLate disk.now gap.now wanted.now late.now }
-    ensures each { (track : Track) → track.cylinder ≡ cylinder → IsAfter disk.now gap.entry.now wanted.now track result }
-    ensures small { result ≤ 16000000 * 2048000 }
-{
-    let _ = wanted;
-    let _cylinders = disk.map.geometry().cylinders();
-    let moves = least_moves(disk, gap, cylinder, cylinder + 1);
-    late_at(late, gap.now + moves.there + moves.on)
-}
 
 // Tries the plans that stop at a track with these blocks, unless none can be better than the best so far.
 fn try_stop(
@@ -108,12 +70,11 @@ fn try_track(
     gap: &Gap,
     late: &LateParts,
     track: Track,
-    after: u64,
+    reach: Reach,
     start: Scored,
 ) -> Scored
     requires track { IsTrackOf disk.now.map track }
-    requires after { IsAfter disk.now gap.now wanted.now track after }
-    requires small { after ≤ 16000000 * 2048000 }
+    requires reach { IsReach disk.now gap.now wanted.now track reach }
     requires gap { IsGap disk.now gap.now }
     requires blocks { AreOnDisk disk.now wanted.now }
     requires late { IsLate disk.now gap.now wanted.now late.now }
@@ -129,7 +90,8 @@ fn try_track(
         return start;
     }
     let blocks = blocks_on(disk, wanted, track);
-    if is_too_light(disk, wanted, gap, track, &blocks, after, start) {
+    let most = most_by_steps(disk, wanted, gap, late, reach, blocks.wanted_weight());
+    if is_enough(start, most, track) {
         return start;
     }
     try_stop(disk, wanted, gap, late, track, blocks, start)
@@ -153,169 +115,167 @@ fn try_cylinder(
     ensures keeps { Beats disk.now gap.entry.now (wanted_of wanted.now) result.plan start.plan }
     ensures tried { BeatsRange disk.now gap.entry.now (wanted_of wanted.now) result.plan cylinder (cylinder + 1) }
 {
-    let after = most_after(disk, wanted, gap, late, cylinder);
+    let _cylinders = disk.map.geometry().cylinders();
+    let reach = reach_of(disk, wanted, gap, cylinder, cylinder + 1);
     let mut best = start;
     for head in 0..disk.map.geometry().heads() {
         let track = Track { cylinder, head };
-        best = try_track(disk, wanted, gap, late, track, after, best);
+        best = try_track(disk, wanted, gap, late, track, reach, best);
     }
     best
 }
 
-// Tries the tracks of the cylinder that seems to promise most.
-pub fn try_guess(disk: &Disk, wanted: &Wanted, gap: &Gap, late: &LateParts, start: Scored) -> Scored
-    requires gap { IsGap disk.now gap.now }
-    requires blocks { AreOnDisk disk.now wanted.now }
-    requires late { IsLate disk.now gap.now wanted.now late.now }
-    requires best { IsScored disk.now gap.now (wanted_of wanted.now) start }
-    ensures scored { IsScored disk.now gap.entry.now (wanted_of wanted.now) result }
-    ensures keeps { Beats disk.now gap.entry.now (wanted_of wanted.now) result.plan start.plan }
+// Into how many parts a range of cylinders is divided, at most.
+const WAYS: usize = 8;
+
+// How many cylinders each part of a range of so many has: a power of 8, so that parts and bands of
+// cylinders begin together.
+fn width_of(cylinders: u32) -> u32
+    requires some { 1 < cylinders }
+    requires few { cylinders ≤ 10 ^ 6 }
+    ensures some { 0 < result }
+    ensures less { result < cylinders }
+    ensures whole { cylinders ≤ 8 * result }
 {
-    match most_promising(disk, wanted, gap, late, start.value) {
-        Some(cylinder) => try_cylinder(disk, wanted, gap, late, cylinder, start),
-        None => start,
+    let mut width = 1;
+    while width * 8 < cylinders {
+        width *= 8;
     }
+    width
 }
 
-// Whether so little time is left that no detour over a track of these cylinders is better than the
-// best so far.
-fn is_too_short(
-    disk: &Disk,
-    wanted: &Wanted,
-    gap: &Gap,
-    from: u32,
-    end: u32,
-    left: Ns,
-    best: Scored,
-) -> bool
-    requires some { from < end }
-    requires gap { IsGap disk.now gap.now }
-    requires blocks { AreOnDisk disk.now wanted.now }
-    requires left { (track : Track) → from ≤ track.cylinder → track.cylinder < end
-        → gap.now.deadline ≤ gap.now.now + left + (pos disk.now.mechanism gap.now.source track false + pos disk.now.mechanism track gap.now.target gap.now.write) }
-    requires best { IsScored disk.now gap.now (wanted_of wanted.now) best }
-    ensures { result ≡ true → BeatsRange disk.now gap.entry.now (wanted_of wanted.now) best.plan from end }
-{
-    if LONG < left {
-        return false;
-    }
-    let first = Track {
-        cylinder: from,
-        head: 0,
-    };
-    is_enough(
-        best,
-        most_in_time(disk, wanted, gap, from, end, left),
-        first,
-    )
-}
-
-// Whether no detour over a track of these cylinders is better than the best so far.
-fn can_skip(
+// For each part of the range an upper bound on the value of detours over it, in one number with the
+// part: eight times the bound, and 8 for the first part, 7 for the second and so on. So numbers
+// differ, and a greater bound has a greater number.
+fn keys_of(
     disk: &Disk,
     wanted: &Wanted,
     gap: &Gap,
     late: &LateParts,
     from: u32,
     end: u32,
-    best: Scored,
-) -> bool
-    requires some { from < end }
+    width: u32,
+    known: u64,
+) -> [u64; WAYS]
+    requires within { end ≤ disk.now.mechanism.cylinders }
+    requires order { from ≤ end }
+    requires few { disk.now.mechanism.cylinders ≤ 10 ^ 6 }
+    requires width { width ≤ 10 ^ 6 }
+    requires gap { IsGap disk.now gap.now }
+    requires blocks { AreOnDisk disk.now wanted.now }
+    requires late { IsLate disk.now gap.now wanted.now late.now }
+    ensures { (j : ℕ) → j < 8 → IsKey disk.now gap.entry.now (wanted_of wanted.now) from end width j (get_or result j 0) }
+{
+    let mut keys = [0; WAYS];
+    for j in 0..WAYS {
+        let first = from + j as u32 * width;
+        let behind = first + width;
+        let upto = end.min(behind);
+        let most = most_within(disk, wanted, gap, late, first, upto, known);
+        keys[j] = most * 8 + (8 - j as u64);
+    }
+    keys
+}
+
+// An upper bound on the value of detours over the tracks of these cylinders, if there are any.
+fn most_within(
+    disk: &Disk,
+    wanted: &Wanted,
+    gap: &Gap,
+    late: &LateParts,
+    from: u32,
+    end: u32,
+    known: u64,
+) -> u64
     requires cylinders { end ≤ disk.now.mechanism.cylinders }
     requires gap { IsGap disk.now gap.now }
     requires blocks { AreOnDisk disk.now wanted.now }
     requires late { IsLate disk.now gap.now wanted.now late.now }
-    requires best { IsScored disk.now gap.now (wanted_of wanted.now) best }
-    ensures { result ≡ true → BeatsRange disk.now gap.entry.now (wanted_of wanted.now) best.plan from end }
+    ensures most { IsCeiling disk.now gap.entry.now (wanted_of wanted.now) from end result }
+    ensures small { result ≤ 2 * (16000000 * 2048000) }
 {
-    let moves = least_moves(disk, gap, from, end);
-    let back = gap.now + moves.there + moves.on;
-    if gap.deadline < back {
-        return true;
+    if end <= from {
+        return 0;
     }
-    if is_too_short(disk, wanted, gap, from, end, gap.deadline - back, best) {
-        return true;
-    }
-    let weight = wanted.greatest_weight_in(from, end);
-    let first = Track {
-        cylinder: from,
-        head: 0,
-    };
-    if is_enough(best, weight + late_at(late, back), first) {
-        return true;
-    }
-    intervals_beaten(disk, wanted, gap, late, from, end, moves, weight, best)
+    most_over(disk, wanted, gap, late, from, end, known)
 }
 
-// The first cylinder from `from` on that can't be passed over, or `end`. Ranges are tried that grow
-// twofold at each step.
-fn skip(
+// The greatest of the numbers below this one; 0 if there is none.
+fn next_below(keys: &[u64; WAYS], below: u64) -> u64
+    ensures less { 0 < result → result < below }
+    ensures its { 0 < result → (j : ℕ) × (j < 8) × (get_or keys.now j 0 ≡ result) }
+    ensures greatest { (j : ℕ) → j < 8 → get_or keys.now j 0 < below → get_or keys.now j 0 ≤ result }
+{
+    let mut key = 0;
+    for j in 0..WAYS {
+        key = greater_below(key, keys[j], below);
+    }
+    key
+}
+
+// The greater of both numbers, or the first one where the other isn't below this one.
+fn greater_below(key: u64, other: u64, below: u64) -> u64
+    ensures either { (result ≡ key) ⊎ ((result ≡ other) × (other < below)) }
+    ensures key { key ≤ result }
+    ensures other { other < below → other ≤ result }
+{
+    if below <= other {
+        return key;
+    }
+    key.max(other)
+}
+
+// Tries the tracks of these cylinders, if their upper bound leaves it open whether one is better
+// than the best so far: part by part, that with the greatest bound first.
+fn visit(
     disk: &Disk,
     wanted: &Wanted,
     gap: &Gap,
     late: &LateParts,
     from: u32,
     end: u32,
-    best: Scored,
-) -> u32
-    requires order { from ≤ end }
-    requires within { end ≤ disk.now.mechanism.cylinders }
-    requires gap { IsGap disk.now gap.now }
-    requires blocks { AreOnDisk disk.now wanted.now }
-    requires late { IsLate disk.now gap.now wanted.now late.now }
-    requires best { IsScored disk.now gap.now (wanted_of wanted.now) best }
-    ensures after { from ≤ result }
-    ensures within { result ≤ end }
-    ensures passed { BeatsRange disk.now gap.entry.now (wanted_of wanted.now) best.plan from result }
-{
-    let mut next = from;
-    while next < end {
-        let upto = next + (end - next).min(next - from + 1);
-        if !can_skip(disk, wanted, gap, late, next, upto, best) {
-            return next;
-        }
-        next = upto;
-    }
-    next
-}
-
-// Tries the tracks of the cylinders from `first` on, before `end`.
-fn try_cylinders(
-    disk: &Disk,
-    wanted: &Wanted,
-    gap: &Gap,
-    late: &LateParts,
-    first: u32,
-    end: u32,
+    most: u64,
     start: Scored,
 ) -> Scored
-    requires order { first ≤ end }
     requires within { end ≤ disk.now.mechanism.cylinders }
+    requires few { disk.now.mechanism.cylinders ≤ 10 ^ 6 }
+    requires most { IsCeiling disk.now gap.now (wanted_of wanted.now) from end most }
     requires gap { IsGap disk.now gap.now }
     requires blocks { AreOnDisk disk.now wanted.now }
     requires late { IsLate disk.now gap.now wanted.now late.now }
     requires best { IsScored disk.now gap.now (wanted_of wanted.now) start }
     ensures scored { IsScored disk.now gap.entry.now (wanted_of wanted.now) result }
     ensures keeps { Beats disk.now gap.entry.now (wanted_of wanted.now) result.plan start.plan }
-    ensures tried { BeatsRange disk.now gap.entry.now (wanted_of wanted.now) result.plan first end }
+    ensures tried { BeatsRange disk.now gap.entry.now (wanted_of wanted.now) result.plan from end }
 {
+    if end <= from {
+        return start;
+    }
+    let first = Track {
+        cylinder: from,
+        head: 0,
+    };
+    if is_enough(start, most, first) {
+        return start;
+    }
+    if end - from == 1 {
+        return try_cylinder(disk, wanted, gap, late, from, start);
+    }
+    let width = width_of(end - from);
+    let keys = keys_of(disk, wanted, gap, late, from, end, width, start.value);
     let mut best = start;
-    let mut from = first;
-    while from < end {
-        let next = skip(disk, wanted, gap, late, from, end, best);
-        if from < next {
-            from = next;
-        } else {
-            best = try_cylinder(disk, wanted, gap, late, from, best);
-            from += 1;
-        }
+    let mut key = next_below(&keys, u64::MAX);
+    while 0 < key {
+        let begin = from + (7 - (key - 1) % 8) as u32 * width;
+        let behind = begin + width;
+        let upto = end.min(behind);
+        best = visit(disk, wanted, gap, late, begin, upto, (key - 1) / 8, best);
+        key = next_below(&keys, key);
     }
     best
 }
 
-// Tries the tracks of all cylinders: first from the source's cylinder upwards, since near tracks
-// promise most, and then the cylinders below it. Both searches go upwards, so that of plans with
-// the same value the first in the order of ties is found early.
+// Tries the tracks of all cylinders.
 pub fn try_all(disk: &Disk, wanted: &Wanted, gap: &Gap, late: &LateParts, start: Scored) -> Scored
     requires gap { IsGap disk.now gap.now }
     requires blocks { AreOnDisk disk.now wanted.now }
@@ -325,8 +285,9 @@ pub fn try_all(disk: &Disk, wanted: &Wanted, gap: &Gap, late: &LateParts, start:
     ensures keeps { Beats disk.now gap.entry.now (wanted_of wanted.now) result.plan start.plan }
     ensures tried { BeatsRange disk.now gap.entry.now (wanted_of wanted.now) result.plan 0 disk.now.mechanism.cylinders }
 {
-    let source = gap.source.cylinder;
-    let end = disk.map.geometry().cylinders();
-    let above = try_cylinders(disk, wanted, gap, late, source, end, start);
-    try_cylinders(disk, wanted, gap, late, 0, source, above)
+    let geometry = disk.map.geometry();
+    geometry.sound();
+    let end = geometry.cylinders();
+    let most = most_within(disk, wanted, gap, late, 0, end, start.value);
+    visit(disk, wanted, gap, late, 0, end, most, start)
 }

@@ -6,7 +6,7 @@ use Rattle.fb_detour.proofs.bounds.least_moves.Goals as goal
 pub returns-clause-least : goal.returns-clause-least
 returns-clause-least c = λ track low high.
     let there = way-there c.args.disk.now.mechanism c.seeks_rise.ensures c.args.from c.args.end track low high c.args.gap.now.source in
-    let on = way-on c.args.disk.now.mechanism c.seeks_rise.ensures c.args.from c.args.end track low high c.args.gap.now.target c.args.gap.now.write in (
+    let on = way-on c.args.disk.now.mechanism c.seeks_rise.ensures c.args.from c.args.end track low high c.args.gap.now.target c.min.result c.args.gap.now.write (omega (arith, c.min.ensures, c.max.ensures)) in (
       omega (arith, there, c.seek-there.ensures.value, ap (seek c.args.disk.now.mechanism) c.distance_to.ensures.value),
-      omega (arith, on, c.seek-on.ensures.value, ap (seek c.args.disk.now.mechanism) c.distance_to-2.ensures.value),
+      omega (arith, on, c.pos-on.ensures.value),
     )

@@ -16,4 +16,7 @@ loop-head-preserved c = (
 
 pub returns-clause-tried : goal.returns-clause-tried
 returns-clause-tried c = cylinder-done c.args.disk.now c.args.gap.now (wanted_of c.args.wanted.now) c.loop-head.best.plan c.args.cylinder c.loop-head.head
-    (omega (arith, c.loop-head-test.false, c.heads-head-end.ensures.value, ap (λ (d : Shape). d.heads) c.geometry.ensures)) c.loop-head.invariant.2
+    (omega (arith, c.loop-head-test.false, c.heads-head-end.ensures.value, ap (λ (d : Shape). d.heads) c.geometry-2.ensures)) c.loop-head.invariant.2
+
+pub try_track-best-requires-clause-reach : goal.try_track-best-requires-clause-reach
+try_track-best-requires-clause-reach c = c.reach_of-reach.ensures (record { cylinder = c.args.cylinder; head = c.loop-head.head }) (omega arith) (omega arith)

@@ -1,0 +1,5 @@
+use Rattle.std.proofs.Common.{◌≡◌, ◌+◌, ◌-◌, ◌*◌, ◌<◌, ℕ, get_or, length}
+use Rattle.fb_detour.proofs.parts.first_limits.Given as goal
+
+abbrev pub invariant-loop-k : goal.invariant-loop-k
+invariant-loop-k l = (length l.limits ≡ 33) × ((j : ℕ) → j < l.k + 1 → get_or l.limits j 0 ≡ l.begin + (j - 1) * l.step)

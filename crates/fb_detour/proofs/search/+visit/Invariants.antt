@@ -1,0 +1,17 @@
+use Rattle.std.proofs.Common.{◌≡◌, ◌-◌, ◌<◌, ℕ, get_or}
+use Rattle.fb_wanted.specs.States.{wanted_of}
+use Rattle.fb_plan.specs.Ways.{IsScored, Beats}
+use Rattle.fb_detour.proofs.Keys.{AreDone}
+use Rattle.fb_detour.proofs.search.+visit.Given as goal
+
+abbrev pub invariant-loop-key : goal.invariant-loop-key
+invariant-loop-key l = IsScored l.disk l.gap (wanted_of l.wanted) l.best
+    × Beats l.disk l.gap (wanted_of l.wanted) l.best.plan l.initial.best.plan
+    × AreDone l.disk l.gap (wanted_of l.wanted) l.from l.end l.width l.keys l.best.plan l.key
+    × (0 < l.key → (i : ℕ) × (i < 8) × (get_or l.keys i 0 ≡ l.key))
+
+abbrev pub decreases-loop-key : goal.decreases-loop-key
+decreases-loop-key l = l.key
+
+abbrev pub decreases-visit : goal.decreases-visit
+decreases-visit l = l.end - l.from

@@ -1,0 +1,5 @@
+use Rattle.std.proofs.Common.{◌≡◌, ◌<◌, ◌≤◌, ℕ, get_or}
+use Rattle.fb_detour.proofs.search.next_below.Given as goal
+
+abbrev pub invariant-loop-j : goal.invariant-loop-j
+invariant-loop-j l = (0 < l.key → l.key < l.below) × (0 < l.key → (i : ℕ) × (i < 8) × (get_or l.keys i 0 ≡ l.key)) × ((i : ℕ) → i < l.j → get_or l.keys i 0 < l.below → get_or l.keys i 0 ≤ l.key)

@@ -1,0 +1,11 @@
+use Rattle.std.proofs.Common.{arith, ◌*◌}
+use Rattle.std.proofs.lemmas.Nat.{le-div, mul-le}
+use Rattle.fb_detour.proofs.steps.caught_in.Goals as goal
+
+pub overflow_mul-passing : goal.overflow_mul-passing
+overflow_mul-passing c = omega (arith, mul-le c.args.time c.args.rate 4294967295 2147483647 (omega (arith, c.if-time-ge-LONG.false)) (omega (arith, c.if-rate-ge-FAST.false)))
+
+pub returns-clause-most : goal.returns-clause-most
+returns-clause-most c = λ caught light passes.
+    let most = le-div caught (c.args.time * c.args.rate) 16777216 (omega arith) (omega (arith, passes)) in
+    omega (arith, most, light, c.min.ensures)

@@ -1,0 +1,158 @@
+// Upper bounds on the value of detours. What the target gives after a detour falls in steps; up to
+// each step a track gives no more than it weighs, and no more than passes in the time there.
+ghost use Rattle.std.specs.Prelude.{◌≡◌, ◌+◌, ◌*◌, ◌≤◌, ◌<◌, ◌^◌, ℕ, get_or};
+ghost use Rattle.fb_units.specs.declared.types.Track.{Track};
+ghost use Rattle.fb_rows.specs.declared.gap.Plan.{Plan};
+ghost use Rattle.fb_model.specs.Plans.{value, IsDetour};
+ghost use Rattle.fb_wanted.specs.States.{wanted_of};
+ghost use Rattle.fb_wanted.specs.Tracks.{wanted_weight};
+ghost use Rattle.fb_plan.specs.Ways.{AreOnDisk, IsGap};
+ghost use Rattle.fb_detour.specs.Bounds.{IsCeiling, IsLate, IsRate, IsReach};
+
+use crate::bounds::{least_moves, most_depth, most_slots};
+use crate::parts::{LATE, LateParts};
+use fb_rows::Gap;
+use fb_service::Disk;
+use fb_units::{Ns, Track};
+use fb_wanted::Wanted;
+
+// The unit of rates: one for each ns.
+const UNIT: u64 = 1 << 24;
+
+// A rate from this one on, or a time from that one on, bounds nothing: their product could be more
+// than a number holds.
+const FAST: u64 = 1 << 31;
+
+const LONG: Ns = 1 << 32;
+
+// When a detour reaches the target at the earliest, and how much passes in each ns on its track at
+// most, in units of 2^-24.
+#[derive(Clone, Copy)]
+pub struct Reach {
+    pub back: Ns,
+    pub rate: u64,
+}
+
+// The most that passes in each ns on a track of these cylinders, in units of 2^-24: one sector for
+// each least length of a slot, with the most weight that is wanted of one sector.
+fn rate_over(disk: &Disk, wanted: &Wanted, from: u32, end: u32) -> u64
+    requires some { from < end }
+    requires cylinders { end ≤ disk.now.mechanism.cylinders }
+    requires blocks { AreOnDisk disk.now wanted.now }
+    ensures { (track : Track) → from ≤ track.cylinder → track.cylinder < end → IsRate disk.now wanted.now track result }
+{
+    let geometry = disk.map.geometry();
+    geometry.sound();
+    geometry.own_places();
+    let first = Track {
+        cylinder: from,
+        head: 0,
+    };
+    let depth = most_depth(wanted, from, end, first);
+    let share = geometry.rotation() / most_slots(disk, from, end, first) as u64;
+    (depth * UNIT).div_ceil(share)
+}
+
+// The reach of detours over these cylinders.
+pub fn reach_of(disk: &Disk, wanted: &Wanted, gap: &Gap, from: u32, end: u32) -> Reach
+    requires some { from < end }
+    requires cylinders { end ≤ disk.now.mechanism.cylinders }
+    requires gap { IsGap disk.now gap.now }
+    requires blocks { AreOnDisk disk.now wanted.now }
+    ensures { (track : Track) → from ≤ track.cylinder → track.cylinder < end → IsReach disk.now gap.entry.now wanted.now track result }
+{
+    let moves = least_moves(disk, gap, from, end);
+    Reach {
+        back: gap.now + moves.there + moves.on,
+        rate: rate_over(disk, wanted, from, end),
+    }
+}
+
+// The most that a track of this weight gives in a time, at this rate.
+fn caught_in(rate: u64, weight: u64, time: Ns) -> u64
+    ensures most { (caught : ℕ) → caught ≤ weight → caught * 2 ^ 24 ≤ time * rate → caught ≤ result }
+    ensures small { result ≤ weight }
+{
+    if FAST <= rate {
+        return weight;
+    }
+    if LONG <= time {
+        return weight;
+    }
+    let passing = time * rate / UNIT;
+    weight.min(passing)
+}
+
+// The most that a track of this weight and the target give by plans that reach the target before
+// the limit behind part k, and no earlier than the part begins.
+fn worth_by_step(late: &LateParts, k: usize, reach: Reach, weight: u64) -> u64
+    requires part { k < 32 }
+    requires parts { (k : ℕ) → k < 32 → get_or late.now.parts k 0 ≤ 16000000 * 2048000 }
+    requires light { weight ≤ 16000000 * 2048000 }
+    ensures most { (caught time : ℕ) → caught ≤ weight → caught * 2 ^ 24 ≤ time * reach.rate → reach.back + time < get_or late.now.limits (k + 1) 0
+        → caught + get_or late.now.parts k 0 ≤ result }
+    ensures small { result ≤ 2 * (16000000 * 2048000) }
+{
+    let limit = late.limits[k + 1];
+    if limit <= reach.back {
+        return 0;
+    }
+    late.parts[k] + caught_in(reach.rate, weight, limit - 1 - reach.back)
+}
+
+// An upper bound on the value of detours over a track of this reach and this weight; 0 where it is
+// out of reach.
+pub fn most_by_steps(
+    disk: &Disk,
+    wanted: &Wanted,
+    gap: &Gap,
+    late: &LateParts,
+    reach: Reach,
+    weight: u64,
+) -> u64
+    requires gap { IsGap disk.now gap.now }
+    requires late { IsLate disk.now gap.now wanted.now late.now }
+    requires light { weight ≤ 16000000 * 2048000 }
+    ensures most { (track : Track) (leave : ℕ) → IsReach disk.now gap.entry.now wanted.now track reach → wanted_weight track wanted.now ≤ weight → IsDetour disk.now gap.entry.now track leave
+        → value disk.now gap.entry.now (wanted_of wanted.now) (Plan.Detour track leave) ≤ result }
+    ensures small { result ≤ 2 * (16000000 * 2048000) }
+{
+    let _ = disk;
+    let _ = wanted;
+    if gap.deadline < reach.back {
+        return 0;
+    }
+    let mut most = caught_in(reach.rate, weight, gap.deadline - reach.back);
+    for k in 0..LATE {
+        most = most.max(worth_by_step(late, k, reach, weight));
+    }
+    most
+}
+
+// An upper bound on the value of detours over the tracks of these cylinders. It is found without a
+// look at the times of moves where even the weights are less than `known`.
+pub fn most_over(
+    disk: &Disk,
+    wanted: &Wanted,
+    gap: &Gap,
+    late: &LateParts,
+    from: u32,
+    end: u32,
+    known: u64,
+) -> u64
+    requires some { from < end }
+    requires cylinders { end ≤ disk.now.mechanism.cylinders }
+    requires gap { IsGap disk.now gap.now }
+    requires blocks { AreOnDisk disk.now wanted.now }
+    requires late { IsLate disk.now gap.now wanted.now late.now }
+    ensures most { IsCeiling disk.now gap.entry.now (wanted_of wanted.now) from end result }
+    ensures small { result ≤ 2 * (16000000 * 2048000) }
+{
+    let weight = wanted.greatest_weight_in(from, end);
+    let sum = weight + late.parts[0];
+    if sum < known {
+        return sum;
+    }
+    let reach = reach_of(disk, wanted, gap, from, end);
+    most_by_steps(disk, wanted, gap, late, reach, weight)
+}
