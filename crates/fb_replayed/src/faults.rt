@@ -15,6 +15,9 @@ const BOTH: &str =
 const UNTIL: &str =
     "freeblock replay --params k --trace t --policy fcfs --bytes hex --calls c --back b --until 0.004";
 
+const SPILL: &str = "freeblock replay --params k --trace t --policy fcfs --bytes hex --calls c \
+    --back b --puts u --spill v";
+
 const MAKE: &str = "freeblock make --params k --trace t --calls c --number 7 --requests 2";
 
 const ONE_READ: &[u8] = b"0 0 5 1 1\n";
@@ -32,6 +35,12 @@ const A_BACKUP: &[u8] = b"0 open b backup 1 2\n0 want b 0 4\n";
 const LATE_READ: &[u8] = b"0.000700 0 11 1 1\n";
 
 const TWO_SEGMENTS: &[u8] = b"0 open c clean 1 1\n0 segment c 0 4 10 a\n0 segment c 4 4 9 4\n";
+
+const READ_BEHIND_A_GAP: &[u8] = b"0 0 11 1 1\n";
+
+const NO_BLOCKS: &[u8] = b"0 open a plain 1 1\n";
+
+const ONE_PUT: &[u8] = b"reserve 12 12\n0 put 20 1\n";
 
 const PARAMS_LIMIT: usize = 1_048_576;
 
@@ -161,10 +170,44 @@ const FAULTS_OF_A_MAKE: &[Fault] = &[
     },
 ];
 
+const FAULTS_OF_A_SPILL: &[Fault] = &[
+    Fault {
+        first: 7,
+        last: 9,
+        status: 6,
+        note: "freeblock: read fault: calls\n",
+    },
+    Fault {
+        first: 10,
+        last: 12,
+        status: 6,
+        note: "freeblock: read fault: puts\n",
+    },
+    Fault {
+        first: 13,
+        last: 16,
+        status: 7,
+        note: "freeblock: write fault: fore\n",
+    },
+    Fault {
+        first: 17,
+        last: 21,
+        status: 7,
+        note: "freeblock: write fault: back\n",
+    },
+    Fault {
+        first: 22,
+        last: 26,
+        status: 7,
+        note: "freeblock: write fault: spill\n",
+    },
+];
+
 // Whether each output is a front of the same output of an ending that went well.
 fn is_front(ending: &Ending, well: &Ending) -> bool {
     well.fore.as_slice().starts_with(ending.fore.as_slice())
         && well.back.as_slice().starts_with(ending.back.as_slice())
+        && well.spill.as_slice().starts_with(ending.spill.as_slice())
         && well
             .made_trace
             .as_slice()
@@ -178,6 +221,7 @@ fn is_front(ending: &Ending, well: &Ending) -> bool {
 // Whether each output was begun only after the one before it was whole.
 fn is_in_order(ending: &Ending, well: &Ending) -> bool {
     (ending.back.is_empty() || ending.fore.len() == well.fore.len())
+        && (ending.spill.is_empty() || ending.back.len() == well.back.len())
         && (ending.made_calls.is_empty() || ending.made_trace.len() == well.made_trace.len())
 }
 
@@ -269,6 +313,15 @@ fn each_failing_call_of_a_backup_and_a_cleaner_is_told(rt: HostRuntime) -> Resul
     check_faults(&rt, alloc, &scene, UNTIL, FAULTS_OF_A_BACKUP)?;
     let scene = scripted(params.as_bytes(), LATE_READ, TWO_SEGMENTS);
     check_faults(&rt, alloc, &scene, UNTIL, FAULTS_OF_A_CLEANER)
+}
+
+#[test]
+fn each_failing_call_of_a_spill_is_told(rt: HostRuntime) -> Result<(), Fail> {
+    let alloc = rt.alloc();
+    let params = disk(alloc, "", TWELVE)?;
+    let mut scene = scripted(params.as_bytes(), READ_BEHIND_A_GAP, NO_BLOCKS);
+    scene.puts = ONE_PUT;
+    check_faults(&rt, alloc, &scene, SPILL, FAULTS_OF_A_SPILL)
 }
 
 #[test]

@@ -25,3 +25,5 @@ mod scene;
 mod scripts;
 #[cfg(test)]
 mod sessions;
+#[cfg(test)]
+mod spills;

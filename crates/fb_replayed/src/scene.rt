@@ -62,6 +62,8 @@ pub struct Scene<'a> {
     pub trace: &'a [u8],
     /// The call script `c`.
     pub calls: &'a [u8],
+    /// The puts file `u`.
+    pub puts: &'a [u8],
     /// How many bytes a call of the desk moves at most.
     pub piece: usize,
     /// The number of the call that fails, from 1, or 0 where none does.
@@ -77,6 +79,8 @@ pub struct Ending {
     pub fore: Vec<u8>,
     /// The bytes of the background report.
     pub back: Vec<u8>,
+    /// The bytes of the text of what was written in free gaps.
+    pub spill: Vec<u8>,
     /// The bytes of the note.
     pub note: Vec<u8>,
     /// The bytes of the trace that a make writes.
@@ -92,6 +96,7 @@ impl Ending {
     pub fn is_silent(&self) -> bool {
         self.fore.is_empty()
             && self.back.is_empty()
+            && self.spill.is_empty()
             && self.made_trace.is_empty()
             && self.made_calls.is_empty()
             && self.copy.is_empty()
@@ -115,6 +120,7 @@ pub fn scripted<'a>(params: &'a [u8], trace: &'a [u8], calls: &'a [u8]) -> Scene
         params,
         trace,
         calls,
+        puts: b"",
         piece: 4096,
         failing: 0,
     }
@@ -176,6 +182,7 @@ pub fn fill(desk: &mut MemoryDesk, scene: &Scene) -> Result<(), NoMemory>
     desk.hold("k", scene.params)?;
     desk.hold("t", scene.trace)?;
     desk.hold("c", scene.calls)?;
+    desk.hold("u", scene.puts)?;
     desk.fail(scene.failing)
 }
 
@@ -189,6 +196,7 @@ fn written(alloc: Global, desk: &MemoryDesk, status: u8) -> Result<Ending, NoMem
         status,
         fore: copied(alloc, desk.written(Output::Fore))?,
         back: copied(alloc, desk.written(Output::Back))?,
+        spill: copied(alloc, desk.written(Output::Spill))?,
         note: copied(alloc, desk.written(Output::Note))?,
         made_trace: copied(alloc, desk.written(Output::MadeTrace))?,
         made_calls: copied(alloc, desk.written(Output::MadeCalls))?,

@@ -8,7 +8,7 @@ use Rattle.fb_report.specs.Back.{back_text}
 use Rattle.fb_mirror.specs.Copy.{copy_lines}
 use Rattle.fb_mirror.specs.declared.rebuilt.Rebuilt.{Rebuilt}
 use Rattle.fb_desk.specs.View.{DeskView}
-use Rattle.fb_desk.specs.declared.desk.Input.TheVariants.{Trace, Calls, ForeReport, BackReport}
+use Rattle.fb_desk.specs.declared.desk.Input.TheVariants.{Trace, Calls, Puts, ForeReport, BackReport}
 use Rattle.fb_desk.specs.declared.desk.Output.{Output}
 use Rattle.fb_desk.specs.declared.desk.Output.TheVariants.{Fore, Back, Copied, Note}
 use Rattle.fb_words.specs.Command.{ArrayTerms, RebuildTerms}
@@ -60,6 +60,8 @@ module _ (terms : ArrayTerms) (old mid late new : DeskView) (runs : List Run) (a
   at_texts (outcomes.Made n) h = absurd h
   at_texts (outcomes.Checked verdict) h = absurd h
   at_texts (outcomes.Arrayed others copy) h = absurd h
+  at_texts (outcomes.Spilled ran spilled) h = absurd h
+  at_texts (outcomes.Puts fault) h = absurd h
   at_texts (outcomes.Usage fault) h = absurd h
   at_texts (outcomes.Params fault) h = absurd h
   at_texts (outcomes.Trace fault) h = absurd h
@@ -75,10 +77,12 @@ array_stopped terms old new (outcomes.Done run) h = absurd h
 array_stopped terms old new (outcomes.Made n) h = absurd h
 array_stopped terms old new (outcomes.Checked verdict) h = absurd h
 array_stopped terms old new (outcomes.Arrayed runs copy) h = absurd h
+array_stopped terms old new (outcomes.Spilled ran spilled) h = absurd h
 array_stopped terms old new (outcomes.Usage fault) h = absurd h
 array_stopped terms old new (outcomes.Params fault) h = h
 array_stopped terms old new (outcomes.Trace fault) h = h
 array_stopped terms old new (outcomes.Calls fault) h = h
+array_stopped terms old new (outcomes.Puts fault) h = h
 array_stopped terms old new (outcomes.Reports fault) h = h
 array_stopped terms old new (outcomes.TooLong input) h = h
 array_stopped terms old new (outcomes.ReadFault input) h = h
@@ -89,7 +93,7 @@ pub ran_out : (terms : ArrayTerms) (old new : DeskView) (array : Array) → Acce
 ran_out terms old new array accepts unnamed outputs = record {
   input = Trace;
   before = record { disk = array.disk; latent = array.latent; reads_disk = accepts.disk };
-  ends = record { later = (unnamed Calls refl, unnamed ForeReport refl, unnamed BackReport refl); reports = λ output no_note. outputs output };
+  ends = record { later = (unnamed Calls refl, unnamed Puts refl, unnamed ForeReport refl, unnamed BackReport refl); reports = λ output no_note. outputs output };
 }
 
 -- what is told of a rebuild is what its texts are

@@ -9,7 +9,7 @@ use Rattle.fb_check.specs.declared.verdict.Verdict.{Verdict}
 use Rattle.fb_desk.specs.Calls.{Rose, ChangesOutput}
 use Rattle.fb_desk.specs.View.{DeskView, InputView}
 use Rattle.fb_desk.specs.declared.desk.Input.{Input}
-use Rattle.fb_desk.specs.declared.desk.Input.TheVariants.{Params, Trace, Calls, ForeReport, BackReport}
+use Rattle.fb_desk.specs.declared.desk.Input.TheVariants.{Params, Trace, Calls, Puts, ForeReport, BackReport}
 use Rattle.fb_desk.specs.declared.desk.Output.{Output}
 use Rattle.fb_desk.specs.declared.desk.Output.TheVariants.{Fore}
 use Rattle.fb_words.specs.Command.{CheckTerms}
@@ -22,50 +22,30 @@ use Rattle.fb_top.specs.Sources.{SourceTerms, check_inputs, check_sources, files
 use Rattle.fb_top.specs.Streams.{IsLonger}
 use Rattle.fb_top.specs.Written.{KeepsBut, KeepsReports, StopsText}
 use Rattle.fb_top.proofs.Moved.{fore_is_no_note, stops_text}
-use Rattle.fb_top.proofs.Unnamed.{is_named}
-
--- the files alone have no reports
-no_report : (sources : SourceTerms) (report : Report) (name : List ℕ) → name_of (files_alone sources) (input_of report) ≡ Some name → ⊥
-no_report sources reports.Fore name given = is_named name (sym given)
-no_report sources reports.Back name given = is_named name (sym given)
+use Rattle.fb_top.proofs.MoreInputs.{files_stopped}
 
 module _ (terms : CheckTerms) (old new : DeskView) where
-  same_name : (input : Input) (name : List ℕ) → name_of (files_alone (check_sources terms)) input ≡ Some name → name_of (check_inputs terms) input ≡ Some name
-  same_name Params name given = given
-  same_name Trace name given = given
-  same_name Calls name given = given
-  same_name ForeReport name given = absurd (is_named name (sym given))
-  same_name BackReport name given = absurd (is_named name (sym given))
-
-  also_named : (input : Input) → is_some (name_of (files_alone (check_sources terms)) input) ≡ true → is_some (name_of (check_inputs terms) input) ≡ true
-  also_named Params given = refl
-  also_named Trace given = refl
-  also_named Calls given = refl
-  also_named ForeReport given = refl
-  also_named BackReport given = refl
-
-  same_before : (input : Input) → AcceptsBefore old (files_alone (check_sources terms)) input → AcceptsBefore old (check_inputs terms) input
-  same_before Params before = tt
-  same_before Trace before = before
-  same_before Calls before = before
-  same_before ForeReport before = before
-  same_before BackReport before = absurd (is_named before.name (sym before.given))
+  -- why the inputs were not accepted
+  check_stopped : (outcome : Outcome) → StopsInputs (check_inputs terms) old new outcome → CheckHasCause terms old new outcome
+  check_stopped (outcomes.Params fault) h = h
+  check_stopped (outcomes.Trace fault) h = h
+  check_stopped (outcomes.Calls fault) h = h
+  check_stopped (outcomes.Puts fault) h = h
+  check_stopped (outcomes.Reports fault) h = h
+  check_stopped (outcomes.TooLong input) h = h
+  check_stopped (outcomes.ReadFault input) h = h
+  check_stopped outcomes.NoMemory h = inl h
+  check_stopped (outcomes.Done run) h = absurd h
+  check_stopped (outcomes.Made n) h = absurd h
+  check_stopped (outcomes.Checked verdict) h = absurd h
+  check_stopped (outcomes.Usage fault) h = absurd h
+  check_stopped (outcomes.Arrayed runs copy) h = absurd h
+  check_stopped (outcomes.Spilled ran spilled) h = absurd h
+  check_stopped (outcomes.WriteFault output) h = absurd h
 
   -- why the files were not read
-  pub files_stopped : (outcome : Outcome) → StopsInputs (files_alone (check_sources terms)) old new outcome → CheckHasCause terms old new outcome
-  files_stopped (outcomes.Params fault) h = h
-  files_stopped (outcomes.Trace fault) h = h
-  files_stopped (outcomes.Calls fault) h = h
-  files_stopped (outcomes.Reports fault) h = absurd (no_report (check_sources terms) fault.report h.0.name h.0.given)
-  files_stopped (outcomes.TooLong input) h = (record { before = same_before input h.0.before; name = h.0.name; given = same_name input h.0.name h.0.given; longer = h.0.longer }, h.1)
-  files_stopped (outcomes.ReadFault input) h = (record { before = same_before input h.0.before; given = also_named input h.0.given; rose = h.0.rose }, h.1)
-  files_stopped outcomes.NoMemory h = inl (record { input = h.input; before = same_before h.input h.before; ends = h.ends })
-  files_stopped (outcomes.Done run) h = absurd h
-  files_stopped (outcomes.Made n) h = absurd h
-  files_stopped (outcomes.Checked verdict) h = absurd h
-  files_stopped (outcomes.Usage fault) h = absurd h
-  files_stopped (outcomes.Arrayed runs copy) h = absurd h
-  files_stopped (outcomes.WriteFault output) h = absurd h
+  pub check_files_stopped : (outcome : Outcome) → StopsInputs (files_alone (check_sources terms)) old new outcome → CheckHasCause terms old new outcome
+  check_files_stopped outcome h = check_stopped outcome (files_stopped (check_inputs terms) old new outcome h)
 
 -- the files were read, and then the reports
 module _ (terms : CheckTerms) (old mid new : DeskView) (held : (name : List ℕ) → mid.held name ≡ old.held name) (outputs : (output : Output) → mid.outputs output ≡ old.outputs output) (only : ChangesPrinted mid new) where
@@ -104,7 +84,7 @@ module _ (terms : CheckTerms) (old mid new : DeskView) (held : (name : List ℕ)
   keeps_reports : KeepsReports old new
   keeps_reports = λ output no_note. only.outputs output ∙ outputs output
 
-  module _ (files : AcceptsFiles old (check_sources terms)) (untouched : KeepsLater Calls old mid) where
+  module _ (files : AcceptsFiles old (check_sources terms)) (untouched : KeepsLater Puts old mid) where
     ends_fore : KeepsLater ForeReport mid new → EndsAt ForeReport old new
     ends_fore later = record { later = later ∙ untouched.1; reports = keeps_reports }
 
@@ -144,6 +124,8 @@ module _ (terms : CheckTerms) (old mid new : DeskView) (held : (name : List ℕ)
     fore_stopped (outcomes.Checked verdict) h later = absurd h
     fore_stopped (outcomes.Usage fault) h later = absurd h
     fore_stopped (outcomes.Arrayed runs copy) h later = absurd h
+    fore_stopped (outcomes.Spilled ran spilled) h later = absurd h
+    fore_stopped (outcomes.Puts fault) h later = absurd h
     fore_stopped (outcomes.Params fault) h later = absurd h
     fore_stopped (outcomes.Trace fault) h later = absurd h
     fore_stopped (outcomes.Calls fault) h later = absurd h
@@ -160,6 +142,8 @@ module _ (terms : CheckTerms) (old mid new : DeskView) (held : (name : List ℕ)
     back_stopped (outcomes.Checked verdict) before h = absurd h
     back_stopped (outcomes.Usage fault) before h = absurd h
     back_stopped (outcomes.Arrayed runs copy) before h = absurd h
+    back_stopped (outcomes.Spilled ran spilled) before h = absurd h
+    back_stopped (outcomes.Puts fault) before h = absurd h
     back_stopped (outcomes.Params fault) before h = absurd h
     back_stopped (outcomes.Trace fault) before h = absurd h
     back_stopped (outcomes.Calls fault) before h = absurd h
@@ -192,6 +176,8 @@ module _ (terms : CheckTerms) (old mid new : DeskView) (verdict : Verdict) (is_v
   line_stopped (outcomes.Checked other) h = absurd h
   line_stopped (outcomes.Usage fault) h = absurd h
   line_stopped (outcomes.Arrayed runs copy) h = absurd h
+  line_stopped (outcomes.Spilled ran spilled) h = absurd h
+  line_stopped (outcomes.Puts fault) h = absurd h
   line_stopped (outcomes.Params fault) h = absurd h
   line_stopped (outcomes.Trace fault) h = absurd h
   line_stopped (outcomes.Calls fault) h = absurd h

@@ -1,5 +1,5 @@
 -- A replay that goes well is made.
-use Rattle.std.proofs.Common.{◌≡◌, ℕ, ◌<◌, ◌≤◌, ◌^◌, List, length, Option, Some, None, true, refl, sym, ap, subst, ◌∙◌, arith, Result, Ok, Err}
+use Rattle.std.proofs.Common.{◌≡◌, ℕ, ◌<◌, ◌≤◌, ◌^◌, List, length, Option, Some, None, true, refl, sym, ap, subst, ◌∙◌, arith, Result, Ok, Err, inl, inr}
 use Rattle.std.specs.Prelude.{IfSome, is_some}
 use Rattle.fb_geometry.specs.Shape.{Shape}
 use Rattle.fb_geometry.specs.Places.{places}
@@ -14,8 +14,8 @@ use Rattle.fb_calls.specs.Reading.{calls_of}
 use Rattle.fb_mirror.specs.Script.{rebuild_text}
 use Rattle.fb_desk.specs.View.{DeskView}
 use Rattle.fb_desk.specs.declared.desk.Input.{Input}
-use Rattle.fb_desk.specs.declared.desk.Input.TheVariants.{Params, Trace, Calls, ForeReport, BackReport}
-use Rattle.fb_desk.specs.declared.desk.Output.TheVariants.{Fore, Back, Note, MadeTrace, MadeCalls, Copied}
+use Rattle.fb_desk.specs.declared.desk.Input.TheVariants.{Params, Trace, Calls, Puts, ForeReport, BackReport}
+use Rattle.fb_desk.specs.declared.desk.Output.TheVariants.{Fore, Back, Spill, Note, MadeTrace, MadeCalls, Copied}
 use Rattle.fb_words.specs.Command.{Terms, ReplayTerms, CheckTerms, MakeTerms, ArrayTerms, RebuildTerms, replays, makes, checks, arrays}
 use Rattle.fb_top.specs.Sources.{InputTerms, replay_inputs, check_inputs, array_inputs}
 use Rattle.fb_words.specs.declared.fault.UsageFault.{UsageFault}
@@ -24,15 +24,20 @@ use Rattle.fb_top.specs.declared.outcome.Outcome.TheVariants as outcomes
 use Rattle.fb_report.specs.Grammar.{Grammar, fore_grammar, back_grammar, report_of}
 use Rattle.fb_report.specs.declared.reading.Report.{Report}
 use Rattle.fb_report.specs.declared.reading.Report.TheVariants as reports
-use Rattle.fb_top.specs.Read.{ReadsDisk, RefusesDisk, RefusesReport, ReadsCalls, ReadsScript}
+use Rattle.fb_bgwrite.specs.Asked.{asked}
+use Rattle.fb_bgwrite.specs.Reading.{puts_of}
+use Rattle.fb_bgwrite.specs.declared.fault.PutsFault.{PutsFault}
+use Rattle.fb_calls.specs.Reading.{Accepted as Script}
+use Rattle.fb_top.specs.Read.{ReadsDisk, RefusesDisk, RefusesReport, ReadsCalls, ReadsScript, puts_terms}
 use Rattle.fb_top.specs.Streams.{IsLonger}
 use Rattle.fb_top.specs.Done.{IsCutShort}
-use Rattle.fb_top.specs.Causes.{AcceptsDisk, AcceptsTrace, CheckHasCause, HasCause, IsTooLong, RefusesTraceInTurn, RefusesCallsInTurn, RefusesReportInTurn, StopsInputs}
+use Rattle.fb_top.specs.Spilled.{IsSpillCut}
+use Rattle.fb_top.specs.Causes.{AcceptsDisk, AcceptsTrace, CheckHasCause, HasCause, IsCut, IsTooLong, RefusesTraceInTurn, RefusesCallsInTurn, RefusesPutsInTurn, RefusesReportInTurn, StopsInputs}
 use Rattle.fb_top.specs.Answers.{AnswersWords}
 use Rattle.fb_top.specs.Make.{MakeHasCause, MakeGoesWell, MakesAll}
 use Rattle.fb_top.specs.Devices.{ReadsRebuild, RefusesDeviceInTurn, RefusesRebuild, RefusesRebuildInTurn}
 use Rattle.fb_top.specs.Array.{ArrayGoesWell, ArrayHasCause, IsReplayed, array_texts}
-use Rattle.fb_top.specs.Complete.{CheckGoesWell, GoesWell, IsComplete, IsJudged, IsMade, ReadsWell, TellsReport}
+use Rattle.fb_top.specs.Complete.{CheckGoesWell, GoesWell, IsComplete, IsJudged, IsMade, ReadsWell, TellsPuts, TellsReport}
 use Rattle.fb_top.proofs.Arrayed.{texts_no_note}
 use Rattle.fb_top.proofs.Texts.{cut_is_no_note}
 use Rattle.fb_top.proofs.Unnamed.{is_named}
@@ -68,6 +73,17 @@ module _ (desk : DeskView) (name : List ℕ) (disk : Disk) (latent : List ℕ) (
       let again = other.reads_disk in
       ap (λ p. p.outline) (same_ok (params_of reads.bytes) _ _ reads.spells
       (ap params_of (same_bytes (desk.held name) reads.bytes again.bytes told reads.held again.held) ∙ again.spells))
+
+-- a script is read once for a disk and a number of requests
+one_script : (desk : DeskView) (given : Option (List ℕ)) (disk other : Disk) (traced others : ℕ) (script script' : Script) → IfSome given (λ name. is_some (desk.held name) ≡ true) → disk.map ≡ other.map → traced ≡ others
+    → ReadsScript desk given disk traced script → ReadsScript desk given other others script' → script ≡ script'
+one_script desk None disk other traced others script script' told same same_traced reads again = reads ∙ sym again
+one_script desk (Some name) disk other traced others script script' told same same_traced reads again =
+    same_ok (calls_of disk.map traced reads.bytes) _ _ reads.spells
+    (ap (λ map. calls_of map traced reads.bytes) same
+    ∙ ap (λ n. calls_of other.map n reads.bytes) same_traced
+    ∙ ap (calls_of other.map others) (same_bytes (desk.held name) reads.bytes again.bytes told reads.held again.held)
+    ∙ again.spells)
 
 -- what is accepted is not refused
 module _ (old new : DeskView) (terms : InputTerms) (well : ReadsWell old new terms) where
@@ -113,6 +129,25 @@ module _ (old new : DeskView) (terms : InputTerms) (well : ReadsWell old new ter
       (same_bytes (old.held turn.name) reads.bytes turn.refuses.bytes (told_under turn.name turn.given) reads.held turn.refuses.held)
       ∙ turn.refuses.spells)
 
+  puts_tells : (name : List ℕ) → terms.puts ≡ Some name → TellsPuts old well.files name
+  puts_tells name given = subst (λ (told : Option (List ℕ)). IfSome told (TellsPuts old well.files)) given well.puts_told
+
+  puts_once : (fault : PutsFault) → RefusesPutsInTurn old terms fault → ⊥
+  puts_once fault turn =
+      let files = well.files in
+      let others = turn.before.files in
+      let again = turn.before.accepts in
+      let disk : AcceptsDisk old terms.sources.params = record { disk = others.disk; latent = others.latent; reads_disk = again.disk } in
+      let trace = same_requests (record { params = disk; trace = others.trace; reads_trace = again.trace }) in
+      let script = one_script old terms.sources.calls files.disk others.disk _ _ files.script others.script well.calls_told (same_map disk) (ap (λ t. length t.requests) trace) well.accepts.script again.script in
+      let tells = puts_tells turn.name turn.given in
+      not_both (puts_of (puts_terms files) tells.reads.bytes) tells.puts fault tells.reads.spells
+      (ap (λ map. puts_of (record { sectors = length (places map); asked = asked files.trace.requests files.script.calls }) tells.reads.bytes) (same_map disk)
+      ∙ ap (λ t. puts_of (record { sectors = length (places others.disk.map); asked = asked t.requests files.script.calls }) tells.reads.bytes) trace
+      ∙ ap (λ s. puts_of (record { sectors = length (places others.disk.map); asked = asked others.trace.requests s.calls }) tells.reads.bytes) script
+      ∙ ap (puts_of (puts_terms others)) (same_bytes (old.held turn.name) tells.reads.bytes turn.refuses.bytes tells.told tells.reads.held turn.refuses.held)
+      ∙ turn.refuses.spells)
+
   fore_tells : (name : List ℕ) → terms.fore ≡ Some name → TellsReport old fore_grammar name
   fore_tells name given = subst (λ (told : Option (List ℕ)). IfSome told (TellsReport old fore_grammar)) given well.fore_told
 
@@ -137,6 +172,7 @@ module _ (old new : DeskView) (terms : InputTerms) (well : ReadsWell old new ter
       (subst (λ (name : List ℕ). IsLonger old name (2 ^ 28)) (sym (same_name terms.sources.trace long.name long.given)) long.longer)
   not_too_long Calls long =
       let reads = script_under long.name long.given in not_longer (old.held long.name) reads.bytes (2 ^ 26) (told_under long.name long.given) reads.held reads.within long.longer
+  not_too_long Puts long = let tells = puts_tells long.name long.given in not_longer (old.held long.name) tells.reads.bytes (2 ^ 26) tells.told tells.reads.held tells.reads.within long.longer
   not_too_long ForeReport long = let tells = fore_tells long.name long.given in not_longer (old.held long.name) tells.reads.bytes (2 ^ 28) tells.told tells.reads.held tells.reads.within long.longer
   not_too_long BackReport long = let tells = back_tells long.name long.given in not_longer (old.held long.name) tells.reads.bytes (2 ^ 28) tells.told tells.reads.held tells.reads.within long.longer
 
@@ -145,6 +181,7 @@ module _ (old new : DeskView) (terms : InputTerms) (well : ReadsWell old new ter
   goes_on (outcomes.Params fault) cause = absurd (disk_once fault cause.0)
   goes_on (outcomes.Trace fault) cause = absurd (trace_once fault cause.0)
   goes_on (outcomes.Calls fault) cause = absurd (calls_once fault cause.0)
+  goes_on (outcomes.Puts fault) cause = absurd (puts_once fault cause.0)
   goes_on (outcomes.Reports fault) cause = absurd (reports_once fault.report fault.line cause.0)
   goes_on (outcomes.TooLong input) cause = absurd (not_too_long input cause.0)
   goes_on (outcomes.ReadFault input) cause = absurd (well.calm input cause.0.rose)
@@ -154,6 +191,7 @@ module _ (old new : DeskView) (terms : InputTerms) (well : ReadsWell old new ter
   goes_on (outcomes.Checked verdict) cause = absurd cause
   goes_on (outcomes.Usage fault) cause = absurd cause
   goes_on (outcomes.Arrayed runs copy) cause = absurd cause
+  goes_on (outcomes.Spilled ran spilled) cause = absurd cause
   goes_on (outcomes.WriteFault output) cause = absurd cause
 
 module _ (old new : DeskView) (terms : ReplayTerms) (well : GoesWell old new terms) where
@@ -162,6 +200,7 @@ module _ (old new : DeskView) (terms : ReplayTerms) (well : GoesWell old new ter
   not_cut_short (outcomes.WriteFault Back) cut = absurd (well.back cut.stops.0)
   not_cut_short (outcomes.WriteFault Note) cut = absurd cut.stops
   not_cut_short (outcomes.WriteFault Copied) cut = absurd cut.stops
+  not_cut_short (outcomes.WriteFault Spill) cut = absurd cut.stops
   not_cut_short (outcomes.WriteFault MadeTrace) cut = absurd cut.stops
   not_cut_short (outcomes.WriteFault MadeCalls) cut = absurd cut.stops
   not_cut_short outcomes.NoMemory cut = tt
@@ -171,11 +210,40 @@ module _ (old new : DeskView) (terms : ReplayTerms) (well : GoesWell old new ter
   not_cut_short (outcomes.Reports fault) cut = absurd cut.stops
   not_cut_short (outcomes.Usage fault) cut = absurd cut.stops
   not_cut_short (outcomes.Arrayed runs copy) cut = absurd cut.stops
+  not_cut_short (outcomes.Spilled ran spilled) cut = absurd cut.stops
+  not_cut_short (outcomes.Puts fault) cut = absurd cut.stops
   not_cut_short (outcomes.Params fault) cut = absurd cut.stops
   not_cut_short (outcomes.Trace fault) cut = absurd cut.stops
   not_cut_short (outcomes.Calls fault) cut = absurd cut.stops
   not_cut_short (outcomes.TooLong input) cut = absurd cut.stops
   not_cut_short (outcomes.ReadFault input) cut = absurd cut.stops
+
+  no_spill_cut : (outcome : Outcome) → IsSpillCut old new terms outcome → IsMade outcome
+  no_spill_cut (outcomes.WriteFault Spill) cut = absurd (well.spill cut.stops.0)
+  no_spill_cut (outcomes.WriteFault Fore) cut = absurd cut.stops
+  no_spill_cut (outcomes.WriteFault Back) cut = absurd cut.stops
+  no_spill_cut (outcomes.WriteFault Note) cut = absurd cut.stops
+  no_spill_cut (outcomes.WriteFault Copied) cut = absurd cut.stops
+  no_spill_cut (outcomes.WriteFault MadeTrace) cut = absurd cut.stops
+  no_spill_cut (outcomes.WriteFault MadeCalls) cut = absurd cut.stops
+  no_spill_cut outcomes.NoMemory cut = tt
+  no_spill_cut (outcomes.Done run) cut = tt
+  no_spill_cut (outcomes.Spilled run spill) cut = tt
+  no_spill_cut (outcomes.Made n) cut = absurd cut.stops
+  no_spill_cut (outcomes.Checked verdict) cut = absurd cut.stops
+  no_spill_cut (outcomes.Reports fault) cut = absurd cut.stops
+  no_spill_cut (outcomes.Usage fault) cut = absurd cut.stops
+  no_spill_cut (outcomes.Arrayed runs copy) cut = absurd cut.stops
+  no_spill_cut (outcomes.Params fault) cut = absurd cut.stops
+  no_spill_cut (outcomes.Trace fault) cut = absurd cut.stops
+  no_spill_cut (outcomes.Calls fault) cut = absurd cut.stops
+  no_spill_cut (outcomes.Puts fault) cut = absurd cut.stops
+  no_spill_cut (outcomes.TooLong input) cut = absurd cut.stops
+  no_spill_cut (outcomes.ReadFault input) cut = absurd cut.stops
+
+  not_cut : (outcome : Outcome) → IsCut old new terms outcome → IsMade outcome
+  not_cut outcome (inl cut) = not_cut_short outcome cut
+  not_cut outcome (inr cut) = no_spill_cut outcome cut
 
   stopped : (outcome : Outcome) → StopsInputs (replay_inputs terms) old new outcome → IsMade outcome
   stopped outcome cause = subst IsMade (sym (goes_on old new (replay_inputs terms) well.inputs outcome cause)) tt
@@ -186,13 +254,15 @@ module _ (old new : DeskView) (terms : ReplayTerms) (well : GoesWell old new ter
   made (outcomes.Checked verdict) cause = absurd cause
   made (outcomes.Usage fault) cause = absurd cause
   made (outcomes.Arrayed runs copy) cause = absurd cause
+  made (outcomes.Spilled ran spilled) cause = tt
+  made (outcomes.Puts fault) cause = stopped (outcomes.Puts fault) cause
   made (outcomes.Params fault) cause = stopped (outcomes.Params fault) cause
   made (outcomes.Trace fault) cause = stopped (outcomes.Trace fault) cause
   made (outcomes.Calls fault) cause = stopped (outcomes.Calls fault) cause
   made (outcomes.Reports fault) cause = stopped (outcomes.Reports fault) cause
   made (outcomes.TooLong input) cause = stopped (outcomes.TooLong input) cause
   made (outcomes.ReadFault input) cause = stopped (outcomes.ReadFault input) cause
-  made (outcomes.WriteFault output) cause = not_cut_short (outcomes.WriteFault output) cause
+  made (outcomes.WriteFault output) cause = not_cut (outcomes.WriteFault output) cause
   made outcomes.NoMemory cause = tt
 
 module _ (old new : DeskView) (terms : CheckTerms) (well : CheckGoesWell old new terms) where
@@ -205,6 +275,8 @@ module _ (old new : DeskView) (terms : CheckTerms) (well : CheckGoesWell old new
   judged (outcomes.Made n) cause = absurd cause
   judged (outcomes.Usage fault) cause = absurd cause
   judged (outcomes.Arrayed runs copy) cause = absurd cause
+  judged (outcomes.Spilled ran spilled) cause = absurd cause
+  judged (outcomes.Puts fault) cause = check_stopped (outcomes.Puts fault) cause
   judged (outcomes.Params fault) cause = check_stopped (outcomes.Params fault) cause
   judged (outcomes.Trace fault) cause = check_stopped (outcomes.Trace fault) cause
   judged (outcomes.Calls fault) cause = check_stopped (outcomes.Calls fault) cause
@@ -219,6 +291,8 @@ made_texts old new terms (outcomes.Made n) cause well = cause.count
 made_texts old new terms (outcomes.Done run) cause well = absurd cause
 made_texts old new terms (outcomes.Usage fault) cause well = absurd cause
 made_texts old new terms (outcomes.Arrayed runs copy) cause well = absurd cause
+made_texts old new terms (outcomes.Spilled ran spilled) cause well = absurd cause
+made_texts old new terms (outcomes.Puts fault) cause well = absurd cause
 made_texts old new terms (outcomes.Checked verdict) cause well = absurd cause
 made_texts old new terms (outcomes.Reports fault) cause well = absurd cause
 made_texts old new terms (outcomes.Params fault) cause well = not_refused old terms.params well.makes.disk well.makes.latent well.params_told well.makes.reads_disk fault cause.0
@@ -228,11 +302,13 @@ made_texts old new terms (outcomes.TooLong Params) cause well =
     not_longer (old.held terms.params) well.makes.reads_disk.bytes (2 ^ 20) well.params_told well.makes.reads_disk.held well.makes.reads_disk.within cause.0
 made_texts old new terms (outcomes.TooLong Trace) cause well = absurd cause
 made_texts old new terms (outcomes.TooLong Calls) cause well = absurd cause
+made_texts old new terms (outcomes.TooLong Puts) cause well = absurd cause
 made_texts old new terms (outcomes.TooLong ForeReport) cause well = absurd cause
 made_texts old new terms (outcomes.TooLong BackReport) cause well = absurd cause
 made_texts old new terms (outcomes.ReadFault Params) cause well = well.params cause.0
 made_texts old new terms (outcomes.ReadFault Trace) cause well = absurd cause
 made_texts old new terms (outcomes.ReadFault Calls) cause well = absurd cause
+made_texts old new terms (outcomes.ReadFault Puts) cause well = absurd cause
 made_texts old new terms (outcomes.ReadFault ForeReport) cause well = absurd cause
 made_texts old new terms (outcomes.ReadFault BackReport) cause well = absurd cause
 made_texts old new terms (outcomes.WriteFault MadeTrace) cause well = absurd (well.trace cause.0)
@@ -241,6 +317,7 @@ made_texts old new terms (outcomes.WriteFault Fore) cause well = absurd cause
 made_texts old new terms (outcomes.WriteFault Back) cause well = absurd cause
 made_texts old new terms (outcomes.WriteFault Note) cause well = absurd cause
 made_texts old new terms (outcomes.WriteFault Copied) cause well = absurd cause
+made_texts old new terms (outcomes.WriteFault Spill) cause well = absurd cause
 made_texts old new terms outcomes.NoMemory cause well = tt
 
 -- nor is what an array needs
@@ -271,6 +348,7 @@ module _ (old new : DeskView) (terms : ArrayTerms) (well : ArrayGoesWell old new
       not_longer (old.held terms.trace) well.accepts.traces.bytes (2 ^ 28) well.trace_told well.accepts.traces.held well.accepts.traces.within
       (subst (λ (name : List ℕ). IsLonger old name (2 ^ 28)) (sym (same_name terms.trace long.name long.given)) long.longer)
   array_not_too_long Calls long = is_named long.name (sym long.given)
+  array_not_too_long Puts long = is_named long.name (sym long.given)
   array_not_too_long ForeReport long = is_named long.name (sym long.given)
   array_not_too_long BackReport long = is_named long.name (sym long.given)
 
@@ -280,6 +358,8 @@ module _ (old new : DeskView) (terms : ArrayTerms) (well : ArrayGoesWell old new
 
   replayed : (outcome : Outcome) → ArrayHasCause terms old new outcome → IsReplayed outcome
   replayed (outcomes.Arrayed runs copy) cause = tt
+  replayed (outcomes.Spilled ran spilled) cause = absurd cause
+  replayed (outcomes.Puts fault) cause = absurd (is_named cause.0.name (sym cause.0.given))
   replayed (outcomes.Params fault) cause = absurd (not_refused old terms.params well.array.disk well.array.latent well.params_told well.accepts.disk fault cause.0)
   replayed (outcomes.Trace fault) cause = absurd (devices_once fault cause.0)
   replayed (outcomes.Calls fault) cause = absurd (rebuilds_once fault cause.0)

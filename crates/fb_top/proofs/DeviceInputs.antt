@@ -19,7 +19,7 @@ use Rattle.fb_model.specs.Accepted.{IsAccepted}
 use Rattle.fb_model.specs.Inputs.{Inputs}
 use Rattle.fb_desk.specs.Calls.{ChangesInput}
 use Rattle.fb_desk.specs.View.{DeskView}
-use Rattle.fb_desk.specs.declared.desk.Input.TheVariants.{Params, Trace, Calls, ForeReport, BackReport}
+use Rattle.fb_desk.specs.declared.desk.Input.TheVariants.{Params, Trace, Calls, Puts, ForeReport, BackReport}
 use Rattle.fb_report.proofs.Ranges.{all_get}
 use Rattle.fb_words.specs.Command.{ArrayTerms, RebuildTerms}
 use Rattle.fb_top.specs.declared.outcome.Outcome.{Outcome}
@@ -40,6 +40,8 @@ array_at_params terms old new (outcomes.Done run) only h = at_params (sources te
 array_at_params terms old new (outcomes.Made n) only h = at_params (sources terms) old new (outcomes.Made n) only h
 array_at_params terms old new (outcomes.Checked verdict) only h = at_params (sources terms) old new (outcomes.Checked verdict) only h
 array_at_params terms old new (outcomes.Arrayed runs copy) only h = at_params (sources terms) old new (outcomes.Arrayed runs copy) only h
+array_at_params terms old new (outcomes.Spilled ran spilled) only h = at_params (sources terms) old new (outcomes.Spilled ran spilled) only h
+array_at_params terms old new (outcomes.Puts fault) only h = at_params (sources terms) old new (outcomes.Puts fault) only h
 array_at_params terms old new (outcomes.Usage fault) only h = at_params (sources terms) old new (outcomes.Usage fault) only h
 array_at_params terms old new (outcomes.Params fault) only h = at_params (sources terms) old new (outcomes.Params fault) only h
 array_at_params terms old new (outcomes.Trace fault) only h = absurd h
@@ -81,16 +83,20 @@ array_at_trace terms old mid new (outcomes.Done run) before first second h = abs
 array_at_trace terms old mid new (outcomes.Made n) before first second h = absurd h
 array_at_trace terms old mid new (outcomes.Checked verdict) before first second h = absurd h
 array_at_trace terms old mid new (outcomes.Arrayed runs copy) before first second h = absurd h
+array_at_trace terms old mid new (outcomes.Spilled ran spilled) before first second h = absurd h
+array_at_trace terms old mid new (outcomes.Puts fault) before first second h = absurd h
 array_at_trace terms old mid new (outcomes.Usage fault) before first second h = absurd h
 array_at_trace terms old mid new (outcomes.Params fault) before first second h = absurd h
 array_at_trace terms old mid new (outcomes.Calls fault) before first second h = absurd h
 array_at_trace terms old mid new (outcomes.Reports fault) before first second h = absurd h
 array_at_trace terms old mid new (outcomes.TooLong Params) before first second h = absurd h
 array_at_trace terms old mid new (outcomes.TooLong Calls) before first second h = absurd h
+array_at_trace terms old mid new (outcomes.TooLong Puts) before first second h = absurd h
 array_at_trace terms old mid new (outcomes.TooLong ForeReport) before first second h = absurd h
 array_at_trace terms old mid new (outcomes.TooLong BackReport) before first second h = absurd h
 array_at_trace terms old mid new (outcomes.ReadFault Params) before first second h = absurd h
 array_at_trace terms old mid new (outcomes.ReadFault Calls) before first second h = absurd h
+array_at_trace terms old mid new (outcomes.ReadFault Puts) before first second h = absurd h
 array_at_trace terms old mid new (outcomes.ReadFault ForeReport) before first second h = absurd h
 array_at_trace terms old mid new (outcomes.ReadFault BackReport) before first second h = absurd h
 array_at_trace terms old mid new (outcomes.WriteFault output) before first second h = absurd h
@@ -106,6 +112,8 @@ array_at_rebuild terms old mid new (outcomes.Done run) before traces reads first
 array_at_rebuild terms old mid new (outcomes.Made n) before traces reads first second h = absurd h
 array_at_rebuild terms old mid new (outcomes.Checked verdict) before traces reads first second h = absurd h
 array_at_rebuild terms old mid new (outcomes.Arrayed runs copy) before traces reads first second h = absurd h
+array_at_rebuild terms old mid new (outcomes.Spilled ran spilled) before traces reads first second h = absurd h
+array_at_rebuild terms old mid new (outcomes.Puts fault) before traces reads first second h = absurd h
 array_at_rebuild terms old mid new (outcomes.Usage fault) before traces reads first second h = absurd h
 array_at_rebuild terms old mid new (outcomes.Params fault) before traces reads first second h = absurd h
 array_at_rebuild terms old mid new (outcomes.Trace fault) before traces reads first second h = absurd h
@@ -113,11 +121,13 @@ array_at_rebuild terms old mid new (outcomes.Reports fault) before traces reads 
 array_at_rebuild terms old mid new (outcomes.TooLong Params) before traces reads first second h = absurd h
 array_at_rebuild terms old mid new (outcomes.TooLong Trace) before traces reads first second h = absurd h
 array_at_rebuild terms old mid new (outcomes.TooLong Calls) before traces reads first second h = absurd h
+array_at_rebuild terms old mid new (outcomes.TooLong Puts) before traces reads first second h = absurd h
 array_at_rebuild terms old mid new (outcomes.TooLong ForeReport) before traces reads first second h = absurd h
 array_at_rebuild terms old mid new (outcomes.TooLong BackReport) before traces reads first second h = absurd h
 array_at_rebuild terms old mid new (outcomes.ReadFault Params) before traces reads first second h = absurd h
 array_at_rebuild terms old mid new (outcomes.ReadFault Trace) before traces reads first second h = absurd h
 array_at_rebuild terms old mid new (outcomes.ReadFault Calls) before traces reads first second h = absurd h
+array_at_rebuild terms old mid new (outcomes.ReadFault Puts) before traces reads first second h = absurd h
 array_at_rebuild terms old mid new (outcomes.ReadFault ForeReport) before traces reads first second h = absurd h
 array_at_rebuild terms old mid new (outcomes.ReadFault BackReport) before traces reads first second h = absurd h
 array_at_rebuild terms old mid new (outcomes.WriteFault output) before traces reads first second h = absurd h

@@ -5,7 +5,6 @@ use Rattle.std.specs.List.{AllByRecursion}
 use Rattle.fb_units.specs.declared.types.Request.{Request}
 use Rattle.fb_geometry.specs.Places.{places}
 use Rattle.fb_service.specs.declared.disk.Disk.{Disk}
-use Rattle.fb_rows.specs.declared.run.Run.{Run}
 use Rattle.fb_trace.specs.Reading.{Accepted}
 use Rattle.fb_trace.specs.Servable.{IsServable, IsTraceOf}
 use Rattle.fb_calls.specs.Allowed.{IsScript}
@@ -14,16 +13,13 @@ use Rattle.fb_model.specs.Accepted.{IsAccepted, IsRequestOf}
 use Rattle.fb_model.specs.PlainReplay.{Key}
 use Rattle.fb_desk.specs.Calls.{Rose, ChangesInput}
 use Rattle.fb_desk.specs.View.{DeskView, InputView}
-use Rattle.fb_desk.specs.declared.desk.Input.TheVariants.{Params, Trace, Calls, ForeReport, BackReport}
+use Rattle.fb_desk.specs.declared.desk.Input.TheVariants.{Params, Trace, Calls, Puts, ForeReport, BackReport}
 use Rattle.fb_words.specs.Command.{ReplayTerms}
 use Rattle.fb_top.specs.Sources.{SourceTerms, files_alone, replay_inputs}
 use Rattle.fb_top.specs.declared.outcome.Outcome.{Outcome}
 use Rattle.fb_top.specs.declared.outcome.Outcome.TheVariants as outcomes
 use Rattle.fb_top.specs.Read.{ReadsTrace, ReadsScript, Files, inputs_of}
-use Rattle.fb_top.specs.Written.{KeepsReports}
-use Rattle.fb_top.specs.Done.{IsRunOf, StopsReports}
 use Rattle.fb_top.specs.Causes.{AcceptsDisk, AcceptsTrace, EndsAt, HasCause, StopsInputs, StopsDisk, StopsTrace, StopsCalls, StopsScript}
-use Rattle.fb_top.proofs.Moved.{stops_reports}
 
 pub trace_is_no_params : Trace ≢ Params
 trace_is_no_params e = cc
@@ -36,7 +32,7 @@ calls_are_no_trace e = cc
 
 ends_at_params : (old new : DeskView) → ChangesInput Params old new → EndsAt Params old new
 ends_at_params old new only = record {
-  later = (only.inputs Trace trace_is_no_params, only.inputs Calls calls_are_no_params, only.inputs ForeReport (λ e. cc), only.inputs BackReport (λ e. cc));
+  later = (only.inputs Trace trace_is_no_params, only.inputs Calls calls_are_no_params, only.inputs Puts (λ e. cc), only.inputs ForeReport (λ e. cc), only.inputs BackReport (λ e. cc));
   reports = λ output no_note. only.outputs output;
 }
 
@@ -44,6 +40,7 @@ pub ends_at_trace : (old mid new : DeskView) → ChangesInput Params old mid →
 ends_at_trace old mid new first second = record {
   later = (
     second.inputs Calls calls_are_no_trace ∙ first.inputs Calls calls_are_no_params,
+    second.inputs Puts (λ e. cc) ∙ first.inputs Puts (λ e. cc),
     second.inputs ForeReport (λ e. cc) ∙ first.inputs ForeReport (λ e. cc),
     second.inputs BackReport (λ e. cc) ∙ first.inputs BackReport (λ e. cc),
   );
@@ -53,6 +50,7 @@ ends_at_trace old mid new first second = record {
 ends_at_calls : (old mid late new : DeskView) → ChangesInput Params old mid → ChangesInput Trace mid late → ChangesInput Calls late new → EndsAt Calls old new
 ends_at_calls old mid late new first second third = record {
   later = (
+    third.inputs Puts (λ e. cc) ∙ second.inputs Puts (λ e. cc) ∙ first.inputs Puts (λ e. cc),
     third.inputs ForeReport (λ e. cc) ∙ second.inputs ForeReport (λ e. cc) ∙ first.inputs ForeReport (λ e. cc),
     third.inputs BackReport (λ e. cc) ∙ second.inputs BackReport (λ e. cc) ∙ first.inputs BackReport (λ e. cc),
   );
@@ -91,14 +89,18 @@ at_params words old new (outcomes.Checked verdict) only h = absurd h
 at_params words old new (outcomes.Reports fault) only h = absurd h
 at_params words old new (outcomes.Usage fault) only h = absurd h
 at_params words old new (outcomes.Arrayed runs copy) only h = absurd h
+at_params words old new (outcomes.Spilled ran spilled) only h = absurd h
+at_params words old new (outcomes.Puts fault) only h = absurd h
 at_params words old new (outcomes.Trace fault) only h = absurd h
 at_params words old new (outcomes.Calls fault) only h = absurd h
 at_params words old new (outcomes.TooLong Trace) only h = absurd h
 at_params words old new (outcomes.TooLong Calls) only h = absurd h
+at_params words old new (outcomes.TooLong Puts) only h = absurd h
 at_params words old new (outcomes.TooLong ForeReport) only h = absurd h
 at_params words old new (outcomes.TooLong BackReport) only h = absurd h
 at_params words old new (outcomes.ReadFault Trace) only h = absurd h
 at_params words old new (outcomes.ReadFault Calls) only h = absurd h
+at_params words old new (outcomes.ReadFault Puts) only h = absurd h
 at_params words old new (outcomes.ReadFault ForeReport) only h = absurd h
 at_params words old new (outcomes.ReadFault BackReport) only h = absurd h
 at_params words old new (outcomes.WriteFault output) only h = absurd h
@@ -138,19 +140,23 @@ at_trace words old mid new (outcomes.Checked verdict) before first second h = ab
 at_trace words old mid new (outcomes.Reports fault) before first second h = absurd h
 at_trace words old mid new (outcomes.Usage fault) before first second h = absurd h
 at_trace words old mid new (outcomes.Arrayed runs copy) before first second h = absurd h
+at_trace words old mid new (outcomes.Spilled ran spilled) before first second h = absurd h
+at_trace words old mid new (outcomes.Puts fault) before first second h = absurd h
 at_trace words old mid new (outcomes.Params fault) before first second h = absurd h
 at_trace words old mid new (outcomes.Calls fault) before first second h = absurd h
 at_trace words old mid new (outcomes.TooLong Params) before first second h = absurd h
 at_trace words old mid new (outcomes.TooLong Calls) before first second h = absurd h
+at_trace words old mid new (outcomes.TooLong Puts) before first second h = absurd h
 at_trace words old mid new (outcomes.TooLong ForeReport) before first second h = absurd h
 at_trace words old mid new (outcomes.TooLong BackReport) before first second h = absurd h
 at_trace words old mid new (outcomes.ReadFault Params) before first second h = absurd h
 at_trace words old mid new (outcomes.ReadFault Calls) before first second h = absurd h
+at_trace words old mid new (outcomes.ReadFault Puts) before first second h = absurd h
 at_trace words old mid new (outcomes.ReadFault ForeReport) before first second h = absurd h
 at_trace words old mid new (outcomes.ReadFault BackReport) before first second h = absurd h
 at_trace words old mid new (outcomes.WriteFault output) before first second h = absurd h
 
-has_name : (given : Option (List ℕ)) (name : List ℕ) → given ≡ Some name → is_some given ≡ true
+pub has_name : (given : Option (List ℕ)) (name : List ℕ) → given ≡ Some name → is_some given ≡ true
 has_name given name e = cc
 
 -- why the script of this name was not read
@@ -195,14 +201,18 @@ at_calls words old mid late new (outcomes.Checked verdict) before name given fir
 at_calls words old mid late new (outcomes.Reports fault) before name given first second third h = absurd h
 at_calls words old mid late new (outcomes.Usage fault) before name given first second third h = absurd h
 at_calls words old mid late new (outcomes.Arrayed runs copy) before name given first second third h = absurd h
+at_calls words old mid late new (outcomes.Spilled ran spilled) before name given first second third h = absurd h
+at_calls words old mid late new (outcomes.Puts fault) before name given first second third h = absurd h
 at_calls words old mid late new (outcomes.Params fault) before name given first second third h = absurd h
 at_calls words old mid late new (outcomes.Trace fault) before name given first second third h = absurd h
 at_calls words old mid late new (outcomes.TooLong Params) before name given first second third h = absurd h
 at_calls words old mid late new (outcomes.TooLong Trace) before name given first second third h = absurd h
+at_calls words old mid late new (outcomes.TooLong Puts) before name given first second third h = absurd h
 at_calls words old mid late new (outcomes.TooLong ForeReport) before name given first second third h = absurd h
 at_calls words old mid late new (outcomes.TooLong BackReport) before name given first second third h = absurd h
 at_calls words old mid late new (outcomes.ReadFault Params) before name given first second third h = absurd h
 at_calls words old mid late new (outcomes.ReadFault Trace) before name given first second third h = absurd h
+at_calls words old mid late new (outcomes.ReadFault Puts) before name given first second third h = absurd h
 at_calls words old mid late new (outcomes.ReadFault ForeReport) before name given first second third h = absurd h
 at_calls words old mid late new (outcomes.ReadFault BackReport) before name given first second third h = absurd h
 at_calls words old mid late new (outcomes.WriteFault output) before name given first second third h = absurd h
@@ -218,6 +228,7 @@ pub replay_stopped : (terms : ReplayTerms) (old new : DeskView) (outcome : Outco
 replay_stopped terms old new (outcomes.Params fault) h = h
 replay_stopped terms old new (outcomes.Trace fault) h = h
 replay_stopped terms old new (outcomes.Calls fault) h = h
+replay_stopped terms old new (outcomes.Puts fault) h = h
 replay_stopped terms old new (outcomes.Reports fault) h = h
 replay_stopped terms old new (outcomes.TooLong input) h = h
 replay_stopped terms old new (outcomes.ReadFault input) h = h
@@ -227,26 +238,8 @@ replay_stopped terms old new (outcomes.Made n) h = absurd h
 replay_stopped terms old new (outcomes.Checked verdict) h = absurd h
 replay_stopped terms old new (outcomes.Usage fault) h = absurd h
 replay_stopped terms old new (outcomes.Arrayed runs copy) h = absurd h
+replay_stopped terms old new (outcomes.Spilled ran spilled) h = absurd h
 replay_stopped terms old new (outcomes.WriteFault output) h = absurd h
-
--- why the reports of a run were not written
-pub at_reports : (words : ReplayTerms) (run : Run) (old mid new : DeskView) (outcome : Outcome) (is_run : IsRunOf old words run) → KeepsReports old mid
-    → StopsReports words is_run.files run mid new outcome → HasCause words old new outcome
-at_reports words run old mid new (outcomes.WriteFault output) is_run keeps h =
-    record { run = run; is_run = is_run; stops = stops_reports old mid new new keeps (λ output no_note. refl) words is_run.files run (outcomes.WriteFault output) h }
-at_reports words run old mid new outcomes.NoMemory is_run keeps h =
-    inr (record { run = run; is_run = is_run; stops = stops_reports old mid new new keeps (λ output no_note. refl) words is_run.files run outcomes.NoMemory h })
-at_reports words run old mid new (outcomes.Done other) is_run keeps h = absurd h
-at_reports words run old mid new (outcomes.Made n) is_run keeps h = absurd h
-at_reports words run old mid new (outcomes.Checked verdict) is_run keeps h = absurd h
-at_reports words run old mid new (outcomes.Reports fault) is_run keeps h = absurd h
-at_reports words run old mid new (outcomes.Usage fault) is_run keeps h = absurd h
-at_reports words run old mid new (outcomes.Arrayed runs copy) is_run keeps h = absurd h
-at_reports words run old mid new (outcomes.Params fault) is_run keeps h = absurd h
-at_reports words run old mid new (outcomes.Trace fault) is_run keeps h = absurd h
-at_reports words run old mid new (outcomes.Calls fault) is_run keeps h = absurd h
-at_reports words run old mid new (outcomes.TooLong input) is_run keeps h = absurd h
-at_reports words run old mid new (outcomes.ReadFault input) is_run keeps h = absurd h
 
 all_requests : (disk : Disk) (requests : List Request) → AllByRecursion (IsServable (length (places disk.map))) requests → AllByRecursion (IsRequestOf disk.map) requests
 all_requests disk [] all = tt

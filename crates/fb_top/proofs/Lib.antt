@@ -16,6 +16,11 @@ pub mod Making
 pub mod Notes
 pub mod Completeness
 pub mod Unnamed
+pub mod MoreInputs
+pub mod RunGaps
+pub mod Untouching
+pub mod Together
+pub mod Spills
 pub mod OneRun
 pub mod OneSection
 pub mod Opened

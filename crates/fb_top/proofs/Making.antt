@@ -17,8 +17,8 @@ use Rattle.fb_maker.specs.Script.{script_text, script_calls}
 use Rattle.fb_calls.specs.Reading.{calls_of}
 use Rattle.fb_desk.specs.Calls.{Rose, ChangesInput, ChangesOutput}
 use Rattle.fb_desk.specs.View.{DeskView, InputView, OutputView}
-use Rattle.fb_desk.specs.declared.desk.Input.TheVariants.{Params, Trace, Calls, ForeReport, BackReport}
-use Rattle.fb_desk.specs.declared.desk.Output.TheVariants.{Fore, Back, Note, MadeTrace, MadeCalls, Copied}
+use Rattle.fb_desk.specs.declared.desk.Input.TheVariants.{Params, Trace, Calls, Puts, ForeReport, BackReport}
+use Rattle.fb_desk.specs.declared.desk.Output.TheVariants.{Fore, Back, Spill, Note, MadeTrace, MadeCalls, Copied}
 use Rattle.fb_words.specs.Command.{MakeTerms}
 use Rattle.fb_top.specs.declared.outcome.Outcome.{Outcome}
 use Rattle.fb_top.specs.declared.outcome.Outcome.TheVariants as outcomes
@@ -76,22 +76,27 @@ module _ (terms : MakeTerms) (old mid new : DeskView) (only : ChangesOutput Note
   make_cause_still (outcomes.Done run) h = absurd h
   make_cause_still (outcomes.Usage fault) h = absurd h
   make_cause_still (outcomes.Arrayed runs copy) h = absurd h
+  make_cause_still (outcomes.Spilled ran spilled) h = absurd h
+  make_cause_still (outcomes.Puts fault) h = absurd h
   make_cause_still (outcomes.Checked verdict) h = absurd h
   make_cause_still (outcomes.Reports fault) h = absurd h
   make_cause_still (outcomes.Trace fault) h = absurd h
   make_cause_still (outcomes.Calls fault) h = absurd h
   make_cause_still (outcomes.TooLong Trace) h = absurd h
   make_cause_still (outcomes.TooLong Calls) h = absurd h
+  make_cause_still (outcomes.TooLong Puts) h = absurd h
   make_cause_still (outcomes.TooLong ForeReport) h = absurd h
   make_cause_still (outcomes.TooLong BackReport) h = absurd h
   make_cause_still (outcomes.ReadFault Trace) h = absurd h
   make_cause_still (outcomes.ReadFault Calls) h = absurd h
+  make_cause_still (outcomes.ReadFault Puts) h = absurd h
   make_cause_still (outcomes.ReadFault ForeReport) h = absurd h
   make_cause_still (outcomes.ReadFault BackReport) h = absurd h
   make_cause_still (outcomes.WriteFault Fore) h = absurd h
   make_cause_still (outcomes.WriteFault Back) h = absurd h
   make_cause_still (outcomes.WriteFault Note) h = absurd h
   make_cause_still (outcomes.WriteFault Copied) h = absurd h
+  make_cause_still (outcomes.WriteFault Spill) h = absurd h
 
 cuts_trace : (terms : MakeTerms) (old mid new : DeskView) (makes : AcceptsDisk old terms.params) → ChangesInput Params old mid → ChangesOutput MadeTrace mid new
     → HoldsFront (new.outputs MadeTrace) terms.trace (trace_text terms makes.disk) → CutsTrace old new terms
@@ -108,6 +113,7 @@ stopped_trace terms old mid new (outcomes.WriteFault Fore) makes first second h 
 stopped_trace terms old mid new (outcomes.WriteFault Back) makes first second h = absurd (let other = h.0 in cc)
 stopped_trace terms old mid new (outcomes.WriteFault Note) makes first second h = absurd (let other = h.0 in cc)
 stopped_trace terms old mid new (outcomes.WriteFault Copied) makes first second h = absurd (let other = h.0 in cc)
+stopped_trace terms old mid new (outcomes.WriteFault Spill) makes first second h = absurd (let other = h.0 in cc)
 stopped_trace terms old mid new outcomes.NoMemory makes first second h = inr (inl (cuts_trace terms old mid new makes first second h))
 stopped_trace terms old mid new (outcomes.Done run) makes first second h = absurd h
 stopped_trace terms old mid new (outcomes.Made n) makes first second h = absurd h
@@ -115,6 +121,8 @@ stopped_trace terms old mid new (outcomes.Checked verdict) makes first second h 
 stopped_trace terms old mid new (outcomes.Reports fault) makes first second h = absurd h
 stopped_trace terms old mid new (outcomes.Usage fault) makes first second h = absurd h
 stopped_trace terms old mid new (outcomes.Arrayed runs copy) makes first second h = absurd h
+stopped_trace terms old mid new (outcomes.Spilled ran spilled) makes first second h = absurd h
+stopped_trace terms old mid new (outcomes.Puts fault) makes first second h = absurd h
 stopped_trace terms old mid new (outcomes.Params fault) makes first second h = absurd h
 stopped_trace terms old mid new (outcomes.Trace fault) makes first second h = absurd h
 stopped_trace terms old mid new (outcomes.Calls fault) makes first second h = absurd h
@@ -147,6 +155,7 @@ stopped_calls terms old mid late new (outcomes.WriteFault Fore) makes first seco
 stopped_calls terms old mid late new (outcomes.WriteFault Back) makes first second third trace h = absurd (let other = h.0 in cc)
 stopped_calls terms old mid late new (outcomes.WriteFault Note) makes first second third trace h = absurd (let other = h.0 in cc)
 stopped_calls terms old mid late new (outcomes.WriteFault Copied) makes first second third trace h = absurd (let other = h.0 in cc)
+stopped_calls terms old mid late new (outcomes.WriteFault Spill) makes first second third trace h = absurd (let other = h.0 in cc)
 stopped_calls terms old mid late new outcomes.NoMemory makes first second third trace h = inr (inr (cuts_calls terms old mid late new makes first second third trace h))
 stopped_calls terms old mid late new (outcomes.Done run) makes first second third trace h = absurd h
 stopped_calls terms old mid late new (outcomes.Made n) makes first second third trace h = absurd h
@@ -154,6 +163,8 @@ stopped_calls terms old mid late new (outcomes.Checked verdict) makes first seco
 stopped_calls terms old mid late new (outcomes.Reports fault) makes first second third trace h = absurd h
 stopped_calls terms old mid late new (outcomes.Usage fault) makes first second third trace h = absurd h
 stopped_calls terms old mid late new (outcomes.Arrayed runs copy) makes first second third trace h = absurd h
+stopped_calls terms old mid late new (outcomes.Spilled ran spilled) makes first second third trace h = absurd h
+stopped_calls terms old mid late new (outcomes.Puts fault) makes first second third trace h = absurd h
 stopped_calls terms old mid late new (outcomes.Params fault) makes first second third trace h = absurd h
 stopped_calls terms old mid late new (outcomes.Trace fault) makes first second third trace h = absurd h
 stopped_calls terms old mid late new (outcomes.Calls fault) makes first second third trace h = absurd h

@@ -4,7 +4,7 @@ use Rattle.fb_rows.specs.declared.run.Run.{Run}
 use Rattle.fb_desk.specs.Calls.{Rose}
 use Rattle.fb_desk.specs.View.{DeskView, OutputView}
 use Rattle.fb_desk.specs.declared.desk.Output.{Output}
-use Rattle.fb_desk.specs.declared.desk.Output.TheVariants.{Fore, Back, Note, MadeTrace, MadeCalls, Copied}
+use Rattle.fb_desk.specs.declared.desk.Output.TheVariants.{Fore, Back, Spill, Note, MadeTrace, MadeCalls, Copied}
 use Rattle.fb_words.specs.Command.{ReplayTerms}
 use Rattle.fb_top.specs.declared.outcome.Outcome.{Outcome}
 use Rattle.fb_top.specs.declared.outcome.Outcome.TheVariants as outcomes
@@ -17,6 +17,9 @@ fore_is_no_note e = cc
 
 pub back_is_no_note : Back ≢ Note
 back_is_no_note e = cc
+
+pub spill_is_no_note : Spill ≢ Note
+spill_is_no_note e = cc
 
 pub trace_is_no_note : MadeTrace ≢ Note
 trace_is_no_note e = cc
@@ -61,6 +64,8 @@ module _ (old mid late new : DeskView) (first : KeepsReports old mid) (last : Ke
   stops_text which name text (outcomes.Checked verdict) no_note h = absurd h
   stops_text which name text (outcomes.Usage fault) no_note h = absurd h
   stops_text which name text (outcomes.Arrayed runs copy) no_note h = absurd h
+  stops_text which name text (outcomes.Spilled ran spilled) no_note h = absurd h
+  stops_text which name text (outcomes.Puts fault) no_note h = absurd h
   stops_text which name text (outcomes.Params fault) no_note h = absurd h
   stops_text which name text (outcomes.Trace fault) no_note h = absurd h
   stops_text which name text (outcomes.Calls fault) no_note h = absurd h
@@ -68,7 +73,7 @@ module _ (old mid late new : DeskView) (first : KeepsReports old mid) (last : Ke
   stops_text which name text (outcomes.TooLong input) no_note h = absurd h
   stops_text which name text (outcomes.ReadFault input) no_note h = absurd h
 
-  wanted : (given : Option (List ℕ)) (text : List ℕ) → HoldsWanted given text (mid.outputs Back) (late.outputs Back) → HoldsWanted given text (old.outputs Back) (new.outputs Back)
+  pub wanted : (given : Option (List ℕ)) (text : List ℕ) → HoldsWanted given text (mid.outputs Back) (late.outputs Back) → HoldsWanted given text (old.outputs Back) (new.outputs Back)
   wanted None text same = last Back back_is_no_note ∙ same ∙ first Back back_is_no_note
   wanted (Some name) text holds = whole Back name text back_is_no_note holds
 
@@ -94,6 +99,7 @@ module _ (old mid late new : DeskView) (first : KeepsReports old mid) (last : Ke
   stops_reports terms files run outcomes.NoMemory (inr cut) = inr (cuts_back terms files run cut)
   stops_reports terms files run (outcomes.WriteFault Note) stops = absurd stops
   stops_reports terms files run (outcomes.WriteFault Copied) stops = absurd stops
+  stops_reports terms files run (outcomes.WriteFault Spill) stops = absurd stops
   stops_reports terms files run (outcomes.WriteFault MadeTrace) stops = absurd stops
   stops_reports terms files run (outcomes.WriteFault MadeCalls) stops = absurd stops
   stops_reports terms files run (outcomes.Done other) stops = absurd stops
@@ -102,6 +108,8 @@ module _ (old mid late new : DeskView) (first : KeepsReports old mid) (last : Ke
   stops_reports terms files run (outcomes.Reports fault) stops = absurd stops
   stops_reports terms files run (outcomes.Usage fault) stops = absurd stops
   stops_reports terms files run (outcomes.Arrayed runs copy) stops = absurd stops
+  stops_reports terms files run (outcomes.Spilled ran spilled) stops = absurd stops
+  stops_reports terms files run (outcomes.Puts fault) stops = absurd stops
   stops_reports terms files run (outcomes.Params fault) stops = absurd stops
   stops_reports terms files run (outcomes.Trace fault) stops = absurd stops
   stops_reports terms files run (outcomes.Calls fault) stops = absurd stops

@@ -8,16 +8,17 @@ use Rattle.fb_words.specs.declared.fault.UsageFault.{UsageFault}
 use Rattle.fb_desk.specs.Calls.{ChangesOutput, Rose, behind}
 use Rattle.fb_desk.specs.View.{DeskView, InputView, OutputView}
 use Rattle.fb_desk.specs.declared.desk.Input.{Input}
-use Rattle.fb_desk.specs.declared.desk.Input.TheVariants.{Params, Trace, Calls, ForeReport, BackReport}
+use Rattle.fb_desk.specs.declared.desk.Input.TheVariants.{Params, Trace, Calls, Puts, ForeReport, BackReport}
 use Rattle.fb_desk.specs.declared.desk.Output.TheVariants.{Fore, Note}
 use Rattle.fb_top.specs.declared.outcome.Outcome.{Outcome}
 use Rattle.fb_top.specs.declared.outcome.Outcome.TheVariants as outcomes
 use Rattle.fb_top.specs.Streams.{AppendsFront}
 use Rattle.fb_top.specs.Written.{KeepsReports}
 use Rattle.fb_top.specs.Done.{IsCutShort}
+use Rattle.fb_top.specs.Spilled.{IsSpillCut}
 use Rattle.fb_top.specs.Sources.{InputTerms, replay_inputs, check_inputs, array_inputs}
 use Rattle.fb_top.specs.Checked.{IsVerdictCut, verdict_line}
-use Rattle.fb_top.specs.Causes.{CheckHasCause, EndsAt, HasCause, KeepsLater, RunsOut, StopsInputs, input_of}
+use Rattle.fb_top.specs.Causes.{CheckHasCause, EndsAt, HasCause, IsCut, KeepsLater, RunsOut, StopsInputs, input_of}
 use Rattle.fb_top.specs.Answers.{AnswersWords}
 use Rattle.fb_top.specs.Array.{ArrayHasCause, IsArrayCut}
 use Rattle.fb_top.specs.Noted.{IsNote}
@@ -25,6 +26,7 @@ use Rattle.fb_top.proofs.Arrayed.{array_cut, arrayed}
 use Rattle.fb_top.proofs.Fronts.{rose_since}
 use Rattle.fb_top.proofs.Making.{keeps_reports, keeps_still, make_cause_still}
 use Rattle.fb_top.proofs.Moved.{fore_is_no_note, holds_reports, keeps_but, stops_reports, stops_text, whole}
+use Rattle.fb_top.proofs.Spills.{spill_moved, stops_moved}
 
 next_byte : (key : List ℕ) (i byte : ℕ) → slice_get key i ≡ Some byte → drop i key ≡ byte ∷ drop (i + 1) key
 next_byte key i byte e = drop_more key i byte (slice_get_within key i byte e) ∙ ap (λ y. y ∷ drop (i + 1) key) (get_or_from_slice_get key i byte byte e)
@@ -61,9 +63,10 @@ note_written (Ok x) first old new text line empty is whole front rose = whole_no
 note_written (Err e) first old new text line empty is whole front rose = cut_note first new old.written new.written text line empty is front rose
 
 later_still : (input : Input) (old mid new : DeskView) → KeepsLater input old mid → ChangesOutput Note mid new → KeepsLater input old new
-later_still Params old mid new later only = (only.inputs Trace ∙ later.0, only.inputs Calls ∙ later.1, only.inputs ForeReport ∙ later.2, only.inputs BackReport ∙ later.3)
-later_still Trace old mid new later only = (only.inputs Calls ∙ later.0, only.inputs ForeReport ∙ later.1, only.inputs BackReport ∙ later.2)
-later_still Calls old mid new later only = (only.inputs ForeReport ∙ later.0, only.inputs BackReport ∙ later.1)
+later_still Params old mid new later only = (only.inputs Trace ∙ later.0, only.inputs Calls ∙ later.1, only.inputs Puts ∙ later.2, only.inputs ForeReport ∙ later.3, only.inputs BackReport ∙ later.4)
+later_still Trace old mid new later only = (only.inputs Calls ∙ later.0, only.inputs Puts ∙ later.1, only.inputs ForeReport ∙ later.2, only.inputs BackReport ∙ later.3)
+later_still Calls old mid new later only = (only.inputs Puts ∙ later.0, only.inputs ForeReport ∙ later.1, only.inputs BackReport ∙ later.2)
+later_still Puts old mid new later only = (only.inputs ForeReport ∙ later.0, only.inputs BackReport ∙ later.1)
 later_still ForeReport old mid new later only = only.inputs BackReport ∙ later
 later_still BackReport old mid new later only = tt
 
@@ -90,6 +93,8 @@ module _ (terms : InputTerms) (old mid new : DeskView) (only : ChangesOutput Not
   inputs_still (outcomes.Checked verdict) h = absurd h
   inputs_still (outcomes.Usage fault) h = absurd h
   inputs_still (outcomes.Arrayed runs copy) h = absurd h
+  inputs_still (outcomes.Spilled ran spilled) h = absurd h
+  inputs_still (outcomes.Puts fault) h = (h.0, ends_still Puts old mid new h.1 only)
   inputs_still (outcomes.WriteFault output) h = absurd h
 
 module _ (terms : ReplayTerms) (old mid new : DeskView) (only : ChangesOutput Note mid new) where
@@ -100,27 +105,49 @@ module _ (terms : ReplayTerms) (old mid new : DeskView) (only : ChangesOutput No
   cut_short_still outcome cut = record {
     run = cut.run;
     is_run = cut.is_run;
+    puts = cut.puts;
+    accepts_puts = cut.accepts_puts;
     stops = stops_reports old old mid new same (keeps_reports mid new only) terms cut.is_run.files cut.run outcome cut.stops;
   }
+
+  spill_cut_still : (outcome : Outcome) → IsSpillCut old mid terms outcome → IsSpillCut old new terms outcome
+  spill_cut_still outcome cut = record {
+    run = cut.run;
+    spill = cut.spill;
+    is_run = cut.is_run;
+    is_spill = cut.is_spill;
+    stops = stops_moved old old mid new same (keeps_reports mid new only) terms cut.is_run.files cut.run cut.spill outcome cut.stops;
+  }
+
+  cut_still : (outcome : Outcome) → IsCut old mid terms outcome → IsCut old new terms outcome
+  cut_still outcome (inl cut) = inl (cut_short_still outcome cut)
+  cut_still outcome (inr cut) = inr (spill_cut_still outcome cut)
 
   stop_still : (outcome : Outcome) → StopsInputs (replay_inputs terms) old mid outcome → StopsInputs (replay_inputs terms) old new outcome
   stop_still outcome h = inputs_still (replay_inputs terms) old mid new only outcome h
 
   cause_still : (outcome : Outcome) → HasCause terms old mid outcome → HasCause terms old new outcome
-  cause_still (outcomes.Done run) h = record { is_run = h.is_run; reports = holds_reports old old mid new same (keeps_reports mid new only) terms h.is_run.files run h.reports; read = h.read }
+  cause_still (outcomes.Done run) h = record { no_puts = h.no_puts; is_run = h.is_run; reports = holds_reports old old mid new same (keeps_reports mid new only) terms h.is_run.files run h.reports; read = h.read }
   cause_still (outcomes.Params fault) h = stop_still (outcomes.Params fault) h
   cause_still (outcomes.Trace fault) h = stop_still (outcomes.Trace fault) h
   cause_still (outcomes.Calls fault) h = stop_still (outcomes.Calls fault) h
   cause_still (outcomes.Reports fault) h = stop_still (outcomes.Reports fault) h
   cause_still (outcomes.TooLong input) h = stop_still (outcomes.TooLong input) h
   cause_still (outcomes.ReadFault input) h = stop_still (outcomes.ReadFault input) h
-  cause_still (outcomes.WriteFault output) h = cut_short_still (outcomes.WriteFault output) h
+  cause_still (outcomes.WriteFault output) h = cut_still (outcomes.WriteFault output) h
   cause_still outcomes.NoMemory (inl out) = inl (out_still (replay_inputs terms) old mid new only out)
-  cause_still outcomes.NoMemory (inr cut) = inr (cut_short_still outcomes.NoMemory cut)
+  cause_still outcomes.NoMemory (inr cut) = inr (cut_still outcomes.NoMemory cut)
   cause_still (outcomes.Made n) h = absurd h
   cause_still (outcomes.Checked verdict) h = absurd h
   cause_still (outcomes.Usage fault) h = absurd h
   cause_still (outcomes.Arrayed runs copy) h = absurd h
+  cause_still (outcomes.Spilled run spill) h = record {
+    is_run = h.is_run;
+    is_spill = h.is_spill;
+    texts = spill_moved old old mid new same (keeps_reports mid new only) terms h.is_run.files run spill h.texts;
+    read = h.read;
+  }
+  cause_still (outcomes.Puts fault) h = stop_still (outcomes.Puts fault) h
 
 module _ (terms : CheckTerms) (old mid new : DeskView) (only : ChangesOutput Note mid new) where
   keeps : KeepsReports mid new
@@ -159,6 +186,8 @@ module _ (terms : CheckTerms) (old mid new : DeskView) (only : ChangesOutput Not
   check_still (outcomes.Made n) h = absurd h
   check_still (outcomes.Usage fault) h = absurd h
   check_still (outcomes.Arrayed runs copy) h = absurd h
+  check_still (outcomes.Spilled ran spilled) h = absurd h
+  check_still (outcomes.Puts fault) h = check_stop_still (outcomes.Puts fault) h
 
 module _ (terms : ArrayTerms) (old mid new : DeskView) (only : ChangesOutput Note mid new) where
   array_cut_still : (outcome : Outcome) → IsArrayCut old mid terms outcome → IsArrayCut old new terms outcome
@@ -181,6 +210,8 @@ module _ (terms : ArrayTerms) (old mid new : DeskView) (only : ChangesOutput Not
   array_still (outcomes.Done run) h = absurd h
   array_still (outcomes.Made n) h = absurd h
   array_still (outcomes.Checked verdict) h = absurd h
+  array_still (outcomes.Puts fault) h = array_stop_still (outcomes.Puts fault) h
+  array_still (outcomes.Spilled run spill) h = absurd h
   array_still (outcomes.Usage fault) h = absurd h
 
 -- an answer keeps its cause where nothing but the note changes

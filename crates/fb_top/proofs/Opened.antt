@@ -4,9 +4,9 @@ use Rattle.std.specs.Prelude.{IfSome, Result, Ok, Err}
 use Rattle.fb_desk.specs.Calls.{ChangesInput, ChangesOutput, before}
 use Rattle.fb_desk.specs.View.{DeskView, InputView, OutputView, IsUnused}
 use Rattle.fb_desk.specs.declared.desk.Input.{Input}
-use Rattle.fb_desk.specs.declared.desk.Input.TheVariants.{Params, Trace, Calls, ForeReport, BackReport}
+use Rattle.fb_desk.specs.declared.desk.Input.TheVariants.{Params, Trace, Calls, Puts, ForeReport, BackReport}
 use Rattle.fb_desk.specs.declared.desk.Output.{Output}
-use Rattle.fb_desk.specs.declared.desk.Output.TheVariants.{Fore, Back, Note, MadeTrace, MadeCalls, Copied}
+use Rattle.fb_desk.specs.declared.desk.Output.TheVariants.{Fore, Back, Spill, Note, MadeTrace, MadeCalls, Copied}
 use Rattle.fb_words.specs.Command.{Terms, replays, makes, checks, arrays}
 use Rattle.fb_top.specs.Sources.{InputTerms, SourceTerms, array_inputs, check_inputs, files_alone, name_of, replay_inputs}
 use Rattle.fb_words.specs.declared.fault.UsageFault.{UsageFault}
@@ -30,11 +30,11 @@ pub left_kept : (bytes : List ℕ) (left now held : Option (List ℕ)) → now �
 left_kept bytes left now held same e = left_here bytes now held (ap (before bytes) same ∙ e)
 
 -- an input that was not touched is not opened
-unopened : (which : Input) (name : List ℕ) (old new : DeskView) → IsUnused old → new.inputs which ≡ old.inputs which → IsOpenedAs name old (new.inputs which)
+pub unopened : (which : Input) (name : List ℕ) (old new : DeskView) → IsUnused old → new.inputs which ≡ old.inputs which → IsOpenedAs name old (new.inputs which)
 unopened which name old new unused same = λ is. let was = ap (λ (v : InputView). v.opened) same ∙ unused.inputs which in cc
 
 -- the same name, told of the desk before
-told_before : (name named : List ℕ) (old mid : DeskView) (input : InputView) → mid.held name ≡ old.held name → ◌≡◌ {A = Option (List ℕ)} (Some name) (Some named) → IsOpenedAs name mid input → IsOpenedAs named old input
+pub told_before : (name named : List ℕ) (old mid : DeskView) (input : InputView) → mid.held name ≡ old.held name → ◌≡◌ {A = Option (List ℕ)} (Some name) (Some named) → IsOpenedAs name mid input → IsOpenedAs named old input
 told_before name named old mid input held same opened =
     let one : name ≡ named = cc in
     subst (λ (n : List ℕ). IsOpenedAs n old input) one (subst (λ (told : Option (List ℕ)). input.opened ≡ true → IsLeftOf told input.left) held opened)
@@ -45,6 +45,7 @@ module _ (terms : SourceTerms) (old : DeskView) (unused : IsUnused old) where
   opened_at_params new only opened Params name given = told_before terms.params name old old (new.inputs Params) refl given opened
   opened_at_params new only opened Trace name given = unopened Trace name old new unused (only.inputs Trace trace_is_no_params)
   opened_at_params new only opened Calls name given = unopened Calls name old new unused (only.inputs Calls calls_are_no_params)
+  opened_at_params new only opened Puts name given = absurd (is_named name (sym given))
   opened_at_params new only opened ForeReport name given = absurd (is_named name (sym given))
   opened_at_params new only opened BackReport name given = absurd (is_named name (sym given))
 
@@ -57,6 +58,7 @@ module _ (terms : SourceTerms) (old : DeskView) (unused : IsUnused old) where
     opened_at_trace new second trace Params name given = params_still new name (second.inputs Params (λ e. cc)) given
     opened_at_trace new second trace Trace name given = told_before terms.trace name old mid (new.inputs Trace) (first.held terms.trace) given trace
     opened_at_trace new second trace Calls name given = unopened Calls name old new unused (second.inputs Calls calls_are_no_trace ∙ first.inputs Calls calls_are_no_params)
+    opened_at_trace new second trace Puts name given = absurd (is_named name (sym given))
     opened_at_trace new second trace ForeReport name given = absurd (is_named name (sym given))
     opened_at_trace new second trace BackReport name given = absurd (is_named name (sym given))
 
@@ -69,6 +71,7 @@ module _ (terms : SourceTerms) (old : DeskView) (unused : IsUnused old) where
     opened_at_calls late new second trace third script Calls name given =
         told_before name name old late (new.inputs Calls) (second.held name ∙ first.held name) refl
         (subst (λ (told : Option (List ℕ)). IfSome told (λ n. IsOpenedAs n late (new.inputs Calls))) given script)
+    opened_at_calls late new second trace third script Puts name given = absurd (is_named name (sym given))
     opened_at_calls late new second trace third script ForeReport name given = absurd (is_named name (sym given))
     opened_at_calls late new second trace third script BackReport name given = absurd (is_named name (sym given))
 
@@ -92,6 +95,8 @@ calm_inputs old mid late new first second third params trace script Trace =
     ap (λ (v : InputView). v.faults) (third.inputs Trace (λ e. cc)) ∙ trace ∙ ap (λ (v : InputView). v.faults) (first.inputs Trace trace_is_no_params)
 calm_inputs old mid late new first second third params trace script Calls =
     script ∙ ap (λ (v : InputView). v.faults) (second.inputs Calls calls_are_no_trace ∙ first.inputs Calls calls_are_no_params)
+calm_inputs old mid late new first second third params trace script Puts =
+    ap (λ (v : InputView). v.faults) (third.inputs Puts (λ e. cc) ∙ second.inputs Puts (λ e. cc) ∙ first.inputs Puts (λ e. cc))
 calm_inputs old mid late new first second third params trace script ForeReport =
     ap (λ (v : InputView). v.faults) (third.inputs ForeReport (λ e. cc) ∙ second.inputs ForeReport (λ e. cc) ∙ first.inputs ForeReport (λ e. cc))
 calm_inputs old mid late new first second third params trace script BackReport =
@@ -108,36 +113,49 @@ calm_both old mid new read same keeps written = record {
 pub calm_output : (which : Output) (old new : DeskView) → ChangesOutput which old new → (new.outputs which).faults ≡ (old.outputs which).faults → AreOutputsCalm old new
 calm_output Fore old new only calm Fore = calm
 calm_output Fore old new only calm Back = ap (λ (v : OutputView). v.faults) (only.outputs Back (λ e. cc))
+calm_output Fore old new only calm Spill = ap (λ (v : OutputView). v.faults) (only.outputs Spill (λ e. cc))
 calm_output Fore old new only calm Note = ap (λ (v : OutputView). v.faults) (only.outputs Note (λ e. cc))
 calm_output Fore old new only calm MadeTrace = ap (λ (v : OutputView). v.faults) (only.outputs MadeTrace (λ e. cc))
 calm_output Fore old new only calm MadeCalls = ap (λ (v : OutputView). v.faults) (only.outputs MadeCalls (λ e. cc))
 calm_output Fore old new only calm Copied = ap (λ (v : OutputView). v.faults) (only.outputs Copied (λ e. cc))
 calm_output Back old new only calm Fore = ap (λ (v : OutputView). v.faults) (only.outputs Fore (λ e. cc))
 calm_output Back old new only calm Back = calm
+calm_output Back old new only calm Spill = ap (λ (v : OutputView). v.faults) (only.outputs Spill (λ e. cc))
 calm_output Back old new only calm Note = ap (λ (v : OutputView). v.faults) (only.outputs Note (λ e. cc))
 calm_output Back old new only calm MadeTrace = ap (λ (v : OutputView). v.faults) (only.outputs MadeTrace (λ e. cc))
 calm_output Back old new only calm MadeCalls = ap (λ (v : OutputView). v.faults) (only.outputs MadeCalls (λ e. cc))
 calm_output Back old new only calm Copied = ap (λ (v : OutputView). v.faults) (only.outputs Copied (λ e. cc))
+calm_output Spill old new only calm Fore = ap (λ (v : OutputView). v.faults) (only.outputs Fore (λ e. cc))
+calm_output Spill old new only calm Back = ap (λ (v : OutputView). v.faults) (only.outputs Back (λ e. cc))
+calm_output Spill old new only calm Spill = calm
+calm_output Spill old new only calm Note = ap (λ (v : OutputView). v.faults) (only.outputs Note (λ e. cc))
+calm_output Spill old new only calm MadeTrace = ap (λ (v : OutputView). v.faults) (only.outputs MadeTrace (λ e. cc))
+calm_output Spill old new only calm MadeCalls = ap (λ (v : OutputView). v.faults) (only.outputs MadeCalls (λ e. cc))
+calm_output Spill old new only calm Copied = ap (λ (v : OutputView). v.faults) (only.outputs Copied (λ e. cc))
 calm_output Note old new only calm Fore = ap (λ (v : OutputView). v.faults) (only.outputs Fore (λ e. cc))
 calm_output Note old new only calm Back = ap (λ (v : OutputView). v.faults) (only.outputs Back (λ e. cc))
+calm_output Note old new only calm Spill = ap (λ (v : OutputView). v.faults) (only.outputs Spill (λ e. cc))
 calm_output Note old new only calm Note = calm
 calm_output Note old new only calm MadeTrace = ap (λ (v : OutputView). v.faults) (only.outputs MadeTrace (λ e. cc))
 calm_output Note old new only calm MadeCalls = ap (λ (v : OutputView). v.faults) (only.outputs MadeCalls (λ e. cc))
 calm_output Note old new only calm Copied = ap (λ (v : OutputView). v.faults) (only.outputs Copied (λ e. cc))
 calm_output MadeTrace old new only calm Fore = ap (λ (v : OutputView). v.faults) (only.outputs Fore (λ e. cc))
 calm_output MadeTrace old new only calm Back = ap (λ (v : OutputView). v.faults) (only.outputs Back (λ e. cc))
+calm_output MadeTrace old new only calm Spill = ap (λ (v : OutputView). v.faults) (only.outputs Spill (λ e. cc))
 calm_output MadeTrace old new only calm Note = ap (λ (v : OutputView). v.faults) (only.outputs Note (λ e. cc))
 calm_output MadeTrace old new only calm MadeTrace = calm
 calm_output MadeTrace old new only calm MadeCalls = ap (λ (v : OutputView). v.faults) (only.outputs MadeCalls (λ e. cc))
 calm_output MadeTrace old new only calm Copied = ap (λ (v : OutputView). v.faults) (only.outputs Copied (λ e. cc))
 calm_output MadeCalls old new only calm Fore = ap (λ (v : OutputView). v.faults) (only.outputs Fore (λ e. cc))
 calm_output MadeCalls old new only calm Back = ap (λ (v : OutputView). v.faults) (only.outputs Back (λ e. cc))
+calm_output MadeCalls old new only calm Spill = ap (λ (v : OutputView). v.faults) (only.outputs Spill (λ e. cc))
 calm_output MadeCalls old new only calm Note = ap (λ (v : OutputView). v.faults) (only.outputs Note (λ e. cc))
 calm_output MadeCalls old new only calm MadeTrace = ap (λ (v : OutputView). v.faults) (only.outputs MadeTrace (λ e. cc))
 calm_output MadeCalls old new only calm MadeCalls = calm
 calm_output MadeCalls old new only calm Copied = ap (λ (v : OutputView). v.faults) (only.outputs Copied (λ e. cc))
 calm_output Copied old new only calm Fore = ap (λ (v : OutputView). v.faults) (only.outputs Fore (λ e. cc))
 calm_output Copied old new only calm Back = ap (λ (v : OutputView). v.faults) (only.outputs Back (λ e. cc))
+calm_output Copied old new only calm Spill = ap (λ (v : OutputView). v.faults) (only.outputs Spill (λ e. cc))
 calm_output Copied old new only calm Note = ap (λ (v : OutputView). v.faults) (only.outputs Note (λ e. cc))
 calm_output Copied old new only calm MadeTrace = ap (λ (v : OutputView). v.faults) (only.outputs MadeTrace (λ e. cc))
 calm_output Copied old new only calm MadeCalls = ap (λ (v : OutputView). v.faults) (only.outputs MadeCalls (λ e. cc))
@@ -158,9 +176,11 @@ calm_after (outcomes.Done run) old mid new calm only note = is_calm_after old mi
 calm_after (outcomes.Made n) old mid new calm only note = is_calm_after old mid new calm only (ap (λ (v : OutputView). v.faults) note)
 calm_after (outcomes.Checked verdict) old mid new calm only note = is_calm_after old mid new calm only (ap (λ (v : OutputView). v.faults) note)
 calm_after (outcomes.Arrayed runs copy) old mid new calm only note = is_calm_after old mid new calm only (ap (λ (v : OutputView). v.faults) note)
+calm_after (outcomes.Spilled run spill) old mid new calm only note = is_calm_after old mid new calm only (ap (λ (v : OutputView). v.faults) note)
 calm_after (outcomes.Usage fault) old mid new calm only note = tt
 calm_after (outcomes.Params fault) old mid new calm only note = tt
 calm_after (outcomes.Trace fault) old mid new calm only note = tt
+calm_after (outcomes.Puts fault) old mid new calm only note = tt
 calm_after (outcomes.Calls fault) old mid new calm only note = tt
 calm_after (outcomes.Reports fault) old mid new calm only note = tt
 calm_after (outcomes.TooLong input) old mid new calm only note = tt

@@ -4,7 +4,7 @@ use Rattle.std.specs.Prelude.{codes}
 use Rattle.fb_rows.specs.declared.run.Run.{Run}
 use Rattle.fb_desk.specs.Calls.{Rose, ChangesOutput}
 use Rattle.fb_desk.specs.View.{DeskView, OutputView}
-use Rattle.fb_desk.specs.declared.desk.Output.TheVariants.{Fore, Back, Note, MadeTrace, MadeCalls, Copied}
+use Rattle.fb_desk.specs.declared.desk.Output.TheVariants.{Fore, Back, Spill, Note, MadeTrace, MadeCalls, Copied}
 use Rattle.fb_words.specs.Command.{ReplayTerms}
 use Rattle.fb_top.specs.declared.outcome.Outcome.{Outcome}
 use Rattle.fb_top.specs.declared.outcome.Outcome.TheVariants as outcomes
@@ -35,6 +35,7 @@ module _ (terms : ReplayTerms) (files : Files) (run : Run) where
   stopped_fore old new (outcomes.WriteFault Back) only h = absurd (back_is_no_fore h.0)
   stopped_fore old new (outcomes.WriteFault Note) only h = absurd (note_is_no_fore h.0)
   stopped_fore old new (outcomes.WriteFault Copied) only h = absurd (let other = h.0 in cc)
+  stopped_fore old new (outcomes.WriteFault Spill) only h = absurd (let other = h.0 in cc)
   stopped_fore old new (outcomes.WriteFault MadeTrace) only h = absurd (let other = h.0 in cc)
   stopped_fore old new (outcomes.WriteFault MadeCalls) only h = absurd (let other = h.0 in cc)
   stopped_fore old new (outcomes.Done other) only h = absurd h
@@ -43,6 +44,8 @@ module _ (terms : ReplayTerms) (files : Files) (run : Run) where
   stopped_fore old new (outcomes.Reports fault) only h = absurd h
   stopped_fore old new (outcomes.Usage fault) only h = absurd h
   stopped_fore old new (outcomes.Arrayed runs copy) only h = absurd h
+  stopped_fore old new (outcomes.Spilled ran spilled) only h = absurd h
+  stopped_fore old new (outcomes.Puts fault) only h = absurd h
   stopped_fore old new (outcomes.Params fault) only h = absurd h
   stopped_fore old new (outcomes.Trace fault) only h = absurd h
   stopped_fore old new (outcomes.Calls fault) only h = absurd h
@@ -64,6 +67,7 @@ module _ (terms : ReplayTerms) (files : Files) (run : Run) where
     stopped_back (outcomes.WriteFault Fore) name given h = absurd (fore_is_no_back h.0)
     stopped_back (outcomes.WriteFault Note) name given h = absurd (note_is_no_back h.0)
     stopped_back (outcomes.WriteFault Copied) name given h = absurd (let other = h.0 in cc)
+    stopped_back (outcomes.WriteFault Spill) name given h = absurd (let other = h.0 in cc)
     stopped_back (outcomes.WriteFault MadeTrace) name given h = absurd (let other = h.0 in cc)
     stopped_back (outcomes.WriteFault MadeCalls) name given h = absurd (let other = h.0 in cc)
     stopped_back (outcomes.Done other) name given h = absurd h
@@ -72,6 +76,8 @@ module _ (terms : ReplayTerms) (files : Files) (run : Run) where
     stopped_back (outcomes.Reports fault) name given h = absurd h
     stopped_back (outcomes.Usage fault) name given h = absurd h
     stopped_back (outcomes.Arrayed runs copy) name given h = absurd h
+    stopped_back (outcomes.Spilled ran spilled) name given h = absurd h
+    stopped_back (outcomes.Puts fault) name given h = absurd h
     stopped_back (outcomes.Params fault) name given h = absurd h
     stopped_back (outcomes.Trace fault) name given h = absurd h
     stopped_back (outcomes.Calls fault) name given h = absurd h

@@ -28,6 +28,8 @@ module _ (text : Text) (rest : List Text) (old new : DeskView) (only : ChangesOu
   stopped_first (outcomes.Made n) h = absurd h
   stopped_first (outcomes.Checked verdict) h = absurd h
   stopped_first (outcomes.Arrayed runs copy) h = absurd h
+  stopped_first (outcomes.Spilled ran spilled) h = absurd h
+  stopped_first (outcomes.Puts fault) h = absurd h
   stopped_first (outcomes.Usage fault) h = absurd h
   stopped_first (outcomes.Params fault) h = absurd h
   stopped_first (outcomes.Trace fault) h = absurd h
@@ -83,6 +85,8 @@ module _ (text : Text) (rest : List Text) (old mid new : DeskView) (only : Chang
   stopped_behind (outcomes.Made n) h = absurd h
   stopped_behind (outcomes.Checked verdict) h = absurd h
   stopped_behind (outcomes.Arrayed runs copy) h = absurd h
+  stopped_behind (outcomes.Spilled ran spilled) h = absurd h
+  stopped_behind (outcomes.Puts fault) h = absurd h
   stopped_behind (outcomes.Usage fault) h = absurd h
   stopped_behind (outcomes.Params fault) h = absurd h
   stopped_behind (outcomes.Trace fault) h = absurd h
@@ -136,6 +140,8 @@ module _ (old mid late new : DeskView) (first : KeepsReports old mid) (last : Ke
   stops_texts texts no_note (outcomes.Made n) h = absurd h
   stops_texts texts no_note (outcomes.Checked verdict) h = absurd h
   stops_texts texts no_note (outcomes.Arrayed runs copy) h = absurd h
+  stops_texts texts no_note (outcomes.Spilled ran spilled) h = absurd h
+  stops_texts texts no_note (outcomes.Puts fault) h = absurd h
   stops_texts texts no_note (outcomes.Usage fault) h = absurd h
   stops_texts texts no_note (outcomes.Params fault) h = absurd h
   stops_texts texts no_note (outcomes.Trace fault) h = absurd h

@@ -3,7 +3,7 @@ use Rattle.std.proofs.Common.{◌≡◌, ◌≢◌, ◌∙◌, Some, None, List,
 use Rattle.std.specs.Prelude.{Result, Ok, Err}
 use Rattle.fb_desk.specs.Calls.{ChangesInput, ChangesOutput}
 use Rattle.fb_desk.specs.View.{DeskView}
-use Rattle.fb_desk.specs.declared.desk.Input.TheVariants.{Params, Trace, Calls, ForeReport, BackReport}
+use Rattle.fb_desk.specs.declared.desk.Input.TheVariants.{Params, Trace, Calls, Puts, ForeReport, BackReport}
 use Rattle.fb_desk.specs.declared.desk.Output.{Output}
 use Rattle.fb_words.specs.Command.{Terms, replays, makes, checks, arrays}
 use Rattle.fb_top.specs.Sources.{InputTerms, SourceTerms, files_alone}
@@ -20,6 +20,7 @@ pub unnamed_at_params : (terms : SourceTerms) (old new : DeskView) → ChangesIn
 unnamed_at_params terms old new only Params e = absurd (is_named terms.params e)
 unnamed_at_params terms old new only Trace e = only.inputs Trace trace_is_no_params
 unnamed_at_params terms old new only Calls e = only.inputs Calls calls_are_no_params
+unnamed_at_params terms old new only Puts e = only.inputs Puts (λ e. cc)
 unnamed_at_params terms old new only ForeReport e = only.inputs ForeReport (λ e. cc)
 unnamed_at_params terms old new only BackReport e = only.inputs BackReport (λ e. cc)
 
@@ -28,6 +29,7 @@ pub unnamed_at_trace : (terms : SourceTerms) (old mid new : DeskView) → Change
 unnamed_at_trace terms old mid new first second Params e = absurd (is_named terms.params e)
 unnamed_at_trace terms old mid new first second Trace e = absurd (is_named terms.trace e)
 unnamed_at_trace terms old mid new first second Calls e = second.inputs Calls calls_are_no_trace ∙ first.inputs Calls calls_are_no_params
+unnamed_at_trace terms old mid new first second Puts e = second.inputs Puts (λ e. cc) ∙ first.inputs Puts (λ e. cc)
 unnamed_at_trace terms old mid new first second ForeReport e = second.inputs ForeReport (λ e. cc) ∙ first.inputs ForeReport (λ e. cc)
 unnamed_at_trace terms old mid new first second BackReport e = second.inputs BackReport (λ e. cc) ∙ first.inputs BackReport (λ e. cc)
 
@@ -36,16 +38,17 @@ pub unnamed_at_calls : (terms : SourceTerms) (old mid late new : DeskView) → C
 unnamed_at_calls terms old mid late new first second third kept Params e = absurd (is_named terms.params e)
 unnamed_at_calls terms old mid late new first second third kept Trace e = absurd (is_named terms.trace e)
 unnamed_at_calls terms old mid late new first second third kept Calls e = kept e ∙ second.inputs Calls calls_are_no_trace ∙ first.inputs Calls calls_are_no_params
+unnamed_at_calls terms old mid late new first second third kept Puts e = third.inputs Puts (λ e. cc) ∙ second.inputs Puts (λ e. cc) ∙ first.inputs Puts (λ e. cc)
 unnamed_at_calls terms old mid late new first second third kept ForeReport e = third.inputs ForeReport (λ e. cc) ∙ second.inputs ForeReport (λ e. cc) ∙ first.inputs ForeReport (λ e. cc)
 unnamed_at_calls terms old mid late new first second third kept BackReport e = third.inputs BackReport (λ e. cc) ∙ second.inputs BackReport (λ e. cc) ∙ first.inputs BackReport (λ e. cc)
 
 -- a make reads the parameter file alone
 pub later_at_params : (old new : DeskView) → ChangesInput Params old new → KeepsLater Params old new
-later_at_params old new only = (only.inputs Trace trace_is_no_params, only.inputs Calls calls_are_no_params, only.inputs ForeReport (λ e. cc), only.inputs BackReport (λ e. cc))
+later_at_params old new only = (only.inputs Trace trace_is_no_params, only.inputs Calls calls_are_no_params, only.inputs Puts (λ e. cc), only.inputs ForeReport (λ e. cc), only.inputs BackReport (λ e. cc))
 
 -- outputs leave the inputs alone
 pub later_after : (which : Output) (old mid new : DeskView) → KeepsLater Params old mid → ChangesOutput which mid new → KeepsLater Params old new
-later_after which old mid new keeps only = (only.inputs Trace ∙ keeps.0, only.inputs Calls ∙ keeps.1, only.inputs ForeReport ∙ keeps.2, only.inputs BackReport ∙ keeps.3)
+later_after which old mid new keeps only = (only.inputs Trace ∙ keeps.0, only.inputs Calls ∙ keeps.1, only.inputs Puts ∙ keeps.2, only.inputs ForeReport ∙ keeps.3, only.inputs BackReport ∙ keeps.4)
 
 pub unnamed_after : (reading : Result Terms UsageFault) (which : Output) (old mid new : DeskView) → LeavesUnnamed reading old mid → ChangesOutput which mid new → LeavesUnnamed reading old new
 unnamed_after (Ok (replays terms)) which old mid new keeps only = λ input unnamed. only.inputs input ∙ keeps input unnamed

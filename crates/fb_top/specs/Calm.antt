@@ -25,4 +25,5 @@ MeetsNoFault (outcomes.Done run) old new = IsCalm old new
 MeetsNoFault (outcomes.Made n) old new = IsCalm old new
 MeetsNoFault (outcomes.Checked verdict) old new = IsCalm old new
 MeetsNoFault (outcomes.Arrayed runs copy) old new = IsCalm old new
+MeetsNoFault (outcomes.Spilled run spill) old new = IsCalm old new
 MeetsNoFault outcome old new = Unit {0}

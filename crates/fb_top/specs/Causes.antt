@@ -4,11 +4,12 @@ use Rattle.fb_service.specs.declared.disk.Disk.{Disk}
 use Rattle.fb_desk.specs.Calls.{Rose}
 use Rattle.fb_desk.specs.View.{DeskView}
 use Rattle.fb_desk.specs.declared.desk.Input.{Input}
-use Rattle.fb_desk.specs.declared.desk.Input.TheVariants.{Params, Trace, Calls, ForeReport, BackReport}
+use Rattle.fb_desk.specs.declared.desk.Input.TheVariants.{Params, Trace, Calls, Puts, ForeReport, BackReport}
 use Rattle.fb_words.specs.Command.{ReplayTerms, CheckTerms}
 use Rattle.fb_trace.specs.Reading.{Accepted}
 use Rattle.fb_trace.specs.declared.trace.TraceFault.{TraceFault}
 use Rattle.fb_calls.specs.declared.fault.CallsFault.{CallsFault}
+use Rattle.fb_bgwrite.specs.declared.fault.PutsFault.{PutsFault}
 use Rattle.fb_report.specs.Forms.{grammar_of}
 use Rattle.fb_report.specs.Grammar.{fore_grammar}
 use Rattle.fb_report.specs.declared.reading.Report.{Report}
@@ -19,10 +20,11 @@ use Rattle.fb_report.specs.declared.reading.ReportsError.TheVariants as errors
 use Rattle.fb_top.specs.declared.outcome.Outcome.{Outcome}
 use Rattle.fb_top.specs.declared.outcome.Outcome.TheVariants as outcomes
 use Rattle.fb_top.specs.Sources.{SourceTerms, InputTerms, name_of, replay_inputs, check_inputs}
-use Rattle.fb_top.specs.Read.{Files, Accepts, ReadsDisk, ReadsTrace, ReadsReport, RefusesDisk, RefusesTrace, RefusesCalls, RefusesReport}
+use Rattle.fb_top.specs.Read.{Files, Accepts, ReadsDisk, ReadsTrace, ReadsReport, RefusesDisk, RefusesTrace, RefusesCalls, RefusesPuts, RefusesReport}
 use Rattle.fb_top.specs.Streams.{IsLonger}
 use Rattle.fb_top.specs.Written.{KeepsReports}
 use Rattle.fb_top.specs.Done.{IsDone, IsCutShort}
+use Rattle.fb_top.specs.Spilled.{IsSpilled, IsSpillCut}
 use Rattle.fb_top.specs.Checked.{IsChecked, IsVerdictCut}
 
 -- how many bytes an input may have
@@ -30,6 +32,7 @@ abbrev pub limit_of : Input → ℕ
 limit_of Params = 2 ^ 20
 limit_of Trace = 2 ^ 28
 limit_of Calls = 2 ^ 26
+limit_of Puts = 2 ^ 26
 limit_of ForeReport = 2 ^ 28
 limit_of BackReport = 2 ^ 28
 
@@ -67,15 +70,17 @@ abbrev pub AcceptsBefore : DeskView → InputTerms → Input → Type 0
 AcceptsBefore desk terms Params = Unit {0}
 AcceptsBefore desk terms Trace = AcceptsDisk desk terms.sources.params
 AcceptsBefore desk terms Calls = AcceptsTrace desk terms.sources
+AcceptsBefore desk terms Puts = AcceptsFiles desk terms.sources
 AcceptsBefore desk terms ForeReport = AcceptsFiles desk terms.sources
 AcceptsBefore desk terms BackReport = AcceptsFore desk terms
 
 -- no input that is read after this one was touched
 abbrev pub KeepsLater : Input → DeskView → DeskView → Type 0
-KeepsLater Params old new =
-    (new.inputs Trace ≡ old.inputs Trace) × (new.inputs Calls ≡ old.inputs Calls) × (new.inputs ForeReport ≡ old.inputs ForeReport) × (new.inputs BackReport ≡ old.inputs BackReport)
-KeepsLater Trace old new = (new.inputs Calls ≡ old.inputs Calls) × (new.inputs ForeReport ≡ old.inputs ForeReport) × (new.inputs BackReport ≡ old.inputs BackReport)
-KeepsLater Calls old new = (new.inputs ForeReport ≡ old.inputs ForeReport) × (new.inputs BackReport ≡ old.inputs BackReport)
+KeepsLater Params old new = (new.inputs Trace ≡ old.inputs Trace) × (new.inputs Calls ≡ old.inputs Calls) × (new.inputs Puts ≡ old.inputs Puts)
+    × (new.inputs ForeReport ≡ old.inputs ForeReport) × (new.inputs BackReport ≡ old.inputs BackReport)
+KeepsLater Trace old new = (new.inputs Calls ≡ old.inputs Calls) × (new.inputs Puts ≡ old.inputs Puts) × (new.inputs ForeReport ≡ old.inputs ForeReport) × (new.inputs BackReport ≡ old.inputs BackReport)
+KeepsLater Calls old new = (new.inputs Puts ≡ old.inputs Puts) × (new.inputs ForeReport ≡ old.inputs ForeReport) × (new.inputs BackReport ≡ old.inputs BackReport)
+KeepsLater Puts old new = (new.inputs ForeReport ≡ old.inputs ForeReport) × (new.inputs BackReport ≡ old.inputs BackReport)
 KeepsLater ForeReport old new = new.inputs BackReport ≡ old.inputs BackReport
 KeepsLater BackReport old new = Unit {0}
 
@@ -95,6 +100,13 @@ pub record RefusesCallsInTurn (desk : DeskView) (terms : SourceTerms) (fault : C
   pub name : List ℕ
   pub given : terms.calls ≡ Some name
   pub refuses : RefusesCalls desk name before.params.disk (length before.trace.requests) fault
+
+-- accepted files, and puts that are refused for them
+pub record RefusesPutsInTurn (desk : DeskView) (terms : InputTerms) (fault : PutsFault) : Type 0 where
+  pub before : AcceptsFiles desk terms.sources
+  pub name : List ℕ
+  pub given : terms.puts ≡ Some name
+  pub refuses : RefusesPuts desk name before.files fault
 
 -- the input that holds a report
 abbrev pub input_of : Report → Input
@@ -132,17 +144,23 @@ abbrev pub StopsInputs : InputTerms → DeskView → DeskView → Outcome → Ty
 StopsInputs terms old new (outcomes.Params fault) = RefusesDisk old terms.sources.params fault × EndsAt Params old new
 StopsInputs terms old new (outcomes.Trace fault) = RefusesTraceInTurn old terms.sources fault × EndsAt Trace old new
 StopsInputs terms old new (outcomes.Calls fault) = RefusesCallsInTurn old terms.sources fault × EndsAt Calls old new
+StopsInputs terms old new (outcomes.Puts fault) = RefusesPutsInTurn old terms fault × EndsAt Puts old new
 StopsInputs terms old new (outcomes.Reports fault) = RefusesReportInTurn old terms fault × EndsAt (input_of fault.report) old new
 StopsInputs terms old new (outcomes.TooLong input) = IsTooLong old terms input × EndsAt input old new
 StopsInputs terms old new (outcomes.ReadFault input) = IsUnread old new terms input × EndsAt input old new
 StopsInputs terms old new outcomes.NoMemory = RunsOut old new terms
 StopsInputs terms old new _ = ⊥
 
+-- what a replay writes was not all written: a report was cut off, or the text of what was written in free gaps
+abbrev pub IsCut : DeskView → DeskView → ReplayTerms → Outcome → Type 0
+IsCut old new terms outcome = IsCutShort old new terms outcome ⊎ IsSpillCut old new terms outcome
+
 -- the cause of each answer to the terms of a replay
 abbrev pub HasCause : ReplayTerms → DeskView → DeskView → Outcome → Type 0
 HasCause terms old new (outcomes.Done run) = IsDone old new terms run
-HasCause terms old new (outcomes.WriteFault output) = IsCutShort old new terms (outcomes.WriteFault output)
-HasCause terms old new outcomes.NoMemory = RunsOut old new (replay_inputs terms) ⊎ IsCutShort old new terms outcomes.NoMemory
+HasCause terms old new (outcomes.Spilled run spill) = IsSpilled old new terms run spill
+HasCause terms old new (outcomes.WriteFault output) = IsCut old new terms (outcomes.WriteFault output)
+HasCause terms old new outcomes.NoMemory = RunsOut old new (replay_inputs terms) ⊎ IsCut old new terms outcomes.NoMemory
 HasCause terms old new outcome = StopsInputs (replay_inputs terms) old new outcome
 
 -- the cause of each answer to the terms of a check
@@ -179,6 +197,18 @@ StopsCalls name disk traced old new _ = ⊥
 -- why no script was read where one is given
 abbrev pub StopsScript : Option (List ℕ) → Disk → ℕ → DeskView → DeskView → Outcome → Type 0
 StopsScript given disk traced old new outcome = (name : List ℕ) × (given ≡ Some name) × StopsCalls name disk traced old new outcome
+
+-- why no puts were read
+abbrev pub StopsPuts : List ℕ → Files → DeskView → DeskView → Outcome → Type 0
+StopsPuts name files old new (outcomes.Puts fault) = RefusesPuts old name files fault
+StopsPuts name files old new (outcomes.TooLong Puts) = IsLonger old name (limit_of Puts)
+StopsPuts name files old new (outcomes.ReadFault Puts) = FaultsRose old new Puts
+StopsPuts name files old new outcomes.NoMemory = Unit {0}
+StopsPuts name files old new _ = ⊥
+
+-- why no puts were read where they are given
+abbrev pub StopsGivenPuts : Option (List ℕ) → Files → DeskView → DeskView → Outcome → Type 0
+StopsGivenPuts given files old new outcome = (name : List ℕ) × (given ≡ Some name) × StopsPuts name files old new outcome
 
 -- the outcome where a text is no report
 abbrev pub refused_as : ReportsError → Outcome

@@ -2,14 +2,15 @@
 use Rattle.std.specs.Prelude.{◌≡◌, ℕ, List, true, is_some, IfSome, Result, Ok, Err}
 use Rattle.fb_desk.specs.View.{DeskView}
 use Rattle.fb_desk.specs.declared.desk.Input.{Input}
-use Rattle.fb_desk.specs.declared.desk.Output.TheVariants.{Fore, Back}
+use Rattle.fb_desk.specs.declared.desk.Output.TheVariants.{Fore, Back, Spill}
+use Rattle.fb_bgwrite.specs.Reading.{Accepted as PutsRead}
 use Rattle.fb_report.specs.Grammar.{Grammar, fore_grammar, back_grammar}
 use Rattle.fb_words.specs.Command.{Terms, ReplayTerms, CheckTerms, replays, makes, checks, arrays}
 use Rattle.fb_words.specs.declared.fault.UsageFault.{UsageFault}
 use Rattle.fb_top.specs.declared.outcome.Outcome.{Outcome}
 use Rattle.fb_top.specs.declared.outcome.Outcome.TheVariants as outcomes
 use Rattle.fb_top.specs.Sources.{InputTerms, replay_inputs, check_inputs}
-use Rattle.fb_top.specs.Read.{Files, Accepts, ReadsReport}
+use Rattle.fb_top.specs.Read.{Files, Accepts, ReadsPuts, ReadsReport}
 use Rattle.fb_top.specs.Written.{OutputFaultsRose}
 use Rattle.fb_top.specs.Causes.{FaultsRose}
 use Rattle.fb_top.specs.Make.{MakeGoesWell, MakesAll}
@@ -21,6 +22,12 @@ pub record TellsReport (desk : DeskView) (grammar : Grammar) (name : List ℕ) :
   pub reads : ReadsReport desk name grammar lines
   pub told : is_some (desk.held name) ≡ true
 
+-- and what the puts are, and they are accepted for these files
+pub record TellsPuts (desk : DeskView) (files : Files) (name : List ℕ) : Type 0 where
+  pub puts : PutsRead
+  pub reads : ReadsPuts desk name files puts
+  pub told : is_some (desk.held name) ≡ true
+
 -- the desk tells what each input holds, all are accepted, and no call of an input failed
 pub record ReadsWell (old new : DeskView) (terms : InputTerms) : Type 0 where
   pub files : Files
@@ -28,6 +35,7 @@ pub record ReadsWell (old new : DeskView) (terms : InputTerms) : Type 0 where
   pub params_told : is_some (old.held terms.sources.params) ≡ true
   pub trace_told : is_some (old.held terms.sources.trace) ≡ true
   pub calls_told : IfSome terms.sources.calls (λ name. is_some (old.held name) ≡ true)
+  pub puts_told : IfSome terms.puts (TellsPuts old files)
   pub fore_told : IfSome terms.fore (TellsReport old fore_grammar)
   pub back_told : IfSome terms.back (TellsReport old back_grammar)
   pub calm : (input : Input) → FaultsRose old new input → ⊥
@@ -37,6 +45,7 @@ pub record GoesWell (old new : DeskView) (terms : ReplayTerms) : Type 0 where
   pub inputs : ReadsWell old new (replay_inputs terms)
   pub fore : OutputFaultsRose old new Fore → ⊥
   pub back : OutputFaultsRose old new Back → ⊥
+  pub spill : OutputFaultsRose old new Spill → ⊥
 
 -- and so those of a check
 pub record CheckGoesWell (old new : DeskView) (terms : CheckTerms) : Type 0 where
@@ -46,6 +55,7 @@ pub record CheckGoesWell (old new : DeskView) (terms : CheckTerms) : Type 0 wher
 -- the replay was made, unless memory ran out
 abbrev pub IsMade : Outcome → Type 0
 IsMade (outcomes.Done run) = Unit {0}
+IsMade (outcomes.Spilled run spill) = Unit {0}
 IsMade outcomes.NoMemory = Unit {0}
 IsMade outcome = ⊥
 

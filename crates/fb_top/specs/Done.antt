@@ -17,7 +17,8 @@ use Rattle.fb_desk.specs.declared.desk.Output.TheVariants.{Fore, Back}
 use Rattle.fb_words.specs.Command.{ReplayTerms}
 use Rattle.fb_top.specs.declared.outcome.Outcome.{Outcome}
 use Rattle.fb_top.specs.declared.outcome.Outcome.TheVariants as outcomes
-use Rattle.fb_top.specs.Read.{Files, Accepts, inputs_of, key_of}
+use Rattle.fb_bgwrite.specs.Reading.{Accepted as PutsRead}
+use Rattle.fb_top.specs.Read.{Files, Accepts, AcceptsPuts, inputs_of, key_of}
 use Rattle.fb_top.specs.Sources.{replay_sources}
 use Rattle.fb_top.specs.Written.{HoldsWhole, KeepsButBoth, CutsOff, CutsSecond, OutputFaultsRose}
 
@@ -82,14 +83,17 @@ StopsReports terms files run old new (outcomes.WriteFault Back) = OutputFaultsRo
 StopsReports terms files run old new outcomes.NoMemory = CutsFore terms files run old new ⊎ CutsBack terms files run old new
 StopsReports terms files run old new _ = ⊥
 
--- the run is that of the files that were accepted, its reports are written, and a reader accepts them
+-- the words name no puts, the run is that of the files that were accepted, its reports are written, and a reader accepts them
 pub record IsDone (old new : DeskView) (terms : ReplayTerms) (run : Run) : Type 0 where
+  pub no_puts : terms.puts ≡ None
   pub is_run : IsRunOf old terms run
   pub reports : HoldsReports terms is_run.files run old new
   pub read : AreReadBack terms is_run.files run
 
--- there is such a run, and its reports were not written whole
+-- there is such a run, the puts are accepted too if the words name them, and the reports were not written whole
 pub record IsCutShort (old new : DeskView) (terms : ReplayTerms) (outcome : Outcome) : Type 0 where
   pub run : Run
   pub is_run : IsRunOf old terms run
+  pub puts : Option PutsRead
+  pub accepts_puts : AcceptsPuts old terms.puts is_run.files puts
   pub stops : StopsReports terms is_run.files run old new outcome

@@ -3,6 +3,7 @@ pub mod Written
 pub mod Sources
 pub mod Read
 pub mod Done
+pub mod Spilled
 pub mod Checked
 pub mod Causes
 pub mod Unnamed

@@ -23,4 +23,5 @@ LeavesNote (outcomes.Done run) old new = new ≡ old
 LeavesNote (outcomes.Made n) old new = new ≡ old
 LeavesNote (outcomes.Checked verdict) old new = new ≡ old
 LeavesNote (outcomes.Arrayed runs copy) old new = new ≡ old
+LeavesNote (outcomes.Spilled run spill) old new = new ≡ old
 LeavesNote outcome old new = TellsNote (note_of outcome) old new

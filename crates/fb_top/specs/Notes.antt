@@ -11,6 +11,8 @@ use Rattle.fb_trace.specs.declared.trace.TraceReason.{TraceReason}
 use Rattle.fb_trace.specs.declared.trace.TraceReason.TheVariants as trace
 use Rattle.fb_calls.specs.declared.fault.CallsReason.{CallsReason}
 use Rattle.fb_calls.specs.declared.fault.CallsReason.TheVariants as calls
+use Rattle.fb_bgwrite.specs.declared.fault.PutsReason.{PutsReason}
+use Rattle.fb_bgwrite.specs.declared.fault.PutsReason.TheVariants as puts
 use Rattle.fb_report.specs.Lines.{track_text}
 use Rattle.fb_words.specs.declared.fault.UsageReason.{UsageReason}
 use Rattle.fb_words.specs.declared.fault.UsageReason.TheVariants as usage
@@ -40,6 +42,7 @@ usage_reason usage.OptionTwice = codes "OptionTwice"
 usage_reason usage.BadValue = codes "BadValue"
 usage_reason (usage.MissingOption number) = valued (codes "MissingOption") (decimal number)
 usage_reason usage.CallsAndBack = codes "CallsAndBack"
+usage_reason usage.PutsAndSpill = codes "PutsAndSpill"
 usage_reason usage.RebuildIncomplete = codes "RebuildIncomplete"
 usage_reason usage.RebuildBeyond = codes "RebuildBeyond"
 
@@ -74,6 +77,20 @@ calls_reason calls.WeightOutOfRange = codes "WeightOutOfRange"
 calls_reason calls.BlockOutOfRange = codes "BlockOutOfRange"
 calls_reason calls.TooManyBlocks = codes "TooManyBlocks"
 calls_reason calls.TooMany = codes "TooMany"
+
+-- why a line of a puts file is refused
+abbrev pub puts_reason : PutsReason → List ℕ
+puts_reason puts.BadLine = codes "BadLine"
+puts_reason puts.BadTime = codes "BadTime"
+puts_reason (puts.BadNumber field) = valued (codes "BadNumber") (decimal field)
+puts_reason puts.OutOfOrder = codes "OutOfOrder"
+puts_reason puts.Empty = codes "Empty"
+puts_reason puts.BeyondDisk = codes "BeyondDisk"
+puts_reason puts.TooLarge = codes "TooLarge"
+puts_reason puts.Touched = codes "Touched"
+puts_reason puts.OutsideReserve = codes "OutsideReserve"
+puts_reason puts.PutTwice = codes "PutTwice"
+puts_reason puts.TooMany = codes "TooMany"
 
 -- why no disk has this geometry
 abbrev pub geometry_fault : GeometryFault → List ℕ
@@ -112,6 +129,7 @@ abbrev pub input_text : Input → List ℕ
 input_text inputs.Params = codes "params"
 input_text inputs.Trace = codes "trace"
 input_text inputs.Calls = codes "calls"
+input_text inputs.Puts = codes "puts"
 input_text inputs.ForeReport = codes "fore report"
 input_text inputs.BackReport = codes "back report"
 
@@ -119,6 +137,7 @@ input_text inputs.BackReport = codes "back report"
 abbrev pub output_text : Output → List ℕ
 output_text outputs.Fore = codes "fore"
 output_text outputs.Back = codes "back"
+output_text outputs.Spill = codes "spill"
 output_text outputs.Note = codes "note"
 output_text outputs.MadeTrace = codes "trace"
 output_text outputs.MadeCalls = codes "calls"
@@ -134,10 +153,12 @@ cause_text (outcomes.Done run) = []
 cause_text (outcomes.Made n) = []
 cause_text (outcomes.Checked verdict) = []
 cause_text (outcomes.Arrayed runs copy) = []
+cause_text (outcomes.Spilled run spill) = []
 cause_text (outcomes.Usage fault) = numbered (codes "usage: word ") fault.place ++ usage_reason fault.reason
 cause_text (outcomes.Params fault) = codes "params: " ++ params_fault fault
 cause_text (outcomes.Trace fault) = numbered (codes "trace: line ") fault.line ++ trace_reason fault.reason
 cause_text (outcomes.Calls fault) = numbered (codes "calls: line ") fault.line ++ calls_reason fault.reason
+cause_text (outcomes.Puts fault) = numbered (codes "puts: line ") fault.line ++ puts_reason fault.reason
 cause_text (outcomes.Reports fault) = codes "reports: " ++ report_word fault.report ++ codes " line " ++ decimal fault.line
 cause_text (outcomes.TooLong input) = codes "too long: " ++ input_text input
 cause_text (outcomes.ReadFault input) = codes "read fault: " ++ input_text input
@@ -154,4 +175,5 @@ note_of (outcomes.Done run) = []
 note_of (outcomes.Made n) = []
 note_of (outcomes.Checked verdict) = []
 note_of (outcomes.Arrayed runs copy) = []
+note_of (outcomes.Spilled run spill) = []
 note_of outcome = note_line (cause_text outcome)

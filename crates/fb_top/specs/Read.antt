@@ -11,6 +11,9 @@ use Rattle.fb_trace.specs.declared.trace.TraceFault.{TraceFault}
 use Rattle.fb_calls.specs.Reading.{Accepted as Script, calls_of}
 use Rattle.fb_calls.specs.Verdict.{accepted as accepted_calls}
 use Rattle.fb_calls.specs.declared.fault.CallsFault.{CallsFault}
+use Rattle.fb_bgwrite.specs.Asked.{asked}
+use Rattle.fb_bgwrite.specs.Reading.{Accepted as PutsRead, Terms as PutsTerms, puts_of}
+use Rattle.fb_bgwrite.specs.declared.fault.PutsFault.{PutsFault}
 use Rattle.fb_model.specs.Inputs.{Inputs}
 use Rattle.fb_model.specs.PlainReplay.{Key, fcfs, sstf, clook, sptf}
 use Rattle.fb_desk.specs.View.{DeskView}
@@ -88,6 +91,30 @@ pub record Accepts (desk : DeskView) (terms : SourceTerms) (files : Files) : Typ
   pub disk : ReadsDisk desk terms.params files.disk files.latent
   pub trace : ReadsTrace desk terms.trace terms.device files.disk files.trace
   pub script : ReadsScript desk terms.calls files.disk (length files.trace.requests) files.script
+
+-- what a puts file is judged by: the disk, and all that the trace and the script ask for
+abbrev pub puts_terms : Files → PutsTerms
+puts_terms files = record { sectors = length (places files.disk.map); asked = asked files.trace.requests files.script.calls }
+
+-- the puts file under a name is accepted for these files, with this reserve and these puts
+pub record ReadsPuts (desk : DeskView) (name : List ℕ) (files : Files) (puts : PutsRead) : Type 0 where
+  pub bytes : List ℕ
+  pub held : IsHeld desk name bytes
+  pub within : length bytes ≤ 2 ^ 26
+  pub spells : puts_of (puts_terms files) bytes ≡ Ok puts
+
+-- or refused, with this fault
+pub record RefusesPuts (desk : DeskView) (name : List ℕ) (files : Files) (fault : PutsFault) : Type 0 where
+  pub bytes : List ℕ
+  pub held : IsHeld desk name bytes
+  pub within : length bytes ≤ 2 ^ 26
+  pub spells : puts_of (puts_terms files) bytes ≡ Err fault
+
+-- the puts under the name that is given; without a name there are none
+abbrev pub AcceptsPuts : DeskView → Option (List ℕ) → Files → Option PutsRead → Type 0
+AcceptsPuts desk None files None = Unit {0}
+AcceptsPuts desk (Some name) files (Some puts) = ReadsPuts desk name files puts
+AcceptsPuts desk _ files _ = ⊥
 
 -- the key of a policy
 abbrev pub key_of : Policy → Key

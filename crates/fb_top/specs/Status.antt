@@ -2,7 +2,7 @@
 use Rattle.std.specs.Prelude.{ℕ}
 use Rattle.fb_check.specs.declared.verdict.Verdict.TheVariants.{Yes, No}
 use Rattle.fb_top.specs.declared.outcome.Outcome.{Outcome}
-use Rattle.fb_top.specs.declared.outcome.Outcome.TheVariants.{Done, Made, Checked, Arrayed, Usage, Params, Trace, Calls, Reports, TooLong, ReadFault, WriteFault, NoMemory}
+use Rattle.fb_top.specs.declared.outcome.Outcome.TheVariants.{Done, Made, Checked, Arrayed, Spilled, Usage, Params, Trace, Calls, Puts, Reports, TooLong, ReadFault, WriteFault, NoMemory}
 
 abbrev pub status_of : Outcome → ℕ
 status_of (Done run) = 0
@@ -10,6 +10,7 @@ status_of (Made n) = 0
 status_of (Checked Yes) = 0
 status_of (Checked (No mismatch)) = 1
 status_of (Arrayed runs copy) = 0
+status_of (Spilled run spill) = 0
 status_of (Usage fault) = 2
 status_of (Params fault) = 3
 status_of (Trace fault) = 4
@@ -19,3 +20,4 @@ status_of (WriteFault output) = 7
 status_of NoMemory = 8
 status_of (TooLong input) = 9
 status_of (Reports fault) = 10
+status_of (Puts fault) = 11

@@ -40,6 +40,10 @@ KeepsBut which old new = (output : Output) → output ≢ which → output ≢ N
 abbrev pub KeepsButBoth : Output → Output → DeskView → DeskView → Type 0
 KeepsButBoth first second old new = (output : Output) → output ≢ first → output ≢ second → output ≢ Note → new.outputs output ≡ old.outputs output
 
+-- no output but these three and the note has changed
+abbrev pub KeepsButThree : Output → Output → Output → DeskView → DeskView → Type 0
+KeepsButThree first second third old new = (output : Output) → output ≢ first → output ≢ second → output ≢ third → output ≢ Note → new.outputs output ≡ old.outputs output
+
 -- the text of an output was cut off, and nothing else was written
 pub record CutsOff (which : Output) (name text : List ℕ) (old new : DeskView) : Type 0 where
   pub others : KeepsBut which old new

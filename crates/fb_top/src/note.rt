@@ -4,9 +4,9 @@ ghost use Rattle.fb_top.specs.Notes.{cause_text, input_text, note_of, output_tex
 
 use crate::Outcome;
 use crate::note_faults::{
-    push_calls_reason, push_params_fault, push_trace_reason, push_usage_reason,
+    push_calls_fault, push_params_fault, push_puts_fault, push_trace_fault, push_usage_fault,
 };
-use crate::note_words::{push_number, push_numbered, push_words};
+use crate::note_words::{push_number, push_words};
 use crate::verdict_line::push_report;
 use fb_desk::{Input, Output};
 use fb_units::NoMemory;
@@ -24,6 +24,7 @@ pub fn note_text(alloc: Global, outcome: &Outcome) -> Result<Vec<u8>, NoMemory>
         Outcome::Made(_) => Ok(text),
         Outcome::Checked(_) => Ok(text),
         Outcome::Arrayed { .. } => Ok(text),
+        Outcome::Spilled { .. } => Ok(text),
         _ => {
             push_words(&mut text, "freeblock: ")?;
             push_cause(&mut text, outcome)?;
@@ -42,22 +43,15 @@ fn push_cause(text: &mut Vec<u8>, outcome: &Outcome) -> Result<(), NoMemory>
         Outcome::Made(_) => Ok(()),
         Outcome::Checked(_) => Ok(()),
         Outcome::Arrayed { .. } => Ok(()),
-        Outcome::Usage(fault) => {
-            push_numbered(text, "usage: word ", u64::from(fault.place))?;
-            push_usage_reason(text, fault.reason)
-        }
+        Outcome::Spilled { .. } => Ok(()),
+        Outcome::Usage(fault) => push_usage_fault(text, fault),
         Outcome::Params(fault) => {
             push_words(text, "params: ")?;
             push_params_fault(text, fault)
         }
-        Outcome::Trace(fault) => {
-            push_numbered(text, "trace: line ", fault.line)?;
-            push_trace_reason(text, fault.reason)
-        }
-        Outcome::Calls(fault) => {
-            push_numbered(text, "calls: line ", fault.line)?;
-            push_calls_reason(text, fault.reason)
-        }
+        Outcome::Trace(fault) => push_trace_fault(text, fault),
+        Outcome::Calls(fault) => push_calls_fault(text, fault),
+        Outcome::Puts(fault) => push_puts_fault(text, fault),
         Outcome::Reports(fault) => {
             push_words(text, "reports: ")?;
             push_report(text, fault.report)?;
@@ -80,6 +74,7 @@ fn push_input(text: &mut Vec<u8>, what: &str, input: Input) -> Result<(), NoMemo
         Input::Params => push_words(text, "params"),
         Input::Trace => push_words(text, "trace"),
         Input::Calls => push_words(text, "calls"),
+        Input::Puts => push_words(text, "puts"),
         Input::ForeReport => push_words(text, "fore report"),
         Input::BackReport => push_words(text, "back report"),
     }
@@ -93,6 +88,7 @@ fn push_output(text: &mut Vec<u8>, what: &str, output: Output) -> Result<(), NoM
     match output {
         Output::Fore => push_words(text, "fore"),
         Output::Back => push_words(text, "back"),
+        Output::Spill => push_words(text, "spill"),
         Output::Note => push_words(text, "note"),
         Output::MadeTrace => push_words(text, "trace"),
         Output::MadeCalls => push_words(text, "calls"),

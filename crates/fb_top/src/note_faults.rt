@@ -1,20 +1,29 @@
 // The part of a note that names a fault.
-ghost use Rattle.std.specs.Prelude.{◌≡◌, ◌++◌, OnOk};
-ghost use Rattle.fb_top.specs.Notes.{usage_reason, trace_reason, calls_reason, geometry_fault, seek_fault, params_fault};
+ghost use Rattle.std.specs.Prelude.{◌≡◌, ◌++◌, codes, OnOk};
+ghost use Rattle.fb_top.specs.Notes.{numbered, usage_reason, trace_reason, calls_reason, puts_reason, geometry_fault, seek_fault, params_fault};
 
 use crate::note_words::{
-    push_with_key, push_with_number, push_with_place, push_with_track, push_words,
+    push_numbered, push_with_key, push_with_number, push_with_place, push_with_track, push_words,
 };
-use fb_calls::CallsReason;
+use fb_bgwrite::{PutsFault, PutsReason};
+use fb_calls::{CallsFault, CallsReason};
 use fb_geometry::GeometryFault;
 use fb_params::ParamsFault;
 use fb_seek::SeekFault;
-use fb_trace::TraceReason;
+use fb_trace::{TraceFault, TraceReason};
 use fb_units::NoMemory;
-use fb_words::UsageReason;
+use fb_words::{UsageFault, UsageReason};
 
-/// Adds why a word of the command line is refused. The only error is out of memory.
-pub fn push_usage_reason(text: &mut Vec<u8>, reason: UsageReason) -> Result<(), NoMemory>
+/// Adds which word of the command line is refused, and why. The only error is out of memory.
+pub fn push_usage_fault(text: &mut Vec<u8>, fault: &UsageFault) -> Result<(), NoMemory>
+    ensures { OnOk result (text.new.items ≡ text.old.items ++ (numbered (codes "usage: word ") fault.now.place ++ usage_reason fault.now.reason)) }
+{
+    push_numbered(text, "usage: word ", u64::from(fault.place))?;
+    push_usage_reason(text, fault.reason)
+}
+
+// Adds why a word of the command line is refused. The only error is out of memory.
+fn push_usage_reason(text: &mut Vec<u8>, reason: UsageReason) -> Result<(), NoMemory>
     ensures { OnOk result (text.new.items ≡ text.old.items ++ usage_reason reason) }
 {
     match reason {
@@ -28,13 +37,22 @@ pub fn push_usage_reason(text: &mut Vec<u8>, reason: UsageReason) -> Result<(), 
             push_with_number(text, "MissingOption", u64::from(number))
         }
         UsageReason::CallsAndBack => push_words(text, "CallsAndBack"),
+        UsageReason::PutsAndSpill => push_words(text, "PutsAndSpill"),
         UsageReason::RebuildIncomplete => push_words(text, "RebuildIncomplete"),
         UsageReason::RebuildBeyond => push_words(text, "RebuildBeyond"),
     }
 }
 
-/// Adds why a line of a trace is refused. The only error is out of memory.
-pub fn push_trace_reason(text: &mut Vec<u8>, reason: TraceReason) -> Result<(), NoMemory>
+/// Adds which line of a trace is refused, and why. The only error is out of memory.
+pub fn push_trace_fault(text: &mut Vec<u8>, fault: &TraceFault) -> Result<(), NoMemory>
+    ensures { OnOk result (text.new.items ≡ text.old.items ++ (numbered (codes "trace: line ") fault.now.line ++ trace_reason fault.now.reason)) }
+{
+    push_numbered(text, "trace: line ", fault.line)?;
+    push_trace_reason(text, fault.reason)
+}
+
+// Adds why a line of a trace is refused. The only error is out of memory.
+fn push_trace_reason(text: &mut Vec<u8>, reason: TraceReason) -> Result<(), NoMemory>
     ensures { OnOk result (text.new.items ≡ text.old.items ++ trace_reason reason) }
 {
     match reason {
@@ -49,8 +67,16 @@ pub fn push_trace_reason(text: &mut Vec<u8>, reason: TraceReason) -> Result<(), 
     }
 }
 
-/// Adds why a line of a call script is refused. The only error is out of memory.
-pub fn push_calls_reason(text: &mut Vec<u8>, reason: CallsReason) -> Result<(), NoMemory>
+/// Adds which line of a call script is refused, and why. The only error is out of memory.
+pub fn push_calls_fault(text: &mut Vec<u8>, fault: &CallsFault) -> Result<(), NoMemory>
+    ensures { OnOk result (text.new.items ≡ text.old.items ++ (numbered (codes "calls: line ") fault.now.line ++ calls_reason fault.now.reason)) }
+{
+    push_numbered(text, "calls: line ", fault.line)?;
+    push_calls_reason(text, fault.reason)
+}
+
+// Adds why a line of a call script is refused. The only error is out of memory.
+fn push_calls_reason(text: &mut Vec<u8>, reason: CallsReason) -> Result<(), NoMemory>
     ensures { OnOk result (text.new.items ≡ text.old.items ++ calls_reason reason) }
 {
     match reason {
@@ -72,6 +98,33 @@ pub fn push_calls_reason(text: &mut Vec<u8>, reason: CallsReason) -> Result<(), 
         CallsReason::BlockOutOfRange => push_words(text, "BlockOutOfRange"),
         CallsReason::TooManyBlocks => push_words(text, "TooManyBlocks"),
         CallsReason::TooMany => push_words(text, "TooMany"),
+    }
+}
+
+/// Adds which line of a puts file is refused, and why. The only error is out of memory.
+pub fn push_puts_fault(text: &mut Vec<u8>, fault: &PutsFault) -> Result<(), NoMemory>
+    ensures { OnOk result (text.new.items ≡ text.old.items ++ (numbered (codes "puts: line ") fault.now.line ++ puts_reason fault.now.reason)) }
+{
+    push_numbered(text, "puts: line ", fault.line)?;
+    push_puts_reason(text, fault.reason)
+}
+
+// Adds why a line of a puts file is refused. The only error is out of memory.
+fn push_puts_reason(text: &mut Vec<u8>, reason: PutsReason) -> Result<(), NoMemory>
+    ensures { OnOk result (text.new.items ≡ text.old.items ++ puts_reason reason) }
+{
+    match reason {
+        PutsReason::BadLine => push_words(text, "BadLine"),
+        PutsReason::BadTime => push_words(text, "BadTime"),
+        PutsReason::BadNumber(field) => push_with_number(text, "BadNumber", u64::from(field)),
+        PutsReason::OutOfOrder => push_words(text, "OutOfOrder"),
+        PutsReason::Empty => push_words(text, "Empty"),
+        PutsReason::BeyondDisk => push_words(text, "BeyondDisk"),
+        PutsReason::TooLarge => push_words(text, "TooLarge"),
+        PutsReason::Touched => push_words(text, "Touched"),
+        PutsReason::OutsideReserve => push_words(text, "OutsideReserve"),
+        PutsReason::PutTwice => push_words(text, "PutTwice"),
+        PutsReason::TooMany => push_words(text, "TooMany"),
     }
 }
 

@@ -3,6 +3,7 @@ ghost use Rattle.std.specs.Prelude.{◌≡◌};
 ghost use Rattle.fb_top.specs.Status.{status_of};
 
 use crate::Runs;
+use fb_bgwrite::{PutsFault, SpillRun};
 use fb_calls::CallsFault;
 use fb_check::Verdict;
 use fb_desk::{Input, Output};
@@ -29,6 +30,14 @@ pub enum Outcome {
         /// What the replacement of a lost disk holds, where the words ask for a rebuild.
         copy: Option<Rebuilt>,
     },
+    /// The replay was made, what was to be written in its free gaps was written there, and its
+    /// reports and the text of what was written were written whole.
+    Spilled {
+        /// The run.
+        run: Run,
+        /// What was written in its free gaps.
+        spill: SpillRun,
+    },
     /// The words of the command line are refused.
     Usage(UsageFault),
     /// The parameter file is refused.
@@ -37,6 +46,8 @@ pub enum Outcome {
     Trace(TraceFault),
     /// The call script is refused.
     Calls(CallsFault),
+    /// The puts file is refused.
+    Puts(PutsFault),
     /// A printed report is refused: a line of it isn't in its place.
     Reports(ReportsFault),
     /// The input has more bytes than its limit.
@@ -50,7 +61,7 @@ pub enum Outcome {
 }
 
 /// The exit status of an outcome: 0 where all was written and no report is wrong, 1 where a report
-/// is wrong, and otherwise 2 to 10.
+/// is wrong, and otherwise 2 to 11.
 pub fn status(outcome: &Outcome) -> u8
     ensures { result ≡ status_of outcome.now }
 {
@@ -60,6 +71,7 @@ pub fn status(outcome: &Outcome) -> u8
         Outcome::Checked(Verdict::Yes) => 0,
         Outcome::Checked(Verdict::No(_)) => 1,
         Outcome::Arrayed { .. } => 0,
+        Outcome::Spilled { .. } => 0,
         Outcome::Usage(_) => 2,
         Outcome::Params(_) => 3,
         Outcome::Trace(_) => 4,
@@ -69,5 +81,6 @@ pub fn status(outcome: &Outcome) -> u8
         Outcome::NoMemory => 8,
         Outcome::TooLong(_) => 9,
         Outcome::Reports(_) => 10,
+        Outcome::Puts(_) => 11,
     }
 }

@@ -1,5 +1,5 @@
 // The replay, and the judgement of its reports, in the order of the policy that the words name.
-ghost use Rattle.std.specs.Prelude.{◌≡◌, [], length, IfOk};
+ghost use Rattle.std.specs.Prelude.{◌≡◌, ◌≤◌, ◌*◌, ◌^◌, [], length, IfOk};
 ghost use Rattle.fb_calls.specs.Allowed.{tasks};
 ghost use Rattle.fb_check.specs.Asked.{inputs_of, reports_of};
 ghost use Rattle.fb_check.specs.Verdict.{IsVerdict};
@@ -25,6 +25,7 @@ pub fn replay_by(alloc: Global, policy: Policy, asked: Asked<'_>) -> Result<Run,
     requires fit { IsAccepted (inputs_of asked (key_of policy)) }
     requires names { length asked.calls.now.names ≡ length (tasks asked.calls.now.calls.items) }
     ensures full { IfOk result (IsFull (inputs_of asked.entry (key_of policy))) }
+    ensures early { IfOk result (λ run. run.end ≤ 9 * 10 ^ 18) }
     ensures told { IfOk result (CanBeTold asked.entry.calls.now.names) }
 {
     match policy {
@@ -44,6 +45,7 @@ pub fn replay_in<Q: Queue>(alloc: Global, queue: Q, asked: Asked<'_>) -> Result<
     requires fit { IsAccepted (inputs_of asked Q.key) }
     requires names { length asked.calls.now.names ≡ length (tasks asked.calls.now.calls.items) }
     ensures full { IfOk result (IsFull (inputs_of asked.entry Q.key)) }
+    ensures early { IfOk result (λ run. run.end ≤ 9 * 10 ^ 18) }
     ensures told { IfOk result (CanBeTold asked.entry.calls.now.names) }
 {
     replay(

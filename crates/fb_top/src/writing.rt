@@ -62,6 +62,7 @@ pub fn write_note<D: Desk>(alloc: Global, desk: &mut D, outcome: &Outcome)
         Outcome::Made(_) => {}
         Outcome::Checked(_) => {}
         Outcome::Arrayed { .. } => {}
+        Outcome::Spilled { .. } => {}
         _ => begin_note(alloc, desk, outcome),
     }
 }

@@ -5,14 +5,14 @@ use Rattle.fb_top.specs.Causes.{AcceptsFiles, StopsInputs}
 use Rattle.fb_top.specs.Checked.{IsVerdictOf}
 use Rattle.fb_top.specs.Read.{Accepts, files_of, key_of}
 use Rattle.fb_top.specs.Sources.{SourceTerms, check_sources, files_alone}
-use Rattle.fb_top.proofs.Checking.{but_fore, files_stopped, judges_before, line_stopped, printed_stopped}
+use Rattle.fb_top.proofs.Checking.{but_fore, check_files_stopped, judges_before, line_stopped, printed_stopped}
 use Rattle.fb_top.proofs.check.run_check.Goals as goal
 
 pub returns-in-Err-clause-cause : goal.returns-in-Err-clause-cause
 returns-in-Err-clause-cause g c =
     let old = g.D.Desk.seen c.args.desk.now in
     let new = g.D.Desk.seen c.read_inputs.new.desk in
-    files_stopped (check_terms c.args.words.now) old new c.in-Err.outcome (subst (λ (s : SourceTerms). StopsInputs (files_alone s) old new c.in-Err.outcome) c.sources.ensures c.in-Err.ensures.cause)
+    check_files_stopped (check_terms c.args.words.now) old new c.in-Err.outcome (subst (λ (s : SourceTerms). StopsInputs (files_alone s) old new c.in-Err.outcome) c.sources.ensures c.in-Err.ensures.cause)
 
 pub returns-in-Err-judge_printed-clause-cause : goal.returns-in-Err-judge_printed-clause-cause
 returns-in-Err-judge_printed-clause-cause g c =

@@ -52,6 +52,7 @@ returns c = λ old new other terms asked run done asks.
               params_told = told_there old other asked.params alike.params;
               trace_told = told_there old other asked.trace alike.trace;
               calls_told = told_there old other asked.calls alike.calls;
+              puts_told = tt;
               fore_told = fore_told;
               back_told = back_told;
               calm = calm.inputs;

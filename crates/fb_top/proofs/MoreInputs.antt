@@ -1,0 +1,188 @@
+-- Files that were read, told of all inputs that the words name.
+use Rattle.std.proofs.Common.{◌≡◌, ◌∙◌, ℕ, ◌<◌, ◌^◌, List, length, Option, Some, None, true, refl, sym, ap, subst}
+use Rattle.std.specs.Prelude.{IfSome, is_some}
+use Rattle.fb_bgwrite.specs.Reading.{Accepted as PutsRead}
+use Rattle.fb_desk.specs.Calls.{ChangesInput, Rose}
+use Rattle.fb_desk.specs.View.{DeskView, InputView, IsUnused}
+use Rattle.fb_desk.specs.declared.desk.Input.{Input}
+use Rattle.fb_desk.specs.declared.desk.Input.TheVariants.{Params, Trace, Calls, Puts, ForeReport, BackReport}
+use Rattle.fb_desk.specs.declared.desk.Output.{Output}
+use Rattle.fb_top.specs.declared.outcome.Outcome.{Outcome}
+use Rattle.fb_top.specs.declared.outcome.Outcome.TheVariants as outcomes
+use Rattle.fb_report.specs.declared.reading.Report.{Report}
+use Rattle.fb_report.specs.declared.reading.Report.TheVariants as reports
+use Rattle.fb_top.specs.Calm.{AreInputsCalm}
+use Rattle.fb_top.specs.Causes.{AcceptsBefore, AcceptsFiles, EndsAt, StopsInputs, StopsPuts, StopsGivenPuts, input_of}
+use Rattle.fb_top.specs.Opened.{IsOpenedAs, OpensAsNamed}
+use Rattle.fb_top.specs.Read.{AcceptsPuts, Files, ReadsPuts}
+use Rattle.fb_top.specs.Sources.{InputTerms, SourceTerms, files_alone, name_of}
+use Rattle.fb_top.specs.Unnamed.{KeepsUnnamed}
+use Rattle.fb_top.proofs.Later.{has_name}
+use Rattle.fb_top.proofs.Opened.{told_before, unopened}
+use Rattle.fb_top.proofs.Unnamed.{is_named}
+
+-- the files alone have no reports
+no_report : (sources : SourceTerms) (report : Report) (name : List ℕ) → name_of (files_alone sources) (input_of report) ≡ Some name → ⊥
+no_report sources reports.Fore name given = is_named name (sym given)
+no_report sources reports.Back name given = is_named name (sym given)
+
+module _ (terms : InputTerms) (old new : DeskView) where
+  same_name : (input : Input) (name : List ℕ) → name_of (files_alone terms.sources) input ≡ Some name → name_of terms input ≡ Some name
+  same_name Params name given = given
+  same_name Trace name given = given
+  same_name Calls name given = given
+  same_name Puts name given = absurd (is_named name (sym given))
+  same_name ForeReport name given = absurd (is_named name (sym given))
+  same_name BackReport name given = absurd (is_named name (sym given))
+
+  also_named : (input : Input) → is_some (name_of (files_alone terms.sources) input) ≡ true → is_some (name_of terms input) ≡ true
+  also_named Params given = refl
+  also_named Trace given = refl
+  also_named Calls given = given
+  also_named Puts given = cc
+  also_named ForeReport given = cc
+  also_named BackReport given = cc
+
+  same_before : (input : Input) → AcceptsBefore old (files_alone terms.sources) input → AcceptsBefore old terms input
+  same_before Params before = tt
+  same_before Trace before = before
+  same_before Calls before = before
+  same_before Puts before = before
+  same_before ForeReport before = before
+  same_before BackReport before = absurd (is_named before.name (sym before.given))
+
+  -- why the files were not read
+  pub files_stopped : (outcome : Outcome) → StopsInputs (files_alone terms.sources) old new outcome → StopsInputs terms old new outcome
+  files_stopped (outcomes.Params fault) h = h
+  files_stopped (outcomes.Trace fault) h = h
+  files_stopped (outcomes.Calls fault) h = h
+  files_stopped (outcomes.Puts fault) h = absurd (is_named h.0.name (sym h.0.given))
+  files_stopped (outcomes.Reports fault) h = absurd (no_report terms.sources fault.report h.0.name h.0.given)
+  files_stopped (outcomes.TooLong input) h = (record { before = same_before input h.0.before; name = h.0.name; given = same_name input h.0.name h.0.given; longer = h.0.longer }, h.1)
+  files_stopped (outcomes.ReadFault input) h = (record { before = same_before input h.0.before; given = also_named input h.0.given; rose = h.0.rose }, h.1)
+  files_stopped outcomes.NoMemory h = record { input = h.input; before = same_before h.input h.before; ends = h.ends }
+  files_stopped (outcomes.Done run) h = absurd h
+  files_stopped (outcomes.Made n) h = absurd h
+  files_stopped (outcomes.Checked verdict) h = absurd h
+  files_stopped (outcomes.Usage fault) h = absurd h
+  files_stopped (outcomes.Arrayed runs copy) h = absurd h
+  files_stopped (outcomes.Spilled run spill) h = absurd h
+  files_stopped (outcomes.WriteFault output) h = absurd h
+
+  module _ (unnamed : KeepsUnnamed (files_alone terms.sources) old new) where
+    pub files_unnamed : KeepsUnnamed terms old new
+    files_unnamed Params e = absurd (is_named terms.sources.params e)
+    files_unnamed Trace e = absurd (is_named terms.sources.trace e)
+    files_unnamed Calls e = unnamed Calls e
+    files_unnamed Puts e = unnamed Puts refl
+    files_unnamed ForeReport e = unnamed ForeReport refl
+    files_unnamed BackReport e = unnamed BackReport refl
+
+    pub files_opened : IsUnused old → OpensAsNamed (files_alone terms.sources) old new → OpensAsNamed terms old new
+    files_opened unused opened Params name given = opened Params name given
+    files_opened unused opened Trace name given = opened Trace name given
+    files_opened unused opened Calls name given = opened Calls name given
+    files_opened unused opened Puts name given = unopened Puts name old new unused (unnamed Puts refl)
+    files_opened unused opened ForeReport name given = unopened ForeReport name old new unused (unnamed ForeReport refl)
+    files_opened unused opened BackReport name given = unopened BackReport name old new unused (unnamed BackReport refl)
+
+-- the files were read, and then the puts
+module _ (terms : InputTerms) (old mid new : DeskView) (held : (name : List ℕ) → mid.held name ≡ old.held name) (outputs : (output : Output) → mid.outputs output ≡ old.outputs output)
+    (unnamed : KeepsUnnamed (files_alone terms.sources) old mid) (only : ChangesInput Puts mid new) where
+  ends_at_puts : EndsAt Puts old new
+  ends_at_puts = record {
+    later = (only.inputs ForeReport (λ e. cc) ∙ unnamed ForeReport refl, only.inputs BackReport (λ e. cc) ∙ unnamed BackReport refl);
+    reports = λ output no_note. only.outputs output ∙ outputs output;
+  }
+
+  -- why the puts of this name were not read
+  at_puts : (outcome : Outcome) (files : AcceptsFiles old terms.sources) (name : List ℕ) → terms.puts ≡ Some name → StopsPuts name files.files mid new outcome → StopsInputs terms old new outcome
+  at_puts (outcomes.Puts fault) files name given h = (
+    record {
+      before = files;
+      name = name;
+      given = given;
+      refuses = record {
+        bytes = h.bytes;
+        held = subst (λ (told : Option (List ℕ)). IfSome told (λ here. h.bytes ≡ here)) (held name) h.held;
+        within = h.within;
+        spells = h.spells;
+      };
+    },
+    ends_at_puts,
+  )
+  at_puts (outcomes.TooLong Puts) files name given h = (
+    record { before = files; name = name; given = given; longer = subst (λ (told : Option (List ℕ)). IfSome told (λ here. 2 ^ 26 < length here)) (held name) h },
+    ends_at_puts,
+  )
+  at_puts (outcomes.ReadFault Puts) files name given h =
+      (record { before = files; given = has_name terms.puts name given; rose = subst (λ (v : InputView). Rose v.faults (new.inputs Puts).faults) (unnamed Puts refl) h }, ends_at_puts)
+  at_puts outcomes.NoMemory files name given h = record { input = Puts; before = files; ends = ends_at_puts }
+  at_puts (outcomes.Done run) files name given h = absurd h
+  at_puts (outcomes.Made n) files name given h = absurd h
+  at_puts (outcomes.Checked verdict) files name given h = absurd h
+  at_puts (outcomes.Arrayed runs copy) files name given h = absurd h
+  at_puts (outcomes.Spilled run spill) files name given h = absurd h
+  at_puts (outcomes.Usage fault) files name given h = absurd h
+  at_puts (outcomes.Params fault) files name given h = absurd h
+  at_puts (outcomes.Trace fault) files name given h = absurd h
+  at_puts (outcomes.Calls fault) files name given h = absurd h
+  at_puts (outcomes.Reports fault) files name given h = absurd h
+  at_puts (outcomes.TooLong Params) files name given h = absurd h
+  at_puts (outcomes.TooLong Trace) files name given h = absurd h
+  at_puts (outcomes.TooLong Calls) files name given h = absurd h
+  at_puts (outcomes.TooLong ForeReport) files name given h = absurd h
+  at_puts (outcomes.TooLong BackReport) files name given h = absurd h
+  at_puts (outcomes.ReadFault Params) files name given h = absurd h
+  at_puts (outcomes.ReadFault Trace) files name given h = absurd h
+  at_puts (outcomes.ReadFault Calls) files name given h = absurd h
+  at_puts (outcomes.ReadFault ForeReport) files name given h = absurd h
+  at_puts (outcomes.ReadFault BackReport) files name given h = absurd h
+  at_puts (outcomes.WriteFault output) files name given h = absurd h
+
+  -- why the puts that are given were not read
+  pub puts_stopped : (outcome : Outcome) (files : AcceptsFiles old terms.sources) → StopsGivenPuts terms.puts files.files mid new outcome → StopsInputs terms old new outcome
+  puts_stopped outcome files h = at_puts outcome files h.0 h.1 h.2
+
+  -- and where they were
+  pub puts_before : (given : Option (List ℕ)) (files : Files) (puts : Option PutsRead) → AcceptsPuts mid given files puts → AcceptsPuts old given files puts
+  puts_before None files None accepts = tt
+  puts_before (Some name) files (Some puts) accepts = record {
+    bytes = accepts.bytes;
+    held = subst (λ (told : Option (List ℕ)). IfSome told (λ here. accepts.bytes ≡ here)) (held name) accepts.held;
+    within = accepts.within;
+    spells = accepts.spells;
+  }
+  puts_before None files (Some puts) accepts = absurd accepts
+  puts_before (Some name) files None accepts = absurd accepts
+
+  pub puts_unnamed : (terms.puts ≡ None → new.inputs Puts ≡ mid.inputs Puts) → KeepsUnnamed terms old new
+  puts_unnamed kept Params e = absurd (is_named terms.sources.params e)
+  puts_unnamed kept Trace e = absurd (is_named terms.sources.trace e)
+  puts_unnamed kept Calls e = only.inputs Calls (λ e. cc) ∙ unnamed Calls e
+  puts_unnamed kept Puts e = kept e ∙ unnamed Puts refl
+  puts_unnamed kept ForeReport e = only.inputs ForeReport (λ e. cc) ∙ unnamed ForeReport refl
+  puts_unnamed kept BackReport e = only.inputs BackReport (λ e. cc) ∙ unnamed BackReport refl
+
+  still_opened : (input : Input) (name : List ℕ) → new.inputs input ≡ mid.inputs input → IsOpenedAs name old (mid.inputs input) → IsOpenedAs name old (new.inputs input)
+  still_opened input name same opened = subst (λ (v : InputView). IsOpenedAs name old v) (sym same) opened
+
+  pub puts_opened : IsUnused old → OpensAsNamed (files_alone terms.sources) old mid → IfSome terms.puts (λ given. IsOpenedAs given mid (new.inputs Puts)) → OpensAsNamed terms old new
+  puts_opened unused opened puts Params name given = still_opened Params name (only.inputs Params (λ e. cc)) (opened Params name given)
+  puts_opened unused opened puts Trace name given = still_opened Trace name (only.inputs Trace (λ e. cc)) (opened Trace name given)
+  puts_opened unused opened puts Calls name given = still_opened Calls name (only.inputs Calls (λ e. cc)) (opened Calls name given)
+  puts_opened unused opened puts Puts name given =
+      told_before name name old mid (new.inputs Puts) (held name) refl (subst (λ (told : Option (List ℕ)). IfSome told (λ n. IsOpenedAs n mid (new.inputs Puts))) given puts)
+  puts_opened unused opened puts ForeReport name given = unopened ForeReport name old new unused (only.inputs ForeReport (λ e. cc) ∙ unnamed ForeReport refl)
+  puts_opened unused opened puts BackReport name given = unopened BackReport name old new unused (only.inputs BackReport (λ e. cc) ∙ unnamed BackReport refl)
+
+  still_calm : AreInputsCalm old mid → (input : Input) → new.inputs input ≡ mid.inputs input → (new.inputs input).faults ≡ (old.inputs input).faults
+  still_calm calm input same = ap (λ (v : InputView). v.faults) same ∙ calm input
+
+  pub puts_calm : AreInputsCalm old mid → (new.inputs Puts).faults ≡ (mid.inputs Puts).faults → AreInputsCalm old new
+  puts_calm calm puts Params = still_calm calm Params (only.inputs Params (λ e. cc))
+  puts_calm calm puts Trace = still_calm calm Trace (only.inputs Trace (λ e. cc))
+  puts_calm calm puts Calls = still_calm calm Calls (only.inputs Calls (λ e. cc))
+  puts_calm calm puts Puts = puts ∙ calm Puts
+  puts_calm calm puts ForeReport = still_calm calm ForeReport (only.inputs ForeReport (λ e. cc))
+  puts_calm calm puts BackReport = still_calm calm BackReport (only.inputs BackReport (λ e. cc))

@@ -1,0 +1,215 @@
+-- What a replay writes beside its reports where the words name puts, and why it has its answer.
+use Rattle.std.proofs.Common.{◌≡◌, ◌∙◌, ◌⊎◌, ℕ, List, Option, Some, None, Bool, true, refl, sym, subst, inl, inr}
+use Rattle.std.specs.Prelude.{IfSome, codes, is_some}
+use Rattle.std.specs.Option.{option_map}
+use Rattle.fb_rows.specs.declared.run.Run.{Run}
+use Rattle.fb_service.specs.declared.disk.Disk.{Disk}
+use Rattle.fb_bgwrite.specs.Reading.{Accepted as PutsRead}
+use Rattle.fb_bgwrite.specs.declared.items.SpillRun.{SpillRun}
+use Rattle.fb_desk.specs.Calls.{ChangesOutput, Rose}
+use Rattle.fb_desk.specs.View.{DeskView, OutputView}
+use Rattle.fb_desk.specs.declared.desk.Input.TheVariants.{Puts, ForeReport, BackReport}
+use Rattle.fb_desk.specs.declared.desk.Output.{Output}
+use Rattle.fb_desk.specs.declared.desk.Output.TheVariants.{Fore, Back, Spill, Note, MadeTrace, MadeCalls, Copied}
+use Rattle.fb_words.specs.Command.{ReplayTerms, go_together}
+use Rattle.fb_top.specs.declared.outcome.Outcome.{Outcome}
+use Rattle.fb_top.specs.declared.outcome.Outcome.TheVariants as outcomes
+use Rattle.fb_top.specs.Causes.{HasCause, IsCut, RunsOut}
+use Rattle.fb_top.specs.Done.{AreReadBack, HoldsReports, HoldsWanted, IsDone, IsRunOf, back_told, fore_told}
+use Rattle.fb_top.specs.Read.{Accepts, AcceptsPuts, Files}
+use Rattle.fb_top.specs.Sources.{replay_inputs, replay_sources}
+use Rattle.fb_top.specs.Unnamed.{KeepsUnnamed}
+use Rattle.fb_top.specs.Spilled.{CutsSpill, HoldsBoth, HoldsReplay, HoldsSpill, IsSpillOf, IsSpilled, StopsReplay, StopsSpill, WritesGiven, WritesPuts, spill_told}
+use Rattle.fb_top.specs.Written.{HoldsFront, HoldsWhole, KeepsReports, StopsText}
+use Rattle.fb_top.proofs.Moved.{back_is_no_note, faults_rose, fore_is_no_note, front, holds_reports, spill_is_no_note, stops_reports, wanted, whole}
+
+-- what is made of a thing in two steps
+pub through : {X Y Z : Type 0} (r : Option X) (g : X → Y) (f : Y → Z) → option_map (λ x. f (g x)) r ≡ option_map f (option_map g r)
+through None g f = refl
+through (Some x) g f = refl
+
+-- what holds of a thing that is given
+pub holds_of : {X : Type 0} (P : X → Type 0) (given : Option X) (x : X) → given ≡ Some x → IfSome given P → P x
+holds_of P given x is all = subst (λ o. IfSome o P) is all
+
+-- memory ran out after all inputs were read
+pub replay_ran_out : (terms : ReplayTerms) (old new : DeskView) (files : Files) → Accepts old (replay_sources terms) files → KeepsUnnamed (replay_inputs terms) old new
+    → ((output : Output) → new.outputs output ≡ old.outputs output) → RunsOut old new (replay_inputs terms)
+replay_ran_out terms old new files accepts unnamed outputs = record {
+  input = Puts;
+  before = record { files = files; accepts = accepts };
+  ends = record { later = (unnamed ForeReport refl, unnamed BackReport refl); reports = λ output no_note. outputs output };
+}
+
+-- the first desk keeps the reports of one before it, and one after the second keeps those of the second
+module _ (old mid late new : DeskView) (first : KeepsReports old mid) (last : KeepsReports late new) (terms : ReplayTerms) (files : Files) (run : Run) where
+  both_moved : HoldsBoth terms files run mid late → HoldsBoth terms files run old new
+  both_moved holds = record {
+    others = λ output not_fore not_back not_spill no_note. last output no_note ∙ holds.others output not_fore not_back not_spill no_note ∙ first output no_note;
+    fore = whole old mid late new first last Fore _ (fore_told terms files run) fore_is_no_note holds.fore;
+    back = wanted old mid late new first last terms.back (back_told terms files run) holds.back;
+  }
+
+  pub spill_moved : (spill : SpillRun) → HoldsSpill terms files run spill mid late → HoldsSpill terms files run spill old new
+  spill_moved spill holds = record {
+    reports = both_moved holds.reports;
+    name = holds.name;
+    given = holds.given;
+    whole = whole old mid late new first last Spill holds.name (spill_told terms files spill) spill_is_no_note holds.whole;
+  }
+
+  cut_moved : (spill : SpillRun) → CutsSpill terms files run spill mid late → CutsSpill terms files run spill old new
+  cut_moved spill cut = record {
+    reports = both_moved cut.reports;
+    name = cut.name;
+    given = cut.given;
+    front = front old mid late new first last Spill cut.name (spill_told terms files spill) spill_is_no_note cut.front;
+  }
+
+  pub stops_moved : (spill : SpillRun) (outcome : Outcome) → StopsSpill terms files run spill mid late outcome → StopsSpill terms files run spill old new outcome
+  stops_moved spill (outcomes.WriteFault Spill) h = (faults_rose old mid late new first last Spill spill_is_no_note h.0, cut_moved spill h.1)
+  stops_moved spill outcomes.NoMemory h = cut_moved spill h
+  stops_moved spill (outcomes.WriteFault Fore) h = absurd h
+  stops_moved spill (outcomes.WriteFault Back) h = absurd h
+  stops_moved spill (outcomes.WriteFault Note) h = absurd h
+  stops_moved spill (outcomes.WriteFault Copied) h = absurd h
+  stops_moved spill (outcomes.WriteFault MadeTrace) h = absurd h
+  stops_moved spill (outcomes.WriteFault MadeCalls) h = absurd h
+  stops_moved spill (outcomes.Done ran) h = absurd h
+  stops_moved spill (outcomes.Made n) h = absurd h
+  stops_moved spill (outcomes.Checked verdict) h = absurd h
+  stops_moved spill (outcomes.Arrayed runs copy) h = absurd h
+  stops_moved spill (outcomes.Spilled ran spilled) h = absurd h
+  stops_moved spill (outcomes.Usage fault) h = absurd h
+  stops_moved spill (outcomes.Params fault) h = absurd h
+  stops_moved spill (outcomes.Trace fault) h = absurd h
+  stops_moved spill (outcomes.Calls fault) h = absurd h
+  stops_moved spill (outcomes.Puts fault) h = absurd h
+  stops_moved spill (outcomes.Reports fault) h = absurd h
+  stops_moved spill (outcomes.TooLong input) h = absurd h
+  stops_moved spill (outcomes.ReadFault input) h = absurd h
+
+-- the reports were written, and behind them the text of what was written in free gaps
+module _ (terms : ReplayTerms) (files : Files) (run : Run) (spill : SpillRun) (old mid new : DeskView) (reports : HoldsReports terms files run old mid) (only : ChangesOutput Spill mid new)
+    (name : List ℕ) (given : terms.spill ≡ Some name) where
+  both_stand : HoldsBoth terms files run old new
+  both_stand = record {
+    others = λ output not_fore not_back not_spill no_note. only.outputs output not_spill ∙ reports.others output not_fore not_back no_note;
+    fore = subst (λ (v : OutputView). HoldsWhole v (codes "-") (fore_told terms files run)) (sym (only.outputs Fore (λ e. cc))) reports.fore;
+    back = subst (λ (v : OutputView). HoldsWanted terms.back (back_told terms files run) (old.outputs Back) v) (sym (only.outputs Back (λ e. cc))) reports.back;
+  }
+
+  pub wrote_spill : HoldsWhole (new.outputs Spill) name (spill_told terms files spill) → HoldsSpill terms files run spill old new
+  wrote_spill holds = record { reports = both_stand; name = name; given = given; whole = holds }
+
+  cut : HoldsFront (new.outputs Spill) name (spill_told terms files spill) → CutsSpill terms files run spill old new
+  cut holds = record { reports = both_stand; name = name; given = given; front = holds }
+
+  -- why that text was not written
+  pub stopped_spill : (outcome : Outcome) → StopsText Spill name (spill_told terms files spill) mid new outcome → StopsSpill terms files run spill old new outcome
+  stopped_spill (outcomes.WriteFault Spill) h =
+      (subst (λ (v : OutputView). Rose v.faults (new.outputs Spill).faults) (reports.others Spill (λ e. cc) (λ e. cc) (λ e. cc)) h.1, cut h.2)
+  stopped_spill outcomes.NoMemory h = cut h
+  stopped_spill (outcomes.WriteFault Fore) h = absurd (let other = h.0 in cc)
+  stopped_spill (outcomes.WriteFault Back) h = absurd (let other = h.0 in cc)
+  stopped_spill (outcomes.WriteFault Note) h = absurd (let other = h.0 in cc)
+  stopped_spill (outcomes.WriteFault Copied) h = absurd (let other = h.0 in cc)
+  stopped_spill (outcomes.WriteFault MadeTrace) h = absurd (let other = h.0 in cc)
+  stopped_spill (outcomes.WriteFault MadeCalls) h = absurd (let other = h.0 in cc)
+  stopped_spill (outcomes.Done ran) h = absurd h
+  stopped_spill (outcomes.Made n) h = absurd h
+  stopped_spill (outcomes.Checked verdict) h = absurd h
+  stopped_spill (outcomes.Arrayed runs copy) h = absurd h
+  stopped_spill (outcomes.Spilled ran spilled) h = absurd h
+  stopped_spill (outcomes.Usage fault) h = absurd h
+  stopped_spill (outcomes.Params fault) h = absurd h
+  stopped_spill (outcomes.Trace fault) h = absurd h
+  stopped_spill (outcomes.Calls fault) h = absurd h
+  stopped_spill (outcomes.Puts fault) h = absurd h
+  stopped_spill (outcomes.Reports fault) h = absurd h
+  stopped_spill (outcomes.TooLong input) h = absurd h
+  stopped_spill (outcomes.ReadFault input) h = absurd h
+
+-- there is something to write exactly if there is a name for it
+pub named_alike : (desk : DeskView) (files : Files) (run : Run) (given name : Option (List ℕ)) (puts : Option PutsRead) (spill : Option SpillRun) → AcceptsPuts desk given files puts
+    → WritesGiven files.disk run puts spill → go_together given name ≡ true → is_some spill ≡ is_some name
+named_alike desk files run (Some one) (Some name) (Some puts) (Some spill) accepts writes both = refl
+named_alike desk files run None None None None accepts writes both = refl
+named_alike desk files run (Some one) None (Some puts) (Some spill) accepts writes both = cc
+named_alike desk files run None (Some name) None None accepts writes both = cc
+named_alike desk files run (Some one) name (Some puts) None accepts writes both = absurd writes
+named_alike desk files run (Some one) name None spill accepts writes both = absurd accepts
+named_alike desk files run None name (Some puts) spill accepts writes both = absurd accepts
+named_alike desk files run None name None (Some spill) accepts writes both = absurd writes
+
+no_puts : (desk : DeskView) (files : Files) (run : Run) (given : Option (List ℕ)) (puts : Option PutsRead) → AcceptsPuts desk given files puts → WritesGiven files.disk run puts None → given ≡ None
+no_puts desk files run None None accepts writes = refl
+no_puts desk files run (Some name) None accepts writes = absurd accepts
+no_puts desk files run given (Some puts) accepts writes = absurd writes
+
+one_spill : (one other : SpillRun) → ◌≡◌ {A = Option SpillRun} (Some one) (Some other) → one ≡ other
+one_spill one other e = cc
+
+module _ (terms : ReplayTerms) (run : Run) (old mid : DeskView) (is_run : IsRunOf old terms run) (keeps : KeepsReports old mid) where
+  spill_of : (puts : Option PutsRead) (given : Option SpillRun) (spill : SpillRun) → given ≡ Some spill → AcceptsPuts old terms.puts is_run.files puts → WritesGiven is_run.files.disk run puts given
+      → IsSpillOf old terms is_run.files run spill
+  spill_of (Some puts) (Some one) spill is accepts writes = record { puts = puts; accepts = accepts; writes = subst (WritesPuts is_run.files.disk run puts) (one_spill one spill is) writes }
+  spill_of None (Some one) spill is accepts writes = absurd writes
+  spill_of puts None spill is accepts writes = absurd cc
+
+  module _ (new : DeskView) (puts : Option PutsRead) (accepts : AcceptsPuts old terms.puts is_run.files puts) where
+    -- all was written
+    pub all_spilled : (spill : SpillRun) → WritesGiven is_run.files.disk run puts (Some spill) → HoldsSpill terms is_run.files run spill mid new → AreReadBack terms is_run.files run → IsSpilled old new terms run spill
+    all_spilled spill writes holds read = record {
+      is_run = is_run;
+      is_spill = spill_of puts (Some spill) spill refl accepts writes;
+      texts = spill_moved old mid new new keeps (λ output no_note. refl) terms is_run.files run spill holds;
+      read = read;
+    }
+
+    pub all_done : WritesGiven is_run.files.disk run puts None → HoldsReports terms is_run.files run mid new → AreReadBack terms is_run.files run → IsDone old new terms run
+    all_done writes holds read = record {
+      no_puts = no_puts old is_run.files run terms.puts puts accepts writes;
+      is_run = is_run;
+      reports = holds_reports old mid new new keeps (λ output no_note. refl) terms is_run.files run holds;
+      read = read;
+    }
+
+    module _ (given : Option SpillRun) (writes : WritesGiven is_run.files.disk run puts given) where
+      is_cut : (outcome : Outcome) → StopsReplay terms is_run.files run given mid new outcome → IsCut old new terms outcome
+      is_cut outcome (inl stops) = inl (record {
+        run = run;
+        is_run = is_run;
+        puts = puts;
+        accepts_puts = accepts;
+        stops = stops_reports old mid new new keeps (λ output no_note. refl) terms is_run.files run outcome stops;
+      })
+      is_cut outcome (inr h) = inr (record {
+        run = run;
+        spill = h.0;
+        is_run = is_run;
+        is_spill = spill_of puts given h.0 h.1 accepts writes;
+        stops = stops_moved old mid new new keeps (λ output no_note. refl) terms is_run.files run h.0 outcome h.2;
+      })
+
+      nothing_stops : ⊥ ⊎ ((spill : SpillRun) × (given ≡ Some spill) × ⊥) → ⊥
+      nothing_stops (inl h) = h
+      nothing_stops (inr h) = h.2
+
+      -- or not
+      pub at_replay : (outcome : Outcome) → StopsReplay terms is_run.files run given mid new outcome → HasCause terms old new outcome
+      at_replay (outcomes.WriteFault output) h = is_cut (outcomes.WriteFault output) h
+      at_replay outcomes.NoMemory h = inr (is_cut outcomes.NoMemory h)
+      at_replay (outcomes.Done ran) h = absurd (nothing_stops h)
+      at_replay (outcomes.Made n) h = absurd (nothing_stops h)
+      at_replay (outcomes.Checked verdict) h = absurd (nothing_stops h)
+      at_replay (outcomes.Arrayed runs copy) h = absurd (nothing_stops h)
+      at_replay (outcomes.Spilled ran spilled) h = absurd (nothing_stops h)
+      at_replay (outcomes.Usage fault) h = absurd (nothing_stops h)
+      at_replay (outcomes.Params fault) h = absurd (nothing_stops h)
+      at_replay (outcomes.Trace fault) h = absurd (nothing_stops h)
+      at_replay (outcomes.Calls fault) h = absurd (nothing_stops h)
+      at_replay (outcomes.Puts fault) h = absurd (nothing_stops h)
+      at_replay (outcomes.Reports fault) h = absurd (nothing_stops h)
+      at_replay (outcomes.TooLong input) h = absurd (nothing_stops h)
+      at_replay (outcomes.ReadFault input) h = absurd (nothing_stops h)

@@ -1,0 +1,129 @@
+// The command that replays a trace, and writes puts in the free gaps of the run.
+ghost use Rattle.std.specs.Prelude.{◌≡◌, ◌≤◌, ◌*◌, ◌^◌, true, false, is_some, IfErr, IfOk, IfSome, OnOk};
+ghost use Rattle.std.specs.List.{AllByRecursion};
+ghost use Rattle.std.specs.Option.{option_map};
+ghost use Rattle.fb_bgwrite.specs.Text.{HasRange};
+ghost use Rattle.fb_bgwrite.specs.Verdict.{accepted};
+ghost use Rattle.fb_desk.specs.View.{IsUnused};
+ghost use Rattle.fb_desk.specs.declared.desk.Output.{Output};
+ghost use Rattle.fb_model.specs.FullRun.{IsFull};
+ghost use Rattle.fb_words.specs.Command.{go_together};
+ghost use Rattle.fb_words.specs.Verdict.{replay_terms};
+ghost use Rattle.fb_top.specs.Calm.{AreOutputsCalm, MeetsNoFault};
+ghost use Rattle.fb_top.specs.Causes.{HasCause};
+ghost use Rattle.fb_top.specs.Done.{AreReadBack, CanBeRead, CanBeTold};
+ghost use Rattle.fb_top.specs.Opened.{OpensAsNamed};
+ghost use Rattle.fb_top.specs.Read.{files_of, inputs_of, key_of};
+ghost use Rattle.fb_top.specs.Sources.{replay_inputs};
+ghost use Rattle.fb_top.specs.Spilled.{CanBeSpilled, HoldsReplay, StopsReplay, WritesGiven};
+ghost use Rattle.fb_top.specs.Unnamed.{KeepsInputs, KeepsUnnamed};
+
+use crate::Outcome;
+use crate::policy::replay_by;
+use crate::puts::read_replay;
+use crate::reading::ReplayFiles;
+use crate::report::write_reports;
+use crate::spill_text::SpillLines;
+use crate::writing::write_lines;
+use fb_bgwrite::{Puts, SpillRun, spill};
+use fb_desk::{Desk, Output};
+use fb_rows::Run;
+use fb_units::NoMemory;
+use fb_words::ReplayWords;
+use std::alloc::Global;
+
+/// Replays the trace and the script of their files on the disk of another, and writes the puts, if
+/// there are any, in the free gaps of the run.
+pub fn run_replay<D: Desk>(alloc: Global, desk: &mut D, words: &ReplayWords) -> Outcome
+    requires unused { IsUnused (D.seen desk.old) }
+    requires until { words.now.until ≤ 10 ^ 15 }
+    requires together { go_together (replay_terms words.now).puts (replay_terms words.now).spill ≡ true }
+    ensures cause { HasCause (replay_terms words.now) (D.seen desk.old) (D.seen desk.new) result }
+    ensures unnamed { KeepsUnnamed (replay_inputs (replay_terms words.now)) (D.seen desk.old) (D.seen desk.new) }
+    ensures opened { OpensAsNamed (replay_inputs (replay_terms words.now)) (D.seen desk.old) (D.seen desk.new) }
+    ensures calm { MeetsNoFault result (D.seen desk.old) (D.seen desk.new) }
+    ensures no_note { (D.seen desk.new).outputs Output.Note ≡ (D.seen desk.old).outputs Output.Note }
+{
+    let inputs = match read_replay(alloc, desk, words) {
+        Ok(inputs) => inputs,
+        Err(outcome) => return outcome,
+    };
+    let files = &inputs.files;
+    let run = match replay_by(alloc, words.policy, files.asked(words.until)) {
+        Ok(run) => run,
+        Err(NoMemory) => return Outcome::NoMemory,
+    };
+    let spill = match spill_given(alloc, words, files, &run, inputs.puts.as_ref()) {
+        Ok(spill) => spill,
+        Err(NoMemory) => return Outcome::NoMemory,
+    };
+    match write_replay(alloc, desk, words, files, &run, spill.as_ref()) {
+        Ok(()) => {}
+        Err(outcome) => return outcome,
+    }
+    match spill {
+        Some(spill) => Outcome::Spilled { run, spill },
+        None => Outcome::Done(run),
+    }
+}
+
+// What is written in the free gaps of a run, if there are puts. The only error is out of memory.
+fn spill_given(
+    alloc: Global,
+    words: &ReplayWords,
+    files: &ReplayFiles,
+    run: &Run,
+    puts: Option<&Puts>,
+) -> Result<Option<SpillRun>, NoMemory>
+    requires full { IsFull (inputs_of (files_of files.now) (key_of words.now.policy) words.now.until) run.now }
+    requires early { run.now.end ≤ 9 * 10 ^ 18 }
+    requires fit { IfSome puts (λ puts. CanBeSpilled (files_of files.now) (accepted puts.now)) }
+    ensures writes { IfOk result (WritesGiven (files_of files.now).disk run.now (option_map (λ puts. accepted puts.now) puts.entry)) }
+    ensures told { IfOk result (λ spill. IfSome spill (λ spill. AllByRecursion HasRange spill.items)) }
+{
+    let _words = words;
+    match puts {
+        Some(puts) => Ok(Some(spill(alloc, &files.params.disk, run, puts)?)),
+        None => Ok(None),
+    }
+}
+
+// Writes the reports of a run, and then the text of what was written in its free gaps, if there
+// were puts.
+//
+// The error is the outcome: a call that writes failed, or memory ran out.
+fn write_replay<D: Desk>(
+    alloc: Global,
+    desk: &mut D,
+    words: &ReplayWords,
+    files: &ReplayFiles,
+    run: &Run,
+    spill: Option<&SpillRun>,
+) -> Result<(), Outcome>
+    requires fresh { (output : Output) → ((D.seen desk.old).outputs output).begun ≡ false }
+    requires told { CanBeTold files.now.calls.names run.now }
+    requires named { is_some spill ≡ is_some (replay_terms words.now).spill }
+    requires spill_told { IfSome spill (λ spill. AllByRecursion HasRange spill.now.items) }
+    ensures whole { OnOk result (HoldsReplay (replay_terms words.now) (files_of files.now) run.now (option_map (λ spill. spill.now) spill.entry) (D.seen desk.old) (D.seen desk.new)) }
+    ensures stops { IfErr result (StopsReplay (replay_terms words.now) (files_of files.now) run.now (option_map (λ spill. spill.now) spill.entry) (D.seen desk.old) (D.seen desk.new)) }
+    ensures calm { OnOk result (AreOutputsCalm (D.seen desk.old) (D.seen desk.new)) }
+    ensures read { OnOk result (CanBeRead (files_of files.now) run.now → AreReadBack (replay_terms words.now) (files_of files.now) run.now) }
+    ensures no_note { (D.seen desk.new).outputs Output.Note ≡ (D.seen desk.old).outputs Output.Note }
+    ensures inputs { KeepsInputs (D.seen desk.old) (D.seen desk.new) }
+{
+    match write_reports(alloc, desk, words, files, run) {
+        Ok(()) => {}
+        Err(outcome) => return Err(outcome),
+    }
+    match (spill, &words.spill) {
+        (Some(spill), Some(name)) => {
+            let lines = SpillLines {
+                spill,
+                sector_bytes: files.params.disk.sector_bytes,
+                bytes: words.bytes,
+            };
+            write_lines(alloc, desk, Output::Spill, name.as_str(), &lines)
+        }
+        _ => Ok(()),
+    }
+}
