@@ -96,6 +96,9 @@ ran_out terms old new array accepts unnamed outputs = record {
   ends = record { later = (unnamed Calls refl, unnamed Puts refl, unnamed ForeReport refl, unnamed BackReport refl); reports = λ output no_note. outputs output };
 }
 
+pub one_copy : (one other : Rebuilt) → ◌≡◌ {A = Option Rebuilt} (Some one) (Some other) → one ≡ other
+one_copy one other e = cc
+
 -- what is told of a rebuild is what its texts are
 module _ (terms : ArrayTerms) (array : Array) (rebuild : RebuildTerms) (run : Run) (sectors : ℕ) (are : sectors ≡ sectors_of array) where
   abbrev told : Rebuilt → List Text
@@ -103,9 +106,6 @@ module _ (terms : ArrayTerms) (array : Array) (rebuild : RebuildTerms) (run : Ru
       record { output = Back; name = rebuild.back; text = back_text array.script.names array.disk.sector_bytes terms.bytes run }
       ∷ record { output = Copied; name = rebuild.copy; text = joined (copy_lines copy sectors) }
       ∷ []
-
-  one_copy : (one other : Rebuilt) → ◌≡◌ {A = Option Rebuilt} (Some one) (Some other) → one ≡ other
-  one_copy one other e = cc
 
   pub rebuild_told : (given : Option RebuildTerms) (there : Option Run) (copy : Rebuilt) → given ≡ Some rebuild → there ≡ Some run → Some copy ≡ option_map (replacement (sectors_of array)) there
       → told copy ≡ rebuild_texts terms array given there

@@ -1,5 +1,5 @@
 -- The trace and the calls of one device of an array.
-use Rattle.std.proofs.Common.{◌≡◌, ◌∙◌, ℕ, ◌≤◌, ◌^◌, List, [], length, map, refl, sym, ap, arith, inl, inr, Option, Some, None, true, false, Result, Ok, Err}
+use Rattle.std.proofs.Common.{◌≡◌, ◌∙◌, ℕ, ◌≤◌, ◌^◌, List, [], length, map, refl, sym, ap, subst, arith, inl, inr, Option, Some, None, true, false, Result, Ok, Err}
 use Rattle.std.specs.Prelude.{Bool, nat_eq, slice_get, if◌then◌else◌}
 use Rattle.std.specs.List.{range_with_len}
 use Rattle.std.specs.Option.{option_map}
@@ -16,12 +16,13 @@ use Rattle.fb_calls.specs.Reading.{Accepted as Script, calls_of, fault_at}
 use Rattle.fb_calls.specs.declared.fault.CallsFault.{CallsFault}
 use Rattle.fb_calls.specs.declared.fault.CallsReason.TheVariants.{TooManyBlocks}
 use Rattle.fb_model.specs.Foreground.{promoted}
-use Rattle.fb_mirror.specs.Script.{disk_blocks, rebuild_text}
+use Rattle.fb_mirror.specs.Script.{disk_blocks, rebuild_calls, rebuild_text}
 use Rattle.fb_mirror.proofs.ScriptRead.{script_read}
 use Rattle.fb_desk.specs.View.{DeskView}
 use Rattle.fb_words.specs.Command.{RebuildTerms}
 use Rattle.fb_top.specs.Read.{ReadsTrace}
 use Rattle.fb_top.specs.Devices.{Array, ReadsRebuild, ReadsTraces, device_files}
+use Rattle.fb_top.proofs.Arrayed.{is_from}
 use Rattle.fb_top.proofs.Each.{counted, one_element}
 use Rattle.fb_top.proofs.Values.{each_of_all}
 
@@ -44,10 +45,14 @@ only_script : (many : Bool) (fault : CallsFault) (one script : Script) → ◌�
 only_script true fault one script e = absurd cc
 only_script false fault one script e = cc
 
--- the script of a rebuild promotes no reads
+-- the script of a rebuild has its two calls
+pub rebuilds_have_their_calls : (disk : Shape) (script : Script) → IsSound disk → length (places disk) ≤ 10 ^ 12 → ((traced : ℕ) → calls_of disk traced (rebuild_text disk) ≡ Ok script) → script.calls ≡ rebuild_calls disk
+rebuilds_have_their_calls disk script sound few reads =
+    ap (λ (s : Script). s.calls) (only_script (are_too_many 0 (disk_blocks disk)) (fault_at 2 TooManyBlocks) _ script (sym (script_read disk sound few 0) ∙ reads 0))
+
+-- and promotes no reads
 rebuilds_promote_none : (disk : Shape) (script : Script) → IsSound disk → length (places disk) ≤ 10 ^ 12 → ((traced : ℕ) → calls_of disk traced (rebuild_text disk) ≡ Ok script) → promoted script.calls ≡ []
-rebuilds_promote_none disk script sound few reads =
-    ap (λ (s : Script). promoted s.calls) (only_script (are_too_many 0 (disk_blocks disk)) (fault_at 2 TooManyBlocks) _ script (sym (script_read disk sound few 0) ∙ reads 0))
+rebuilds_promote_none disk script sound few reads = ap promoted (rebuilds_have_their_calls disk script sound few reads)
 
 -- nor does the script of any device
 pub devices_promote_none : (rebuild : Option RebuildTerms) (array : Array) (device : ℕ) (trace : Accepted) → IsSound array.disk.map → ReadsRebuild rebuild array.disk.map array.script
@@ -57,3 +62,9 @@ devices_promote_none (Some rebuild) array device trace sound reads = elim (cases
   | inl here ↦ rw here (rebuilds_promote_none array.disk.map array.script sound array.disk.few_blocks reads)
   | inr other ↦ rw other refl
 ]
+
+-- the calls of the device that the rebuild is made from
+pub calls_of_device : (given : Option RebuildTerms) (rebuild : RebuildTerms) (array : Array) (trace : Accepted) → given ≡ Some rebuild → IsSound array.disk.map → ReadsRebuild given array.disk.map array.script
+    → (device_files given array rebuild.device trace).script.calls ≡ rebuild_calls array.disk.map
+calls_of_device given rebuild array trace is sound reads =
+    rw (is_from given rebuild is) (rebuilds_have_their_calls array.disk.map array.script sound array.disk.few_blocks (subst (λ (r : Option RebuildTerms). ReadsRebuild r array.disk.map array.script) is reads))

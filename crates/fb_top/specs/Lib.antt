@@ -19,3 +19,4 @@ pub mod Status
 pub mod Notes
 pub mod Noted
 pub mod Ended
+pub mod Copied

@@ -7,7 +7,8 @@
 //! accepts; that a verdict is right; and that a command whose inputs are accepted and whose calls
 //! don't fail is done, unless it runs out of memory. It doesn't promise how long a run takes.
 //! `printed_reports_are_right` says that the reports of a replay are answered yes, and
-//! `sections_are_replays` that what an array prints of a device is what a replay of it prints.
+//! `sections_are_replays` that what an array prints of a device is what a replay of it prints, and
+//! `copies_are_the_survivors` that its copy is what the disk holds from which it is made.
 #![tactic(auto)]
 
 mod array;
@@ -38,6 +39,7 @@ pub use note::note_text;
 pub use outcome::{Outcome, status};
 pub use runs::Runs;
 pub use untouched::{
-    inputs_have_one_run, printed_reports_are_right, right_reports_are_right, runs_look_not_ahead,
-    scripts_leave_the_foreground, sections_are_replays,
+    copies_are_the_survivors, inputs_have_one_run, printed_reports_are_right,
+    right_reports_are_right, runs_look_not_ahead, scripts_leave_the_foreground,
+    sections_are_replays,
 };

@@ -1,6 +1,8 @@
 // Laws of the runs that `run_command` returns.
+ghost use Rattle.fb_top.specs.Copied.{CopiesAreTheSurvivors};
 ghost use Rattle.fb_top.specs.Untouched.{InputsHaveOneRun, PrintedReportsAreRight, RightReportsAreRight, RunsLookNotAhead, ScriptsLeaveForeground, SectionsAreReplays};
 
+use fb_mirror::{covered_sectors_are_the_survivors, sealed_rebuilds_are_whole};
 use fb_model::{foreground_is_untouched, no_look_ahead, one_full_run};
 
 /// Background work leaves the foreground report as it is.
@@ -63,4 +65,15 @@ pub fn sections_are_replays()
     ensures { SectionsAreReplays }
 {
     foreground_is_untouched();
+}
+
+/// The copy of an array is the disk that it is made from.
+///
+/// Each sector that the copy got holds what the disk holds, at the end of the run, and before it
+/// whenever no write is under way. If the rebuild was sealed, that is every sector, from the seal on.
+pub fn copies_are_the_survivors()
+    ensures { CopiesAreTheSurvivors }
+{
+    covered_sectors_are_the_survivors();
+    sealed_rebuilds_are_whole();
 }
