@@ -12,6 +12,7 @@ use Rattle.fb_geometry.specs.Places.{places}
 use Rattle.fb_sectormap.specs.declared.cut.Cut.{Cut}
 use Rattle.fb_sectormap.specs.Cutting.{cutting}
 use Rattle.fb_service.specs.declared.disk.Disk.{Disk}
+use Rattle.fb_calls.proofs.Lists.{all_weaker}
 use Rattle.fb_wanted.specs.declared.block.Block.{Block}
 use Rattle.fb_wanted.specs.declared.block.Entry.{Entry}
 use Rattle.fb_wanted.specs.declared.block.State.TheVariants.{Wanted, Delivered}
@@ -25,14 +26,14 @@ use Rattle.fb_bgwrite.specs.declared.puts.Put.{Put}
 use Rattle.fb_bgwrite.specs.declared.spilling.Spilling.{Spilling}
 use Rattle.fb_bgwrite.specs.Ranges.{share, AreApart}
 use Rattle.fb_bgwrite.specs.Blocks as puts
-use Rattle.fb_bgwrite.specs.Blocks.{PutBlock, blocks_from, is_written, pending, put_blocks, sectors, writes}
+use Rattle.fb_bgwrite.specs.Blocks.{PutBlock, blocks_from, is_written, pending, put_blocks, writes}
 use Rattle.fb_bgwrite.specs.Choosing.{block_range, ArePending}
 use Rattle.fb_bgwrite.specs.Standing.{entry_of, first_blocks, wanted_entry, ArePutsOn, HasChosen, HasKept, IsSpilling, IsUpTo}
 use Rattle.fb_bgwrite.specs.Spilling.{IsBest, WritesNothing}
 use Rattle.fb_bgwrite.specs.Steps.{spill_rows}
 use Rattle.fb_bgwrite.specs.declared.choice.Spill.{Spill}
 use Rattle.fb_rows.specs.declared.back.GapRow.{GapRow}
-use Rattle.fb_bgwrite.proofs.Lists.{all_weaker, at_all, none_any, some_one}
+use Rattle.fb_bgwrite.proofs.Lists.{at_all, none_any, some_one}
 use Rattle.fb_bgwrite.proofs.PutBlocks.{all_of_puts, blocks_more, blocks_split, few_blocks, its_blocks, none_registered, order_left, puts_in_order, AreInOrder, IsBefore, IsOfPuts}
 use Rattle.fb_bgwrite.proofs.Writing.{pending_is}
 
@@ -73,7 +74,7 @@ its_map : (items : List SpillItem) (blocks : List PutBlock) → blocks_of (map (
 its_map items [] = refl
 its_map items (b ∷ bs) = ap (λ xs. b.block ∷ xs) (its_map items bs)
 
-first_within : {X : Type 0} (xs : List X) (i : ℕ) (x : X) → slice_get xs i ≡ Some x → i < length xs
+pub first_within : {X : Type 0} (xs : List X) (i : ℕ) (x : X) → slice_get xs i ≡ Some x → i < length xs
 first_within [] i x at = absurd (grind arith)
 first_within (y ∷ ys) zero x at = omega arith
 first_within (y ∷ ys) (suc i) x at = omega (arith, first_within ys i x at)

@@ -25,6 +25,7 @@ use Rattle.fb_rows.specs.declared.back.BackRow.TheVariants.{Gap as GapLine, Idle
 use Rattle.fb_model.specs.Plans.{IsPlan}
 use Rattle.fb_model.specs.SoundRun.{IsSublist, none, left_out, taken}
 use Rattle.fb_model.specs.Timeline.{Leg, stay, pass, way, gap_legs, passing, service_legs, timeline, led_to}
+use Rattle.fb_model.proofs.Lists.{all_append}
 use Rattle.fb_bgwrite.specs.declared.choice.Spill.{Spill}
 use Rattle.fb_bgwrite.specs.declared.items.SpillItem.{SpillItem}
 use Rattle.fb_bgwrite.specs.AmendedWay.{amended, amended_legs, kept, kept_legs, planned_legs, spill_legs, timeline_with}
@@ -35,7 +36,8 @@ use Rattle.fb_bgwrite.specs.Spilled.{AreGaps, IsGapOf}
 use Rattle.fb_bgwrite.specs.Spilling.{IsSpill}
 use Rattle.fb_bgwrite.specs.Steps.{IsChosenIf, IsRight, rows_in, step_of, steps}
 use Rattle.fb_detour.proofs.Within.{place_of}
-use Rattle.fb_bgwrite.proofs.Legs.{behind_gap, first_follows, gap_begins, lead_spill, lead_gap, led_forward, stay_follows, through, StaysOn}
+use Rattle.fb_model.proofs.Leads.{lead_gap}
+use Rattle.fb_bgwrite.proofs.Legs.{behind_gap, first_follows, gap_begins, lead_spill, led_forward, stay_follows, through, StaysOn}
 
 -- ---- one definition of a run's way
 
@@ -59,10 +61,6 @@ fit_earlier disk now before [] le fit = tt
 fit_earlier disk now before (gap ∷ gs) le fit = (omega (arith, le, fit.0), fit.1, fit.2)
 
 -- ---- tracks of the disk
-
-all_append : {X : Type 0} (P : X → Type 0) (xs ys : List X) → AllByRecursion P xs → AllByRecursion P ys → AllByRecursion P (xs ++ ys)
-all_append P [] ys a b = b
-all_append P (x ∷ xs) ys a b = (a.0, all_append P xs ys a.1 b)
 
 past_end : (xs : List Place) (i : ℕ) (d : Place) → length xs ≤ i → slice_index_or xs i d ≡ d
 past_end [] i d past = refl

@@ -1,5 +1,5 @@
 -- What a stay catches are pending blocks, each once.
-use Rattle.std.proofs.Common.{Bor, ◌≡◌, ℕ, zero, suc, ◌+◌, ◌≤◌, List, [], ◌∷◌, ◌++◌, Bool, true, false, ◌||◌, Some, slice_get, take, drop, map, length, refl, sym, ap, ◌∙◌, subst, arith, inl, inr}
+use Rattle.std.proofs.Common.{Bor, ◌≡◌, ℕ, zero, suc, ◌+◌, ◌≤◌, List, [], ◌∷◌, ◌++◌, Bool, false, ◌||◌, Some, slice_get, take, map, length, refl, sym, ap, ◌∙◌, subst, arith, inl, inr}
 use Rattle.std.specs.Prelude.{◌==◌, ◌&&◌, filter}
 use Rattle.std.specs.List.{AllByRecursion, fold, list_any}
 use Rattle.std.proofs.lemmas.Bool.{cases_Bool}
@@ -7,12 +7,14 @@ use Rattle.std.proofs.lemmas.Bool.Decides.{nat_tests}
 use Rattle.std.proofs.lemmas.List.Folds.{list_any-append}
 use Rattle.fb_geometry.specs.Places.{places}
 use Rattle.fb_service.specs.declared.disk.Disk.{Disk}
+use Rattle.fb_calls.proofs.Lists.{all_weaker}
 use Rattle.fb_wanted.specs.States.{wanted_of}
 use Rattle.fb_rows.specs.declared.gap.Dwell.{Dwell}
 use Rattle.fb_model.specs.Plans.{catches}
 use Rattle.fb_plan.specs.declared.catching.Catch.{Catch}
-use Rattle.fb_plan.specs.Order.{is_before, slot_of, place_in, catch_of, caught_of}
+use Rattle.fb_plan.specs.Order.{is_before, place_in, catch_of, caught_of}
 use Rattle.fb_plan.proofs.Ends.{begin-from-le}
+use Rattle.fb_plan.proofs.Sorted.{put_front, put_behind, all_place}
 use Rattle.fb_bgwrite.specs.declared.items.SpillItem.{SpillItem}
 use Rattle.fb_bgwrite.specs.declared.items.SpillItem.TheVariants.{Spill as SpillLine, Wrote as WroteLine}
 use Rattle.fb_bgwrite.specs.declared.items.SpillRow.{SpillRow}
@@ -22,31 +24,11 @@ use Rattle.fb_bgwrite.specs.Blocks.{PutBlock, is_written, writes}
 use Rattle.fb_bgwrite.specs.Standing.{entry_of, first_blocks, ArePutsOn, HasKept, IsSpilling, IsToWrite}
 use Rattle.fb_bgwrite.specs.Steps.{wrote_row}
 use Rattle.fb_bgwrite.proofs.Admitting.{first_come, first_in_order}
-use Rattle.fb_bgwrite.proofs.Lists.{all_of, all_weaker, at_all, none_any}
+use Rattle.fb_bgwrite.proofs.Lists.{all_of, at_all, none_any}
 use Rattle.fb_bgwrite.proofs.PutBlocks.{AreInOrder, IsBefore}
 use Rattle.fb_bgwrite.proofs.Writing.{before_other}
 
 -- ---- in the order of delivery
-
-one_plus : (n : ℕ) → 1 + n ≡ suc n
-one_plus n = omega arith
-
-put_front : (x c : Catch) (xs : List Catch) → is_before c x ≡ true → place_in (x ∷ xs) c ≡ c ∷ x ∷ xs
-put_front x c xs h =
-    let slot : slot_of (x ∷ xs) c ≡ 0 = rw h refl in
-    ap (λ n. take n (x ∷ xs) ++ c ∷ drop n (x ∷ xs)) slot
-
-put_behind : (x c : Catch) (xs : List Catch) → is_before c x ≡ false → place_in (x ∷ xs) c ≡ x ∷ place_in xs c
-put_behind x c xs h =
-    let slot : slot_of (x ∷ xs) c ≡ 1 + slot_of xs c = rw h refl in
-    ap (λ n. take n (x ∷ xs) ++ c ∷ drop n (x ∷ xs)) (slot ∙ one_plus (slot_of xs c))
-
-all_place : (P : Catch → Type 0) (c : Catch) (xs : List Catch) → P c → AllByRecursion P xs → AllByRecursion P (place_in xs c)
-all_place P c [] p h = (p, tt)
-all_place P c (x ∷ xs) p h = elim (cases_Bool (is_before c x)) [
-  | inl t ↦ subst (AllByRecursion P) (sym (put_front x c xs t)) (p, h)
-  | inr f ↦ subst (AllByRecursion P) (sym (put_behind x c xs f)) (h.0, all_place P c xs p h.1)
-]
 
 all_placed : (P : Catch → Type 0) (xs ys : List Catch) → AllByRecursion P xs → AllByRecursion P ys → AllByRecursion P (fold place_in xs ys)
 all_placed P xs [] a b = a

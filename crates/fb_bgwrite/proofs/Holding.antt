@@ -1,5 +1,5 @@
 -- What the reserve holds: no foreground write concerns it, and the rows that concern a sector are of one put.
-use Rattle.std.proofs.Common.{◌≡◌, ◌⊎◌, ℕ, zero, suc, ◌+◌, ◌^◌, ◌<◌, ◌≤◌, List, [], ◌∷◌, ◌++◌, Bool, true, false, ◌&&◌, Option, Some, None, map, length, slice_get, refl, sym, ap, ◌∙◌, subst, arith, inl, inr, if◌then◌else◌}
+use Rattle.std.proofs.Common.{◌≡◌, ℕ, zero, suc, ◌+◌, ◌^◌, ◌<◌, List, [], ◌∷◌, ◌++◌, Bool, true, false, Option, Some, None, map, length, slice_get, refl, sym, ap, ◌∙◌, subst, arith, inl, inr}
 use Rattle.std.specs.Prelude.{◌==◌, filter, nat_lt}
 use Rattle.std.specs.List.{AllByRecursion, flat_map}
 use Rattle.std.proofs.lemmas.Bool.{cases_Bool, cases_lt, and_parts}
@@ -8,10 +8,11 @@ use Rattle.fb_geometry.specs.Places.{places}
 use Rattle.fb_service.specs.declared.disk.Disk.{Disk}
 use Rattle.fb_store.specs.declared.content.Content.TheVariants.{Filled}
 use Rattle.fb_store.specs.Writes.{unwritten}
+use Rattle.fb_calls.proofs.Lists.{all_weaker}
 use Rattle.fb_wanted.specs.declared.block.Block.{Block}
 use Rattle.fb_rows.specs.declared.fore.ForeRow.{ForeRow}
 use Rattle.fb_rows.specs.declared.run.Run.{Run}
-use Rattle.fb_model.specs.Content.{number_of}
+use Rattle.fb_model.proofs.Lists.{all_append}
 use Rattle.fb_bgwrite.specs.declared.items.SpillItem.{SpillItem}
 use Rattle.fb_bgwrite.specs.declared.items.SpillItem.TheVariants.{Spill as SpillLine, Wrote as WroteLine}
 use Rattle.fb_bgwrite.specs.declared.items.WroteRow.{WroteRow}
@@ -25,10 +26,9 @@ use Rattle.fb_bgwrite.specs.Held.{Fill, fills, fore_fills, held, held_by, is_in,
 use Rattle.fb_bgwrite.specs.Ranges.{share}
 use Rattle.fb_bgwrite.specs.Rules.{ArePuts}
 use Rattle.fb_bgwrite.specs.Spilled.{fore_ranges, IsInTime, IsOfPut}
-use Rattle.fb_bgwrite.specs.Standing.{ArePutsOn}
 use Rattle.fb_bgwrite.specs.Verdict.{accepted}
-use Rattle.fb_bgwrite.proofs.Lists.{all_weaker, at_all, some_one}
-use Rattle.fb_bgwrite.proofs.PutBlocks.{all_left, puts_in_order, AreInOrder, IsBefore}
+use Rattle.fb_bgwrite.proofs.Lists.{at_all, some_one}
+use Rattle.fb_bgwrite.proofs.PutBlocks.{puts_in_order, AreInOrder, IsBefore}
 use Rattle.fb_bgwrite.proofs.Totals.{in_no_other, puts_on}
 
 -- ---- the latest of fills
@@ -79,10 +79,6 @@ held_before : (latent : List ℕ) (fs : List Fill) (lbn : ℕ) → AllByRecursio
 held_before latent fs lbn all = ap (λ gs. held_by (latest gs) (unwritten latent lbn)) (none_filtered (λ g. is_in g.range lbn) fs all)
 
 -- ---- the foreground
-
-all_append : {X : Type 0} (P : X → Type 0) (xs ys : List X) → AllByRecursion P xs → AllByRecursion P ys → AllByRecursion P (xs ++ ys)
-all_append P [] ys a b = b
-all_append P (x ∷ xs) ys a b = (a.0, all_append P xs ys a.1 b)
 
 none_of_fore : (reserve : SectorRange) (lbn : ℕ) → is_in reserve lbn ≡ true → (rows : List ForeRow) → AllByRecursion (λ range. share reserve range ≡ false) (map (λ (row : ForeRow). request_range row.request) rows)
     → AllByRecursion (λ g. is_in g.range lbn ≡ false) (flat_map fore_fills rows)

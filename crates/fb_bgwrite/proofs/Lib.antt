@@ -9,7 +9,6 @@ pub mod Choices
 pub mod Depths
 pub mod Legs
 pub mod Amended
-pub mod Cuts
 pub mod PutBlocks
 pub mod Writing
 pub mod Admitting

@@ -6,6 +6,7 @@ use Rattle.std.proofs.lemmas.Bool.{and_parts, leb-true}
 use Rattle.std.specs.Prelude.{nat_le}
 use Rattle.fb_units.specs.Judging.{◌>>=◌}
 use Rattle.fb_units.specs.Rising.{IsRising}
+use Rattle.fb_calls.proofs.Lists.{all_weaker}
 use Rattle.fb_bgwrite.specs.declared.fault.PutsFault.{PutsFault}
 use Rattle.fb_bgwrite.specs.declared.fault.PutsError.{PutsError}
 use Rattle.fb_bgwrite.specs.declared.fault.PutsError.TheVariants.{Fault, NoMemory}
@@ -18,7 +19,7 @@ use Rattle.fb_bgwrite.specs.Reader.{progress, IsNextPut, IsNextReserve, IsReader
 use Rattle.fb_bgwrite.specs.Rules.{IsPutOf, ArePuts}
 use Rattle.fb_bgwrite.specs.Taken.{AreTaken}
 use Rattle.fb_bgwrite.specs.Verdict.{accepted, Answers}
-use Rattle.fb_bgwrite.proofs.Lists.{all_push, all_weaker}
+use Rattle.fb_bgwrite.proofs.Lists.{all_push}
 use Rattle.fb_bgwrite.proofs.Appending.{rising_push}
 
 module _ (terms : Terms) (number : ℕ) (so_far : Progress) (lines : List (List ℕ)) (whole : Result Accepted PutsFault) where

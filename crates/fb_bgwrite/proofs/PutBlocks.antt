@@ -11,17 +11,19 @@ use Rattle.fb_sectormap.specs.declared.cut.Cut.{Cut}
 use Rattle.fb_sectormap.specs.Cutting.{IsOneTurn, cutting}
 use Rattle.fb_sectormap.specs.Lookup.{track_at}
 use Rattle.fb_service.specs.declared.disk.Disk.{Disk}
+use Rattle.fb_calls.proofs.Lists.{all_weaker}
 use Rattle.fb_wanted.specs.declared.block.Block.{Block}
 use Rattle.fb_wanted.specs.Numbering.{registered}
 use Rattle.fb_model.specs.Segments.{numbered}
+use Rattle.fb_model.proofs.Lists.{all_append, all_left}
 use Rattle.fb_plan.specs.Ways.{FitsDisk}
 use Rattle.fb_bgwrite.specs.declared.puts.Put.{Put}
 use Rattle.fb_bgwrite.specs.Ranges.{share, AreApart}
 use Rattle.fb_bgwrite.specs.Reading.{range_of}
 use Rattle.fb_bgwrite.specs.Blocks.{PutBlock, blocks_from, blocks_of, sectors}
 use Rattle.fb_bgwrite.specs.Choosing.{block_range}
-use Rattle.fb_bgwrite.proofs.Cuts.{AreCuts, cuts_are, cuts_rise}
-use Rattle.fb_bgwrite.proofs.Lists.{all_weaker, at_all, some_one}
+use Rattle.fb_model.proofs.Cuts.{AreCuts, cuts_are, cuts_rise}
+use Rattle.fb_bgwrite.proofs.Lists.{at_all, some_one}
 use Rattle.fb_bgwrite.proofs.TakenRanges.{is_shares, not_share}
 
 -- the first block has the lesser put, or is an earlier one of the same put; and they share no sector
@@ -125,10 +127,6 @@ of_later disk number put puts block is = record {
   is = subst (λ n. IsOf disk n 0 is.own.first (is.own.first + is.own.count) block.block) (let same : number + 1 + is.i ≡ number + suc is.i = omega arith in same) is.is;
 }
 
-all_append : {X : Type 0} (P : X → Type 0) (xs ys : List X) → AllByRecursion P xs → AllByRecursion P ys → AllByRecursion P (xs ++ ys)
-all_append P [] ys a b = b
-all_append P (x ∷ xs) ys a b = (a.0, all_append P xs ys a.1 b)
-
 pub all_of_puts : (disk : Disk) (number : ℕ) (puts : List Put) → LieOn disk puts → AllByRecursion (IsOfPuts disk number puts) (blocks_from disk.map number puts)
 unfolding blocks_from
 all_of_puts disk number [] on_disk = tt
@@ -203,10 +201,6 @@ blocks_more disk number (suc k) (p ∷ puts) put at =
     ap (λ bs. blocks_of disk number p ++ bs) (blocks_more disk (number + 1) k puts put at
     ∙ ap (λ n. blocks_from disk (number + 1) (take k puts) ++ blocks_of disk n put) (let same : number + 1 + k ≡ number + suc k = omega arith in same))
     ∙ sym (append_assoc (blocks_of disk number p) (blocks_from disk (number + 1) (take k puts)) (blocks_of disk (number + suc k) put))
-
-pub all_left : {X : Type 0} (P : X → Type 0) (xs ys : List X) → AllByRecursion P (xs ++ ys) → AllByRecursion P xs
-all_left P [] ys all = tt
-all_left P (x ∷ xs) ys all = (all.0, all_left P xs ys all.1)
 
 pub order_left : (xs ys : List PutBlock) → AreInOrder (xs ++ ys) → AreInOrder xs
 order_left [] ys order = tt

@@ -5,13 +5,14 @@ use Rattle.std.specs.List.{AllByRecursion, count_by, list_any, range_with_len, s
 use Rattle.std.proofs.lemmas.Bool.{cases_Bool, cases_lt, and_parts, leb-true, ltb-true}
 use Rattle.std.proofs.lemmas.Bool.Decides.{nat_tests}
 use Rattle.std.proofs.lemmas.List.Sums.{count_by-le-length, sum_by-cons}
+use Rattle.fb_calls.proofs.Lists.{all_weaker}
 use Rattle.fb_bgwrite.specs.declared.puts.Put.{Put}
 use Rattle.fb_bgwrite.specs.declared.range.SectorRange.{SectorRange}
 use Rattle.fb_bgwrite.specs.Ranges.{lies_in, share, AreApart}
 use Rattle.fb_bgwrite.specs.Reading.{Accepted, range_of}
 use Rattle.fb_bgwrite.specs.Rules.{ArePuts, IsPutOf}
 use Rattle.fb_bgwrite.specs.Standing.{ArePutsOn}
-use Rattle.fb_bgwrite.proofs.Lists.{all_weaker, none_any}
+use Rattle.fb_bgwrite.proofs.Lists.{none_any}
 use Rattle.fb_bgwrite.proofs.TakenRanges.{is_shares}
 
 -- the sector is in the range

@@ -1,5 +1,5 @@
 -- The value of a spill is what its stay catches of the registered blocks.
-use Rattle.std.proofs.Common.{◌≡◌, ℕ, zero, suc, ◌+◌, ◌*◌, ◌<◌, ◌≤◌, ◌⊎◌, List, [], ◌∷◌, Bool, true, false, Some, slice_get, max, length, inl, inr, refl, sym, ap, ◌∙◌, subst, arith, if◌then◌else◌, filter}
+use Rattle.std.proofs.Common.{◌≡◌, ℕ, ◌+◌, ◌*◌, ◌<◌, ◌≤◌, ◌⊎◌, List, [], ◌∷◌, Bool, true, false, Some, slice_get, max, length, inl, inr, refl, sym, ap, ◌∙◌, subst, arith, if◌then◌else◌, filter}
 use Rattle.std.specs.List.{AllByRecursion, sum_by}
 use Rattle.std.proofs.lemmas.Bool.{cases_Bool, cases_lt}
 use Rattle.std.proofs.lemmas.Bool.Decides.{nat_tests}
@@ -22,6 +22,7 @@ use Rattle.fb_bgwrite.specs.Spilling.{stay_of, value}
 use Rattle.fb_bgwrite.specs.Choosing.{EndsAt, IsLast, passes}
 use Rattle.fb_bgwrite.proofs.Lists.{all_of, at_all, some_one}
 use Rattle.fb_bgwrite.proofs.Sums.{sum_le_on, sum_less}
+use Rattle.fb_bgwrite.proofs.Admitting.{first_within}
 
 abbrev pub AreLight : List Entry → Type 0
 AreLight entries = AllByRecursion (λ entry. entry.block.weight ≡ 1) entries
@@ -119,16 +120,11 @@ pub record IsLastOf (disk : Disk) (dwell : Dwell) (entries : List Entry) (n wort
 pub none_last : (disk : Disk) (dwell : Dwell) (entries : List Entry) → dwell.begin ≤ dwell.end → IsLastOf disk dwell entries 0 0 dwell.begin
 none_last disk dwell entries order = record { from = omega arith; upto = order; each = λ i entry less. absurd (omega (arith, less)); reached = inl (refl, refl) }
 
-within : {X : Type 0} (xs : List X) (i : ℕ) (x : X) → slice_get xs i ≡ Some x → i < length xs
-within [] i x at = absurd (grind arith)
-within (y ∷ ys) zero x at = omega arith
-within (y ∷ ys) (suc i) x at = omega (arith, within ys i x at)
-
 pub all_last : (disk : Disk) (dwell : Dwell) (entries : List Entry) (n worth last : ℕ) → length entries ≤ n → IsLastOf disk dwell entries n worth last → IsLast disk dwell entries worth last
 all_last disk dwell entries n worth last all is = record {
   from = is.from;
   upto = is.upto;
-  each = λ i entry at. is.each i entry (omega (arith, within entries i entry at, all)) at;
+  each = λ i entry at. is.each i entry (omega (arith, first_within entries i entry at, all)) at;
   reached = is.reached;
 }
 

@@ -1,5 +1,5 @@
 -- What a history has registered: blocks that have sectors, and for a backup those of one range.
-use Rattle.std.proofs.Common.{◌≡◌, ℕ, zero, suc, ◌<◌, ◌≤◌, ◌==◌, nat_le, List, [], ◌∷◌, ◌++◌, Bool, true, false, inl, inr, length, length-append, drop, filter, map, append-nil, refl, ap, sym, ◌∙◌, subst, arith}
+use Rattle.std.proofs.Common.{◌≡◌, ℕ, zero, suc, ◌<◌, ◌≤◌, ◌==◌, List, [], ◌∷◌, ◌++◌, Bool, true, false, inl, inr, length, length-append, drop, filter, map, append-nil, refl, ap, sym, ◌∙◌, subst, arith}
 use Rattle.std.specs.Prelude.{◌&&◌, not, if◌then◌else◌}
 use Rattle.std.specs.List.{AllByRecursion, fold, best_of, slice_index_or}
 use Rattle.std.proofs.Math.Bool.{or-true}
@@ -28,8 +28,10 @@ use Rattle.fb_model.specs.History.{Past, LogSegment, chose, calls_of, opened_by,
 use Rattle.fb_model.specs.Completion.{view, work, segments, is_closed}
 use Rattle.fb_model.specs.Segments.{numbered, next_blocks, is_better, is_busy, unchosen, choose_best, choose_once, choose_up_to, choose_in, with_choices}
 use Rattle.fb_model.specs.Steps.{Delivery, Part, blocks_by, take_call, calls_taken, calls_due, settled_past, with_delivery, with_finish, tested_past, past_after}
+use Rattle.fb_model.proofs.Views.{number_same}
 use Rattle.fb_tasks.proofs.Asked.{open_there, terms_there}
-use Rattle.fb_tasks.proofs.Lists.{all_append, same_number, number_same, number_other}
+use Rattle.fb_tasks.proofs.Lists.{all_append, same_number, number_other}
+use Rattle.fb_decide.proofs.Calling.{come_by}
 use Rattle.fb_check.proofs.PrintingSectors.{HasSector, IsSome, sectors, own, some_cut, some_live, some_numbered, numbered_have, none_other, some_have, cuts_have}
 
 -- the terms of a task
@@ -92,19 +94,16 @@ other_same owner task weight n cuts blocks other =
 
 -- ---- the calls that are due stand next
 
-abbrev has_come : ℕ → Call → Bool
-has_come now call = nat_le call.instant now
-
-none_come : (now instant : ℕ) (calls : List Call) → now < instant → AllByRecursion (λ later. instant ≤ later) (map (λ call. call.instant) calls) → filter (has_come now) calls ≡ []
+none_come : (now instant : ℕ) (calls : List Call) → now < instant → AllByRecursion (λ later. instant ≤ later) (map (λ call. call.instant) calls) → filter (come_by now) calls ≡ []
 none_come now instant [] late all = refl
 none_come now instant (call ∷ calls) late all =
     let before = all.0 in
-    let not_come : has_come now call ≡ false = grind (arith, nat_tests) in
+    let not_come : come_by now call ≡ false = grind (arith, nat_tests) in
     rw not_come (none_come now instant calls late all.1)
 
-come_first : (now : ℕ) (calls : List Call) → IsRising (map (λ call. call.instant) calls) → Begins (filter (has_come now) calls) calls
+come_first : (now : ℕ) (calls : List Call) → IsRising (map (λ call. call.instant) calls) → Begins (filter (come_by now) calls) calls
 come_first now [] rising = ([], refl)
-come_first now (call ∷ calls) rising = elim (cases_Bool (has_come now call)) [
+come_first now (call ∷ calls) rising = elim (cases_Bool (come_by now call)) [
   | inl come ↦ rw come (let rest = come_first now calls rising.1 in (rest.0, ap (λ calls. call ∷ calls) rest.1))
   | inr late ↦ rw (late, none_come now call.instant calls (grind (arith, nat_tests)) rising.0) (call ∷ calls, refl)
 ]
@@ -270,7 +269,7 @@ unfolding settled_past with_choices
 settled_holds inputs accepted past decision h =
     let now = instant_of decision in
     let due = calls_due inputs.calls past now in
-    let rest = begins_dropped (calls_taken past) (filter (has_come now) inputs.calls) inputs.calls (come_first now inputs.calls accepted.instants) in
+    let rest = begins_dropped (calls_taken past) (filter (come_by now) inputs.calls) inputs.calls (come_first now inputs.calls accepted.instants) in
     let called = fold (take_call inputs.disk.map) past due in
     choices_hold inputs.disk.map inputs.calls (task_numbers called) called (calls_hold inputs.disk.map inputs.calls due rest.0 past rest.1 h)
 

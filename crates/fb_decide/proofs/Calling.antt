@@ -26,7 +26,7 @@ taken_count (called call blocks ∷ past) = omega (arith, taken_count past, leng
 taken_count (_ ∷ past) = taken_count past
 
 -- calls by their instants
-abbrev come_by : ℕ → Call → Bool
+abbrev pub come_by : ℕ → Call → Bool
 come_by now call = nat_le call.instant now
 
 come : (now : ℕ) (call : Call) → call.instant ≤ now → come_by now call ≡ true

@@ -1,6 +1,6 @@
 -- The decisions of a run are a chain: each begins where and when the one before it left the head.
-use Rattle.std.proofs.Common.{◌≡◌, ◌⊎◌, ℕ, zero, suc, ◌<◌, ◌≤◌, List, [], ◌∷◌, ◌++◌, true, false, true≢false, length, map, refl, ap, sym, subst, ◌∙◌, arith, inl, inr, max}
-use Rattle.std.specs.Prelude.{Bool, Option, Some, None, unwrap_or, ◌||◌, nat_le, nat_lt, filter}
+use Rattle.std.proofs.Common.{◌≡◌, ◌⊎◌, ℕ, zero, suc, ◌≤◌, List, [], ◌∷◌, ◌++◌, true, length, map, refl, ap, sym, subst, ◌∙◌, arith, inl, inr, max}
+use Rattle.std.specs.Prelude.{Option, Some, None, unwrap_or, nat_le, nat_lt, filter}
 use Rattle.std.specs.Option.{option_map}
 use Rattle.std.specs.List.{AllByRecursion, fold, list_any}
 use Rattle.std.proofs.lemmas.Bool.{cases_Bool}
@@ -8,12 +8,13 @@ use Rattle.std.proofs.lemmas.Bool.Decides.{nat_tests}
 use Rattle.fb_units.specs.declared.types.Request.{Request}
 use Rattle.fb_units.specs.declared.types.Track.{Track}
 use Rattle.fb_service.specs.declared.disk.Disk.{Disk}
+use Rattle.fb_calls.proofs.Lists.{all_weaker}
 use Rattle.fb_model.specs.PlainReplay.{Key, Served, service, finish, last_track, has_arrived, first_ready, start_of, plain, first_track}
 use Rattle.fb_model.specs.Inputs.{Inputs, requests, served}
 use Rattle.fb_model.specs.Decisions.{Decision, serves, idles, ends, among, instants_of, idle_until, last_decision, decisions_from, decisions}
 use Rattle.fb_model.specs.Laws.{IsFirstReady, IsReadyPickOf}
 use Rattle.fb_model.proofs.Picks.{ready_pick}
-use Rattle.fb_decide.proofs.Passed.{all_weaker}
+use Rattle.fb_model.proofs.Replays.{late_or}
 
 -- ---- a chain
 
@@ -108,12 +109,6 @@ latest_is start now instants h at = omega (arith, latest_below start now instant
     ]
 
 -- ---- the start of a service
-
-late_or : (now arrival : ℕ) (c : Bool) → (nat_le arrival now || c) ≡ false → now < arrival
-late_or now arrival c h = elim (cases_Bool (nat_le arrival now)) [
-  | inl here ↦ absurd (true≢false (sym (ap (λ b. b || c) here) ∙ h))
-  | inr late ↦ grind (arith, nat_tests)
-]
 
 -- not before now
 start_from : (now : ℕ) (left : List Request) → now ≤ start_of now left

@@ -5,11 +5,12 @@ use Rattle.std.specs.List.{AllByRecursion}
 use Rattle.fb_units.specs.Rising.{IsRising}
 use Rattle.fb_units.specs.declared.types.Request.{Request}
 use Rattle.fb_calls.specs.declared.call.Call.{Call}
+use Rattle.fb_calls.proofs.Lists.{all_weaker}
 use Rattle.fb_model.specs.Inputs.{Inputs, requests}
 use Rattle.fb_model.specs.Decisions.{instants_of}
+use Rattle.fb_model.proofs.Instants.{IsAmong, rising_all_among, was_all_among}
 use Rattle.fb_decide.specs.Deciding.{next_of}
-use Rattle.fb_decide.proofs.Passed.{all_weaker}
-use Rattle.fb_decide.proofs.Instants.{IsAmong, LieApart, all_of_both, rising_of_both, one_of_first, one_of_second}
+use Rattle.fb_decide.proofs.Instants.{LieApart, all_of_both, one_of_second}
 
 -- no request arrives and no call takes effect before this instant, and one does then
 pub record IsNextOf (a : Option Request) (b : Option Call) (t : ℕ) : Type 0 where
@@ -100,7 +101,7 @@ module _ (inputs : Inputs) (now joined called : ℕ) (come : HasCome inputs now 
   next = next_of (slice_get (requests inputs) joined) (slice_get inputs.calls called)
 
   pub rising_instants : IsRising (instants_of inputs)
-  rising_instants = rising_of_both (map (λ c. c.instant) inputs.calls) (map (λ r. r.arrival) (requests inputs)) come.rising
+  rising_instants = rising_all_among (map (λ c. c.instant) inputs.calls) (map (λ r. r.arrival) (requests inputs)) come.rising
 
   module _ (t : ℕ) (h : next ≡ Some t) where
     is_next : IsNextOf (slice_get (requests inputs) joined) (slice_get inputs.calls called) t
@@ -114,7 +115,7 @@ module _ (inputs : Inputs) (now joined called : ℕ) (come : HasCome inputs now 
 
     pub among_instants : IsAmong t (instants_of inputs)
     among_instants = elim is_next.one [
-      | inl first ↦ one_of_first t (map (λ c. c.instant) inputs.calls) (map (λ r. r.arrival) (requests inputs))
+      | inl first ↦ was_all_among t (map (λ c. c.instant) inputs.calls) (map (λ r. r.arrival) (requests inputs))
           (subst (λ u. IsAmong u (map (λ r. r.arrival) (requests inputs))) first.2 (there_at (λ r. r.arrival) joined (requests inputs) first.0 first.1))
       | inr second ↦ one_of_second t (map (λ c. c.instant) inputs.calls) (map (λ r. r.arrival) (requests inputs))
           (subst (λ u. IsAmong u (map (λ c. c.instant) inputs.calls)) second.2 (there_at (λ c. c.instant) called inputs.calls second.0 second.1))

@@ -10,10 +10,11 @@ use Rattle.fb_units.specs.Rising.{IsRising}
 use Rattle.fb_service.specs.declared.disk.Disk.{Disk}
 use Rattle.fb_model.specs.PlainReplay.{Key, Served, plain, service, finish, last_track, start_of, first_ready}
 use Rattle.fb_model.specs.Decisions.{serves, idles, idle_until, last_decision, decisions_from}
+use Rattle.fb_model.proofs.Instants.{IsAmong}
 use Rattle.fb_decide.specs.Waiting.{AreByArrival}
 use Rattle.fb_decide.proofs.Readiness.{start_ahead}
 use Rattle.fb_decide.proofs.Passed.{start_after}
-use Rattle.fb_decide.proofs.Instants.{IsAmong, LieApart, all_filtered, rising_filtered, one_filtered, filtered_below, idle_none, idle_next, last_after, last_passed}
+use Rattle.fb_decide.proofs.Instants.{LieApart, all_filtered, rising_filtered, one_filtered, filtered_below, idle_none, idle_next, last_after, last_passed}
 
 -- a request that starts now is the next decision
 pub serves_now : (disk : Disk) (instants : List ℕ) (until : ℕ) (head : Track) (now : ℕ) (request : Request) (later : List Served)

@@ -8,7 +8,7 @@ use Rattle.fb_geometry.specs.Shape.{Shape}
 use Rattle.fb_wanted.specs.declared.block.Block.{Block}
 use Rattle.fb_wanted.specs.declared.block.Entry.{Entry}
 use Rattle.fb_wanted.specs.declared.block.State.{State}
-use Rattle.fb_wanted.specs.declared.block.State.TheVariants.{Suspended, Delivered}
+use Rattle.fb_wanted.specs.declared.block.State.TheVariants.{Delivered}
 use Rattle.fb_wanted.specs.States.{is_wanted, wanted_of}
 use Rattle.fb_rows.specs.Ranges.{AreRanges}
 use Rattle.fb_rows.specs.declared.gap.How.{How}
@@ -29,6 +29,7 @@ use Rattle.fb_tasks.specs.declared.session.Session.{Session}
 use Rattle.fb_tasks.specs.Taken.{delivery_of, rows_after}
 use Rattle.fb_tasks.specs.Telling.{Tells, MayDeliver, IsSettled, IsBlockOf, entry_of}
 use Rattle.fb_tasks.proofs.Lists.{all_append, all_at, all_map, all_weaker, filter_from, filter_to, map_at}
+use Rattle.fb_tasks.proofs.States.{shown}
 use Rattle.fb_decide.specs.declared.background.Background.{Background}
 use Rattle.fb_decide.specs.Deliveries.{IsCurrent, HasDelivered, IsRegistered, AreDistinct, AreDue, IsOneOf, block_in, delivery_in, followed, past_with, rows_of}
 
@@ -58,9 +59,6 @@ wanted-registered past place block at = let found = filter_from (λ b. is_wanted
 -- the block is none of the delivered ones
 abbrev pub none_of : List DeliveryRow → Block → Bool
 none_of gots block = not (list_any (λ got. same_block got.block block) gots)
-
-abbrev shown : State → Bool → State
-shown bare held_back = if is_wanted bare && held_back then Suspended else bare
 
 still_wanted : (it held_back : Bool) (bare : State) → is_wanted (shown (if it then Delivered else bare) held_back) ≡ (not it && is_wanted (shown bare held_back))
 still_wanted true held_back bare = refl
@@ -170,10 +168,6 @@ row-is holding how block begin end bad content is counted =
 pub on_ok_map : {T E : Type 0} (P Q : Type 0) (r : Result T E) → (P → Q) → OnOk r P → OnOk r Q
 on_ok_map P Q (Ok t) f p = f p
 on_ok_map P Q (Err e) f p = tt
-
-pub on_ok_both : {T E : Type 0} (P Q : Type 0) (r : Result T E) → OnOk r P → OnOk r Q → OnOk r (P × Q)
-on_ok_both P Q (Ok x) p q = (p, q)
-on_ok_both P Q (Err e) p q = tt
 
 pub if_ok_with : {T E : Type 0} (P Q R : T → Type 0) (r : Result T E) → ((x : T) → P x → Q x → R x) → IfOk r P → IfOk r Q → IfOk r R
 if_ok_with P Q R (Ok x) f p q = f x p q

@@ -13,6 +13,7 @@ use Rattle.fb_tasks.specs.declared.session.Session.{Session}
 use Rattle.fb_tasks.specs.Standing.{AreIndexed}
 use Rattle.fb_tasks.specs.Telling.{Tells}
 use Rattle.fb_tasks.proofs.Lists.{all_weaker, all_filter}
+use Rattle.fb_tasks.proofs.Deliveries.{indexed_from}
 use Rattle.fb_decide.specs.Deliveries.{AreDistinct}
 
 pub itself : (block : Block) → same_block block block ≡ true
@@ -20,10 +21,6 @@ itself block = grind (arith, nat_tests)
 
 pub either_way : (a b : Block) → same_block a b ≡ false → same_block b a ≡ false
 either_way a b h = grind (arith, nat_tests)
-
-indexed_from : (n : ℕ) (bs : List Block) → AreIndexed n bs → AllByRecursion (λ b. n ≤ b.index) bs
-indexed_from n [] h = tt
-indexed_from n (b ∷ bs) h = (omega (arith, h.0), all_weaker (λ c. n + 1 ≤ c.index) (λ c. n ≤ c.index) (λ c le. omega (arith, le)) bs (indexed_from (n + 1) bs h.1))
 
 lesser : (a b : Block) → a.index < b.index → same_block a b ≡ false
 lesser a b less = grind (arith, nat_tests)

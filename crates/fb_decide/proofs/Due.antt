@@ -1,17 +1,13 @@
 -- What is due at a decision, from the disk as it is: each delivery lies within the decision, and the medium gives the same.
-use Rattle.std.proofs.Common.{◌≡◌, ℕ, zero, suc, ◌+◌, ◌-◌, ◌≤◌, ◌<◌, List, [], ◌∷◌, ◌++◌, map, filter, Bool, true, false, ◌==◌, inl, inr, refl, ap, ap₂, arith}
+use Rattle.std.proofs.Common.{◌≡◌, ℕ, ◌+◌, ◌-◌, ◌≤◌, ◌<◌, List, [], ◌∷◌, ◌++◌, map, filter, Bool, true, false, inl, inr, refl, ap, ap₂, arith}
 use Rattle.std.specs.Prelude.{if◌then◌else◌}
 use Rattle.std.specs.List.{AllByRecursion}
 use Rattle.std.proofs.lemmas.Bool.{cases_Bool}
 use Rattle.std.proofs.lemmas.Bool.Decides.{nat_tests}
 use Rattle.fb_units.specs.declared.types.Track.{Track}
 use Rattle.fb_units.specs.declared.types.Request.{Request}
-use Rattle.fb_sectormap.specs.Lookup.{track_at}
-use Rattle.fb_seek.specs.Positioning.{pos}
 use Rattle.fb_service.specs.declared.disk.Disk.{Disk}
-use Rattle.fb_service.specs.declared.passage.Passage.{Passage}
-use Rattle.fb_service.specs.Passing.{begin_from}
-use Rattle.fb_service.specs.Service.{passages, passage_from, finish_of}
+use Rattle.fb_service.specs.Service.{passages}
 use Rattle.fb_store.specs.Index.{Holding}
 use Rattle.fb_store.specs.Runs.{runs_of, bad_of}
 use Rattle.fb_wanted.specs.declared.block.Block.{Block}
@@ -26,11 +22,13 @@ use Rattle.fb_model.specs.Decisions.{serves}
 use Rattle.fb_model.specs.PlainReplay.{Served, service, media, finish}
 use Rattle.fb_model.specs.Plans.{IsPlan, block_begin, block_end, catches, early_dwell, late_dwell}
 use Rattle.fb_model.specs.Rides.{in_order, delivery, caught, missed, lies_in, begin_at, end_at, gap_of, due}
+use Rattle.fb_model.proofs.Passages.{IsPassedBetween, sectors_pass}
+use Rattle.fb_model.proofs.DueUpTo.{begins_later, ends_behind, ends_in_time}
 use Rattle.fb_decide.specs.Deliveries.{delivery_in, caught_in, rides_in, due_in}
 use Rattle.fb_decide.specs.Standing.{Mirrors, IsFoundIn}
-use Rattle.fb_decide.proofs.Passed.{passed_between}
 use Rattle.fb_decide.proofs.DiskRows.{mirrored}
-use Rattle.fb_decide.proofs.Placing.{in_order-each}
+use Rattle.fb_decide.proofs.Placing.{in_order-each, delivery_by}
+use Rattle.fb_decide.proofs.Rides.{ride_row}
 
 delivery_same : (medium : Medium) (holding : Holding) (from to : ℕ) → Mirrors medium holding from to → (how : How) (block : Block) (begin end : ℕ) → from ≤ begin → begin ≤ to
     → delivery_in holding how block begin end ≡ delivery medium how block begin end
@@ -38,28 +36,15 @@ delivery_same medium holding from to mirrors how block begin end after before =
     ap (λ sectors. record { block = block; begin = begin; end = end; how = how; bad = bad_of (runs_of sectors); content = runs_of sectors })
     (mirrored medium holding from to mirrors block.lbn block.count begin after before)
 
-begins_later : (disk : Disk) (block : Block) (t : ℕ) → t ≤ block_begin disk.map block t
-unfolding begin_from
-begins_later disk block t = omega arith
-
-begins_before_end : (disk : Disk) (block : Block) (t : ℕ) → block_begin disk.map block t ≤ block_end disk.map block t
-begins_before_end disk block t = omega arith
-
-ends_in_time : (disk : Disk) (dwell : Dwell) (block : Block) → catches disk dwell block ≡ true → block_end disk.map block dwell.begin ≤ dwell.end
-ends_in_time disk dwell block is_caught = grind (arith, nat_tests)
-
-abbrev caught_row : Disk → Holding → How → Dwell → Block → DeliveryRow
-caught_row disk holding how dwell block = delivery_in holding how block (block_begin disk.map block dwell.begin) (block_end disk.map block dwell.begin)
-
 caught_rows : (medium : Medium) (holding : Holding) (how : How) (dwell : Dwell) (from to : ℕ) → Mirrors medium holding from to → from ≤ dwell.begin → dwell.end ≤ to → (blocks : List Block)
-    → map (caught_row medium.disk holding how dwell) (filter (catches medium.disk dwell) blocks)
+    → map (delivery_by medium.disk holding how dwell) (filter (catches medium.disk dwell) blocks)
     ≡ map (λ block. delivery medium how block (block_begin medium.disk.map block dwell.begin) (block_end medium.disk.map block dwell.begin)) (filter (catches medium.disk dwell) blocks)
 caught_rows medium holding how dwell from to mirrors after before [] = refl
 caught_rows medium holding how dwell from to mirrors after before (block ∷ blocks) = elim (cases_Bool (catches medium.disk dwell block)) [
   | inl is_caught ↦
       let ends = ends_in_time medium.disk dwell block is_caught in
       let begins = begins_later medium.disk block dwell.begin in
-      let order = begins_before_end medium.disk block dwell.begin in
+      let order = ends_behind medium.disk block dwell.begin in
       rw is_caught (ap₂ (λ row rows. row ∷ rows)
       (delivery_same medium holding from to mirrors how block (block_begin medium.disk.map block dwell.begin) (block_end medium.disk.map block dwell.begin) (omega (arith, after, begins)) (omega (arith, before, ends, order)))
       (caught_rows medium holding how dwell from to mirrors after before blocks))
@@ -72,13 +57,13 @@ caught_same medium holding how dwell from to mirrors after before blocks = ap in
 
 -- what a dwell catches lies within it
 found_rows : (disk : Disk) (holding : Holding) (how : How) (dwell : Dwell) (from to : ℕ) → from ≤ dwell.begin → dwell.end ≤ to → (blocks : List Block)
-    → AllByRecursion (IsFoundIn holding from to) (map (caught_row disk holding how dwell) (filter (catches disk dwell) blocks))
+    → AllByRecursion (IsFoundIn holding from to) (map (delivery_by disk holding how dwell) (filter (catches disk dwell) blocks))
 found_rows disk holding how dwell from to after before [] = tt
 found_rows disk holding how dwell from to after before (block ∷ blocks) = elim (cases_Bool (catches disk dwell block)) [
   | inl is_caught ↦
       let ends = ends_in_time disk dwell block is_caught in
       let begins = begins_later disk block dwell.begin in
-      let order = begins_before_end disk block dwell.begin in
+      let order = ends_behind disk block dwell.begin in
       rw is_caught (record { row = refl; begin = omega (arith, after, begins); order = order; end = omega (arith, before, ends) }, found_rows disk holding how dwell from to after before blocks)
   | inr is_missed ↦ rw is_missed (found_rows disk holding how dwell from to after before blocks)
 ]
@@ -87,36 +72,6 @@ pub caught_found : (disk : Disk) (holding : Holding) (how : How) (dwell : Dwell)
     → AllByRecursion (IsFoundIn holding from to) (caught_in disk holding how dwell blocks)
 caught_found disk holding how dwell from to after before blocks = in_order-each (IsFoundIn holding from to) _ (found_rows disk holding how dwell from to after before blocks)
 
--- the sectors of a service pass one after another, between its start and its finish
-abbrev pub IsPassedBetween : List Passage → ℕ → ℕ → ℕ → ℕ → Type 0
-IsPassedBetween ps from to x y = (from ≤ begin_at ps x) × (begin_at ps x ≤ end_at ps y) × (end_at ps y ≤ to)
-
-one_later : (disk : Disk) (lbn t : ℕ) → t ≤ (passage_from disk.map lbn t).begin
-unfolding begin_from
-one_later disk lbn t = omega arith
-
-sectors_pass : (disk : Disk) (source : Track) (now : ℕ) (write : Bool) (lbn n x y : ℕ) → lbn ≤ x → x ≤ y → y < lbn + n
-    → IsPassedBetween (passages disk source now write lbn n) now (finish_of now (passages disk source now write lbn n)) x y
-unfolding passages
-sectors_pass disk source now write lbn zero x y from order to = absurd (omega arith)
-sectors_pass disk source now write lbn (suc n) x y from order to =
-    let at = now + pos disk.mechanism source (track_at disk.map lbn) write in
-    let first = passage_from disk.map lbn at in
-    let later = one_later disk lbn at in
-    let rest = passed_between disk (track_at disk.map lbn) first.end write (lbn + 1) n in
-    elim (cases_Bool (lbn == x)) [
-      | inl here ↦ elim (cases_Bool (lbn == y)) [
-        | inl both ↦ rw (here, both) (omega (arith, later), omega arith, rest.0)
-        | inr behind ↦
-            let next = sectors_pass disk (track_at disk.map lbn) first.end write (lbn + 1) n y y (grind (arith, nat_tests)) (omega arith) (omega arith) in
-            rw (here, behind) (omega (arith, later), omega (arith, next.0, next.1), next.2)
-      ]
-      | inr behind ↦
-          let other : (lbn == y) ≡ false = grind (arith, nat_tests) in
-          let next = sectors_pass disk (track_at disk.map lbn) first.end write (lbn + 1) n x y (grind (arith, nat_tests)) order (omega arith) in
-          rw (behind, other) (omega (arith, later, next.0), next.1, next.2)
-    ]
-
 -- a block that lies in a request passes with it
 block_passes : (disk : Disk) (source : Track) (start : ℕ) (request : Request) (block : Block) → 0 < block.count → lies_in request block ≡ true
     → IsPassedBetween (service disk source start request).passages start (finish (service disk source start request)) block.lbn (block.lbn + block.count - 1)
@@ -124,9 +79,6 @@ block_passes disk source start request block some lies =
     let from : request.lbn ≤ block.lbn = grind (arith, nat_tests) in
     let to : block.lbn + block.count ≤ request.lbn + request.count = grind (arith, nat_tests) in
     sectors_pass disk source start request.write request.lbn request.count block.lbn (block.lbn + block.count - 1) from (omega arith) (omega arith)
-
-abbrev ride_row : Holding → Served → Block → DeliveryRow
-ride_row holding served block = delivery_in holding ByRide block (begin_at served.passages block.lbn) (end_at served.passages (block.lbn + block.count - 1))
 
 module _ (medium : Medium) (holding : Holding) (source : Track) (start : ℕ) (request : Request) (to : ℕ) (ends : finish (service medium.disk source start request) ≤ to) where
   abbrev served : Served

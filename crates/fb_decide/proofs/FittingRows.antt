@@ -13,6 +13,7 @@ use Rattle.fb_calls.specs.Allowed as allowed
 use Rattle.fb_store.specs.declared.content.Content.{Content}
 use Rattle.fb_store.specs.declared.content.ContentRun.{ContentRun}
 use Rattle.fb_store.specs.Runs.{runs_of, with_content, same_content}
+use Rattle.fb_calls.proofs.Lists.{all_weaker}
 use Rattle.fb_wanted.specs.declared.block.Block.{Block}
 use Rattle.fb_wanted.specs.declared.block.Entry.{Entry}
 use Rattle.fb_wanted.specs.States.{is_delivered, is_wanted}
@@ -32,14 +33,13 @@ use Rattle.fb_model.specs.Completion.{Choice, choices, work, is_complete, was_co
 use Rattle.fb_model.specs.Images.{findings, is_scrub, bad_sectors, segment_rows, seal_rows, complete_rows, is_newly_cleaned, image, on_disk, test_rows, delivery_begin}
 use Rattle.fb_model.specs.Steps.{Delivery, Part, take_call, calls_due, with_delivery, with_finish, settled_past, past_after, opening, part_rows, task_row, task_rows}
 use Rattle.fb_model.specs.SoundRun.{AreFollowed}
+use Rattle.fb_model.proofs.Lists.{all_append, all_left, all_map}
 use Rattle.fb_tasks.specs.declared.session.Session.{Session}
 use Rattle.fb_tasks.specs.Telling.{Tells, IsBlockOf, calls_of}
 use Rattle.fb_tasks.proofs.Asked.{opened_same}
 use Rattle.fb_tasks.proofs.Lists.{all_any, all_filter, flat_all}
 use Rattle.fb_tasks.proofs.AllChoices.{all_range, by_all}
 use Rattle.fb_decide.specs.Deliveries.{IsRegistered}
-use Rattle.fb_decide.proofs.Readiness.{all_front}
-use Rattle.fb_decide.proofs.Passed.{all_weaker, all_append, all_map}
 use Rattle.fb_decide.proofs.Placing.{in_order-each}
 use Rattle.fb_decide.proofs.RegisteredBlocks.{all_in, registered_after, tasks_more, chosen_there}
 use Rattle.fb_decide.specs.Making.{IsMade, RowFits}
@@ -85,7 +85,7 @@ pub record PastFits (n : ℕ) (past : Past) : Type 0 where
 module _ (n : ℕ) where
   fits_before : (past : Past) (event : Event) → PastFits n (event ∷ past) → PastFits n past
   fits_before past event fits = record {
-    blocks = all_front (BlockFits n) (registered past) (registered_by event) (subst (AllByRecursion (BlockFits n)) (registered_after past event) fits.blocks);
+    blocks = all_left (BlockFits n) (registered past) (registered_by event) (subst (AllByRecursion (BlockFits n)) (registered_after past event) fits.blocks);
     few = (let few = fits.few in omega (arith, few, tasks_more past event));
   }
 

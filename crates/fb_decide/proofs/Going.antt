@@ -10,6 +10,7 @@ use Rattle.fb_geometry.specs.Shape.{Shape, IsTrackOf}
 use Rattle.fb_calls.specs.declared.call.Call.{Call}
 use Rattle.fb_calls.specs.Allowed.{AreAllowed}
 use Rattle.fb_store.specs.Index.{Holding, content_in}
+use Rattle.fb_calls.proofs.Lists.{all_weaker}
 use Rattle.fb_rows.specs.Ranges.{HasRanges}
 use Rattle.fb_rows.specs.declared.gap.Plan.{Plan}
 use Rattle.fb_rows.specs.declared.gap.Plan.TheVariants.{Direct}
@@ -20,6 +21,8 @@ use Rattle.fb_model.specs.Content.{Written, medium_of, fore_row}
 use Rattle.fb_model.specs.Decisions.{serves, idles, ends, instants_of, decisions_from, decisions, last_decision}
 use Rattle.fb_model.specs.History.{Past}
 use Rattle.fb_model.specs.Steps.{history, take_call, calls_due}
+use Rattle.fb_model.proofs.Instants.{IsAmong}
+use Rattle.fb_model.proofs.Lists.{all_append, all_left, all_right, all_map}
 use Rattle.fb_tasks.specs.Telling.{calls_of}
 use Rattle.fb_decide.specs.declared.background.Background.{Background}
 use Rattle.fb_decide.specs.declared.deciding.Course.{Course}
@@ -27,12 +30,12 @@ use Rattle.fb_decide.specs.Waiting.{left, IsWaiting, AreByArrival}
 use Rattle.fb_decide.specs.Calls.{past_settled, part_by}
 use Rattle.fb_decide.specs.Standing.{Mirrors}
 use Rattle.fb_decide.specs.Deciding.{next_of, stay_of, prepared, HasServedNext, HasStayed, HasActed, serves_pick, stays_on, stays_last, ends_here, HasPrepared, HasDecided}
-use Rattle.fb_decide.proofs.Readiness.{all_front, all_join, all_back, taken, taken_ready, start_waiting, ahead_of, plain_next, order_dropped}
+use Rattle.fb_decide.proofs.Readiness.{taken, taken_ready, start_waiting, ahead_of, plain_next, order_dropped}
 use Rattle.fb_decide.proofs.Readiness as readiness
-use Rattle.fb_decide.proofs.Passed.{all_weaker, all_append, all_map, written_after}
+use Rattle.fb_decide.proofs.Passed.{written_after}
 use Rattle.fb_decide.specs.Making.{Step, Replayed, all_writes, fore_row_of, decided_in, HasRun, GoesOn, HasEnded, HasComeTo, AreKnown, decisions_by, decisions_left, rest_by, rest_of}
 use Rattle.fb_decide.proofs.Replayed.{row_made, replayed_more}
-use Rattle.fb_decide.proofs.Instants.{IsAmong, all_of_both}
+use Rattle.fb_decide.proofs.Instants.{all_of_both}
 use Rattle.fb_decide.proofs.Decided.{serves_now, stays_next, ends_now, plain_same, starts_from, StartsFrom}
 use Rattle.fb_decide.proofs.Mirroring.{held_until, mirrors_run, all_late, served_late}
 use Rattle.fb_decide.proofs.Coming.{HasCome, to_come, among_instants, apart_instants, left_later, passed_instants, none_left, rising_instants}
@@ -112,11 +115,11 @@ module _ (inputs : Inputs) (known : AreKnown inputs) (before : Course) (pending 
   abbrev ahead : List Request
   ahead = drop joined (requests inputs)
 
-  abbrev all_left : List Request
-  all_left = left (requests inputs) joined waiting
+  abbrev left_over : List Request
+  left_over = left (requests inputs) joined waiting
 
   abbrev rest : List Served
-  rest = rest_by inputs before all_left
+  rest = rest_by inputs before left_over
 
   same_rest : rest ≡ rest_of inputs before pending
   same_rest = ap (rest_by inputs before) ready.same_left
@@ -136,7 +139,7 @@ module _ (inputs : Inputs) (known : AreKnown inputs) (before : Course) (pending 
   decided : decided_in steps ++ decisions_by inputs before rest ≡ decisions inputs
   decided = ap (λ rest. decided_in steps ++ decisions_by inputs before rest) same_rest ∙ so_far.decided
 
-  on_disk : AllByRecursion (IsRequestOf inputs.disk.map) all_left
+  on_disk : AllByRecursion (IsRequestOf inputs.disk.map) left_over
   on_disk = subst (AllByRecursion (IsRequestOf inputs.disk.map)) (sym ready.same_left) so_far.waits.on_disk
 
   not_come : AllByRecursion (λ r. before.now < r.arrival) ahead
@@ -163,19 +166,19 @@ module _ (inputs : Inputs) (known : AreKnown inputs) (before : Course) (pending 
     later = plain (length (others ++ ahead)) inputs.disk inputs.key after.head after.now (others ++ ahead)
 
     among : IsRequestOf inputs.disk.map request × (AllByRecursion (IsRequestOf inputs.disk.map) others × (length others + 1 ≡ length waiting))
-    among = taken (IsRequestOf inputs.disk.map) (inputs.key inputs.disk before.head before.now) waiting request others (all_front (IsRequestOf inputs.disk.map) waiting ahead on_disk) pick
+    among = taken (IsRequestOf inputs.disk.map) (inputs.key inputs.disk before.head before.now) waiting request others (all_left (IsRequestOf inputs.disk.map) waiting ahead on_disk) pick
 
     others_on_disk : AllByRecursion (IsRequestOf inputs.disk.map) (others ++ ahead)
-    others_on_disk = all_join (IsRequestOf inputs.disk.map) others ahead among.1.0 (all_back (IsRequestOf inputs.disk.map) waiting ahead on_disk)
+    others_on_disk = all_append (IsRequestOf inputs.disk.map) others ahead among.1.0 (all_right (IsRequestOf inputs.disk.map) waiting ahead on_disk)
 
-    size : length all_left ≡ suc (length (others ++ ahead))
+    size : length left_over ≡ suc (length (others ++ ahead))
     size = omega (arith, length-append waiting ahead, length-append others ahead, among.1.1)
 
     first_served : rest ≡ this ∷ plain (length (others ++ ahead)) inputs.disk inputs.key (last_track inputs.disk this) (finish this) (others ++ ahead)
     first_served =
-        let start : before.now ≡ start_of before.now all_left = sym (start_waiting before.now waiting ahead (omega (arith, among.1.1)) ready.arrived) in
-        ap (λ n. plain n inputs.disk inputs.key before.head before.now all_left) size
-        ∙ plain_next (length (others ++ ahead)) inputs.disk inputs.key before.head before.now all_left before.now request (others ++ ahead) start
+        let start : before.now ≡ start_of before.now left_over = sym (start_waiting before.now waiting ahead (omega (arith, among.1.1)) ready.arrived) in
+        ap (λ n. plain n inputs.disk inputs.key before.head before.now left_over) size
+        ∙ plain_next (length (others ++ ahead)) inputs.disk inputs.key before.head before.now left_over before.now request (others ++ ahead) start
         (taken_ready (inputs.key inputs.disk before.head before.now) before.now waiting ahead request others ready.arrived not_come pick)
 
     to_head : rest ≡ this ∷ plain (length (others ++ ahead)) inputs.disk inputs.key after.head (finish this) (others ++ ahead)
@@ -262,28 +265,28 @@ module _ (inputs : Inputs) (known : AreKnown inputs) (before : Course) (pending 
     less : before.now < instant
     less = to_come inputs before.now joined called come instant next
 
-    order_left : AreByArrival all_left
+    order_left : AreByArrival left_over
     order_left = subst (λ ws. AreByArrival (ws ++ ahead)) (sym empty) (order_dropped joined (requests inputs) known.list.order)
 
-    late_left : AllByRecursion (λ r. instant ≤ r.arrival) all_left
+    late_left : AllByRecursion (λ r. instant ≤ r.arrival) left_over
     late_left = subst (λ ws. AllByRecursion (λ r. instant ≤ r.arrival) (ws ++ ahead)) (sym empty) (left_later inputs before.now joined called come instant next)
 
     abbrev rest_then : List Served
-    rest_then = plain (length all_left) inputs.disk inputs.key before.head instant all_left
+    rest_then = plain (length left_over) inputs.disk inputs.key before.head instant left_over
 
     same_then : rest ≡ rest_then
-    same_then = plain_same (length all_left) inputs.disk inputs.key before.head before.now instant all_left (omega (arith, less)) order_left late_left
+    same_then = plain_same (length left_over) inputs.disk inputs.key before.head before.now instant left_over (omega (arith, less)) order_left late_left
 
     same_after : rest_then ≡ rest_of inputs after waiting
     same_after =
-        ap (λ head. plain (length all_left) inputs.disk inputs.key head instant all_left) (sym stayed.same_head)
-        ∙ ap (λ t. plain (length all_left) inputs.disk inputs.key after.head t all_left) (sym stayed.until)
+        ap (λ head. plain (length left_over) inputs.disk inputs.key head instant left_over) (sym stayed.same_head)
+        ∙ ap (λ t. plain (length left_over) inputs.disk inputs.key after.head t left_over) (sym stayed.until)
         ∙ ap (λ n. rest_by inputs after (waiting ++ drop n (requests inputs))) (sym stayed.same_joined)
 
     mirrors_stay : Mirrors (medium_of inputs) before.store before.now instant
     mirrors_stay = mirrors_run inputs run.done rest before.now instant before.store run.replayed
         (subst (λ services. AllByRecursion (λ (w : Written). instant < w.passage.end) (all_writes services)) (sym same_then)
-        (all_late (length all_left) inputs.disk known.takes_time inputs.key before.head instant all_left on_disk))
+        (all_late (length left_over) inputs.disk known.takes_time inputs.key before.head instant left_over on_disk))
 
     abbrev step_stay : Step
     step_stay = (
@@ -301,7 +304,7 @@ module _ (inputs : Inputs) (known : AreKnown inputs) (before : Course) (pending 
     next_stay =
         stays_next inputs.disk (instants_of inputs) inputs.until before.head before.now instant rest less (rising_instants inputs before.now joined called come)
         (among_instants inputs before.now joined called come instant next) (apart_instants inputs before.now joined called come instant next)
-        (subst (StartsFrom instant) (sym same_then) (starts_from (length all_left) inputs.disk inputs.key before.head instant all_left))
+        (subst (StartsFrom instant) (sym same_then) (starts_from (length left_over) inputs.disk inputs.key before.head instant left_over))
         ∙ ap (λ services. step_stay.0 ∷ decisions_from inputs.disk (instants_of inputs) inputs.until before.head instant services) (same_then ∙ same_after)
         ∙ ap (λ head. step_stay.0 ∷ decisions_from inputs.disk (instants_of inputs) inputs.until head instant (rest_of inputs after waiting)) (sym stayed.same_head)
         ∙ ap (λ t. step_stay.0 ∷ decisions_from inputs.disk (instants_of inputs) inputs.until after.head t (rest_of inputs after waiting)) (sym stayed.until)
@@ -340,7 +343,7 @@ module _ (inputs : Inputs) (known : AreKnown inputs) (before : Course) (pending 
   -- nothing is to come: the head stays until the end, or the run ends
   module _ (empty : waiting ≡ []) (next : next_of (slice_get (requests inputs) joined) (slice_get inputs.calls called) ≡ None) where
     no_rest : rest ≡ []
-    no_rest = readiness.none_left (length all_left) inputs.disk inputs.key before.head before.now all_left
+    no_rest = readiness.none_left (length left_over) inputs.disk inputs.key before.head before.now left_over
         (ap length (ap (λ ws. ws ++ ahead) empty ∙ none_left inputs before.now joined called come next))
 
     last_is : decisions_by inputs before rest ≡ last_decision before.head before.now inputs.until ∷ []

@@ -7,35 +7,9 @@ use Rattle.std.proofs.lemmas.Bool.Decides.{nat_tests}
 use Rattle.fb_units.specs.declared.types.Track.{Track}
 use Rattle.fb_units.specs.Rising.{IsRising}
 use Rattle.fb_model.specs.Decisions.{idles, among, idle_until}
-use Rattle.fb_decide.proofs.Passed.{all_weaker}
-
--- one of these instants
-abbrev pub IsAmong : ℕ → List ℕ → Type 0
-IsAmong t [] = ⊥
-IsAmong t (x ∷ xs) = (x ≡ t) ⊎ IsAmong t xs
+use Rattle.fb_model.proofs.Instants.{IsAmong, all_among, was_all_among}
 
 -- ---- an instant comes among others
-
-all_among : (P : ℕ → Type 0) (xs : List ℕ) (t : ℕ) → AllByRecursion P xs → P t → AllByRecursion P (among xs t)
-all_among P [] t all h = (h, tt)
-all_among P (x ∷ xs) t all h = elim (cases_Bool (nat_le x t)) [
-  | inl first ↦ rw first (all.0, all_among P xs t all.1 h)
-  | inr later ↦ rw later (h, all)
-]
-
-rising_among : (xs : List ℕ) (t : ℕ) → IsRising xs → IsRising (among xs t)
-rising_among [] t rising = (tt, tt)
-rising_among (x ∷ xs) t rising = elim (cases_Bool (nat_le x t)) [
-  | inl first ↦ rw first (all_among (λ later. x ≤ later) xs t rising.0 (grind (arith, nat_tests)), rising_among xs t rising.1)
-  | inr later ↦ rw later (let less : t ≤ x = grind (arith, nat_tests) in ((less, all_weaker (λ y. x ≤ y) (λ y. t ≤ y) (λ y h. omega (arith, h, less)) xs rising.0), rising))
-]
-
-was_among : (u : ℕ) (xs : List ℕ) (t : ℕ) → IsAmong u xs → IsAmong u (among xs t)
-was_among u [] t there = absurd there
-was_among u (x ∷ xs) t there = elim (cases_Bool (nat_le x t)) [
-  | inl first ↦ rw first (elim there [ inl here ↦ inl here | inr rest ↦ inr (was_among u xs t rest) ])
-  | inr later ↦ rw later (inr there)
-]
 
 itself_among : (xs : List ℕ) (t : ℕ) → IsAmong t (among xs t)
 itself_among [] t = inl refl
@@ -50,18 +24,10 @@ pub all_of_both : (P : ℕ → Type 0) (ts xs : List ℕ) → AllByRecursion P x
 all_of_both P [] xs all more = all
 all_of_both P (t ∷ ts) xs all more = all_of_both P ts (among xs t) (all_among P xs t all more.0) more.1
 
-pub rising_of_both : (ts xs : List ℕ) → IsRising xs → IsRising (fold among xs ts)
-rising_of_both [] xs rising = rising
-rising_of_both (t ∷ ts) xs rising = rising_of_both ts (among xs t) (rising_among xs t rising)
-
-pub one_of_first : (u : ℕ) (ts xs : List ℕ) → IsAmong u xs → IsAmong u (fold among xs ts)
-one_of_first u [] xs there = there
-one_of_first u (t ∷ ts) xs there = one_of_first u ts (among xs t) (was_among u xs t there)
-
 pub one_of_second : (u : ℕ) (ts xs : List ℕ) → IsAmong u ts → IsAmong u (fold among xs ts)
 one_of_second u [] xs there = absurd there
 one_of_second u (t ∷ ts) xs there = elim there [
-  | inl here ↦ one_of_first u ts (among xs t) (subst (λ v. IsAmong v (among xs t)) here (itself_among xs t))
+  | inl here ↦ was_all_among u ts (among xs t) (subst (λ v. IsAmong v (among xs t)) here (itself_among xs t))
   | inr rest ↦ one_of_second u ts (among xs t) rest
 ]
 

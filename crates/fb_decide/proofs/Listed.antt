@@ -13,9 +13,9 @@ use Rattle.fb_model.specs.Inputs.{Inputs, requests}
 use Rattle.fb_model.specs.Foreground.{behind, read_of, promoted_from, promoted}
 use Rattle.fb_model.specs.Accepted.{IsAccepted, IsRequestOf}
 use Rattle.fb_model.specs.Laws.{ForegroundListsAscend}
+use Rattle.fb_model.proofs.Passages.{all_requests}
+use Rattle.fb_model.proofs.Lists.{all_append}
 use Rattle.fb_decide.specs.Waiting.{IsForegroundOf}
-use Rattle.fb_decide.proofs.Passed.{all_append}
-use Rattle.fb_decide.proofs.OnDisk.{lie_all}
 use Rattle.fb_decide.proofs.Replayed.{in_order}
 
 read_on_disk : (disk : Shape) (before : List Call) (n : ℕ) (call : Call) (action : Action) → call.instant ≤ 10 ^ 15 → MayAsk disk before call.task action → AllByRecursion (IsRequestOf disk) (read_of n call action)
@@ -42,6 +42,6 @@ length_listed (read ∷ reads) list = omega (arith, length_listed reads (behind 
 pub listed : (inputs : Inputs) → ForegroundListsAscend → IsAccepted inputs → IsForegroundOf inputs.disk (requests inputs)
 listed inputs lists accepted = record {
   order = in_order (requests inputs) (lists inputs accepted).ascend;
-  on_disk = lie_all (IsRequestOf inputs.disk.map) (promoted inputs.calls) inputs.trace accepted.requests (reads_on_disk inputs.disk.map [] inputs.calls 1 accepted.calls);
+  on_disk = all_requests (IsRequestOf inputs.disk.map) (promoted inputs.calls) inputs.trace accepted.requests (reads_on_disk inputs.disk.map [] inputs.calls 1 accepted.calls);
   few = omega (arith, length_listed (promoted inputs.calls) inputs.trace, accepted.few_requests);
 }

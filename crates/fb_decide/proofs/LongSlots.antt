@@ -6,7 +6,7 @@ use Rattle.fb_geometry.specs.Sound.{IsSound}
 use Rattle.fb_sectormap.proofs.ByCylinder.{has_place}
 use Rattle.fb_service.specs.Passing.{length_of}
 use Rattle.fb_model.specs.Laws.{SlotsCoverRotation}
-use Rattle.fb_decide.proofs.OnDisk.{slots_short}
+use Rattle.fb_model.proofs.Passages.{slots_short}
 use Rattle.fb_decide.specs.Deciding.{PassagesTakeTime}
 
 pub long_slots : (disk : Shape) → IsSound disk → SlotsCoverRotation → PassagesTakeTime disk

@@ -16,15 +16,19 @@ use Rattle.fb_service.specs.declared.passage.Passage.{Passage}
 use Rattle.fb_service.specs.Service.{passages, passage_from, finish_of, media_of}
 use Rattle.fb_store.specs.Writes.{unwritten}
 use Rattle.fb_store.specs.Index.{Holding}
+use Rattle.fb_calls.proofs.Lists.{all_weaker}
 use Rattle.fb_model.specs.PlainReplay.{Key, Served, plain, service, media, finish, last_track, start_of, has_arrived, better, kept, pick_with, first_ready}
 use Rattle.fb_model.specs.Accepted.{IsRequestOf}
 use Rattle.fb_model.specs.Inputs.{Inputs, served}
 use Rattle.fb_model.specs.Content.{Written, medium_of, writes_of, number_of, content, content_by}
+use Rattle.fb_model.proofs.Passages.{passed_between, written_by}
+use Rattle.fb_model.proofs.Lists.{all_both, all_append, all_map}
+use Rattle.fb_model.proofs.ContentsUpTo.{is_of_by}
 use Rattle.fb_decide.specs.Deciding.{PassagesTakeTime}
 use Rattle.fb_decide.specs.Standing.{Mirrors}
-use Rattle.fb_decide.proofs.Passed.{all_weaker, all_both, all_append, all_map, passed_between, written_by, start_after}
+use Rattle.fb_decide.proofs.Passed.{start_after}
 use Rattle.fb_decide.specs.Making.{Replayed, all_writes, held_after}
-use Rattle.fb_decide.proofs.Replayed.{medium_by, is_of_by, ended_by, not_yet}
+use Rattle.fb_decide.proofs.Replayed.{medium_by, ended_by, not_yet}
 
 -- ---- passages take time
 

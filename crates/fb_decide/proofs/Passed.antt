@@ -11,49 +11,15 @@ use Rattle.fb_seek.specs.Positioning.{pos}
 use Rattle.fb_sectormap.specs.Lookup.{track_at}
 use Rattle.fb_service.specs.declared.disk.Disk.{Disk}
 use Rattle.fb_service.specs.declared.passage.Passage.{Passage}
-use Rattle.fb_service.specs.Passing.{begin_from}
 use Rattle.fb_service.specs.Service.{passages, finish_of, passage_from}
 use Rattle.fb_store.specs.declared.content.Content.{Content}
 use Rattle.fb_store.specs.declared.content.Content.TheVariants.{Filled}
 use Rattle.fb_store.specs.Writes.{is_within}
+use Rattle.fb_calls.proofs.Lists.{all_weaker}
 use Rattle.fb_model.specs.PlainReplay.{Key, plain, service, start_of, has_arrived, first_ready, last_track, finish}
 use Rattle.fb_model.specs.Content.{Written, writes_of, number_of, content_by}
-
-pub all_weaker : {X : Type 0} (P Q : X → Type 0) → ((x : X) → P x → Q x) → (xs : List X) → AllByRecursion P xs → AllByRecursion Q xs
-all_weaker P Q f [] all = tt
-all_weaker P Q f (x ∷ xs) all = (f x all.0, all_weaker P Q f xs all.1)
-
-pub all_both : {X : Type 0} (P Q : X → Type 0) (xs : List X) → AllByRecursion P xs → AllByRecursion Q xs → AllByRecursion (λ x. P x × Q x) xs
-all_both P Q [] a b = tt
-all_both P Q (x ∷ xs) a b = ((a.0, b.0), all_both P Q xs a.1 b.1)
-
-pub all_append : {X : Type 0} (P : X → Type 0) (xs ys : List X) → AllByRecursion P xs → AllByRecursion P ys → AllByRecursion P (xs ++ ys)
-all_append P [] ys a b = b
-all_append P (x ∷ xs) ys a b = (a.0, all_append P xs ys a.1 b)
-
-pub all_map : {X Y : Type 0} (P : Y → Type 0) (f : X → Y) (xs : List X) → AllByRecursion (λ x. P (f x)) xs → AllByRecursion P (map f xs)
-all_map P f [] all = tt
-all_map P f (x ∷ xs) all = (all.0, all_map P f xs all.1)
-
--- a slot begins no earlier than it is waited for
-pub from_on : (disk : Disk) (lbn t : ℕ) → t ≤ (passage_from disk.map lbn t).begin
-unfolding begin_from
-from_on disk lbn t = omega arith
-
--- every passage begins after the way to it and ends by the finish
-pub passed_between : (disk : Disk) (source : Track) (now : ℕ) (write : Bool) (lbn n : ℕ)
-    → (now ≤ finish_of now (passages disk source now write lbn n))
-    × AllByRecursion (λ (p : Passage). (now ≤ p.begin) × (p.begin ≤ p.end) × (p.end ≤ finish_of now (passages disk source now write lbn n))) (passages disk source now write lbn n)
-unfolding passages
-passed_between disk source now write lbn zero = (omega arith, tt)
-passed_between disk source now write lbn (suc n) =
-    let begins = from_on disk lbn (now + pos disk.mechanism source (track_at disk.map lbn) write) in
-    let rest = passed_between disk (track_at disk.map lbn) (passage_from disk.map lbn (now + pos disk.mechanism source (track_at disk.map lbn) write)).end write (lbn + 1) n in
-    (omega (arith, begins, rest.0), ((omega (arith, begins), omega arith, rest.0), all_weaker _ _ (λ p h. (omega (arith, begins, h.0), h.1, h.2)) _ rest.1))
-
--- the passages by which a write leaves its number, and no others
-abbrev pub written_by : ℕ → Passage → Written
-written_by writer passage = record { writer = writer; passage = passage }
+use Rattle.fb_model.proofs.Passages.{passed_between, written_by}
+use Rattle.fb_model.proofs.Lists.{all_append, all_map}
 
 not_come : (now : ℕ) (request : Request) (left : List Request) → list_any (has_arrived now) (request ∷ left) ≡ false → now ≤ request.arrival
 not_come now request left none = elim (cases_lt now request.arrival) [

@@ -1,5 +1,5 @@
 -- Deliveries in their order are those of the catches in their order; none is lost, and none is added.
-use Rattle.std.proofs.Common.{◌≡◌, ℕ, suc, ◌+◌, ◌||◌, not, List, [], ◌∷◌, ◌++◌, Bool, true, false, filter, map, take, drop, inl, inr, refl, ap, sym, ◌∙◌, subst, arith}
+use Rattle.std.proofs.Common.{◌≡◌, suc, ◌||◌, not, List, [], ◌∷◌, Bool, true, false, filter, map, inl, inr, refl, ap, sym, ◌∙◌, subst}
 use Rattle.std.specs.List.{AllByRecursion, list_any, fold}
 use Rattle.std.proofs.lemmas.Bool.{cases_Bool}
 use Rattle.fb_wanted.specs.declared.block.Block.{Block}
@@ -13,24 +13,12 @@ use Rattle.fb_model.specs.Plans.{catches, block_begin, block_end}
 use Rattle.fb_model.specs.Rides as rides
 use Rattle.fb_model.specs.Rides.{placed, in_order, missed}
 use Rattle.fb_plan.specs.declared.catching.Catch.{Catch}
-use Rattle.fb_plan.specs.Order.{is_before, slot_of, place_in, catch_of, caught_of}
+use Rattle.fb_plan.specs.Order.{is_before, place_in, catch_of, caught_of}
+use Rattle.fb_plan.proofs.Sorted.{put_front, put_behind}
 use Rattle.fb_tasks.proofs.Lists.{all_map, all_weaker, filter_same, filter_from}
 use Rattle.fb_decide.specs.Deliveries.{AreDistinct, AreDue, IsOneOf, block_in, row_in, delivery_in, caught_in, past_with}
 use Rattle.fb_decide.proofs.Distinct.{itself, either_way, filter-distinct}
 use Rattle.fb_decide.proofs.Delivering.{none_of, wanted-with}
-
-one_plus : (n : ℕ) → 1 + n ≡ suc n
-one_plus n = omega arith
-
-pub put_front : (x c : Catch) (xs : List Catch) → is_before c x ≡ true → place_in (x ∷ xs) c ≡ c ∷ x ∷ xs
-put_front x c xs h =
-    let slot : slot_of (x ∷ xs) c ≡ 0 = rw h refl in
-    ap (λ n. take n (x ∷ xs) ++ c ∷ drop n (x ∷ xs)) slot
-
-pub put_behind : (x c : Catch) (xs : List Catch) → is_before c x ≡ false → place_in (x ∷ xs) c ≡ x ∷ place_in xs c
-put_behind x c xs h =
-    let slot : slot_of (x ∷ xs) c ≡ 1 + slot_of xs c = rw h refl in
-    ap (λ n. take n (x ∷ xs) ++ c ∷ drop n (x ∷ xs)) (slot ∙ one_plus (slot_of xs c))
 
 abbrev goes_before : DeliveryRow → DeliveryRow → Bool
 goes_before a b = rides.is_before a.end a.block b.end b.block
@@ -50,7 +38,7 @@ rows-placed holding how acc (c ∷ cs) = rows-placed holding how (place_in acc c
 pub rows-in_order : (holding : Holding) (how : How) (cs : List Catch) → map (row_in holding how) (fold place_in [] cs) ≡ in_order (map (row_in holding how) cs)
 rows-in_order holding how cs = rows-placed holding how [] cs
 
-abbrev delivery_by : Disk → Holding → How → Dwell → Block → DeliveryRow
+abbrev pub delivery_by : Disk → Holding → How → Dwell → Block → DeliveryRow
 delivery_by disk holding how dwell block = delivery_in holding how block (block_begin disk.map block dwell.begin) (block_end disk.map block dwell.begin)
 
 rows_by : (disk : Disk) (holding : Holding) (how : How) (dwell : Dwell) (bs : List Block) → map (row_in holding how) (map (catch_of disk dwell) bs) ≡ map (delivery_by disk holding how dwell) bs

@@ -19,10 +19,13 @@ use Rattle.fb_model.specs.Decisions.{Decision, serves, idles, ends, end_of, deci
 use Rattle.fb_model.specs.History.{Past}
 use Rattle.fb_model.specs.Steps.{Part, past_after, steps, AtEach, opening, part_rows, task_rows}
 use Rattle.fb_model.specs.SoundRun.{IsPlanned, HasPlan, IsTested, Throughout}
-use Rattle.fb_decide.proofs.Ways.{Leads, lead_on, lead_gap, lead_service, lead_stay}
+use Rattle.fb_model.proofs.Leads.{Leads, lead_on, lead_gap, lead_stay}
+use Rattle.fb_model.proofs.RowsUpTo.{delivered_rows}
+use Rattle.fb_model.proofs.Passages.{LiesOnDisk, requests_lie}
+use Rattle.fb_decide.proofs.Ways.{lead_service}
 use Rattle.fb_decide.proofs.Chain.{Follow, services, decisions_follow}
-use Rattle.fb_decide.proofs.OnDisk.{LiesOnDisk, requests_lie, have_angles}
-use Rattle.fb_decide.proofs.QuietRows.{IsQuiet, quiet_before, all_quiet, tasks_quiet, delivered_rows, IsQuietPart, quiet_part}
+use Rattle.fb_decide.proofs.OnDisk.{have_angles}
+use Rattle.fb_decide.proofs.QuietRows.{IsQuiet, quiet_before, all_quiet, tasks_quiet, IsQuietPart, quiet_part}
 
 -- ---- one decision
 

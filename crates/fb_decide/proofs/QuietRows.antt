@@ -5,7 +5,7 @@ use Rattle.std.specs.List.{AllByRecursion, flat_map}
 use Rattle.fb_service.specs.declared.disk.Disk.{Disk}
 use Rattle.fb_rows.specs.declared.fore.ForeRow.{ForeRow}
 use Rattle.fb_rows.specs.declared.back.BackRow.{BackRow}
-use Rattle.fb_rows.specs.declared.back.BackRow.TheVariants.{Gap as GapLine, Idle as IdleLine, Got as GotLine, Bad as BadLine, Seal as SealLine, Segment as SegmentLine, Complete as CompleteLine}
+use Rattle.fb_rows.specs.declared.back.BackRow.TheVariants.{Gap as GapLine, Idle as IdleLine, Bad as BadLine, Seal as SealLine, Segment as SegmentLine, Complete as CompleteLine}
 use Rattle.fb_rows.specs.declared.back.DeliveryRow.{DeliveryRow}
 use Rattle.fb_model.specs.Inputs.{Inputs}
 use Rattle.fb_model.specs.Content.{Medium}
@@ -17,7 +17,8 @@ use Rattle.fb_model.specs.Segments.{live_count}
 use Rattle.fb_model.specs.Images.{Sources, bad_sectors, is_scrub, findings, is_newly_cleaned, on_disk, segment_rows, seal_rows, complete_rows, test_rows}
 use Rattle.fb_model.specs.Steps.{Delivery, Part, with_delivery, tested_past, settled_past, task_row, task_rows}
 use Rattle.fb_model.specs.SoundRun.{AreFollowed, IsTested}
-use Rattle.fb_decide.proofs.Passed.{all_append}
+use Rattle.fb_model.proofs.RowsUpTo.{delivered_rows}
+use Rattle.fb_model.proofs.Lists.{all_append}
 
 -- no gap row and no idle row
 abbrev pub IsQuiet : BackRow → Type 0
@@ -88,9 +89,6 @@ unfolding task_rows
 tasks_quiet past = counts_quiet past (task_numbers past)
 
 -- ---- a decision's rows beside the one that opens it
-
-abbrev pub delivered_rows : List Delivery → List BackRow
-delivered_rows deliveries = flat_map (λ delivery. GotLine delivery.got ∷ delivery.after) deliveries
 
 pub record IsQuietPart (part : Part) : Type 0 where
   pub settled : AllByRecursion IsQuiet part.settled

@@ -97,22 +97,6 @@ pub plain_next : (n : ℕ) (disk : Disk) (key : Key) (head : Track) (now : ℕ) 
 unfolding plain
 plain_next n disk key head now left start pick rest e f = rw (← e) (rw f refl)
 
-pub all_front : {X : Type 0} (P : X → Type 0) (xs ys : List X) → AllByRecursion P (xs ++ ys) → AllByRecursion P xs
-all_front P [] ys all = tt
-all_front P (x ∷ xs) ys all = (all.0, all_front P xs ys all.1)
-
-pub all_back : {X : Type 0} (P : X → Type 0) (xs ys : List X) → AllByRecursion P (xs ++ ys) → AllByRecursion P ys
-all_back P [] ys all = all
-all_back P (x ∷ xs) ys all = all_back P xs ys all.1
-
-pub all_join : {X : Type 0} (P : X → Type 0) (xs ys : List X) → AllByRecursion P xs → AllByRecursion P ys → AllByRecursion P (xs ++ ys)
-all_join P [] ys a b = b
-all_join P (x ∷ xs) ys a b = (a.0, all_join P xs ys a.1 b)
-
-pub all_weaker : {X : Type 0} (P Q : X → Type 0) → ((x : X) → P x → Q x) → (xs : List X) → AllByRecursion P xs → AllByRecursion Q xs
-all_weaker P Q f [] all = tt
-all_weaker P Q f (x ∷ xs) all = (f x all.0, all_weaker P Q f xs all.1)
-
 not_none : (n : ℕ) → true ≡ (suc n == 0) → ⊥
 not_none n e = grind (arith, nat_tests)
 

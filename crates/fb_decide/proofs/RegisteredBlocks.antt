@@ -10,12 +10,13 @@ use Rattle.fb_calls.specs.declared.call.Action.{Action}
 use Rattle.fb_calls.specs.declared.call.Action.TheVariants.{Open}
 use Rattle.fb_model.specs.History.{Event, called, chose, tested, delivered, finished, Past, tasks, opened_by, registered, registered_by, blocks_of, same_block}
 use Rattle.fb_model.specs.Completion.{Choice, choices, view}
+use Rattle.fb_model.proofs.Views.{number_same}
 use Rattle.fb_tasks.specs.declared.session.Session.{Session}
 use Rattle.fb_tasks.specs.Standing.{AreIndexed, IsBlockOf}
 use Rattle.fb_tasks.specs.Telling.{Tells}
 use Rattle.fb_decide.specs.Deliveries.{IsRegistered}
-use Rattle.fb_tasks.proofs.Lists.{some_same, some_at, all_at, all_weaker, all_append, all_flat, filter_to, same_number, number_same}
-use Rattle.fb_tasks.proofs.Registered.{own}
+use Rattle.fb_tasks.proofs.Lists.{some_same, some_at, all_at, all_weaker, all_append, all_flat, filter_to, same_number}
+use Rattle.fb_tasks.proofs.Registered.{own, itself}
 
 -- an element of a list
 abbrev pub IsIn : {X : Type 0} → List X → X → Type 0
@@ -44,9 +45,6 @@ each_in (x ∷ xs) = ((zero, refl), all_weaker (IsIn xs) (IsIn (x ∷ xs)) (λ y
 
 pub all_in : {X : Type 0} (P : X → Type 0) (xs : List X) (x : X) → AllByRecursion P xs → IsIn xs x → P x
 all_in P xs x all there = all_at P xs there.0 x all there.1
-
-pub itself : (block : Block) → same_block block block ≡ true
-itself block = rw (number_same block.task block.task refl, number_same block.index block.index refl) refl
 
 -- a block among others is the same as one of them
 pub in_any : (blocks : List Block) (i : ℕ) (block : Block) → slice_get blocks i ≡ Some block → list_any (same_block block) blocks ≡ true

@@ -1,6 +1,6 @@
 -- How far the plain replay has come: the services so far, their rows, and what they left on the disk.
 use Rattle.std.proofs.Common.{◌≡◌, ℕ, zero, suc, ◌+◌, ◌<◌, ◌≤◌, List, [], ◌∷◌, ◌++◌, map, Bool, true, false, refl, ap, sym, ◌∙◌, arith, Option, None, inl, inr, subst, append-nil}
-use Rattle.std.specs.Prelude.{nat_le, ◌==◌, ◌&&◌, filter, if◌then◌else◌}
+use Rattle.std.specs.Prelude.{nat_le, ◌==◌, filter, if◌then◌else◌}
 use Rattle.std.specs.List.{AllByRecursion, last_or, range_with_len}
 use Rattle.std.proofs.lemmas.Bool.{cases_Bool}
 use Rattle.std.proofs.lemmas.Bool.Decides.{nat_tests}
@@ -18,24 +18,25 @@ use Rattle.fb_store.specs.declared.content.ContentRun.{ContentRun}
 use Rattle.fb_store.specs.Runs.{runs_of, bad_of}
 use Rattle.fb_store.specs.Writes.{unwritten}
 use Rattle.fb_store.specs.Index.{Holding, content_in}
+use Rattle.fb_calls.proofs.Lists.{all_weaker}
 use Rattle.fb_rows.specs.declared.fore.ForeRow.{ForeRow}
 use Rattle.fb_model.specs.PlainReplay.{Served, service, media, finish}
 use Rattle.fb_model.specs.Accepted.{IsRising}
 use Rattle.fb_model.specs.Content.{Written, Medium, writes_of, number_of, content, content_by, found, fore_row}
+use Rattle.fb_model.proofs.Passages.{passed_between, written_by}
+use Rattle.fb_model.proofs.Lists.{all_both, all_append}
+use Rattle.fb_model.proofs.ContentsUpTo.{is_of_by}
 use Rattle.fb_decide.specs.Waiting.{AreByArrival}
 use Rattle.fb_decide.specs.Contents.{found_in, left_by, IsRowOf}
 use Rattle.fb_decide.specs.Making.{all_writes, held_after, Replayed}
 use Rattle.fb_decide.proofs.Readiness.{one_more}
-use Rattle.fb_decide.proofs.Passed.{all_weaker, all_both, all_append, passed_between, written_by, written_between, last_joined, own_writes}
+use Rattle.fb_decide.proofs.Passed.{written_between, last_joined, own_writes}
 
 abbrev pub medium_by : Disk → List ℕ → List Served → Medium
 medium_by disk latent whole = record { disk = disk; latent = latent; writes = all_writes whole }
 
 abbrev is_of : ℕ → Written → Bool
 is_of lbn write = write.passage.lbn == lbn
-
-abbrev pub is_of_by : ℕ → ℕ → Written → Bool
-is_of_by lbn t write = (write.passage.lbn == lbn) && nat_le write.passage.end t
 
 -- writes that ended by then are those of the sector
 pub ended_by : (lbn t : ℕ) (writes : List Written) → AllByRecursion (λ (w : Written). w.passage.end ≤ t) writes → filter (is_of_by lbn t) writes ≡ filter (is_of lbn) writes

@@ -21,7 +21,7 @@ use Rattle.fb_decide.specs.Carried.{ride_of, carried_of, AreExtents, IsWholeBloc
 use Rattle.fb_decide.specs.Deliveries.{AreDistinct, AreDue, row_in, delivery_in, rides_in}
 use Rattle.fb_decide.proofs.Placing.{rows-in_order, due-filtered}
 
-abbrev ride_row : Holding → Served → Block → DeliveryRow
+abbrev pub ride_row : Holding → Served → Block → DeliveryRow
 ride_row holding served block = delivery_in holding ByRide block (begin_at served.passages block.lbn) (end_at served.passages (block.lbn + block.count - 1))
 
 rows_by : (holding : Holding) (served : Served) (bs : List Block) → map (row_in holding ByRide) (map (ride_of served.passages) bs) ≡ map (ride_row holding served) bs

@@ -12,6 +12,7 @@ use Rattle.fb_service.specs.declared.passage.Extent.{Extent}
 use Rattle.fb_service.specs.Service.{passages, media_of, finish_of, passage_from}
 use Rattle.fb_service.specs.Extents.{passages_of, all_passages_of, FollowOn, IsUnbroken}
 use Rattle.fb_store.specs.Index.{Holding}
+use Rattle.fb_calls.proofs.Lists.{all_weaker}
 use Rattle.fb_wanted.specs.declared.block.Block.{Block}
 use Rattle.fb_rows.specs.declared.gap.Gap.{Gap}
 use Rattle.fb_rows.specs.declared.gap.Plan.{Plan}
@@ -23,11 +24,12 @@ use Rattle.fb_model.specs.History.{Past, finished, wanted}
 use Rattle.fb_model.specs.PlainReplay.{Served, service, target}
 use Rattle.fb_model.specs.Plans.{IsBest, early_dwell, late_dwell}
 use Rattle.fb_model.specs.Rides.{gap_of, missed}
+use Rattle.fb_model.proofs.Passages.{from_on, passed_between}
+use Rattle.fb_model.proofs.Lists.{all_left, all_right}
 use Rattle.fb_plan.specs.Ways.{IsGap}
 use Rattle.fb_tasks.specs.Telling.{Tells}
 use Rattle.fb_decide.specs.declared.background.Background.{Background}
 use Rattle.fb_decide.specs.Deliveries.{IsCurrent, HasDelivered, HasServed, caught_in, rides_in, due_in, followed, past_with, rows_of}
-use Rattle.fb_decide.proofs.Passed.{from_on, passed_between, all_weaker}
 use Rattle.fb_decide.proofs.Delivering.{delivered-join}
 
 abbrev pub gap_from : Track → ℕ → Bool → Track → ℕ → Gap
@@ -60,20 +62,12 @@ first_begins : (f : ℕ → Passage) (n from to most : ℕ) → 0 < n → Follow
 first_begins f zero from to most some follow all = absurd (omega arith)
 first_begins f (suc n) from to most some follow all = omega (arith, follow.0, all.0)
 
-front : {X : Type 0} (P : X → Type 0) (xs ys : List X) → AllByRecursion P (xs ++ ys) → AllByRecursion P xs
-front P [] ys all = tt
-front P (x ∷ xs) ys all = (all.0, front P xs ys all.1)
-
-rest : {X : Type 0} (P : X → Type 0) (xs ys : List X) → AllByRecursion P (xs ++ ys) → AllByRecursion P ys
-rest P [] ys all = all
-rest P (x ∷ xs) ys all = rest P xs ys all.1
-
 extents_begin : (disk : Shape) (extents : List Extent) (most : ℕ) → AllByRecursion (IsUnbroken disk) extents → AllByRecursion (λ (p : Passage). p.begin ≤ most) (all_passages_of disk extents)
     → AllByRecursion (λ (e : Extent). e.begin ≤ most) extents
 extents_begin disk [] most unbroken all = tt
 extents_begin disk (e ∷ es) most unbroken all = (
-  first_begins (λ i. passage_from disk (e.first + i) e.begin) e.count e.begin e.end most unbroken.0.some unbroken.0.without_wait (front (λ (p : Passage). p.begin ≤ most) (passages_of disk e) (all_passages_of disk es) all),
-  extents_begin disk es most unbroken.1 (rest (λ (p : Passage). p.begin ≤ most) (passages_of disk e) (all_passages_of disk es) all),
+  first_begins (λ i. passage_from disk (e.first + i) e.begin) e.count e.begin e.end most unbroken.0.some unbroken.0.without_wait (all_left (λ (p : Passage). p.begin ≤ most) (passages_of disk e) (all_passages_of disk es) all),
+  extents_begin disk es most unbroken.1 (all_right (λ (p : Passage). p.begin ≤ most) (passages_of disk e) (all_passages_of disk es) all),
 )
 
 -- no extent begins later than the service ends

@@ -2,6 +2,7 @@
 use Rattle.std.proofs.Common.{◌≡◌, ℕ, ◌<◌, ◌≤◌, List, [], ◌∷◌, ◌++◌, length, map, refl, ap, sym, subst, ◌∙◌, arith, append_assoc, append-nil}
 use Rattle.std.specs.List.{AllByRecursion}
 use Rattle.fb_units.specs.declared.types.Request.{Request}
+use Rattle.fb_calls.proofs.Lists.{all_weaker}
 use Rattle.fb_wanted.specs.declared.block.Block.{Block}
 use Rattle.fb_wanted.specs.States.{is_wanted}
 use Rattle.fb_rows.specs.declared.gap.Plan.{Plan}
@@ -30,7 +31,6 @@ use Rattle.fb_decide.specs.Standing.{Mirrors, IsFoundIn, IsTrue}
 use Rattle.fb_decide.specs.Deciding.{HasServedNext, HasStayed, stay_of, prepared}
 use Rattle.fb_decide.specs.Making.{IsMade}
 use Rattle.fb_tasks.proofs.Lists.{all_filter}
-use Rattle.fb_decide.proofs.Passed.{all_weaker}
 use Rattle.fb_tasks.proofs.Calls.{called-finished}
 use Rattle.fb_decide.proofs.Calling.{called_delivered}
 use Rattle.fb_decide.proofs.TestedTrue.{LeftBy, decision_true, after_true}

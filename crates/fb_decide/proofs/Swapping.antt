@@ -7,8 +7,8 @@ use Rattle.fb_wanted.specs.declared.block.Block.{Block}
 use Rattle.fb_model.specs.History.{same_block}
 use Rattle.fb_plan.specs.declared.catching.Catch.{Catch}
 use Rattle.fb_plan.specs.Order.{is_before, place_in}
+use Rattle.fb_plan.proofs.Sorted.{put_front, put_behind}
 use Rattle.fb_decide.specs.Deliveries.{AreDistinct}
-use Rattle.fb_decide.proofs.Placing.{put_front, put_behind}
 
 after_all : (a b c : Catch) → is_before a b ≡ true → is_before b c ≡ true → is_before a c ≡ true
 after_all a b c h k = grind (arith, nat_tests)

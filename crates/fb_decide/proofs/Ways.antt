@@ -1,103 +1,24 @@
--- Where legs lead the head: through a gap by its plan, and through the passages of a service.
-use Rattle.std.proofs.Common.{◌≡◌, ℕ, zero, suc, ◌+◌, ◌-◌, ◌<◌, ◌≤◌, List, [], ◌∷◌, ◌++◌, true, false, refl, ap, ◌∙◌, arith, inl, inr, append_assoc, subst}
-use Rattle.std.specs.Prelude.{Bool, ◌&&◌, ◌==◌, ◌%◌, if◌then◌else◌}
-use Rattle.std.proofs.lemmas.Bool.{cases_Bool}
+-- Where legs lead the head through the passages of a service.
+use Rattle.std.proofs.Common.{◌≡◌, ℕ, zero, suc, ◌+◌, ◌-◌, ◌<◌, ◌≤◌, [], ◌∷◌, true, refl, ap, ◌∙◌, arith, subst}
+use Rattle.std.specs.Prelude.{Bool, ◌&&◌, ◌==◌, ◌%◌}
 use Rattle.std.proofs.lemmas.Bool.Decides.{nat_tests}
 use Rattle.fb_units.specs.declared.types.Track.{Track}
 use Rattle.fb_units.specs.Tracks.{same_track}
 use Rattle.fb_units.proofs.Waits.{wait_least}
 use Rattle.fb_geometry.specs.Shape.{Shape}
 use Rattle.fb_sectormap.specs.Lookup.{place_at, track_at}
-use Rattle.fb_seek.specs.Mechanics.{Mechanics}
 use Rattle.fb_seek.specs.Positioning.{pos}
 use Rattle.fb_service.specs.declared.disk.Disk.{Disk}
 use Rattle.fb_service.specs.Passing.{begin_angle, begin_from, end_from, length_of}
 use Rattle.fb_service.specs.Service.{passages, passage_from, media_of, finish_of}
-use Rattle.fb_rows.specs.declared.gap.Gap.{Gap}
-use Rattle.fb_rows.specs.declared.gap.Plan.{Plan}
-use Rattle.fb_rows.specs.declared.gap.Plan.TheVariants.{Direct, Detour}
-use Rattle.fb_model.specs.Plans.{IsPlan}
-use Rattle.fb_model.specs.Timeline.{Leg, stay, move, pass, way, arrival, gap_legs, passing, can_follow, leaves_on, leaves_at, led_to}
-use Rattle.fb_decide.proofs.Passed.{from_on}
+use Rattle.fb_wanted.proofs.Kept.{same_itself}
+use Rattle.fb_model.specs.Timeline.{stay, pass, way, passing, led_to}
+use Rattle.fb_model.proofs.Leads.{Leads, lead_on, lead_one, lead_stay, lead_way, no_way}
+use Rattle.fb_model.proofs.Passages.{from_on}
 
 -- each sector from one on begins at an angle of the rotation
 abbrev pub HaveAngles : Shape → ℕ → ℕ → Type 0
 HaveAngles disk lbn n = (i : ℕ) → i < n → begin_angle disk (place_at disk (lbn + i)) < disk.rotation
-
--- the legs lead from a track and an instant to another track and its instant
-abbrev pub Leads : Disk → Track → ℕ → List Leg → Track → ℕ → Type 0
-Leads disk from now legs to end = (more : List Leg) → led_to disk from now (legs ++ more) ≡ led_to disk to end more
-
--- ---- one leg, and one after another
-
-lead_one : (disk : Disk) (from : Track) (now : ℕ) (leg : Leg) → can_follow disk from now leg ≡ true → Leads disk from now (leg ∷ []) (leaves_on disk leg) (leaves_at leg)
-unfolding led_to
-lead_one disk from now leg h more = rw h refl
-
-pub lead_on : (disk : Disk) (from on to : Track) (now between end : ℕ) (xs ys : List Leg) → Leads disk from now xs on between → Leads disk on between ys to end → Leads disk from now (xs ++ ys) to end
-lead_on disk from on to now between end xs ys first later more = ap (led_to disk from now) (append_assoc xs ys more) ∙ (first (ys ++ more) ∙ later more)
-
-same_one : (a b : Track) → same_track a b ≡ true → a ≡ b
-same_one a b h =
-    let cylinders : a.cylinder ≡ b.cylinder = grind (arith, nat_tests) in
-    let heads : a.head ≡ b.head = grind (arith, nat_tests) in
-    ap (λ x. let t : Track = record { cylinder = x; head = a.head } in t) cylinders ∙ ap (λ x. let t : Track = record { cylinder = b.cylinder; head = x } in t) heads
-
-same_itself : (a : Track) → same_track a a ≡ true
-same_itself a = grind (arith, nat_tests)
-
-same_turned : (a b : Track) → same_track a b ≡ false → same_track b a ≡ false
-same_turned a b h = grind (arith, nat_tests)
-
--- a stay on a track
-pub lead_stay : (disk : Disk) (on : Track) (now end : ℕ) → now ≤ end → Leads disk on now (stay on now end ∷ []) on end
-lead_stay disk on now end h = lead_one disk on now (stay on now end) (grind (arith, nat_tests))
-
--- a move to another track
-lead_move : (disk : Disk) (from to : Track) (write : Bool) (now : ℕ) → same_track from to ≡ false
-    → Leads disk from now (move from to write now (now + pos disk.mechanism from to write) ∷ []) to (now + pos disk.mechanism from to write)
-lead_move disk from to write now other = lead_one disk from now (move from to write now (now + pos disk.mechanism from to write)) (rw (same_itself from, other) (grind (arith, nat_tests)))
-
-pub no_way : (arm : Mechanics) (a b : Track) (write : Bool) → same_track a b ≡ true → pos arm a b write ≡ 0
-unfolding pos
-no_way arm a b write same = rw same refl
-
--- a move, if the tracks differ
-lead_way : (disk : Disk) (from to : Track) (write : Bool) (now : ℕ) → Leads disk from now (way disk from to write now) to (now + pos disk.mechanism from to write)
-lead_way disk from to write now = elim (cases_Bool (same_track from to)) [
-  | inl same ↦ λ more.
-      ap (λ b. led_to disk from now ((if b then [] else move from to write now (now + pos disk.mechanism from to write) ∷ []) ++ more)) same
-      ∙ (ap (λ (on : Track). led_to disk on now more) (same_one from to same)
-      ∙ ap (λ t. led_to disk to t more) (let here : now ≡ now + pos disk.mechanism from to write = omega (arith, no_way disk.mechanism from to write same) in here))
-  | inr other ↦ λ more.
-      ap (λ b. led_to disk from now ((if b then [] else move from to write now (now + pos disk.mechanism from to write) ∷ []) ++ more)) other
-      ∙ lead_move disk from to write now other more
-]
-
--- ---- a gap
-
-lead_to_target : (disk : Disk) (gap : Gap) (from : Track) (leave : ℕ) → leave + pos disk.mechanism from gap.target gap.write ≤ gap.deadline
-    → Leads disk from leave (way disk from gap.target gap.write leave ++ arrival disk gap from leave ∷ []) gap.target gap.deadline
-lead_to_target disk gap from leave h =
-    let arrived = leave + pos disk.mechanism from gap.target gap.write in
-    lead_on disk from gap.target gap.target leave arrived gap.deadline (way disk from gap.target gap.write leave) (arrival disk gap from leave ∷ [])
-    (lead_way disk from gap.target gap.write leave) (lead_stay disk gap.target arrived gap.deadline h)
-
--- a plan leads from the source to the target, where the head is at the deadline
-pub lead_gap : (disk : Disk) (gap : Gap) (plan : Plan) → IsPlan disk gap plan → Leads disk gap.source gap.now (gap_legs disk gap plan) gap.target gap.deadline
-lead_gap disk gap (Direct leave) plan =
-    lead_on disk gap.source gap.source gap.target gap.now leave gap.deadline (stay gap.source gap.now leave ∷ []) (way disk gap.source gap.target gap.write leave ++ arrival disk gap gap.source leave ∷ [])
-    (lead_stay disk gap.source gap.now leave plan.0) (lead_to_target disk gap gap.source leave plan.1)
-lead_gap disk gap (Detour track leave) plan =
-    let there = gap.now + pos disk.mechanism gap.source track false in
-    let arrived = leave + pos disk.mechanism track gap.target gap.write in
-    lead_on disk gap.source track gap.target gap.now there gap.deadline (move gap.source track false gap.now there ∷ [])
-    (stay track there leave ∷ move track gap.target gap.write leave arrived ∷ arrival disk gap track leave ∷ [])
-    (lead_move disk gap.source track false gap.now (same_turned track gap.source plan.not_source))
-    (lead_on disk track track gap.target there leave gap.deadline (stay track there leave ∷ []) (move track gap.target gap.write leave arrived ∷ arrival disk gap track leave ∷ [])
-    (lead_stay disk track there leave plan.after_arrival)
-    (lead_on disk track gap.target gap.target leave arrived gap.deadline (move track gap.target gap.write leave arrived ∷ []) (arrival disk gap track leave ∷ [])
-    (lead_move disk track gap.target gap.write leave plan.not_target) (lead_stay disk gap.target arrived gap.deadline plan.in_time)))
 
 -- ---- a service
 

@@ -12,10 +12,10 @@ use Rattle.fb_model.specs.Content.{medium_of, fore_row, fore_rows}
 use Rattle.fb_model.specs.Decisions.{decisions, run_end}
 use Rattle.fb_model.specs.Steps.{history, task_rows}
 use Rattle.fb_model.specs.FullRun.{IsFull}
+use Rattle.fb_model.proofs.Lists.{all_append}
 use Rattle.fb_decide.specs.declared.deciding.Course.{Course}
 use Rattle.fb_decide.specs.Making.{Step, RowFits, HasMade, HasMadeOne, decisions_left}
 use Rattle.fb_decide.specs.FullRuns.{AreRowsOf, DecisionsMakeARun}
-use Rattle.fb_decide.proofs.Passed.{all_append}
 
 -- the rows that have been added so far are within their ranges
 pub record RowsFit (inputs : Inputs) (fore : List ForeRow) (back : List BackRow) : Type 0 where

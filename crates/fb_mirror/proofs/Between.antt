@@ -7,7 +7,7 @@ use Rattle.std.proofs.lemmas.Bool.Decides.{nat_tests}
 use Rattle.fb_units.specs.declared.types.Track.{Track}
 use Rattle.fb_geometry.specs.Sound.{IsSound}
 use Rattle.fb_service.specs.declared.disk.Disk.{Disk}
-use Rattle.fb_service.specs.Passing.{begin_from}
+use Rattle.fb_calls.proofs.Lists.{all_weaker}
 use Rattle.fb_wanted.specs.declared.block.Block.{Block}
 use Rattle.fb_rows.specs.declared.gap.Dwell.{Dwell}
 use Rattle.fb_rows.specs.declared.gap.How.{How}
@@ -16,13 +16,15 @@ use Rattle.fb_rows.specs.declared.gap.Plan.TheVariants.{Direct, Detour}
 use Rattle.fb_rows.specs.declared.back.DeliveryRow.{DeliveryRow}
 use Rattle.fb_model.specs.PlainReplay.{Served, finish, last_track, media}
 use Rattle.fb_model.specs.Content.{Medium, Written, writes_of}
-use Rattle.fb_model.specs.Plans.{IsPlan, block_begin, block_end, catches, early_dwell, late_dwell}
+use Rattle.fb_model.specs.Plans.{IsPlan, early_dwell, late_dwell}
 use Rattle.fb_model.specs.Decisions.{Decision, serves, idles, ends, instant_of, idle_until, last_decision, decisions_from}
 use Rattle.fb_model.specs.Rides.{gap_of}
 use Rattle.fb_model.specs.SoundRun.{HasPlan}
-use Rattle.fb_model.proofs.Lists.{all_append, all_weaker, is_by}
+use Rattle.fb_model.proofs.Lists.{all_append, is_by}
 use Rattle.fb_model.proofs.Due.{HasBytes, IsCaughtIn, IsDueRow}
 use Rattle.fb_model.proofs.Passages.{IsServiceOf, LiesOnDisk, block_passes, media_by}
+use Rattle.fb_model.proofs.DecisionsUpTo.{greatest_from}
+use Rattle.fb_model.proofs.DueUpTo.{begins_later, ends_behind, ends_in_time}
 use Rattle.fb_mirror.proofs.Writing.{AreServed, all_late, all_writes, ended, free_until, free_within, late}
 
 -- from one instant to another nothing is written: what the first services write has passed by then, and what the others write passes later
@@ -84,10 +86,6 @@ kept_by t (x ∷ instants) = elim (cases_Bool (nat_le x t)) [
   | inl by ↦ rw by (is_by x t by, kept_by t instants)
   | inr after ↦ rw after (kept_by t instants)
 ]
-
-pub greatest_from : (now : ℕ) (instants : List ℕ) → now ≤ fold max now instants
-greatest_from now [] = omega arith
-greatest_from now (x ∷ instants) = let rest = greatest_from (max now x) instants in omega arith
 
 none_left : (from to : ℕ) → IsBetween [] from to
 none_left from to = record { before = []; after = []; is = refl; finished = tt; passed = tt; to_come = tt }
@@ -153,16 +151,6 @@ module _ (disk : Disk) (sound : IsSound disk.map) where
       )
 
 -- ---- deliveries
-
-pub begins_later : (disk : Disk) (block : Block) (t : ℕ) → t ≤ block_begin disk.map block t
-unfolding begin_from
-begins_later disk block t = omega arith
-
-pub ends_behind : (disk : Disk) (block : Block) (t : ℕ) → block_begin disk.map block t ≤ block_end disk.map block t
-ends_behind disk block t = omega arith
-
-pub ends_in_time : (disk : Disk) (dwell : Dwell) (block : Block) → catches disk dwell block ≡ true → block_end disk.map block dwell.begin ≤ dwell.end
-ends_in_time disk dwell block is_caught = grind (arith, nat_tests)
 
 -- a delivery from one instant to another, with the bytes of its beginning
 pub record LiesBetween (medium : Medium) (from to : ℕ) (row : DeliveryRow) : Type 0 where

@@ -9,18 +9,16 @@ use Rattle.fb_store.specs.declared.content.ContentRun.{ContentRun}
 use Rattle.fb_mirror.specs.declared.changes.Change.{Change}
 use Rattle.fb_mirror.specs.Changes.{changes_in, changes_of}
 use Rattle.fb_mirror.specs.Replacement.{Event, sealed_by, sealed_in}
-
-some_one : {X : Type 0} (x y : X) → Some x ≡ Some y → x ≡ y
-some_one x y e = grind arith
+use Rattle.fb_mirror.proofs.EventLaws.{same_one}
 
 taken_one : {X : Type 0} (xs : List X) (i : ℕ) (x : X) → slice_get xs i ≡ Some x → take (i + 1) xs ≡ take i xs ++ x ∷ []
 taken_one [] i x is = absurd (grind arith)
-taken_one (first ∷ xs) zero x is = ap (λ y. y ∷ []) (some_one first x is)
+taken_one (first ∷ xs) zero x is = ap (λ y. y ∷ []) (same_one first x is)
 taken_one (first ∷ xs) (suc i) x is = let more : suc i + 1 ≡ suc (i + 1) = omega arith in rw more (ap (λ rest. first ∷ rest) (taken_one xs i x is))
 
 dropped_one : {X : Type 0} (xs : List X) (i : ℕ) (x : X) → slice_get xs i ≡ Some x → drop i xs ≡ x ∷ drop (i + 1) xs
 dropped_one [] i x is = absurd (grind arith)
-dropped_one (first ∷ xs) zero x is = ap (λ y. y ∷ xs) (some_one first x is)
+dropped_one (first ∷ xs) zero x is = ap (λ y. y ∷ xs) (same_one first x is)
 dropped_one (first ∷ xs) (suc i) x is = let more : suc i + 1 ≡ suc (i + 1) = omega arith in rw more (dropped_one xs i x is)
 
 -- the changes of the rows so far, and of the next row

@@ -38,9 +38,6 @@ ties_at instant change is = grind (arith, nat_tests)
 no_ties_at : (instant : ℕ) (change : Change) → ties is_before (mark instant) change ≡ false → change.instant ≡ instant → ⊥
 no_ties_at instant change is same = grind (arith, nat_tests)
 
-some_one : {X : Type 0} (x y : X) → Some x ≡ Some y → x ≡ y
-some_one x y e = grind arith
-
 -- how what decides of all changes and what decides of those of one instant fit
 abbrev Fits : ℕ → Option (ℕ × Content) → Option (ℕ × Content) → Type 0
 Fits instant None there = there ≡ None

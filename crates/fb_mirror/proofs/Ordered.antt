@@ -1,8 +1,8 @@
 -- Decisions follow one another, and so do the deliveries of each.
 use Rattle.std.proofs.Common.{◌≡◌, ℕ, zero, suc, ◌+◌, ◌-◌, ◌<◌, ◌≤◌, max, List, [], ◌∷◌, ◌++◌, map, Bool, true, false, sym, subst, arith, inl, inr, nat_le}
-use Rattle.std.specs.Prelude.{filter, nat_lt, not, ◌&&◌, ◌||◌, ◌==◌, if◌then◌else◌}
+use Rattle.std.specs.Prelude.{filter, nat_lt, not, ◌==◌, if◌then◌else◌}
 use Rattle.std.specs.List.{AllByRecursion, fold}
-use Rattle.std.proofs.lemmas.Bool.{and_parts, cases_Bool, eqb-true, or_cases, true≢false}
+use Rattle.std.proofs.lemmas.Bool.{cases_Bool}
 use Rattle.std.proofs.lemmas.Bool.Decides.{nat_tests}
 use Rattle.fb_units.specs.declared.types.Track.{Track}
 use Rattle.fb_sectormap.specs.Lookup.{track_at}
@@ -10,6 +10,7 @@ use Rattle.fb_seek.specs.Positioning.{pos}
 use Rattle.fb_service.specs.declared.disk.Disk.{Disk}
 use Rattle.fb_service.specs.declared.passage.Passage.{Passage}
 use Rattle.fb_service.specs.Service.{media_of, passage_from, passages}
+use Rattle.fb_calls.proofs.Lists.{all_weaker}
 use Rattle.fb_wanted.specs.declared.block.Block.{Block}
 use Rattle.fb_rows.specs.declared.gap.Dwell.{Dwell}
 use Rattle.fb_rows.specs.declared.gap.How.{How}
@@ -23,10 +24,12 @@ use Rattle.fb_model.specs.Plans.{IsPlan, block_begin, block_end, catches, early_
 use Rattle.fb_model.specs.Decisions.{Decision, serves, idles, ends, decisions_from, end_of, idle_until, instant_of, last_decision}
 use Rattle.fb_model.specs.Rides.{begin_at, caught, delivery, due, end_at, gap_of, in_order, is_before, lies_in, missed, placed, rides}
 use Rattle.fb_model.specs.SoundRun.{HasPlan}
-use Rattle.fb_model.proofs.Lists.{all_append, all_both, all_filter, all_weaker}
+use Rattle.fb_model.proofs.Lists.{all_append, all_both, all_filter}
 use Rattle.fb_model.proofs.Due.{IsCaughtIn, caught_true}
 use Rattle.fb_model.proofs.Passages.{IsServiceOf, passed_between}
-use Rattle.fb_mirror.proofs.Between.{IsOfDisk, begins_later, ends_behind, ends_in_time, kept_by, quiet_until}
+use Rattle.fb_model.proofs.HistoriesUpTo.{HasSector}
+use Rattle.fb_model.proofs.DueUpTo.{begins_later, ends_behind, ends_in_time, before_end, not_before_end}
+use Rattle.fb_mirror.proofs.Between.{IsOfDisk, kept_by, quiet_until}
 use Rattle.fb_mirror.proofs.RunRows.{AreLinked}
 use Rattle.fb_mirror.proofs.Writing.{AreServed, begun_after, free_within}
 
@@ -89,21 +92,6 @@ ascend_append : (a b : ℕ) (xs ys : List DeliveryRow) → Ascend a xs → EndBy
 ascend_append a b [] ys up by order next = ascend_from a b ys order next
 ascend_append a b (x ∷ xs) ys up by order next = (up.0, ascend_append x.end b xs ys up.1 by.1 by.0 next)
 
-before_end : (end : ℕ) (block : Block) (other_end : ℕ) (other : Block) → is_before end block other_end other ≡ true → end ≤ other_end
-before_end end block other_end other h =
-    elim (or_cases (nat_lt end other_end) ((end == other_end) && (nat_lt block.task other.task || ((block.task == other.task) && nat_lt block.index other.index))) h) [
-      | inl less ↦ grind (arith, nat_tests)
-      | inr tie ↦
-          let same = eqb-true end other_end (and_parts (end == other_end) (nat_lt block.task other.task || ((block.task == other.task) && nat_lt block.index other.index)) tie).0 in
-          omega arith
-    ]
-
-not_before_end : (end : ℕ) (block : Block) (other_end : ℕ) (other : Block) → is_before end block other_end other ≡ false → other_end ≤ end
-not_before_end end block other_end other h = elim (cases_Bool (nat_lt end other_end)) [
-  | inl less ↦ absurd (let wrong : true ≡ false = rw less at h in true≢false wrong)
-  | inr more ↦ grind (arith, nat_tests)
-]
-
 ascend_placed : (a : ℕ) (rows : List DeliveryRow) (row : DeliveryRow) → a ≤ row.end → Ascend a rows → Ascend a (placed rows row)
 ascend_placed a [] row from up = (from, tt)
 ascend_placed a (first ∷ rows) row from up = elim (cases_Bool (is_before row.end row.block first.end first.block)) [
@@ -122,10 +110,6 @@ all_made P Q test f each (block ∷ blocks) all = elim (cases_Bool (test block))
   | inl kept ↦ rw kept (each block all.0 kept, all_made P Q test f each blocks all.1)
   | inr dropped ↦ rw dropped (all_made P Q test f each blocks all.1)
 ]
-
--- the block has a sector
-abbrev pub HasSector : Block → Type 0
-HasSector block = 0 < block.count
 
 caught_ascend : (medium : Medium) (how : How) (dwell : Dwell) (blocks : List Block) → AllByRecursion HasSector blocks → Ascend dwell.begin (caught medium how dwell blocks)
 caught_ascend medium how dwell blocks all = ascend_ordered dwell.begin

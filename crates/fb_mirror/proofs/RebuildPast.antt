@@ -12,6 +12,7 @@ use Rattle.fb_calls.specs.declared.call.Call.{Call}
 use Rattle.fb_calls.specs.declared.call.Kind.TheVariants.{Backup, Plain}
 use Rattle.fb_calls.specs.Sessions.{is_backup, is_clean}
 use Rattle.fb_calls.specs.Allowed.{Terms}
+use Rattle.fb_calls.proofs.Lists.{all_weaker}
 use Rattle.fb_wanted.specs.declared.block.Block.{Block}
 use Rattle.fb_wanted.specs.declared.block.State.{State}
 use Rattle.fb_wanted.specs.declared.block.State.TheVariants.{Wanted, Delivered}
@@ -23,9 +24,10 @@ use Rattle.fb_model.specs.History.{Event, called, chose, tested, delivered, fini
 use Rattle.fb_model.specs.Completion.{is_complete, is_complete_as, is_closed, is_over, own_of, segments, work}
 use Rattle.fb_model.specs.Segments.{choose_in, choose_up_to, numbered, with_choices}
 use Rattle.fb_model.specs.Steps.{Delivery, Part, calls_due, calls_taken, past_after, settled_past, take_call, tested_past, with_delivery, with_finish}
-use Rattle.fb_model.proofs.Lists.{all_filter, all_weaker, by_is}
+use Rattle.fb_model.proofs.Lists.{all_filter, by_is}
 use Rattle.fb_mirror.specs.Script.{rebuild_calls}
 use Rattle.fb_mirror.proofs.CutCover.{HasSectors, cuts_some}
+use Rattle.fb_mirror.proofs.EventLaws.{same_one}
 
 -- the blocks of the whole disk
 abbrev pub disk_blocks : Shape → List Block
@@ -201,9 +203,6 @@ numbered_at task weight n (cut ∷ cuts) zero block at =
     some_is : {a b : Block} → Some a ≡ Some b → a ≡ b
     some_is e = grind arith
 numbered_at task weight n (cut ∷ cuts) (suc i) block at = let rest = numbered_at task weight (n + 1) cuts i block at in (rest.0, omega (arith, rest.1))
-
-same_one : {X : Type 0} (x y : X) → Some x ≡ Some y → x ≡ y
-same_one x y e = grind arith
 
 -- blocks of a number are the same
 one_number : (disk : Shape) (a b : Block) → IsOneOf (disk_blocks disk) a → IsOneOf (disk_blocks disk) b → same_block a b ≡ true → a ≡ b

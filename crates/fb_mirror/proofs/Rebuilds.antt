@@ -15,6 +15,7 @@ use Rattle.fb_store.specs.Writes.{is_within}
 use Rattle.fb_store.proofs.Originals.{inside}
 use Rattle.fb_store.proofs.Runs.{sectors_of-runs_of}
 use Rattle.fb_store.proofs.Taken.{taken_block}
+use Rattle.fb_calls.proofs.Lists.{all_weaker}
 use Rattle.fb_wanted.specs.declared.block.Block.{Block}
 use Rattle.fb_rows.specs.declared.back.BackRow.{BackRow}
 use Rattle.fb_rows.specs.declared.back.BackRow.TheVariants.{Gap, Idle, Got, Bad, Seal, Segment, Complete, Task}
@@ -33,7 +34,8 @@ use Rattle.fb_model.specs.Segments.{numbered}
 use Rattle.fb_model.specs.SoundRun.{IsDelivered, IsPlanned, IsTested}
 use Rattle.fb_model.specs.Steps.{AtEach, Part, part_rows, past_after, settled_past}
 use Rattle.fb_model.proofs.Due.{HasBytes, IsDueRow, delivery_true}
-use Rattle.fb_model.proofs.Lists.{all_both, all_weaker, by_is, same_map_where}
+use Rattle.fb_model.proofs.Lists.{all_both, by_is, same_map_where}
+use Rattle.fb_model.proofs.HistoriesUpTo.{HasSector}
 use Rattle.fb_mirror.specs.Replacement.{Event, decided, deliveries_in, events, given, held_after, later, sealed_in, writes_in}
 use Rattle.fb_mirror.specs.Script.{rebuild_calls}
 use Rattle.fb_mirror.specs.Survivor.{CoveredSectorsAreTheSurvivors, CoveredSectorsAreTheSurvivorsAtRest, IsAtRest, IsWhole, events_by, sectors, survives}
@@ -42,7 +44,7 @@ use Rattle.fb_mirror.proofs.Between.{IsPlaced, decisions_placed, due_between, qu
 use Rattle.fb_mirror.proofs.Covering.{range_long}
 use Rattle.fb_mirror.proofs.CutCover.{HoldsIn, cuts_hold}
 use Rattle.fb_mirror.proofs.EventLaws.{none_some, same_one}
-use Rattle.fb_mirror.proofs.Ordered.{AreInTurn, HasSector, NoEarlier, decisions_in_turn, due_ascends}
+use Rattle.fb_mirror.proofs.Ordered.{AreInTurn, NoEarlier, decisions_in_turn, due_ascends}
 use Rattle.fb_mirror.proofs.RebuildPast.{IsOneOf, IsRebuilding, IsUnderWay, after_rebuilds, complete_delivered, disk_blocks, disk_ones, disk_some, rebuilding_more, rebuilding_weaker, settled_rebuilds, wanted_have}
 use Rattle.fb_mirror.proofs.RunRows.{AreLinked, IsKept, NoFact, RowsFit, back_fits, gots, gots_of_back, part_fits, rows_weaker}
 use Rattle.fb_mirror.proofs.Survival.{IsFoundIn, back_found, decided-append, due_block, event_of}

@@ -4,6 +4,7 @@ use Rattle.std.specs.Prelude.{◌&&◌, filter, not, if◌then◌else◌}
 use Rattle.std.specs.List.{AllByRecursion, flat_map}
 use Rattle.std.proofs.lemmas.Bool.{and_parts}
 use Rattle.fb_service.specs.declared.disk.Disk.{Disk}
+use Rattle.fb_calls.proofs.Lists.{all_weaker}
 use Rattle.fb_rows.specs.declared.gap.Plan.{Plan}
 use Rattle.fb_rows.specs.declared.back.BackRow.{BackRow}
 use Rattle.fb_rows.specs.declared.back.BackRow.TheVariants.{Gap as GapLine, Idle as IdleLine, Got as GotLine, Bad as BadLine, Seal as SealLine, Segment as SegmentLine, Complete as CompleteLine, Task as TaskLine}
@@ -18,7 +19,7 @@ use Rattle.fb_model.specs.Segments.{live_count}
 use Rattle.fb_model.specs.Images.{Sources, bad_sectors, complete_rows, findings, is_newly_cleaned, is_scrub, on_disk, seal_rows, segment_rows, test_rows}
 use Rattle.fb_model.specs.Steps.{AtEach, Delivery, Part, history, opening, part_rows, past_after, settled_past, steps, task_row, task_rows, tested_past, with_delivery}
 use Rattle.fb_model.specs.SoundRun.{AreFollowed, IsSoundBy, IsTested}
-use Rattle.fb_model.proofs.Lists.{all_append, all_flat_map, all_left, all_right, all_weaker}
+use Rattle.fb_model.proofs.Lists.{all_append, all_flat_map, all_left, all_right}
 
 -- a row is a delivery with a property, or a seal whose instant a fact comes with, or another row
 abbrev pub RowFits : (DeliveryRow → Type 0) → (ℕ → Type 0) → BackRow → Type 0

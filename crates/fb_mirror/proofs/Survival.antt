@@ -15,6 +15,7 @@ use Rattle.fb_store.specs.Runs.{sectors_of}
 use Rattle.fb_store.specs.Writes.{is_within, unwritten}
 use Rattle.fb_store.proofs.Runs.{sectors_of-runs_of}
 use Rattle.fb_store.proofs.Taken.{taken_block}
+use Rattle.fb_calls.proofs.Lists.{all_weaker}
 use Rattle.fb_wanted.specs.declared.block.Block.{Block}
 use Rattle.fb_rows.specs.declared.fore.ForeRow.{ForeRow}
 use Rattle.fb_rows.specs.declared.back.BackRow.{BackRow}
@@ -32,14 +33,15 @@ use Rattle.fb_model.specs.Steps.{AtEach, Delivery, Part, part_rows, past_after, 
 use Rattle.fb_model.specs.SoundRun.{HasPlan, IsDelivered, IsPlanned, IsTested}
 use Rattle.fb_model.specs.Laws.{ForegroundListsAscend, OnePlainReplay}
 use Rattle.fb_model.specs.FullRun.{IsFull}
-use Rattle.fb_model.proofs.Lists.{all_append, all_left, all_right, all_weaker}
+use Rattle.fb_model.proofs.Lists.{all_append, all_left, all_right}
 use Rattle.fb_model.proofs.Due.{HasBytes, IsDueRow, delivery_true}
 use Rattle.fb_model.proofs.Passages.{served_between}
+use Rattle.fb_model.proofs.DecisionsUpTo.{greatest_from, end_from}
 use Rattle.fb_mirror.specs.Replacement.{Event, decided, deliveries_in, events, given, held_after, later, writes_in}
 use Rattle.fb_mirror.specs.Survivor.{survives}
 use Rattle.fb_mirror.proofs.Deciding.{later-assoc}
 use Rattle.fb_mirror.proofs.EventLaws.{none_some, same_one, write_gives}
-use Rattle.fb_mirror.proofs.Between.{IsBetween, IsPlaced, between_within, decisions_placed, due_between, greatest_from, quiet_until}
+use Rattle.fb_mirror.proofs.Between.{IsBetween, IsPlaced, between_within, decisions_placed, due_between, quiet_until}
 use Rattle.fb_mirror.proofs.RunRows.{NoFact, RowsFit, back_fits, gots_fit_part}
 use Rattle.fb_mirror.proofs.Writing.{AreServed, all_writes, are_served, content_then, ended, finishes_late, last_of, last_of-append, last_of-more, left_after, left_by, medium_with}
 
@@ -340,9 +342,6 @@ module _ (inputs : Inputs) (medium : Medium) (replay : List Served) (same_disk :
   )
 
 -- ---- the end of the run
-
-abbrev end_from : ℕ → List Decision → ℕ
-end_from end ds = fold (λ end decision. end_of decision) end ds
 
 last_end : (head : Track) (now until : ℕ) → now ≤ end_of (last_decision head now until)
 last_end head now until = elim (cases_Bool (nat_lt now until)) [

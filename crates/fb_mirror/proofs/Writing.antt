@@ -1,36 +1,32 @@
 -- The services of a replay: one after another, what they write takes time, and what it leaves.
 use Rattle.std.proofs.Common.{◌≡◌, ℕ, zero, suc, ◌+◌, ◌<◌, ◌≤◌, List, [], ◌∷◌, ◌++◌, length, map, Option, Some, None, Bool, true, false, refl, ap, sym, subst, ◌∙◌, arith, inl, inr, append-nil, nat_le}
-use Rattle.std.specs.Prelude.{filter, slice_get, ◌==◌, ◌&&◌, if◌then◌else◌}
+use Rattle.std.specs.Prelude.{filter, ◌==◌, ◌&&◌, if◌then◌else◌}
 use Rattle.std.specs.List.{AllByRecursion, flat_map, last_or}
 use Rattle.std.proofs.lemmas.Bool.{cases_Bool}
 use Rattle.std.proofs.lemmas.Bool.Decides.{nat_tests}
 use Rattle.std.proofs.lemmas.List.Elements.{filter-append}
 use Rattle.std.proofs.lemmas.List.Concat.{flat_map-append}
-use Rattle.fb_units.specs.declared.types.Place.{Place}
 use Rattle.fb_units.specs.declared.types.Request.{Request}
 use Rattle.fb_units.specs.declared.types.Track.{Track}
-use Rattle.fb_geometry.specs.declared.zone.Zone.{Zone}
-use Rattle.fb_geometry.specs.Shape.{Shape, slots_at}
 use Rattle.fb_geometry.specs.Places.{places}
 use Rattle.fb_geometry.specs.Sound.{IsSound}
-use Rattle.fb_geometry.proofs.Rotation.{cover}
-use Rattle.fb_sectormap.specs.Lookup.{place_at, track_at}
-use Rattle.fb_sectormap.proofs.ByCylinder.{has_place}
+use Rattle.fb_sectormap.specs.Lookup.{track_at}
 use Rattle.fb_seek.specs.Positioning.{pos}
 use Rattle.fb_service.specs.declared.disk.Disk.{Disk}
 use Rattle.fb_service.specs.declared.passage.Passage.{Passage}
-use Rattle.fb_service.specs.Passing.{length_of}
 use Rattle.fb_service.specs.Service.{passages, passage_from, finish_of, media_of}
 use Rattle.fb_store.specs.declared.content.Content.{Content}
 use Rattle.fb_store.specs.declared.content.Content.TheVariants.{Filled}
 use Rattle.fb_store.specs.Writes.{is_within, unwritten}
+use Rattle.fb_calls.proofs.Lists.{all_weaker}
 use Rattle.fb_model.specs.PlainReplay.{Key, Served, finish, first_track, last_track, media, plain_replay, service}
 use Rattle.fb_model.specs.Inputs.{Inputs, requests, served}
 use Rattle.fb_model.specs.Accepted.{IsAccepted}
 use Rattle.fb_model.specs.Content.{Medium, Written, content, content_by, number_of, writes_of}
 use Rattle.fb_model.specs.Laws.{FollowsRules, ForegroundListsAscend, IsFirstReady, OnePlainReplay}
-use Rattle.fb_model.proofs.Lists.{all_append, all_both, all_left, all_map, all_right, all_weaker}
-use Rattle.fb_model.proofs.Passages.{IsServiceOf, LiesOnDisk, passed_between, requests_lie, served_between}
+use Rattle.fb_model.proofs.Lists.{all_append, all_both, all_left, all_map, all_right}
+use Rattle.fb_model.proofs.Passages.{IsServiceOf, LiesOnDisk, passed_between, requests_lie, served_between, passages_long, written_by}
+use Rattle.fb_model.proofs.ContentsUpTo.{is_of_by}
 
 -- ---- one after another
 
@@ -65,32 +61,6 @@ are_served inputs accepted ascend one = follow inputs.disk inputs.key first_trac
 
 -- ---- each passage takes time
 
-slots_short : (rotation : ℕ) (zones : List Zone) (cylinder : ℕ) → ((i : ℕ) (zone : Zone) → slice_get zones i ≡ Some zone → zone.sectors ≤ rotation) → slots_at zones cylinder ≤ rotation
-slots_short rotation [] cylinder short = omega arith
-slots_short rotation (zone ∷ zones) cylinder short = elim (cases_Bool (nat_le cylinder zone.last)) [
-  | inl here ↦ rw here (short 0 zone refl)
-  | inr on ↦ rw on (slots_short rotation zones cylinder (λ i. short (suc i)))
-]
-
-long_slots : (disk : Shape) → IsSound disk → (lbn : ℕ) → lbn < length (places disk) → 0 < length_of disk (place_at disk lbn)
-long_slots disk sound lbn inside =
-    let found = has_place disk sound lbn inside in
-    let lies = found.lies in
-    let n = slots_at disk.zones found.place.track.cylinder in
-    let slot : found.place.slot < n = subst (λ c. found.place.slot < slots_at disk.zones c) (sym lies.cylinder_is) lies.slot in
-    let more = (cover disk.rotation n (omega (arith, slot)) (slots_short disk.rotation disk.zones found.place.track.cylinder sound.short_slots)).ascend found.place.slot slot in
-    subst (λ (place : Place). 0 < length_of disk place) (sym found.placed_at) (omega (arith, more))
-
-passages_long : (disk : Disk) → IsSound disk.map → (source : Track) (now : ℕ) (write : Bool) (lbn n : ℕ) → lbn + n ≤ length (places disk.map)
-    → AllByRecursion (λ (p : Passage). p.begin < p.end) (passages disk source now write lbn n)
-unfolding passages
-passages_long disk sound source now write lbn zero inside = tt
-passages_long disk sound source now write lbn (suc n) inside =
-    let some = long_slots disk.map sound lbn (omega (arith, inside)) in (
-      (let h : (passage_from disk.map lbn (now + pos disk.mechanism source (track_at disk.map lbn) write)).begin < (passage_from disk.map lbn (now + pos disk.mechanism source (track_at disk.map lbn) write)).end = omega (arith, some) in h),
-      passages_long disk sound (track_at disk.map lbn) (passage_from disk.map lbn (now + pos disk.mechanism source (track_at disk.map lbn) write)).end write (lbn + 1) n (omega (arith, inside)),
-    )
-
 -- no passage begins before the first one
 pub begun_after : (disk : Disk) (source : Track) (now : ℕ) (write : Bool) (lbn n : ℕ)
     → AllByRecursion (λ (p : Passage). media_of (passages disk source now write lbn n) ≤ p.begin) (passages disk source now write lbn n)
@@ -114,9 +84,6 @@ free write start passages = if write then media_of passages else finish_of start
 
 abbrev pub free_until : Served → ℕ
 free_until served = if served.request.write then media served else finish served
-
-abbrev pub written_by : ℕ → Passage → Written
-written_by writer passage = record { writer = writer; passage = passage }
 
 abbrev writes_by : Bool → ℕ → List Passage → List Written
 writes_by write number passages = if write then map (written_by number) passages else []
@@ -168,9 +135,6 @@ all_late disk sound now (served ∷ later) are =
 
 abbrev pub is_of : ℕ → Written → Bool
 is_of lbn write = write.passage.lbn == lbn
-
-abbrev is_of_by : ℕ → ℕ → Written → Bool
-is_of_by lbn t write = (write.passage.lbn == lbn) && nat_le write.passage.end t
 
 ended_by : (lbn t : ℕ) (writes : List Written) → AllByRecursion (λ (w : Written). w.passage.end ≤ t) writes → filter (is_of_by lbn t) writes ≡ filter (is_of lbn) writes
 ended_by lbn t [] all = refl

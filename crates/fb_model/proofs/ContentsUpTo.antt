@@ -9,16 +9,17 @@ use Rattle.fb_service.specs.declared.passage.Passage.{Passage}
 use Rattle.fb_store.specs.declared.content.Content.{Content}
 use Rattle.fb_store.specs.Runs.{runs_of, bad_of}
 use Rattle.fb_store.specs.Writes.{unwritten}
+use Rattle.fb_calls.proofs.Lists.{all_weaker}
 use Rattle.fb_rows.specs.declared.fore.ForeRow.{ForeRow}
 use Rattle.fb_model.specs.PlainReplay.{Served, media, finish}
 use Rattle.fb_model.specs.Content.{Written, writes_of, Medium, content, content_by, contents_at, fore_row}
 use Rattle.fb_model.specs.Known.{fore_known}
-use Rattle.fb_model.proofs.Lists.{all_weaker, all_append, all_map, same_map, same_map_where, none_kept, by_is, after_is}
+use Rattle.fb_model.proofs.Lists.{all_append, all_map, same_map, same_map_where, none_kept, by_is, after_is}
 use Rattle.fb_model.proofs.Passages.{WritesLate, IsServiceOf, pass_by}
 use Rattle.fb_model.proofs.ReplaysUpTo.{StartsBehind, AlikeBy, both, rest}
 
 -- the sector's writes that have ended by then
-abbrev is_of_by : ℕ → ℕ → Written → Bool
+abbrev pub is_of_by : ℕ → ℕ → Written → Bool
 is_of_by lbn t write = (write.passage.lbn == lbn) && nat_le write.passage.end t
 
 none_by : (lbn t : ℕ) (writes : List Written) → AllByRecursion (λ (w : Written). t < w.passage.end) writes → filter (is_of_by lbn t) writes ≡ []

@@ -9,9 +9,10 @@ use Rattle.fb_units.specs.declared.types.Track.{Track}
 use Rattle.fb_units.specs.declared.types.Request.{Request}
 use Rattle.fb_units.specs.Rising.{IsRising}
 use Rattle.fb_service.specs.declared.disk.Disk.{Disk}
+use Rattle.fb_calls.proofs.Lists.{all_weaker}
 use Rattle.fb_model.specs.PlainReplay.{Key, Served, finish, last_track, has_arrived, start_of}
 use Rattle.fb_model.specs.Decisions.{Decision, serves, idles, ends, instant_of, end_of, idle_until, last_decision, decisions_from}
-use Rattle.fb_model.proofs.Lists.{all_weaker, rising_filter, kept_twice, none_kept, all_dropped, by_later, is_by, is_after, same_first, same_rest, not_none}
+use Rattle.fb_model.proofs.Lists.{rising_filter, kept_twice, none_kept, all_dropped, by_later, is_by, is_after, same_first, same_rest, not_none}
 use Rattle.fb_model.proofs.Instants.{is_by_then, IsAmong, all_after}
 use Rattle.fb_model.proofs.Passages.{IsServiceOf, are_services, turn_all}
 use Rattle.fb_model.proofs.Replays.{AreTurns, start_from, turns_end}
@@ -36,7 +37,7 @@ pub data AlikeDecisions (t done : ℕ) (disk : Disk) : List Decision → List De
       → AlikeDecisions t done disk (idles (record { track = head; begin = now; end = until_a }) ∷ xs) (idles (record { track = head; begin = now; end = until_b }) ∷ ys)
   later : {xs ys : List Decision} → AllByRecursion (IsLater t disk) xs → AllByRecursion (IsLater t disk) ys → AlikeDecisions t done disk xs ys
 
-greatest_from : (now : ℕ) (instants : List ℕ) → now ≤ fold max now instants
+pub greatest_from : (now : ℕ) (instants : List ℕ) → now ≤ fold max now instants
 greatest_from now [] = omega arith
 greatest_from now (x ∷ instants) = let rest = greatest_from (max now x) instants in omega arith
 

@@ -77,7 +77,7 @@ first_at disk place t h =
     }
 
 -- a slot of a track begins before the rotation ends
-begins_within : (rotation n slot : ℕ) → n ≤ rotation → slot < n → slot_begin rotation n slot < rotation
+pub begins_within : (rotation n slot : ℕ) → n ≤ rotation → slot < n → slot_begin rotation n slot < rotation
 begins_within rotation n slot short inside = div_below (slot * rotation) n rotation (omega arith) (omega (arith, mul-le (slot + 1) rotation n rotation (omega arith) (omega arith)))
 
 begins_on : (disk : Shape) (cylinder : ℕ) (place : Place) → IsSound disk → IsFaultless disk → cylinder < cylinders_of disk.zones → LiesOn disk cylinder place → begin_angle disk place < disk.rotation

@@ -2,6 +2,7 @@
 use Rattle.std.proofs.Common.{◌≡◌, ℕ, ◌+◌, ◌≤◌, List, [], ◌∷◌, ◌++◌, refl, lit≤, true, false, map, filter, Bool, cond, if◌then◌else◌, ◌-◌, not, arith, ap, ◌⊎◌, inl, inr}
 use Rattle.std.specs.List.{AllByRecursion, fold}
 use Rattle.fb_store.specs.Runs.{runs_of, bad_of}
+use Rattle.fb_calls.proofs.Lists.{all_weaker}
 use Rattle.fb_wanted.specs.declared.block.Block.{Block}
 use Rattle.fb_rows.specs.declared.gap.Gap.{Gap}
 use Rattle.fb_rows.specs.declared.gap.Plan.{Plan}
@@ -19,7 +20,7 @@ use Rattle.fb_model.specs.History.{Past, wanted, state, registered}
 use Rattle.fb_model.specs.Steps.{Part, settled_past}
 use Rattle.fb_model.specs.Rides.{gap_of, due, delivery, is_before, placed, in_order, caught, missed, lies_in, rides, due_in_gap, begin_at, end_at}
 use Rattle.fb_model.specs.SoundRun.{IsSublist, none, left_out, taken, IsDelivered}
-use Rattle.fb_model.proofs.Lists.{all_weaker, all_append, all_filter}
+use Rattle.fb_model.proofs.Lists.{all_append, all_filter}
 
 -- a row has the bytes of its beginning
 pub record HasBytes (medium : Medium) (row : DeliveryRow) : Type 0 where

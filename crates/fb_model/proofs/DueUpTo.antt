@@ -9,6 +9,7 @@ use Rattle.fb_units.specs.Tracks.{same_track}
 use Rattle.fb_service.specs.declared.disk.Disk.{Disk}
 use Rattle.fb_service.specs.Passing.{begin_from}
 use Rattle.fb_store.specs.Runs.{runs_of, bad_of}
+use Rattle.fb_calls.proofs.Lists.{all_weaker}
 use Rattle.fb_wanted.specs.declared.block.Block.{Block}
 use Rattle.fb_rows.specs.declared.gap.Dwell.{Dwell}
 use Rattle.fb_rows.specs.declared.gap.How.{How}
@@ -22,7 +23,7 @@ use Rattle.fb_model.specs.Plans.{IsPlan, block_begin, block_end, catches, early_
 use Rattle.fb_model.specs.Decisions.{Decision, serves, idles, ends, instant_of, end_of}
 use Rattle.fb_model.specs.Rides.{gap_of, due, delivery, is_before, placed, in_order, caught, missed, lies_in, rides, begin_at, end_at}
 use Rattle.fb_model.specs.SoundRun.{HasPlan}
-use Rattle.fb_model.proofs.Lists.{all_weaker, same_kept, by_is}
+use Rattle.fb_model.proofs.Lists.{same_kept, by_is}
 use Rattle.fb_model.proofs.Due.{IsCaughtIn, IsDueRow, all_placed}
 use Rattle.fb_model.proofs.Passages.{IsServiceOf, block_passes, begins_by, media_by}
 use Rattle.fb_model.proofs.ContentsUpTo.{HoldSame, same_contents}
@@ -32,14 +33,14 @@ use Rattle.fb_model.proofs.RowsUpTo.{ends_by_then, RisingEnds}
 
 -- ---- within the decision
 
-begins_later : (disk : Disk) (block : Block) (t : ℕ) → t ≤ block_begin disk.map block t
+pub begins_later : (disk : Disk) (block : Block) (t : ℕ) → t ≤ block_begin disk.map block t
 unfolding begin_from
 begins_later disk block t = omega arith
 
-ends_behind : (disk : Disk) (block : Block) (t : ℕ) → block_begin disk.map block t ≤ block_end disk.map block t
+pub ends_behind : (disk : Disk) (block : Block) (t : ℕ) → block_begin disk.map block t ≤ block_end disk.map block t
 ends_behind disk block t = omega arith
 
-ends_in_time : (disk : Disk) (dwell : Dwell) (block : Block) → catches disk dwell block ≡ true → block_end disk.map block dwell.begin ≤ dwell.end
+pub ends_in_time : (disk : Disk) (dwell : Dwell) (block : Block) → catches disk dwell block ≡ true → block_end disk.map block dwell.begin ≤ dwell.end
 ends_in_time disk dwell block is_caught = grind (arith, nat_tests)
 
 -- a delivery from one instant to another
@@ -127,7 +128,7 @@ module _ (disk : Disk) (latent : List ℕ) (writes_a writes_b : List Written) wh
 
 -- ---- in the order of their ends
 
-before_end : (end : ℕ) (block : Block) (other_end : ℕ) (other : Block) → is_before end block other_end other ≡ true → end ≤ other_end
+pub before_end : (end : ℕ) (block : Block) (other_end : ℕ) (other : Block) → is_before end block other_end other ≡ true → end ≤ other_end
 before_end end block other_end other h =
     elim (or_cases (nat_lt end other_end) ((end == other_end) && (nat_lt block.task other.task || ((block.task == other.task) && nat_lt block.index other.index))) h) [
       | inl less ↦ grind (arith, nat_tests)
@@ -136,7 +137,7 @@ before_end end block other_end other h =
           omega arith
     ]
 
-not_before_end : (end : ℕ) (block : Block) (other_end : ℕ) (other : Block) → is_before end block other_end other ≡ false → other_end ≤ end
+pub not_before_end : (end : ℕ) (block : Block) (other_end : ℕ) (other : Block) → is_before end block other_end other ≡ false → other_end ≤ end
 not_before_end end block other_end other h = elim (cases_Bool (nat_lt end other_end)) [
   | inl less ↦ absurd (let wrong : true ≡ false = rw less at h in true≢false wrong)
   | inr more ↦ grind (arith, nat_tests)

@@ -11,6 +11,7 @@ use Rattle.fb_calls.specs.declared.call.Action.TheVariants.{Want}
 use Rattle.fb_calls.specs.declared.call.Call.{Call}
 use Rattle.fb_calls.specs.Blocks.{live_cuts}
 use Rattle.fb_calls.specs.Sessions.{is_clean}
+use Rattle.fb_calls.proofs.Lists.{all_weaker}
 use Rattle.fb_wanted.specs.declared.block.Block.{Block}
 use Rattle.fb_wanted.specs.States.{is_wanted}
 use Rattle.fb_rows.specs.declared.back.DeliveryRow.{DeliveryRow}
@@ -21,7 +22,7 @@ use Rattle.fb_model.specs.Completion.{work, segments, is_closed}
 use Rattle.fb_model.specs.Segments.{numbered, is_better, is_busy, unchosen, choose_best, choose_once, choose_up_to, choose_in, with_choices}
 use Rattle.fb_model.specs.Images.{delivery_begin}
 use Rattle.fb_model.specs.Steps.{Delivery, Part, blocks_by, take_call, calls_due, calls_taken, settled_past, with_delivery, with_finish, tested_past, past_after}
-use Rattle.fb_model.proofs.Lists.{all_append, all_filter, all_weaker, kept_twice, by_later}
+use Rattle.fb_model.proofs.Lists.{all_append, all_filter, kept_twice, by_later}
 
 -- ---- each block has a sector
 

@@ -7,8 +7,9 @@ use Rattle.std.proofs.lemmas.Bool.Decides.{nat_tests}
 use Rattle.fb_units.specs.declared.types.Request.{Request}
 use Rattle.fb_units.specs.Rising.{IsRising}
 use Rattle.fb_calls.specs.declared.call.Call.{Call}
+use Rattle.fb_calls.proofs.Lists.{all_weaker}
 use Rattle.fb_model.specs.Decisions.{among}
-use Rattle.fb_model.proofs.Lists.{all_weaker, kept_map, none_kept, is_after, after_is}
+use Rattle.fb_model.proofs.Lists.{kept_map, none_kept, is_after, after_is}
 
 abbrev pub is_by_then : ℕ → ℕ → Bool
 is_by_then t instant = nat_le instant t
@@ -23,21 +24,21 @@ all_after t x instants h all = all_weaker (λ later. x ≤ later) (λ instant. i
 
 -- ---- an instant comes among others
 
-all_among : (P : ℕ → Type 0) (xs : List ℕ) (t : ℕ) → AllByRecursion P xs → P t → AllByRecursion P (among xs t)
+pub all_among : (P : ℕ → Type 0) (xs : List ℕ) (t : ℕ) → AllByRecursion P xs → P t → AllByRecursion P (among xs t)
 all_among P [] t all h = (h, tt)
 all_among P (x ∷ xs) t all h = elim (cases_Bool (nat_le x t)) [
   | inl first ↦ rw first (all.0, all_among P xs t all.1 h)
   | inr later ↦ rw later (h, all)
 ]
 
-rising_among : (xs : List ℕ) (t : ℕ) → IsRising xs → IsRising (among xs t)
+pub rising_among : (xs : List ℕ) (t : ℕ) → IsRising xs → IsRising (among xs t)
 rising_among [] t rising = (tt, tt)
 rising_among (x ∷ xs) t rising = elim (cases_Bool (nat_le x t)) [
   | inl first ↦ rw first (all_among (λ later. x ≤ later) xs t rising.0 (grind (arith, nat_tests)), rising_among xs t rising.1)
   | inr later ↦ rw later (let less : t ≤ x = grind (arith, nat_tests) in ((less, all_weaker (λ y. x ≤ y) (λ y. t ≤ y) (λ y h. omega (arith, h, less)) xs rising.0), rising))
 ]
 
-was_among : (u : ℕ) (xs : List ℕ) (t : ℕ) → IsAmong u xs → IsAmong u (among xs t)
+pub was_among : (u : ℕ) (xs : List ℕ) (t : ℕ) → IsAmong u xs → IsAmong u (among xs t)
 was_among u [] t there = absurd there
 was_among u (x ∷ xs) t there = elim (cases_Bool (nat_le x t)) [
   | inl first ↦ rw first (elim there [ inl here ↦ inl here | inr rest ↦ inr (was_among u xs t rest) ])
@@ -72,7 +73,7 @@ pub rising_all_among : (ts xs : List ℕ) → IsRising xs → IsRising (fold amo
 rising_all_among [] xs rising = rising
 rising_all_among (t ∷ ts) xs rising = rising_all_among ts (among xs t) (rising_among xs t rising)
 
-was_all_among : (u : ℕ) (ts xs : List ℕ) → IsAmong u xs → IsAmong u (fold among xs ts)
+pub was_all_among : (u : ℕ) (ts xs : List ℕ) → IsAmong u xs → IsAmong u (fold among xs ts)
 was_all_among u [] xs there = there
 was_all_among u (t ∷ ts) xs there = was_all_among u ts (among xs t) (was_among u xs t there)
 

@@ -7,6 +7,7 @@ use Rattle.fb_units.specs.declared.types.Request.{Request}
 use Rattle.fb_geometry.specs.Sound.{IsSound}
 use Rattle.fb_calls.specs.declared.call.Call.{Call}
 use Rattle.fb_service.specs.declared.disk.Disk.{Disk}
+use Rattle.fb_calls.proofs.Lists.{all_weaker}
 use Rattle.fb_wanted.specs.declared.block.Block.{Block}
 use Rattle.fb_rows.specs.declared.gap.Plan.{Plan}
 use Rattle.fb_rows.specs.declared.gap.How.TheVariants.{Idle as ByIdle}
@@ -26,7 +27,7 @@ use Rattle.fb_model.specs.Accepted.{IsAccepted}
 use Rattle.fb_model.specs.SoundRun.{HasPlan, AreFollowed}
 use Rattle.fb_model.specs.FullRun.{HasBestPlan, IsFull}
 use Rattle.fb_model.specs.Known.{only_if, known_from, fore_known, AgreeUpTo, SameKnown, without_line}
-use Rattle.fb_model.proofs.Lists.{all_weaker, after_is, kept_map}
+use Rattle.fb_model.proofs.Lists.{after_is, kept_map}
 use Rattle.fb_model.proofs.Joined.{in_order}
 use Rattle.fb_model.proofs.Due.{IsDueRow, due_true}
 use Rattle.fb_model.proofs.Replays.{Rises, plain_turns}

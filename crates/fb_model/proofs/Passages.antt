@@ -23,6 +23,7 @@ use Rattle.fb_service.specs.declared.disk.Disk.{Disk}
 use Rattle.fb_service.specs.declared.passage.Passage.{Passage}
 use Rattle.fb_service.specs.Passing.{begin_from, length_of}
 use Rattle.fb_service.specs.Service.{passages, passage_from, finish_of, media_of}
+use Rattle.fb_calls.proofs.Lists.{all_weaker}
 use Rattle.fb_wanted.specs.declared.block.Block.{Block}
 use Rattle.fb_model.specs.PlainReplay.{Key, Served, service, finish, media, last_track}
 use Rattle.fb_model.specs.Foreground.{behind, read_of, promoted_from, promoted}
@@ -30,13 +31,13 @@ use Rattle.fb_model.specs.Inputs.{Inputs, requests}
 use Rattle.fb_model.specs.Accepted.{IsAccepted, IsRequestOf}
 use Rattle.fb_model.specs.Content.{Written, number_of, writes_of}
 use Rattle.fb_model.specs.Rides.{begin_at, end_at, lies_in}
-use Rattle.fb_model.proofs.Lists.{all_weaker, all_both, all_append, all_map, all_left, all_right}
+use Rattle.fb_model.proofs.Lists.{all_both, all_append, all_map, all_left, all_right}
 use Rattle.fb_model.proofs.Replays.{AreTurns, IsTurn}
 
 -- ---- between start and finish
 
 -- a slot begins no earlier than it is waited for
-from_on : (disk : Disk) (lbn t : ℕ) → t ≤ (passage_from disk.map lbn t).begin
+pub from_on : (disk : Disk) (lbn t : ℕ) → t ≤ (passage_from disk.map lbn t).begin
 unfolding begin_from
 from_on disk lbn t = omega arith
 
@@ -55,7 +56,7 @@ passed_between disk source now write lbn (suc n) =
 abbrev pub IsPassedBetween : List Passage → ℕ → ℕ → ℕ → ℕ → Type 0
 IsPassedBetween ps from to x y = (from ≤ begin_at ps x) × (begin_at ps x ≤ end_at ps y) × (end_at ps y ≤ to)
 
-sectors_pass : (disk : Disk) (source : Track) (now : ℕ) (write : Bool) (lbn n x y : ℕ) → lbn ≤ x → x ≤ y → y < lbn + n
+pub sectors_pass : (disk : Disk) (source : Track) (now : ℕ) (write : Bool) (lbn n x y : ℕ) → lbn ≤ x → x ≤ y → y < lbn + n
     → IsPassedBetween (passages disk source now write lbn n) now (finish_of now (passages disk source now write lbn n)) x y
 unfolding passages
 sectors_pass disk source now write lbn zero x y from order to = absurd (omega arith)
@@ -136,14 +137,14 @@ module _ (disk : Disk) (served : Served) (is : IsServiceOf disk served) where
 
 -- ---- each for some time
 
-slots_short : (rotation : ℕ) (zones : List Zone) (cylinder : ℕ) → ((i : ℕ) (zone : Zone) → slice_get zones i ≡ Some zone → zone.sectors ≤ rotation) → slots_at zones cylinder ≤ rotation
+pub slots_short : (rotation : ℕ) (zones : List Zone) (cylinder : ℕ) → ((i : ℕ) (zone : Zone) → slice_get zones i ≡ Some zone → zone.sectors ≤ rotation) → slots_at zones cylinder ≤ rotation
 slots_short rotation [] cylinder short = omega arith
 slots_short rotation (zone ∷ zones) cylinder short = elim (cases_Bool (nat_le cylinder zone.last)) [
   | inl here ↦ rw here (short 0 zone refl)
   | inr on ↦ rw on (slots_short rotation zones cylinder (λ i. short (suc i)))
 ]
 
-long_slots : (disk : Shape) → IsSound disk → (lbn : ℕ) → lbn < length (places disk) → 0 < length_of disk (place_at disk lbn)
+pub long_slots : (disk : Shape) → IsSound disk → (lbn : ℕ) → lbn < length (places disk) → 0 < length_of disk (place_at disk lbn)
 long_slots disk sound lbn inside =
     let found = has_place disk sound lbn inside in
     let lies = found.lies in
@@ -152,7 +153,7 @@ long_slots disk sound lbn inside =
     let more = (cover disk.rotation n (omega (arith, slot)) (slots_short disk.rotation disk.zones found.place.track.cylinder sound.short_slots)).ascend found.place.slot slot in
     subst (λ (place : Place). 0 < length_of disk place) (sym found.placed_at) (omega (arith, more))
 
-passages_long : (disk : Disk) → IsSound disk.map → (source : Track) (now : ℕ) (write : Bool) (lbn n : ℕ) → lbn + n ≤ length (places disk.map)
+pub passages_long : (disk : Disk) → IsSound disk.map → (source : Track) (now : ℕ) (write : Bool) (lbn n : ℕ) → lbn + n ≤ length (places disk.map)
     → AllByRecursion (λ (p : Passage). p.begin < p.end) (passages disk source now write lbn n)
 unfolding passages
 passages_long disk sound source now write lbn zero inside = tt
@@ -166,7 +167,7 @@ passages_long disk sound source now write lbn (suc n) inside =
 abbrev pub WritesLate : Served → Type 0
 WritesLate served = AllByRecursion (λ (w : Written). served.start < w.passage.end) (writes_of served)
 
-abbrev written_by : ℕ → Passage → Written
+abbrev pub written_by : ℕ → Passage → Written
 written_by writer passage = record { writer = writer; passage = passage }
 
 passes_late : (disk : Disk) → IsSound disk.map → (source : Track) (start : ℕ) (request : Request) → IsRange disk.map request.lbn request.count → WritesLate (service disk source start request)
@@ -184,24 +185,24 @@ passes_late disk sound source start request range = elim (cases_Bool request.wri
 abbrev pub LiesOnDisk : Shape → Request → Type 0
 LiesOnDisk disk request = IsRange disk request.lbn request.count
 
-read_lies : (disk : Shape) (before : List Call) (n : ℕ) (call : Call) (action : Action) → MayAsk disk before call.task action → AllByRecursion (LiesOnDisk disk) (read_of n call action)
+pub read_lies : (disk : Shape) (before : List Call) (n : ℕ) (call : Call) (action : Action) → MayAsk disk before call.task action → AllByRecursion (LiesOnDisk disk) (read_of n call action)
 read_lies disk before n call (Promote first count) may = (may.1, tt)
 read_lies disk before n call _ may = tt
 
-reads_lie : (disk : Shape) (before calls : List Call) (n : ℕ) → AreAllowed disk before calls → AllByRecursion (LiesOnDisk disk) (promoted_from n calls)
+pub reads_lie : (disk : Shape) (before calls : List Call) (n : ℕ) → AreAllowed disk before calls → AllByRecursion (LiesOnDisk disk) (promoted_from n calls)
 reads_lie disk before [] n allowed = tt
 reads_lie disk before (call ∷ calls) n allowed =
     all_append (LiesOnDisk disk) (read_of n call call.action) (promoted_from (n + length (read_of n call call.action)) calls)
     (read_lies disk before n call call.action allowed.1) (reads_lie disk (before ++ call ∷ []) calls (n + length (read_of n call call.action)) allowed.2)
 
-all_behind : (P : Request → Type 0) (requests : List Request) (read : Request) → AllByRecursion P requests → P read → AllByRecursion P (behind requests read)
+pub all_behind : (P : Request → Type 0) (requests : List Request) (read : Request) → AllByRecursion P requests → P read → AllByRecursion P (behind requests read)
 all_behind P [] read all h = (h, tt)
 all_behind P (request ∷ requests) read all h = elim (cases_Bool (nat_le request.arrival read.arrival)) [
   | inl first ↦ rw first (all.0, all_behind P requests read all.1 h)
   | inr later ↦ rw later (h, all)
 ]
 
-all_requests : (P : Request → Type 0) (reads requests : List Request) → AllByRecursion P requests → AllByRecursion P reads → AllByRecursion P (fold behind requests reads)
+pub all_requests : (P : Request → Type 0) (reads requests : List Request) → AllByRecursion P requests → AllByRecursion P reads → AllByRecursion P (fold behind requests reads)
 all_requests P [] requests all more = all
 all_requests P (read ∷ reads) requests all more = all_requests P reads (behind requests read) (all_behind P requests read all more.0) more.1
 

@@ -1,16 +1,13 @@
 -- The pick is the first request of least key, and the others stay in their order.
-use Rattle.std.proofs.Common.{inl, inr, ◌∙◌, ◌≡◌, ℕ, ◌≤◌, ◌<◌, List, [], ◌∷◌, ◌++◌, refl, true, false, Bool, cond, T, Option, Some, None, arith, sym, subst, ap, nat_le, true≢false, leb→le}
+use Rattle.std.proofs.Common.{inl, inr, ◌∙◌, ◌≡◌, ℕ, ◌≤◌, ◌<◌, List, [], ◌∷◌, ◌++◌, refl, true, false, Bool, cond, Option, Some, None, arith, sym, subst, ap, nat_le, leb→le}
 use Rattle.std.specs.Prelude.{if◌then◌else◌}
 use Rattle.std.specs.List.{AllByRecursion}
 use Rattle.std.proofs.lemmas.Bool.{cases_Bool}
 use Rattle.std.proofs.lemmas.Bool.Decides.{nat_tests}
 use Rattle.fb_units.specs.declared.types.Request.{Request}
+use Rattle.fb_store.proofs.Runs.{so}
 use Rattle.fb_model.specs.PlainReplay.{better, first_least, kept, pick_with, first_ready, has_arrived}
 use Rattle.fb_model.specs.Laws.{IsFirstLeast, IsPickOf, IsFirstReady, IsReadyPickOf}
-
-so : (b : Bool) → b ≡ true → T b
-so true p = tt
-so false p = absurd (true≢false (sym p))
 
 not_so : (a b : ℕ) → nat_le a b ≡ false → b < a
 not_so a b p = first_of (grind (arith, p), omega (arith, p))

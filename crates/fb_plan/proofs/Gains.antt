@@ -19,7 +19,7 @@ use Rattle.fb_model.specs.Plans.{is_caught, value, early_dwell, late_dwell}
 use Rattle.fb_plan.specs.Ways.{gain, track_of}
 use Rattle.fb_plan.specs.Turns.{gain_by}
 
-some-one : {X : Type 0} (x y : X) → Some x ≡ Some y → x ≡ y
+pub some-one : {X : Type 0} (x y : X) → Some x ≡ Some y → x ≡ y
 some-one x y h = grind arith
 
 first_or : {X : Type 0} (p : X → Bool) (y : X) (ys : List X) (i : ℕ) (x : X) → p y ≡ true → slice_get (y ∷ filter p ys) i ≡ Some x

@@ -22,11 +22,8 @@ use Rattle.fb_plan.specs.Ways.{plan_by, early_track, arrival, move_on, Beats, Is
 use Rattle.fb_plan.specs.declared.sides.Sides.{Sides}
 use Rattle.fb_plan.specs.Turns.{AreSides, stay_of}
 use Rattle.fb_plan.proofs.Enough.{enough}
-use Rattle.fb_plan.proofs.Gains.{in_filter}
+use Rattle.fb_plan.proofs.Gains.{in_filter, some-one}
 use Rattle.fb_plan.proofs.Ties.{later-leave, beats-trans}
-
-some-one : {X : Type 0} (x y : X) → Some x ≡ Some y → x ≡ y
-some-one x y h = grind arith
 
 to_filter : (p : Entry → Bool) (es : List Entry) (j : ℕ) (e : Entry) → slice_get es j ≡ Some e → p e ≡ true → (k : ℕ) × (slice_get (filter p es) k ≡ Some e)
 to_filter p es j e at pass =

@@ -21,14 +21,14 @@ use Rattle.fb_store.specs.declared.content.Content.{Content}
 use Rattle.fb_store.specs.Sparse.{Gives}
 use Rattle.fb_model.specs.History.{Past, tested, delivered, tasks, terms_of, registered, is_open_backup, is_seal_of}
 use Rattle.fb_model.specs.Completion.{Choice, TaskView, view, delivered_view, is_unsealed, is_done, is_cleaned, is_complete}
-use Rattle.fb_model.proofs.Views.{delivered-silent, delivered-view, tested-view}
+use Rattle.fb_model.proofs.Views.{delivered-silent, delivered-view, tested-view, number_same}
 use Rattle.fb_model.specs.Images.{test_rows, segment_rows, seal_rows, complete_rows, is_newly_cleaned, findings, is_scrub, bad_sectors}
 use Rattle.fb_tasks.specs.declared.session.Session.{Session}
 use Rattle.fb_tasks.specs.Taken.{by_deliveries, rows_after}
 use Rattle.fb_tasks.specs.Keeping.{HasTaken}
 use Rattle.fb_tasks.specs.Standing.{entry_of, choice_in, AreReported, MayFinish, IsBlockOf, IsAtWork, HoldsBlocks, Stands, Told}
 use Rattle.fb_tasks.specs.Telling.{Tells, IsSettled, MayDeliver}
-use Rattle.fb_tasks.proofs.Lists.{all_at, number_other, number_same, same_number, other_number, some_at, map_at}
+use Rattle.fb_tasks.proofs.Lists.{all_at, number_other, same_number, other_number, some_at, map_at}
 use Rattle.fb_tasks.proofs.Frames.{get_set, get_own}
 use Rattle.fb_tasks.proofs.RowsOf.{rows-given, seals_given, findings-mute}
 use Rattle.fb_tasks.proofs.Tested.{settled-tested}

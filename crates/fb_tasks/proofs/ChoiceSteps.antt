@@ -26,14 +26,14 @@ use Rattle.fb_rows.specs.declared.back.BackRow.{BackRow}
 use Rattle.fb_rows.specs.declared.back.BackRow.TheVariants.{Segment as SegmentLine}
 use Rattle.fb_model.specs.History.{Past, LogSegment, chose, tasks, registered}
 use Rattle.fb_model.specs.Completion.{Choice, Work, TaskView, view, chosen_view, is_cleaned, is_choice_of}
-use Rattle.fb_model.proofs.Views.{chosen-view}
+use Rattle.fb_model.proofs.Views.{chosen-view, number_same}
 use Rattle.fb_model.specs.Segments.{numbered, live_count, is_better, is_chosen, is_busy, unchosen, choose_best, choose_once}
 use Rattle.fb_model.specs.Images.{segment_rows, is_newly_cleaned}
 use Rattle.fb_tasks.specs.declared.session.Session.{Session}
 use Rattle.fb_tasks.specs.Taken.{found_for, by_deliveries}
 use Rattle.fb_tasks.specs.Keeping.{is_none, new_entries, cuts_of}
 use Rattle.fb_tasks.specs.Standing.{entry_of, Stands, Cleans, HoldsBlocks, MayChoose, kept_segment, choosable_by, choice_in}
-use Rattle.fb_tasks.proofs.Lists.{some_same, all_weaker, filter_same, number_same}
+use Rattle.fb_tasks.proofs.Lists.{some_same, all_weaker, filter_same}
 use Rattle.fb_tasks.proofs.Registered.{named_same, blocks_in}
 use Rattle.fb_tasks.proofs.Cuts.{cuts_count}
 use Rattle.fb_tasks.proofs.Segmented.{NumberedFrom, numbered_given, choice_kept, live_there, live_within, live_some, cuts_of_live, sum_without}

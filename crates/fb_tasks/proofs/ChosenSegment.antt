@@ -17,12 +17,12 @@ use Rattle.fb_wanted.specs.States.{is_delivered}
 use Rattle.fb_clean.specs.Segments as clean
 use Rattle.fb_model.specs.History.{Past, LogSegment, chose, tasks, registered, same_block}
 use Rattle.fb_model.specs.Completion.{Choice, TaskView, view, own_of, chosen_view, is_cleaned, is_choice_of}
-use Rattle.fb_model.proofs.Views.{chosen-silent, chosen-view}
+use Rattle.fb_model.proofs.Views.{chosen-silent, chosen-view, number_same}
 use Rattle.fb_model.specs.Segments.{numbered, is_better, is_chosen, unchosen}
 use Rattle.fb_tasks.specs.declared.session.Session.{Session}
 use Rattle.fb_tasks.specs.Keeping.{new_entries}
 use Rattle.fb_tasks.specs.Standing.{Cleans, HoldsBlocks, HoldsBlock, IsPlaced, IsCutFrom, IsBlockOf, IsSegmentOf, AreIndexed, choice_in, kept_segment}
-use Rattle.fb_tasks.proofs.Lists.{all_weaker, all_with, all_append, all_filter, all_pass, all_flat, all_same, number_same, number_other, same_number, other_number}
+use Rattle.fb_tasks.proofs.Lists.{all_weaker, all_with, all_append, all_filter, all_pass, all_flat, all_same, number_other, same_number, other_number}
 use Rattle.fb_tasks.proofs.Registered.{all_member, no_smaller, indexed_append, registered-entries}
 use Rattle.fb_tasks.proofs.Cuts.{cuts_own, cuts_indexed}
 use Rattle.fb_tasks.proofs.Segmented.{NumberedFrom, at_number, all_best, live_placed, live_cover, live_ascend}

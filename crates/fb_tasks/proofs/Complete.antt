@@ -20,10 +20,11 @@ use Rattle.fb_clean.specs.Segments as clean
 use Rattle.fb_model.specs.History.{Past, LogSegment, registered}
 use Rattle.fb_model.specs.Completion.{Choice, Work, view, is_cleaned, is_over, is_through, is_choice_of, is_complete, is_complete_as, is_done, was_complete}
 use Rattle.fb_model.specs.Segments.{is_chosen, is_busy}
+use Rattle.fb_model.proofs.Views.{number_same}
 use Rattle.fb_tasks.specs.declared.session.Session.{Session}
 use Rattle.fb_tasks.specs.Keeping.{is_none, is_worked_off, are_over, complete_as, complete_by}
 use Rattle.fb_tasks.specs.Standing.{entry_of, Stands, Cleans, IsAtWork, choice_in, kept_segment, IsAtNumber}
-use Rattle.fb_tasks.proofs.Lists.{some_same, all_flat, number_same, same_number}
+use Rattle.fb_tasks.proofs.Lists.{some_same, all_flat, same_number}
 use Rattle.fb_tasks.proofs.Counting.{counts_in, counts_same, counts_fit, over_same}
 
 -- what holds of each element holds of the one that is found

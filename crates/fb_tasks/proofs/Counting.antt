@@ -13,8 +13,9 @@ use Rattle.fb_wanted.specs.Numbering as numbering
 use Rattle.fb_wanted.specs.Counting.{of_task, counts_of}
 use Rattle.fb_model.specs.History.{Past, blocks_of, registered}
 use Rattle.fb_model.specs.Completion.{Work, TaskView, view, state_in, is_over}
+use Rattle.fb_model.proofs.Views.{number_same}
 use Rattle.fb_tasks.specs.Standing.{entry_by, entry_of}
-use Rattle.fb_tasks.proofs.Lists.{number_same, number_other, same_number}
+use Rattle.fb_tasks.proofs.Lists.{number_other, same_number}
 use Rattle.fb_tasks.proofs.States.{shown, shown_delivered, shown_aborted}
 
 pub filter-le : {X : Type 0} (p : X → Bool) (xs : List X) → length (filter p xs) ≤ length xs

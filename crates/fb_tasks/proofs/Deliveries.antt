@@ -15,9 +15,9 @@ use Rattle.fb_wanted.specs.States.{after, is_delivered}
 use Rattle.fb_rows.specs.declared.back.DeliveryRow.{DeliveryRow}
 use Rattle.fb_model.specs.History.{Past, delivered, registered}
 use Rattle.fb_model.specs.Completion.{Choice, TaskView, view, state_in, delivered_view, is_cleaned, is_over}
-use Rattle.fb_model.proofs.Views.{delivered-silent, delivered-view}
+use Rattle.fb_model.proofs.Views.{delivered-silent, delivered-view, number_same}
 use Rattle.fb_tasks.specs.Standing.{entry_of, HoldsBlock, AreIndexed, Ascend}
-use Rattle.fb_tasks.proofs.Lists.{some_same, all_any, all_at, all_weaker, all_with, number_same, same_number, other_number}
+use Rattle.fb_tasks.proofs.Lists.{some_same, all_any, all_at, all_weaker, all_with, same_number, other_number}
 use Rattle.fb_tasks.proofs.Frames.{changed-entries}
 use Rattle.fb_tasks.proofs.Sectors.{held_same, held_all, within, before_it, behind_it, ascend_from}
 
@@ -27,7 +27,7 @@ get_append (y ∷ xs) ys zero x h = inl h
 get_append (y ∷ xs) ys (suc i) x h = get_append xs ys i x h
 
 -- blocks are told apart by their numbers
-indexed_from : (n : ℕ) (bs : List Block) → AreIndexed n bs → AllByRecursion (λ b. n ≤ b.index) bs
+pub indexed_from : (n : ℕ) (bs : List Block) → AreIndexed n bs → AllByRecursion (λ b. n ≤ b.index) bs
 indexed_from n [] h = tt
 indexed_from n (b ∷ bs) h = (omega (arith, h.0), all_weaker (λ c. n + 1 ≤ c.index) (λ c. n ≤ c.index) (λ c le. omega (arith, le)) bs (indexed_from (n + 1) bs h.1))
 

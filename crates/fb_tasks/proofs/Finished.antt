@@ -25,11 +25,12 @@ use Rattle.fb_model.specs.History.{Past, bare_state, content_of}
 use Rattle.fb_model.specs.Completion.{Choice, Work, view, is_cleaned}
 use Rattle.fb_model.specs.Segments.{is_busy, live_count}
 use Rattle.fb_model.specs.Images.{segment_rows, is_newly_cleaned}
+use Rattle.fb_model.proofs.Views.{number_same}
 use Rattle.fb_tasks.specs.declared.session.Session.{Session}
 use Rattle.fb_tasks.specs.Keeping.{is_none}
 use Rattle.fb_tasks.specs.Taken.{found_for, by_deliveries}
 use Rattle.fb_tasks.specs.Standing.{Stands, Cleans, MayFinish, IsAtWork, IsAtNumber, IsCutFrom, HoldsBlock, HoldsChoice, choice_in}
-use Rattle.fb_tasks.proofs.Lists.{all_weaker, all_with, all_append, all_left, all_right, all_flat, flat_all, flat_same, some_same, number_same, filter_none, each_all, list_all_each}
+use Rattle.fb_tasks.proofs.Lists.{all_weaker, all_with, all_append, all_left, all_right, all_flat, flat_all, flat_same, some_same, filter_none, each_all, list_all_each}
 use Rattle.fb_tasks.proofs.Counting.{counts_same, filter-le}
 use Rattle.fb_tasks.proofs.Segmented.{live_there}
 

@@ -13,10 +13,11 @@ use Rattle.fb_wanted.specs.declared.block.Entry.{Entry}
 use Rattle.fb_wanted.specs.Numbering.{registered, blocks_of}
 use Rattle.fb_wanted.specs.States.{wanted_unless}
 use Rattle.fb_model.specs.Segments.{numbered}
+use Rattle.fb_model.proofs.Views.{number_same}
 use Rattle.fb_tasks.specs.declared.session.Session.{Session}
 use Rattle.fb_tasks.specs.Keeping.{new_entries}
 use Rattle.fb_tasks.specs.Leaving.{HasGrown, HasBegun, OnlyRegisters, MayClean, OnlyTouched, by_calls}
-use Rattle.fb_tasks.proofs.Lists.{all_append, all_left, all_map, all_weaker, map_at, some_at, some_same, number_same}
+use Rattle.fb_tasks.proofs.Lists.{all_append, all_left, all_map, all_weaker, map_at, some_at, some_same}
 use Rattle.fb_tasks.proofs.Frames.{get_other}
 use Rattle.fb_tasks.proofs.Cuts.{cuts_own, ranges_join}
 

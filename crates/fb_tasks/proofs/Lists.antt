@@ -148,9 +148,6 @@ each_all p (x ∷ xs) h = rw h.0 (each_all p xs h.1)
 pub same_number : (a b : ℕ) → (a == b) ≡ true → a ≡ b
 same_number a b h = grind (arith, nat_tests)
 
-pub number_same : (a b : ℕ) → a ≡ b → (a == b) ≡ true
-number_same a b h = grind (arith, nat_tests)
-
 pub number_other : (a b : ℕ) → (a ≡ b → ⊥) → (a == b) ≡ false
 number_other a b h = grind (arith, nat_tests)
 

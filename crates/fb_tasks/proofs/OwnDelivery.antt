@@ -18,10 +18,11 @@ use Rattle.fb_clean.specs.Segments as clean
 use Rattle.fb_rows.specs.declared.back.DeliveryRow.{DeliveryRow}
 use Rattle.fb_model.specs.History.{Past, delivered, registered, wanted, state}
 use Rattle.fb_model.specs.Completion.{Choice, TaskView, view, state_in, delivered_view, is_cleaned, is_over}
+use Rattle.fb_model.proofs.Views.{number_same}
 use Rattle.fb_tasks.specs.declared.session.Session.{Session}
 use Rattle.fb_tasks.specs.Keeping.{HasTaken}
 use Rattle.fb_tasks.specs.Standing.{entry_of, Stands, Cleans, IsUntouched, IsPlaced, HoldsBlocks, HoldsChoice, AreIndexed, Ascend, choice_in}
-use Rattle.fb_tasks.proofs.Lists.{all_weaker, all_right, all_flat, number_same, filter_from, filter_to}
+use Rattle.fb_tasks.proofs.Lists.{all_weaker, all_right, all_flat, filter_from, filter_to}
 use Rattle.fb_tasks.proofs.States.{shown}
 use Rattle.fb_tasks.proofs.Deliveries.{only_one, still_done, still_over, taken-holds, taken-only, in_current, either}
 

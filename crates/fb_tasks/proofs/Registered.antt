@@ -11,13 +11,14 @@ use Rattle.fb_wanted.specs.States.{wanted_unless}
 use Rattle.fb_wanted.specs.Numbering as numbering
 use Rattle.fb_model.specs.History.{Past, blocks_of, registered, same_block}
 use Rattle.fb_model.specs.Completion.{view, own_of, state_in}
+use Rattle.fb_model.proofs.Views.{number_same}
 use Rattle.fb_tasks.specs.declared.session.Session.{Session}
 use Rattle.fb_tasks.specs.Keeping.{new_entries}
 use Rattle.fb_tasks.specs.Standing.{entry_of, AreIndexed}
-use Rattle.fb_tasks.proofs.Lists.{all_weaker, all_pass, all_with, map_same, number_same, number_other, same_number, other_number}
+use Rattle.fb_tasks.proofs.Lists.{all_weaker, all_pass, all_with, map_same, number_other, same_number, other_number}
 use Rattle.fb_tasks.proofs.States.{shown}
 
-itself : (block : Block) → same_block block block ≡ true
+pub itself : (block : Block) → same_block block block ≡ true
 itself block = rw (number_same block.task block.task refl, number_same block.index block.index refl) refl
 
 -- each block is one of them

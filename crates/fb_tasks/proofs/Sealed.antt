@@ -24,6 +24,7 @@ use Rattle.fb_wanted.specs.States.{is_delivered, is_aborted, is_block}
 use Rattle.fb_wanted.specs.Counting.{counts_of}
 use Rattle.fb_model.specs.History.{Past, tasks, registered, is_open_backup}
 use Rattle.fb_model.specs.Completion.{Work, TaskView, view, is_unsealed, is_over, is_complete, is_complete_as, is_done}
+use Rattle.fb_model.proofs.Views.{number_same}
 use Rattle.fb_tasks.specs.Keeping.{without_aborted}
 use Rattle.fb_rows.specs.declared.back.BackRow.TheVariants.{Seal as SealLine}
 use Rattle.fb_model.specs.Images.{seal_rows}
@@ -32,7 +33,7 @@ use Rattle.fb_tasks.specs.Taken.{found_for, by_deliveries}
 use Rattle.fb_tasks.specs.Standing.{entry_of, entry_in, Ascend, AreIndexed, IsBlockOf, HoldsBlock, HoldsBlocks, HoldsImage, Stands}
 use Rattle.fb_tasks.specs.declared.session.Session.{Session}
 use Rattle.fb_tasks.proofs.Counting.{counts_same}
-use Rattle.fb_tasks.proofs.Lists.{all_weaker, all_with, all_filter, all_at, some_same, number_same, filter_from, map_at, some_at, list_all_each}
+use Rattle.fb_tasks.proofs.Lists.{all_weaker, all_with, all_filter, all_at, some_same, filter_from, map_at, some_at, list_all_each}
 use Rattle.fb_tasks.proofs.Registered.{blocks_in, own}
 use Rattle.fb_tasks.proofs.States.{shown_aborted}
 use Rattle.fb_tasks.proofs.Sectors.{held_same, within, before_it, behind_it, ascend_from}

@@ -16,11 +16,12 @@ use Rattle.fb_model.specs.History.{Past, tested, tasks, task_numbers, bare_state
 use Rattle.fb_model.specs.Completion.{Choice, TaskView, view, tested_view, is_unsealed, is_cleaned, is_done, is_complete, is_segment_of}
 use Rattle.fb_model.specs.Segments.{is_busy}
 use Rattle.fb_model.specs.Images.{Sources, test_rows, segment_rows, seal_rows, complete_rows, is_newly_cleaned}
+use Rattle.fb_model.proofs.Views.{number_same}
 use Rattle.fb_tasks.specs.declared.session.Session.{Session}
 use Rattle.fb_tasks.specs.Keeping.{is_none, IsSealed}
 use Rattle.fb_tasks.specs.Standing.{AreRowsOf, AreReported, IsAtWork, Stands, Cleans, HoldsBlock, HoldsImage, choice_in}
 use Rattle.fb_tasks.specs.Telling.{IsSettled}
-use Rattle.fb_tasks.proofs.Lists.{all_any, all_weaker, flat_same, number_same, filter_none, flat_none}
+use Rattle.fb_tasks.proofs.Lists.{all_any, all_weaker, flat_same, filter_none, flat_none}
 
 pub range_below : (P : ℕ → Type 0) (a n : ℕ) → ((k : ℕ) → k < a + n → P k) → AllByRecursion P (range_with_len a n)
 range_below P a zero h = tt

@@ -11,7 +11,7 @@ use Rattle.fb_sectormap.specs.Cutting.{cutting}
 use Rattle.fb_calls.specs.declared.call.Action.TheVariants.{Want}
 use Rattle.fb_calls.specs.declared.call.Call.{Call}
 use Rattle.fb_calls.specs.Allowed as allowed
-use Rattle.fb_calls.specs.Allowed.{Terms, MayAsk, terms_in, is_want, has_want}
+use Rattle.fb_calls.specs.Allowed.{MayAsk, has_want}
 use Rattle.fb_calls.specs.Sessions.{is_backup, is_clean}
 use Rattle.fb_store.specs.Index.{held_at}
 use Rattle.fb_store.specs.Writes.{is_within}
@@ -34,7 +34,8 @@ use Rattle.fb_tasks.proofs.Lists.{some_same, all_with, all_append}
 use Rattle.fb_tasks.proofs.Frames.{one-tells}
 use Rattle.fb_tasks.proofs.Asked.{open_there, terms_there}
 use Rattle.fb_tasks.proofs.Registered.{named_same, indexed_append, all_member, registered-entries}
-use Rattle.fb_tasks.proofs.Cuts.{cuts_are, cuts_placed, cuts_ascend, cuts_indexed, cuts_own, cuts_count}
+use Rattle.fb_model.proofs.Cuts.{cuts_are}
+use Rattle.fb_tasks.proofs.Cuts.{cuts_placed, cuts_ascend, cuts_indexed, cuts_own, cuts_count}
 
 -- an open backup holds nothing as yet, and no other session is an image
 wanted-told : (task : ℕ) (added : List Block) (v : TaskView) (session : Session) → is_clean session.kind ≡ false → is_backup session.kind && v.wants ≡ false → Ascend 0 added → AllByRecursion (λ b. b.task ≡ task) added

@@ -1,13 +1,15 @@
 use Rattle.std.proofs.Common.{◌≡◌, ◌≤◌, ◌++◌, drop, length, sym, subst, ◌∙◌, arith}
 use Rattle.std.specs.List.{AllByRecursion}
+use Rattle.fb_calls.proofs.Lists.{all_weaker}
 use Rattle.fb_model.specs.Accepted.{IsRequestOf}
+use Rattle.fb_model.proofs.Lists.{all_append, all_left, all_right}
 use Rattle.fb_decide.specs.Deciding.{serves_pick, stays_on, stays_last, ends_here}
-use Rattle.fb_decide.proofs.Readiness.{all_front, all_back, all_join, all_weaker, taken, none_waits}
+use Rattle.fb_decide.proofs.Readiness.{taken, none_waits}
 use Rattle.fb_decide.proofs.deciding.advance.Goals as goal
 
 pub serve_next-requires-clause-on_disk : goal.serve_next-requires-clause-on_disk
 serve_next-requires-clause-on_disk g c =
-    all_front (IsRequestOf c.args.disk.now.map) (g.Q.Queue.pending c.join_arrived.new.queue) (drop c.in_ok-course-2.field-0 c.args.requests.now)
+    all_left (IsRequestOf c.args.disk.now.map) (g.Q.Queue.pending c.join_arrived.new.queue) (drop c.in_ok-course-2.field-0 c.args.requests.now)
     (subst (AllByRecursion (IsRequestOf c.args.disk.now.map)) (sym c.in_ok-course-2.ensures.left) c.requires.waiting.on_disk)
 
 pub returns-then-not-is_empty-clause-decided : goal.returns-then-not-is_empty-clause-decided
@@ -35,14 +37,14 @@ returns-then-not-is_empty-clause-waiting g c = λ _.
     let later = served.2.later in
     let all : AllByRecursion (IsRequestOf c.args.disk.now.map) (ps ++ qs) = subst (AllByRecursion (IsRequestOf c.args.disk.now.map)) (sym joined.left) c.requires.waiting.on_disk in
     let came = taken (λ r. r.arrival ≤ c.args.course.now.now) key ps served.0 rest joined.arrived served.1 in
-    let lie = taken (IsRequestOf c.args.disk.now.map) key ps served.0 rest (all_front (IsRequestOf c.args.disk.now.map) ps qs all) served.1 in
+    let lie = taken (IsRequestOf c.args.disk.now.map) key ps served.0 rest (all_left (IsRequestOf c.args.disk.now.map) ps qs all) served.1 in
     let same : c.serve_next.new.course.joined ≡ c.in_ok-course-2.field-0 = served.2.same_joined in
     record {
       within = subst (λ n. n ≤ length requests) (sym same) joined.within;
       counted = c.in_ok-serve_next.ensures.counted ∙ joined.joined ∙ sym same;
       arrived = all_weaker (λ r. r.arrival ≤ c.args.course.now.now) (λ r. r.arrival ≤ c.serve_next.new.course.now) (λ r le. omega (arith, le, later)) rest came.1.0;
-      on_disk = all_join (IsRequestOf c.args.disk.now.map) rest (drop c.serve_next.new.course.joined requests) lie.1.0
-          (subst (λ n. AllByRecursion (IsRequestOf c.args.disk.now.map) (drop n requests)) (sym same) (all_back (IsRequestOf c.args.disk.now.map) ps qs all));
+      on_disk = all_append (IsRequestOf c.args.disk.now.map) rest (drop c.serve_next.new.course.joined requests) lie.1.0
+          (subst (λ n. AllByRecursion (IsRequestOf c.args.disk.now.map) (drop n requests)) (sym same) (all_right (IsRequestOf c.args.disk.now.map) ps qs all));
     }
 
 pub returns-in_ok-stay_until-in-Some-clause-decided : goal.returns-in_ok-stay_until-in-Some-clause-decided

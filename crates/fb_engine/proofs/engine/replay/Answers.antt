@@ -1,9 +1,9 @@
 use Rattle.std.proofs.Common.{length, ap, ◌∙◌}
+use Rattle.fb_calls.proofs.Lists.{all_weaker}
 use Rattle.fb_rows.specs.Ranges.{HasBackRanges}
 use Rattle.fb_rows.specs.Tasks.{HasNamedTask}
 use Rattle.fb_calls.specs.Allowed.{tasks}
 use Rattle.fb_decide.specs.Making.{Given, RowFits}
-use Rattle.fb_decide.proofs.Passed.{all_weaker}
 use Rattle.fb_engine.proofs.Looping.{at_first, gone_on, one_on, less_by, is_full, is_few, rows_fit}
 use Rattle.fb_engine.proofs.engine.replay.Goals as goal
 

@@ -1,23 +1,18 @@
--- Blocks that are cut from a range.
+-- The blocks into which a range is cut.
 use Rattle.std.proofs.Common.{◌≡◌, ℕ, zero, suc, ◌+◌, ◌-◌, ◌%◌, ◌<◌, ◌≤◌, ◌==◌, not, nat_lt, List, [], ◌∷◌, true, false, refl, ap, sym, ◌∙◌, arith, subst, inl, inr}
-use Rattle.std.proofs.lemmas.Bool.{cases_Bool, true≢false, and_parts, or_parts, eqb-true, eq-eqb, cases_lt, not-false}
+use Rattle.std.proofs.lemmas.Bool.{cases_Bool, true≢false, and_parts, or_parts, eq-eqb, cases_lt, not-false}
 use Rattle.std.proofs.Math.Nat.{mod-add-mod, mod-eq_of_lt, mod-lt, mod_self}
-use Rattle.fb_units.specs.declared.types.Track.{Track}
 use Rattle.fb_units.specs.Tracks.{same_track}
 use Rattle.fb_geometry.specs.Shape.{Shape, turn_position}
 use Rattle.fb_sectormap.specs.declared.cut.Cut.{Cut}
 use Rattle.fb_sectormap.specs.Lookup.{place_at, track_at}
 use Rattle.fb_sectormap.specs.Cutting.{IsOneTurn, cutting, with_sector, is_cut_before, is_later}
+use Rattle.fb_service.proofs.Joining.{same_tracks}
 
 -- cuts that lie end to end, none beyond a multiple of the block size, each in one turn of its track
 abbrev pub AreCuts : Shape → ℕ → ℕ → ℕ → List Cut → Type 0
 AreCuts disk block from end [] = from ≡ end
 AreCuts disk block from end (cut ∷ cuts) = (cut.lbn ≡ from) × (0 < cut.count) × (cut.count ≤ block - from % block) × (cut.track ≡ track_at disk from) × AreCuts disk block (from + cut.count) end cuts × IsOneTurn disk from cut.count
-
-same_tracks : (a b : Track) → same_track a b ≡ true → a ≡ b
-same_tracks a b h =
-    let parts = and_parts (a.cylinder == b.cylinder) (a.head == b.head) h in
-    ap (λ c. record { cylinder = c; head = a.head }) (eqb-true a.cylinder b.cylinder parts.0) ∙ ap (λ k. record { cylinder = b.cylinder; head = k }) (eqb-true a.head b.head parts.1)
 
 -- a sector that no block begins at comes by later in the turn of the one before
 goes_on : (disk : Shape) (block lbn : ℕ) → is_cut_before disk block (lbn + 1) ≡ false
