@@ -15,7 +15,8 @@ use Rattle.fb_model.specs.PlainReplay.{Served}
 use Rattle.fb_model.specs.SoundRun.{HasPlan, IsPlanned, IsTested}
 use Rattle.fb_model.specs.Steps.{AtEach, Part, history, opening, part_rows, past_after, steps}
 use Rattle.fb_decide.proofs.Chain.{decisions_follow, services}
-use Rattle.fb_decide.proofs.QuietRows.{IsQuiet, IsQuietPart, delivered_rows, quiet_part, tasks_quiet}
+use Rattle.fb_model.proofs.RowsUpTo.{delivered_rows}
+use Rattle.fb_decide.proofs.QuietRows.{IsQuiet, IsQuietPart, quiet_part, tasks_quiet}
 use Rattle.fb_units.specs.declared.types.Request.{Request}
 use Rattle.fb_bgwrite.specs.Spilled.{AreGaps}
 
