@@ -1,26 +1,40 @@
 -- Reports that a replay printed, and that a check reads.
 use Rattle.std.proofs.Common.{◌≡◌, ◌⊎◌, ℕ, List, length, Option, Some, None, true, refl, sym, ap, subst, ◌∙◌, inl, inr}
 use Rattle.std.proofs.lemmas.List.Folds.{flat_map-map}
-use Rattle.std.specs.Prelude.{IfSome, is_some}
+use Rattle.std.specs.Prelude.{IfSome, codes, is_some}
 use Rattle.fb_service.specs.declared.disk.Disk.{Disk}
+use Rattle.fb_rows.specs.declared.run.Run.{Run}
 use Rattle.fb_calls.specs.Reading.{Accepted as Script}
 use Rattle.fb_report.specs.Grammar.{Grammar, ended, report_of}
 use Rattle.fb_report.specs.Printed.{IsReadBack}
 use Rattle.fb_check.specs.declared.verdict.Verdict.{Verdict}
 use Rattle.fb_check.specs.declared.verdict.Verdict.TheVariants.{Yes}
 use Rattle.fb_desk.specs.View.{DeskView, OutputView}
-use Rattle.fb_words.specs.Command.{CheckTerms}
+use Rattle.fb_desk.specs.declared.desk.Output.TheVariants.{Fore, Back}
+use Rattle.fb_words.specs.Command.{CheckTerms, ReplayTerms}
 use Rattle.fb_top.specs.declared.outcome.Outcome.{Outcome}
 use Rattle.fb_top.specs.declared.outcome.Outcome.TheVariants as outcomes
 use Rattle.fb_top.specs.Causes.{CheckHasCause}
 use Rattle.fb_top.specs.Checked.{IsVerdictOf}
 use Rattle.fb_top.specs.Complete.{IsJudged, TellsReport}
+use Rattle.fb_top.specs.Done.{AreReadBack, HoldsWanted, IsRunOf, back_told, fore_told}
 use Rattle.fb_top.specs.Read.{Accepts, Files, ReadsScript}
 use Rattle.fb_top.specs.Sources.{SourceTerms}
 use Rattle.fb_top.specs.Streams.{IsHeld}
-use Rattle.fb_top.specs.Untouched.{HoldAlike, HoldOneInput, HoldsLines, HoldsWritten}
+use Rattle.fb_top.specs.Untouched.{HasReplayed, HoldAlike, HoldOneInput, HoldsLines, HoldsWritten}
 use Rattle.fb_top.specs.Written.{HoldsWhole, joined}
 use Rattle.fb_top.proofs.OneRun.{held_here}
+
+-- what a replay has printed, without puts or with them
+pub record Prints (old new : DeskView) (terms : ReplayTerms) (run : Run) : Type 0 where
+  pub is_run : IsRunOf old terms run
+  pub fore : HoldsWhole (new.outputs Fore) (codes "-") (fore_told terms is_run.files run)
+  pub back : HoldsWanted terms.back (back_told terms is_run.files run) (old.outputs Back) (new.outputs Back)
+  pub read : AreReadBack terms is_run.files run
+
+pub prints : (old new : DeskView) (terms : ReplayTerms) (run : Run) → HasReplayed old new terms run → Prints old new terms run
+prints old new terms run (inl done) = record { is_run = done.is_run; fore = done.reports.fore; back = done.reports.back; read = done.read }
+prints old new terms run (inr h) = record { is_run = h.1.is_run; fore = h.1.texts.reports.fore; back = h.1.texts.reports.back; read = h.1.read }
 
 -- a text that is read back, that was written to an output and is held under a name
 module _ (output : OutputView) (desk : DeskView) (name under : List ℕ) (grammar : Grammar) (lines : List (List ℕ)) (holds : HoldsWritten output desk name) (whole : HoldsWhole output under (joined lines)) (read : IsReadBack grammar lines) where

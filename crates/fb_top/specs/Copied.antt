@@ -5,7 +5,7 @@ use Rattle.fb_store.specs.Runs.{runs_of}
 use Rattle.fb_rows.specs.declared.run.Run.{Run}
 use Rattle.fb_model.specs.Content.{content, contents_at, medium_of}
 use Rattle.fb_model.specs.Inputs.{Inputs}
-use Rattle.fb_mirror.specs.Replacement.{events, held_after}
+use Rattle.fb_mirror.specs.Replacement.{contents_after, covered_after, events, held_after}
 use Rattle.fb_mirror.specs.Survivor.{IsAtRest, events_by, sectors, survives}
 use Rattle.fb_mirror.specs.declared.rebuilt.Rebuilt.{Rebuilt}
 use Rattle.fb_desk.specs.View.{DeskView}
@@ -15,6 +15,8 @@ use Rattle.fb_top.specs.Devices.{device_inputs}
 
 -- each sector that the copy got is the disk's, at the run's end and whenever no write is under way; once the rebuild is sealed, that is every sector
 pub record IsCopyOf (inputs : Inputs) (run : Run) (copy : Rebuilt) : Type 0 where
+  pub contents : copy.content ≡ contents_after (events run) (sectors inputs)
+  pub count : copy.covered ≡ covered_after (events run) (sectors inputs)
   pub covered : (lbn : ℕ) (held : Content) → held_after (events run) lbn ≡ Some held → held ≡ survives inputs run lbn
   pub covered_at_rest : (t lbn : ℕ) (held : Content) → IsAtRest t run → held_after (events_by t run) lbn ≡ Some held → held ≡ content (medium_of inputs) lbn t
   pub whole : (instant : ℕ) → copy.sealed ≡ Some instant

@@ -27,7 +27,7 @@ pub record CanBeSpilled (files : Files) (puts : PutsRead) : Type 0 where
 
 -- what is written of puts in the free gaps of a run
 pub record WritesPuts (disk : Disk) (run : Run) (puts : PutsRead) (spill : SpillRun) : Type 0 where
-  -- each free gap has the best spill, its rows stand in order and no others, and the head can go the amended way, which keeps all foreground passages and all deliveries
+  -- each free gap has the best spill, its rows stand in order and no others, and the head can go the amended way, which keeps all foreground passages and all stays in which a block is delivered
   pub spills : IsSpillRun disk run puts.puts spill.items
   -- no block is written twice, or before its instant
   pub once : AreOnce spill.items

@@ -9,6 +9,7 @@ use Rattle.fb_report.specs.Back.{back_lines}
 use Rattle.fb_report.specs.Fore.{fore_lines, fore_text}
 use Rattle.fb_report.specs.Grammar.{Grammar, back_grammar, fore_grammar}
 use Rattle.fb_report.specs.Printed.{IsReadBack}
+use Rattle.fb_bgwrite.specs.declared.items.SpillRun.{SpillRun}
 use Rattle.fb_check.specs.declared.verdict.Verdict.{Verdict}
 use Rattle.fb_check.specs.declared.verdict.Verdict.TheVariants.{Yes}
 use Rattle.fb_desk.specs.View.{DeskView, OutputView}
@@ -24,6 +25,7 @@ use Rattle.fb_top.specs.Sources.{SourceTerms, check_sources, replay_sources}
 use Rattle.fb_top.specs.Read.{Files, inputs_of, key_of}
 use Rattle.fb_top.specs.Array.{AreRunsOf, device_line, section}
 use Rattle.fb_top.specs.Done.{IsDone, IsRunOf, fore_told}
+use Rattle.fb_top.specs.Spilled.{IsSpilled}
 use Rattle.fb_top.specs.Written.{OutputFaultsRose, joined}
 
 -- the same disk, latent sectors and trace, and scripts that ask for the same reads
@@ -49,9 +51,16 @@ pub record HoldOneInput (one other : DeskView) (terms : SourceTerms) : Type 0 wh
   pub trace : HoldAlike one other terms.trace
   pub calls : IfSome terms.calls (HoldAlike one other)
 
--- the same words over the same bytes have one run
+-- two replays ask for one run: the same files and device, the same policy and the same end; what they print, and what they write in gaps, may differ
+pub record AskForOneRun (terms others : ReplayTerms) : Type 0 where
+  pub sources : replay_sources terms ≡ replay_sources others
+  pub policy : terms.policy ≡ others.policy
+  pub until : terms.until ≡ others.until
+
+-- such words over the same bytes have one run
 abbrev pub InputsHaveOneRun : Type 0
-InputsHaveOneRun = (one other : DeskView) (terms : ReplayTerms) (run run' : Run) → HoldOneInput one other (replay_sources terms) → IsRunOf one terms run → IsRunOf other terms run' → run ≡ run'
+InputsHaveOneRun = (one other : DeskView) (terms others : ReplayTerms) (run run' : Run) → AskForOneRun terms others → HoldOneInput one other (replay_sources terms)
+    → IsRunOf one terms run → IsRunOf other others run' → run ≡ run'
 
 -- two runs of files that agree up to an instant before both ends are the same in what is known by then
 abbrev pub RunsLookNotAhead : Type 0
@@ -88,6 +97,10 @@ pub record HoldsWritten (output : OutputView) (desk : DeskView) (name : List ℕ
   pub held : desk.held name ≡ Some bytes
   pub within : length bytes ≤ 2 ^ 28
 
+-- a replay wrote its reports, without puts or with them
+abbrev pub HasReplayed : DeskView → DeskView → ReplayTerms → Run → Type 0
+HasReplayed old new terms run = IsDone old new terms run ⊎ ((spill : SpillRun) × IsSpilled old new terms run spill)
+
 -- a check asks for what a replay asked for, and both reports that the replay wrote are held under the names of the check
 pub record ChecksPrinted (old new other : DeskView) (terms : ReplayTerms) (checks : CheckTerms) : Type 0 where
   pub checks_run : ChecksRun old other terms checks
@@ -112,7 +125,7 @@ pub record AreRight (desk : DeskView) (checks : CheckTerms) : Type 0 where
 
 -- the reports that a replay printed are right
 abbrev pub PrintedReportsAreRight : Type 0
-PrintedReportsAreRight = (old new other : DeskView) (terms : ReplayTerms) (checks : CheckTerms) (run : Run) → IsDone old new terms run → ChecksPrinted old new other terms checks → AreRight other checks
+PrintedReportsAreRight = (old new other : DeskView) (terms : ReplayTerms) (checks : CheckTerms) (run : Run) → HasReplayed old new terms run → ChecksPrinted old new other terms checks → AreRight other checks
 
 -- a replay asks for one of the devices of an array: files of the same bytes, the same policy and the same form, without a script and without a summary
 pub record ReplaysDevice (one other : DeskView) (terms : ArrayTerms) (replay : ReplayTerms) : Type 0 where

@@ -30,11 +30,14 @@ use std::alloc::Global;
 /// report, if the words name one, goes to the output `Back` under that name. Both are the same with
 /// puts and without. Where there are puts, they are written in the free gaps of the run, in each as
 /// many sectors as can be, and the text of what was written goes to the output `Spill` under the
-/// name that the words give, after both reports. A make reads the parameter file, and writes a trace and a call
-/// script that are accepted for that disk. A check reads what a replay reads, then a printed
-/// foreground report and a printed background report, and judges whether they are those of the
-/// replay's run; one line that tells the verdict goes to the output `Fore` under the name `-`. An
-/// array reads the parameter file and the trace, which is judged for all its devices, and replays
+/// name that the words give, after both reports.
+///
+/// A make reads the parameter file, and writes a trace and a call script that are accepted for that
+/// disk. A check reads the parameter file, the trace and the call script, then a printed foreground
+/// report and a printed background report, and judges whether they are those of the replay's run;
+/// one line that tells the verdict goes to the output `Fore` under the name `-`.
+///
+/// An array reads the parameter file and the trace, which is judged for all its devices, and replays
 /// each; a section for each device goes to the output `Fore` under the name `-`. Where the words ask
 /// for a rebuild, one device is replayed beside a backup of its whole disk: its background report
 /// goes to the output `Back`, and then what the replacement holds to the output `Copied`, each under

@@ -1,5 +1,6 @@
 //! The top call: it reads the words, then the inputs that they name, and replays them, for one
-//! device or for several, and writes the reports; or it judges reports that were printed.
+//! device or for several, and writes the reports, and what was written in gaps if the words name
+//! puts; or it judges reports that were printed.
 //!
 //! Files are reached through a `Desk` (`fb_desk`). `run_command` returns an outcome. Its contract
 //! says that each outcome has its cause, in what was read or in a call of the desk that failed;

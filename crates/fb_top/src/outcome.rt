@@ -30,8 +30,8 @@ pub enum Outcome {
         /// What the replacement of a lost disk holds, where the words ask for a rebuild.
         copy: Option<Rebuilt>,
     },
-    /// The replay was made, what was to be written in its free gaps was written there, and its
-    /// reports and the text of what was written were written whole.
+    /// The replay was made, with as much of the puts in its free gaps as they have room for, and
+    /// its reports and the text of what was written there were written whole.
     Spilled {
         /// The run.
         run: Run,

@@ -15,10 +15,11 @@ pub fn scripts_leave_the_foreground()
     foreground_is_untouched();
 }
 
-/// The same words over the same bytes have one run.
+/// The same files have one run.
 ///
 /// On two desks that hold the same bytes under the names that the words give to inputs, the run is
-/// the same to its last row.
+/// the same to its last row. The words may differ in what is printed, and in what is written in
+/// gaps: puts change neither report.
 pub fn inputs_have_one_run()
     ensures { InputsHaveOneRun }
 {
@@ -47,7 +48,8 @@ pub fn right_reports_are_right()
 
 /// The reports that a replay printed are right.
 ///
-/// A replay was done that wrote both reports, and a check asks for the same over the same bytes.
+/// A replay wrote both reports, with puts or without, and a check asks for the same over the same
+/// bytes.
 /// Where it finds under its names what the replay wrote, each at most 2^28 bytes, it accepts both
 /// reports; unless a call fails or memory runs out, its verdict is yes.
 pub fn printed_reports_are_right()

@@ -20,6 +20,8 @@ returns c = λ old new terms rebuild runs run copy arrayed given at.
     let calls : inputs.calls ≡ rebuild_calls array.disk.map =
     calls_of_device terms.rebuild rebuild array mine.trace given sound arrayed.are_runs.accepts.script in
     record {
+      contents = ap (λ (one : Rebuilt). one.content) made;
+      count = ap (λ (one : Rebuilt). one.covered) made;
       covered = λ lbn held. c.covered_sectors_are_the_survivors.ensures.at_end inputs run lbn held sound mine.accepted mine.full;
       covered_at_rest = λ t lbn held rests. c.covered_sectors_are_the_survivors.ensures.at_rest inputs run t lbn held sound mine.accepted mine.full rests;
       whole = λ instant sealed.

@@ -14,19 +14,20 @@ use Rattle.fb_top.specs.Sources.{SourceTerms, check_sources}
 use Rattle.fb_top.specs.Untouched.{HoldOneInput, HoldsLines, HoldsOwnReports}
 use Rattle.fb_top.specs.Written.{HoldsWhole}
 use Rattle.fb_top.proofs.Completeness.{complete}
-use Rattle.fb_top.proofs.Printed.{accepted_there, answers_yes, held_lines, told_lines, told_there}
+use Rattle.fb_top.proofs.Printed.{accepted_there, answers_yes, held_lines, prints, told_lines, told_there}
 use Rattle.fb_top.proofs.untouched.printed_reports_are_right.Goals as goal
 
 pub returns : goal.returns
-returns c = λ old new other terms asked run done asks.
+returns c = λ old new other terms asked run replayed asks.
+    let done = prints old new terms run replayed in
     let files = done.is_run.files in
     let size = files.disk.sector_bytes in
     let fore = fore_lines size terms.bytes run in
     let back = back_lines files.script.names size terms.bytes run in
     let fore_whole : HoldsWhole (new.outputs Fore) (codes "-") (fore_text size terms.bytes run) =
-    subst (λ (summary : Bool). HoldsWhole (new.outputs Fore) (codes "-") (if summary then summary_text run else fore_text size terms.bytes run)) asks.no_summary done.reports.fore in
+    subst (λ (summary : Bool). HoldsWhole (new.outputs Fore) (codes "-") (if summary then summary_text run else fore_text size terms.bytes run)) asks.no_summary done.fore in
     let back_whole : HoldsWhole (new.outputs Back) asks.back_name (back_told terms files run) =
-    subst (λ (given : Option (List ℕ)). HoldsWanted given (back_told terms files run) (old.outputs Back) (new.outputs Back)) asks.back_given done.reports.back in
+    subst (λ (given : Option (List ℕ)). HoldsWanted given (back_told terms files run) (old.outputs Back) (new.outputs Back)) asks.back_given done.back in
     let fore_read = done.read.fore asks.no_summary in
     let back_read : IsReadBack back_grammar back = subst (λ (given : Option (List ℕ)). IfSome given (λ name. IsReadBack back_grammar back)) asks.back_given done.read.back in
     let fore_told = told_lines (new.outputs Fore) other asked.fore (codes "-") fore_grammar fore asks.fore fore_whole fore_read in
