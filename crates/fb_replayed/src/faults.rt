@@ -1,7 +1,7 @@
 // Calls of the desk that fail, and inputs that are too long.
 ghost use Rattle.std.specs.Prelude.{◌<◌};
 
-use crate::scene::{Ending, Scene, TWELVE, disk, end, scripted, unscripted};
+use crate::scene::{Ending, Scene, TWELVE, disk, end, scripted, spilling, unscripted};
 use fb_units::NoMemory;
 use std::alloc::Global;
 use std::process::Abort;
@@ -319,8 +319,7 @@ fn each_failing_call_of_a_backup_and_a_cleaner_is_told(rt: HostRuntime) -> Resul
 fn each_failing_call_of_a_spill_is_told(rt: HostRuntime) -> Result<(), Fail> {
     let alloc = rt.alloc();
     let params = disk(alloc, "", TWELVE)?;
-    let mut scene = scripted(params.as_bytes(), READ_BEHIND_A_GAP, NO_BLOCKS);
-    scene.puts = ONE_PUT;
+    let scene = spilling(params.as_bytes(), READ_BEHIND_A_GAP, NO_BLOCKS, ONE_PUT);
     check_faults(&rt, alloc, &scene, SPILL, FAULTS_OF_A_SPILL)
 }
 

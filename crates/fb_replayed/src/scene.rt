@@ -113,20 +113,27 @@ pub fn disk(alloc: Global, before: &str, within: &str) -> Result<String, NoMemor
 }
 
 /// These files, on a desk that moves many bytes a call and never fails.
-pub fn scripted<'a>(params: &'a [u8], trace: &'a [u8], calls: &'a [u8]) -> Scene<'a>
+pub fn spilling<'a>(params: &'a [u8], trace: &'a [u8], calls: &'a [u8], puts: &'a [u8]) -> Scene<'a>
     ensures { 0 < result.piece }
 {
     Scene {
         params,
         trace,
         calls,
-        puts: b"",
+        puts,
         piece: 4096,
         failing: 0,
     }
 }
 
-/// The same with an empty script.
+/// The same with an empty puts file.
+pub fn scripted<'a>(params: &'a [u8], trace: &'a [u8], calls: &'a [u8]) -> Scene<'a>
+    ensures { 0 < result.piece }
+{
+    spilling(params, trace, calls, b"")
+}
+
+/// The same with an empty script too.
 pub fn unscripted<'a>(params: &'a [u8], trace: &'a [u8]) -> Scene<'a>
     ensures { 0 < result.piece }
 {
@@ -179,11 +186,19 @@ pub fn fill(desk: &mut MemoryDesk, scene: &Scene) -> Result<(), NoMemory>
     requires { IsUnused (memory_view desk.old) }
     ensures { IsUnused (memory_view desk.new) }
 {
+    hold_files(desk, scene)?;
+    desk.fail(scene.failing)
+}
+
+// Puts the files of a scene on a desk, none of whose calls fails.
+fn hold_files(desk: &mut MemoryDesk, scene: &Scene) -> Result<(), NoMemory>
+    requires { IsUnused (memory_view desk.old) }
+    ensures { IsUnused (memory_view desk.new) }
+{
     desk.hold("k", scene.params)?;
     desk.hold("t", scene.trace)?;
     desk.hold("c", scene.calls)?;
-    desk.hold("u", scene.puts)?;
-    desk.fail(scene.failing)
+    desk.hold("u", scene.puts)
 }
 
 fn status_of(outcome: Outcome) -> u8 {

@@ -1,7 +1,7 @@
 // Puts that are written in the free gaps of a replay.
 ghost use Rattle.std.specs.Prelude.{◌<◌, ◌≤◌};
 
-use crate::scene::{LARGE, Scene, TWELVE, check_refused, disk, end, unscripted};
+use crate::scene::{LARGE, Scene, TWELVE, check_refused, disk, end, spilling, unscripted};
 use fb_units::NoMemory;
 use std::alloc::Global;
 use std::process::Abort;
@@ -11,6 +11,11 @@ const WORDS: &str =
     "freeblock replay --params k --trace t --policy fcfs --bytes hex --puts u --spill v";
 
 const LATE_READ: &[u8] = b"0 0 11 1 1\n";
+
+// A put that the gap of the read has the time for, and one that passes too late.
+const IN_TIME: &[u8] = b"reserve 12 12\n0 put 20 1\n";
+
+const TOO_LATE: &[u8] = b"reserve 12 12\n0 put 21 1\n";
 
 const FORE: &str =
     "freeblock fore 1\n1 R 11 1 0 0 1100 1200 0 0000000000000000000000000000000b\nend 1 0\n";
@@ -74,19 +79,11 @@ const ORDERS: &[(&str, &str)] = &[
     ),
 ];
 
-// Checks what is written of these puts in the gap before one read.
-fn check_spill(
-    rt: &impl Abort,
-    alloc: Global,
-    scene: &Scene,
-    puts: &str,
-    spill: &str,
-) -> Result<(), Fail>
+// Checks what is written in the gap before one read.
+fn check_spill(rt: &impl Abort, alloc: Global, scene: &Scene, spill: &str) -> Result<(), Fail>
     requires { 0 < scene.now.piece }
 {
-    let mut scene = *scene;
-    scene.puts = puts.as_bytes();
-    let ending = end(alloc, &scene, WORDS)?;
+    let ending = end(alloc, scene, WORDS)?;
     assert_eq!(rt; ending.status, 0);
     assert_eq!(rt; ending.note.len(), 0);
     assert_eq!(rt; ending.fore.as_slice(), FORE.as_bytes());
@@ -98,33 +95,19 @@ fn check_spill(
 fn puts_are_written_in_a_free_gap(rt: HostRuntime) -> Result<(), Fail> {
     let alloc = rt.alloc();
     let params = disk(alloc, "", TWELVE)?;
-    let scene = unscripted(params.as_bytes(), LATE_READ);
-    check_spill(&rt, alloc, &scene, "reserve 12 12\n0 put 20 1\n", ONE_SPILL)?;
-    check_spill(&rt, alloc, &scene, "reserve 12 12\n0 put 21 1\n", NO_SPILL)
-}
-
-// Checks that this puts file is refused with this note.
-fn check_puts(
-    rt: &impl Abort,
-    alloc: Global,
-    scene: &Scene,
-    puts: &str,
-    note: &str,
-) -> Result<(), Fail>
-    requires { 0 < scene.now.piece }
-{
-    let mut scene = *scene;
-    scene.puts = puts.as_bytes();
-    check_refused(rt, alloc, &scene, WORDS, 11, note)
+    let in_time = spilling(params.as_bytes(), LATE_READ, b"", IN_TIME);
+    check_spill(&rt, alloc, &in_time, ONE_SPILL)?;
+    let too_late = spilling(params.as_bytes(), LATE_READ, b"", TOO_LATE);
+    check_spill(&rt, alloc, &too_late, NO_SPILL)
 }
 
 #[test]
 fn refused_puts(rt: HostRuntime) -> Result<(), Fail> {
     let alloc = rt.alloc();
     let params = disk(alloc, "", TWELVE)?;
-    let scene = unscripted(params.as_bytes(), LATE_READ);
     for (puts, note) in REFUSED {
-        check_puts(&rt, alloc, &scene, puts, note)?;
+        let scene = spilling(params.as_bytes(), LATE_READ, b"", puts.as_bytes());
+        check_refused(&rt, alloc, &scene, WORDS, 11, note)?;
     }
     Ok(())
 }
@@ -132,9 +115,9 @@ fn refused_puts(rt: HostRuntime) -> Result<(), Fail> {
 #[test]
 fn a_reserve_may_be_too_large(rt: HostRuntime) -> Result<(), Fail> {
     let alloc = rt.alloc();
-    let scene = unscripted(LARGE.as_bytes(), LATE_READ);
+    let scene = spilling(LARGE.as_bytes(), LATE_READ, b"", b"reserve 12 16000001\n");
     let note = "freeblock: puts: line 1: TooLarge\n";
-    check_puts(&rt, alloc, &scene, "reserve 12 16000001\n", note)
+    check_refused(&rt, alloc, &scene, WORDS, 11, note)
 }
 
 // A reserve, and so many puts of one sector each.
@@ -154,10 +137,10 @@ fn puts_of_one(alloc: Global, count: u64) -> Result<String, NoMemory>
 fn puts_may_be_too_many(rt: HostRuntime) -> Result<(), Fail> {
     let alloc = rt.alloc();
     let puts = puts_of_one(alloc, MOST_PUTS + 1)?;
-    let mut scene = unscripted(LARGE.as_bytes(), LATE_READ);
+    let mut scene = spilling(LARGE.as_bytes(), LATE_READ, b"", puts.as_bytes());
     scene.piece = 65_536;
     let note = "freeblock: puts: line 100002: TooMany\n";
-    check_puts(&rt, alloc, &scene, puts.as_str(), note)
+    check_refused(&rt, alloc, &scene, WORDS, 11, note)
 }
 
 // Checks that the foreground is the same with puts, and that some are written.
@@ -178,15 +161,24 @@ fn check_order(
     Ok(())
 }
 
+// Checks that in each order of service.
+fn check_orders(rt: &impl Abort, alloc: Global, trace: &[u8]) -> Result<(), Fail> {
+    let scene = spilling(
+        LARGE.as_bytes(),
+        trace,
+        b"",
+        b"reserve 0 2000\n0 put 0 2000\n",
+    );
+    for (alone, beside) in ORDERS {
+        check_order(rt, alloc, &scene, alone, beside)?;
+    }
+    Ok(())
+}
+
 #[test]
 fn puts_leave_the_foreground(rt: HostRuntime) -> Result<(), Fail> {
     let alloc = rt.alloc();
     let scene = unscripted(LARGE.as_bytes(), b"");
     let made = end(alloc, &scene, MAKE)?;
-    let mut scene = unscripted(LARGE.as_bytes(), made.made_trace.as_slice());
-    scene.puts = b"reserve 0 2000\n0 put 0 2000\n";
-    for (alone, beside) in ORDERS {
-        check_order(&rt, alloc, &scene, alone, beside)?;
-    }
-    Ok(())
+    check_orders(&rt, alloc, made.made_trace.as_slice())
 }
