@@ -26,7 +26,7 @@ use Rattle.fb_bgwrite.proofs.Admitting.{first_in_order, numbered_first}
 use Rattle.fb_bgwrite.proofs.Appending.{at_append}
 use Rattle.fb_bgwrite.proofs.Lists.{all_none, all_push, at_all, some_one}
 use Rattle.fb_bgwrite.proofs.PutBlocks.{all_of_puts, all_sectors, blocks_split, its_blocks, puts_in_order, IsOfPuts}
-use Rattle.fb_bgwrite.proofs.Writing.{delivered, left_less, once_more, once_stay, stay_left, stay_registered, told}
+use Rattle.fb_bgwrite.proofs.Writing.{delivered, left_less, none_once, once_more, once_stay, stay_left, stay_registered, told}
 
 -- ---- before the first row
 
@@ -49,7 +49,7 @@ new_spilling s items pending admitted written =
       upto = subst (AllByRecursion (IsUpTo s.admitted)) (sym items) tt;
       written = written ∙ sym (ap (sum_by sectors_in) items);
       parts = omega (arith, written, ap (left_over disk puts) items, ap sectors (all_left (its_blocks (put_blocks disk.map puts))));
-      once = subst AreOnce (sym items) tt;
+      once = subst AreOnce (sym items) none_once;
       in_time = subst (AllByRecursion (IsInTime disk puts)) (sym items) tt;
       ranges = subst (AllByRecursion HasRange) (sym items) tt;
     }

@@ -1,5 +1,5 @@
 -- Elements of lists, by their index.
-use Rattle.std.proofs.Common.{◌≡◌, ℕ, zero, suc, List, [], ◌∷◌, ◌++◌, Bool, true, false, Option, Some, None, slice_get, inl, inr, refl, sym, subst, ap, ◌∙◌, arith, rules}
+use Rattle.std.proofs.Common.{◌≡◌, ◌⊎◌, ℕ, zero, suc, List, [], ◌∷◌, ◌++◌, length, Bool, true, false, Option, Some, None, slice_get, inl, inr, refl, sym, subst, ap, ◌∙◌, arith, rules}
 use Rattle.std.specs.List.{AllByRecursion, list_any}
 use Rattle.std.specs.Option.{IsSome}
 use Rattle.std.proofs.lemmas.Bool.{cases_Bool, true≢false}
@@ -38,6 +38,16 @@ all_none p (x ∷ xs) none = elim (cases_Bool (p x)) [
 pub all_push : {X : Type 0} (P : X → Type 0) (xs : List X) (x : X) → AllByRecursion P xs → P x → AllByRecursion P (xs ++ x ∷ [])
 all_push P [] x all h = (h, tt)
 all_push P (y ∷ ys) x all h = (all.0, all_push P ys x all.1 h)
+
+-- an element of a list with one more is one of the list, or the last one
+pub before_or_last : {X : Type 0} (xs : List X) (x y : X) (i : ℕ) → slice_get (xs ++ x ∷ []) i ≡ Some y → (slice_get xs i ≡ Some y) ⊎ ((i ≡ length xs) × (x ≡ y))
+before_or_last [] x y zero is = inr (refl, some_one x y is)
+before_or_last [] x y (suc i) is = absurd (grind arith)
+before_or_last (z ∷ xs) x y zero is = inl is
+before_or_last (z ∷ xs) x y (suc i) is = elim (before_or_last xs x y i is) [
+  | inl before ↦ inl before
+  | inr last ↦ inr (ap suc last.0, last.1)
+]
 
 pub some_there : {X : Type 0} (o : Option X) (x : X) → o ≡ Some x → IsSome o
 some_there None x e = absurd (grind arith)

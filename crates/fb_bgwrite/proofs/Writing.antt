@@ -17,10 +17,13 @@ use Rattle.fb_bgwrite.specs.declared.items.SpillItem.TheVariants.{Spill as Spill
 use Rattle.fb_bgwrite.specs.declared.items.SpillRow.{SpillRow}
 use Rattle.fb_bgwrite.specs.declared.items.WroteRow.{WroteRow}
 use Rattle.fb_bgwrite.specs.Blocks.{PutBlock, is_pending, is_written, pending, sectors, writes}
-use Rattle.fb_bgwrite.specs.Spilled.{AreOnce, IsElsewhere}
+use Rattle.fb_bgwrite.specs.Spilled.{AreOnce}
 use Rattle.fb_bgwrite.specs.Standing.{entry_of}
-use Rattle.fb_bgwrite.proofs.Lists.{all_push, some_one}
+use Rattle.fb_bgwrite.proofs.Lists.{at_all, before_or_last, some_one}
 use Rattle.fb_bgwrite.proofs.PutBlocks.{its_blocks, AreInOrder, IsBefore}
+
+wrote_one : (a b : WroteRow) → WroteLine a ≡ WroteLine b → a ≡ b
+wrote_one a b e = grind arith
 
 -- ---- blocks that are told apart
 
@@ -153,20 +156,32 @@ module _ (items : List SpillItem) (row : WroteRow) (block : Block) (put_is : row
 
   -- ---- once
 
-  same_told : (other : Block) (own : WroteRow) → writes other (WroteLine row) ≡ true → writes block (WroteLine own) ≡ false → writes other (WroteLine own) ≡ false
-  same_told other own on off =
-      let parts = and_parts (row.put == other.task) (row.lbn == other.lbn) on in
-      let task : other.task ≡ block.task = sym (eqb-true row.put other.task parts.0) ∙ put_is in
-      let lbn : other.lbn ≡ block.lbn = sym (eqb-true row.lbn other.lbn parts.1) ∙ lbn_is in
-      ap₂ (λ t l. (own.put == t) && (own.lbn == l)) task lbn ∙ off
-
-  elsewhere_more : (item : SpillItem) (rows : List SpillItem) → writes block item ≡ false → IsElsewhere item rows → IsElsewhere item (rows ++ WroteLine row ∷ [])
-  elsewhere_more (SpillLine stay) rows off is = tt
-  elsewhere_more (WroteLine own) rows off is = all_push (λ item. (other : Block) → writes other item ≡ true → writes other (WroteLine own) ≡ false) rows (WroteLine row) is (λ other on. same_told other own on off)
+  -- the row is of no block that was written before
+  clash : (own : WroteRow) → writes block (WroteLine own) ≡ false → own.put ≡ row.put → own.lbn ≡ row.lbn → ⊥
+  clash own off put lbn =
+      let task : own.put ≡ block.task = put ∙ put_is in
+      let first : own.lbn ≡ block.lbn = lbn ∙ lbn_is in
+      let on : writes block (WroteLine own) ≡ true = grind (arith, nat_tests) in
+      true≢false (sym on ∙ off)
 
   pub once_more : (rows : List SpillItem) → AllByRecursion (λ item. writes block item ≡ false) rows → AreOnce rows → AreOnce (rows ++ WroteLine row ∷ [])
-  once_more [] off once = (tt, tt)
-  once_more (item ∷ rows) off once = (elsewhere_more item rows off.0 once.0, once_more rows off.1 once.1)
+  once_more rows off once i j one other at_i at_j puts lbns = elim (before_or_last rows (WroteLine row) (WroteLine one) i at_i) [
+    | inl one_before ↦ elim (before_or_last rows (WroteLine row) (WroteLine other) j at_j) [
+      | inl other_before ↦ once i j one other one_before other_before puts lbns
+      | inr other_last ↦
+          let same = sym (wrote_one row other other_last.1) in
+          absurd (clash one (at_all _ rows i (WroteLine one) off one_before) (puts ∙ ap (λ (r : WroteRow). r.put) same) (lbns ∙ ap (λ (r : WroteRow). r.lbn) same))
+    ]
+    | inr one_last ↦ elim (before_or_last rows (WroteLine row) (WroteLine other) j at_j) [
+      | inl other_before ↦
+          let same = sym (wrote_one row one one_last.1) in
+          absurd (clash other (at_all _ rows j (WroteLine other) off other_before) (sym puts ∙ ap (λ (r : WroteRow). r.put) same) (sym lbns ∙ ap (λ (r : WroteRow). r.lbn) same))
+      | inr other_last ↦ one_last.0 ∙ sym other_last.0
+    ]
+  ]
+
+pub none_once : AreOnce []
+none_once i j row other at_i at_j puts lbns = absurd (grind arith)
 
 none : (a : Bool) → (a || false) ≡ a
 none true = refl
@@ -193,13 +208,15 @@ stay_left items row (put ∷ puts) = elim (cases_Bool (is_written items put.bloc
       rw (now, no') (omega (arith, sum_by-cons (λ (b : Block). b.count) put.block (filter (λ b. not (is_written (items ++ SpillLine row ∷ []) b)) (its_blocks puts)), sum_by-cons (λ (b : Block). b.count) put.block (filter (λ b. not (is_written items b)) (its_blocks puts)), stay_left items row puts))
 ]
 
-elsewhere_stay : (item : SpillItem) (rows : List SpillItem) (row : SpillRow) → IsElsewhere item rows → IsElsewhere item (rows ++ SpillLine row ∷ [])
-elsewhere_stay (SpillLine stay) rows row is = tt
-elsewhere_stay (WroteLine own) rows row is = all_push (λ item. (other : Block) → writes other item ≡ true → writes other (WroteLine own) ≡ false) rows (SpillLine row) is (λ other on. absurd (true≢false (sym on)))
+-- a row of a stay is none of a block
+wrote_before : (rows : List SpillItem) (stay : SpillRow) (row : WroteRow) (i : ℕ) → slice_get (rows ++ SpillLine stay ∷ []) i ≡ Some (WroteLine row) → slice_get rows i ≡ Some (WroteLine row)
+wrote_before rows stay row i is = elim (before_or_last rows (SpillLine stay) (WroteLine row) i is) [
+  | inl before ↦ before
+  | inr last ↦ absurd (let stay_is_row = last.1 in grind arith)
+]
 
-pub once_stay : (rows : List SpillItem) (row : SpillRow) → AreOnce rows → AreOnce (rows ++ SpillLine row ∷ [])
-once_stay [] row once = (tt, tt)
-once_stay (item ∷ rows) row once = (elsewhere_stay item rows row once.0, once_stay rows row once.1)
+pub once_stay : (rows : List SpillItem) (stay : SpillRow) → AreOnce rows → AreOnce (rows ++ SpillLine stay ∷ [])
+once_stay rows stay once i j row other at_i at_j = once i j row other (wrote_before rows stay row i at_i) (wrote_before rows stay other j at_j)
 
 -- ---- the pending blocks are the registered ones that are wanted
 

@@ -63,15 +63,10 @@ pub record IsSpillRun (disk : Disk) (run : Run) (puts : List Put) (items : List 
   pub spills : List (Option Spill)
   pub are : AreSpills disk run puts items spills
 
--- the put's block isn't written by any of these rows
-abbrev pub IsElsewhere : SpillItem → List SpillItem → Type 0
-IsElsewhere (SpillLine row) items = Unit {0}
-IsElsewhere (WroteLine row) items = AllByRecursion (λ item. (block : Block) → writes block item ≡ true → writes block (WroteLine row) ≡ false) items
-
--- no block is written twice
+-- no block is written twice: no two rows tell of one put and one LBN
 abbrev pub AreOnce : List SpillItem → Type 0
-AreOnce [] = Unit {0}
-AreOnce (item ∷ items) = IsElsewhere item items × AreOnce items
+AreOnce items = (i j : ℕ) (row other : WroteRow) → slice_get items i ≡ Some (WroteLine row) → slice_get items j ≡ Some (WroteLine other)
+    → row.put ≡ other.put → row.lbn ≡ other.lbn → i ≡ j
 
 -- what is written is a block of a put whose instant has come
 pub record IsOfPut (disk : Disk) (puts : List Put) (row : WroteRow) : Type 0 where

@@ -13,7 +13,7 @@ use Rattle.fb_words.specs.Command.{ArrayTerms, RebuildTerms}
 use Rattle.fb_top.specs.Array.{IsArrayed}
 use Rattle.fb_top.specs.Devices.{device_inputs}
 
--- each sector that the copy got is the disk's, at the run's end and whenever no write is under way; once the rebuild is sealed, that is every sector
+-- the copy holds what the events of the run gave it; each sector that it got is the disk's, at the run's end and whenever no write is under way; once the rebuild is sealed, that is every sector
 pub record IsCopyOf (inputs : Inputs) (run : Run) (copy : Rebuilt) : Type 0 where
   pub contents : copy.content ≡ contents_after (events run) (sectors inputs)
   pub count : copy.covered ≡ covered_after (events run) (sectors inputs)

@@ -4,6 +4,8 @@ use Rattle.std.specs.List.{AllByRecursion, sum_by}
 use Rattle.fb_geometry.specs.Places.{places}
 use Rattle.fb_service.specs.declared.disk.Disk.{Disk}
 use Rattle.fb_rows.specs.declared.run.Run.{Run}
+use Rattle.fb_model.specs.FullRun.{IsFull}
+use Rattle.fb_model.specs.PlainReplay.{Key}
 use Rattle.fb_bgwrite.specs.Held.{HoldsPuts}
 use Rattle.fb_bgwrite.specs.Ranges.{share}
 use Rattle.fb_bgwrite.specs.Reading.{Accepted as PutsRead}
@@ -16,7 +18,7 @@ use Rattle.fb_desk.specs.declared.desk.Output.TheVariants.{Fore, Back, Spill}
 use Rattle.fb_words.specs.Command.{ReplayTerms}
 use Rattle.fb_top.specs.declared.outcome.Outcome.{Outcome}
 use Rattle.fb_top.specs.declared.outcome.Outcome.TheVariants as outcomes
-use Rattle.fb_top.specs.Read.{AcceptsPuts, Files, puts_terms}
+use Rattle.fb_top.specs.Read.{AcceptsPuts, Files, inputs_of, puts_terms}
 use Rattle.fb_top.specs.Done.{AreReadBack, HoldsReports, HoldsWanted, IsRunOf, StopsReports, back_told, fore_told}
 use Rattle.fb_top.specs.Written.{HoldsFront, HoldsWhole, KeepsButThree, OutputFaultsRose, joined}
 
@@ -24,6 +26,12 @@ use Rattle.fb_top.specs.Written.{HoldsFront, HoldsWhole, KeepsButThree, OutputFa
 pub record CanBeSpilled (files : Files) (puts : PutsRead) : Type 0 where
   pub rules : ArePuts (length (places files.disk.map)) puts
   pub untouched : AllByRecursion (λ range. share puts.reserve range ≡ false) (puts_terms files).asked
+
+-- a full run of these files, by some order of service and some limit of time
+pub record IsRunOfFiles (files : Files) (run : Run) : Type 0 where
+  pub key : Key
+  pub until : ℕ
+  pub full : IsFull (inputs_of files key until) run
 
 -- what is written of puts in the free gaps of a run
 pub record WritesPuts (disk : Disk) (run : Run) (puts : PutsRead) (spill : SpillRun) : Type 0 where

@@ -6,16 +6,15 @@ ghost use Rattle.fb_bgwrite.specs.Text.{HasRange};
 ghost use Rattle.fb_bgwrite.specs.Verdict.{accepted};
 ghost use Rattle.fb_desk.specs.View.{IsUnused};
 ghost use Rattle.fb_desk.specs.declared.desk.Output.{Output};
-ghost use Rattle.fb_model.specs.FullRun.{IsFull};
 ghost use Rattle.fb_words.specs.Command.{go_together};
 ghost use Rattle.fb_words.specs.Verdict.{replay_terms};
 ghost use Rattle.fb_top.specs.Calm.{AreOutputsCalm, MeetsNoFault};
 ghost use Rattle.fb_top.specs.Causes.{HasCause};
 ghost use Rattle.fb_top.specs.Done.{AreReadBack, CanBeRead, CanBeTold};
 ghost use Rattle.fb_top.specs.Opened.{OpensAsNamed};
-ghost use Rattle.fb_top.specs.Read.{files_of, inputs_of, key_of};
+ghost use Rattle.fb_top.specs.Read.{files_of};
 ghost use Rattle.fb_top.specs.Sources.{replay_inputs};
-ghost use Rattle.fb_top.specs.Spilled.{CanBeSpilled, HoldsReplay, StopsReplay, WritesGiven};
+ghost use Rattle.fb_top.specs.Spilled.{CanBeSpilled, HoldsReplay, IsRunOfFiles, StopsReplay, WritesGiven};
 ghost use Rattle.fb_top.specs.Unnamed.{KeepsInputs, KeepsUnnamed};
 
 use crate::Outcome;
@@ -53,7 +52,7 @@ pub fn run_replay<D: Desk>(alloc: Global, desk: &mut D, words: &ReplayWords) -> 
         Ok(run) => run,
         Err(NoMemory) => return Outcome::NoMemory,
     };
-    let spill = match spill_given(alloc, words, files, &run, inputs.puts.as_ref()) {
+    let spill = match spill_given(alloc, files, &run, inputs.puts.as_ref()) {
         Ok(spill) => spill,
         Err(NoMemory) => return Outcome::NoMemory,
     };
@@ -70,18 +69,16 @@ pub fn run_replay<D: Desk>(alloc: Global, desk: &mut D, words: &ReplayWords) -> 
 // What is written in the free gaps of a run, if there are puts. The only error is out of memory.
 fn spill_given(
     alloc: Global,
-    words: &ReplayWords,
     files: &ReplayFiles,
     run: &Run,
     puts: Option<&Puts>,
 ) -> Result<Option<SpillRun>, NoMemory>
-    requires full { IsFull (inputs_of (files_of files.now) (key_of words.now.policy) words.now.until) run.now }
+    requires full { IsRunOfFiles (files_of files.now) run.now }
     requires early { run.now.end ≤ 9 * 10 ^ 18 }
     requires fit { IfSome puts (λ puts. CanBeSpilled (files_of files.now) (accepted puts.now)) }
     ensures writes { IfOk result (WritesGiven (files_of files.now).disk run.now (option_map (λ puts. accepted puts.now) puts.entry)) }
     ensures told { IfOk result (λ spill. IfSome spill (λ spill. AllByRecursion HasRange spill.items)) }
 {
-    let _words = words;
     match puts {
         Some(puts) => Ok(Some(spill(alloc, &files.params.disk, run, puts)?)),
         None => Ok(None),

@@ -35,8 +35,11 @@ returns-in-Err-spill_given-clause-cause g c =
     inl (replay_ran_out (replay_terms c.args.words.now) (g.D.Desk.seen c.args.desk.now) (g.D.Desk.seen c.read_replay.new.desk) (files_of c.in-Ok.inputs.files) c.in-Ok.ensures.accepts c.in-Ok.ensures.unnamed c.in-Ok.ensures.outputs)
 
 pub spill_given-requires-clause-full : goal.spill_given-requires-clause-full
-spill_given-requires-clause-full g c =
-    subst (λ (inputs : Inputs). IsFull inputs c.in-Ok-replay_by.run') (c.asked.ensures.inputs (key_of c.args.words.now.policy)) c.in-Ok-replay_by.ensures.full
+spill_given-requires-clause-full g c = record {
+  key = key_of c.args.words.now.policy;
+  until = c.args.words.now.until;
+  full = subst (λ (inputs : Inputs). IsFull inputs c.in-Ok-replay_by.run') (c.asked.ensures.inputs (key_of c.args.words.now.policy)) c.in-Ok-replay_by.ensures.full;
+}
 
 pub write_replay-requires-clause-told : goal.write_replay-requires-clause-told
 write_replay-requires-clause-told g c = subst (λ (calls : Calls). CanBeTold calls.names c.in-Ok-replay_by.run') c.asked.ensures.calls c.in-Ok-replay_by.ensures.told
