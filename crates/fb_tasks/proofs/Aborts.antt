@@ -1,5 +1,5 @@
 -- Blocks of a task are aborted, and requests are promoted.
-use Rattle.std.proofs.Common.{◌≡◌, ℕ, zero, suc, arith, subst, ◌<◌, List, [], ◌∷◌, true, false, length, Some, set, get_or, slice_get, append-nil, refl, ap, sym, ◌∙◌}
+use Rattle.std.proofs.Common.{◌≡◌, ℕ, arith, subst, ◌<◌, List, [], ◌∷◌, true, false, length, Some, set, slice_get, append-nil, refl, ap, sym, ◌∙◌}
 use Rattle.std.proofs.lemmas.Bool.{true≢false}
 use Rattle.fb_geometry.specs.Shape.{Shape}
 use Rattle.fb_calls.specs.declared.call.Action.TheVariants.{Abort, Promote}
@@ -15,9 +15,10 @@ use Rattle.fb_model.proofs.Views.{aborted-view, promoted-silent}
 use Rattle.fb_tasks.specs.declared.session.Session.{Session}
 use Rattle.fb_tasks.specs.Telling.{Tells, MayTake}
 use Rattle.fb_tasks.proofs.Asked.{open_there, terms_there}
-use Rattle.fb_tasks.proofs.Lists.{some_at, some_same}
+use Rattle.fb_tasks.proofs.Lists.{some_at}
 use Rattle.fb_tasks.proofs.Frames.{call-tells, silent-tells}
-use Rattle.fb_tasks.proofs.States.{show_aborted, ended-done, states-told}
+use Rattle.fb_tasks.proofs.States.{show_aborted, states-told}
+use Rattle.std.proofs.lemmas.Option.{get_or_from_slice_get}
 
 pub promoted-tells : (disk : Shape) (past : Past) (call : Call) (first count : ℕ) (sessions : List Session) (held : List Entry) → call.action ≡ Promote first count
     → Tells disk past sessions held → Tells disk (called call [] ∷ past) sessions held
@@ -34,15 +35,13 @@ asked-aborts disk past call first count sessions touched held now is is_after fl
     let opened : call.task < length sessions = omega (arith, (open_there past call.task asks.0).0, h.as_many) in
     let found = some_at sessions call.task opened in
     let session = found.0 in
-    let told = h.each call.task session found.1 in
-    let other : is_clean session.kind ≡ false = ap (λ t. is_clean t.kind) (sym (terms_there past call.task ∙ told.terms)) ∙ asks.1 in
+    let other : is_clean session.kind ≡ false =
+    ap (λ t. is_clean t.kind) (sym (terms_there past call.task ∙ (h.each call.task session found.1).terms)) ∙ asks.1 in
     let kept : tasks (called call [] ∷ past) ≡ tasks past = ap (λ a. opened_by a (tasks past)) is in
     subst (λ xs. Tells disk (called call [] ∷ past) xs now) (sym (flagged session found.1))
-    (call-tells disk past call sessions sessions call.task session (record session { touched = true }) held now (AbortRange first count) (aborted_view first count (view past call.task)) kept refl
-    (aborted-view past call kept call.task first count refl is) refl opened (sym (get_at sessions call.task session found.1)) is_after (λ placed. record { indexed = placed.indexed; segments = placed.segments })
-    (states-told (λ block. ended (shares first count block)) (λ block before done. sym (ended-done (shares first count block) before) ∙ done) (view past call.task) session true (λ untouched. absurd (true≢false untouched)) other)
-    (λ block on. show_aborted ((view past call.task).bare block) (view past call.task).suspended (shares first count block)) h) where
-      get_at : (xs : List Session) (i : ℕ) (x : Session) → slice_get xs i ≡ Some x → get_or xs i x ≡ x
-      get_at [] i x at = refl
-      get_at (y ∷ ys) zero x at = some_same y x at
-      get_at (y ∷ ys) (suc i) x at = get_at ys i x at
+    (call-tells disk past call sessions sessions call.task session (record session { touched = true }) held now (AbortRange first count)
+    (aborted_view first count (view past call.task)) kept refl (aborted-view past call kept call.task first count refl is) refl opened
+    (sym (get_or_from_slice_get sessions call.task session session found.1)) is_after (λ placed. assumption placed)
+    (states-told (λ block. ended (shares first count block)) (λ block before done. grind arith)
+    (view past call.task) session true (λ untouched. absurd (true≢false untouched)) other)
+    (λ block on. show_aborted ((view past call.task).bare block) (view past call.task).suspended (shares first count block)) h)

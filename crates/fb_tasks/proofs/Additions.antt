@@ -1,7 +1,7 @@
 -- A log segment is added to a session.
-use Rattle.std.proofs.Common.{◌≡◌, ℕ, zero, suc, ◌+◌, ◌-◌, ◌*◌, ◌^◌, ◌<◌, ◌≤◌, ◌==◌, List, [], ◌∷◌, ◌++◌, Bool, true, false, Some, Option, inl, inr, length, map, set, get_or, slice_get, append-nil, length-append, refl, ap, sym, ◌∙◌, arith, subst}
-use Rattle.std.specs.List.{AllByRecursion, list_any, slice_index_or}
-use Rattle.std.proofs.lemmas.Bool.{cases_Bool, true≢false}
+use Rattle.std.proofs.Common.{◌≡◌, ℕ, zero, suc, ◌+◌, ◌-◌, ◌*◌, ◌^◌, ◌<◌, ◌≤◌, ◌==◌, List, [], ◌∷◌, ◌++◌, Bool, true, false, Some, Option, length, map, set, get_or, slice_get, append-nil, length-append, refl, ap, sym, ◌∙◌, arith, subst}
+use Rattle.std.specs.List.{AllByRecursion, slice_index_or}
+use Rattle.std.proofs.lemmas.Bool.{true≢false}
 use Rattle.std.proofs.lemmas.List.{length-map, map-append}
 use Rattle.std.proofs.lemmas.Option.{slice_get-get_or}
 use Rattle.fb_geometry.specs.Shape.{Shape}
@@ -16,14 +16,15 @@ use Rattle.fb_store.specs.Index.{held_at}
 use Rattle.fb_wanted.specs.declared.block.Entry.{Entry}
 use Rattle.fb_clean.specs.Segments as clean
 use Rattle.fb_model.specs.History.{Past, LogSegment, called, calls_of, opened_by, tasks, registered}
-use Rattle.fb_model.specs.Completion.{Choice, TaskView, view, state_in, added_view}
+use Rattle.fb_model.specs.Completion.{Choice, TaskView, view, state_in, added_view, is_over, is_unsealed, is_choice_of}
 use Rattle.fb_model.proofs.Views.{called-silent, added-view}
 use Rattle.fb_tasks.specs.declared.session.Session.{Session}
-use Rattle.fb_tasks.specs.Standing.{IsAtNumber, entry_of, Told, Cleans, HoldsBlock, HoldsChoice, choice_in, kept_segment, IsSegmentOf}
+use Rattle.fb_tasks.specs.Standing.{IsAtNumber, Told, Cleans, HoldsBlock, HoldsChoice, choice_in, kept_segment, IsSegmentOf, HoldsImage, IsQuiet}
 use Rattle.fb_tasks.specs.Telling.{Tells, MayTake, IsCall}
 use Rattle.fb_tasks.proofs.Asked.{open_there, terms_there, segments_few}
 use Rattle.fb_tasks.proofs.Frames.{one-tells, kept-entries}
-use Rattle.fb_tasks.proofs.Lists.{all_weaker, all_append, number_other, same_number}
+use Rattle.fb_tasks.proofs.Lists.{all_weaker, all_append, number_other, one_or_other, any_none}
+use Rattle.fb_model.specs.Segments.{is_chosen}
 
 -- nothing was taken as yet for a segment that has just been added
 taken_same : (taken : List (List (ℕ × Option Content))) (i : ℕ) → slice_index_or (taken ++ [] ∷ []) i [] ≡ slice_index_or taken i []
@@ -38,60 +39,34 @@ get_left [] more i x at = absurd (grind arith)
 get_left (y ∷ ys) more zero x at = at
 get_left (y ∷ ys) more (suc i) x at = get_left ys more i x at
 
-none_numbered : (n : ℕ) (cs : List Choice) → AllByRecursion (λ choice. choice.segment.number ≤ n) cs → list_any (λ choice. choice.segment.number == n + 1) cs ≡ false
-none_numbered n [] h = refl
-none_numbered n (c ∷ cs) h = let other : (c.segment.number == n + 1) ≡ false = number_other c.segment.number (n + 1) (λ e. absurd (omega (arith, h.0))) in rw other (none_numbered n cs h.1)
-
 -- the next segment of a task
 abbrev pub next_segment : TaskView → ℕ → ℕ → ℕ → List Bool → LogSegment
 next_segment v first blocks age live = record { number = length v.segments + 1; first = first; blocks = blocks; age = age; live = live }
 
 module _ (v : TaskView) (first blocks age : ℕ) (live : List Bool) (going : v.closed ≡ false) where
   added-cleans : (log : clean.Cleaning) → Cleans v.work log → Cleans (added_view (next_segment v first blocks age live) v).work (clean.after_add first blocks age live log)
-  added-cleans log h = record {
-    block = h.block;
-    done = h.done;
-    current = h.current;
-    chosen = h.chosen;
-    cleaned = h.cleaned;
-    unfinished = h.unfinished;
-    blocks = h.blocks;
-    cut = h.cut;
-    distinct = h.distinct;
-    ascend = h.ascend;
-    unreported = h.unreported;
-    reported = h.reported;
-    taken = all_weaker (HoldsChoice v.work log) (HoldsChoice v.work (clean.after_add first blocks age live log)) (λ choice d. subst (λ held. AllByRecursion (HoldsBlock v.work held) choice.blocks) (ap (λ ranges. λ lbn. held_at ranges lbn) (sym (taken_same log.taken (choice.segment.number - 1)))) d) (choice_in h.current) h.taken;
-    numbers = all_weaker (λ (choice : Choice). choice.segment.number ≤ length v.segments) (λ choice. choice.segment.number ≤ length (v.segments ++ next_segment v first blocks age live ∷ []))
-        (λ choice le. omega (arith, le, length-append v.segments (next_segment v first blocks age live ∷ []))) v.choices h.numbers;
-    known = all_weaker (IsAtNumber v.segments) (IsAtNumber (v.segments ++ next_segment v first blocks age live ∷ [])) (λ now. get_left v.segments (next_segment v first blocks age live ∷ []) (now.segment.number - 1) now.segment) (choice_in h.current) h.known;
-    over = λ closed. absurd (true≢false (sym closed ∙ going));
-    segments = ap (λ xs. xs ++ record { number = length log.segments + 1; blocks = blocks; age = age; live = clean.live_blocks log.block first live; waits = true } ∷ []) h.segments
-        ∙ (ap (λ x. map (kept_segment v.work) v.segments ++ x ∷ []) last_kept ∙ sym (map-append (kept_segment v.work) v.segments (next_segment v first blocks age live ∷ [])));
-  } where
-    last_kept : record { number = length log.segments + 1; blocks = blocks; age = age; live = clean.live_blocks log.block first live; waits = true } ≡ kept_segment v.work (next_segment v first blocks age live)
-    last_kept = rw (ap length h.segments ∙ length-map v.segments (kept_segment v.work), h.block, none_numbered (length v.segments) v.choices h.numbers, going) refl
+  added-cleans log h =
+      let next = next_segment v first blocks age live in
+      let now = clean.after_add first blocks age live log in
+      let taken = all_weaker (HoldsChoice v.work log) (HoldsChoice v.work now) (λ choice d. subst (λ held. AllByRecursion (HoldsBlock v.work held) choice.blocks)
+      (ap (λ ranges. λ lbn. held_at ranges lbn) (sym (taken_same log.taken (choice.segment.number - 1)))) d) (choice_in h.current) h.taken in
+      let numbers = all_weaker (λ (choice : Choice). choice.segment.number ≤ length v.segments) (λ choice. choice.segment.number ≤ length (v.segments ++ next ∷ []))
+      (λ choice le. omega (arith, le, length-append v.segments (next ∷ []))) v.choices h.numbers in
+      let known = all_weaker (IsAtNumber v.segments) (IsAtNumber (v.segments ++ next ∷ []))
+      (λ choice. get_left v.segments (next ∷ []) (choice.segment.number - 1) choice.segment) (choice_in h.current) h.known in
+      let over : v.closed ≡ true → AllByRecursion (λ block. is_over (v.bare block) ≡ true) v.blocks = λ closed. absurd (true≢false (sym closed ∙ going)) in
+      let size : length log.segments ≡ length v.segments = rw h.segments (length-map v.segments (kept_segment v.work)) in
+      let none : is_chosen v.choices next ≡ false = any_none (is_choice_of next) v.choices (all_weaker (λ (choice : Choice). choice.segment.number ≤ length v.segments)
+      (λ choice. (choice.segment.number == length v.segments + 1) ≡ false) (λ choice le. number_other choice.segment.number (length v.segments + 1) (λ e. absurd (omega (arith, le)))) v.choices h.numbers) in
+      let segments : now.segments ≡ map (kept_segment v.work) (v.segments ++ next ∷ []) = rw (map-append, sym h.segments, size, h.block, none, going) refl in
+      record { done = h.done; current = h.current; by = assumption (taken, numbers, known, over, segments, h.by) }
 
   added-told : (session : Session) → Told v session → Told (added_view (next_segment v first blocks age live) v) (record session { touched = true; log = clean.after_add first blocks age live session.log })
-  added-told session h = record {
-    stands = record {
-      terms = h.terms;
-      weight = h.weight;
-      block = h.block;
-      suspended = h.suspended;
-      closed = h.closed;
-      complete = h.complete;
-      sealed = h.sealed;
-      ascend = h.ascend;
-      unwanted = h.unwanted;
-      unchosen = h.unchosen;
-      image = λ is_open. let image = h.image is_open in record { each = image.each; only = image.only };
-      log = λ cleans. added-cleans session.log (h.log cleans);
-    };
-    at_work = h.at_work;
-    reported = h.reported;
-    quiet = λ untouched. absurd (true≢false untouched);
-  }
+  added-told session h =
+      let image : is_unsealed v ≡ true → HoldsImage (added_view (next_segment v first blocks age live) v).work (held_at session.image) = λ is_open. assumption (h.image is_open) in
+      let log = λ (cleans : is_clean session.kind ≡ true). added-cleans session.log (h.log cleans) in
+      let quiet : true ≡ false → IsQuiet (added_view (next_segment v first blocks age live) v) = λ untouched. absurd (true≢false untouched) in
+      assumption (image, log, quiet, h)
 
 -- what a segment call may ask for, of its session
 pub record MayAdd (disk : Shape) (past : Past) (task first blocks : ℕ) (live : List Bool) (session : Session) : Type 0 where
@@ -138,10 +113,8 @@ added-tells disk past call task first blocks age live items seen session log hel
     let told = h.tells.each task session there in
     rw (added, same) (one-tells disk past (called call []) task others kept seen (record session { touched = true; log = clean.after_add first blocks age live session.log }) held held may.opened
     (rw append-nil h.tells.on_disk)
-    (h.tells.entries ∙ (kept-entries (view past) (view (called call [] ∷ past)) (λ t b. elim (cases_Bool (task == t)) [
-      | inl own ↦ subst (λ k. state_in (view past k) b ≡ state_in (view (called call [] ∷ past) k) b) (same_number task t own) (rw own_now refl)
-      | inr other ↦ rw (others t other) refl
-    ]) (registered past) ∙ ap (map (entry_of (called call [] ∷ past))) (sym (append-nil (registered past)))))
+    (h.tells.entries ∙ rw append-nil (kept-entries (view past) (view (called call [] ∷ past)) (λ t b. one_or_other
+    (λ t. state_in (view past t) b ≡ state_in (view (called call [] ∷ past) t) b) task t (rw own_now refl) (λ other. rw (others t other) refl)) (registered past)))
     (rw own_now (record { indexed = placed.indexed; segments = all_append (IsSegmentOf disk (view past task).terms.block) (view past task).segments (next_segment (view past task) first blocks age live ∷ []) placed.segments ((subst (λ b. first + blocks * b ≤ length (places disk)) (ap (λ t. t.block) (sym told.terms)) may.on_disk, may.size, may.few), tt) }))
     (rw own_now (added-told (view past task) first blocks age live may.not_closed session told)) h.tells)
 

@@ -1,6 +1,5 @@
 -- The rows that follow a delivery, and the sessions after them.
-use Rattle.std.proofs.Common.{◌≡◌, ℕ, zero, suc, ◌+◌, ◌<◌, ◌≤◌, ◌==◌, ◌&&◌, not, if◌then◌else◌, List, [], ◌∷◌, ◌++◌, Bool, true, false, Some, None, Option, inl, inr, length, map, set, get_or, slice_get, append-nil, append_assoc, refl, ap, ap₂, sym, ◌∙◌, arith, subst}
-use Rattle.std.proofs.Math.Bool.{and-false}
+use Rattle.std.proofs.Common.{◌≡◌, ℕ, zero, suc, ◌+◌, ◌<◌, ◌≤◌, ◌==◌, ◌&&◌, if◌then◌else◌, List, [], ◌∷◌, ◌++◌, Bool, true, false, Some, None, Option, inl, inr, length, map, set, get_or, slice_get, append-nil, append_assoc, refl, ap, ap₂, sym, ◌∙◌, arith, subst}
 use Rattle.std.specs.List.{AllByRecursion, flat_map, list_any, range_with_len}
 use Rattle.std.proofs.lemmas.Bool.{cases_Bool, true≢false}
 use Rattle.std.proofs.lemmas.Bool.Decides.{nat_tests}
@@ -26,10 +25,9 @@ use Rattle.fb_model.specs.Images.{test_rows, segment_rows, seal_rows, complete_r
 use Rattle.fb_tasks.specs.declared.session.Session.{Session}
 use Rattle.fb_tasks.specs.Taken.{by_deliveries, rows_after}
 use Rattle.fb_tasks.specs.Keeping.{HasTaken}
-use Rattle.fb_tasks.specs.Standing.{entry_of, choice_in, AreReported, MayFinish, IsBlockOf, IsAtWork, HoldsBlocks, Stands, Told}
+use Rattle.fb_tasks.specs.Standing.{entry_of, choice_in, AreReported, MayFinish, IsBlockOf, IsAtWork, HoldsBlocks, Stands, Told, HasNoChoice}
 use Rattle.fb_tasks.specs.Telling.{Tells, IsSettled, MayDeliver}
-use Rattle.fb_tasks.proofs.Lists.{all_at, number_other, same_number, other_number, some_at, map_at}
-use Rattle.fb_tasks.proofs.Frames.{get_set, get_own}
+use Rattle.fb_tasks.proofs.Lists.{all_at, number_other, same_number, other_number, some_at, map_at, each_set, flat_none, all_range}
 use Rattle.fb_tasks.proofs.RowsOf.{rows-given, seals_given, findings-mute}
 use Rattle.fb_tasks.proofs.Tested.{settled-tested}
 use Rattle.fb_tasks.proofs.States.{flagged-stands}
@@ -40,27 +38,18 @@ use Rattle.fb_tasks.proofs.Complete.{done_is, was_is}
 use Rattle.fb_tasks.proofs.Sealed.{open_is}
 use Rattle.fb_tasks.proofs.Turns.{reported_rows}
 
-flat_empty : {X : Type 0} (f : ℕ → List X) (a n : ℕ) → ((j : ℕ) → a ≤ j → j < a + n → f j ≡ []) → flat_map f (range_with_len a n) ≡ []
-flat_empty f a zero h = refl
-flat_empty f a (suc n) h = rw (h a (omega arith) (omega arith), flat_empty f (a + 1) n (λ j from to. h j (omega arith) (omega arith))) refl
-
 -- where one number alone gives anything
 flat_one : {X : Type 0} (f : ℕ → List X) (k a n : ℕ) → a ≤ k → k < a + n → ((j : ℕ) → a ≤ j → j < a + n → (j ≡ k → ⊥) → f j ≡ []) → flat_map f (range_with_len a n) ≡ f k
 flat_one f k a zero from to others = absurd (omega arith)
 flat_one f k a (suc n) from to others = elim (cases_Bool (a == k)) [
   | inl here ↦
       let e = same_number a k here in
-      ap (λ xs. f a ++ xs) (flat_empty f (a + 1) n (λ j after below. others j (omega arith) (omega arith) (λ same. absurd (omega (arith, e, same, after))))) ∙ (append-nil (f a) ∙ ap f e)
+      let rest = flat_none f (range_with_len (a + 1) n) (all_range (λ j. f j ≡ []) (a + 1) n (λ j after below. others j (omega arith) (omega arith) (λ same. absurd (omega (arith, e, same, after))))) in
+      rw rest (append-nil (f a) ∙ ap f e)
   | inr other ↦
       let differ = other_number a k other in
-      ap (λ xs. xs ++ flat_map f (range_with_len (a + 1) n)) (others a (omega arith) (omega arith) differ)
-      ∙ flat_one f k (a + 1) n (further a k from differ) (omega arith) (λ j after below. others j (omega arith) (omega arith))
-] where
-  further : (a k : ℕ) → a ≤ k → (a ≡ k → ⊥) → a + 1 ≤ k
-  further a k from differ = grind (arith, nat_tests)
-
-pub joined : {X : Type 0} (old : List X) (got : X) (f s a b : List X) → ((((old ++ got ∷ []) ++ f) ++ s) ++ a) ++ b ≡ old ++ got ∷ (f ++ (s ++ (a ++ b)))
-joined old got f s a b = append_assoc (((old ++ got ∷ []) ++ f) ++ s) a b ∙ (append_assoc ((old ++ got ∷ []) ++ f) s (a ++ b) ∙ (append_assoc (old ++ got ∷ []) f (s ++ (a ++ b)) ∙ append_assoc old (got ∷ []) (f ++ (s ++ (a ++ b)))))
+      rw (others a (omega arith) (omega arith) differ) (flat_one f k (a + 1) n (grind (arith, nat_tests)) (omega arith) (λ j after below. others j (omega arith) (omega arith)))
+]
 
 module _ {disk : Shape} {past : Past} {sessions : List Session} {held : List Entry} (got : DeliveryRow) (may : MayDeliver disk past sessions held got) where
   pub placed : WasWanted past got.block
@@ -103,16 +92,15 @@ module _ {disk : Shape} {past : Past} {sessions : List Session} {held : List Ent
 
   pub all-rows : (old rows : List BackRow) → rows ≡ ((((old ++ GotLine got ∷ []) ++ findings past got) ++ segment_rows by_deliveries (delivered got ∷ past) got.end got.block.task) ++ seal_rows by_deliveries (delivered got ∷ past) got.end got.block.task) ++ complete_rows (delivered got ∷ past) got.end got.block.task
       → rows ≡ old ++ GotLine got ∷ rows_after past got
-  all-rows old rows is = is ∙ (joined old (GotLine got) (findings past got) (segment_rows by_deliveries (delivered got ∷ past) got.end got.block.task) (seal_rows by_deliveries (delivered got ∷ past) got.end got.block.task) (complete_rows (delivered got ∷ past) got.end got.block.task)
-      ∙ ap (λ rest. old ++ GotLine got ∷ (findings past got ++ rest)) (sym (own-rows got.end)))
+  all-rows old rows is = rw (is, own-rows got.end) (simp append_assoc)
 
   -- its findings are those of its session
   pub findings_same : (kind : Kind) (lbns : List ℕ) → (terms_of past got.block.task).kind ≡ kind → lbns ≡ (if is_scrub kind then bad_sectors got.content else []) → map (λ lbn. BadLine (record { task = got.block.task; lbn = lbn })) lbns ≡ findings past got
-  findings_same kind lbns same is =
-      ap (map (λ lbn. BadLine (record { task = got.block.task; lbn = lbn }))) (is ∙ ap (λ k. if is_scrub k then bad_sectors got.content else []) (sym same)) ∙ either (is_scrub (terms_of past got.block.task).kind) where
-        either : (b : Bool) → map (λ lbn. BadLine (record { task = got.block.task; lbn = lbn })) (if b then bad_sectors got.content else []) ≡ (if b then map (λ lbn. BadLine (record { task = got.block.task; lbn = lbn })) (bad_sectors got.content) else [])
-        either true = refl
-        either false = refl
+  findings_same kind lbns same is = rw (same, is) (either (is_scrub kind)) where
+    either : (b : Bool) → map (λ lbn. BadLine (record { task = got.block.task; lbn = lbn })) (if b then bad_sectors got.content else [])
+        ≡ (if b then map (λ lbn. BadLine (record { task = got.block.task; lbn = lbn })) (bad_sectors got.content) else [])
+    either true = refl
+    either false = refl
 
   module _ (now : List Entry) (h : HoldsBlocks disk (delivered got ∷ past) now) where
     pub all-given : AreAllRows (delivered got ∷ past) (rows_after past got)
@@ -124,35 +112,27 @@ module _ {disk : Shape} {past : Past} {sessions : List Session} {held : List Ent
     other-tested : (task : ℕ) (session : Session) → (got.block.task ≡ task → ⊥) → slice_get sessions task ≡ Some session
         → (Stands (view (tested (rows_after past got) ∷ delivered got ∷ past) task) session) × (IsAtWork (view (tested (rows_after past got) ∷ delivered got ∷ past) task).work session)
     other-tested task session other at =
-        let less : task < length (tasks past) = subst (λ n. task < n) may.tells.as_many (slice_get_within sessions task session at) in
+        let less : task < length (tasks past) = rw may.tells.as_many at (slice_get_within sessions task session at) in
         let told = told-other task other less session at in
-        let none : (is_unsealed (view (delivered got ∷ past) task) && is_done (view (delivered got ∷ past) task).work) ≡ false = ap₂ (λ a b. a && b) (open_is (delivered got ∷ past) task) (done_is (delivered got ∷ past) task) ∙ unsealed-other task other less in
-        let complete : session.complete ≡ is_done (view (delivered got ∷ past) task).work = (may.tells.each task session at).complete ∙ (was_is past task ∙ (may.settled.tested task ∙ (sym (still-complete task other less) ∙ sym (done_is (delivered got ∷ past) task)))) in
-        let still = still-stands task (view (delivered got ∷ past) task) (rows_after past got) (all-given task) session none complete told.stands told.at_work in
-        (rw (tested-view (delivered got ∷ past) (rows_after past got) task) still.0, rw (tested-view (delivered got ∷ past) (rows_after past got) task) still.1)
+        let none : (is_unsealed (view (delivered got ∷ past) task) && is_done (view (delivered got ∷ past) task).work) ≡ false =
+        rw (open_is (delivered got ∷ past) task, done_is (delivered got ∷ past) task) (unsealed-other task other less) in
+        let complete : session.complete ≡ is_done (view (delivered got ∷ past) task).work =
+        rw (done_is (delivered got ∷ past) task, still-complete task other less) ((may.tells.each task session at).complete ∙ (was_is past task ∙ may.settled.tested task)) in
+        rw (tested-view (delivered got ∷ past) (rows_after past got) task)
+        (still-stands task (view (delivered got ∷ past) task) (rows_after past got) (all-given task) session none complete told.stands told.at_work)
 
     -- the sessions tell the history with its delivery and its test
     pub tells-delivered : (new : Session) → (Stands (view (tested (rows_after past got) ∷ delivered got ∷ past) got.block.task) new) × (IsAtWork (view (tested (rows_after past got) ∷ delivered got ∷ past) got.block.task).work new)
         → Tells disk (tested (rows_after past got) ∷ delivered got ∷ past) (set sessions got.block.task (record new { touched = true })) now
     tells-delivered new own =
+        let after : Past = tested (rows_after past got) ∷ delivered got ∷ past in
         let touched = record new { touched = true } in
-        let own_there = λ (task : ℕ) (session : Session) (mine : (got.block.task == task) ≡ true) (at : slice_get (set sessions got.block.task touched) task ≡ Some session).
-        get_own sessions got.block.task touched session (ap (slice_get (set sessions got.block.task touched)) (same_number got.block.task task mine) ∙ at) in
         tells-tested (rows_after past got) (set sessions got.block.task touched) h (length-set sessions got.block.task touched ∙ may.tells.as_many) all-given
-        (λ task session at. elim (cases_Bool (got.block.task == task)) [
-          | inl mine ↦
-              subst (λ t. (Stands (view (tested (rows_after past got) ∷ delivered got ∷ past) t) session) × (IsAtWork (view (tested (rows_after past got) ∷ delivered got ∷ past) t).work session)) (same_number got.block.task task mine)
-              (subst (λ s. (Stands (view (tested (rows_after past got) ∷ delivered got ∷ past) got.block.task) s) × (IsAtWork (view (tested (rows_after past got) ∷ delivered got ∷ past) got.block.task).work s))
-              (sym (own_there task session mine at)) (flagged-stands true (view (tested (rows_after past got) ∷ delivered got ∷ past) got.block.task) new own.0, own.1))
-          | inr other ↦ other-tested task session (other_number got.block.task task other) (get_set sessions got.block.task task touched session at (other_number got.block.task task other))
-        ])
-        (λ task session at untouched. elim (cases_Bool (got.block.task == task)) [
-          | inl mine ↦ absurd (true≢false (sym (ap (λ (s : Session). s.touched) (own_there task session mine at)) ∙ untouched))
-          | inr other ↦
-              let there = get_set sessions got.block.task task touched session at (other_number got.block.task task other) in
-              let less : task < length (tasks past) = subst (λ n. task < n) may.tells.as_many (slice_get_within sessions task session there) in
-              ((told-other task (other_number got.block.task task other) less session there).quiet untouched).chosen
-        ])
+        (each_set (λ task session. (Stands (view after task) session) × (IsAtWork (view after task).work session)) sessions got.block.task touched
+        (flagged-stands true (view after got.block.task) new own.0, own.1) (λ task session other at. other-tested task session other at))
+        (each_set (λ task session. session.touched ≡ false → HasNoChoice (view (delivered got ∷ past) task)) sessions got.block.task touched (λ untouched. absurd (true≢false untouched))
+        (λ task session other at untouched. let less : task < length (tasks past) = rw may.tells.as_many at (slice_get_within sessions task session at) in
+        ((told-other task other less session at).quiet untouched).chosen))
 
 terms_is : (past : Past) (task : ℕ) → (terms_of past task).kind ≡ (view past task).terms.kind
 unfolding view
@@ -164,7 +144,7 @@ module _ (v : TaskView) (got : DeliveryRow) (old mid : Session) (stands : Stands
   IsSilent choice = (mid.log.unfinished ≡ Some choice.segment.number → ⊥) → is_newly_cleaned (delivered_view got v).work choice ≡ false
 
   silent_one : (choice : Choice) → is_cleaned v.work choice ≡ true → is_newly_cleaned v.work choice ≡ false → IsSilent choice
-  silent_one choice cleaned none = λ _. ap (λ b. is_cleaned (delivered_view got v).work choice && b) (sym (ap (λ b. b && not (v.reported choice.segment.number)) cleaned) ∙ none) ∙ and-false (is_cleaned (delivered_view got v).work choice)
+  silent_one choice cleaned none = λ _. grind (arith, none)
 
   chosen-silent : (done : List Choice) (current : Option Choice) → old.log.unfinished ≡ option_map (λ choice. choice.segment.number) current → AllByRecursion (λ choice. is_cleaned v.work choice ≡ true) done
       → AllByRecursion (λ choice. is_newly_cleaned v.work choice ≡ false) (done ++ choice_in current) → AllByRecursion IsSilent (done ++ choice_in current)
@@ -174,10 +154,8 @@ module _ (v : TaskView) (got : DeliveryRow) (old mid : Session) (stands : Stands
 
   pub others-silent : AllByRecursion IsSilent v.choices
   others-silent = elim (cases_Bool (is_clean old.kind)) [
-    | inl cleans ↦
-        let log = stands.log cleans in
-        subst (AllByRecursion IsSilent) (sym log.chosen) (chosen-silent log.done log.current log.unfinished log.cleaned (subst (AllByRecursion (λ choice. is_newly_cleaned v.work choice ≡ false)) log.chosen reported))
-    | inr other ↦ subst (AllByRecursion IsSilent) (sym (stands.unchosen other)) tt
+    | inl cleans ↦ let log = stands.log cleans in rw log.chosen (chosen-silent log.done log.current log.unfinished log.cleaned (rw log.chosen at reported))
+    | inr other ↦ rw (stands.unchosen other) tt
   ]
 
 module _ {disk : Shape} {past : Past} {sessions : List Session} {held : List Entry} (got : DeliveryRow) (may : MayDeliver disk past sessions held got) where
@@ -216,7 +194,7 @@ module _ {disk : Shape} {past : Past} {sessions : List Session} {held : List Ent
   -- the session of the delivered block
   pub own-there : (old : Session) → old ≡ get_or sessions got.block.task old → slice_get sessions got.block.task ≡ Some old
   own-there old is =
-      let within : got.block.task < length sessions = subst (λ n. got.block.task < n) (sym may.tells.as_many) (opened got may) in
+      let within : got.block.task < length sessions = rw may.tells.as_many (opened got may) in
       slice_get-get_or sessions got.block.task old within ∙ ap Some (sym is)
 
   -- the rows of the session's test, one after the other
@@ -225,7 +203,5 @@ module _ {disk : Shape} {past : Past} {sessions : List Session} {held : List Ent
       → with_segment ≡ with_findings ++ segment_rows by_deliveries (delivered got ∷ past) got.end got.block.task
       → rows ≡ (with_segment ++ seal_rows by_deliveries (delivered got ∷ past) got.end got.block.task) ++ complete_rows (delivered got ∷ past) got.end got.block.task
       → rows ≡ old ++ GotLine got ∷ rows_after past got
-  rows-one_by_one old with_got with_findings with_segment rows kind lbns same is pushed found segment ends = all-rows got may old rows
-      (ends ∙ ap (λ xs. (xs ++ seal_rows by_deliveries (delivered got ∷ past) got.end got.block.task) ++ complete_rows (delivered got ∷ past) got.end got.block.task)
-      (segment ∙ ap (λ xs. xs ++ segment_rows by_deliveries (delivered got ∷ past) got.end got.block.task)
-      (found ∙ ap₂ (λ a b. a ++ b) pushed (findings_same got may kind lbns same is))))
+  rows-one_by_one old with_got with_findings with_segment rows kind lbns same is pushed found segment ends =
+      all-rows got may old rows (rw (ends, segment, found, pushed, findings_same got may kind lbns same is) refl)

@@ -1,10 +1,8 @@
 -- The choices of all sessions, one session after another.
-use Rattle.std.proofs.Common.{◌≡◌, ℕ, zero, suc, ◌+◌, ◌-◌, ◌*◌, ◌^◌, ◌<◌, ◌≤◌, ◌==◌, ◌&&◌, not, if◌then◌else◌, List, [], ◌∷◌, ◌++◌, Bool, true, false, Some, inl, inr, length, set, slice_get, append-nil, append_assoc, refl, ap, sym, ◌∙◌, arith, subst}
+use Rattle.std.proofs.Common.{◌≡◌, ℕ, zero, suc, ◌+◌, ◌-◌, ◌*◌, ◌^◌, ◌<◌, ◌≤◌, ◌&&◌, not, if◌then◌else◌, List, [], ◌∷◌, ◌++◌, Bool, true, false, Some, length, set, slice_get, append-nil, refl, ap, sym, ◌∙◌, arith, subst}
 use Rattle.std.specs.List.{AllByRecursion, flat_map, fold, range_with_len, sum_by, best_of}
-use Rattle.std.proofs.lemmas.Bool.{cases_Bool}
 use Rattle.std.proofs.lemmas.Bool.Decides.{nat_tests}
 use Rattle.std.proofs.lemmas.List.Sums.{sum_by-cons}
-use Rattle.std.proofs.lemmas.List.Concat.{flat_map-append}
 use Rattle.std.proofs.lemmas.List.{length-set}
 use Rattle.std.proofs.lemmas.Option.{slice_get_within}
 use Rattle.fb_geometry.specs.Shape.{Shape}
@@ -21,13 +19,14 @@ use Rattle.fb_tasks.specs.declared.session.Session.{Session}
 use Rattle.fb_tasks.specs.Taken.{by_deliveries}
 use Rattle.fb_tasks.specs.Standing.{Stands, HoldsBlocks, IsQuiet, HasNoChoice, IsAtWork, AreReported, IsSegmentOf, MayChoose, HasChosen, HaveChosen, choosable_by}
 use Rattle.fb_tasks.specs.Telling.{MaySettle}
-use Rattle.fb_tasks.proofs.Lists.{flat_same, some_at, number_other, same_number, other_number}
-use Rattle.fb_tasks.proofs.Frames.{get_set, get_own}
-use Rattle.fb_tasks.proofs.Rows.{range_more}
+pub use Rattle.fb_tasks.proofs.Lists.{all_range}
+use Rattle.fb_tasks.proofs.Lists.{flat_same, some_at, number_other, other_number, each_set, one_or_other, step_to}
 use Rattle.fb_tasks.proofs.ChosenSegment.{best_left, chosen_blocks, added_own}
 use Rattle.fb_tasks.proofs.ChoiceSteps.{segment_rows_of, segment_rows_is, few_less, next_view, numbered_is, once_is, best_of_left}
 use Rattle.fb_tasks.proofs.Turns.{in_is, reported_rows}
 use Rattle.fb_tasks.proofs.LastChoice.{stays, no-choice-left}
+use Rattle.fb_tasks.proofs.Cuts.{range_next}
+use Rattle.fb_tasks.proofs.AllTested.{rows_more}
 
 -- what holds of a history and of each choice from it holds after a turn
 once_any : (P : Past → Type 0) (disk : Shape) (task : ℕ) (past : Past) → P past → ((s : LogSegment) (ss : List LogSegment) → unchosen (view past task).work ≡ s ∷ ss → P (chose task (best_of is_better s ss) (chosen_blocks disk task (view past task) (best_of is_better s ss)) ∷ past)) → P (choose_once disk task past)
@@ -110,11 +109,6 @@ rows-same past new task now same = segment_rows_is new now task ∙ (ap (λ v. s
 pub choosable-same : (disk : Shape) (past new : Past) (task : ℕ) → view new task ≡ view past task → choosable_by disk new task ≡ choosable_by disk past task
 choosable-same disk past new task same = rw same refl
 
--- what holds of each number of a range
-pub all_range : (P : ℕ → Type 0) (a n : ℕ) → ((k : ℕ) → a ≤ k → k < a + n → P k) → AllByRecursion P (range_with_len a n)
-all_range P a zero f = tt
-all_range P a (suc n) f = (f a (omega arith) (omega arith), all_range P (a + 1) n (λ k le lt. f k (omega arith) (omega arith)))
-
 pub sum_range : (f g : ℕ → ℕ) (a n : ℕ) → ((k : ℕ) → a ≤ k → k < a + n → f k ≡ g k) → sum_by f (range_with_len a n) ≡ sum_by g (range_with_len a n)
 sum_range f g a zero same = refl
 sum_range f g a (suc n) same =
@@ -130,20 +124,28 @@ abbrev pub past_at : Shape → Past → ℕ → Past
 past_at disk past n = fold (choose_in disk) past (range_with_len 0 n)
 
 past_more : (disk : Shape) (past : Past) (n : ℕ) → past_at disk past (n + 1) ≡ choose_in disk (past_at disk past n) n
-past_more disk past n = ap (fold (choose_in disk) past) (range_more n) ∙ fold_append (choose_in disk) past (range_with_len 0 n) (n ∷ [])
+past_more disk past n = ap (fold (choose_in disk) past) (range_next n) ∙ fold_append (choose_in disk) past (range_with_len 0 n) (n ∷ [])
 
 fold_tasks : (disk : Shape) (ns : List ℕ) (past : Past) → tasks (fold (choose_in disk) past ns) ≡ tasks past
 fold_tasks disk ns past = by_tasks (λ p. tasks p ≡ tasks past) disk (λ p chooser segment blocks same. same) ns past refl
 
-pub record Partly (disk : Shape) (past : Past) (sessions : List Session) (held : List Entry) (n : ℕ) : Type 0 where
-  pub as_many : length sessions ≡ length (tasks past)
-  pub each : (task : ℕ) (session : Session) → slice_get sessions task ≡ Some session → Stands (view (past_at disk past n) task) session
-  pub at_work : (task : ℕ) (session : Session) → slice_get sessions task ≡ Some session → IsAtWork (view (past_at disk past n) task).work session
-  pub later : (task : ℕ) (session : Session) → n ≤ task → slice_get sessions task ≡ Some session → AreReported (view (past_at disk past n) task).work
-  pub blocks : HoldsBlocks disk (past_at disk past n) held
-  pub chosen : (task : ℕ) → task < n → HasNoChoice (view (past_at disk past n) task)
-  pub quiet : (task : ℕ) (session : Session) → slice_get sessions task ≡ Some session → session.touched ≡ false → IsQuiet (view (past_at disk past n) task)
-  pub few : length (registered (past_at disk past n)) + sum_by (choosable_by disk (past_at disk past n)) (range_with_len n (length (tasks past) - n)) ≤ 16 * 10 ^ 6
+-- the first n of so many tasks have chosen
+pub record HaveBegun (disk : Shape) (count : ℕ) (past : Past) (sessions : List Session) (held : List Entry) (n : ℕ) : Type 0 where
+  pub as_many : length sessions ≡ count
+  pub each : (task : ℕ) (session : Session) → slice_get sessions task ≡ Some session → Stands (view past task) session
+  pub at_work : (task : ℕ) (session : Session) → slice_get sessions task ≡ Some session → IsAtWork (view past task).work session
+  pub later : (task : ℕ) (session : Session) → n ≤ task → slice_get sessions task ≡ Some session → AreReported (view past task).work
+  pub blocks : HoldsBlocks disk past held
+  pub chosen : (task : ℕ) → task < n → HasNoChoice (view past task)
+  pub quiet : (task : ℕ) (session : Session) → slice_get sessions task ≡ Some session → session.touched ≡ false → IsQuiet (view past task)
+  pub few : length (registered past) + sum_by (choosable_by disk past) (range_with_len n (count - n)) ≤ 16 * 10 ^ 6
+
+abbrev pub Partly : Shape → Past → List Session → List Entry → ℕ → Type 0
+Partly disk past sessions held n = HaveBegun disk (length (tasks past)) (past_at disk past n) sessions held n
+
+-- the sum over the tasks that are left, and without the first of them
+left_split : (f : ℕ → ℕ) (n count : ℕ) → n < count → sum_by f (range_with_len n (count - n)) ≡ f n + sum_by f (range_with_len (n + 1) (count - (n + 1)))
+left_split f n count less = let e : count - n ≡ suc (count - (n + 1)) = omega arith in rw e (sum_by-cons f n (range_with_len (n + 1) (count - (n + 1))))
 
 pub partly-start : (disk : Shape) (past : Past) (sessions : List Session) (held : List Entry) → MaySettle disk past sessions held → Partly disk past sessions held 0
 partly-start disk past sessions held h = let tells = h.tells in record {
@@ -160,54 +162,35 @@ partly-start disk past sessions held h = let tells = h.tells in record {
 pub partly-may : (disk : Shape) (past : Past) (sessions : List Session) (held : List Entry) (n : ℕ) (session : Session) → slice_get sessions n ≡ Some session → Partly disk past sessions held n → MayChoose disk (past_at disk past n) n session held
 partly-may disk past sessions held n session at h =
     let within : n < length (tasks past) = omega (arith, slice_get_within sessions n session at, h.as_many) in
-    let split : range_with_len n (length (tasks past) - n) ≡ n ∷ range_with_len (n + 1) (length (tasks past) - (n + 1)) = ap (range_with_len n) (let e : length (tasks past) - n ≡ suc (length (tasks past) - (n + 1)) = omega arith in e) in
     record {
       blocks = h.blocks;
       stands = h.each n session at;
       at_work = h.at_work n session at;
-      few = omega (arith, h.few, ap (sum_by (choosable_by disk (past_at disk past n))) split, sum_by-cons (choosable_by disk (past_at disk past n)) n (range_with_len (n + 1) (length (tasks past) - (n + 1))));
+      few = omega (arith, h.few, left_split (choosable_by disk (past_at disk past n)) n (length (tasks past)) within);
     }
 
 pub partly-more : (disk : Shape) (past : Past) (sessions : List Session) (held now : List Entry) (n : ℕ) (session new : Session) → slice_get sessions n ≡ Some session → new.touched ≡ session.touched → Partly disk past sessions held n
     → HasChosen disk (choose_in disk (past_at disk past n) n) n new now → Partly disk past (set sessions n new) now (n + 1)
 partly-more disk past sessions held now n session new at flag h chosen =
     let before = past_at disk past n in
+    let after = choose_in disk (past_at disk past n) n in
     let same = λ (other : ℕ) (differ : n ≡ other → ⊥). in_same disk n other before differ in
     let within : n < length (tasks past) = omega (arith, slice_get_within sessions n session at, h.as_many) in
-    let split : range_with_len n (length (tasks past) - n) ≡ n ∷ range_with_len (n + 1) (length (tasks past) - (n + 1)) = ap (range_with_len n) (let e : length (tasks past) - n ≡ suc (length (tasks past) - (n + 1)) = omega arith in e) in
     let fewer = in_fewer disk n before (h.blocks.placed n).segments in
-    let rest = sum_range (choosable_by disk (choose_in disk before n)) (choosable_by disk before) (n + 1) (length (tasks past) - (n + 1)) (λ k from to. choosable-same disk before (choose_in disk before n) k (same k (λ e. absurd (omega arith)))) in
-    record {
+    let rest = sum_range (choosable_by disk after) (choosable_by disk before) (n + 1) (length (tasks past) - (n + 1)) (λ k from to. choosable-same disk before after k (same k (λ e. absurd (omega arith)))) in
+    rw (past_more disk past n) (record {
       as_many = length-set sessions n new ∙ h.as_many;
-      each = λ task s there. subst (λ p. Stands (view p task) s) (sym (past_more disk past n)) (elim (cases_Bool (n == task)) [
-        | inl mine ↦ let e = same_number n task mine in
-            subst (λ t. Stands (view (choose_in disk before n) t) s) e (subst (Stands (view (choose_in disk before n) n)) (sym (get_own sessions n new s (subst (λ t. slice_get (set sessions n new) t ≡ Some s) (sym e) there))) chosen.stands)
-        | inr other ↦ let differ = other_number n task other in rw (same task differ) (h.each task s (get_set sessions n task new s there differ))
-      ]);
-      at_work = λ task s there. subst (λ p. IsAtWork (view p task).work s) (sym (past_more disk past n)) (elim (cases_Bool (n == task)) [
-        | inl mine ↦ let e = same_number n task mine in
-            subst (λ t. IsAtWork (view (choose_in disk before n) t).work s) e (subst (IsAtWork (view (choose_in disk before n) n).work) (sym (get_own sessions n new s (subst (λ t. slice_get (set sessions n new) t ≡ Some s) (sym e) there))) chosen.at_work)
-        | inr other ↦ let differ = other_number n task other in rw (same task differ) (h.at_work task s (get_set sessions n task new s there differ))
-      ]);
-      later = λ task s le there. subst (λ p. AreReported (view p task).work) (sym (past_more disk past n))
-          (let differ : n ≡ task → ⊥ = λ e. absurd (omega arith) in rw (same task differ) (h.later task s (omega arith) (get_set sessions n task new s there differ)));
-      blocks = subst (λ p. HoldsBlocks disk p now) (sym (past_more disk past n)) chosen.blocks;
-      chosen = λ task less. subst (λ p. HasNoChoice (view p task)) (sym (past_more disk past n)) (elim (cases_Bool (n == task)) [
-        | inl mine ↦ subst (λ t. HasNoChoice (view (choose_in disk before n) t)) (same_number n task mine) (no-choice-left disk n before (h.blocks.placed n).segments)
-        | inr other ↦ rw (same task (other_number n task other)) (h.chosen task (earlier n task less (other_number n task other)))
-      ]);
-      quiet = λ task s there untouched. subst (λ p. IsQuiet (view p task)) (sym (past_more disk past n)) (elim (cases_Bool (n == task)) [
-        | inl mine ↦
-            let e = same_number n task mine in
-            let was = h.quiet n session at (sym flag ∙ (ap (λ (x : Session). x.touched) (sym (get_own sessions n new s (subst (λ t. slice_get (set sessions n new) t ≡ Some s) (sym e) there))) ∙ untouched)) in
-            subst (λ t. IsQuiet (view (choose_in disk before n) t)) e (subst (λ p. IsQuiet (view p n)) (sym (stays disk n before was.chosen)) was)
-        | inr other ↦ let differ = other_number n task other in rw (same task differ) (h.quiet task s (get_set sessions n task new s there differ) untouched)
-      ]);
-      few = subst (λ p. length (registered p) + sum_by (choosable_by disk p) (range_with_len (n + 1) (length (tasks past) - (n + 1))) ≤ 16 * 10 ^ 6) (sym (past_more disk past n))
-          (omega (arith, h.few, fewer, rest, ap (sum_by (choosable_by disk before)) split, sum_by-cons (choosable_by disk before) n (range_with_len (n + 1) (length (tasks past) - (n + 1)))));
-    } where
-      earlier : (n k : ℕ) → k < n + 1 → (n ≡ k → ⊥) → k < n
-      earlier n k less other = grind (arith, nat_tests)
+      each = each_set (λ t. Stands (view after t)) sessions n new chosen.stands (λ t s differ there. rw (same t differ) (h.each t s there));
+      at_work = each_set (λ t. IsAtWork (view after t).work) sessions n new chosen.at_work (λ t s differ there. rw (same t differ) (h.at_work t s there));
+      later = λ task s le there. each_set (λ t s. n + 1 ≤ t → AreReported (view after t).work) sessions n new (λ le. absurd (omega arith))
+          (λ t s differ there le. rw (same t differ) (h.later t s (omega arith) there)) task s there le;
+      blocks = chosen.blocks;
+      chosen = λ task less. one_or_other (λ t. t < n + 1 → HasNoChoice (view after t)) n task (λ _. no-choice-left disk n before (h.blocks.placed n).segments)
+          (λ other less. rw (same task (other_number n task other)) (h.chosen task (grind (arith, nat_tests)))) less;
+      quiet = each_set (λ t s. s.touched ≡ false → IsQuiet (view after t)) sessions n new
+          (λ untouched. let was = h.quiet n session at (sym flag ∙ untouched) in rw (stays disk n before was.chosen) was) (λ t s differ there untouched. rw (same t differ) (h.quiet t s there untouched));
+      few = omega (arith, h.few, fewer, rest, left_split (choosable_by disk before) n (length (tasks past)) within);
+    })
 
 pub rows-more : (disk : Shape) (past : Past) (sessions : List Session) (held : List Entry) (n instant : ℕ) (session : Session) (before rows more : List BackRow) → slice_get sessions n ≡ Some session → Partly disk past sessions held n
     → rows ≡ before ++ flat_map (segment_rows by_deliveries (past_at disk past n) instant) (range_with_len 0 n)
@@ -215,65 +198,41 @@ pub rows-more : (disk : Shape) (past : Past) (sessions : List Session) (held : L
     → more ≡ before ++ flat_map (segment_rows by_deliveries (past_at disk past (n + 1)) instant) (range_with_len 0 (n + 1))
 rows-more disk past sessions held n instant session before rows more at h so_far more_is =
     let old = past_at disk past n in
-    let new = choose_in disk old n in
-    let kept = flat_same (segment_rows by_deliveries new instant) (segment_rows by_deliveries old instant) (range_with_len 0 n) (all_range (λ k. segment_rows by_deliveries new instant k ≡ segment_rows by_deliveries old instant k) 0 n (λ k le lt. earlier k lt)) in
-    more_is ∙ (ap (λ rs. rs ++ segment_rows by_deliveries new instant n) so_far
-    ∙ (append_assoc before (flat_map (segment_rows by_deliveries old instant) (range_with_len 0 n)) (segment_rows by_deliveries new instant n)
-    ∙ (ap (λ rs. before ++ (rs ++ segment_rows by_deliveries new instant n)) (sym kept)
-    ∙ (ap (λ rs. before ++ (flat_map (segment_rows by_deliveries new instant) (range_with_len 0 n) ++ rs)) (sym (append-nil (segment_rows by_deliveries new instant n)))
-    ∙ (ap (λ rs. before ++ rs) (sym (flat_map-append (segment_rows by_deliveries new instant) (range_with_len 0 n) (n ∷ [])))
-    ∙ (ap (λ ns. before ++ flat_map (segment_rows by_deliveries new instant) ns) (sym (range_more n))
-    ∙ ap (λ p. before ++ flat_map (segment_rows by_deliveries p instant) (range_with_len 0 (n + 1))) (sym (past_more disk past n)))))))) where
-      earlier : (k : ℕ) → k < 0 + n → segment_rows by_deliveries (choose_in disk (past_at disk past n) n) instant k ≡ segment_rows by_deliveries (past_at disk past n) instant k
-      earlier k lt = rows-same (past_at disk past n) (choose_in disk (past_at disk past n) n) k instant (in_same disk n k (past_at disk past n) (λ e. absurd (omega arith)))
+    let new = choose_in disk (past_at disk past n) n in
+    let kept = flat_same (segment_rows by_deliveries new instant) (segment_rows by_deliveries old instant) (range_with_len 0 n)
+    (all_range (λ k. segment_rows by_deliveries new instant k ≡ segment_rows by_deliveries old instant k) 0 n
+    (λ k le lt. rows-same old new k instant (in_same disk n k old (λ e. absurd (omega arith))))) in
+    subst (λ p. more ≡ before ++ flat_map (segment_rows by_deliveries p instant) (range_with_len 0 (n + 1))) (sym (past_more disk past n))
+    (rows_more (segment_rows by_deliveries new instant) before rows more (segment_rows by_deliveries new instant n) n (so_far ∙ ap (λ rs. before ++ rs) (sym kept)) more_is refl)
 
 -- sessions that were not touched have nothing to choose
 partly-skip : (disk : Shape) (past : Past) (sessions : List Session) (held : List Entry) (n : ℕ) (session : Session) → slice_get sessions n ≡ Some session → session.touched ≡ false → Partly disk past sessions held n
     → (choose_in disk (past_at disk past n) n ≡ past_at disk past n) × Partly disk past sessions held (n + 1)
 partly-skip disk past sessions held n session at untouched h =
-    let still = stays disk n (past_at disk past n) (h.quiet n session at untouched).chosen in
-    let same : past_at disk past n ≡ past_at disk past (n + 1) = sym (past_more disk past n ∙ still) in
-    let may = partly-may disk past sessions held n session at h in
+    let before = past_at disk past n in
+    let quiet = h.quiet n session at untouched in
+    let still = stays disk n (past_at disk past n) quiet.chosen in
     let within : n < length (tasks past) = omega (arith, slice_get_within sessions n session at, h.as_many) in
-    let split : range_with_len n (length (tasks past) - n) ≡ n ∷ range_with_len (n + 1) (length (tasks past) - (n + 1)) = ap (range_with_len n) (let e : length (tasks past) - n ≡ suc (length (tasks past) - (n + 1)) = omega arith in e) in (
-      still,
-      record {
-        as_many = h.as_many;
-        each = λ task s there. subst (λ p. Stands (view p task) s) same (h.each task s there);
-        at_work = λ task s there. subst (λ p. IsAtWork (view p task).work s) same (h.at_work task s there);
-        later = λ task s le there. subst (λ p. AreReported (view p task).work) same (h.later task s (omega arith) there);
-        blocks = subst (λ p. HoldsBlocks disk p held) same h.blocks;
-        chosen = λ task less. subst (λ p. HasNoChoice (view p task)) same (elim (cases_Bool (n == task)) [
-          | inl mine ↦ subst (λ t. HasNoChoice (view (past_at disk past n) t)) (same_number n task mine) (h.quiet n session at untouched).chosen
-          | inr other ↦ h.chosen task (before_it n task less (other_number n task other))
-        ]);
-        quiet = λ task s there none. subst (λ p. IsQuiet (view p task)) same (h.quiet task s there none);
-        few = subst (λ p. length (registered p) + sum_by (choosable_by disk p) (range_with_len (n + 1) (length (tasks past) - (n + 1))) ≤ 16 * 10 ^ 6) same
-            (omega (arith, h.few, ap (sum_by (choosable_by disk (past_at disk past n))) split, sum_by-cons (choosable_by disk (past_at disk past n)) n (range_with_len (n + 1) (length (tasks past) - (n + 1)))));
-      },
-    ) where
-      before_it : (n k : ℕ) → k < n + 1 → (n ≡ k → ⊥) → k < n
-      before_it n k less other = grind (arith, nat_tests)
+    let later : (task : ℕ) (session : Session) → n + 1 ≤ task → slice_get sessions task ≡ Some session → AreReported (view (past_at disk past n) task).work =
+    λ task s le there. h.later task s (omega arith) there in
+    let chosen : (task : ℕ) → task < n + 1 → HasNoChoice (view (past_at disk past n) task) = λ task less.
+    one_or_other (λ t. t < n + 1 → HasNoChoice (view (past_at disk past n) t)) n task (λ _. quiet.chosen) (λ other less. h.chosen task (grind (arith, nat_tests))) less in
+    let few : length (registered before) + sum_by (choosable_by disk before) (range_with_len (n + 1) (length (tasks past) - (n + 1))) ≤ 16 * 10 ^ 6 =
+    omega (arith, h.few, left_split (choosable_by disk (past_at disk past n)) n (length (tasks past)) within) in
+    (still, rw (past_more disk past n, still) (assumption (later, chosen, few, h)))
 
 abbrev pub HasRows : Shape → Past → ℕ → List BackRow → List BackRow → ℕ → Type 0
 HasRows disk past instant before rows n = rows ≡ before ++ flat_map (segment_rows by_deliveries (past_at disk past n) instant) (range_with_len 0 n)
 
-partly_rest : (disk : Shape) (past : Past) (sessions : List Session) (held : List Entry) (instant : ℕ) (before rows : List BackRow) (d n : ℕ) → n + d ≤ length sessions → ((k : ℕ) (session : Session) → n ≤ k → k < n + d → slice_get sessions k ≡ Some session → session.touched ≡ false)
-    → Partly disk past sessions held n → HasRows disk past instant before rows n → Partly disk past sessions held (n + d) × HasRows disk past instant before rows (n + d)
-partly_rest disk past sessions held instant before rows zero n within untouched h so_far = subst (λ m. Partly disk past sessions held m × HasRows disk past instant before rows m) (let e : n ≡ n + 0 = omega arith in e) (h, so_far)
-partly_rest disk past sessions held instant before rows (suc d) n within untouched h so_far =
-    let found = some_at sessions n (omega (arith, within)) in
-    let skip = partly-skip disk past sessions held n found.0 found.1 (untouched n found.0 (omega arith) (omega arith) found.1) h in
-    let none : segment_rows by_deliveries (choose_in disk (past_at disk past n) n) instant n ≡ [] = ap (λ p. segment_rows by_deliveries p instant n) skip.0 ∙ reported_rows (past_at disk past n) instant n (h.later n found.0 (omega arith) found.1) in
-    let now = rows-more disk past sessions held n instant found.0 before rows rows found.1 h so_far (sym (append-nil rows) ∙ ap (λ rs. rows ++ rs) (sym none)) in
-    subst (λ m. Partly disk past sessions held m × HasRows disk past instant before rows m) (let e : n + 1 + d ≡ n + suc d = omega arith in e)
-    (partly_rest disk past sessions held instant before rows d (n + 1) (omega (arith, within)) (λ k session from to. untouched k session (omega arith) (omega arith)) skip.1 now)
-
 pub partly-to : (disk : Shape) (past : Past) (sessions : List Session) (held : List Entry) (instant : ℕ) (before rows : List BackRow) (n m : ℕ) → n ≤ m → m ≤ length sessions → ((k : ℕ) (session : Session) → n ≤ k → k < m → slice_get sessions k ≡ Some session → session.touched ≡ false)
     → Partly disk past sessions held n → HasRows disk past instant before rows n → Partly disk past sessions held m × HasRows disk past instant before rows m
 partly-to disk past sessions held instant before rows n m le within untouched h so_far =
-    subst (λ k. Partly disk past sessions held k × HasRows disk past instant before rows k) (let e : n + (m - n) ≡ m = omega arith in e)
-    (partly_rest disk past sessions held instant before rows (m - n) n (omega (arith, le, within)) (λ k session from to. untouched k session from (omega (arith, le))) h so_far)
+    step_to (λ k. Partly disk past sessions held k × HasRows disk past instant before rows k) n m le (λ k from to now.
+    let found = some_at sessions k (omega (arith, within)) in
+    let skip = partly-skip disk past sessions held k found.0 found.1 (untouched k found.0 from to found.1) now.0 in
+    let none : segment_rows by_deliveries (choose_in disk (past_at disk past k) k) instant k ≡ [] =
+    rw skip.0 (reported_rows (past_at disk past k) instant k (now.0.later k found.0 (omega arith) found.1)) in
+    (skip.1, rows-more disk past sessions held k instant found.0 before rows rows found.1 now.0 now.1 (rw none (sym (append-nil rows))))) (h, so_far)
 
 -- after the choices of all tasks
 pub all-chosen : (disk : Shape) (past : Past) (sessions : List Session) (held : List Entry) (n : ℕ) → n ≡ length (tasks past) → Partly disk past sessions held n → HaveChosen disk (with_choices disk past) sessions held

@@ -1,19 +1,18 @@
 -- What the rules of calls say of a history.
-use Rattle.std.proofs.Common.{◌≡◌, ℕ, ◌+◌, ◌<◌, ◌≤◌, ◌==◌, ◌&&◌, List, [], ◌∷◌, ◌++◌, false, inl, inr, length, append-nil, length-append, refl, ap, sym, ◌∙◌, arith, subst}
+use Rattle.std.proofs.Common.{◌≡◌, ℕ, ◌+◌, ◌<◌, ◌≤◌, ◌==◌, ◌&&◌, List, [], ◌∷◌, ◌++◌, false, length, append-nil, length-append, refl, ap, sym, ◌∙◌, arith, subst}
 use Rattle.std.proofs.Math.Bool.{or-false, or_comm}
 use Rattle.std.specs.List.{slice_index_or}
-use Rattle.std.proofs.lemmas.Bool.{cases_Bool}
 use Rattle.std.proofs.lemmas.List.Folds.{list_any-append}
 use Rattle.std.proofs.lemmas.List.Concat.{flat_map-append}
 use Rattle.fb_geometry.specs.Shape.{Shape}
 use Rattle.fb_calls.specs.declared.call.Action.{Action}
-use Rattle.fb_calls.specs.declared.call.Action.TheVariants.{Open, Want, Abort, Promote, Suspend, Resume, Close, Segment}
+use Rattle.fb_calls.specs.declared.call.Action.TheVariants.{Open, Segment}
 use Rattle.fb_calls.specs.declared.call.Call.{Call}
 use Rattle.fb_calls.specs.declared.call.Kind.TheVariants.{Plain}
 use Rattle.fb_calls.specs.Allowed as allowed
 use Rattle.fb_calls.specs.Allowed.{Terms, MayAsk, terms_in}
 use Rattle.fb_wanted.specs.declared.block.Entry.{Entry}
-use Rattle.fb_model.specs.History.{Past, LogSegment, called, chose, tested, delivered, finished, calls_of, tasks, opened_by}
+use Rattle.fb_model.specs.History.{Past, LogSegment, called, calls_of, tasks, opened_by}
 use Rattle.fb_model.specs.Completion.{is_closed, segments, segment_by, view}
 use Rattle.fb_tasks.specs.declared.session.Session.{Session}
 use Rattle.fb_tasks.specs.Telling.{Tells, MayTake}
@@ -21,31 +20,19 @@ use Rattle.fb_model.specs.Steps.{take_call, blocks_by}
 
 opened_more : (action : Action) (before : List Terms) → before ++ terms_in action ≡ opened_by action before
 opened_more (Open kind weight block) before = refl
-opened_more (Want first count) before = append-nil before
-opened_more (Abort first count) before = append-nil before
-opened_more (Promote first count) before = append-nil before
-opened_more Suspend before = append-nil before
-opened_more Resume before = append-nil before
-opened_more Close before = append-nil before
-opened_more (Segment first blocks age live) before = append-nil before
+opened_more _ before = append-nil before
 
 pub opened_same : (past : Past) → allowed.tasks (calls_of past) ≡ tasks past
 opened_same [] = refl
 opened_same (called call blocks ∷ past) = flat_map-append (λ (call : Call). terms_in call.action) (calls_of past) (call ∷ []) ∙ rw (append-nil (terms_in call.action), opened_same past) (opened_more call.action (tasks past))
-opened_same (chose task segment blocks ∷ past) = opened_same past
-opened_same (tested rows ∷ past) = opened_same past
-opened_same (delivered got ∷ past) = opened_same past
-opened_same (finished request ∷ past) = opened_same past
+opened_same (_ ∷ past) = opened_same past
 
 -- a task is closed where one of its calls is a close
 pub closed_same : (past : Past) (task : ℕ) → allowed.is_closed (calls_of past) task ≡ is_closed past task
 closed_same [] task = refl
 closed_same (called call blocks ∷ past) task = list_any-append (λ (call : Call). (call.task == task) && allowed.is_close call.action) (calls_of past) (call ∷ [])
     ∙ rw (closed_same past task, or-false) (or_comm (is_closed past task) _)
-closed_same (chose chooser segment blocks ∷ past) task = closed_same past task
-closed_same (tested rows ∷ past) task = closed_same past task
-closed_same (delivered got ∷ past) task = closed_same past task
-closed_same (finished request ∷ past) task = closed_same past task
+closed_same (_ ∷ past) task = closed_same past task
 
 pub open_there : (past : Past) (task : ℕ) → allowed.IsOpen (calls_of past) task → (task < length (tasks past)) × ((view past task).closed ≡ false)
 unfolding view
@@ -64,10 +51,7 @@ one_task _ before = omega arith
 pub tasks_few : (past : Past) → length (tasks past) ≤ length (calls_of past)
 tasks_few [] = omega arith
 tasks_few (called call blocks ∷ past) = omega (arith, tasks_few past, one_task call.action (tasks past), length-append (calls_of past) (call ∷ []))
-tasks_few (chose task segment blocks ∷ past) = tasks_few past
-tasks_few (tested rows ∷ past) = tasks_few past
-tasks_few (delivered got ∷ past) = tasks_few past
-tasks_few (finished request ∷ past) = tasks_few past
+tasks_few (_ ∷ past) = tasks_few past
 
 one_segment : (action : Action) (before : List LogSegment) → length (segment_by action before) ≤ length before + 1
 one_segment (Segment first blocks age live) before = omega (arith, length-append before (record { number = length before + 1; first = first; blocks = blocks; age = age; live = live } ∷ []))
@@ -75,14 +59,9 @@ one_segment _ before = omega arith
 
 given_few : (past : Past) (task : ℕ) → length (segments past task) ≤ length (calls_of past)
 given_few [] task = omega arith
-given_few (called call blocks ∷ past) task = let few = given_few past task in elim (cases_Bool (call.task == task)) [
-  | inl own ↦ rw own (omega (arith, few, one_segment call.action (segments past task), length-append (calls_of past) (call ∷ [])))
-  | inr other ↦ rw other (omega (arith, few, length-append (calls_of past) (call ∷ [])))
-]
-given_few (chose chooser segment blocks ∷ past) task = given_few past task
-given_few (tested rows ∷ past) task = given_few past task
-given_few (delivered got ∷ past) task = given_few past task
-given_few (finished request ∷ past) task = given_few past task
+given_few (called call blocks ∷ past) task =
+    grind (arith, given_few past task, one_segment call.action (segments past task), length-append (calls_of past) (call ∷ []))
+given_few (_ ∷ past) task = given_few past task
 
 pub segments_few : (past : Past) (task : ℕ) → length (view past task).segments ≤ length (calls_of past)
 unfolding view

@@ -1,5 +1,5 @@
 -- A session is closed.
-use Rattle.std.proofs.Common.{◌≡◌, ℕ, ◌+◌, ◌<◌, ◌≤◌, min, max, nat_lt, List, [], ◌∷◌, true, length, map, set, get_or, refl, ap, sym, ◌∙◌, arith}
+use Rattle.std.proofs.Common.{◌≡◌, ℕ, ◌+◌, ◌<◌, ◌≤◌, min, max, nat_lt, List, [], ◌∷◌, true, length, map, set, get_or, refl, ap, ◌∙◌, arith, false}
 use Rattle.std.proofs.Math.Bool.{and-false}
 use Rattle.std.proofs.lemmas.Bool.{true≢false}
 use Rattle.std.proofs.lemmas.Bool.Decides.{nat_tests}
@@ -12,77 +12,53 @@ use Rattle.fb_wanted.specs.declared.block.Block.{Block}
 use Rattle.fb_wanted.specs.declared.block.Change.TheVariants.{Abort as AbortRange}
 use Rattle.fb_wanted.specs.declared.block.Entry.{Entry}
 use Rattle.fb_wanted.specs.declared.block.State.{State}
-use Rattle.fb_wanted.specs.declared.block.State.TheVariants.{Wanted, Suspended, Delivered, Aborted}
 use Rattle.fb_wanted.specs.States.{after, shares, is_delivered}
 use Rattle.fb_clean.specs.Segments as clean
 use Rattle.fb_model.specs.History.{Past, LogSegment, called, tasks, opened_by}
-use Rattle.fb_model.specs.Completion.{TaskView, view, closed_view, ended, is_over}
+use Rattle.fb_model.specs.Completion.{TaskView, view, closed_view, ended, is_over, is_unsealed, is_cleaned}
 use Rattle.fb_model.proofs.Views.{closed-view}
 use Rattle.fb_tasks.specs.declared.session.Session.{Session}
-use Rattle.fb_tasks.specs.Standing.{Told, Cleans, HoldsChoice, choice_in, kept_segment}
+use Rattle.fb_tasks.specs.Standing.{Told, Cleans, HoldsChoice, choice_in, kept_segment, HoldsImage, AreReported, IsAtWork, IsQuiet}
 use Rattle.fb_tasks.specs.Telling.{Tells, IsCall}
 use Rattle.fb_tasks.proofs.Lists.{all_any, all_weaker}
 use Rattle.fb_tasks.proofs.Frames.{call-tells}
 use Rattle.fb_tasks.proofs.States.{show_aborted, ended-done, holds-fewer}
+use Rattle.std.specs.List.{AllByRecursion}
+use Rattle.fb_calls.specs.Sessions.{is_clean}
 
 ended_over : (before : State) → is_over (ended true before) ≡ true
-ended_over Wanted = refl
-ended_over Suspended = refl
-ended_over Delivered = refl
-ended_over Aborted = refl
+ended_over before = grind arith
 
 -- the whole disk shares a sector with each of its blocks
 all_shared : (n lbn count : ℕ) → 0 < count → lbn + count ≤ n → nat_lt (max lbn 0) (min (lbn + count) (0 + n)) ≡ true
 all_shared n lbn count some within = grind (arith, nat_tests)
 
 fewer : (block : Block) (before : State) → is_delivered (ended true before) ≡ true → is_delivered before ≡ true
-fewer block before done = sym (ended-done true before) ∙ done
+fewer block before done = grind arith
 
 left_all : (v : TaskView) (xs : List LogSegment) → map clean.left_out (map (kept_segment v.work) xs) ≡ map (kept_segment (closed_view v).work) xs
 left_all v [] = refl
 left_all v (x ∷ xs) = rw (left_all v xs) (simp and-false)
 
 closed-cleans : (v : TaskView) (log : clean.Cleaning) → Cleans v.work log → Cleans (closed_view v).work (clean.after_drop log)
-closed-cleans v log h = record {
-  block = h.block;
-  done = h.done;
-  current = h.current;
-  chosen = h.chosen;
-  unfinished = h.unfinished;
-  blocks = h.blocks;
-  cut = h.cut;
-  numbers = h.numbers;
-  distinct = h.distinct;
-  ascend = h.ascend;
-  known = h.known;
-  unreported = h.unreported;
-  reported = h.reported;
-  cleaned = simp ended-done h.cleaned;
-  taken = all_weaker (HoldsChoice v.work log) (HoldsChoice (closed_view v).work log) (λ choice. holds-fewer v.work (λ _. ended true) fewer (clean.taken_for log choice.segment.number) choice.blocks) (choice_in h.current) h.taken;
-  over = λ closed. all_any (λ block. is_over (ended true (v.bare block)) ≡ true) (λ block. ended_over (v.bare block)) v.blocks;
-  segments = ap (map clean.left_out) h.segments ∙ left_all v v.segments;
-}
+closed-cleans v log h =
+    let cleaned : AllByRecursion (λ choice. is_cleaned (closed_view v).work choice ≡ true) h.done = simp ended-done h.cleaned in
+    let taken = all_weaker (HoldsChoice v.work log) (HoldsChoice (closed_view v).work log)
+    (λ choice. holds-fewer v.work (λ _. ended true) fewer (clean.taken_for log choice.segment.number) choice.blocks) (choice_in h.current) h.taken in
+    let over : true ≡ true → AllByRecursion (λ block. is_over ((closed_view v).bare block) ≡ true) v.blocks =
+    λ _. all_any (λ block. is_over (ended true (v.bare block)) ≡ true) (λ block. ended_over (v.bare block)) v.blocks in
+    let segments = ap (map clean.left_out) h.segments ∙ left_all v v.segments in
+    record { done = h.done; current = h.current; by = assumption (cleaned, taken, over, segments, h.by) }
 
 closed-told : (v : TaskView) (session : Session) → Told v session → Told (closed_view v) (record session { closed = true; touched = true; log = clean.after_drop session.log })
-closed-told v session h = record {
-  stands = record {
-    terms = h.terms;
-    weight = h.weight;
-    block = h.block;
-    suspended = h.suspended;
-    closed = refl;
-    complete = h.complete;
-    sealed = h.sealed;
-    ascend = h.ascend;
-    unwanted = h.unwanted;
-    unchosen = h.unchosen;
-    image = λ is_open. let image = h.image is_open in record { each = holds-fewer v.work (λ _. ended true) fewer (held_at session.image) v.blocks image.each; only = image.only };
-    log = λ cleans. closed-cleans v session.log (h.log cleans);
-  };
-  at_work = λ cleans. simp ended-done (h.at_work cleans);
-  reported = simp ended-done h.reported;
-  quiet = λ untouched. absurd (true≢false untouched);
-}
+closed-told v session h =
+    let image : is_unsealed v ≡ true → HoldsImage (closed_view v).work (held_at session.image) = λ is_open.
+    let image = h.image is_open in record { each = holds-fewer v.work (λ _. ended true) fewer (held_at session.image) v.blocks image.each; only = image.only } in
+    let log = λ (cleans : is_clean session.kind ≡ true). closed-cleans v session.log (h.log cleans) in
+    let at_work : IsAtWork (closed_view v).work session = λ cleans. simp ended-done (h.at_work cleans) in
+    let reported : AreReported (closed_view v).work = simp ended-done h.reported in
+    let quiet : true ≡ false → IsQuiet (closed_view v) = λ untouched. absurd (true≢false untouched) in
+    assumption (image, log, at_work, reported, quiet, h)
 
 pub closed-tells : (disk : Shape) (past : Past) (call : Call) (items seen : List Session) (task n : ℕ) (session : Session) (log : clean.Cleaning) (held now : List Entry) → IsCall task Close call → items ≡ seen → task < length seen → session ≡ get_or items task session
     → n ≡ length (places disk) → now ≡ after task (AbortRange 0 n) held → log ≡ clean.after_drop session.log → Tells disk past seen held
@@ -90,6 +66,6 @@ pub closed-tells : (disk : Shape) (past : Past) (call : Call) (items seen : List
 closed-tells disk past call items seen task n session log held now is same opened at count is_after dropped h =
     let kept : tasks (called call [] ∷ past) ≡ tasks past = ap (λ a. opened_by a (tasks past)) is.action in
     rw dropped (call-tells disk past call items seen task session (record session { closed = true; touched = true; log = clean.after_drop session.log }) held now (AbortRange 0 n) (closed_view (view past task)) kept is.task
-    (closed-view past call kept task is.task is.action) same opened at is_after (λ placed. record { indexed = placed.indexed; segments = placed.segments }) (closed-told (view past task) session)
+    (closed-view past call kept task is.task is.action) same opened at is_after (λ placed. assumption placed) (closed-told (view past task) session)
     (λ block on. let shared : shares 0 n block ≡ true = rw count (all_shared (length (places disk)) block.lbn block.count on.some on.on_disk) in
     show_aborted ((view past task).bare block) (view past task).suspended (shares 0 n block) ∙ rw shared refl) h)

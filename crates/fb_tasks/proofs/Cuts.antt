@@ -53,12 +53,18 @@ pub ranges_join : (a m n : ℕ) → range_with_len a m ++ range_with_len (a + m)
 ranges_join a zero n = ap (λ b. range_with_len b n) (let e : a + 0 ≡ a = omega arith in e) ∙ ap (range_with_len a) (let e : n ≡ 0 + n = omega arith in e)
 ranges_join a (suc m) n = ap (λ xs. a ∷ xs) (ap (λ b. range_with_len (a + 1) m ++ range_with_len b n) (let e : a + suc m ≡ a + 1 + m = omega arith in e) ∙ ranges_join (a + 1) m n) ∙ ap (range_with_len a) (let e : suc (m + n) ≡ suc m + n = omega arith in e)
 
+-- one more number
+pub range_more : (a n : ℕ) → range_with_len a (n + 1) ≡ range_with_len a n ++ (a + n) ∷ []
+range_more a n = sym (ranges_join a n 1)
+
+pub range_next : (n : ℕ) → range_with_len 0 (n + 1) ≡ range_with_len 0 n ++ n ∷ []
+range_next n = let e : 0 + n ≡ n = omega arith in rw e at (range_more 0 n)
+
 -- laid end to end they are the range
 pub cuts_cover : (disk : Shape) (task weight block n from end : ℕ) (cuts : List Cut) → AreCuts disk block from end cuts → flat_map (λ part. range_with_len part.lbn part.count) (numbered task weight n cuts) ≡ range_with_len from (end - from)
 cuts_cover disk task weight block n from end [] h = let none : 0 ≡ end - from = omega (arith, h) in ap (range_with_len from) none
 cuts_cover disk task weight block n from end (cut ∷ cuts) h =
     let rise = cuts_rise disk block (from + cut.count) end cuts h.4 in
-    ap (λ at. range_with_len at cut.count ++ flat_map (λ part. range_with_len part.lbn part.count) (numbered task weight (n + 1) cuts)) h.0
-    ∙ (ap (λ xs. range_with_len from cut.count ++ xs) (cuts_cover disk task weight block (n + 1) (from + cut.count) end cuts h.4)
-    ∙ (ranges_join from cut.count (end - (from + cut.count))
-    ∙ ap (range_with_len from) (let e : cut.count + (end - (from + cut.count)) ≡ end - from = omega arith in e)))
+    let size : cut.count + (end - (from + cut.count)) ≡ end - from = omega arith in
+    rw (h.0, cuts_cover disk task weight block (n + 1) (from + cut.count) end cuts h.4)
+    (ranges_join from cut.count (end - (from + cut.count)) ∙ ap (range_with_len from) size)

@@ -1,7 +1,7 @@
 -- A block has been delivered.
-use Rattle.std.proofs.Common.{◌≡◌, ℕ, zero, suc, ◌+◌, ◌<◌, ◌≤◌, ◌==◌, if◌then◌else◌, List, [], ◌∷◌, ◌++◌, Bool, true, false, Some, None, Option, inl, inr, ◌⊎◌, map, slice_get, refl, ap, sym, ◌∙◌, arith, subst}
-use Rattle.std.specs.List.{AllByRecursion, list_any, list_all, flat_map, range_with_len}
-use Rattle.std.proofs.lemmas.Bool.{cases_Bool, and_parts, or_parts, true≢false}
+use Rattle.std.proofs.Common.{◌≡◌, ℕ, zero, suc, ◌+◌, ◌<◌, ◌≤◌, ◌==◌, if◌then◌else◌, List, [], ◌∷◌, ◌++◌, true, false, Some, None, Option, inl, inr, ◌⊎◌, map, slice_get, refl, ap, sym, ◌∙◌, arith, subst}
+use Rattle.std.specs.List.{AllByRecursion, list_any, flat_map, range_with_len}
+use Rattle.std.proofs.lemmas.Bool.{cases_Bool}
 use Rattle.std.proofs.lemmas.Bool.Decides.{nat_tests}
 use Rattle.fb_store.specs.declared.content.Content.{Content}
 use Rattle.fb_store.specs.Sparse.{Gives, after_take, held_in}
@@ -17,9 +17,10 @@ use Rattle.fb_model.specs.History.{Past, delivered, registered}
 use Rattle.fb_model.specs.Completion.{Choice, TaskView, view, state_in, delivered_view, is_cleaned, is_over}
 use Rattle.fb_model.proofs.Views.{delivered-silent, delivered-view, number_same}
 use Rattle.fb_tasks.specs.Standing.{entry_of, HoldsBlock, AreIndexed, Ascend}
-use Rattle.fb_tasks.proofs.Lists.{some_same, all_any, all_at, all_weaker, all_with, same_number, other_number}
+use Rattle.fb_tasks.proofs.Lists.{some_same, all_any, all_at, all_weaker, all_with, same_number, other_number, list_all_each, none_pass}
 use Rattle.fb_tasks.proofs.Frames.{changed-entries}
 use Rattle.fb_tasks.proofs.Sectors.{held_same, held_all, within, before_it, behind_it, ascend_from}
+use Rattle.fb_model.proofs.Lists.{all_both}
 
 get_append : {X : Type 0} (xs ys : List X) (i : ℕ) (x : X) → slice_get (xs ++ ys) i ≡ Some x → (slice_get xs i ≡ Some x) ⊎ ((j : ℕ) × (slice_get ys j ≡ Some x))
 get_append [] ys i x h = inr (i, h)
@@ -54,60 +55,48 @@ apart low (b ∷ bs) (suc i) x h at =
 module _ (v : TaskView) (got : DeliveryRow) where
   -- a delivered block stays delivered
   pub still_done : (block : Block) → is_delivered (v.bare block) ≡ true → is_delivered ((delivered_view got v).bare block) ≡ true
-  still_done block done = elim (cases_Bool (got.block.index == block.index)) [ inl it ↦ rw it refl | inr other ↦ rw other done ]
+  still_done block done = grind arith
 
   pub still_over : (block : Block) → is_over (v.bare block) ≡ true → is_over ((delivered_view got v).bare block) ≡ true
-  still_over block over = elim (cases_Bool (got.block.index == block.index)) [ inl it ↦ rw it refl | inr other ↦ rw other over ]
+  still_over block over = grind arith
 
   -- the blocks hold what was taken of them
   pub taken-holds : (held now : ℕ → Option Content) (content_at : ℕ → Content) (low i : ℕ) (bs : List Block) → ((lbn : ℕ) → now lbn ≡ after_take content_at got.block.lbn got.block.count lbn (held lbn)) → Gives got.content content_at got.block.lbn got.block.count
       → Ascend low bs → slice_get bs i ≡ Some got.block → AllByRecursion (λ b. b.index ≡ got.block.index → b ≡ got.block) bs → AllByRecursion (HoldsBlock v.work held) bs → AllByRecursion (HoldsBlock (delivered_view got v).work now) bs
   taken-holds held now content_at low i bs takes gives ascends at single holds =
-      all_with (λ b. (b.index ≡ got.block.index → b ≡ got.block) × ((b ≡ got.block) ⊎ AreApart b got.block)) (HoldsBlock v.work held) (HoldsBlock (delivered_view got v).work now) one bs
-      (all_with (λ b. b.index ≡ got.block.index → b ≡ got.block) (λ b. (b ≡ got.block) ⊎ AreApart b got.block) (λ b. (b.index ≡ got.block.index → b ≡ got.block) × ((b ≡ got.block) ⊎ AreApart b got.block)) (λ b u a. (u, a)) bs single (apart low bs i got.block ascends at)) holds where
+      all_with (λ b. b.index ≡ got.block.index → b ≡ got.block) (λ b. HoldsBlock v.work held b × ((b ≡ got.block) ⊎ AreApart b got.block)) (HoldsBlock (delivered_view got v).work now) one bs single
+      (all_both (HoldsBlock v.work held) (λ b. (b ≡ got.block) ⊎ AreApart b got.block) bs holds (apart low bs i got.block ascends at)) where
         its_own : held_in now (range_with_len got.block.lbn got.block.count) ≡ sectors_of ((delivered_view got v).found got.block)
-        its_own = held_all now content_at got.block.lbn got.block.count (λ lbn le lt. takes lbn ∙ ap (λ b. if b then Some (content_at lbn) else held lbn) (within got.block.lbn got.block.count lbn le lt))
+        its_own = held_all now content_at got.block.lbn got.block.count (λ lbn le lt. rw (takes lbn, within got.block.lbn got.block.count lbn le lt) refl)
             ∙ (sym gives ∙ rw (number_same got.block.index got.block.index refl) refl)
 
-        other_one : (b : Block) → (got.block.index == b.index) ≡ false → AreApart b got.block → HoldsBlock v.work held b → HoldsBlock (delivered_view got v).work now b
-        other_one b differ far holds_b = λ done.
-            held_same now held b.lbn b.count (λ lbn le lt. takes lbn ∙ ap (λ x. if x then Some (content_at lbn) else held lbn) (outside lbn le lt far))
-            ∙ (holds_b (sym (ap (λ x. is_delivered (if x then Delivered else v.bare b)) differ) ∙ done)
-            ∙ sym (ap (λ x. sectors_of (if x then got.content else v.found b)) differ)) where
-              outside : (lbn : ℕ) → b.lbn ≤ lbn → lbn < b.lbn + b.count → AreApart b got.block → is_within got.block.lbn got.block.count lbn ≡ false
-              outside lbn le lt (inl less) = before_it got.block.lbn got.block.count lbn (omega arith)
-              outside lbn le lt (inr more) = behind_it got.block.lbn got.block.count lbn (omega arith)
+        outside : (b : Block) (lbn : ℕ) → b.lbn ≤ lbn → lbn < b.lbn + b.count → AreApart b got.block → is_within got.block.lbn got.block.count lbn ≡ false
+        outside b lbn le lt (inl less) = before_it got.block.lbn got.block.count lbn (omega arith)
+        outside b lbn le lt (inr more) = behind_it got.block.lbn got.block.count lbn (omega arith)
 
-        one : (b : Block) → (b.index ≡ got.block.index → b ≡ got.block) × ((b ≡ got.block) ⊎ AreApart b got.block) → HoldsBlock v.work held b → HoldsBlock (delivered_view got v).work now b
-        one b says holds_b = by_same (got.block.index == b.index) refl says.1 where
-          by_same : (x : Bool) → (got.block.index == b.index) ≡ x → (b ≡ got.block) ⊎ AreApart b got.block → HoldsBlock (delivered_view got v).work now b
-          by_same true e far =
-              let index = same_number got.block.index b.index e in
-              subst (HoldsBlock (delivered_view got v).work now) (sym (says.0 (sym index))) (λ done. its_own)
-          by_same false e (inl it) = absurd (other_number got.block.index b.index e (ap (λ (x : Block). x.index) (sym it)))
-          by_same false e (inr far) = other_one b e far holds_b
+        one : (b : Block) → (b.index ≡ got.block.index → b ≡ got.block) → HoldsBlock v.work held b × ((b ≡ got.block) ⊎ AreApart b got.block) → HoldsBlock (delivered_view got v).work now b
+        one b only both = elim (cases_Bool (got.block.index == b.index)) [
+          | inl it ↦ rw (only (sym (same_number got.block.index b.index it))) (λ _. its_own)
+          | inr other ↦ elim both.1 [
+            | inl it ↦ absurd (other_number got.block.index b.index other (ap (λ (x : Block). x.index) (sym it)))
+            | inr far ↦ rw other (λ done. held_same now held b.lbn b.count (λ lbn le lt. rw (takes lbn, outside b lbn le lt far) refl) ∙ both.0 done)
+          ]
+        ]
 
   -- a sector that no block has holds nothing
   pub taken-only : (held now : ℕ → Option Content) (content_at : ℕ → Content) (i : ℕ) (bs : List Block) → ((lbn : ℕ) → now lbn ≡ after_take content_at got.block.lbn got.block.count lbn (held lbn)) → slice_get bs i ≡ Some got.block
       → ((lbn : ℕ) → list_any (λ b. is_within b.lbn b.count lbn) bs ≡ false → held lbn ≡ None) → (lbn : ℕ) → list_any (λ b. is_within b.lbn b.count lbn) bs ≡ false → now lbn ≡ None
-  taken-only held now content_at i bs takes at only lbn none = takes lbn ∙ (ap (λ b. if b then Some (content_at lbn) else held lbn) (not_in bs i at none) ∙ only lbn none) where
-    not_in : (cs : List Block) (k : ℕ) → slice_get cs k ≡ Some got.block → list_any (λ b. is_within b.lbn b.count lbn) cs ≡ false → is_within got.block.lbn got.block.count lbn ≡ false
-    not_in [] k there e = absurd (grind arith)
-    not_in (c ∷ cs) zero there e = ap (λ (b : Block). is_within b.lbn b.count lbn) (sym (some_same c got.block there)) ∙ (or_parts (is_within c.lbn c.count lbn) (list_any (λ b. is_within b.lbn b.count lbn) cs) e).0
-    not_in (c ∷ cs) (suc k) there e = not_in cs k there (or_parts (is_within c.lbn c.count lbn) (list_any (λ b. is_within b.lbn b.count lbn) cs) e).1
+  taken-only held now content_at i bs takes at only lbn none =
+      rw (takes lbn, all_at (λ b. is_within b.lbn b.count lbn ≡ false) bs i got.block (none_pass (λ b. is_within b.lbn b.count lbn) bs none) at) (only lbn none)
 
   -- a block that is not delivered belongs to the choice that is not cleaned
   pub in_current : (done current : List Choice) (i : ℕ) → slice_get (flat_map (λ (choice : Choice). choice.blocks) (done ++ current)) i ≡ Some got.block → AllByRecursion (λ choice. is_cleaned v.work choice ≡ true) done → v.bare got.block ≡ Wanted
       → (j : ℕ) × (slice_get (flat_map (λ (choice : Choice). choice.blocks) current) j ≡ Some got.block)
   in_current [] current i at cleaned bare = (i, at)
   in_current (c ∷ cs) current i at cleaned bare = elim (get_append c.blocks (flat_map (λ (choice : Choice). choice.blocks) (cs ++ current)) i got.block at) [
-    | inl here ↦ absurd (true≢false (sym (all_done c.blocks i here cleaned.0) ∙ ap is_delivered bare))
+    | inl here ↦ absurd (let done = all_at (λ b. is_delivered (v.bare b) ≡ true) c.blocks i got.block (list_all_each (λ b. is_delivered (v.bare b)) c.blocks cleaned.0) here in grind (arith, done))
     | inr rest ↦ in_current cs current rest.0 rest.1 cleaned.1 bare
-  ] where
-    all_done : (bs : List Block) (k : ℕ) → slice_get bs k ≡ Some got.block → list_all (λ b. is_delivered (v.bare b)) bs ≡ true → is_delivered (v.bare got.block) ≡ true
-    all_done [] k there all = absurd (grind arith)
-    all_done (b ∷ bs) zero there all = ap (λ x. is_delivered (v.bare x)) (sym (some_same b got.block there)) ∙ (and_parts (is_delivered (v.bare b)) (list_all (λ x. is_delivered (v.bare x)) bs) all).0
-    all_done (b ∷ bs) (suc k) there all = all_done bs k there (and_parts (is_delivered (v.bare b)) (list_all (λ x. is_delivered (v.bare x)) bs) all).1
+  ]
 
 module _ (past : Past) (got : DeliveryRow) where
   -- the block's own task changes alone
@@ -122,11 +111,5 @@ module _ (past : Past) (got : DeliveryRow) where
   delivered-entries held now entries is_after = is_after ∙ (ap (after got.block.task (Deliver got.block.index)) entries
       ∙ changed-entries got.block.task (Deliver got.block.index) (view past) (view (delivered got ∷ past)) (registered past) (λ t other. delivered-silent past got t other)
       (rw (delivered-view past got got.block.task refl) (all_any _ (λ block. one (view past got.block.task) block) (registered past)))) where
-        swapped : (a b : ℕ) → (a == b) ≡ (b == a)
-        swapped a b = grind (arith, nat_tests)
-
         one : (v : TaskView) (block : Block) → (if block.index == got.block.index then Delivered else state_in v block) ≡ state_in (delivered_view got v) block
-        one v block = elim (cases_Bool (got.block.index == block.index)) [
-          | inl it ↦ rw (swapped block.index got.block.index, it) refl
-          | inr other ↦ rw (swapped block.index got.block.index, other) refl
-        ]
+        one v block = grind (arith, nat_tests)

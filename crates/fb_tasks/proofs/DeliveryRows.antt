@@ -1,5 +1,5 @@
 -- The first of the rows that follow a delivery, where memory runs out on the way.
-use Rattle.std.proofs.Common.{◌≡◌, if◌then◌else◌, ℕ, List, [], ◌∷◌, ◌++◌, map, append_assoc, refl, ap, sym, ◌∙◌, subst}
+use Rattle.std.proofs.Common.{◌≡◌, if◌then◌else◌, ℕ, List, [], ◌∷◌, ◌++◌, map, append_assoc, refl, sym, ◌∙◌, subst}
 use Rattle.fb_geometry.specs.Shape.{Shape}
 use Rattle.fb_calls.specs.declared.call.Kind.{Kind}
 use Rattle.fb_rows.specs.declared.back.BackRow.{BackRow}
@@ -42,10 +42,10 @@ module _ {disk : Shape} {past : Past} {sessions : List Session} {held : List Ent
 
   module _ (with_findings : List BackRow) (added : with_findings ≡ with_got ++ found) where
     all_found : with_findings ≡ old ++ (GotLine got ∷ [] ++ found)
-    all_found = added ∙ (ap (λ rows. rows ++ found) pushed ∙ append_assoc old (GotLine got ∷ []) found)
+    all_found = rw (added, pushed) (append_assoc old (GotLine got ∷ []) found)
 
     pub begun-segment : (new : List BackRow) → new ≡ with_findings → Begun new
     begun-segment new none = due new (begun_longer (seals ++ ends) (begun_after (GotLine got ∷ [] ++ found) all_found (begun_same none)))
 
     pub begun-ends : (with_segment new : List BackRow) → with_segment ≡ with_findings ++ segments → HasBegun with_segment (seals ++ ends) new → Begun new
-    begun-ends with_segment new cleaned h = due new (begun_after ((GotLine got ∷ [] ++ found) ++ segments) (cleaned ∙ (ap (λ rows. rows ++ segments) all_found ∙ append_assoc old (GotLine got ∷ [] ++ found) segments)) h)
+    begun-ends with_segment new cleaned h = due new (begun_after ((GotLine got ∷ [] ++ found) ++ segments) (rw (cleaned, all_found, append_assoc) refl) h)

@@ -26,8 +26,7 @@ use Rattle.fb_tasks.specs.Standing.{choosable_by, IsSegmentOf, IsUntouched}
 use Rattle.fb_tasks.specs.Telling.{calls_of, choosable}
 use Rattle.fb_tasks.proofs.Lists.{same_number, other_number, number_other}
 use Rattle.fb_tasks.proofs.Asked.{opened_same, open_there, terms_there}
-use Rattle.fb_tasks.proofs.Cuts.{cuts_count}
-use Rattle.fb_tasks.proofs.Rows.{range_more}
+use Rattle.fb_tasks.proofs.Cuts.{cuts_count, range_next}
 use Rattle.fb_tasks.proofs.Additions.{next_segment}
 use Rattle.fb_tasks.proofs.AllChoices.{in_same, in_tasks, in_fewer, by_task, all_range, sum_range, choosable-same}
 
@@ -144,7 +143,7 @@ module _ (disk : Shape) (past : Past) (call : Call) where
       let count = length (tasks past) in
       let longer : length (tasks new) ≡ count + 1 = rw is (length-append (tasks past) (record { kind = kind; weight = weight; block = block } ∷ [])) in
       let split = ap (λ n. sum_by (choosable_by disk new) (range_with_len 0 n)) longer in
-      let last = ap (sum_by (choosable_by disk new)) (range_more count) in
+      let last = ap (sum_by (choosable_by disk new)) (range_next count) in
       let parts = sum_by-append (choosable_by disk new) (range_with_len 0 count) (count ∷ []) in
       let one = sum_by-cons (choosable_by disk new) count [] in
       let nothing : choosable_by disk new count ≡ 0 = rw (opened-view past call kind weight block is next count next, (unopened count (omega arith)).segments) refl in

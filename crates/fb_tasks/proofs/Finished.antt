@@ -1,17 +1,15 @@
 -- A chosen segment is finished where each of its blocks is delivered.
-use Rattle.std.proofs.Common.{◌≡◌, ℕ, suc, ◌+◌, ◌-◌, ◌==◌, ◌&&◌, ◌||◌, not, if◌then◌else◌, List, [], ◌∷◌, ◌++◌, Bool, true, false, Some, None, Option, inl, inr, length, filter, map, append-nil, refl, ap, ap₂, sym, ◌∙◌, arith, subst}
-use Rattle.std.specs.List.{AllByRecursion, flat_map, list_any, range_with_len, slice_index_or}
+use Rattle.std.proofs.Common.{◌≡◌, ℕ, suc, ◌+◌, ◌==◌, not, if◌then◌else◌, List, [], ◌∷◌, ◌++◌, Bool, true, false, Some, None, Option, inl, inr, length, filter, append-nil, refl, ap, sym, ◌∙◌, arith}
+use Rattle.std.specs.List.{AllByRecursion, flat_map, list_any, range_with_len}
 use Rattle.std.specs.Option.{option_map}
 use Rattle.std.proofs.lemmas.Bool.{cases_Bool, true≢false}
 use Rattle.std.proofs.lemmas.Grind.{flat_map-append}
 use Rattle.std.proofs.lemmas.List.Elements.{filter-append}
-use Rattle.std.proofs.lemmas.List.Folds.{list_any-append}
 use Rattle.std.proofs.lemmas.Option.{none-some}
 use Rattle.fb_geometry.specs.Shape.{Shape}
 use Rattle.fb_calls.specs.Sessions.{is_clean}
 use Rattle.fb_rows.specs.declared.back.BackRow.{BackRow}
 use Rattle.fb_rows.specs.declared.back.BackRow.TheVariants.{Segment as SegmentLine}
-use Rattle.fb_store.specs.declared.content.Content.{Content}
 use Rattle.fb_store.specs.declared.content.ContentRun.{ContentRun}
 use Rattle.fb_store.specs.Sparse.{held_sector, held_in}
 use Rattle.fb_store.specs.Runs.{runs_of, sectors_of}
@@ -23,16 +21,15 @@ use Rattle.fb_wanted.specs.Counting.{counts_of}
 use Rattle.fb_clean.specs.Segments as clean
 use Rattle.fb_model.specs.History.{Past, bare_state, content_of}
 use Rattle.fb_model.specs.Completion.{Choice, Work, view, is_cleaned}
-use Rattle.fb_model.specs.Segments.{is_busy, live_count}
 use Rattle.fb_model.specs.Images.{segment_rows, is_newly_cleaned}
-use Rattle.fb_model.proofs.Views.{number_same}
 use Rattle.fb_tasks.specs.declared.session.Session.{Session}
 use Rattle.fb_tasks.specs.Keeping.{is_none}
 use Rattle.fb_tasks.specs.Taken.{found_for, by_deliveries}
-use Rattle.fb_tasks.specs.Standing.{Stands, Cleans, MayFinish, IsAtWork, IsAtNumber, IsCutFrom, HoldsBlock, HoldsChoice, choice_in}
-use Rattle.fb_tasks.proofs.Lists.{all_weaker, all_with, all_append, all_left, all_right, all_flat, flat_all, flat_same, some_same, filter_none, each_all, list_all_each}
+use Rattle.fb_tasks.specs.Standing.{Stands, Cleans, MayFinish, IsAtWork, IsCutFrom, HoldsBlock, choice_in, CleansBy}
+use Rattle.fb_tasks.proofs.Lists.{all_weaker, all_with, all_append, all_left, all_right, all_flat, flat_all, flat_same, some_same, filter_none, each_all, list_all_each, other_number}
 use Rattle.fb_tasks.proofs.Counting.{counts_same, filter-le}
 use Rattle.fb_tasks.proofs.Segmented.{live_there}
+use Rattle.fb_tasks.proofs.Complete.{busy_by}
 
 filter_whole : {X : Type 0} (p : X → Bool) (xs : List X) → AllByRecursion (λ x. p x ≡ true) xs → length (filter p xs) ≡ length xs
 filter_whole p [] h = refl
@@ -40,14 +37,11 @@ filter_whole p (x ∷ xs) h = rw h.0 (ap suc (filter_whole p xs h.1))
 
 whole_filter : {X : Type 0} (p : X → Bool) (xs : List X) → length (filter p xs) ≡ length xs → AllByRecursion (λ x. p x ≡ true) xs
 whole_filter p [] h = tt
-whole_filter p (x ∷ xs) h = elim (cases_Bool (p x)) [
-  | inl pass ↦ (pass, whole_filter p xs (let e : suc (length (filter p xs)) ≡ suc (length xs) = subst (λ b. length (if b then x ∷ filter p xs else filter p xs) ≡ suc (length xs)) pass h in omega (arith, e)))
-  | inr fail ↦ absurd (let e : length (filter p xs) ≡ suc (length xs) = subst (λ b. length (if b then x ∷ filter p xs else filter p xs) ≡ suc (length xs)) fail h in omega (arith, e, filter-le p xs))
-]
+whole_filter p (x ∷ xs) h = grind (arith, filter-le p xs, whole_filter p xs)
 
 flat_flat : {X Y Z : Type 0} (f : Y → List Z) (g : X → List Y) (xs : List X) → flat_map f (flat_map g xs) ≡ flat_map (λ x. flat_map f (g x)) xs
 flat_flat f g [] = refl
-flat_flat f g (x ∷ xs) = flat_map-append f (g x) (flat_map g xs) ∙ ap (λ zs. flat_map f (g x) ++ zs) (flat_flat f g xs)
+flat_flat f g (x ∷ xs) = rw (flat_map-append, flat_flat f g xs) refl
 
 live_length : (block first : ℕ) (live : List Bool) → length (clean.live_blocks block first live) ≡ length (filter (λ is_live. is_live) live)
 live_length block first [] = refl
@@ -66,10 +60,6 @@ pub cleaned_all : (w : Work) (cs : List Choice) → AllByRecursion (IsCleanedIn 
 cleaned_all w cs h = flat_all (λ block. is_delivered (w.bare block) ≡ true) (λ (choice : Choice). choice.blocks) cs
     (all_weaker (IsCleanedIn w) (λ (choice : Choice). AllByRecursion (λ block. is_delivered (w.bare block) ≡ true) choice.blocks) (λ choice all. list_all_each (λ block. is_delivered (w.bare block)) choice.blocks all) cs h)
 
-none_busy : (w : Work) (cs : List Choice) → AllByRecursion (IsCleanedIn w) cs → list_any (λ choice. not (is_cleaned w choice)) cs ≡ false
-none_busy w [] h = refl
-none_busy w (c ∷ cs) h = rw h.0 (none_busy w cs h.1)
-
 -- what a test of the segment makes of a session and its rows
 pub record IsSegmentTested (past : Past) (task now : ℕ) (session : Session) (added : List BackRow) : Type 0 where
   pub stands : Stands (view past task) session
@@ -81,190 +71,134 @@ not_newly w choice = is_newly_cleaned w choice ≡ false
 
 no_rows : (past : Past) (task now : ℕ) → AllByRecursion (not_newly (view past task).work) (view past task).choices → [] ≡ segment_rows by_deliveries past now task
 unfolding view bare_state content_of
-no_rows past task now h = sym (ap (map (λ (choice : Choice). SegmentLine (record { task = task; segment = choice.segment.number; instant = now; live = live_count choice.segment; content = found_for (view past task).work choice.blocks }))) (filter_none (is_newly_cleaned (view past task).work) (view past task).choices h))
+no_rows past task now h = rw (filter_none (is_newly_cleaned (view past task).work) (view past task).choices h) refl
 
 module _ {disk : Shape} {past : Past} {task : ℕ} {held : List Entry} (session : Session) (h : MayFinish disk past task session held) (now : ℕ) where
   other_tested : is_clean session.kind ≡ false → IsSegmentTested past task now session []
   other_tested other = record {
     stands = h.stands;
     at_work = λ cleans. absurd (true≢false (sym cleans ∙ other));
-    rows = no_rows past task now (subst (AllByRecursion (not_newly (view past task).work)) (sym (h.stands.unchosen other)) tt);
+    rows = no_rows past task now (rw (h.stands.unchosen other) tt);
   }
 
+  -- the row of a finished segment
+  abbrev row_of : ℕ → ℕ → List ContentRun → BackRow
+  row_of segment live content = SegmentLine (record { task = task; segment = segment; instant = now; live = live; content = content })
+
   module _ (cleans : is_clean session.kind ≡ true) where
+    abbrev w : Work
+    w = (view past task).work
+
     log : Cleans (view past task).work session.log
     log = h.stands.log cleans
 
-    split : (current : Option Choice) → (view past task).choices ≡ log.done ++ choice_in current → AllByRecursion (λ choice. (session.log.unfinished ≡ Some choice.segment.number → ⊥) → not_newly (view past task).work choice) log.done
-    split current chosen = all_left (λ choice. (session.log.unfinished ≡ Some choice.segment.number → ⊥) → not_newly (view past task).work choice) log.done (choice_in current) (subst (AllByRecursion (λ choice. (session.log.unfinished ≡ Some choice.segment.number → ⊥) → not_newly (view past task).work choice)) chosen h.reported)
+    abbrev IsSilent : Choice → Type 0
+    IsSilent choice = (session.log.unfinished ≡ Some choice.segment.number → ⊥) → not_newly w choice
 
-    idle_tested : (view past task).choices ≡ log.done ++ [] → session.log.unfinished ≡ None → IsSegmentTested past task now session []
-    idle_tested chosen unfinished =
-        let all : (view past task).choices ≡ log.done = chosen ∙ append-nil log.done in
-        record {
-          stands = h.stands;
-          at_work = λ _. ap is_none unfinished ∙ ap not (sym (ap (list_any (λ choice. not (is_cleaned (view past task).work choice))) all ∙ none_busy (view past task).work log.done log.cleaned));
-          rows = no_rows past task now (subst (AllByRecursion (not_newly (view past task).work)) (sym all)
-              (all_weaker (λ choice. (session.log.unfinished ≡ Some choice.segment.number → ⊥) → not_newly (view past task).work choice) (not_newly (view past task).work) (λ choice one. one (λ e. none-some choice.segment.number (sym unfinished ∙ e))) log.done (split None chosen)));
-        }
+    done_silent : (current : Option Choice) → CleansBy w session.log log.done current → AllByRecursion (not_newly w) log.done
+    done_silent current by = silent current by (all_left IsSilent log.done (choice_in current) (rw by.chosen at h.reported)) where
+      silent : (current : Option Choice) → CleansBy w session.log log.done current → AllByRecursion IsSilent log.done → AllByRecursion (not_newly w) log.done
+      silent None by = all_weaker IsSilent (not_newly w) (λ choice one. one (λ e. none-some choice.segment.number (sym by.unfinished ∙ e))) log.done
+      silent (Some current) by = all_with (λ choice. (choice.segment.number == current.segment.number) ≡ false) IsSilent (not_newly w)
+          (λ choice other one. one (λ e. other_number choice.segment.number current.segment.number other (some_same choice.segment.number current.segment.number (sym e ∙ by.unfinished)))) log.done by.distinct.0
 
-    module _ (current : Choice) (chosen : (view past task).choices ≡ log.done ++ current ∷ []) (unfinished : session.log.unfinished ≡ Some current.segment.number)
-        (distinct : AllByRecursion (λ choice. (choice.segment.number == current.segment.number) ≡ false) log.done) where
-      done_silent : AllByRecursion (not_newly (view past task).work) log.done
-      done_silent = all_with (λ choice. (choice.segment.number == current.segment.number) ≡ false) (λ choice. (session.log.unfinished ≡ Some choice.segment.number → ⊥) → not_newly (view past task).work choice) (not_newly (view past task).work)
-          (λ choice other one. one (λ e. true≢false (sym (number_same choice.segment.number current.segment.number (some_same choice.segment.number current.segment.number (sym e ∙ unfinished))) ∙ other))) log.done distinct (split (Some current) chosen)
+    -- no segment is finished
+    unfinished_tested : (current : Option Choice) → CleansBy w session.log log.done current → AllByRecursion (λ choice. is_cleaned w choice ≡ false) (choice_in current) → IsSegmentTested past task now session []
+    unfinished_tested current by not_yet = record {
+      stands = h.stands;
+      at_work = λ _. rw (by.unfinished, busy_by by) (at_work current not_yet);
+      rows = no_rows past task now (rw by.chosen (all_append (not_newly w) log.done (choice_in current) (done_silent current by)
+          (all_weaker (λ choice. is_cleaned w choice ≡ false) (not_newly w) (λ choice e. rw e refl) (choice_in current) not_yet)));
+    } where
+      at_work : (current : Option Choice) → AllByRecursion (λ choice. is_cleaned w choice ≡ false) (choice_in current)
+          → is_none (option_map (λ choice. choice.segment.number) current) ≡ not (list_any (λ choice. not (is_cleaned w choice)) (choice_in current))
+      at_work None not_yet = refl
+      at_work (Some current) not_yet = rw not_yet.0 refl
 
-      busy_is : (b : Bool) → is_cleaned (view past task).work current ≡ b → is_busy (view past task).work ≡ not b
-      busy_is b e = ap (list_any (λ choice. not (is_cleaned (view past task).work choice))) chosen
-          ∙ (list_any-append (λ choice. not (is_cleaned (view past task).work choice)) log.done (current ∷ [])
-          ∙ (ap (λ x. x || (not (is_cleaned (view past task).work current) || false)) (none_busy (view past task).work log.done log.cleaned) ∙ (ap (λ x. not x || false) e ∙ last b))) where
-            last : (b : Bool) → (not b || false) ≡ not b
-            last true = refl
-            last false = refl
+    module _ (current : Choice) (by : CleansBy w session.log log.done (Some current)) (cleaned : is_cleaned w current ≡ true) where
+      finished-cleans : Cleans w (record session.log { unfinished = None })
+      finished-cleans =
+          let chosen = by.chosen ∙ sym (append-nil (log.done ++ current ∷ [])) in
+          let all = all_append (IsCleanedIn w) log.done (current ∷ []) log.cleaned (cleaned, tt) in
+          record { done = log.done ++ current ∷ []; current = None; by = assumption (chosen, all, by) }
 
-      busy_tested : is_cleaned (view past task).work current ≡ false → IsSegmentTested past task now session []
-      busy_tested not_yet = record {
-        stands = h.stands;
-        at_work = λ _. ap is_none unfinished ∙ ap not (sym (busy_is false not_yet));
-        rows = no_rows past task now (subst (AllByRecursion (not_newly (view past task).work)) (sym chosen) (all_append (not_newly (view past task).work) log.done (current ∷ []) done_silent (ap (λ b. b && not ((view past task).reported current.segment.number)) not_yet, tt)));
-      }
+      lives : clean.live_of session.log current.segment.number ≡ clean.live_blocks session.log.block current.segment.first current.segment.live
+      lives = rw (by.segments, live_there w w.segments current.segment by.known.0, by.block) refl
 
-      module _ (cleaned : is_cleaned (view past task).work current ≡ true) (there : IsAtNumber (view past task).segments current) (cut : IsCutFrom session.log.block current) (taken : HoldsChoice (view past task).work session.log current)
-          (unreported : (view past task).reported current.segment.number ≡ false) where
-        finished-cleans : Cleans (view past task).work (record session.log { unfinished = None })
-        finished-cleans = record {
-          block = log.block;
-          done = log.done ++ current ∷ [];
-          current = None;
-          unfinished = refl;
-          blocks = log.blocks;
-          cut = log.cut;
-          taken = tt;
-          numbers = log.numbers;
-          ascend = tt;
-          distinct = tt;
-          known = tt;
-          unreported = tt;
-          reported = log.reported;
-          over = log.over;
-          segments = log.segments;
-          chosen = chosen ∙ sym (append-nil (log.done ++ current ∷ []));
-          cleaned = all_append (IsCleanedIn (view past task).work) log.done (current ∷ []) log.cleaned (cleaned, tt);
-        }
+      -- what was taken for the segment is what the deliveries of its blocks found
+      found : runs_of (clean.packed_sectors session.log current.segment.number) ≡ found_for w current.blocks
+      found =
+          let held_now = clean.taken_for session.log current.segment.number in
+          let cut = (all_right (IsCutFrom session.log.block) log.done (current ∷ []) (rw by.chosen at by.cut)).0 in
+          let same = flat_same (λ (part : Block). held_in held_now (range_with_len part.lbn part.count)) (λ block. sectors_of (w.found block)) current.blocks
+          (all_with (λ block. is_delivered (w.bare block) ≡ true) (HoldsBlock w held_now) (λ (block : Block). held_in held_now (range_with_len block.lbn block.count) ≡ sectors_of (w.found block))
+          (λ block done holds. holds done) current.blocks (list_all_each (λ block. is_delivered (w.bare block)) current.blocks cleaned) by.taken.0) in
+          rw (
+            lives,
+            ← flat_flat (λ lbn. held_sector lbn (held_now lbn)) (λ lbn. range_with_len lbn session.log.block),
+            ← cut,
+            flat_flat (λ lbn. held_sector lbn (held_now lbn)) (λ (part : Block). range_with_len part.lbn part.count) current.blocks,
+            same,
+          ) refl
 
-        lives : clean.live_of session.log current.segment.number ≡ clean.live_blocks session.log.block current.segment.first current.segment.live
-        lives = ap (λ ss. slice_index_or (map (λ (x : clean.LogSegment). x.live) ss) (current.segment.number - 1) []) log.segments
-            ∙ (live_there (view past task).work (view past task).segments current.segment there ∙ ap (λ b. clean.live_blocks b current.segment.first current.segment.live) (sym log.block))
-
-        -- what was taken for the segment is what the deliveries of its blocks found
-        found : runs_of (clean.packed_sectors session.log current.segment.number) ≡ found_for (view past task).work current.blocks
-        found = ap runs_of (
-            ap (flat_map (λ lbn. held_in held_now (range_with_len lbn session.log.block))) lives
-            ∙ (sym (flat_flat (λ lbn. held_sector lbn (held_now lbn)) (λ lbn. range_with_len lbn session.log.block) (clean.live_blocks session.log.block current.segment.first current.segment.live))
-            ∙ (ap (held_in held_now) (sym cut)
-            ∙ (flat_flat (λ lbn. held_sector lbn (held_now lbn)) (λ (part : Block). range_with_len part.lbn part.count) current.blocks
-            ∙ flat_same (λ (part : Block). held_in held_now (range_with_len part.lbn part.count)) (λ block. sectors_of ((view past task).found block)) current.blocks
-            (all_with (λ block. is_delivered ((view past task).bare block) ≡ true) (HoldsBlock (view past task).work held_now) (λ (block : Block). held_in held_now (range_with_len block.lbn block.count) ≡ sectors_of ((view past task).found block)) (λ block done holds. holds done) current.blocks
-            (list_all_each (λ block. is_delivered ((view past task).bare block)) current.blocks cleaned) taken))))) where
-              held_now : ℕ → Option Content
-              held_now = clean.taken_for session.log current.segment.number
-
-        finished_tested : (new : Session) (segment : ℕ) (content : List ContentRun) → new ≡ record session { log = record session.log { unfinished = None } } → session.log.unfinished ≡ Some segment → content ≡ runs_of (clean.packed_sectors session.log segment)
-            → IsSegmentTested past task now new (SegmentLine (record { task = task; segment = segment; instant = now; live = length (clean.live_of session.log segment); content = content }) ∷ [])
-        unfolding view
-        finished_tested new segment content is says gives = subst (λ s. IsSegmentTested past task now s (SegmentLine (record { task = task; segment = segment; instant = now; live = length (clean.live_of session.log segment); content = content }) ∷ [])) (sym is) (record {
-          stands = record {
-            terms = h.stands.terms;
-            weight = h.stands.weight;
-            block = h.stands.block;
-            suspended = h.stands.suspended;
-            closed = h.stands.closed;
-            complete = h.stands.complete;
-            sealed = h.stands.sealed;
-            ascend = h.stands.ascend;
-            unwanted = h.stands.unwanted;
-            image = h.stands.image;
-            unchosen = h.stands.unchosen;
-            log = λ _. finished-cleans;
-          };
-          at_work = λ _. ap not (sym (busy_is true cleaned));
-          rows = row ∙ sym (ap (map (λ (choice : Choice). SegmentLine (record { task = task; segment = choice.segment.number; instant = now; live = live_count choice.segment; content = found_for (view past task).work choice.blocks })))
-              (ap (filter (is_newly_cleaned (view past task).work)) chosen ∙ (filter-append (is_newly_cleaned (view past task).work) log.done (current ∷ []) ∙ ap₂ (λ xs b. xs ++ (if b then current ∷ [] else [])) (filter_none (is_newly_cleaned (view past task).work) log.done done_silent) (ap₂ (λ a b. a && not b) cleaned unreported))));
-        }) where
-          same : segment ≡ current.segment.number
-          same = some_same segment current.segment.number (sym says ∙ unfinished)
-
-          row : SegmentLine (record { task = task; segment = segment; instant = now; live = length (clean.live_of session.log segment); content = content }) ∷ [] ≡ SegmentLine (record { task = task; segment = current.segment.number; instant = now; live = live_count current.segment; content = found_for (view past task).work current.blocks }) ∷ []
-          row = ap (λ c. SegmentLine (record { task = task; segment = segment; instant = now; live = length (clean.live_of session.log segment); content = c }) ∷ []) (gives ∙ (ap (λ n. runs_of (clean.packed_sectors session.log n)) same ∙ found))
-              ∙ (ap (λ n. SegmentLine (record { task = task; segment = n; instant = now; live = length (clean.live_of session.log n); content = found_for (view past task).work current.blocks }) ∷ []) same
-              ∙ ap (λ n. SegmentLine (record { task = task; segment = current.segment.number; instant = now; live = n; content = found_for (view past task).work current.blocks }) ∷ []) (ap length lives ∙ live_length session.log.block current.segment.first current.segment.live))
+      finished_tested : (new : Session) (segment : ℕ) (content : List ContentRun) → new ≡ record session { log = record session.log { unfinished = None } } → session.log.unfinished ≡ Some segment
+          → content ≡ runs_of (clean.packed_sectors session.log segment) → IsSegmentTested past task now new (row_of segment (length (clean.live_of session.log segment)) content ∷ [])
+      unfolding view
+      finished_tested new segment content is says gives =
+          let same : segment ≡ current.segment.number = some_same segment current.segment.number (sym says ∙ by.unfinished) in
+          let log_now = λ (_ : is_clean session.kind ≡ true). finished-cleans in
+          rw is (record {
+            stands = assumption (log_now, h.stands);
+            at_work = λ _. rw (busy_by by, cleaned) refl;
+            rows = rw (gives, same, found, lives, live_length, by.chosen, filter-append, filter_none (is_newly_cleaned w) log.done (done_silent (Some current) by), cleaned, by.unreported.0) refl;
+          })
 
     -- where all blocks are delivered each choice is cleaned
-    all_done : (counts : Counts) → counts ≡ counts_of task held → counts.delivered ≡ counts.registered → AllByRecursion (IsCleanedIn (view past task).work) (view past task).choices
+    all_done : (counts : Counts) → counts ≡ counts_of task held → counts.delivered ≡ counts.registered → AllByRecursion (IsCleanedIn w) w.choices
     all_done counts is equal =
         let same = is ∙ counts_same past task held h.blocks.entries in
-        all_cleaned (view past task).work (view past task).choices (subst (AllByRecursion (λ block. is_delivered ((view past task).bare block) ≡ true)) log.blocks
-        (whole_filter (λ block. is_delivered ((view past task).bare block)) (view past task).blocks (sym (ap (λ c. c.delivered) same) ∙ (equal ∙ ap (λ c. c.registered) same))))
+        all_cleaned w w.choices (rw log.blocks at (whole_filter (λ block. is_delivered (w.bare block)) w.blocks (sym (ap (λ c. c.delivered) same) ∙ (equal ∙ ap (λ c. c.registered) same))))
 
     -- and where they aren't one is not
-    some_open : (counts : Counts) → counts ≡ counts_of task held → (counts.delivered ≡ counts.registered → ⊥) → AllByRecursion (IsCleanedIn (view past task).work) (view past task).choices → ⊥
+    some_open : (counts : Counts) → counts ≡ counts_of task held → (counts.delivered ≡ counts.registered → ⊥) → AllByRecursion (IsCleanedIn w) w.choices → ⊥
     some_open counts is differ all =
         let same = is ∙ counts_same past task held h.blocks.entries in
-        differ (ap (λ c. c.delivered) same ∙ (filter_whole (λ block. is_delivered ((view past task).bare block)) (view past task).blocks (subst (AllByRecursion (λ block. is_delivered ((view past task).bare block) ≡ true)) (sym log.blocks) (cleaned_all (view past task).work (view past task).choices all)) ∙ sym (ap (λ c. c.registered) same)))
+        differ (ap (λ c. c.delivered) same ∙ (filter_whole (λ block. is_delivered (w.bare block)) w.blocks (rw log.blocks (cleaned_all w w.choices all)) ∙ sym (ap (λ c. c.registered) same)))
 
-    open_tested : (counts : Counts) → counts ≡ counts_of task held → (counts.delivered ≡ counts.registered → ⊥) → IsSegmentTested past task now session []
-    open_tested counts is differ = by log.current log.chosen log.unfinished log.distinct where
-      by : (current : Option Choice) → (view past task).choices ≡ log.done ++ choice_in current → session.log.unfinished ≡ option_map (λ choice. choice.segment.number) current
-          → AllByRecursion (λ now. AllByRecursion (λ choice. (choice.segment.number == now.segment.number) ≡ false) log.done) (choice_in current) → IsSegmentTested past task now session []
-      by None chosen unfinished distinct = absurd (some_open counts is differ (subst (AllByRecursion (IsCleanedIn (view past task).work)) (sym (chosen ∙ append-nil log.done)) log.cleaned))
-      by (Some current) chosen unfinished distinct = elim (cases_Bool (is_cleaned (view past task).work current)) [
-        | inl cleaned ↦ absurd (some_open counts is differ (subst (AllByRecursion (IsCleanedIn (view past task).work)) (sym chosen) (all_append (IsCleanedIn (view past task).work) log.done (current ∷ []) log.cleaned (cleaned, tt))))
-        | inr not_yet ↦ busy_tested current chosen unfinished distinct.0 not_yet
-      ]
+    open_tested : (counts : Counts) → counts ≡ counts_of task held → (counts.delivered ≡ counts.registered → ⊥) → (current : Option Choice) → CleansBy w session.log log.done current → IsSegmentTested past task now session []
+    open_tested counts is differ None by = unfinished_tested None by tt
+    open_tested counts is differ (Some current) by = elim (cases_Bool (is_cleaned w current)) [
+      | inl cleaned ↦ absurd (some_open counts is differ (rw by.chosen (all_append (IsCleanedIn w) log.done (current ∷ []) log.cleaned (cleaned, tt))))
+      | inr not_yet ↦ unfinished_tested (Some current) by (not_yet, tt)
+    ]
 
-    none_tested : session.log.unfinished ≡ None → IsSegmentTested past task now session []
-    none_tested none = by log.current log.chosen log.unfinished where
-      by : (current : Option Choice) → (view past task).choices ≡ log.done ++ choice_in current → session.log.unfinished ≡ option_map (λ choice. choice.segment.number) current → IsSegmentTested past task now session []
-      by None chosen unfinished = idle_tested chosen unfinished
-      by (Some current) chosen unfinished = absurd (none-some current.segment.number (sym none ∙ unfinished))
+    none_tested : session.log.unfinished ≡ None → (current : Option Choice) → CleansBy w session.log log.done current → IsSegmentTested past task now session []
+    none_tested none None by = unfinished_tested None by tt
+    none_tested none (Some current) by = absurd (none-some current.segment.number (sym none ∙ by.unfinished))
 
     some_tested : (counts : Counts) → counts ≡ counts_of task held → counts.delivered ≡ counts.registered → (new : Session) (segment : ℕ) (content : List ContentRun) → new ≡ record session { log = record session.log { unfinished = None } } → session.log.unfinished ≡ Some segment → content ≡ runs_of (clean.packed_sectors session.log segment)
-        → IsSegmentTested past task now new (SegmentLine (record { task = task; segment = segment; instant = now; live = length (clean.live_of session.log segment); content = content }) ∷ [])
-    some_tested counts is equal new segment content new_is says gives = by log.current log.chosen log.unfinished log.distinct log.known log.taken log.unreported where
-      by : (current : Option Choice) → (view past task).choices ≡ log.done ++ choice_in current → session.log.unfinished ≡ option_map (λ choice. choice.segment.number) current
-          → AllByRecursion (λ now. AllByRecursion (λ choice. (choice.segment.number == now.segment.number) ≡ false) log.done) (choice_in current)
-          → AllByRecursion (IsAtNumber (view past task).segments) (choice_in current) → AllByRecursion (HoldsChoice (view past task).work session.log) (choice_in current)
-          → AllByRecursion (λ (choice : Choice). (view past task).reported choice.segment.number ≡ false) (choice_in current)
-          → IsSegmentTested past task now new (SegmentLine (record { task = task; segment = segment; instant = now; live = length (clean.live_of session.log segment); content = content }) ∷ [])
-      by None chosen unfinished distinct known taken unreported = absurd (none-some segment (sym unfinished ∙ says))
-      by (Some current) chosen unfinished distinct known taken unreported =
-          let cleaned = all_right (IsCleanedIn (view past task).work) log.done (current ∷ []) (subst (AllByRecursion (IsCleanedIn (view past task).work)) chosen (all_done counts is equal)) in
-          let cut = all_right (IsCutFrom session.log.block) log.done (current ∷ []) (subst (AllByRecursion (IsCutFrom session.log.block)) chosen log.cut) in
-          finished_tested current chosen unfinished distinct.0 cleaned.0 known.0 cut.0 taken.0 unreported.0 new segment content new_is says gives
+        → (current : Option Choice) → CleansBy w session.log log.done current → IsSegmentTested past task now new (row_of segment (length (clean.live_of session.log segment)) content ∷ [])
+    some_tested counts is equal new segment content new_is says gives None by = absurd (none-some segment (sym by.unfinished ∙ says))
+    some_tested counts is equal new segment content new_is says gives (Some current) by =
+        let cleaned = (all_right (IsCleanedIn w) log.done (current ∷ []) (rw by.chosen at (all_done counts is equal))).0 in
+        finished_tested current by cleaned new segment content new_is says gives
 
   pub unequal_tested : (counts : Counts) → counts ≡ counts_of task held → (counts.delivered ≡ counts.registered → ⊥) → IsSegmentTested past task now session []
   unequal_tested counts is differ = elim (cases_Bool (is_clean session.kind)) [
-    | inl cleans ↦ open_tested cleans counts is differ
+    | inl cleans ↦ open_tested cleans counts is differ (log cleans).current (log cleans).by
     | inr other ↦ other_tested other
   ]
 
   pub unchosen_tested : (if is_clean session.kind then session.log.unfinished else None) ≡ None → IsSegmentTested past task now session []
   unchosen_tested none = elim (cases_Bool (is_clean session.kind)) [
-    | inl cleans ↦ none_tested cleans (subst (λ b. (if b then session.log.unfinished else None) ≡ None) cleans none)
+    | inl cleans ↦ none_tested cleans (rw cleans at none) (log cleans).current (log cleans).by
     | inr other ↦ other_tested other
   ]
 
   pub chosen_tested : (counts : Counts) → counts ≡ counts_of task held → counts.delivered ≡ counts.registered → (new : Session) (segment : ℕ) (content : List ContentRun) → new ≡ record session { log = record session.log { unfinished = None } }
       → (if is_clean session.kind then session.log.unfinished else None) ≡ Some segment → content ≡ runs_of (clean.packed_sectors session.log segment)
-      → IsSegmentTested past task now new (SegmentLine (record { task = task; segment = segment; instant = now; live = length (clean.live_of session.log segment); content = content }) ∷ [])
+      → IsSegmentTested past task now new (row_of segment (length (clean.live_of session.log segment)) content ∷ [])
   chosen_tested counts is equal new segment content new_is says gives = elim (cases_Bool (is_clean session.kind)) [
-    | inl cleans ↦ some_tested cleans counts is equal new segment content new_is (subst (λ b. (if b then session.log.unfinished else None) ≡ Some segment) cleans says) gives
-    | inr other ↦ absurd (none-some segment (subst (λ b. (if b then session.log.unfinished else None) ≡ Some segment) other says))
+    | inl cleans ↦ some_tested cleans counts is equal new segment content new_is (rw cleans at says) gives (log cleans).current (log cleans).by
+    | inr other ↦ absurd (none-some segment (rw other at says))
   ]
-
--- the session's own number of its segment
-pub chosen_is : (session : Session) (segment : ℕ) → (if is_clean session.kind then session.log.unfinished else None) ≡ Some segment → session.log.unfinished ≡ Some segment
-chosen_is session segment says = elim (cases_Bool (is_clean session.kind)) [
-  | inl cleans ↦ subst (λ b. (if b then session.log.unfinished else None) ≡ Some segment) cleans says
-  | inr other ↦ absurd (none-some segment (subst (λ b. (if b then session.log.unfinished else None) ≡ Some segment) other says))
-]

@@ -1,7 +1,6 @@
 -- One task changes, and the others stay.
-use Rattle.std.proofs.Common.{◌≡◌, ℕ, zero, suc, ◌<◌, ◌≤◌, ◌==◌, if◌then◌else◌, List, [], ◌∷◌, false, Some, inl, inr, length, map, set, get_or, slice_get, append-nil, refl, ap, sym, ◌∙◌, arith, subst}
+use Rattle.std.proofs.Common.{◌≡◌, ℕ, zero, suc, ◌<◌, ◌≤◌, ◌==◌, if◌then◌else◌, List, [], ◌∷◌, false, Some, length, map, set, get_or, slice_get, append-nil, refl, ap, sym, ◌∙◌, arith, subst}
 use Rattle.std.specs.List.{AllByRecursion}
-use Rattle.std.proofs.lemmas.Bool.{cases_Bool}
 use Rattle.std.proofs.lemmas.List.{length-set}
 use Rattle.std.proofs.lemmas.Option.{slice_get-get_or}
 use Rattle.fb_geometry.specs.Shape.{Shape}
@@ -12,30 +11,18 @@ use Rattle.fb_wanted.specs.declared.block.Entry.{Entry}
 use Rattle.fb_wanted.specs.States.{after, state_after}
 use Rattle.fb_model.specs.History.{Event, Past, called, tasks, registered}
 use Rattle.fb_model.specs.Completion.{TaskView, view, state_in}
-use Rattle.fb_model.proofs.Views.{called-silent}
+use Rattle.fb_model.proofs.Views.{called-silent, number_same}
 use Rattle.fb_tasks.specs.declared.session.Session.{Session}
 use Rattle.fb_tasks.specs.Standing.{entry_by, entry_of, Told, IsPlaced, IsBlockOf}
 use Rattle.fb_tasks.specs.Telling.{Tells}
-use Rattle.fb_tasks.proofs.Lists.{some_same, all_weaker, number_other, same_number, other_number}
-
-pub get_set : {X : Type 0} (xs : List X) (i k : ℕ) (y z : X) → slice_get (set xs i y) k ≡ Some z → (i ≡ k → ⊥) → slice_get xs k ≡ Some z
-get_set [] i k y z h other = h
-get_set (x ∷ xs) zero zero y z h other = absurd (other refl)
-get_set (x ∷ xs) zero (suc k) y z h other = h
-get_set (x ∷ xs) (suc i) zero y z h other = h
-get_set (x ∷ xs) (suc i) (suc k) y z h other = get_set xs i k y z h (λ e. other (ap suc e))
+use Rattle.fb_tasks.proofs.Lists.{some_same, all_weaker, number_other, each_set, one_or_other}
+use Rattle.std.proofs.lemmas.Bool.Decides.{nat_tests}
 
 pub get_other : {X : Type 0} (xs : List X) (i k : ℕ) (y : X) → (i ≡ k → ⊥) → slice_get (set xs i y) k ≡ slice_get xs k
 get_other [] i k y other = refl
 get_other (x ∷ xs) zero zero y other = absurd (other refl)
-get_other (x ∷ xs) zero (suc k) y other = refl
-get_other (x ∷ xs) (suc i) zero y other = refl
 get_other (x ∷ xs) (suc i) (suc k) y other = get_other xs i k y (λ e. other (ap suc e))
-
-pub get_own : {X : Type 0} (xs : List X) (i : ℕ) (y z : X) → slice_get (set xs i y) i ≡ Some z → z ≡ y
-get_own [] i y z h = absurd (grind arith)
-get_own (x ∷ xs) zero y z h = sym (some_same y z h)
-get_own (x ∷ xs) (suc i) y z h = get_own xs i y z h
+get_other (x ∷ xs) _ _ y other = grind arith
 
 pub set_same : {X : Type 0} (xs : List X) (i : ℕ) (x : X) → slice_get xs i ≡ Some x → set xs i x ≡ xs
 set_same [] i x h = refl
@@ -43,9 +30,10 @@ set_same (y ∷ ys) zero x h = ap (λ z. z ∷ ys) (sym (some_same y x h))
 set_same (y ∷ ys) (suc i) x h = ap (λ zs. y ∷ zs) (set_same ys i x h)
 
 -- no block changes its state
-pub kept-entries : (old new : ℕ → TaskView) → ((t : ℕ) (block : Block) → state_in (old t) block ≡ state_in (new t) block) → (bs : List Block) → map (entry_by old) bs ≡ map (entry_by new) bs
+pub kept-entries : (old new : ℕ → TaskView) → ((t : ℕ) (block : Block) → state_in (old t) block ≡ state_in (new t) block) → (bs : List Block)
+    → map (entry_by old) bs ≡ map (entry_by new) bs
 kept-entries old new same [] = refl
-kept-entries old new same (b ∷ bs) = ap (λ s. record { block = b; state = s } ∷ map (entry_by old) bs) (same b.task b) ∙ ap (λ es. entry_by new b ∷ es) (kept-entries old new same bs)
+kept-entries old new same (b ∷ bs) = rw (same b.task b, kept-entries old new same bs) refl
 
 -- the blocks of one task are changed, as far as its new view says
 pub changed-entries : (task : ℕ) (change : Change) (old new : ℕ → TaskView) (bs : List Block)
@@ -53,14 +41,11 @@ pub changed-entries : (task : ℕ) (change : Change) (old new : ℕ → TaskView
     → AllByRecursion (λ block. state_after change block (state_in (old task) block) ≡ state_in (new task) block) bs
     → after task change (map (entry_by old) bs) ≡ map (entry_by new) bs
 changed-entries task change old new [] others own = refl
-changed-entries task change old new (b ∷ bs) others own = ap (λ s. record { block = b; state = s } ∷ after task change (map (entry_by old) bs)) here
-    ∙ ap (λ es. entry_by new b ∷ es) (changed-entries task change old new bs others own.1) where
+changed-entries task change old new (b ∷ bs) others own =
+    rw (changed-entries task change old new bs others own.1) (ap (λ s. record { block = b; state = s } ∷ map (entry_by new) bs) here) where
       here : (if b.task == task then state_after change b (state_in (old b.task) b) else state_in (old b.task) b) ≡ state_in (new b.task) b
-      here = elim (cases_Bool (b.task == task)) [
-        | inl mine ↦ ap (λ t. if t then state_after change b (state_in (old b.task) b) else state_in (old b.task) b) mine
-            ∙ (ap (λ t. state_after change b (state_in (old t) b)) (same_number b.task task mine) ∙ (own.0 ∙ ap (λ t. state_in (new t) b) (sym (same_number b.task task mine))))
-        | inr other ↦ rw (other, others b.task (number_other task b.task (λ e. other_number b.task task other (sym e)))) refl
-      ]
+      here = one_or_other (λ t. (if t == task then state_after change b (state_in (old t) b) else state_in (old t) b) ≡ state_in (new t) b) task b.task
+          (rw (number_same task task refl) own.0) (λ other. let far : (b.task == task) ≡ false = grind (arith, nat_tests) in rw (far, others b.task other) refl)
 
 -- an event of one task that opens none
 module _ (disk : Shape) (past : Past) (event : Event) (task : ℕ) (others : (t : ℕ) → (task == t) ≡ false → view (event ∷ past) t ≡ view past t) (kept : tasks (event ∷ past) ≡ tasks past) where
@@ -72,18 +57,11 @@ module _ (disk : Shape) (past : Past) (event : Event) (task : ℕ) (others : (t 
       → Tells disk past sessions held → Tells disk (event ∷ past) (set sessions task new) now
   one-tells sessions new held now opened on_disk entries placed told h = record {
     as_many = length-set sessions task new ∙ (h.as_many ∙ ap length (sym kept));
-    each = λ t session at. elim (cases_Bool (task == t)) [
-      | inl own ↦ let e = same_number task t own in subst (λ k. Told (view (event ∷ past) k) session) e
-          (rw (get_own sessions task new session (ap (slice_get (set sessions task new)) e ∙ at)) told)
-      | inr other ↦ rw (others t other) (h.each t session (get_set sessions task t new session at (other_number task t other)))
-    ];
+    each = each_set (λ t. Told (view (event ∷ past) t)) sessions task new told (λ t session differ at. rw (others t (number_other task t differ)) (h.each t session at));
     blocks = record {
       entries = entries;
       on_disk = rw kept on_disk;
-      placed = λ t. elim (cases_Bool (task == t)) [
-        | inl own ↦ subst (λ k. IsPlaced disk (view (event ∷ past) k).work) (same_number task t own) placed
-        | inr other ↦ rw (others t other) (h.placed t)
-      ];
+      placed = λ t. one_or_other (λ t. IsPlaced disk (view (event ∷ past) t).work) task t placed (λ other. rw (others t other) (h.placed t));
       unopened = λ t more. let beyond : length (tasks past) ≤ t = subst (λ ts. length ts ≤ t) kept more in
           rw (others t (number_other task t (λ e. absurd (omega arith)))) (h.unopened t beyond);
     };

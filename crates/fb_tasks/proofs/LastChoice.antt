@@ -1,5 +1,5 @@
 -- After its choices a task has no segment left to choose.
-use Rattle.std.proofs.Common.{◌≡◌, ℕ, zero, suc, ◌+◌, ◌≤◌, ◌&&◌, not, if◌then◌else◌, List, [], ◌∷◌, Bool, true, false, inl, inr, length, filter, refl, ap, sym, ◌∙◌, arith, subst}
+use Rattle.std.proofs.Common.{◌≡◌, ℕ, zero, suc, ◌+◌, ◌≤◌, ◌&&◌, not, if◌then◌else◌, List, [], ◌∷◌, Bool, true, false, inl, inr, length, refl, ap, sym, ◌∙◌, arith, subst}
 use Rattle.std.specs.List.{AllByRecursion, sum_by, best_of}
 use Rattle.std.proofs.lemmas.Bool.{cases_Bool, true≢false}
 use Rattle.std.proofs.lemmas.List.Sums.{sum_by-cons}
@@ -12,29 +12,23 @@ use Rattle.fb_tasks.specs.Standing.{IsSegmentOf, HasNoChoice}
 use Rattle.fb_tasks.proofs.ChosenSegment.{best_left, chosen_blocks, chosen_for}
 use Rattle.fb_tasks.proofs.ChoiceSteps.{next_view, numbered_is, once_is, left_less}
 use Rattle.fb_tasks.proofs.Turns.{up_to_still, in_is}
+use Rattle.fb_tasks.proofs.Counting.{filter-le}
 
 count_is : {X : Type 0} (xs : List X) → sum_by (λ _. 1) xs ≡ length xs
 count_is [] = refl
 count_is (x ∷ xs) = omega (arith, sum_by-cons (λ _. 1) x xs, count_is xs)
 
-filter_few : {X : Type 0} (p : X → Bool) (xs : List X) → length (filter p xs) ≤ length xs
-filter_few p [] = omega arith
-filter_few p (x ∷ xs) = elim (cases_Bool (p x)) [
-  | inl pass ↦ rw pass (omega (arith, filter_few p xs))
-  | inr fail ↦ rw fail (omega (arith, filter_few p xs))
-]
-
 module _ (disk : Shape) (task : ℕ) where
   -- a turn chooses nothing where a segment is unfinished or none is left
   still_once : (past : Past) → (is_busy (view past task).work ≡ false → unchosen (view past task).work ≡ []) → choose_once disk task past ≡ past
-  still_once past none = elim (cases_Bool (is_busy (view past task).work)) [
-    | inl busy ↦ once_is disk past task ∙ rw busy refl
-    | inr free ↦ once_is disk past task ∙ rw (free, none free) refl
-  ]
+  still_once past none = rw (once_is disk past task) (elim (cases_Bool (is_busy (view past task).work)) [
+    | inl busy ↦ rw busy refl
+    | inr free ↦ rw (free, none free) refl
+  ])
 
   -- a task that has no segment to choose stays
   pub stays : (past : Past) → HasNoChoice (view past task) → choose_in disk past task ≡ past
-  stays past none = in_is disk past task ∙ by (is_clean (view past task).terms.kind && not (view past task).closed) refl where
+  stays past none = rw (in_is disk past task) (by (is_clean (view past task).terms.kind && not (view past task).closed) refl) where
     by : (b : Bool) → (is_clean (view past task).terms.kind && not (view past task).closed) ≡ b → (if b then choose_up_to (length (view past task).segments) disk task past else past) ≡ past
     by true chooses = up_to_still (length (view past task).segments) disk task past (still_once past (none chooses))
     by false other = refl
@@ -78,5 +72,5 @@ module _ (disk : Shape) (task : ℕ) where
   pub no-choice-left : (past : Past) → AllByRecursion (IsSegmentOf disk (view past task).terms.block) (view past task).segments → HasNoChoice (view (choose_in disk past task) task)
   no-choice-left past on_disk = subst (λ p. HasNoChoice (view p task)) (sym (in_is disk past task)) (by (is_clean (view past task).terms.kind && not (view past task).closed) refl) where
     by : (b : Bool) → (is_clean (view past task).terms.kind && not (view past task).closed) ≡ b → HasNoChoice (view (if b then choose_up_to (length (view past task).segments) disk task past else past) task)
-    by true chooses = none_left (choose_up_to (length (view past task).segments) disk task past) (none_after (length (view past task).segments) past on_disk (filter_few (λ s. not (is_chosen (view past task).choices s)) (view past task).segments))
+    by true chooses = none_left (choose_up_to (length (view past task).segments) disk task past) (none_after (length (view past task).segments) past on_disk (filter-le (λ s. not (is_chosen (view past task).choices s)) (view past task).segments))
     by false other = λ chooses free. absurd (true≢false (sym chooses ∙ other))

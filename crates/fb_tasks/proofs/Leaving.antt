@@ -1,9 +1,9 @@
 -- Lists that only grow, and what a call leaves that ran out of memory.
-use Rattle.std.proofs.Common.{◌≡◌, ◌≤◌, ◌+◌, ◌-◌, ◌==◌, ℕ, List, [], ◌∷◌, ◌++◌, true, false, Some, inl, inr, length, filter, map, set, slice_get, take, drop, append-nil, append_assoc, length-append, refl, ap, sym, ◌∙◌, subst, arith}
+use Rattle.std.proofs.Common.{◌≡◌, ◌≤◌, ◌+◌, ℕ, List, [], ◌∷◌, ◌++◌, true, false, Some, inl, inr, length, map, set, slice_get, take, drop, append-nil, append_assoc, length-append, refl, ap, sym, ◌∙◌, subst, arith}
 use Rattle.std.specs.List.{AllByRecursion, range_with_len}
 use Rattle.std.proofs.Math.Seq.{map-set_same}
-use Rattle.std.proofs.lemmas.Bool.{cases_Bool, true≢false}
-use Rattle.std.proofs.lemmas.List.{map-append, append_cancel_left, length-map, take-append-drop}
+use Rattle.std.proofs.lemmas.Bool.{cases_Bool}
+use Rattle.std.proofs.lemmas.List.{map-append, append_cancel_left, length-map, take-append-drop, take-map}
 use Rattle.std.proofs.lemmas.List.Elements.{filter-append}
 use Rattle.std.proofs.lemmas.Option.{slice_get_within, get_or_from_slice_get}
 use Rattle.fb_sectormap.specs.declared.cut.Cut.{Cut}
@@ -19,7 +19,8 @@ use Rattle.fb_tasks.specs.Keeping.{new_entries}
 use Rattle.fb_tasks.specs.Leaving.{HasGrown, HasBegun, OnlyRegisters, MayClean, OnlyTouched, by_calls}
 use Rattle.fb_tasks.proofs.Lists.{all_append, all_left, all_map, all_weaker, map_at, some_at, some_same}
 use Rattle.fb_tasks.proofs.Frames.{get_other}
-use Rattle.fb_tasks.proofs.Cuts.{cuts_own, ranges_join}
+use Rattle.fb_tasks.proofs.Cuts.{cuts_own}
+use Rattle.std.proofs.lemmas.List.FromFn.{take-map-range_with_len}
 
 pub grown_not : {A : Type 0} (xs : List A) → HasGrown xs xs
 grown_not xs = record { added = []; is = sym (append-nil xs) }
@@ -32,9 +33,6 @@ begun_not {A} {xs} {due} = record { added = []; left = due; is = sym (append-nil
 
 pub begun_same : {A : Type 0} {old due new : List A} → new ≡ old → HasBegun old due new
 begun_same {A} {old} {due} same = subst (HasBegun old due) (sym same) begun_not
-
-pub begun_all : {A : Type 0} {old due new : List A} → new ≡ old ++ due → HasBegun old due new
-begun_all {A} {old} {due} h = record { added = due; left = []; is = h; first = sym (append-nil due) }
 
 -- more is due behind it
 pub begun_longer : {A : Type 0} {old due new : List A} (more : List A) → HasBegun old due new → HasBegun old (due ++ more) new
@@ -49,9 +47,6 @@ begun_after {A} {old} due all h = record {
   first = ap (λ l. due ++ l) h.first ∙ sym (append_assoc due h.added h.left);
 }
 
-pub begun_grown : {A : Type 0} {old due new : List A} → HasBegun old due new → HasGrown old new
-begun_grown h = record { added = h.added; is = h.is }
-
 -- what stands and what is left are all that was due
 pub begun_by : {A : Type 0} {old due now : List A} (rest : List A) → HasGrown old now → now ++ rest ≡ old ++ due → HasBegun old due now
 begun_by {A} {old} {due} rest h all = record {
@@ -62,16 +57,15 @@ begun_by {A} {old} {due} rest h all = record {
 }
 
 -- the first of a list give what is due for them
+begun_part : {B : Type 0} {old new : List B} (n : ℕ) (due : List B) → new ≡ old ++ take n due → HasBegun old due new
+begun_part n due is = record { added = take n due; left = drop n due; is = is; first = sym (take-append-drop n due) }
+
 pub begun_mapped : {A B : Type 0} {old new : List B} (f : A → B) (n : ℕ) (xs : List A) → new ≡ old ++ map f (take n xs) → HasBegun old (map f xs) new
-begun_mapped f n xs is = record { added = map f (take n xs); left = map f (drop n xs); is = is; first = sym (ap (map f) (take-append-drop n xs)) ∙ map-append f (take n xs) (drop n xs) }
+begun_mapped f n xs is = begun_part n (map f xs) (rw take-map is)
 
 -- the first of as many as there are
 pub begun_counted : {B : Type 0} {old new : List B} (f : ℕ → B) (n all : ℕ) → n ≤ all → new ≡ old ++ map f (range_with_len 0 n) → HasBegun old (map f (range_with_len 0 all)) new
-begun_counted f n all within is =
-    let start : n ≡ 0 + n = omega arith in
-    let whole : n + (all - n) ≡ all = omega arith in
-    let join : range_with_len 0 n ++ range_with_len n (all - n) ≡ range_with_len 0 all = ap (λ k. range_with_len 0 n ++ range_with_len k (all - n)) start ∙ (ranges_join 0 n (all - n) ∙ ap (range_with_len 0) whole) in
-    record { added = map f (range_with_len 0 n); left = map f (range_with_len n (all - n)); is = is; first = sym (ap (map f) join) ∙ map-append f (range_with_len 0 n) (range_with_len n (all - n)) }
+begun_counted f n all within is = begun_part n (map f (range_with_len 0 all)) (rw (take-map-range_with_len f 0 all n within) is)
 
 pub registers_none : (P : ℕ → Type 0) (held : List Entry) → OnlyRegisters P held held
 unfolding grown_not
@@ -102,24 +96,22 @@ touched_more xs ys zs a b = record { calls = b.calls ∙ a.calls; untouched = λ
 pub touched_set : (olds items : List Session) (n : ℕ) (session new : Session) → slice_get items n ≡ Some session → session.touched ≡ true → by_calls new ≡ by_calls session → OnlyTouched olds items → OnlyTouched olds (set items n new)
 touched_set olds items n session new at touched same h = record {
   calls = map-set_same by_calls items n new session (same ∙ ap by_calls (sym (get_or_from_slice_get items n session session at))) ∙ h.calls;
-  untouched = λ k other there free. let here = h.untouched k other there free in get_other items n k new (λ e. absurd (true≢false (sym touched ∙ (ap (λ (s : Session). s.touched) (some_same session other (sym at ∙ (ap (slice_get items) e ∙ here))) ∙ free)))) ∙ here;
+  untouched = λ k other there free. let here = h.untouched k other there free in get_other items n k new (λ e. absurd (grind arith)) ∙ here;
 }
 
 -- an open clean session that was touched had been one before
 pub clean_before : (olds items : List Session) (n : ℕ) (session : Session) → slice_get items n ≡ Some session → is_clean session.kind ≡ true → session.closed ≡ false → session.touched ≡ true → OnlyTouched olds items → MayClean olds n
 clean_before olds items n session at clean is_open touched h =
-    let size : length olds ≡ length items = sym (length-map olds by_calls) ∙ (ap length (sym h.calls) ∙ length-map items by_calls) in
+    let size : length olds ≡ length items = simp length-map at (ap length (sym h.calls)) in
     let was = some_at olds n (omega (arith, size, slice_get_within items n session at)) in
-    let same : by_calls was.0 ≡ by_calls session = some_same (by_calls was.0) (by_calls session) (sym (map_at by_calls olds n was.0 was.1) ∙ (ap (λ xs. slice_get xs n) (sym h.calls) ∙ map_at by_calls items n session at)) in
+    let same : by_calls was.0 ≡ by_calls session = some_same (by_calls was.0) (by_calls session)
+    (sym (map_at by_calls olds n was.0 was.1) ∙ rw (sym h.calls) (map_at by_calls items n session at)) in
     record {
       session = was.0;
       at = was.1;
       clean = ap (λ t. is_clean t.0) same ∙ clean;
       is_open = ap (λ t. t.4) same ∙ is_open;
-      touched = elim (cases_Bool was.0.touched) [
-        | inl yes_touched ↦ yes_touched
-        | inr free ↦ ap (λ (s : Session). s.touched) (some_same was.0 session (sym (h.untouched n was.0 was.1 free) ∙ at)) ∙ touched
-      ];
+      touched = elim (cases_Bool was.0.touched) [ inl is ↦ is | inr free ↦ let here = h.untouched n was.0 was.1 free in grind arith ];
     }
 
 -- a touched session has chosen
@@ -134,16 +126,8 @@ chosen_own olds items n session old before now at touched stay own more =
 pub cut_registered : (task index : ℕ) (session : Session) (before now : List Entry) (cut : Cut) (cuts rest : List Cut) (block : Block) → cuts ≡ cut ∷ rest
     → block ≡ record { task = task; index = index; lbn = cut.lbn; count = cut.count; track = cut.track; weight = session.weight } → now ≡ before ++ record { block = block; state = wanted_unless session.suspended } ∷ []
     → now ++ new_entries session (numbered task session.weight (index + 1) rest) ≡ before ++ new_entries session (numbered task session.weight index cuts)
-cut_registered task index session before now cut cuts rest block first same is =
-    let left = new_entries session (numbered task session.weight (index + 1) rest) in
-    let entry : Entry = record { block = block; state = wanted_unless session.suspended } in
-    let named = λ (b : Block). before ++ (record { block = b; state = wanted_unless session.suspended } ∷ left) in
-    ap (λ es. es ++ left) is ∙ (append_assoc before (entry ∷ []) left ∙ (ap named same ∙ ap (λ cs. before ++ new_entries session (numbered task session.weight index cs)) (sym first)))
+cut_registered task index session before now cut cuts rest block first same is = rw (is, first, same, append_assoc) refl
 
 pub one_counted : (task index : ℕ) (before now : List Entry) (entry : Entry) → now ≡ before ++ entry ∷ [] → entry.block.task ≡ task → index ≡ registered task (blocks_of before) → index + 1 ≡ registered task (blocks_of now)
 one_counted task index before now entry is own next =
-    let p = λ (block : Block). block.task == task in
-    let all : registered task (blocks_of now) ≡ length (filter p (blocks_of before) ++ filter p (entry.block ∷ [])) =
-    ap (λ es. registered task (blocks_of es)) is ∙ (ap (λ bs. length (filter p bs)) (map-append (λ e. e.block) before (entry ∷ [])) ∙ ap length (filter-append p (blocks_of before) (entry.block ∷ []))) in
-    let one : length (filter p (entry.block ∷ [])) ≡ 1 = rw (number_same entry.block.task task own) refl in
-    omega (arith, all, one, next, length-append (filter p (blocks_of before)) (filter p (entry.block ∷ [])))
+    rw is (simp (map-append, filter-append, length-append, number_same entry.block.task task own) (omega (arith, next)))

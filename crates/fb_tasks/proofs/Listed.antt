@@ -1,26 +1,15 @@
 -- The lists of touched sessions and of those that a write asks, as sessions change.
-use Rattle.std.proofs.Common.{◌≡◌, ◌⊎◌, ◌<◌, ◌==◌, ◌&&◌, not, ℕ, Bool, List, [], ◌∷◌, ◌++◌, length, true, false, Some, inl, inr, set, get_or, slice_get, length-append, ap, sym, ◌∙◌, subst, arith}
+use Rattle.std.proofs.Common.{◌≡◌, ◌⊎◌, ◌<◌, ◌&&◌, not, ℕ, Bool, List, [], ◌∷◌, ◌++◌, length, true, false, Some, inl, inr, set, get_or, slice_get, length-append, ap, sym, ◌∙◌, arith}
 use Rattle.std.specs.BTreeSet.{BTreeSet, contains}
 use Rattle.std.specs.Ordering.{nat_cmp}
-use Rattle.std.proofs.lemmas.Bool.{cases_Bool, true≢false}
+use Rattle.std.proofs.lemmas.Bool.{true≢false}
 use Rattle.std.proofs.lemmas.List.{length-set}
 use Rattle.std.proofs.lemmas.Option.{slice_get-get_or}
 use Rattle.fb_calls.specs.Sessions.{is_backup}
 use Rattle.fb_tasks.specs.declared.session.Session.{Session}
 use Rattle.fb_tasks.specs.Listing.{AreListed}
-use Rattle.fb_tasks.proofs.Lists.{same_number, other_number}
-use Rattle.fb_tasks.proofs.Frames.{get_set, get_own}
+use Rattle.fb_tasks.proofs.Lists.{each_set}
 use Rattle.fb_tasks.proofs.Opens.{in_either}
-
--- what holds of a new session and of each other holds of each
-each_set : (P : ℕ → Session → Type 0) (sessions : List Session) (task : ℕ) (new : Session) → P task new → ((k : ℕ) (session : Session) → (task ≡ k → ⊥) → slice_get sessions k ≡ Some session → P k session)
-    → (k : ℕ) (session : Session) → slice_get (set sessions task new) k ≡ Some session → P k session
-each_set P sessions task new own others k session at = elim (cases_Bool (task == k)) [
-  | inl mine ↦
-      let e = same_number task k mine in
-      subst (λ j. P j session) e (subst (P task) (sym (get_own sessions task new session (ap (slice_get (set sessions task new)) e ∙ at))) own)
-  | inr other ↦ let differ = other_number task k other in others k session differ (get_set sessions task k new session at differ)
-]
 
 abbrev IsTouchedIn : BTreeSet ℕ → ℕ → Session → Type 0
 IsTouchedIn touched k session = session.touched ≡ true → contains nat_cmp touched k ≡ true
@@ -130,7 +119,4 @@ module _ {sessions : List Session} {touched asked : BTreeSet ℕ} (h : AreListed
 
   -- what isn't asked is no open backup
   pub no-backup-there : (k : ℕ) (session : Session) → contains nat_cmp asked k ≡ false → slice_get sessions k ≡ Some session → (is_backup session.kind && not session.sealed) ≡ false
-  no-backup-there k session none at = elim (cases_Bool (is_backup session.kind && not session.sealed)) [
-    | inl is ↦ absurd (true≢false (sym (h.backups k session at is) ∙ none))
-    | inr not_it ↦ not_it
-  ]
+  no-backup-there k session none at = grind (arith, h.backups k session at)

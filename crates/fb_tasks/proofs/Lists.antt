@@ -1,54 +1,33 @@
 -- What holds of each element, and lists that are mapped, filtered and tested.
-use Rattle.std.proofs.Common.{◌≡◌, ℕ, zero, suc, ◌<◌, ◌==◌, ◌&&◌, if◌then◌else◌, List, [], ◌∷◌, ◌++◌, Bool, true, false, Some, inl, inr, length, filter, map, slice_get, refl, ap, sym, ◌∙◌, arith, subst}
-use Rattle.std.specs.List.{AllByRecursion, flat_map, list_any, list_all}
-use Rattle.std.proofs.lemmas.Bool.{cases_Bool, true≢false}
+use Rattle.std.proofs.Common.{◌≡◌, ℕ, zero, suc, ◌+◌, ◌<◌, ◌≤◌, ◌==◌, List, [], ◌∷◌, Bool, true, false, Some, inl, inr, length, filter, map, find, set, slice_get, refl, arith, subst, None}
+use Rattle.std.specs.List.{AllByRecursion, flat_map, list_any, list_all, range_with_len}
+use Rattle.std.proofs.lemmas.Bool.{cases_Bool, cases_lt}
 use Rattle.std.proofs.lemmas.Bool.Decides.{nat_tests}
+use Rattle.std.proofs.lemmas.Option.{slice_get-map}
+pub use Rattle.fb_model.proofs.Lists.{all_append, all_left, all_right, all_map, all_filter, none_kept as filter_none}
 
 pub some_same : {X : Type 0} (x y : X) → Some x ≡ Some y → x ≡ y
-some_same x y h = grind arith
+some_same x y h = cc
 
 pub all_with : {X : Type 0} (P Q R : X → Type 0) → ((x : X) → P x → Q x → R x) → (xs : List X) → AllByRecursion P xs → AllByRecursion Q xs → AllByRecursion R xs
 all_with P Q R f [] p q = tt
 all_with P Q R f (x ∷ xs) p q = (f x p.0 q.0, all_with P Q R f xs p.1 q.1)
 
 pub all_weaker : {X : Type 0} (P Q : X → Type 0) → ((x : X) → P x → Q x) → (xs : List X) → AllByRecursion P xs → AllByRecursion Q xs
-all_weaker P Q f [] p = tt
-all_weaker P Q f (x ∷ xs) p = (f x p.0, all_weaker P Q f xs p.1)
+all_weaker P Q f xs p = all_with P P Q (λ x h _. f x h) xs p p
 
 pub all_any : {X : Type 0} (P : X → Type 0) → ((x : X) → P x) → (xs : List X) → AllByRecursion P xs
 all_any P f [] = tt
 all_any P f (x ∷ xs) = (f x, all_any P f xs)
 
-pub all_append : {X : Type 0} (P : X → Type 0) (xs ys : List X) → AllByRecursion P xs → AllByRecursion P ys → AllByRecursion P (xs ++ ys)
-all_append P [] ys p q = q
-all_append P (x ∷ xs) ys p q = (p.0, all_append P xs ys p.1 q)
-
-pub all_left : {X : Type 0} (P : X → Type 0) (xs ys : List X) → AllByRecursion P (xs ++ ys) → AllByRecursion P xs
-all_left P [] ys p = tt
-all_left P (x ∷ xs) ys p = (p.0, all_left P xs ys p.1)
-
-pub all_right : {X : Type 0} (P : X → Type 0) (xs ys : List X) → AllByRecursion P (xs ++ ys) → AllByRecursion P ys
-all_right P [] ys p = p
-all_right P (x ∷ xs) ys p = all_right P xs ys p.1
-
 pub all_at : {X : Type 0} (P : X → Type 0) (xs : List X) (i : ℕ) (x : X) → AllByRecursion P xs → slice_get xs i ≡ Some x → P x
-all_at P [] i x p h = absurd (grind arith)
+all_at P [] i x p h = absurd (cc)
 all_at P (y ∷ xs) zero x p h = subst P (some_same y x h) p.0
 all_at P (y ∷ xs) (suc i) x p h = all_at P xs i x p.1 h
 
-pub all_filter : {X : Type 0} (P : X → Type 0) (p : X → Bool) (xs : List X) → AllByRecursion P xs → AllByRecursion P (filter p xs)
-all_filter P p [] h = tt
-all_filter P p (x ∷ xs) h = elim (cases_Bool (p x)) [
-  | inl pass ↦ rw pass (h.0, all_filter P p xs h.1)
-  | inr fail ↦ rw fail (all_filter P p xs h.1)
-]
-
 pub all_pass : {X : Type 0} (p : X → Bool) (xs : List X) → AllByRecursion (λ x. p x ≡ true) (filter p xs)
 all_pass p [] = tt
-all_pass p (x ∷ xs) = elim (cases_Bool (p x)) [
-  | inl pass ↦ rw pass (pass, all_pass p xs)
-  | inr fail ↦ rw fail (all_pass p xs)
-]
+all_pass p (x ∷ xs) = grind (arith, all_pass p xs)
 
 pub all_flat : {X Y : Type 0} (P : Y → Type 0) (f : X → List Y) (xs : List X) → AllByRecursion P (flat_map f xs) → AllByRecursion (λ x. AllByRecursion P (f x)) xs
 all_flat P f [] p = tt
@@ -57,14 +36,6 @@ all_flat P f (x ∷ xs) p = (all_left P (f x) (flat_map f xs) p, all_flat P f xs
 pub flat_all : {X Y : Type 0} (P : Y → Type 0) (f : X → List Y) (xs : List X) → AllByRecursion (λ x. AllByRecursion P (f x)) xs → AllByRecursion P (flat_map f xs)
 flat_all P f [] p = tt
 flat_all P f (x ∷ xs) p = all_append P (f x) (flat_map f xs) p.0 (flat_all P f xs p.1)
-
-pub all_map : {X Y : Type 0} (P : Y → Type 0) (f : X → Y) (xs : List X) → AllByRecursion (λ x. P (f x)) xs → AllByRecursion P (map f xs)
-all_map P f [] p = tt
-all_map P f (x ∷ xs) p = (p.0, all_map P f xs p.1)
-
-pub map_all : {X Y : Type 0} (P : Y → Type 0) (f : X → Y) (xs : List X) → AllByRecursion P (map f xs) → AllByRecursion (λ x. P (f x)) xs
-map_all P f [] p = tt
-map_all P f (x ∷ xs) p = (p.0, map_all P f xs p.1)
 
 -- functions that agree on a list give the same
 pub map_same : {X Y : Type 0} (f g : X → Y) (xs : List X) → AllByRecursion (λ x. f x ≡ g x) xs → map f xs ≡ map g xs
@@ -87,62 +58,76 @@ pub flat_same : {X Y : Type 0} (f g : X → List Y) (xs : List X) → AllByRecur
 flat_same f g [] h = refl
 flat_same f g (x ∷ xs) h = rw (h.0, flat_same f g xs h.1) refl
 
--- each of these gives nothing
+-- none of these passes, or gives anything
+pub any_none : {X : Type 0} (p : X → Bool) (xs : List X) → AllByRecursion (λ x. p x ≡ false) xs → list_any p xs ≡ false
+any_none p [] h = refl
+any_none p (x ∷ xs) h = rw h.0 (any_none p xs h.1)
+
+pub none_pass : {X : Type 0} (p : X → Bool) (xs : List X) → list_any p xs ≡ false → AllByRecursion (λ x. p x ≡ false) xs
+none_pass p [] h = tt
+none_pass p (x ∷ xs) h = (grind arith, none_pass p xs (grind arith))
+
 pub flat_none : {X Y : Type 0} (f : X → List Y) (xs : List X) → AllByRecursion (λ x. f x ≡ []) xs → flat_map f xs ≡ []
 flat_none f [] h = refl
 flat_none f (x ∷ xs) h = rw (h.0, flat_none f xs h.1) refl
-
-pub filter_none : {X : Type 0} (p : X → Bool) (xs : List X) → AllByRecursion (λ x. p x ≡ false) xs → filter p xs ≡ []
-filter_none p [] h = refl
-filter_none p (x ∷ xs) h = rw h.0 (filter_none p xs h.1)
 
 -- an element that passes stands in the whole list
 abbrev pub Found : {X : Type 0} → (X → Bool) → List X → X → Type 0
 Found p xs x = (j : ℕ) × (slice_get xs j ≡ Some x) × (p x ≡ true)
 
 pub filter_from : {X : Type 0} (p : X → Bool) (xs : List X) (i : ℕ) (x : X) → slice_get (filter p xs) i ≡ Some x → Found p xs x
-filter_from p [] i x h = absurd (grind arith)
+filter_from p [] i x h = absurd (cc)
 filter_from p (y ∷ ys) i x h = elim (cases_Bool (p y)) [
-  | inl pass ↦ first i (subst (λ b. slice_get (if b then y ∷ filter p ys else filter p ys) i ≡ Some x) pass h) pass (λ k at. filter_from p ys k x at)
-  | inr fail ↦ let rest = filter_from p ys i x (subst (λ b. slice_get (if b then y ∷ filter p ys else filter p ys) i ≡ Some x) fail h) in (suc rest.0, rest.1, rest.2)
+  | inl pass ↦ first i (rw pass at h) pass (λ k at. filter_from p ys k x at)
+  | inr fail ↦ let rest = filter_from p ys i x (rw fail at h) in (suc rest.0, rest.1, rest.2)
 ] where
   first : (k : ℕ) → slice_get (y ∷ filter p ys) k ≡ Some x → p y ≡ true → ((n : ℕ) → slice_get (filter p ys) n ≡ Some x → Found p ys x) → Found p (y ∷ ys) x
-  first zero at pass rest = (zero, at, ap p (sym (some_same y x at)) ∙ pass)
+  first zero at pass rest = (zero, at, subst (λ z. p z ≡ true) (some_same y x at) pass)
   first (suc k) at pass rest = let r = rest k at in (suc r.0, r.1, r.2)
 
 -- and one that passes stands among those that do
 pub filter_to : {X : Type 0} (p : X → Bool) (xs : List X) (i : ℕ) (x : X) → slice_get xs i ≡ Some x → p x ≡ true → (j : ℕ) × (slice_get (filter p xs) j ≡ Some x)
-filter_to p [] i x h pass = absurd (grind arith)
-filter_to p (y ∷ ys) zero x h pass = let e = some_same y x h in let here : p y ≡ true = ap p e ∙ pass in (zero, ap (λ b. slice_get (if b then y ∷ filter p ys else filter p ys) 0) here ∙ ap Some e)
-filter_to p (y ∷ ys) (suc i) x h pass =
-    let rest = filter_to p ys i x h pass in
-    elim (cases_Bool (p y)) [
-      | inl in_p ↦ (suc rest.0, ap (λ b. slice_get (if b then y ∷ filter p ys else filter p ys) (suc rest.0)) in_p ∙ rest.1)
-      | inr out_p ↦ (rest.0, ap (λ b. slice_get (if b then y ∷ filter p ys else filter p ys) rest.0) out_p ∙ rest.1)
-    ]
+filter_to p [] i x h pass = absurd (cc)
+filter_to p (y ∷ ys) zero x h pass = (zero, grind arith)
+filter_to p (y ∷ ys) (suc i) x h pass = let rest = filter_to p ys i x h pass in elim (cases_Bool (p y)) [
+  | inl in_p ↦ (suc rest.0, rw in_p rest.1)
+  | inr out_p ↦ (rest.0, rw out_p rest.1)
+]
 
 -- places of elements
 pub map_at : {X Y : Type 0} (f : X → Y) (xs : List X) (i : ℕ) (x : X) → slice_get xs i ≡ Some x → slice_get (map f xs) i ≡ Some (f x)
-map_at f [] i x at = absurd (grind arith)
-map_at f (y ∷ ys) zero x at = ap (λ z. Some (f z)) (some_same y x at)
-map_at f (y ∷ ys) (suc i) x at = map_at f ys i x at
+map_at f xs i x at = rw (slice_get-map f xs i, at) refl
 
 pub some_at : {X : Type 0} (xs : List X) (k : ℕ) → k < length xs → (x : X) × (slice_get xs k ≡ Some x)
 some_at [] k less = absurd (omega arith)
 some_at (x ∷ xs) zero less = (x, refl)
 some_at (x ∷ xs) (suc k) less = some_at xs k (omega arith)
 
+-- an element that is found has what all have, and passes
+pub find_all : {X : Type 0} (P : X → Type 0) (p : X → Bool) (xs : List X) (x : X) → AllByRecursion P xs → find p xs ≡ Some x → P x × (list_any p xs ≡ true)
+find_all P p [] x all h = absurd (cc)
+find_all P p (y ∷ ys) x all h = elim (cases_Bool (p y)) [
+  | inl pass ↦ rw pass (subst P (some_same y x (rw pass at h)) all.0, refl)
+  | inr fail ↦ rw fail (find_all P p ys x all.1 (rw fail at h))
+]
+
+pub find_none : {X : Type 0} (p : X → Bool) (xs : List X) → find p xs ≡ None → list_any p xs ≡ false
+find_none p [] h = refl
+find_none p (y ∷ ys) h = grind (arith, find_none p ys)
+
 -- a test of all, and each
 pub list_all_each : {X : Type 0} (p : X → Bool) (xs : List X) → list_all p xs ≡ true → AllByRecursion (λ x. p x ≡ true) xs
 list_all_each p [] h = tt
-list_all_each p (x ∷ xs) h = elim (cases_Bool (p x)) [
-  | inl pass ↦ (pass, list_all_each p xs (subst (λ b. (b && list_all p xs) ≡ true) pass h))
-  | inr fail ↦ absurd (true≢false (sym (subst (λ b. (b && list_all p xs) ≡ true) fail h)))
-]
+list_all_each p (x ∷ xs) h = (grind arith, list_all_each p xs (grind arith))
 
 pub each_all : {X : Type 0} (p : X → Bool) (xs : List X) → AllByRecursion (λ x. p x ≡ true) xs → list_all p xs ≡ true
 each_all p [] h = refl
 each_all p (x ∷ xs) h = rw h.0 (each_all p xs h.1)
+
+-- what holds of each number of a range
+pub all_range : (P : ℕ → Type 0) (a n : ℕ) → ((k : ℕ) → a ≤ k → k < a + n → P k) → AllByRecursion P (range_with_len a n)
+all_range P a zero f = tt
+all_range P a (suc n) f = (f a (omega arith) (omega arith), all_range P (a + 1) n (λ k le lt. f k (omega arith) (omega arith)))
 
 -- a number equals itself alone
 pub same_number : (a b : ℕ) → (a == b) ≡ true → a ≡ b
@@ -153,3 +138,24 @@ number_other a b h = grind (arith, nat_tests)
 
 pub other_number : (a b : ℕ) → (a == b) ≡ false → a ≡ b → ⊥
 other_number a b h e = grind (arith, nat_tests)
+
+-- what holds of one number and of each other holds of each
+pub one_or_other : (P : ℕ → Type 0) (k n : ℕ) → P k → ((k == n) ≡ false → P n) → P n
+one_or_other P k n own others = elim (cases_Bool (k == n)) [ inl same ↦ subst P (same_number k n same) own | inr other ↦ others other ]
+
+-- step by step from one number to a later one
+pub step_to : (P : ℕ → Type 0) (n m : ℕ) → n ≤ m → ((k : ℕ) → n ≤ k → k < m → P k → P (k + 1)) → P n → P m
+step_to P n zero le step h = subst P (let e : n ≡ 0 = omega arith in e) h
+step_to P n (suc m) le step h = elim (cases_lt m n) [
+  | inl less ↦ subst P (let e : n ≡ suc m = omega arith in e) h
+  | inr more ↦ subst P (let e : m + 1 ≡ suc m = omega arith in e) (step m more (omega arith) (step_to P n m more (λ k from to. step k from (omega arith)) h))
+]
+
+-- what holds of a new element and of each other holds of each
+pub each_set : {X : Type 0} (P : ℕ → X → Type 0) (xs : List X) (i : ℕ) (new : X) → P i new → ((k : ℕ) (x : X) → (i ≡ k → ⊥) → slice_get xs k ≡ Some x → P k x)
+    → (k : ℕ) (x : X) → slice_get (set xs i new) k ≡ Some x → P k x
+each_set P [] i new own others k x at = absurd (cc)
+each_set P (y ∷ ys) zero new own others zero x at = subst (P 0) (some_same new x at) own
+each_set P (y ∷ ys) zero new own others (suc k) x at = others (suc k) x (λ e. absurd (omega arith)) at
+each_set P (y ∷ ys) (suc i) new own others zero x at = others zero x (λ e. absurd (omega arith)) at
+each_set P (y ∷ ys) (suc i) new own others (suc k) x at = each_set (λ n. P (suc n)) ys i new own (λ n z differ. others (suc n) z (λ e. differ (omega arith))) k x at

@@ -1,18 +1,17 @@
 -- How a session stands after a delivery of its task.
-use Rattle.std.proofs.Common.{◌≡◌, ℕ, ◌==◌, not, List, [], ◌∷◌, ◌++◌, Bool, true, Some, None, Option, map, slice_get, append-nil, refl, ap, sym, ◌∙◌, subst}
-use Rattle.std.specs.List.{AllByRecursion, list_all, flat_map}
-use Rattle.std.specs.Option.{option_map}
-use Rattle.std.proofs.lemmas.Bool.{and_parts, true≢false}
+use Rattle.std.proofs.Common.{◌≡◌, ℕ, ◌==◌, not, List, [], ◌∷◌, ◌++◌, Bool, true, Some, None, Option, map, slice_get, append-nil, refl, ap, sym, ◌∙◌, arith}
+use Rattle.std.specs.List.{AllByRecursion, list_all}
+use Rattle.std.proofs.lemmas.Bool.{and_parts}
 use Rattle.std.proofs.lemmas.Option.{none-some}
 use Rattle.fb_geometry.specs.Shape.{Shape}
-use Rattle.fb_calls.specs.Sessions.{is_backup, is_clean}
+use Rattle.fb_calls.specs.Sessions.{is_backup}
 use Rattle.fb_store.specs.declared.content.Content.{Content}
 use Rattle.fb_store.specs.Index.{held_at}
 use Rattle.fb_store.specs.Sparse.{Gives, after_take}
 use Rattle.fb_wanted.specs.declared.block.Block.{Block}
 use Rattle.fb_wanted.specs.declared.block.Entry.{Entry}
 use Rattle.fb_wanted.specs.declared.block.State.{State}
-use Rattle.fb_wanted.specs.declared.block.State.TheVariants.{Wanted, Suspended, Delivered, Aborted}
+use Rattle.fb_wanted.specs.declared.block.State.TheVariants.{Wanted}
 use Rattle.fb_wanted.specs.States.{is_wanted, is_delivered}
 use Rattle.fb_clean.specs.Segments as clean
 use Rattle.fb_rows.specs.declared.back.DeliveryRow.{DeliveryRow}
@@ -21,7 +20,7 @@ use Rattle.fb_model.specs.Completion.{Choice, TaskView, view, state_in, delivere
 use Rattle.fb_model.proofs.Views.{number_same}
 use Rattle.fb_tasks.specs.declared.session.Session.{Session}
 use Rattle.fb_tasks.specs.Keeping.{HasTaken}
-use Rattle.fb_tasks.specs.Standing.{entry_of, Stands, Cleans, IsUntouched, IsPlaced, HoldsBlocks, HoldsChoice, AreIndexed, Ascend, choice_in}
+use Rattle.fb_tasks.specs.Standing.{entry_of, Stands, Cleans, IsUntouched, IsPlaced, HoldsBlocks, HoldsChoice, AreIndexed, choice_in, CleansBy, IsCutFrom}
 use Rattle.fb_tasks.proofs.Lists.{all_weaker, all_right, all_flat, filter_from, filter_to}
 use Rattle.fb_tasks.proofs.States.{shown}
 use Rattle.fb_tasks.proofs.Deliveries.{only_one, still_done, still_over, taken-holds, taken-only, in_current, either}
@@ -35,17 +34,8 @@ pub record WasWanted (past : Past) (block : Block) : Type 0 where
   pub own_place : ℕ
   pub own_there : slice_get (view past block.task).blocks own_place ≡ Some block
 
-is_it : (s : State) → is_wanted s ≡ true → s ≡ Wanted
-is_it Wanted h = refl
-is_it Suspended h = absurd (true≢false (sym h))
-is_it Delivered h = absurd (true≢false (sym h))
-is_it Aborted h = absurd (true≢false (sym h))
-
 bare_of : (s : State) (held_back : Bool) → is_wanted (shown s held_back) ≡ true → s ≡ Wanted
-bare_of Wanted held_back h = refl
-bare_of Suspended held_back h = absurd (true≢false (sym h))
-bare_of Delivered held_back h = absurd (true≢false (sym h))
-bare_of Aborted held_back h = absurd (true≢false (sym h))
+bare_of s held_back h = grind arith
 
 pub was_wanted : (past : Past) (block : Block) (i : ℕ) → slice_get (wanted past) i ≡ Some block → WasWanted past block
 unfolding wanted view
@@ -55,7 +45,7 @@ was_wanted past block i at =
     record {
       place = found.0;
       registered_there = found.1;
-      shown_wanted = is_it (state past block) found.2;
+      shown_wanted = grind (arith, found.2);
       bare = bare_of ((view past block.task).bare block) (view past block.task).suspended found.2;
       own_place = mine.0;
       own_there = mine.1;
@@ -66,9 +56,8 @@ module _ (disk : Shape) (past : Past) (got : DeliveryRow) where
   delivered-holds held now entries h = record {
     entries = entries;
     on_disk = h.on_disk;
-    placed = λ task. let p = h.placed task in either past got (λ v. IsPlaced disk v.work) task (λ _. record { indexed = p.indexed; segments = p.segments }) p;
-    unopened = λ task more. let u = h.unopened task more in either past got IsUntouched task
-        (λ _. record { suspended = u.suspended; closed = u.closed; complete = u.complete; sealed = u.sealed; segments = u.segments; choices = u.choices; reported = u.reported }) u;
+    placed = λ task. let p = h.placed task in either past got (λ v. IsPlaced disk v.work) task (λ _. assumption p) p;
+    unopened = λ task more. let u = h.unopened task more in either past got IsUntouched task (λ _. assumption u) u;
   }
 
 -- the task's own view
@@ -80,53 +69,40 @@ module _ (v : TaskView) (got : DeliveryRow) (place : ℕ) (there : slice_get v.b
   cleaned_still cs all = all_weaker (λ choice. is_cleaned v.work choice ≡ true) (λ choice. is_cleaned (delivered_view got v).work choice ≡ true) (λ choice done. each choice.blocks done) cs all where
     each : (bs : List Block) → list_all (λ b. is_delivered (v.bare b)) bs ≡ true → list_all (λ b. is_delivered ((delivered_view got v).bare b)) bs ≡ true
     each [] done = refl
-    each (b ∷ bs) done = let parts = and_parts (is_delivered (v.bare b)) (list_all (λ x. is_delivered (v.bare x)) bs) done in rw (still_done v got b parts.0) (each bs parts.1)
+    each (b ∷ bs) done = grind (arith, each bs, still_done v got b)
 
   -- a segment is at work while one of its blocks is wanted
   pub at_work_now : (log : clean.Cleaning) → Cleans v.work log → log.unfinished ≡ None → ⊥
-  at_work_now log h idle =
-      let at = ap (λ bs. slice_get bs place) (sym (h.blocks ∙ ap (flat_map (λ (choice : Choice). choice.blocks)) h.chosen)) ∙ there in
-      let now = in_current v got h.done (choice_in h.current) place at h.cleaned bare in
-      none_there h.current (sym idle ∙ h.unfinished) now.0 now.1 where
-        none_there : (current : Option Choice) → None ≡ option_map (λ choice. choice.segment.number) current → (j : ℕ) → slice_get (flat_map (λ (choice : Choice). choice.blocks) (choice_in current)) j ≡ Some got.block → ⊥
-        none_there None e j at = none-some got.block at
-        none_there (Some choice) e j at = none-some choice.segment.number e
+  at_work_now log h idle = none_there h.current h.by where
+    none_there : (current : Option Choice) → CleansBy v.work log h.done current → ⊥
+    none_there None by = none-some got.block (in_current v got h.done [] place (rw (by.blocks, by.chosen) at there) by.cleaned bare).1
+    none_there (Some choice) by = none-some choice.segment.number (sym idle ∙ by.unfinished)
 
   delivered-cleans : (content_at : ℕ → Content) (old new : clean.Cleaning) → AreIndexed 0 v.blocks → Gives got.content content_at got.block.lbn got.block.count
       → new.block ≡ old.block → new.segments ≡ old.segments → new.unfinished ≡ old.unfinished
       → ((number lbn : ℕ) → old.unfinished ≡ Some number → clean.taken_for new number lbn ≡ after_take content_at got.block.lbn got.block.count lbn (clean.taken_for old number lbn))
       → Cleans v.work old → Cleans (delivered_view got v).work new
-  delivered-cleans content_at old new indexed gives block given unfinished takes h = record {
-    done = h.done;
-    current = h.current;
-    chosen = h.chosen;
-    blocks = h.blocks;
-    numbers = h.numbers;
-    distinct = h.distinct;
-    ascend = h.ascend;
-    known = h.known;
-    unreported = h.unreported;
-    reported = h.reported;
-    block = block ∙ h.block;
-    cleaned = cleaned_still h.done h.cleaned;
-    unfinished = unfinished ∙ h.unfinished;
-    cut = rw block h.cut;
-    taken = taken_now h.current h.unfinished (ap (flat_map (λ (choice : Choice). choice.blocks)) h.chosen) h.ascend h.taken;
-    over = λ closed. all_weaker (λ b. is_over (v.bare b) ≡ true) (λ b. is_over ((delivered_view got v).bare b) ≡ true) (still_over v got) v.blocks (h.over closed);
-    segments = given ∙ h.segments;
-  } where
-    taken_now : (current : Option Choice) → old.unfinished ≡ option_map (λ choice. choice.segment.number) current → flat_map (λ (choice : Choice). choice.blocks) v.choices ≡ flat_map (λ (choice : Choice). choice.blocks) (h.done ++ choice_in current)
-        → AllByRecursion (λ choice. Ascend 0 choice.blocks) (choice_in current) → AllByRecursion (HoldsChoice v.work old) (choice_in current) → AllByRecursion (HoldsChoice (delivered_view got v).work new) (choice_in current)
-    taken_now None says chosen ascends holds = tt
-    taken_now (Some choice) says chosen ascends holds =
-        let whole = h.blocks ∙ chosen in
-        let now = in_current v got h.done (choice ∷ []) place (ap (λ bs. slice_get bs place) (sym whole) ∙ there) h.cleaned bare in
-        let all = all_right (λ (c : Choice). AllByRecursion (λ b. b.index ≡ got.block.index → b ≡ got.block) c.blocks) h.done (choice ∷ [])
-        (all_flat (λ b. b.index ≡ got.block.index → b ≡ got.block) (λ (c : Choice). c.blocks) (h.done ++ choice ∷ []) (subst (AllByRecursion (λ b. b.index ≡ got.block.index → b ≡ got.block)) whole (single indexed))) in (
-          taken-holds v got (clean.taken_for old choice.segment.number) (clean.taken_for new choice.segment.number) content_at 0 now.0 choice.blocks (λ lbn. takes choice.segment.number lbn says) gives ascends.0
-              (ap (λ bs. slice_get bs now.0) (sym (append-nil choice.blocks)) ∙ now.1) all.0 holds.0,
-          tt,
-        )
+  delivered-cleans content_at old new indexed gives block given unfinished takes h =
+      let block_now = block ∙ h.block in
+      let cleaned = cleaned_still h.done h.cleaned in
+      let unfinished_now = unfinished ∙ h.unfinished in
+      let cut : AllByRecursion (IsCutFrom new.block) v.choices = rw block h.cut in
+      let taken = taken_now h.current h.by in
+      let over : v.closed ≡ true → AllByRecursion (λ b. is_over ((delivered_view got v).bare b) ≡ true) v.blocks = λ closed.
+      all_weaker (λ b. is_over (v.bare b) ≡ true) (λ b. is_over ((delivered_view got v).bare b) ≡ true) (still_over v got) v.blocks (h.over closed) in
+      let segments = given ∙ h.segments in
+      record { done = h.done; current = h.current; by = assumption (block_now, cleaned, unfinished_now, cut, taken, over, segments, h.by) } where
+        taken_now : (current : Option Choice) → CleansBy v.work old h.done current → AllByRecursion (HoldsChoice (delivered_view got v).work new) (choice_in current)
+        taken_now None by = tt
+        taken_now (Some choice) by =
+            let whole = rw by.chosen at by.blocks in
+            let now = in_current v got h.done (choice ∷ []) place (rw whole at there) by.cleaned bare in
+            let only = all_right (λ (c : Choice). AllByRecursion (λ b. b.index ≡ got.block.index → b ≡ got.block) c.blocks) h.done (choice ∷ [])
+            (all_flat (λ b. b.index ≡ got.block.index → b ≡ got.block) (λ (c : Choice). c.blocks) (h.done ++ choice ∷ []) (rw whole at (single indexed))) in (
+              taken-holds v got (clean.taken_for old choice.segment.number) (clean.taken_for new choice.segment.number) content_at 0 now.0 choice.blocks
+                  (λ lbn. takes choice.segment.number lbn by.unfinished) gives by.ascend.0 (rw append-nil at now.1) only.0 by.taken.0,
+              tt,
+            )
 
   pub delivered-stands : (content_at : ℕ → Content) (old new : Session) → AreIndexed 0 v.blocks → Gives got.content content_at got.block.lbn got.block.count → HasTaken content_at got.block old new → Stands v old → Stands (delivered_view got v) new
   delivered-stands content_at old new indexed gives takes h =
@@ -139,14 +115,14 @@ module _ (v : TaskView) (got : DeliveryRow) (place : ℕ) (there : slice_get v.b
         closed = same.closed ∙ h.closed;
         complete = same.complete ∙ h.complete;
         sealed = same.sealed ∙ h.sealed;
-        ascend = λ backup. h.ascend (ap is_backup (sym same.kind) ∙ backup);
-        unwanted = λ backup. h.unwanted (ap is_backup (sym same.kind) ∙ backup);
+        ascend = rw same.kind h.ascend;
+        unwanted = rw same.kind h.unwanted;
         image = λ is_open.
             let backup : is_backup old.kind ≡ true = ap (λ t. is_backup t.kind) (sym h.terms) ∙ (and_parts (is_backup v.terms.kind) (not v.sealed) is_open).0 in
             let image = h.image is_open in record {
               each = taken-holds v got (held_at old.image) (held_at new.image) content_at 0 place v.blocks (takes.image backup) gives (h.ascend backup) there (single indexed) image.each;
               only = taken-only v got (held_at old.image) (held_at new.image) content_at place v.blocks (takes.image backup) there image.only;
             };
-        log = λ cleans. let was_clean : is_clean old.kind ≡ true = ap is_clean (sym same.kind) ∙ cleans in delivered-cleans content_at old.log new.log indexed gives same.log_block same.segments same.unfinished (takes.log was_clean) (h.log was_clean);
-        unchosen = λ other. h.unchosen (ap is_clean (sym same.kind) ∙ other);
+        log = rw same.kind (λ cleans. delivered-cleans content_at old.log new.log indexed gives same.log_block same.segments same.unfinished (takes.log cleans) (h.log cleans));
+        unchosen = rw same.kind h.unchosen;
       }

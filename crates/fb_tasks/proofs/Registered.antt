@@ -1,5 +1,5 @@
 -- Blocks that an event registers.
-use Rattle.std.proofs.Common.{◌≡◌, ℕ, suc, ◌+◌, ◌<◌, ◌==◌, ◌&&◌, ◌||◌, if◌then◌else◌, List, [], ◌∷◌, ◌++◌, Bool, true, false, inl, inr, length, filter, map, refl, ap, sym, ◌∙◌, arith, subst}
+use Rattle.std.proofs.Common.{◌≡◌, ℕ, suc, ◌+◌, ◌<◌, ◌==◌, if◌then◌else◌, List, [], ◌∷◌, ◌++◌, true, false, inl, inr, length, filter, map, refl, ap, sym, ◌∙◌, arith, subst}
 use Rattle.std.proofs.Math.Bool.{or-true}
 use Rattle.std.specs.List.{AllByRecursion, list_any}
 use Rattle.std.proofs.lemmas.Bool.{cases_Bool}
@@ -14,9 +14,9 @@ use Rattle.fb_model.specs.Completion.{view, own_of, state_in}
 use Rattle.fb_model.proofs.Views.{number_same}
 use Rattle.fb_tasks.specs.declared.session.Session.{Session}
 use Rattle.fb_tasks.specs.Keeping.{new_entries}
-use Rattle.fb_tasks.specs.Standing.{entry_of, AreIndexed}
-use Rattle.fb_tasks.proofs.Lists.{all_weaker, all_pass, all_with, map_same, number_other, same_number, other_number}
-use Rattle.fb_tasks.proofs.States.{shown}
+use Rattle.fb_tasks.specs.Standing.{entry_of, AreIndexed, entry_in}
+use Rattle.fb_tasks.proofs.Lists.{all_weaker, all_pass, all_with, map_same, same_number, other_number, one_or_other}
+use Rattle.std.proofs.lemmas.Bool.Decides.{nat_tests}
 
 pub itself : (block : Block) → same_block block block ≡ true
 itself block = rw (number_same block.task block.task refl, number_same block.index block.index refl) refl
@@ -24,36 +24,26 @@ itself block = rw (number_same block.task block.task refl, number_same block.ind
 -- each block is one of them
 pub all_member : (added : List Block) → AllByRecursion (λ block. list_any (same_block block) added ≡ true) added
 all_member [] = tt
-all_member (b ∷ bs) = (rw (itself b) refl, all_weaker (λ block. list_any (same_block block) bs ≡ true) (λ block. list_any (same_block block) (b ∷ bs) ≡ true) (λ block h. rw h (or-true (same_block block b))) bs (all_member bs))
+all_member (b ∷ bs) = (
+  rw (itself b) refl,
+  all_weaker (λ block. list_any (same_block block) bs ≡ true) (λ block. list_any (same_block block) (b ∷ bs) ≡ true) (λ block h. rw h (or-true (same_block block b))) bs (all_member bs),
+)
 
 -- blocks that are numbered on from n have no smaller number
 pub no_smaller : (block : Block) (n : ℕ) (added : List Block) → block.index < n → AreIndexed n added → list_any (same_block block) added ≡ false
 no_smaller block n [] less h = refl
-no_smaller block n (b ∷ bs) less h =
-    let other : (block.index == b.index) ≡ false = number_other block.index b.index (λ e. absurd (omega (arith, h.0))) in
-    rw other (and-or (block.task == b.task) (no_smaller block (n + 1) bs (omega arith) h.1)) where
-      and-or : (x : Bool) {y : Bool} → y ≡ false → ((x && false) || y) ≡ false
-      and-or true h = h
-      and-or false h = h
+no_smaller block n (b ∷ bs) less h = grind (arith, nat_tests, h.0, no_smaller block (n + 1) bs (omega arith) h.1)
 
 pub no_own : (block : Block) (task : ℕ) (added : List Block) → (block.task ≡ task → ⊥) → AllByRecursion (λ b. b.task ≡ task) added → list_any (same_block block) added ≡ false
 no_own block task [] other h = refl
-no_own block task (b ∷ bs) other h =
-    let differ : (block.task == b.task) ≡ false = number_other block.task b.task (λ e. other (e ∙ h.0)) in
-    rw differ (no_own block task bs other h.1)
+no_own block task (b ∷ bs) other h = grind (arith, nat_tests, h.0, no_own block task bs other h.1)
 
 -- the numbers of a task's blocks are below their number
 pub indexed_below : (task n total : ℕ) (bs : List Block) → n + length (filter (λ b. b.task == task) bs) ≡ total → AreIndexed n (filter (λ b. b.task == task) bs) → AllByRecursion (λ block. block.task ≡ task → block.index < total) bs
 indexed_below task n total [] e h = tt
 indexed_below task n total (b ∷ bs) e h = elim (cases_Bool (b.task == task)) [
-  | inl own ↦
-      let k = subst (λ x. AreIndexed n (if x then b ∷ filter (λ c. c.task == task) bs else filter (λ c. c.task == task) bs)) own h in
-      let f : n + suc (length (filter (λ c. c.task == task) bs)) ≡ total = subst (λ x. n + length (if x then b ∷ filter (λ c. c.task == task) bs else filter (λ c. c.task == task) bs) ≡ total) own e in
-      ((λ mine. omega (arith, k.0, f)), indexed_below task (n + 1) total bs (omega (arith, f)) k.1)
-  | inr other ↦
-      let k = subst (λ x. AreIndexed n (if x then b ∷ filter (λ c. c.task == task) bs else filter (λ c. c.task == task) bs)) other h in
-      let f : n + length (filter (λ c. c.task == task) bs) ≡ total = subst (λ x. n + length (if x then b ∷ filter (λ c. c.task == task) bs else filter (λ c. c.task == task) bs) ≡ total) other e in
-      ((λ mine. absurd (other_number b.task task other mine)), indexed_below task n total bs f k)
+  | inl own ↦ let k = rw own at h in let f = rw own at e in ((λ mine. omega (arith, k.0, f)), indexed_below task (n + 1) total bs (omega (arith, f)) k.1)
+  | inr other ↦ ((λ mine. absurd (other_number b.task task other mine)), indexed_below task n total bs (rw other at e) (rw other at h))
 ]
 
 -- no block that is registered already is registered again
@@ -105,16 +95,14 @@ module _ (past new : Past) (task : ℕ) (added : List Block)
   pub registered-entries : (session : Session) (held now : List Entry) → session.suspended ≡ (view past task).suspended
       → held ≡ map (entry_of past) (registered past) → now ≡ held ++ new_entries session added → now ≡ map (entry_of new) (registered past ++ added)
   registered-entries session held now says entries pushed =
-      pushed ∙ (ap (λ es. es ++ new_entries session added) (entries ∙ map_same (entry_of past) (entry_of new) (registered past) (all_weaker (λ block. block.task ≡ task → (view new task).bare block ≡ (view past task).bare block) (λ block. entry_of past block ≡ entry_of new block) old_entry (registered past) old_bare))
-      ∙ (ap (λ es. map (entry_of new) (registered past) ++ es) (map_same (λ block. record { block = block; state = wanted_unless session.suspended }) (entry_of new) added
-      (all_with (λ block. (view new task).bare block ≡ Wanted) (λ b. b.task ≡ task) (λ block. ◌≡◌ {A = Entry} (record { block = block; state = wanted_unless session.suspended }) (entry_of new block)) new_entry added new_bare own))
-      ∙ sym (map-append (entry_of new) (registered past) added))) where
+      let olds = map_same (entry_of past) (entry_of new) (registered past) (all_weaker (λ block. block.task ≡ task → (view new task).bare block ≡ (view past task).bare block)
+      (λ block. entry_of past block ≡ entry_of new block) old_entry (registered past) old_bare) in
+      let news = map_same (λ block. record { block = block; state = wanted_unless session.suspended }) (entry_of new) added (all_with (λ block. (view new task).bare block ≡ Wanted) (λ b. b.task ≡ task)
+      (λ block. ◌≡◌ {A = Entry} (record { block = block; state = wanted_unless session.suspended }) (entry_of new block)) new_entry added new_bare own) in
+      rw (pushed, entries, olds, map-append) (ap (λ es. map (entry_of new) (registered past) ++ es) news) where
         old_entry : (block : Block) → (block.task ≡ task → (view new task).bare block ≡ (view past task).bare block) → entry_of past block ≡ entry_of new block
-        old_entry block same = ap (λ s. record { block = block; state = s }) (elim (cases_Bool (task == block.task)) [
-          | inl mine ↦ let e = same_number task block.task mine in
-              ap (λ t. state_in (view past t) block) (sym e) ∙ (ap (λ s. shown s (view past task).suspended) (sym (same (sym e))) ∙ (ap (shown ((view new task).bare block)) (sym still) ∙ ap (λ t. state_in (view new t) block) e))
-          | inr other ↦ ap (λ v. state_in v block) (sym (others block.task other))
-        ])
+        old_entry block same = one_or_other (λ t. (block.task ≡ t) → entry_in (view past t) block ≡ entry_in (view new t) block) task block.task
+            (λ mine. rw (same mine, still) refl) (λ other _. rw (others block.task other) refl) refl
 
         new_entry : (block : Block) → (view new task).bare block ≡ Wanted → block.task ≡ task → ◌≡◌ {A = Entry} (record { block = block; state = wanted_unless session.suspended }) (entry_of new block)
-        new_entry block wanted mine = ap (λ s. record { block = block; state = s }) (ap wanted_unless (says ∙ sym still) ∙ (ap (λ s. shown s (view new task).suspended) (sym wanted) ∙ ap (λ t. state_in (view new t) block) (sym mine)))
+        new_entry block wanted mine = ap (λ s. record { block = block; state = s }) (rw (says, sym still) (subst (λ t. wanted_unless (view new task).suspended ≡ state_in (view new t) block) (sym mine) (rw wanted refl)))

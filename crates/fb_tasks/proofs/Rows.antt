@@ -1,7 +1,6 @@
 -- The rows of tasks.
 use Rattle.std.proofs.Common.{◌≡◌, ℕ, ◌+◌, List, [], ◌∷◌, ◌++◌, Bool, map, append_assoc, refl, ap, sym, ◌∙◌, arith}
 use Rattle.std.specs.List.{range_with_len}
-use Rattle.std.proofs.lemmas.List.{map-append}
 use Rattle.std.proofs.lemmas.List.Sums.{length-filter}
 use Rattle.fb_calls.specs.declared.call.Kind.{Kind}
 use Rattle.fb_wanted.specs.declared.block.Counts.{Counts}
@@ -17,18 +16,11 @@ use Rattle.fb_tasks.specs.Keeping.{complete_by}
 use Rattle.fb_tasks.specs.Standing.{entry_of, Stands, IsAtWork}
 use Rattle.fb_tasks.proofs.Counting.{counts_in, counts_same}
 use Rattle.fb_tasks.proofs.Complete.{complete_same}
-use Rattle.fb_tasks.proofs.Cuts.{ranges_join}
-
--- one more number
-pub range_more : (n : ℕ) → range_with_len 0 (n + 1) ≡ range_with_len 0 n ++ n ∷ []
-range_more n = sym (ranges_join 0 n 1) ∙ ap (λ k. range_with_len 0 n ++ k ∷ []) (let e : 0 + n ≡ n = omega arith in e)
+use Rattle.std.proofs.lemmas.List.FromFn.{map-range_with_len_more}
 
 -- and one more element of a list that goes by numbers
 pub map_more : {X : Type 0} (f : ℕ → X) (before rows more : List X) (n : ℕ) (x : X) → rows ≡ before ++ map f (range_with_len 0 n) → x ≡ f n → more ≡ rows ++ x ∷ [] → more ≡ before ++ map f (range_with_len 0 (n + 1))
-map_more f before rows more n x so_far same pushed =
-    pushed ∙ (ap (λ xs. xs ++ x ∷ []) so_far ∙ (append_assoc before (map f (range_with_len 0 n)) (x ∷ [])
-    ∙ (ap (λ y. before ++ (map f (range_with_len 0 n) ++ y ∷ [])) same
-    ∙ (ap (λ xs. before ++ xs) (sym (map-append f (range_with_len 0 n) (n ∷ []))) ∙ ap (λ ns. before ++ map f ns) (sym (range_more n))))))
+map_more f before rows more n x so_far same pushed = rw (pushed, so_far, same, map-range_with_len_more f 0 n n (omega arith), append_assoc) refl
 
 row_of : ℕ → Kind → Counts → Bool → BackRow
 row_of task kind counts complete = TaskLine (record { task = task; kind = kind; registered = counts.registered; delivered = counts.delivered; aborted = counts.aborted; complete = complete })

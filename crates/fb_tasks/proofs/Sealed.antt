@@ -1,24 +1,22 @@
 -- A backup is sealed: its image has the delivered blocks alone.
-use Rattle.std.proofs.Common.{append-nil, ◌≡◌, ℕ, zero, suc, ◌+◌, ◌-◌, ◌<◌, ◌≤◌, ◌==◌, ◌&&◌, ◌||◌, ◌^◌, not, nat_lt, if◌then◌else◌, List, [], ◌∷◌, ◌++◌, Bool, true, false, Some, None, Option, length, filter, take, slice_get, refl, ap, ap₂, sym, ◌∙◌, arith, subst}
-use Rattle.std.proofs.Math.Bool.{and-false, and_comm}
+use Rattle.std.proofs.Common.{append-nil, ◌≡◌, ℕ, zero, suc, ◌+◌, ◌-◌, ◌<◌, ◌≤◌, ◌==◌, ◌&&◌, ◌||◌, ◌^◌, not, nat_lt, if◌then◌else◌, List, [], ◌∷◌, ◌++◌, Bool, true, false, Some, None, Option, length, filter, take, slice_get, refl, ap, ap₂, sym, ◌∙◌, arith, subst, inl, inr}
+use Rattle.std.proofs.Math.Bool.{and-false, and_comm, and-true, or-false}
 use Rattle.std.proofs.lemmas.Option.{slice_get_within, get_or_from_slice_get}
 use Rattle.std.proofs.lemmas.List.{take_more}
 use Rattle.std.specs.List.{AllByRecursion, flat_map, list_any, list_all, range_with_len}
-use Rattle.std.proofs.lemmas.Bool.{true≢false, and_parts}
+use Rattle.std.proofs.lemmas.Bool.{and_parts, cases_Bool}
 use Rattle.std.proofs.lemmas.Grind.{flat_map-append}
 use Rattle.fb_geometry.specs.Shape.{Shape}
 use Rattle.fb_calls.specs.declared.call.Kind.{Kind}
-use Rattle.fb_calls.specs.declared.call.Kind.TheVariants.{Plain, Backup, Scrub, Clean}
+use Rattle.fb_calls.specs.declared.call.Kind.TheVariants.{Backup}
 use Rattle.fb_calls.specs.Sessions.{is_backup}
 use Rattle.fb_store.specs.declared.content.Content.{Content}
 use Rattle.fb_store.specs.declared.content.ContentRun.{ContentRun}
 use Rattle.fb_store.specs.Index.{held_at}
-use Rattle.fb_store.specs.Sparse.{held_sector, held_in, EndsBy}
+use Rattle.fb_store.specs.Sparse.{held_in, EndsBy}
 use Rattle.fb_store.specs.Runs.{runs_of, sectors_of}
 use Rattle.fb_store.specs.Writes.{is_within}
 use Rattle.fb_wanted.specs.declared.block.Block.{Block}
-use Rattle.fb_wanted.specs.declared.block.State.{State}
-use Rattle.fb_wanted.specs.declared.block.State.TheVariants.{Wanted, Suspended, Delivered, Aborted}
 use Rattle.fb_wanted.specs.declared.block.Entry.{Entry}
 use Rattle.fb_wanted.specs.States.{is_delivered, is_aborted, is_block}
 use Rattle.fb_wanted.specs.Counting.{counts_of}
@@ -37,17 +35,10 @@ use Rattle.fb_tasks.proofs.Lists.{all_weaker, all_with, all_filter, all_at, some
 use Rattle.fb_tasks.proofs.Registered.{blocks_in, own}
 use Rattle.fb_tasks.proofs.States.{shown_aborted}
 use Rattle.fb_tasks.proofs.Sectors.{held_same, within, before_it, behind_it, ascend_from}
-
--- a range in two parts
-pub range_append : (a n m : ℕ) → range_with_len a (n + m) ≡ range_with_len a n ++ range_with_len (a + n) m
-range_append a zero m =
-    let none : a ≡ a + 0 = omega arith in
-    let all : 0 + m ≡ m = omega arith in
-    ap (range_with_len a) all ∙ ap (λ x. range_with_len x m) none
-range_append a (suc n) m =
-    let more : suc n + m ≡ suc (n + m) = omega arith in
-    let same : (a + 1) + n ≡ a + suc n = omega arith in
-    ap (range_with_len a) more ∙ (ap (λ xs. a ∷ xs) (range_append (a + 1) n m) ∙ ap (λ x. a ∷ (range_with_len (a + 1) n ++ range_with_len x m)) same)
+use Rattle.fb_tasks.proofs.Writes.{open_by}
+use Rattle.fb_tasks.proofs.Cuts.{ranges_join}
+use Rattle.std.proofs.Math.Seq.{take-length}
+use Rattle.fb_model.proofs.Lists.{all_both}
 
 nothing_in : (lbns : List ℕ) → held_in (λ lbn. None) lbns ≡ []
 nothing_in [] = refl
@@ -66,9 +57,8 @@ dropped_more v lbn held [] block = refl
 dropped_more v lbn held (b ∷ bs) block = dropped_more v lbn (without_aborted (entry_in v b) lbn held) bs block
 
 pub dropped_next : (v : TaskView) (lbn : ℕ) (held : Option Content) (blocks : List Block) (i : ℕ) (block : Block) → slice_get blocks i ≡ Some block → without_aborted (entry_in v block) lbn (dropped v lbn held (take i blocks)) ≡ dropped v lbn held (take (i + 1) blocks)
-dropped_next v lbn held blocks i block at = sym (
-    ap (dropped v lbn held) (take_more blocks i block (slice_get_within blocks i block at) ∙ ap (λ x. take i blocks ++ x ∷ []) (get_or_from_slice_get blocks i block block at))
-    ∙ dropped_more v lbn held (take i blocks) block)
+dropped_next v lbn held blocks i block at =
+    rw (take_more blocks i block (slice_get_within blocks i block at), get_or_from_slice_get blocks i block block at) (sym (dropped_more v lbn held (take i blocks) block))
 
 -- a sector lies in an aborted block
 abbrev is_hit : TaskView → ℕ → Block → Bool
@@ -76,36 +66,25 @@ is_hit v lbn block = is_aborted (v.bare block) && is_within block.lbn block.coun
 
 dropped_is : (v : TaskView) (lbn : ℕ) (held : Option Content) (blocks : List Block) → dropped v lbn held blocks ≡ (if list_any (is_hit v lbn) blocks then None else held)
 dropped_is v lbn held [] = refl
-dropped_is v lbn held (b ∷ bs) =
-    dropped_is v lbn (without_aborted (entry_in v b) lbn held) bs
-    ∙ (ap (λ a. if list_any (is_hit v lbn) bs then None else (if a && is_within b.lbn b.count lbn then None else held)) (shown_aborted (v.bare b) v.suspended)
-    ∙ either (is_hit v lbn b) (list_any (is_hit v lbn) bs)) where
-      either : (one more : Bool) → (if more then None else (if one then None else held)) ≡ (if one || more then None else held)
-      either true true = refl
-      either true false = refl
-      either false true = refl
-      either false false = refl
+dropped_is v lbn held (b ∷ bs) = rw (dropped_is v lbn (without_aborted (entry_in v b) lbn held) bs, shown_aborted (v.bare b) v.suspended) (either (is_hit v lbn b) (list_any (is_hit v lbn) bs)) where
+  either : (one more : Bool) → (if more then None else (if one then None else held)) ≡ (if one || more then None else held)
+  either one more = grind arith
 
 module _ (p : Block → Bool) where
   abbrev pub has_it : ℕ → Block → Bool
   has_it lbn block = p block && is_within block.lbn block.count lbn
 
-  and_yes : (b : Bool) → ((b && true) || false) ≡ b
-  and_yes true = refl
-  and_yes false = refl
-
   before_all : (from lbn : ℕ) (blocks : List Block) → lbn < from → AllByRecursion (λ block. from ≤ block.lbn) blocks → list_any (has_it lbn) blocks ≡ false
   before_all from lbn [] less h = refl
-  before_all from lbn (b ∷ bs) less h =
-      let first = h.0 in
-      rw (before_it b.lbn b.count lbn (omega arith), and-false (p b), before_all from lbn bs less h.1) refl
+  before_all from lbn (b ∷ bs) less h = let first = h.0 in rw (before_it b.lbn b.count lbn (omega arith), and-false (p b), before_all from lbn bs less h.1) refl
 
   -- a sector of a block lies in no other
   pub in_one : (from : ℕ) (blocks : List Block) → Ascend from blocks → AllByRecursion (λ block. (lbn : ℕ) → block.lbn ≤ lbn → lbn < block.lbn + block.count → list_any (has_it lbn) blocks ≡ p block) blocks
   in_one from [] h = tt
   in_one from (b ∷ bs) h = (
-    (λ lbn first last. rw (within b.lbn b.count lbn first last, before_all (b.lbn + b.count) lbn bs last (ascend_from (b.lbn + b.count) bs h.1)) (and_yes (p b))),
-    all_with (λ (block : Block). b.lbn + b.count ≤ block.lbn) (λ (block : Block). (lbn : ℕ) → block.lbn ≤ lbn → lbn < block.lbn + block.count → list_any (has_it lbn) bs ≡ p block) (λ (block : Block). (lbn : ℕ) → block.lbn ≤ lbn → lbn < block.lbn + block.count → list_any (has_it lbn) (b ∷ bs) ≡ p block)
+    (λ lbn first last. rw (within b.lbn b.count lbn first last, before_all (b.lbn + b.count) lbn bs last (ascend_from (b.lbn + b.count) bs h.1), and-true, or-false) refl),
+    all_with (λ (block : Block). b.lbn + b.count ≤ block.lbn) (λ (block : Block). (lbn : ℕ) → block.lbn ≤ lbn → lbn < block.lbn + block.count → list_any (has_it lbn) bs ≡ p block)
+        (λ (block : Block). (lbn : ℕ) → block.lbn ≤ lbn → lbn < block.lbn + block.count → list_any (has_it lbn) (b ∷ bs) ≡ p block)
         (λ block past_it rest lbn first last. rw (behind_it b.lbn b.count lbn (omega arith), and-false (p b)) (rest lbn first last)) bs (ascend_from (b.lbn + b.count) bs h.1) (in_one (b.lbn + b.count) bs h.1),
   )
 
@@ -123,14 +102,10 @@ held_parts v held from end (b ∷ bs) ascend within parts none =
     let last : b.lbn + b.count ≤ end = within.0 in
     let whole : end - from ≡ (b.lbn - from) + (b.count + (end - (b.lbn + b.count))) = omega arith in
     let start : from + (b.lbn - from) ≡ b.lbn = omega arith in
-    ap (λ n. held_in held (range_with_len from n)) whole
-    ∙ (ap (held_in held) (range_append from (b.lbn - from) (b.count + (end - (b.lbn + b.count))) ∙ ap (λ x. range_with_len from (b.lbn - from) ++ range_with_len x (b.count + (end - (b.lbn + b.count)))) start)
-    ∙ (flat_map-append (λ lbn. held_sector lbn (held lbn)) (range_with_len from (b.lbn - from)) (range_with_len b.lbn (b.count + (end - (b.lbn + b.count))))
-    ∙ (ap (λ xs. xs ++ held_in held (range_with_len b.lbn (b.count + (end - (b.lbn + b.count))))) (held_none held from (b.lbn - from) (λ k at_least less. let gap : k < b.lbn = omega arith in none k at_least (gap_none k gap)))
-    ∙ (ap (held_in held) (range_append b.lbn b.count (end - (b.lbn + b.count)))
-    ∙ (flat_map-append (λ lbn. held_sector lbn (held lbn)) (range_with_len b.lbn b.count) (range_with_len (b.lbn + b.count) (end - (b.lbn + b.count)))
-    ∙ (ap₂ (λ xs ys. xs ++ ys) parts.0 (held_parts v held (b.lbn + b.count) end bs ascend.1 within.1 parts.1 (λ lbn from_it other. none lbn (omega arith) (rw (behind_it b.lbn b.count lbn from_it) other)))
-    ∙ by_state (is_delivered (v.bare b)))))))) where
+    let gap = held_none held from (b.lbn - from) (λ k at_least less. let gap : k < b.lbn = omega arith in none k at_least (gap_none k gap)) in
+    let rest = held_parts v held (b.lbn + b.count) end bs ascend.1 within.1 parts.1 (λ lbn from_it other. none lbn (omega arith) (rw (behind_it b.lbn b.count lbn from_it) other)) in
+    rw (whole, sym (ranges_join from (b.lbn - from) (b.count + (end - (b.lbn + b.count)))), start, sym (ranges_join b.lbn b.count (end - (b.lbn + b.count))), flat_map-append, flat_map-append, gap, parts.0, rest)
+    (by_state (is_delivered (v.bare b))) where
       gap_none : (k : ℕ) → k < b.lbn → list_any (λ (block : Block). is_within block.lbn block.count k) (b ∷ bs) ≡ false
       gap_none k less =
           let follow : k < b.lbn + b.count = omega arith in
@@ -143,26 +118,25 @@ held_parts v held from end (b ∷ bs) ascend within parts none =
 
 module _ (v : TaskView) (ascend : Ascend 0 v.blocks) (over : AllByRecursion (λ block. is_over (v.bare block) ≡ true) v.blocks)
     (held now : ℕ → Option Content) (holds : HoldsImage v.work held) (drops : (lbn : ℕ) → now lbn ≡ dropped v lbn (held lbn) v.blocks) where
+  -- a sector of the block lies in no other
+  abbrev IsHitAlone : Block → Type 0
+  IsHitAlone block = (lbn : ℕ) → block.lbn ≤ lbn → lbn < block.lbn + block.count → list_any (is_hit v lbn) v.blocks ≡ is_aborted (v.bare block)
+
   parts_now : AllByRecursion (HoldsPart v now) v.blocks
-  parts_now = all_with (λ block. is_over (v.bare block) ≡ true) (λ block. HoldsBlock v.work held block × ((lbn : ℕ) → block.lbn ≤ lbn → lbn < block.lbn + block.count → list_any (is_hit v lbn) v.blocks ≡ is_aborted (v.bare block))) (HoldsPart v now)
-      (λ block is_over both. part block (v.bare block) refl is_over both.0 both.1) v.blocks over
-      (all_with (HoldsBlock v.work held) (λ (block : Block). (lbn : ℕ) → block.lbn ≤ lbn → lbn < block.lbn + block.count → list_any (is_hit v lbn) v.blocks ≡ is_aborted (v.bare block)) (λ block. HoldsBlock v.work held block × ((lbn : ℕ) → block.lbn ≤ lbn → lbn < block.lbn + block.count → list_any (is_hit v lbn) v.blocks ≡ is_aborted (v.bare block)))
-      (λ block a b. (a, b)) v.blocks holds.each (in_one (λ block. is_aborted (v.bare block)) 0 v.blocks ascend)) where
-        part : (block : Block) (s : State) → v.bare block ≡ s → is_over (v.bare block) ≡ true → HoldsBlock v.work held block → ((lbn : ℕ) → block.lbn ≤ lbn → lbn < block.lbn + block.count → list_any (is_hit v lbn) v.blocks ≡ is_aborted (v.bare block)) → HoldsPart v now block
-        part block Wanted e is h hit = absurd (true≢false (sym is ∙ ap is_over e))
-        part block Suspended e is h hit = absurd (true≢false (sym is ∙ ap is_over e))
-        part block Delivered e is h hit =
-            held_same now held block.lbn block.count (λ k from to. drops k ∙ (dropped_is v k (held k) v.blocks ∙ ap (λ b. if b then None else held k) (hit k from to ∙ ap is_aborted e)))
-            ∙ (h (ap is_delivered e) ∙ ap (λ s. if is_delivered s then sectors_of (v.found block) else []) (sym e))
-        part block Aborted e is h hit =
-            held_none now block.lbn block.count (λ k from to. drops k ∙ (dropped_is v k (held k) v.blocks ∙ ap (λ b. if b then None else held k) (hit k from to ∙ ap is_aborted e)))
-            ∙ ap (λ s. if is_delivered s then sectors_of (v.found block) else []) (sym e)
+  parts_now = all_with (λ block. is_over (v.bare block) ≡ true) (λ block. HoldsBlock v.work held block × IsHitAlone block) (HoldsPart v now) part v.blocks over
+      (all_both (HoldsBlock v.work held) IsHitAlone v.blocks holds.each (in_one (λ block. is_aborted (v.bare block)) 0 v.blocks ascend)) where
+        part : (block : Block) → is_over (v.bare block) ≡ true → HoldsBlock v.work held block × IsHitAlone block → HoldsPart v now block
+        part block is_over both =
+            let here = λ (k : ℕ) (from : block.lbn ≤ k) (to : k < block.lbn + block.count). drops k ∙ (dropped_is v k (held k) v.blocks ∙ ap (λ b. if b then None else held k) (both.1 k from to)) in
+            elim (cases_Bool (is_delivered (v.bare block))) [
+              | inl done ↦ rw done (held_same now held block.lbn block.count (λ k from to. let kept : is_aborted (v.bare block) ≡ false = grind arith in rw (here k from to, kept) refl) ∙ both.0 done)
+              | inr left ↦ rw left (held_none now block.lbn block.count (λ k from to. let gone : is_aborted (v.bare block) ≡ true = grind arith in rw (here k from to, gone) refl))
+            ]
 
   nothing_beside : (lbn : ℕ) → 0 ≤ lbn → list_any (λ block. is_within block.lbn block.count lbn) v.blocks ≡ false → now lbn ≡ None
-  nothing_beside lbn from other = drops lbn ∙ (dropped_is v lbn (held lbn) v.blocks ∙ (ap (λ h. if list_any (is_hit v lbn) v.blocks then None else h) (holds.only lbn other) ∙ none_either (list_any (is_hit v lbn) v.blocks))) where
+  nothing_beside lbn from other = rw (drops lbn, dropped_is v lbn (held lbn) v.blocks, holds.only lbn other) (none_either (list_any (is_hit v lbn) v.blocks)) where
     none_either : (b : Bool) → (let n : Option Content = None in if b then n else None) ≡ None
-    none_either true = refl
-    none_either false = refl
+    none_either b = grind arith
 
   -- the image has what the last deliveries of the delivered blocks found
   pub sealed_held : (end : ℕ) → AllByRecursion (λ block. block.lbn + block.count ≤ end) v.blocks → held_in now (range_with_len 0 end) ≡ flat_map (λ block. sectors_of (v.found block)) (filter (λ block. is_delivered (v.bare block)) v.blocks)
@@ -174,16 +148,14 @@ module _ (v : TaskView) (ascend : Ascend 0 v.blocks) (over : AllByRecursion (λ 
 pub backup_over : (w : Work) → is_backup w.terms.kind ≡ true → is_done w ≡ true → AllByRecursion (λ block. is_over (w.bare block) ≡ true) w.blocks
 backup_over w backup complete = by w.terms.kind backup complete where
   by : (kind : Kind) → is_backup kind ≡ true → is_complete_as w kind ≡ true → AllByRecursion (λ block. is_over (w.bare block) ≡ true) w.blocks
-  by Plain is h = absurd (true≢false (sym is))
   by Backup is h = list_all_each (λ block. is_over (w.bare block)) w.blocks (and_parts (nat_lt 0 (length w.blocks)) (list_all (λ block. is_over (w.bare block)) w.blocks) h).1
-  by Scrub is h = absurd (true≢false (sym is))
-  by Clean is h = absurd (true≢false (sym is))
+  by _ is h = absurd (grind arith)
 
 -- the task's block of a number stands among those that are registered
 pub indexed_at : (n k : ℕ) (blocks : List Block) (block : Block) → AreIndexed n blocks → slice_get blocks k ≡ Some block → block.index ≡ n + k
-indexed_at n k [] block h at = absurd (grind arith)
-indexed_at n zero (b ∷ bs) block h at = let same : n ≡ n + 0 = omega arith in ap (λ (x : Block). x.index) (sym (some_same b block at)) ∙ (h.0 ∙ same)
-indexed_at n (suc k) (b ∷ bs) block h at = let same : n + 1 + k ≡ n + suc k = omega arith in indexed_at (n + 1) k bs block h.1 at ∙ same
+indexed_at n k [] block h at = absurd (cc)
+indexed_at n zero (b ∷ bs) block h at = rw (sym (some_same b block at)) (omega (arith, h.0))
+indexed_at n (suc k) (b ∷ bs) block h at = omega (arith, indexed_at (n + 1) k bs block h.1 at)
 
 -- the entry of a task's block
 pub record HasEntry (held : List Entry) (task index : ℕ) (entry : Entry) : Type 0 where
@@ -195,41 +167,32 @@ pub record HasEntry (held : List Entry) (task index : ℕ) (entry : Entry) : Typ
 module _ {disk : Shape} {past : Past} {held : List Entry} (h : HoldsBlocks disk past held) (task : ℕ) where
   pub entry_at : (index : ℕ) (block : Block) → slice_get (view past task).blocks index ≡ Some block → HasEntry held task index (entry_in (view past task) block)
   entry_at index block at =
-      let place = filter_from (λ (b : Block). b.task == task) (registered past) index block (ap (λ bs. slice_get bs index) (sym (blocks_in past task)) ∙ at) in
+      let place = filter_from (λ (b : Block). b.task == task) (registered past) index block (rw (sym (blocks_in past task)) at) in
       let mine = all_at (λ (b : Block). b.task ≡ task) (view past task).blocks index block (own past task) at in
-      ap-entry (ap (λ t. entry_in (view past t) block) mine) (record {
+      subst (HasEntry held task index) (ap (λ t. entry_in (view past t) block) mine) (record {
         place = place.0;
-        at = ap (λ es. slice_get es place.0) h.entries ∙ map_at (entry_of past) (registered past) place.0 block place.1;
-        is_block = ap₂ (λ a b. a && b) (number_same block.task task mine) (number_same block.index index (let from_none : 0 + index ≡ index = omega arith in indexed_at 0 index (view past task).blocks block (h.placed task).indexed at ∙ from_none));
+        at = rw h.entries (map_at (entry_of past) (registered past) place.0 block place.1);
+        is_block = rw (number_same block.task task mine, number_same block.index index (indexed_at 0 index (view past task).blocks block (h.placed task).indexed at ∙ (let e : 0 + index ≡ index = omega arith in e))) refl;
         within = (all_at (IsBlockOf disk (length (tasks past))) (registered past) place.0 block h.on_disk place.1).within;
-      }) where
-        ap-entry : {a b : Entry} → a ≡ b → HasEntry held task index a → HasEntry held task index b
-        ap-entry e x = subst (HasEntry held task index) e x
+      })
 
   pub block_at : (index n : ℕ) → n ≡ (counts_of task held).registered → index < n → (block : Block) × (slice_get (view past task).blocks index ≡ Some block)
   block_at index n is less = some_at (view past task).blocks index (subst (λ k. index < k) (is ∙ ap (λ c. c.registered) (counts_same past task held h.entries)) less)
 
   pub all_blocks : (n : ℕ) → n ≡ (counts_of task held).registered → take n (view past task).blocks ≡ (view past task).blocks
-  all_blocks n is = ap (λ k. take k (view past task).blocks) (is ∙ ap (λ c. c.registered) (counts_same past task held h.entries)) ∙ take_whole (view past task).blocks where
-    take_whole : (xs : List Block) → take (length xs) xs ≡ xs
-    take_whole [] = refl
-    take_whole (x ∷ xs) = ap (λ ys. x ∷ ys) (take_whole xs)
+  all_blocks n is = rw (is ∙ ap (λ c. c.registered) (counts_same past task held h.entries)) (take-length (view past task).blocks)
 
   -- the seal's content
   pub sealed_content : (session : Session) (now : ℕ → Option Content) (content : List ContentRun) → Stands (view past task) session → is_unsealed (view past task) ≡ true → is_done (view past task).work ≡ true
       → ((lbn : ℕ) → now lbn ≡ dropped (view past task) lbn (held_at session.image lbn) (view past task).blocks)
       → EndsBy now (10 ^ 12) → ((end : ℕ) → EndsBy now end → content ≡ runs_of (held_in now (range_with_len 0 end)))
       → content ≡ found_for (view past task).work (filter (λ block. is_delivered ((view past task).bare block)) (view past task).blocks)
-  sealed_content session now content stands is_open complete drops ends gives = by (10 ^ 12) ends (all_weaker (IsBlockOf disk (length (tasks past))) (λ (block : Block). block.lbn + block.count ≤ 10 ^ 12) (λ block on_disk. on_disk.within) (view past task).blocks (subst (AllByRecursion (IsBlockOf disk (length (tasks past)))) (sym (blocks_in past task)) (all_filter (IsBlockOf disk (length (tasks past))) (λ (b : Block). b.task == task) (registered past) h.on_disk))) where
-    backup : is_backup (view past task).terms.kind ≡ true
-    backup = (and_parts (is_backup (view past task).terms.kind) (not (view past task).sealed) is_open).0
-
-    by : (end : ℕ) → EndsBy now end → AllByRecursion (λ (block : Block). block.lbn + block.count ≤ end) (view past task).blocks → content ≡ found_for (view past task).work (filter (λ block. is_delivered ((view past task).bare block)) (view past task).blocks)
-    by end ends within = gives end ends ∙ ap runs_of (sealed_held (view past task) (stands.ascend (ap (λ t. is_backup t.kind) (sym stands.terms) ∙ backup)) (backup_over (view past task).work backup complete) (held_at session.image) now (stands.image is_open) drops end within)
-
--- a session tells whether its task is a backup that has not been sealed
-pub open_same : {v : TaskView} (session : Session) → Stands v session → is_unsealed v ≡ (is_backup session.kind && not session.sealed)
-open_same session stands = rw (stands.terms, stands.sealed) refl
+  sealed_content session now content stands is_open complete drops ends gives =
+      let backup : is_backup session.kind ≡ true = ap (λ t. is_backup t.kind) (sym stands.terms) ∙ (and_parts (is_backup (view past task).terms.kind) (not (view past task).sealed) is_open).0 in
+      let within = all_weaker (IsBlockOf disk (length (tasks past))) (λ (block : Block). block.lbn + block.count ≤ 10 ^ 12) (λ block on_disk. on_disk.within) (view past task).blocks
+      (rw (blocks_in past task) (all_filter (IsBlockOf disk (length (tasks past))) (λ (b : Block). b.task == task) (registered past) h.on_disk)) in
+      gives (10 ^ 12) ends ∙ ap runs_of (sealed_held (view past task) (stands.ascend backup) (backup_over (view past task).work (ap (λ t. is_backup t.kind) stands.terms ∙ backup) complete)
+      (held_at session.image) now (stands.image is_open) drops (10 ^ 12) within)
 
 pub open_is : (past : Past) (task : ℕ) → is_unsealed (view past task) ≡ is_open_backup past task
 unfolding view
@@ -246,7 +209,7 @@ seal_row past now task content is_open complete is = rw is (sym (seal_rows_is pa
 
 -- the seal of a session is that of its task
 pub seals_same : {v : TaskView} (session : Session) (complete : Bool) → Stands v session → complete ≡ is_done v.work → (complete && (is_backup session.kind && not session.sealed)) ≡ (is_unsealed v && is_done v.work)
-seals_same {v} session complete stands says = ap₂ (λ a b. a && b) says (sym (open_same session stands)) ∙ and_comm (is_done v.work) (is_unsealed v)
+seals_same {v} session complete stands says = ap₂ (λ a b. a && b) says (sym (open_by v session stands)) ∙ and_comm (is_done v.work) (is_unsealed v)
 
 pub no-seal : (past : Past) (now task : ℕ) (rows : List BackRow) → (is_unsealed (view past task) && is_done (view past task).work) ≡ false → rows ≡ rows ++ seal_rows by_deliveries past now task
-no-seal past now task rows none = sym (append-nil rows) ∙ ap (λ xs. rows ++ xs) (sym (seal_rows_is past now task ∙ rw none refl))
+no-seal past now task rows none = rw (seal_rows_is past now task, none) (sym (append-nil rows))

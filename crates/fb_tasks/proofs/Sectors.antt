@@ -1,9 +1,9 @@
 -- What is held of sectors, and blocks that ascend.
-use Rattle.std.proofs.Common.{◌≡◌, ℕ, zero, suc, ◌+◌, ◌<◌, ◌≤◌, ◌++◌, List, [], ◌∷◌, true, false, Some, Option, map, refl, ap, ◌∙◌, arith}
+use Rattle.std.proofs.Common.{◌≡◌, ℕ, zero, suc, ◌+◌, ◌<◌, ◌≤◌, List, [], ◌∷◌, true, false, Some, Option, map, refl, arith}
 use Rattle.std.specs.List.{AllByRecursion, range_with_len}
 use Rattle.std.proofs.lemmas.Bool.Decides.{nat_tests}
 use Rattle.fb_store.specs.declared.content.Content.{Content}
-use Rattle.fb_store.specs.Sparse.{held_in, held_sector}
+use Rattle.fb_store.specs.Sparse.{held_in}
 use Rattle.fb_store.specs.Writes.{is_within}
 use Rattle.fb_wanted.specs.declared.block.Block.{Block}
 use Rattle.fb_tasks.specs.Standing.{Ascend}
@@ -17,11 +17,11 @@ ascend_from low (b ∷ bs) h = (h.0, all_weaker (λ c. b.lbn + b.count ≤ c.lbn
 -- what is held of some sectors
 pub held_same : (f g : ℕ → Option Content) (a n : ℕ) → ((lbn : ℕ) → a ≤ lbn → lbn < a + n → f lbn ≡ g lbn) → held_in f (range_with_len a n) ≡ held_in g (range_with_len a n)
 held_same f g a zero same = refl
-held_same f g a (suc n) same = ap (λ c. held_sector a c ++ held_in f (range_with_len (a + 1) n)) (same a (omega arith) (omega arith)) ∙ ap (λ xs. held_sector a (g a) ++ xs) (held_same f g (a + 1) n (λ lbn le lt. same lbn (omega arith) (omega arith)))
+held_same f g a (suc n) same = rw (same a (omega arith) (omega arith), held_same f g (a + 1) n (λ lbn le lt. same lbn (omega arith) (omega arith))) refl
 
 pub held_all : (f : ℕ → Option Content) (content_at : ℕ → Content) (a n : ℕ) → ((lbn : ℕ) → a ≤ lbn → lbn < a + n → f lbn ≡ Some (content_at lbn)) → held_in f (range_with_len a n) ≡ map (λ lbn. (lbn, content_at lbn)) (range_with_len a n)
 held_all f content_at a zero same = refl
-held_all f content_at a (suc n) same = ap (λ c. held_sector a c ++ held_in f (range_with_len (a + 1) n)) (same a (omega arith) (omega arith)) ∙ ap (λ xs. (a, content_at a) ∷ xs) (held_all f content_at (a + 1) n (λ lbn le lt. same lbn (omega arith) (omega arith)))
+held_all f content_at a (suc n) same = rw (same a (omega arith) (omega arith), held_all f content_at (a + 1) n (λ lbn le lt. same lbn (omega arith) (omega arith))) refl
 
 pub within : (a n lbn : ℕ) → a ≤ lbn → lbn < a + n → is_within a n lbn ≡ true
 within a n lbn le lt = grind (arith, nat_tests)

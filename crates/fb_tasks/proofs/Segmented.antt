@@ -1,26 +1,25 @@
 -- The segments of a log, as the history and as the session have them.
-use Rattle.std.proofs.Common.{◌≡◌, ℕ, zero, suc, ◌+◌, ◌-◌, ◌*◌, ◌^◌, ◌<◌, ◌≤◌, ◌==◌, ◌&&◌, not, if◌then◌else◌, List, [], ◌∷◌, ◌++◌, Bool, true, false, Some, None, Option, inl, inr, length, filter, map, slice_get, length-append, refl, ap, sym, ◌∙◌, arith, subst}
-use Rattle.std.proofs.Math.Bool.{and-true}
+use Rattle.std.proofs.Common.{◌≡◌, ℕ, zero, suc, ◌+◌, ◌-◌, ◌*◌, ◌^◌, ◌<◌, ◌≤◌, ◌==◌, not, if◌then◌else◌, List, [], ◌∷◌, ◌++◌, Bool, true, false, Some, None, Option, inl, inr, length, filter, map, slice_get, length-append, refl, ap, sym, ◌∙◌, arith, subst}
 use Rattle.std.specs.List.{AllByRecursion, flat_map, range_with_len, slice_index_or, sum_by, best_of}
 use Rattle.std.proofs.lemmas.Bool.{cases_Bool}
-use Rattle.std.proofs.lemmas.List.Sums.{sum_by-append}
+use Rattle.std.proofs.lemmas.List.Sums.{sum_by-cons}
 use Rattle.std.proofs.lemmas.List.Concat.{flat_map-append}
 use Rattle.std.proofs.lemmas.Option.{get_or_from_slice_get}
 use Rattle.fb_geometry.specs.Shape.{Shape}
 use Rattle.fb_geometry.specs.Places.{places}
 use Rattle.fb_sectormap.specs.declared.cut.Cut.{Cut}
-use Rattle.fb_sectormap.specs.Cutting.{cutting, with_sector, is_cut_before}
+use Rattle.fb_sectormap.specs.Cutting.{cutting, with_sector}
 use Rattle.fb_calls.specs.declared.call.Action.{Action}
 use Rattle.fb_calls.specs.declared.call.Action.TheVariants.{Segment}
 use Rattle.fb_calls.specs.Blocks.{live_cuts}
 use Rattle.fb_wanted.specs.declared.block.Block.{Block}
 use Rattle.fb_clean.specs.Segments as clean
-use Rattle.fb_model.specs.History.{Past, LogSegment, called, chose, tested, delivered, finished}
+use Rattle.fb_model.specs.History.{Past, LogSegment, called}
 use Rattle.fb_model.specs.Completion.{Work, segments, segment_by}
 use Rattle.fb_model.specs.Segments.{numbered, live_count, is_better, is_chosen, unchosen}
 use Rattle.fb_tasks.specs.Keeping.{cuts_of}
 use Rattle.fb_tasks.specs.Standing.{kept_segment, Ascend, IsBlockOf}
-use Rattle.fb_tasks.proofs.Lists.{some_same, all_append, all_weaker}
+use Rattle.fb_tasks.proofs.Lists.{some_same, all_append, all_weaker, map_at}
 use Rattle.fb_model.proofs.Cuts.{cuts_are}
 use Rattle.fb_tasks.proofs.Cuts.{cuts_placed, cuts_ascend, cuts_end, cuts_cover}
 use Rattle.fb_tasks.proofs.LiveBlocks.{numbered_append}
@@ -43,10 +42,7 @@ numbered_given (called call blocks ∷ past) task = elim (cases_Bool (call.task 
   by_action : (a : Action) → NumberedFrom 1 (segments past task) → NumberedFrom 1 (segment_by a (segments past task))
   by_action (Segment first blocks age live) before = numbered_push 1 (segments past task) (record { number = length (segments past task) + 1; first = first; blocks = blocks; age = age; live = live }) before (omega arith)
   by_action _ before = before
-numbered_given (chose chooser segment blocks ∷ past) task = numbered_given past task
-numbered_given (tested rows ∷ past) task = numbered_given past task
-numbered_given (delivered got ∷ past) task = numbered_given past task
-numbered_given (finished request ∷ past) task = numbered_given past task
+numbered_given (_ ∷ past) task = numbered_given past task
 
 -- a segment stands at its number
 pub at_number : (n : ℕ) (ss : List LogSegment) → NumberedFrom n ss → AllByRecursion (λ s. (n ≤ s.number) × (slice_get ss (s.number - n) ≡ Some s)) ss
@@ -60,11 +56,8 @@ at_number n (x ∷ ss) h = (
 -- where a session finds the live blocks of a segment
 pub live_there : (w : Work) (ss : List LogSegment) (s : LogSegment) → slice_get ss (s.number - 1) ≡ Some s
     → slice_index_or (map (λ (x : clean.LogSegment). x.live) (map (kept_segment w) ss)) (s.number - 1) [] ≡ clean.live_blocks w.terms.block s.first s.live
-live_there w ss s at = get_or_from_slice_get (map (λ (x : clean.LogSegment). x.live) (map (kept_segment w) ss)) (s.number - 1) (clean.live_blocks w.terms.block s.first s.live) [] (through ss (s.number - 1) at) where
-  through : (xs : List LogSegment) (i : ℕ) → slice_get xs i ≡ Some s → slice_get (map (λ (x : clean.LogSegment). x.live) (map (kept_segment w) xs)) i ≡ Some (clean.live_blocks w.terms.block s.first s.live)
-  through [] i h = absurd (grind arith)
-  through (x ∷ xs) zero h = ap (λ (y : LogSegment). Some (clean.live_blocks w.terms.block y.first y.live)) (some_same x s h)
-  through (x ∷ xs) (suc i) h = through xs i h
+live_there w ss s at = get_or_from_slice_get (map (λ (x : clean.LogSegment). x.live) (map (kept_segment w) ss)) (s.number - 1) (clean.live_blocks w.terms.block s.first s.live) []
+    (map_at (λ (x : clean.LogSegment). x.live) (map (kept_segment w) ss) (s.number - 1) (kept_segment w s) (map_at (kept_segment w) ss (s.number - 1) s at))
 
 -- a test that is the same gives the same best one
 pub best_map : {X Y : Type 0} (f : X → Y) (p : X → X → Bool) (q : Y → Y → Bool) → ((a b : X) → q (f a) (f b) ≡ p a b) → (x : X) (xs : List X) → best_of q (f x) (map f xs) ≡ f (best_of p x xs)
@@ -89,19 +82,12 @@ number_of_best [] = None
 number_of_best (s ∷ ss) = Some (best_of is_better s ss).number
 
 module _ (w : Work) (going : w.closed ≡ false) (lives : (block first : ℕ) (live : List Bool) → length (clean.live_blocks block first live) ≡ length (filter (λ is_live. is_live) live)) where
-  waits_same : (s : LogSegment) → (kept_segment w s).waits ≡ not (is_chosen w.choices s)
-  waits_same s = ap (λ b. not (is_chosen w.choices s) && not b) going ∙ and-true (not (is_chosen w.choices s))
-
   pub waiting_kept : (ss : List LogSegment) → clean.waiting (map (kept_segment w) ss) ≡ map (kept_segment w) (filter (λ s. not (is_chosen w.choices s)) ss)
   waiting_kept [] = refl
-  waiting_kept (s ∷ ss) =
-      let rest = waiting_kept ss in
-      elim (cases_Bool (is_chosen w.choices s)) [
-        | inl chosen ↦ ap (λ b. if b then kept_segment w s ∷ clean.waiting (map (kept_segment w) ss) else clean.waiting (map (kept_segment w) ss)) (waits_same s ∙ ap not chosen)
-            ∙ (rest ∙ ap (λ b. map (kept_segment w) (if not b then s ∷ filter (λ x. not (is_chosen w.choices x)) ss else filter (λ x. not (is_chosen w.choices x)) ss)) (sym chosen))
-        | inr left ↦ ap (λ b. if b then kept_segment w s ∷ clean.waiting (map (kept_segment w) ss) else clean.waiting (map (kept_segment w) ss)) (waits_same s ∙ ap not left)
-            ∙ (ap (λ xs. kept_segment w s ∷ xs) rest ∙ ap (λ b. map (kept_segment w) (if not b then s ∷ filter (λ x. not (is_chosen w.choices x)) ss else filter (λ x. not (is_chosen w.choices x)) ss)) (sym left))
-      ]
+  waiting_kept (s ∷ ss) = elim (cases_Bool (is_chosen w.choices s)) [
+    | inl chosen ↦ rw chosen (waiting_kept ss)
+    | inr left ↦ rw (left, going, waiting_kept ss, left) refl
+  ]
 
   better_same : (a b : LogSegment) → clean.is_better (kept_segment w a) (kept_segment w b) ≡ is_better a b
   better_same a b =
@@ -114,13 +100,10 @@ module _ (w : Work) (going : w.closed ≡ false) (lives : (block first : ℕ) (l
 
   -- the session's choice is the history's
   pub choice_kept : (log : clean.Cleaning) → log.segments ≡ map (kept_segment w) w.segments → log.unfinished ≡ None → (left : List LogSegment) → unchosen w ≡ left → clean.choice_of log ≡ number_of_best left
-  choice_kept log all idle left is_left =
-      ap (λ u. clean.choice_while u log.segments) idle
-      ∙ (ap (λ ss. clean.number_of (clean.first_best (clean.waiting ss))) all
-      ∙ (ap (λ ss. clean.number_of (clean.first_best ss)) (waiting_kept w.segments ∙ ap (map (kept_segment w)) is_left) ∙ of_left left)) where
-        of_left : (xs : List LogSegment) → clean.number_of (clean.first_best (map (kept_segment w) xs)) ≡ number_of_best xs
-        of_left [] = refl
-        of_left (s ∷ ss) = ap (λ (x : clean.LogSegment). Some x.number) (best_kept s ss)
+  choice_kept log all idle left is_left = rw (idle, all, waiting_kept w.segments, is_left) (of_left left) where
+    of_left : (xs : List LogSegment) → clean.number_of (clean.first_best (map (kept_segment w) xs)) ≡ number_of_best xs
+    of_left [] = refl
+    of_left (s ∷ ss) = ap (λ (x : clean.LogSegment). Some x.number) (best_kept s ss)
 
 -- the cuttings of live blocks, by either list of them
 pub cuts_of_live : (disk : Shape) (block first : ℕ) (live : List Bool) → cuts_of disk block (clean.live_blocks block first live) ≡ live_cuts disk block first live
@@ -148,11 +131,10 @@ pub live_cover : (disk : Shape) (task weight block n first : ℕ) (live : List B
     → flat_map (λ part. range_with_len part.lbn part.count) (numbered task weight n (live_cuts disk block first live)) ≡ flat_map (λ lbn. range_with_len lbn block) (clean.live_blocks block first live)
 live_cover disk task weight block n first [] some = refl
 live_cover disk task weight block n first (true ∷ live) some =
-    ap (flat_map (λ (part : Block). range_with_len part.lbn part.count)) (numbered_append task weight n (cutting disk block first block) (live_cuts disk block (first + block) live))
-    ∙ (flat_map-append (λ (part : Block). range_with_len part.lbn part.count) (numbered task weight n (cutting disk block first block)) (numbered task weight (n + length (cutting disk block first block)) (live_cuts disk block (first + block) live))
-    ∙ (ap (λ xs. xs ++ flat_map (λ (part : Block). range_with_len part.lbn part.count) (numbered task weight (n + length (cutting disk block first block)) (live_cuts disk block (first + block) live)))
-    (cuts_cover disk task weight block n first (first + block) (cutting disk block first block) (cuts_are disk block first block some) ∙ ap (range_with_len first) (let e : first + block - first ≡ block = omega arith in e))
-    ∙ ap (λ xs. range_with_len first block ++ xs) (live_cover disk task weight block (n + length (cutting disk block first block)) (first + block) live some)))
+    let size : first + block - first ≡ block = omega arith in
+    let cuts = cutting disk block first block in
+    let cover = cuts_cover disk task weight block n first (first + block) cuts (cuts_are disk block first block some) in
+    rw (numbered_append, flat_map-append, cover, size, live_cover disk task weight block (n + length cuts) (first + block) live some) refl
 live_cover disk task weight block n first (false ∷ live) some = live_cover disk task weight block n (first + block) live some
 
 ascend_append : (low next : ℕ) (xs ys : List Block) → Ascend low xs → low ≤ next → AllByRecursion (λ b. b.lbn + b.count ≤ next) xs → Ascend next ys → Ascend low (xs ++ ys)
@@ -179,47 +161,20 @@ cutting_some disk block lbn zero some = absurd (omega arith)
 cutting_some disk block lbn (suc n) some = with_some (cutting disk block (lbn + 1) n) where
   with_some : (cs : List Cut) → 0 < length (with_sector disk block lbn cs)
   with_some [] = omega arith
-  with_some (c ∷ cs) = elim (cases_Bool (is_cut_before disk block (lbn + 1))) [ inl here ↦ rw here (omega arith) | inr on ↦ rw on (omega arith) ]
+  with_some (c ∷ cs) = grind arith
 
 pub live_some : (disk : Shape) (block first : ℕ) (live : List Bool) → 0 < block → 0 < length (clean.live_blocks block first live) → 0 < length (live_cuts disk block first live)
 live_some disk block first [] some h = absurd (omega arith)
 live_some disk block first (true ∷ live) some h = omega (arith, length-append (cutting disk block first block) (live_cuts disk block (first + block) live), cutting_some disk block first block some)
 live_some disk block first (false ∷ live) some h = live_some disk block (first + block) live some h
 
-sum_cons : {X : Type 0} (f : X → ℕ) (x : X) (xs : List X) → sum_by f (x ∷ xs) ≡ f x + sum_by f xs
-sum_cons f x xs = sum_by-append f (x ∷ []) xs ∙ ap (λ n. n + sum_by f xs) (let e : 0 + f x ≡ f x = omega arith in e)
-
--- the sum over those that pass, with one element more
-sum_pass : {X : Type 0} (f : X → ℕ) (p : X → Bool) (x : X) (xs : List X) → p x ≡ true → sum_by f (filter p (x ∷ xs)) ≡ f x + sum_by f (filter p xs)
-sum_pass f p x xs h = ap (λ b. sum_by f (if b then x ∷ filter p xs else filter p xs)) h ∙ sum_cons f x (filter p xs)
-
-sum_fail : {X : Type 0} (f : X → ℕ) (p : X → Bool) (x : X) (xs : List X) → p x ≡ false → sum_by f (filter p (x ∷ xs)) ≡ sum_by f (filter p xs)
-sum_fail f p x xs h = ap (λ b. sum_by f (if b then x ∷ filter p xs else filter p xs)) h
-
 -- without one element a sum is less by what it gave
 sum_less : {X : Type 0} (f : X → ℕ) (p q : X → Bool) → ((x : X) → q x ≡ true → p x ≡ true) → (xs : List X) → sum_by f (filter q xs) ≤ sum_by f (filter p xs)
 sum_less f p q weaker [] = omega arith
-sum_less f p q weaker (x ∷ xs) =
-    let rest = sum_less f p q weaker xs in
-    elim (cases_Bool (q x)) [
-      | inl in_q ↦ omega (arith, rest, sum_pass f q x xs in_q, sum_pass f p x xs (weaker x in_q))
-      | inr out_q ↦ elim (cases_Bool (p x)) [
-        | inl in_p ↦ omega (arith, rest, sum_fail f q x xs out_q, sum_pass f p x xs in_p)
-        | inr out_p ↦ omega (arith, rest, sum_fail f q x xs out_q, sum_fail f p x xs out_p)
-      ]
-    ]
+sum_less f p q weaker (x ∷ xs) = grind (arith, sum_less f p q weaker xs, weaker x, sum_by-cons f x (filter p xs), sum_by-cons f x (filter q xs))
 
 pub sum_without : {X : Type 0} (f : X → ℕ) (p q : X → Bool) → ((x : X) → q x ≡ true → p x ≡ true) → (xs : List X) (i : ℕ) (x : X) → slice_get xs i ≡ Some x → p x ≡ true → q x ≡ false → sum_by f (filter q xs) + f x ≤ sum_by f (filter p xs)
-sum_without f p q weaker [] i x at in_p out_q = absurd (grind arith)
-sum_without f p q weaker (y ∷ ys) zero x at in_p out_q =
-    let e = some_same y x at in
-    omega (arith, sum_less f p q weaker ys, ap f e, sum_pass f p y ys (ap p e ∙ in_p), sum_fail f q y ys (ap q e ∙ out_q))
+sum_without f p q weaker [] i x at in_p out_q = absurd (cc)
+sum_without f p q weaker (y ∷ ys) zero x at in_p out_q = grind (arith, sum_less f p q weaker ys, some_same y x at, sum_by-cons f y (filter p ys))
 sum_without f p q weaker (y ∷ ys) (suc i) x at in_p out_q =
-    let rest = sum_without f p q weaker ys i x at in_p out_q in
-    elim (cases_Bool (q y)) [
-      | inl in_q ↦ omega (arith, rest, sum_pass f q y ys in_q, sum_pass f p y ys (weaker y in_q))
-      | inr no_q ↦ elim (cases_Bool (p y)) [
-        | inl yes_p ↦ omega (arith, rest, sum_fail f q y ys no_q, sum_pass f p y ys yes_p)
-        | inr no_p ↦ omega (arith, rest, sum_fail f q y ys no_q, sum_fail f p y ys no_p)
-      ]
-    ]
+    grind (arith, sum_without f p q weaker ys i x at in_p out_q, weaker y, sum_by-cons f y (filter p ys), sum_by-cons f y (filter q ys))

@@ -1,15 +1,15 @@
 -- The states of registered blocks, suspended or not.
-use Rattle.std.proofs.Common.{◌≡◌, ℕ, ◌&&◌, not, if◌then◌else◌, List, [], ◌∷◌, Bool, true, false, Option, inl, inr, refl, sym, ◌∙◌}
+use Rattle.std.proofs.Common.{◌≡◌, ℕ, ◌&&◌, not, if◌then◌else◌, List, [], ◌∷◌, Bool, true, false, Option, refl, sym, ◌∙◌, arith}
 use Rattle.std.specs.List.{AllByRecursion}
-use Rattle.std.proofs.lemmas.Bool.{cases_Bool, true≢false}
+use Rattle.std.proofs.lemmas.Bool.{true≢false}
 use Rattle.fb_wanted.specs.declared.block.Block.{Block}
 use Rattle.fb_wanted.specs.declared.block.State.{State}
-use Rattle.fb_wanted.specs.declared.block.State.TheVariants.{Wanted, Suspended, Delivered, Aborted}
+use Rattle.fb_wanted.specs.declared.block.State.TheVariants.{Wanted, Suspended, Aborted}
 use Rattle.fb_wanted.specs.States.{is_wanted, is_delivered, is_suspended, is_open, is_aborted, wanted_unless}
-use Rattle.fb_model.specs.History.{Past, bare_state, registers, delivers, aborts, overwrites, is_open_backup}
-use Rattle.fb_model.specs.Completion.{Work, TaskView, view, own_of, ended, with_states}
+use Rattle.fb_model.specs.History.{Past, bare_state}
+use Rattle.fb_model.specs.Completion.{Work, TaskView, view, own_of, ended, with_states, is_unsealed}
 use Rattle.fb_store.specs.declared.content.Content.{Content}
-use Rattle.fb_tasks.specs.Standing.{HoldsBlock, Stands, Told, IsQuiet}
+use Rattle.fb_tasks.specs.Standing.{HoldsBlock, Stands, Told, IsQuiet, HoldsImage, AreReported, Cleans, IsAtWork}
 use Rattle.fb_tasks.specs.declared.session.Session.{Session}
 use Rattle.fb_calls.specs.Sessions.{is_clean}
 use Rattle.fb_store.specs.Index.{held_at}
@@ -20,76 +20,29 @@ abbrev pub shown : State → Bool → State
 shown bare held_back = if is_wanted bare && held_back then Suspended else bare
 
 pub show_suspended : (bare : State) (held_back : Bool) → (if is_wanted (shown bare held_back) then Suspended else shown bare held_back) ≡ shown bare true
-show_suspended Wanted true = refl
-show_suspended Wanted false = refl
-show_suspended Suspended held_back = refl
-show_suspended Delivered held_back = refl
-show_suspended Aborted held_back = refl
+show_suspended bare held_back = grind arith
 
 pub show_resumed : (bare : State) (held_back : Bool) → is_suspended bare ≡ false → (if is_suspended (shown bare held_back) then Wanted else shown bare held_back) ≡ shown bare false
-show_resumed Wanted true h = refl
-show_resumed Wanted false h = refl
-show_resumed Suspended held_back h = absurd (true≢false h)
-show_resumed Delivered held_back h = refl
-show_resumed Aborted held_back h = refl
+show_resumed bare held_back h = grind arith
 
 pub show_aborted : (bare : State) (held_back hit : Bool) → (if hit && is_open (shown bare held_back) then Aborted else shown bare held_back) ≡ shown (if hit && not (is_delivered bare) then Aborted else bare) held_back
-show_aborted Wanted true true = refl
-show_aborted Wanted false true = refl
-show_aborted Wanted true false = refl
-show_aborted Wanted false false = refl
-show_aborted Suspended held_back true = refl
-show_aborted Suspended held_back false = refl
-show_aborted Delivered held_back true = refl
-show_aborted Delivered held_back false = refl
-show_aborted Aborted held_back true = refl
-show_aborted Aborted held_back false = refl
+show_aborted bare held_back hit = grind arith
 
 pub show_rewanted : (bare : State) (held_back hit : Bool) → (if hit && is_delivered (shown bare held_back) then wanted_unless held_back else shown bare held_back) ≡ shown (if hit && is_delivered bare then Wanted else bare) held_back
-show_rewanted Wanted true true = refl
-show_rewanted Wanted false true = refl
-show_rewanted Wanted true false = refl
-show_rewanted Wanted false false = refl
-show_rewanted Suspended held_back true = refl
-show_rewanted Suspended held_back false = refl
-show_rewanted Delivered true true = refl
-show_rewanted Delivered false true = refl
-show_rewanted Delivered held_back false = refl
-show_rewanted Aborted held_back true = refl
-show_rewanted Aborted held_back false = refl
+show_rewanted bare held_back hit = grind arith
 
 -- a block is delivered or aborted, whether its task is held back or not
 pub shown_delivered : (bare : State) (held_back : Bool) → is_delivered (shown bare held_back) ≡ is_delivered bare
-shown_delivered Wanted true = refl
-shown_delivered Wanted false = refl
-shown_delivered Suspended held_back = refl
-shown_delivered Delivered held_back = refl
-shown_delivered Aborted held_back = refl
+shown_delivered bare held_back = grind arith
 
 pub shown_aborted : (bare : State) (held_back : Bool) → is_aborted (shown bare held_back) ≡ is_aborted bare
-shown_aborted Wanted true = refl
-shown_aborted Wanted false = refl
-shown_aborted Suspended held_back = refl
-shown_aborted Delivered held_back = refl
-shown_aborted Aborted held_back = refl
+shown_aborted bare held_back = grind arith
 
 -- no event suspends a block by itself
 pub never_suspended : (past : Past) (block : Block) → is_suspended (bare_state past block) ≡ false
 unfolding bare_state
 never_suspended [] block = refl
-never_suspended (event ∷ past) block = elim (cases_Bool (registers event block)) [
-  | inl new ↦ rw new refl
-  | inr old ↦ rw old (elim (cases_Bool (delivers event block)) [
-    | inl got ↦ rw got refl
-    | inr none ↦ rw none (elim (cases_Bool (aborts event block && not (is_delivered (bare_state past block)))) [
-      | inl ended ↦ rw ended refl
-      | inr going ↦ rw going (elim (cases_Bool (overwrites event block && is_delivered (bare_state past block) && is_open_backup past block.task)) [
-        | inl again ↦ rw again refl
-        | inr same ↦ rw same (never_suspended past block)
-      ])
-    ])
-  ])
-]
+never_suspended (event ∷ past) block = grind (arith, never_suspended past block)
 
 pub never_held_back : (past : Past) (task : ℕ) (block : Block) → is_suspended ((view past task).bare block) ≡ false
 unfolding view
@@ -97,53 +50,26 @@ never_held_back past task block = never_suspended past (own_of task block)
 
 -- what is aborted was not delivered
 pub ended-done : (hit : Bool) (before : State) → is_delivered (ended hit before) ≡ is_delivered before
-ended-done true Wanted = refl
-ended-done true Suspended = refl
-ended-done true Delivered = refl
-ended-done true Aborted = refl
-ended-done false before = refl
+ended-done hit before = grind arith
 
 -- where no more is delivered than before, what is held is as it was
 pub holds-fewer : (work : Work) (change : Block → State → State) → ((block : Block) (before : State) → is_delivered (change block before) ≡ true → is_delivered before ≡ true) → (held : ℕ → Option Content) (blocks : List Block)
     → AllByRecursion (HoldsBlock work held) blocks → AllByRecursion (HoldsBlock (record work { bare = λ block. change block (work.bare block) }) held) blocks
-holds-fewer work change fewer held blocks = all_weaker (HoldsBlock work held) (HoldsBlock (record work { bare = λ block. change block (work.bare block) }) held) (λ block holds done. holds (fewer block (work.bare block) done)) blocks
+holds-fewer work change fewer held blocks =
+    all_weaker (HoldsBlock work held) (HoldsBlock (record work { bare = λ block. change block (work.bare block) }) held)
+    (λ block holds done. holds (fewer block (work.bare block) done)) blocks
 
 -- a session stands as it does whether it is touched or not
 pub flagged-stands : (flag : Bool) (v : TaskView) (session : Session) → Stands v session → Stands v (record session { touched = flag })
-flagged-stands flag v session h = record {
-  terms = h.terms;
-  weight = h.weight;
-  block = h.block;
-  suspended = h.suspended;
-  closed = h.closed;
-  complete = h.complete;
-  sealed = h.sealed;
-  ascend = h.ascend;
-  unwanted = h.unwanted;
-  image = h.image;
-  log = h.log;
-  unchosen = h.unchosen;
-}
+flagged-stands flag v session h = assumption h
 
 -- the states of a session change that cleans no log, and no more is delivered than before
 pub states-told : (change : Block → State → State) → ((block : Block) (before : State) → is_delivered (change block before) ≡ true → is_delivered before ≡ true) → (v : TaskView) (session : Session) (flag : Bool) → (flag ≡ false → IsQuiet (with_states change v)) → is_clean session.kind ≡ false
     → Told v session → Told (with_states change v) (record session { touched = flag })
-states-told change fewer v session flag quiet other h = record {
-  stands = record {
-    terms = h.terms;
-    weight = h.weight;
-    block = h.block;
-    suspended = h.suspended;
-    closed = h.closed;
-    complete = h.complete;
-    sealed = h.sealed;
-    ascend = h.ascend;
-    unwanted = h.unwanted;
-    unchosen = h.unchosen;
-    image = λ is_open. let image = h.image is_open in record { each = holds-fewer v.work change fewer (held_at session.image) v.blocks image.each; only = image.only };
-    log = λ cleans. absurd (true≢false (sym cleans ∙ other));
-  };
-  at_work = λ cleans. absurd (true≢false (sym cleans ∙ other));
-  reported = rw (h.unchosen other) tt;
-  quiet = quiet;
-}
+states-told change fewer v session flag quiet other h =
+    let image : is_unsealed v ≡ true → HoldsImage (with_states change v).work (held_at session.image) = λ is_open.
+    let image = h.image is_open in record { each = holds-fewer v.work change fewer (held_at session.image) v.blocks image.each; only = image.only } in
+    let log : is_clean session.kind ≡ true → Cleans (with_states change v).work session.log = λ cleans. absurd (true≢false (sym cleans ∙ other)) in
+    let at_work : IsAtWork (with_states change v).work session = λ cleans. absurd (true≢false (sym cleans ∙ other)) in
+    let reported : AreReported (with_states change v).work = rw (h.unchosen other) tt in
+    assumption (image, log, at_work, reported, quiet)

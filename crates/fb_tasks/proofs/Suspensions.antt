@@ -1,5 +1,5 @@
 -- A session is suspended or resumed.
-use Rattle.std.proofs.Common.{◌≡◌, ℕ, ◌<◌, List, [], ◌∷◌, Bool, true, false, length, set, get_or, refl, ap}
+use Rattle.std.proofs.Common.{◌≡◌, ℕ, ◌<◌, List, [], ◌∷◌, Bool, true, false, length, set, get_or, ap}
 use Rattle.fb_geometry.specs.Shape.{Shape}
 use Rattle.fb_calls.specs.declared.call.Action.TheVariants.{Suspend, Resume}
 use Rattle.fb_calls.specs.declared.call.Call.{Call}
@@ -10,31 +10,15 @@ use Rattle.fb_model.specs.History.{Past, called, tasks, opened_by}
 use Rattle.fb_model.specs.Completion.{TaskView, view}
 use Rattle.fb_model.proofs.Views.{suspended-view, resumed-view}
 use Rattle.fb_tasks.specs.declared.session.Session.{Session}
-use Rattle.fb_tasks.specs.Standing.{Told}
+use Rattle.fb_tasks.specs.Standing.{Told, IsQuiet}
 use Rattle.fb_tasks.specs.Telling.{Tells, IsCall}
 use Rattle.fb_tasks.proofs.Frames.{call-tells}
 use Rattle.fb_tasks.proofs.States.{show_suspended, show_resumed, never_held_back}
 
 suspension-told : (held_back : Bool) (v : TaskView) (session : Session) → Told v session → Told (record v { suspended = held_back }) (record session { suspended = held_back })
-suspension-told held_back v session h = record {
-  stands = record {
-    terms = h.terms;
-    weight = h.weight;
-    block = h.block;
-    suspended = refl;
-    closed = h.closed;
-    complete = h.complete;
-    sealed = h.sealed;
-    ascend = h.ascend;
-    unwanted = h.unwanted;
-    image = h.image;
-    log = h.log;
-    unchosen = h.unchosen;
-  };
-  at_work = h.at_work;
-  reported = h.reported;
-  quiet = λ untouched. let quiet = h.quiet untouched in record { tested = quiet.tested; sealed = quiet.sealed; chosen = quiet.chosen };
-}
+suspension-told held_back v session h =
+    let quiet : session.touched ≡ false → IsQuiet (record v { suspended = held_back }) = λ untouched. assumption (h.quiet untouched) in
+    assumption (h, quiet)
 
 module _ (disk : Shape) (past : Past) (call : Call) (items seen : List Session) (task : ℕ) (session : Session) (held now : List Entry) where
   pub suspended-tells : IsCall task Suspend call → items ≡ seen → task < length seen → session ≡ get_or items task session

@@ -1,16 +1,14 @@
 -- A test has given its rows.
-use Rattle.std.proofs.Common.{◌≡◌, ℕ, zero, suc, ◌+◌, ◌<◌, ◌==◌, ◌&&◌, ◌||◌, not, if◌then◌else◌, List, [], ◌∷◌, ◌++◌, Bool, true, false, Some, None, Option, inl, inr, length, refl, ap, ap₂, sym, ◌∙◌, arith, subst}
-use Rattle.std.proofs.Math.Bool.{and-false, or-false, or-true}
-use Rattle.std.specs.List.{AllByRecursion, list_any, range_with_len}
-use Rattle.std.proofs.lemmas.Bool.{cases_Bool, true≢false, not-false}
-use Rattle.std.specs.Option.{option_map}
+use Rattle.std.proofs.Common.{◌≡◌, ℕ, ◌<◌, ◌==◌, ◌&&◌, ◌||◌, not, if◌then◌else◌, List, [], ◌∷◌, ◌++◌, Bool, true, false, Some, None, Option, inl, inr, length, refl, ap, ap₂, sym, ◌∙◌, arith}
+use Rattle.std.proofs.Math.Bool.{and-false, or-true}
+use Rattle.std.specs.List.{AllByRecursion, list_any}
+use Rattle.std.proofs.lemmas.Bool.{cases_Bool}
 use Rattle.std.proofs.lemmas.List.Folds.{list_any-append}
-use Rattle.fb_calls.specs.Sessions.{is_backup, is_clean}
+use Rattle.fb_calls.specs.Sessions.{is_backup}
 use Rattle.fb_rows.specs.declared.back.BackRow.{BackRow}
 use Rattle.fb_rows.specs.declared.back.BackRow.TheVariants.{Seal as SealLine, Complete as CompleteLine}
 use Rattle.fb_store.specs.declared.content.Content.{Content}
 use Rattle.fb_store.specs.Index.{held_at}
-use Rattle.fb_store.specs.Sparse.{held_sector}
 use Rattle.fb_clean.specs.Segments as clean
 use Rattle.fb_model.specs.History.{Past, tested, tasks, task_numbers, bare_state, content_of, is_open_backup}
 use Rattle.fb_model.specs.Completion.{Choice, TaskView, view, tested_view, is_unsealed, is_cleaned, is_done, is_complete, is_segment_of}
@@ -19,110 +17,72 @@ use Rattle.fb_model.specs.Images.{Sources, test_rows, segment_rows, seal_rows, c
 use Rattle.fb_model.proofs.Views.{number_same}
 use Rattle.fb_tasks.specs.declared.session.Session.{Session}
 use Rattle.fb_tasks.specs.Keeping.{is_none, IsSealed}
-use Rattle.fb_tasks.specs.Standing.{AreRowsOf, AreReported, IsAtWork, Stands, Cleans, HoldsBlock, HoldsImage, choice_in}
+use Rattle.fb_tasks.specs.Standing.{AreRowsOf, AreReported, IsAtWork, Stands, Cleans, HoldsBlock, HoldsImage, choice_in, CleansBy}
 use Rattle.fb_tasks.specs.Telling.{IsSettled}
-use Rattle.fb_tasks.proofs.Lists.{all_any, all_weaker, flat_same, filter_none, flat_none}
-
-pub range_below : (P : ℕ → Type 0) (a n : ℕ) → ((k : ℕ) → k < a + n → P k) → AllByRecursion P (range_with_len a n)
-range_below P a zero h = tt
-range_below P a (suc n) h = (h a (omega arith), range_below P (a + 1) n (λ k less. h k (omega arith)))
+use Rattle.fb_tasks.proofs.Lists.{all_weaker, filter_none, flat_none, all_range}
+use Rattle.fb_tasks.proofs.Sectors.{held_same}
+use Rattle.fb_tasks.proofs.Complete.{busy_by}
 
 pub once : (b : Bool) → (b && not b) ≡ false
-once true = refl
-once false = refl
+once b = grind arith
 
 -- a choice that passes is found by its number
 found_by_number : (f : Choice → Bool) (cs : List Choice) → AllByRecursion (λ choice. f choice ≡ true → list_any (λ other. (other.segment.number == choice.segment.number) && f other) cs ≡ true) cs
 found_by_number f [] = tt
 found_by_number f (c ∷ cs) = (
   (λ h. rw (number_same c.segment.number c.segment.number refl, h) refl),
-  all_weaker (λ (choice : Choice). f choice ≡ true → list_any (λ other. (other.segment.number == choice.segment.number) && f other) cs ≡ true) (λ choice. f choice ≡ true → list_any (λ other. (other.segment.number == choice.segment.number) && f other) (c ∷ cs) ≡ true)
+  all_weaker (λ (choice : Choice). f choice ≡ true → list_any (λ other. (other.segment.number == choice.segment.number) && f other) cs ≡ true)
+      (λ choice. f choice ≡ true → list_any (λ other. (other.segment.number == choice.segment.number) && f other) (c ∷ cs) ≡ true)
       (λ choice i h. rw (i h) (or-true ((c.segment.number == choice.segment.number) && f c))) cs (found_by_number f cs),
 )
 
 -- after the rows that a test has to give no other test of the task gives any
 module _ (task : ℕ) (v : TaskView) (rows : List BackRow) (given : AreRowsOf task v rows) where
   pub reported-tested : AreReported (tested_view task rows v).work
-  reported-tested = all_weaker (λ choice. is_newly_cleaned v.work choice ≡ true → list_any (λ other. (other.segment.number == choice.segment.number) && is_newly_cleaned v.work other) v.choices ≡ true) (λ choice. is_newly_cleaned (tested_view task rows v).work choice ≡ false)
-      (λ choice found. newly_after (is_cleaned v.work choice) (v.reported choice.segment.number) (list_any (is_segment_of task choice.segment.number) rows) (λ newly. given.segments choice.segment.number ∙ found newly)) v.choices (found_by_number (is_newly_cleaned v.work) v.choices) where
+  reported-tested =
+      all_weaker (λ choice. is_newly_cleaned v.work choice ≡ true → list_any (λ other. (other.segment.number == choice.segment.number) && is_newly_cleaned v.work other) v.choices ≡ true)
+      (λ choice. is_newly_cleaned (tested_view task rows v).work choice ≡ false)
+      (λ choice found. newly_after (is_cleaned v.work choice) (v.reported choice.segment.number) (list_any (is_segment_of task choice.segment.number) rows) (λ newly. given.segments choice.segment.number ∙ found newly))
+      v.choices (found_by_number (is_newly_cleaned v.work) v.choices) where
         newly_after : (done before now : Bool) → ((done && not before) ≡ true → now ≡ true) → (done && not (now || before)) ≡ false
-        newly_after false before now h = refl
-        newly_after true true true h = refl
-        newly_after true true false h = refl
-        newly_after true false true h = refl
-        newly_after true false false h = absurd (true≢false (sym (h refl)))
+        newly_after done before now h = grind (arith, h)
 
   pub unsealed-tested : (is_unsealed (tested_view task rows v) && is_done v.work) ≡ false
   unsealed-tested = rw given.seals (open_after (is_backup v.terms.kind) v.sealed (is_done v.work)) where
     open_after : (backup sealed complete : Bool) → ((backup && not (((backup && not sealed) && complete) || sealed)) && complete) ≡ false
-    open_after false sealed complete = refl
-    open_after true true false = refl
-    open_after true true true = refl
-    open_after true false false = refl
-    open_after true false true = refl
+    open_after backup sealed complete = grind arith
 
   -- the segment that is unfinished has no row
   unfinished-unreported : (log : clean.Cleaning) (h : Cleans v.work log) → is_none log.unfinished ≡ not (is_busy v.work)
       → AllByRecursion (λ (now : Choice). (tested_view task rows v).reported now.segment.number ≡ false) (choice_in h.current)
-  unfinished-unreported log h work = one h.current h.chosen h.unfinished h.distinct h.unreported where
-    others_no : (now : Choice) (cs : List Choice) → AllByRecursion (λ choice. (choice.segment.number == now.segment.number) ≡ false) cs → list_any (λ choice. (choice.segment.number == now.segment.number) && is_newly_cleaned v.work choice) cs ≡ false
+  unfinished-unreported log h work = one h.current h.by where
+    others_no : (now : Choice) (cs : List Choice) → AllByRecursion (λ choice. (choice.segment.number == now.segment.number) ≡ false) cs
+        → list_any (λ choice. (choice.segment.number == now.segment.number) && is_newly_cleaned v.work choice) cs ≡ false
     others_no now [] d = refl
     others_no now (c ∷ cs) d = rw d.0 (others_no now cs d.1)
 
-    done_no : (cs : List Choice) → AllByRecursion (λ choice. is_cleaned v.work choice ≡ true) cs → list_any (λ choice. not (is_cleaned v.work choice)) cs ≡ false
-    done_no [] all = refl
-    done_no (c ∷ cs) all = rw all.0 (done_no cs all.1)
-
-    one : (current : Option Choice) → v.choices ≡ h.done ++ choice_in current → log.unfinished ≡ option_map (λ choice. choice.segment.number) current
-        → AllByRecursion (λ now. AllByRecursion (λ choice. (choice.segment.number == now.segment.number) ≡ false) h.done) (choice_in current)
-        → AllByRecursion (λ now. v.reported now.segment.number ≡ false) (choice_in current)
-        → AllByRecursion (λ now. (tested_view task rows v).reported now.segment.number ≡ false) (choice_in current)
-    one None chosen unfinished distinct unreported = tt
-    one (Some now) chosen unfinished distinct unreported =
-        let busy : is_busy v.work ≡ true = not-false (is_busy v.work) (sym work ∙ ap is_none unfinished) in
-        let open_one : is_cleaned v.work now ≡ false = not_true (is_cleaned v.work now) (sym (ap (λ b. b || (not (is_cleaned v.work now) || false)) (done_no h.done h.cleaned)) ∙ (sym (list_any-append (λ choice. not (is_cleaned v.work choice)) h.done (now ∷ [])) ∙ (sym (ap (list_any (λ choice. not (is_cleaned v.work choice))) chosen) ∙ busy))) in
-        let unnamed : list_any (is_segment_of task now.segment.number) rows ≡ false =
-        given.segments now.segment.number
-        ∙ (ap (list_any (λ choice. (choice.segment.number == now.segment.number) && is_newly_cleaned v.work choice)) chosen
-        ∙ (list_any-append (λ choice. (choice.segment.number == now.segment.number) && is_newly_cleaned v.work choice) h.done (now ∷ [])
-        ∙ rw (others_no now h.done distinct.0, open_one) (ap (λ b. b || false) (and-false (now.segment.number == now.segment.number))))) in
-        (ap₂ (λ a b. a || b) unnamed unreported.0, tt) where
-          not_true : (b : Bool) → (not b || false) ≡ true → b ≡ false
-          not_true true h = absurd (true≢false (sym h))
-          not_true false h = refl
+    one : (current : Option Choice) → CleansBy v.work log h.done current → AllByRecursion (λ now. (tested_view task rows v).reported now.segment.number ≡ false) (choice_in current)
+    one None by = tt
+    one (Some now) by =
+        let open_one : is_cleaned v.work now ≡ false = grind (arith, busy_by by, work, by.unfinished) in
+        let unnamed : list_any (is_segment_of task now.segment.number) rows ≡ false = given.segments now.segment.number
+        ∙ rw (by.chosen, list_any-append, others_no now h.done by.distinct.0, open_one, and-false) refl in
+        (rw (unnamed, by.unreported.0) refl, tt)
 
   reported-known : (log : clean.Cleaning) → Cleans v.work log → (number : ℕ) → (tested_view task rows v).reported number ≡ true → list_any (λ choice. choice.segment.number == number) (v.choices) ≡ true
   reported-known log h number some = elim (cases_Bool (v.reported number)) [
     | inl before ↦ h.reported number before
-    | inr none ↦ named (v.choices) (sym (given.segments number) ∙ (sym (or-false (list_any (is_segment_of task number) rows)) ∙ (sym (ap (λ b. list_any (is_segment_of task number) rows || b) none) ∙ some)))
+    | inr none ↦ named v.choices (grind (arith, given.segments number))
   ] where
     named : (cs : List Choice) → list_any (λ choice. (choice.segment.number == number) && is_newly_cleaned v.work choice) cs ≡ true → list_any (λ choice. choice.segment.number == number) cs ≡ true
     named [] h = h
-    named (c ∷ cs) h = elim (cases_Bool (c.segment.number == number)) [
-      | inl hit ↦ rw hit refl
-      | inr miss ↦ rw miss (named cs (subst (λ b. ((b && is_newly_cleaned v.work c) || list_any (λ choice. (choice.segment.number == number) && is_newly_cleaned v.work choice) cs) ≡ true) miss h))
-    ]
+    named (c ∷ cs) h = grind (arith, named cs)
 
   cleans-tested : (log : clean.Cleaning) → is_none log.unfinished ≡ not (is_busy v.work) → Cleans v.work log → Cleans (tested_view task rows v).work log
-  cleans-tested log work h = record {
-    block = h.block;
-    done = h.done;
-    current = h.current;
-    chosen = h.chosen;
-    cleaned = h.cleaned;
-    unfinished = h.unfinished;
-    blocks = h.blocks;
-    cut = h.cut;
-    taken = h.taken;
-    numbers = h.numbers;
-    distinct = h.distinct;
-    ascend = h.ascend;
-    known = h.known;
-    over = h.over;
-    segments = h.segments;
-    unreported = unfinished-unreported log h work;
-    reported = reported-known log h;
-  }
+  cleans-tested log work h =
+      let unreported = unfinished-unreported log h work in
+      let reported = reported-known log h in
+      record { done = h.done; current = h.current; by = assumption (unreported, reported, h.by) }
 
 -- all was tested
 is_done_after : (past : Past) (rows : List BackRow) (task : ℕ) → is_complete (tested rows ∷ past) task ≡ is_complete past task
@@ -145,11 +105,14 @@ pub settled-tested : (past : Past) (rows : List BackRow) → ((task : ℕ) → t
 unfolding test_rows
 settled-tested past rows given = record {
   tested = λ task. sym (is_done_after past rows task);
-  no_rows = λ sources now. ap₂ (λ a b. a ++ b)
-      (flat_none (segment_rows sources (tested rows ∷ past) now) (task_numbers past)
-      (range_below (λ task. segment_rows sources (tested rows ∷ past) now task ≡ []) 0 (length (tasks past)) (λ task less. no_segments past rows task (reported-tested task (view past task) rows (given task (omega (arith, less)))) sources now)))
-      (flat_none (λ task. seal_rows sources (tested rows ∷ past) now task ++ complete_rows (tested rows ∷ past) now task) (task_numbers past)
-      (range_below (λ task. (seal_rows sources (tested rows ∷ past) now task ++ complete_rows (tested rows ∷ past) now task) ≡ []) 0 (length (tasks past)) (λ task less. no_others past rows task (unsealed-tested task (view past task) rows (given task (omega (arith, less)))) sources now)));
+  no_rows = λ sources now. rw (
+    flat_none (segment_rows sources (tested rows ∷ past) now) (task_numbers past)
+        (all_range (λ task. segment_rows sources (tested rows ∷ past) now task ≡ []) 0 (length (tasks past))
+        (λ task from less. no_segments past rows task (reported-tested task (view past task) rows (given task (omega (arith, less)))) sources now)),
+    flat_none (λ task. seal_rows sources (tested rows ∷ past) now task ++ complete_rows (tested rows ∷ past) now task) (task_numbers past)
+        (all_range (λ task. (seal_rows sources (tested rows ∷ past) now task ++ complete_rows (tested rows ∷ past) now task) ≡ []) 0 (length (tasks past))
+        (λ task from less. no_others past rows task (unsealed-tested task (view past task) rows (given task (omega (arith, less)))) sources now)),
+  ) refl;
 }
 
 -- a session whose backup was sealed where the test had to, whatever it notes of its completion
@@ -167,16 +130,11 @@ module _ (task : ℕ) (v : TaskView) (rows : List BackRow) (given : AreRowsOf ta
   open_was : is_unsealed (tested_view task rows v) ≡ true → (is_unsealed v ≡ true) × ((is_unsealed v && is_done v.work) ≡ false)
   open_was h = by (is_backup v.terms.kind) v.sealed (is_done v.work) (rw (sym given.seals) h) where
     by : (backup sealed complete : Bool) → (backup && not (((backup && not sealed) && complete) || sealed)) ≡ true → ((backup && not sealed) ≡ true) × (((backup && not sealed) && complete) ≡ false)
-    by false sealed complete h = absurd (true≢false (sym h))
-    by true true false h = absurd (true≢false (sym h))
-    by true true true h = absurd (true≢false (sym h))
-    by true false true h = absurd (true≢false (sym h))
-    by true false false h = (refl, refl)
+    by backup sealed complete h = grind arith
 
   holds_still : (held now : ℕ → Option Content) → ((lbn : ℕ) → now lbn ≡ held lbn) → HoldsImage v.work held → HoldsImage v.work now
   holds_still held now same h = record {
-    each = all_weaker (HoldsBlock v.work held) (HoldsBlock v.work now) (λ block one delivered. flat_same (λ lbn. held_sector lbn (now lbn)) (λ lbn. held_sector lbn (held lbn)) (range_with_len block.lbn block.count)
-        (all_any (λ lbn. held_sector lbn (now lbn) ≡ held_sector lbn (held lbn)) (λ lbn. ap (held_sector lbn) (same lbn)) (range_with_len block.lbn block.count)) ∙ one delivered) v.blocks h.each;
+    each = all_weaker (HoldsBlock v.work held) (HoldsBlock v.work now) (λ block one delivered. held_same now held block.lbn block.count (λ lbn from to. same lbn) ∙ one delivered) v.blocks h.each;
     only = λ lbn none. same lbn ∙ h.only lbn none;
   }
 
@@ -188,17 +146,17 @@ module _ (task : ℕ) (v : TaskView) (rows : List BackRow) (given : AreRowsOf ta
     suspended = is.suspended ∙ h.suspended;
     closed = is.closed ∙ h.closed;
     complete = complete;
-    sealed = is.sealed ∙ ap₂ (λ a b. a || b) (sym given.seals) h.sealed;
-    ascend = λ backup. h.ascend (ap is_backup (sym is.kind) ∙ backup);
-    unwanted = λ backup. h.unwanted (ap is_backup (sym is.kind) ∙ backup);
-    image = λ is_open. let image = holds_still (held_at old.image) (held_at new.image) (is.image (open_was is_open).1) (h.image (open_was is_open).0) in record { each = image.each; only = image.only };
-    log = λ cleans. let cleaned : is_clean old.kind ≡ true = ap is_clean (sym is.kind) ∙ cleans in rw is.log (cleans-tested task v rows given old.log (work cleaned) (h.log cleaned));
-    unchosen = λ other. h.unchosen (ap is_clean (sym is.kind) ∙ other);
+    sealed = rw (is.sealed, given.seals, h.sealed) refl;
+    ascend = rw is.kind h.ascend;
+    unwanted = rw is.kind h.unwanted;
+    image = λ is_open. assumption (holds_still (held_at old.image) (held_at new.image) (is.image (open_was is_open).1) (h.image (open_was is_open).0));
+    log = rw (is.kind, is.log) (λ cleans. cleans-tested task v rows given old.log (work cleans) (h.log cleans));
+    unchosen = rw is.kind h.unchosen;
   }
 
   pub at_work-tested : IsAtWork v.work old → IsAtWork (tested_view task rows v).work new
-  at_work-tested work = λ cleans. rw is.log (work (ap is_clean (sym is.kind) ∙ cleans))
+  at_work-tested work = rw (is.kind, is.log) work
 
 -- what a session notes of its completion is not what was sealed
 pub noted : {seals : Bool} {old : Session} (mid new : Session) (complete : Bool) → new ≡ record mid { complete = complete } → IsSealed seals old mid → IsTested seals old new
-noted {seals} {old} mid new complete is h = subst (IsTested seals old) (sym is) (record { kind = h.kind; weight = h.weight; block = h.block; suspended = h.suspended; closed = h.closed; sealed = h.sealed; log = h.log; image = h.image })
+noted {seals} {old} mid new complete is h = rw is (assumption h)

@@ -1,5 +1,5 @@
 -- A session's choices, one after another.
-use Rattle.std.proofs.Common.{◌≡◌, ℕ, zero, suc, ◌+◌, ◌-◌, ◌≤◌, ◌&&◌, not, if◌then◌else◌, List, [], ◌++◌, true, false, length, append-nil, refl, ap, sym, ◌∙◌, arith, subst}
+use Rattle.std.proofs.Common.{◌≡◌, ℕ, zero, suc, ◌+◌, ◌-◌, ◌≤◌, ◌&&◌, not, if◌then◌else◌, List, [], ◌++◌, true, false, length, append-nil, refl, ap, sym, ◌∙◌, arith}
 use Rattle.std.proofs.lemmas.Bool.{and_parts}
 use Rattle.std.proofs.lemmas.List.{length-map}
 use Rattle.fb_geometry.specs.Shape.{Shape}
@@ -12,12 +12,8 @@ use Rattle.fb_model.specs.Segments.{choose_once, choose_up_to, choose_in}
 use Rattle.fb_model.specs.Images.{segment_rows, is_newly_cleaned}
 use Rattle.fb_tasks.specs.declared.session.Session.{Session}
 use Rattle.fb_tasks.specs.Taken.{by_deliveries}
-use Rattle.fb_tasks.specs.Standing.{Stands, MayChoose, HasChosen, AreReported, kept_segment}
+use Rattle.fb_tasks.specs.Standing.{Stands, MayChoose, HasChosen, AreReported}
 use Rattle.fb_tasks.proofs.Lists.{filter_none}
-
-pub up_to_more : (n : ℕ) (disk : Shape) (task : ℕ) (past : Past) → choose_up_to (n + 1) disk task past ≡ choose_once disk task (choose_up_to n disk task past)
-up_to_more zero disk task past = refl
-up_to_more (suc n) disk task past = ap (λ k. choose_up_to k disk task past) (let e : suc n + 1 ≡ suc (n + 1) = omega arith in e) ∙ up_to_more n disk task (choose_once disk task past)
 
 pub up_to_still : (n : ℕ) (disk : Shape) (task : ℕ) (past : Past) → choose_once disk task past ≡ past → choose_up_to n disk task past ≡ past
 up_to_still zero disk task past still = refl
@@ -27,9 +23,14 @@ up_to_split : (k m : ℕ) (disk : Shape) (task : ℕ) (past : Past) → choose_u
 up_to_split zero m disk task past = ap (λ n. choose_up_to n disk task past) (let e : 0 + m ≡ m = omega arith in e)
 up_to_split (suc k) m disk task past = ap (λ n. choose_up_to n disk task past) (let e : suc k + m ≡ suc (k + m) = omega arith in e) ∙ up_to_split k m disk task (choose_once disk task past)
 
+pub up_to_more : (n : ℕ) (disk : Shape) (task : ℕ) (past : Past) → choose_up_to (n + 1) disk task past ≡ choose_once disk task (choose_up_to n disk task past)
+up_to_more n disk task past = up_to_split n 1 disk task past
+
 -- where a turn changes nothing no later one does
 up_to_rest : (k n : ℕ) (disk : Shape) (task : ℕ) (past : Past) → k ≤ n → choose_once disk task (choose_up_to k disk task past) ≡ choose_up_to k disk task past → choose_up_to n disk task past ≡ choose_up_to k disk task past
-up_to_rest k n disk task past le still = ap (λ i. choose_up_to i disk task past) (let e : n ≡ k + (n - k) = omega arith in e) ∙ (up_to_split k (n - k) disk task past ∙ up_to_still (n - k) disk task (choose_up_to k disk task past) still)
+up_to_rest k n disk task past le still =
+    let e : n ≡ k + (n - k) = omega arith in
+    rw (e, up_to_split k (n - k) disk task past) (up_to_still (n - k) disk task (choose_up_to k disk task past) still)
 
 pub in_is : (disk : Shape) (past : Past) (task : ℕ) → choose_in disk past task ≡ (if is_clean (view past task).terms.kind && not (view past task).closed then choose_up_to (length (view past task).segments) disk task past else past)
 unfolding view
@@ -37,10 +38,10 @@ in_is disk past task = refl
 
 -- a task that doesn't choose stays
 not_in : (disk : Shape) (past : Past) (task : ℕ) (session : Session) → Stands (view past task) session → (is_clean session.kind && not session.closed) ≡ false → choose_in disk past task ≡ past
-not_in disk past task session stands h = in_is disk past task ∙ rw (stands.terms, sym stands.closed, h) refl
+not_in disk past task session stands h = rw (in_is disk past task, stands.terms, sym stands.closed, h) refl
 
 all_in : (disk : Shape) (past : Past) (task : ℕ) (session : Session) → Stands (view past task) session → (is_clean session.kind && not session.closed) ≡ true → choose_in disk past task ≡ choose_up_to (length (view past task).segments) disk task past
-all_in disk past task session stands h = in_is disk past task ∙ rw (stands.terms, sym stands.closed, h) refl
+all_in disk past task session stands h = rw (in_is disk past task, stands.terms, sym stands.closed, h) refl
 
 -- where each segment has its row none is given
 pub reported_rows : (past : Past) (now task : ℕ) → AreReported (view past task).work → segment_rows by_deliveries past now task ≡ []
@@ -48,29 +49,31 @@ unfolding view
 reported_rows past now task h = rw (filter_none (is_newly_cleaned (view past task).work) (view past task).choices h) refl
 
 has_of : (disk : Shape) (past : Past) (task : ℕ) (session : Session) (held : List Entry) → MayChoose disk past task session held → HasChosen disk past task session held
-has_of disk past task session held h = record { blocks = h.blocks; stands = h.stands; at_work = h.at_work }
+has_of disk past task session held h = assumption h
 
 pub idle-chosen : (disk : Shape) (past : Past) (task : ℕ) (session : Session) (held : List Entry) → (is_clean session.kind && not session.closed) ≡ false → MayChoose disk past task session held → HasChosen disk (choose_in disk past task) task session held
-idle-chosen disk past task session held none may = subst (λ p. HasChosen disk p task session held) (sym (not_in disk past task session may.stands none)) (has_of disk past task session held may)
+idle-chosen disk past task session held none may = rw (not_in disk past task session may.stands none) (has_of disk past task session held may)
 
 pub idle-rows : (disk : Shape) (past : Past) (now task : ℕ) (session : Session) (held : List Entry) (rows : List BackRow) → (is_clean session.kind && not session.closed) ≡ false → MayChoose disk past task session held → AreReported (view past task).work
     → rows ≡ rows ++ segment_rows by_deliveries (choose_in disk past task) now task
 idle-rows disk past now task session held rows none may reported =
-    sym (append-nil rows) ∙ (ap (λ rs. rows ++ rs) (sym (reported_rows past now task reported)) ∙ ap (λ p. rows ++ segment_rows by_deliveries p now task) (sym (not_in disk past task session may.stands none)))
+    rw (not_in disk past task session may.stands none, reported_rows past now task reported) (sym (append-nil rows))
+
+-- a session that may choose has as many segments as its task
+as_many : (disk : Shape) (past : Past) (task : ℕ) (session : Session) (held : List Entry) → (is_clean session.kind && not session.closed) ≡ true → MayChoose disk past task session held
+    → length (view past task).segments ≡ length session.log.segments
+as_many disk past task session held may_be may = rw (may.stands.log (and_parts (is_clean session.kind) (not session.closed) may_be).0).segments (simp length-map)
 
 -- after so many turns as there are segments, or after one that changed nothing
 pub turns_in : (disk : Shape) (past : Past) (task k n : ℕ) (session : Session) (held : List Entry) → (is_clean session.kind && not session.closed) ≡ true → n ≡ length session.log.segments → MayChoose disk past task session held → k ≤ n
     → choose_once disk task (choose_up_to k disk task past) ≡ choose_up_to k disk task past → choose_in disk past task ≡ choose_up_to k disk task past
 turns_in disk past task k n session held may_be count may le still =
-    all_in disk past task session may.stands may_be
-    ∙ (ap (λ i. choose_up_to i disk task past) (sym (ap length ((may.stands.log (and_parts (is_clean session.kind) (not session.closed) may_be).0).segments) ∙ length-map (view past task).segments (kept_segment (view past task).work)))
-    ∙ up_to_rest k (length session.log.segments) disk task past (omega (arith, le, count)) still)
+    rw (all_in disk past task session may.stands may_be, as_many disk past task session held may_be may, sym count) (up_to_rest k n disk task past le still)
 
 pub turns_all : (disk : Shape) (past : Past) (task n : ℕ) (session : Session) (held : List Entry) → (is_clean session.kind && not session.closed) ≡ true → n ≡ length session.log.segments → MayChoose disk past task session held
     → choose_in disk past task ≡ choose_up_to n disk task past
 turns_all disk past task n session held may_be count may =
-    all_in disk past task session may.stands may_be
-    ∙ ap (λ i. choose_up_to i disk task past) (sym (count ∙ (ap length ((may.stands.log (and_parts (is_clean session.kind) (not session.closed) may_be).0).segments) ∙ length-map (view past task).segments (kept_segment (view past task).work))))
+    rw (all_in disk past task session may.stands may_be, as_many disk past task session held may_be may, sym count) refl
 
 pub turned-chosen : (disk : Shape) (past next : Past) (task : ℕ) (session : Session) (held : List Entry) → choose_in disk past task ≡ next → MayChoose disk next task session held → HasChosen disk (choose_in disk past task) task session held
-turned-chosen disk past next task session held e may = subst (λ p. HasChosen disk p task session held) (sym e) (has_of disk next task session held may)
+turned-chosen disk past next task session held e may = rw e (has_of disk next task session held may)

@@ -1,5 +1,5 @@
 -- A range is wanted for a task that cleans no log.
-use Rattle.std.proofs.Common.{◌≡◌, ℕ, ◌+◌, ◌*◌, ◌^◌, ◌<◌, ◌≤◌, ◌==◌, ◌&&◌, not, if◌then◌else◌, List, [], ◌∷◌, ◌++◌, true, false, Some, length, map, drop, set, get_or, slice_get, refl, ap, sym, ◌∙◌, arith, subst}
+use Rattle.std.proofs.Common.{◌≡◌, ℕ, ◌+◌, ◌*◌, ◌^◌, ◌<◌, ◌≤◌, ◌==◌, ◌&&◌, not, if◌then◌else◌, List, [], ◌∷◌, ◌++◌, true, false, Some, length, map, set, get_or, slice_get, refl, ap, sym, ◌∙◌, arith, subst}
 use Rattle.std.specs.List.{AllByRecursion, list_any}
 use Rattle.std.proofs.lemmas.Bool.{and_parts, true≢false}
 use Rattle.std.proofs.lemmas.List.{length-map, map-append}
@@ -21,14 +21,14 @@ use Rattle.fb_wanted.specs.declared.block.State.TheVariants.{Wanted}
 use Rattle.fb_wanted.specs.States.{is_delivered}
 use Rattle.fb_wanted.specs.Numbering as numbering
 use Rattle.fb_model.specs.History.{Past, called, calls_of, opened_by, tasks, registered, same_block}
-use Rattle.fb_model.specs.Completion.{TaskView, view, own_of, wanted_view}
+use Rattle.fb_model.specs.Completion.{TaskView, view, own_of, wanted_view, is_unsealed}
 use Rattle.fb_model.proofs.Views.{wanted-silent, wanted-view}
 use Rattle.fb_model.specs.Segments.{numbered}
 use Rattle.fb_model.specs.Steps.{take_call, blocks_by}
 use Rattle.fb_tasks.specs.declared.session.Session.{Session}
 use Rattle.fb_tasks.specs.Keeping.{new_entries}
 use Rattle.fb_tasks.specs.Leaving.{entries_by}
-use Rattle.fb_tasks.specs.Standing.{entry_of, Told, Stands, HoldsBlock, AreIndexed, Ascend, IsBlockOf}
+use Rattle.fb_tasks.specs.Standing.{entry_of, Told, Stands, HoldsBlock, AreIndexed, Ascend, IsBlockOf, HoldsImage, AreReported, Cleans, IsAtWork, IsQuiet}
 use Rattle.fb_tasks.specs.Telling.{Tells, MayTake, IsCall}
 use Rattle.fb_tasks.proofs.Lists.{some_same, all_with, all_append}
 use Rattle.fb_tasks.proofs.Frames.{one-tells}
@@ -40,34 +40,23 @@ use Rattle.fb_tasks.proofs.Cuts.{cuts_placed, cuts_ascend, cuts_indexed, cuts_ow
 -- an open backup holds nothing as yet, and no other session is an image
 wanted-told : (task : ℕ) (added : List Block) (v : TaskView) (session : Session) → is_clean session.kind ≡ false → is_backup session.kind && v.wants ≡ false → Ascend 0 added → AllByRecursion (λ b. b.task ≡ task) added
     → Told v session → Told (wanted_view task added v) (record session { touched = true })
-wanted-told task added v session other once ascends own h = record {
-  stands = record {
-    terms = h.terms;
-    weight = h.weight;
-    block = h.block;
-    suspended = h.suspended;
-    closed = h.closed;
-    complete = h.complete;
-    sealed = h.sealed;
-    unchosen = h.unchosen;
-    ascend = λ backup. rw (none_before backup) ascends;
-    unwanted = λ backup none. absurd (true≢false none);
-    image = λ is_open. let none = none_before (ap (λ t. is_backup t.kind) (sym h.terms) ∙ (and_parts (is_backup v.terms.kind) (not v.sealed) is_open).0) in record {
-      each = subst (AllByRecursion (HoldsBlock (wanted_view task added v).work (held_at session.image))) (sym (ap (λ bs. bs ++ added) none))
-          (all_with (λ b. list_any (same_block b) added ≡ true) (λ b. b.task ≡ task) (HoldsBlock (wanted_view task added v).work (held_at session.image)) fresh added (all_member added) own);
-      only = λ lbn outside. (h.image is_open).only lbn (ap (list_any (λ b. is_within b.lbn b.count lbn)) none);
-    };
-    log = λ cleans. absurd (true≢false (sym cleans ∙ other));
-  };
-  at_work = λ cleans. absurd (true≢false (sym cleans ∙ other));
-  reported = rw (h.unchosen other) tt;
-  quiet = λ untouched. absurd (true≢false untouched);
-} where
-  none_before : is_backup session.kind ≡ true → v.blocks ≡ []
-  none_before backup = h.unwanted backup (subst (λ b. b && v.wants ≡ false) backup once)
-
-  fresh : (b : Block) → list_any (same_block b) added ≡ true → b.task ≡ task → HoldsBlock (wanted_view task added v).work (held_at session.image) b
-  fresh b one mine done = absurd (true≢false (sym done ∙ ap (λ hit. is_delivered (if hit then Wanted else v.bare b)) (ap (λ t. list_any (same_block (own_of t b)) added) (sym mine) ∙ one)))
+wanted-told task added v session other once ascends own h =
+    let view = wanted_view task added v in
+    let none : is_backup session.kind ≡ true → v.blocks ≡ [] = λ backup. h.unwanted backup (rw backup at once) in
+    let wants : is_backup session.kind ≡ true → true ≡ false → v.blocks ++ added ≡ [] = λ backup never. absurd (true≢false never) in
+    let ascend : is_backup session.kind ≡ true → Ascend 0 (v.blocks ++ added) = λ backup. rw (none backup) ascends in
+    let image : is_unsealed v ≡ true → HoldsImage view.work (held_at session.image) = λ is_open.
+    let empty = none (ap (λ t. is_backup t.kind) (sym h.terms) ∙ (and_parts (is_backup v.terms.kind) (not v.sealed) is_open).0) in record {
+      each = rw empty (all_with (λ b. list_any (same_block b) added ≡ true) (λ b. b.task ≡ task) (HoldsBlock view.work (held_at session.image)) fresh added (all_member added) own);
+      only = λ lbn outside. (h.image is_open).only lbn (ap (list_any (λ b. is_within b.lbn b.count lbn)) empty);
+    } in
+    let log : is_clean session.kind ≡ true → Cleans view.work session.log = λ cleans. absurd (true≢false (sym cleans ∙ other)) in
+    let at_work : IsAtWork view.work session = λ cleans. absurd (true≢false (sym cleans ∙ other)) in
+    let reported : AreReported view.work = rw (h.unchosen other) tt in
+    let quiet : true ≡ false → IsQuiet view = λ untouched. absurd (true≢false untouched) in
+    assumption (wants, ascend, image, log, at_work, reported, quiet, h) where
+      fresh : (b : Block) → list_any (same_block b) added ≡ true → b.task ≡ task → HoldsBlock (wanted_view task added v).work (held_at session.image) b
+      fresh b one mine done = absurd (true≢false (sym done ∙ ap (λ hit. is_delivered (if hit then Wanted else v.bare b)) (ap (λ t. list_any (same_block (own_of t b)) added) (sym mine) ∙ one)))
 
 -- what a want may ask for, of its session
 pub record MayWant (disk : Shape) (past : Past) (task first count : ℕ) (held : List Entry) (session : Session) : Type 0 where
@@ -149,12 +138,11 @@ want_within disk past call task first count items seen held is view h =
 pub wanted_due : (disk : Shape) (past : Past) (call : Call) (task first count : ℕ) (items seen : List Session) (session : Session) (held : List Entry) → length (places disk) ≤ 10 ^ 12 → IsCall task (Want first count) call → items ≡ seen → task < length items → session ≡ get_or items task session
     → MayTake disk past seen held call → new_entries session (numbered task session.weight (numbering.registered task (numbering.blocks_of held)) (cutting disk session.block first count)) ≡ entries_by disk past call
 wanted_due disk past call task first count items seen session held small is same within at h =
-    let there : slice_get seen task ≡ Some session = subst (λ xs. slice_get xs task ≡ Some session) same (slice_get-get_or items task session within ∙ ap Some (sym at)) in
+    let there : slice_get seen task ≡ Some session = rw (sym same) (slice_get-get_or items task session within ∙ ap Some (sym at)) in
     let added = new_entries session (numbered task session.weight (numbering.registered task (numbering.blocks_of held)) (cutting disk session.block first count)) in
     let entry = entry_of (take_call disk past call) in
     let tells = wanted-tells disk past call task first count items seen (set seen task (record session { touched = true })) session held (held ++ added) small is same within at refl
     (λ s here. ap (λ (x : Session). set seen task (record x { touched = true })) (some_same session s (sym there ∙ here))) h in
     let all : held ++ added ≡ map entry (registered past) ++ entries_by disk past call = tells.entries ∙ map-append entry (registered past) (blocks_by disk past call.task call.action) in
-    let size : length held ≡ length (map entry (registered past)) = ap length h.tells.entries ∙ (length-map (registered past) (entry_of past) ∙ sym (length-map (registered past) entry)) in
-    sym (drop-append_seam held added) ∙ (ap (drop (length held)) all
-    ∙ (ap (λ n. drop n (map entry (registered past) ++ entries_by disk past call)) size ∙ drop-append_seam (map entry (registered past)) (entries_by disk past call)))
+    let size : length held ≡ length (map entry (registered past)) = rw h.tells.entries (simp length-map) in
+    sym (drop-append_seam held added) ∙ rw (all, size) (drop-append_seam (map entry (registered past)) (entries_by disk past call))

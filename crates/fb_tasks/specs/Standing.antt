@@ -94,11 +94,9 @@ HoldsChoice work log choice = AllByRecursion (HoldsBlock work (clean.taken_for l
 abbrev pub IsAtNumber : List LogSegment → Choice → Type 0
 IsAtNumber segments choice = slice_get segments (choice.segment.number - 1) ≡ Some choice.segment
 
--- a log is cleaned segment by segment: of those that were chosen all but the last are cleaned
-pub record Cleans (work : Work) (log : clean.Cleaning) : Type 0 where
+-- a log is cleaned segment by segment: of those that were chosen these are cleaned, and this one is being cleaned
+pub record CleansBy (work : Work) (log : clean.Cleaning) (done : List Choice) (current : Option Choice) : Type 0 where
   pub block : log.block ≡ work.terms.block
-  pub done : List Choice
-  pub current : Option Choice
   pub chosen : work.choices ≡ done ++ choice_in current
   pub cleaned : AllByRecursion (λ choice. is_cleaned work choice ≡ true) done
   pub unfinished : log.unfinished ≡ option_map (λ choice. choice.segment.number) current
@@ -113,6 +111,13 @@ pub record Cleans (work : Work) (log : clean.Cleaning) : Type 0 where
   pub reported : (number : ℕ) → work.reported number ≡ true → list_any (λ choice. choice.segment.number == number) work.choices ≡ true
   pub over : work.closed ≡ true → AllByRecursion (λ block. is_over (work.bare block) ≡ true) work.blocks
   pub segments : log.segments ≡ map (kept_segment work) work.segments
+
+-- of the segments that were chosen all but the last are cleaned
+pub record Cleans (work : Work) (log : clean.Cleaning) : Type 0 where
+  pub done : List Choice
+  pub current : Option Choice
+  pub by : CleansBy work log done current
+  pub open by use *
 
 -- a session is as its task stands
 pub record Stands (view : TaskView) (session : Session) : Type 0 where

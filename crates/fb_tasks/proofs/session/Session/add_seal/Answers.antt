@@ -2,19 +2,20 @@ use Rattle.std.proofs.Common.{refl, ◌≡◌, true, ap, ◌∙◌, ◌++◌, sy
 use Rattle.std.proofs.lemmas.Result.{on_ok_weaker}
 use Rattle.fb_model.specs.Completion.{view, is_unsealed}
 use Rattle.fb_tasks.proofs.Complete.{done_is}
-use Rattle.fb_tasks.proofs.Sealed.{open_same, open_is, seal_row, no-seal}
+use Rattle.fb_tasks.proofs.Sealed.{open_is, seal_row, no-seal}
 use Rattle.std.proofs.Math.Bool.{and-false}
 use Rattle.fb_tasks.proofs.session.Session.add_seal.Goals as goal
 use Rattle.fb_tasks.proofs.session.Session.add_seal.Goals.{then-not-complete-via-then-not-complete, then-not-complete-via-else-not-complete+then-not-is_open_backup}
+use Rattle.fb_tasks.proofs.Writes.{open_by}
 
 pub returns-clause-rows : goal.returns-clause-rows
 returns-clause-rows c = on_ok_weaker c.push.result (λ pushed disk past holds stands says.
     let complete = sym says ∙ c.if-not-complete.false in
-    let is_open : is_unsealed (view past c.args.task) ≡ true = open_same c.args.self.now stands ∙ (sym c.is_open_backup.ensures ∙ c.if-not-is_open_backup.false) in
+    let is_open : is_unsealed (view past c.args.task) ≡ true = open_by (view past c.args.task) c.args.self.now stands ∙ (sym c.is_open_backup.ensures ∙ c.if-not-is_open_backup.false) in
     pushed ∙ ap (λ rows. c.args.rows.now ++ rows) (seal_row past c.args.now c.args.task c.in_ok-content.content is_open (done_is past c.args.task ∙ complete) (c.in_ok-content.ensures.content disk past holds stands (sym (open_is past c.args.task) ∙ is_open) complete))) c.push.ensures.ok
 
 pub returns-then-not-complete-clause-rows : goal.returns-then-not-complete-clause-rows
 returns-then-not-complete-clause-rows c = λ disk past holds stands says. no-seal past c.args.now c.args.task c.args.rows.now (elim c.then-not-complete.branch [
   | then-not-complete-via-then-not-complete w ↦ rw (done_is past c.args.task ∙ (sym says ∙ w.if-not-complete.true)) (and-false (is_unsealed (view past c.args.task)))
-  | then-not-complete-via-else-not-complete+then-not-is_open_backup w ↦ rw (open_same c.args.self.now stands ∙ (sym w.is_open_backup.ensures ∙ w.if-not-is_open_backup.true)) refl
+  | then-not-complete-via-else-not-complete+then-not-is_open_backup w ↦ rw (open_by (view past c.args.task) c.args.self.now stands ∙ (sym w.is_open_backup.ensures ∙ w.if-not-is_open_backup.true)) refl
 ])
