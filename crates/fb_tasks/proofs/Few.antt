@@ -29,6 +29,7 @@ use Rattle.fb_tasks.proofs.Asked.{opened_same, open_there, terms_there}
 use Rattle.fb_tasks.proofs.Cuts.{cuts_count, range_next}
 use Rattle.fb_tasks.proofs.Additions.{next_segment}
 use Rattle.fb_tasks.proofs.AllChoices.{in_same, in_tasks, in_fewer, by_task, all_range, sum_range, choosable-same}
+use Rattle.std.proofs.lemmas.Bool.Decides.{nat_tests}
 
 -- how many blocks are registered, and how many the choices can register
 abbrev pub in_all : Shape → Past → ℕ
@@ -46,15 +47,9 @@ sum_changed f g a (suc n) k x y from to same one =
           let rest = sum_range f g (a + 1) n (λ j low high. same j (λ is. absurd (omega arith))) in
           omega (arith, heads, others, rest, one, ap f e, ap g e)
       | inr on ↦
-          let differ = other_number k a on in
-          let rest = sum_changed f g (a + 1) n k x y (above a k from differ) (omega arith) same one in
-          omega (arith, heads, others, rest, same a differ)
-    ] where
-      above : (a k : ℕ) → a ≤ k → (k ≡ a → ⊥) → a + 1 ≤ k
-      above a k le differ = elim (cases_lt a k) [
-        | inl less ↦ omega arith
-        | inr more ↦ absurd (differ (omega arith))
-      ]
+          let rest = sum_changed f g (a + 1) n k x y (grind (arith, nat_tests)) (omega arith) same one in
+          omega (arith, heads, others, rest, same a (other_number k a on))
+    ]
 
 -- the segments of all tasks lie on the disk
 abbrev pub AreOnDisk : Shape → Past → Type 0
@@ -167,10 +162,7 @@ module _ (disk : Shape) (past : Past) (call : Call) where
         ap (λ t. length (live_cuts disk t.block first live)) (terms_there past call.task),
       ) where
         at_most : (f : LogSegment → ℕ) (p : LogSegment → Bool) (s : LogSegment) → sum_by f (filter p (s ∷ [])) ≤ f s
-        at_most f p s = elim (cases_Bool (p s)) [
-          | inl pass ↦ rw pass (omega (arith, sum_by-cons f s []))
-          | inr fail ↦ rw fail (omega arith)
-        ]
+        at_most f p s = grind (arith, sum_by-cons f s [])
 
         more : tasks (called call [] ∷ past) ≡ tasks past → 0 + choosable_by disk (called call [] ∷ past) call.task ≤ length (live_cuts disk (view past call.task).terms.block first live) + choosable_by disk past call.task
         more kept =
@@ -183,12 +175,8 @@ module _ (disk : Shape) (past : Past) (call : Call) where
   by_action : (action : Action) → call.action ≡ action → MayAsk disk (calls_of past) call.task action → ((task : ℕ) → length (tasks past) ≤ task → IsUntouched (view past task)) → Grows
   by_action (Open kind weight block) is asks unopened = open_grows kind weight block is (omega (arith, asks.0, ap length (opened_same past))) unopened
   by_action (Want first count) is asks unopened = want_grows first count is
-  by_action (Abort first count) is asks unopened = quiet (ap (blocks_by disk past call.task) is) (ap (λ a. opened_by a (tasks past)) is) (λ before. ap (λ a. segment_by a before) is)
-  by_action (Promote first count) is asks unopened = quiet (ap (blocks_by disk past call.task) is) (ap (λ a. opened_by a (tasks past)) is) (λ before. ap (λ a. segment_by a before) is)
-  by_action Suspend is asks unopened = quiet (ap (blocks_by disk past call.task) is) (ap (λ a. opened_by a (tasks past)) is) (λ before. ap (λ a. segment_by a before) is)
-  by_action Resume is asks unopened = quiet (ap (blocks_by disk past call.task) is) (ap (λ a. opened_by a (tasks past)) is) (λ before. ap (λ a. segment_by a before) is)
-  by_action Close is asks unopened = quiet (ap (blocks_by disk past call.task) is) (ap (λ a. opened_by a (tasks past)) is) (λ before. ap (λ a. segment_by a before) is)
   by_action (Segment first blocks age live) is asks unopened = segment_grows first blocks age live is (open_there past call.task asks.0).0
+  by_action _ is asks unopened = quiet (ap (blocks_by disk past call.task) is) (ap (λ a. opened_by a (tasks past)) is) (λ before. ap (λ a. segment_by a before) is)
 
   -- a call that keeps the rules
   pub call_grows : MayAsk disk (calls_of past) call.task call.action → ((task : ℕ) → length (tasks past) ≤ task → IsUntouched (view past task)) → Grows

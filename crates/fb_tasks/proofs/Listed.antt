@@ -7,7 +7,7 @@ use Rattle.std.proofs.lemmas.List.{length-set}
 use Rattle.std.proofs.lemmas.Option.{slice_get-get_or}
 use Rattle.fb_calls.specs.Sessions.{is_backup}
 use Rattle.fb_tasks.specs.declared.session.Session.{Session}
-use Rattle.fb_tasks.specs.Listing.{AreListed}
+use Rattle.fb_tasks.specs.Listing.{AreListed, IsNoted}
 use Rattle.fb_tasks.proofs.Lists.{each_set}
 use Rattle.fb_tasks.proofs.Opens.{in_either}
 
@@ -40,32 +40,29 @@ module _ {sessions : List Session} {touched asked : BTreeSet ℕ} (h : AreListed
         within = λ k is. omega (arith, h.within k is, length-set sessions task new);
       }
 
+  -- the session of a listed task
+  pub listed-there : (task : ℕ) (session : Session) → contains nat_cmp touched task ≡ true → session ≡ get_or sessions task session → slice_get sessions task ≡ Some session
+  listed-there task session is at = slice_get-get_or sessions task session (h.within task (h.covered task is)) ∙ ap Some (sym at)
+
   -- a task is noted
-  module _ (task : ℕ) (less : task < length sessions) (more more_asked : BTreeSet ℕ) (stay : (k : ℕ) → contains nat_cmp touched k ≡ true → contains nat_cmp more k ≡ true) (asked_stay : (k : ℕ) → contains nat_cmp asked k ≡ true → contains nat_cmp more_asked k ≡ true)
-      (asked_only : (k : ℕ) → contains nat_cmp more_asked k ≡ true → (k ≡ task) ⊎ (contains nat_cmp asked k ≡ true)) (covers : (k : ℕ) → contains nat_cmp more k ≡ true → (contains nat_cmp more_asked k ≡ true) ⊎ (contains nat_cmp touched k ≡ true)) where
-    covered_now : (k : ℕ) → contains nat_cmp more k ≡ true → contains nat_cmp more_asked k ≡ true
-    covered_now k is = elim (covers k is) [ inl now ↦ now | inr before ↦ asked_stay k (h.covered k before) ]
-
-    within_now : (k : ℕ) → contains nat_cmp more_asked k ≡ true → k < length sessions
-    within_now k is = elim (asked_only k is) [ inl it ↦ omega (arith, it, less) | inr before ↦ h.within k before ]
-
+  module _ {task : ℕ} {more more_asked : BTreeSet ℕ} (less : task < length sessions) (is : IsNoted task touched asked more more_asked) where
     pub listed-more : AreListed sessions more more_asked
     listed-more = record {
       room = h.room;
-      listed = λ k session at is. stay k (h.listed k session at is);
-      covered = covered_now;
-      backups = λ k session at is. asked_stay k (h.backups k session at is);
-      within = within_now;
+      listed = λ k session at now. is.stay k (h.listed k session at now);
+      covered = λ k now. elim (is.covers k now) [ inl new ↦ new | inr before ↦ is.asked_stay k (h.covered k before) ];
+      backups = λ k session at now. is.asked_stay k (h.backups k session at now);
+      within = λ k now. elim (is.asked_only k now) [ inl it ↦ omega (arith, it, less) | inr before ↦ h.within k before ];
     }
 
     -- and its session changes
     pub listed-noted : contains nat_cmp more task ≡ true → contains nat_cmp more_asked task ≡ true → (new : Session) → AreListed (set sessions task new) more more_asked
-    listed-noted noted asked_noted new = record {
+    listed-noted noted asked_noted new = let all = listed-more in record {
       room = omega (arith, h.room, length-set sessions task new);
-      listed = each_set (IsTouchedIn more) sessions task new (λ _. noted) (λ k session differ at is. stay k (h.listed k session at is));
-      covered = covered_now;
-      backups = each_set (IsAskedIn more_asked) sessions task new (λ _. asked_noted) (λ k session differ at is. asked_stay k (h.backups k session at is));
-      within = λ k is. omega (arith, within_now k is, length-set sessions task new);
+      listed = each_set (IsTouchedIn more) sessions task new (λ _. noted) (λ k session differ at. all.listed k session at);
+      covered = all.covered;
+      backups = each_set (IsAskedIn more_asked) sessions task new (λ _. asked_noted) (λ k session differ at. all.backups k session at);
+      within = λ k now. omega (arith, all.within k now, length-set sessions task new);
     }
 
   -- a session that isn't touched is opened, and asked if it is a backup

@@ -24,14 +24,14 @@ use Rattle.fb_model.specs.Steps.{take_call, with_delivery, task_row, task_rows}
 use Rattle.fb_tasks.specs.declared.session.Session.{Session}
 use Rattle.fb_tasks.specs.Taken.{by_deliveries, delivery_of}
 use Rattle.fb_tasks.specs.Telling.{Tells, MayTake, MaySettle, MayDeliver, IsSettled, settled_at, IsBlockOf, entry_of}
-use Rattle.fb_tasks.specs.Script.{Follows}
+use Rattle.fb_tasks.specs.Script.{Follows, IsCalled}
 use Rattle.fb_tasks.proofs.Calls.{may-take, called-more, called-tested, called-chosen, called-delivered, called-finished}
 use Rattle.fb_tasks.proofs.Lists.{all_at, filter_to, some_same}
 
 module _ {settled : Bool} {disk : Shape} {calls : List Call} {next : ℕ} {sessions : List Session} {held : List Entry} (h : Follows settled disk calls next sessions held) where
-  -- whether or not all was tested
-  pub follows-untested : Follows false disk calls next sessions held
-  follows-untested = record { script = h.script; past = h.past; called = h.called; tells = h.tells; tested = λ never. absurd (true≢false (sym never)) }
+  -- and after this as well
+  follows-on : (b : Bool) (past : Past) (now : List Session) (after : List Entry) (n : ℕ) → IsCalled disk calls past n → Tells disk past now after → (b ≡ true → IsSettled past) → Follows b disk calls n now after
+  follows-on b past now after n called tells tested = record { script = h.script; past = past; called = called; tells = tells; tested = tested }
 
   -- the next call takes effect
   module _ (call : Call) (at : slice_get calls next ≡ Some call) where
@@ -39,46 +39,26 @@ module _ {settled : Bool} {disk : Shape} {calls : List Call} {next : ℕ} {sessi
     follows-may = may-take disk calls h.script.allowed h.script.few_calls h.past next h.called call at sessions held h.tells
 
     pub follows-more : (now : List Session) (after : List Entry) → Tells disk (take_call disk h.past call) now after → Follows false disk calls (next + 1) now after
-    follows-more now after tells = record {
-      script = h.script;
-      past = take_call disk h.past call;
-      called = called-more disk calls h.script.allowed h.script.few_calls h.past next h.called call at sessions held h.tells;
-      tells = tells;
-      tested = λ never. absurd (true≢false (sym never));
-    }
+    follows-more now after tells = follows-on false (take_call disk h.past call) now after (next + 1)
+        (called-more disk calls h.script.allowed h.script.few_calls h.past next h.called call at sessions held h.tells) tells (λ never. absurd (true≢false (sym never)))
 
   -- all is settled
   pub follows-may-settle : MaySettle disk h.past sessions held
   follows-may-settle = record { tells = h.tells; few = omega (arith, h.called.few) }
 
   pub follows-settled : (instant : ℕ) (now : List Session) (after : List Entry) → Tells disk (settled_at disk h.past instant) now after → IsSettled (settled_at disk h.past instant) → Follows true disk calls next now after
-  follows-settled instant now after tells all = record {
-    script = h.script;
-    past = settled_at disk h.past instant;
-    called = called-tested disk calls (with_choices disk h.past) next (called-chosen disk calls h.past next h.called sessions held h.tells) (test_rows by_deliveries (with_choices disk h.past) instant);
-    tells = tells;
-    tested = λ is. all;
-  }
+  follows-settled instant now after tells all = follows-on true (settled_at disk h.past instant) now after next
+      (called-tested disk calls (with_choices disk h.past) next (called-chosen disk calls h.past next h.called sessions held h.tells) (test_rows by_deliveries (with_choices disk h.past) instant)) tells (λ _. all)
 
   -- a block is delivered
   pub follows-delivered : (got : DeliveryRow) (now : List Session) (after : List Entry) → Tells disk (with_delivery h.past (delivery_of h.past got)) now after → IsSettled (with_delivery h.past (delivery_of h.past got)) → (b : Bool) → Follows b disk calls next now after
-  follows-delivered got now after tells all b = record {
-    script = h.script;
-    past = with_delivery h.past (delivery_of h.past got);
-    called = called-delivered disk calls h.past next got h.called;
-    tells = tells;
-    tested = λ is. all;
-  }
+  follows-delivered got now after tells all b = follows-on b (with_delivery h.past (delivery_of h.past got)) now after next
+      (called-delivered disk calls h.past next got h.called) tells (λ _. all)
 
   -- a write passes
   pub follows-finished : (request : Request) (now : List Session) (after : List Entry) → Tells disk (finished request ∷ h.past) now after → Follows false disk calls next now after
-  follows-finished request now after tells = record {
-    script = h.script;
-    past = finished request ∷ h.past;
-    called = called-finished disk calls h.past next h.called request;
-    tells = tells;
-    tested = λ never. absurd (true≢false (sym never));
-  }
+  follows-finished request now after tells = follows-on false (finished request ∷ h.past) now after next
+      (called-finished disk calls h.past next h.called request) tells (λ never. absurd (true≢false (sym never)))
 
 -- nothing has happened yet
 pub follows-first : (disk : Shape) (calls : List Call) (sessions : List Session) → IsScript disk 0 calls → Tells disk [] sessions [] → Follows false disk calls 0 sessions []

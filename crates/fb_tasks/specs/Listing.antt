@@ -1,5 +1,5 @@
 -- The lists of the tasks that settling looks at, and of those that a write asks. Contracts of inner functions cite it.
-use Rattle.std.specs.Prelude.{◌≡◌, ◌<◌, ◌^◌, ◌&&◌, not, ℕ, List, length, true, Some, slice_get}
+use Rattle.std.specs.Prelude.{◌≡◌, ◌⊎◌, ◌<◌, ◌^◌, ◌&&◌, not, ℕ, List, length, true, Some, slice_get}
 use Rattle.std.specs.BTreeSet.{BTreeSet, contains}
 use Rattle.std.specs.Ordering.{nat_cmp}
 use Rattle.fb_calls.specs.Sessions.{is_backup}
@@ -12,3 +12,10 @@ pub record AreListed (sessions : List Session) (touched asked : BTreeSet ℕ) : 
   pub covered : (task : ℕ) → contains nat_cmp touched task ≡ true → contains nat_cmp asked task ≡ true
   pub backups : (task : ℕ) (session : Session) → slice_get sessions task ≡ Some session → (is_backup session.kind && not session.sealed) ≡ true → contains nat_cmp asked task ≡ true
   pub within : (task : ℕ) → contains nat_cmp asked task ≡ true → task < length sessions
+
+-- at most this task was added to the lists, to the first one not before the second
+pub record IsNoted (task : ℕ) (touched asked more more_asked : BTreeSet ℕ) : Type 0 where
+  pub stay : (k : ℕ) → contains nat_cmp touched k ≡ true → contains nat_cmp more k ≡ true
+  pub asked_stay : (k : ℕ) → contains nat_cmp asked k ≡ true → contains nat_cmp more_asked k ≡ true
+  pub asked_only : (k : ℕ) → contains nat_cmp more_asked k ≡ true → (k ≡ task) ⊎ (contains nat_cmp asked k ≡ true)
+  pub covers : (k : ℕ) → contains nat_cmp more k ≡ true → (contains nat_cmp more_asked k ≡ true) ⊎ (contains nat_cmp touched k ≡ true)

@@ -3,7 +3,7 @@ ghost use Rattle.std.specs.Prelude.{◌≡◌, ◌⊎◌, ℕ, ◌<◌, ◌≤�
 ghost use Rattle.std.specs.BTreeSet.{BTreeSet as Set, contains};
 ghost use Rattle.std.specs.Ordering.{nat_cmp};
 ghost use Rattle.fb_tasks.specs.declared.session.Session.{Session};
-ghost use Rattle.fb_tasks.specs.Listing.{AreListed};
+ghost use Rattle.fb_tasks.specs.Listing.{AreListed, IsNoted};
 
 use crate::session::Session;
 use fb_units::NoMemory;
@@ -44,10 +44,7 @@ pub fn note_touch(
     asked: &mut BTreeSet<u32>,
     task: u32,
 ) -> Result<(), NoMemory>
-    ensures stay { (k : ℕ) → contains nat_cmp touched.old k ≡ true → contains nat_cmp touched.new k ≡ true }
-    ensures asked_stay { (k : ℕ) → contains nat_cmp asked.old k ≡ true → contains nat_cmp asked.new k ≡ true }
-    ensures asked_only { (k : ℕ) → contains nat_cmp asked.new k ≡ true → (k ≡ task) ⊎ (contains nat_cmp asked.old k ≡ true) }
-    ensures covers { (k : ℕ) → contains nat_cmp touched.new k ≡ true → (contains nat_cmp asked.new k ≡ true) ⊎ (contains nat_cmp touched.old k ≡ true) }
+    ensures stay { IsNoted task touched.old asked.old touched.new asked.new }
     ensures noted { OnOk result (contains nat_cmp touched.new task ≡ true) }
     ensures asked_noted { OnOk result (contains nat_cmp asked.new task ≡ true) }
 {

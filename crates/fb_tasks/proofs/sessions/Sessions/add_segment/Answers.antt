@@ -6,10 +6,7 @@ use Rattle.fb_tasks.proofs.Additions.{may_add, added-tells, asked_within}
 use Rattle.fb_tasks.proofs.sessions.Sessions.add_segment.Goals as goal
 
 pub index_mut-cleaner-requires : goal.index_mut-cleaner-requires
-index_mut-cleaner-requires c =
-    let r = c.requires in
-    let within = asked_within c.args.map.now r.0 r.1 c.args.task c.args.first c.args.blocks c.args.age c.args.live.now c.self.inside.sessions.items c.args.self.now r.2 r.3 c.self.view_is r.4 in
-    omega (arith, within, c.self.inside.sessions.ok.0)
+index_mut-cleaner-requires c = omega (arith, asked_within c.args.map.now c.requires.0 c.requires.1 c.args.task c.args.first c.args.blocks c.args.age c.args.live.now c.self.inside.sessions.items c.args.self.now c.requires.2 c.requires.3 c.self.view_is c.requires.4, c.self.inside.sessions.ok.0)
 
 pub add-requires-clause-range : goal.add-requires-clause-range
 add-requires-clause-range c =
@@ -35,19 +32,15 @@ returns-clause-ok c =
     added-tells c.args.map.now past call c.args.task c.args.first c.args.blocks c.args.age c.args.live.now c.self.inside.sessions.items c.args.self.now c.index_mut-cleaner.result.now c.add.new.self held is c.self.view_is within c.index_mut-cleaner.ensures.value c.in_ok-add.ensures.ok h
 
 pub invariant_of-self : goal.invariant_of-self
-invariant_of-self c =
-    let r = c.requires in
-    let within = asked_within c.args.map.now r.0 r.1 c.args.task c.args.first c.args.blocks c.args.age c.args.live.now c.self.inside.sessions.items c.args.self.now r.2 r.3 c.self.view_is r.4 in
-    listed-more c.self.invariant c.args.task within c.note_touch.new.touched c.note_touch.new.asked c.note_touch.ensures.stay c.note_touch.ensures.asked_stay c.note_touch.ensures.asked_only c.note_touch.ensures.covers
+invariant_of-self c = listed-more c.self.invariant
+    (asked_within c.args.map.now c.requires.0 c.requires.1 c.args.task c.args.first c.args.blocks c.args.age c.args.live.now c.self.inside.sessions.items c.args.self.now c.requires.2 c.requires.3 c.self.view_is c.requires.4) c.note_touch.ensures.stay
 
 pub invariant_of-self-2 : goal.invariant_of-self-2
-invariant_of-self-2 c =
-    let r = c.requires in
-    let within = asked_within c.args.map.now r.0 r.1 c.args.task c.args.first c.args.blocks c.args.age c.args.live.now c.self.inside.sessions.items c.args.self.now r.2 r.3 c.self.view_is r.4 in
-    listed-noted c.self.invariant c.args.task within c.note_touch.new.touched c.note_touch.new.asked c.note_touch.ensures.stay c.note_touch.ensures.asked_stay c.note_touch.ensures.asked_only c.note_touch.ensures.covers c.in_ok-note_touch.ensures.noted c.in_ok-note_touch.ensures.asked_noted _
+invariant_of-self-2 c = listed-noted c.self.invariant
+    (asked_within c.args.map.now c.requires.0 c.requires.1 c.args.task c.args.first c.args.blocks c.args.age c.args.live.now c.self.inside.sessions.items c.args.self.now c.requires.2 c.requires.3 c.self.view_is c.requires.4)
+    c.note_touch.ensures.stay c.in_ok-note_touch.ensures.noted c.in_ok-note_touch.ensures.asked_noted _
 
 pub invariant_of-self-in_err-add : goal.invariant_of-self-in_err-add
-invariant_of-self-in_err-add c =
-    let r = c.requires in
-    let within = asked_within c.args.map.now r.0 r.1 c.args.task c.args.first c.args.blocks c.args.age c.args.live.now c.self.inside.sessions.items c.args.self.now r.2 r.3 c.self.view_is r.4 in
-    listed-noted c.self.invariant c.args.task within c.note_touch.new.touched c.note_touch.new.asked c.note_touch.ensures.stay c.note_touch.ensures.asked_stay c.note_touch.ensures.asked_only c.note_touch.ensures.covers c.in_ok-note_touch.ensures.noted c.in_ok-note_touch.ensures.asked_noted _
+invariant_of-self-in_err-add c = listed-noted c.self.invariant
+    (asked_within c.args.map.now c.requires.0 c.requires.1 c.args.task c.args.first c.args.blocks c.args.age c.args.live.now c.self.inside.sessions.items c.args.self.now c.requires.2 c.requires.3 c.self.view_is c.requires.4)
+    c.note_touch.ensures.stay c.in_ok-note_touch.ensures.noted c.in_ok-note_touch.ensures.asked_noted _

@@ -1,4 +1,4 @@
-use Rattle.std.proofs.Common.{◌∷◌, ◌<◌, length, sym, ◌∙◌, subst, arith}
+use Rattle.std.proofs.Common.{◌∷◌, ◌<◌, length, sym, ◌∙◌, subst, arith, ap}
 use Rattle.fb_model.specs.History.{delivered}
 use Rattle.fb_tasks.specs.Taken.{rows_after}
 use Rattle.fb_tasks.specs.Telling.{MayDeliver}
@@ -32,52 +32,36 @@ test-requires c =
     (c.requires.0, new, record { blocks = held-now c.args.got may c.deliver.new.self c.deliver.ensures; stands = finished.0; at_work = finished.1 })
 
 pub invariant_of-self : goal.invariant_of-self
-invariant_of-self c =
-    let may = subst (λ xs. MayDeliver c.requires.0 c.requires.1 xs c.args.wanted.now c.args.got) (sym c.self.view_is) c.requires.2 in
-    let within : c.args.got.block.task < length c.self.inside.sessions.items = omega (arith, opened c.args.got may, may.tells.as_many) in
-    listed-more c.self.invariant c.args.got.block.task within c.note_touch.new.touched c.note_touch.new.asked c.note_touch.ensures.stay c.note_touch.ensures.asked_stay c.note_touch.ensures.asked_only c.note_touch.ensures.covers
+invariant_of-self c = listed-more c.self.invariant
+    (omega (arith, opened c.args.got c.requires.2, c.requires.2.tells.as_many, ap length c.self.view_is)) c.note_touch.ensures.stay
 
 pub invariant_of-self-in_err-take : goal.invariant_of-self-in_err-take
-invariant_of-self-in_err-take c =
-    let may = subst (λ xs. MayDeliver c.requires.0 c.requires.1 xs c.args.wanted.now c.args.got) (sym c.self.view_is) c.requires.2 in
-    let within : c.args.got.block.task < length c.self.inside.sessions.items = omega (arith, opened c.args.got may, may.tells.as_many) in
-    listed-noted c.self.invariant c.args.got.block.task within c.note_touch.new.touched c.note_touch.new.asked c.note_touch.ensures.stay c.note_touch.ensures.asked_stay c.note_touch.ensures.asked_only c.note_touch.ensures.covers c.in_ok-note_touch.ensures.noted c.in_ok-note_touch.ensures.asked_noted _
+invariant_of-self-in_err-take c = listed-noted c.self.invariant (omega (arith, opened c.args.got c.requires.2, c.requires.2.tells.as_many, ap length c.self.view_is))
+    c.note_touch.ensures.stay c.in_ok-note_touch.ensures.noted c.in_ok-note_touch.ensures.asked_noted _
 
 pub invariant_of-self-in_err-findings : goal.invariant_of-self-in_err-findings
-invariant_of-self-in_err-findings c =
-    let may = subst (λ xs. MayDeliver c.requires.0 c.requires.1 xs c.args.wanted.now c.args.got) (sym c.self.view_is) c.requires.2 in
-    let within : c.args.got.block.task < length c.self.inside.sessions.items = omega (arith, opened c.args.got may, may.tells.as_many) in
-    listed-noted c.self.invariant c.args.got.block.task within c.note_touch.new.touched c.note_touch.new.asked c.note_touch.ensures.stay c.note_touch.ensures.asked_stay c.note_touch.ensures.asked_only c.note_touch.ensures.covers c.in_ok-note_touch.ensures.noted c.in_ok-note_touch.ensures.asked_noted _
+invariant_of-self-in_err-findings c = listed-noted c.self.invariant (omega (arith, opened c.args.got c.requires.2, c.requires.2.tells.as_many, ap length c.self.view_is))
+    c.note_touch.ensures.stay c.in_ok-note_touch.ensures.noted c.in_ok-note_touch.ensures.asked_noted _
 
 pub invariant_of-self-in_err-push : goal.invariant_of-self-in_err-push
-invariant_of-self-in_err-push c =
-    let may = subst (λ xs. MayDeliver c.requires.0 c.requires.1 xs c.args.wanted.now c.args.got) (sym c.self.view_is) c.requires.2 in
-    let within : c.args.got.block.task < length c.self.inside.sessions.items = omega (arith, opened c.args.got may, may.tells.as_many) in
-    listed-noted c.self.invariant c.args.got.block.task within c.note_touch.new.touched c.note_touch.new.asked c.note_touch.ensures.stay c.note_touch.ensures.asked_stay c.note_touch.ensures.asked_only c.note_touch.ensures.covers c.in_ok-note_touch.ensures.noted c.in_ok-note_touch.ensures.asked_noted _
+invariant_of-self-in_err-push c = listed-noted c.self.invariant (omega (arith, opened c.args.got c.requires.2, c.requires.2.tells.as_many, ap length c.self.view_is))
+    c.note_touch.ensures.stay c.in_ok-note_touch.ensures.noted c.in_ok-note_touch.ensures.asked_noted _
 
 pub invariant_of-self-in_err-push_findings : goal.invariant_of-self-in_err-push_findings
-invariant_of-self-in_err-push_findings c =
-    let may = subst (λ xs. MayDeliver c.requires.0 c.requires.1 xs c.args.wanted.now c.args.got) (sym c.self.view_is) c.requires.2 in
-    let within : c.args.got.block.task < length c.self.inside.sessions.items = omega (arith, opened c.args.got may, may.tells.as_many) in
-    listed-noted c.self.invariant c.args.got.block.task within c.note_touch.new.touched c.note_touch.new.asked c.note_touch.ensures.stay c.note_touch.ensures.asked_stay c.note_touch.ensures.asked_only c.note_touch.ensures.covers c.in_ok-note_touch.ensures.noted c.in_ok-note_touch.ensures.asked_noted _
+invariant_of-self-in_err-push_findings c = listed-noted c.self.invariant (omega (arith, opened c.args.got c.requires.2, c.requires.2.tells.as_many, ap length c.self.view_is))
+    c.note_touch.ensures.stay c.in_ok-note_touch.ensures.noted c.in_ok-note_touch.ensures.asked_noted _
 
 pub invariant_of-self-in_err-test_segment : goal.invariant_of-self-in_err-test_segment
-invariant_of-self-in_err-test_segment c =
-    let may = subst (λ xs. MayDeliver c.requires.0 c.requires.1 xs c.args.wanted.now c.args.got) (sym c.self.view_is) c.requires.2 in
-    let within : c.args.got.block.task < length c.self.inside.sessions.items = omega (arith, opened c.args.got may, may.tells.as_many) in
-    listed-noted c.self.invariant c.args.got.block.task within c.note_touch.new.touched c.note_touch.new.asked c.note_touch.ensures.stay c.note_touch.ensures.asked_stay c.note_touch.ensures.asked_only c.note_touch.ensures.covers c.in_ok-note_touch.ensures.noted c.in_ok-note_touch.ensures.asked_noted _
+invariant_of-self-in_err-test_segment c = listed-noted c.self.invariant (omega (arith, opened c.args.got c.requires.2, c.requires.2.tells.as_many, ap length c.self.view_is))
+    c.note_touch.ensures.stay c.in_ok-note_touch.ensures.noted c.in_ok-note_touch.ensures.asked_noted _
 
 pub invariant_of-self-in_err-test : goal.invariant_of-self-in_err-test
-invariant_of-self-in_err-test c =
-    let may = subst (λ xs. MayDeliver c.requires.0 c.requires.1 xs c.args.wanted.now c.args.got) (sym c.self.view_is) c.requires.2 in
-    let within : c.args.got.block.task < length c.self.inside.sessions.items = omega (arith, opened c.args.got may, may.tells.as_many) in
-    listed-noted c.self.invariant c.args.got.block.task within c.note_touch.new.touched c.note_touch.new.asked c.note_touch.ensures.stay c.note_touch.ensures.asked_stay c.note_touch.ensures.asked_only c.note_touch.ensures.covers c.in_ok-note_touch.ensures.noted c.in_ok-note_touch.ensures.asked_noted _
+invariant_of-self-in_err-test c = listed-noted c.self.invariant (omega (arith, opened c.args.got c.requires.2, c.requires.2.tells.as_many, ap length c.self.view_is))
+    c.note_touch.ensures.stay c.in_ok-note_touch.ensures.noted c.in_ok-note_touch.ensures.asked_noted _
 
 pub invariant_of-self-2 : goal.invariant_of-self-2
-invariant_of-self-2 c =
-    let may = subst (λ xs. MayDeliver c.requires.0 c.requires.1 xs c.args.wanted.now c.args.got) (sym c.self.view_is) c.requires.2 in
-    let within : c.args.got.block.task < length c.self.inside.sessions.items = omega (arith, opened c.args.got may, may.tells.as_many) in
-    listed-noted c.self.invariant c.args.got.block.task within c.note_touch.new.touched c.note_touch.new.asked c.note_touch.ensures.stay c.note_touch.ensures.asked_stay c.note_touch.ensures.asked_only c.note_touch.ensures.covers c.in_ok-note_touch.ensures.noted c.in_ok-note_touch.ensures.asked_noted _
+invariant_of-self-2 c = listed-noted c.self.invariant (omega (arith, opened c.args.got c.requires.2, c.requires.2.tells.as_many, ap length c.self.view_is))
+    c.note_touch.ensures.stay c.in_ok-note_touch.ensures.noted c.in_ok-note_touch.ensures.asked_noted _
 
 pub returns-clause-tells : goal.returns-clause-tells
 returns-clause-tells c = λ disk past outer.

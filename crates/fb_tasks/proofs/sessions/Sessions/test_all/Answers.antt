@@ -12,7 +12,7 @@ use Rattle.fb_tasks.proofs.Lists.{some_at}
 use Rattle.fb_tasks.specs.Listing.{AreListed}
 use Rattle.fb_tasks.specs.Leaving.{OnlyTouched}
 use Rattle.fb_tasks.proofs.Leaving.{grown_not, grown_more, touched_none, touched_set}
-use Rattle.fb_tasks.proofs.Listed.{listed-set, listed-less}
+use Rattle.fb_tasks.proofs.Listed.{listed-set, listed-less, listed-there}
 use Rattle.fb_tasks.proofs.AllTested.{AreAllRows, none_tested, chosen_at, one_tested, rows_more, ends_of, tested-to, rows-to, tells-tested}
 use Rattle.fb_tasks.proofs.RowsOf.{rows-given, nothing-mute}
 use Rattle.fb_tasks.proofs.sessions.Sessions.test_all.Goals as goal
@@ -38,7 +38,7 @@ test-requires c =
     let items = c.loop-task.self-inside.sessions.items in
     let n = c.in-Some.task in
     let within : n < length items = inv.kept.within n (inv.kept.covered n c.in-Some.ensures.found) in
-    let there = slice_get-get_or items n c.index_mut-session.result.now within ∙ ap Some (sym c.index_mut-session.ensures.value) in
+    let there = listed-there inv.kept n c.index_mut-session.result.now c.in-Some.ensures.found c.index_mut-session.ensures.value in
     let is = tested-to c.args.wanted.now olds items c.loop-task.from n c.in-Some.ensures.from (omega (arith, within)) (λ k s low high at. c.in-Some.ensures.first k s low high (ap (λ xs. slice_get xs k) c.deref.ensures.value ∙ at)) inv.sessions in
     (c.requires.0, c.requires.1, chosen_at chosen n c.index_mut-session.result.now (sym (is.later n (omega arith)) ∙ there))
 
@@ -52,7 +52,7 @@ loop-task-preserved c =
     let items = c.loop-task.self-inside.sessions.items in
     let n = c.in-Some.task in
     let within : n < length items = inv.kept.within n (inv.kept.covered n c.in-Some.ensures.found) in
-    let there = slice_get-get_or items n c.index_mut-session.result.now within ∙ ap Some (sym c.index_mut-session.ensures.value) in
+    let there = listed-there inv.kept n c.index_mut-session.result.now c.in-Some.ensures.found c.index_mut-session.ensures.value in
     let is = tested-to c.args.wanted.now olds items c.loop-task.from n c.in-Some.ensures.from (omega (arith, within)) (λ k s low high at. c.in-Some.ensures.first k s low high (ap (λ xs. slice_get xs k) c.deref.ensures.value ∙ at)) inv.sessions in
     record {
       kept = listed-less inv.kept n (record c.test.new.self { touched = false }) c.forget.new.list c.forget-in-Some.new.list c.is_open_backup-is_open_backup.result c.in-Some.ensures.found refl c.is_open_backup-is_open_backup.ensures
@@ -100,7 +100,7 @@ returns-in_err-test-clause-stay_sessions c =
     let inv = c.loop-task.invariant in
     let items = c.loop-task.self-inside.sessions.items in
     let n = c.in-Some.task in
-    let there = slice_get-get_or items n c.index_mut-session.result.now (inv.kept.within n (inv.kept.covered n c.in-Some.ensures.found)) ∙ ap Some (sym c.index_mut-session.ensures.value) in
+    let there = listed-there inv.kept n c.index_mut-session.result.now c.in-Some.ensures.found c.index_mut-session.ensures.value in
     touched_set c.args.self.now items n c.index_mut-session.result.now c.test.new.self there (c.in-Some.ensures.touched c.index_mut-session.result.now (ap (λ xs. slice_get xs n) c.deref.ensures.value ∙ there)) c.test.ensures.same inv.stay
 
 pub returns-in_err-test-clause-stay_rows : goal.returns-in_err-test-clause-stay_rows

@@ -6,14 +6,10 @@ use Rattle.fb_tasks.proofs.Listed.{listed-more, listed-noted}
 use Rattle.fb_tasks.proofs.sessions.Sessions.touch.Goals as goal
 
 pub invariant_of-self : goal.invariant_of-self
-invariant_of-self c =
-    let within : c.args.task < length c.self.inside.sessions.items = subst (λ xs. c.args.task < length xs) (sym c.self.view_is) c.requires in
-    listed-more c.self.invariant c.args.task within c.note_touch.new.touched c.note_touch.new.asked c.note_touch.ensures.stay c.note_touch.ensures.asked_stay c.note_touch.ensures.asked_only c.note_touch.ensures.covers
+invariant_of-self c = listed-more c.self.invariant (rw c.self.view_is c.requires) c.note_touch.ensures.stay
 
 pub invariant_of-self-2 : goal.invariant_of-self-2
-invariant_of-self-2 c =
-    let within : c.args.task < length c.self.inside.sessions.items = subst (λ xs. c.args.task < length xs) (sym c.self.view_is) c.requires in
-    listed-noted c.self.invariant c.args.task within c.note_touch.new.touched c.note_touch.new.asked c.note_touch.ensures.stay c.note_touch.ensures.asked_stay c.note_touch.ensures.asked_only c.note_touch.ensures.covers c.in_ok-note_touch.ensures.noted c.in_ok-note_touch.ensures.asked_noted _
+invariant_of-self-2 c = listed-noted c.self.invariant (rw c.self.view_is c.requires) c.note_touch.ensures.stay c.in_ok-note_touch.ensures.noted c.in_ok-note_touch.ensures.asked_noted _
 
 pub returns-clause-ok : goal.returns-clause-ok
 returns-clause-ok c = λ session at.

@@ -11,33 +11,14 @@ index-requires c =
     let r = c.requires in
     omega (arith, want_within c.args.map.now r.0 r.1 c.args.task c.args.first c.args.count c.self.inside.sessions.items c.args.self.now c.args.wanted.now r.2 c.self.view_is r.3, c.self.inside.sessions.ok.0)
 
-pub want_range-requires-clause-block : goal.want_range-requires-clause-block
-want_range-requires-clause-block c =
+pub want_range-requires : goal.want_range-requires
+want_range-requires c =
     let r = c.requires in
     let within = want_within c.args.map.now r.0 r.1 c.args.task c.args.first c.args.count c.self.inside.sessions.items c.args.self.now c.args.wanted.now r.2 c.self.view_is r.3 in
     let there = slice_get-get_or c.self.inside.sessions.items c.args.task c.index.result.now within ∙ ap Some (sym c.index.ensures) in
-    (may_want c.args.map.now r.0 r.1 c.args.task c.args.first c.args.count c.self.inside.sessions.items c.index.result.now c.args.wanted.now r.2 there (subst (λ xs. MayTake c.args.map.now r.0 xs c.args.wanted.now r.1) (sym c.self.view_is) r.3)).stands.block
-
-pub want_range-requires-clause-weight : goal.want_range-requires-clause-weight
-want_range-requires-clause-weight c =
-    let r = c.requires in
-    let within = want_within c.args.map.now r.0 r.1 c.args.task c.args.first c.args.count c.self.inside.sessions.items c.args.self.now c.args.wanted.now r.2 c.self.view_is r.3 in
-    let there = slice_get-get_or c.self.inside.sessions.items c.args.task c.index.result.now within ∙ ap Some (sym c.index.ensures) in
-    (may_want c.args.map.now r.0 r.1 c.args.task c.args.first c.args.count c.self.inside.sessions.items c.index.result.now c.args.wanted.now r.2 there (subst (λ xs. MayTake c.args.map.now r.0 xs c.args.wanted.now r.1) (sym c.self.view_is) r.3)).stands.weight
-
-pub want_range-requires-clause-on_disk : goal.want_range-requires-clause-on_disk
-want_range-requires-clause-on_disk c =
-    let r = c.requires in
-    let within = want_within c.args.map.now r.0 r.1 c.args.task c.args.first c.args.count c.self.inside.sessions.items c.args.self.now c.args.wanted.now r.2 c.self.view_is r.3 in
-    let there = slice_get-get_or c.self.inside.sessions.items c.args.task c.index.result.now within ∙ ap Some (sym c.index.ensures) in
-    (may_want c.args.map.now r.0 r.1 c.args.task c.args.first c.args.count c.self.inside.sessions.items c.index.result.now c.args.wanted.now r.2 there (subst (λ xs. MayTake c.args.map.now r.0 xs c.args.wanted.now r.1) (sym c.self.view_is) r.3)).on_disk
-
-pub want_range-requires-clause-few : goal.want_range-requires-clause-few
-want_range-requires-clause-few c =
-    let r = c.requires in
-    let within = want_within c.args.map.now r.0 r.1 c.args.task c.args.first c.args.count c.self.inside.sessions.items c.args.self.now c.args.wanted.now r.2 c.self.view_is r.3 in
-    let there = slice_get-get_or c.self.inside.sessions.items c.args.task c.index.result.now within ∙ ap Some (sym c.index.ensures) in
-    (may_want c.args.map.now r.0 r.1 c.args.task c.args.first c.args.count c.self.inside.sessions.items c.index.result.now c.args.wanted.now r.2 there (subst (λ xs. MayTake c.args.map.now r.0 xs c.args.wanted.now r.1) (sym c.self.view_is) r.3)).few
+    let may = may_want c.args.map.now r.0 r.1 c.args.task c.args.first c.args.count c.self.inside.sessions.items c.index.result.now c.args.wanted.now r.2 there
+    (subst (λ xs. MayTake c.args.map.now r.0 xs c.args.wanted.now r.1) (sym c.self.view_is) r.3) in
+    record { block = may.stands.block; weight = may.stands.weight; on_disk = may.on_disk; few = may.few }
 
 pub touch-requires : goal.touch-requires
 touch-requires c =
