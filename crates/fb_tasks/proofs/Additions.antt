@@ -1,30 +1,43 @@
--- A log segment is added to a session.
-use Rattle.std.proofs.Common.{◌≡◌, ℕ, zero, suc, ◌+◌, ◌-◌, ◌*◌, ◌^◌, ◌<◌, ◌≤◌, ◌==◌, List, [], ◌∷◌, ◌++◌, Bool, true, false, Some, Option, length, map, set, get_or, slice_get, append-nil, length-append, refl, ap, sym, ◌∙◌, arith, subst}
-use Rattle.std.specs.List.{AllByRecursion, slice_index_or}
-use Rattle.std.proofs.lemmas.Bool.{true≢false}
+-- A log segment is added to a session, or a range is wanted for one.
+use Rattle.std.proofs.Common.{◌≡◌, ℕ, zero, suc, ◌+◌, ◌-◌, ◌*◌, ◌^◌, ◌<◌, ◌≤◌, ◌==◌, List, [], ◌∷◌, ◌++◌, Bool, true, false, Some, Option, length, map, set, get_or, slice_get, append-nil, length-append, refl, ap, sym, ◌∙◌, arith, subst, ◌&&◌, not, if◌then◌else◌}
+use Rattle.std.specs.List.{AllByRecursion, slice_index_or, list_any}
+use Rattle.std.proofs.lemmas.Bool.{true≢false, and_parts}
 use Rattle.std.proofs.lemmas.List.{length-map, map-append}
 use Rattle.std.proofs.lemmas.Option.{slice_get-get_or}
 use Rattle.fb_geometry.specs.Shape.{Shape}
 use Rattle.fb_geometry.specs.Places.{places}
-use Rattle.fb_calls.specs.declared.call.Action.TheVariants.{Segment}
+use Rattle.fb_calls.specs.declared.call.Action.TheVariants.{Segment, Want}
 use Rattle.fb_calls.specs.declared.call.Call.{Call}
-use Rattle.fb_calls.specs.Allowed as allowed
-use Rattle.fb_calls.specs.Allowed.{MayAsk}
-use Rattle.fb_calls.specs.Sessions.{is_clean}
+use Rattle.fb_calls.specs.Allowed.{MayAsk, has_want}
+use Rattle.fb_calls.specs.Sessions.{is_clean, is_backup}
 use Rattle.fb_store.specs.declared.content.Content.{Content}
 use Rattle.fb_store.specs.Index.{held_at}
 use Rattle.fb_wanted.specs.declared.block.Entry.{Entry}
-use Rattle.fb_clean.specs.Segments as clean
-use Rattle.fb_model.specs.History.{Past, LogSegment, called, calls_of, opened_by, tasks, registered}
-use Rattle.fb_model.specs.Completion.{Choice, TaskView, view, state_in, added_view, is_over, is_unsealed, is_choice_of}
-use Rattle.fb_model.proofs.Views.{called-silent, added-view}
+use Rattle.fb_model.specs.History.{Past, LogSegment, called, calls_of, opened_by, tasks, registered, same_block}
+use Rattle.fb_model.specs.Completion.{Choice, TaskView, view, state_in, added_view, is_over, is_unsealed, is_choice_of, own_of, wanted_view}
+use Rattle.fb_model.proofs.Views.{called-silent, added-view, wanted-silent, wanted-view}
 use Rattle.fb_tasks.specs.declared.session.Session.{Session}
-use Rattle.fb_tasks.specs.Standing.{IsAtNumber, Told, Cleans, HoldsBlock, HoldsChoice, choice_in, kept_segment, IsSegmentOf, HoldsImage, IsQuiet}
+use Rattle.fb_tasks.specs.Standing.{IsAtNumber, Told, Cleans, HoldsBlock, HoldsChoice, choice_in, kept_segment, IsSegmentOf, HoldsImage, IsQuiet, entry_of, Stands, AreIndexed, Ascend, IsBlockOf, AreReported, IsAtWork}
 use Rattle.fb_tasks.specs.Telling.{Tells, MayTake, IsCall}
 use Rattle.fb_tasks.proofs.Asked.{open_there, terms_there, segments_few}
 use Rattle.fb_tasks.proofs.Frames.{one-tells, kept-entries}
-use Rattle.fb_tasks.proofs.Lists.{all_weaker, all_append, number_other, one_or_other, any_none}
-use Rattle.fb_model.specs.Segments.{is_chosen}
+use Rattle.fb_tasks.proofs.Lists.{all_weaker, all_append, number_other, one_or_other, any_none, some_same, all_with}
+use Rattle.fb_model.specs.Segments.{is_chosen, numbered}
+use Rattle.std.proofs.Math.Seq.{drop-append_seam}
+use Rattle.fb_sectormap.specs.Cutting.{cutting}
+use Rattle.fb_store.specs.Writes.{is_within}
+use Rattle.fb_wanted.specs.declared.block.Block.{Block}
+use Rattle.fb_wanted.specs.declared.block.State.TheVariants.{Wanted}
+use Rattle.fb_wanted.specs.States.{is_delivered}
+use Rattle.fb_model.specs.Steps.{take_call, blocks_by}
+use Rattle.fb_tasks.specs.Keeping.{new_entries}
+use Rattle.fb_tasks.specs.Leaving.{entries_by}
+use Rattle.fb_tasks.proofs.Registered.{named_same, indexed_append, all_member, registered-entries}
+use Rattle.fb_model.proofs.Cuts.{cuts_are}
+use Rattle.fb_tasks.proofs.Cuts.{cuts_placed, cuts_ascend, cuts_indexed, cuts_own, cuts_count}
+use Rattle.fb_calls.specs.Allowed as allowed
+use Rattle.fb_clean.specs.Segments as clean
+use Rattle.fb_wanted.specs.Numbering as numbering
 
 -- nothing was taken as yet for a segment that has just been added
 taken_same : (taken : List (List (ℕ × Option Content))) (i : ℕ) → slice_index_or (taken ++ [] ∷ []) i [] ≡ slice_index_or taken i []
@@ -123,3 +136,113 @@ asked_within disk past call task first blocks age live items seen held is view h
     let asks = subst (λ a. MayAsk disk (calls_of past) call.task a) is.action h.asks in
     let there = open_there past task (subst (λ t. allowed.IsOpen (calls_of past) t) is.task asks.0) in
     omega (arith, there.0, h.tells.as_many, ap length view)
+
+-- an open backup holds nothing as yet, and no other session is an image
+wanted-told : (task : ℕ) (added : List Block) (v : TaskView) (session : Session) → is_clean session.kind ≡ false → is_backup session.kind && v.wants ≡ false → Ascend 0 added → AllByRecursion (λ b. b.task ≡ task) added
+    → Told v session → Told (wanted_view task added v) (record session { touched = true })
+wanted-told task added v session other once ascends own h =
+    let view = wanted_view task added v in
+    let none : is_backup session.kind ≡ true → v.blocks ≡ [] = λ backup. h.unwanted backup (rw backup at once) in
+    let wants : is_backup session.kind ≡ true → true ≡ false → v.blocks ++ added ≡ [] = λ backup never. absurd (true≢false never) in
+    let ascend : is_backup session.kind ≡ true → Ascend 0 (v.blocks ++ added) = λ backup. rw (none backup) ascends in
+    let image : is_unsealed v ≡ true → HoldsImage view.work (held_at session.image) = λ is_open.
+    let empty = none (ap (λ t. is_backup t.kind) (sym h.terms) ∙ (and_parts (is_backup v.terms.kind) (not v.sealed) is_open).0) in record {
+      each = rw empty (all_with (λ b. list_any (same_block b) added ≡ true) (λ b. b.task ≡ task) (HoldsBlock view.work (held_at session.image)) fresh added (all_member added) own);
+      only = λ lbn outside. (h.image is_open).only lbn (ap (list_any (λ b. is_within b.lbn b.count lbn)) empty);
+    } in
+    let log : is_clean session.kind ≡ true → Cleans view.work session.log = λ cleans. absurd (true≢false (sym cleans ∙ other)) in
+    let at_work : IsAtWork view.work session = λ cleans. absurd (true≢false (sym cleans ∙ other)) in
+    let reported : AreReported view.work = rw (h.unchosen other) tt in
+    let quiet : true ≡ false → IsQuiet view = λ untouched. absurd (true≢false untouched) in
+    assumption (wants, ascend, image, log, at_work, reported, quiet, h) where
+      fresh : (b : Block) → list_any (same_block b) added ≡ true → b.task ≡ task → HoldsBlock (wanted_view task added v).work (held_at session.image) b
+      fresh b one mine done = absurd (true≢false (sym done ∙ ap (λ hit. is_delivered (if hit then Wanted else v.bare b)) (ap (λ t. list_any (same_block (own_of t b)) added) (sym mine) ∙ one)))
+
+-- what a want may ask for, of its session
+pub record MayWant (disk : Shape) (past : Past) (task first count : ℕ) (held : List Entry) (session : Session) : Type 0 where
+  pub opened : task < length (tasks past)
+  pub other : is_clean session.kind ≡ false
+  pub once : is_backup session.kind && (view past task).wants ≡ false
+  pub on_disk : first + count ≤ length (places disk)
+  pub few : length held + length (cutting disk session.block first count) ≤ 16000000
+  pub next : numbering.registered task (numbering.blocks_of held) ≡ length (view past task).blocks
+  pub taken : blocks_by disk past task (Want first count) ≡ numbered task session.weight (length (view past task).blocks) (cutting disk session.block first count)
+  pub stands : Stands (view past task) session
+
+pub may_want : (disk : Shape) (past : Past) (call : Call) (task first count : ℕ) (sessions : List Session) (session : Session) (held : List Entry) → IsCall task (Want first count) call
+    → slice_get sessions task ≡ Some session → MayTake disk past sessions held call → MayWant disk past task first count held session
+unfolding view
+may_want disk past call task first count sessions session held is at h =
+    let asks = subst (λ a. MayAsk disk (calls_of past) call.task a) is.action h.asks in
+    let there = open_there past task (subst (λ t. allowed.IsOpen (calls_of past) t) is.task asks.0) in
+    let stands = (h.tells.each task session at).stands in
+    let terms = ap (allowed.terms_of (calls_of past)) is.task ∙ (terms_there past task ∙ stands.terms) in
+    let taken : blocks_by disk past task (Want first count) ≡ numbered task session.weight (length (view past task).blocks) (cutting disk session.block first count) = rw stands.terms refl in
+    let few : length (registered past) + length (blocks_by disk past task (Want first count)) ≤ 16 * 10 ^ 6 = subst (λ t. length (registered past) + length (blocks_by disk past t (Want first count)) ≤ 16 * 10 ^ 6) is.task (subst (λ a. length (registered past) + length (blocks_by disk past call.task a) ≤ 16 * 10 ^ 6) is.action h.few) in
+    record {
+      opened = there.0;
+      other = ap (λ t. is_clean t.kind) (sym terms) ∙ asks.1;
+      once = subst (λ k. is_backup k && has_want (calls_of past) task ≡ false) (ap (λ t. t.kind) terms) (subst (λ t. is_backup (allowed.terms_of (calls_of past) call.task).kind && has_want (calls_of past) t ≡ false) is.task asks.2);
+      on_disk = asks.3.inside;
+      few = omega (arith, few, ap length taken ∙ cuts_count task session.weight (length (view past task).blocks) (cutting disk session.block first count), ap length h.tells.entries, length-map (registered past) (entry_of past));
+      next = ap (λ es. numbering.registered task (numbering.blocks_of es)) h.tells.entries ∙ ap (numbering.registered task) (named_same past (registered past));
+      taken = taken;
+      stands = stands;
+    }
+
+module _ (disk : Shape) (past : Past) (call : Call) (task first count : ℕ) (is : IsCall task (Want first count) call) (added : List Block) (own : AllByRecursion (λ b. b.task ≡ task) added) where
+  mine : AllByRecursion (λ b. b.task ≡ call.task) added
+  mine = rw is.task own
+
+  pub wanting-tells : (sessions : List Session) (session : Session) (held now : List Entry) → slice_get sessions task ≡ Some session → task < length (tasks past) → is_clean session.kind ≡ false → is_backup session.kind && (view past task).wants ≡ false
+      → Ascend 0 added → AreIndexed (length (view past task).blocks) added → AllByRecursion (IsBlockOf disk (length (tasks past))) added
+      → now ≡ held ++ new_entries session added → Tells disk past sessions held → Tells disk (called call added ∷ past) (set sessions task (record session { touched = true })) now
+  wanting-tells sessions session held now there opened other once ascends after on_disk pushed h =
+      let kept : tasks (called call added ∷ past) ≡ tasks past = ap (λ a. opened_by a (tasks past)) is.action in
+      let own_now = wanted-view past call first count is.action added mine task is.task in
+      let others = λ (t : ℕ) (far : (task == t) ≡ false). wanted-silent past call first count is.action added mine t (ap (λ k. k == t) is.task ∙ far) in
+      let told = h.each task session there in
+      let placed = h.placed task in
+      one-tells disk past (called call added) task others kept sessions (record session { touched = true }) held now opened
+      (all_append (IsBlockOf disk (length (tasks past))) (registered past) added h.on_disk on_disk)
+      (registered-entries past (called call added ∷ past) task added others (λ block. ap (λ v. v.bare block) own_now) (ap (λ v. v.suspended) own_now) placed.indexed after own session held now told.suspended h.entries pushed)
+      (rw own_now (record { indexed = indexed_append 0 (view past task).blocks added placed.indexed (let e : length (view past task).blocks ≡ 0 + length (view past task).blocks = omega arith in subst (λ n. AreIndexed n added) e after); segments = placed.segments }))
+      (rw own_now (wanted-told task added (view past task) session other once ascends own told)) h
+
+pub wanted-tells : (disk : Shape) (past : Past) (call : Call) (task first count : ℕ) (items seen touched : List Session) (session : Session) (held now : List Entry) → length (places disk) ≤ 10 ^ 12 → IsCall task (Want first count) call → items ≡ seen → task < length items → session ≡ get_or items task session
+    → now ≡ held ++ new_entries session (numbered task session.weight (numbering.registered task (numbering.blocks_of held)) (cutting disk session.block first count))
+    → ((s : Session) → slice_get seen task ≡ Some s → touched ≡ set seen task (record s { touched = true }))
+    → MayTake disk past seen held call → Tells disk (take_call disk past call) touched now
+wanted-tells disk past call task first count items seen touched session held now small is same within at pushed flagged h =
+    let there : slice_get seen task ≡ Some session = subst (λ xs. slice_get xs task ≡ Some session) same (slice_get-get_or items task session within ∙ ap Some (sym at)) in
+    let may = may_want disk past call task first count seen session held is there h in
+    let told = h.tells.each task session there in
+    let placed = h.tells.placed task in
+    let taken : blocks_by disk past call.task call.action ≡ numbered task session.weight (length (view past task).blocks) (cutting disk session.block first count) = ap (λ t. blocks_by disk past t call.action) is.task ∙ (ap (blocks_by disk past task) is.action ∙ may.taken) in
+    let next = length (view past task).blocks in
+    let cuts = cutting disk session.block first count in
+    let are = cuts_are disk session.block first count may.stands.block.0 in
+    let added_are : numbered task session.weight (numbering.registered task (numbering.blocks_of held)) cuts ≡ numbered task session.weight next cuts = ap (λ n. numbered task session.weight n cuts) may.next in
+    rw (taken, flagged session there) (wanting-tells disk past call task first count is (numbered task session.weight next cuts) (cuts_own task session.weight next cuts) seen session held now there may.opened may.other may.once
+    (cuts_ascend disk task session.weight session.block next first (first + count) 0 cuts (omega arith) are) (cuts_indexed task session.weight next cuts)
+    (cuts_placed disk (length (tasks past)) task session.weight session.block next first (first + count) cuts may.opened may.stands.weight may.stands.block.1 may.on_disk (omega (arith, may.on_disk, small)) are)
+    (pushed ∙ ap (λ bs. held ++ new_entries session bs) added_are) h.tells)
+
+pub want_within : (disk : Shape) (past : Past) (call : Call) (task first count : ℕ) (items seen : List Session) (held : List Entry) → IsCall task (Want first count) call → items ≡ seen → MayTake disk past seen held call → task < length items
+want_within disk past call task first count items seen held is view h =
+    let asks = subst (λ a. MayAsk disk (calls_of past) call.task a) is.action h.asks in
+    let there = open_there past task (subst (λ t. allowed.IsOpen (calls_of past) t) is.task asks.0) in
+    omega (arith, there.0, h.tells.as_many, ap length view)
+
+-- what a want registers are the blocks that the call gives, in their states
+pub wanted_due : (disk : Shape) (past : Past) (call : Call) (task first count : ℕ) (items seen : List Session) (session : Session) (held : List Entry) → length (places disk) ≤ 10 ^ 12 → IsCall task (Want first count) call → items ≡ seen → task < length items → session ≡ get_or items task session
+    → MayTake disk past seen held call → new_entries session (numbered task session.weight (numbering.registered task (numbering.blocks_of held)) (cutting disk session.block first count)) ≡ entries_by disk past call
+wanted_due disk past call task first count items seen session held small is same within at h =
+    let there : slice_get seen task ≡ Some session = rw (sym same) (slice_get-get_or items task session within ∙ ap Some (sym at)) in
+    let added = new_entries session (numbered task session.weight (numbering.registered task (numbering.blocks_of held)) (cutting disk session.block first count)) in
+    let entry = entry_of (take_call disk past call) in
+    let tells = wanted-tells disk past call task first count items seen (set seen task (record session { touched = true })) session held (held ++ added) small is same within at refl
+    (λ s here. ap (λ (x : Session). set seen task (record x { touched = true })) (some_same session s (sym there ∙ here))) h in
+    let all : held ++ added ≡ map entry (registered past) ++ entries_by disk past call = tells.entries ∙ map-append entry (registered past) (blocks_by disk past call.task call.action) in
+    let size : length held ≡ length (map entry (registered past)) = rw h.tells.entries (simp length-map) in
+    sym (drop-append_seam held added) ∙ rw (all, size) (drop-append_seam (map entry (registered past)) (entries_by disk past call))

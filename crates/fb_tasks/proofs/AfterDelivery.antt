@@ -29,14 +29,14 @@ use Rattle.fb_tasks.specs.Standing.{entry_of, choice_in, AreReported, MayFinish,
 use Rattle.fb_tasks.specs.Telling.{Tells, IsSettled, MayDeliver}
 use Rattle.fb_tasks.proofs.Lists.{all_at, number_other, same_number, other_number, some_at, map_at, each_set, flat_none, all_range}
 use Rattle.fb_tasks.proofs.RowsOf.{rows-given, seals_given, findings-mute}
-use Rattle.fb_tasks.proofs.Tested.{settled-tested}
+use Rattle.fb_tasks.proofs.Tested.{settled-tested, AreAllRows, tells-tested, still-stands, no-ends}
 use Rattle.fb_tasks.proofs.States.{flagged-stands}
-use Rattle.fb_tasks.proofs.AllTested.{AreAllRows, tells-tested, still-stands, no-ends}
-use Rattle.fb_tasks.proofs.Deliveries.{delivered-entries}
-use Rattle.fb_tasks.proofs.OwnDelivery.{WasWanted, was_wanted, delivered-holds, delivered-stands, at_work_now}
+use Rattle.fb_tasks.proofs.Deliveries.{delivered-entries, WasWanted, was_wanted, delivered-holds, delivered-stands, at_work_now}
 use Rattle.fb_tasks.proofs.Complete.{done_is, was_is}
 use Rattle.fb_tasks.proofs.Sealed.{open_is}
 use Rattle.fb_tasks.proofs.Turns.{reported_rows}
+use Rattle.fb_tasks.specs.Leaving.{HasBegun}
+use Rattle.fb_tasks.proofs.Leaving.{begun_after, begun_longer, begun_same}
 
 -- where one number alone gives anything
 flat_one : {X : Type 0} (f : ℕ → List X) (k a n : ℕ) → a ≤ k → k < a + n → ((j : ℕ) → a ≤ j → j < a + n → (j ≡ k → ⊥) → f j ≡ []) → flat_map f (range_with_len a n) ≡ f k
@@ -65,8 +65,8 @@ module _ {disk : Shape} {past : Past} {sessions : List Session} {held : List Ent
     told-other : (session : Session) → slice_get sessions task ≡ Some session → Told (view (delivered got ∷ past) task) session
     told-other session at = rw silent (may.tells.each task session at)
 
-    found : (session : Session) × (slice_get sessions task ≡ Some session)
-    found = some_at sessions task (subst (λ n. task < n) (sym may.tells.as_many) less)
+    there : (session : Session) × (slice_get sessions task ≡ Some session)
+    there = some_at sessions task (subst (λ n. task < n) (sym may.tells.as_many) less)
 
     still-complete : is_complete (delivered got ∷ past) task ≡ is_complete past task
     still-complete = sym (done_is (delivered got ∷ past) task) ∙ (ap (λ v. is_done v.work) silent ∙ done_is past task)
@@ -77,7 +77,7 @@ module _ {disk : Shape} {past : Past} {sessions : List Session} {held : List Ent
         ∙ (sym (seals_given by_deliveries past 0 task) ∙ ap (list_any (is_seal_of task)) (may.settled.no_rows by_deliveries 0))
 
     no_segments : (now : ℕ) → segment_rows by_deliveries (delivered got ∷ past) now task ≡ []
-    no_segments now = reported_rows (delivered got ∷ past) now task (told-other found.0 found.1).reported
+    no_segments now = reported_rows (delivered got ∷ past) now task (told-other there.0 there.1).reported
 
     no_ends : (now : ℕ) → (seal_rows by_deliveries (delivered got ∷ past) now task ++ complete_rows (delivered got ∷ past) now task) ≡ []
     no_ends now = no-ends (delivered got ∷ past) now task unsealed-other (may.settled.tested task ∙ sym still-complete)
@@ -205,3 +205,38 @@ module _ {disk : Shape} {past : Past} {sessions : List Session} {held : List Ent
       → rows ≡ old ++ GotLine got ∷ rows_after past got
   rows-one_by_one old with_got with_findings with_segment rows kind lbns same is pushed found segment ends =
       all-rows got may old rows (rw (ends, segment, found, pushed, findings_same got may kind lbns same is) refl)
+
+module _ {disk : Shape} {past : Past} {sessions : List Session} {held : List Entry} (got : DeliveryRow) (may : MayDeliver disk past sessions held got)
+    (old with_got : List BackRow) (kind : Kind) (lbns : List ℕ) (same : (terms_of past got.block.task).kind ≡ kind) (is : lbns ≡ (if is_scrub kind then bad_sectors got.content else [])) (pushed : with_got ≡ old ++ GotLine got ∷ []) where
+  abbrev found : List BackRow
+  found = map (λ lbn. BadLine (record { task = got.block.task; lbn = lbn })) lbns
+
+  abbrev segments : List BackRow
+  segments = segment_rows by_deliveries (delivered got ∷ past) got.end got.block.task
+
+  abbrev seals : List BackRow
+  seals = seal_rows by_deliveries (delivered got ∷ past) got.end got.block.task
+
+  abbrev ends : List BackRow
+  ends = complete_rows (delivered got ∷ past) got.end got.block.task
+
+  abbrev Begun : List BackRow → Type 0
+  Begun new = HasBegun old (GotLine got ∷ rows_after past got) new
+
+  due : (new : List BackRow) → HasBegun old (((GotLine got ∷ [] ++ found) ++ segments) ++ (seals ++ ends)) new → Begun new
+  due new h = subst (λ rows. HasBegun old rows new)
+      (sym (append_assoc ((GotLine got ∷ [] ++ found) ++ segments) seals ends)
+      ∙ rows-one_by_one got may [] (GotLine got ∷ []) (GotLine got ∷ [] ++ found) ((GotLine got ∷ [] ++ found) ++ segments) ((((GotLine got ∷ [] ++ found) ++ segments) ++ seals) ++ ends) kind lbns same is refl refl refl refl) h
+
+  pub begun-findings : (new : List BackRow) → HasBegun with_got found new → Begun new
+  begun-findings new h = due new (begun_longer (seals ++ ends) (begun_longer segments (begun_after (GotLine got ∷ []) pushed h)))
+
+  module _ (with_findings : List BackRow) (added : with_findings ≡ with_got ++ found) where
+    all_found : with_findings ≡ old ++ (GotLine got ∷ [] ++ found)
+    all_found = rw (added, pushed) (append_assoc old (GotLine got ∷ []) found)
+
+    pub begun-segment : (new : List BackRow) → new ≡ with_findings → Begun new
+    begun-segment new none = due new (begun_longer (seals ++ ends) (begun_after (GotLine got ∷ [] ++ found) all_found (begun_same none)))
+
+    pub begun-ends : (with_segment new : List BackRow) → with_segment ≡ with_findings ++ segments → HasBegun with_segment (seals ++ ends) new → Begun new
+    begun-ends with_segment new cleaned h = due new (begun_after ((GotLine got ∷ [] ++ found) ++ segments) (rw (cleaned, all_found, append_assoc) refl) h)

@@ -23,10 +23,9 @@ pub use Rattle.fb_tasks.proofs.Lists.{all_range}
 use Rattle.fb_tasks.proofs.Lists.{flat_same, some_at, number_other, other_number, each_set, one_or_other, step_to}
 use Rattle.fb_tasks.proofs.ChosenSegment.{best_left, chosen_blocks, added_own}
 use Rattle.fb_tasks.proofs.ChoiceSteps.{segment_rows_of, segment_rows_is, few_less, next_view, numbered_is, once_is, best_of_left}
-use Rattle.fb_tasks.proofs.Turns.{in_is, reported_rows}
-use Rattle.fb_tasks.proofs.LastChoice.{stays, no-choice-left}
+use Rattle.fb_tasks.proofs.Turns.{in_is, reported_rows, stays, no-choice-left}
 use Rattle.fb_tasks.proofs.Cuts.{range_next}
-use Rattle.fb_tasks.proofs.AllTested.{rows_more}
+use Rattle.fb_tasks.proofs.Tested.{rows_more}
 
 -- what holds of a history and of each choice from it holds after a turn
 once_any : (P : Past → Type 0) (disk : Shape) (task : ℕ) (past : Past) → P past → ((s : LogSegment) (ss : List LogSegment) → unchosen (view past task).work ≡ s ∷ ss → P (chose task (best_of is_better s ss) (chosen_blocks disk task (view past task) (best_of is_better s ss)) ∷ past)) → P (choose_once disk task past)

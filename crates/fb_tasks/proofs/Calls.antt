@@ -1,25 +1,201 @@
--- The calls of a script take effect one after another, and other events leave them as they are.
-use Rattle.std.proofs.Common.{◌≡◌, ℕ, zero, suc, ◌+◌, ◌^◌, ◌<◌, List, [], ◌∷◌, ◌++◌, Some, length, length-take, take, drop, slice_get, append-nil, append_assoc, refl, ap, sym, ◌∙◌, arith, subst}
-use Rattle.std.proofs.lemmas.List.{drop_more, take_more}
-use Rattle.std.proofs.lemmas.Option.{slice_get_within, get_or_from_slice_get}
-use Rattle.fb_units.specs.declared.types.Request.{Request}
+-- The calls of a script take effect one after another: how many blocks are registered or can be by choices, and that other events leave it as it is.
+use Rattle.std.proofs.Common.{◌≡◌, ℕ, zero, suc, ◌+◌, ◌<◌, ◌≤◌, ◌==◌, not, List, [], ◌∷◌, ◌++◌, Bool, inl, inr, length, filter, length-append, refl, ap, sym, ◌∙◌, arith, subst, ◌^◌, Some, length-take, take, drop, slice_get, append-nil, append_assoc}
+use Rattle.std.specs.List.{AllByRecursion, fold, range_with_len, sum_by}
+use Rattle.std.proofs.lemmas.Bool.{cases_Bool, cases_lt}
+use Rattle.std.proofs.lemmas.List.Elements.{filter-append}
+use Rattle.std.proofs.lemmas.List.Sums.{sum_by-cons, sum_by-append}
 use Rattle.fb_geometry.specs.Shape.{Shape}
+use Rattle.fb_sectormap.specs.Cutting.{cutting}
+use Rattle.fb_units.specs.declared.types.Request.{Request}
+use Rattle.fb_calls.specs.declared.call.Action.{Action}
+use Rattle.fb_calls.specs.declared.call.Action.TheVariants.{Open, Want, Abort, Promote, Suspend, Resume, Close, Segment}
 use Rattle.fb_calls.specs.declared.call.Call.{Call}
-use Rattle.fb_calls.specs.Allowed as allowed
+use Rattle.fb_calls.specs.declared.call.Kind.{Kind}
 use Rattle.fb_calls.specs.Allowed.{MayAsk, AreAllowed, blocks_from}
-use Rattle.fb_calls.specs.Blocks.{blocks_in}
-use Rattle.fb_wanted.specs.declared.block.Entry.{Entry}
+use Rattle.fb_calls.specs.Blocks.{blocks_in, live_cuts}
+use Rattle.fb_wanted.specs.declared.block.Block.{Block}
 use Rattle.fb_rows.specs.declared.back.BackRow.{BackRow}
 use Rattle.fb_rows.specs.declared.back.DeliveryRow.{DeliveryRow}
-use Rattle.fb_model.specs.History.{Past, tested, delivered, finished}
-use Rattle.fb_model.specs.Segments.{with_choices}
-use Rattle.fb_model.specs.Steps.{take_call, with_delivery}
+use Rattle.fb_model.specs.History.{Past, LogSegment, called, chose, tested, delivered, finished, tasks, task_numbers, terms_of, blocks_of, registered, opened_by}
+use Rattle.fb_model.specs.Completion.{view, segments, segment_by}
+use Rattle.fb_model.proofs.Views.{called-silent, opened-silent, opened-view, added-view}
+use Rattle.fb_model.specs.Segments.{next_blocks, is_chosen, choose_in, with_choices}
+use Rattle.fb_model.specs.Steps.{take_call, blocks_by, with_delivery}
+use Rattle.fb_tasks.specs.Standing.{choosable_by, IsSegmentOf, IsUntouched}
+use Rattle.fb_tasks.specs.Telling.{calls_of, choosable, Tells, MayTake}
+use Rattle.fb_tasks.proofs.Lists.{same_number, other_number, number_other}
+use Rattle.fb_tasks.proofs.Asked.{opened_same, open_there, terms_there}
+use Rattle.fb_tasks.proofs.Cuts.{cuts_count, range_next}
+use Rattle.fb_tasks.proofs.Additions.{next_segment}
+use Rattle.fb_tasks.proofs.AllChoices.{in_same, in_tasks, in_fewer, by_task, all_range, sum_range, choosable-same, by_all}
+use Rattle.std.proofs.lemmas.Bool.Decides.{nat_tests}
+use Rattle.std.proofs.lemmas.List.{drop_more, take_more}
+use Rattle.std.proofs.lemmas.Option.{slice_get_within, get_or_from_slice_get}
+use Rattle.fb_wanted.specs.declared.block.Entry.{Entry}
 use Rattle.fb_tasks.specs.declared.session.Session.{Session}
 use Rattle.fb_tasks.specs.Taken.{delivery_of}
-use Rattle.fb_tasks.specs.Telling.{calls_of, Tells, MayTake}
 use Rattle.fb_tasks.specs.Script.{IsCalled}
-use Rattle.fb_tasks.proofs.AllChoices.{by_all}
-use Rattle.fb_tasks.proofs.Few.{choices_less, choosable-tested, choosable-delivered, choosable-finished, call_grows, call_registers}
+use Rattle.fb_calls.specs.Allowed as allowed
+
+-- how many blocks are registered, and how many the choices can register
+abbrev pub in_all : Shape → Past → ℕ
+in_all disk past = length (registered past) + choosable disk past
+
+-- a sum of which one element changed
+sum_changed : (f g : ℕ → ℕ) (a n k x y : ℕ) → a ≤ k → k < a + n → ((j : ℕ) → (k ≡ j → ⊥) → f j ≡ g j) → x + f k ≤ y + g k → x + sum_by f (range_with_len a n) ≤ y + sum_by g (range_with_len a n)
+sum_changed f g a zero k x y from to same one = absurd (omega arith)
+sum_changed f g a (suc n) k x y from to same one =
+    let heads = sum_by-cons f a (range_with_len (a + 1) n) in
+    let others = sum_by-cons g a (range_with_len (a + 1) n) in
+    elim (cases_Bool (k == a)) [
+      | inl here ↦
+          let e = same_number k a here in
+          let rest = sum_range f g (a + 1) n (λ j low high. same j (λ is. absurd (omega arith))) in
+          omega (arith, heads, others, rest, one, ap f e, ap g e)
+      | inr on ↦
+          let rest = sum_changed f g (a + 1) n k x y (grind (arith, nat_tests)) (omega arith) same one in
+          omega (arith, heads, others, rest, same a (other_number k a on))
+    ]
+
+-- the segments of all tasks lie on the disk
+abbrev pub AreOnDisk : Shape → Past → Type 0
+AreOnDisk disk past = (task : ℕ) → AllByRecursion (IsSegmentOf disk (view past task).terms.block) (view past task).segments
+
+on_disk_kept : (disk : Shape) (past : Past) (task : ℕ) (segment : LogSegment) (blocks : List Block) → AreOnDisk disk past → AreOnDisk disk (chose task segment blocks ∷ past)
+unfolding view
+on_disk_kept disk past task segment blocks h = h
+
+-- a task's choices register no more than it could choose
+task_less : (disk : Shape) (past : Past) (n : ℕ) → n < length (tasks past) → AreOnDisk disk past → in_all disk (choose_in disk past n) ≤ in_all disk past
+task_less disk past n opened on_disk =
+    let new = choose_in disk past n in
+    let numbers = ap (λ ts. sum_by (choosable_by disk new) (range_with_len 0 (length ts))) (in_tasks disk n past) in
+    let sums = sum_changed (choosable_by disk new) (choosable_by disk past) 0 (length (tasks past)) n (length (registered new)) (length (registered past)) (omega arith) (omega arith)
+    (λ j differ. choosable-same disk past new j (in_same disk n j past differ)) (in_fewer disk n past (on_disk n)) in
+    omega (arith, numbers, sums)
+
+tasks_less : (disk : Shape) (ns : List ℕ) (past : Past) → AllByRecursion (λ n. n < length (tasks past)) ns → AreOnDisk disk past → in_all disk (fold (choose_in disk) past ns) ≤ in_all disk past
+tasks_less disk [] past opened on_disk = omega arith
+tasks_less disk (n ∷ ns) past opened on_disk =
+    let rest = tasks_less disk ns (choose_in disk past n) (subst (λ ts. AllByRecursion (λ n. n < length ts) ns) (sym (in_tasks disk n past)) opened.1)
+    (by_task (AreOnDisk disk) disk (on_disk_kept disk) n past on_disk) in
+    omega (arith, rest, task_less disk past n opened.0 on_disk)
+
+pub choices_less : (disk : Shape) (past : Past) → AreOnDisk disk past → in_all disk (with_choices disk past) ≤ in_all disk past
+unfolding with_choices
+choices_less disk past on_disk = tasks_less disk (task_numbers past) past (all_range (λ n. n < length (tasks past)) 0 (length (tasks past)) (λ k from to. omega arith)) on_disk
+
+-- events that open no task, and give and choose no segment
+pub choosable-tested : (disk : Shape) (past : Past) (rows : List BackRow) → choosable disk (tested rows ∷ past) ≡ choosable disk past
+unfolding view
+choosable-tested disk past rows = refl
+
+pub choosable-delivered : (disk : Shape) (past : Past) (got : DeliveryRow) → choosable disk (delivered got ∷ past) ≡ choosable disk past
+unfolding view
+choosable-delivered disk past got = refl
+
+pub choosable-finished : (disk : Shape) (past : Past) (request : Request) → choosable disk (finished request ∷ past) ≡ choosable disk past
+unfolding view
+choosable-finished disk past request = refl
+
+-- calls
+module _ (disk : Shape) (past : Past) (call : Call) where
+  -- the call adds no more than the blocks that it can give
+  abbrev pub Grows : Type 0
+  Grows = in_all disk (take_call disk past call) ≤ in_all disk past + blocks_in disk (allowed.terms_of (calls_of past) call.task).block call.action
+
+  block_there : (allowed.terms_of (calls_of past) call.task).block ≡ (terms_of past call.task).block
+  unfolding view
+  block_there = ap (λ t. t.block) (terms_there past call.task)
+
+  grown : (blocks : List Block) → blocks_by disk past call.task call.action ≡ blocks → in_all disk (take_call disk past call) ≡ length (registered past) + length blocks + choosable disk (called call blocks ∷ past)
+  grown blocks is = rw (is, length-append) refl
+
+  still : (blocks : List Block) → opened_by call.action (tasks past) ≡ tasks past → ((before : List LogSegment) → segment_by call.action before ≡ before) → choosable disk (called call blocks ∷ past) ≡ choosable disk past
+  unfolding view
+  still blocks kept gives =
+      ap (λ ts. sum_by (choosable_by disk (called call blocks ∷ past)) (range_with_len 0 (length ts))) kept
+      ∙ sum_range (choosable_by disk (called call blocks ∷ past)) (choosable_by disk past) 0 (length (tasks past)) (λ k from to. one k) where
+        one : (k : ℕ) → choosable_by disk (called call blocks ∷ past) k ≡ choosable_by disk past k
+        one k = elim (cases_Bool (call.task == k)) [
+          | inl own ↦ rw (kept, own, gives (segments past k)) refl
+          | inr other ↦ rw (kept, other) refl
+        ]
+
+  quiet : blocks_by disk past call.task call.action ≡ [] → opened_by call.action (tasks past) ≡ tasks past → ((before : List LogSegment) → segment_by call.action before ≡ before) → Grows
+  quiet none kept gives = omega (arith, grown [] none, still [] kept gives)
+
+  want_grows : (first count : ℕ) → call.action ≡ Want first count → Grows
+  want_grows first count is =
+      let cuts = cutting disk (terms_of past call.task).block first count in
+      omega (
+        arith,
+        grown (next_blocks past call.task cuts) (ap (blocks_by disk past call.task) is),
+        still (next_blocks past call.task cuts) (ap (λ a. opened_by a (tasks past)) is) (λ before. ap (λ a. segment_by a before) is),
+        cuts_count call.task (terms_of past call.task).weight (length (blocks_of past call.task)) cuts,
+        ap (blocks_in disk (allowed.terms_of (calls_of past) call.task).block) is,
+        ap (λ b. length (cutting disk b first count)) block_there,
+      )
+
+  -- a new task has nothing to choose
+  open_grows : (kind : Kind) (weight block : ℕ) → call.action ≡ Open kind weight block → call.task ≡ length (tasks past) → ((task : ℕ) → length (tasks past) ≤ task → IsUntouched (view past task)) → Grows
+  open_grows kind weight block is next unopened =
+      let new = called call [] ∷ past in
+      let count = length (tasks past) in
+      let longer : length (tasks new) ≡ count + 1 = rw is (length-append (tasks past) (record { kind = kind; weight = weight; block = block } ∷ [])) in
+      let split = ap (λ n. sum_by (choosable_by disk new) (range_with_len 0 n)) longer in
+      let last = ap (sum_by (choosable_by disk new)) (range_next count) in
+      let parts = sum_by-append (choosable_by disk new) (range_with_len 0 count) (count ∷ []) in
+      let one = sum_by-cons (choosable_by disk new) count [] in
+      let nothing : choosable_by disk new count ≡ 0 = rw (opened-view past call kind weight block is next count next, (unopened count (omega arith)).segments) refl in
+      let old = sum_range (choosable_by disk new) (choosable_by disk past) 0 count (λ k from to. choosable-same disk past new k (opened-silent past call kind weight block is next k (number_other call.task k (λ e. absurd (omega arith))))) in
+      omega (arith, grown [] (ap (blocks_by disk past call.task) is), split, last, parts, one, nothing, old)
+
+  -- a segment can be chosen
+  segment_grows : (first blocks age : ℕ) (live : List Bool) → call.action ≡ Segment first blocks age live → call.task < length (tasks past) → Grows
+  segment_grows first blocks age live is opened =
+      let new = called call [] ∷ past in
+      let kept : tasks new ≡ tasks past = ap (λ a. opened_by a (tasks past)) is in
+      let numbers = ap (λ ts. sum_by (choosable_by disk new) (range_with_len 0 (length ts))) kept in
+      let sums = sum_changed (choosable_by disk new) (choosable_by disk past) 0 (length (tasks past)) call.task 0 (length (live_cuts disk (view past call.task).terms.block first live)) (omega arith) (omega arith)
+      (λ j differ. choosable-same disk past new j (called-silent past call kept j (number_other call.task j differ))) (more kept) in
+      omega (
+        arith,
+        grown [] (ap (blocks_by disk past call.task) is),
+        numbers,
+        sums,
+        ap (blocks_in disk (allowed.terms_of (calls_of past) call.task).block) is,
+        ap (λ t. length (live_cuts disk t.block first live)) (terms_there past call.task),
+      ) where
+        at_most : (f : LogSegment → ℕ) (p : LogSegment → Bool) (s : LogSegment) → sum_by f (filter p (s ∷ [])) ≤ f s
+        at_most f p s = grind (arith, sum_by-cons f s [])
+
+        more : tasks (called call [] ∷ past) ≡ tasks past → 0 + choosable_by disk (called call [] ∷ past) call.task ≤ length (live_cuts disk (view past call.task).terms.block first live) + choosable_by disk past call.task
+        more kept =
+            let cuts = λ (s : LogSegment). length (live_cuts disk (view past call.task).terms.block s.first s.live) in
+            let p = λ (s : LogSegment). not (is_chosen (view past call.task).choices s) in
+            let added = next_segment (view past call.task) first blocks age live in
+            let sum : choosable_by disk (called call [] ∷ past) call.task ≡ sum_by cuts (filter p ((view past call.task).segments ++ added ∷ [])) = rw (added-view past call kept call.task first blocks age live refl is) refl in
+            omega (arith, sum, ap (sum_by cuts) (filter-append p (view past call.task).segments (added ∷ [])), sum_by-append cuts (filter p (view past call.task).segments) (filter p (added ∷ [])), at_most cuts p added)
+
+  by_action : (action : Action) → call.action ≡ action → MayAsk disk (calls_of past) call.task action → ((task : ℕ) → length (tasks past) ≤ task → IsUntouched (view past task)) → Grows
+  by_action (Open kind weight block) is asks unopened = open_grows kind weight block is (omega (arith, asks.0, ap length (opened_same past))) unopened
+  by_action (Want first count) is asks unopened = want_grows first count is
+  by_action (Segment first blocks age live) is asks unopened = segment_grows first blocks age live is (open_there past call.task asks.0).0
+  by_action _ is asks unopened = quiet (ap (blocks_by disk past call.task) is) (ap (λ a. opened_by a (tasks past)) is) (λ before. ap (λ a. segment_by a before) is)
+
+  -- a call that keeps the rules
+  pub call_grows : MayAsk disk (calls_of past) call.task call.action → ((task : ℕ) → length (tasks past) ≤ task → IsUntouched (view past task)) → Grows
+  call_grows asks unopened = by_action call.action refl asks unopened
+
+  -- what it registers alone
+  pub call_registers : length (blocks_by disk past call.task call.action) ≤ blocks_in disk (allowed.terms_of (calls_of past) call.task).block call.action
+  call_registers = registers call.action where
+    registers : (action : Action) → length (blocks_by disk past call.task action) ≤ blocks_in disk (allowed.terms_of (calls_of past) call.task).block action
+    registers (Want first count) =
+        let cuts = cutting disk (terms_of past call.task).block first count in
+        omega (arith, cuts_count call.task (terms_of past call.task).weight (length (blocks_of past call.task)) cuts, ap (λ b. length (cutting disk b first count)) block_there)
+    registers _ = omega arith
 
 -- how many calls have taken effect
 pub count-is : (disk : Shape) (calls : List Call) (past : Past) (next : ℕ) → IsCalled disk calls past next → length (calls_of past) ≡ next

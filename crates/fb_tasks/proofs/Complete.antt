@@ -1,29 +1,89 @@
--- Whether a task is complete, by what its session keeps.
-use Rattle.std.proofs.Common.{◌≡◌, ℕ, zero, suc, ◌+◌, ◌-◌, ◌<◌, ◌==◌, ◌&&◌, not, nat_lt, List, [], ◌∷◌, ◌++◌, Bool, true, false, Some, None, Option, inl, inr, length, map, slice_get, find, append-nil, refl, ap, sym, ◌∙◌, arith}
-use Rattle.std.proofs.Math.Bool.{and-false}
-use Rattle.std.specs.List.{AllByRecursion, list_any, list_all}
+-- How many blocks of a task there are in each state, whether it is complete by what its session keeps, and its row.
+use Rattle.std.proofs.Common.{◌≡◌, ℕ, ◌+◌, ◌≤◌, ◌==◌, List, [], ◌∷◌, Bool, inl, inr, length, filter, map, refl, arith, zero, suc, ◌-◌, ◌<◌, ◌&&◌, not, nat_lt, ◌++◌, true, false, Some, None, Option, slice_get, find, append-nil, ap, sym, ◌∙◌, append_assoc}
+use Rattle.std.specs.List.{list_all, AllByRecursion, list_any, range_with_len}
 use Rattle.std.proofs.lemmas.Bool.{cases_Bool, true≢false}
 use Rattle.std.proofs.lemmas.List.{length-map}
-use Rattle.std.proofs.lemmas.List.Folds.{list_any-append}
-use Rattle.fb_calls.specs.declared.call.Kind.{Kind}
-use Rattle.fb_calls.specs.declared.call.Kind.TheVariants.{Clean}
-use Rattle.fb_calls.specs.Sessions.{is_clean}
 use Rattle.fb_wanted.specs.declared.block.Block.{Block}
 use Rattle.fb_wanted.specs.declared.block.Counts.{Counts}
 use Rattle.fb_wanted.specs.declared.block.Entry.{Entry}
 use Rattle.fb_wanted.specs.declared.block.State.{State}
 use Rattle.fb_wanted.specs.States.{is_delivered, is_aborted}
-use Rattle.fb_wanted.specs.Counting.{counts_of}
-use Rattle.fb_clean.specs.Segments as clean
-use Rattle.fb_model.specs.History.{Past, LogSegment, registered}
-use Rattle.fb_model.specs.Completion.{Choice, Work, view, is_cleaned, is_over, is_through, is_choice_of, is_complete, is_complete_as, is_done, was_complete}
+use Rattle.fb_wanted.specs.Counting.{of_task, counts_of}
+use Rattle.fb_model.specs.History.{Past, blocks_of, registered, LogSegment}
+use Rattle.fb_model.specs.Completion.{Work, TaskView, view, state_in, is_over, Choice, is_cleaned, is_through, is_choice_of, is_complete, is_complete_as, is_done, was_complete}
+use Rattle.fb_tasks.specs.Standing.{entry_by, entry_of, Stands, Cleans, IsAtWork, choice_in, kept_segment, CleansBy}
+use Rattle.fb_tasks.proofs.Lists.{same_number, some_same, all_flat, any_none, each_all, find_all, find_none, all_any, all_weaker}
+use Rattle.fb_tasks.proofs.States.{shown, shown_delivered, shown_aborted}
+use Rattle.std.proofs.lemmas.Bool.Decides.{nat_tests}
+use Rattle.std.proofs.Math.Bool.{and-false}
+use Rattle.std.proofs.lemmas.List.Folds.{list_any-append}
+use Rattle.fb_calls.specs.declared.call.Kind.{Kind}
+use Rattle.fb_calls.specs.declared.call.Kind.TheVariants.{Clean}
+use Rattle.fb_calls.specs.Sessions.{is_clean}
 use Rattle.fb_model.specs.Segments.{is_busy}
 use Rattle.fb_model.proofs.Views.{number_same}
 use Rattle.fb_tasks.specs.declared.session.Session.{Session}
 use Rattle.fb_tasks.specs.Keeping.{is_none, is_worked_off, are_over, complete_as, complete_by}
-use Rattle.fb_tasks.specs.Standing.{entry_of, Stands, Cleans, IsAtWork, choice_in, kept_segment, CleansBy}
-use Rattle.fb_tasks.proofs.Lists.{some_same, all_flat, any_none, each_all, find_all, find_none, all_any, all_weaker}
-use Rattle.fb_tasks.proofs.Counting.{counts_same, counts_fit, over_same}
+use Rattle.std.proofs.lemmas.List.Sums.{length-filter}
+use Rattle.fb_rows.specs.declared.back.BackRow.{BackRow}
+use Rattle.fb_rows.specs.declared.back.BackRow.TheVariants.{Task as TaskLine}
+use Rattle.fb_model.specs.Steps.{task_row}
+use Rattle.std.proofs.lemmas.List.FromFn.{map-range_with_len_more}
+use Rattle.fb_wanted.specs.Numbering as numbering
+use Rattle.fb_clean.specs.Segments as clean
+
+pub filter-le : {X : Type 0} (p : X → Bool) (xs : List X) → length (filter p xs) ≤ length xs
+filter-le p [] = omega arith
+filter-le p (x ∷ xs) = grind (arith, filter-le p xs)
+
+pub registered_count : (task : ℕ) (es : List Entry) → (counts_of task es).registered ≡ numbering.registered task (numbering.blocks_of es)
+registered_count task [] = refl
+registered_count task (e ∷ es) = grind (arith, registered_count task es)
+
+pub registered_few : (task : ℕ) (es : List Entry) → numbering.registered task (numbering.blocks_of es) ≤ length es
+registered_few task es = omega (arith, filter-le (λ (block : Block). block.task == task) (numbering.blocks_of es), length-map es (λ e. e.block))
+
+-- the wanted set's blocks of a task are the history's
+abbrev entry_at : TaskView → Block → Entry
+entry_at v block = record { block = block; state = state_in v block }
+
+of_task_same : (views : ℕ → TaskView) (task : ℕ) (bs : List Block) → of_task task (map (entry_by views) bs) ≡ map (entry_at (views task)) (filter (λ b. b.task == task) bs)
+of_task_same views task [] = refl
+of_task_same views task (b ∷ bs) = elim (cases_Bool (b.task == task)) [
+  | inl own ↦ rw (own, of_task_same views task bs, same_number b.task task own) refl
+  | inr other ↦ rw other (of_task_same views task bs)
+]
+
+-- a block's state passes where its state without suspension does
+shown_count : (p : State → Bool) → ((bare : State) (held_back : Bool) → p (shown bare held_back) ≡ p bare) → (v : TaskView) (bs : List Block) → length (filter (λ e. p e.state) (map (entry_at v) bs)) ≡ length (filter (λ b. p (v.bare b)) bs)
+shown_count p same v [] = refl
+shown_count p same v (b ∷ bs) = grind (arith, shown_count p same v bs, same (v.bare b) v.suspended)
+
+-- how many blocks of a task are registered, delivered and aborted
+abbrev pub counts_in : Work → Counts
+counts_in work = record {
+  registered = length work.blocks;
+  delivered = length (filter (λ b. is_delivered (work.bare b)) work.blocks);
+  aborted = length (filter (λ b. is_aborted (work.bare b)) work.blocks);
+}
+
+pub counts_same : (past : Past) (task : ℕ) (held : List Entry) → held ≡ map (entry_of past) (registered past) → counts_of task held ≡ counts_in (view past task).work
+unfolding view
+counts_same past task held entries =
+    let v = view past task in
+    rw (entries, of_task_same (view past) task (registered past), length-map (blocks_of past task) (entry_at v), shown_count is_delivered shown_delivered v (blocks_of past task), shown_count is_aborted shown_aborted v (blocks_of past task)) refl
+
+-- all are over where the counts of both make up the whole
+over_counts : (f : Block → State) (bs : List Block) → let done = length (filter (λ b. is_delivered (f b)) bs) in let ended = length (filter (λ b. is_aborted (f b)) bs) in
+    (done + ended ≤ length bs) × ((done + ended == length bs) ≡ list_all (λ b. is_over (f b)) bs)
+over_counts f [] = (omega arith, refl)
+over_counts f (b ∷ bs) = grind (arith, nat_tests, over_counts f bs)
+
+pub counts_fit : (work : Work) → (counts_in work).delivered + (counts_in work).aborted ≤ (counts_in work).registered
+counts_fit work = (over_counts work.bare work.blocks).0
+
+pub over_same : (work : Work) → ((counts_in work).delivered + (counts_in work).aborted == (counts_in work).registered) ≡ list_all (λ b. is_over (work.bare b)) work.blocks
+over_same work = (over_counts work.bare work.blocks).1
 
 -- a task is busy where the segment that it cleans isn't cleaned yet
 none_busy : (w : Work) (cs : List Choice) → AllByRecursion (λ choice. is_cleaned w choice ≡ true) cs → list_any (λ choice. not (is_cleaned w choice)) cs ≡ false
@@ -123,3 +183,23 @@ pub counts_small : (past : Past) (task : ℕ) (held : List Entry) (counts : Coun
 counts_small past task held counts same entries fits =
     let e = same ∙ counts_same past task held entries in
     omega (arith, counts_fit (view past task).work, ap (λ c. c.delivered) e, ap (λ c. c.aborted) e, ap (λ c. c.registered) e)
+
+-- and one more element of a list that goes by numbers
+pub map_more : {X : Type 0} (f : ℕ → X) (before rows more : List X) (n : ℕ) (x : X) → rows ≡ before ++ map f (range_with_len 0 n) → x ≡ f n → more ≡ rows ++ x ∷ [] → more ≡ before ++ map f (range_with_len 0 (n + 1))
+map_more f before rows more n x so_far same pushed = rw (pushed, so_far, same, map-range_with_len_more f 0 n n (omega arith), append_assoc) refl
+
+row_of : ℕ → Kind → Counts → Bool → BackRow
+row_of task kind counts complete = TaskLine (record { task = task; kind = kind; registered = counts.registered; delivered = counts.delivered; aborted = counts.aborted; complete = complete })
+
+by_view : (p : Past) (t : ℕ) → row_of t (view p t).terms.kind (counts_in (view p t).work) (is_complete p t) ≡ task_row p t
+unfolding view row_of
+by_view p t = simp length-filter
+
+pub row_same : (past : Past) (task : ℕ) (session : Session) (held : List Entry) (counts : Counts) (complete : Bool) → Stands (view past task) session → IsAtWork (view past task).work session → held ≡ map (entry_of past) (registered past)
+    → counts ≡ counts_of task held → complete ≡ complete_by session counts
+    → TaskLine (record { task = task; kind = session.kind; registered = counts.registered; delivered = counts.delivered; aborted = counts.aborted; complete = complete }) ≡ task_row past task
+unfolding row_of
+row_same past task session held counts complete stands work entries same says =
+    let now = same ∙ counts_same past task held entries in
+    let done : complete ≡ is_complete past task = says ∙ (ap (complete_by session) same ∙ complete_same past task session held stands work entries) in
+    ap (λ k. row_of task k counts complete) (ap (λ t. t.kind) (sym stands.terms)) ∙ (rw (now, done) refl ∙ by_view past task)

@@ -27,9 +27,8 @@ use Rattle.fb_tasks.specs.Keeping.{is_none}
 use Rattle.fb_tasks.specs.Taken.{found_for, by_deliveries}
 use Rattle.fb_tasks.specs.Standing.{Stands, Cleans, MayFinish, IsAtWork, IsCutFrom, HoldsBlock, choice_in, CleansBy}
 use Rattle.fb_tasks.proofs.Lists.{all_weaker, all_with, all_append, all_left, all_right, all_flat, flat_all, flat_same, some_same, filter_none, each_all, list_all_each, other_number}
-use Rattle.fb_tasks.proofs.Counting.{counts_same, filter-le}
+use Rattle.fb_tasks.proofs.Complete.{counts_same, filter-le, busy_by}
 use Rattle.fb_tasks.proofs.Segmented.{live_there}
-use Rattle.fb_tasks.proofs.Complete.{busy_by}
 
 filter_whole : {X : Type 0} (p : X → Bool) (xs : List X) → AllByRecursion (λ x. p x ≡ true) xs → length (filter p xs) ≡ length xs
 filter_whole p [] h = refl

@@ -1,22 +1,25 @@
--- A backup is sealed: its image has the delivered blocks alone.
-use Rattle.std.proofs.Common.{append-nil, ◌≡◌, ℕ, zero, suc, ◌+◌, ◌-◌, ◌<◌, ◌≤◌, ◌==◌, ◌&&◌, ◌||◌, ◌^◌, not, nat_lt, if◌then◌else◌, List, [], ◌∷◌, ◌++◌, Bool, true, false, Some, None, Option, length, filter, take, slice_get, refl, ap, ap₂, sym, ◌∙◌, arith, subst, inl, inr}
+-- What is held of sectors and of blocks that ascend; a backup is sealed: its image has the delivered blocks alone.
+use Rattle.std.proofs.Common.{◌≡◌, ℕ, zero, suc, ◌+◌, ◌<◌, ◌≤◌, List, [], ◌∷◌, true, false, Some, Option, map, refl, arith, append-nil, ◌-◌, ◌==◌, ◌&&◌, ◌||◌, ◌^◌, not, nat_lt, if◌then◌else◌, ◌++◌, Bool, None, length, filter, take, slice_get, ap, ap₂, sym, ◌∙◌, subst, inl, inr}
+use Rattle.std.specs.List.{AllByRecursion, range_with_len, flat_map, list_any, list_all}
+use Rattle.std.proofs.lemmas.Bool.Decides.{nat_tests}
+use Rattle.fb_store.specs.declared.content.Content.{Content}
+use Rattle.fb_store.specs.Sparse.{held_in, EndsBy}
+use Rattle.fb_store.specs.Writes.{is_within}
+use Rattle.fb_wanted.specs.declared.block.Block.{Block}
+use Rattle.fb_tasks.specs.Standing.{Ascend, entry_of, entry_in, AreIndexed, IsBlockOf, HoldsBlock, HoldsBlocks, HoldsImage, Stands}
+use Rattle.fb_tasks.proofs.Lists.{all_weaker, all_with, all_filter, all_at, some_same, filter_from, map_at, some_at, list_all_each}
 use Rattle.std.proofs.Math.Bool.{and-false, and_comm, and-true, or-false}
 use Rattle.std.proofs.lemmas.Option.{slice_get_within, get_or_from_slice_get}
 use Rattle.std.proofs.lemmas.List.{take_more}
-use Rattle.std.specs.List.{AllByRecursion, flat_map, list_any, list_all, range_with_len}
 use Rattle.std.proofs.lemmas.Bool.{and_parts, cases_Bool}
 use Rattle.std.proofs.lemmas.Grind.{flat_map-append}
 use Rattle.fb_geometry.specs.Shape.{Shape}
 use Rattle.fb_calls.specs.declared.call.Kind.{Kind}
 use Rattle.fb_calls.specs.declared.call.Kind.TheVariants.{Backup}
 use Rattle.fb_calls.specs.Sessions.{is_backup}
-use Rattle.fb_store.specs.declared.content.Content.{Content}
 use Rattle.fb_store.specs.declared.content.ContentRun.{ContentRun}
 use Rattle.fb_store.specs.Index.{held_at}
-use Rattle.fb_store.specs.Sparse.{held_in, EndsBy}
 use Rattle.fb_store.specs.Runs.{runs_of, sectors_of}
-use Rattle.fb_store.specs.Writes.{is_within}
-use Rattle.fb_wanted.specs.declared.block.Block.{Block}
 use Rattle.fb_wanted.specs.declared.block.Entry.{Entry}
 use Rattle.fb_wanted.specs.States.{is_delivered, is_aborted, is_block}
 use Rattle.fb_wanted.specs.Counting.{counts_of}
@@ -28,17 +31,37 @@ use Rattle.fb_rows.specs.declared.back.BackRow.TheVariants.{Seal as SealLine}
 use Rattle.fb_model.specs.Images.{seal_rows}
 use Rattle.fb_rows.specs.declared.back.BackRow.{BackRow}
 use Rattle.fb_tasks.specs.Taken.{found_for, by_deliveries}
-use Rattle.fb_tasks.specs.Standing.{entry_of, entry_in, Ascend, AreIndexed, IsBlockOf, HoldsBlock, HoldsBlocks, HoldsImage, Stands}
 use Rattle.fb_tasks.specs.declared.session.Session.{Session}
-use Rattle.fb_tasks.proofs.Counting.{counts_same}
-use Rattle.fb_tasks.proofs.Lists.{all_weaker, all_with, all_filter, all_at, some_same, filter_from, map_at, some_at, list_all_each}
+use Rattle.fb_tasks.proofs.Complete.{counts_same}
 use Rattle.fb_tasks.proofs.Registered.{blocks_in, own}
 use Rattle.fb_tasks.proofs.States.{shown_aborted}
-use Rattle.fb_tasks.proofs.Sectors.{held_same, within, before_it, behind_it, ascend_from}
 use Rattle.fb_tasks.proofs.Writes.{open_by}
 use Rattle.fb_tasks.proofs.Cuts.{ranges_join}
 use Rattle.std.proofs.Math.Seq.{take-length}
 use Rattle.fb_model.proofs.Lists.{all_both}
+
+-- ascending blocks begin at the first sector or after it
+pub ascend_from : (low : ℕ) (bs : List Block) → Ascend low bs → AllByRecursion (λ b. low ≤ b.lbn) bs
+ascend_from low [] h = tt
+ascend_from low (b ∷ bs) h = (h.0, all_weaker (λ c. b.lbn + b.count ≤ c.lbn) (λ c. low ≤ c.lbn) (λ c le. omega (arith, le, h.0)) bs (ascend_from (b.lbn + b.count) bs h.1))
+
+-- what is held of some sectors
+pub held_same : (f g : ℕ → Option Content) (a n : ℕ) → ((lbn : ℕ) → a ≤ lbn → lbn < a + n → f lbn ≡ g lbn) → held_in f (range_with_len a n) ≡ held_in g (range_with_len a n)
+held_same f g a zero same = refl
+held_same f g a (suc n) same = rw (same a (omega arith) (omega arith), held_same f g (a + 1) n (λ lbn le lt. same lbn (omega arith) (omega arith))) refl
+
+pub held_all : (f : ℕ → Option Content) (content_at : ℕ → Content) (a n : ℕ) → ((lbn : ℕ) → a ≤ lbn → lbn < a + n → f lbn ≡ Some (content_at lbn)) → held_in f (range_with_len a n) ≡ map (λ lbn. (lbn, content_at lbn)) (range_with_len a n)
+held_all f content_at a zero same = refl
+held_all f content_at a (suc n) same = rw (same a (omega arith) (omega arith), held_all f content_at (a + 1) n (λ lbn le lt. same lbn (omega arith) (omega arith))) refl
+
+pub within : (a n lbn : ℕ) → a ≤ lbn → lbn < a + n → is_within a n lbn ≡ true
+within a n lbn le lt = grind (arith, nat_tests)
+
+pub before_it : (a n lbn : ℕ) → lbn < a → is_within a n lbn ≡ false
+before_it a n lbn lt = grind (arith, nat_tests)
+
+pub behind_it : (a n lbn : ℕ) → a + n ≤ lbn → is_within a n lbn ≡ false
+behind_it a n lbn le = grind (arith, nat_tests)
 
 nothing_in : (lbns : List ℕ) → held_in (λ lbn. None) lbns ≡ []
 nothing_in [] = refl

@@ -21,8 +21,7 @@ use Rattle.fb_tasks.specs.Keeping.{cuts_of}
 use Rattle.fb_tasks.specs.Standing.{kept_segment, Ascend, IsBlockOf}
 use Rattle.fb_tasks.proofs.Lists.{some_same, all_append, all_weaker, map_at}
 use Rattle.fb_model.proofs.Cuts.{cuts_are}
-use Rattle.fb_tasks.proofs.Cuts.{cuts_placed, cuts_ascend, cuts_end, cuts_cover}
-use Rattle.fb_tasks.proofs.LiveBlocks.{numbered_append}
+use Rattle.fb_tasks.proofs.Cuts.{cuts_placed, cuts_ascend, cuts_end, cuts_cover, numbered_append}
 
 abbrev pub NumberedFrom : ℕ → List LogSegment → Type 0
 NumberedFrom n [] = Unit {0}

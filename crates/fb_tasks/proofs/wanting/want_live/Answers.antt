@@ -9,7 +9,7 @@ use Rattle.fb_tasks.specs.declared.session.Session.{Session}
 use Rattle.fb_tasks.specs.Keeping.{new_entries}
 use Rattle.fb_tasks.specs.Leaving.{HasBegun, OnlyRegisters}
 use Rattle.fb_tasks.proofs.Leaving.{registers_none, registers_more, begun_own}
-use Rattle.fb_tasks.proofs.LiveBlocks.{drop_at, live-more}
+use Rattle.fb_tasks.proofs.Cuts.{drop_at, live-more}
 use Rattle.fb_tasks.proofs.wanting.want_live.Goals as goal
 
 pub want_range-requires-clause-few : goal.want_range-requires-clause-few

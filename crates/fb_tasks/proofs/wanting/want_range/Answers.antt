@@ -6,7 +6,7 @@ use Rattle.fb_wanted.specs.declared.block.Entry.{Entry}
 use Rattle.fb_model.specs.Segments.{numbered}
 use Rattle.fb_tasks.specs.declared.session.Session.{Session}
 use Rattle.fb_tasks.specs.Keeping.{new_entries}
-use Rattle.fb_tasks.proofs.Counting.{registered_count, registered_few}
+use Rattle.fb_tasks.proofs.Complete.{registered_count, registered_few}
 use Rattle.fb_tasks.specs.Leaving.{HasBegun}
 use Rattle.fb_wanted.specs.States.{wanted_unless}
 use Rattle.fb_tasks.proofs.Leaving.{grown_not, grown_more, begun_not, begun_by, cut_registered, one_counted}

@@ -5,7 +5,7 @@ use Rattle.fb_model.specs.Steps.{blocks_by}
 use Rattle.fb_tasks.specs.Telling.{calls_of}
 use Rattle.fb_wanted.proofs.Lists.{on_err}
 use Rattle.fb_tasks.proofs.Leaving.{begun_not, begun_same}
-use Rattle.fb_tasks.proofs.Aborts.{promoted-tells, asked-aborts}
+use Rattle.fb_tasks.proofs.Changes.{promoted-tells, asked-aborts}
 use Rattle.fb_tasks.proofs.Asked.{room_for_one, session_there, takes_none}
 use Rattle.fb_tasks.proofs.sessions.Sessions.apply.Goals as goal
 

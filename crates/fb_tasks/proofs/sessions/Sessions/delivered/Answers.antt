@@ -6,8 +6,7 @@ use Rattle.fb_tasks.proofs.Listed.{listed-more, listed-noted}
 use Rattle.fb_wanted.proofs.Lists.{on_err}
 use Rattle.fb_tasks.proofs.Lists.{some_at}
 use Rattle.fb_tasks.proofs.Frames.{set_same}
-use Rattle.fb_tasks.proofs.DeliveryRows.{begun-findings, begun-segment, begun-ends}
-use Rattle.fb_tasks.proofs.AfterDelivery.{opened, own-there, wanted-entry, busy-own, kind-own, held-now, may-finish, all-given, tells-delivered, settled-delivered, rows-one_by_one}
+use Rattle.fb_tasks.proofs.AfterDelivery.{begun-findings, begun-segment, begun-ends, opened, own-there, wanted-entry, busy-own, kind-own, held-now, may-finish, all-given, tells-delivered, settled-delivered, rows-one_by_one}
 use Rattle.fb_tasks.proofs.sessions.Sessions.delivered.Goals as goal
 
 pub deliver-requires : goal.deliver-requires

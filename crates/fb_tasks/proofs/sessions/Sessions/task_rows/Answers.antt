@@ -5,8 +5,7 @@ use Rattle.fb_model.specs.Steps.{task_row, task_rows}
 use Rattle.fb_model.specs.History.{tasks}
 use Rattle.fb_wanted.proofs.Lists.{on_err}
 use Rattle.fb_tasks.proofs.Leaving.{begun_counted}
-use Rattle.fb_tasks.proofs.Complete.{counts_small}
-use Rattle.fb_tasks.proofs.Rows.{map_more, row_same}
+use Rattle.fb_tasks.proofs.Complete.{counts_small, map_more, row_same}
 use Rattle.fb_tasks.proofs.sessions.Sessions.task_rows.Goals as goal
 
 pub is_complete-requires : goal.is_complete-requires

@@ -13,7 +13,7 @@ use Rattle.fb_tasks.specs.Listing.{AreListed}
 use Rattle.fb_tasks.specs.Leaving.{OnlyTouched}
 use Rattle.fb_tasks.proofs.Leaving.{grown_not, grown_more, touched_none, touched_set}
 use Rattle.fb_tasks.proofs.Listed.{listed-set, listed-less, listed-there}
-use Rattle.fb_tasks.proofs.AllTested.{AreAllRows, none_tested, chosen_at, one_tested, rows_more, ends_of, tested-to, rows-to, tells-tested}
+use Rattle.fb_tasks.proofs.Tested.{AreAllRows, none_tested, chosen_at, one_tested, rows_more, ends_of, tested-to, rows-to, tells-tested}
 use Rattle.fb_tasks.proofs.RowsOf.{rows-given, nothing-mute}
 use Rattle.fb_tasks.proofs.sessions.Sessions.test_all.Goals as goal
 

@@ -5,7 +5,7 @@ use Rattle.fb_model.specs.History.{Past}
 use Rattle.fb_tasks.specs.Standing.{HaveChosen}
 use Rattle.fb_tasks.specs.Listing.{AreListed}
 use Rattle.fb_tasks.specs.Leaving.{HasGrown, OnlyTouched}
-use Rattle.fb_tasks.proofs.AllTested.{AreTested, ends_of}
+use Rattle.fb_tasks.proofs.Tested.{AreTested, ends_of}
 use Rattle.fb_tasks.proofs.sessions.Sessions.test_all.Given as goal
 
 -- the sessions before this one are tested, and their rows stand

@@ -1,0 +1,122 @@
+-- Calls that change the states of blocks alone: suspend and resume, abort and close; and promote.
+use Rattle.std.proofs.Common.{◌≡◌, ℕ, ◌<◌, List, [], ◌∷◌, Bool, true, false, length, set, get_or, ap, arith, subst, Some, slice_get, append-nil, refl, sym, ◌∙◌, ◌+◌, ◌≤◌, min, max, nat_lt, map}
+use Rattle.fb_geometry.specs.Shape.{Shape}
+use Rattle.fb_calls.specs.declared.call.Action.TheVariants.{Suspend, Resume, Abort, Promote, Close}
+use Rattle.fb_calls.specs.declared.call.Call.{Call}
+use Rattle.fb_wanted.specs.declared.block.Change.TheVariants.{Suspend as SuspendAll, Resume as ResumeAll, Abort as AbortRange}
+use Rattle.fb_wanted.specs.declared.block.Entry.{Entry}
+use Rattle.fb_wanted.specs.States.{after, shares, is_delivered}
+use Rattle.fb_model.specs.History.{Past, called, tasks, opened_by, calls_of, registered, LogSegment}
+use Rattle.fb_model.specs.Completion.{TaskView, view, ended, aborted_view, closed_view, is_over, is_unsealed, is_cleaned}
+use Rattle.fb_model.proofs.Views.{suspended-view, resumed-view, aborted-view, promoted-silent, closed-view}
+use Rattle.fb_tasks.specs.declared.session.Session.{Session}
+use Rattle.fb_tasks.specs.Standing.{Told, IsQuiet, Cleans, HoldsChoice, choice_in, kept_segment, HoldsImage, AreReported, IsAtWork}
+use Rattle.fb_tasks.specs.Telling.{Tells, IsCall, MayTake}
+use Rattle.fb_tasks.proofs.Frames.{call-tells, silent-tells}
+use Rattle.fb_tasks.proofs.States.{show_suspended, show_resumed, never_held_back, show_aborted, states-told, ended-done, holds-fewer}
+use Rattle.std.proofs.lemmas.Bool.{true≢false}
+use Rattle.fb_calls.specs.Allowed.{MayAsk}
+use Rattle.fb_calls.specs.Sessions.{is_clean}
+use Rattle.fb_tasks.proofs.Asked.{open_there, terms_there}
+use Rattle.fb_tasks.proofs.Lists.{some_at, all_any, all_weaker}
+use Rattle.std.proofs.lemmas.Option.{get_or_from_slice_get}
+use Rattle.std.proofs.Math.Bool.{and-false}
+use Rattle.std.proofs.lemmas.Bool.Decides.{nat_tests}
+use Rattle.fb_geometry.specs.Places.{places}
+use Rattle.fb_store.specs.Index.{held_at}
+use Rattle.fb_wanted.specs.declared.block.Block.{Block}
+use Rattle.fb_wanted.specs.declared.block.State.{State}
+use Rattle.std.specs.List.{AllByRecursion}
+use Rattle.fb_clean.specs.Segments as clean
+
+suspension-told : (held_back : Bool) (v : TaskView) (session : Session) → Told v session → Told (record v { suspended = held_back }) (record session { suspended = held_back })
+suspension-told held_back v session h =
+    let quiet : session.touched ≡ false → IsQuiet (record v { suspended = held_back }) = λ untouched. assumption (h.quiet untouched) in
+    assumption (h, quiet)
+
+module _ (disk : Shape) (past : Past) (call : Call) (items seen : List Session) (task : ℕ) (session : Session) (held now : List Entry) where
+  pub suspended-tells : IsCall task Suspend call → items ≡ seen → task < length seen → session ≡ get_or items task session
+      → now ≡ after task SuspendAll held → Tells disk past seen held → Tells disk (called call [] ∷ past) (set items task (record session { suspended = true })) now
+  suspended-tells is same opened at is_after =
+      let kept : tasks (called call [] ∷ past) ≡ tasks past = ap (λ a. opened_by a (tasks past)) is.action in
+      call-tells disk past call items seen task session (record session { suspended = true }) held now SuspendAll (record (view past task) { suspended = true }) kept is.task
+      (suspended-view past call kept task is.task is.action) same opened at is_after (λ placed. placed) (suspension-told true (view past task) session)
+      (λ block on. show_suspended ((view past task).bare block) (view past task).suspended)
+
+  pub resumed-tells : IsCall task Resume call → items ≡ seen → task < length seen → session ≡ get_or items task session
+      → now ≡ after task ResumeAll held → Tells disk past seen held → Tells disk (called call [] ∷ past) (set items task (record session { suspended = false })) now
+  resumed-tells is same opened at is_after =
+      let kept : tasks (called call [] ∷ past) ≡ tasks past = ap (λ a. opened_by a (tasks past)) is.action in
+      call-tells disk past call items seen task session (record session { suspended = false }) held now ResumeAll (record (view past task) { suspended = false }) kept is.task
+      (resumed-view past call kept task is.task is.action) same opened at is_after (λ placed. placed) (suspension-told false (view past task) session)
+      (λ block on. show_resumed ((view past task).bare block) (view past task).suspended (never_held_back past task block))
+
+pub promoted-tells : (disk : Shape) (past : Past) (call : Call) (first count : ℕ) (sessions : List Session) (held : List Entry) → call.action ≡ Promote first count
+    → Tells disk past sessions held → Tells disk (called call [] ∷ past) sessions held
+promoted-tells disk past call first count sessions held is h =
+    let kept : tasks (called call [] ∷ past) ≡ tasks past = ap (λ a. opened_by a (tasks past)) is in
+    silent-tells disk past (called call []) sessions held (λ t. promoted-silent past call kept t first count is) kept (append-nil (registered past)) h
+
+pub asked-aborts : (disk : Shape) (past : Past) (call : Call) (first count : ℕ) (sessions touched : List Session) (held now : List Entry) → call.action ≡ Abort first count → now ≡ after call.task (AbortRange first count) held
+    → ((session : Session) → slice_get sessions call.task ≡ Some session → touched ≡ set sessions call.task (record session { touched = true }))
+    → MayTake disk past sessions held call → Tells disk (called call [] ∷ past) touched now
+asked-aborts disk past call first count sessions touched held now is is_after flagged may =
+    let h = may.tells in
+    let asks = subst (MayAsk disk (calls_of past) call.task) is may.asks in
+    let opened : call.task < length sessions = omega (arith, (open_there past call.task asks.0).0, h.as_many) in
+    let found = some_at sessions call.task opened in
+    let session = found.0 in
+    let other : is_clean session.kind ≡ false =
+    ap (λ t. is_clean t.kind) (sym (terms_there past call.task ∙ (h.each call.task session found.1).terms)) ∙ asks.1 in
+    let kept : tasks (called call [] ∷ past) ≡ tasks past = ap (λ a. opened_by a (tasks past)) is in
+    subst (λ xs. Tells disk (called call [] ∷ past) xs now) (sym (flagged session found.1))
+    (call-tells disk past call sessions sessions call.task session (record session { touched = true }) held now (AbortRange first count)
+    (aborted_view first count (view past call.task)) kept refl (aborted-view past call kept call.task first count refl is) refl opened
+    (sym (get_or_from_slice_get sessions call.task session session found.1)) is_after (λ placed. assumption placed)
+    (states-told (λ block. ended (shares first count block)) (λ block before done. grind arith)
+    (view past call.task) session true (λ untouched. absurd (true≢false untouched)) other)
+    (λ block on. show_aborted ((view past call.task).bare block) (view past call.task).suspended (shares first count block)) h)
+
+ended_over : (before : State) → is_over (ended true before) ≡ true
+ended_over before = grind arith
+
+-- the whole disk shares a sector with each of its blocks
+all_shared : (n lbn count : ℕ) → 0 < count → lbn + count ≤ n → nat_lt (max lbn 0) (min (lbn + count) (0 + n)) ≡ true
+all_shared n lbn count some within = grind (arith, nat_tests)
+
+fewer : (block : Block) (before : State) → is_delivered (ended true before) ≡ true → is_delivered before ≡ true
+fewer block before done = grind arith
+
+left_all : (v : TaskView) (xs : List LogSegment) → map clean.left_out (map (kept_segment v.work) xs) ≡ map (kept_segment (closed_view v).work) xs
+left_all v [] = refl
+left_all v (x ∷ xs) = rw (left_all v xs) (simp and-false)
+
+closed-cleans : (v : TaskView) (log : clean.Cleaning) → Cleans v.work log → Cleans (closed_view v).work (clean.after_drop log)
+closed-cleans v log h =
+    let cleaned : AllByRecursion (λ choice. is_cleaned (closed_view v).work choice ≡ true) h.done = simp ended-done h.cleaned in
+    let taken = all_weaker (HoldsChoice v.work log) (HoldsChoice (closed_view v).work log)
+    (λ choice. holds-fewer v.work (λ _. ended true) fewer (clean.taken_for log choice.segment.number) choice.blocks) (choice_in h.current) h.taken in
+    let over : true ≡ true → AllByRecursion (λ block. is_over ((closed_view v).bare block) ≡ true) v.blocks =
+    λ _. all_any (λ block. is_over (ended true (v.bare block)) ≡ true) (λ block. ended_over (v.bare block)) v.blocks in
+    let segments = ap (map clean.left_out) h.segments ∙ left_all v v.segments in
+    record { done = h.done; current = h.current; by = assumption (cleaned, taken, over, segments, h.by) }
+
+closed-told : (v : TaskView) (session : Session) → Told v session → Told (closed_view v) (record session { closed = true; touched = true; log = clean.after_drop session.log })
+closed-told v session h =
+    let image : is_unsealed v ≡ true → HoldsImage (closed_view v).work (held_at session.image) = λ is_open.
+    let image = h.image is_open in record { each = holds-fewer v.work (λ _. ended true) fewer (held_at session.image) v.blocks image.each; only = image.only } in
+    let log = λ (cleans : is_clean session.kind ≡ true). closed-cleans v session.log (h.log cleans) in
+    let at_work : IsAtWork (closed_view v).work session = λ cleans. simp ended-done (h.at_work cleans) in
+    let reported : AreReported (closed_view v).work = simp ended-done h.reported in
+    let quiet : true ≡ false → IsQuiet (closed_view v) = λ untouched. absurd (true≢false untouched) in
+    assumption (image, log, at_work, reported, quiet, h)
+
+pub closed-tells : (disk : Shape) (past : Past) (call : Call) (items seen : List Session) (task n : ℕ) (session : Session) (log : clean.Cleaning) (held now : List Entry) → IsCall task Close call → items ≡ seen → task < length seen → session ≡ get_or items task session
+    → n ≡ length (places disk) → now ≡ after task (AbortRange 0 n) held → log ≡ clean.after_drop session.log → Tells disk past seen held
+    → Tells disk (called call [] ∷ past) (set items task (record session { closed = true; touched = true; log = log })) now
+closed-tells disk past call items seen task n session log held now is same opened at count is_after dropped h =
+    let kept : tasks (called call [] ∷ past) ≡ tasks past = ap (λ a. opened_by a (tasks past)) is.action in
+    rw dropped (call-tells disk past call items seen task session (record session { closed = true; touched = true; log = clean.after_drop session.log }) held now (AbortRange 0 n) (closed_view (view past task)) kept is.task
+    (closed-view past call kept task is.task is.action) same opened at is_after (λ placed. assumption placed) (closed-told (view past task) session)
+    (λ block on. let shared : shares 0 n block ≡ true = rw count (all_shared (length (places disk)) block.lbn block.count on.some on.on_disk) in
+    show_aborted ((view past task).bare block) (view past task).suspended (shares 0 n block) ∙ rw shared refl) h)
