@@ -90,7 +90,7 @@ fn try_track(
         return start;
     }
     let blocks = blocks_on(disk, wanted, track);
-    let most = most_by_steps(disk, wanted, gap, late, reach, blocks.wanted_weight());
+    let most = most_by_steps(gap, late, reach, blocks.wanted_weight());
     if is_enough(start, most, track) {
         return start;
     }

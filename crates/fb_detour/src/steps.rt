@@ -1,8 +1,10 @@
 // Upper bounds on the value of detours. What the target gives after a detour falls in steps; up to
 // each step a track gives no more than it weighs, and no more than passes in the time there.
-ghost use Rattle.std.specs.Prelude.{◌≡◌, ◌+◌, ◌*◌, ◌≤◌, ◌<◌, ◌^◌, ℕ, get_or};
+ghost use Rattle.std.specs.Prelude.{◌≡◌, ◌+◌, ◌*◌, ◌≤◌, ◌<◌, ◌^◌, ℕ, List, get_or};
 ghost use Rattle.fb_units.specs.declared.types.Track.{Track};
 ghost use Rattle.fb_rows.specs.declared.gap.Plan.{Plan};
+ghost use Rattle.fb_service.specs.declared.disk.Disk.{Disk};
+ghost use Rattle.fb_wanted.specs.declared.block.Entry.{Entry};
 ghost use Rattle.fb_model.specs.Plans.{value, IsDetour};
 ghost use Rattle.fb_wanted.specs.States.{wanted_of};
 ghost use Rattle.fb_wanted.specs.Tracks.{wanted_weight};
@@ -102,23 +104,13 @@ fn worth_by_step(late: &LateParts, k: usize, reach: Reach, weight: u64) -> u64
 
 // An upper bound on the value of detours over a track of this reach and this weight; 0 where it is
 // out of reach.
-pub fn most_by_steps(
-    disk: &Disk,
-    wanted: &Wanted,
-    gap: &Gap,
-    late: &LateParts,
-    reach: Reach,
-    weight: u64,
-) -> u64
-    requires gap { IsGap disk.now gap.now }
-    requires late { IsLate disk.now gap.now wanted.now late.now }
+pub fn most_by_steps(gap: &Gap, late: &LateParts, reach: Reach, weight: u64) -> u64
+    requires parts { (k : ℕ) → k < 32 → get_or late.now.parts k 0 ≤ 16000000 * 2048000 }
     requires light { weight ≤ 16000000 * 2048000 }
-    ensures most { (track : Track) (leave : ℕ) → IsReach disk.now gap.entry.now wanted.now track reach → wanted_weight track wanted.now ≤ weight → IsDetour disk.now gap.entry.now track leave
-        → value disk.now gap.entry.now (wanted_of wanted.now) (Plan.Detour track leave) ≤ result }
+    ensures most { (disk : Disk) (entries : List Entry) (track : Track) (leave : ℕ) → IsLate disk gap.entry.now entries late.now → IsReach disk gap.entry.now entries track reach
+        → wanted_weight track entries ≤ weight → IsDetour disk gap.entry.now track leave → value disk gap.entry.now (wanted_of entries) (Plan.Detour track leave) ≤ result }
     ensures small { result ≤ 2 * (16000000 * 2048000) }
 {
-    let _ = disk;
-    let _ = wanted;
     if gap.deadline < reach.back {
         return 0;
     }
@@ -154,5 +146,5 @@ pub fn most_over(
         return sum;
     }
     let reach = reach_of(disk, wanted, gap, from, end);
-    most_by_steps(disk, wanted, gap, late, reach, weight)
+    most_by_steps(gap, late, reach, weight)
 }

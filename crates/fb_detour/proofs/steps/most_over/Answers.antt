@@ -12,4 +12,4 @@ returns-then-sum-known-clause-most c = λ track leave low high is.
     omega (arith, by_weight disk gap es track leave is gap.now (omega arith), c.greatest_weight_in-weight.ensures.each track low high, late.limits 0 (omega arith), ap (λ t. stay disk (late_most gap t) es) late.start)
 
 pub returns-clause-most : goal.returns-clause-most
-returns-clause-most c = λ track leave low high is. c.most_by_steps.ensures.most track leave (c.reach_of-reach.ensures track low high) (c.greatest_weight_in-weight.ensures.each track low high) is
+returns-clause-most c = λ track leave low high is. c.most_by_steps.ensures.most c.args.disk.now c.args.wanted.now track leave c.requires.late (c.reach_of-reach.ensures track low high) (c.greatest_weight_in-weight.ensures.each track low high) is
