@@ -16,11 +16,12 @@ use Rattle.fb_plan.specs.declared.choice.Scored.{Scored}
 use Rattle.fb_plan.specs.declared.way.Way.{Way}
 use Rattle.fb_detour.specs.declared.bounds.Moves.{Moves}
 use Rattle.fb_detour.specs.declared.candidates.Tried.{Tried}
+use Rattle.fb_detour.specs.declared.given.Search.{Search}
 use Rattle.fb_detour.specs.declared.intervals.Ceilings.{Ceilings}
 use Rattle.fb_detour.specs.declared.parts.LateParts.{LateParts}
 use Rattle.fb_detour.specs.declared.steps.Reach.{Reach}
 use Rattle.fb_detour.specs.declared.stop.Stop.{Stop}
-use Rattle.fb_plan.specs.Ways.{Beats, AreOnDisk, plan_by, early_track, arrival, move_on}
+use Rattle.fb_plan.specs.Ways.{Beats, AreOnDisk, IsGap, IsScored, plan_by, early_track, arrival, move_on}
 use Rattle.fb_plan.specs.Turns.{IsTurning}
 
 -- what a registered block adds to a stay of the head on its track
@@ -64,6 +65,20 @@ pub record IsLate (disk : Disk) (gap : Gap) (entries : List Entry) (late : LateP
   pub start : get_or late.limits 0 0 ≡ gap.now
   pub limits : (k : ℕ) → k < 32 → stay disk (late_most gap (get_or late.limits k 0)) entries ≤ get_or late.parts k 0
   pub end : stay disk (late_most gap (get_or late.limits 32 0)) entries ≡ 0
+
+-- the gap is one of the disk, all blocks lie on it, and the late parts bound what the target can still give
+pub record IsSearch (search : Search) : Type 0 where
+  pub gap : IsGap search.disk.now search.gap.now
+  pub blocks : AreOnDisk search.disk.now search.wanted.now
+  pub late : IsLate search.disk.now search.gap.now search.wanted.now search.late.now
+
+-- a plan of the gap with its value
+abbrev pub IsFound : Search → Scored → Type 0
+IsFound search found = IsScored search.disk.now search.gap.now (wanted_of search.wanted.now) found
+
+-- the plan is at least as good as the other
+abbrev pub IsNoWorse : Search → Plan → Plan → Type 0
+IsNoWorse search plan other = Beats search.disk.now search.gap.now (wanted_of search.wanted.now) plan other
 
 -- the ceiling of the plan that leaves at an instant: what the track gives up to the end of that interval, and the target after the move
 abbrev pub ceiling_at : Ceilings → ℕ → ℕ
@@ -109,6 +124,13 @@ BeatsOver disk gap wanted best track = (leave : ℕ) → IsDetour disk gap track
 -- and over each track of these cylinders
 abbrev pub BeatsRange : Disk → Gap → List Block → Plan → ℕ → ℕ → Type 0
 BeatsRange disk gap wanted best from end = (track : Track) → from ≤ track.cylinder → track.cylinder < end → BeatsOver disk gap wanted best track
+
+-- the same of a search: over one track, and over each track of these cylinders
+abbrev pub BeatsTrack : Search → Plan → Track → Type 0
+BeatsTrack search best track = BeatsOver search.disk.now search.gap.now (wanted_of search.wanted.now) best track
+
+abbrev pub BeatsTracks : Search → Plan → ℕ → ℕ → Type 0
+BeatsTracks search best from end = BeatsRange search.disk.now search.gap.now (wanted_of search.wanted.now) best from end
 
 -- in the order of ties the plan comes before every detour over this track or a later one
 abbrev pub IsAhead : Plan → Track → Type 0

@@ -4,19 +4,19 @@ ghost use Rattle.fb_geometry.specs.Shape.{IsTrackOf};
 ghost use Rattle.fb_rows.specs.declared.gap.Plan.{Plan};
 ghost use Rattle.fb_model.specs.Plans.{IsPlan, IsNoLater, block_end};
 ghost use Rattle.fb_wanted.specs.States.{is_wanted, wanted_of};
-ghost use Rattle.fb_plan.specs.Ways.{FitsDisk, AreOnDisk, IsGap, IsWay, IsScored, Beats, plan_by, early_track, arrival, move_on};
+ghost use Rattle.fb_plan.specs.Ways.{FitsDisk, AreOnDisk, IsWay, plan_by, early_track, arrival, move_on};
 ghost use Rattle.fb_plan.specs.Turns.{AreSides, stay_of};
-ghost use Rattle.fb_detour.specs.Bounds.{IsLate, AreCeilings, AreNotes};
+ghost use Rattle.fb_detour.specs.Bounds.{AreCeilings, AreNotes, IsSearch, IsFound, IsNoWorse};
 
+use crate::given::Search;
 use crate::intervals::{Ceilings, ceiling_at, ceilings_of};
-use crate::parts::{EARLY, LateParts};
+use crate::parts::EARLY;
 use crate::stop::stop_at;
 use fb_plan::{
     Scored, Sides, Way, blocks_on, is_same, is_wanted, move_on, plan_by, sides_of, stay_of,
     try_entry, try_plan,
 };
 use fb_rows::{Gap, Plan};
-use fb_service::Disk;
 use fb_units::Ns;
 use fb_wanted::{Entry, Wanted};
 
@@ -57,41 +57,47 @@ fn is_beaten(best: Scored, ceiling: u64, way: Way, leave: Ns) -> bool
 // Tries to leave as the passage of a wanted block ends, unless the ceiling shows that this isn't
 // better.
 fn try_leave(
-    disk: &Disk,
-    wanted: &Wanted,
-    gap: &Gap,
+    search: &Search,
     way: Way,
     sides: &Sides,
     ceilings: &Ceilings,
     entry: Entry,
     best: Scored,
 ) -> Scored
-    requires way { IsWay disk.now gap.now way }
-    requires track { IsTrackOf disk.now.map (early_track gap.now way) }
-    requires fits { FitsDisk disk.now entry.block }
-    requires gap { IsGap disk.now gap.now }
-    requires sides { AreSides disk.now gap.now.target wanted.now (stay_of disk.now gap.now way) sides.now }
-    requires early { AreOnDisk disk.now sides.now.early }
-    requires late { AreOnDisk disk.now sides.now.late }
-    requires ceilings { AreCeilings disk.now gap.now wanted.now way ceilings.now }
-    requires best { IsScored disk.now gap.now (wanted_of wanted.now) best }
-    ensures scored { IsScored disk.now gap.entry.now (wanted_of wanted.now) result }
-    ensures keeps { Beats disk.now gap.entry.now (wanted_of wanted.now) result.plan best.plan }
-    ensures tried { is_wanted entry.state ≡ true → block_end disk.now.map entry.block (arrival disk.now gap.entry.now way) + move_on disk.now gap.entry.now way ≤ gap.entry.now.deadline
-        → Beats disk.now gap.entry.now (wanted_of wanted.now) result.plan (plan_by way (block_end disk.now.map entry.block (arrival disk.now gap.entry.now way))) }
+    requires way { IsWay search.now.disk.now search.now.gap.now way }
+    requires track { IsTrackOf search.now.disk.now.map (early_track search.now.gap.now way) }
+    requires fits { FitsDisk search.now.disk.now entry.block }
+    requires search { IsSearch search.now }
+    requires sides { AreSides search.now.disk.now search.now.gap.now.target search.now.wanted.now (stay_of search.now.disk.now search.now.gap.now way) sides.now }
+    requires early { AreOnDisk search.now.disk.now sides.now.early }
+    requires late { AreOnDisk search.now.disk.now sides.now.late }
+    requires ceilings { AreCeilings search.now.disk.now search.now.gap.now search.now.wanted.now way ceilings.now }
+    requires best { IsFound search.now best }
+    ensures scored { IsFound search.now result }
+    ensures keeps { IsNoWorse search.now result.plan best.plan }
+    ensures tried { is_wanted entry.state ≡ true → block_end search.now.disk.now.map entry.block (arrival search.now.disk.now search.now.gap.now way) + move_on search.now.disk.now search.now.gap.now way ≤ search.now.gap.now.deadline
+        → IsNoWorse search.now result.plan (plan_by way (block_end search.now.disk.now.map entry.block (arrival search.now.disk.now search.now.gap.now way))) }
 {
     if !is_wanted(entry.state) {
         return best;
     }
-    let end = sides.passing.end(disk, entry.block);
-    if gap.deadline < end + ceilings.move_on {
+    let end = sides.passing.end(search.disk, entry.block);
+    if search.gap.deadline < end + ceilings.move_on {
         return best;
     }
     let ceiling = ceiling_at(ceilings, end);
     if is_beaten(best, ceiling, way, end) {
         return best;
     }
-    try_entry(disk, wanted, gap, way, sides, entry, best)
+    try_entry(
+        search.disk,
+        search.wanted,
+        search.gap,
+        way,
+        sides,
+        entry,
+        best,
+    )
 }
 
 // Into how many parts the time on a track is divided to note which leaves were tried.
@@ -115,128 +121,114 @@ struct Tried {
 
 // Tries to leave as the passage of a wanted block ends, unless that leave is noted, and notes it.
 fn try_once(
-    disk: &Disk,
-    wanted: &Wanted,
-    gap: &Gap,
+    search: &Search,
     way: Way,
     sides: &Sides,
     ceilings: &Ceilings,
     entry: Entry,
     tried: &mut Tried,
 )
-    requires way { IsWay disk.now gap.now way }
-    requires track { IsTrackOf disk.now.map (early_track gap.now way) }
-    requires fits { FitsDisk disk.now entry.block }
-    requires gap { IsGap disk.now gap.now }
-    requires sides { AreSides disk.now gap.now.target wanted.now (stay_of disk.now gap.now way) sides.now }
-    requires early { AreOnDisk disk.now sides.now.early }
-    requires late { AreOnDisk disk.now sides.now.late }
-    requires ceilings { AreCeilings disk.now gap.now wanted.now way ceilings.now }
-    requires best { IsScored disk.now gap.now (wanted_of wanted.now) tried.old.best }
-    requires notes { AreNotes disk.now gap.now (wanted_of wanted.now) way tried.old }
-    ensures scored { IsScored disk.now gap.entry.now (wanted_of wanted.now) tried.new.best }
-    ensures keeps { Beats disk.now gap.entry.now (wanted_of wanted.now) tried.new.best.plan tried.old.best.plan }
-    ensures tried { is_wanted entry.state ≡ true → block_end disk.now.map entry.block (arrival disk.now gap.entry.now way) + move_on disk.now gap.entry.now way ≤ gap.entry.now.deadline
-        → Beats disk.now gap.entry.now (wanted_of wanted.now) tried.new.best.plan (plan_by way (block_end disk.now.map entry.block (arrival disk.now gap.entry.now way))) }
-    ensures notes { AreNotes disk.now gap.entry.now (wanted_of wanted.now) way tried.new }
+    requires way { IsWay search.now.disk.now search.now.gap.now way }
+    requires track { IsTrackOf search.now.disk.now.map (early_track search.now.gap.now way) }
+    requires fits { FitsDisk search.now.disk.now entry.block }
+    requires search { IsSearch search.now }
+    requires sides { AreSides search.now.disk.now search.now.gap.now.target search.now.wanted.now (stay_of search.now.disk.now search.now.gap.now way) sides.now }
+    requires early { AreOnDisk search.now.disk.now sides.now.early }
+    requires late { AreOnDisk search.now.disk.now sides.now.late }
+    requires ceilings { AreCeilings search.now.disk.now search.now.gap.now search.now.wanted.now way ceilings.now }
+    requires best { IsFound search.now tried.old.best }
+    requires notes { AreNotes search.now.disk.now search.now.gap.now (wanted_of search.now.wanted.now) way tried.old }
+    ensures scored { IsFound search.now tried.new.best }
+    ensures keeps { IsNoWorse search.now tried.new.best.plan tried.old.best.plan }
+    ensures tried { is_wanted entry.state ≡ true → block_end search.now.disk.now.map entry.block (arrival search.now.disk.now search.now.gap.now way) + move_on search.now.disk.now search.now.gap.now way ≤ search.now.gap.now.deadline
+        → IsNoWorse search.now tried.new.best.plan (plan_by way (block_end search.now.disk.now.map entry.block (arrival search.now.disk.now search.now.gap.now way))) }
+    ensures notes { AreNotes search.now.disk.now search.now.gap.now (wanted_of search.now.wanted.now) way tried.new }
 {
     if !is_wanted(entry.state) {
         return;
     }
-    let end = sides.passing.end(disk, entry.block);
+    let end = sides.passing.end(search.disk, entry.block);
     let part = part_of(ceilings, end);
     if tried.leaves[part] == end {
         return;
     }
-    tried.best = try_leave(disk, wanted, gap, way, sides, ceilings, entry, tried.best);
+    tried.best = try_leave(search, way, sides, ceilings, entry, tried.best);
     tried.leaves[part] = end;
 }
 
 // Tries to leave on arrival, unless the ceiling shows that this isn't better.
 fn try_arrival(
-    disk: &Disk,
-    wanted: &Wanted,
-    gap: &Gap,
+    search: &Search,
     way: Way,
     sides: &Sides,
     ceilings: &Ceilings,
     best: Scored,
 ) -> Scored
-    requires way { IsWay disk.now gap.now way }
-    requires track { IsTrackOf disk.now.map (early_track gap.now way) }
-    requires gap { IsGap disk.now gap.now }
-    requires sides { AreSides disk.now gap.now.target wanted.now (stay_of disk.now gap.now way) sides.now }
-    requires early { AreOnDisk disk.now sides.now.early }
-    requires late { AreOnDisk disk.now sides.now.late }
-    requires ceilings { AreCeilings disk.now gap.now wanted.now way ceilings.now }
-    requires in_time { ceilings.now.begin + ceilings.now.move_on ≤ gap.now.deadline }
-    requires best { IsScored disk.now gap.now (wanted_of wanted.now) best }
-    ensures scored { IsScored disk.now gap.entry.now (wanted_of wanted.now) result }
-    ensures keeps { Beats disk.now gap.entry.now (wanted_of wanted.now) result.plan best.plan }
-    ensures tried { Beats disk.now gap.entry.now (wanted_of wanted.now) result.plan (plan_by way (arrival disk.now gap.entry.now way)) }
+    requires way { IsWay search.now.disk.now search.now.gap.now way }
+    requires track { IsTrackOf search.now.disk.now.map (early_track search.now.gap.now way) }
+    requires search { IsSearch search.now }
+    requires sides { AreSides search.now.disk.now search.now.gap.now.target search.now.wanted.now (stay_of search.now.disk.now search.now.gap.now way) sides.now }
+    requires early { AreOnDisk search.now.disk.now sides.now.early }
+    requires late { AreOnDisk search.now.disk.now sides.now.late }
+    requires ceilings { AreCeilings search.now.disk.now search.now.gap.now search.now.wanted.now way ceilings.now }
+    requires in_time { ceilings.now.begin + ceilings.now.move_on ≤ search.now.gap.now.deadline }
+    requires best { IsFound search.now best }
+    ensures scored { IsFound search.now result }
+    ensures keeps { IsNoWorse search.now result.plan best.plan }
+    ensures tried { IsNoWorse search.now result.plan (plan_by way (arrival search.now.disk.now search.now.gap.now way)) }
 {
     let leave = ceilings.begin;
     if ceiling_at(ceilings, leave) < best.value {
         return best;
     }
     let plan = plan_by(way, leave);
-    try_plan(disk, wanted, gap, sides, plan, best)
+    try_plan(search.disk, search.wanted, search.gap, sides, plan, best)
 }
 
 // Tries all plans of a way. Of leaves at one instant, as many blocks may pass at once, most are
 // tried once.
-pub fn try_leaves(
-    disk: &Disk,
-    wanted: &Wanted,
-    gap: &Gap,
-    way: Way,
-    ceilings: &Ceilings,
-    start: Scored,
-) -> Scored
-    requires way { IsWay disk.now gap.now way }
-    requires track { IsTrackOf disk.now.map (early_track gap.now way) }
-    requires gap { IsGap disk.now gap.now }
-    requires blocks { AreOnDisk disk.now wanted.now }
-    requires ceilings { AreCeilings disk.now gap.now wanted.now way ceilings.now }
-    requires in_time { ceilings.now.begin + ceilings.now.move_on ≤ gap.now.deadline }
-    requires best { IsScored disk.now gap.now (wanted_of wanted.now) start }
-    ensures scored { IsScored disk.now gap.entry.now (wanted_of wanted.now) result }
-    ensures keeps { Beats disk.now gap.entry.now (wanted_of wanted.now) result.plan start.plan }
-    ensures tried { (leave : ℕ) → IsPlan disk.now gap.entry.now (plan_by way leave) → Beats disk.now gap.entry.now (wanted_of wanted.now) result.plan (plan_by way leave) }
+pub fn try_leaves(search: &Search, way: Way, ceilings: &Ceilings, start: Scored) -> Scored
+    requires way { IsWay search.now.disk.now search.now.gap.now way }
+    requires track { IsTrackOf search.now.disk.now.map (early_track search.now.gap.now way) }
+    requires search { IsSearch search.now }
+    requires ceilings { AreCeilings search.now.disk.now search.now.gap.now search.now.wanted.now way ceilings.now }
+    requires in_time { ceilings.now.begin + ceilings.now.move_on ≤ search.now.gap.now.deadline }
+    requires best { IsFound search.now start }
+    ensures scored { IsFound search.now result }
+    ensures keeps { IsNoWorse search.now result.plan start.plan }
+    ensures tried { (leave : ℕ) → IsPlan search.now.disk.now search.now.gap.now (plan_by way leave) → IsNoWorse search.now result.plan (plan_by way leave) }
 {
-    let stay = stay_of(disk, gap, way);
-    let both = sides_of(disk, wanted, gap.target, stay);
-    let best = try_arrival(disk, wanted, gap, way, &both, ceilings, start);
+    let stay = stay_of(search.disk, search.gap, way);
+    let both = sides_of(search.disk, search.wanted, search.gap.target, stay);
+    let best = try_arrival(search, way, &both, ceilings, start);
     let mut tried = Tried {
         best,
         leaves: [0; NOTED],
     };
     for i in 0..both.early.len() {
         let entry = both.early.get(i);
-        try_once(disk, wanted, gap, way, &both, ceilings, entry, &mut tried);
+        try_once(search, way, &both, ceilings, entry, &mut tried);
     }
     tried.best
 }
 
 // Tries all plans that wait at the source.
-pub fn try_source(
-    disk: &Disk,
-    wanted: &Wanted,
-    gap: &Gap,
-    late: &LateParts,
-    start: Scored,
-) -> Scored
-    requires gap { IsGap disk.now gap.now }
-    requires blocks { AreOnDisk disk.now wanted.now }
-    requires late { IsLate disk.now gap.now wanted.now late.now }
-    requires best { IsScored disk.now gap.now (wanted_of wanted.now) start }
-    ensures scored { IsScored disk.now gap.entry.now (wanted_of wanted.now) result }
-    ensures keeps { Beats disk.now gap.entry.now (wanted_of wanted.now) result.plan start.plan }
-    ensures tried { (leave : ℕ) → IsPlan disk.now gap.entry.now (Plan.Direct leave) → Beats disk.now gap.entry.now (wanted_of wanted.now) result.plan (Plan.Direct leave) }
+pub fn try_source(search: &Search, start: Scored) -> Scored
+    requires search { IsSearch search.now }
+    requires best { IsFound search.now start }
+    ensures scored { IsFound search.now result }
+    ensures keeps { IsNoWorse search.now result.plan start.plan }
+    ensures tried { (leave : ℕ) → IsPlan search.now.disk.now search.now.gap.now (Plan.Direct leave) → IsNoWorse search.now result.plan (Plan.Direct leave) }
 {
-    let blocks = blocks_on(disk, wanted, gap.source);
-    let stop = stop_at(disk, wanted, blocks, gap.source, gap.now);
-    let on = move_on(disk, gap, Way::Source);
-    let ceilings = ceilings_of(disk, wanted, gap, late, Way::Source, &stop, on);
-    try_leaves(disk, wanted, gap, Way::Source, &ceilings, start)
+    let blocks = blocks_on(search.disk, search.wanted, search.gap.source);
+    let stop = stop_at(
+        search.disk,
+        search.wanted,
+        blocks,
+        search.gap.source,
+        search.gap.now,
+    );
+    let on = move_on(search.disk, search.gap, Way::Source);
+    let ceilings = ceilings_of(search, Way::Source, &stop, on);
+    try_leaves(search, Way::Source, &ceilings, start)
 }

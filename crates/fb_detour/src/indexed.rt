@@ -6,6 +6,7 @@ ghost use Rattle.fb_model.specs.Plans.{IsBest};
 ghost use Rattle.fb_plan.specs.Ways.{IsGap};
 
 use crate::candidates::try_source;
+use crate::given::Search;
 use crate::parts::late_parts;
 use crate::search::try_all;
 use fb_plan::{Planner, scored};
@@ -43,8 +44,14 @@ impl Planner for IndexedPlanner {
             return Plan::Direct { leave: gap.now };
         }
         let late = late_parts(disk, wanted, gap);
+        let search = Search {
+            disk,
+            wanted,
+            gap,
+            late: &late,
+        };
         let first = scored(disk, wanted, gap, Plan::Direct { leave: gap.now });
-        let direct = try_source(disk, wanted, gap, &late, first);
-        try_all(disk, wanted, gap, &late, direct).plan
+        let direct = try_source(&search, first);
+        try_all(&search, direct).plan
     }
 }

@@ -1,15 +1,13 @@
 // Upper bounds on the value of the plans of a way, by the instant at which the head leaves.
 ghost use Rattle.std.specs.Prelude.{◌≡◌, ◌+◌, ◌*◌, ◌≤◌, ◌<◌, ◌^◌, ℕ, get_or};
-ghost use Rattle.fb_plan.specs.Ways.{IsGap, early_track, arrival, move_on};
-ghost use Rattle.fb_detour.specs.Bounds.{IsLate, IsStop, AreCeilings, ceiling_at};
+ghost use Rattle.fb_plan.specs.Ways.{early_track, arrival, move_on};
+ghost use Rattle.fb_detour.specs.Bounds.{IsStop, AreCeilings, ceiling_at, IsSearch};
 
+use crate::given::Search;
 use crate::parts::{EARLY, LateParts, early_parts, late_at};
 use crate::stop::Stop;
 use fb_plan::Way;
-use fb_rows::Gap;
-use fb_service::Disk;
 use fb_units::Ns;
-use fb_wanted::Wanted;
 
 // What the track gives up to the end of each interval of leaves, and what the target gives after the move.
 #[derive(Clone, Copy)]
@@ -23,32 +21,23 @@ pub struct Ceilings<'a> {
 
 // The ceilings of the plans of a way, from its stop; `on` is the time of the move to the target, in
 // ns.
-pub fn ceilings_of<'a>(
-    disk: &Disk,
-    wanted: &Wanted,
-    gap: &Gap,
-    late: &'a LateParts,
-    way: Way,
-    stop: &Stop,
-    on: Ns,
-) -> Ceilings<'a>
-    requires gap { IsGap disk.now gap.now }
-    requires late { IsLate disk.now gap.now wanted.now late.now }
-    requires stop { IsStop disk.now wanted.now stop.now }
-    requires track { stop.now.track ≡ early_track gap.now way }
-    requires arrive { stop.now.arrive ≡ arrival disk.now gap.now way }
-    requires on { on ≡ move_on disk.now gap.now way }
+pub fn ceilings_of<'a>(search: &Search<'a>, way: Way, stop: &Stop, on: Ns) -> Ceilings<'a>
+    requires search { IsSearch search.now }
+    requires stop { IsStop search.now.disk.now search.now.wanted.now stop.now }
+    requires track { stop.now.track ≡ early_track search.now.gap.now way }
+    requires arrive { stop.now.arrive ≡ arrival search.now.disk.now search.now.gap.now way }
+    requires on { on ≡ move_on search.now.disk.now search.now.gap.now way }
     requires soon { on ≤ 2 * 10 ^ 9 }
-    requires in_time { stop.now.arrive + on ≤ gap.now.deadline }
-    ensures { AreCeilings disk.now gap.entry.now wanted.now way result }
+    requires in_time { stop.now.arrive + on ≤ search.now.gap.now.deadline }
+    ensures { AreCeilings search.now.disk.now search.now.gap.now search.now.wanted.now way result }
 {
-    let step = (gap.deadline - on - stop.arrive) / EARLY as u64 + 1;
+    let step = (search.gap.deadline - on - stop.arrive) / EARLY as u64 + 1;
     Ceilings {
         begin: stop.arrive,
         step,
-        early: early_parts(disk, wanted, stop, step),
+        early: early_parts(search.disk, search.wanted, stop, step),
         move_on: on,
-        late,
+        late: search.late,
     }
 }
 

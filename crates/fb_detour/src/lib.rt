@@ -8,6 +8,7 @@
 
 mod bounds;
 mod candidates;
+mod given;
 mod indexed;
 mod intervals;
 mod leaves;

@@ -5,122 +5,102 @@ ghost use Rattle.fb_units.specs.declared.types.Track.{Track};
 ghost use Rattle.fb_units.specs.Tracks.{same_track};
 ghost use Rattle.fb_geometry.specs.Shape.{IsTrackOf};
 ghost use Rattle.fb_wanted.specs.States.{on_track, wanted_of};
-ghost use Rattle.fb_plan.specs.Ways.{AreOnDisk, IsGap, IsScored, Beats};
-ghost use Rattle.fb_detour.specs.Bounds.{BeatsOver, BeatsRange, IsCeiling, IsKey, IsLate, IsReach};
+ghost use Rattle.fb_plan.specs.Ways.{AreOnDisk};
+ghost use Rattle.fb_detour.specs.Bounds.{IsCeiling, IsKey, IsReach, IsSearch, IsFound, IsNoWorse, BeatsTrack, BeatsTracks};
 
 use crate::bounds::is_enough;
 use crate::candidates::try_leaves;
+use crate::given::Search;
 use crate::intervals::ceilings_of;
 use crate::leaves::leaves_beaten;
 use crate::missing::misses_enough;
-use crate::parts::{LateParts, late_at};
+use crate::parts::late_at;
 use crate::steps::{Reach, most_by_steps, most_over, reach_of};
 use crate::stop::stop_at;
 use fb_plan::{Scored, Way, blocks_on, is_same};
-use fb_rows::Gap;
-use fb_service::Disk;
 use fb_units::{Ns, Track};
 use fb_wanted::{TrackBlocks, Wanted};
 
 // Tries the plans that stop at a track with these blocks, unless none can be better than the best so far.
-fn try_stop(
-    disk: &Disk,
-    wanted: &Wanted,
-    gap: &Gap,
-    late: &LateParts,
-    track: Track,
-    blocks: TrackBlocks,
-    start: Scored,
-) -> Scored
-    requires track { IsTrackOf disk.now.map track }
-    requires detour { same_track track gap.now.source ≡ false }
-    requires elsewhere { same_track track gap.now.target ≡ false }
-    requires its { blocks ≡ on_track track wanted.now }
-    requires on_disk { AreOnDisk disk.now blocks }
-    requires gap { IsGap disk.now gap.now }
-    requires blocks { AreOnDisk disk.now wanted.now }
-    requires late { IsLate disk.now gap.now wanted.now late.now }
-    requires best { IsScored disk.now gap.now (wanted_of wanted.now) start }
-    ensures scored { IsScored disk.now gap.entry.now (wanted_of wanted.now) result }
-    ensures keeps { Beats disk.now gap.entry.now (wanted_of wanted.now) result.plan start.plan }
-    ensures tried { BeatsOver disk.now gap.entry.now (wanted_of wanted.now) result.plan track }
+fn try_stop(search: &Search, track: Track, blocks: TrackBlocks, start: Scored) -> Scored
+    requires track { IsTrackOf search.now.disk.now.map track }
+    requires detour { same_track track search.now.gap.now.source ≡ false }
+    requires elsewhere { same_track track search.now.gap.now.target ≡ false }
+    requires its { blocks ≡ on_track track search.now.wanted.now }
+    requires on_disk { AreOnDisk search.now.disk.now blocks }
+    requires search { IsSearch search.now }
+    requires best { IsFound search.now start }
+    ensures scored { IsFound search.now result }
+    ensures keeps { IsNoWorse search.now result.plan start.plan }
+    ensures tried { BeatsTrack search.now result.plan track }
 {
-    let arrive = gap.now + disk.mechanism.pos(gap.source, track, false);
-    let on = disk.mechanism.pos(track, gap.target, gap.write);
-    if gap.deadline < arrive + on {
+    let arrive = search.gap.now + search.disk.mechanism.pos(search.gap.source, track, false);
+    let on = search
+        .disk
+        .mechanism
+        .pos(track, search.gap.target, search.gap.write);
+    if search.gap.deadline < arrive + on {
         return start;
     }
-    let stop = stop_at(disk, wanted, blocks, track, arrive);
-    let after = late_at(late, arrive + on);
-    if misses_enough(disk, wanted, &stop, gap.deadline - on, after, start) {
+    let stop = stop_at(search.disk, search.wanted, blocks, track, arrive);
+    let after = late_at(search.late, arrive + on);
+    if misses_enough(
+        search.disk,
+        search.wanted,
+        &stop,
+        search.gap.deadline - on,
+        after,
+        start,
+    ) {
         return start;
     }
     let way = Way::Over(track);
-    let ceilings = ceilings_of(disk, wanted, gap, late, way, &stop, on);
-    if leaves_beaten(disk, wanted, gap, &ceilings, track, start) {
+    let ceilings = ceilings_of(search, way, &stop, on);
+    if leaves_beaten(search, &ceilings, track, start) {
         return start;
     }
-    try_leaves(disk, wanted, gap, way, &ceilings, start)
+    try_leaves(search, way, &ceilings, start)
 }
 
 // Tries the plans over a track, unless none can be better than the best so far.
-fn try_track(
-    disk: &Disk,
-    wanted: &Wanted,
-    gap: &Gap,
-    late: &LateParts,
-    track: Track,
-    reach: Reach,
-    start: Scored,
-) -> Scored
-    requires track { IsTrackOf disk.now.map track }
-    requires reach { IsReach disk.now gap.now wanted.now track reach }
-    requires gap { IsGap disk.now gap.now }
-    requires blocks { AreOnDisk disk.now wanted.now }
-    requires late { IsLate disk.now gap.now wanted.now late.now }
-    requires best { IsScored disk.now gap.now (wanted_of wanted.now) start }
-    ensures scored { IsScored disk.now gap.entry.now (wanted_of wanted.now) result }
-    ensures keeps { Beats disk.now gap.entry.now (wanted_of wanted.now) result.plan start.plan }
-    ensures tried { BeatsOver disk.now gap.entry.now (wanted_of wanted.now) result.plan track }
+fn try_track(search: &Search, track: Track, reach: Reach, start: Scored) -> Scored
+    requires track { IsTrackOf search.now.disk.now.map track }
+    requires reach { IsReach search.now.disk.now search.now.gap.now search.now.wanted.now track reach }
+    requires search { IsSearch search.now }
+    requires best { IsFound search.now start }
+    ensures scored { IsFound search.now result }
+    ensures keeps { IsNoWorse search.now result.plan start.plan }
+    ensures tried { BeatsTrack search.now result.plan track }
 {
-    if is_same(track, gap.source) {
+    if is_same(track, search.gap.source) {
         return start;
     }
-    if is_same(track, gap.target) {
+    if is_same(track, search.gap.target) {
         return start;
     }
-    let blocks = blocks_on(disk, wanted, track);
-    let most = most_by_steps(gap, late, reach, blocks.wanted_weight());
+    let blocks = blocks_on(search.disk, search.wanted, track);
+    let most = most_by_steps(search, reach, blocks.wanted_weight());
     if is_enough(start, most, track) {
         return start;
     }
-    try_stop(disk, wanted, gap, late, track, blocks, start)
+    try_stop(search, track, blocks, start)
 }
 
 // Tries the tracks of a cylinder.
-fn try_cylinder(
-    disk: &Disk,
-    wanted: &Wanted,
-    gap: &Gap,
-    late: &LateParts,
-    cylinder: u32,
-    start: Scored,
-) -> Scored
-    requires cylinder { cylinder < disk.now.mechanism.cylinders }
-    requires gap { IsGap disk.now gap.now }
-    requires blocks { AreOnDisk disk.now wanted.now }
-    requires late { IsLate disk.now gap.now wanted.now late.now }
-    requires best { IsScored disk.now gap.now (wanted_of wanted.now) start }
-    ensures scored { IsScored disk.now gap.entry.now (wanted_of wanted.now) result }
-    ensures keeps { Beats disk.now gap.entry.now (wanted_of wanted.now) result.plan start.plan }
-    ensures tried { BeatsRange disk.now gap.entry.now (wanted_of wanted.now) result.plan cylinder (cylinder + 1) }
+fn try_cylinder(search: &Search, cylinder: u32, start: Scored) -> Scored
+    requires cylinder { cylinder < search.now.disk.now.mechanism.cylinders }
+    requires search { IsSearch search.now }
+    requires best { IsFound search.now start }
+    ensures scored { IsFound search.now result }
+    ensures keeps { IsNoWorse search.now result.plan start.plan }
+    ensures tried { BeatsTracks search.now result.plan cylinder (cylinder + 1) }
 {
-    let _cylinders = disk.map.geometry().cylinders();
-    let reach = reach_of(disk, wanted, gap, cylinder, cylinder + 1);
+    let _cylinders = search.disk.map.geometry().cylinders();
+    let reach = reach_of(search, cylinder, cylinder + 1);
     let mut best = start;
-    for head in 0..disk.map.geometry().heads() {
+    for head in 0..search.disk.map.geometry().heads() {
         let track = Track { cylinder, head };
-        best = try_track(disk, wanted, gap, late, track, reach, best);
+        best = try_track(search, track, reach, best);
     }
     best
 }
@@ -147,57 +127,36 @@ fn width_of(cylinders: u32) -> u32
 // For each part of the range an upper bound on the value of detours over it, in one number with the
 // part: eight times the bound, and 8 for the first part, 7 for the second and so on. So numbers
 // differ, and a greater bound has a greater number.
-fn keys_of(
-    disk: &Disk,
-    wanted: &Wanted,
-    gap: &Gap,
-    late: &LateParts,
-    from: u32,
-    end: u32,
-    width: u32,
-    known: u64,
-) -> [u64; WAYS]
-    requires within { end ≤ disk.now.mechanism.cylinders }
+fn keys_of(search: &Search, from: u32, end: u32, width: u32, known: u64) -> [u64; WAYS]
+    requires within { end ≤ search.now.disk.now.mechanism.cylinders }
     requires order { from ≤ end }
-    requires few { disk.now.mechanism.cylinders ≤ 10 ^ 6 }
+    requires few { search.now.disk.now.mechanism.cylinders ≤ 10 ^ 6 }
     requires width { width ≤ 10 ^ 6 }
-    requires gap { IsGap disk.now gap.now }
-    requires blocks { AreOnDisk disk.now wanted.now }
-    requires late { IsLate disk.now gap.now wanted.now late.now }
-    ensures { (j : ℕ) → j < 8 → IsKey disk.now gap.entry.now (wanted_of wanted.now) from end width j (get_or result j 0) }
+    requires search { IsSearch search.now }
+    ensures { (j : ℕ) → j < 8 → IsKey search.now.disk.now search.now.gap.now (wanted_of search.now.wanted.now) from end width j (get_or result j 0) }
 {
     let mut keys = [0; WAYS];
     for j in 0..WAYS {
         let first = from + j as u32 * width;
         let behind = first + width;
         let upto = end.min(behind);
-        let most = most_within(disk, wanted, gap, late, first, upto, known);
+        let most = most_within(search, first, upto, known);
         keys[j] = most * 8 + (8 - j as u64);
     }
     keys
 }
 
 // An upper bound on the value of detours over the tracks of these cylinders, if there are any.
-fn most_within(
-    disk: &Disk,
-    wanted: &Wanted,
-    gap: &Gap,
-    late: &LateParts,
-    from: u32,
-    end: u32,
-    known: u64,
-) -> u64
-    requires cylinders { end ≤ disk.now.mechanism.cylinders }
-    requires gap { IsGap disk.now gap.now }
-    requires blocks { AreOnDisk disk.now wanted.now }
-    requires late { IsLate disk.now gap.now wanted.now late.now }
-    ensures most { IsCeiling disk.now gap.entry.now (wanted_of wanted.now) from end result }
+fn most_within(search: &Search, from: u32, end: u32, known: u64) -> u64
+    requires cylinders { end ≤ search.now.disk.now.mechanism.cylinders }
+    requires search { IsSearch search.now }
+    ensures most { IsCeiling search.now.disk.now search.now.gap.now (wanted_of search.now.wanted.now) from end result }
     ensures small { result ≤ 2 * (16000000 * 2048000) }
 {
     if end <= from {
         return 0;
     }
-    most_over(disk, wanted, gap, late, from, end, known)
+    most_over(search, from, end, known)
 }
 
 // The greatest of the numbers below this one; 0 if there is none.
@@ -227,26 +186,15 @@ fn greater_below(key: u64, other: u64, below: u64) -> u64
 
 // Tries the tracks of these cylinders, if their upper bound leaves it open whether one is better
 // than the best so far: part by part, that with the greatest bound first.
-fn visit(
-    disk: &Disk,
-    wanted: &Wanted,
-    gap: &Gap,
-    late: &LateParts,
-    from: u32,
-    end: u32,
-    most: u64,
-    start: Scored,
-) -> Scored
-    requires within { end ≤ disk.now.mechanism.cylinders }
-    requires few { disk.now.mechanism.cylinders ≤ 10 ^ 6 }
-    requires most { IsCeiling disk.now gap.now (wanted_of wanted.now) from end most }
-    requires gap { IsGap disk.now gap.now }
-    requires blocks { AreOnDisk disk.now wanted.now }
-    requires late { IsLate disk.now gap.now wanted.now late.now }
-    requires best { IsScored disk.now gap.now (wanted_of wanted.now) start }
-    ensures scored { IsScored disk.now gap.entry.now (wanted_of wanted.now) result }
-    ensures keeps { Beats disk.now gap.entry.now (wanted_of wanted.now) result.plan start.plan }
-    ensures tried { BeatsRange disk.now gap.entry.now (wanted_of wanted.now) result.plan from end }
+fn visit(search: &Search, from: u32, end: u32, most: u64, start: Scored) -> Scored
+    requires within { end ≤ search.now.disk.now.mechanism.cylinders }
+    requires few { search.now.disk.now.mechanism.cylinders ≤ 10 ^ 6 }
+    requires most { IsCeiling search.now.disk.now search.now.gap.now (wanted_of search.now.wanted.now) from end most }
+    requires search { IsSearch search.now }
+    requires best { IsFound search.now start }
+    ensures scored { IsFound search.now result }
+    ensures keeps { IsNoWorse search.now result.plan start.plan }
+    ensures tried { BeatsTracks search.now result.plan from end }
 {
     if end <= from {
         return start;
@@ -259,35 +207,33 @@ fn visit(
         return start;
     }
     if end - from == 1 {
-        return try_cylinder(disk, wanted, gap, late, from, start);
+        return try_cylinder(search, from, start);
     }
     let width = width_of(end - from);
-    let keys = keys_of(disk, wanted, gap, late, from, end, width, start.value);
+    let keys = keys_of(search, from, end, width, start.value);
     let mut best = start;
     let mut key = next_below(&keys, u64::MAX);
     while 0 < key {
         let begin = from + (7 - (key - 1) % 8) as u32 * width;
         let behind = begin + width;
         let upto = end.min(behind);
-        best = visit(disk, wanted, gap, late, begin, upto, (key - 1) / 8, best);
+        best = visit(search, begin, upto, (key - 1) / 8, best);
         key = next_below(&keys, key);
     }
     best
 }
 
 // Tries the tracks of all cylinders.
-pub fn try_all(disk: &Disk, wanted: &Wanted, gap: &Gap, late: &LateParts, start: Scored) -> Scored
-    requires gap { IsGap disk.now gap.now }
-    requires blocks { AreOnDisk disk.now wanted.now }
-    requires late { IsLate disk.now gap.now wanted.now late.now }
-    requires best { IsScored disk.now gap.now (wanted_of wanted.now) start }
-    ensures scored { IsScored disk.now gap.entry.now (wanted_of wanted.now) result }
-    ensures keeps { Beats disk.now gap.entry.now (wanted_of wanted.now) result.plan start.plan }
-    ensures tried { BeatsRange disk.now gap.entry.now (wanted_of wanted.now) result.plan 0 disk.now.mechanism.cylinders }
+pub fn try_all(search: &Search, start: Scored) -> Scored
+    requires search { IsSearch search.now }
+    requires best { IsFound search.now start }
+    ensures scored { IsFound search.now result }
+    ensures keeps { IsNoWorse search.now result.plan start.plan }
+    ensures tried { BeatsTracks search.now result.plan 0 search.now.disk.now.mechanism.cylinders }
 {
-    let geometry = disk.map.geometry();
+    let geometry = search.disk.map.geometry();
     geometry.sound();
     let end = geometry.cylinders();
-    let most = most_within(disk, wanted, gap, late, 0, end, start.value);
-    visit(disk, wanted, gap, late, 0, end, most, start)
+    let most = most_within(search, 0, end, start.value);
+    visit(search, 0, end, most, start)
 }

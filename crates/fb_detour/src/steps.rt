@@ -1,19 +1,17 @@
 // Upper bounds on the value of detours. What the target gives after a detour falls in steps; up to
 // each step a track gives no more than it weighs, and no more than passes in the time there.
-ghost use Rattle.std.specs.Prelude.{◌≡◌, ◌+◌, ◌*◌, ◌≤◌, ◌<◌, ◌^◌, ℕ, List, get_or};
+ghost use Rattle.std.specs.Prelude.{◌≡◌, ◌+◌, ◌*◌, ◌≤◌, ◌<◌, ◌^◌, ℕ, get_or};
 ghost use Rattle.fb_units.specs.declared.types.Track.{Track};
 ghost use Rattle.fb_rows.specs.declared.gap.Plan.{Plan};
-ghost use Rattle.fb_service.specs.declared.disk.Disk.{Disk};
-ghost use Rattle.fb_wanted.specs.declared.block.Entry.{Entry};
 ghost use Rattle.fb_model.specs.Plans.{value, IsDetour};
 ghost use Rattle.fb_wanted.specs.States.{wanted_of};
 ghost use Rattle.fb_wanted.specs.Tracks.{wanted_weight};
-ghost use Rattle.fb_plan.specs.Ways.{AreOnDisk, IsGap};
-ghost use Rattle.fb_detour.specs.Bounds.{IsCeiling, IsLate, IsRate, IsReach};
+ghost use Rattle.fb_plan.specs.Ways.{AreOnDisk};
+ghost use Rattle.fb_detour.specs.Bounds.{IsCeiling, IsRate, IsReach, IsSearch};
 
 use crate::bounds::{least_moves, most_depth, most_slots};
+use crate::given::Search;
 use crate::parts::{LATE, LateParts};
-use fb_rows::Gap;
 use fb_service::Disk;
 use fb_units::{Ns, Track};
 use fb_wanted::Wanted;
@@ -56,17 +54,16 @@ fn rate_over(disk: &Disk, wanted: &Wanted, from: u32, end: u32) -> u64
 }
 
 // The reach of detours over these cylinders.
-pub fn reach_of(disk: &Disk, wanted: &Wanted, gap: &Gap, from: u32, end: u32) -> Reach
+pub fn reach_of(search: &Search, from: u32, end: u32) -> Reach
     requires some { from < end }
-    requires cylinders { end ≤ disk.now.mechanism.cylinders }
-    requires gap { IsGap disk.now gap.now }
-    requires blocks { AreOnDisk disk.now wanted.now }
-    ensures { (track : Track) → from ≤ track.cylinder → track.cylinder < end → IsReach disk.now gap.entry.now wanted.now track result }
+    requires cylinders { end ≤ search.now.disk.now.mechanism.cylinders }
+    requires search { IsSearch search.now }
+    ensures { (track : Track) → from ≤ track.cylinder → track.cylinder < end → IsReach search.now.disk.now search.now.gap.now search.now.wanted.now track result }
 {
-    let moves = least_moves(disk, gap, from, end);
+    let moves = least_moves(search.disk, search.gap, from, end);
     Reach {
-        back: gap.now + moves.there + moves.on,
-        rate: rate_over(disk, wanted, from, end),
+        back: search.gap.now + moves.there + moves.on,
+        rate: rate_over(search.disk, search.wanted, from, end),
     }
 }
 
@@ -104,47 +101,37 @@ fn worth_by_step(late: &LateParts, k: usize, reach: Reach, weight: u64) -> u64
 
 // An upper bound on the value of detours over a track of this reach and this weight; 0 where it is
 // out of reach.
-pub fn most_by_steps(gap: &Gap, late: &LateParts, reach: Reach, weight: u64) -> u64
-    requires parts { (k : ℕ) → k < 32 → get_or late.now.parts k 0 ≤ 16000000 * 2048000 }
+pub fn most_by_steps(search: &Search, reach: Reach, weight: u64) -> u64
+    requires search { IsSearch search.now }
     requires light { weight ≤ 16000000 * 2048000 }
-    ensures most { (disk : Disk) (entries : List Entry) (track : Track) (leave : ℕ) → IsLate disk gap.entry.now entries late.now → IsReach disk gap.entry.now entries track reach
-        → wanted_weight track entries ≤ weight → IsDetour disk gap.entry.now track leave → value disk gap.entry.now (wanted_of entries) (Plan.Detour track leave) ≤ result }
+    ensures most { (track : Track) (leave : ℕ) → IsReach search.now.disk.now search.now.gap.now search.now.wanted.now track reach → wanted_weight track search.now.wanted.now ≤ weight → IsDetour search.now.disk.now search.now.gap.now track leave
+        → value search.now.disk.now search.now.gap.now (wanted_of search.now.wanted.now) (Plan.Detour track leave) ≤ result }
     ensures small { result ≤ 2 * (16000000 * 2048000) }
 {
-    if gap.deadline < reach.back {
+    if search.gap.deadline < reach.back {
         return 0;
     }
-    let mut most = caught_in(reach.rate, weight, gap.deadline - reach.back);
+    let mut most = caught_in(reach.rate, weight, search.gap.deadline - reach.back);
     for k in 0..LATE {
-        most = most.max(worth_by_step(late, k, reach, weight));
+        most = most.max(worth_by_step(search.late, k, reach, weight));
     }
     most
 }
 
 // An upper bound on the value of detours over the tracks of these cylinders. It is found without a
 // look at the times of moves where even the weights are less than `known`.
-pub fn most_over(
-    disk: &Disk,
-    wanted: &Wanted,
-    gap: &Gap,
-    late: &LateParts,
-    from: u32,
-    end: u32,
-    known: u64,
-) -> u64
+pub fn most_over(search: &Search, from: u32, end: u32, known: u64) -> u64
     requires some { from < end }
-    requires cylinders { end ≤ disk.now.mechanism.cylinders }
-    requires gap { IsGap disk.now gap.now }
-    requires blocks { AreOnDisk disk.now wanted.now }
-    requires late { IsLate disk.now gap.now wanted.now late.now }
-    ensures most { IsCeiling disk.now gap.entry.now (wanted_of wanted.now) from end result }
+    requires cylinders { end ≤ search.now.disk.now.mechanism.cylinders }
+    requires search { IsSearch search.now }
+    ensures most { IsCeiling search.now.disk.now search.now.gap.now (wanted_of search.now.wanted.now) from end result }
     ensures small { result ≤ 2 * (16000000 * 2048000) }
 {
-    let weight = wanted.greatest_weight_in(from, end);
-    let sum = weight + late.parts[0];
+    let weight = search.wanted.greatest_weight_in(from, end);
+    let sum = weight + search.late.parts[0];
     if sum < known {
         return sum;
     }
-    let reach = reach_of(disk, wanted, gap, from, end);
-    most_by_steps(gap, late, reach, weight)
+    let reach = reach_of(search, from, end);
+    most_by_steps(search, reach, weight)
 }

@@ -12,22 +12,22 @@ pub overflow_add-end : goal.overflow_add-end
 overflow_add-end c = omega (arith, c.end-end.ensures.soon, c.requires.sides.passing.early, c.requires.ceilings.soon)
 
 pub ceiling_at-ceiling-requires-clause-begin : goal.ceiling_at-ceiling-requires-clause-begin
-ceiling_at-ceiling-requires-clause-begin c = omega (arith, c.requires.ceilings.begin, c.requires.sides.from, c.end-end.ensures.value, end-from-le c.args.disk.now.map c.args.entry.block c.args.sides.now.passing.from)
+ceiling_at-ceiling-requires-clause-begin c = omega (arith, c.requires.ceilings.begin, c.requires.sides.from, c.end-end.ensures.value, end-from-le c.args.search.now.disk.now.map c.args.entry.block c.args.sides.now.passing.from)
 
 pub ceiling_at-ceiling-requires-clause-late_begin : goal.ceiling_at-ceiling-requires-clause-late_begin
 ceiling_at-ceiling-requires-clause-late_begin c = omega (
   arith,
   c.requires.ceilings.late.from_now,
-  from_now c.args.disk.now c.args.gap.now c.args.wanted.now c.args.way,
+  from_now c.args.search.now.disk.now c.args.search.now.gap.now c.args.search.now.wanted.now c.args.way,
   c.requires.sides.from,
   c.end-end.ensures.value,
-  end-from-le c.args.disk.now.map c.args.entry.block c.args.sides.now.passing.from,
+  end-from-le c.args.search.now.disk.now.map c.args.entry.block c.args.sides.now.passing.from,
 )
 
 pub returns-then-is_beaten-clause-tried : goal.returns-then-is_beaten-clause-tried
 returns-then-is_beaten-clause-tried c = λ here fits.
-    let disk = c.args.disk.now in
-    let gap = c.args.gap.now in
+    let disk = c.args.search.now.disk.now in
+    let gap = c.args.search.now.gap.now in
     let best = c.args.best in
     let way = c.args.way in
     let from = arrival disk gap way in
@@ -35,5 +35,5 @@ returns-then-is_beaten-clause-tried c = λ here fits.
     let end : c.end-end.result ≡ leave = c.end-end.ensures.value ∙ ap (block_end disk.map c.args.entry.block) c.requires.sides.from in
     let is = c.requires.way leave (end-from-le disk.map c.args.entry.block from) fits in
     let enough = subst (λ t. (c.ceiling_at-ceiling.result < best.value) ⊎ ((c.ceiling_at-ceiling.result ≡ best.value) × IsNoLater best.plan (plan_by way t))) end (c.is_beaten.ensures c.if-is_beaten.true) in
-    no_better_plan disk gap (wanted_of c.args.wanted.now) best c.ceiling_at-ceiling.result (plan_by way leave) c.requires.best enough
+    no_better_plan disk gap (wanted_of c.args.search.now.wanted.now) best c.ceiling_at-ceiling.result (plan_by way leave) c.requires.best enough
     (omega (arith, c.requires.ceilings.most leave is, ap (ceiling_at c.args.ceilings.now) end, c.ceiling_at-ceiling.ensures))

@@ -11,29 +11,29 @@ use Rattle.fb_detour.proofs.candidates.try_leaves.Goals as goal
 
 pub try_arrival-best-requires-clause-sides : goal.try_arrival-best-requires-clause-sides
 try_arrival-best-requires-clause-sides c =
-    subst (λ d. AreSides c.args.disk.now c.args.gap.now.target c.args.wanted.now d c.sides_of-both.result) c.stay_of-stay.ensures.value c.sides_of-both.ensures.sides
+    subst (λ d. AreSides c.args.search.now.disk.now c.args.search.now.gap.now.target c.args.search.now.wanted.now d c.sides_of-both.result) c.stay_of-stay.ensures.value c.sides_of-both.ensures.sides
 
 pub try_once-requires-clause-sides : goal.try_once-requires-clause-sides
 try_once-requires-clause-sides c =
-    subst (λ d. AreSides c.args.disk.now c.args.gap.now.target c.args.wanted.now d c.sides_of-both.result) c.stay_of-stay.ensures.value c.sides_of-both.ensures.sides
+    subst (λ d. AreSides c.args.search.now.disk.now c.args.search.now.gap.now.target c.args.search.now.wanted.now d c.sides_of-both.result) c.stay_of-stay.ensures.value c.sides_of-both.ensures.sides
 
 pub loop-i-preserved : goal.loop-i-preserved
 loop-i-preserved c =
-    let xs = on_track (early_track c.args.gap.now c.args.way) c.args.wanted.now in
-    let same : c.sides_of-both.result.early ≡ xs = c.sides_of-both.ensures.sides.early ∙ ap (λ (d : Dwell). on_track d.track c.args.wanted.now) c.stay_of-stay.ensures.value in (
+    let xs = on_track (early_track c.args.search.now.gap.now c.args.way) c.args.search.now.wanted.now in
+    let same : c.sides_of-both.result.early ≡ xs = c.sides_of-both.ensures.sides.early ∙ ap (λ (d : Dwell). on_track d.track c.args.search.now.wanted.now) c.stay_of-stay.ensures.value in (
       c.try_once.ensures.scored,
-      beats-trans c.args.disk.now c.args.gap.now (wanted_of c.args.wanted.now) c.try_once.new.tried.best.plan c.loop-i.tried.best.plan c.try_arrival-best.result.plan c.try_once.ensures.keeps c.loop-i.invariant.1,
-      entries-more c.args.disk.now c.args.gap.now c.args.way (wanted_of c.args.wanted.now) xs c.loop-i.i (arrival c.args.disk.now c.args.gap.now c.args.way) c.loop-i.tried.best.plan c.try_once.new.tried.best.plan c.get-entry.result
+      beats-trans c.args.search.now.disk.now c.args.search.now.gap.now (wanted_of c.args.search.now.wanted.now) c.try_once.new.tried.best.plan c.loop-i.tried.best.plan c.try_arrival-best.result.plan c.try_once.ensures.keeps c.loop-i.invariant.1,
+      entries-more c.args.search.now.disk.now c.args.search.now.gap.now c.args.way (wanted_of c.args.search.now.wanted.now) xs c.loop-i.i (arrival c.args.search.now.disk.now c.args.search.now.gap.now c.args.way) c.loop-i.tried.best.plan c.try_once.new.tried.best.plan c.get-entry.result
           (ap (λ ys. slice_get ys c.loop-i.i) (sym same) ∙ c.get-entry.ensures) c.try_once.ensures.keeps c.try_once.ensures.tried c.loop-i.invariant.2,
       c.try_once.ensures.notes,
     )
 
 pub returns-clause-tried : goal.returns-clause-tried
 returns-clause-tried c = λ u is.
-    let track = early_track c.args.gap.now c.args.way in
-    let same : c.sides_of-both.result.early ≡ on_track track c.args.wanted.now = c.sides_of-both.ensures.sides.early ∙ ap (λ (d : Dwell). on_track d.track c.args.wanted.now) c.stay_of-stay.ensures.value in
-    way_done c.args.disk.now c.args.gap.now c.args.way c.args.wanted.now c.loop-i.tried.best.plan c.try_arrival-best.result.plan (plan_by c.args.way (arrival c.args.disk.now c.args.gap.now c.args.way)) track (arrival c.args.disk.now c.args.gap.now c.args.way) c.loop-i.i u
-    c.args.disk.now.some_rotation refl refl refl
+    let track = early_track c.args.search.now.gap.now c.args.way in
+    let same : c.sides_of-both.result.early ≡ on_track track c.args.search.now.wanted.now = c.sides_of-both.ensures.sides.early ∙ ap (λ (d : Dwell). on_track d.track c.args.search.now.wanted.now) c.stay_of-stay.ensures.value in
+    way_done c.args.search.now.disk.now c.args.search.now.gap.now c.args.way c.args.search.now.wanted.now c.loop-i.tried.best.plan c.try_arrival-best.result.plan (plan_by c.args.way (arrival c.args.search.now.disk.now c.args.search.now.gap.now c.args.way)) track (arrival c.args.search.now.disk.now c.args.search.now.gap.now c.args.way) c.loop-i.i u
+    c.args.search.now.disk.now.some_rotation refl refl refl
     (omega (arith, c.loop-i-test.false, c.len-i-end.ensures.count, ap length same)) c.loop-i.invariant.1 c.try_arrival-best.ensures.tried c.loop-i.invariant.2 is
 
 pub try_once-requires-clause-fits : goal.try_once-requires-clause-fits
@@ -42,7 +42,7 @@ try_once-requires-clause-fits c = c.sides_of-both.ensures.early c.loop-i.i c.get
 pub loop-i-init : goal.loop-i-init
 loop-i-init c = (
   c.try_arrival-best.ensures.scored,
-  beats-self c.args.disk.now c.args.gap.now (wanted_of c.args.wanted.now) c.try_arrival-best.result.plan,
+  beats-self c.args.search.now.disk.now c.args.search.now.gap.now (wanted_of c.args.search.now.wanted.now) c.try_arrival-best.result.plan,
   λ k e less. absurd (omega (arith, less)),
   λ k less. inl (zeros (replicate 64 0) refl k),
 )

@@ -7,9 +7,9 @@ use Rattle.fb_detour.specs.Bounds.{AreNotes}
 use Rattle.fb_detour.proofs.candidates.try_leaves.Given as goal
 
 abbrev pub invariant-loop-i : goal.invariant-loop-i
-invariant-loop-i l = IsScored l.disk l.gap (wanted_of l.wanted) l.tried.best
-    × Beats l.disk l.gap (wanted_of l.wanted) l.tried.best.plan l.initial.tried.best.plan
-    × ((k : ℕ) (e : Entry) → k < l.i → slice_get (on_track (early_track l.gap l.way) l.wanted) k ≡ Some e → is_wanted e.state ≡ true
-    → block_end l.disk.map e.block (arrival l.disk l.gap l.way) + move_on l.disk l.gap l.way ≤ l.gap.deadline
-    → Beats l.disk l.gap (wanted_of l.wanted) l.tried.best.plan (plan_by l.way (block_end l.disk.map e.block (arrival l.disk l.gap l.way))))
-    × AreNotes l.disk l.gap (wanted_of l.wanted) l.way l.tried
+invariant-loop-i l = IsScored l.search.disk.now l.search.gap.now (wanted_of l.search.wanted.now) l.tried.best
+    × Beats l.search.disk.now l.search.gap.now (wanted_of l.search.wanted.now) l.tried.best.plan l.initial.tried.best.plan
+    × ((k : ℕ) (e : Entry) → k < l.i → slice_get (on_track (early_track l.search.gap.now l.way) l.search.wanted.now) k ≡ Some e → is_wanted e.state ≡ true
+    → block_end l.search.disk.now.map e.block (arrival l.search.disk.now l.search.gap.now l.way) + move_on l.search.disk.now l.search.gap.now l.way ≤ l.search.gap.now.deadline
+    → Beats l.search.disk.now l.search.gap.now (wanted_of l.search.wanted.now) l.tried.best.plan (plan_by l.way (block_end l.search.disk.now.map e.block (arrival l.search.disk.now l.search.gap.now l.way))))
+    × AreNotes l.search.disk.now l.search.gap.now (wanted_of l.search.wanted.now) l.way l.tried

@@ -8,9 +8,9 @@ use Rattle.fb_detour.proofs.candidates.try_once.Goals as goal
 
 pub returns-clause-notes : goal.returns-clause-notes
 returns-clause-notes c =
-    let disk = c.args.disk.now in
-    let gap = c.args.gap.now in
-    let wanted = wanted_of c.args.wanted.now in
+    let disk = c.args.search.now.disk.now in
+    let gap = c.args.search.now.gap.now in
+    let wanted = wanted_of c.args.search.now.wanted.now in
     let leaves = c.args.tried.now.leaves in
     let best = c.try_leave-tried.result.plan in
     let end : c.end-end.result ≡ block_end disk.map c.args.entry.block (arrival disk gap c.args.way) = c.end-end.ensures.value ∙ ap (block_end disk.map c.args.entry.block) c.requires.sides.from in

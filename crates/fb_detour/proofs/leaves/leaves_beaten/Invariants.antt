@@ -6,4 +6,4 @@ use Rattle.fb_plan.specs.Ways.{Beats}
 use Rattle.fb_detour.proofs.leaves.leaves_beaten.Given as goal
 
 abbrev pub invariant-loop-k : goal.invariant-loop-k
-invariant-loop-k l = (leave : ℕ) → leave < l.ceilings.begin + l.k * l.ceilings.step → IsDetour l.disk l.gap l.track leave → Beats l.disk l.gap (wanted_of l.wanted) l.best.plan (Detour l.track leave)
+invariant-loop-k l = (leave : ℕ) → leave < l.ceilings.begin + l.k * l.ceilings.step → IsDetour l.search.disk.now l.search.gap.now l.track leave → Beats l.search.disk.now l.search.gap.now (wanted_of l.search.wanted.now) l.best.plan (Detour l.track leave)

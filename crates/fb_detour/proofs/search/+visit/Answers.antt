@@ -11,22 +11,22 @@ returns-then-end-from-clause-tried n c = λ track low high. absurd (omega (arith
 
 pub returns-then-is_enough-clause-tried : goal.returns-then-is_enough-clause-tried
 returns-then-is_enough-clause-tried n c = λ track low high leave is.
-    not_better c.args.disk.now c.args.gap.now (wanted_of c.args.wanted.now) c.args.start c.args.most (record { cylinder = c.args.from; head = 0 }) track leave
+    not_better c.args.search.now.disk.now c.args.search.now.gap.now (wanted_of c.args.search.now.wanted.now) c.args.start c.args.most (record { cylinder = c.args.from; head = 0 }) track leave
     c.requires.best (c.is_enough.ensures c.if-is_enough.true) (first-of c.args.from track low) (c.requires.most track leave low high is)
 
 pub loop-key-init : goal.loop-key-init
 loop-key-init n c = (
   c.requires.best,
-  beats-self c.args.disk.now c.args.gap.now (wanted_of c.args.wanted.now) c.args.start.plan,
+  beats-self c.args.search.now.disk.now c.args.search.now.gap.now (wanted_of c.args.search.now.wanted.now) c.args.start.plan,
   λ j less above. absurd (omega (arith, c.next_below-key.ensures.greatest j less (omega (arith, (c.keys_of-keys.ensures j less).small)), above)),
   c.next_below-key.ensures.its,
 )
 
 pub loop-key-preserved : goal.loop-key-preserved
 loop-key-preserved n c =
-    let disk = c.args.disk.now in
-    let gap = c.args.gap.now in
-    let wanted = wanted_of c.args.wanted.now in
+    let disk = c.args.search.now.disk.now in
+    let gap = c.args.search.now.gap.now in
+    let wanted = wanted_of c.args.search.now.wanted.now in
     let keys = c.keys_of-keys.result in
     let width = c.width_of-width.result in
     let best = c.visit-best.result.plan in
@@ -42,14 +42,14 @@ loop-key-preserved n c =
 pub visit-best-requires : goal.visit-best-requires
 visit-best-requires n c =
     let its = c.loop-key.invariant.3 c.loop-key-test.true in
-    let most = its-ceiling c.args.disk.now c.args.gap.now (wanted_of c.args.wanted.now) c.args.from c.args.end c.width_of-width.result c.keys_of-keys.result c.keys_of-keys.ensures its.0 c.loop-key.key c.min-upto.result its.1 its.2 c.min-upto.ensures in (
+    let most = its-ceiling c.args.search.now.disk.now c.args.search.now.gap.now (wanted_of c.args.search.now.wanted.now) c.args.from c.args.end c.width_of-width.result c.keys_of-keys.result c.keys_of-keys.ensures its.0 c.loop-key.key c.min-upto.result its.1 its.2 c.min-upto.ensures in (
       omega (arith, c.min-upto.ensures, c.width_of-width.ensures.less, c.if-end-from.false, c.decreases),
-      (omega (arith, c.requires.within, c.min-upto.ensures), (c.requires.few, (most, (c.requires.gap, (c.requires.blocks, (c.requires.late, c.loop-key.invariant.0)))))),
+      (omega (arith, c.requires.within, c.min-upto.ensures), (c.requires.few, (most, (c.requires.search, c.loop-key.invariant.0)))),
     )
 
 pub returns-clause-tried : goal.returns-clause-tried
 returns-clause-tried n c =
-    let wanted = wanted_of c.args.wanted.now in
+    let wanted = wanted_of c.args.search.now.wanted.now in
     let none : c.loop-key.key ≡ 0 = omega (arith, c.loop-key-test.false) in
-    parts-done c.args.disk.now c.args.gap.now wanted c.args.from c.args.end c.width_of-width.result c.keys_of-keys.result c.keys_of-keys.ensures c.loop-key.best.plan c.width_of-width.ensures.some
+    parts-done c.args.search.now.disk.now c.args.search.now.gap.now wanted c.args.from c.args.end c.width_of-width.result c.keys_of-keys.result c.keys_of-keys.ensures c.loop-key.best.plan c.width_of-width.ensures.some
     (omega (arith, c.width_of-width.ensures.whole)) (λ j less above. c.loop-key.invariant.2 j less (omega (arith, none, above)))

@@ -5,9 +5,9 @@ use Rattle.fb_detour.proofs.Keys.{AreDone}
 use Rattle.fb_detour.proofs.search.+visit.Given as goal
 
 abbrev pub invariant-loop-key : goal.invariant-loop-key
-invariant-loop-key l = IsScored l.disk l.gap (wanted_of l.wanted) l.best
-    × Beats l.disk l.gap (wanted_of l.wanted) l.best.plan l.initial.best.plan
-    × AreDone l.disk l.gap (wanted_of l.wanted) l.from l.end l.width l.keys l.best.plan l.key
+invariant-loop-key l = IsScored l.search.disk.now l.search.gap.now (wanted_of l.search.wanted.now) l.best
+    × Beats l.search.disk.now l.search.gap.now (wanted_of l.search.wanted.now) l.best.plan l.initial.best.plan
+    × AreDone l.search.disk.now l.search.gap.now (wanted_of l.search.wanted.now) l.from l.end l.width l.keys l.best.plan l.key
     × (0 < l.key → (i : ℕ) × (i < 8) × (get_or l.keys i 0 ≡ l.key))
 
 abbrev pub decreases-loop-key : goal.decreases-loop-key

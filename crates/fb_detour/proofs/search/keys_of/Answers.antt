@@ -19,8 +19,8 @@ overflow_add-behind c = omega (arith, mul-le c.loop-j.j c.args.width 8 c.args.wi
 pub loop-j-preserved : goal.loop-j-preserved
 loop-j-preserved c =
     let key = c.most_within-most.result * 8 + (8 - c.loop-j.j) in
-    let IsIt = IsKey c.args.disk.now c.args.gap.now (wanted_of c.args.wanted.now) c.args.from c.args.end c.args.width in (
+    let IsIt = IsKey c.args.search.now.disk.now c.args.search.now.gap.now (wanted_of c.args.search.now.wanted.now) c.args.from c.args.end c.args.width in (
       length-set c.loop-j.keys c.loop-j.j key ∙ c.loop-j.invariant.0,
       set-below IsIt c.loop-j.keys c.loop-j.j key (omega (arith, c.loop-j.invariant.0, c.loop-j-test.true)) c.loop-j.invariant.1
-          (key-of c.args.disk.now c.args.gap.now (wanted_of c.args.wanted.now) c.args.from c.args.end c.args.width c.loop-j.j c.most_within-most.result _ (omega (arith, c.loop-j-test.true)) c.most_within-most.ensures.small c.min-upto.ensures c.most_within-most.ensures.most),
+          (key-of c.args.search.now.disk.now c.args.search.now.gap.now (wanted_of c.args.search.now.wanted.now) c.args.from c.args.end c.args.width c.loop-j.j c.most_within-most.result _ (omega (arith, c.loop-j-test.true)) c.most_within-most.ensures.small c.min-upto.ensures c.most_within-most.ensures.most),
     )

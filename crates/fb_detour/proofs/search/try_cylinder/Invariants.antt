@@ -5,6 +5,6 @@ use Rattle.fb_detour.specs.Bounds.{BeatsOver}
 use Rattle.fb_detour.proofs.search.try_cylinder.Given as goal
 
 abbrev pub invariant-loop-head : goal.invariant-loop-head
-invariant-loop-head l = IsScored l.disk l.gap (wanted_of l.wanted) l.best
-    × Beats l.disk l.gap (wanted_of l.wanted) l.best.plan l.initial.best.plan
-    × ((head : ℕ) → head < l.head → BeatsOver l.disk l.gap (wanted_of l.wanted) l.best.plan (record { cylinder = l.cylinder; head = head }))
+invariant-loop-head l = IsScored l.search.disk.now l.search.gap.now (wanted_of l.search.wanted.now) l.best
+    × Beats l.search.disk.now l.search.gap.now (wanted_of l.search.wanted.now) l.best.plan l.initial.best.plan
+    × ((head : ℕ) → head < l.head → BeatsOver l.search.disk.now l.search.gap.now (wanted_of l.search.wanted.now) l.best.plan (record { cylinder = l.cylinder; head = head }))

@@ -7,23 +7,23 @@ use Rattle.fb_detour.proofs.search.try_stop.Goals as goal
 
 pub returns-then-misses_enough-clause-tried : goal.returns-then-misses_enough-clause-tried
 returns-then-misses_enough-clause-tried c = λ leave is.
-    let disk = c.args.disk.now in
-    let gap = c.args.gap.now in
+    let disk = c.args.search.now.disk.now in
+    let gap = c.args.search.now.gap.now in
     let arrive = gap.now + c.pos.result in
     let latest = gap.deadline - c.pos-on.result in
     let stop = c.stop_at-stop in
     let most = c.misses_enough.ensures c.if-misses_enough.true in
     let enough : IsEnough c.args.start (most.0 + c.late_at-after.result) c.args.track = subst (λ t. IsEnough c.args.start (most.0 + c.late_at-after.result) t) stop.ensures.track most.2 in
-    let gives : stay disk (early_to c.args.track arrive latest) c.args.wanted.now ≤ most.0 =
-    subst (λ t. stay disk (early_to t arrive latest) c.args.wanted.now ≤ most.0) stop.ensures.track
-    (subst (λ t. stay disk (early_to stop.result.track t latest) c.args.wanted.now ≤ most.0) stop.ensures.arrive most.1) in
-    not_better disk gap (wanted_of c.args.wanted.now) c.args.start (most.0 + c.late_at-after.result) c.args.track c.args.track leave
+    let gives : stay disk (early_to c.args.track arrive latest) c.args.search.now.wanted.now ≤ most.0 =
+    subst (λ t. stay disk (early_to t arrive latest) c.args.search.now.wanted.now ≤ most.0) stop.ensures.track
+    (subst (λ t. stay disk (early_to stop.result.track t latest) c.args.search.now.wanted.now ≤ most.0) stop.ensures.arrive most.1) in
+    not_better disk gap (wanted_of c.args.search.now.wanted.now) c.args.start (most.0 + c.late_at-after.result) c.args.track c.args.track leave
     c.requires.best enough (not_itself c.args.track)
     (omega (
       arith,
-      by_interval disk gap c.args.wanted.now c.args.track leave is arrive latest arrive c.pos-on.result
+      by_interval disk gap c.args.search.now.wanted.now c.args.track leave is arrive latest arrive c.pos-on.result
           (ap (λ x. gap.now + x) c.pos.ensures.value) c.pos-on.ensures.value (omega (arith, is.after_arrival, c.pos.ensures.value)) (omega (arith, is.in_time, c.pos-on.ensures.value)),
       gives,
-      late-part disk gap c.args.wanted.now c.args.late.now (arrive + c.pos-on.result) c.requires.late (omega arith),
+      late-part disk gap c.args.search.now.wanted.now c.args.search.now.late.now (arrive + c.pos-on.result) c.requires.search.late (omega arith),
       c.late_at-after.ensures.value,
     ))
