@@ -79,7 +79,7 @@ fn try_track(search: &Search, track: Track, reach: Reach, start: Scored) -> Scor
         return start;
     }
     let blocks = blocks_on(search.disk, search.wanted, track);
-    let most = most_by_steps(search, reach, blocks.wanted_weight());
+    let most = most_by_steps(search, reach, blocks.wanted_weight(), start.value);
     if is_enough(start, most, track) {
         return start;
     }

@@ -1,6 +1,6 @@
 // Upper bounds on the value of detours. What the target gives after a detour falls in steps; up to
 // each step a track gives no more than it weighs, and no more than passes in the time there.
-ghost use Rattle.std.specs.Prelude.{◌≡◌, ◌+◌, ◌*◌, ◌≤◌, ◌<◌, ◌^◌, ℕ, get_or};
+ghost use Rattle.std.specs.Prelude.{◌≡◌, ◌+◌, ◌*◌, ◌≤◌, ◌<◌, ◌^◌, ◌⊎◌, ℕ, get_or};
 ghost use Rattle.fb_units.specs.declared.types.Track.{Track};
 ghost use Rattle.fb_rows.specs.declared.gap.Plan.{Plan};
 ghost use Rattle.fb_model.specs.Plans.{value, IsDetour};
@@ -99,9 +99,20 @@ fn worth_by_step(late: &LateParts, k: usize, reach: Reach, weight: u64) -> u64
     late.parts[k] + caught_in(reach.rate, weight, limit - 1 - reach.back)
 }
 
+// The part in which an instant lies: no detour that reaches the target from then on is back before
+// the limit of this part.
+fn part_from(late: &LateParts, back: Ns) -> usize
+    requires step { 0 < late.now.step }
+    ensures part { result < 32 }
+    ensures before { (result ≡ 0) ⊎ (get_or late.now.limits result 0 ≤ back) }
+{
+    let part = (back.saturating_sub(late.begin) / late.step).min(LATE as u64 - 1) as usize;
+    if late.limits[part] <= back { part } else { 0 }
+}
+
 // An upper bound on the value of detours over a track of this reach and this weight; 0 where it is
-// out of reach.
-pub fn most_by_steps(search: &Search, reach: Reach, weight: u64) -> u64
+// out of reach. It is as low as all steps make it only where it isn't less than `known`.
+pub fn most_by_steps(search: &Search, reach: Reach, weight: u64, known: u64) -> u64
     requires search { IsSearch search.now }
     requires light { weight ≤ 16000000 * 2048000 }
     ensures most { (track : Track) (leave : ℕ) → IsReach search.now.disk.now search.now.gap.now search.now.wanted.now track reach → wanted_weight track search.now.wanted.now ≤ weight → IsDetour search.now.disk.now search.now.gap.now track leave
@@ -112,7 +123,12 @@ pub fn most_by_steps(search: &Search, reach: Reach, weight: u64) -> u64
         return 0;
     }
     let mut most = caught_in(reach.rate, weight, search.gap.deadline - reach.back);
-    for k in 0..LATE {
+    for k in part_from(search.late, reach.back)..LATE {
+        let rest = search.late.parts[k] + weight;
+        let enough = known.max(most + 1);
+        if rest < enough {
+            return most.max(rest);
+        }
         most = most.max(worth_by_step(search.late, k, reach, weight));
     }
     most
@@ -133,5 +149,5 @@ pub fn most_over(search: &Search, from: u32, end: u32, known: u64) -> u64
         return sum;
     }
     let reach = reach_of(search, from, end);
-    most_by_steps(search, reach, weight)
+    most_by_steps(search, reach, weight, known)
 }

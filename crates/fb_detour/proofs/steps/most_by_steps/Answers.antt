@@ -11,7 +11,33 @@ pub returns-then-search-reach-clause-most : goal.returns-then-search-reach-claus
 returns-then-search-reach-clause-most c = λ track leave reach light is. absurd (omega (arith, reach.0, is.after_arrival, is.in_time, c.if-search-reach.true))
 
 pub loop-k-init : goal.loop-k-init
-loop-k-init c = (omega arith, omega (arith, c.caught_in-most.ensures.small, c.requires.light), λ track leave reach light is before. absurd (omega (arith, before, c.requires.search.late.start, is.after_arrival)))
+loop-k-init c = (
+  omega arith,
+  omega (arith, c.caught_in-most.ensures.small, c.requires.light),
+  λ track leave reach light is before. elim c.part_from-k.ensures.before [
+    | inl none ↦ absurd (omega (arith, before, ap (λ n. get_or c.args.search.now.late.now.limits n 0) none, c.requires.search.late.start, is.after_arrival))
+    | inr back ↦ absurd (omega (arith, before, back, reach.0, is.after_arrival))
+  ],
+)
+
+pub returns-then-rest-enough-clause-most : goal.returns-then-rest-enough-clause-most
+returns-then-rest-enough-clause-most c = λ track leave reach light is.
+    let disk = c.args.search.now.disk.now in
+    let gap = c.args.search.now.gap.now in
+    let es = c.args.search.now.wanted.now in
+    let late = c.args.search.now.late.now in
+    let limit = get_or late.limits c.loop-k.k 0 in
+    let stays = early_to track (gap.now + pos disk.mechanism gap.source track false) leave in
+    elim (cases_lt (leave + pos disk.mechanism track gap.target gap.write) limit) [
+      | inl sooner ↦ omega (arith, c.loop-k.invariant.2 track leave reach light is sooner, c.max.ensures)
+      | inr behind ↦ omega (
+        arith,
+        worth_from disk gap es track leave limit (get_or late.parts c.loop-k.k 0) is behind (c.requires.search.late.limits c.loop-k.k (omega (arith, c.loop-k-test.true))),
+        weight_of_stay disk stays es,
+        light,
+        c.max.ensures,
+      )
+    ]
 
 pub loop-k-preserved : goal.loop-k-preserved
 loop-k-preserved c = (
