@@ -100,11 +100,11 @@ fn judge_ends<Q: Queue>(
     alloc: Global,
     asked: Asked<'_>,
     printed: Printed<'_>,
-    decider: &mut Decider<Q>,
+    decider: &mut Decider<'_, Q>,
     mut fore: Comparison<'_>,
     mut back: Comparison<'_>,
 ) -> Result<Verdict, NoMemory>
-    requires judged { HasJudged (inputs_of asked Q.key) (reports_of asked printed) false decider.old.requests.items decider.old.course (Q.pending decider.old.queue) (Q.joined decider.old.queue) fore back }
+    requires judged { HasJudged (inputs_of asked Q.key) (reports_of asked printed) false decider.old.requests decider.old.course (Q.pending decider.old.queue) (Q.joined decider.old.queue) fore back }
     requires right { fore.wrong ≡ None }
     requires names { length asked.calls.now.names ≡ length (tasks asked.calls.now.calls.items) }
     requires whole { asked.disk.now.sector_bytes % 16 ≡ 0 }

@@ -99,8 +99,8 @@ placed_more whole reads requests trace requests' i next next' now d less placed 
     }
 
 pub placed_first : (trace : List Request) (calls : List Call) (reads requests : List Request) → reads ≡ promoted calls → requests ≡ [] → IsRising (map (λ (c : Call). c.instant) calls)
-    → HasPlaced (fold behind trace (promoted calls)) reads requests trace 0 0 0
-placed_first trace calls reads requests r e rising = subst (λ rs. HasPlaced (fold behind trace (promoted calls)) rs requests trace 0 0 0) (sym r)
+    → HasPlaced (fold behind trace reads) reads requests trace 0 0 0
+placed_first trace calls reads requests r e rising = subst (λ rs. HasPlaced (fold behind trace rs) rs requests trace 0 0 0) (sym r)
     (subst (λ qs. HasPlaced (fold behind trace (promoted calls)) (promoted calls) qs trace 0 0 0) (sym e)
     (record { within = omega arith; same = refl; come = tt; rise = reads_rise calls rising }))
 

@@ -7,7 +7,6 @@ use Rattle.std.proofs.lemmas.Bool.Decides.{nat_tests}
 use Rattle.fb_units.specs.declared.types.Track.{Track}
 use Rattle.fb_units.specs.declared.types.Request.{Request}
 use Rattle.fb_service.specs.declared.disk.Disk.{Disk}
-use Rattle.fb_service.specs.Service.{passages}
 use Rattle.fb_store.specs.Index.{Holding}
 use Rattle.fb_store.specs.Runs.{runs_of, bad_of}
 use Rattle.fb_wanted.specs.declared.block.Block.{Block}

@@ -8,7 +8,6 @@ use Rattle.fb_geometry.specs.Sound.{IsSound, LiesOn}
 use Rattle.fb_sectormap.specs.Lookup.{place_at}
 use Rattle.fb_sectormap.proofs.ByCylinder.{has_place}
 use Rattle.fb_service.specs.Passing.{begin_angle}
-use Rattle.fb_model.specs.Inputs.{requests}
 use Rattle.fb_model.proofs.Passages.{slots_short, LiesOnDisk}
 use Rattle.fb_model.proofs.Disks.{begins_within}
 use Rattle.fb_decide.proofs.Ways.{HaveAngles}

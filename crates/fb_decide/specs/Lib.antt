@@ -7,3 +7,4 @@ pub mod Standing
 pub mod Deciding
 pub mod Making
 pub mod FullRuns
+pub mod Kept

@@ -19,6 +19,7 @@ ghost use Rattle.fb_decide.specs.Making.{Step, Given, inputs_with, HasMade, HasM
 use crate::background::Background;
 use crate::foreground::foreground;
 use crate::joining::join_arrived;
+use crate::requests::Requests;
 use crate::serving::serve_request;
 use crate::timing::disk_is_sound;
 use fb_calls::Calls;
@@ -50,8 +51,8 @@ struct Course {
 
 /// A replay between two decisions, with those of its rows that haven't been taken yet.
 #[derive(Drop)]
-pub struct Decider<Q: Queue> {
-    requests: Vec<Request>,
+pub struct Decider<'a, Q: Queue> {
+    requests: Requests<'a>,
     queue: Q,
     course: Course,
 }
@@ -65,7 +66,7 @@ pub struct Rows {
     pub back: BackRows,
 }
 
-impl<Q: Queue> Decider<Q> {
+impl<'a, Q: Queue> Decider<'a, Q> {
     /// A replay before its first decision.
     ///
     /// `latent` are the LBNs of the sectors that can't be read until a write has passed them. The
@@ -74,15 +75,15 @@ impl<Q: Queue> Decider<Q> {
         alloc: Global,
         disk: &Disk,
         latent: &[u64],
-        trace: &Trace,
+        trace: &'a Trace,
         calls: &Calls,
         queue: Q,
-    ) -> Result<Decider<Q>, NoMemory>
+    ) -> Result<Decider<'a, Q>, NoMemory>
         requires empty { Q.pending queue ≡ [] }
         requires fresh { Q.joined queue ≡ 0 }
         requires accepted { (until : ℕ) × IsAccepted (inputs_with (record { latent = latent.now; trace = trace.now.requests.items; passed_over = trace.now.passed_over }) disk.now calls.now.calls.items Q.key until) }
         ensures made { IfOk result (λ decider. (until : ℕ) → IsAccepted (inputs_with (record { latent = latent.now; trace = trace.now.requests.items; passed_over = trace.now.passed_over }) disk.now calls.now.calls.items Q.key until)
-            → HasMade (inputs_with (record { latent = latent.now; trace = trace.now.requests.items; passed_over = trace.now.passed_over }) disk.now calls.now.calls.items Q.key until) true [] decider.requests.items decider.course (Q.pending decider.queue) (Q.joined decider.queue)) }
+            → HasMade (inputs_with (record { latent = latent.now; trace = trace.now.requests.items; passed_over = trace.now.passed_over }) disk.now calls.now.calls.items Q.key until) true [] decider.requests decider.course (Q.pending decider.queue) (Q.joined decider.queue)) }
         ensures no_fore { IfOk result (λ decider. decider.course.fore ≡ []) }
         ensures no_back { IfOk result (λ decider. decider.course.background.rows ≡ []) }
         ensures serves { IfOk result (λ decider. Q.serves decider.queue disk.now) }
@@ -113,10 +114,10 @@ impl<Q: Queue> Decider<Q> {
         planner: &P,
         until: Ns,
     ) -> Result<bool, NoMemory>
-        requires made { (given : Given) × (steps : List Step) × HasMade (inputs_with given disk.now calls.now.calls.items Q.key until) true steps self.old.requests.items self.old.course (Q.pending self.old.queue) (Q.joined self.old.queue) }
+        requires made { (given : Given) × (steps : List Step) × HasMade (inputs_with given disk.now calls.now.calls.items Q.key until) true steps self.old.requests self.old.course (Q.pending self.old.queue) (Q.joined self.old.queue) }
         requires serves { Q.serves self.old.queue disk.now }
-        ensures decided { IfOk result (λ goes_on. (given : Given) (steps : List Step) → HasMade (inputs_with given disk.now calls.now.calls.items Q.key until) true steps self.old.requests.items self.old.course (Q.pending self.old.queue) (Q.joined self.old.queue)
-            → HasMadeOne (inputs_with given disk.now calls.now.calls.items Q.key until) steps goes_on self.old.requests.items self.old.course (Q.pending self.old.queue) self.new.course (Q.pending self.new.queue) (Q.joined self.new.queue)) }
+        ensures decided { IfOk result (λ goes_on. (given : Given) (steps : List Step) → HasMade (inputs_with given disk.now calls.now.calls.items Q.key until) true steps self.old.requests self.old.course (Q.pending self.old.queue) (Q.joined self.old.queue)
+            → HasMadeOne (inputs_with given disk.now calls.now.calls.items Q.key until) steps goes_on self.old.requests self.old.course (Q.pending self.old.queue) self.new.course (Q.pending self.new.queue) (Q.joined self.new.queue)) }
         ensures requests { OnOk result (self.new.requests ≡ self.old.requests) }
         ensures serves { OnOk result (Q.serves self.new.queue disk.now) }
     {
@@ -136,14 +137,14 @@ impl<Q: Queue> Decider<Q> {
     ///
     /// It is called once, when no decision follows. The only error is out of memory.
     pub fn add_task_rows(&mut self) -> Result<(), NoMemory>
-        requires { (inputs : Inputs) × (steps : List Step) × HasMade inputs false steps self.old.requests.items self.old.course (Q.pending self.old.queue) (Q.joined self.old.queue) }
-        ensures rows { OnOk result ((inputs : Inputs) (steps : List Step) → HasMade inputs false steps self.old.requests.items self.old.course (Q.pending self.old.queue) (Q.joined self.old.queue)
+        requires { (inputs : Inputs) × (steps : List Step) × HasMade inputs false steps self.old.requests self.old.course (Q.pending self.old.queue) (Q.joined self.old.queue) }
+        ensures rows { OnOk result ((inputs : Inputs) (steps : List Step) → HasMade inputs false steps self.old.requests self.old.course (Q.pending self.old.queue) (Q.joined self.old.queue)
             → self.new.course.background.rows ≡ self.old.course.background.rows ++ task_rows (history inputs steps)) }
-        ensures fits { (inputs : Inputs) (steps : List Step) → HasMade inputs false steps self.old.requests.items self.old.course (Q.pending self.old.queue) (Q.joined self.old.queue)
+        ensures fits { (inputs : Inputs) (steps : List Step) → HasMade inputs false steps self.old.requests self.old.course (Q.pending self.old.queue) (Q.joined self.old.queue)
             → AllByRecursion (RowFits (length (tasks inputs.calls))) (task_rows (history inputs steps)) }
         ensures fore { OnOk result (self.new.course.fore ≡ self.old.course.fore) }
-        ensures made { (inputs : Inputs) (steps : List Step) → HasMade inputs false steps self.old.requests.items self.old.course (Q.pending self.old.queue) (Q.joined self.old.queue)
-            → HasMade inputs false steps self.new.requests.items self.new.course (Q.pending self.new.queue) (Q.joined self.new.queue) }
+        ensures made { (inputs : Inputs) (steps : List Step) → HasMade inputs false steps self.old.requests self.old.course (Q.pending self.old.queue) (Q.joined self.old.queue)
+            → HasMade inputs false steps self.new.requests self.new.course (Q.pending self.new.queue) (Q.joined self.new.queue) }
     {
         self.course.background.sessions.task_rows(
             &self.course.background.wanted,
@@ -154,8 +155,8 @@ impl<Q: Queue> Decider<Q> {
     /// The instant, in ns, at which the next decision is made, or at which the replay has ended.
     pub fn instant(&self) -> Ns
         ensures now { result ≡ self.now.course.now }
-        ensures end { (inputs : Inputs) (steps : List Step) → HasMade inputs false steps self.now.requests.items self.now.course (Q.pending self.now.queue) (Q.joined self.now.queue) → result ≡ run_end (decisions inputs) }
-        ensures early { (inputs : Inputs) (steps : List Step) → HasMade inputs false steps self.now.requests.items self.now.course (Q.pending self.now.queue) (Q.joined self.now.queue) → result ≤ 9 * 10 ^ 18 }
+        ensures end { (inputs : Inputs) (steps : List Step) → HasMade inputs false steps self.now.requests self.now.course (Q.pending self.now.queue) (Q.joined self.now.queue) → result ≡ run_end (decisions inputs) }
+        ensures early { (inputs : Inputs) (steps : List Step) → HasMade inputs false steps self.now.requests self.now.course (Q.pending self.now.queue) (Q.joined self.now.queue) → result ≤ 9 * 10 ^ 18 }
     {
         self.course.now
     }
@@ -167,8 +168,8 @@ impl<Q: Queue> Decider<Q> {
         ensures no_fore { self.new.course.fore ≡ [] }
         ensures no_back { self.new.course.background.rows ≡ [] }
         ensures queue { self.new.queue ≡ self.old.queue }
-        ensures made { (inputs : Inputs) (more : Bool) (steps : List Step) → HasMade inputs more steps self.old.requests.items self.old.course (Q.pending self.old.queue) (Q.joined self.old.queue)
-            → HasMade inputs more steps self.new.requests.items self.new.course (Q.pending self.new.queue) (Q.joined self.new.queue) }
+        ensures made { (inputs : Inputs) (more : Bool) (steps : List Step) → HasMade inputs more steps self.old.requests self.old.course (Q.pending self.old.queue) (Q.joined self.old.queue)
+            → HasMade inputs more steps self.new.requests self.new.course (Q.pending self.new.queue) (Q.joined self.new.queue) }
     {
         Rows {
             fore: mem::replace(&mut self.course.fore, ForeRows::new(alloc)),

@@ -1,9 +1,12 @@
 // The foreground list.
-ghost use Rattle.std.specs.Prelude.{◌≡◌, ◌≤◌, ◌<◌, ◌++◌, map, length, drop, IfOk, IfSome, OnOk, slice_get};
-ghost use Rattle.std.specs.List.{AllByRecursion};
+ghost use Rattle.std.specs.Prelude.{List, ◌≡◌, ◌≤◌, ◌<◌, ◌++◌, map, length, drop, IfOk, IfSome, OnOk, slice_get};
+ghost use Rattle.std.specs.List.{AllByRecursion, fold};
 ghost use Rattle.fb_units.specs.Rising.{IsRising};
-ghost use Rattle.fb_model.specs.Foreground.{foreground_list};
+ghost use Rattle.fb_calls.specs.declared.call.Call.{Call};
+ghost use Rattle.fb_calls.specs.Promoted.{promoted};
+ghost use Rattle.fb_model.specs.Foreground.{behind, foreground_list};
 
+use crate::requests::Requests;
 use fb_calls::{Calls, promoted};
 use fb_units::{NoMemory, Ns, Request};
 use std::alloc::Global;
@@ -11,14 +14,31 @@ use std::alloc::Global;
 /// The requests of the trace and the reads that calls promote, in order of arrival.
 ///
 /// Of those that arrive together the trace's come first. The only error is out of memory.
-pub fn foreground(alloc: Global, trace: &[Request], calls: &Calls) -> Result<Vec<Request>, NoMemory>
+pub fn foreground<'a>(
+    alloc: Global,
+    trace: &'a [Request],
+    calls: &Calls,
+) -> Result<Requests<'a>, NoMemory>
     requires arrivals { IsRising (map (λ request. request.arrival) trace.now) }
     requires instants { IsRising (map (λ call. call.instant) calls.now.calls.items) }
-    ensures { IfOk result (λ requests. requests.items ≡ foreground_list trace.now calls.now.calls.items) }
+    ensures { IfOk result (λ requests. requests ≡ foreground_list trace.now calls.now.calls.items) }
+{
+    let reads = promoted(alloc, calls)?;
+    if reads.is_empty() {
+        return Ok(Requests::traced(trace));
+    }
+    Ok(Requests::merged(merged(alloc, trace, reads.as_slice())?))
+}
+
+// The requests of the trace and these reads, in order of arrival; of those that arrive together the
+// trace's come first. The only error is out of memory.
+fn merged(alloc: Global, trace: &[Request], reads: &[Request]) -> Result<Vec<Request>, NoMemory>
+    requires { (calls : List Call) × (reads.now ≡ promoted calls) × IsRising (map (λ call. call.instant) calls) }
+    ensures { IfOk result (λ requests. requests.items ≡ fold behind trace.now reads.now) }
 {
     let mut requests = Vec::new(alloc);
     let mut next = 0;
-    for read in &promoted(alloc, calls)? {
+    for read in reads {
         next = push_arrived(&mut requests, trace, next, read.arrival)?;
         requests.push(*read)?;
     }

@@ -12,6 +12,7 @@ mod deciding;
 mod foreground;
 mod full_runs;
 mod joining;
+mod requests;
 mod riding;
 mod serving;
 mod settling;

@@ -55,14 +55,14 @@ pub loop-goes_on-smaller : goal.loop-goes_on-smaller
 loop-goes_on-smaller g c =
     let judged = going (inputs_of c.args.asked g.Q.Queue.key) (reports_of c.args.asked c.args.printed) true _ _ _ _ _ _ _ c.loop-goes_on-test.true c.loop-goes_on.invariant.judged in
     let one = c.in_ok-goes_on.ensures.decided (record { latent = c.args.asked.latent.now; trace = c.args.asked.trace.now.requests.items; passed_over = c.args.asked.trace.now.passed_over }) judged.steps judged.made in
-    let made = c.take_rows-rows.ensures.made (inputs_of c.args.asked g.Q.Queue.key) _ _ (kept _ _ _ _ _ _ _ _ (ap (λ v. v.items) c.in_ok-goes_on.ensures.requests) one.made) in
+    let made = c.take_rows-rows.ensures.made (inputs_of c.args.asked g.Q.Queue.key) _ _ (kept _ _ _ _ _ _ _ _ c.in_ok-goes_on.ensures.requests one.made) in
     less _ _ _ _ _ _ _ _ _ _ _ _ judged one _ c.loop-goes_on-test.true _ _ _ _ made
 
 pub loop-goes_on-preserved : goal.loop-goes_on-preserved
 loop-goes_on-preserved g c =
     let judged = going (inputs_of c.args.asked g.Q.Queue.key) (reports_of c.args.asked c.args.printed) true _ _ _ _ _ _ _ c.loop-goes_on-test.true c.loop-goes_on.invariant.judged in
     let one = c.in_ok-goes_on.ensures.decided (record { latent = c.args.asked.latent.now; trace = c.args.asked.trace.now.requests.items; passed_over = c.args.asked.trace.now.passed_over }) judged.steps judged.made in
-    let made = c.take_rows-rows.ensures.made (inputs_of c.args.asked g.Q.Queue.key) _ _ (kept _ _ _ _ _ _ _ _ (ap (λ v. v.items) c.in_ok-goes_on.ensures.requests) one.made) in
+    let made = c.take_rows-rows.ensures.made (inputs_of c.args.asked g.Q.Queue.key) _ _ (kept _ _ _ _ _ _ _ _ c.in_ok-goes_on.ensures.requests one.made) in
     record {
       judged = next _ _ _ _ _ _ _ _ _ _ _ _ judged one c.decisions_make_a_run.ensures _ _ _ _ made c.take_rows-rows.ensures.no_fore c.take_rows-rows.ensures.no_back c.take_rows-rows.result.fore c.take_rows-rows.result.back c.take_rows-rows.ensures.fore c.take_rows-rows.ensures.back
           c.compare_fore.new.self c.compare_back.new.self (c.in_ok-compare_fore.ensures.compared _ judged.fore_rows judged.fore_compared) (c.in_ok-compare_back.ensures.compared _ judged.back_rows judged.back_compared)

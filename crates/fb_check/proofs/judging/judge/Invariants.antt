@@ -6,7 +6,7 @@ use Rattle.fb_check.proofs.judging.judge.Given as goal
 
 abbrev pub invariant-loop-goes_on : goal.invariant-loop-goes_on
 invariant-loop-goes_on g l = record {
-  judged : HasJudged (inputs_of l.asked g.Q.Queue.key) (reports_of l.asked l.printed) l.goes_on l.decider.requests.items l.decider.course (g.Q.Queue.pending l.decider.queue) (g.Q.Queue.joined l.decider.queue) l.fore l.back;
+  judged : HasJudged (inputs_of l.asked g.Q.Queue.key) (reports_of l.asked l.printed) l.goes_on l.decider.requests l.decider.course (g.Q.Queue.pending l.decider.queue) (g.Q.Queue.joined l.decider.queue) l.fore l.back;
   right : l.goes_on ≡ false → l.fore.wrong ≡ None;
   serves : g.Q.Queue.serves l.decider.queue l.asked.disk.now;
 }

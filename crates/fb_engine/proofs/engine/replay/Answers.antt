@@ -1,4 +1,4 @@
-use Rattle.std.proofs.Common.{length, ap, ◌∙◌}
+use Rattle.std.proofs.Common.{length, ◌∙◌}
 use Rattle.fb_calls.proofs.Lists.{all_weaker}
 use Rattle.fb_rows.specs.Ranges.{HasBackRanges}
 use Rattle.fb_rows.specs.Tasks.{HasNamedTask}
@@ -26,7 +26,7 @@ loop-goes_on-preserved g c =
     let gone = gone_on c.loop-goes_on-test.true c.loop-goes_on.invariant.gone in
     let given : Given = record { latent = c.args.latent.now; trace = c.args.trace.now.requests.items; passed_over = c.args.trace.now.passed_over } in
     record {
-      gone = one_on c.decisions_make_a_run.ensures gone (ap (λ v. v.items) c.in_ok-goes_on.ensures.requests) (c.in_ok-goes_on.ensures.decided given gone.steps gone.made);
+      gone = one_on c.decisions_make_a_run.ensures gone c.in_ok-goes_on.ensures.requests (c.in_ok-goes_on.ensures.decided given gone.steps gone.made);
       serves = c.in_ok-goes_on.ensures.serves;
     }
 

@@ -5,7 +5,7 @@ use Rattle.fb_engine.proofs.engine.replay.Given as goal
 abbrev pub invariant-loop-goes_on : goal.invariant-loop-goes_on
 invariant-loop-goes_on g l = record {
   gone : HasGone (record { disk = l.disk; latent = l.latent; trace = l.trace.requests.items; passed_over = l.trace.passed_over; calls = l.calls.calls.items; key = g.Q.Queue.key; until = l.until })
-      l.goes_on l.decider.requests.items l.decider.course (g.Q.Queue.pending l.decider.queue) (g.Q.Queue.joined l.decider.queue);
+      l.goes_on l.decider.requests l.decider.course (g.Q.Queue.pending l.decider.queue) (g.Q.Queue.joined l.decider.queue);
   serves : g.Q.Queue.serves l.decider.queue l.disk;
 }
 

@@ -1,9 +1,9 @@
 use Rattle.std.proofs.Common.{◌∙◌}
 use Rattle.fb_decide.proofs.Behind.{placed_first, placed_next, placed_come, placed_slice, placed_whole}
-use Rattle.fb_decide.proofs.foreground.foreground.Goals as goal
+use Rattle.fb_decide.proofs.foreground.merged.Goals as goal
 
 pub loop-read-init : goal.loop-read-init
-loop-read-init c = (0, placed_first c.args.trace.now c.args.calls.now.calls.items _ _ (c.deref-read-items.ensures.value ∙ c.in_ok-promoted.ensures) c.new-requests.ensures.items c.requires.instants)
+loop-read-init c = (0, placed_first c.args.trace.now c.requires.0 _ _ c.requires.1 c.new-requests.ensures.items c.requires.2)
 
 pub push_arrived-requires-clause-within : goal.push_arrived-requires-clause-within
 push_arrived-requires-clause-within c = c.loop-read.invariant.1.within
