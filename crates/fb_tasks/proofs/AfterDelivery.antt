@@ -34,7 +34,7 @@ use Rattle.fb_tasks.proofs.States.{flagged-stands}
 use Rattle.fb_tasks.proofs.Deliveries.{delivered-entries, WasWanted, was_wanted, delivered-holds, delivered-stands, at_work_now}
 use Rattle.fb_tasks.proofs.Complete.{done_is, was_is}
 use Rattle.fb_tasks.proofs.Sealed.{open_is}
-use Rattle.fb_tasks.proofs.Turns.{reported_rows}
+use Rattle.fb_tasks.proofs.AllChoices.{reported_rows}
 use Rattle.fb_tasks.specs.Leaving.{HasBegun}
 use Rattle.fb_tasks.proofs.Leaving.{begun_after, begun_longer, begun_same}
 

@@ -3,14 +3,11 @@ pub mod Lists
 pub mod Frames
 pub mod States
 pub mod Changes
-pub mod Writes
 pub mod Asked
-pub mod Opens
 pub mod Listed
 pub mod Additions
 pub mod Registered
 pub mod Cuts
-pub mod Findings
 pub mod Complete
 pub mod Tested
 pub mod Sealed
@@ -19,8 +16,6 @@ pub mod Segmented
 pub mod Finished
 pub mod Deliveries
 pub mod AfterDelivery
-pub mod Turns
-pub mod ChosenSegment
 pub mod ChoiceSteps
 pub mod AllChoices
 pub mod Calls

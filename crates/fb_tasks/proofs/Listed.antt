@@ -9,7 +9,7 @@ use Rattle.fb_calls.specs.Sessions.{is_backup}
 use Rattle.fb_tasks.specs.declared.session.Session.{Session}
 use Rattle.fb_tasks.specs.Listing.{AreListed, IsNoted}
 use Rattle.fb_tasks.proofs.Lists.{each_set}
-use Rattle.fb_tasks.proofs.Opens.{in_either}
+use Rattle.fb_tasks.proofs.Additions.{in_either}
 
 abbrev IsTouchedIn : BTreeSet ℕ → ℕ → Session → Type 0
 IsTouchedIn touched k session = session.touched ≡ true → contains nat_cmp touched k ≡ true

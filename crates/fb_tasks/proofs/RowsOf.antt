@@ -1,10 +1,17 @@
--- What the rows of a test say of each task.
-use Rattle.std.proofs.Common.{◌≡◌, ℕ, zero, suc, ◌+◌, ◌<◌, ◌≤◌, ◌==◌, ◌&&◌, ◌||◌, not, if◌then◌else◌, List, [], ◌∷◌, ◌++◌, Bool, true, false, inl, inr, length, filter, map, refl, ap, sym, ◌∙◌, arith}
+-- The sectors that can't be read, and what the rows of a test say of each task.
+use Rattle.std.proofs.Common.{◌≡◌, ℕ, ◌+◌, ◌-◌, ◌≤◌, List, [], ◌∷◌, ◌++◌, true, false, Some, if◌then◌else◌, take, slice_get, append-nil, append_assoc, sym, arith, refl, zero, suc, ◌<◌, ◌==◌, ◌&&◌, ◌||◌, not, Bool, inl, inr, length, filter, map, ap, ◌∙◌}
+use Rattle.std.specs.List.{range_with_len, flat_map, list_any}
+use Rattle.fb_store.specs.declared.content.Content.TheVariants.{Unreadable}
+use Rattle.fb_store.specs.declared.content.ContentRun.{ContentRun}
+use Rattle.fb_store.specs.Runs.{same_content}
+use Rattle.fb_model.specs.Images.{bad_sectors, Sources, test_rows, segment_rows, seal_rows, complete_rows, is_newly_cleaned, findings, is_scrub}
+use Rattle.fb_tasks.proofs.Cuts.{range_more}
+use Rattle.std.proofs.lemmas.List.{take_more, get_or_past}
+use Rattle.std.proofs.lemmas.Option.{slice_get_within, get_or_from_slice_get}
+use Rattle.std.proofs.lemmas.List.Concat.{flat_map-append}
 use Rattle.std.proofs.Math.Bool.{and-false, or-false}
-use Rattle.std.specs.List.{flat_map, list_any, range_with_len}
 use Rattle.std.proofs.lemmas.Bool.{cases_Bool}
 use Rattle.std.proofs.lemmas.Bool.Decides.{nat_tests}
-use Rattle.std.proofs.lemmas.List.{get_or_past}
 use Rattle.std.proofs.lemmas.List.Folds.{list_any-append}
 use Rattle.fb_rows.specs.declared.back.BackRow.{BackRow}
 use Rattle.fb_rows.specs.declared.back.BackRow.TheVariants.{Bad as BadLine, Seal as SealLine, Segment as SegmentLine, Complete as CompleteLine}
@@ -14,10 +21,27 @@ use Rattle.fb_rows.specs.declared.back.SealRow.{SealRow}
 use Rattle.fb_model.specs.History.{Past, tasks, task_numbers, terms_of, is_seal_of, is_open_backup}
 use Rattle.fb_model.specs.Completion.{Choice, view, work, choices, is_complete, was_complete, is_segment_of}
 use Rattle.fb_model.specs.Segments.{live_count}
-use Rattle.fb_model.specs.Images.{Sources, test_rows, segment_rows, seal_rows, complete_rows, is_newly_cleaned, findings, bad_sectors, is_scrub}
 use Rattle.fb_tasks.specs.Standing.{AreRowsOf}
 use Rattle.fb_tasks.proofs.Lists.{all_any, any_same, any_none}
 use Rattle.fb_calls.specs.declared.call.Kind.TheVariants.{Plain}
+
+pub range_pushed : (before now : List ℕ) (first lbn : ℕ) → first ≤ lbn → now ≡ before ++ range_with_len first (lbn - first) → now ++ lbn ∷ [] ≡ before ++ range_with_len first (lbn + 1 - first)
+range_pushed before now first lbn from so_far =
+    let more : lbn + 1 - first ≡ (lbn - first) + 1 = omega arith in
+    let same : first + (lbn - first) ≡ lbn = omega arith in
+    rw (so_far, more, range_more, same, append_assoc) refl
+
+-- one more run
+pub bad_more : (runs : List ContentRun) (i : ℕ) (run : ContentRun) → slice_get runs i ≡ Some run
+    → bad_sectors (take (i + 1) runs) ≡ bad_sectors (take i runs) ++ (if same_content run.content Unreadable then range_with_len run.first run.count else [])
+bad_more runs i run h = rw (take_more runs i run (slice_get_within runs i run h), get_or_from_slice_get runs i run run h, flat_map-append, append-nil) refl
+
+module _ (runs : List ContentRun) (i : ℕ) (run : ContentRun) (at : slice_get runs i ≡ Some run) (before now : List ℕ) (so_far : before ≡ bad_sectors (take i runs)) where
+  pub bad_pushed : same_content run.content Unreadable ≡ true → now ≡ before ++ range_with_len run.first run.count → now ≡ bad_sectors (take (i + 1) runs)
+  bad_pushed bad is = rw (is, so_far, bad_more runs i run at, bad) refl
+
+  pub bad_passed : same_content run.content Unreadable ≡ false → now ≡ before → now ≡ bad_sectors (take (i + 1) runs)
+  bad_passed good is = rw (is, so_far, bad_more runs i run at, good) (sym (append-nil (bad_sectors (take i runs))))
 
 -- a test of what lists are made of
 pub any_flat : {X Y : Type 0} (p : Y → Bool) (f : X → List Y) (xs : List X) → list_any p (flat_map f xs) ≡ list_any (λ x. list_any p (f x)) xs

@@ -35,7 +35,7 @@ use Rattle.fb_tasks.specs.declared.session.Session.{Session}
 use Rattle.fb_tasks.proofs.Complete.{counts_same}
 use Rattle.fb_tasks.proofs.Registered.{blocks_in, own}
 use Rattle.fb_tasks.proofs.States.{shown_aborted}
-use Rattle.fb_tasks.proofs.Writes.{open_by}
+use Rattle.fb_tasks.proofs.Changes.{open_by}
 use Rattle.fb_tasks.proofs.Cuts.{ranges_join}
 use Rattle.std.proofs.Math.Seq.{take-length}
 use Rattle.fb_model.proofs.Lists.{all_both}

@@ -29,7 +29,7 @@ use Rattle.fb_wanted.specs.declared.block.Entry.{Entry}
 use Rattle.fb_tasks.specs.Taken.{by_deliveries}
 use Rattle.fb_tasks.proofs.Frames.{kept-entries, get_other}
 use Rattle.fb_calls.specs.declared.call.Kind.TheVariants.{Plain}
-use Rattle.fb_tasks.proofs.Opens.{none-yet}
+use Rattle.fb_tasks.proofs.Additions.{none-yet}
 use Rattle.fb_tasks.proofs.States.{flagged-stands}
 use Rattle.fb_tasks.proofs.Cuts.{range_next}
 use Rattle.fb_clean.specs.Segments as clean

@@ -1,5 +1,5 @@
 use Rattle.std.proofs.Common.{◌∙◌}
-use Rattle.fb_tasks.proofs.Findings.{range_pushed}
+use Rattle.fb_tasks.proofs.RowsOf.{range_pushed}
 use Rattle.fb_tasks.proofs.delivering.push_range.Goals as goal
 
 pub loop-lbn-preserved : goal.loop-lbn-preserved

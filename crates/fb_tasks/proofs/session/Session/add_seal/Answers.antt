@@ -6,7 +6,7 @@ use Rattle.fb_tasks.proofs.Sealed.{open_is, seal_row, no-seal}
 use Rattle.std.proofs.Math.Bool.{and-false}
 use Rattle.fb_tasks.proofs.session.Session.add_seal.Goals as goal
 use Rattle.fb_tasks.proofs.session.Session.add_seal.Goals.{then-not-complete-via-then-not-complete, then-not-complete-via-else-not-complete+then-not-is_open_backup}
-use Rattle.fb_tasks.proofs.Writes.{open_by}
+use Rattle.fb_tasks.proofs.Changes.{open_by}
 
 pub returns-clause-rows : goal.returns-clause-rows
 returns-clause-rows c = on_ok_weaker c.push.result (λ pushed disk past holds stands says.

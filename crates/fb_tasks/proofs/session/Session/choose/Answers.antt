@@ -9,7 +9,7 @@ use Rattle.fb_tasks.specs.declared.session.Session.{Session}
 use Rattle.fb_tasks.specs.Leaving.{OnlyRegisters}
 use Rattle.fb_tasks.specs.Standing.{MayChoose}
 use Rattle.fb_tasks.proofs.Leaving.{grown_not, grown_more, registers_none, registers_more, registers_weaker}
-use Rattle.fb_tasks.proofs.Turns.{up_to_more, reported_rows, idle-chosen, idle-rows, turns_in, turns_all, turned-chosen}
+use Rattle.fb_tasks.proofs.AllChoices.{up_to_more, reported_rows, idle-chosen, idle-rows, turns_in, turns_all, turned-chosen}
 use Rattle.fb_tasks.proofs.session.Session.choose.Goals as goal
 
 not_true : (b : Bool) → not b ≡ true → b ≡ false

@@ -8,7 +8,7 @@ use Rattle.fb_tasks.specs.Telling.{IsBlockOf}
 use Rattle.fb_tasks.proofs.Lists.{some_at}
 use Rattle.fb_tasks.proofs.Listed.{no-backup-there}
 use Rattle.fb_model.specs.Completion.{view}
-use Rattle.fb_tasks.proofs.Writes.{none_until, all_until, until_wanted, until_left, until-to, written-tells, open_by}
+use Rattle.fb_tasks.proofs.Changes.{none_until, all_until, until_wanted, until_left, until-to, written-tells, open_by}
 use Rattle.fb_tasks.proofs.sessions.Sessions.after_write.Goals as goal
 use Rattle.fb_tasks.proofs.sessions.Sessions.after_write.Goals.{then-is_open_backup, else-is_open_backup}
 

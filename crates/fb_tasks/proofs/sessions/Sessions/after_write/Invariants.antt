@@ -3,7 +3,7 @@ use Rattle.fb_geometry.specs.Shape.{Shape}
 use Rattle.fb_units.specs.declared.types.Request.{Request}
 use Rattle.fb_model.specs.History.{Past, registered}
 use Rattle.fb_tasks.specs.Telling.{Tells}
-use Rattle.fb_tasks.proofs.Writes.{entry_until}
+use Rattle.fb_tasks.proofs.Changes.{entry_until}
 use Rattle.fb_tasks.proofs.sessions.Sessions.after_write.Given as goal
 
 -- the blocks of the first tasks are as the write leaves them
