@@ -39,6 +39,7 @@ use Rattle.fb_tasks.proofs.Changes.{open_by}
 use Rattle.fb_tasks.proofs.Cuts.{ranges_join}
 use Rattle.std.proofs.Math.Seq.{take-length}
 use Rattle.fb_model.proofs.Lists.{all_both}
+use Rattle.std.proofs.lemmas.List.Folds.{list_any-append}
 
 -- ascending blocks begin at the first sector or after it
 pub ascend_from : (low : ℕ) (bs : List Block) → Ascend low bs → AllByRecursion (λ b. low ≤ b.lbn) bs
@@ -70,28 +71,20 @@ nothing_in (lbn ∷ lbns) = nothing_in lbns
 held_none : (now : ℕ → Option Content) (a n : ℕ) → ((k : ℕ) → a ≤ k → k < a + n → now k ≡ None) → held_in now (range_with_len a n) ≡ []
 held_none now a n none = held_same now (λ lbn. None) a n none ∙ nothing_in (range_with_len a n)
 
--- what a sector holds after the sectors of aborted blocks were dropped, block by block
-abbrev pub dropped : TaskView → ℕ → Option Content → List Block → Option Content
-dropped v lbn held [] = held
-dropped v lbn held (block ∷ blocks) = dropped v lbn (without_aborted (entry_in v block) lbn held) blocks
+-- a sector lies in an aborted block
+abbrev pub is_hit : TaskView → ℕ → Block → Bool
+is_hit v lbn block = is_aborted (v.bare block) && is_within block.lbn block.count lbn
 
-pub dropped_more : (v : TaskView) (lbn : ℕ) (held : Option Content) (blocks : List Block) (block : Block) → dropped v lbn held (blocks ++ block ∷ []) ≡ without_aborted (entry_in v block) lbn (dropped v lbn held blocks)
-dropped_more v lbn held [] block = refl
-dropped_more v lbn held (b ∷ bs) block = dropped_more v lbn (without_aborted (entry_in v b) lbn held) bs block
+-- what a sector holds after the sectors of aborted blocks were dropped
+abbrev pub dropped : TaskView → ℕ → Option Content → List Block → Option Content
+dropped v lbn held blocks = if list_any (is_hit v lbn) blocks then None else held
 
 pub dropped_next : (v : TaskView) (lbn : ℕ) (held : Option Content) (blocks : List Block) (i : ℕ) (block : Block) → slice_get blocks i ≡ Some block → without_aborted (entry_in v block) lbn (dropped v lbn held (take i blocks)) ≡ dropped v lbn held (take (i + 1) blocks)
 dropped_next v lbn held blocks i block at =
-    rw (take_more blocks i block (slice_get_within blocks i block at), get_or_from_slice_get blocks i block block at) (sym (dropped_more v lbn held (take i blocks) block))
-
--- a sector lies in an aborted block
-abbrev is_hit : TaskView → ℕ → Block → Bool
-is_hit v lbn block = is_aborted (v.bare block) && is_within block.lbn block.count lbn
-
-dropped_is : (v : TaskView) (lbn : ℕ) (held : Option Content) (blocks : List Block) → dropped v lbn held blocks ≡ (if list_any (is_hit v lbn) blocks then None else held)
-dropped_is v lbn held [] = refl
-dropped_is v lbn held (b ∷ bs) = rw (dropped_is v lbn (without_aborted (entry_in v b) lbn held) bs, shown_aborted (v.bare b) v.suspended) (either (is_hit v lbn b) (list_any (is_hit v lbn) bs)) where
-  either : (one more : Bool) → (if more then None else (if one then None else held)) ≡ (if one || more then None else held)
-  either one more = grind arith
+    rw (take_more blocks i block (slice_get_within blocks i block at), get_or_from_slice_get blocks i block block at, list_any-append, shown_aborted (v.bare block) v.suspended)
+    (either (is_hit v lbn block) (list_any (is_hit v lbn) (take i blocks))) where
+      either : (one more : Bool) → (if one then None else (if more then None else held)) ≡ (if more || (one || false) then None else held)
+      either one more = grind arith
 
 module _ (p : Block → Bool) where
   abbrev pub has_it : ℕ → Block → Bool
@@ -150,14 +143,14 @@ module _ (v : TaskView) (ascend : Ascend 0 v.blocks) (over : AllByRecursion (λ 
       (all_both (HoldsBlock v.work held) IsHitAlone v.blocks holds.each (in_one (λ block. is_aborted (v.bare block)) 0 v.blocks ascend)) where
         part : (block : Block) → is_over (v.bare block) ≡ true → HoldsBlock v.work held block × IsHitAlone block → HoldsPart v now block
         part block is_over both =
-            let here = λ (k : ℕ) (from : block.lbn ≤ k) (to : k < block.lbn + block.count). drops k ∙ (dropped_is v k (held k) v.blocks ∙ ap (λ b. if b then None else held k) (both.1 k from to)) in
+            let here = λ (k : ℕ) (from : block.lbn ≤ k) (to : k < block.lbn + block.count). drops k ∙ ap (λ b. if b then None else held k) (both.1 k from to) in
             elim (cases_Bool (is_delivered (v.bare block))) [
               | inl done ↦ rw done (held_same now held block.lbn block.count (λ k from to. let kept : is_aborted (v.bare block) ≡ false = grind arith in rw (here k from to, kept) refl) ∙ both.0 done)
               | inr left ↦ rw left (held_none now block.lbn block.count (λ k from to. let gone : is_aborted (v.bare block) ≡ true = grind arith in rw (here k from to, gone) refl))
             ]
 
   nothing_beside : (lbn : ℕ) → 0 ≤ lbn → list_any (λ block. is_within block.lbn block.count lbn) v.blocks ≡ false → now lbn ≡ None
-  nothing_beside lbn from other = rw (drops lbn, dropped_is v lbn (held lbn) v.blocks, holds.only lbn other) (none_either (list_any (is_hit v lbn) v.blocks)) where
+  nothing_beside lbn from other = rw (drops lbn, holds.only lbn other) (none_either (list_any (is_hit v lbn) v.blocks)) where
     none_either : (b : Bool) → (let n : Option Content = None in if b then n else None) ≡ None
     none_either b = grind arith
 
