@@ -85,19 +85,6 @@ pub choices_less : (disk : Shape) (past : Past) → AreOnDisk disk past → in_a
 unfolding with_choices
 choices_less disk past on_disk = tasks_less disk (task_numbers past) past (all_range (λ n. n < length (tasks past)) 0 (length (tasks past)) (λ k from to. omega arith)) on_disk
 
--- events that open no task, and give and choose no segment
-pub choosable-tested : (disk : Shape) (past : Past) (rows : List BackRow) → choosable disk (tested rows ∷ past) ≡ choosable disk past
-unfolding view
-choosable-tested disk past rows = refl
-
-pub choosable-delivered : (disk : Shape) (past : Past) (got : DeliveryRow) → choosable disk (delivered got ∷ past) ≡ choosable disk past
-unfolding view
-choosable-delivered disk past got = refl
-
-pub choosable-finished : (disk : Shape) (past : Past) (request : Request) → choosable disk (finished request ∷ past) ≡ choosable disk past
-unfolding view
-choosable-finished disk past request = refl
-
 -- calls
 module _ (disk : Shape) (past : Past) (call : Call) where
   -- the call adds no more than the blocks that it can give
@@ -243,10 +230,12 @@ module _ (disk : Shape) (calls : List Call) (rules : AreAllowed disk [] calls) (
 -- events that are no calls
 module _ (disk : Shape) (calls : List Call) (past : Past) (next : ℕ) (h : IsCalled disk calls past next) where
   pub called-tested : (rows : List BackRow) → IsCalled disk calls (tested rows ∷ past) next
-  called-tested rows = record { within = h.within; taken = h.taken; few = omega (arith, h.few, choosable-tested disk past rows) }
+  unfolding view
+  called-tested rows = record { within = h.within; taken = h.taken; few = h.few }
 
   pub called-finished : (request : Request) → IsCalled disk calls (finished request ∷ past) next
-  called-finished request = record { within = h.within; taken = h.taken; few = omega (arith, h.few, choosable-finished disk past request) }
+  unfolding view
+  called-finished request = record { within = h.within; taken = h.taken; few = h.few }
 
   pub called-chosen : (sessions : List Session) (held : List Entry) → Tells disk past sessions held → IsCalled disk calls (with_choices disk past) next
   called-chosen sessions held tells = record {
@@ -256,7 +245,8 @@ module _ (disk : Shape) (calls : List Call) (past : Past) (next : ℕ) (h : IsCa
   }
 
   called_got : (got : DeliveryRow) → IsCalled disk calls (delivered got ∷ past) next
-  called_got got = record { within = h.within; taken = h.taken; few = omega (arith, h.few, choosable-delivered disk past got) }
+  unfolding view
+  called_got got = record { within = h.within; taken = h.taken; few = h.few }
 
 -- a delivery and its test
 pub called-delivered : (disk : Shape) (calls : List Call) (past : Past) (next : ℕ) (got : DeliveryRow) → IsCalled disk calls past next → IsCalled disk calls (with_delivery past (delivery_of past got)) next

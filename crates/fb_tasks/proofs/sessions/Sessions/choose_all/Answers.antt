@@ -61,23 +61,20 @@ loop-task-preserved c =
           (c.in_ok-choose.ensures.rows (past_at disk past n) (may past h) ((to past h).0.later n c.index_mut.result.now (omega arith) there));
     }
 
-pub returns-clause-chosen : goal.returns-clause-chosen
-returns-clause-chosen c = λ past h.
+pub returns : goal.returns
+returns c =
     let disk = c.args.map.now in
     let inv = c.loop-task.invariant in
     let items = c.loop-task.self-inside.sessions.items in
-    let to = partly-to disk past items c.loop-task.wanted c.args.now c.args.rows.now c.loop-task.rows c.loop-task.from (length items) inv.within (omega arith)
+    let to = λ (past : Past) (h : MaySettle disk past c.args.self.now c.args.wanted.now). partly-to disk past items c.loop-task.wanted c.args.now c.args.rows.now c.loop-task.rows c.loop-task.from (length items) inv.within (omega arith)
     (λ k s low high at. c.in_default.ensures.none k s low (ap (λ xs. slice_get xs k) c.deref.ensures.value ∙ at)) (inv.partly past h) (inv.rows past h) in
-    all-chosen disk past items c.loop-task.wanted (length items) to.0.as_many to.0
-
-pub returns-clause-rows : goal.returns-clause-rows
-returns-clause-rows c = λ past h.
-    let disk = c.args.map.now in
-    let inv = c.loop-task.invariant in
-    let items = c.loop-task.self-inside.sessions.items in
-    let to = partly-to disk past items c.loop-task.wanted c.args.now c.args.rows.now c.loop-task.rows c.loop-task.from (length items) inv.within (omega arith)
-    (λ k s low high at. c.in_default.ensures.none k s low (ap (λ xs. slice_get xs k) c.deref.ensures.value ∙ at)) (inv.partly past h) (inv.rows past h) in
-    all-rows disk past c.args.rows.now c.loop-task.rows (length items) c.args.now to.0.as_many to.1
+    record {
+      chosen = λ past h. all-chosen disk past items c.loop-task.wanted (length items) (to past h).0.as_many (to past h).0;
+      rows = λ past h. all-rows disk past c.args.rows.now c.loop-task.rows (length items) c.args.now (to past h).0.as_many (to past h).1;
+      stay_sessions = inv.stay;
+      stay_blocks = inv.own;
+      stay_rows = inv.grown;
+    }
 
 pub next_touched-requires : goal.next_touched-requires
 next_touched-requires c = (c.loop-task.self-inside.asked, subst (λ xs. AreListed xs c.loop-task.self-inside.touched c.loop-task.self-inside.asked) (sym c.deref.ensures.value) c.loop-task.invariant.kept)

@@ -68,29 +68,27 @@ loop-task-preserved c =
           (c.in_ok-test.ensures.rows disk past (chosen_at chosen n c.index_mut-session.result.now (sym (is.later n (omega arith)) ∙ there)) ∙ append_assoc c.loop-task.rows (seal_rows by_deliveries past c.args.now n) (complete_rows past c.args.now n)) refl;
     }
 
-pub returns-clause-tells : goal.returns-clause-tells
-returns-clause-tells c = λ disk past now_chosen.
-    let chosen = subst (λ xs. HaveChosen disk past xs c.args.wanted.now) (sym c.self.view_is) now_chosen in
+pub returns : goal.returns
+returns c =
     let inv = c.loop-task.invariant in
     let olds = c.self.inside.sessions.items in
     let items = c.loop-task.self-inside.sessions.items in
     let between = λ (k : ℕ) (s : Session) (low : c.loop-task.from ≤ k) (high : k < length items) (at : slice_get items k ≡ Some s). c.in_default.ensures.none k s low (ap (λ xs. slice_get xs k) c.deref.ensures.value ∙ at) in
     let is = tested-to c.args.wanted.now olds items c.loop-task.from (length items) inv.within (omega arith) between inv.sessions in
-    let given : AreAllRows past (test_rows by_deliveries past c.args.now) = λ task. rows-given by_deliveries past c.args.now [] nothing-mute task (λ more. (chosen.blocks.unopened task more).choices) in
-    tells-tested (test_rows by_deliveries past c.args.now) items chosen.blocks (is.as_many ∙ chosen.as_many) given
-    (λ task session at. is.earlier disk past (test_rows by_deliveries past c.args.now) chosen given task session (slice_get_within items task session at) at)
-    (λ task session at untouched. let found = some_at olds task (omega (arith, slice_get_within items task session at, is.as_many)) in chosen.chosen task found.0 found.1)
-
-pub returns-clause-rows : goal.returns-clause-rows
-returns-clause-rows c = λ disk past now_chosen.
-    let chosen = subst (λ xs. HaveChosen disk past xs c.args.wanted.now) (sym c.self.view_is) now_chosen in
-    let inv = c.loop-task.invariant in
-    let olds = c.self.inside.sessions.items in
-    let items = c.loop-task.self-inside.sessions.items in
-    let between = λ (k : ℕ) (s : Session) (low : c.loop-task.from ≤ k) (high : k < length items) (at : slice_get items k ≡ Some s). c.in_default.ensures.none k s low (ap (λ xs. slice_get xs k) c.deref.ensures.value ∙ at) in
-    let is = tested-to c.args.wanted.now olds items c.loop-task.from (length items) inv.within (omega arith) between inv.sessions in
-    rows-to c.args.wanted.now olds items c.loop-task.from (length items) inv.within (omega arith) between inv.sessions disk past c.args.now c.args.rows.now c.loop-task.rows chosen (inv.rows disk past chosen)
-    ∙ ap (λ n. c.args.rows.now ++ flat_map (ends_of past c.args.now) (range_with_len 0 n)) (is.as_many ∙ chosen.as_many)
+    record {
+      tells = λ disk past now_chosen.
+          let chosen = subst (λ xs. HaveChosen disk past xs c.args.wanted.now) (sym c.self.view_is) now_chosen in
+          let given : AreAllRows past (test_rows by_deliveries past c.args.now) = λ task. rows-given by_deliveries past c.args.now [] nothing-mute task (λ more. (chosen.blocks.unopened task more).choices) in
+          tells-tested (test_rows by_deliveries past c.args.now) items chosen.blocks (is.as_many ∙ chosen.as_many) given
+          (λ task session at. is.earlier disk past (test_rows by_deliveries past c.args.now) chosen given task session (slice_get_within items task session at) at)
+          (λ task session at untouched. let found = some_at olds task (omega (arith, slice_get_within items task session at, is.as_many)) in chosen.chosen task found.0 found.1);
+      rows = λ disk past now_chosen.
+          let chosen = subst (λ xs. HaveChosen disk past xs c.args.wanted.now) (sym c.self.view_is) now_chosen in
+          rows-to c.args.wanted.now olds items c.loop-task.from (length items) inv.within (omega arith) between inv.sessions disk past c.args.now c.args.rows.now c.loop-task.rows chosen (inv.rows disk past chosen)
+          ∙ ap (λ n. c.args.rows.now ++ flat_map (ends_of past c.args.now) (range_with_len 0 n)) (is.as_many ∙ chosen.as_many);
+      stay_sessions = inv.stay;
+      stay_rows = inv.grown;
+    }
 
 pub next_touched-requires : goal.next_touched-requires
 next_touched-requires c = (c.loop-task.self-inside.asked, subst (λ xs. AreListed xs c.loop-task.self-inside.touched c.loop-task.self-inside.asked) (sym c.deref.ensures.value) c.loop-task.invariant.kept)
