@@ -99,8 +99,7 @@ module _ {disk : Shape} {past : Past} {sessions : List Session} {held : List Ent
   findings_same kind lbns same is = rw (same, is) (either (is_scrub kind)) where
     either : (b : Bool) → map (λ lbn. BadLine (record { task = got.block.task; lbn = lbn })) (if b then bad_sectors got.content else [])
         ≡ (if b then map (λ lbn. BadLine (record { task = got.block.task; lbn = lbn })) (bad_sectors got.content) else [])
-    either true = refl
-    either false = refl
+    either b = grind arith
 
   module _ (now : List Entry) (h : HoldsBlocks disk (delivered got ∷ past) now) where
     pub all-given : AreAllRows (delivered got ∷ past) (rows_after past got)

@@ -97,10 +97,7 @@ count_is (x ∷ xs) = omega (arith, sum_by-cons (λ _. 1) x xs, count_is xs)
 module _ (disk : Shape) (task : ℕ) where
   -- a turn chooses nothing where a segment is unfinished or none is left
   still_once : (past : Past) → (is_busy (view past task).work ≡ false → unchosen (view past task).work ≡ []) → choose_once disk task past ≡ past
-  still_once past none = rw (once_is disk past task) (elim (cases_Bool (is_busy (view past task).work)) [
-    | inl busy ↦ rw busy refl
-    | inr free ↦ rw (free, none free) refl
-  ])
+  still_once past none = rw (once_is disk past task) (grind (arith, none))
 
   -- a task that has no segment to choose stays
   pub stays : (past : Past) → HasNoChoice (view past task) → choose_in disk past task ≡ past

@@ -215,10 +215,7 @@ left_less f disk task v best left = sum_without f (λ s. not (is_chosen v.choice
   chosen_now = rw (list_any-append (is_choice_of best) v.choices (chosen_for disk task v best ∷ []), number_same best.number best.number refl) (or-true (is_chosen v.choices best))
 
   still_left : (s : LogSegment) → not (is_chosen (v.choices ++ chosen_for disk task v best ∷ []) s) ≡ true → not (is_chosen v.choices s) ≡ true
-  still_left s h = elim (cases_Bool (is_chosen v.choices s)) [
-    | inl chosen ↦ absurd (true≢false (sym h ∙ ap not (list_any-append (is_choice_of s) v.choices (chosen_for disk task v best ∷ []) ∙ ap (λ b. b || ((best.number == s.number) || false)) chosen)))
-    | inr left_still ↦ ap not left_still
-  ]
+  still_left s h = grind (arith, list_any-append (is_choice_of s) v.choices (chosen_for disk task v best ∷ []))
 
 pub few_less : (disk : Shape) (past : Past) (task : ℕ) (best : LogSegment) → IsLeft disk (view past task) best
     → length (registered past ++ chosen_blocks disk task (view past task) best) + choosable_by disk (chose task best (chosen_blocks disk task (view past task) best) ∷ past) task ≤ length (registered past) + choosable_by disk past task

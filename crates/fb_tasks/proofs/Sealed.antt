@@ -129,8 +129,7 @@ held_parts v held from end (b ∷ bs) ascend within parts none =
 
       by_state : (done : Bool) → (if done then sectors_of (v.found b) else []) ++ flat_map (λ block. sectors_of (v.found block)) (filter (λ block. is_delivered (v.bare block)) bs)
           ≡ flat_map (λ block. sectors_of (v.found block)) (if done then b ∷ filter (λ block. is_delivered (v.bare block)) bs else filter (λ block. is_delivered (v.bare block)) bs)
-      by_state true = refl
-      by_state false = refl
+      by_state done = grind arith
 
 module _ (v : TaskView) (ascend : Ascend 0 v.blocks) (over : AllByRecursion (λ block. is_over (v.bare block) ≡ true) v.blocks)
     (held now : ℕ → Option Content) (holds : HoldsImage v.work held) (drops : (lbn : ℕ) → now lbn ≡ dropped v lbn (held lbn) v.blocks) where

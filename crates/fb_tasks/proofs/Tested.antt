@@ -81,10 +81,7 @@ module _ (task : ℕ) (v : TaskView) (rows : List BackRow) (given : AreRowsOf ta
         (rw (unnamed, by.unreported.0) refl, tt)
 
   reported-known : (log : clean.Cleaning) → Cleans v.work log → (number : ℕ) → (tested_view task rows v).reported number ≡ true → list_any (λ choice. choice.segment.number == number) (v.choices) ≡ true
-  reported-known log h number some = elim (cases_Bool (v.reported number)) [
-    | inl before ↦ h.reported number before
-    | inr none ↦ named v.choices (grind (arith, given.segments number))
-  ] where
+  reported-known log h number some = grind (arith, given.segments number, h.reported number, named v.choices) where
     named : (cs : List Choice) → list_any (λ choice. (choice.segment.number == number) && is_newly_cleaned v.work choice) cs ≡ true → list_any (λ choice. choice.segment.number == number) cs ≡ true
     named [] h = h
     named (c ∷ cs) h = grind (arith, named cs)
