@@ -1,5 +1,5 @@
 -- A session is opened, a log segment is added to one, or a range is wanted for one.
-use Rattle.std.proofs.Common.{◌≡◌, ℕ, zero, suc, ◌+◌, ◌<◌, ◌≤◌, ◌==◌, ◌⊎◌, not, List, [], ◌∷◌, ◌++◌, false, None, Some, inl, inr, length, slice_get, filter, append-nil, length-append, refl, ap, sym, ◌∙◌, arith, subst, ◌-◌, ◌*◌, ◌^◌, Bool, true, Option, map, set, get_or, ◌&&◌, if◌then◌else◌}
+use Rattle.std.proofs.Common.{◌≡◌, ℕ, zero, suc, ◌+◌, ◌<◌, ◌≤◌, ◌==◌, not, List, [], ◌∷◌, ◌++◌, false, None, Some, length, slice_get, filter, append-nil, length-append, refl, ap, sym, ◌∙◌, arith, subst, ◌-◌, ◌*◌, ◌^◌, Bool, true, Option, map, set, get_or, ◌&&◌, if◌then◌else◌}
 use Rattle.std.proofs.Math.Bool.{and-false}
 use Rattle.std.specs.List.{AllByRecursion, slice_index_or, list_any, flat_map}
 use Rattle.std.proofs.lemmas.Bool.{true≢false, and_parts}
@@ -21,9 +21,9 @@ use Rattle.fb_tasks.specs.Standing.{Told, Cleans, IsUntouched, IsPlaced, IsBlock
 use Rattle.fb_tasks.specs.Telling.{Tells, MayTake, IsCall}
 use Rattle.fb_tasks.proofs.Asked.{opened_same, open_there, terms_there, segments_few}
 use Rattle.fb_tasks.proofs.Frames.{kept-entries, one-tells}
-use Rattle.fb_tasks.proofs.Lists.{all_weaker, some_same, number_other, one_or_other, all_append, any_none, all_with}
+use Rattle.fb_tasks.proofs.Lists.{all_weaker, some_same, number_other, one_or_other, all_append, any_none, all_with, each_push}
 use Rattle.std.proofs.lemmas.List.{get_or_push, length-map, map-append}
-use Rattle.std.proofs.lemmas.Option.{slice_get-get_or}
+use Rattle.std.proofs.lemmas.Option.{slice_get-get_or, slice_get_within}
 use Rattle.fb_geometry.specs.Places.{places}
 use Rattle.fb_calls.specs.Sessions.{is_clean, is_backup}
 use Rattle.fb_store.specs.declared.content.Content.{Content}
@@ -45,12 +45,6 @@ use Rattle.fb_wanted.specs.Numbering as numbering
 none_own : (n : ℕ) (bs : List Block) → AllByRecursion (λ block. block.task < n) bs → filter (λ block. block.task == n) bs ≡ []
 none_own n [] h = refl
 none_own n (b ∷ bs) h = let other : (b.task == n) ≡ false = number_other b.task n (λ e. absurd (omega (arith, h.0))) in rw other (none_own n bs h.1)
-
-pub in_either : {X : Type 0} (xs : List X) (y x : X) (i : ℕ) → slice_get (xs ++ y ∷ []) i ≡ Some x → ((i < length xs) × (slice_get xs i ≡ Some x)) ⊎ ((i ≡ length xs) × (x ≡ y))
-in_either [] y x zero h = inr (refl, sym (some_same y x h))
-in_either [] y x (suc i) h = absurd (cc)
-in_either (z ∷ zs) y x zero h = inl (omega arith, h)
-in_either (z ∷ zs) y x (suc i) h = elim (in_either zs y x i h) [ inl k ↦ inl (omega (arith, k.0), k.1) | inr k ↦ inr (omega (arith, k.0), k.1) ]
 
 -- what a session is when it has just been opened
 pub record IsFresh (kind : Kind) (weight block : ℕ) (session : Session) : Type 0 where
@@ -120,14 +114,12 @@ opened-tells disk past call kind weight block items seen more session held is sa
     let terms : terms_of (called call [] ∷ past) call.task ≡ given = rw opened (get_or_push (tasks past) given (record { kind = Plain; weight = 1; block = 1 }) call.task (sym next)) in
     let before = h.unopened call.task (omega (arith, next)) in
     let none = none-yet disk past call.task (omega (arith, next)) h.on_disk in
-    let told = fresh-told _ kind weight block session terms fresh asks.2 (omega (arith, asks.3), asks.4) (assumption before) none in
+    let opened_view : TaskView = record (view past call.task) { work = record (view past call.task).work { terms = terms_of (called call [] ∷ past) call.task } } in
+    let told = fresh-told opened_view kind weight block session terms fresh asks.2 (omega (arith, asks.3), asks.4) (assumption before) none in
     rw (pushed, same) (record {
       as_many = rw (longer, length-append) (omega (arith, h.as_many));
-      each = λ t s at. elim (in_either seen session s t at) [
-        | inl old ↦ rw (others t (number_other call.task t (λ e. absurd (omega (arith, h.as_many, old.0))))) (h.each t s old.1)
-        | inr last ↦ let e : call.task ≡ t = omega (arith, next, h.as_many, last.0) in
-            subst (λ k. Told (view (called call [] ∷ past) k) s) e (rw (last.1, own_now) told)
-      ];
+      each = each_push (λ t. Told (view (called call [] ∷ past) t)) seen session (subst (λ k. Told (view (called call [] ∷ past) k) session) (next ∙ sym h.as_many) (rw own_now told))
+          (λ t s at. let far : (call.task == t) ≡ false = number_other call.task t (λ e. absurd (omega (arith, next, h.as_many, slice_get_within seen t s at))) in rw (others t far) (h.each t s at));
       blocks = record {
         entries = h.entries ∙ rw append-nil (kept-entries (view past) (view (called call [] ∷ past)) (λ t b. one_or_other
             (λ t. state_in (view past t) b ≡ state_in (view (called call [] ∷ past) t) b) call.task t (rw own_now refl) (λ other. rw (others t other) refl)) (registered past));

@@ -18,8 +18,8 @@ use Rattle.fb_wanted.specs.declared.block.State.TheVariants.{Wanted}
 use Rattle.fb_wanted.specs.States.{after, is_block}
 use Rattle.fb_store.specs.declared.content.Content.{Content}
 use Rattle.fb_store.specs.Sparse.{Gives}
-use Rattle.fb_model.specs.History.{Past, tested, delivered, tasks, terms_of, registered, is_open_backup, is_seal_of}
-use Rattle.fb_model.specs.Completion.{Choice, TaskView, view, delivered_view, is_unsealed, is_done, is_cleaned, is_complete}
+use Rattle.fb_model.specs.History.{Past, tested, delivered, tasks, terms_of, registered, is_seal_of}
+use Rattle.fb_model.specs.Completion.{Choice, TaskView, view, delivered_view, is_unsealed, is_done, is_cleaned}
 use Rattle.fb_model.proofs.Views.{delivered-silent, delivered-view, tested-view, number_same}
 use Rattle.fb_model.specs.Images.{test_rows, segment_rows, seal_rows, complete_rows, is_newly_cleaned, findings, is_scrub, bad_sectors}
 use Rattle.fb_tasks.specs.declared.session.Session.{Session}
@@ -68,19 +68,17 @@ module _ {disk : Shape} {past : Past} {sessions : List Session} {held : List Ent
     there : (session : Session) × (slice_get sessions task ≡ Some session)
     there = some_at sessions task (subst (λ n. task < n) (sym may.tells.as_many) less)
 
-    still-complete : is_complete (delivered got ∷ past) task ≡ is_complete past task
-    still-complete = sym (done_is (delivered got ∷ past) task) ∙ (ap (λ v. is_done v.work) silent ∙ done_is past task)
+    done-other : (is_unsealed (view past task) && is_done (view past task).work) ≡ false
+    done-other = rw (open_is past task, done_is past task) (sym (seals_given by_deliveries past 0 task) ∙ ap (list_any (is_seal_of task)) (may.settled.no_rows by_deliveries 0))
 
-    unsealed-other : (is_open_backup (delivered got ∷ past) task && is_complete (delivered got ∷ past) task) ≡ false
-    unsealed-other =
-        ap₂ (λ a b. a && b) (sym (open_is (delivered got ∷ past) task) ∙ (ap is_unsealed silent ∙ open_is past task)) still-complete
-        ∙ (sym (seals_given by_deliveries past 0 task) ∙ ap (list_any (is_seal_of task)) (may.settled.no_rows by_deliveries 0))
+    tested-other : (view past task).was_complete ≡ is_done (view past task).work
+    tested-other = rw (was_is past task, done_is past task) (may.settled.tested task)
 
     no_segments : (now : ℕ) → segment_rows by_deliveries (delivered got ∷ past) now task ≡ []
     no_segments now = reported_rows (delivered got ∷ past) now task (told-other there.0 there.1).reported
 
     no_ends : (now : ℕ) → (seal_rows by_deliveries (delivered got ∷ past) now task ++ complete_rows (delivered got ∷ past) now task) ≡ []
-    no_ends now = no-ends (delivered got ∷ past) now task unsealed-other (may.settled.tested task ∙ sym still-complete)
+    no_ends now = no-ends (delivered got ∷ past) now task (rw silent done-other) (rw silent tested-other)
 
   -- the block's own task alone gives rows
   pub own-rows : (now : ℕ) → test_rows by_deliveries (delivered got ∷ past) now
@@ -113,12 +111,8 @@ module _ {disk : Shape} {past : Past} {sessions : List Session} {held : List Ent
     other-tested task session other at =
         let less : task < length (tasks past) = rw may.tells.as_many at (slice_get_within sessions task session at) in
         let told = told-other task other less session at in
-        let none : (is_unsealed (view (delivered got ∷ past) task) && is_done (view (delivered got ∷ past) task).work) ≡ false =
-        rw (open_is (delivered got ∷ past) task, done_is (delivered got ∷ past) task) (unsealed-other task other less) in
-        let complete : session.complete ≡ is_done (view (delivered got ∷ past) task).work =
-        rw (done_is (delivered got ∷ past) task, still-complete task other less) ((may.tells.each task session at).complete ∙ (was_is past task ∙ may.settled.tested task)) in
-        rw (tested-view (delivered got ∷ past) (rows_after past got) task)
-        (still-stands task (view (delivered got ∷ past) task) (rows_after past got) (all-given task) session none complete told.stands told.at_work)
+        rw (tested-view (delivered got ∷ past) (rows_after past got) task) (still-stands task (view (delivered got ∷ past) task) (rows_after past got) (all-given task) session
+        (rw (silent task other less) (done-other task other less)) (told.complete ∙ rw (silent task other less) (tested-other task other less)) told.stands told.at_work)
 
     -- the sessions tell the history with its delivery and its test
     pub tells-delivered : (new : Session) → (Stands (view (tested (rows_after past got) ∷ delivered got ∷ past) got.block.task) new) × (IsAtWork (view (tested (rows_after past got) ∷ delivered got ∷ past) got.block.task).work new)

@@ -1,14 +1,14 @@
 -- The calls of a script take effect one after another: how many blocks are registered or can be by choices, and that other events leave it as it is.
 use Rattle.std.proofs.Common.{◌≡◌, ℕ, zero, suc, ◌+◌, ◌<◌, ◌≤◌, ◌==◌, not, List, [], ◌∷◌, ◌++◌, Bool, inl, inr, length, filter, length-append, refl, ap, sym, ◌∙◌, arith, subst, ◌^◌, Some, length-take, take, drop, slice_get, append-nil, append_assoc}
 use Rattle.std.specs.List.{AllByRecursion, fold, range_with_len, sum_by}
-use Rattle.std.proofs.lemmas.Bool.{cases_Bool, cases_lt}
+use Rattle.std.proofs.lemmas.Bool.{cases_Bool}
 use Rattle.std.proofs.lemmas.List.Elements.{filter-append}
 use Rattle.std.proofs.lemmas.List.Sums.{sum_by-cons, sum_by-append}
 use Rattle.fb_geometry.specs.Shape.{Shape}
 use Rattle.fb_sectormap.specs.Cutting.{cutting}
 use Rattle.fb_units.specs.declared.types.Request.{Request}
 use Rattle.fb_calls.specs.declared.call.Action.{Action}
-use Rattle.fb_calls.specs.declared.call.Action.TheVariants.{Open, Want, Abort, Promote, Suspend, Resume, Close, Segment}
+use Rattle.fb_calls.specs.declared.call.Action.TheVariants.{Open, Want, Segment}
 use Rattle.fb_calls.specs.declared.call.Call.{Call}
 use Rattle.fb_calls.specs.declared.call.Kind.{Kind}
 use Rattle.fb_calls.specs.Allowed.{MayAsk, AreAllowed, blocks_from}

@@ -1,5 +1,5 @@
 -- A task chooses a segment, as its session and as the history makes it.
-use Rattle.std.proofs.Common.{◌≡◌, ℕ, ◌+◌, ◌-◌, ◌*◌, ◌^◌, ◌<◌, ◌≤◌, ◌==◌, not, if◌then◌else◌, List, [], ◌∷◌, ◌++◌, true, false, Some, None, Option, length, map, slice_get, append-nil, refl, ap, sym, ◌∙◌, arith, subst, ◌&&◌, ◌||◌, Bool, inl, inr, filter, append_assoc, length-append}
+use Rattle.std.proofs.Common.{◌≡◌, ℕ, ◌+◌, ◌-◌, ◌*◌, ◌^◌, ◌<◌, ◌≤◌, ◌==◌, not, if◌then◌else◌, List, [], ◌∷◌, ◌++◌, true, false, Some, None, Option, length, map, slice_get, append-nil, refl, ap, sym, ◌∙◌, arith, subst, ◌&&◌, Bool, inl, inr, filter, append_assoc, length-append}
 use Rattle.std.specs.List.{AllByRecursion, list_any, list_all, flat_map, best_of, sum_by}
 use Rattle.std.specs.Option.{option_map}
 use Rattle.std.proofs.lemmas.Bool.{true≢false, not-true, cases_Bool, cases_lt, and_parts}

@@ -8,14 +8,16 @@ use Rattle.std.proofs.lemmas.Option.{slice_get-get_or}
 use Rattle.fb_calls.specs.Sessions.{is_backup}
 use Rattle.fb_tasks.specs.declared.session.Session.{Session}
 use Rattle.fb_tasks.specs.Listing.{AreListed, IsNoted}
-use Rattle.fb_tasks.proofs.Lists.{each_set}
-use Rattle.fb_tasks.proofs.Additions.{in_either}
+use Rattle.fb_tasks.proofs.Lists.{each_set, each_push}
 
 abbrev IsTouchedIn : BTreeSet ℕ → ℕ → Session → Type 0
 IsTouchedIn touched k session = session.touched ≡ true → contains nat_cmp touched k ≡ true
 
 abbrev IsAskedIn : BTreeSet ℕ → ℕ → Session → Type 0
 IsAskedIn asked k session = (is_backup session.kind && not session.sealed) ≡ true → contains nat_cmp asked k ≡ true
+
+the_other : {P Q : Type 0} → P ⊎ Q → (P → ⊥) → Q
+the_other either none = elim either [ inl p ↦ absurd (none p) | inr q ↦ q ]
 
 module _ {sessions : List Session} {touched asked : BTreeSet ℕ} (h : AreListed sessions touched asked) where
   -- a session that is listed changes
@@ -70,15 +72,9 @@ module _ {sessions : List Session} {touched asked : BTreeSet ℕ} (h : AreListed
       → ((k : ℕ) → contains nat_cmp more_asked k ≡ true → (k ≡ task) ⊎ (contains nat_cmp asked k ≡ true)) → ((is_backup new.kind && not new.sealed) ≡ true → contains nat_cmp more_asked task ≡ true) → AreListed (sessions ++ new ∷ []) touched more_asked
   listed-push new more_asked task last untouched more stay only there = record {
     room = omega (arith, more, length-append sessions (new ∷ []));
-    listed = λ k session at is. elim (in_either sessions new session k at) [
-      | inl old ↦ h.listed k session old.1 is
-      | inr added ↦ absurd (true≢false (sym is ∙ (ap (λ (s : Session). s.touched) added.1 ∙ untouched)))
-    ];
+    listed = each_push (IsTouchedIn touched) sessions new (λ is. absurd (true≢false (sym is ∙ untouched))) h.listed;
     covered = λ k is. stay k (h.covered k is);
-    backups = λ k session at is. elim (in_either sessions new session k at) [
-      | inl old ↦ stay k (h.backups k session old.1 is)
-      | inr added ↦ ap (contains nat_cmp more_asked) (added.0 ∙ sym last) ∙ there (ap (λ (s : Session). is_backup s.kind && not s.sealed) (sym added.1) ∙ is)
-    ];
+    backups = each_push (IsAskedIn more_asked) sessions new (λ is. ap (contains nat_cmp more_asked) (sym last) ∙ there is) (λ k session at is. stay k (h.backups k session at is));
     within = λ k is. elim (only k is) [ inl it ↦ omega (arith, it, last, length-append sessions (new ∷ [])) | inr old ↦ omega (arith, h.within k old, length-append sessions (new ∷ [])) ];
   }
 
@@ -89,18 +85,11 @@ module _ {sessions : List Session} {touched asked : BTreeSet ℕ} (h : AreListed
       → (flag ≡ true → contains nat_cmp asked task ≡ true → contains nat_cmp less_asked task ≡ true) → AreListed (set sessions task new) less less_asked
   listed-less task new less less_asked flag there untouched is_open others only gone asked_others asked_only kept = record {
     room = omega (arith, h.room, length-set sessions task new);
-    listed = each_set (IsTouchedIn less) sessions task new (λ is. absurd (true≢false (sym is ∙ untouched))) (λ k session differ at is. elim (others k (h.listed k session at is)) [
-      | inl it ↦ absurd (differ (sym it))
-      | inr still ↦ still
-    ]);
-    covered = λ k is. elim (asked_others k (h.covered k (only k is))) [
-      | inl it ↦ absurd (true≢false (sym is ∙ (ap (contains nat_cmp less) it ∙ gone)))
-      | inr still ↦ still
-    ];
-    backups = each_set (IsAskedIn less_asked) sessions task new (λ is. kept (is_open ∙ is) (h.covered task there)) (λ k session differ at is. elim (asked_others k (h.backups k session at is)) [
-      | inl it ↦ absurd (differ (sym it))
-      | inr still ↦ still
-    ]);
+    listed = each_set (IsTouchedIn less) sessions task new (λ is. absurd (true≢false (sym is ∙ untouched)))
+        (λ k session differ at is. the_other (others k (h.listed k session at is)) (λ it. differ (sym it)));
+    covered = λ k is. the_other (asked_others k (h.covered k (only k is))) (λ it. true≢false (sym is ∙ (ap (contains nat_cmp less) it ∙ gone)));
+    backups = each_set (IsAskedIn less_asked) sessions task new (λ is. kept (is_open ∙ is) (h.covered task there))
+        (λ k session differ at is. the_other (asked_others k (h.backups k session at is)) (λ it. differ (sym it)));
     within = λ k is. omega (arith, h.within k (asked_only k is), length-set sessions task new);
   }
 

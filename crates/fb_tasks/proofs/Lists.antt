@@ -1,5 +1,5 @@
 -- What holds of each element, and lists that are mapped, filtered and tested.
-use Rattle.std.proofs.Common.{◌≡◌, ℕ, zero, suc, ◌+◌, ◌<◌, ◌≤◌, ◌==◌, List, [], ◌∷◌, Bool, true, false, Some, inl, inr, length, filter, map, find, set, slice_get, refl, arith, subst, None}
+use Rattle.std.proofs.Common.{◌≡◌, ℕ, zero, suc, ◌+◌, ◌<◌, ◌≤◌, ◌==◌, List, [], ◌∷◌, Bool, true, false, Some, inl, inr, length, filter, map, find, set, slice_get, refl, arith, subst, None, ◌++◌}
 use Rattle.std.specs.List.{AllByRecursion, flat_map, list_any, list_all, range_with_len}
 use Rattle.std.proofs.lemmas.Bool.{cases_Bool, cases_lt}
 use Rattle.std.proofs.lemmas.Bool.Decides.{nat_tests}
@@ -159,3 +159,10 @@ each_set P (y ∷ ys) zero new own others zero x at = subst (P 0) (some_same new
 each_set P (y ∷ ys) zero new own others (suc k) x at = others (suc k) x (λ e. absurd (omega arith)) at
 each_set P (y ∷ ys) (suc i) new own others zero x at = others zero x (λ e. absurd (omega arith)) at
 each_set P (y ∷ ys) (suc i) new own others (suc k) x at = each_set (λ n. P (suc n)) ys i new own (λ n z differ. others (suc n) z (λ e. differ (omega arith))) k x at
+
+pub each_push : {X : Type 0} (P : ℕ → X → Type 0) (xs : List X) (new : X) → P (length xs) new → ((k : ℕ) (x : X) → slice_get xs k ≡ Some x → P k x)
+    → (k : ℕ) (x : X) → slice_get (xs ++ new ∷ []) k ≡ Some x → P k x
+each_push P [] new own others zero x at = subst (P 0) (some_same new x at) own
+each_push P [] new own others (suc k) x at = absurd (cc)
+each_push P (y ∷ ys) new own others zero x at = others zero x at
+each_push P (y ∷ ys) new own others (suc k) x at = each_push (λ n. P (suc n)) ys new own (λ n. others (suc n)) k x at

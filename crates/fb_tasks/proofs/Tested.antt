@@ -1,8 +1,7 @@
 -- A test has given its rows, and the sessions are tested one after the other.
-use Rattle.std.proofs.Common.{◌≡◌, ℕ, ◌<◌, ◌==◌, ◌&&◌, ◌||◌, not, if◌then◌else◌, List, [], ◌∷◌, ◌++◌, Bool, true, false, Some, None, Option, inl, inr, length, refl, ap, ap₂, sym, ◌∙◌, arith, ◌+◌, ◌≤◌, set, slice_get, append-nil, append_assoc}
+use Rattle.std.proofs.Common.{◌≡◌, ℕ, ◌<◌, ◌==◌, ◌&&◌, ◌||◌, not, if◌then◌else◌, List, [], ◌∷◌, ◌++◌, Bool, true, false, Some, None, Option, length, refl, ap, ap₂, sym, ◌∙◌, arith, ◌+◌, ◌≤◌, set, slice_get, append-nil, append_assoc}
 use Rattle.std.proofs.Math.Bool.{and-false, or-true}
 use Rattle.std.specs.List.{AllByRecursion, list_any, flat_map, range_with_len}
-use Rattle.std.proofs.lemmas.Bool.{cases_Bool}
 use Rattle.std.proofs.lemmas.List.Folds.{list_any-append}
 use Rattle.fb_calls.specs.Sessions.{is_backup}
 use Rattle.fb_rows.specs.declared.back.BackRow.{BackRow}
@@ -10,7 +9,7 @@ use Rattle.fb_rows.specs.declared.back.BackRow.TheVariants.{Seal as SealLine, Co
 use Rattle.fb_store.specs.declared.content.Content.{Content}
 use Rattle.fb_store.specs.Index.{held_at}
 use Rattle.fb_model.specs.History.{Past, tested, tasks, task_numbers, bare_state, content_of, is_open_backup, registered}
-use Rattle.fb_model.specs.Completion.{Choice, TaskView, view, tested_view, is_unsealed, is_cleaned, is_done, is_complete, is_segment_of, was_complete}
+use Rattle.fb_model.specs.Completion.{Choice, TaskView, view, tested_view, is_unsealed, is_cleaned, is_done, is_complete, is_segment_of, work}
 use Rattle.fb_model.specs.Segments.{is_busy}
 use Rattle.fb_model.specs.Images.{Sources, test_rows, segment_rows, seal_rows, complete_rows, is_newly_cleaned}
 use Rattle.fb_model.proofs.Views.{number_same, tested-view}
@@ -19,8 +18,8 @@ use Rattle.fb_tasks.specs.Keeping.{is_none, IsSealed}
 use Rattle.fb_tasks.specs.Standing.{AreRowsOf, AreReported, IsAtWork, Stands, Cleans, HoldsBlock, HoldsImage, choice_in, CleansBy, IsUntouched, IsQuiet, HasNoChoice, HoldsBlocks, HasChosen, HaveChosen}
 use Rattle.fb_tasks.specs.Telling.{IsSettled, Tells}
 use Rattle.fb_tasks.proofs.Lists.{all_weaker, filter_none, flat_none, all_range, some_at, each_set, one_or_other, step_to}
-use Rattle.fb_tasks.proofs.Sealed.{held_same, open_is}
-use Rattle.fb_tasks.proofs.Complete.{busy_by, done_is, was_is}
+use Rattle.fb_tasks.proofs.Sealed.{held_same}
+use Rattle.fb_tasks.proofs.Complete.{busy_by}
 use Rattle.std.proofs.lemmas.Bool.Decides.{nat_tests}
 use Rattle.std.proofs.lemmas.Grind.{flat_map-append}
 use Rattle.std.proofs.lemmas.List.{get_or_past, length-set}
@@ -215,12 +214,10 @@ module _ (task : ℕ) (v : TaskView) (rows : List BackRow) (given : AreRowsOf ta
   still-stands stands at_work =
       (stands-tested task v rows given session session still_tested noted stands at_work, at_work-tested task v rows given session session still_tested noted at_work)
 
-pub no-ends : (past : Past) (now task : ℕ) → (is_open_backup past task && is_complete past task) ≡ false → was_complete past task ≡ is_complete past task → (seal_rows by_deliveries past now task ++ complete_rows past now task) ≡ []
-no-ends past now task none same = rw (none, same, once (is_complete past task)) refl
-
-pub quiet-ends : (past : Past) (now task : ℕ) → IsQuiet (view past task) → (seal_rows by_deliveries past now task ++ complete_rows past now task) ≡ []
-quiet-ends past now task quiet = no-ends past now task
-    (sym (ap₂ (λ a b. a && b) (open_is past task) (done_is past task)) ∙ quiet.sealed) (sym (was_is past task) ∙ (quiet.tested ∙ done_is past task))
+pub no-ends : (past : Past) (now task : ℕ) → (is_unsealed (view past task) && is_done (view past task).work) ≡ false → (view past task).was_complete ≡ is_done (view past task).work
+    → (seal_rows by_deliveries past now task ++ complete_rows past now task) ≡ []
+unfolding view is_complete
+no-ends past now task none same = rw (none, same, once (is_done (work past task))) refl
 
 -- sessions that were not touched need no test
 skip_tested : (held : List Entry) (old now : List Session) (n : ℕ) → ((session : Session) → slice_get now n ≡ Some session → session.touched ≡ false) → AreTested held old n now → AreTested held old (n + 1) now
@@ -257,7 +254,8 @@ module _ (held : List Entry) (old now : List Session) (n m : ℕ) (le : n ≤ m)
         quiet : (k : ℕ) → n ≤ k → k < m → ends_of past instant k ≡ []
         quiet k from to =
             let found = some_at now k (omega (arith, within)) in
-            quiet-ends past instant k (chosen.quiet k found.0 (sym (is.later k from) ∙ found.1) (untouched k found.0 from to found.1))
+            let quiet = chosen.quiet k found.0 (sym (is.later k from) ∙ found.1) (untouched k found.0 from to found.1) in
+            no-ends past instant k quiet.sealed quiet.tested
 
 -- a task that is not opened has neither blocks nor terms
 no_terms : (past : Past) (task : ℕ) → length (tasks past) ≤ task → (view past task).terms ≡ record { kind = Plain; weight = 1; block = 1 }

@@ -1,6 +1,5 @@
-use Rattle.std.proofs.Common.{◌<◌, Some, length, slice_get, append-nil, ap, sym, ◌∙◌, subst, arith}
+use Rattle.std.proofs.Common.{◌<◌, length, slice_get, append-nil, ap, sym, ◌∙◌, subst, arith}
 use Rattle.std.proofs.lemmas.List.{length-set}
-use Rattle.std.proofs.lemmas.Option.{slice_get-get_or}
 use Rattle.fb_model.specs.History.{Past}
 use Rattle.fb_tasks.specs.Telling.{MaySettle}
 use Rattle.fb_tasks.specs.Listing.{AreListed}

@@ -1,4 +1,3 @@
-use Rattle.std.proofs.Common.{◌<◌, length, sym, subst}
 use Rattle.fb_tasks.proofs.Changes.{closed-tells}
 use Rattle.fb_tasks.proofs.Listed.{listed-more, listed-noted}
 use Rattle.fb_tasks.proofs.sessions.Sessions.close.Goals as goal
