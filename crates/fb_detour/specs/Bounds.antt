@@ -44,6 +44,10 @@ stay disk dwell entries = sum_by (stay_gain disk dwell) (on_track dwell.track en
 abbrev pub late_most : Gap → ℕ → Dwell
 late_most gap from = record { track = gap.target; begin = from; end = gap.deadline }
 
+-- how long each part of a gap is: 32 of them are longer than the gap
+abbrev pub late_step : Gap → ℕ
+late_step gap = (gap.deadline - gap.now) / 32 + 1
+
 -- the sum of the first n numbers of a list
 abbrev pub sum_of_first : ℕ → List ℕ → ℕ
 sum_of_first n numbers = sum_by (λ number. number) (take n numbers)

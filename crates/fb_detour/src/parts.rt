@@ -3,7 +3,7 @@ ghost use Rattle.std.specs.Prelude.{◌≡◌, ◌+◌, ◌-◌, ◌*◌, ◌/�
 ghost use Rattle.fb_model.specs.Plans.{block_end};
 ghost use Rattle.fb_plan.specs.Ways.{FitsDisk, AreOnDisk, IsGap};
 ghost use Rattle.fb_plan.specs.Turns.{IsTurning};
-ghost use Rattle.fb_detour.specs.Bounds.{stay, stay_gain, early_to, late_most, IsLate, IsStop, part_at, sum_of_first};
+ghost use Rattle.fb_detour.specs.Bounds.{stay, stay_gain, early_to, late_most, late_step, IsLate, IsStop, part_at, sum_of_first};
 
 use crate::stop::Stop;
 use fb_plan::{Turning, blocks_on, is_same, is_wanted};
@@ -107,7 +107,6 @@ fn add_late(
     disk: &Disk,
     gap: &Gap,
     passing: &Turning,
-    step: Ns,
     entry: Entry,
     parts: &mut [u64; LATE],
     limits: &mut [Ns; LIMITS],
@@ -116,12 +115,9 @@ fn add_late(
     requires fits { FitsDisk disk.now entry.block }
     requires passing { IsTurning disk.now passing.now }
     requires from { passing.now.from ≡ gap.now.now }
-    requires some { 0 < step }
-    requires step { step ≤ 29 * 10 ^ 16 }
-    requires over { gap.now.deadline < gap.now.now + 32 * step }
-    requires spread { (k : ℕ) → k < 33 → gap.now.now + (k - 1) * step ≤ get_or limits.old k 0 }
+    requires spread { (k : ℕ) → k < 33 → gap.now.now + (k - 1) * late_step gap.now ≤ get_or limits.old k 0 }
     requires room { (k : ℕ) → k < 32 → get_or parts.old k 0 ≤ 16000000 * 2048000 }
-    ensures most { (k : ℕ) → k < 32 → get_or parts.old k 0 + stay_gain disk.now (late_most gap.entry.now (gap.entry.now.now + k * step)) entry ≤ get_or parts.new k 0 }
+    ensures most { (k : ℕ) → k < 32 → get_or parts.old k 0 + stay_gain disk.now (late_most gap.entry.now (gap.entry.now.now + k * late_step gap.entry.now)) entry ≤ get_or parts.new k 0 }
     ensures small { (k : ℕ) → k < 32 → get_or parts.new k 0 ≤ get_or parts.old k 0 + 2048000 }
     ensures first { get_or limits.new 0 0 ≡ get_or limits.old 0 0 }
     ensures grow { (k : ℕ) → get_or limits.old k 0 ≤ get_or limits.new k 0 }
@@ -132,6 +128,7 @@ fn add_late(
         return;
     }
     if let Some(last) = last_catch(disk, gap, passing, entry.block) {
+        let step = (gap.deadline - gap.now) / LATE as u64 + 1;
         let worth = entry.block.weight as u64 * entry.block.count as u64;
         add_last(last, worth, gap.now, step, parts);
         add_limit(last, gap.now, step, limits);
@@ -151,7 +148,7 @@ pub fn late_parts(disk: &Disk, wanted: &Wanted, gap: &Gap) -> LateParts
     let mut limits = first_limits(gap.now, step);
     for i in 0..blocks.len() {
         let entry = blocks.get(i);
-        add_late(disk, gap, &passing, step, entry, &mut parts, &mut limits);
+        add_late(disk, gap, &passing, entry, &mut parts, &mut limits);
     }
     LateParts {
         begin: gap.now,

@@ -3,7 +3,7 @@ use Rattle.std.specs.List.{sum_by}
 use Rattle.fb_detour.specs.Bounds.{stay_gain, late_most}
 use Rattle.fb_detour.proofs.Arrays.{zeros}
 use Rattle.fb_detour.proofs.Ceilings.{stay-more, stay-done}
-use Rattle.fb_detour.proofs.Limits.{sums-fall, beyond_all}
+use Rattle.fb_detour.proofs.Limits.{sums-fall}
 use Rattle.fb_detour.proofs.parts.late_parts.Goals as goal
 
 pub loop-i-init : goal.loop-i-init
@@ -16,9 +16,6 @@ loop-i-init c = (
 
 pub add_late-requires-clause-fits : goal.add_late-requires-clause-fits
 add_late-requires-clause-fits c = c.blocks_on-blocks.ensures.on_disk c.loop-i.i c.get-entry.result c.get-entry.ensures
-
-pub add_late-requires-clause-over : goal.add_late-requires-clause-over
-add_late-requires-clause-over c = omega (arith, beyond_all (c.args.gap.now.deadline - c.args.gap.now.now))
 
 pub loop-i-preserved : goal.loop-i-preserved
 loop-i-preserved c =
