@@ -111,7 +111,7 @@ fn part_from(late: &LateParts, back: Ns) -> usize
 }
 
 // An upper bound on the value of detours over a track of this reach and this weight; 0 where it is
-// out of reach. It is as low as all steps make it only where it isn't less than `known`.
+// out of reach. Once it is less than `known` whatever the steps left give, these are passed over.
 pub fn most_by_steps(search: &Search, reach: Reach, weight: u64, known: u64) -> u64
     requires search { IsSearch search.now }
     requires light { weight ≤ 16000000 * 2048000 }
