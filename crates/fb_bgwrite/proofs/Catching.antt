@@ -1,5 +1,5 @@
 -- What a stay catches are pending blocks, each once.
-use Rattle.std.proofs.Common.{Bor, ◌≡◌, ℕ, zero, suc, ◌+◌, ◌≤◌, List, [], ◌∷◌, ◌++◌, Bool, false, ◌||◌, Some, slice_get, take, map, length, refl, sym, ap, ◌∙◌, subst, arith, inl, inr}
+use Rattle.std.proofs.Common.{Bor, ◌≡◌, ℕ, zero, suc, ◌≤◌, List, [], ◌∷◌, ◌++◌, Bool, false, ◌||◌, Some, slice_get, take, map, length, refl, sym, ap, ◌∙◌, subst, arith, inl, inr}
 use Rattle.std.specs.Prelude.{◌==◌, ◌&&◌, filter}
 use Rattle.std.specs.List.{AllByRecursion, fold, list_any}
 use Rattle.std.proofs.lemmas.Bool.{cases_Bool}

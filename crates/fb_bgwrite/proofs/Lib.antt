@@ -9,6 +9,7 @@ pub mod Choices
 pub mod Depths
 pub mod Legs
 pub mod Amended
+pub mod Lengths
 pub mod PutBlocks
 pub mod Writing
 pub mod Admitting
@@ -18,3 +19,4 @@ pub mod Catching
 pub mod Totals
 pub mod Going
 pub mod Holding
+pub mod Bounds

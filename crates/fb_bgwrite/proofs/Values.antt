@@ -62,6 +62,10 @@ all_add : (disk : Disk) (dwell : Dwell) (es : List Entry) → sum_by (stay_gain 
 unfolding stay
 all_add disk dwell es = one_part (stay_gain disk dwell) (λ e. same_track dwell.track e.block.track) (λ e off. elsewhere disk dwell e off) es
 
+pub value_caught : (disk : Disk) (gap : Gap) (es : List Entry) (spill : Spill) → AreLight es → value disk gap (wanted_of es) spill ≡ sum_by (stay_gain disk (stay_of disk gap spill)) es
+unfolding value
+value_caught disk gap es spill light = sectors_caught disk (stay_of disk gap spill) es light
+
 pub value_stay : (disk : Disk) (gap : Gap) (es : List Entry) (spill : Spill) → AreLight es → value disk gap (wanted_of es) spill ≡ stay disk (stay_of disk gap spill) es
 unfolding value
 value_stay disk gap es spill light = sectors_caught disk (stay_of disk gap spill) es light ∙ all_add disk (stay_of disk gap spill) es

@@ -18,6 +18,6 @@ ranges_in block (Promote first count) = record { first = first; count = count } 
 ranges_in block (Segment first blocks age live) = record { first = first; count = blocks * block } ∷ []
 ranges_in block _ = []
 
--- the ranges of all requests and calls
+-- the ranges of all requests, wants, promotes and segments
 abbrev pub asked : List Request → List Call → List SectorRange
 asked requests calls = map request_range requests ++ flat_map (λ call. ranges_in (terms_of calls call.task).block call.action) calls

@@ -16,6 +16,7 @@ use Rattle.fb_bgwrite.specs.declared.choice.Spill.{Spill}
 use Rattle.fb_bgwrite.specs.declared.choice.Valued.{Valued}
 use Rattle.fb_bgwrite.specs.declared.range.SectorRange.{SectorRange}
 use Rattle.fb_bgwrite.specs.declared.search.Moves.{Moves}
+use Rattle.fb_bgwrite.specs.declared.search.Part.{Part}
 use Rattle.fb_bgwrite.specs.Ranges.{AreApart}
 use Rattle.fb_bgwrite.specs.Spilling.{value, IsBest, IsNoLater, IsSpill, WritesNothing}
 
@@ -71,6 +72,14 @@ BeatsRange disk gap pending best from end = (track : Track) → from ≤ track.c
 abbrev pub IsEnough : Option Valued → ℕ → ℕ → Type 0
 IsEnough None most from = most ≡ 0
 IsEnough (Some best) most from = (most < best.value) ⊎ ((most ≤ best.value) × (best.spill.track.cylinder < from))
+
+-- no spill on the track writes more sectors
+abbrev pub IsMostOn : Disk → Gap → List Block → Track → ℕ → Type 0
+IsMostOn disk gap pending track most = (leave : ℕ) → (let spill : Spill = record { track = track; leave = leave } in IsSpill disk gap spill → value disk gap pending spill ≤ most)
+
+-- nor more than their bound on a track of these cylinders
+abbrev pub IsMost : Disk → Gap → List Block → Part → Type 0
+IsMost disk gap pending part = (track : Track) → part.from ≤ track.cylinder → track.cylinder < part.end → IsMostOn disk gap pending track part.most
 
 -- lower bounds on the times of both moves of a spill on a track of these cylinders
 abbrev pub AreLeast : Disk → Gap → ℕ → ℕ → Moves → Type 0

@@ -16,3 +16,4 @@ pub mod Choosing
 pub mod Text
 pub mod Standing
 pub mod Held
+pub mod Shortest

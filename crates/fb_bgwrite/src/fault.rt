@@ -5,8 +5,8 @@ use std::alloc::{AllocError, AllocFailed};
 /// Why a line of a puts file is refused.
 #[derive(Clone, Copy, Debug, PartialEq, Eq)]
 pub enum PutsReason {
-    /// The first line isn't `reserve` with two more fields, or a later one isn't a time, `put` and
-    /// two more fields.
+    /// Of the lines that aren't blank, the first isn't `reserve` with two more fields, or a later one
+    /// isn't a time, `put` and two more fields.
     BadLine,
     /// The first field of a put isn't a time in milliseconds, or is above 10^9 ms.
     BadTime,
@@ -34,7 +34,7 @@ pub enum PutsReason {
 /// The first faulty line of a puts file, and the first reason why it is refused.
 #[derive(Clone, Copy, Debug, PartialEq, Eq)]
 pub struct PutsFault {
-    /// The line, counted from 1.
+    /// The line, counted from 1, blank ones included.
     pub line: u64,
     /// The reason.
     pub reason: PutsReason,

@@ -10,16 +10,31 @@ ghost use Rattle.fb_plan.specs.Turns.{IsOfDwell};
 ghost use Rattle.fb_model.specs.Plans.{block_end};
 ghost use Rattle.fb_detour.specs.Bounds.{slots_within, stay_gain};
 ghost use Rattle.fb_bgwrite.specs.declared.choice.Spill.{Spill};
-ghost use Rattle.fb_bgwrite.specs.Choosing.{AreLeast, ArePending, BeatsOn, BeatsRange, IsBestIf, IsEnough, IsGap, IsLast, IsValuedIf, Keeps, passes};
+ghost use Rattle.fb_bgwrite.specs.Choosing.{AreLeast, ArePending, BeatsOn, BeatsRange, IsBestIf, IsEnough, IsGap, IsLast, IsMost, IsMostOn, IsValuedIf, Keeps, passes};
 ghost use Rattle.fb_bgwrite.specs.Spilling.{value, IsSpill};
 
 use crate::choice::{Spill, Valued, better};
+use crate::pending::{Pending, least_on};
 use fb_detour::most_slots;
-use fb_plan::{Turning, Until, blocks_on, is_wanted};
+use fb_plan::{Turning, Until, is_wanted};
 use fb_rows::{Dwell, Gap};
 use fb_service::Disk;
 use fb_units::{Ns, Track};
-use fb_wanted::{Entry, TrackBlocks, Wanted};
+use fb_wanted::{Entry, TrackBlocks};
+
+// The most sectors of a block.
+const LONGEST: u32 = 2_048;
+
+// Of a range of more cylinders than these the weights aren't looked at.
+const WIDE: u32 = 4_096;
+
+// The cylinders from one up to another, and an upper bound on what a spill writes on a track there.
+#[derive(Clone, Copy)]
+struct Part {
+    from: u32,
+    end: u32,
+    most: u64,
+}
 
 // The least time, in ns, of a move to a track, and of the move on from it to the target.
 #[derive(Clone, Copy)]
@@ -36,70 +51,94 @@ struct Written {
 }
 
 /// The best spill of a gap, where these are the registered blocks; none where none writes anything.
-pub fn best_spill(disk: &Disk, pending: &Wanted, gap: &Gap) -> Option<Valued>
+pub fn best_spill(disk: &Disk, pending: &Pending, gap: &Gap) -> Option<Valued>
     requires gap { IsGap disk.now gap.now }
     requires blocks { ArePending disk.now pending.now }
     ensures best { IsBestIf disk.now gap.entry.now (wanted_of pending.now) result }
     ensures valued { IsValuedIf disk.now gap.entry.now (wanted_of pending.now) result }
 {
-    let source = gap.source.cylinder;
     let end = disk.map.geometry().cylinders();
-    let above = try_cylinders(disk, pending, gap, source, end, None);
-    try_cylinders(disk, pending, gap, 0, source, above)
+    let all = part_of(disk, pending, gap, 0, end);
+    visit(disk, pending, gap, all, None)
 }
 
-// Tries the tracks of the cylinders from `first` on, before `end`.
-fn try_cylinders(
+// Tries the tracks of these cylinders, if their bound leaves it open whether a spill there is better
+// than the best so far: in two parts, that with the greater bound first.
+fn visit(
     disk: &Disk,
-    pending: &Wanted,
+    pending: &Pending,
     gap: &Gap,
-    first: u32,
-    end: u32,
+    part: Part,
     start: Option<Valued>,
 ) -> Option<Valued>
-    requires order { first ≤ end }
-    requires within { end ≤ disk.now.mechanism.cylinders }
+    requires order { part.from ≤ part.end }
+    requires within { part.end ≤ disk.now.mechanism.cylinders }
+    requires most { IsMost disk.now gap.now (wanted_of pending.now) part }
     requires gap { IsGap disk.now gap.now }
     requires blocks { ArePending disk.now pending.now }
     requires best { IsValuedIf disk.now gap.now (wanted_of pending.now) start }
     ensures valued { IsValuedIf disk.now gap.entry.now (wanted_of pending.now) result }
     ensures keeps { Keeps disk.now gap.entry.now (wanted_of pending.now) start result }
-    ensures tried { BeatsRange disk.now gap.entry.now (wanted_of pending.now) result first end }
+    ensures tried { BeatsRange disk.now gap.entry.now (wanted_of pending.now) result part.from part.end }
 {
-    let mut best = start;
-    let mut from = first;
-    while from < end {
-        let next = skip(disk, pending, gap, from, end, best);
-        if from < next {
-            from = next;
-        } else {
-            best = try_cylinder(disk, pending, gap, from, best);
-            from += 1;
-        }
+    if part.end == part.from || is_enough(start, part.most, part.from) {
+        return start;
     }
-    best
+    if part.end - part.from == 1 {
+        return try_cylinder(disk, pending, gap, part, start);
+    }
+    let middle = split_at(pending, gap, part.from, part.end);
+    let low = part_of(disk, pending, gap, part.from, middle);
+    let high = part_of(disk, pending, gap, middle, part.end);
+    if low.most < high.most {
+        let best = visit(disk, pending, gap, high, start);
+        return visit(disk, pending, gap, low, best);
+    }
+    let best = visit(disk, pending, gap, low, start);
+    visit(disk, pending, gap, high, best)
 }
 
-// The first cylinder from `from` on that can't be passed over, or `end`. Ranges are tried that grow
-// twofold at each step.
-fn skip(disk: &Disk, pending: &Wanted, gap: &Gap, from: u32, end: u32, best: Option<Valued>) -> u32
-    requires order { from ≤ end }
+// Where a range is divided. Beside both tracks of the gap cylinders without a pending block are cut
+// off, and then as many cylinders as lie between the range and the gap, but no more than half.
+fn split_at(pending: &Pending, gap: &Gap, from: u32, end: u32) -> u32
+    requires some { from + 1 < end }
+    ensures after { from < result }
+    ensures within { result < end }
+{
+    let low = gap.source.cylinder.min(gap.target.cylinder);
+    let high = gap.source.cylinder.max(gap.target.cylinder);
+    let half = (end - from) / 2;
+    if end <= low {
+        let behind = pending.end_in(from, end);
+        let near = end - half.min(low - end + 1);
+        let split = if behind < end { behind } else { near };
+        return split.max(from + 1).min(end - 1);
+    }
+    if high < from {
+        let first = pending.first_in(from, end);
+        let near = from + half.min(from - high);
+        let split = if from < first { first } else { near };
+        return split.max(from + 1).min(end - 1);
+    }
+    let split = if from < low { low } else { from + half };
+    split.max(from + 1).min(end - 1)
+}
+
+// These cylinders with their bound.
+fn part_of(disk: &Disk, pending: &Pending, gap: &Gap, from: u32, end: u32) -> Part
+    requires some { from < end }
     requires within { end ≤ disk.now.mechanism.cylinders }
     requires gap { IsGap disk.now gap.now }
     requires blocks { ArePending disk.now pending.now }
-    ensures after { from ≤ result }
-    ensures within { result ≤ end }
-    ensures passed { BeatsRange disk.now gap.entry.now (wanted_of pending.now) best from result }
+    ensures from { result.from ≡ from }
+    ensures end { result.end ≡ end }
+    ensures most { IsMost disk.now gap.entry.now (wanted_of pending.now) result }
 {
-    let mut next = from;
-    while next < end {
-        let upto = next + (end - next).min(next - from + 1);
-        if !is_enough(best, most_in(disk, pending, gap, next, upto), next) {
-            return next;
-        }
-        next = upto;
+    Part {
+        from,
+        end,
+        most: most_in(disk, pending, gap, from, end),
     }
-    next
 }
 
 // Whether the best so far is at least as good as each spill that writes `most` sectors at most, on
@@ -115,9 +154,10 @@ fn is_enough(best: Option<Valued>, most: u64, from: u32) -> bool
     }
 }
 
-// An upper bound on what a spill writes on a track of these cylinders: by the blocks of the
-// heaviest track, and by the slots that pass in the time that is left beside the moves.
-fn most_in(disk: &Disk, pending: &Wanted, gap: &Gap, from: u32, end: u32) -> u64
+// An upper bound on what a spill writes on a track of these cylinders: by the slots that pass in the
+// time that is left beside the moves, and by the blocks of the heaviest track; 0 where each block is
+// longer than that time.
+fn most_in(disk: &Disk, pending: &Pending, gap: &Gap, from: u32, end: u32) -> u64
     requires some { from < end }
     requires within { end ≤ disk.now.mechanism.cylinders }
     requires gap { IsGap disk.now gap.now }
@@ -125,6 +165,10 @@ fn most_in(disk: &Disk, pending: &Wanted, gap: &Gap, from: u32, end: u32) -> u64
     ensures { (spill : Spill) → from ≤ spill.track.cylinder → spill.track.cylinder < end → IsSpill disk.now gap.entry.now spill
         → value disk.now gap.entry.now (wanted_of pending.now) spill ≤ result }
 {
+    let shortest = pending.shortest_in(from, end);
+    if shortest > LONGEST {
+        return 0;
+    }
     disk.map.geometry().sound();
     disk.map.geometry().own_places();
     let moves = least_moves(disk, gap, from, end);
@@ -132,8 +176,14 @@ fn most_in(disk: &Disk, pending: &Wanted, gap: &Gap, from: u32, end: u32) -> u64
     if gap.deadline < back {
         return 0;
     }
-    let weight = pending.greatest_weight_in(from, end);
-    weight.min(most_in_time(disk, gap, from, end, gap.deadline - back))
+    let passing = most_in_time(disk, gap, from, end, gap.deadline - back);
+    if passing < shortest as u64 {
+        return 0;
+    }
+    if end - from > WIDE {
+        return passing;
+    }
+    passing.min(pending.greatest_weight_in(from, end))
 }
 
 // An upper bound on how many slots pass in this time, in ns, over all tracks of these cylinders.
@@ -187,38 +237,47 @@ fn nearest(from: u32, end: u32, cylinder: u32) -> u32
     }
 }
 
-// Tries the tracks of a cylinder.
+// Tries the tracks of a range of one cylinder.
 fn try_cylinder(
     disk: &Disk,
-    pending: &Wanted,
+    pending: &Pending,
     gap: &Gap,
-    cylinder: u32,
+    part: Part,
     start: Option<Valued>,
 ) -> Option<Valued>
-    requires cylinder { cylinder < disk.now.mechanism.cylinders }
+    requires one { part.end ≡ part.from + 1 }
+    requires cylinder { part.from < disk.now.mechanism.cylinders }
+    requires most { IsMost disk.now gap.now (wanted_of pending.now) part }
     requires gap { IsGap disk.now gap.now }
     requires blocks { ArePending disk.now pending.now }
     requires best { IsValuedIf disk.now gap.now (wanted_of pending.now) start }
     ensures valued { IsValuedIf disk.now gap.entry.now (wanted_of pending.now) result }
     ensures keeps { Keeps disk.now gap.entry.now (wanted_of pending.now) start result }
-    ensures tried { BeatsRange disk.now gap.entry.now (wanted_of pending.now) result cylinder (cylinder + 1) }
+    ensures tried { BeatsRange disk.now gap.entry.now (wanted_of pending.now) result part.from part.end }
 {
     let mut best = start;
     for head in 0..disk.map.geometry().heads() {
-        best = try_track(disk, pending, gap, Track { cylinder, head }, best);
+        let track = Track {
+            cylinder: part.from,
+            head,
+        };
+        best = try_track(disk, pending, gap, track, part.most, best);
     }
     best
 }
 
-// Tries the spills on a track, unless its blocks are too few.
+// Tries the spills on a track, none of which writes more than `most`, unless its pending blocks are
+// too few or each of them is too long.
 fn try_track(
     disk: &Disk,
-    pending: &Wanted,
+    pending: &Pending,
     gap: &Gap,
     track: Track,
+    most: u64,
     start: Option<Valued>,
 ) -> Option<Valued>
     requires track { IsTrackOf disk.now.map track }
+    requires most { IsMostOn disk.now gap.now (wanted_of pending.now) track most }
     requires gap { IsGap disk.now gap.now }
     requires blocks { ArePending disk.now pending.now }
     requires best { IsValuedIf disk.now gap.now (wanted_of pending.now) start }
@@ -226,18 +285,18 @@ fn try_track(
     ensures keeps { Keeps disk.now gap.entry.now (wanted_of pending.now) start result }
     ensures tried { BeatsOn disk.now gap.entry.now (wanted_of pending.now) result track }
 {
-    let blocks = blocks_on(disk, pending, track);
-    match start {
-        None => spill_on(disk, pending, gap, track, &blocks),
-        Some(best) => {
-            if blocks.wanted_weight() < best.value {
-                return start;
-            }
-            match spill_on(disk, pending, gap, track, &blocks) {
-                Some(found) => Some(better(best, found)),
-                None => start,
-            }
-        }
+    let blocks = pending.on(disk, track);
+    if is_enough(start, most.min(blocks.wanted_weight()), track.cylinder) {
+        return start;
+    }
+    if most < least_on(&blocks, LONGEST) as u64 {
+        return start;
+    }
+    let found = spill_on(disk, pending, gap, track, &blocks);
+    match (start, found) {
+        (Some(best), Some(found)) => Some(better(best, found)),
+        (None, found) => found,
+        (start, None) => start,
     }
 }
 
@@ -245,7 +304,7 @@ fn try_track(
 // wait for.
 fn spill_on(
     disk: &Disk,
-    pending: &Wanted,
+    pending: &Pending,
     gap: &Gap,
     track: Track,
     blocks: &TrackBlocks,

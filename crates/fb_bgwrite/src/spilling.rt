@@ -13,14 +13,15 @@ ghost use Rattle.fb_bgwrite.specs.Standing.{wanted_entry, ArePutsOn, HasChosen, 
 ghost use Rattle.fb_bgwrite.specs.Steps.{spill_rows, wrote_row};
 
 use crate::choice::Spill;
+use crate::pending::Pending;
 use crate::search::best_spill;
 use crate::{Put, SpillItem, SpillItems, SpillRow, WroteRow};
-use fb_plan::{Catch, caught};
+use fb_plan::Catch;
 use fb_rows::{Dwell, Gap, GapRow};
 use fb_sectormap::{Cut, SectorMap};
 use fb_service::Disk;
 use fb_units::{NoMemory, Ns};
-use fb_wanted::{Block, Wanted};
+use fb_wanted::Block;
 use std::alloc::Global;
 
 // The most sectors of a block.
@@ -33,7 +34,7 @@ pub struct Spilling<'a> {
     pub disk: &'a Disk,
     pub puts: &'a [Put],
     /// The blocks of the puts whose instants have come; those that are written are delivered.
-    pub pending: Wanted,
+    pub pending: Pending,
     /// How many puts these are.
     pub admitted: usize,
     /// The instant up to which puts were admitted, in ns.
@@ -57,7 +58,7 @@ impl<'a> Spilling<'a> {
             alloc,
             disk,
             puts,
-            pending: Wanted::new(alloc),
+            pending: Pending::new(alloc),
             admitted: 0,
             instant: 0,
             items: SpillItems::new(alloc),
@@ -150,7 +151,7 @@ impl<'a> Spilling<'a> {
         ensures items { OnOk result (self.new.items ≡ self.old.items ++ spill_rows self.old.disk.now row.now (wanted_of self.old.pending) spill) }
     {
         let stay = stay_of(self.disk, &row.gap, spill);
-        let found = caught(self.alloc, self.disk, &self.pending, stay)?;
+        let found = self.pending.caught(self.alloc, self.disk, stay)?;
         self.add_stay(SpillRow {
             name: row.name,
             track: stay.track,
@@ -160,6 +161,7 @@ impl<'a> Spilling<'a> {
         for catch in &found {
             self.write_block(*catch)?;
         }
+        self.pending.refresh(self.disk, stay.track.cylinder);
         Ok(())
     }
 
@@ -221,7 +223,7 @@ fn wrote_row(catch: Catch) -> WroteRow
 
 // Registers the blocks of the put with this number, wanted.
 fn register_blocks(
-    pending: &mut Wanted,
+    pending: &mut Pending,
     sectors: &SectorMap,
     number: u32,
     put: Put,
@@ -239,7 +241,7 @@ fn register_blocks(
     let mut index = 0;
     while left > 0 {
         let cut = sectors.next_cut(&mut span, lbn, left, BLOCK);
-        pending.register(block_of(number, index, cut), false)?;
+        pending.register(block_of(number, index, cut))?;
         index += 1;
         lbn += cut.count as u64;
         left -= cut.count as u64;

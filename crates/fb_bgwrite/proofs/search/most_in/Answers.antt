@@ -1,7 +1,14 @@
 use Rattle.std.proofs.Common.{arith, subst}
 use Rattle.fb_geometry.specs.Sound.{IsSound, HasOwnPlaces}
 use Rattle.fb_bgwrite.proofs.Depths.{there_is_time, value_by_weight, value_in_time}
+use Rattle.fb_bgwrite.proofs.Lengths.{none_there, too_long_in}
 use Rattle.fb_bgwrite.proofs.search.most_in.Goals as goal
+
+pub returns-then-shortest-gt-LONGEST : goal.returns-then-shortest-gt-LONGEST
+returns-then-shortest-gt-LONGEST c = λ spill low high is.
+    let shortest = c.shortest_in-shortest in
+    let blocks = c.requires.blocks in
+    omega (arith, none_there c.args.disk.now c.args.gap.now c.args.pending.now spill blocks.light shortest.result c.args.from c.args.end shortest.ensures.each low high blocks.on_disk (omega (arith, c.if-shortest-gt-LONGEST.true)))
 
 pub returns-then-gap-back : goal.returns-then-gap-back
 returns-then-gap-back c = λ spill low high is.
@@ -9,6 +16,22 @@ returns-then-gap-back c = λ spill low high is.
     let late = there_is_time c.args.disk.now c.args.gap.now c.args.pending.now c.requires.blocks (subst IsSound c.geometry.ensures c.sound.ensures) (subst HasOwnPlaces c.geometry-2.ensures c.own_places.ensures)
     c.args.from c.args.end moves.result moves.ensures.least spill low high is in
     absurd (omega (arith, late))
+
+pub returns-then-passing-shortest : goal.returns-then-passing-shortest
+returns-then-passing-shortest c = λ spill low high is.
+    let moves = c.least_moves-moves in
+    let shortest = c.shortest_in-shortest in
+    let passing = c.most_in_time-passing in
+    let blocks = c.requires.blocks in
+    let time = value_in_time c.args.disk.now c.args.gap.now c.args.pending.now blocks (subst IsSound c.geometry.ensures c.sound.ensures) (subst HasOwnPlaces c.geometry-2.ensures c.own_places.ensures)
+    c.args.from c.args.end moves.result moves.ensures.least spill low high is passing.result (passing.ensures spill.track.cylinder low high) in
+    omega (arith, too_long_in c.args.disk.now c.args.gap.now c.args.pending.now spill blocks.light shortest.result c.args.from c.args.end shortest.ensures.each low high passing.result blocks.on_disk time (omega (arith, c.if-passing-shortest.true)))
+
+pub returns-then-end-from-gt-WIDE : goal.returns-then-end-from-gt-WIDE
+returns-then-end-from-gt-WIDE c = λ spill low high is.
+    let moves = c.least_moves-moves in
+    value_in_time c.args.disk.now c.args.gap.now c.args.pending.now c.requires.blocks (subst IsSound c.geometry.ensures c.sound.ensures) (subst HasOwnPlaces c.geometry-2.ensures c.own_places.ensures)
+    c.args.from c.args.end moves.result moves.ensures.least spill low high is c.most_in_time-passing.result (c.most_in_time-passing.ensures spill.track.cylinder low high)
 
 pub returns : goal.returns
 returns c = λ spill low high is.
@@ -18,6 +41,6 @@ returns c = λ spill low high is.
     let entries = c.args.pending.now in
     let sound = subst IsSound c.geometry.ensures c.sound.ensures in
     let own = subst HasOwnPlaces c.geometry-2.ensures c.own_places.ensures in
-    let weight = value_by_weight disk gap entries c.requires.blocks sound own c.args.from c.args.end moves.result moves.ensures.least spill low high is c.greatest_weight_in-weight.result (c.greatest_weight_in-weight.ensures.each spill.track low high) in
-    let time = value_in_time disk gap entries c.requires.blocks sound own c.args.from c.args.end moves.result moves.ensures.least spill low high is c.most_in_time.result (c.most_in_time.ensures spill.track.cylinder low high) in
+    let weight = value_by_weight disk gap entries c.requires.blocks sound own c.args.from c.args.end moves.result moves.ensures.least spill low high is c.greatest_weight_in.result (c.greatest_weight_in.ensures.each spill.track low high) in
+    let time = value_in_time disk gap entries c.requires.blocks sound own c.args.from c.args.end moves.result moves.ensures.least spill low high is c.most_in_time-passing.result (c.most_in_time-passing.ensures spill.track.cylinder low high) in
     omega (arith, weight, time, c.min.ensures)

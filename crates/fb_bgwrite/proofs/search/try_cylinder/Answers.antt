@@ -1,4 +1,5 @@
-use Rattle.std.proofs.Common.{arith, ap}
+use Rattle.std.proofs.Common.{arith, ap, sym, subst}
+use Rattle.fb_bgwrite.specs.Choosing.{BeatsRange}
 use Rattle.fb_geometry.specs.Shape.{Shape}
 use Rattle.fb_wanted.specs.States.{wanted_of}
 use Rattle.fb_bgwrite.proofs.Choices.{cylinder_done, heads_more, kept_on}
@@ -13,9 +14,14 @@ loop-head-preserved c =
     record {
       valued = next.ensures.valued;
       keeps = kept_on disk gap pending c.args.start c.loop-head.best next.result c.loop-head.invariant.keeps next.ensures.keeps;
-      tried = heads_more disk gap pending c.loop-head.best next.result c.args.cylinder c.loop-head.head next.ensures.keeps next.ensures.tried c.loop-head.invariant.tried;
+      tried = heads_more disk gap pending c.loop-head.best next.result c.args.part.from c.loop-head.head next.ensures.keeps next.ensures.tried c.loop-head.invariant.tried;
     }
 
 pub returns-clause-tried : goal.returns-clause-tried
-returns-clause-tried c = cylinder_done c.args.disk.now c.args.gap.now (wanted_of c.args.pending.now) c.loop-head.best c.args.cylinder c.loop-head.head
-    (omega (arith, c.loop-head-test.false, c.heads-head-end.ensures.value, ap (λ (d : Shape). d.heads) c.geometry.ensures)) c.loop-head.invariant.tried
+returns-clause-tried c =
+    let disk = c.args.disk.now in
+    let gap = c.args.gap.now in
+    let pending = wanted_of c.args.pending.now in
+    subst (BeatsRange disk gap pending c.loop-head.best c.args.part.from) (sym c.requires.one)
+    (cylinder_done disk gap pending c.loop-head.best c.args.part.from c.loop-head.head
+    (omega (arith, c.loop-head-test.false, c.heads-head-end.ensures.value, ap (λ (d : Shape). d.heads) c.geometry.ensures)) c.loop-head.invariant.tried)

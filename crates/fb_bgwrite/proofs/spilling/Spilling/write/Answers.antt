@@ -7,7 +7,7 @@ use Rattle.fb_plan.specs.declared.catching.Catch.{Catch}
 use Rattle.fb_plan.specs.Order.{caught_of}
 use Rattle.fb_bgwrite.specs.declared.items.SpillItem.TheVariants.{Spill as SpillLine}
 use Rattle.fb_bgwrite.specs.Steps.{spill_row}
-use Rattle.fb_bgwrite.proofs.Admitting.{are_pending}
+use Rattle.fb_bgwrite.proofs.Admitting.{are_pending, puts_kept}
 use Rattle.fb_bgwrite.proofs.Catching.{to_write, wrote_rows}
 use Rattle.fb_bgwrite.proofs.spilling.Spilling.write.Goals as goal
 
@@ -28,3 +28,8 @@ write_block-requires-clause-pending c =
     let begin : old.instant ≤ stay.result.begin = omega (arith, c.requires.come, ap (λ (d : Dwell). d.begin) stay.ensures.stay) in
     to_write old l.self stay.result (spill_row old.disk.now row c.args.spill) l.catch-index catch c.requires.spilling c.requires.puts begin l.invariant.kept l.invariant.admitted at
     (l.invariant.items ∙ ap (λ xs. old.items ++ SpillLine (spill_row old.disk.now row c.args.spill) ∷ wrote_rows (take l.catch-index xs)) are)
+
+pub refresh-requires : goal.refresh-requires
+refresh-requires c =
+    let l = c.loop-catch in
+    record { blocks = (are_pending l.self l.invariant.spilling (puts_kept c.args.self.now l.self l.invariant.kept c.requires.puts)).on_disk }

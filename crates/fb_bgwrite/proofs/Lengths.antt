@@ -1,0 +1,149 @@
+-- A block that is caught has no more sectors than all that are caught; so where each is longer than that, nothing is.
+use Rattle.std.proofs.Common.{◌≡◌, ℕ, zero, suc, ◌*◌, ◌<◌, ◌≤◌, ◌⊎◌, List, [], ◌∷◌, true, ◌==◌, Some, slice_get, get_or, inl, inr, refl, sym, ap, ◌∙◌, subst, arith}
+use Rattle.std.specs.List.{AllByRecursion, sum_by}
+use Rattle.std.proofs.lemmas.Bool.{cases_Bool, true≢false}
+use Rattle.std.proofs.lemmas.Bool.Decides.{nat_tests}
+use Rattle.std.proofs.lemmas.List.Sums.{sum_by-cons}
+use Rattle.fb_units.specs.declared.types.Track.{Track}
+use Rattle.fb_units.specs.Tracks.{same_track}
+use Rattle.fb_geometry.specs.Shape.{IsTrackOf}
+use Rattle.fb_geometry.specs.Sound.{IsSound}
+use Rattle.fb_service.specs.declared.disk.Disk.{Disk}
+use Rattle.fb_wanted.specs.declared.block.Change.TheVariants.{Deliver}
+use Rattle.fb_wanted.specs.declared.block.Entry.{Entry}
+use Rattle.fb_wanted.specs.States.{after, entry_after, is_wanted, on_track, wanted_of}
+use Rattle.fb_rows.specs.declared.gap.Dwell.{Dwell}
+use Rattle.fb_rows.specs.declared.gap.Gap.{Gap}
+use Rattle.fb_plan.specs.Ways.{AreOnDisk}
+use Rattle.fb_detour.specs.Bounds.{stay_gain}
+use Rattle.fb_detour.proofs.Ceilings.{stay-of}
+use Rattle.fb_bgwrite.specs.declared.choice.Spill.{Spill}
+use Rattle.fb_bgwrite.specs.Choosing.{passes}
+use Rattle.fb_bgwrite.specs.Shortest.{AreAtLeast, IsAtLeast, IsNoShorter}
+use Rattle.fb_bgwrite.specs.Spilling.{stay_of, value}
+use Rattle.fb_bgwrite.proofs.Lists.{all_of, at_all, some_one}
+use Rattle.fb_bgwrite.proofs.Values.{value_caught, value_stay, AreLight}
+use Rattle.fb_bgwrite.proofs.Amended.{track_on_disk}
+use Rattle.fb_bgwrite.proofs.Choices.{light_on}
+
+-- one of the blocks is caught
+pub record HasCaught (disk : Disk) (dwell : Dwell) (entries : List Entry) : Type 0 where
+  pub index : ℕ
+  pub entry : Entry
+  pub stands : slice_get entries index ≡ Some entry
+  pub passing : passes disk dwell entry ≡ true
+  pub few : entry.block.count ≤ sum_by (stay_gain disk dwell) entries
+
+pub some_caught : (disk : Disk) (dwell : Dwell) (es : List Entry) → AreLight es → (sum_by (stay_gain disk dwell) es ≡ 0) ⊎ HasCaught disk dwell es
+some_caught disk dwell [] light = inl refl
+some_caught disk dwell (e ∷ es) light = elim (cases_Bool (passes disk dwell e)) [
+  | inl caught ↦
+      let one : stay_gain disk dwell e ≡ e.block.weight * e.block.count = rw caught refl in
+      let counts : e.block.weight * e.block.count ≡ 1 * e.block.count = ap (λ n. n * e.block.count) light.0 in
+      inr (record { index = 0; entry = e; stands = refl; passing = caught; few = omega (arith, sum_by-cons (stay_gain disk dwell) e es, one, counts) })
+  | inr missed ↦
+      let one : stay_gain disk dwell e ≡ 0 = rw missed refl in
+      let sum = sum_by-cons (stay_gain disk dwell) e es in
+      elim (some_caught disk dwell es light.1) [
+        | inl none ↦ inl (omega (arith, sum, one, none))
+        | inr is ↦ inr (record { index = suc is.index; entry = is.entry; stands = is.stands; passing = is.passing; few = omega (arith, is.few, sum) })
+      ]
+]
+
+pub passing_wanted : (disk : Disk) (dwell : Dwell) (e : Entry) → passes disk dwell e ≡ true → is_wanted e.state ≡ true
+passing_wanted disk dwell e passing = grind (arith, nat_tests)
+
+still_wanted : (put index : ℕ) (e : Entry) → is_wanted (entry_after put (Deliver index) e).state ≡ true → is_wanted e.state ≡ true
+still_wanted put index e wanted = elim (cases_Bool (e.block.task == put)) [
+  | inl own ↦ elim (cases_Bool (e.block.index == index)) [
+    | inl this ↦ absurd (true≢false (sym wanted ∙ rw (own, this) refl))
+    | inr other ↦ rw (own, other) at wanted
+  ]
+  | inr other ↦ rw other at wanted
+]
+
+passing_here : (disk : Disk) (dwell : Dwell) (e : Entry) → passes disk dwell e ≡ true → e.block.track.cylinder ≡ dwell.track.cylinder
+passing_here disk dwell e passing = grind (arith, nat_tests)
+
+module _ (disk : Disk) (gap : Gap) (entries : List Entry) (spill : Spill) (light : AreLight entries) (least : ℕ) where
+  -- no pending block of the track is short enough
+  pub too_long_on : (blocks : List Entry) (most : ℕ) → blocks ≡ on_track spill.track entries → ((i : ℕ) (e : Entry) → slice_get blocks i ≡ Some e → is_wanted e.state ≡ true → least ≤ e.block.count)
+      → value disk gap (wanted_of entries) spill ≤ most → most < least → value disk gap (wanted_of entries) spill ≡ 0
+  too_long_on blocks most its each few less =
+      let dwell = stay_of disk gap spill in
+      let sum = stay-of disk dwell entries blocks (sum_by (stay_gain disk dwell) blocks) its refl in
+      let is_value = value_stay disk gap entries spill light in
+      elim (some_caught disk dwell blocks (subst AreLight (sym its) (light_on spill.track entries light))) [
+        | inl none ↦ omega (arith, sum, none, is_value)
+        | inr is ↦ absurd (omega (arith, each is.index is.entry is.stands (passing_wanted disk dwell is.entry is.passing), is.few, sum, is_value, few, less))
+      ]
+
+  module _ (from end : ℕ) (long : AreAtLeast from end least entries) (low : from ≤ spill.track.cylinder) (high : spill.track.cylinder < end) where
+    none_or_long : AreOnDisk disk entries → (value disk gap (wanted_of entries) spill ≡ 0) ⊎ ((least ≤ value disk gap (wanted_of entries) spill) × (least ≤ 2048))
+    none_or_long on_disk =
+        let dwell = stay_of disk gap spill in
+        let is_value = value_caught disk gap entries spill light in
+        elim (some_caught disk dwell entries light) [
+          | inl none ↦ inl (omega (arith, is_value, none))
+          | inr is ↦
+              let here = passing_here disk dwell is.entry is.passing in
+              let longer = at_all (IsAtLeast from end least) entries is.index is.entry long is.stands (passing_wanted disk dwell is.entry is.passing) (omega (arith, low, here)) (omega (arith, high, here)) in
+              inr (omega (arith, longer, is.few, is_value), omega (arith, longer, (on_disk is.index is.entry is.stands).few))
+        ]
+
+    -- nor one of the range
+    pub too_long_in : (most : ℕ) → AreOnDisk disk entries → value disk gap (wanted_of entries) spill ≤ most → most < least → value disk gap (wanted_of entries) spill ≡ 0
+    too_long_in most on_disk few less = elim (none_or_long on_disk) [ inl none ↦ none | inr long ↦ absurd (omega (arith, long.0, few, less)) ]
+
+    -- there is none
+    pub none_there : AreOnDisk disk entries → 2048 < least → value disk gap (wanted_of entries) spill ≡ 0
+    none_there on_disk more = elim (none_or_long on_disk) [ inl none ↦ none | inr long ↦ absurd (omega (arith, long.1, more)) ]
+
+-- ---- the bounds of cylinders
+
+-- bounds that are no greater hold too
+pub no_greater : (old new : List ℕ) → ((c : ℕ) → get_or new c 2049 ≤ get_or old c 2049) → (es : List Entry) → AllByRecursion (IsNoShorter old) es → AllByRecursion (IsNoShorter new) es
+no_greater old new le [] all = tt
+no_greater old new le (e ∷ es) all = (λ wanted. omega (arith, all.0 wanted, le e.block.track.cylinder), no_greater old new le es all.1)
+
+-- what was delivered needs no bound
+pub delivered_too : (bounds : List ℕ) (put index : ℕ) (es : List Entry) → AllByRecursion (IsNoShorter bounds) es → AllByRecursion (IsNoShorter bounds) (after put (Deliver index) es)
+delivered_too bounds put index [] all = tt
+delivered_too bounds put index (e ∷ es) all = (λ wanted. all.0 (still_wanted put index e wanted), delivered_too bounds put index es all.1)
+
+-- the bound of a cylinder is replaced by another that holds
+pub renewed : (old new : List ℕ) (cylinder least : ℕ) → ((c : ℕ) → ((c ≡ cylinder) × (get_or new c 2049 ≡ least)) ⊎ (get_or new c 2049 ≡ get_or old c 2049)) → (es : List Entry) → AllByRecursion (IsNoShorter old) es
+    → AllByRecursion (λ (e : Entry). is_wanted e.state ≡ true → e.block.track.cylinder ≡ cylinder → least ≤ e.block.count) es → AllByRecursion (IsNoShorter new) es
+renewed old new cylinder least is [] all own = tt
+renewed old new cylinder least is (e ∷ es) all own = (
+  λ wanted. elim (is e.block.track.cylinder) [
+    | inl here ↦ omega (arith, here.1, own.0 wanted here.0)
+    | inr other ↦ omega (arith, other, all.0 wanted)
+  ],
+  renewed old new cylinder least is es all.1 own.1,
+)
+
+-- the least bound of a range is one for each block there
+pub least_of_range : (bounds : List ℕ) (from end least : ℕ) → ((c : ℕ) → from ≤ c → c < end → least ≤ get_or bounds c 2049) → (es : List Entry) → AllByRecursion (IsNoShorter bounds) es → AreAtLeast from end least es
+least_of_range bounds from end least each [] all = tt
+least_of_range bounds from end least each (e ∷ es) all = (λ wanted low high. omega (arith, all.0 wanted, each e.block.track.cylinder low high), least_of_range bounds from end least each es all.1)
+
+-- a block is one of its track
+stands_on : (es : List Entry) (k : ℕ) (e : Entry) → slice_get es k ≡ Some e → (i : ℕ) × (slice_get (on_track e.block.track es) i ≡ Some e)
+stands_on [] k e at = absurd (grind arith)
+stands_on (x ∷ xs) zero e at = subst (λ y. (i : ℕ) × (slice_get (on_track y.block.track (x ∷ xs)) i ≡ Some y)) (some_one x e at) (let own : same_track x.block.track x.block.track ≡ true = grind (arith, nat_tests) in (0, rw own refl))
+stands_on (x ∷ xs) (suc k) e at =
+    let rest = stands_on xs k e at in
+    elim (cases_Bool (same_track e.block.track x.block.track)) [
+      | inl here ↦ (suc rest.0, rw here rest.1)
+      | inr other ↦ (rest.0, rw other rest.1)
+    ]
+
+-- what holds of the blocks on each track of a cylinder holds of all its blocks
+pub all_of_cylinder : (disk : Disk) → IsSound disk.map → (cylinder heads least : ℕ) (es : List Entry) → AreOnDisk disk es → disk.map.heads ≤ heads
+    → ((head i : ℕ) (e : Entry) → head < heads → slice_get (on_track (record { cylinder = cylinder; head = head }) es) i ≡ Some e → is_wanted e.state ≡ true → least ≤ e.block.count)
+    → AllByRecursion (λ (e : Entry). is_wanted e.state ≡ true → e.block.track.cylinder ≡ cylinder → least ≤ e.block.count) es
+all_of_cylinder disk sound cylinder heads least es on_disk all each = all_of (λ (e : Entry). is_wanted e.state ≡ true → e.block.track.cylinder ≡ cylinder → least ≤ e.block.count) es (λ k e at wanted here.
+    let on = stands_on es k e at in
+    let head = (subst (IsTrackOf disk.map) (sym (on_disk k e at).track) (track_on_disk disk sound e.block.lbn)).head in
+    each e.block.track.head on.0 e (omega (arith, head, all)) (subst (λ c. slice_get (on_track (let t : Track = record { cylinder = c; head = e.block.track.head } in t) es) on.0 ≡ Some e) here on.1) wanted)

@@ -1,0 +1,6 @@
+use Rattle.std.proofs.Common.{sym, subst}
+use Rattle.fb_plan.specs.Ways.{AreOnDisk}
+use Rattle.fb_bgwrite.proofs.pending.Pending.caught.Goals as goal
+
+pub caught-requires-clause-blocks : goal.caught-requires-clause-blocks
+caught-requires-clause-blocks c = subst (AreOnDisk c.args.disk.now) (sym c.self.view_is) c.requires.blocks

@@ -1,0 +1,30 @@
+use Rattle.std.proofs.Common.{◌≡◌, ◌∙◌, Some, slice_get, inl, inr, ap, sym, subst, arith}
+use Rattle.std.proofs.lemmas.Bool.{cases_lt}
+use Rattle.fb_units.specs.declared.types.Track.{Track}
+use Rattle.fb_geometry.specs.Shape.{Shape}
+use Rattle.fb_geometry.specs.Sound.{IsSound}
+use Rattle.fb_wanted.specs.States.{on_track}
+use Rattle.fb_plan.specs.Ways.{AreOnDisk}
+use Rattle.fb_bgwrite.proofs.Lengths.{all_of_cylinder, renewed}
+use Rattle.fb_bgwrite.proofs.pending.Pending.refresh.Goals as goal
+
+pub loop-head-init : goal.loop-head-init
+loop-head-init c = λ head i e less. absurd (omega (arith, less))
+
+pub loop-head-preserved : goal.loop-head-preserved
+loop-head-preserved c = λ head i e less at wanted. elim (cases_lt head c.loop-head.head) [
+  | inl earlier ↦ omega (arith, c.loop-head.invariant head i e earlier at wanted, c.least_on-least.ensures.start)
+  | inr here ↦
+      let same : head ≡ c.loop-head.head = omega (arith, here, less) in
+      let own = subst (λ h. slice_get (on_track (let t : Track = record { cylinder = c.args.cylinder; head = h } in t) c.self.inside.wanted) i ≡ Some e) same at in
+      c.least_on-least.ensures.each i e (ap (λ xs. slice_get xs i) c.on.ensures ∙ own) wanted
+]
+
+pub invariant_of-self : goal.invariant_of-self
+invariant_of-self c =
+    let old = c.self.inside in
+    let disk = c.args.disk.now in
+    let on_disk = subst (AreOnDisk disk) (sym c.self.view_is) c.requires.blocks in
+    renewed old.shortest c.renew.new.self c.args.cylinder c.loop-head.least c.renew.ensures old.wanted c.self.invariant
+    (all_of_cylinder disk (subst IsSound c.geometry.ensures c.sound.ensures) c.args.cylinder c.loop-head.head c.loop-head.least old.wanted on_disk
+    (omega (arith, c.loop-head-test.false, c.heads-head-end.ensures.value, ap (λ (d : Shape). d.heads) c.geometry-2.ensures)) c.loop-head.invariant)

@@ -1,0 +1,7 @@
+use Rattle.std.proofs.Common.{◌≡◌, ◌<◌, ◌≤◌, ℕ, Some, slice_get, true}
+use Rattle.fb_wanted.specs.declared.block.Entry.{Entry}
+use Rattle.fb_wanted.specs.States.{is_wanted}
+use Rattle.fb_bgwrite.proofs.pending.least_on.Given as goal
+
+abbrev pub invariant-loop-i : goal.invariant-loop-i
+invariant-loop-i l = ((j : ℕ) (entry : Entry) → j < l.i → slice_get l.blocks j ≡ Some entry → is_wanted entry.state ≡ true → l.least ≤ entry.block.count) × (l.least ≤ l.start)

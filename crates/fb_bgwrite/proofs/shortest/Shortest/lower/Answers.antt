@@ -1,0 +1,14 @@
+use Rattle.std.proofs.Common.{◌/◌}
+use Rattle.fb_bgwrite.proofs.Bounds.{both_lowered, either_lowered}
+use Rattle.fb_bgwrite.proofs.shortest.Shortest.lower.Goals as goal
+
+pub invariant_of-self-2 : goal.invariant_of-self-2
+invariant_of-self-2 c =
+    let old = c.self.inside in
+    let band = c.args.cylinder / 64 in
+    let regions = c.lower.new.bounds.items in
+    let bands = c.lower-2.new.bounds.items in
+    let sectors = c.args.sectors in (
+      either_lowered c.lower-3.result old.bands.items bands old.cylinders.items c.lower-3.new.bounds.items c.args.cylinder sectors c.self.invariant.0 c.in_ok-lower-2.ensures.ok c.lower-3.ensures.ok c.lower-3.ensures.err,
+      both_lowered old.regions.items regions old.bands.items bands band sectors c.self.invariant.1 c.in_ok-lower.ensures.ok c.in_ok-lower-2.ensures.ok,
+    )

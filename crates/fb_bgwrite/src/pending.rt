@@ -1,0 +1,166 @@
+// The registered blocks of puts, of which those are pending that are still wanted.
+ghost use Rattle.std.specs.Prelude.{◌≡◌, ◌<◌, ◌≤◌, ℕ, [], ◌∷◌, ◌++◌, length, Some, slice_get, true, IfOk, OnOk, ◌*◌, ◌^◌};
+ghost use Rattle.fb_wanted.specs.declared.block.Entry.{Entry};
+ghost use Rattle.fb_wanted.specs.declared.block.Change.{Change};
+ghost use Rattle.fb_wanted.specs.declared.block.State.TheVariants.{Wanted as StillWanted};
+ghost use Rattle.fb_wanted.specs.States.{after, is_block, is_wanted, on_track, wanted_of};
+ghost use Rattle.fb_wanted.specs.Tracks.{wanted_weight};
+ghost use Rattle.fb_units.specs.declared.types.Track.{Track};
+ghost use Rattle.fb_plan.specs.Order.{caught_of, AreOrdered};
+ghost use Rattle.fb_wanted.specs.Numbering.{blocks_of, registered};
+ghost use Rattle.fb_plan.specs.Ways.{AreOnDisk};
+ghost use Rattle.fb_bgwrite.specs.Shortest.{AreAtLeast};
+ghost use Rattle.fb_bgwrite.specs.Standing.{wanted_entry};
+
+use crate::shortest::{NONE, Shortest};
+use fb_plan::{Catch, blocks_on, caught, is_wanted};
+use fb_rows::Dwell;
+use fb_service::Disk;
+use fb_units::{NoMemory, Track};
+use fb_wanted::{Block, TrackBlocks, Wanted};
+use std::alloc::Global;
+use std::marker::Model;
+
+/// The registered blocks of puts, each with its state, and how short the pending ones of each
+/// cylinder are.
+///
+/// To register or to deliver a block takes constant time; a refresh looks at each block of a
+/// cylinder.
+#[derive(Drop)]
+pub struct Pending {
+    wanted: Wanted,
+    shortest: Shortest,
+}
+
+impl Model for Pending {
+    ghost use Rattle.std.specs.Prelude.{List};
+    ghost use Rattle.std.specs.List.{AllByRecursion};
+    ghost use Rattle.fb_wanted.specs.declared.block.Entry.{Entry};
+    ghost use Rattle.fb_bgwrite.specs.Shortest.{IsNoShorter};
+
+    ghost Value = { List Entry };
+
+    ghost view = { λ p. p.wanted };
+
+    ghost invariant = { λ p. AllByRecursion (IsNoShorter p.shortest) p.wanted };
+}
+
+/// The least number of sectors of the pending ones of these blocks, or this number if it is less.
+pub fn least_on(blocks: &TrackBlocks, start: u32) -> u32
+    ensures start { result ≤ start }
+    ensures each { (i : ℕ) (entry : Entry) → slice_get blocks.now i ≡ Some entry → is_wanted entry.state ≡ true → result ≤ entry.block.count }
+{
+    let mut least = start;
+    for i in 0..blocks.len() {
+        let entry = blocks.get(i);
+        if is_wanted(entry.state) {
+            least = least.min(entry.block.count);
+        }
+    }
+    least
+}
+
+impl Pending {
+    /// No block.
+    pub fn new(alloc: Global) -> Pending
+        ensures { result ≡ [] }
+    {
+        Pending {
+            wanted: Wanted::new(alloc),
+            shortest: Shortest::new(alloc),
+        }
+    }
+
+    /// Registers a block, which is pending. Its number is the next of its put. The only error is
+    /// `NoMemory`.
+    pub fn register(&mut self, block: Block) -> Result<(), NoMemory>
+        requires numbered { block.index ≡ registered block.task (blocks_of self.old) }
+        requires room { length self.old < 16000000 }
+        requires light { block.weight ≤ 1000 }
+        requires short { block.count ≤ 2048 }
+        ensures ok { OnOk result (self.new ≡ self.old ++ wanted_entry block ∷ []) }
+    {
+        self.shortest.lower(block.track.cylinder, block.count)?;
+        self.wanted.register(block, false)
+    }
+
+    /// Marks a pending block as written, by its put and its number there.
+    pub fn deliver(&mut self, put: u32, index: u32)
+        requires { (e : Entry) × (i : ℕ) × (slice_get self.old i ≡ Some e) × (is_block put index e ≡ true) × (e.state ≡ StillWanted) }
+        ensures { self.new ≡ after put (Change.Deliver index) self.old }
+    {
+        self.wanted.deliver(put, index);
+    }
+
+    /// Looks at all blocks of a cylinder, so that those that were written no longer count when it is
+    /// asked how short they are.
+    pub fn refresh(&mut self, disk: &Disk, cylinder: u32)
+        requires blocks { AreOnDisk disk.now self.old }
+        ensures { self.new ≡ self.old }
+    {
+        disk.map.geometry().sound();
+        let mut least = NONE;
+        for head in 0..disk.map.geometry().heads() {
+            least = least_on(&self.wanted.on(Track { cylinder, head }), least);
+        }
+        self.shortest.renew(cylinder, least);
+    }
+
+    /// The pending blocks that pass whole during a dwell, in the order in which they have passed.
+    ///
+    /// The only error is out of memory.
+    pub fn caught(&self, alloc: Global, disk: &Disk, dwell: Dwell) -> Result<Vec<Catch>, NoMemory>
+        requires blocks { AreOnDisk disk.now self.now }
+        requires early { dwell.begin ≤ 9 * 10 ^ 18 }
+        ensures all { IfOk result (λ found. found.items ≡ caught_of disk.now dwell (wanted_of self.now)) }
+        ensures ordered { IfOk result (λ found. AreOrdered found.items) }
+    {
+        caught(alloc, disk, &self.wanted, dwell)
+    }
+
+    /// The registered blocks of a track.
+    pub fn on(&self, disk: &Disk, track: Track) -> TrackBlocks<'_>
+        requires blocks { AreOnDisk disk.now self.now }
+        ensures its { result ≡ on_track track self.now }
+        ensures on_disk { AreOnDisk disk.now result }
+    {
+        blocks_on(disk, &self.wanted, track)
+    }
+
+    /// An upper bound on the sectors of the pending blocks of each track of these cylinders.
+    pub fn greatest_weight_in(&self, from: u32, end: u32) -> u64
+        requires some { from < end }
+        ensures each { (track : Track) → from ≤ track.cylinder → track.cylinder < end → wanted_weight track self.now ≤ result }
+    {
+        self.wanted.greatest_weight_in(from, end)
+    }
+
+    /// A lower bound on the sectors of each pending block of these cylinders; 2,049 where it is known
+    /// that there is none.
+    pub fn shortest_in(&self, from: u32, end: u32) -> u32
+        requires some { from < end }
+        ensures each { AreAtLeast from end result self.now }
+        ensures most { result ≤ 2049 }
+    {
+        self.shortest.among(from, end)
+    }
+
+    /// The first of these cylinders that may have a pending block; the last one if none may.
+    pub fn first_in(&self, from: u32, end: u32) -> u32
+        requires some { from < end }
+        ensures after { from ≤ result }
+        ensures within { result < end }
+    {
+        self.shortest.first_in(from, end)
+    }
+
+    /// The cylinder behind the last of these that may have a pending block; the second one if none
+    /// may.
+    pub fn end_in(&self, from: u32, end: u32) -> u32
+        requires some { from < end }
+        ensures after { from < result }
+        ensures within { result ≤ end }
+    {
+        self.shortest.end_in(from, end)
+    }
+}

@@ -1,0 +1,188 @@
+// For each cylinder a lower bound on the sectors of its pending blocks.
+ghost use Rattle.std.specs.Prelude.{◌≡◌, ◌⊎◌, ℕ, ◌+◌, ◌<◌, ◌≤◌, ◌==◌, [], min, if◌then◌else◌, get_or, OnOk, OnErr};
+
+use fb_units::NoMemory;
+use std::alloc::Global;
+use std::marker::Model;
+
+/// More sectors than a block has: the bound where no block is pending.
+pub const NONE: u32 = 2_049;
+
+// A band has so many cylinders, and a region so many bands.
+const WIDTH: u32 = 64;
+
+// The bound of each cylinder, and of each band and each region one that is no greater than those of
+// its parts.
+#[derive(Drop)]
+pub struct Shortest {
+    cylinders: Vec<u32>,
+    bands: Vec<u32>,
+    regions: Vec<u32>,
+}
+
+impl Model for Shortest {
+    ghost use Rattle.std.specs.Prelude.{List, ℕ};
+    ghost use Rattle.fb_bgwrite.specs.Shortest.{IsUnder};
+
+    ghost Value = { List ℕ };
+
+    ghost view = { λ s. s.cylinders.items };
+
+    ghost invariant = { λ s. IsUnder s.bands.items s.cylinders.items × IsUnder s.regions.items s.bands.items };
+}
+
+// The least of the bounds with indexes from `from` up to the end; 2,049 if there are none.
+fn least_of(bounds: &[u32], from: usize, end: usize) -> u32
+    ensures each { (i : ℕ) → from ≤ i → i < end → result ≤ get_or bounds.now i 2049 }
+    ensures most { result ≤ 2049 }
+{
+    let mut least = NONE;
+    for i in from..end.min(bounds.len()) {
+        least = least.min(bounds[i]);
+    }
+    least
+}
+
+// The bound with this index.
+fn bound_at(bounds: &[u32], index: u32) -> u32
+    ensures { result ≡ get_or bounds.now index 2049 }
+{
+    match bounds.get(index as usize) {
+        Some(bound) => *bound,
+        None => NONE,
+    }
+}
+
+// Lowers the bound with this index to the number, if it is greater. Out of memory, no bound has
+// changed.
+fn lower(bounds: &mut Vec<u32>, index: u32, sectors: u32) -> Result<(), NoMemory>
+    ensures ok { OnOk result ((k : ℕ) → get_or bounds.new.items k 2049 ≡ (if index == k then min (get_or bounds.old.items k 2049) sectors else get_or bounds.old.items k 2049)) }
+    ensures err { OnErr result ((k : ℕ) → get_or bounds.new.items k 2049 ≡ get_or bounds.old.items k 2049) }
+{
+    let index = index as usize;
+    for _ in bounds.len()..index + 1 {
+        bounds.push(NONE)?;
+    }
+    bounds[index] = bounds[index].min(sectors);
+    Ok(())
+}
+
+impl Shortest {
+    // Without any bound.
+    pub fn new(alloc: Global) -> Shortest
+        ensures { result ≡ [] }
+    {
+        Shortest {
+            cylinders: Vec::new(alloc),
+            bands: Vec::new(alloc),
+            regions: Vec::new(alloc),
+        }
+    }
+
+    // Lowers the bound of a cylinder to the sectors of a block. Out of memory, no bound has changed.
+    pub fn lower(&mut self, cylinder: u32, sectors: u32) -> Result<(), NoMemory>
+        ensures ok { OnOk result ((c : ℕ) → get_or self.new c 2049 ≡ (if cylinder == c then min (get_or self.old c 2049) sectors else get_or self.old c 2049)) }
+        ensures err { OnErr result ((c : ℕ) → get_or self.new c 2049 ≡ get_or self.old c 2049) }
+    {
+        let band = cylinder / WIDTH;
+        lower(&mut self.regions, band / WIDTH, sectors)?;
+        lower(&mut self.bands, band, sectors)?;
+        lower(&mut self.cylinders, cylinder, sectors)?;
+        Ok(())
+    }
+
+    // Makes this number the bound of a cylinder, if it has one so far.
+    pub fn renew(&mut self, cylinder: u32, sectors: u32)
+        ensures { (c : ℕ) → ((c ≡ cylinder) × (get_or self.new c 2049 ≡ sectors)) ⊎ (get_or self.new c 2049 ≡ get_or self.old c 2049) }
+    {
+        let width = WIDTH as usize;
+        let cylinder = cylinder as usize;
+        let band = cylinder / width;
+        let region = band / width;
+        if cylinder >= self.cylinders.len() || band >= self.bands.len() {
+            return;
+        }
+        if region >= self.regions.len() {
+            return;
+        }
+        self.cylinders[cylinder] = sectors;
+        self.bands[band] = least_of(&self.cylinders, band * width, band * width + width);
+        self.regions[region] = least_of(&self.bands, region * width, region * width + width);
+    }
+
+    // A lower bound for the cylinders from `from` up to the end. At most 64 bounds are looked at, or
+    // one for each region.
+    pub fn among(&self, from: u32, end: u32) -> u32
+        requires some { from < end }
+        ensures each { (c : ℕ) → from ≤ c → c < end → result ≤ get_or self.now c 2049 }
+        ensures most { result ≤ 2049 }
+    {
+        let last = end - 1;
+        if last - from < WIDTH {
+            return least_of(&self.cylinders, from as usize, end as usize);
+        }
+        let (first_band, last_band) = (from / WIDTH, last / WIDTH);
+        if last_band - first_band < WIDTH {
+            return least_of(&self.bands, first_band as usize, last_band as usize + 1);
+        }
+        let (first_region, last_region) = (first_band / WIDTH, last_band / WIDTH);
+        least_of(
+            &self.regions,
+            first_region as usize,
+            last_region as usize + 1,
+        )
+    }
+
+    // Of how many cylinders with this one no block is pending: a region, a band, the cylinder alone,
+    // or none.
+    fn empty_around(&self, cylinder: u32) -> u32
+        ensures few { result ≤ 4096 }
+    {
+        let band = cylinder / WIDTH;
+        if bound_at(&self.cylinders, cylinder) < NONE {
+            0
+        } else if bound_at(&self.bands, band) < NONE {
+            1
+        } else if bound_at(&self.regions, band / WIDTH) < NONE {
+            WIDTH
+        } else {
+            WIDTH * WIDTH
+        }
+    }
+
+    // The first cylinder with a bound below 2,049, from `from` up to the end; the last one if there
+    // is none.
+    pub fn first_in(&self, from: u32, end: u32) -> u32
+        requires some { from < end }
+        ensures after { from ≤ result }
+        ensures within { result < end }
+    {
+        let mut next = from;
+        while next < end - 1 {
+            let empty = self.empty_around(next);
+            if empty == 0 {
+                return next;
+            }
+            next += (empty - next % empty).min(end - 1 - next);
+        }
+        next
+    }
+
+    // The cylinder behind the last one with a bound below 2,049, from `from` up to the end; the
+    // second one if there is none.
+    pub fn end_in(&self, from: u32, end: u32) -> u32
+        requires some { from < end }
+        ensures after { from < result }
+        ensures within { result ≤ end }
+    {
+        let mut next = end;
+        while from + 1 < next {
+            let empty = self.empty_around(next - 1);
+            if empty == 0 {
+                return next;
+            }
+            next -= ((next - 1) % empty + 1).min(next - from - 1);
+        }
+        next
+    }
+}
