@@ -10,6 +10,7 @@ use fb_store::{Content, ContentRun, Contents};
 use fb_units::{NoMemory, Track};
 use fb_wanted::Block;
 use std::alloc::Global;
+use std::process::Abort;
 use std::test::Fail;
 
 // The contents of two neighbouring sectors.
@@ -73,19 +74,35 @@ const OLD: Content = Content::Filled(0);
 
 const NEW: Content = Content::Filled(1);
 
+const FIRST_OLD: &[(u64, u64, Content)] = &[(0, 2, OLD)];
+
+const SECOND_OLD: &[(u64, u64, Content)] = &[(2, 2, OLD)];
+
+const ONE_NEW: &[(u64, u64, Content)] = &[(0, 1, NEW), (1, 3, OLD)];
+
+fn check_runs(
+    rt: &impl Abort,
+    alloc: Global,
+    image: &Image,
+    expected: &[(u64, u64, Content)],
+) -> Result<(), Fail> {
+    let runs = runs(alloc, image)?;
+    assert_eq!(rt; runs.as_slice(), expected);
+    Ok(())
+}
+
 #[test]
 fn holds_what_was_delivered_last(rt: HostRuntime) -> Result<(), Fail> {
-    let alloc = rt.alloc();
-    let mut image = Image::new(alloc);
-    take(alloc, &mut image, 0, OLD, OLD)?;
-    assert_eq!(rt; runs(alloc, &image)?.as_slice(), [(0, 2, OLD)].as_slice());
+    let mut image = Image::new(rt.alloc());
+    check_image(&rt, rt.alloc(), &mut image)
+}
+
+fn check_image(rt: &impl Abort, alloc: Global, image: &mut Image) -> Result<(), Fail> {
+    take(alloc, image, 0, OLD, OLD)?;
+    check_runs(rt, alloc, image, FIRST_OLD)?;
     image.drop_range(0, 2)?;
-    take(alloc, &mut image, 2, OLD, OLD)?;
-    assert_eq!(rt; runs(alloc, &image)?.as_slice(), [(2, 2, OLD)].as_slice());
-    take(alloc, &mut image, 0, NEW, OLD)?;
-    assert_eq!(rt;
-        runs(alloc, &image)?.as_slice(),
-        [(0, 1, NEW), (1, 3, OLD)].as_slice()
-    );
-    Ok(())
+    take(alloc, image, 2, OLD, OLD)?;
+    check_runs(rt, alloc, image, SECOND_OLD)?;
+    take(alloc, image, 0, NEW, OLD)?;
+    check_runs(rt, alloc, image, ONE_NEW)
 }

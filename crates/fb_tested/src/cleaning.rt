@@ -1,6 +1,6 @@
 // A choice worked out by hand: the first segment has four blocks, two of them live, and age 10; the
 // second has four blocks, one of them live, and age 9.
-ghost use Rattle.std.specs.Prelude.{◌≡◌, ◌≢◌, ◌≤◌, ◌+◌, ◌^◌, ℕ, None, length, IfOk};
+ghost use Rattle.std.specs.Prelude.{◌≡◌, ◌≢◌, ◌≤◌, ◌+◌, ◌^◌, ℕ, None, length, IfOk, []};
 ghost use Rattle.std.specs.List.{AllByRecursion};
 ghost use Rattle.fb_store.specs.declared.content.Content.TheVariants.{Filled};
 ghost use Rattle.fb_store.specs.Sparse.{Gives};
@@ -11,6 +11,7 @@ use fb_store::{Content, ContentRun, Contents};
 use fb_units::{NoMemory, Track};
 use fb_wanted::Block;
 use std::alloc::Global;
+use std::process::Abort;
 use std::test::Fail;
 
 const FIRST: [bool; 4] = [true, false, true, false];
@@ -96,24 +97,59 @@ fn runs(alloc: Global, contents: &Contents) -> Result<Vec<(u64, u64)>, NoMemory>
     Ok(runs)
 }
 
+// The blocks that are taken for a segment, its number, and the runs of the packed contents.
+struct Cleaned {
+    blocks: &'static [u32],
+    number: u32,
+    packed: &'static [(u64, u64)],
+}
+
+const CLEANED: &[Cleaned] = &[
+    Cleaned {
+        blocks: &[5],
+        number: 2,
+        packed: &[(5, 1)],
+    },
+    Cleaned {
+        blocks: &[2, 0],
+        number: 1,
+        packed: &[(0, 1), (2, 1)],
+    },
+];
+
+// Cleans the segment that is chosen next, and checks what is packed.
+fn check_next(
+    rt: &impl Abort,
+    alloc: Global,
+    segments: &mut Segments,
+    cleaned: &Cleaned,
+) -> Result<(), Fail> {
+    match clean_next(alloc, segments, cleaned.blocks)? {
+        Some((number, contents)) => {
+            assert_eq!(rt; number, cleaned.number);
+            assert_eq!(rt; runs(alloc, &contents)?.as_slice(), cleaned.packed);
+        }
+        None => assert!(rt; false, "a segment is left"),
+    }
+    Ok(())
+}
+
 #[test]
 fn cleans_the_second_segment_first(rt: HostRuntime) -> Result<(), Fail> {
-    let alloc = rt.alloc();
-    let mut segments = Segments::new(alloc, 1);
+    let mut segments = Segments::new(rt.alloc(), 1);
+    check_cleaning(&rt, rt.alloc(), &mut segments)
+}
+
+// Adds both segments, and checks how they are cleaned.
+fn check_cleaning(rt: &impl Abort, alloc: Global, segments: &mut Segments) -> Result<(), Fail>
+    requires block { segments.old.block ≡ 1 }
+    requires none { segments.old.segments ≡ [] }
+{
     segments.add(0, 4, 10, &live(alloc, FIRST)?)?;
     segments.add(4, 4, 9, &live(alloc, SECOND)?)?;
     assert_eq!(rt; segments.live_count(1), 2);
-    for (blocks, number, packed) in [
-        ([5].as_slice(), 2, [(5, 1)].as_slice()),
-        (&[2, 0], 1, &[(0, 1), (2, 1)]),
-    ] {
-        match clean_next(alloc, &mut segments, blocks)? {
-            Some((chosen, contents)) => {
-                assert_eq!(rt; chosen, number);
-                assert_eq!(rt; runs(alloc, &contents)?.as_slice(), packed);
-            }
-            None => assert!(rt; false),
-        }
+    for cleaned in CLEANED {
+        check_next(rt, alloc, segments, cleaned)?;
     }
     assert!(rt; segments.choose().is_none());
     Ok(())
@@ -121,8 +157,14 @@ fn cleans_the_second_segment_first(rt: HostRuntime) -> Result<(), Fail> {
 
 #[test]
 fn drops_what_is_not_chosen(rt: HostRuntime) -> Result<(), Fail> {
-    let alloc = rt.alloc();
-    let mut segments = Segments::new(alloc, 1);
+    let mut segments = Segments::new(rt.alloc(), 1);
+    check_drop(&rt, rt.alloc(), &mut segments)
+}
+
+fn check_drop(rt: &impl Abort, alloc: Global, segments: &mut Segments) -> Result<(), Fail>
+    requires block { segments.old.block ≡ 1 }
+    requires none { segments.old.segments ≡ [] }
+{
     segments.add(0, 4, 10, &live(alloc, FIRST)?)?;
     segments.drop_rest();
     assert!(rt; segments.choose().is_none());

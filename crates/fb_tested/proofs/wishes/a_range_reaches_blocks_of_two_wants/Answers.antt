@@ -1,5 +1,0 @@
-use Rattle.std.proofs.Common.{refl}
-use Rattle.fb_tested.proofs.wishes.a_range_reaches_blocks_of_two_wants.Goals as goal
-
-pub deliver-requires : goal.deliver-requires
-deliver-requires g c = rw (c.abort.ensures.states, c.in_ok-register-3.ensures.ok, c.in_ok-register-2.ensures.ok, c.in_ok-register.ensures.ok, c.new-wanted.ensures) (_, 1, refl, refl, refl)
