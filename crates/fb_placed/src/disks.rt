@@ -19,6 +19,15 @@ pub const ZONE: Zone = Zone {
     cylinder_spares: 0,
 };
 
+/// The fourth slot of the first track.
+pub const BAD: &[Place] = &[Place {
+    track: Track {
+        cylinder: 0,
+        head: 0,
+    },
+    slot: 3,
+}];
+
 /// The track of a cylinder and a head, both counted from 0.
 pub fn track(cylinder: u32, head: u32) -> Track {
     Track { cylinder, head }

@@ -1,11 +1,22 @@
 // Sectors worked out by hand, for small disks of four cylinders with two heads and twelve slots a
 // track.
-use crate::disks::{ZONE, per_cylinder, place, track};
+use crate::disks::{BAD, ZONE, per_cylinder, place};
 use fb_geometry::Zone;
 use fb_sectormap::{Cut, SectorMap};
 use fb_units::{NoMemory, Place, Track};
 use std::alloc::Global;
+use std::process::Abort;
 use std::test::Fail;
+
+const UPPER: Track = Track {
+    cylinder: 0,
+    head: 0,
+};
+
+const LOWER: Track = Track {
+    cylinder: 0,
+    head: 1,
+};
 
 // The disk with two spares at the end of each cylinder.
 fn disk(alloc: Global, defects: &[Place], grown: &[Place]) -> Result<SectorMap, Fail> {
@@ -41,27 +52,99 @@ fn neighbours(map: &SectorMap, lbn: u64) -> u32 {
     map.stretch(lbn).count
 }
 
+const MOVED: &[Place] = &[Place {
+    track: LOWER,
+    slot: 4,
+}];
+
+// A sector, the head and the slot of the first cylinder where it is, and how many sectors from this
+// one on are in neighbouring slots.
+struct Found {
+    lbn: u64,
+    head: u32,
+    slot: u32,
+    count: u32,
+}
+
+const BEHIND_BAD: &[Found] = &[
+    Found {
+        lbn: 3,
+        head: 0,
+        slot: 4,
+        count: 8,
+    },
+    Found {
+        lbn: 10,
+        head: 0,
+        slot: 11,
+        count: 1,
+    },
+    Found {
+        lbn: 11,
+        head: 1,
+        slot: 0,
+        count: 11,
+    },
+];
+
+const ROUND_MOVED: &[Found] = &[
+    Found {
+        lbn: 15,
+        head: 1,
+        slot: 3,
+        count: 1,
+    },
+    Found {
+        lbn: 16,
+        head: 1,
+        slot: 10,
+        count: 1,
+    },
+    Found {
+        lbn: 17,
+        head: 1,
+        slot: 5,
+        count: 5,
+    },
+];
+
+const UNMOVED: &[Found] = &[Found {
+    lbn: 15,
+    head: 1,
+    slot: 3,
+    count: 7,
+}];
+
+// Checks where a sector is.
+fn check_at(rt: &impl Abort, map: &SectorMap, lbn: u64, at: Place, count: u32) {
+    assert_eq!(rt; place_of(map, lbn), Some(at));
+    assert_eq!(rt; place_in_run(map, lbn), Some(at));
+    assert_eq!(rt; neighbours(map, lbn), count);
+}
+
+// Checks where these sectors of a disk are.
+fn check_found(
+    rt: &impl Abort,
+    alloc: Global,
+    defects: &[Place],
+    grown: &[Place],
+    found: &[Found],
+) -> Result<(), Fail> {
+    let map = disk(alloc, defects, grown)?;
+    assert_eq!(rt; map.count(), 88);
+    for sector in found {
+        let at = place(0, sector.head, sector.slot);
+        check_at(rt, &map, sector.lbn, at, sector.count);
+    }
+    check_at(rt, &map, 22, place(1, 0, 0), 12);
+    Ok(())
+}
+
 #[test]
 fn finds_sectors_that_moved(rt: HostRuntime) -> Result<(), Fail> {
-    let bad = [place(0, 0, 3)];
-    let moved = [place(0, 1, 4)];
-    for (defects, grown, lbn, at, count) in [
-        (bad.as_slice(), [].as_slice(), 3, place(0, 0, 4), 8),
-        (&bad, &[], 10, place(0, 0, 11), 1),
-        (&bad, &[], 11, place(0, 1, 0), 11),
-        (&bad, &[], 22, place(1, 0, 0), 12),
-        (&[], &moved, 15, place(0, 1, 3), 1),
-        (&[], &moved, 16, place(0, 1, 10), 1),
-        (&[], &moved, 17, place(0, 1, 5), 5),
-        (&[], &[], 15, place(0, 1, 3), 7),
-    ] {
-        let map = disk(rt.alloc(), defects, grown)?;
-        assert_eq!(rt; map.count(), 88);
-        assert_eq!(rt; place_of(&map, lbn), Some(at));
-        assert_eq!(rt; place_in_run(&map, lbn), Some(at));
-        assert_eq!(rt; neighbours(&map, lbn), count);
-    }
-    Ok(())
+    check_found(&rt, rt.alloc(), BAD, &[], BEHIND_BAD)?;
+    check_found(&rt, rt.alloc(), &[], MOVED, ROUND_MOVED)?;
+    check_found(&rt, rt.alloc(), &[], &[], UNMOVED)
 }
 
 // A block of a cutting: its first sector, its count and its track.
@@ -78,15 +161,21 @@ fn first_cut(map: &SectorMap, first: u64, count: u64, block: u32) -> Option<(u64
     Some(told(map.first_cut(first, count, block)))
 }
 
+fn check_first_cut(
+    rt: &impl Abort,
+    map: &SectorMap,
+    left: u64,
+    block: u32,
+    expected: (u64, u32, Track),
+) {
+    assert_eq!(rt; first_cut(map, expected.0, left, block), Some(expected));
+}
+
 #[test]
 fn cuts_behind_a_sector_that_moved(rt: HostRuntime) -> Result<(), Fail> {
-    let map = disk(rt.alloc(), &[], &[place(0, 1, 4)])?;
-    for (lbn, left, count) in [(15, 4, 2), (17, 2, 2)] {
-        assert_eq!(rt;
-            first_cut(&map, lbn, left, 20),
-            Some((lbn, count, track(0, 1)))
-        );
-    }
+    let map = disk(rt.alloc(), &[], MOVED)?;
+    check_first_cut(&rt, &map, 4, 20, (15, 2, LOWER));
+    check_first_cut(&rt, &map, 2, 20, (17, 2, LOWER));
     Ok(())
 }
 
@@ -115,16 +204,6 @@ fn cuts(
     Ok(Some(cuts))
 }
 
-const UPPER: Track = Track {
-    cylinder: 0,
-    head: 0,
-};
-
-const LOWER: Track = Track {
-    cylinder: 0,
-    head: 1,
-};
-
 // How many sectors are left before each block, and the block.
 const CUTS: &[(u64, (u64, u32, Track))] = &[
     (20, (1, 5, UPPER)),
@@ -135,17 +214,19 @@ const CUTS: &[(u64, (u64, u32, Track))] = &[
     (3, (18, 3, LOWER)),
 ];
 
+fn check_cuts(rt: &impl Abort, map: &SectorMap, cuts: &[(u64, u32, Track)]) {
+    assert_eq!(rt; cuts.len(), CUTS.len());
+    for (cut, (left, expected)) in cuts.iter().zip(CUTS) {
+        assert_eq!(rt; cut, expected);
+        check_first_cut(rt, map, *left, 6, *expected);
+    }
+}
+
 #[test]
 fn cuts_through_a_bad_slot_and_a_tracks_end(rt: HostRuntime) -> Result<(), Fail> {
-    let map = disk(rt.alloc(), &[place(0, 0, 3)], &[place(0, 1, 4)])?;
+    let map = disk(rt.alloc(), BAD, MOVED)?;
     match cuts(rt.alloc(), &map, 1, 20, 6)? {
-        Some(cuts) => {
-            assert_eq!(rt; cuts.len(), CUTS.len());
-            for (cut, (left, expected)) in cuts.iter().zip(CUTS) {
-                assert_eq!(rt; cut, expected);
-                assert_eq!(rt; first_cut(&map, expected.0, *left, 6), Some(*expected));
-            }
-        }
+        Some(cuts) => check_cuts(&rt, &map, cuts.as_slice()),
         None => assert!(rt; false, "it is a range of the disk"),
     }
     Ok(())

@@ -2,16 +2,17 @@
 ghost use Rattle.std.specs.Prelude.{◌≡◌, ◌+◌, ◌<◌, ◌≤◌, length, true};
 ghost use Rattle.fb_geometry.specs.Places.{places};
 
-use crate::disks::{ZONE, per_cylinder, per_track, place};
+use crate::disks::{BAD, ZONE, per_cylinder, per_track};
 use fb_geometry::{Geometry, Layout, Zone};
 use fb_sectormap::SectorMap;
 use fb_seek::{Mechanism, SeekPoint};
 use fb_service::{
-    Disk, Passage, approach_on, approach_to, departure_from, first_pass, nth_passage, serve,
-    wait_on,
+    Disk, Extent, Passage, approach_on, approach_to, departure_from, first_pass, nth_passage,
+    serve, wait_on,
 };
-use fb_units::{Ns, Place, Track};
+use fb_units::{NoMemory, Ns, Place, Track};
 use std::alloc::Global;
+use std::process::Abort;
 use std::test::Fail;
 
 const SKEWED: Zone = Zone {
@@ -44,16 +45,25 @@ const SOURCE: Track = Track {
 // No instant of a small service comes later.
 const LATE: Ns = 1_000_000_000;
 
+// The distances and times of the arm's moves.
+const POINTS: &[SeekPoint] = &[
+    SeekPoint {
+        distance: 1,
+        time: 300,
+    },
+    SeekPoint {
+        distance: 3,
+        time: 500,
+    },
+];
+
 // The disk of a geometry.
 fn disk_of(alloc: Global, geometry: Geometry) -> Result<Disk, Fail> {
+    let points = POINTS.to_vec(alloc)?;
     let map = SectorMap::new(alloc, geometry)?;
     let _sectors = map.count();
     let geometry = map.geometry();
     geometry.sound();
-    let mut points = Vec::new(alloc);
-    for (distance, time) in [(1, 300), (3, 500)] {
-        points.push(SeekPoint { distance, time })?;
-    }
     let mechanism = Mechanism::new(points, geometry.cylinders(), 200, 50)?;
     Ok(Disk {
         map,
@@ -62,17 +72,70 @@ fn disk_of(alloc: Global, geometry: Geometry) -> Result<Disk, Fail> {
     })
 }
 
-// The disk with its spares where the layout has them.
-fn small_disk(
-    alloc: Global,
+// A small disk: where its spares are, its zone, and its bad slots.
+struct Small {
     layout: Layout,
     zone: Zone,
-    defects: &[Place],
-    grown: &[Place],
-) -> Result<Disk, Fail> {
-    let geometry = match layout {
-        Layout::PerTrack => per_track(alloc, zone, defects)?,
-        Layout::PerCylinder => per_cylinder(alloc, zone, defects, grown)?,
+    defects: &'static [Place],
+    grown: &'static [Place],
+}
+
+const PLAIN: Small = Small {
+    layout: Layout::PerTrack,
+    zone: ZONE,
+    defects: &[],
+    grown: &[],
+};
+
+const THREE_BAD: &[Place] = &[
+    Place {
+        track: SOURCE,
+        slot: 3,
+    },
+    Place {
+        track: Track {
+            cylinder: 1,
+            head: 1,
+        },
+        slot: 0,
+    },
+    Place {
+        track: Track {
+            cylinder: 2,
+            head: 0,
+        },
+        slot: 11,
+    },
+];
+
+const THREE_GROWN: &[Place] = &[
+    Place {
+        track: Track {
+            cylinder: 0,
+            head: 1,
+        },
+        slot: 4,
+    },
+    Place {
+        track: Track {
+            cylinder: 1,
+            head: 0,
+        },
+        slot: 5,
+    },
+    Place {
+        track: Track {
+            cylinder: 1,
+            head: 0,
+        },
+        slot: 6,
+    },
+];
+
+fn small_disk(alloc: Global, small: &Small) -> Result<Disk, Fail> {
+    let geometry = match small.layout {
+        Layout::PerTrack => per_track(alloc, small.zone, small.defects)?,
+        Layout::PerCylinder => per_cylinder(alloc, small.zone, small.defects, small.grown)?,
     };
     disk_of(alloc, geometry?)
 }
@@ -103,50 +166,133 @@ fn times_of(
     Ok(Some((service.media, service.finish, service.extents.len())))
 }
 
+// A read on a small disk, and when and in how many extents it is served.
+struct Wait {
+    small: Small,
+    now: Ns,
+    lbn: u64,
+    count: u32,
+    times: (Ns, Ns, usize),
+}
+
+const WAITS: &[Wait] = &[
+    Wait {
+        small: PLAIN,
+        now: 0,
+        lbn: 5,
+        count: 1,
+        times: (500, 600, 1),
+    },
+    Wait {
+        small: PLAIN,
+        now: 500,
+        lbn: 5,
+        count: 1,
+        times: (500, 600, 1),
+    },
+    Wait {
+        small: PLAIN,
+        now: 501,
+        lbn: 5,
+        count: 1,
+        times: (1700, 1800, 1),
+    },
+    Wait {
+        small: PLAIN,
+        now: 0,
+        lbn: 11,
+        count: 2,
+        times: (1100, 2500, 2),
+    },
+    Wait {
+        small: Small {
+            zone: SKEWED,
+            ..PLAIN
+        },
+        now: 0,
+        lbn: 11,
+        count: 2,
+        times: (1100, 1500, 2),
+    },
+    Wait {
+        small: PLAIN,
+        now: 0,
+        lbn: 0,
+        count: 24,
+        times: (0, 3600, 2),
+    },
+    Wait {
+        small: Small {
+            zone: SPARED,
+            defects: BAD,
+            ..PLAIN
+        },
+        now: 0,
+        lbn: 2,
+        count: 2,
+        times: (200, 500, 2),
+    },
+    Wait {
+        small: Small {
+            zone: UNEVEN,
+            ..PLAIN
+        },
+        now: 0,
+        lbn: 3,
+        count: 1,
+        times: (514, 685, 1),
+    },
+    Wait {
+        small: Small {
+            layout: Layout::PerCylinder,
+            zone: TWO_SPARES,
+            grown: BAD,
+            ..PLAIN
+        },
+        now: 0,
+        lbn: 2,
+        count: 3,
+        times: (200, 1700, 3),
+    },
+];
+
+fn check_times(rt: &impl Abort, alloc: Global, disk: &Disk, wait: &Wait) -> Result<(), Fail> {
+    let times = times_of(alloc, disk, wait.now, wait.lbn, wait.count)?;
+    assert_eq!(rt; times, Some(wait.times));
+    Ok(())
+}
+
+fn check_wait(rt: &impl Abort, alloc: Global, wait: &Wait) -> Result<(), Fail> {
+    let disk = small_disk(alloc, &wait.small)?;
+    check_times(rt, alloc, &disk, wait)
+}
+
 #[test]
 fn waits_for_each_extent(rt: HostRuntime) -> Result<(), Fail> {
-    let bad = [place(0, 0, 3)];
-    for (layout, zone, defects, grown, now, lbn, count, times) in [
-        (
-            Layout::PerTrack,
-            ZONE,
-            [].as_slice(),
-            [].as_slice(),
-            0,
-            5,
-            1,
-            (500, 600, 1),
-        ),
-        (Layout::PerTrack, ZONE, &[], &[], 500, 5, 1, (500, 600, 1)),
-        (Layout::PerTrack, ZONE, &[], &[], 501, 5, 1, (1700, 1800, 1)),
-        (Layout::PerTrack, ZONE, &[], &[], 0, 11, 2, (1100, 2500, 2)),
-        (
-            Layout::PerTrack,
-            SKEWED,
-            &[],
-            &[],
-            0,
-            11,
-            2,
-            (1100, 1500, 2),
-        ),
-        (Layout::PerTrack, ZONE, &[], &[], 0, 0, 24, (0, 3600, 2)),
-        (Layout::PerTrack, SPARED, &bad, &[], 0, 2, 2, (200, 500, 2)),
-        (Layout::PerTrack, UNEVEN, &[], &[], 0, 3, 1, (514, 685, 1)),
-        (
-            Layout::PerCylinder,
-            TWO_SPARES,
-            &[],
-            &bad,
-            0,
-            2,
-            3,
-            (200, 1700, 3),
-        ),
-    ] {
-        let disk = small_disk(rt.alloc(), layout, zone, defects, grown)?;
-        let answer = times_of(rt.alloc(), &disk, now, lbn, count)?;
-        assert_eq!(rt; answer, Some(times));
+    for wait in WAITS {
+        check_wait(&rt, rt.alloc(), wait)?;
+    }
+    Ok(())
+}
+
+// Appends the passages of an extent, unless it isn't on the disk.
+fn push_passages(
+    disk: &Disk,
+    extent: &Extent,
+    passages: &mut Vec<Passage>,
+) -> Result<(), NoMemory> {
+    if is_request(disk, extent.first, extent.count) && extent.begin <= LATE {
+        for i in 0..extent.count {
+            passages.push(nth_passage(disk, extent, i))?;
+        }
+    }
+    Ok(())
+}
+
+// Appends the passages of these extents.
+fn push_all(disk: &Disk, extents: &[Extent], passages: &mut Vec<Passage>) -> Result<(), NoMemory> {
+    for extent in extents {
+        push_passages(disk, extent, passages)?;
     }
     Ok(())
 }
@@ -165,14 +311,7 @@ fn by_extents(
 {
     let service = serve(alloc, disk, SOURCE, 0, lbn, count, write)?;
     let mut passages = Vec::new(alloc);
-    for extent in service.extents.as_slice() {
-        if !is_request(disk, extent.first, extent.count) || extent.begin > LATE {
-            break;
-        }
-        for i in 0..extent.count {
-            passages.push(nth_passage(disk, extent, i))?;
-        }
-    }
+    push_all(disk, service.extents.as_slice(), &mut passages)?;
     Ok(passages)
 }
 
@@ -216,28 +355,88 @@ fn agrees(alloc: Global, disk: &Disk, lbn: u64, count: u32, write: bool) -> Resu
     Ok(whole.len() == count as usize && whole.as_slice() == single.as_slice())
 }
 
+// A request on a small disk.
+struct Served {
+    small: Small,
+    lbn: u64,
+    count: u32,
+    write: bool,
+}
+
+// A disk with bad slots of both kinds.
+const CROWDED: Small = Small {
+    layout: Layout::PerCylinder,
+    zone: FOUR_SPARES,
+    defects: THREE_BAD,
+    grown: THREE_GROWN,
+};
+
+const SERVED: &[Served] = &[
+    Served {
+        small: PLAIN,
+        lbn: 0,
+        count: 96,
+        write: true,
+    },
+    Served {
+        small: Small {
+            zone: SKEWED,
+            ..PLAIN
+        },
+        lbn: 11,
+        count: 2,
+        write: false,
+    },
+    Served {
+        small: Small {
+            zone: UNEVEN,
+            ..PLAIN
+        },
+        lbn: 5,
+        count: 30,
+        write: true,
+    },
+    Served {
+        small: Small {
+            zone: SPARED,
+            defects: THREE_BAD,
+            ..PLAIN
+        },
+        lbn: 0,
+        count: 80,
+        write: true,
+    },
+    Served {
+        small: CROWDED,
+        lbn: 0,
+        count: 80,
+        write: false,
+    },
+    Served {
+        small: CROWDED,
+        lbn: 15,
+        count: 16,
+        write: true,
+    },
+];
+
+fn check_served(rt: &impl Abort, alloc: Global, served: &Served) -> Result<(), Fail> {
+    let disk = small_disk(alloc, &served.small)?;
+    check_agrees(
+        rt,
+        agrees(alloc, &disk, served.lbn, served.count, served.write),
+    )
+}
+
+fn check_agrees(rt: &impl Abort, agrees: Result<bool, Fail>) -> Result<(), Fail> {
+    assert!(rt; agrees?);
+    Ok(())
+}
+
 #[test]
 fn extents_stand_for_single_sectors(rt: HostRuntime) -> Result<(), Fail> {
-    let bad = [place(0, 0, 3), place(1, 1, 0), place(2, 0, 11)];
-    let moved = [place(0, 1, 4), place(1, 0, 5), place(1, 0, 6)];
-    for (layout, zone, defects, grown, lbn, count, write) in [
-        (
-            Layout::PerTrack,
-            ZONE,
-            [].as_slice(),
-            [].as_slice(),
-            0,
-            96,
-            true,
-        ),
-        (Layout::PerTrack, SKEWED, &[], &[], 11, 2, false),
-        (Layout::PerTrack, UNEVEN, &[], &[], 5, 30, true),
-        (Layout::PerTrack, SPARED, &bad, &[], 0, 80, true),
-        (Layout::PerCylinder, FOUR_SPARES, &bad, &moved, 0, 80, false),
-        (Layout::PerCylinder, FOUR_SPARES, &bad, &moved, 15, 16, true),
-    ] {
-        let disk = small_disk(rt.alloc(), layout, zone, defects, grown)?;
-        assert!(rt; agrees(rt.alloc(), &disk, lbn, count, write)?);
+    for served in SERVED {
+        check_served(&rt, rt.alloc(), served)?;
     }
     Ok(())
 }
@@ -261,19 +460,65 @@ fn agrees_on_cylinder(disk: &Disk, now: Ns, write: bool) -> bool {
     true
 }
 
+// A small disk, and when the head departs.
+struct Departure {
+    small: Small,
+    now: Ns,
+}
+
+const DEPARTURES: &[Departure] = &[
+    Departure {
+        small: Small {
+            zone: SKEWED,
+            ..PLAIN
+        },
+        now: 0,
+    },
+    Departure {
+        small: Small {
+            zone: UNEVEN,
+            ..PLAIN
+        },
+        now: 350,
+    },
+    Departure {
+        small: Small {
+            zone: SPARED,
+            defects: THREE_BAD,
+            ..PLAIN
+        },
+        now: 1234,
+    },
+    Departure {
+        small: Small {
+            layout: Layout::PerCylinder,
+            zone: FOUR_SPARES,
+            ..PLAIN
+        },
+        now: 5999,
+    },
+    Departure {
+        small: Small {
+            layout: Layout::PerCylinder,
+            zone: FOUR_SPARES,
+            defects: THREE_BAD,
+            ..PLAIN
+        },
+        now: 100_000_007,
+    },
+];
+
+fn check_departure(rt: &impl Abort, alloc: Global, departure: &Departure) -> Result<(), Fail> {
+    let disk = small_disk(alloc, &departure.small)?;
+    assert!(rt; agrees_on_cylinder(&disk, departure.now, false));
+    assert!(rt; agrees_on_cylinder(&disk, departure.now, true));
+    Ok(())
+}
+
 #[test]
 fn waits_on_cylinders_end_at_passages(rt: HostRuntime) -> Result<(), Fail> {
-    let bad = [place(0, 0, 3), place(1, 1, 0), place(2, 0, 11)];
-    for (layout, zone, defects, now) in [
-        (Layout::PerTrack, SKEWED, [].as_slice(), 0),
-        (Layout::PerTrack, UNEVEN, &[], 350),
-        (Layout::PerTrack, SPARED, &bad, 1234),
-        (Layout::PerCylinder, FOUR_SPARES, &[], 5999),
-        (Layout::PerCylinder, FOUR_SPARES, &bad, 100_000_007),
-    ] {
-        let disk = small_disk(rt.alloc(), layout, zone, defects, &[])?;
-        assert!(rt; agrees_on_cylinder(&disk, now, false));
-        assert!(rt; agrees_on_cylinder(&disk, now, true));
+    for departure in DEPARTURES {
+        check_departure(&rt, rt.alloc(), departure)?;
     }
     Ok(())
 }
