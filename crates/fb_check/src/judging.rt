@@ -1,6 +1,7 @@
 // Judges printed reports, decision by decision.
-ghost use Rattle.std.specs.Prelude.{◌≡◌, ◌%◌, [], false, length, None, IfOk};
+ghost use Rattle.std.specs.Prelude.{◌≡◌, ◌%◌, [], true, false, length, None, IfOk};
 ghost use Rattle.fb_calls.specs.Allowed.{tasks};
+ghost use Rattle.fb_decide.specs.Making.{HasMade};
 ghost use Rattle.fb_model.specs.Accepted.{IsAccepted};
 ghost use Rattle.fb_report.specs.Grammar.{back_grammar, fore_grammar};
 ghost use Rattle.fb_report.specs.Reading.{IsReport};
@@ -68,8 +69,6 @@ pub fn judge<Q: Queue, P: Planner>(
     requires back { IsReport back_grammar printed.back.now }
     ensures { IfOk result (IsVerdict (inputs_of asked.entry Q.key) (reports_of asked.entry printed.entry)) }
 {
-    decisions_make_a_run();
-    reports_end_once();
     let mut decider = Decider::new(
         alloc,
         asked.disk,
@@ -78,6 +77,29 @@ pub fn judge<Q: Queue, P: Planner>(
         asked.calls,
         queue,
     )?;
+    judge_over(alloc, asked, &mut decider, planner, printed)
+}
+
+// The verdict, where no decision has been made.
+fn judge_over<Q: Queue, P: Planner>(
+    alloc: Global,
+    asked: Asked<'_>,
+    decider: &mut Decider<'_, Q>,
+    planner: &P,
+    printed: Printed<'_>,
+) -> Result<Verdict, NoMemory>
+    requires made { HasMade (inputs_of asked Q.key) true [] decider.old.requests decider.old.course (Q.pending decider.old.queue) (Q.joined decider.old.queue) }
+    requires no_fore { decider.old.course.fore ≡ [] }
+    requires no_back { decider.old.course.background.rows ≡ [] }
+    requires serves { Q.serves decider.old.queue asked.disk.now }
+    requires names { length asked.calls.now.names ≡ length (tasks asked.calls.now.calls.items) }
+    requires whole { asked.disk.now.sector_bytes % 16 ≡ 0 }
+    requires fore { IsReport fore_grammar printed.fore.now }
+    requires back { IsReport back_grammar printed.back.now }
+    ensures { IfOk result (IsVerdict (inputs_of asked.entry Q.key) (reports_of asked.entry printed.entry)) }
+{
+    decisions_make_a_run();
+    reports_end_once();
     let mut fore = Comparison::begin_fore(alloc, printed.fore)?;
     let mut back = Comparison::begin_back(alloc, printed.back)?;
     let sector_bytes = asked.disk.sector_bytes;
@@ -92,7 +114,7 @@ pub fn judge<Q: Queue, P: Planner>(
         }
         back.compare_back(alloc, &rows.back, names, sector_bytes, printed.bytes)?;
     }
-    judge_ends(alloc, asked, printed, &mut decider, fore, back)
+    judge_ends(alloc, asked, printed, decider, fore, back)
 }
 
 // The verdict where all decisions are made and no row of the foreground is wrong.
