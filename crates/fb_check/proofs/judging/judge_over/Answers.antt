@@ -1,4 +1,4 @@
-use Rattle.std.proofs.Common.{true, true≢false, inl, inr, refl, ap, sym, subst}
+use Rattle.std.proofs.Common.{true, true≢false, inl, inr, refl, sym, subst}
 use Rattle.fb_report.specs.Grammar.{fore_grammar, back_grammar}
 use Rattle.fb_check.specs.Asked.{inputs_of, reports_of}
 use Rattle.fb_check.proofs.Judged.{at_first, going, kept, less, fore_ranges, back_ranges, back_named, wrong_now, next, none_by}
