@@ -53,6 +53,44 @@ fn bound_at(bounds: &[u32], index: u32) -> u32
     }
 }
 
+// The begin of the cylinder's region, if that is behind `from`; else that of its band; else itself.
+fn begin_of(cylinder: u32, from: u32) -> u32
+    requires { from ≤ cylinder }
+    ensures after { from ≤ result }
+    ensures within { result ≤ cylinder }
+{
+    let region = cylinder - cylinder % (WIDTH * WIDTH);
+    let band = cylinder - cylinder % WIDTH;
+    if from < region {
+        region
+    } else if from < band {
+        band
+    } else {
+        cylinder
+    }
+}
+
+// The end of the region of the cylinder before `behind`, if that is before the end; else that of its
+// band; else `behind`.
+fn end_of(behind: u32, end: u32) -> u32
+    requires order { behind ≤ end }
+    requires some { 0 < behind }
+    ensures after { behind ≤ result }
+    ensures within { result ≤ end }
+{
+    let left = end - behind;
+    let last = behind - 1;
+    let to_region = WIDTH * WIDTH - 1 - last % (WIDTH * WIDTH);
+    let to_band = WIDTH - 1 - last % WIDTH;
+    if to_region < left {
+        behind + to_region
+    } else if to_band < left {
+        behind + to_band
+    } else {
+        behind
+    }
+}
+
 // Lowers the bound with this index to the number, if it is greater. Out of memory, no bound has
 // changed.
 fn lower(bounds: &mut Vec<u32>, index: u32, sectors: u32) -> Result<(), NoMemory>
@@ -150,8 +188,8 @@ impl Shortest {
         }
     }
 
-    // The first cylinder with a bound below 2,049, from `from` up to the end; the last one if there
-    // is none.
+    // The first cylinder with a bound below 2,049, from `from` up to the end, or the first one of its
+    // region or band if these begin later than `from`; the last one if there is none.
     pub fn first_in(&self, from: u32, end: u32) -> u32
         requires some { from < end }
         ensures after { from ≤ result }
@@ -161,15 +199,15 @@ impl Shortest {
         while next < end - 1 {
             let empty = self.empty_around(next);
             if empty == 0 {
-                return next;
+                return begin_of(next, from);
             }
             next += (empty - next % empty).min(end - 1 - next);
         }
         next
     }
 
-    // The cylinder behind the last one with a bound below 2,049, from `from` up to the end; the
-    // second one if there is none.
+    // The cylinder behind the last one with a bound below 2,049, from `from` up to the end, or that
+    // behind its region or band if these end earlier than the end; the second one if there is none.
     pub fn end_in(&self, from: u32, end: u32) -> u32
         requires some { from < end }
         ensures after { from < result }
@@ -179,7 +217,7 @@ impl Shortest {
         while from + 1 < next {
             let empty = self.empty_around(next - 1);
             if empty == 0 {
-                return next;
+                return end_of(next, end);
             }
             next -= ((next - 1) % empty + 1).min(next - from - 1);
         }
