@@ -30,7 +30,9 @@ pub fn next_from(
 /// The request of the least spot from this one on; if there is none, that of the least spot of all.
 pub fn next_or_first(waiting: &BTreeMap<(u64, u64), Request>, spot: u64) -> ((u64, u64), Request)
     requires { 0 < length waiting.now.entries }
-    ensures { Holds waiting.now result.0 result.1 }
+    ensures found { Holds waiting.now result.0 result.1 }
+    ensures next { (k : ℕ × ℕ) → Waits waiting.now k → spot ≤ k.0 → (spot ≤ result.0.0) × (result.0.0 ≤ k.0) }
+    ensures first { result.0.0 < spot → (k : ℕ × ℕ) → Waits waiting.now k → result.0.0 ≤ k.0 }
 {
     if let Some(next) = next_from(waiting, spot) {
         return next;

@@ -1,5 +1,5 @@
 // The head's way to a lane.
-ghost use Rattle.std.specs.Prelude.{◌≡◌, true, ◌+◌, ◌*◌, ◌%◌, ◌<◌, ◌≤◌, ◌^◌};
+ghost use Rattle.std.specs.Prelude.{◌≡◌, ◌⊎◌, true, false, ◌+◌, ◌*◌, ◌%◌, ◌<◌, ◌≤◌, ◌^◌};
 ghost use Rattle.fb_units.specs.declared.types.Request.{Request};
 ghost use Rattle.fb_geometry.specs.Shape.{cylinders_of};
 ghost use Rattle.fb_service.specs.declared.approach.Departure.{Departure};
@@ -28,7 +28,8 @@ impl Visit {
     /// Whether a spot lies in the room of the lane.
     pub fn has(&self, spot: Ns) -> bool
         requires { IsLane self.now.lane }
-        ensures { result ≡ true → (self.now.lane.start ≤ spot) × (spot < self.now.lane.start + 2 ^ 30) }
+        ensures inside { result ≡ true → (self.now.lane.start ≤ spot) × (spot < self.now.lane.start + 2 ^ 30) }
+        ensures outside { result ≡ false → (spot < self.now.lane.start) ⊎ (self.now.lane.start + 2 ^ 30 ≤ spot) }
     {
         self.lane.start <= spot && spot < self.lane.start + LANE
     }
@@ -59,6 +60,8 @@ impl Visit {
         ensures visit { IsVisit disk.now from.now self.new }
         ensures start { self.new.lane.start ≤ spot }
         ensures end { spot < self.new.lane.start + 2 ^ 30 }
+        ensures same { result ≡ false → self.new ≡ self.old }
+        ensures other { result ≡ true → (spot < self.old.lane.start) ⊎ (self.old.lane.start + 2 ^ 30 ≤ spot) }
     {
         if self.has(spot) {
             return false;

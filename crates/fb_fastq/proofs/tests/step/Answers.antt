@@ -1,6 +1,3 @@
-use Rattle.std.proofs.Common.{sym, subst}
-use Rattle.std.specs.List.{AllByRecursion}
-use Rattle.fb_geometry.proofs.Laws.{all-append}
 use Rattle.fb_model.specs.Accepted.{IsRequestOf}
 use Rattle.fb_fastq.proofs.Alike.{all_others}
 use Rattle.fb_fastq.proofs.tests.step.Goals as goal

@@ -21,4 +21,4 @@ returns-clause-first c =
     c.soonest_below.ensures.found c.soonest_below.ensures.first c.soonest_above-above.ensures.least c.soonest_below.ensures.least))
 
 pub visit_to-visit-requires-clause-spot : goal.visit_to-visit-requires-clause-spot
-visit_to-visit-requires-clause-spot c = (c.requires.spots c.next_or_first.result.0 c.next_or_first.result.1 c.next_or_first.ensures).on_disk
+visit_to-visit-requires-clause-spot c = (c.requires.spots c.next_or_first.result.0 c.next_or_first.result.1 c.next_or_first.ensures.found).on_disk
