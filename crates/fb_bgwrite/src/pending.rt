@@ -145,7 +145,7 @@ impl Pending {
         self.shortest.among(from, end)
     }
 
-    /// The first of these cylinders that may have a pending block; the last one if none may.
+    /// Where the first of these cylinders is that may have a pending block, or earlier by up to 4,095.
     pub fn first_in(&self, from: u32, end: u32) -> u32
         requires some { from < end }
         ensures after { from ≤ result }
@@ -154,8 +154,7 @@ impl Pending {
         self.shortest.first_in(from, end)
     }
 
-    /// The cylinder behind the last of these that may have a pending block; the second one if none
-    /// may.
+    /// Where the last of these cylinders ends that may have a pending block, or later by up to 4,095.
     pub fn end_in(&self, from: u32, end: u32) -> u32
         requires some { from < end }
         ensures after { from < result }

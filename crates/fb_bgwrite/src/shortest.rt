@@ -189,7 +189,7 @@ impl Shortest {
     }
 
     // The first cylinder with a bound below 2,049, from `from` up to the end, or the first one of its
-    // region or band if these begin later than `from`; the last one if there is none.
+    // region or band if these begin later than `from`; the same of the last one if there is none.
     pub fn first_in(&self, from: u32, end: u32) -> u32
         requires some { from < end }
         ensures after { from ≤ result }
@@ -199,15 +199,16 @@ impl Shortest {
         while next < end - 1 {
             let empty = self.empty_around(next);
             if empty == 0 {
-                return begin_of(next, from);
+                break;
             }
             next += (empty - next % empty).min(end - 1 - next);
         }
-        next
+        begin_of(next, from)
     }
 
     // The cylinder behind the last one with a bound below 2,049, from `from` up to the end, or that
-    // behind its region or band if these end earlier than the end; the second one if there is none.
+    // behind its region or band if these end earlier than the end; the same of the second one if there
+    // is none.
     pub fn end_in(&self, from: u32, end: u32) -> u32
         requires some { from < end }
         ensures after { from < result }
@@ -217,10 +218,10 @@ impl Shortest {
         while from + 1 < next {
             let empty = self.empty_around(next - 1);
             if empty == 0 {
-                return end_of(next, end);
+                break;
             }
             next -= ((next - 1) % empty + 1).min(next - from - 1);
         }
-        next
+        end_of(next, end)
     }
 }
