@@ -122,9 +122,10 @@ pub fn most_by_steps(search: &Search, reach: Reach, weight: u64, known: u64) -> 
     if search.gap.deadline < reach.back {
         return 0;
     }
-    let mut most = caught_in(reach.rate, weight, search.gap.deadline - reach.back);
+    let whole = caught_in(reach.rate, weight, search.gap.deadline - reach.back);
+    let mut most = whole;
     for k in part_from(search.late, reach.back)..LATE {
-        let rest = search.late.parts[k] + weight;
+        let rest = search.late.parts[k] + whole;
         let enough = known.max(most + 1);
         if rest < enough {
             return most.max(rest);

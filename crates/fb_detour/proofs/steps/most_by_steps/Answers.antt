@@ -13,7 +13,7 @@ returns-then-search-reach-clause-most c = λ track leave reach light is. absurd 
 pub loop-k-init : goal.loop-k-init
 loop-k-init c = (
   omega arith,
-  omega (arith, c.caught_in-most.ensures.small, c.requires.light),
+  omega (arith, c.caught_in-whole.ensures.small, c.requires.light),
   λ track leave reach light is before. elim c.part_from-k.ensures.before [
     | inl none ↦ absurd (omega (arith, before, ap (λ n. get_or c.args.search.now.late.now.limits n 0) none, c.requires.search.late.start, is.after_arrival))
     | inr back ↦ absurd (omega (arith, before, back, reach.0, is.after_arrival))
@@ -27,14 +27,15 @@ returns-then-rest-enough-clause-most c = λ track leave reach light is.
     let es = c.args.search.now.wanted.now in
     let late = c.args.search.now.late.now in
     let limit = get_or late.limits c.loop-k.k 0 in
-    let stays = early_to track (gap.now + pos disk.mechanism gap.source track false) leave in
+    let arrive = gap.now + pos disk.mechanism gap.source track false in
+    let longer = mul-le (leave - arrive) c.args.reach.rate (gap.deadline - c.args.reach.back) c.args.reach.rate (omega (arith, reach.0, is.after_arrival, is.in_time)) (omega arith) in
+    let caught = c.caught_in-whole.ensures.most (stay disk (early_to track arrive leave) es) (omega (arith, weight_of_stay disk (early_to track arrive leave) es, light)) (omega (arith, reach.1 arrive leave, longer)) in
     elim (cases_lt (leave + pos disk.mechanism track gap.target gap.write) limit) [
       | inl sooner ↦ omega (arith, c.loop-k.invariant.2 track leave reach light is sooner, c.max.ensures)
       | inr behind ↦ omega (
         arith,
         worth_from disk gap es track leave limit (get_or late.parts c.loop-k.k 0) is behind (c.requires.search.late.limits c.loop-k.k (omega (arith, c.loop-k-test.true))),
-        weight_of_stay disk stays es,
-        light,
+        caught,
         c.max.ensures,
       )
     ]
@@ -73,6 +74,6 @@ returns-clause-most c = λ track leave reach light is.
       | inl sooner ↦ c.loop-k.invariant.2 track leave reach light is (omega (arith, sooner, last))
       | inr behind ↦
           let longer = mul-le (leave - arrive) c.args.reach.rate (gap.deadline - c.args.reach.back) c.args.reach.rate (omega (arith, reach.0, is.after_arrival, is.in_time)) (omega arith) in
-          let first = c.caught_in-most.ensures.most caught (omega (arith, weight_of_stay disk (early_to track arrive leave) es, light)) (omega (arith, reach.1 arrive leave, longer)) in
+          let first = c.caught_in-whole.ensures.most caught (omega (arith, weight_of_stay disk (early_to track arrive leave) es, light)) (omega (arith, reach.1 arrive leave, longer)) in
           omega (arith, worth_from disk gap es track leave (get_or late.limits 32 0) 0 is behind (omega (arith, c.requires.search.late.end)), first, c.loop-k.invariant.0)
     ]
