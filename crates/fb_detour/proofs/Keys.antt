@@ -1,13 +1,14 @@
 -- Numbers that stand for the parts of a range of cylinders, each with an upper bound on its detours.
 use Rattle.std.proofs.Common.{◌≡◌, ℕ, ◌+◌, ◌-◌, ◌*◌, ◌/◌, ◌%◌, ◌<◌, ◌≤◌, inl, inr, min, List, get_or, arith, ap, subst, sym, ◌∙◌}
-use Rattle.std.proofs.lemmas.Bool.{cases_order}
+use Rattle.std.proofs.lemmas.Bool.{cases_lt, cases_order}
 use Rattle.std.proofs.lemmas.Nat.{div-add-mod'}
 use Rattle.std.proofs.Math.Nat.{mod-lt}
 use Rattle.fb_service.specs.declared.disk.Disk.{Disk}
 use Rattle.fb_wanted.specs.declared.block.Block.{Block}
 use Rattle.fb_rows.specs.declared.gap.Gap.{Gap}
 use Rattle.fb_rows.specs.declared.gap.Plan.{Plan}
-use Rattle.fb_plan.specs.Ways.{Beats}
+use Rattle.fb_plan.specs.declared.choice.Scored.{Scored}
+use Rattle.fb_plan.specs.Ways.{Beats, IsScored}
 use Rattle.fb_detour.specs.Bounds.{BeatsRange, IsCeiling, IsKey}
 use Rattle.fb_detour.proofs.Ranges.{range-kept}
 use Rattle.fb_detour.proofs.Limits.{steps_below}
@@ -59,6 +60,13 @@ module _ (disk : Disk) (gap : Gap) (wanted : List Block) (from end width : ℕ) 
           subst (λ k. BeatsRange disk gap wanted best (from + k * width) (min end (from + k * width + width))) one this
       | inr (inl greater) ↦ range-kept disk gap wanted best old (from + j * width) (min end (from + j * width + width)) keeps (done j small greater)
       | inr (inr lesser) ↦ absurd (omega (arith, greatest j small lesser, above))
+    ]
+
+    -- the parts whose bounds are less than the best so far, and with them all
+    pub parts-beaten : (best : Scored) (key : ℕ) → IsScored disk gap wanted best → AreDone keys best.plan key → (key - 1) / 8 < best.value → AreDone keys best.plan 0
+    parts-beaten best key scored done less j small some = elim (cases_lt key (get_or keys j 0)) [
+      | inl above ↦ done j small above
+      | inr below ↦ λ track low high leave is. inl (omega (arith, scored.score, (are j small).ceiling track leave low high is, below, less))
     ]
 
     -- all parts

@@ -153,6 +153,10 @@ AreLeast disk gap from end moves = (track : Track) → from ≤ track.cylinder �
 abbrev pub IsRate : Disk → List Entry → Track → ℕ → Type 0
 IsRate disk entries track rate = (from upto : ℕ) → stay disk (early_to track from upto) entries * 2 ^ 24 ≤ (upto - from) * rate
 
+-- the same for each track of these cylinders
+abbrev pub AreRated : Search → ℕ → ℕ → ℕ → Type 0
+AreRated search from end rate = (track : Track) → from ≤ track.cylinder → track.cylinder < end → IsRate search.disk.now search.wanted.now track rate
+
 -- no detour over the track reaches the target earlier, nor is more caught there in each nanosecond
 abbrev pub IsReach : Disk → Gap → List Entry → Track → Reach → Type 0
 IsReach disk gap entries track reach = (reach.back ≤ gap.now + pos disk.mechanism gap.source track false + pos disk.mechanism track gap.target gap.write) × IsRate disk entries track reach.rate

@@ -6,7 +6,7 @@ ghost use Rattle.fb_units.specs.Tracks.{same_track};
 ghost use Rattle.fb_geometry.specs.Shape.{IsTrackOf};
 ghost use Rattle.fb_wanted.specs.States.{on_track, wanted_of};
 ghost use Rattle.fb_plan.specs.Ways.{AreOnDisk};
-ghost use Rattle.fb_detour.specs.Bounds.{IsCeiling, IsKey, IsReach, IsSearch, IsFound, IsNoWorse, BeatsTrack, BeatsTracks};
+ghost use Rattle.fb_detour.specs.Bounds.{AreRated, IsCeiling, IsKey, IsReach, IsSearch, IsFound, IsNoWorse, BeatsTrack, BeatsTracks};
 
 use crate::bounds::is_enough;
 use crate::candidates::try_leaves;
@@ -15,7 +15,7 @@ use crate::intervals::ceilings_of;
 use crate::leaves::leaves_beaten;
 use crate::missing::misses_enough;
 use crate::parts::late_at;
-use crate::steps::{Reach, most_by_steps, most_over, reach_of};
+use crate::steps::{Reach, most_by_steps, most_over, rate_in, rate_over, reach_of};
 use crate::stop::stop_at;
 use fb_plan::{Scored, Way, blocks_on, is_same};
 use fb_units::{Ns, Track};
@@ -87,8 +87,9 @@ fn try_track(search: &Search, track: Track, reach: Reach, start: Scored) -> Scor
 }
 
 // Tries the tracks of a cylinder.
-fn try_cylinder(search: &Search, cylinder: u32, start: Scored) -> Scored
+fn try_cylinder(search: &Search, cylinder: u32, rate: u64, start: Scored) -> Scored
     requires cylinder { cylinder < search.now.disk.now.mechanism.cylinders }
+    requires rate { AreRated search.now cylinder (cylinder + 1) rate }
     requires search { IsSearch search.now }
     requires best { IsFound search.now start }
     ensures scored { IsFound search.now result }
@@ -96,7 +97,7 @@ fn try_cylinder(search: &Search, cylinder: u32, start: Scored) -> Scored
     ensures tried { BeatsTracks search.now result.plan cylinder (cylinder + 1) }
 {
     let _cylinders = search.disk.map.geometry().cylinders();
-    let reach = reach_of(search, cylinder, cylinder + 1);
+    let reach = reach_of(search, cylinder, cylinder + 1, rate);
     let mut best = start;
     for head in 0..search.disk.map.geometry().heads() {
         let track = Track { cylinder, head };
@@ -127,12 +128,20 @@ fn width_of(cylinders: u32) -> u32
 // For each part of the range an upper bound on the value of detours over it, in one number with the
 // part: eight times the bound, and 8 for the first part, 7 for the second and so on. So numbers
 // differ, and a greater bound has a greater number.
-fn keys_of(search: &Search, from: u32, end: u32, width: u32, known: u64) -> [u64; WAYS]
+fn keys_of(
+    search: &Search,
+    from: u32,
+    end: u32,
+    width: u32,
+    rate: u64,
+    known: u64,
+) -> [u64; WAYS]
     requires within { end ≤ search.now.disk.now.mechanism.cylinders }
     requires order { from ≤ end }
     requires few { search.now.disk.now.mechanism.cylinders ≤ 10 ^ 6 }
     requires width { width ≤ 10 ^ 6 }
     requires search { IsSearch search.now }
+    requires rate { AreRated search.now from end rate }
     ensures { (j : ℕ) → j < 8 → IsKey search.now.disk.now search.now.gap.now (wanted_of search.now.wanted.now) from end width j (get_or result j 0) }
 {
     let mut keys = [0; WAYS];
@@ -140,23 +149,24 @@ fn keys_of(search: &Search, from: u32, end: u32, width: u32, known: u64) -> [u64
         let first = from + j as u32 * width;
         let behind = first + width;
         let upto = end.min(behind);
-        let most = most_within(search, first, upto, known);
+        let most = most_within(search, first, upto, rate, known);
         keys[j] = most * 8 + (8 - j as u64);
     }
     keys
 }
 
 // An upper bound on the value of detours over the tracks of these cylinders, if there are any.
-fn most_within(search: &Search, from: u32, end: u32, known: u64) -> u64
+fn most_within(search: &Search, from: u32, end: u32, rate: u64, known: u64) -> u64
     requires cylinders { end ≤ search.now.disk.now.mechanism.cylinders }
     requires search { IsSearch search.now }
+    requires rate { AreRated search.now from end rate }
     ensures most { IsCeiling search.now.disk.now search.now.gap.now (wanted_of search.now.wanted.now) from end result }
     ensures small { result ≤ 2 * (16000000 * 2048000) }
 {
     if end <= from {
         return 0;
     }
-    most_over(search, from, end, known)
+    most_over(search, from, end, rate, known)
 }
 
 // The greatest of the numbers below this one; 0 if there is none.
@@ -186,11 +196,19 @@ fn greater_below(key: u64, other: u64, below: u64) -> u64
 
 // Tries the tracks of these cylinders, if their upper bound leaves it open whether one is better
 // than the best so far: part by part, that with the greatest bound first.
-fn visit(search: &Search, from: u32, end: u32, most: u64, start: Scored) -> Scored
+fn visit(
+    search: &Search,
+    from: u32,
+    end: u32,
+    most: u64,
+    rate: u64,
+    start: Scored,
+) -> Scored
     requires within { end ≤ search.now.disk.now.mechanism.cylinders }
     requires few { search.now.disk.now.mechanism.cylinders ≤ 10 ^ 6 }
     requires most { IsCeiling search.now.disk.now search.now.gap.now (wanted_of search.now.wanted.now) from end most }
     requires search { IsSearch search.now }
+    requires rate { AreRated search.now from end rate }
     requires best { IsFound search.now start }
     ensures scored { IsFound search.now result }
     ensures keeps { IsNoWorse search.now result.plan start.plan }
@@ -207,17 +225,22 @@ fn visit(search: &Search, from: u32, end: u32, most: u64, start: Scored) -> Scor
         return start;
     }
     if end - from == 1 {
-        return try_cylinder(search, from, start);
+        return try_cylinder(search, from, rate, start);
     }
+    let own = rate_in(search, from, end, rate);
     let width = width_of(end - from);
-    let keys = keys_of(search, from, end, width, start.value);
+    let keys = keys_of(search, from, end, width, own, start.value);
     let mut best = start;
     let mut key = next_below(&keys, u64::MAX);
     while 0 < key {
+        let most = (key - 1) / 8;
+        if most < best.value {
+            return best;
+        }
         let begin = from + (7 - (key - 1) % 8) as u32 * width;
         let behind = begin + width;
         let upto = end.min(behind);
-        best = visit(search, begin, upto, (key - 1) / 8, best);
+        best = visit(search, begin, upto, most, own, best);
         key = next_below(&keys, key);
     }
     best
@@ -234,6 +257,7 @@ pub fn try_all(search: &Search, start: Scored) -> Scored
     let geometry = search.disk.map.geometry();
     geometry.sound();
     let end = geometry.cylinders();
-    let most = most_within(search, 0, end, start.value);
-    visit(search, 0, end, most, start)
+    let rate = rate_over(search.disk, search.wanted, 0, end);
+    let most = most_within(search, 0, end, rate, start.value);
+    visit(search, 0, end, most, rate, start)
 }

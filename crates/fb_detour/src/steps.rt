@@ -7,14 +7,14 @@ ghost use Rattle.fb_model.specs.Plans.{value, IsDetour};
 ghost use Rattle.fb_wanted.specs.States.{wanted_of};
 ghost use Rattle.fb_wanted.specs.Tracks.{wanted_weight};
 ghost use Rattle.fb_plan.specs.Ways.{AreOnDisk};
-ghost use Rattle.fb_detour.specs.Bounds.{IsCeiling, IsRate, IsReach, IsSearch};
+ghost use Rattle.fb_detour.specs.Bounds.{AreRated, IsCeiling, IsRate, IsReach, IsSearch};
 
 use crate::bounds::{least_moves, most_depth, most_slots};
 use crate::given::Search;
 use crate::parts::{LATE, LateParts};
 use fb_service::Disk;
 use fb_units::{Ns, Track};
-use fb_wanted::Wanted;
+use fb_wanted::{BAND, Wanted};
 
 // The unit of rates: one for each ns.
 const UNIT: u64 = 1 << 24;
@@ -35,7 +35,7 @@ pub struct Reach {
 
 // The most that passes in each ns on a track of these cylinders, in units of 2^-24: one sector for
 // each least length of a slot, with the most weight that is wanted of one sector.
-fn rate_over(disk: &Disk, wanted: &Wanted, from: u32, end: u32) -> u64
+pub fn rate_over(disk: &Disk, wanted: &Wanted, from: u32, end: u32) -> u64
     requires some { from < end }
     requires cylinders { end ≤ disk.now.mechanism.cylinders }
     requires blocks { AreOnDisk disk.now wanted.now }
@@ -53,17 +53,33 @@ fn rate_over(disk: &Disk, wanted: &Wanted, from: u32, end: u32) -> u64
     (depth * UNIT).div_ceil(share)
 }
 
-// The reach of detours over these cylinders.
-pub fn reach_of(search: &Search, from: u32, end: u32) -> Reach
+// A rate for these cylinders, from one that is known for them: if they are fewer than a band has, that
+// rate, else one of their own.
+pub fn rate_in(search: &Search, from: u32, end: u32, known: u64) -> u64
     requires some { from < end }
     requires cylinders { end ≤ search.now.disk.now.mechanism.cylinders }
     requires search { IsSearch search.now }
+    requires known { AreRated search.now from end known }
+    ensures { AreRated search.now from end result }
+{
+    if end - from < BAND {
+        return known;
+    }
+    rate_over(search.disk, search.wanted, from, end)
+}
+
+// The reach of detours over these cylinders, by their rate.
+pub fn reach_of(search: &Search, from: u32, end: u32, rate: u64) -> Reach
+    requires some { from < end }
+    requires cylinders { end ≤ search.now.disk.now.mechanism.cylinders }
+    requires search { IsSearch search.now }
+    requires rate { AreRated search.now from end rate }
     ensures { (track : Track) → from ≤ track.cylinder → track.cylinder < end → IsReach search.now.disk.now search.now.gap.now search.now.wanted.now track result }
 {
     let moves = least_moves(search.disk, search.gap, from, end);
     Reach {
         back: search.gap.now + moves.there + moves.on,
-        rate: rate_over(search.disk, search.wanted, from, end),
+        rate,
     }
 }
 
@@ -137,10 +153,11 @@ pub fn most_by_steps(search: &Search, reach: Reach, weight: u64, known: u64) -> 
 
 // An upper bound on the value of detours over the tracks of these cylinders. It is found without a
 // look at the times of moves where even the weights are less than `known`.
-pub fn most_over(search: &Search, from: u32, end: u32, known: u64) -> u64
+pub fn most_over(search: &Search, from: u32, end: u32, rate: u64, known: u64) -> u64
     requires some { from < end }
     requires cylinders { end ≤ search.now.disk.now.mechanism.cylinders }
     requires search { IsSearch search.now }
+    requires rate { AreRated search.now from end rate }
     ensures most { IsCeiling search.now.disk.now search.now.gap.now (wanted_of search.now.wanted.now) from end result }
     ensures small { result ≤ 2 * (16000000 * 2048000) }
 {
@@ -149,6 +166,6 @@ pub fn most_over(search: &Search, from: u32, end: u32, known: u64) -> u64
     if sum < known {
         return sum;
     }
-    let reach = reach_of(search, from, end);
+    let reach = reach_of(search, from, end, rate_in(search, from, end, rate));
     most_by_steps(search, reach, weight, known)
 }

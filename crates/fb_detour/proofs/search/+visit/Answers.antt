@@ -3,7 +3,7 @@ use Rattle.fb_wanted.specs.States.{wanted_of}
 use Rattle.fb_plan.proofs.Ties.{beats-self, beats-trans}
 use Rattle.fb_detour.proofs.Ways.{not_better}
 use Rattle.fb_detour.proofs.Ranges.{first-of}
-use Rattle.fb_detour.proofs.Keys.{its-ceiling, its-part, part-more, parts-done}
+use Rattle.fb_detour.proofs.Keys.{its-ceiling, its-part, part-more, parts-beaten, parts-done}
 use Rattle.fb_detour.proofs.search.+visit.Goals as goal
 
 pub returns-then-end-from-clause-tried : goal.returns-then-end-from-clause-tried
@@ -44,7 +44,7 @@ visit-best-requires n c =
     let its = c.loop-key.invariant.3 c.loop-key-test.true in
     let most = its-ceiling c.args.search.now.disk.now c.args.search.now.gap.now (wanted_of c.args.search.now.wanted.now) c.args.from c.args.end c.width_of-width.result c.keys_of-keys.result c.keys_of-keys.ensures its.0 c.loop-key.key c.min-upto.result its.1 its.2 c.min-upto.ensures in (
       omega (arith, c.min-upto.ensures, c.width_of-width.ensures.less, c.if-end-from.false, c.decreases),
-      (omega (arith, c.requires.within, c.min-upto.ensures), (c.requires.few, (most, (c.requires.search, c.loop-key.invariant.0)))),
+      (omega (arith, c.requires.within, c.min-upto.ensures), (c.requires.few, (most, (c.requires.search, (λ track low high. c.rate_in-own.ensures track (omega (arith, low)) (omega (arith, high, c.min-upto.ensures)), c.loop-key.invariant.0))))),
     )
 
 pub returns-clause-tried : goal.returns-clause-tried
@@ -53,3 +53,13 @@ returns-clause-tried n c =
     let none : c.loop-key.key ≡ 0 = omega (arith, c.loop-key-test.false) in
     parts-done c.args.search.now.disk.now c.args.search.now.gap.now wanted c.args.from c.args.end c.width_of-width.result c.keys_of-keys.result c.keys_of-keys.ensures c.loop-key.best.plan c.width_of-width.ensures.some
     (omega (arith, c.width_of-width.ensures.whole)) (λ j less above. c.loop-key.invariant.2 j less (omega (arith, none, above)))
+
+pub returns-then-most-best-clause-tried : goal.returns-then-most-best-clause-tried
+returns-then-most-best-clause-tried n c =
+    let disk = c.args.search.now.disk.now in
+    let gap = c.args.search.now.gap.now in
+    let wanted = wanted_of c.args.search.now.wanted.now in
+    let keys = c.keys_of-keys.result in
+    let all = parts-beaten disk gap wanted c.args.from c.args.end c.width_of-width.result keys c.keys_of-keys.ensures c.loop-key.best c.loop-key.key c.loop-key.invariant.0 c.loop-key.invariant.2 (omega (arith, c.if-most-best.true)) in
+    parts-done disk gap wanted c.args.from c.args.end c.width_of-width.result keys c.keys_of-keys.ensures c.loop-key.best.plan c.width_of-width.ensures.some
+    (omega (arith, c.width_of-width.ensures.whole)) all
