@@ -2,7 +2,8 @@
 use Rattle.std.specs.Prelude.{◌≡◌, ℕ, false, ◌+◌, ◌-◌, ◌*◌, ◌/◌, ◌%◌, ◌^◌, ◌<◌, ◌≤◌, ◌⊎◌, min, nat_lt, get_or, take, List, ◌&&◌, if◌then◌else◌}
 use Rattle.std.specs.List.{sum_by}
 use Rattle.fb_units.specs.declared.types.Track.{Track}
-use Rattle.fb_seek.specs.Positioning.{pos}
+use Rattle.fb_seek.specs.Mechanics.{Mechanics}
+use Rattle.fb_seek.specs.Positioning.{distance_of, pos, seek}
 use Rattle.fb_service.specs.declared.disk.Disk.{Disk}
 use Rattle.fb_wanted.specs.declared.block.Block.{Block}
 use Rattle.fb_wanted.specs.declared.block.Entry.{Entry}
@@ -15,6 +16,7 @@ use Rattle.fb_model.specs.Plans.{block_end, catches, value, IsPlan, IsDetour, Is
 use Rattle.fb_plan.specs.declared.choice.Scored.{Scored}
 use Rattle.fb_plan.specs.declared.way.Way.{Way}
 use Rattle.fb_detour.specs.declared.bounds.Moves.{Moves}
+use Rattle.fb_detour.specs.declared.bounds.Seeks.{Seeks}
 use Rattle.fb_detour.specs.declared.candidates.Tried.{Tried}
 use Rattle.fb_detour.specs.declared.given.Search.{Search}
 use Rattle.fb_detour.specs.declared.intervals.Ceilings.{Ceilings}
@@ -148,6 +150,13 @@ IsEnough best ceiling track = (ceiling < best.value) ⊎ ((ceiling ≡ best.valu
 abbrev pub AreLeast : Disk → Gap → ℕ → ℕ → Moves → Type 0
 AreLeast disk gap from end moves = (track : Track) → from ≤ track.cylinder → track.cylinder < end
     → (moves.there ≤ pos disk.mechanism gap.source track false) × (moves.on ≤ pos disk.mechanism track gap.target gap.write)
+
+-- the times of the seeks to a cylinder, and on from it to that of the target
+pub record AreSeeks (arm : Mechanics) (gap : Gap) (cylinder : ℕ) (seeks : Seeks) : Type 0 where
+  pub there : seeks.there ≡ seek arm (distance_of gap.source.cylinder cylinder)
+  pub on : seeks.on ≡ seek arm (distance_of cylinder gap.target.cylinder)
+  pub short_there : seeks.there ≤ 10 ^ 9
+  pub short_on : seeks.on ≤ 10 ^ 9
 
 -- no stay on the track catches more in each nanosecond, in units of 2^-24
 abbrev pub IsRate : Disk → List Entry → Track → ℕ → Type 0

@@ -5,7 +5,7 @@ ghost use Rattle.fb_geometry.specs.Shape.{IsTrackOf, slots_at};
 ghost use Rattle.fb_model.specs.Plans.{IsTrackBefore};
 ghost use Rattle.fb_wanted.specs.Depth.{depth_at};
 ghost use Rattle.fb_plan.specs.Ways.{IsGap};
-ghost use Rattle.fb_detour.specs.Bounds.{distance_to, AreLeast, IsAhead, IsEnough};
+ghost use Rattle.fb_detour.specs.Bounds.{distance_to, AreLeast, AreSeeks, IsAhead, IsEnough};
 
 use fb_geometry::Zone;
 use fb_plan::Scored;
@@ -55,6 +55,26 @@ pub fn least_moves(disk: &Disk, gap: &Gap, from: u32, end: u32) -> Moves
     };
     let on = disk.mechanism.pos(nearest, gap.target, gap.write);
     Moves { there, on }
+}
+
+// The times, in ns, of the seeks to a cylinder, and on from it to that of the target.
+#[derive(Clone, Copy)]
+pub struct Seeks {
+    pub there: Ns,
+    pub on: Ns,
+}
+
+// The times of the seeks of detours over a cylinder.
+pub fn seeks_over(disk: &Disk, gap: &Gap, cylinder: u32) -> Seeks
+    requires gap { IsGap disk.now gap.now }
+    requires cylinder { cylinder < disk.now.mechanism.cylinders }
+    ensures { AreSeeks disk.now.mechanism gap.entry.now cylinder result }
+{
+    let mechanism = &disk.mechanism;
+    Seeks {
+        there: mechanism.seek(gap.source.cylinder.abs_diff(cylinder)),
+        on: mechanism.seek(cylinder.abs_diff(gap.target.cylinder)),
+    }
 }
 
 // An upper bound on the weight of the wanted blocks that share one sector, over all blocks of these

@@ -6,23 +6,30 @@ ghost use Rattle.fb_units.specs.Tracks.{same_track};
 ghost use Rattle.fb_geometry.specs.Shape.{IsTrackOf};
 ghost use Rattle.fb_wanted.specs.States.{on_track, wanted_of};
 ghost use Rattle.fb_plan.specs.Ways.{AreOnDisk};
-ghost use Rattle.fb_detour.specs.Bounds.{AreRated, IsCeiling, IsKey, IsReach, IsSearch, IsFound, IsNoWorse, BeatsTrack, BeatsTracks};
+ghost use Rattle.fb_detour.specs.Bounds.{AreRated, AreSeeks, IsCeiling, IsKey, IsReach, IsSearch, IsFound, IsNoWorse, BeatsTrack, BeatsTracks};
 
-use crate::bounds::is_enough;
+use crate::bounds::{Seeks, is_enough, seeks_over};
 use crate::candidates::try_leaves;
 use crate::given::Search;
 use crate::intervals::ceilings_of;
 use crate::leaves::leaves_beaten;
 use crate::missing::misses_enough;
 use crate::parts::late_at;
-use crate::steps::{Reach, most_by_steps, most_over, rate_in, rate_over, reach_of};
+use crate::steps::{Reach, most_by_steps, most_over, rate_in, rate_over, reach_by};
 use crate::stop::stop_at;
 use fb_plan::{Scored, Way, blocks_on, is_same};
 use fb_units::{Ns, Track};
 use fb_wanted::{TrackBlocks, Wanted};
 
 // Tries the plans that stop at a track with these blocks, unless none can be better than the best so far.
-fn try_stop(search: &Search, track: Track, blocks: TrackBlocks, start: Scored) -> Scored
+fn try_stop(
+    search: &Search,
+    track: Track,
+    seeks: Seeks,
+    blocks: TrackBlocks,
+    start: Scored,
+) -> Scored
+    requires seeks { AreSeeks search.now.disk.now.mechanism search.now.gap.now track.cylinder seeks }
     requires track { IsTrackOf search.now.disk.now.map track }
     requires detour { same_track track search.now.gap.now.source ≡ false }
     requires elsewhere { same_track track search.now.gap.now.target ≡ false }
@@ -34,11 +41,10 @@ fn try_stop(search: &Search, track: Track, blocks: TrackBlocks, start: Scored) -
     ensures keeps { IsNoWorse search.now result.plan start.plan }
     ensures tried { BeatsTrack search.now result.plan track }
 {
-    let arrive = search.gap.now + search.disk.mechanism.pos(search.gap.source, track, false);
-    let on = search
-        .disk
-        .mechanism
-        .pos(track, search.gap.target, search.gap.write);
+    let mechanism = &search.disk.mechanism;
+    let there = mechanism.pos_with(seeks.there, search.gap.source, track, false);
+    let on = mechanism.pos_with(seeks.on, track, search.gap.target, search.gap.write);
+    let arrive = search.gap.now + there;
     if search.gap.deadline < arrive + on {
         return start;
     }
@@ -63,7 +69,8 @@ fn try_stop(search: &Search, track: Track, blocks: TrackBlocks, start: Scored) -
 }
 
 // Tries the plans over a track, unless none can be better than the best so far.
-fn try_track(search: &Search, track: Track, reach: Reach, start: Scored) -> Scored
+fn try_track(search: &Search, track: Track, seeks: Seeks, reach: Reach, start: Scored) -> Scored
+    requires seeks { AreSeeks search.now.disk.now.mechanism search.now.gap.now track.cylinder seeks }
     requires track { IsTrackOf search.now.disk.now.map track }
     requires reach { IsReach search.now.disk.now search.now.gap.now search.now.wanted.now track reach }
     requires search { IsSearch search.now }
@@ -83,7 +90,7 @@ fn try_track(search: &Search, track: Track, reach: Reach, start: Scored) -> Scor
     if is_enough(start, most, track) {
         return start;
     }
-    try_stop(search, track, blocks, start)
+    try_stop(search, track, seeks, blocks, start)
 }
 
 // Tries the tracks of a cylinder.
@@ -97,11 +104,12 @@ fn try_cylinder(search: &Search, cylinder: u32, rate: u64, start: Scored) -> Sco
     ensures tried { BeatsTracks search.now result.plan cylinder (cylinder + 1) }
 {
     let _cylinders = search.disk.map.geometry().cylinders();
-    let reach = reach_of(search, cylinder, cylinder + 1, rate);
+    let seeks = seeks_over(search.disk, search.gap, cylinder);
+    let reach = reach_by(search, cylinder, seeks, rate);
     let mut best = start;
     for head in 0..search.disk.map.geometry().heads() {
         let track = Track { cylinder, head };
-        best = try_track(search, track, reach, best);
+        best = try_track(search, track, seeks, reach, best);
     }
     best
 }
@@ -128,14 +136,7 @@ fn width_of(cylinders: u32) -> u32
 // For each part of the range an upper bound on the value of detours over it, in one number with the
 // part: eight times the bound, and 8 for the first part, 7 for the second and so on. So numbers
 // differ, and a greater bound has a greater number.
-fn keys_of(
-    search: &Search,
-    from: u32,
-    end: u32,
-    width: u32,
-    rate: u64,
-    known: u64,
-) -> [u64; WAYS]
+fn keys_of(search: &Search, from: u32, end: u32, width: u32, rate: u64, known: u64) -> [u64; WAYS]
     requires within { end ≤ search.now.disk.now.mechanism.cylinders }
     requires order { from ≤ end }
     requires few { search.now.disk.now.mechanism.cylinders ≤ 10 ^ 6 }
@@ -196,14 +197,7 @@ fn greater_below(key: u64, other: u64, below: u64) -> u64
 
 // Tries the tracks of these cylinders, if their upper bound leaves it open whether one is better
 // than the best so far: part by part, that with the greatest bound first.
-fn visit(
-    search: &Search,
-    from: u32,
-    end: u32,
-    most: u64,
-    rate: u64,
-    start: Scored,
-) -> Scored
+fn visit(search: &Search, from: u32, end: u32, most: u64, rate: u64, start: Scored) -> Scored
     requires within { end ≤ search.now.disk.now.mechanism.cylinders }
     requires few { search.now.disk.now.mechanism.cylinders ≤ 10 ^ 6 }
     requires most { IsCeiling search.now.disk.now search.now.gap.now (wanted_of search.now.wanted.now) from end most }

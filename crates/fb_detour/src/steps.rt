@@ -7,9 +7,9 @@ ghost use Rattle.fb_model.specs.Plans.{value, IsDetour};
 ghost use Rattle.fb_wanted.specs.States.{wanted_of};
 ghost use Rattle.fb_wanted.specs.Tracks.{wanted_weight};
 ghost use Rattle.fb_plan.specs.Ways.{AreOnDisk};
-ghost use Rattle.fb_detour.specs.Bounds.{AreRated, IsCeiling, IsRate, IsReach, IsSearch};
+ghost use Rattle.fb_detour.specs.Bounds.{AreRated, AreSeeks, IsCeiling, IsRate, IsReach, IsSearch};
 
-use crate::bounds::{least_moves, most_depth, most_slots};
+use crate::bounds::{Seeks, least_moves, most_depth, most_slots};
 use crate::given::Search;
 use crate::parts::{LATE, LateParts};
 use fb_service::Disk;
@@ -69,7 +69,7 @@ pub fn rate_in(search: &Search, from: u32, end: u32, known: u64) -> u64
 }
 
 // The reach of detours over these cylinders, by their rate.
-pub fn reach_of(search: &Search, from: u32, end: u32, rate: u64) -> Reach
+fn reach_of(search: &Search, from: u32, end: u32, rate: u64) -> Reach
     requires some { from < end }
     requires cylinders { end ≤ search.now.disk.now.mechanism.cylinders }
     requires search { IsSearch search.now }
@@ -79,6 +79,29 @@ pub fn reach_of(search: &Search, from: u32, end: u32, rate: u64) -> Reach
     let moves = least_moves(search.disk, search.gap, from, end);
     Reach {
         back: search.gap.now + moves.there + moves.on,
+        rate,
+    }
+}
+
+// The reach of detours over a cylinder, by the times of the seeks there and on and by its rate.
+pub fn reach_by(search: &Search, cylinder: u32, seeks: Seeks, rate: u64) -> Reach
+    requires cylinder { cylinder < search.now.disk.now.mechanism.cylinders }
+    requires seeks { AreSeeks search.now.disk.now.mechanism search.now.gap.now cylinder seeks }
+    requires search { IsSearch search.now }
+    requires rate { AreRated search.now cylinder (cylinder + 1) rate }
+    ensures { (track : Track) → cylinder ≤ track.cylinder → track.cylinder < cylinder + 1 → IsReach search.now.disk.now search.now.gap.now search.now.wanted.now track result }
+{
+    search.disk.mechanism.seeks_rise();
+    let nearest = Track {
+        cylinder,
+        head: search.gap.target.head,
+    };
+    let on = search
+        .disk
+        .mechanism
+        .pos_with(seeks.on, nearest, search.gap.target, search.gap.write);
+    Reach {
+        back: search.gap.now + seeks.there + on,
         rate,
     }
 }

@@ -19,4 +19,4 @@ returns-clause-tried c = cylinder-done c.args.search.now.disk.now c.args.search.
     (omega (arith, c.loop-head-test.false, c.heads-head-end.ensures.value, ap (λ (d : Shape). d.heads) c.geometry-2.ensures)) c.loop-head.invariant.2
 
 pub try_track-best-requires-clause-reach : goal.try_track-best-requires-clause-reach
-try_track-best-requires-clause-reach c = c.reach_of-reach.ensures (record { cylinder = c.args.cylinder; head = c.loop-head.head }) (omega arith) (omega arith)
+try_track-best-requires-clause-reach c = c.reach_by-reach.ensures (record { cylinder = c.args.cylinder; head = c.loop-head.head }) (omega arith) (omega arith)

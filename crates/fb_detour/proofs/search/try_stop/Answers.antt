@@ -9,8 +9,8 @@ pub returns-then-misses_enough-clause-tried : goal.returns-then-misses_enough-cl
 returns-then-misses_enough-clause-tried c = λ leave is.
     let disk = c.args.search.now.disk.now in
     let gap = c.args.search.now.gap.now in
-    let arrive = gap.now + c.pos.result in
-    let latest = gap.deadline - c.pos-on.result in
+    let arrive = gap.now + c.pos_with-there.result in
+    let latest = gap.deadline - c.pos_with-on.result in
     let stop = c.stop_at-stop in
     let most = c.misses_enough.ensures c.if-misses_enough.true in
     let enough : IsEnough c.args.start (most.0 + c.late_at-after.result) c.args.track = subst (λ t. IsEnough c.args.start (most.0 + c.late_at-after.result) t) stop.ensures.track most.2 in
@@ -21,9 +21,9 @@ returns-then-misses_enough-clause-tried c = λ leave is.
     c.requires.best enough (not_itself c.args.track)
     (omega (
       arith,
-      by_interval disk gap c.args.search.now.wanted.now c.args.track leave is arrive latest arrive c.pos-on.result
-          (ap (λ x. gap.now + x) c.pos.ensures.value) c.pos-on.ensures.value (omega (arith, is.after_arrival, c.pos.ensures.value)) (omega (arith, is.in_time, c.pos-on.ensures.value)),
+      by_interval disk gap c.args.search.now.wanted.now c.args.track leave is arrive latest arrive c.pos_with-on.result
+          (ap (λ x. gap.now + x) c.pos_with-there.ensures.value) c.pos_with-on.ensures.value (omega (arith, is.after_arrival, c.pos_with-there.ensures.value)) (omega (arith, is.in_time, c.pos_with-on.ensures.value)),
       gives,
-      late-part disk gap c.args.search.now.wanted.now c.args.search.now.late.now (arrive + c.pos-on.result) c.requires.search.late (omega arith),
+      late-part disk gap c.args.search.now.wanted.now c.args.search.now.late.now (arrive + c.pos_with-on.result) c.requires.search.late (omega arith),
       c.late_at-after.ensures.value,
     ))
