@@ -117,7 +117,7 @@ fn push_contents(
     ensures { OnOk result (changes.new.items ≡ changes.old.items ++ map (λ run. record { instant = instant; run = run }) contents.now) }
 {
     for i in 0..contents.len() {
-        let run = *contents.get(i);
+        let run = contents.get(i);
         changes.push(Change { instant, run })?;
     }
     Ok(())

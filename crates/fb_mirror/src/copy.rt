@@ -31,7 +31,7 @@ pub fn copy_piece(alloc: Global, copy: &Rebuilt, count: u64, k: u64) -> Result<V
     }
     let run = (k - 2) as usize;
     if run < copy.content.len() {
-        run_line(alloc, copy.content.get(run))
+        run_line(alloc, &copy.content.get(run))
     } else {
         end_line(alloc, copy.covered, count)
     }

@@ -23,7 +23,7 @@ pub fn pour<S: Sink>(
     let mut buffer = vec![in alloc; 0; sector_bytes as usize]?;
     let sector = buffer.as_mut_slice();
     for place in 0..contents.len() {
-        pour_run(sink, contents.get(place), sector)?;
+        pour_run(sink, &contents.get(place), sector)?;
     }
     Ok(())
 }

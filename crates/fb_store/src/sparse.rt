@@ -142,7 +142,7 @@ fn cut_runs(
     ensures begins { OnOk result (AreCut (get nat_cmp ranges.new) contents.now) }
 {
     for i in 0..contents.len() {
-        let run = *contents.get(i);
+        let run = contents.get(i);
         cut(ranges, run.first)?;
         cut(ranges, run.first + run.count)?;
     }
@@ -156,7 +156,7 @@ fn assign_runs(ranges: &mut BTreeMap<u64, Option<Content>>, contents: &Contents)
     ensures { (lbn : ℕ) → held_of (get nat_cmp ranges.new) lbn ≡ after_taking (sectors_of contents.now) lbn (held_of (get nat_cmp ranges.old) lbn) }
 {
     for i in 0..contents.len() {
-        let run = *contents.get(i);
+        let run = contents.get(i);
         assign(ranges, run.first, run.first + run.count, run.content);
     }
 }

@@ -76,7 +76,7 @@ impl Store {
         ensures ranges { IfOk result (λ runs. AllByRecursion (λ run. run.first + run.count ≤ 10 ^ 12) runs) }
     {
         let end = first + count as u64;
-        let mut runs = Contents::with_room_for_one(alloc)?;
+        let mut runs = Contents::new(alloc);
         let mut lbn = first;
         while lbn < end {
             let run = self.run_at(lbn, end);

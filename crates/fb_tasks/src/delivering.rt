@@ -51,7 +51,7 @@ fn bad_sectors(alloc: Global, content: &Contents) -> Result<Vec<u64>, NoMemory>
 {
     let mut lbns = Vec::new(alloc);
     for i in 0..content.len() {
-        let run = *content.get(i);
+        let run = content.get(i);
         match run.content {
             Content::Unreadable => push_range(&mut lbns, run.first, run.count)?,
             Content::Filled(_) => {}

@@ -120,7 +120,7 @@ fn sectors(alloc: Global, contents: &Contents) -> Result<String, AllocError> {
     }
     let mut text = String::new(alloc);
     for i in 0..contents.len() {
-        push_run(alloc, &mut text, contents.get(i))?;
+        push_run(alloc, &mut text, &contents.get(i))?;
     }
     Ok(text)
 }

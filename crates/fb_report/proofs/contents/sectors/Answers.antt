@@ -4,5 +4,5 @@ use Rattle.fb_report.proofs.contents.sectors.Goals as goal
 
 pub loop-place-preserved : goal.loop-place-preserved
 loop-place-preserved c =
-    let range = all_get (λ run. run.first + run.count ≤ 10 ^ 12) c.args.contents.now c.loop-place.place c.get.result.now c.requires.ranges c.get.ensures in
-    (omega (arith, c.loop-place.invariant.0, sum_more (λ run. run.count) c.args.contents.now c.loop-place.place c.get.result.now c.get.ensures), omega (arith, range, c.loop-place.invariant.1))
+    let range = all_get (λ run. run.first + run.count ≤ 10 ^ 12) c.args.contents.now c.loop-place.place c.get.result c.requires.ranges c.get.ensures in
+    (omega (arith, c.loop-place.invariant.0, sum_more (λ run. run.count) c.args.contents.now c.loop-place.place c.get.result c.get.ensures), omega (arith, range, c.loop-place.invariant.1))

@@ -1,6 +1,7 @@
-use Rattle.std.proofs.Common.{◌≡◌, ◌≤◌, ◌<◌, ◌+◌, ℕ, List, ap, ◌∙◌, arith, length, take, get_or}
+use Rattle.std.proofs.Common.{◌≡◌, ◌≤◌, ◌+◌, ℕ, List, ap, ◌∙◌, arith, take, Some, slice_get}
 use Rattle.std.specs.List.{sum_by}
-use Rattle.std.proofs.lemmas.List.Sums.{sum_by_more_le, sum_by-le-sum_by, sum_by-take-le}
+use Rattle.std.proofs.lemmas.Option.{get_or_from_slice_get, slice_get_within}
+use Rattle.std.proofs.lemmas.List.Sums.{sum_by_more, sum_by_more_le, sum_by-le-sum_by, sum_by-take-le}
 use Rattle.fb_store.specs.declared.content.ContentRun.{ContentRun}
 use Rattle.fb_store.specs.declared.content.Content.{Content}
 use Rattle.fb_store.specs.declared.content.Content.TheVariants.{Filled, Unreadable}
@@ -14,22 +15,27 @@ bad_within first count Unreadable = omega arith
 bad-le : (run : ContentRun) → bad_in run ≤ run.count
 bad-le run = bad_within run.first run.count run.content
 
-one_more : (runs items : List ContentRun) (bad i more : ℕ) (d : ContentRun) → items ≡ runs → bad ≡ sum_by bad_in (take i runs) → i < length items → more ≡ bad_in (get_or items i d)
-    → bad + more ≤ sum_by (λ run. run.count) runs
-one_more runs items bad i more d same so_far within this =
-    let here : more ≡ bad_in (get_or runs i d) = this ∙ ap (λ (xs : List ContentRun). bad_in (get_or xs i d)) same in
-    omega (arith, sum_by_more_le bad_in runs i d (omega (arith, ap length same)), sum_by-le-sum_by bad_in (λ (run : ContentRun). run.count) runs bad-le)
+one_more : (runs : List ContentRun) (i : ℕ) (run : ContentRun) → slice_get runs i ≡ Some run → sum_by bad_in (take i runs) + bad_in run ≤ sum_by (λ run. run.count) runs
+one_more runs i run there =
+    let this = ap bad_in (get_or_from_slice_get runs i run run there) in
+    omega (arith, this, sum_by_more_le bad_in runs i run (slice_get_within runs i run there), sum_by-le-sum_by bad_in (λ (run : ContentRun). run.count) runs bad-le)
+
+next : (runs : List ContentRun) (i : ℕ) (run : ContentRun) → slice_get runs i ≡ Some run → sum_by bad_in (take (i + 1) runs) ≡ sum_by bad_in (take i runs) + bad_in run
+next runs i run there = sum_by_more bad_in runs i run (slice_get_within runs i run there) ∙ ap (λ r. sum_by bad_in (take i runs) + bad_in r) (get_or_from_slice_get runs i run run there)
 
 pub overflow_add-bad : goal.overflow_add-bad
 overflow_add-bad c =
-    omega (
-      arith,
-      c.requires,
-      one_more c.args.self.now c.deref-run-items.result.now c.loop-run.bad c.loop-run.run-index c.unreadable-bad.result _ (c.deref-run-items.ensures.value ∙ c.self.view_is)
-          c.loop-run.invariant c.loop-run-test.true c.unreadable-bad.ensures,
-    )
+    let so_far : c.loop-i.bad ≡ sum_by bad_in (take c.loop-i.i c.args.self.now) = c.loop-i.invariant in
+    omega (arith, c.requires, so_far, c.unreadable-bad.ensures, one_more c.args.self.now c.loop-i.i c.get.result c.get.ensures)
+
+pub loop-i-preserved : goal.loop-i-preserved
+loop-i-preserved c =
+    let so_far : c.loop-i.bad ≡ sum_by bad_in (take c.loop-i.i c.args.self.now) = c.loop-i.invariant in
+    let more : c.loop-i.bad + c.unreadable-bad.result ≡ sum_by bad_in (take (c.loop-i.i + 1) c.args.self.now) =
+    omega (arith, so_far, c.unreadable-bad.ensures, next c.args.self.now c.loop-i.i c.get.result c.get.ensures) in
+    more
 
 pub returns-clause-most : goal.returns-clause-most
 returns-clause-most c =
-    let so_far : c.loop-run.bad ≡ sum_by bad_in (take c.loop-run.run-index c.args.self.now) = c.loop-run.invariant in
-    omega (arith, so_far, sum_by-take-le bad_in c.args.self.now c.loop-run.run-index, sum_by-le-sum_by bad_in (λ (run : ContentRun). run.count) c.args.self.now bad-le)
+    let so_far : c.loop-i.bad ≡ sum_by bad_in (take c.loop-i.i c.args.self.now) = c.loop-i.invariant in
+    omega (arith, so_far, sum_by-take-le bad_in c.args.self.now c.loop-i.i, sum_by-le-sum_by bad_in (λ (run : ContentRun). run.count) c.args.self.now bad-le)

@@ -3,5 +3,5 @@ use Rattle.std.specs.List.{sum_by}
 use Rattle.fb_store.specs.Runs.{bad_in}
 use Rattle.fb_store.proofs.contents.Contents.bad.Given as goal
 
-abbrev pub invariant-loop-run : goal.invariant-loop-run
-invariant-loop-run l = l.bad ≡ sum_by bad_in (take l.run-index l.self)
+abbrev pub invariant-loop-i : goal.invariant-loop-i
+invariant-loop-i l = l.bad ≡ sum_by bad_in (take l.i l.self)

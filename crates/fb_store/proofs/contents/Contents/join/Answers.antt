@@ -1,27 +1,30 @@
-use Rattle.std.proofs.Common.{sym, ap, ◌∙◌, ◌-◌, ◌++◌, ◌∷◌, [], arith, length, get_or, set}
-use Rattle.fb_store.specs.Runs.{last_joins, joins}
+use Rattle.std.proofs.Common.{sym, ap, ◌∙◌, ◌-◌, arith, set}
+use Rattle.std.proofs.lemmas.Option.{get_or_from_slice_get}
+use Rattle.std.proofs.lemmas.Result.{on_ok_weaker}
+use Rattle.fb_store.specs.Runs.{joins}
 use Rattle.fb_store.proofs.Joined.{joined_last, pushed_last, last_joins-at, joins-first, longer, some_run}
 use Rattle.fb_store.proofs.contents.Contents.join.Goals as goal
 
-pub overflow_add-index_mut : goal.overflow_add-index_mut
-overflow_add-index_mut c =
-    let size = some_run c.args.self.now c.args.run (sym c.goes_on.ensures ∙ c.if-goes_on.true) in
-    let same = ap length c.self.view_is in
-    let joined = sym (last_joins-at c.self.inside.runs.items (c.len-last.result - 1) c.index_mut.result.now c.args.run (omega arith))
-    ∙ (ap (λ runs. last_joins runs c.args.run) c.self.view_is ∙ (sym c.goes_on.ensures ∙ c.if-goes_on.true)) in
-    let first = joins-first c.index_mut.result.now c.args.run (ap (λ last. joins last c.args.run) c.index_mut.ensures.value ∙ joined) in
+pub overflow_add-longer : goal.overflow_add-longer
+overflow_add-longer c =
+    let goes_on = sym c.goes_on.ensures ∙ c.if-not-goes_on.false in
+    let size = some_run c.args.self.now c.args.run goes_on in
+    let last = get_or_from_slice_get c.args.self.now (c.len-last.result - 1) c.get-longer.result c.get-longer.result c.get-longer.ensures in
+    let joined = sym (last_joins-at c.args.self.now (c.len-last.result - 1) c.get-longer.result c.args.run (omega arith) ∙ ap (λ run. joins run c.args.run) last) ∙ goes_on in
+    let first = joins-first c.get-longer.result c.args.run joined in
     let range = c.requires.range in
     omega arith
 
-pub returns-then-goes_on-clause-ok : goal.returns-then-goes_on-clause-ok
-returns-then-goes_on-clause-ok c =
-    let size = some_run c.args.self.now c.args.run (sym c.goes_on.ensures ∙ c.if-goes_on.true) in
-    let same = ap length c.self.view_is in
-    ap (λ last. set c.self.inside.runs.items (c.len-last.result - 1) (longer last c.args.run)) c.index_mut.ensures.value
-    ∙ (ap (λ runs. set runs (c.len-last.result - 1) (longer (get_or runs (c.len-last.result - 1) c.index_mut.result.now) c.args.run)) c.self.view_is
-    ∙ joined_last c.args.self.now (c.len-last.result - 1) c.index_mut.result.now c.args.run (omega arith) c.requires.some c.requires.fewest (sym c.goes_on.ensures ∙ c.if-goes_on.true))
+pub returns-clause-ok : goal.returns-clause-ok
+returns-clause-ok c =
+    let goes_on = sym c.goes_on.ensures ∙ c.if-not-goes_on.false in
+    let size = some_run c.args.self.now c.args.run goes_on in
+    let last = get_or_from_slice_get c.args.self.now (c.len-last.result - 1) c.get-longer.result c.get-longer.result c.get-longer.ensures in
+    on_ok_weaker c.set.result
+    (λ set_to. set_to ∙ (ap (λ run. set c.args.self.now (c.len-last.result - 1) (longer run c.args.run)) (sym last)
+    ∙ joined_last c.args.self.now (c.len-last.result - 1) c.get-longer.result c.args.run (omega arith) c.requires.some c.requires.fewest goes_on))
+    c.set.ensures.ok
 
-pub returns-in_ok-push-clause-ok : goal.returns-in_ok-push-clause-ok
-returns-in_ok-push-clause-ok c = c.in_ok-push.ensures.items
-    ∙ (ap (λ runs. runs ++ c.args.run ∷ []) c.self.view_is
-    ∙ pushed_last c.args.self.now c.args.run c.requires.some c.requires.fewest (sym c.goes_on.ensures ∙ c.if-goes_on.false))
+pub returns-then-not-goes_on-clause-ok : goal.returns-then-not-goes_on-clause-ok
+returns-then-not-goes_on-clause-ok c =
+    on_ok_weaker c.push.result (λ pushed. pushed ∙ pushed_last c.args.self.now c.args.run c.requires.some c.requires.fewest (sym c.goes_on.ensures ∙ c.if-not-goes_on.true)) c.push.ensures.ok
