@@ -83,7 +83,7 @@ impl Draw {
     }
 
     // A request for a sector of the second cylinder.
-    fn request(&mut self, disk: &Disk, number: u64) -> Request
+    fn request(&mut self, disk: &Disk, number: u32) -> Request
         requires { 48 ≤ length (places disk.now.map) }
         ensures { IsRequestOf disk.now.map result }
     {
@@ -128,7 +128,7 @@ fn step<Q: Queue>(
     ensures on_disk { OnOk result (AllByRecursion (IsRequestOf disk.now.map) (Q.pending queue.new)) }
 {
     if draw.below(2) == 0 || queue.is_empty() {
-        let request = draw.request(disk, number);
+        let request = draw.request(disk, number as u32);
         queue.add(disk, request)?;
         return Ok(None);
     }

@@ -84,7 +84,7 @@ fn number(name: Name) -> u64
     ensures { result ≡ number_of name }
 {
     match name {
-        Name::Traced(number) => number,
+        Name::Traced(number) => number as u64,
         Name::Promoted(_) => 0,
     }
 }
