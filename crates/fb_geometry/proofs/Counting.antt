@@ -111,16 +111,16 @@ once_in test false q a n h = omega (arith, none_in test a n (λ i l. not_so (tes
 same_slot : (a b : Place) → same_place a b ≡ true → (same_track a.track b.track ≡ true) × (a.slot ≡ b.slot)
 same_slot a b h = let parts = and_parts (same_track a.track b.track) (a.slot == b.slot) h in (parts.0, eqb-true a.slot b.slot parts.1)
 
--- two places are the same if their tracks and slots are
+-- tracks and places are the same if their numbers are
+pub same_tracks : (a b : Track) → same_track a b ≡ true → a ≡ b
+same_tracks a b h =
+    let parts = and_parts (a.cylinder == b.cylinder) (a.head == b.head) h in
+    ap (λ c. record { cylinder = c; head = a.head }) (eqb-true a.cylinder b.cylinder parts.0) ∙ ap (λ k. record { cylinder = b.cylinder; head = k }) (eqb-true a.head b.head parts.1)
+
 pub same_places : (a b : Place) → same_place a b ≡ true → a ≡ b
 same_places a b h =
     let parts = same_slot a b h in
-    let tracks = and_parts (a.track.cylinder == b.track.cylinder) (a.track.head == b.track.head) parts.0 in
-    let cylinder = eqb-true a.track.cylinder b.track.cylinder tracks.0 in
-    let head = eqb-true a.track.head b.track.head tracks.1 in
-    ap (λ c. record { track = record { cylinder = c; head = a.track.head }; slot = a.slot }) cylinder
-    ∙ (ap (λ k. record { track = record { cylinder = b.track.cylinder; head = k }; slot = a.slot }) head
-    ∙ ap (λ s. record { track = b.track; slot = s }) parts.1)
+    ap (λ track. record { track = track; slot = a.slot }) (same_tracks a.track b.track parts.0) ∙ ap (λ slot. record { track = b.track; slot = slot }) parts.1
 
 module _ (zone : Zone) (some : 0 < zone.sectors) where
   -- one slot of a track

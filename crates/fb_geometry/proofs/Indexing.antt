@@ -2,7 +2,7 @@
 use Rattle.std.proofs.Common.{◌≡◌, ℕ, suc, ◌+◌, ◌-◌, ◌*◌, ◌<◌, ◌≤◌, List, [], ◌∷◌, length, refl, ap, sym, ◌∙◌, arith, Bool, true, false, not, Some, inl, inr, map, subst}
 use Rattle.std.specs.Prelude.{filter, nat_lt, ◌==◌, ◌&&◌, ◌||◌, slice_get}
 use Rattle.std.specs.List.{list_any, AllByRecursion}
-use Rattle.std.proofs.lemmas.Bool.{cases_lt, cases_order, cases_eq, true≢false, eq-eqb, ne_eqb, eqb-true, ltb-true, lt-ltb, or_cases, or_left, or_right, or_parts, and_parts, and_from}
+use Rattle.std.proofs.lemmas.Bool.{cases_lt, cases_order, cases_eq, true≢false, eq-eqb, ne_eqb, eqb-true, ltb-true, lt-ltb, or_cases, or_left, or_right, and_parts, and_from}
 use Rattle.std.proofs.lemmas.Bool.Decides.{nat_tests}
 use Rattle.std.proofs.lemmas.Option.{same_Some, slice_get_within}
 use Rattle.fb_units.specs.declared.types.Place.{Place}
@@ -13,7 +13,7 @@ use Rattle.fb_geometry.specs.Places.{by_head, good_track}
 use Rattle.fb_geometry.specs.Faults.{is_outside}
 use Rattle.fb_geometry.specs.Turns.{IsZoneOf, IsZoneAt, zone_at, position_in, slot_at, cylinder_slots}
 use Rattle.fb_geometry.specs.Slips.{IsAscending, rank, slipped, indexes, with_index}
-use Rattle.fb_geometry.specs.Marks.{mark_of, is_mark_before, same_mark, mark_at, clash_at, positions, marks_on, among_unmarked, AreMarksOf, AreInOrder}
+use Rattle.fb_geometry.specs.Marks.{mark_of, is_mark_before, same_mark, positions, marks_on, among_unmarked, AreMarksOf, AreInOrder}
 use Rattle.fb_geometry.specs.Index.{HasZones, IsIndexed}
 use Rattle.fb_geometry.proofs.Slips.{indexes-ascend, marked, rank-step, rank-below, rank_unmarked}
 use Rattle.fb_geometry.proofs.Order.{marks_on-ascend}
@@ -21,9 +21,9 @@ use Rattle.fb_geometry.proofs.Turns.{get-cylinder_slots, length-cylinder_slots, 
 use Rattle.fb_geometry.proofs.Counting.{same_places}
 use Rattle.fb_geometry.proofs.Marking.{position_is, mark_of-slot_at, on_disk, among-on, same_marks, same_mark-refl}
 use Rattle.fb_geometry.proofs.Leasts.{Among, among-map, among-mapped, among-any, any-among}
-use Rattle.fb_geometry.proofs.Clashes.{mark_among, place_among, inside_of, mark_get, among_others}
+use Rattle.fb_geometry.proofs.Clashes.{mark_among, place_among, inside_of, among_others}
 use Rattle.fb_geometry.proofs.Lookups.{within, goes, slot_of, good_index, good_at}
-use Rattle.fb_geometry.proofs.Faultless.{slots_at-zone}
+use Rattle.fb_geometry.proofs.Faultless.{slots_at-zone, all_get, filter-none}
 
 -- ---- ascending numbers that have the same members
 
@@ -108,7 +108,7 @@ mark_by mark cylinder position c p = ap (λ c. record { cylinder = c; position =
 same_place-refl : (a : Place) → same_place a a ≡ true
 same_place-refl a = grind (arith, nat_tests)
 
-module _ (disk : Shape) (zones : HasZones disk) (defects : List Mark) (are : AreMarksOf disk disk.defects defects) (up : AreInOrder defects) where
+module _ (disk : Shape) (zones : HasZones disk) (defects : List Mark) (are : AreMarksOf disk disk.defects defects) where
   -- the zone of a place on the cylinder
   place_slot : (zone : Zone) (cylinder : ℕ) (place : Place) → IsZoneAt disk cylinder zone → place.track.cylinder ≡ cylinder → is_outside disk place ≡ false → (place.track.head < disk.heads) × (place.slot < zone.sectors) × ((mark_of disk place).position ≡ position_in zone disk.heads place)
   place_slot zone cylinder place at e inside =
@@ -118,7 +118,7 @@ module _ (disk : Shape) (zones : HasZones disk) (defects : List Mark) (are : Are
 
   pub defects_indexed : (zone : Zone) (cylinder : ℕ) → IsZoneAt disk cylinder zone → positions (marks_on cylinder defects) ≡ indexes (is_among disk.defects) 0 (cylinder_slots zone disk.heads cylinder)
   defects_indexed zone cylinder at = ascending_same (positions (marks_on cylinder defects)) (indexes (is_among disk.defects) 0 (cylinder_slots zone disk.heads cylinder))
-      (marks_on-ascend cylinder defects up) (indexes-ascend (is_among disk.defects) 0 (cylinder_slots zone disk.heads cylinder))
+      (marks_on-ascend cylinder defects are.ordered) (indexes-ascend (is_among disk.defects) 0 (cylinder_slots zone disk.heads cylinder))
       (λ q. iff_same (list_any (λ other. other == q) (positions (marks_on cylinder defects))) (list_any (λ other. other == q) (indexes (is_among disk.defects) 0 (cylinder_slots zone disk.heads cylinder))) (to q) (from q))
     where
       some : 0 < zone.sectors
@@ -130,9 +130,9 @@ module _ (disk : Shape) (zones : HasZones disk) (defects : List Mark) (are : Are
       -- any numbers will do for the search of a slot
       to : (q : ℕ) → list_any (λ other. other == q) (positions (marks_on cylinder defects)) ≡ true → list_any (λ other. other == q) (indexes (is_among disk.defects) 0 (cylinder_slots zone disk.heads cylinder)) ≡ true
       to q h =
-          let one = place_among disk zones disk.defects disk.defects defects defects are are (record { cylinder = cylinder; position = q }) (on_cylinder cylinder q defects h) in
+          let one = place_among disk zones disk.defects defects are.inside are.same (record { cylinder = cylinder; position = q }) (on_cylinder cylinder q defects h) in
           let place = one.0 in
-          let inside = inside_of disk zones disk.defects disk.defects defects defects are are place one.1 in
+          let inside = inside_of disk zones disk.defects defects are.inside are.same place one.1 in
           let c : place.track.cylinder ≡ cylinder = ap (λ mark. mark.cylinder) one.2 in
           let slot = place_slot zone cylinder place at c inside in
           let here = slot_of disk zone cylinder at (indexes (is_among disk.defects) 0 (cylinder_slots zone disk.heads cylinder)) refl place c slot.0 slot.1 in
@@ -147,26 +147,23 @@ module _ (disk : Shape) (zones : HasZones disk) (defects : List Mark) (are : Are
           let is : slot_at zone disk.heads cylinder q ≡ one.0 = same_Some (slot_at zone disk.heads cylinder q) one.0 (sym (get-cylinder_slots zone disk.heads some cylinder q inside) ∙ one.1) in
           let defect = any-among (same_place one.0) disk.defects one.2 in
           let same : one.0 ≡ defect.0 = same_places one.0 defect.0 defect.2 in
-          let found = mark_among disk zones disk.defects disk.defects defects defects are are defect.0 defect.1 in
+          let found = mark_among disk zones disk.defects defects are.inside are.same defect.0 defect.1 in
           let mark : mark_of disk defect.0 ≡ record { cylinder = cylinder; position = q } = ap (mark_of disk) (sym (is ∙ same)) ∙ mark_of-slot_at disk zone cylinder q of in
           of_cylinder cylinder q defects (found.0, found.1 ∙ ap Some mark)
 
 -- ---- grown defects
 
-module _ (disk : Shape) (zones : HasZones disk) (defects grown : List Mark) (are : AreMarksOf disk disk.defects defects) (up : AreInOrder defects)
-    (those : AreMarksOf disk disk.grown grown) (grown_up : AreInOrder grown) (clean : (k : ℕ) → k < length grown → clash_at grown defects k ≡ false) where
+module _ (disk : Shape) (zones : HasZones disk) (defects grown : List Mark) (are : AreMarksOf disk disk.defects defects) (those : AreMarksOf disk disk.grown grown)
+    (clean : filter (is_among disk.defects) disk.grown ≡ []) where
   -- no grown defect is a defect
+  good_place : (place : Place) → Among disk.grown place → is_among disk.defects place ≡ false
+  good_place place one = all_get (λ place. is_among disk.defects place ≡ false) disk.grown one.0 place (filter-none (is_among disk.defects) disk.grown clean) one.1
+
   good_mark : (mark : Mark) → Among grown mark → list_any (same_mark mark) defects ≡ false
   good_mark mark one =
-      let k = one.0 in
-      let is : mark_at grown k ≡ mark = mark_get grown k mark one.1 in
-      ap (λ m. list_any (same_mark m) defects) (sym is)
-      ∙ (or_parts (nat_lt 0 k && same_mark (mark_at grown (k - 1)) (mark_at grown k)) (list_any (same_mark (mark_at grown k)) defects) (clean k (slice_get_within grown k mark one.1))).1
-
-  good_place : (place : Place) → Among disk.grown place → is_among disk.defects place ≡ false
-  good_place place one =
-      let inside = inside_of disk zones disk.grown disk.grown grown grown those those place one in
-      sym (among_others disk zones disk.grown disk.defects grown defects those are place inside) ∙ good_mark (mark_of disk place) (mark_among disk zones disk.grown disk.grown grown grown those those place one)
+      let found = place_among disk zones disk.grown grown those.inside those.same mark one in
+      let inside = inside_of disk zones disk.grown grown those.inside those.same found.0 found.1 in
+      ap (λ mark. list_any (same_mark mark) defects) (sym found.2) ∙ (among_others disk zones disk.defects defects are.inside are.same found.0 inside ∙ good_place found.0 found.1)
 
   -- marks stay in order
   unmarked_before : (a b : Mark) → Among grown a → is_mark_before a b ≡ true → is_mark_before (among_unmarked defects a) (among_unmarked defects b) ≡ true
@@ -176,7 +173,7 @@ module _ (disk : Shape) (zones : HasZones disk) (defects grown : List Mark) (are
         let parts = and_parts (a.cylinder == b.cylinder) (nat_lt a.position b.position) same in
         let cylinder : a.cylinder ≡ b.cylinder = eqb-true a.cylinder b.cylinder parts.0 in
         let numbers = positions (marks_on a.cylinder defects) in
-        let ascend = marks_on-ascend a.cylinder defects up in
+        let ascend = marks_on-ascend a.cylinder defects are.ordered in
         let less : a.position < b.position = ltb-true a.position b.position parts.1 in
         let free : list_any (λ other. other == a.position) numbers ≡ false = among-on a defects ∙ good_mark a one in
         let here : rank (a.position + 1) numbers ≡ rank a.position numbers = rank_unmarked a.position numbers free in
@@ -196,7 +193,7 @@ module _ (disk : Shape) (zones : HasZones disk) (defects grown : List Mark) (are
       later (other ∷ marks) all = (unmarked_before mark other (within_ mark (0, refl)) all.0, later marks all.1)
 
   pub grown_in_order : AreInOrder (map (among_unmarked defects) grown)
-  grown_in_order = in_order_on grown grown_up (λ mark one. one)
+  grown_in_order = in_order_on grown those.ordered (λ mark one. one)
 
   pub grown_indexed : (zone : Zone) (cylinder : ℕ) → IsZoneAt disk cylinder zone
       → positions (marks_on cylinder (map (among_unmarked defects) grown)) ≡ indexes (is_among disk.grown) 0 (by_head disk cylinder (good_track disk zone))
@@ -211,7 +208,7 @@ module _ (disk : Shape) (zones : HasZones disk) (defects grown : List Mark) (are
       numbers = positions (marks_on cylinder defects)
 
       indexed : positions (marks_on cylinder defects) ≡ indexes (is_among disk.defects) 0 (cylinder_slots zone disk.heads cylinder)
-      indexed = defects_indexed disk zones defects are up zone cylinder at
+      indexed = defects_indexed disk zones defects are zone cylinder at
 
       whole-is : by_head disk cylinder (good_track disk zone) ≡ filter (λ place. not (is_among disk.defects place)) (cylinder_slots zone disk.heads cylinder)
       whole-is = good_cylinder-is zone disk.heads some disk cylinder refl
@@ -225,11 +222,11 @@ module _ (disk : Shape) (zones : HasZones disk) (defects grown : List Mark) (are
       to : (q : ℕ) → list_any (λ other. other == q) (positions (marks_on cylinder (map (among_unmarked defects) grown))) ≡ true → list_any (λ other. other == q) (indexes (is_among disk.grown) 0 (by_head disk cylinder (good_track disk zone))) ≡ true
       to q h =
           let found = among-mapped (among_unmarked defects) grown (record { cylinder = cylinder; position = q }) (on_cylinder cylinder q (map (among_unmarked defects) grown) h) in
-          let one = place_among disk zones disk.grown disk.grown grown grown those those found.0 found.1 in
+          let one = place_among disk zones disk.grown grown those.inside those.same found.0 found.1 in
           let place = one.0 in
-          let inside = inside_of disk zones disk.grown disk.grown grown grown those those place one.1 in
+          let inside = inside_of disk zones disk.grown grown those.inside those.same place one.1 in
           let c : place.track.cylinder ≡ cylinder = ap (λ mark. mark.cylinder) one.2 ∙ ap (λ mark. mark.cylinder) found.2 in
-          let slot = place_slot disk zones defects are up zone cylinder place at c inside in
+          let slot = place_slot disk zones defects are zone cylinder place at c inside in
           let index : position_in zone disk.heads place - rank (position_in zone disk.heads place) (positions (marks_on cylinder defects)) ≡ q =
           sym (index_is place c slot.2) ∙ (ap (λ mark. (among_unmarked defects mark).position) one.2 ∙ ap (λ mark. mark.position) found.2) in
           let here = goes (is_among disk.defects) (cylinder_slots zone disk.heads cylinder) (positions (marks_on cylinder defects)) indexed (position_in zone disk.heads place) place
@@ -249,20 +246,20 @@ module _ (disk : Shape) (zones : HasZones disk) (defects grown : List Mark) (are
           let gone = any-among (same_place place) disk.grown one.2 in
           let same : place ≡ gone.0 = same_places place gone.0 gone.2 in
           let listed : Among disk.grown place = (gone.1.0, gone.1.1 ∙ ap Some (sym same)) in
-          let inside = inside_of disk zones disk.grown disk.grown grown grown those those place listed in
-          let slot = place_slot disk zones defects are up zone cylinder place at c inside in
+          let inside = inside_of disk zones disk.grown grown those.inside those.same place listed in
+          let slot = place_slot disk zones defects are zone cylinder place at c inside in
           let index : (among_unmarked defects (mark_of disk place)).position ≡ q = index_is place c slot.2 ∙ sym (good_index disk zone cylinder at (positions (marks_on cylinder defects)) indexed q place in_good) in
           let mark : among_unmarked defects (mark_of disk place) ≡ record { cylinder = cylinder; position = q } = mark_by (among_unmarked defects (mark_of disk place)) cylinder q c index in
-          let marked_ = among-map (among_unmarked defects) grown (mark_of disk place) (mark_among disk zones disk.grown disk.grown grown grown those those place listed) in
+          let marked_ = among-map (among_unmarked defects) grown (mark_of disk place) (mark_among disk zones disk.grown grown those.inside those.same place listed) in
           of_cylinder cylinder q (map (among_unmarked defects) grown) (marked_.0, marked_.1 ∙ ap Some mark)
 
   pub indexed : IsIndexed disk defects (map (among_unmarked defects) grown)
-  indexed = record { defects_at = defects_indexed disk zones defects are up; grown_at = grown_indexed }
+  indexed = record { defects_at = defects_indexed disk zones defects are; grown_at = grown_indexed }
 
 -- without grown defects
-pub indexed_alone : (disk : Shape) → HasZones disk → (defects : List Mark) → AreMarksOf disk disk.defects defects → AreInOrder defects → disk.grown ≡ [] → IsIndexed disk defects []
-indexed_alone disk zones defects are up none = record {
-  defects_at = defects_indexed disk zones defects are up;
+pub indexed_alone : (disk : Shape) → HasZones disk → (defects : List Mark) → AreMarksOf disk disk.defects defects → disk.grown ≡ [] → IsIndexed disk defects []
+indexed_alone disk zones defects are none = record {
+  defects_at = defects_indexed disk zones defects are;
   grown_at = λ zone cylinder at. sym (ap (λ grown. indexes (is_among grown) 0 (by_head disk cylinder (good_track disk zone))) none ∙ nothing 0 (by_head disk cylinder (good_track disk zone)));
 }
   where

@@ -1,70 +1,78 @@
 -- What the parts of a judgement say of the whole.
-use Rattle.std.proofs.Common.{◌≡◌, List, [], ◌∷◌, ◌++◌, length, refl, ap, sym, ◌∙◌, arith, Bool, true, false, Option, Some, None, map}
-use Rattle.std.specs.Prelude.{filter, find, position, nat_lt, if◌then◌else◌}
+use Rattle.std.proofs.Common.{◌≡◌, List, [], ◌∷◌, ◌++◌, length, refl, ap, sym, ◌∙◌, arith, Bool, true, false, Option, Some, None, map, subst}
+use Rattle.std.specs.Prelude.{filter, find, position, nat_lt, slice_get, option_map, if◌then◌else◌, All}
+use Rattle.std.proofs.lemmas.List.Elements.{All-from_recursion, All-append}
+use Rattle.std.proofs.lemmas.List.Sorted.{All-permutation}
 use Rattle.std.proofs.lemmas.Option.{none-some}
 use Rattle.std.proofs.lemmas.List.{append-nil}
-use Rattle.std.proofs.lemmas.List.Sorted.{IsPermutation-refl}
 use Rattle.fb_units.specs.declared.types.Place.{Place}
 use Rattle.fb_geometry.specs.declared.layout.Layout.{Layout}
 use Rattle.fb_geometry.specs.declared.layout.Layout.TheVariants.{PerTrack, PerCylinder}
-use Rattle.fb_geometry.specs.declared.marks.Mark.{Mark}
 use Rattle.fb_geometry.specs.declared.fault.GeometryFault.{GeometryFault}
-use Rattle.fb_geometry.specs.declared.fault.GeometryFault.TheVariants.{OutOfRange, ZonesNotContiguous, SkewTooLarge, DefectOutside, DefectTwice, GrownOutside, GrownTwice, TooManyInCylinder}
+use Rattle.fb_geometry.specs.declared.fault.GeometryFault.TheVariants.{OutOfRange, ZonesNotContiguous, SkewTooLarge, DefectOutside, DefectTwice, GrownOutside, GrownTwice, TooManyInCylinder, TooManyDefects}
 use Rattle.fb_geometry.specs.Shape.{Shape, is_among}
-use Rattle.fb_geometry.specs.Faults.{first_fault, range_fault, spare_fault, or_else, fault_at, is_out_of_range, first_apart, is_too_skewed, is_outside, least, is_place_before, repeated, is_full_cylinder}
-use Rattle.fb_geometry.specs.Marks.{AreMarksOf, LeastClash}
-use Rattle.fb_geometry.specs.Index.{HasZones, IsFaultless, zone_fault, defect_fault, grown_fault, AreJudged}
-use Rattle.fb_geometry.proofs.Faultless.{or_else-none, fault_at-none}
-use Rattle.fb_geometry.proofs.Clashes.{least_of, in_order}
+use Rattle.fb_geometry.specs.Faults.{first_fault, range_fault, spare_fault, or_else, fault_at, is_out_of_range, first_apart, is_too_skewed, is_outside, least, is_place_before, repeated, is_full_cylinder, is_full_track, is_track_before}
+use Rattle.fb_geometry.specs.Marks.{AreSorted}
+use Rattle.fb_geometry.specs.Index.{HasZones, IsFaultless, zone_fault, defect_fault, grown_fault}
+use Rattle.fb_geometry.proofs.Faultless.{or_else-none, fault_at-none, least-none, find-none}
+use Rattle.fb_geometry.proofs.Leasts.{track_order, number_order}
+use Rattle.fb_geometry.proofs.Spares.{least_full}
+use Rattle.std.proofs.lemmas.Bool.Decides.{nat_tests}
+use Rattle.fb_geometry.proofs.Clashes.{least_repeated, least_clash}
 
--- ---- marks that don't clash
+-- ---- what holds where there is no fault
 
-pub no_marks : (disk : Shape) → AreMarksOf disk [] []
-no_marks disk = record { inside = tt; same = IsPermutation-refl []; sorted = λ k d l h. absurd (omega arith) }
+pub good_defects : (disk : Shape) → defect_fault disk ≡ None → (find (is_outside disk) disk.defects ≡ None) × (repeated disk.defects ≡ [])
+good_defects disk h =
+    let parts = or_else-none (fault_at DefectOutside (find (is_outside disk) disk.defects)) (fault_at DefectTwice (least is_place_before (repeated disk.defects))) h in
+    (fault_at-none DefectOutside (find (is_outside disk) disk.defects) parts.0, least-none is_place_before (repeated disk.defects) (fault_at-none DefectTwice (least is_place_before (repeated disk.defects)) parts.1))
 
-none_among : (places : List Place) → filter (is_among []) places ≡ []
-none_among [] = refl
-none_among (place ∷ places) = none_among places
+pub good_grown : (disk : Shape) → grown_fault disk ≡ None → (find (is_outside disk) disk.grown ≡ None) × (repeated disk.grown ≡ []) × (filter (is_among disk.defects) disk.grown ≡ [])
+good_grown disk h =
+    let clash = repeated disk.grown ++ filter (is_among disk.defects) disk.grown in
+    let parts = or_else-none (fault_at GrownOutside (find (is_outside disk) disk.grown)) (fault_at GrownTwice (least is_place_before clash)) h in
+    let none : clash ≡ [] = least-none is_place_before clash (fault_at-none GrownTwice (least is_place_before clash) parts.1) in
+    let lists = nil_left (repeated disk.grown) (filter (is_among disk.defects) disk.grown) none in
+    (fault_at-none GrownOutside (find (is_outside disk) disk.grown) parts.0, lists.0, lists.1)
+  where
+    nil_left : (xs ys : List Place) → xs ++ ys ≡ [] → (xs ≡ []) × (ys ≡ [])
+    nil_left [] ys h = (refl, h)
+    nil_left (x ∷ xs) ys h = absurd (omega (arith, ap length h))
 
--- what a search among the marks says where there are no others
-pub least_repeated : (disk : Shape) → HasZones disk → (places : List Place) (marks : List Mark) (result : Option Place) → AreMarksOf disk places marks → LeastClash disk marks [] (length marks) result
-    → least is_place_before (repeated places) ≡ result
-least_repeated disk zones places marks result are found =
-    ap (least is_place_before) (sym (append-nil (repeated places)) ∙ ap (λ xs. repeated places ++ xs) (sym (none_among places))) ∙ least_of disk zones places [] marks [] are (no_marks disk) result found
+-- ---- places that are listed twice
 
-second_fault : {A B : Type 0} (f : A → GeometryFault) (g : B → GeometryFault) (a : Option A) (b : Option B) (y : B) → a ≡ None → b ≡ Some y → or_else (fault_at f a) (fault_at g b) ≡ Some (g y)
-second_fault f g a b y e h = rw (e, h) refl
+second_fault : {A B : Type 0} (f : A → GeometryFault) (g : B → GeometryFault) (a : Option A) (b o : Option B) → a ≡ None → b ≡ o → or_else (fault_at f a) (fault_at g b) ≡ fault_at g o
+second_fault f g a b o e h = rw (e, h) refl
 
-no_fault : {A B : Type 0} (f : A → GeometryFault) (g : B → GeometryFault) (a : Option A) (b : Option B) → a ≡ None → b ≡ None → or_else (fault_at f a) (fault_at g b) ≡ None
-no_fault f g a b e h = rw (e, h) refl
+-- the fault of the defects, or of the grown ones, where none is outside
+pub defects_judged : (disk : Shape) (places items sorted : List Place) → places ≡ disk.defects → find (is_outside disk) places ≡ None → AreSorted (places ++ []) items → sorted ≡ items
+    → (defect_fault disk ≡ fault_at DefectTwice (slice_get (repeated sorted) 0)) × AreSorted disk.defects items
+defects_judged disk places items sorted e none are f =
+    let same : AreSorted disk.defects items = subst (λ places. AreSorted places items) (append-nil places ∙ e) are in (
+      second_fault DefectOutside DefectTwice (find (is_outside disk) disk.defects) (least is_place_before (repeated disk.defects)) (slice_get (repeated sorted) 0)
+          (ap (find (is_outside disk)) (sym e) ∙ none) (least_repeated disk.defects items same ∙ ap (λ items. slice_get (repeated items) 0) (sym f)),
+      same,
+    )
 
-module _ (disk : Shape) (zones : HasZones disk) (marks : List Mark) where
-  pub defect_twice : (place : Place) → find (is_outside disk) disk.defects ≡ None → AreMarksOf disk disk.defects marks → LeastClash disk marks [] (length marks) (Some place) → defect_fault disk ≡ Some (DefectTwice place)
-  defect_twice place inside are found =
-      second_fault DefectOutside DefectTwice (find (is_outside disk) disk.defects) (least is_place_before (repeated disk.defects)) place inside (least_repeated disk zones disk.defects marks (Some place) are found)
+pub grown_judged : (disk : Shape) (defects grown items sorted : List Place) → defect_fault disk ≡ None → defects ≡ disk.defects → grown ≡ disk.grown → find (is_outside disk) grown ≡ None
+    → AreSorted (defects ++ grown) items → sorted ≡ items → (grown_fault disk ≡ fault_at GrownTwice (slice_get (repeated sorted) 0)) × AreSorted (disk.defects ++ disk.grown) items
+grown_judged disk defects grown items sorted good d e none are f =
+    let same : AreSorted (disk.defects ++ disk.grown) items = subst (λ places. AreSorted places items) (ap (λ defects. defects ++ grown) d ∙ ap (λ grown. disk.defects ++ grown) e) are in (
+      second_fault GrownOutside GrownTwice (find (is_outside disk) disk.grown) (least is_place_before (repeated disk.grown ++ filter (is_among disk.defects) disk.grown)) (slice_get (repeated sorted) 0)
+          (ap (find (is_outside disk)) (sym e) ∙ none) (least_clash disk.defects disk.grown items (good_defects disk good).1 same ∙ ap (λ items. slice_get (repeated items) 0) (sym f)),
+      same,
+    )
 
-  pub good_defects : find (is_outside disk) disk.defects ≡ None → AreMarksOf disk disk.defects marks → LeastClash disk marks [] (length marks) None → AreJudged disk disk.defects (defect_fault disk) marks
-  good_defects inside are found = record {
-    faultless = no_fault DefectOutside DefectTwice (find (is_outside disk) disk.defects) (least is_place_before (repeated disk.defects)) inside (least_repeated disk zones disk.defects marks None are found);
-    inside = inside;
-    are = are;
-    ordered = in_order marks [] are.sorted found;
-  }
+-- the places in order are on the disk if they are
+inside : (disk : Shape) (places : List Place) → find (is_outside disk) places ≡ None → All (λ place. is_outside disk place ≡ false) places
+inside disk places none = All-from_recursion (λ place. is_outside disk place ≡ false) places (find-none (is_outside disk) places none)
 
-  module _ (defects : List Mark) (others : AreMarksOf disk disk.defects defects) where
-    pub grown_twice : (place : Place) → find (is_outside disk) disk.grown ≡ None → AreMarksOf disk disk.grown marks → LeastClash disk marks defects (length marks) (Some place) → grown_fault disk ≡ Some (GrownTwice place)
-    grown_twice place inside are found =
-        second_fault GrownOutside GrownTwice (find (is_outside disk) disk.grown) (least is_place_before (repeated disk.grown ++ filter (is_among disk.defects) disk.grown)) place inside
-        (least_of disk zones disk.grown disk.defects marks defects are others (Some place) found)
+pub defects_inside : (disk : Shape) (sorted : List Place) → defect_fault disk ≡ None → AreSorted disk.defects sorted → All (λ place. is_outside disk place ≡ false) sorted
+defects_inside disk sorted h are = All-permutation (λ place. is_outside disk place ≡ false) disk.defects sorted are.same (inside disk disk.defects (good_defects disk h).0)
 
-    pub good_grown : find (is_outside disk) disk.grown ≡ None → AreMarksOf disk disk.grown marks → LeastClash disk marks defects (length marks) None → AreJudged disk disk.grown (grown_fault disk) marks
-    good_grown inside are found = record {
-      faultless = no_fault GrownOutside GrownTwice (find (is_outside disk) disk.grown) (least is_place_before (repeated disk.grown ++ filter (is_among disk.defects) disk.grown)) inside
-          (least_of disk zones disk.grown disk.defects marks defects are others None found);
-      inside = inside;
-      are = are;
-      ordered = in_order marks defects are.sorted found;
-    }
+pub bad_inside : (disk : Shape) (sorted : List Place) → defect_fault disk ≡ None → grown_fault disk ≡ None → AreSorted (disk.defects ++ disk.grown) sorted → All (λ place. is_outside disk place ≡ false) sorted
+bad_inside disk sorted h k are = All-permutation (λ place. is_outside disk place ≡ false) (disk.defects ++ disk.grown) sorted are.same
+    (All-append (λ place. is_outside disk place ≡ false) disk.defects disk.grown (inside disk disk.defects (good_defects disk h).0) (inside disk disk.grown (good_grown disk k).0))
 
 -- ---- the whole
 
@@ -110,21 +118,26 @@ has_zones disk h =
 
 pub faultless : (disk : Shape) → HasZones disk → defect_fault disk ≡ None → spare_fault disk.layout disk ≡ None → IsFaultless disk
 faultless disk zones h k =
-    let parts = or_else-none (fault_at DefectOutside (find (is_outside disk) disk.defects)) (fault_at DefectTwice (least is_place_before (repeated disk.defects))) h in
-    record {
-      zones_hold = zones;
-      defects_inside = fault_at-none DefectOutside (find (is_outside disk) disk.defects) parts.0;
-      defects_once = fault_at-none DefectTwice (least is_place_before (repeated disk.defects)) parts.1;
-      spares = k;
-    }
+    let good = good_defects disk h in
+    record { zones_hold = zones; defects_inside = good.0; defects_once = ap (least is_place_before) good.1; spares = k }
 
--- the spares of a cylinder, once the grown defects are judged
-pub spares_per_cylinder : (disk : Shape) → grown_fault disk ≡ None → spare_fault PerCylinder disk ≡ fault_at TooManyInCylinder (least nat_lt (filter (is_full_cylinder disk) (map (λ place. place.track.cylinder) (disk.defects ++ disk.grown))))
-spares_per_cylinder disk h =
+-- the fault of the spares, by the first place in order whose track or cylinder has too few
+pub track_spares : (disk : Shape) (items sorted : List Place) (found : Option Place) → disk.layout ≡ PerTrack → AreSorted disk.defects items → sorted ≡ items → found ≡ find (λ place. is_full_track disk place.track) sorted
+    → spare_fault disk.layout disk ≡ fault_at TooManyDefects (option_map (λ place. place.track) found)
+track_spares disk items sorted found layout are e f =
+    ap (λ layout. spare_fault layout disk) layout ∙ ap (fault_at TooManyDefects)
+    (least_full is_track_before track_order (λ place. place.track) (λ a b h. grind (arith, nat_tests)) (is_full_track disk) disk.defects items are
+    ∙ ap (option_map (λ place. place.track)) (sym (f ∙ ap (find (λ place. is_full_track disk place.track)) e)))
+
+pub cylinder_spares : (disk : Shape) (items sorted : List Place) (found : Option Place) → disk.layout ≡ PerCylinder → grown_fault disk ≡ None → AreSorted (disk.defects ++ disk.grown) items → sorted ≡ items
+    → found ≡ find (λ place. is_full_cylinder disk place.track.cylinder) sorted → spare_fault disk.layout disk ≡ fault_at TooManyInCylinder (option_map (λ place. place.track.cylinder) found)
+cylinder_spares disk items sorted found layout h are e f =
     let outside = fault_at GrownOutside (find (is_outside disk) disk.grown) in
     let twice = fault_at GrownTwice (least is_place_before (repeated disk.grown ++ filter (is_among disk.defects) disk.grown)) in
     let parts = or_else-none outside twice h in
-    rw (parts.0, parts.1) refl
+    ap (λ layout. spare_fault layout disk) layout ∙ rw (parts.0, parts.1) (ap (fault_at TooManyInCylinder)
+    (least_full nat_lt number_order (λ place. place.track.cylinder) (λ a b h. grind (arith, nat_tests)) (is_full_cylinder disk) (disk.defects ++ disk.grown) items are
+    ∙ ap (option_map (λ place. place.track.cylinder)) (sym (f ∙ ap (find (λ place. is_full_cylinder disk place.track.cylinder)) e))))
 
 pub fault_of_grown : (disk : Shape) (fault : GeometryFault) → grown_fault disk ≡ Some fault → spare_fault PerCylinder disk ≡ Some fault
 fault_of_grown disk fault h =

@@ -4,7 +4,7 @@ use Rattle.std.specs.Prelude.{filter, find, nat_lt, ◌==◌}
 use Rattle.std.specs.List.{AllByRecursion, flat_map, range_with_len}
 use Rattle.std.proofs.Math.Nat.{mod-lt}
 use Rattle.std.proofs.lemmas.Nat.{mul-add-lt, div_below, mul-le}
-use Rattle.std.proofs.lemmas.Bool.{cases_Bool, and_parts, eqb-true}
+use Rattle.std.proofs.lemmas.Bool.{cases_Bool, eqb-true}
 use Rattle.std.proofs.lemmas.Bool.Decides.{nat_tests}
 use Rattle.std.proofs.lemmas.List.{length-take-le, length-append}
 use Rattle.std.proofs.lemmas.List.Elements.{filter-append}
@@ -24,15 +24,10 @@ use Rattle.fb_geometry.specs.Turns.{IsZoneAt, slot_at}
 use Rattle.fb_geometry.specs.Index.{IsFaultless}
 use Rattle.fb_geometry.proofs.Grid.{length-parts}
 use Rattle.fb_geometry.proofs.Turns.{good_track-is, good_cylinder-is}
-use Rattle.fb_geometry.proofs.Counting.{length-good_track, length-good_cylinder}
+use Rattle.fb_geometry.proofs.Counting.{same_tracks, length-good_track, length-good_cylinder}
 use Rattle.fb_geometry.proofs.Faultless.{fault_at-none, or_else-none, least-none, filter-none, all_get, zone_by_bounds, slots_at-zone, spares_at-zone, cylinder_spares_at-zone, some_rotation, short_rotation, some_heads, few_heads, some_zones, few_zones, few_cylinders, ranges_of, data_of, short_slots}
 
 -- ---- spares are enough
-
-same_tracks : (a b : Track) → same_track a b ≡ true → a ≡ b
-same_tracks a b h =
-    let parts = and_parts (a.cylinder == b.cylinder) (a.head == b.head) h in
-    ap (λ c. record { cylinder = c; head = a.head }) (eqb-true a.cylinder b.cylinder parts.0) ∙ ap (λ k. record { cylinder = b.cylinder; head = k }) (eqb-true a.head b.head parts.1)
 
 -- a test that none of the keys passes is passed by a key, or no place has that key
 none_or_not : {K : Type 0} (same : K → Bool) (full : K → Bool) (key : Place → K) (at : K) → ((k : K) → same k ≡ true → at ≡ k) → (places : List Place)

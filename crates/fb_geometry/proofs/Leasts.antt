@@ -1,97 +1,42 @@
--- The order of places and tracks, and the least of a list.
+-- Orders of places and tracks, and the least of a list.
 use Rattle.std.proofs.Common.{◌≡◌, ℕ, zero, suc, List, [], ◌∷◌, ◌++◌, refl, ap, sym, ◌∙◌, arith, Bool, true, false, cond, Option, Some, None, ◌⊎◌, inl, inr, map}
 use Rattle.std.specs.Prelude.{filter, nat_lt, slice_get}
 use Rattle.std.specs.List.{list_any}
+use Rattle.std.specs.Cmp.{IsStrictWeakOrder}
 use Rattle.std.proofs.lemmas.Bool.{cases_Bool, true≢false, or_cases, or_left, or_right}
 use Rattle.std.proofs.lemmas.Bool.Decides.{nat_tests}
 use Rattle.std.proofs.lemmas.Option.{same_Some, none-some}
-use Rattle.fb_units.specs.declared.types.Place.{Place}
-use Rattle.fb_units.specs.declared.types.Track.{Track}
-use Rattle.fb_geometry.specs.declared.marks.Mark.{Mark}
 use Rattle.fb_geometry.specs.Marks.{is_mark_before}
+use Rattle.fb_geometry.specs.Slips.{Pairwise}
 use Rattle.fb_geometry.specs.Faults.{is_place_before, is_track_before, least, lesser}
+use Rattle.fb_geometry.proofs.Faultless.{all_get}
+use Rattle.fb_geometry.proofs.Counting.{same_places, same_tracks}
 
 -- what a test of an order keeps
 pub record IsOrder {A : Type 0} (before : A → A → Bool) : Type 0 where
   pub apart : (a : A) → before a a ≡ false
-  pub back : (a b : A) → before a b ≡ true → before b a ≡ false
-  pub chain : (a b c : A) → before a b ≡ false → before b c ≡ false → before a c ≡ false
   pub total : (a b : A) → before a b ≡ false → before b a ≡ false → a ≡ b
 
-module _ (a b : Track) (h : is_track_before a b ≡ false) (k : is_track_before b a ≡ false) where
-  one_cylinder : a.cylinder ≡ b.cylinder
-  one_cylinder = grind (arith, nat_tests)
-
-  one_head : a.head ≡ b.head
-  one_head = grind (arith, nat_tests)
-
-  one_track : a ≡ b
-  one_track = ap (λ c. record { cylinder = c; head = a.head }) one_cylinder ∙ ap (λ h. record { cylinder = b.cylinder; head = h }) one_head
-
 pub track_order : IsOrder is_track_before
-track_order = record {
-  apart = λ a. grind (arith, nat_tests);
-  back = λ a b h. grind (arith, nat_tests);
-  chain = λ a b c h k. grind (arith, nat_tests);
-  total = one_track;
-}
-
-module _ (a b : Place) (h : is_place_before a b ≡ false) (k : is_place_before b a ≡ false) where
-  same_cylinder : a.track.cylinder ≡ b.track.cylinder
-  same_cylinder = grind (arith, nat_tests)
-
-  same_head : a.track.head ≡ b.track.head
-  same_head = grind (arith, nat_tests)
-
-  same_slot : a.slot ≡ b.slot
-  same_slot = grind (arith, nat_tests)
-
-  one_place : a ≡ b
-  one_place = ap (λ c. record { track = record { cylinder = c; head = a.track.head }; slot = a.slot }) same_cylinder
-      ∙ (ap (λ h. record { track = record { cylinder = b.track.cylinder; head = h }; slot = a.slot }) same_head ∙ ap (λ s. record { track = b.track; slot = s }) same_slot)
+track_order = record { apart = λ a. grind (arith, nat_tests); total = λ a b h k. same_tracks a b (grind (arith, nat_tests)) }
 
 pub place_order : IsOrder is_place_before
-place_order = record {
-  apart = λ a. grind (arith, nat_tests);
-  back = λ a b h. grind (arith, nat_tests);
-  chain = λ a b c h k. grind (arith, nat_tests);
-  total = one_place;
-}
-
-module _ (a b : Mark) (h : is_mark_before a b ≡ false) (k : is_mark_before b a ≡ false) where
-  mark_cylinder : a.cylinder ≡ b.cylinder
-  mark_cylinder = grind (arith, nat_tests)
-
-  mark_position : a.position ≡ b.position
-  mark_position = grind (arith, nat_tests)
-
-  one_mark : a ≡ b
-  one_mark = ap (λ c. record { cylinder = c; position = a.position }) mark_cylinder ∙ ap (λ p. record { cylinder = b.cylinder; position = p }) mark_position
-
-pub mark_order : IsOrder is_mark_before
-mark_order = record {
-  apart = λ a. grind (arith, nat_tests);
-  back = λ a b h. grind (arith, nat_tests);
-  chain = λ a b c h k. grind (arith, nat_tests);
-  total = one_mark;
-}
+place_order = record { apart = λ a. grind (arith, nat_tests); total = λ a b h k. same_places a b (grind (arith, nat_tests)) }
 
 pub number_order : IsOrder nat_lt
-number_order = record {
-  apart = λ a. grind (arith, nat_tests);
-  back = λ a b h. grind (arith, nat_tests);
-  chain = λ a b c h k. grind (arith, nat_tests);
-  total = λ a b h k. grind (arith, nat_tests);
-}
+number_order = record { apart = λ a. grind (arith, nat_tests); total = λ a b h k. grind (arith, nat_tests) }
+
+pub places_rank : IsStrictWeakOrder is_place_before
+places_rank = record { one_way = λ a b h. grind (arith, nat_tests); chain = λ a b c h k. grind (arith, nat_tests) }
+
+pub marks_rank : IsStrictWeakOrder is_mark_before
+marks_rank = record { one_way = λ a b h. grind (arith, nat_tests); chain = λ a b c h k. grind (arith, nat_tests) }
 
 -- ---- elements
 
 -- x is one of these
 abbrev pub Among : {A : Type 0} → List A → A → Type 0
 Among xs x = (k : ℕ) × (slice_get xs k ≡ Some x)
-
-pub among-head : {A : Type 0} (x : A) (xs : List A) → Among (x ∷ xs) x
-among-head x xs = (0, refl)
 
 pub among-tail : {A : Type 0} (x y : A) (xs : List A) → Among xs y → Among (x ∷ xs) y
 among-tail x y xs one = (suc one.0, one.1)
@@ -120,17 +65,24 @@ least_among before (y ∷ xs) z e = elim (lesser_from before y z (least before x
 ]
 
 -- none is before one that is the least
-pub least-is : {A : Type 0} (before : A → A → Bool) → IsOrder before → (xs : List A) (x : A) → Among xs x → ((y : A) → Among xs y → before y x ≡ false) → least before xs ≡ Some x
+least-is : {A : Type 0} (before : A → A → Bool) → IsOrder before → (xs : List A) (x : A) → Among xs x → ((y : A) → Among xs y → before y x ≡ false) → least before xs ≡ Some x
 least-is before order [] x at first = absurd (none-some x at.1)
 least-is before order (y ∷ xs) x (zero, at) first =
-    lesser_is before order y x (least before xs) (λ z e. first z (among-tail y z xs (least_among before xs z e))) (first y (among-head y xs)) (inl (same_Some y x at))
+    lesser_is before order y x (least before xs) (λ z e. first z (among-tail y z xs (least_among before xs z e))) (first y (0, refl)) (inl (same_Some y x at))
 least-is before order (y ∷ xs) x (suc k, at) first =
-    lesser_is before order y x (least before xs) (λ z e. first z (among-tail y z xs (least_among before xs z e))) (first y (among-head y xs))
+    lesser_is before order y x (least before xs) (λ z e. first z (among-tail y z xs (least_among before xs z e))) (first y (0, refl))
     (inr (least-is before order xs x (k, at) (λ z one. first z (among-tail y z xs one))))
 
-pub least-nothing : {A : Type 0} (before : A → A → Bool) (xs : List A) → ((y : A) → Among xs y → ⊥) → least before xs ≡ None
-least-nothing before [] none = refl
-least-nothing before (y ∷ xs) none = absurd (none y (among-head y xs))
+-- the least of a list is the head of one that has the same elements in order
+pub least-head : {A : Type 0} (before : A → A → Bool) → IsOrder before → (xs ys : List A) → ((x : A) → Among xs x → Among ys x) → ((x : A) → Among ys x → Among xs x)
+    → Pairwise (λ x later. before later x ≡ false) ys → least before xs ≡ slice_get ys 0
+least-head before order [] [] to from up = refl
+least-head before order (x ∷ xs) [] to from up = absurd (none-some x (to x (0, refl)).1)
+least-head {A = A} before order xs (y ∷ ys) to from up = least-is before order xs y (from y (0, refl)) (λ z one. behind z (to z one))
+  where
+    behind : (z : A) → Among (y ∷ ys) z → before z y ≡ false
+    behind z (zero, at) = ap (λ z. before z y) (sym (same_Some y z at)) ∙ order.apart y
+    behind z (suc k, at) = all_get (λ later. before later y ≡ false) ys k z up.0 at
 
 -- ---- what is among a list that is made of others
 

@@ -1,22 +1,20 @@
 -- The marks of places.
-use Rattle.std.proofs.Common.{◌≡◌, ℕ, ◌+◌, ◌-◌, ◌*◌, ◌/◌, ◌%◌, ◌<◌, List, [], ◌∷◌, length, refl, ap, sym, ◌∙◌, arith, true, false, not, Some, None, inl, inr, subst, get_or}
+use Rattle.std.proofs.Common.{◌≡◌, ℕ, ◌+◌, ◌-◌, ◌*◌, ◌%◌, ◌<◌, List, [], ◌∷◌, length, refl, ap, sym, ◌∙◌, arith, true, false, Some, None, inl, inr, subst, get_or}
 use Rattle.std.specs.Prelude.{find, nat_lt, ◌==◌, ◌&&◌, ◌||◌}
 use Rattle.std.specs.List.{list_any}
 use Rattle.std.specs.Ordering.{nat_cmp, is_lt, ordering_then}
-use Rattle.std.proofs.lemmas.Bool.{cases_Bool, and_parts, not-false, ltb-true, lt-ltb, eqb-true}
+use Rattle.std.proofs.lemmas.Bool.{cases_Bool, and_parts, not-false, ltb-true, eqb-true}
 use Rattle.std.proofs.lemmas.Bool.Decides.{nat_tests}
-use Rattle.std.proofs.Math.Nat.{mod-lt}
-use Rattle.std.proofs.lemmas.Nat.{div_below}
 use Rattle.fb_units.specs.declared.types.Place.{Place}
 use Rattle.fb_geometry.specs.declared.zone.Zone.{Zone}
 use Rattle.fb_geometry.specs.declared.marks.Mark.{Mark}
-use Rattle.fb_geometry.specs.Shape.{Shape, slots_at, cylinders_of, offset_at, offset_in}
+use Rattle.fb_geometry.specs.Shape.{Shape, slots_at, cylinders_of, offset_at}
 use Rattle.fb_geometry.specs.Faults.{is_outside}
 use Rattle.fb_geometry.specs.Turns.{IsZoneOf, zone_at, position_in, slot_at}
-use Rattle.fb_geometry.specs.Marks.{mark_of, is_mark_before, same_mark, IsMarkOn, positions, marks_on}
+use Rattle.fb_geometry.specs.Marks.{mark_of, is_mark_before, same_mark, positions, marks_on}
 use Rattle.fb_geometry.specs.Index.{HasZones}
 use Rattle.fb_geometry.proofs.Faultless.{slots_at-zone, offset_at-zone, find-none, found_zone, some_zone}
-use Rattle.fb_geometry.proofs.Turns.{position_in-slot_at, slot_at-position_in, position_below}
+use Rattle.fb_geometry.proofs.Turns.{position_in-slot_at, slot_at-position_in}
 use Rattle.fb_geometry.proofs.Order.{all_at}
 
 -- the position of a mark is counted in its zone
@@ -34,9 +32,6 @@ sorted_by a b = grind (arith, nat_tests)
 
 -- ---- the place of a mark
 
-inside-from : (a b c d e f : ℕ) → a < b → c < d → e < f → not (nat_lt a b && nat_lt c d && nat_lt e f) ≡ false
-inside-from a b c d e f h k l = rw (lt-ltb a b h, lt-ltb c d k, lt-ltb e f l) refl
-
 -- what inside says
 pub on_disk : (disk : Shape) (place : Place) → is_outside disk place ≡ false → (place.track.cylinder < cylinders_of disk.zones) × (place.track.head < disk.heads) × (place.slot < slots_at disk.zones place.track.cylinder)
 on_disk disk place h =
@@ -48,13 +43,6 @@ on_disk disk place h =
 pub mark_of-slot_at : (disk : Shape) (zone : Zone) (cylinder position : ℕ) → IsZoneOf disk cylinder zone → mark_of disk (slot_at zone disk.heads cylinder position) ≡ record { cylinder = cylinder; position = position }
 mark_of-slot_at disk zone cylinder position at =
     ap (λ position. record { cylinder = cylinder; position = position }) (position_is disk zone (slot_at zone disk.heads cylinder position) at.found ∙ position_in-slot_at zone disk.heads at.ranges.some_sectors cylinder position)
-
-pub slot_at-inside : (disk : Shape) (zone : Zone) (cylinder position : ℕ) → IsZoneOf disk cylinder zone → cylinder < cylinders_of disk.zones → position < disk.heads * zone.sectors
-    → is_outside disk (slot_at zone disk.heads cylinder position) ≡ false
-slot_at-inside disk zone cylinder position at h l =
-    let place = slot_at zone disk.heads cylinder position in
-    inside-from cylinder (cylinders_of disk.zones) (position / zone.sectors) disk.heads place.slot (slots_at disk.zones cylinder) h (div_below position zone.sectors disk.heads at.ranges.some_sectors l)
-    (subst (λ n. place.slot < n) (sym (slots_at-zone disk.zones cylinder zone at.found)) (mod-lt (offset_in zone disk.heads (record { cylinder = cylinder; head = position / zone.sectors }) + position % zone.sectors) at.ranges.some_sectors))
 
 -- a cylinder of the disk has a zone
 pub zone_exists : (disk : Shape) (cylinder : ℕ) → HasZones disk → cylinder < cylinders_of disk.zones → (zone : Zone) × IsZoneOf disk cylinder zone
@@ -77,16 +65,6 @@ mark_of-same disk a b zones h k e =
     sym (slot_at-position_in zone disk.heads some a (omega (arith, on_a.2, slots_at-zone disk.zones a.track.cylinder zone one.1.found)))
     ∙ (ap (λ c. slot_at zone disk.heads c (position_in zone disk.heads a)) cylinder ∙ (ap (slot_at zone disk.heads b.track.cylinder) position
     ∙ slot_at-position_in zone disk.heads some b (omega (arith, on_b.2, slots_at-zone disk.zones b.track.cylinder zone at_b))))
-
--- a place on the disk has a mark on it
-pub mark_on : (disk : Shape) (place : Place) → HasZones disk → is_outside disk place ≡ false → IsMarkOn disk (mark_of disk place)
-mark_on disk place zones h =
-    let on = on_disk disk place h in
-    let one = zone_exists disk place.track.cylinder zones on.0 in
-    record {
-      cylinder = on.0;
-      position = omega (arith, position_is disk one.0 place one.1.found, position_below one.0 disk.heads one.1.ranges.some_sectors place on.1, ap (λ n. disk.heads * n) (slots_at-zone disk.zones place.track.cylinder one.0 one.1.found));
-    }
 
 -- ---- the others of a clash
 

@@ -1,5 +1,5 @@
 -- What holds of a geometry in memory: its outline has no fault, and its index of bad slots agrees with it.
-use Rattle.std.specs.Prelude.{◌≡◌, ℕ, ◌<◌, List, [], ◌++◌, length, Option, Some, None, Result, Ok, Err, false, find, filter, position}
+use Rattle.std.specs.Prelude.{◌≡◌, ℕ, List, [], ◌++◌, Option, Some, None, Result, Ok, Err, false, find, filter, position}
 use Rattle.fb_units.specs.declared.types.Place.{Place}
 use Rattle.fb_geometry.specs.declared.fault.GeometryFault.{GeometryFault}
 use Rattle.fb_geometry.specs.declared.fault.GeometryFault.TheVariants.{ZonesNotContiguous, SkewTooLarge, DefectOutside, DefectTwice, GrownOutside, GrownTwice}
@@ -14,7 +14,7 @@ use Rattle.fb_geometry.specs.Faults.{or_else, fault_at, range_fault, is_out_of_r
 use Rattle.fb_geometry.specs.Sound.{IsSound}
 use Rattle.fb_geometry.specs.Turns.{IsZoneAt, cylinder_slots}
 use Rattle.fb_geometry.specs.Slips.{indexes}
-use Rattle.fb_geometry.specs.Marks.{AreInOrder, AreMarksOf, clash_at, positions, marks_on}
+use Rattle.fb_geometry.specs.Marks.{AreSorted, positions, marks_on}
 
 -- the first fault of the disk's numbers and zones
 abbrev pub zone_fault : Shape → Option GeometryFault
@@ -48,16 +48,10 @@ pub record IsFaultless (disk : Shape) : Type 0 where
   pub defects_once : least is_place_before (repeated disk.defects) ≡ None
   pub spares : spare_fault disk.layout disk ≡ None
 
--- there is no fault, and these are the marks of the places, in ascending order without repetition
-pub record AreJudged (disk : Shape) (places : List Place) (fault : Option GeometryFault) (marks : List Mark) : Type 0 where
+-- there is no fault, and these are the places in order
+pub record AreJudged (fault : Option GeometryFault) (places sorted : List Place) : Type 0 where
   pub faultless : fault ≡ None
-  pub inside : find (is_outside disk) places ≡ None
-  pub are : AreMarksOf disk places marks
-  pub ordered : AreInOrder marks
-
--- no mark is the same as the one ahead of it or as one of the others
-abbrev pub AreClear : List Mark → List Mark → Type 0
-AreClear marks others = (k : ℕ) → k < length marks → clash_at marks others k ≡ false
+  pub are : AreSorted places sorted
 
 -- the marks of each cylinder are the positions of its defects, and among its slots without defects those of its grown defects
 pub record IsIndexed (disk : Shape) (defects grown : List Mark) : Type 0 where

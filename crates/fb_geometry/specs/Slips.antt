@@ -2,10 +2,14 @@
 use Rattle.std.specs.Prelude.{◌≡◌, ℕ, ◌+◌, ◌-◌, ◌<◌, ◌≤◌, ◌==◌, ◌⊎◌, Some, slice_get, List, [], ◌∷◌, Bool, true, false, nat_lt, if◌then◌else◌, length, filter}
 use Rattle.std.specs.List.{AllByRecursion, list_any}
 
+-- each element stands so to all that follow
+abbrev pub Pairwise : {A : Type 0} → (A → A → Type 0) → List A → Type 0
+Pairwise R [] = Unit {0}
+Pairwise R (x ∷ xs) = AllByRecursion (R x) xs × Pairwise R xs
+
 -- each number is below all that follow
 abbrev pub IsAscending : List ℕ → Type 0
-IsAscending [] = Unit {0}
-IsAscending (number ∷ numbers) = AllByRecursion (λ later. number < later) numbers × IsAscending numbers
+IsAscending numbers = Pairwise (λ number later. number < later) numbers
 
 -- where a number slips to, past these numbers in ascending order
 abbrev pub slipped : ℕ → List ℕ → ℕ

@@ -70,7 +70,7 @@ impl Geometry {
         let defects = outline.judged_defects(alloc)?;
         match layout {
             Layout::PerTrack => Geometry::per_track(alloc, outline, defects),
-            Layout::PerCylinder => Geometry::per_cylinder(alloc, outline, defects),
+            Layout::PerCylinder => Geometry::per_cylinder(alloc, outline),
         }
     }
 
@@ -78,39 +78,40 @@ impl Geometry {
     fn per_track(
         alloc: Global,
         outline: Outline,
-        defects: Vec<Mark>,
+        defects: Vec<Place>,
     ) -> Result<Geometry, GeometryError>
         requires layout { outline.layout ≡ PerTrack }
         requires grown { outline.grown ≡ [] }
         requires zones { HasZones outline }
-        requires defects { AreJudged outline outline.defects (defect_fault outline) defects.items }
+        requires defects { AreJudged (defect_fault outline) outline.defects defects.items }
         ensures { JudgesSpares outline result }
     {
-        if let Some(track) = outline.first_full_track(&defects) {
-            return Err(GeometryError::Fault(GeometryFault::TooManyDefects(track)));
+        if let Some(place) = outline.first_on_full_track(&defects) {
+            return Err(GeometryError::Fault(GeometryFault::TooManyDefects(place.track)));
         }
+        let marks = outline.marks(alloc, outline.defects.as_slice())?;
         Ok(Geometry {
             outline,
-            defect_marks: Marks::of(defects),
+            defect_marks: Marks::of(marks),
             grown_marks: Marks::none(alloc),
         })
     }
 
     // The geometry with spares at the end of each cylinder, if they are enough.
-    fn per_cylinder(
-        alloc: Global,
-        outline: Outline,
-        defects: Vec<Mark>,
-    ) -> Result<Geometry, GeometryError>
+    fn per_cylinder(alloc: Global, outline: Outline) -> Result<Geometry, GeometryError>
         requires layout { outline.layout ≡ PerCylinder }
         requires zones { HasZones outline }
-        requires defects { AreJudged outline outline.defects (defect_fault outline) defects.items }
+        requires defects { defect_fault outline ≡ None }
         ensures { JudgesSpares outline result }
     {
-        let grown = outline.judged_grown(alloc, &defects)?;
-        if let Some(cylinder) = outline.first_full_cylinder(&defects, &grown) {
-            return Err(GeometryError::Fault(GeometryFault::TooManyInCylinder(cylinder)));
+        let bad = outline.judged_grown(alloc)?;
+        if let Some(place) = outline.first_on_full_cylinder(&bad) {
+            return Err(GeometryError::Fault(GeometryFault::TooManyInCylinder(
+                place.track.cylinder,
+            )));
         }
+        let defects = outline.marks(alloc, outline.defects.as_slice())?;
+        let grown = outline.marks(alloc, outline.grown.as_slice())?;
         let grown = among_unmarked(alloc, &defects, &grown)?;
         Ok(Geometry {
             outline,

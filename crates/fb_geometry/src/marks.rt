@@ -2,7 +2,7 @@
 ghost use Rattle.std.specs.Prelude.{◌≡◌, ℕ, true, false, ◌+◌, ◌<◌, ◌≤◌, ◌^◌, ◌==◌, [], ◌-◌, IfNone, IfSome, IfOk, length, map};
 ghost use Rattle.std.specs.List.{list_any};
 ghost use Rattle.fb_geometry.specs.Slips.{IsAscending, rank, slipped, entry_of_sector, HoldsNone, HoldsSector};
-ghost use Rattle.fb_geometry.specs.Marks.{AreInOrder, positions, marks_on, clash_at, among_unmarked};
+ghost use Rattle.fb_geometry.specs.Marks.{AreInOrder, positions, marks_on, among_unmarked};
 
 use fb_units::NoMemory;
 use std::alloc::Global;
@@ -167,19 +167,6 @@ pub fn sector_of_entry(marks: &[Mark], sectors: u32, entry: u32) -> Option<u32>
     }
     let spare = unmarked - unmarked_before(marks, sectors);
     Some(marks[spare as usize].position)
-}
-
-// Whether the i-th mark is the same as the one ahead of it, or as one of the others.
-pub fn is_clash(marks: &[Mark], i: usize, others: &[Mark]) -> bool
-    requires index { i < length marks.now }
-    requires others { AreInOrder others.now }
-    ensures { result ≡ clash_at marks.now others.now i }
-{
-    let mark = marks[i];
-    if i > 0 && marks[i - 1] == mark {
-        return true;
-    }
-    is_marked(part(others, mark.cylinder), mark.position)
 }
 
 // The same marks, each with its position counted among the positions that `marked` doesn't mark.

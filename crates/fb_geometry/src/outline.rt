@@ -1,13 +1,14 @@
 // The outline of a disk as it is given, and what may be wrong with it.
-ghost use Rattle.std.specs.Prelude.{◌≡◌, ℕ, ◌<◌, ◌≤◌, ◌^◌, length, map, find, position, Some, None, false, true, IfOk, IfErr, All, filter, ◌++◌, nat_lt};
+ghost use Rattle.std.specs.Prelude.{◌≡◌, ◌<◌, ◌≤◌, ◌^◌, [], ◌++◌, length, map, find, position, slice_get, None, false, IfOk, IfErr, All};
 ghost use Rattle.std.specs.List.{list_any};
 ghost use Rattle.fb_geometry.specs.Shape.{Shape, cylinders_of, slots_at};
-ghost use Rattle.fb_geometry.specs.Faults.{is_out_of_range, is_bad_zone, has_no_data, first_apart, is_too_skewed, is_outside, least, lesser, is_place_before, is_track_before, is_full_track, is_full_cylinder};
+ghost use Rattle.fb_geometry.specs.Faults.{is_out_of_range, is_bad_zone, has_no_data, first_apart, is_too_skewed, is_outside, is_place_before, is_track_before, repeated, is_full_track, is_full_cylinder};
 ghost use Rattle.fb_geometry.specs.Turns.{IsZoneOf};
-ghost use Rattle.fb_geometry.specs.Marks.{AreInOrder, IsMarkOn, mark_of, AreMarksOf, LeastClash, FirstFull};
-ghost use Rattle.fb_geometry.specs.Index.{HasZones, zone_fault, defect_fault, grown_fault, Answers, AreJudged, AreClear};
+ghost use Rattle.fb_geometry.specs.Slips.{Pairwise};
+ghost use Rattle.fb_geometry.specs.Marks.{mark_of, AreMarksOf, AreSorted};
+ghost use Rattle.fb_geometry.specs.Index.{HasZones, zone_fault, defect_fault, grown_fault, Answers, AreJudged};
 
-use crate::marks::{Mark, is_clash, part, rank};
+use crate::marks::Mark;
 use crate::zone::zone_of;
 use crate::{GeometryError, GeometryFault, Layout, Zone};
 use fb_units::{NoMemory, Ns, Place, Track};
@@ -179,47 +180,46 @@ impl Outline {
         place.slot >= self.zone_of(cylinder).sectors
     }
 
-    // The marks of the defects, or their first fault.
-    pub fn judged_defects(&self, alloc: Global) -> Result<Vec<Mark>, GeometryError>
+    // The defects in order, or their first fault.
+    pub fn judged_defects(&self, alloc: Global) -> Result<Vec<Place>, GeometryError>
         requires { HasZones self.now }
-        ensures marks { IfOk result (λ marks. AreJudged self.now self.now.defects (defect_fault self.now) marks.items) }
+        ensures sorted { IfOk result (λ sorted. AreJudged (defect_fault self.now) self.now.defects sorted.items) }
         ensures fault { IfErr result (Answers (defect_fault self.now)) }
     {
         let defects = self.defects.as_slice();
         if let Some(place) = self.first_outside(defects) {
             return Err(GeometryError::Fault(GeometryFault::DefectOutside(place)));
         }
-        let marks = self.marks(alloc, defects)?;
-        if let Some(place) = self.least_clash(&marks, &[]) {
+        let bad = sorted(alloc, defects, &[])?;
+        if let Some(place) = first_twin(&bad) {
             return Err(GeometryError::Fault(GeometryFault::DefectTwice(place)));
         }
-        Ok(marks)
+        Ok(bad)
     }
 
-    // The marks of the grown defects, or their first fault.
-    pub fn judged_grown(&self, alloc: Global, defects: &[Mark]) -> Result<Vec<Mark>, GeometryError>
+    // The defects and the grown defects together in order, or the first fault of the grown ones.
+    pub fn judged_grown(&self, alloc: Global) -> Result<Vec<Place>, GeometryError>
         requires zones { HasZones self.now }
-        requires defects { AreMarksOf self.now self.now.defects defects.now }
-        requires ordered { AreInOrder defects.now }
-        ensures marks { IfOk result (λ marks. AreJudged self.now self.now.grown (grown_fault self.now) marks.items) }
-        ensures clear { IfOk result (λ marks. AreClear marks.items defects.now) }
+        requires defects { defect_fault self.now ≡ None }
+        ensures sorted { IfOk result (λ sorted. AreJudged (grown_fault self.now) (self.now.defects ++ self.now.grown) sorted.items) }
         ensures fault { IfErr result (Answers (grown_fault self.now)) }
     {
         let grown = self.grown.as_slice();
         if let Some(place) = self.first_outside(grown) {
             return Err(GeometryError::Fault(GeometryFault::GrownOutside(place)));
         }
-        let marks = self.marks(alloc, grown)?;
-        if let Some(place) = self.least_clash(&marks, defects) {
+        let bad = sorted(alloc, self.defects.as_slice(), grown)?;
+        if let Some(place) = first_twin(&bad) {
             return Err(GeometryError::Fault(GeometryFault::GrownTwice(place)));
         }
-        Ok(marks)
+        Ok(bad)
     }
 
-    // The marks, in ascending order, of places on the disk.
-    fn marks(&self, alloc: Global, places: &[Place]) -> Result<Vec<Mark>, NoMemory>
+    // The marks, in ascending order, of places on the disk that are there once.
+    pub fn marks(&self, alloc: Global, places: &[Place]) -> Result<Vec<Mark>, NoMemory>
         requires zones { HasZones self.now }
         requires inside { find (is_outside self.now) places.now ≡ None }
+        requires once { repeated places.now ≡ [] }
         ensures { IfOk result (λ marks. AreMarksOf self.now places.now marks.items) }
     {
         let mut marks = self.unsorted_marks(alloc, places)?;
@@ -251,120 +251,89 @@ impl Outline {
         }
     }
 
-    // The place of a mark.
-    fn place(&self, mark: Mark) -> Place
+    // The first of the defects in order whose track has more of them than spares.
+    pub fn first_on_full_track(&self, defects: &[Place]) -> Option<Place>
         requires zones { HasZones self.now }
-        requires on_disk { IsMarkOn self.now mark }
-        ensures mark { mark_of self.now result ≡ mark }
-        ensures inside { is_outside self.now result ≡ false }
+        requires sorted { AreSorted self.now.defects defects.now }
+        requires inside { All (λ place. is_outside self.now place ≡ false) defects.now }
+        ensures { result ≡ find (λ place. is_full_track self.now place.track) defects.now }
     {
-        let zone = self.zone_of(mark.cylinder);
-        zone.place_at(self.heads, mark.cylinder, mark.position)
-    }
-
-    // The least place of a mark that is the same as the one ahead of it or as one of the others.
-    fn least_clash(&self, marks: &[Mark], others: &[Mark]) -> Option<Place>
-        requires zones { HasZones self.now }
-        requires on_disk { All (IsMarkOn self.now) marks.now }
-        requires others { AreInOrder others.now }
-        ensures { LeastClash self.now marks.now others.now (length marks.now) result }
-    {
-        let mut least = None;
-        for i in 0..marks.len() {
-            if is_clash(marks, i, others) {
-                least = Some(lesser(self.place(marks[i]), least));
-            }
-        }
-        least
-    }
-
-    // The least track with more defects than spares.
-    pub fn first_full_track(&self, defects: &[Mark]) -> Option<Track>
-        requires zones { HasZones self.now }
-        requires marks { AreMarksOf self.now self.now.defects defects.now }
-        requires ordered { AreInOrder defects.now }
-        ensures { result ≡ least is_track_before (filter (is_full_track self.now) (map (λ place. place.track) self.now.defects)) }
-    {
-        for mark in defects {
-            let track = self.place(*mark).track;
-            if self.is_full_track(defects, track) {
-                return Some(track);
+        for place in defects {
+            if self.is_full_track(defects, *place) {
+                return Some(*place);
             }
         }
         None
     }
 
-    fn is_full_track(&self, defects: &[Mark], track: Track) -> bool
+    fn is_full_track(&self, defects: &[Place], place: Place) -> bool
         requires zones { HasZones self.now }
-        requires marks { AreMarksOf self.now self.now.defects defects.now }
-        requires ordered { AreInOrder defects.now }
-        requires cylinder { track.cylinder < cylinders_of self.now.zones }
-        requires head { track.head < self.now.heads }
-        ensures { result ≡ is_full_track self.now track }
+        requires sorted { AreSorted self.now.defects defects.now }
+        requires inside { is_outside self.now place ≡ false }
+        ensures { result ≡ is_full_track self.now place.track }
     {
-        let zone = self.zone_of(track.cylinder);
-        let first = track.head * zone.sectors;
-        let on = part(defects, track.cylinder);
-        rank(on, first + zone.sectors) - rank(on, first) > zone.spares
+        let track = place.track;
+        let spares = self.zone_of(track.cylinder).spares as usize;
+        let first = defects.partition_point(|place| is_before(place.track, track));
+        let behind = defects.partition_point(|place| !is_before(track, place.track));
+        behind - first > spares
     }
 
-    // The least cylinder with more defects and grown defects together than spares.
-    pub fn first_full_cylinder(&self, defects: &[Mark], grown: &[Mark]) -> Option<u32>
+    // The first of all bad places in order whose cylinder has more of them than spares.
+    pub fn first_on_full_cylinder(&self, bad: &[Place]) -> Option<Place>
         requires zones { HasZones self.now }
-        requires defects { AreMarksOf self.now self.now.defects defects.now }
-        requires grown { AreMarksOf self.now self.now.grown grown.now }
-        requires defects_ordered { AreInOrder defects.now }
-        requires grown_ordered { AreInOrder grown.now }
-        ensures { result ≡ least nat_lt (filter (is_full_cylinder self.now) (map (λ place. place.track.cylinder) (self.now.defects ++ self.now.grown))) }
+        requires sorted { AreSorted (self.now.defects ++ self.now.grown) bad.now }
+        requires inside { All (λ place. is_outside self.now place ≡ false) bad.now }
+        ensures { result ≡ find (λ place. is_full_cylinder self.now place.track.cylinder) bad.now }
     {
-        let first = self.first_full_among(defects, defects, grown);
-        let second = self.first_full_among(grown, defects, grown);
-        match (first, second) {
-            (Some(first), Some(second)) => Some(first.min(second)),
-            (Some(first), None) => Some(first),
-            (None, second) => second,
-        }
-    }
-
-    // The first cylinder of these marks that has more bad slots than spares.
-    fn first_full_among(&self, marks: &[Mark], defects: &[Mark], grown: &[Mark]) -> Option<u32>
-        requires zones { HasZones self.now }
-        requires on_disk { All (IsMarkOn self.now) marks.now }
-        requires ordered { AreInOrder marks.now }
-        requires defects { AreMarksOf self.now self.now.defects defects.now }
-        requires grown { AreMarksOf self.now self.now.grown grown.now }
-        requires defects_ordered { AreInOrder defects.now }
-        requires grown_ordered { AreInOrder grown.now }
-        ensures { FirstFull self.now marks.now result }
-    {
-        for mark in marks {
-            if self.is_full_cylinder(defects, grown, mark.cylinder) {
-                return Some(mark.cylinder);
+        for place in bad {
+            if self.is_full_cylinder(bad, *place) {
+                return Some(*place);
             }
         }
         None
     }
 
-    fn is_full_cylinder(&self, defects: &[Mark], grown: &[Mark], cylinder: u32) -> bool
+    fn is_full_cylinder(&self, bad: &[Place], place: Place) -> bool
         requires zones { HasZones self.now }
-        requires defects { AreMarksOf self.now self.now.defects defects.now }
-        requires grown { AreMarksOf self.now self.now.grown grown.now }
-        requires defects_ordered { AreInOrder defects.now }
-        requires grown_ordered { AreInOrder grown.now }
-        requires cylinder { cylinder < cylinders_of self.now.zones }
-        ensures { result ≡ is_full_cylinder self.now cylinder }
+        requires sorted { AreSorted (self.now.defects ++ self.now.grown) bad.now }
+        requires inside { is_outside self.now place ≡ false }
+        ensures { result ≡ is_full_cylinder self.now place.track.cylinder }
     {
-        let bad = part(defects, cylinder).len() + part(grown, cylinder).len();
-        bad > self.zone_of(cylinder).cylinder_spares as usize
+        let cylinder = place.track.cylinder;
+        let spares = self.zone_of(cylinder).cylinder_spares as usize;
+        let first = bad.partition_point(|place| place.track.cylinder < cylinder);
+        let behind = bad.partition_point(|place| place.track.cylinder <= cylinder);
+        behind - first > spares
     }
 }
 
-// The lesser of a place and another one, if there is another.
-fn lesser(place: Place, other: Option<Place>) -> Place
-    ensures { Some result ≡ lesser is_place_before place other }
+// Whether a track comes before another one.
+fn is_before(track: Track, other: Track) -> bool
+    ensures { result ≡ is_track_before track other }
 {
-    match other {
-        Some(other) => { if other < place { other } else { place } }
-        None => place,
+    track < other
+}
+
+// These places and the others together, in order.
+fn sorted(alloc: Global, places: &[Place], others: &[Place]) -> Result<Vec<Place>, NoMemory>
+    ensures { IfOk result (λ sorted. AreSorted (places.now ++ others.now) sorted.items) }
+{
+    let mut sorted = Vec::from_slice(alloc, places)?;
+    sorted.extend_from_slice(others)?;
+    sorted.sort_unstable();
+    Ok(sorted)
+}
+
+// The first of these places in order that is there twice.
+fn first_twin(sorted: &[Place]) -> Option<Place>
+    requires { Pairwise (λ place later. is_place_before later place ≡ false) sorted.now }
+    ensures { result ≡ slice_get (repeated sorted.now) 0 }
+{
+    for i in 1..sorted.len() {
+        if sorted[i - 1] == sorted[i] {
+            return Some(sorted[i - 1]);
+        }
     }
+    None
 }

@@ -32,9 +32,9 @@ returns-in_err-defects c =
 pub returns-in-PerTrack : goal.returns-in-PerTrack
 returns-in-PerTrack c =
     let disk : Shape = record { layout = c.args.layout; rotation = c.args.rotation; heads = c.args.heads; zones = c.args.zones.items; defects = c.args.defects.items; grown = c.args.grown.items } in
-    judged disk c.per_track.result (sym c.zone_fault.ensures ∙ c.in_default.is) c.in_ok-defects.ensures.marks.faultless c.per_track.ensures
+    judged disk c.per_track.result (sym c.zone_fault.ensures ∙ c.in_default.is) c.in_ok-defects.ensures.sorted.faultless c.per_track.ensures
 
 pub returns-in-PerCylinder : goal.returns-in-PerCylinder
 returns-in-PerCylinder c =
     let disk : Shape = record { layout = c.args.layout; rotation = c.args.rotation; heads = c.args.heads; zones = c.args.zones.items; defects = c.args.defects.items; grown = c.args.grown.items } in
-    judged disk c.per_cylinder.result (sym c.zone_fault.ensures ∙ c.in_default.is) c.in_ok-defects.ensures.marks.faultless c.per_cylinder.ensures
+    judged disk c.per_cylinder.result (sym c.zone_fault.ensures ∙ c.in_default.is) c.in_ok-defects.ensures.sorted.faultless c.per_cylinder.ensures

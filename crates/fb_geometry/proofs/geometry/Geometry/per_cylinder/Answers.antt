@@ -1,39 +1,69 @@
-use Rattle.std.proofs.Common.{◌≡◌, sym, ap, ◌∙◌, subst, None, map, ◌++◌}
-use Rattle.std.specs.Prelude.{filter, nat_lt}
-use Rattle.fb_geometry.specs.Faults.{spare_fault, fault_at, least, is_full_cylinder}
+use Rattle.std.proofs.Common.{◌≡◌, sym, ◌∙◌, ap, subst, None, map, refl}
+use Rattle.std.specs.Prelude.{All, false, option_map}
+use Rattle.fb_units.specs.declared.types.Place.{Place}
 use Rattle.fb_geometry.specs.declared.fault.GeometryFault.TheVariants.{TooManyInCylinder}
-use Rattle.fb_geometry.specs.Marks.{AreInOrder, among_unmarked}
-use Rattle.fb_geometry.specs.Index.{IsKept, IsFaultless, AreClear}
+use Rattle.fb_geometry.specs.Faults.{is_outside, repeated, fault_at, spare_fault}
+use Rattle.fb_geometry.specs.Marks.{AreMarksOf, AreInOrder, among_unmarked}
+use Rattle.fb_geometry.specs.Index.{IsKept, IsFaultless}
+use Rattle.fb_geometry.proofs.Judging.{bad_inside, good_defects, good_grown, faultless, cylinder_spares, fits_per_cylinder}
 use Rattle.fb_geometry.proofs.Laws.{sound}
-use Rattle.fb_geometry.proofs.Judging.{faultless, spares_per_cylinder, fits_per_cylinder}
 use Rattle.fb_geometry.proofs.Indexing.{indexed, grown_in_order}
 use Rattle.fb_geometry.proofs.geometry.Geometry.per_cylinder.Goals as goal
 
+pub first_on_full_cylinder-requires-clause-inside : goal.first_on_full_cylinder-requires-clause-inside
+first_on_full_cylinder-requires-clause-inside c =
+    let judged = c.in_ok-bad.ensures.sorted in
+    subst (All (λ place. is_outside c.args.outline place ≡ false)) (sym c.deref.ensures.value) (bad_inside c.args.outline c.in_ok-bad.bad.items c.requires.defects judged.faultless judged.are)
+
+pub returns-in-Some : goal.returns-in-Some
+returns-in-Some c =
+    let judged = c.in_ok-bad.ensures.sorted in
+    cylinder_spares c.args.outline c.in_ok-bad.bad.items c.deref.result.now c.first_on_full_cylinder.result c.requires.layout judged.faultless judged.are c.deref.ensures.value c.first_on_full_cylinder.ensures
+    ∙ ap (λ found. fault_at TooManyInCylinder (option_map (λ (place : Place). place.track.cylinder) found)) c.in-Some.is
+
+pub marks-requires-clause-once : goal.marks-requires-clause-once
+marks-requires-clause-once c = ap repeated (c.as_slice.ensures.value ∙ ap (λ disk. disk.defects) c.outline.view_is) ∙ (good_defects c.args.outline c.requires.defects).1
+
+pub marks-requires-2-clause-once : goal.marks-requires-2-clause-once
+marks-requires-2-clause-once c = ap repeated (c.as_slice-2.ensures.value ∙ ap (λ disk. disk.grown) c.outline.view_is) ∙ (good_grown c.args.outline c.in_ok-bad.ensures.sorted.faultless).1
+
 pub of-requires-2 : goal.of-requires-2
 of-requires-2 c =
-    let judged = c.in_ok-grown.ensures.marks in
-    let defects = c.args.defects.items in
+    let disk = c.args.outline in
+    let defects = c.in_ok-defects.defects.items in
     let grown = c.in_ok-grown.grown.items in
+    let are : AreMarksOf disk disk.defects defects = subst (λ places. AreMarksOf disk places defects) (c.as_slice.ensures.value ∙ ap (λ disk. disk.defects) c.outline.view_is) c.in_ok-defects.ensures in
+    let those : AreMarksOf disk disk.grown grown = subst (λ places. AreMarksOf disk places grown) (c.as_slice-2.ensures.value ∙ ap (λ disk. disk.grown) c.outline.view_is) c.in_ok-grown.ensures in
     let same : c.in_ok-grown-2.grown.items ≡ map (among_unmarked defects) grown =
-    c.in_ok-grown-2.ensures ∙ (ap (λ marks. map (among_unmarked marks) c.deref-5.result.now) c.deref-4.ensures.value ∙ ap (map (among_unmarked defects)) c.deref-5.ensures.value) in
-    subst AreInOrder (sym same) (grown_in_order c.args.outline c.requires.zones defects grown c.requires.defects.are c.requires.defects.ordered judged.are judged.ordered
-    (subst (AreClear grown) c.deref.ensures.value c.in_ok-grown.ensures.clear))
+    c.in_ok-grown-2.ensures ∙ (ap (λ marks. map (among_unmarked marks) c.deref-3.result.now) c.deref-2.ensures.value ∙ ap (map (among_unmarked defects)) c.deref-3.ensures.value) in
+    subst AreInOrder (sym same) (grown_in_order disk c.requires.zones defects grown are those (good_grown disk c.in_ok-bad.ensures.sorted.faultless).2)
 
 pub invariant_of-result : goal.invariant_of-result
 invariant_of-result c =
     let disk = c.args.outline in
-    let judged = c.in_ok-grown.ensures.marks in
-    let defects = c.args.defects.items in
+    let judged = c.in_ok-bad.ensures.sorted in
+    let defects = c.in_ok-defects.defects.items in
     let grown = c.in_ok-grown.grown.items in
+    let are : AreMarksOf disk disk.defects defects = subst (λ places. AreMarksOf disk places defects) (c.as_slice.ensures.value ∙ ap (λ disk. disk.defects) c.outline.view_is) c.in_ok-defects.ensures in
+    let those : AreMarksOf disk disk.grown grown = subst (λ places. AreMarksOf disk places grown) (c.as_slice-2.ensures.value ∙ ap (λ disk. disk.grown) c.outline.view_is) c.in_ok-grown.ensures in
     let same : c.in_ok-grown-2.grown.items ≡ map (among_unmarked defects) grown =
-    c.in_ok-grown-2.ensures ∙ (ap (λ marks. map (among_unmarked marks) c.deref-5.result.now) c.deref-4.ensures.value ∙ ap (map (among_unmarked defects)) c.deref-5.ensures.value) in
-    let no_cylinder : least nat_lt (filter (is_full_cylinder disk) (map (λ place. place.track.cylinder) (disk.defects ++ disk.grown))) ≡ None = sym c.first_full_cylinder.ensures ∙ c.in_default.is in
-    let spares : spare_fault disk.layout disk ≡ None = ap (λ layout. spare_fault layout disk) c.requires.layout ∙ (spares_per_cylinder disk judged.faultless ∙ ap (fault_at TooManyInCylinder) no_cylinder) in
-    let good : IsFaultless disk = faultless disk c.requires.zones c.requires.defects.faultless spares in
+    c.in_ok-grown-2.ensures ∙ (ap (λ marks. map (among_unmarked marks) c.deref-3.result.now) c.deref-2.ensures.value ∙ ap (map (among_unmarked defects)) c.deref-3.ensures.value) in
+    let spares : spare_fault disk.layout disk ≡ None =
+    cylinder_spares disk c.in_ok-bad.bad.items c.deref.result.now c.first_on_full_cylinder.result c.requires.layout judged.faultless judged.are c.deref.ensures.value c.first_on_full_cylinder.ensures
+    ∙ ap (λ found. fault_at TooManyInCylinder (option_map (λ (place : Place). place.track.cylinder) found)) c.in_default.is in
+    let good : IsFaultless disk = faultless disk c.requires.zones c.requires.defects spares in
     subst (λ marks. IsKept disk marks c.of-2.result) (sym c.of.ensures) (subst (IsKept disk defects) (sym (c.of-2.ensures ∙ same))
     (record {
       faultless = good;
       sound = sound disk good;
-      indexed = indexed disk c.requires.zones defects grown c.requires.defects.are c.requires.defects.ordered judged.are judged.ordered (subst (AreClear grown) c.deref.ensures.value c.in_ok-grown.ensures.clear);
+      indexed = indexed disk c.requires.zones defects grown are those (good_grown disk judged.faultless).2;
       fits = fits_per_cylinder disk.layout disk.grown c.requires.layout;
     }))
+
+pub returns : goal.returns
+returns c =
+    let judged = c.in_ok-bad.ensures.sorted in (
+      refl,
+      cylinder_spares c.args.outline c.in_ok-bad.bad.items c.deref.result.now c.first_on_full_cylinder.result c.requires.layout judged.faultless judged.are c.deref.ensures.value c.first_on_full_cylinder.ensures
+          ∙ ap (λ found. fault_at TooManyInCylinder (option_map (λ (place : Place). place.track.cylinder) found)) c.in_default.is,
+    )

@@ -1,18 +1,41 @@
-use Rattle.std.proofs.Common.{◌≡◌, sym, ap, ◌∙◌, subst, None, map}
-use Rattle.std.specs.Prelude.{filter}
-use Rattle.fb_geometry.specs.Faults.{spare_fault, fault_at, least, is_track_before, is_full_track}
+use Rattle.std.proofs.Common.{◌≡◌, sym, ◌∙◌, ap, subst, None, refl}
+use Rattle.std.specs.Prelude.{All, false, option_map}
+use Rattle.fb_units.specs.declared.types.Place.{Place}
 use Rattle.fb_geometry.specs.declared.fault.GeometryFault.TheVariants.{TooManyDefects}
+use Rattle.fb_geometry.specs.Faults.{is_outside, repeated, fault_at, spare_fault}
+use Rattle.fb_geometry.specs.Marks.{AreMarksOf}
 use Rattle.fb_geometry.specs.Index.{IsKept, IsFaultless}
+use Rattle.fb_geometry.proofs.Judging.{defects_inside, good_defects, faultless, track_spares}
 use Rattle.fb_geometry.proofs.Laws.{sound}
-use Rattle.fb_geometry.proofs.Judging.{faultless}
 use Rattle.fb_geometry.proofs.Indexing.{indexed_alone}
 use Rattle.fb_geometry.proofs.geometry.Geometry.per_track.Goals as goal
+
+pub first_on_full_track-requires-clause-inside : goal.first_on_full_track-requires-clause-inside
+first_on_full_track-requires-clause-inside c = subst (All (λ place. is_outside c.args.outline place ≡ false)) (sym c.deref.ensures.value) (defects_inside c.args.outline c.args.defects.items c.requires.defects.faultless c.requires.defects.are)
+
+pub returns-in-Some : goal.returns-in-Some
+returns-in-Some c =
+    track_spares c.args.outline c.args.defects.items c.deref.result.now c.first_on_full_track.result c.requires.layout c.requires.defects.are c.deref.ensures.value c.first_on_full_track.ensures
+    ∙ ap (λ found. fault_at TooManyDefects (option_map (λ (place : Place). place.track) found)) c.in-Some.is
+
+pub marks-requires-clause-once : goal.marks-requires-clause-once
+marks-requires-clause-once c = ap repeated (c.as_slice.ensures.value ∙ ap (λ disk. disk.defects) c.outline.view_is) ∙ (good_defects c.args.outline c.requires.defects.faultless).1
 
 pub invariant_of-result : goal.invariant_of-result
 invariant_of-result c =
     let disk = c.args.outline in
-    let no_track : least is_track_before (filter (is_full_track disk) (map (λ place. place.track) disk.defects)) ≡ None = sym c.first_full_track.ensures ∙ c.in_default.is in
-    let spares : spare_fault disk.layout disk ≡ None = ap (λ layout. spare_fault layout disk) c.requires.layout ∙ ap (fault_at TooManyDefects) no_track in
+    let marks = c.in_ok-marks.marks.items in
+    let spares : spare_fault disk.layout disk ≡ None =
+    track_spares disk c.args.defects.items c.deref.result.now c.first_on_full_track.result c.requires.layout c.requires.defects.are c.deref.ensures.value c.first_on_full_track.ensures
+    ∙ ap (λ found. fault_at TooManyDefects (option_map (λ (place : Place). place.track) found)) c.in_default.is in
     let good : IsFaultless disk = faultless disk c.requires.zones c.requires.defects.faultless spares in
-    subst (λ marks. IsKept disk marks c.none.result) (sym c.of.ensures) (subst (IsKept disk c.args.defects.items) (sym c.none.ensures)
-    (record { faultless = good; sound = sound disk good; indexed = indexed_alone disk c.requires.zones c.args.defects.items c.requires.defects.are c.requires.defects.ordered c.requires.grown; fits = λ layout. c.requires.grown }))
+    let are : AreMarksOf disk disk.defects marks = subst (λ places. AreMarksOf disk places marks) (c.as_slice.ensures.value ∙ ap (λ disk. disk.defects) c.outline.view_is) c.in_ok-marks.ensures in
+    subst (λ marks. IsKept disk marks c.none.result) (sym c.of.ensures) (subst (IsKept disk marks) (sym c.none.ensures)
+    (record { faultless = good; sound = sound disk good; indexed = indexed_alone disk c.requires.zones marks are c.requires.grown; fits = λ layout. c.requires.grown }))
+
+pub returns : goal.returns
+returns c = (
+  refl,
+  track_spares c.args.outline c.args.defects.items c.deref.result.now c.first_on_full_track.result c.requires.layout c.requires.defects.are c.deref.ensures.value c.first_on_full_track.ensures
+      ∙ ap (λ found. fault_at TooManyDefects (option_map (λ (place : Place). place.track) found)) c.in_default.is,
+)

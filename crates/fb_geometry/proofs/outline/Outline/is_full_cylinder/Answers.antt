@@ -1,25 +1,32 @@
-use Rattle.std.proofs.Common.{◌≡◌, ◌+◌, ◌++◌, ap, sym, ◌∙◌, arith, length}
-use Rattle.std.specs.Prelude.{filter, nat_lt, ◌==◌}
-use Rattle.std.proofs.lemmas.List.{length-append}
-use Rattle.std.proofs.lemmas.List.Elements.{filter-append}
-use Rattle.fb_geometry.specs.Faults.{cylinder_spares_at}
+use Rattle.std.proofs.Common.{◌≡◌, ◌+◌, ◌-◌, length, arith, rules, ap, sym, ◌∙◌, ◌++◌}
+use Rattle.std.specs.Prelude.{filter, nat_lt, nat_le, ◌==◌}
+use Rattle.std.proofs.lemmas.Bool.Decides.{nat_tests}
+use Rattle.std.proofs.lemmas.List.Sorted.{IsPartitionPoint-from_clause}
+use Rattle.fb_units.specs.declared.types.Place.{Place}
 use Rattle.fb_geometry.proofs.Faultless.{cylinder_spares_at-zone}
-use Rattle.fb_geometry.proofs.Spares.{count_on_cylinder}
+use Rattle.fb_geometry.proofs.Spares.{between, partitioned}
 use Rattle.fb_geometry.proofs.outline.Outline.is_full_cylinder.Goals as goal
+
+counted : (c : goal.After-partition_point-behind)
+    → c.partition_point-behind.result ≡ c.partition_point-first.result + length (filter (λ (place : Place). place.track.cylinder == c.args.place.track.cylinder) (c.args.self.now.defects ++ c.args.self.now.grown))
+counted c =
+    let cylinder = c.args.place.track.cylinder in
+    let sorted = c.args.bad.now in
+    let under = λ (place : Place). nat_lt place.track.cylinder cylinder in
+    let upto = λ (place : Place). nat_le place.track.cylinder cylinder in
+    between upto under (λ place. place.track.cylinder == cylinder) (λ place. grind (arith, nat_tests)) (c.args.self.now.defects ++ c.args.self.now.grown) sorted c.requires.sorted
+    c.partition_point-first.result c.partition_point-behind.result c.partition_point-first.ensures.bound c.partition_point-behind.ensures.bound
+    (IsPartitionPoint-from_clause under sorted c.partition_point-first.result c.partition_point-first.ensures.partitioned (partitioned under (λ a b h k. grind (arith, nat_tests)) sorted c.requires.sorted.rise) (λ a r f called. search rules))
+    (IsPartitionPoint-from_clause upto sorted c.partition_point-behind.result c.partition_point-behind.ensures.partitioned (partitioned upto (λ a b h k. grind (arith, nat_tests)) sorted c.requires.sorted.rise) (λ a r f called. search rules))
+
+pub overflow_sub-result : goal.overflow_sub-result
+overflow_sub-result c = omega (arith, counted c)
 
 pub returns : goal.returns
 returns c =
+    let cylinder = c.args.place.track.cylinder in
     let disk = c.args.self.now in
-    let cylinder = c.args.cylinder in
-    let count : length c.part.result.now + length c.part-2.result.now ≡ length (filter (λ place. place.track.cylinder == cylinder) (disk.defects ++ disk.grown)) =
-    omega (
-      arith,
-      ap length c.part.ensures.value,
-      ap length c.part-2.ensures.value,
-      count_on_cylinder disk disk.defects c.args.defects.now cylinder c.requires.defects,
-      count_on_cylinder disk disk.grown c.args.grown.now cylinder c.requires.grown,
-      ap length (filter-append (λ place. place.track.cylinder == cylinder) disk.defects disk.grown),
-      length-append (filter (λ place. place.track.cylinder == cylinder) disk.defects) (filter (λ place. place.track.cylinder == cylinder) disk.grown),
-    ) in
-    ap (λ spares. nat_lt spares (length c.part.result.now + length c.part-2.result.now)) (sym (cylinder_spares_at-zone disk.zones cylinder c.zone_of.result c.zone_of.ensures.zone.found))
-    ∙ ap (nat_lt (cylinder_spares_at disk.zones cylinder)) count
+    let zone = c.zone_of-spares.result in
+    let count = length (filter (λ (place : Place). place.track.cylinder == cylinder) (disk.defects ++ disk.grown)) in
+    let between : c.partition_point-behind.result - c.partition_point-first.result ≡ count = omega (arith, counted c) in
+    ap (nat_lt zone.cylinder_spares) between ∙ ap (λ spares. nat_lt spares count) (sym (cylinder_spares_at-zone disk.zones cylinder zone c.zone_of-spares.ensures.zone.found))

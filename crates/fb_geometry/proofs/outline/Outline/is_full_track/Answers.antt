@@ -1,28 +1,33 @@
-use Rattle.std.proofs.Common.{◌≡◌, ◌-◌, ap, sym, ◌∙◌, arith, length}
-use Rattle.std.specs.Prelude.{filter, nat_lt}
+use Rattle.std.proofs.Common.{◌≡◌, ◌+◌, ◌-◌, length, arith, rules, ap, sym, ◌∙◌}
+use Rattle.std.specs.Prelude.{filter, not, nat_lt}
+use Rattle.std.proofs.lemmas.Bool.Decides.{nat_tests}
+use Rattle.std.proofs.lemmas.List.Sorted.{IsPartitionPoint-from_clause}
 use Rattle.fb_units.specs.Tracks.{same_track}
-use Rattle.fb_geometry.specs.Faults.{spares_at}
+use Rattle.fb_units.specs.declared.types.Place.{Place}
+use Rattle.fb_geometry.specs.Faults.{is_track_before}
 use Rattle.fb_geometry.proofs.Faultless.{spares_at-zone}
-use Rattle.fb_geometry.proofs.Spares.{between}
+use Rattle.fb_geometry.proofs.Spares.{between, partitioned}
 use Rattle.fb_geometry.proofs.outline.Outline.is_full_track.Goals as goal
 
+counted : (c : goal.After-partition_point-behind) → c.partition_point-behind.result ≡ c.partition_point-first.result + length (filter (λ (place : Place). same_track c.args.place.track place.track) c.args.self.now.defects)
+counted c =
+    let track = c.args.place.track in
+    let sorted = c.args.defects.now in
+    let under = λ (place : Place). is_track_before place.track track in
+    let upto = λ (place : Place). not (is_track_before track place.track) in
+    between upto under (λ place. same_track track place.track) (λ place. grind (arith, nat_tests)) c.args.self.now.defects sorted c.requires.sorted
+    c.partition_point-first.result c.partition_point-behind.result c.partition_point-first.ensures.bound c.partition_point-behind.ensures.bound
+    (IsPartitionPoint-from_clause under sorted c.partition_point-first.result c.partition_point-first.ensures.partitioned (partitioned under (λ a b h k. grind (arith, nat_tests)) sorted c.requires.sorted.rise) (λ a r f called. search rules))
+    (IsPartitionPoint-from_clause upto sorted c.partition_point-behind.result c.partition_point-behind.ensures.partitioned (partitioned upto (λ a b h k. grind (arith, nat_tests)) sorted c.requires.sorted.rise) (λ a r f called. search rules))
+
 pub overflow_sub-result : goal.overflow_sub-result
-overflow_sub-result c =
-    omega (
-      arith,
-      between c.args.self.now c.requires.zones c.zone_of-zone.result c.args.track c.zone_of-zone.ensures.zone c.args.defects.now c.part-on.result.now c.rank.result c.rank-2.result
-          c.requires.marks c.part-on.ensures.value c.rank.ensures.value c.rank-2.ensures.value,
-    )
+overflow_sub-result c = omega (arith, counted c)
 
 pub returns : goal.returns
 returns c =
+    let track = c.args.place.track in
     let disk = c.args.self.now in
-    let zone = c.zone_of-zone.result in
-    let count : c.rank.result - c.rank-2.result ≡ length (filter (λ place. same_track c.args.track place.track) disk.defects) =
-    omega (
-      arith,
-      between disk c.requires.zones zone c.args.track c.zone_of-zone.ensures.zone c.args.defects.now c.part-on.result.now c.rank.result c.rank-2.result
-          c.requires.marks c.part-on.ensures.value c.rank.ensures.value c.rank-2.ensures.value,
-    ) in
-    ap (λ spares. nat_lt spares (c.rank.result - c.rank-2.result)) (sym (spares_at-zone disk.zones c.args.track.cylinder zone c.zone_of-zone.ensures.zone.found))
-    ∙ ap (nat_lt (spares_at disk.zones c.args.track.cylinder)) count
+    let zone = c.zone_of-spares.result in
+    let count = length (filter (λ (place : Place). same_track track place.track) disk.defects) in
+    let between : c.partition_point-behind.result - c.partition_point-first.result ≡ count = omega (arith, counted c) in
+    ap (nat_lt zone.spares) between ∙ ap (λ spares. nat_lt spares count) (sym (spares_at-zone disk.zones track.cylinder zone c.zone_of-spares.ensures.zone.found))

@@ -1,32 +1,17 @@
-use Rattle.std.proofs.Common.{◌≡◌, sym, ap, ◌∙◌, subst, None}
-use Rattle.std.specs.Prelude.{find}
-use Rattle.fb_geometry.specs.Faults.{is_outside}
-use Rattle.fb_geometry.specs.Marks.{AreMarksOf}
-use Rattle.fb_geometry.specs.Index.{AreJudged, grown_fault}
-use Rattle.fb_geometry.proofs.Clashes.{marks_lie}
-use Rattle.fb_geometry.proofs.Judging.{grown_twice, good_grown}
+use Rattle.std.proofs.Common.{sym, ◌∙◌, ap}
+use Rattle.fb_geometry.specs.declared.fault.GeometryFault.TheVariants.{GrownTwice}
+use Rattle.fb_geometry.specs.Faults.{fault_at}
+use Rattle.fb_geometry.proofs.Judging.{grown_judged}
 use Rattle.fb_geometry.proofs.outline.Outline.judged_grown.Goals as goal
 
-pub least_clash-requires-clause-on_disk : goal.least_clash-requires-clause-on_disk
-least_clash-requires-clause-on_disk c =
-    let disk = c.args.self.now in
-    let are = subst (λ marks. AreMarksOf disk c.as_slice-grown.result.now marks) (sym c.deref.ensures.value) c.in_ok-marks.ensures in
-    marks_lie disk c.requires.zones c.as_slice-grown.result.now c.as_slice-grown.result.now c.deref.result.now c.deref.result.now are are
+pub returns-in-Some-first_twin-clause-fault : goal.returns-in-Some-first_twin-clause-fault
+returns-in-Some-first_twin-clause-fault c =
+    let found = grown_judged c.args.self.now c.as_slice.result.now c.as_slice-grown.result.now c.in_ok-bad.bad.items c.deref.result.now c.requires.defects (c.as_slice.ensures.value ∙ ap (λ disk. disk.defects) c.self.view_is)
+    (c.as_slice-grown.ensures.value ∙ ap (λ disk. disk.grown) c.self.view_is) (sym c.first_outside.ensures ∙ c.in_default.is) c.in_ok-bad.ensures c.deref.ensures.value in
+    found.0 ∙ ap (fault_at GrownTwice) (sym c.first_twin.ensures ∙ c.in-Some-first_twin.is)
 
-pub returns-in-Some-least_clash-clause-fault : goal.returns-in-Some-least_clash-clause-fault
-returns-in-Some-least_clash-clause-fault c =
-    let disk = c.args.self.now in
-    let same = c.as_slice-grown.ensures.value ∙ ap (λ disk. disk.grown) c.self.view_is in
-    let marks = c.deref.result.now in
-    let inside = subst (λ places. find (is_outside disk) places ≡ None) same (sym c.first_outside.ensures ∙ c.in_default.is) in
-    let are = subst (λ places. AreMarksOf disk places marks) same (subst (λ marks. AreMarksOf disk c.as_slice-grown.result.now marks) (sym c.deref.ensures.value) c.in_ok-marks.ensures) in
-    grown_twice disk c.requires.zones marks c.args.defects.now c.requires.defects c.in-Some-least_clash.place inside are c.in-Some-least_clash.ensures
-
-pub returns-clause-marks : goal.returns-clause-marks
-returns-clause-marks c =
-    let disk = c.args.self.now in
-    let same = c.as_slice-grown.ensures.value ∙ ap (λ disk. disk.grown) c.self.view_is in
-    let marks = c.deref.result.now in
-    let inside = subst (λ places. find (is_outside disk) places ≡ None) same (sym c.first_outside.ensures ∙ c.in_default.is) in
-    let are = subst (λ places. AreMarksOf disk places marks) same (subst (λ marks. AreMarksOf disk c.as_slice-grown.result.now marks) (sym c.deref.ensures.value) c.in_ok-marks.ensures) in
-    subst (AreJudged disk disk.grown (grown_fault disk)) c.deref.ensures.value (good_grown disk c.requires.zones marks c.args.defects.now c.requires.defects inside are c.in_default-least_clash.ensures)
+pub returns-clause-sorted : goal.returns-clause-sorted
+returns-clause-sorted c =
+    let found = grown_judged c.args.self.now c.as_slice.result.now c.as_slice-grown.result.now c.in_ok-bad.bad.items c.deref.result.now c.requires.defects (c.as_slice.ensures.value ∙ ap (λ disk. disk.defects) c.self.view_is)
+    (c.as_slice-grown.ensures.value ∙ ap (λ disk. disk.grown) c.self.view_is) (sym c.first_outside.ensures ∙ c.in_default.is) c.in_ok-bad.ensures c.deref.ensures.value in
+    record { faultless = found.0 ∙ ap (fault_at GrownTwice) (sym c.first_twin.ensures ∙ c.in_default-first_twin.is); are = found.1 }

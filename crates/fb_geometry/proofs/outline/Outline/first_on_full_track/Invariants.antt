@@ -1,0 +1,7 @@
+use Rattle.std.proofs.Common.{◌≡◌, drop}
+use Rattle.std.specs.Prelude.{find}
+use Rattle.fb_geometry.specs.Faults.{is_full_track}
+use Rattle.fb_geometry.proofs.outline.Outline.first_on_full_track.Given as goal
+
+abbrev pub invariant-loop-place : goal.invariant-loop-place
+invariant-loop-place l = find (λ place. is_full_track l.self place.track) (drop l.place-index l.defects) ≡ find (λ place. is_full_track l.self place.track) l.defects
