@@ -1,9 +1,8 @@
 -- An outline without a fault is sound.
-use Rattle.std.proofs.Common.{◌≡◌, ℕ, zero, suc, ◌+◌, ◌-◌, ◌*◌, ◌/◌, ◌%◌, ◌<◌, ◌≤◌, List, [], ◌∷◌, ◌++◌, length, refl, ap, sym, ◌∙◌, arith, Bool, true, false, not, cond, None, ◌⊎◌, inl, inr, map, subst, take, drop}
+use Rattle.std.proofs.Common.{◌≡◌, ℕ, zero, suc, ◌+◌, ◌-◌, ◌*◌, ◌<◌, ◌≤◌, List, [], ◌∷◌, ◌++◌, length, refl, ap, sym, ◌∙◌, arith, Bool, true, false, not, cond, None, ◌⊎◌, inl, inr, map, subst, take, drop}
 use Rattle.std.specs.Prelude.{filter, find, nat_lt, ◌==◌}
 use Rattle.std.specs.List.{AllByRecursion, flat_map, range_with_len}
-use Rattle.std.proofs.Math.Nat.{mod-lt}
-use Rattle.std.proofs.lemmas.Nat.{mul-add-lt, div_below, mul-le}
+use Rattle.std.proofs.lemmas.Nat.{mul-le}
 use Rattle.std.proofs.lemmas.Bool.{cases_Bool, eqb-true}
 use Rattle.std.proofs.lemmas.Bool.Decides.{nat_tests}
 use Rattle.std.proofs.lemmas.List.{length-take-le, length-append}
@@ -16,16 +15,15 @@ use Rattle.fb_geometry.specs.declared.layout.Layout.{Layout}
 use Rattle.fb_geometry.specs.declared.layout.Layout.TheVariants.{PerTrack, PerCylinder}
 use Rattle.fb_geometry.specs.declared.zone.Zone.{Zone}
 use Rattle.fb_geometry.specs.declared.fault.GeometryFault.TheVariants.{TooManyDefects, GrownOutside, GrownTwice, TooManyInCylinder}
-use Rattle.fb_geometry.specs.Shape.{Shape, offset_in, is_among}
-use Rattle.fb_geometry.specs.Places.{data_list, data_list_by, per_track, per_cylinder, good_track, by_head, replaced, stand_in}
+use Rattle.fb_geometry.specs.Shape.{Shape, is_among}
+use Rattle.fb_geometry.specs.Places.{data_list_by, per_track, per_cylinder, good_track, by_head, replaced, stand_in}
 use Rattle.fb_geometry.specs.Faults.{spare_fault, or_else, fault_at, has_no_data, is_outside, least, is_place_before, is_track_before, repeated, is_full_track, is_full_cylinder, spares_at, cylinder_spares_at}
-use Rattle.fb_geometry.specs.Sound.{IsSound, LiesOn, cylinder_size_by}
-use Rattle.fb_geometry.specs.Turns.{IsZoneAt, slot_at}
-use Rattle.fb_geometry.specs.Index.{IsFaultless}
+use Rattle.fb_geometry.specs.Sound.{cylinder_size_by}
+use Rattle.fb_geometry.specs.Turns.{IsZoneAt}
 use Rattle.fb_geometry.proofs.Grid.{length-parts}
-use Rattle.fb_geometry.proofs.Turns.{good_track-is, good_cylinder-is}
+use Rattle.fb_geometry.proofs.Turns.{good_cylinder-is}
 use Rattle.fb_geometry.proofs.Counting.{same_tracks, length-good_track, length-good_cylinder}
-use Rattle.fb_geometry.proofs.Faultless.{fault_at-none, or_else-none, least-none, filter-none, all_get, zone_by_bounds, slots_at-zone, spares_at-zone, cylinder_spares_at-zone, some_rotation, short_rotation, some_heads, few_heads, some_zones, few_zones, few_cylinders, ranges_of, data_of, short_slots}
+use Rattle.fb_geometry.proofs.Faultless.{fault_at-none, or_else-none, least-none, filter-none, spares_at-zone, cylinder_spares_at-zone}
 
 -- ---- spares are enough
 
@@ -132,26 +130,6 @@ all-filter P test (x ∷ xs) h = keep P (test x) x (filter test xs) h.0 (all-fil
     keep P true x xs h k = (h, k)
     keep P false x xs h k = k
 
-pub all-take : {A : Type 0} (P : A → Type 0) (n : ℕ) (xs : List A) → AllByRecursion P xs → AllByRecursion P (take n xs)
-all-take P zero xs h = tt
-all-take P (suc n) [] h = tt
-all-take P (suc n) (x ∷ xs) h = (h.0, all-take P n xs h.1)
-
-pub all-drop : {A : Type 0} (P : A → Type 0) (n : ℕ) (xs : List A) → AllByRecursion P xs → AllByRecursion P (drop n xs)
-all-drop P zero xs h = h
-all-drop P (suc n) [] h = tt
-all-drop P (suc n) (x ∷ xs) h = all-drop P n xs h.1
-
-pub all-range : {A : Type 0} (P : A → Type 0) (f : ℕ → A) (a n : ℕ) → ((i : ℕ) → i < n → P (f (a + i))) → AllByRecursion P (map f (range_with_len a n))
-all-range P f a zero h = tt
-all-range P f a (suc n) h = (subst (λ x. P (f x)) (add_zero a) (h 0 (omega arith)), all-range P f (a + 1) n (λ i l. subst (λ x. P (f x)) (add_one a i) (h (i + 1) (omega arith))))
-  where
-    add_zero : (a : ℕ) → a + 0 ≡ a
-    add_zero a = omega arith
-
-    add_one : (a i : ℕ) → a + (i + 1) ≡ a + 1 + i
-    add_one a i = omega arith
-
 pub all-parts : {A : Type 0} (P : A → Type 0) (f : ℕ → List A) (a n : ℕ) → ((i : ℕ) → i < n → AllByRecursion P (f (a + i))) → AllByRecursion P (flat_map f (range_with_len a n))
 all-parts P f a zero h = tt
 all-parts P f a (suc n) h = all-append P (f a) (flat_map f (range_with_len (a + 1) n)) (subst (λ x. AllByRecursion P (f x)) (add_zero a) (h 0 (omega arith)))
@@ -162,61 +140,3 @@ all-parts P f a (suc n) h = all-append P (f a) (flat_map f (range_with_len (a + 
 
     add_one : (a i : ℕ) → a + (i + 1) ≡ a + 1 + i
     add_one a i = omega arith
-
-pub all-replaced : (P : Place → Type 0) (disk : Shape) (places spares : List Place) → AllByRecursion P places → AllByRecursion P spares → AllByRecursion P (replaced disk places spares)
-all-replaced P disk [] spares h k = tt
-all-replaced P disk (place ∷ places) spares h k =
-    let one = chosen P (is_among disk.grown place) place spares h.0 k in (one.0, all-replaced P disk places (stand_in (is_among disk.grown place) place spares).1 h.1 one.1)
-  where
-    chosen : (P : Place → Type 0) (b : Bool) (place : Place) (spares : List Place) → P place → AllByRecursion P spares → P (stand_in b place spares).0 × AllByRecursion P (stand_in b place spares).1
-    chosen P false place spares h k = (h, k)
-    chosen P true place [] h k = (h, k)
-    chosen P true place (spare ∷ spares) h k = (k.0, k.1)
-
-module _ (disk : Shape) (zone : Zone) (cylinder : ℕ) (at : IsZoneAt disk cylinder zone) where
-  some : 0 < zone.sectors
-  some = at.ranges.some_sectors
-
-  lies_on : (position : ℕ) → position < disk.heads * zone.sectors → LiesOn disk cylinder (slot_at zone disk.heads cylinder position)
-  lies_on position h = record {
-    cylinder_is = refl;
-    head = div_below position zone.sectors disk.heads some h;
-    slot = subst (λ n. (slot_at zone disk.heads cylinder position).slot < n) (sym (slots_at-zone disk.zones cylinder zone at.found)) (mod-lt (offset_in zone disk.heads (record { cylinder = cylinder; head = position / zone.sectors }) + position % zone.sectors) some);
-  }
-
-  track_lies_on : (head : ℕ) → head < disk.heads → AllByRecursion (LiesOn disk cylinder) (good_track disk zone (record { cylinder = cylinder; head = head }))
-  track_lies_on head h =
-      subst (AllByRecursion (LiesOn disk cylinder)) (sym (good_track-is zone disk.heads some disk (record { cylinder = cylinder; head = head }) refl))
-      (all-filter (LiesOn disk cylinder) (λ place. not (is_among disk.defects place)) (map (slot_at zone disk.heads cylinder) (range_with_len (head * zone.sectors) zone.sectors))
-      (all-range (LiesOn disk cylinder) (slot_at zone disk.heads cylinder) (head * zone.sectors) zone.sectors (λ i l. lies_on (head * zone.sectors + i) (omega (arith, mul-add-lt head zone.sectors i disk.heads h l)))))
-
-  good_lies_on : AllByRecursion (LiesOn disk cylinder) (by_head disk cylinder (good_track disk zone))
-  good_lies_on = all-parts (LiesOn disk cylinder) (λ head. good_track disk zone (record { cylinder = cylinder; head = head })) 0 disk.heads (λ i l. track_lies_on (0 + i) (omega arith))
-
-  pub list_lies_on : (layout : Layout) → AllByRecursion (LiesOn disk cylinder) (data_list_by layout disk zone cylinder)
-  list_lies_on PerTrack = all-parts (LiesOn disk cylinder) (λ head. take (zone.sectors - zone.spares) (good_track disk zone (record { cylinder = cylinder; head = head }))) 0 disk.heads
-      (λ i l. all-take (LiesOn disk cylinder) (zone.sectors - zone.spares) (good_track disk zone (record { cylinder = cylinder; head = 0 + i })) (track_lies_on (0 + i) (omega arith)))
-  list_lies_on PerCylinder =
-      let good = by_head disk cylinder (good_track disk zone) in
-      let base = disk.heads * zone.sectors - zone.cylinder_spares in
-      all-replaced (LiesOn disk cylinder) disk (take base good) (filter (λ place. not (is_among disk.grown place)) (drop base good))
-      (all-take (LiesOn disk cylinder) base good good_lies_on)
-      (all-filter (LiesOn disk cylinder) (λ place. not (is_among disk.grown place)) (drop base good) (all-drop (LiesOn disk cylinder) base good good_lies_on))
-
-pub sound : (disk : Shape) → IsFaultless disk → IsSound disk
-sound disk h = record {
-  some_rotation = some_rotation disk h.zones_hold;
-  short_rotation = short_rotation disk h.zones_hold;
-  some_heads = some_heads disk h.zones_hold;
-  few_heads = few_heads disk h.zones_hold;
-  some_zones = some_zones disk h.zones_hold;
-  few_zones = few_zones disk h.zones_hold;
-  contiguous = h.zones_hold.contiguous;
-  some_cylinders = λ i zone at. (ranges_of disk h.zones_hold i zone at).some_cylinders;
-  few_cylinders = few_cylinders disk h.zones_hold;
-  equal = λ i zone cylinder at. length-data_list disk zone cylinder (zone_by_bounds disk h i zone cylinder at) disk.layout h.spares;
-  some_data = λ i zone at. some_size disk.layout disk zone (some_heads disk h.zones_hold) (data_of disk h.zones_hold i zone at);
-  few_slots = λ i zone at. (ranges_of disk h.zones_hold i zone at).few_sectors;
-  short_slots = short_slots disk h.zones_hold;
-  own = λ i zone cylinder j place at found. all_get (LiesOn disk cylinder) (data_list disk zone cylinder) j place (list_lies_on disk zone cylinder (zone_by_bounds disk h i zone cylinder at) disk.layout) found;
-}

@@ -1,5 +1,5 @@
 -- Where the sectors of a cylinder are.
-use Rattle.std.proofs.Common.{◌≡◌, ℕ, zero, suc, ◌+◌, ◌-◌, ◌*◌, ◌/◌, ◌%◌, ◌<◌, ◌≤◌, List, [], ◌∷◌, ◌++◌, length, refl, ap, sym, ◌∙◌, arith, Bool, true, false, not, cond, Some, None, inl, inr, map, subst, take, drop}
+use Rattle.std.proofs.Common.{◌≡◌, ℕ, zero, suc, ◌+◌, ◌-◌, ◌*◌, ◌/◌, ◌%◌, ◌<◌, ◌≤◌, List, [], ◌∷◌, ◌++◌, length, refl, ap, sym, ◌∙◌, arith, Bool, true, false, not, cond, Some, None, inl, inr, ◌⊎◌, map, subst, take, drop}
 use Rattle.std.specs.Prelude.{filter, ◌==◌, slice_get}
 use Rattle.std.specs.List.{AllByRecursion, range_with_len, list_any}
 use Rattle.std.proofs.Math.Nat.{mod-lt}
@@ -12,18 +12,19 @@ use Rattle.std.proofs.lemmas.List.Elements.{filter-append}
 use Rattle.std.proofs.lemmas.List.FromFn.{take-map-range_with_len}
 use Rattle.fb_units.specs.declared.types.Place.{Place}
 use Rattle.fb_geometry.specs.declared.layout.Layout.{Layout}
-use Rattle.fb_geometry.specs.declared.layout.Layout.TheVariants.{PerTrack}
+use Rattle.fb_geometry.specs.declared.layout.Layout.TheVariants.{PerTrack, PerCylinder}
 use Rattle.fb_geometry.specs.declared.zone.Zone.{Zone}
-use Rattle.fb_geometry.specs.Shape.{Shape, same_place, is_among, offset_in}
-use Rattle.fb_geometry.specs.Places.{turn, per_track, per_cylinder, good_track, by_head, replaced, stand_in}
+use Rattle.fb_geometry.specs.Shape.{Shape, same_place, is_among, offset_in, slots_at}
+use Rattle.fb_geometry.specs.Sound.{LiesOn}
+use Rattle.fb_geometry.specs.Places.{turn, per_track, per_cylinder, data_list_by, good_track, by_head, replaced, stand_in}
 use Rattle.fb_geometry.specs.Faults.{spare_fault, has_no_data}
 use Rattle.fb_geometry.specs.Turns.{IsZone, IsZoneAt, slot_at, cylinder_slots, position_in}
 use Rattle.fb_geometry.specs.Slips.{IsAscending, slipped, rank, indexes}
 use Rattle.fb_geometry.proofs.Grid.{get_left, get_right, get_part, get_range}
-use Rattle.fb_geometry.proofs.Slips.{kept_at, kept_to, marked, rank-le, rank-slipped, slipped-free, rank-at, rank-mono, rank-step, rank_marked, rank-le_length, among_at, indexes-ascend, length-kept, length-kept_front}
+use Rattle.fb_geometry.proofs.Slips.{kept_at, kept_to, marked, rank-le, rank-slipped, slipped-free, rank-at, rank-mono, rank-step, rank_marked, rank_unmarked, rank-le_length, among_at, indexes-ascend, length-kept, length-kept_front}
 use Rattle.fb_geometry.proofs.Turns.{good_track-is, good_cylinder-is, range-append, length-cylinder_slots, get-cylinder_slots, position_in-slot_at, slot_at-position_in, position_below}
-use Rattle.fb_geometry.proofs.Faultless.{all_get}
-use Rattle.fb_geometry.proofs.Laws.{HasSpares, length-track, length-per_track, length-good, few_flaws, length-per_cylinder, all-filter}
+use Rattle.fb_geometry.proofs.Faultless.{all_get, slots_at-zone}
+use Rattle.fb_geometry.proofs.Laws.{HasSpares, has_spares, length-track, length-per_track, length-good, few_flaws, length-per_cylinder, all-filter}
 use Rattle.fb_geometry.proofs.Counting.{kept_and_dropped, at_most_each, fewer, once_on_cylinder}
 
 pub get_take : {X : Type 0} (n : ℕ) (xs : List X) (i : ℕ) → i < n → slice_get (take n xs) i ≡ slice_get xs i
@@ -137,6 +138,16 @@ module _ (disk : Shape) (zone : Zone) (cylinder : ℕ) (at : IsZoneAt disk cylin
       let position : slipped k numbers ≡ position_in zone disk.heads place = sym (position_in-slot_at zone disk.heads some cylinder (slipped k numbers)) ∙ ap (position_in zone disk.heads) same in
       omega (arith, rank-slipped k (position_in zone disk.heads place) numbers (ascends (is_among disk.defects) (cylinder_slots zone disk.heads cylinder) numbers are) position)
 
+  -- a good slot is one of the cylinder's
+  good_lies : (k : ℕ) (place : Place) → slice_get (filter (λ place. not (is_among disk.defects place)) (cylinder_slots zone disk.heads cylinder)) k ≡ Some place → LiesOn disk cylinder place
+  good_lies k place found =
+      let one = good_at k (slice_get_within good k place found) in
+      let position = slipped k numbers in
+      let turned : (slot_at zone disk.heads cylinder position).slot < slots_at disk.zones cylinder =
+      omega (arith, slots_at-zone disk.zones cylinder zone at.found, mod-lt (offset_in zone disk.heads (record { cylinder = cylinder; head = position / zone.sectors }) + position % zone.sectors) some) in
+      subst (LiesOn disk cylinder) (same_Some (slot_at zone disk.heads cylinder position) place (sym one.1 ∙ found))
+      (record { cylinder_is = refl; head = div_below position zone.sectors disk.heads some one.0; slot = turned })
+
   -- the slots of a track stand together
   track_in_good : (head i : ℕ) → head < disk.heads → i < length (good_track disk zone (record { cylinder = cylinder; head = head }))
       → slice_get (filter (λ place. not (is_among disk.defects place)) (cylinder_slots zone disk.heads cylinder)) (head * zone.sectors - rank (head * zone.sectors) numbers + i) ≡ slice_get (good_track disk zone (record { cylinder = cylinder; head = head })) i
@@ -214,6 +225,7 @@ module _ (disk : Shape) (zone : Zone) (cylinder : ℕ) (at : IsZoneAt disk cylin
     pub index_by_track : (j : ℕ) (place : Place) → 0 < zone.sectors - zone.spares → slice_get (per_track disk zone cylinder) j ≡ Some place
         → (is_among disk.defects place ≡ false) × (i : ℕ) × (i < zone.sectors - zone.spares)
         × (place.track.head * zone.sectors - rank (place.track.head * zone.sectors) numbers + i ≡ position_in zone disk.heads place - rank (position_in zone disk.heads place) numbers)
+        × (place.track.head * (zone.sectors - zone.spares) + i ≡ j) × LiesOn disk cylinder place
     index_by_track j place some_data found =
         let d = zone.sectors - zone.spares in
         let below : j < disk.heads * d = omega (arith, slice_get_within (per_track disk zone cylinder) j place found, length-per_track disk zone cylinder at few) in
@@ -229,6 +241,8 @@ module _ (disk : Shape) (zone : Zone) (cylinder : ℕ) (at : IsZoneAt disk cylin
           i,
           inside,
           ap (λ k. k * zone.sectors - rank (k * zone.sectors) numbers + i) same ∙ good_index (head * zone.sectors - rank (head * zone.sectors) numbers + i) place in_good,
+          ap (λ k. k * d + i) same ∙ whole,
+          good_lies (head * zone.sectors - rank (head * zone.sectors) numbers + i) place in_good,
         )
 
     -- a good slot of a track that comes early enough holds data
@@ -372,11 +386,31 @@ module _ (disk : Shape) (zone : Zone) (cylinder : ℕ) (at : IsZoneAt disk cylin
       let found = at_whole k spare.0 here in
       (found.0, moved j one.0 spare.0 l one.1 gone spare.1 ∙ found.1)
 
+  -- the sector of an entry of the good list: its own, or that of the grown one which it stands in for
+  abbrev pub IsSectorOf : ℕ → ℕ → Type 0
+  IsSectorOf k j = ((k < disk.heads * zone.sectors - zone.cylinder_spares) × (k ≡ j))
+      ⊎ ((disk.heads * zone.sectors - zone.cylinder_spares ≤ k) × (list_any (λ other. other == j) grown ≡ true)
+      × (disk.heads * zone.sectors - zone.cylinder_spares - rank (disk.heads * zone.sectors - zone.cylinder_spares) grown + rank j grown ≡ k - rank k grown))
+
+  -- an entry has one sector
+  one_sector : (k i j : ℕ) → IsSectorOf k i → IsSectorOf k j → i ≡ j
+  one_sector k i j (inl own) (inl same) = omega arith
+  one_sector k i j (inl own) (inr stead) = absurd (omega arith)
+  one_sector k i j (inr stead) (inl own) = absurd (omega arith)
+  one_sector k i j (inr one) (inr other) = elim (cases_lt i j) [
+    | inl less ↦ absurd (omega (arith, rank_marked i j grown grown_ascend one.1 less, one.2, other.2))
+    | inr from ↦ elim (cases_lt j i) [
+      | inl more ↦ absurd (omega (arith, rank_marked j i grown grown_ascend other.1 more, one.2, other.2))
+      | inr upto ↦ omega arith
+    ]
+  ]
+
   -- a sector's place is no defect, not grown, and comes early enough among those that are neither
   pub index_by_cylinder : (j : ℕ) (place : Place) → slice_get (per_cylinder disk zone cylinder) j ≡ Some place
       → (is_among disk.defects place ≡ false) × (is_among disk.grown place ≡ false)
       × (slice_get whole (position_in zone disk.heads place - rank (position_in zone disk.heads place) numbers) ≡ Some place)
       × (position_in zone disk.heads place - rank (position_in zone disk.heads place) numbers - rank (position_in zone disk.heads place - rank (position_in zone disk.heads place) numbers) grown < base)
+      × IsSectorOf (position_in zone disk.heads place - rank (position_in zone disk.heads place) numbers) j × LiesOn disk cylinder place
   index_by_cylinder j place found =
       let below : j < base = omega (arith, slice_get_within (per_cylinder disk zone cylinder) j place found, length-per_cylinder disk zone cylinder at h) in
       let one = base_entry j below in
@@ -390,24 +424,33 @@ module _ (disk : Shape) (zone : Zone) (cylinder : ℕ) (at : IsZoneAt disk cylin
             let k = slipped (base - rank base grown + m) grown in
             let in_whole = kth (is_among disk.grown) whole grown those (base - rank base grown + m) (slice_get_within (filter clean whole) (base - rank base grown + m) place in_clean) in
             let here : slice_get whole k ≡ Some place = sym in_whole.1 ∙ in_clean in
-            from_whole k place here (sym (is_marked_at (is_among disk.grown) whole grown those k place here) ∙ slipped-free (base - rank base grown + m) k grown grown_ascend refl)
-            (omega (arith, rank-slipped (base - rank base grown + m) k grown grown_ascend refl, rank_le (is_among disk.grown) whole grown those base))
+            let free = slipped-free (base - rank base grown + m) k grown grown_ascend refl in
+            let index : base - rank base grown + m ≡ k - rank k grown = omega (arith, rank-slipped (base - rank base grown + m) k grown grown_ascend refl) in
+            let behind : base ≤ k = elim (cases_lt k base) [
+              | inl less ↦ absurd (omega (arith, rank-step (k + 1) base grown grown_ascend (omega arith), rank_unmarked k grown free, rank-slipped (base - rank base grown + m) k grown grown_ascend refl, rank_le (is_among disk.grown) whole grown those base))
+              | inr from ↦ from
+            ] in
+            from_whole k place here (sym (is_marked_at (is_among disk.grown) whole grown those k place here) ∙ free) (omega (arith, rank_le (is_among disk.grown) whole grown those base))
+            (inr (behind, is_marked_at (is_among disk.grown) whole grown those j one.0 one.1 ∙ gone, index))
         | inr stays ↦
             let same : one.0 ≡ place = same_Some one.0 place (sym (stayed j one.0 below one.1 stays) ∙ found) in
-            from_whole j place (one.1 ∙ ap Some same) (sym (ap (is_among disk.grown) same) ∙ stays) (omega arith)
+            from_whole j place (one.1 ∙ ap Some same) (sym (ap (is_among disk.grown) same) ∙ stays) (omega arith) (inl (below, refl))
       ]
     where
-      from_whole : (k : ℕ) (place : Place) → slice_get whole k ≡ Some place → is_among disk.grown place ≡ false → k - rank k grown < base
+      from_whole : (k : ℕ) (place : Place) → slice_get whole k ≡ Some place → is_among disk.grown place ≡ false → k - rank k grown < base → IsSectorOf k j
           → (is_among disk.defects place ≡ false) × (is_among disk.grown place ≡ false)
           × (slice_get whole (position_in zone disk.heads place - rank (position_in zone disk.heads place) numbers) ≡ Some place)
           × (position_in zone disk.heads place - rank (position_in zone disk.heads place) numbers - rank (position_in zone disk.heads place - rank (position_in zone disk.heads place) numbers) grown < base)
-      from_whole k place here stays early =
+          × IsSectorOf (position_in zone disk.heads place - rank (position_in zone disk.heads place) numbers) j × LiesOn disk cylinder place
+      from_whole k place here stays early of =
           let in_good : slice_get (filter (λ place. not (is_among disk.defects place)) (cylinder_slots zone disk.heads cylinder)) k ≡ Some place = ap (λ xs. slice_get xs k) (sym whole-is) ∙ here in
           let index = good_index disk zone cylinder at numbers are k place in_good in (
             all_get (λ place. is_among disk.defects place ≡ false) (filter (λ place. not (is_among disk.defects place)) (cylinder_slots zone disk.heads cylinder)) k place (all_good (is_among disk.defects) (cylinder_slots zone disk.heads cylinder)) in_good,
             stays,
             ap (slice_get whole) (sym index) ∙ here,
             subst (λ k. k - rank k grown < base) index early,
+            subst (λ k. IsSectorOf k j) index of,
+            good_lies disk zone cylinder at numbers are k place in_good,
           )
 
   -- where a good slot stands in the good list
@@ -459,3 +502,25 @@ some_by_track disk zone cylinder at layout = let kept : has_no_data PerTrack dis
 
 pub spares_by : (disk : Shape) (zone : Zone) (cylinder : ℕ) (layout : Layout) → IsZoneAt disk cylinder zone → disk.layout ≡ layout → spare_fault layout disk ≡ None
 spares_by disk zone cylinder layout at e = subst (λ layout. spare_fault layout disk ≡ None) e at.enough_spares
+
+-- the places of a list are slots of the cylinder, and none is there twice
+pub lies_on : (disk : Shape) (zone : Zone) (cylinder : ℕ) (layout : Layout) → IsZoneAt disk cylinder zone → disk.layout ≡ layout → (j : ℕ) (place : Place) → slice_get (data_list_by layout disk zone cylinder) j ≡ Some place → LiesOn disk cylinder place
+lies_on disk zone cylinder PerTrack at e j place found =
+    (index_by_track disk zone cylinder at (indexes (is_among disk.defects) 0 (cylinder_slots zone disk.heads cylinder)) refl (spares_by disk zone cylinder PerTrack at e) j place (some_by_track disk zone cylinder at e) found).5
+lies_on disk zone cylinder PerCylinder at e j place found =
+    (index_by_cylinder disk zone cylinder at (has_spares disk (spares_by disk zone cylinder PerCylinder at e)) (indexes (is_among disk.defects) 0 (cylinder_slots zone disk.heads cylinder)) refl
+    (indexes (is_among disk.grown) 0 (by_head disk cylinder (good_track disk zone))) refl j place found).5
+
+pub one_index_on : (disk : Shape) (zone : Zone) (cylinder : ℕ) (layout : Layout) → IsZoneAt disk cylinder zone → disk.layout ≡ layout → (i j : ℕ) (place : Place)
+    → slice_get (data_list_by layout disk zone cylinder) i ≡ Some place → slice_get (data_list_by layout disk zone cylinder) j ≡ Some place → i ≡ j
+one_index_on disk zone cylinder PerTrack at e i j place found again =
+    let index = index_by_track disk zone cylinder at (indexes (is_among disk.defects) 0 (cylinder_slots zone disk.heads cylinder)) refl (spares_by disk zone cylinder PerTrack at e) in
+    let one = index i place (some_by_track disk zone cylinder at e) found in
+    let other = index j place (some_by_track disk zone cylinder at e) again in
+    omega (arith, one.3, one.4, other.3, other.4)
+one_index_on disk zone cylinder PerCylinder at e i j place found again =
+    let spares = has_spares disk (spares_by disk zone cylinder PerCylinder at e) in
+    let numbers = indexes (is_among disk.defects) 0 (cylinder_slots zone disk.heads cylinder) in
+    let grown = indexes (is_among disk.grown) 0 (by_head disk cylinder (good_track disk zone)) in
+    let index = index_by_cylinder disk zone cylinder at spares numbers refl grown refl in
+    one_sector disk zone cylinder at spares numbers refl grown refl (position_in zone disk.heads place - rank (position_in zone disk.heads place) numbers) i j (index i place found).4 (index j place again).4

@@ -30,7 +30,7 @@ module _ (disk : Shape) (zone : Zone) (place : Place) (at : IsZoneAt disk place.
         → (is_among disk.defects place ≡ false) × (is_among disk.grown place ≡ false)
         × (slice_get (by_head disk place.track.cylinder (good_track disk zone)) (position_in zone disk.heads place - rank (position_in zone disk.heads place) numbers) ≡ Some place)
         × (position_in zone disk.heads place - rank (position_in zone disk.heads place) numbers - rank (position_in zone disk.heads place - rank (position_in zone disk.heads place) numbers) grown < disk.heads * zone.sectors - zone.cylinder_spares)
-    indexed j found = index_by_cylinder disk zone place.track.cylinder at spares numbers are grown those j place found
+    indexed j found = let one = index_by_cylinder disk zone place.track.cylinder at spares numbers are grown those j place found in (one.0, one.1, one.2, one.3)
 
     -- what is said of the entry in the good list is so of the place
     judged : (entry : ℕ) (result : Option ℕ) → entry ≡ position_in zone disk.heads place - rank (position_in zone disk.heads place) numbers → is_among disk.defects place ≡ false

@@ -30,7 +30,7 @@ module _ (disk : Shape) (zone : Zone) (place : Place) (at : IsZoneAt disk place.
   indexed : (j : ℕ) → slice_get (per_track disk zone place.track.cylinder) j ≡ Some place
       → (is_among disk.defects place ≡ false) × (i : ℕ) × (i < zone.sectors - zone.spares)
       × (place.track.head * zone.sectors - rank (place.track.head * zone.sectors) numbers + i ≡ position_in zone disk.heads place - rank (position_in zone disk.heads place) numbers)
-  indexed j found = index_by_track disk zone place.track.cylinder at numbers are few j place (some_by_track disk zone place.track.cylinder at layout) found
+  indexed j found = let one = index_by_track disk zone place.track.cylinder at numbers are few j place (some_by_track disk zone place.track.cylinder at layout) found in (one.0, one.1, one.2, one.3)
 
   late : (a b position : ℕ) → position ≡ position_in zone disk.heads place → a ≡ position - rank position numbers → b ≡ place.track.head * zone.sectors - rank (place.track.head * zone.sectors) numbers
       → zone.sectors - zone.spares ≤ a - b → (j : ℕ) → slice_get (per_track disk zone place.track.cylinder) j ≡ Some place → ⊥

@@ -6,7 +6,7 @@ use Rattle.fb_geometry.specs.Faults.{is_outside, repeated, fault_at, spare_fault
 use Rattle.fb_geometry.specs.Marks.{AreMarksOf, AreInOrder, among_unmarked}
 use Rattle.fb_geometry.specs.Index.{IsKept, IsFaultless}
 use Rattle.fb_geometry.proofs.Judging.{bad_inside, good_defects, good_grown, faultless, cylinder_spares, fits_per_cylinder}
-use Rattle.fb_geometry.proofs.Laws.{sound}
+use Rattle.fb_geometry.proofs.Once.{sound}
 use Rattle.fb_geometry.proofs.Indexing.{indexed, grown_in_order}
 use Rattle.fb_geometry.proofs.geometry.Geometry.per_cylinder.Goals as goal
 

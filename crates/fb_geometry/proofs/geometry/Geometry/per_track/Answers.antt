@@ -6,7 +6,7 @@ use Rattle.fb_geometry.specs.Faults.{is_outside, repeated, fault_at, spare_fault
 use Rattle.fb_geometry.specs.Marks.{AreMarksOf}
 use Rattle.fb_geometry.specs.Index.{IsKept, IsFaultless}
 use Rattle.fb_geometry.proofs.Judging.{defects_inside, good_defects, faultless, track_spares}
-use Rattle.fb_geometry.proofs.Laws.{sound}
+use Rattle.fb_geometry.proofs.Once.{sound}
 use Rattle.fb_geometry.proofs.Indexing.{indexed_alone}
 use Rattle.fb_geometry.proofs.geometry.Geometry.per_track.Goals as goal
 
