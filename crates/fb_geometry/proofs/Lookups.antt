@@ -1,10 +1,10 @@
 -- Where the sectors of a cylinder are.
-use Rattle.std.proofs.Common.{◌≡◌, ℕ, zero, suc, ◌+◌, ◌-◌, ◌*◌, ◌/◌, ◌%◌, ◌<◌, ◌≤◌, List, [], ◌∷◌, ◌++◌, length, refl, ap, sym, ◌∙◌, arith, Bool, true, false, not, cond, Some, None, inl, inr, ◌⊎◌, map, subst, take, drop}
-use Rattle.std.specs.Prelude.{filter, ◌==◌, slice_get}
+use Rattle.std.proofs.Common.{◌≡◌, ℕ, zero, suc, ◌+◌, ◌-◌, ◌*◌, ◌/◌, ◌%◌, ◌<◌, ◌≤◌, List, [], ◌∷◌, ◌++◌, length, refl, ap, sym, ◌∙◌, arith, Bool, true, false, not, cond, Option, Some, None, inl, inr, ◌⊎◌, map, subst, take, drop}
+use Rattle.std.specs.Prelude.{filter, ◌==◌, slice_get, MatchOption, IfNone, IfSome}
 use Rattle.std.specs.List.{AllByRecursion, range_with_len, list_any}
 use Rattle.std.proofs.Math.Nat.{mod-lt}
 use Rattle.std.proofs.lemmas.Nat.{div_below, mul-le, div-add-mod'}
-use Rattle.std.proofs.lemmas.Bool.{cases_Bool, cases_lt}
+use Rattle.std.proofs.lemmas.Bool.{cases_Bool, cases_lt, true≢false}
 use Rattle.std.proofs.lemmas.Bool.Decides.{nat_tests}
 use Rattle.std.proofs.lemmas.Option.{same_Some, none-some, slice_get_within}
 use Rattle.std.proofs.lemmas.List.{length-take, length-take-le, length-append, map-append, take-append-drop, take-take}
@@ -16,14 +16,15 @@ use Rattle.fb_geometry.specs.declared.layout.Layout.TheVariants.{PerTrack, PerCy
 use Rattle.fb_geometry.specs.declared.zone.Zone.{Zone}
 use Rattle.fb_geometry.specs.Shape.{Shape, same_place, is_among, offset_in, slots_at}
 use Rattle.fb_geometry.specs.Sound.{LiesOn}
-use Rattle.fb_geometry.specs.Places.{turn, per_track, per_cylinder, data_list_by, good_track, by_head, replaced, stand_in}
+use Rattle.fb_geometry.specs.Places.{turn, per_track, per_cylinder, data_list_by, data_list_at, good_track, by_head, replaced, stand_in}
 use Rattle.fb_geometry.specs.Faults.{spare_fault, has_no_data}
 use Rattle.fb_geometry.specs.Turns.{IsZone, IsZoneAt, slot_at, cylinder_slots, position_in}
-use Rattle.fb_geometry.specs.Slips.{IsAscending, slipped, rank, indexes}
+use Rattle.fb_geometry.specs.Slips.{IsAscending, slipped, rank, indexes, entry_of_sector, HoldsNone, HoldsSector}
+use Rattle.fb_geometry.specs.Index.{IsGoodOf, good_before}
 use Rattle.fb_geometry.proofs.Grid.{get_left, get_right, get_part, get_range}
-use Rattle.fb_geometry.proofs.Slips.{kept_at, kept_to, marked, rank-le, rank-slipped, slipped-free, rank-at, rank-mono, rank-step, rank_marked, rank_unmarked, rank-le_length, among_at, indexes-ascend, length-kept, length-kept_front}
+use Rattle.fb_geometry.proofs.Slips.{kept_at, kept_to, marked, rank-le, rank-slipped, slipped-free, rank-at, rank-mono, rank-step, rank_marked, rank_unmarked, rank-below, rank-le_length, among_at, indexes-ascend, length-kept, length-kept_front}
 use Rattle.fb_geometry.proofs.Turns.{good_track-is, good_cylinder-is, range-append, length-cylinder_slots, get-cylinder_slots, position_in-slot_at, slot_at-position_in, position_below}
-use Rattle.fb_geometry.proofs.Faultless.{all_get, slots_at-zone}
+use Rattle.fb_geometry.proofs.Faultless.{all_get, slots_at-zone, list_among-zone}
 use Rattle.fb_geometry.proofs.Laws.{HasSpares, has_spares, length-track, length-per_track, length-good, few_flaws, length-per_cylinder, all-filter}
 use Rattle.fb_geometry.proofs.Counting.{kept_and_dropped, at_most_each, fewer, once_on_cylinder}
 
@@ -524,3 +525,111 @@ one_index_on disk zone cylinder PerCylinder at e i j place found again =
     let grown = indexes (is_among disk.grown) 0 (by_head disk cylinder (good_track disk zone)) in
     let index = index_by_cylinder disk zone cylinder at spares numbers refl grown refl in
     one_sector disk zone cylinder at spares numbers refl grown refl (position_in zone disk.heads place - rank (position_in zone disk.heads place) numbers) i j (index i place found).4 (index j place again).4
+
+-- ---- by the list of the disk
+
+pub list_by : (disk : Shape) (zone : Zone) (cylinder : ℕ) (layout : Layout) → IsZoneAt disk cylinder zone → disk.layout ≡ layout → data_list_at disk cylinder ≡ data_list_by layout disk zone cylinder
+list_by disk zone cylinder layout at e = list_among-zone disk disk.zones cylinder zone at.found ∙ ap (λ l. data_list_by l disk zone cylinder) e
+
+module _ (disk : Shape) (zone : Zone) (cylinder : ℕ) (at : IsZoneAt disk cylinder zone) (j : ℕ) (h : j < length (data_list_at disk cylinder)) (numbers : List ℕ)
+    (are : numbers ≡ indexes (is_among disk.defects) 0 (cylinder_slots zone disk.heads cylinder)) where
+  good_of : (layout : Layout) (good : ℕ) → disk.layout ≡ layout
+      → (slipped good numbers < disk.heads * zone.sectors) × (slice_get (data_list_by layout disk zone cylinder) j ≡ Some (slot_at zone disk.heads cylinder (slipped good numbers))) → IsGoodOf disk zone cylinder j good
+  good_of layout good e one = record {
+    inside = subst (λ numbers. slipped good numbers < disk.heads * zone.sectors) are one.0;
+    is = ap (λ xs. slice_get xs j) (list_by disk zone cylinder layout at e) ∙ (one.1 ∙ ap (λ numbers. Some (slot_at zone disk.heads cylinder (slipped good numbers))) are);
+  }
+
+  pub split_of : disk.layout ≡ PerTrack → (j / (zone.sectors - zone.spares) < disk.heads) × (j % (zone.sectors - zone.spares) < zone.sectors - zone.spares)
+      × (j / (zone.sectors - zone.spares) * (zone.sectors - zone.spares) + j % (zone.sectors - zone.spares) ≡ j)
+      × (j / (zone.sectors - zone.spares) * zone.sectors + zone.sectors ≤ disk.heads * zone.sectors)
+  split_of layout = split_by_track disk zone cylinder at numbers are (spares_by disk zone cylinder PerTrack at layout) j (some_by_track disk zone cylinder at layout) (omega (arith, ap length (list_by disk zone cylinder PerTrack at layout)))
+
+  pub good_by_track : disk.layout ≡ PerTrack → (before : ℕ) → before ≡ j / (zone.sectors - zone.spares) * zone.sectors - rank (j / (zone.sectors - zone.spares) * zone.sectors) numbers
+      → IsGoodOf disk zone cylinder j (before + j % (zone.sectors - zone.spares))
+  good_by_track layout before e =
+      let size = zone.sectors - zone.spares in
+      let split = split_of layout in
+      good_of PerTrack (before + j % size) layout
+      (place_by_track disk zone cylinder at numbers are (spares_by disk zone cylinder PerTrack at layout) j (j / size) (j % size) (before + j % size) split.2 split.0 split.1 (ap (λ n. n + j % size) (sym e)))
+
+  pub good_by_cylinder : (grown : List ℕ) → grown ≡ indexes (is_among disk.grown) 0 (by_head disk cylinder (good_track disk zone)) → disk.layout ≡ PerCylinder → (heads : ℕ) → heads ≡ disk.heads
+      → IsGoodOf disk zone cylinder j (entry_of_sector grown (heads * zone.sectors - zone.cylinder_spares) j)
+  good_by_cylinder grown those layout heads e =
+      let spares = has_spares disk (spares_by disk zone cylinder PerCylinder at layout) in
+      let base = disk.heads * zone.sectors - zone.cylinder_spares in
+      let below : j < base = omega (arith, ap length (list_by disk zone cylinder PerCylinder at layout), length-per_cylinder disk zone cylinder at spares) in
+      elim (cases_Bool (list_any (λ other. other == j) grown)) [
+        | inl among ↦ rw (e, among)
+            (good_of PerCylinder (slipped (base - rank base grown + rank j grown) grown) layout (place_moving disk zone cylinder at spares numbers are grown those j (slipped (base - rank base grown + rank j grown) grown) below among refl))
+        | inr free ↦ rw (e, free) (good_of PerCylinder j layout (place_staying disk zone cylinder at spares numbers are grown those j below free))
+      ]
+
+module _ (disk : Shape) (zone : Zone) (place : Place) (at : IsZoneAt disk place.track.cylinder zone) (h : place.track.head < disk.heads) (l : place.slot < zone.sectors) where
+  -- whether a defect stands at the position
+  pub defect_at : (numbers : List ℕ) → numbers ≡ indexes (is_among disk.defects) 0 (cylinder_slots zone disk.heads place.track.cylinder) → (heads position : ℕ) (b : Bool) → heads ≡ disk.heads → position ≡ position_in zone heads place
+      → b ≡ list_any (λ other. other == position) numbers → b ≡ is_among disk.defects place
+  defect_at numbers are heads position b d e f =
+      f ∙ (ap (λ position. list_any (λ other. other == position) numbers) (e ∙ ap (λ heads. position_in zone heads place) d)
+      ∙ is_marked_at (is_among disk.defects) (cylinder_slots zone disk.heads place.track.cylinder) numbers are (position_in zone disk.heads place) place (slot_of disk zone place.track.cylinder at numbers are place refl h l))
+
+  abbrev pub Holds : Option ℕ → Type 0
+  Holds result = MatchOption result ((j : ℕ) → slice_get (data_list_at disk place.track.cylinder) j ≡ Some place → ⊥) (λ j. slice_get (data_list_at disk place.track.cylinder) j ≡ Some place)
+
+  abbrev defects : List ℕ
+  defects = indexes (is_among disk.defects) 0 (cylinder_slots zone disk.heads place.track.cylinder)
+
+  holds_no_defect : (layout : Layout) → disk.layout ≡ layout → (j : ℕ) → slice_get (data_list_by layout disk zone place.track.cylinder) j ≡ Some place → is_among disk.defects place ≡ false
+  holds_no_defect PerTrack e j found = (index_by_track disk zone place.track.cylinder at defects refl (spares_by disk zone place.track.cylinder PerTrack at e) j place (some_by_track disk zone place.track.cylinder at e) found).0
+  holds_no_defect PerCylinder e j found =
+      (index_by_cylinder disk zone place.track.cylinder at (has_spares disk (spares_by disk zone place.track.cylinder PerCylinder at e)) defects refl (indexes (is_among disk.grown) 0 (by_head disk place.track.cylinder (good_track disk zone))) refl j place found).0
+
+  -- a defect holds no sector
+  pub none_on_defect : is_among disk.defects place ≡ true → Holds None
+  none_on_defect bad = λ j found.
+      true≢false (sym bad ∙ holds_no_defect disk.layout refl j (sym (ap (λ xs. slice_get xs j) (list_by disk zone place.track.cylinder disk.layout at refl)) ∙ found))
+
+  module _ (stays : is_among disk.defects place ≡ false) (good : ℕ) (is : good ≡ good_before disk zone place) where
+    -- no more good slots come before the track than before the place
+    pub before_good : (numbers : List ℕ) → numbers ≡ defects → place.track.head * zone.sectors - rank (place.track.head * zone.sectors) numbers ≤ good
+    before_good numbers are =
+        let up = ascends (is_among disk.defects) (cylinder_slots zone disk.heads place.track.cylinder) numbers are in
+        omega (arith, ap (rank (position_in zone disk.heads place)) are, rank-step (place.track.head * zone.sectors) (position_in zone disk.heads place) numbers up (omega arith), rank-below (place.track.head * zone.sectors) numbers up)
+
+    pub none_by_track : disk.layout ≡ PerTrack → (numbers : List ℕ) → numbers ≡ defects → (before : ℕ) → before ≡ place.track.head * zone.sectors - rank (place.track.head * zone.sectors) numbers
+        → zone.sectors - zone.spares ≤ good - before → Holds None
+    none_by_track layout numbers are before e late = λ j found.
+        let one = index_by_track disk zone place.track.cylinder at numbers are (spares_by disk zone place.track.cylinder PerTrack at layout) j place (some_by_track disk zone place.track.cylinder at layout)
+        (sym (ap (λ xs. slice_get xs j) (list_by disk zone place.track.cylinder PerTrack at layout)) ∙ found) in
+        absurd (omega (arith, one.2, one.3, ap (rank (position_in zone disk.heads place)) are))
+
+    pub some_by_head : disk.layout ≡ PerTrack → (numbers : List ℕ) → numbers ≡ defects → (before : ℕ) → before ≡ place.track.head * zone.sectors - rank (place.track.head * zone.sectors) numbers
+        → before ≤ good → good - before < zone.sectors - zone.spares → Holds (Some (place.track.head * (zone.sectors - zone.spares) + (good - before)))
+    some_by_head layout numbers are before e order early =
+        ap (λ xs. slice_get xs (place.track.head * (zone.sectors - zone.spares) + (good - before))) (list_by disk zone place.track.cylinder PerTrack at layout)
+        ∙ holds_by_track disk zone place.track.cylinder at numbers are (spares_by disk zone place.track.cylinder PerTrack at layout) place (good - before) refl h l stays early
+        (omega (arith, ap (rank (position_in zone disk.heads place)) are))
+
+    module _ (layout : disk.layout ≡ PerCylinder) (grown : List ℕ) (those : grown ≡ indexes (is_among disk.grown) 0 (by_head disk place.track.cylinder (good_track disk zone))) where
+      kept : HasSpares disk
+      kept = has_spares disk (spares_by disk zone place.track.cylinder PerCylinder at layout)
+
+      here : slice_get (by_head disk place.track.cylinder (good_track disk zone)) good ≡ Some place
+      here = ap (slice_get (by_head disk place.track.cylinder (good_track disk zone))) is ∙ in_whole disk zone place.track.cylinder at kept defects refl grown those place refl h l stays
+
+      -- what is said of the entry in the good list is so of the place
+      pub judged_entry : (heads : ℕ) (result : Option ℕ) → heads ≡ disk.heads → IfNone result (HoldsNone grown (heads * zone.sectors - zone.cylinder_spares) good)
+          → IfSome result (HoldsSector grown (heads * zone.sectors - zone.cylinder_spares) good) → Holds result
+      judged_entry heads None e none some = λ j found.
+          let one = index_by_cylinder disk zone place.track.cylinder at kept defects refl grown those j place (sym (ap (λ xs. slice_get xs j) (list_by disk zone place.track.cylinder PerCylinder at layout)) ∙ found) in
+          elim none [
+            | inl marks ↦ true≢false (sym marks ∙ (grown_at_index disk zone place.track.cylinder at kept defects refl grown those good place here ∙ one.1))
+            | inr late ↦ absurd (omega (arith, one.3, ap (λ k. rank k grown) is, ap (λ heads. heads * zone.sectors) e))
+          ]
+      judged_entry heads (Some j) e none some =
+          let own = subst (λ heads. HoldsSector grown (heads * zone.sectors - zone.cylinder_spares) good j) e some in
+          let clean : is_among disk.grown place ≡ false = sym (grown_at_index disk zone place.track.cylinder at kept defects refl grown those good place here) ∙ own.0 in
+          ap (λ xs. slice_get xs j) (list_by disk zone place.track.cylinder PerCylinder at layout) ∙ elim own.1 [
+            | inl same ↦ ap (slice_get (per_cylinder disk zone place.track.cylinder)) same.1 ∙ holds_staying disk zone place.track.cylinder at kept defects refl grown those good place here clean same.0
+            | inr stead ↦ holds_moving disk zone place.track.cylinder at kept defects refl grown those good j place here clean stead.0 stead.1 stead.2
+          ]

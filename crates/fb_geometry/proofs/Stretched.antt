@@ -8,18 +8,17 @@ use Rattle.std.proofs.lemmas.Bool.{cases_Bool, cases_lt, true≢false}
 use Rattle.std.proofs.lemmas.Option.{same_Some}
 use Rattle.fb_units.specs.declared.types.Place.{Place}
 use Rattle.fb_geometry.specs.declared.zone.Zone.{Zone}
-use Rattle.fb_geometry.specs.declared.layout.Layout.{Layout}
 use Rattle.fb_geometry.specs.declared.layout.Layout.TheVariants.{PerTrack, PerCylinder}
 use Rattle.fb_geometry.specs.Shape.{Shape, offset_in, offset_at, slots_at, turn_position, is_among}
-use Rattle.fb_geometry.specs.Places.{data_list_at, data_list_by, by_head, good_track}
+use Rattle.fb_geometry.specs.Places.{data_list_at, by_head, good_track}
 use Rattle.fb_geometry.specs.Stretches.{IsStretch, KeepsOrder}
 use Rattle.fb_geometry.specs.Turns.{IsZoneAt, zone_at, slot_at, cylinder_slots, position_in}
 use Rattle.fb_geometry.specs.Slips.{IsAscending, slipped, rank, indexes}
 use Rattle.fb_geometry.proofs.Slips.{rank-at, rank-mono, rank-step, rank_marked, rank_unmarked, rank-le_length, rank-slipped, slipped-free, among_at}
 use Rattle.fb_geometry.proofs.Turns.{slot_on, round-back, offset_below, position_in-slot_at}
-use Rattle.fb_geometry.proofs.Faultless.{list_among-zone, slots_at-zone, offset_at-zone}
+use Rattle.fb_geometry.proofs.Faultless.{slots_at-zone, offset_at-zone}
 use Rattle.fb_geometry.proofs.Laws.{has_spares, length-per_cylinder}
-use Rattle.fb_geometry.proofs.Lookups.{place_by_track, split_by_track, some_by_track, spares_by, place_staying, place_moving, ascends}
+use Rattle.fb_geometry.proofs.Lookups.{list_by, place_by_track, split_by_track, some_by_track, spares_by, place_staying, place_moving, ascends}
 
 -- ---- before the next marked number
 
@@ -97,23 +96,20 @@ module _ (disk : Shape) (zone : Zone) (cylinder : ℕ) (at : IsZoneAt disk cylin
   abbrev marks : List ℕ
   marks = indexes (is_among disk.defects) 0 (cylinder_slots zone disk.heads cylinder)
 
-  pub list_by : (layout : Layout) → disk.layout ≡ layout → data_list_at disk cylinder ≡ data_list_by layout disk zone cylinder
-  list_by layout e = list_among-zone disk disk.zones cylinder zone at.found ∙ ap (λ l. data_list_by l disk zone cylinder) e
-
   -- up to the end of a track's sectors
   pub order_by_track : disk.layout ≡ PerTrack → j < length (data_list_at disk cylinder) → KeepsOrder disk zone cylinder j (zone.sectors - zone.spares - j % (zone.sectors - zone.spares))
   order_by_track layout h =
       let size = zone.sectors - zone.spares in
       let some = some_by_track disk zone cylinder at layout in
       let spares = spares_by disk zone cylinder PerTrack at layout in
-      let split = split_by_track disk zone cylinder at marks refl spares j some (omega (arith, ap length (list_by PerTrack layout))) in
+      let split = split_by_track disk zone cylinder at marks refl spares j some (omega (arith, ap length (list_by disk zone cylinder PerTrack at layout))) in
       let head = j / size in
       let before = head * zone.sectors - rank (head * zone.sectors) marks in
       let each = λ (i : ℕ) (less : i < size - j % size). place_by_track disk zone cylinder at marks refl spares (j + i) head (j % size + i) (before + j % size + i) (omega (arith, split.2)) split.0 (omega arith) (omega arith) in
       record {
         from = before + j % size;
         inside = omega (arith, (each 0 (omega (arith, split.1))).0, ap (λ k. slipped k marks) (let same : before + j % size + 0 ≡ before + j % size = omega arith in same));
-        each = λ i less. ap (λ xs. slice_get xs (j + i)) (list_by PerTrack layout) ∙ (each i less).1;
+        each = λ i less. ap (λ xs. slice_get xs (j + i)) (list_by disk zone cylinder PerTrack at layout) ∙ (each i less).1;
       }
 
   -- one sector is in order
@@ -130,7 +126,7 @@ module _ (disk : Shape) (zone : Zone) (cylinder : ℕ) (at : IsZoneAt disk cylin
   order_by_cylinder count grown layout h those free bound =
       let spares = has_spares disk (spares_by disk zone cylinder PerCylinder at layout) in
       let base = disk.heads * zone.sectors - zone.cylinder_spares in
-      let listed = list_by PerCylinder layout in
+      let listed = list_by disk zone cylinder PerCylinder at layout in
       let below : j < base = omega (arith, ap length listed, length-per_cylinder disk zone cylinder at spares) in
       elim (cases_Bool (list_any (λ other. other == j) grown)) [
         | inl among ↦

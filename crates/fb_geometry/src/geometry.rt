@@ -1,13 +1,13 @@
 // The geometry of a disk.
-ghost use Rattle.std.specs.Prelude.{◌≡◌, ℕ, ◌+◌, ◌-◌, ◌*◌, ◌/◌, ◌<◌, ◌≤◌, ◌^◌, [], ◌∷◌, length, slice_get, Some, None, MatchOption};
+ghost use Rattle.std.specs.Prelude.{◌≡◌, ℕ, ◌+◌, ◌-◌, ◌*◌, ◌/◌, ◌<◌, ◌≤◌, ◌^◌, [], ◌∷◌, length, slice_get, Some, None, MatchOption, false};
 ghost use Rattle.fb_geometry.specs.Shape.{Shape, slots_at, cylinders_of, offset_at, is_among};
 ghost use Rattle.fb_geometry.specs.Angles.{slot_begin, CoverRotation};
-ghost use Rattle.fb_geometry.specs.Places.{data_list, data_list_at, per_track, per_cylinder, by_head, good_track};
+ghost use Rattle.fb_geometry.specs.Places.{data_list, data_list_at, by_head, good_track};
 ghost use Rattle.fb_geometry.specs.Faults.{Judges, FitsLayout};
 ghost use Rattle.fb_geometry.specs.Sound.{IsSound, HasOwnPlaces, cylinder_size};
 ghost use Rattle.fb_geometry.specs.Turns.{IsZoneAt, cylinder_slots};
 ghost use Rattle.fb_geometry.specs.Slips.{IsAscending, indexes};
-ghost use Rattle.fb_geometry.specs.Index.{HasZones, AreJudged, defect_fault, JudgesSpares};
+ghost use Rattle.fb_geometry.specs.Index.{HasZones, AreJudged, defect_fault, JudgesSpares, IsGoodOf, good_before};
 ghost use Rattle.fb_geometry.specs.Marks.{positions};
 ghost use Rattle.fb_geometry.specs.declared.layout.Layout.TheVariants.{PerTrack, PerCylinder};
 
@@ -276,9 +276,31 @@ impl Geometry {
         ensures { slice_get (data_list_at self.now cylinder) j ≡ Some result }
     {
         let zone = self.zone_of(cylinder);
+        let good = self.good_of_sector(zone, cylinder, j);
+        zone.place_at(
+            self.heads(),
+            cylinder,
+            slipped(self.defects_on(zone, cylinder), good),
+        )
+    }
+
+    // The index of a sector's slot among the slots of its cylinder that are no defects.
+    fn good_of_sector(&self, zone: Zone, cylinder: u32, j: u32) -> u32
+        requires zone { IsZoneAt self.now cylinder zone }
+        requires sector { j < length (data_list_at self.now cylinder) }
+        ensures { IsGoodOf self.now zone cylinder j result }
+    {
+        let heads = self.heads();
         match self.layout() {
-            Layout::PerTrack => self.place_by_track(zone, cylinder, j),
-            Layout::PerCylinder => self.place_by_cylinder(zone, cylinder, j),
+            Layout::PerTrack => {
+                let sectors = zone.sectors - zone.spares;
+                let first = j / sectors * zone.sectors;
+                unmarked_before(self.defects_on(zone, cylinder), first) + j % sectors
+            }
+            Layout::PerCylinder => {
+                let sectors = heads * zone.sectors - zone.cylinder_spares;
+                entry_of_sector(self.grown_on(zone, cylinder), sectors, j)
+            }
         }
     }
 
@@ -293,86 +315,42 @@ impl Geometry {
             (λ j. slice_get (data_list_at self.now track.cylinder) j ≡ Some (record { track = track; slot = slot })) }
     {
         let zone = self.zone_of(track.cylinder);
+        let defects = self.defects_on(zone, track.cylinder);
         let place = Place { track, slot };
+        let position = zone.position(self.heads(), place);
+        if is_marked(defects, position) {
+            return None;
+        }
+        self.sector_of_good(zone, place, unmarked_before(defects, position))
+    }
+
+    // Which sector a slot holds that is no defect, by its index among such slots of its cylinder.
+    fn sector_of_good(&self, zone: Zone, place: Place, good: u32) -> Option<u32>
+        requires zone { IsZoneAt self.now place.track.cylinder zone }
+        requires head { place.track.head < self.now.heads }
+        requires slot { place.slot < zone.sectors }
+        requires good { is_among self.now.defects place ≡ false }
+        requires index { good ≡ good_before self.now zone place }
+        ensures { MatchOption result
+            ((j : ℕ) → slice_get (data_list_at self.now place.track.cylinder) j ≡ Some place → ⊥)
+            (λ j. slice_get (data_list_at self.now place.track.cylinder) j ≡ Some place) }
+    {
+        let heads = self.heads();
         match self.layout() {
-            Layout::PerTrack => self.index_by_track(zone, place),
-            Layout::PerCylinder => self.index_by_cylinder(zone, place),
+            Layout::PerTrack => {
+                let defects = self.defects_on(zone, place.track.cylinder);
+                let sectors = zone.sectors - zone.spares;
+                let sector = good - unmarked_before(defects, place.track.head * zone.sectors);
+                if sector >= sectors {
+                    return None;
+                }
+                Some(place.track.head * sectors + sector)
+            }
+            Layout::PerCylinder => {
+                let sectors = heads * zone.sectors - zone.cylinder_spares;
+                sector_of_entry(self.grown_on(zone, place.track.cylinder), sectors, good)
+            }
         }
-    }
-
-    // The place of a sector, with spares at the end of each track.
-    fn place_by_track(&self, zone: Zone, cylinder: u32, j: u32) -> Place
-        requires zone { IsZoneAt self.now cylinder zone }
-        requires layout { self.now.layout ≡ PerTrack }
-        requires sector { j < length (per_track self.now zone cylinder) }
-        ensures { slice_get (per_track self.now zone cylinder) j ≡ Some result }
-    {
-        let heads = self.heads();
-        let defects = self.defects_on(zone, cylinder);
-        let sectors = zone.sectors - zone.spares;
-        let first = j / sectors * zone.sectors;
-        let good = unmarked_before(defects, first) + j % sectors;
-        zone.place_at(heads, cylinder, slipped(defects, good))
-    }
-
-    // The place of a sector, with spares at the end of the cylinder.
-    fn place_by_cylinder(&self, zone: Zone, cylinder: u32, j: u32) -> Place
-        requires zone { IsZoneAt self.now cylinder zone }
-        requires layout { self.now.layout ≡ PerCylinder }
-        requires sector { j < length (per_cylinder self.now zone cylinder) }
-        ensures { slice_get (per_cylinder self.now zone cylinder) j ≡ Some result }
-    {
-        let heads = self.heads();
-        let defects = self.defects_on(zone, cylinder);
-        let sectors = heads * zone.sectors - zone.cylinder_spares;
-        let good = entry_of_sector(self.grown_on(zone, cylinder), sectors, j);
-        zone.place_at(heads, cylinder, slipped(defects, good))
-    }
-
-    // Which sector a place holds, with spares at the end of each track.
-    fn index_by_track(&self, zone: Zone, place: Place) -> Option<u32>
-        requires zone { IsZoneAt self.now place.track.cylinder zone }
-        requires layout { self.now.layout ≡ PerTrack }
-        requires head { place.track.head < self.now.heads }
-        requires slot { place.slot < zone.sectors }
-        ensures { MatchOption result
-            ((j : ℕ) → slice_get (per_track self.now zone place.track.cylinder) j ≡ Some place → ⊥)
-            (λ j. slice_get (per_track self.now zone place.track.cylinder) j ≡ Some place) }
-    {
-        let heads = self.heads();
-        let defects = self.defects_on(zone, place.track.cylinder);
-        let position = zone.position(heads, place);
-        if is_marked(defects, position) {
-            return None;
-        }
-        let first = place.track.head * zone.sectors;
-        let sector = unmarked_before(defects, position) - unmarked_before(defects, first);
-        let sectors = zone.sectors - zone.spares;
-        if sector >= sectors {
-            return None;
-        }
-        Some(place.track.head * sectors + sector)
-    }
-
-    // Which sector a place holds, with spares at the end of the cylinder.
-    fn index_by_cylinder(&self, zone: Zone, place: Place) -> Option<u32>
-        requires zone { IsZoneAt self.now place.track.cylinder zone }
-        requires layout { self.now.layout ≡ PerCylinder }
-        requires head { place.track.head < self.now.heads }
-        requires slot { place.slot < zone.sectors }
-        ensures { MatchOption result
-            ((j : ℕ) → slice_get (per_cylinder self.now zone place.track.cylinder) j ≡ Some place → ⊥)
-            (λ j. slice_get (per_cylinder self.now zone place.track.cylinder) j ≡ Some place) }
-    {
-        let heads = self.heads();
-        let defects = self.defects_on(zone, place.track.cylinder);
-        let position = zone.position(heads, place);
-        if is_marked(defects, position) {
-            return None;
-        }
-        let sectors = heads * zone.sectors - zone.cylinder_spares;
-        let good = unmarked_before(defects, position);
-        sector_of_entry(self.grown_on(zone, place.track.cylinder), sectors, good)
     }
 
     // The defects of a cylinder, by their positions.

@@ -4,7 +4,8 @@ use Rattle.fb_geometry.specs.Stretches.{KeepsOrder}
 use Rattle.fb_geometry.proofs.Laws.{has_spares, length-per_cylinder}
 use Rattle.fb_geometry.proofs.Lookups.{spares_by}
 use Rattle.fb_geometry.specs.declared.layout.Layout.TheVariants.{PerCylinder}
-use Rattle.fb_geometry.proofs.Stretched.{list_by, order_by_track, order_by_cylinder}
+use Rattle.fb_geometry.proofs.Lookups.{list_by}
+use Rattle.fb_geometry.proofs.Stretched.{order_by_track, order_by_cylinder}
 use Rattle.fb_geometry.proofs.geometry.Geometry.in_order.Goals as goal
 
 pub unmarked_from-requires-clause-order : goal.unmarked_from-requires-clause-order
@@ -13,7 +14,7 @@ unmarked_from-requires-clause-order c =
     let zone = c.args.zone in
     omega (
       arith,
-      ap length (list_by disk zone c.args.cylinder c.requires.zone c.args.j PerCylinder (sym c.in-PerCylinder.ensures)),
+      ap length (list_by disk zone c.args.cylinder PerCylinder c.requires.zone (sym c.in-PerCylinder.ensures)),
       length-per_cylinder disk zone c.args.cylinder c.requires.zone (has_spares disk (spares_by disk zone c.args.cylinder PerCylinder c.requires.zone (sym c.in-PerCylinder.ensures))),
       ap (λ heads. heads * zone.sectors) c.heads.ensures.value,
     )

@@ -1,14 +1,20 @@
-use Rattle.std.proofs.Common.{◌≡◌, ℕ, Some, sym, ap, ◌∙◌, subst}
-use Rattle.std.specs.Prelude.{slice_get, MatchOption}
-use Rattle.fb_geometry.specs.Places.{data_list_by}
+use Rattle.std.proofs.Common.{arith, sym, ◌∙◌, true, false}
+use Rattle.fb_units.specs.declared.types.Place.{Place}
+use Rattle.fb_geometry.specs.Marks.{positions}
+use Rattle.fb_geometry.proofs.Lookups.{defect_at, none_on_defect}
 use Rattle.fb_geometry.proofs.geometry.Geometry.sector_of_slot.Goals as goal
 
-pub returns-in-PerTrack : goal.returns-in-PerTrack
-returns-in-PerTrack c =
-    subst (λ list. MatchOption c.index_by_track.result ((j : ℕ) → slice_get list j ≡ Some (record { track = c.args.track; slot = c.args.slot }) → ⊥) (λ j. slice_get list j ≡ Some (record { track = c.args.track; slot = c.args.slot })))
-    (sym (c.zone_of-zone.ensures.list ∙ ap (λ layout. data_list_by layout c.args.self.now c.zone_of-zone.result c.args.track.cylinder) (sym c.in-PerTrack.ensures))) c.index_by_track.ensures
+pub returns-then-is_marked : goal.returns-then-is_marked
+returns-then-is_marked c =
+    let zone = c.zone_of-zone.result in
+    let place : Place = record { track = c.args.track; slot = c.args.slot } in
+    none_on_defect c.args.self.now zone place c.zone_of-zone.ensures.zone c.requires.head (omega (arith, c.requires.slot, c.zone_of-zone.ensures.slots))
+    (sym (defect_at c.args.self.now zone place c.zone_of-zone.ensures.zone c.requires.head (omega (arith, c.requires.slot, c.zone_of-zone.ensures.slots)) (positions c.defects_on-defects.result.now) c.defects_on-defects.ensures.marks
+    c.heads.result c.position-position.result true c.heads.ensures.value c.position-position.ensures.value (sym c.if-is_marked.true ∙ c.is_marked.ensures)))
 
-pub returns-in-PerCylinder : goal.returns-in-PerCylinder
-returns-in-PerCylinder c =
-    subst (λ list. MatchOption c.index_by_cylinder.result ((j : ℕ) → slice_get list j ≡ Some (record { track = c.args.track; slot = c.args.slot }) → ⊥) (λ j. slice_get list j ≡ Some (record { track = c.args.track; slot = c.args.slot })))
-    (sym (c.zone_of-zone.ensures.list ∙ ap (λ layout. data_list_by layout c.args.self.now c.zone_of-zone.result c.args.track.cylinder) (sym c.in-PerCylinder.ensures))) c.index_by_cylinder.ensures
+pub sector_of_good-requires-clause-good : goal.sector_of_good-requires-clause-good
+sector_of_good-requires-clause-good c =
+    let zone = c.zone_of-zone.result in
+    let place : Place = record { track = c.args.track; slot = c.args.slot } in
+    sym (defect_at c.args.self.now zone place c.zone_of-zone.ensures.zone c.requires.head (omega (arith, c.requires.slot, c.zone_of-zone.ensures.slots)) (positions c.defects_on-defects.result.now) c.defects_on-defects.ensures.marks
+    c.heads.result c.position-position.result false c.heads.ensures.value c.position-position.ensures.value (sym c.if-is_marked.false ∙ c.is_marked.ensures))

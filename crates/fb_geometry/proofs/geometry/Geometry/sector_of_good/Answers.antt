@@ -1,0 +1,36 @@
+use Rattle.std.proofs.Common.{◌-◌, arith, sym}
+use Rattle.std.proofs.lemmas.Nat.{mul-le}
+use Rattle.fb_geometry.specs.Marks.{positions}
+use Rattle.fb_geometry.proofs.Lookups.{before_good, none_by_track, some_by_head, judged_entry}
+use Rattle.fb_geometry.proofs.geometry.Geometry.sector_of_good.Goals as goal
+
+pub overflow_mul-place : goal.overflow_mul-place
+overflow_mul-place c = omega (arith, mul-le c.args.place.track.head c.args.zone.sectors 64 10000 (omega arith) c.requires.zone.ranges.few_sectors)
+
+pub overflow_sub-sector : goal.overflow_sub-sector
+overflow_sub-sector c = omega (
+  arith,
+  before_good c.args.self.now c.args.zone c.args.place c.requires.zone c.requires.head c.requires.slot c.requires.good c.args.good c.requires.index (positions c.defects_on-defects.result.now) c.defects_on-defects.ensures.marks,
+)
+
+pub returns-then-sector-sectors : goal.returns-then-sector-sectors
+returns-then-sector-sectors c = none_by_track c.args.self.now c.args.zone c.args.place c.requires.zone c.requires.head c.requires.slot c.requires.good c.args.good c.requires.index (sym c.in-PerTrack.ensures)
+    (positions c.defects_on-defects.result.now) c.defects_on-defects.ensures.marks c.unmarked_before.result c.unmarked_before.ensures c.if-sector-sectors.true
+
+pub overflow_mul-result : goal.overflow_mul-result
+overflow_mul-result c = omega (arith, mul-le c.args.place.track.head (c.args.zone.sectors - c.args.zone.spares) 64 10000 (omega arith) (omega (arith, c.requires.zone.ranges.few_sectors)))
+
+pub overflow_add-result : goal.overflow_add-result
+overflow_add-result c = omega (arith, c.requires.zone.ranges.few_sectors, mul-le c.args.place.track.head (c.args.zone.sectors - c.args.zone.spares) 64 10000 (omega arith) (omega (arith, c.requires.zone.ranges.few_sectors)))
+
+pub returns-else-sector-sectors : goal.returns-else-sector-sectors
+returns-else-sector-sectors c =
+    let numbers = positions c.defects_on-defects.result.now in
+    some_by_head c.args.self.now c.args.zone c.args.place c.requires.zone c.requires.head c.requires.slot c.requires.good c.args.good c.requires.index (sym c.in-PerTrack.ensures)
+    numbers c.defects_on-defects.ensures.marks c.unmarked_before.result c.unmarked_before.ensures
+    (omega (arith, before_good c.args.self.now c.args.zone c.args.place c.requires.zone c.requires.head c.requires.slot c.requires.good c.args.good c.requires.index numbers c.defects_on-defects.ensures.marks))
+    (omega arith)
+
+pub returns-in-PerCylinder : goal.returns-in-PerCylinder
+returns-in-PerCylinder c = judged_entry c.args.self.now c.args.zone c.args.place c.requires.zone c.requires.head c.requires.slot c.requires.good c.args.good c.requires.index (sym c.in-PerCylinder.ensures)
+    (positions c.grown_on.result.now) c.grown_on.ensures.marks c.heads-heads.result c.sector_of_entry.result c.heads-heads.ensures.value c.sector_of_entry.ensures.none c.sector_of_entry.ensures.some
