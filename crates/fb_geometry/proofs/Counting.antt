@@ -14,6 +14,7 @@ use Rattle.fb_geometry.specs.Places.{turn, good_track}
 use Rattle.fb_geometry.specs.Turns.{position_in, slot_at, cylinder_slots}
 use Rattle.fb_geometry.proofs.Turns.{turn-is, round-back, offset_below, position_in-slot_at, length-cylinder_slots}
 use Rattle.fb_geometry.proofs.Order.{length-filter-map}
+use Rattle.fb_geometry.proofs.Grid.{add_zero, add_one}
 
 -- the elements that pass a test and those that don't are all together
 pub kept_and_dropped : {A : Type 0} (bad : A → Bool) (xs : List A) → length (filter (λ x. not (bad x)) xs) + length (filter bad xs) ≡ length xs
@@ -71,13 +72,7 @@ fewer {A = A} p q (x ∷ xs) = step (q x) refl (fewer p q xs)
 
 none_in : (test : ℕ → Bool) (a n : ℕ) → ((i : ℕ) → i < n → test (a + i) ≡ false) → length (filter test (range_with_len a n)) ≡ 0
 none_in test a zero h = refl
-none_in test a (suc n) h = rw (ap test (add_zero a) ∙ h 0 (omega arith)) (none_in test (a + 1) n (λ i l. ap test (add_one a i) ∙ h (i + 1) (omega arith)))
-  where
-    add_zero : (a : ℕ) → a ≡ a + 0
-    add_zero a = omega arith
-
-    add_one : (a i : ℕ) → a + 1 + i ≡ a + (i + 1)
-    add_one a i = omega arith
+none_in test a (suc n) h = rw (ap test (sym (add_zero a)) ∙ h 0 (omega arith)) (none_in test (a + 1) n (λ i l. ap test (sym (add_one a i)) ∙ h (i + 1) (omega arith)))
 
 -- a test that one number alone passes
 one_in : (test : ℕ → Bool) (q a n : ℕ) → ((i : ℕ) → i < n → test (a + i) ≡ true → a + i ≡ q) → length (filter test (range_with_len a n)) ≤ 1
@@ -87,12 +82,6 @@ one_in test q a (suc n) h = elim (cases_Bool (test a)) [
   | inr off_ ↦ rw off_ (one_in test q (a + 1) n (λ i l t. omega (arith, h (i + 1) (omega arith) (ap test (add_one a i) ∙ t))))
 ]
   where
-    add_zero : (a : ℕ) → a + 0 ≡ a
-    add_zero a = omega arith
-
-    add_one : (a i : ℕ) → a + (i + 1) ≡ a + 1 + i
-    add_one a i = omega arith
-
     off : (i : ℕ) → i < n → test a ≡ true → test (a + 1 + i) ≡ false
     off i l here = elim (cases_Bool (test (a + 1 + i))) [
       | inl again ↦ absurd (omega (arith, h 0 (omega arith) (ap test (add_zero a) ∙ here), h (i + 1) (omega arith) (ap test (add_one a i) ∙ again)))

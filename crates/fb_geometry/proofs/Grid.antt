@@ -4,6 +4,15 @@ use Rattle.std.specs.Prelude.{slice_get}
 use Rattle.std.specs.List.{flat_map, range_with_len}
 use Rattle.std.proofs.lemmas.List.{length-append}
 
+pub zero_add : (a : ℕ) → 0 + a ≡ a
+zero_add a = omega arith
+
+pub add_zero : (a : ℕ) → a + 0 ≡ a
+add_zero a = omega arith
+
+pub add_one : (a i : ℕ) → a + (i + 1) ≡ a + 1 + i
+add_one a i = omega arith
+
 pub get_left : {X : Type 0} (xs ys : List X) (i : ℕ) → i < length xs → slice_get (xs ++ ys) i ≡ slice_get xs i
 get_left [] ys i h = absurd (omega arith)
 get_left (x ∷ xs) ys zero h = refl

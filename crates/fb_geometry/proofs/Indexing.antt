@@ -24,6 +24,7 @@ use Rattle.fb_geometry.proofs.Leasts.{Among, among-map, among-mapped, among-any,
 use Rattle.fb_geometry.proofs.Clashes.{mark_among, place_among, inside_of, among_others}
 use Rattle.fb_geometry.proofs.Lookups.{within, goes, slot_of, good_index, good_at}
 use Rattle.fb_geometry.proofs.Faultless.{slots_at-zone, all_get, filter-none}
+use Rattle.fb_geometry.proofs.Grid.{zero_add}
 
 -- ---- ascending numbers that have the same members
 
@@ -81,15 +82,9 @@ module _ {A : Type 0} (test : A → Bool) where
         (one.0, one.1, sym (marked test 0 xs q one.0 one.1) ∙ (ap (λ n. list_any (λ other. other == n) (indexes test 0 xs)) (zero_add q) ∙ h))
     | inr out ↦ absurd (true≢false (sym h ∙ beyond 0 q xs (omega arith)))
   ]
-    where
-      zero_add : (q : ℕ) → 0 + q ≡ q
-      zero_add q = omega arith
 
   has_index : (xs : List A) (q : ℕ) (x : A) → slice_get xs q ≡ Some x → test x ≡ true → list_any (λ other. other == q) (indexes test 0 xs) ≡ true
   has_index xs q x at e = ap (λ n. list_any (λ other. other == n) (indexes test 0 xs)) (sym (zero_add q)) ∙ (marked test 0 xs q x at ∙ e)
-    where
-      zero_add : (q : ℕ) → 0 + q ≡ q
-      zero_add q = omega arith
 
 on_cylinder : (cylinder q : ℕ) (marks : List Mark) → list_any (λ other. other == q) (positions (marks_on cylinder marks)) ≡ true → Among marks (record { cylinder = cylinder; position = q })
 on_cylinder cylinder q marks h =

@@ -20,7 +20,7 @@ use Rattle.fb_geometry.specs.Places.{data_list_by, per_track, per_cylinder, good
 use Rattle.fb_geometry.specs.Faults.{spare_fault, or_else, fault_at, has_no_data, is_outside, least, is_place_before, is_track_before, repeated, is_full_track, is_full_cylinder, spares_at, cylinder_spares_at}
 use Rattle.fb_geometry.specs.Sound.{cylinder_size_by}
 use Rattle.fb_geometry.specs.Turns.{IsZoneAt}
-use Rattle.fb_geometry.proofs.Grid.{length-parts}
+use Rattle.fb_geometry.proofs.Grid.{length-parts, add_zero, add_one}
 use Rattle.fb_geometry.proofs.Turns.{good_cylinder-is}
 use Rattle.fb_geometry.proofs.Counting.{same_tracks, length-good_track, length-good_cylinder}
 use Rattle.fb_geometry.proofs.Faultless.{fault_at-none, or_else-none, least-none, filter-none, spares_at-zone, cylinder_spares_at-zone}
@@ -134,9 +134,3 @@ pub all-parts : {A : Type 0} (P : A → Type 0) (f : ℕ → List A) (a n : ℕ)
 all-parts P f a zero h = tt
 all-parts P f a (suc n) h = all-append P (f a) (flat_map f (range_with_len (a + 1) n)) (subst (λ x. AllByRecursion P (f x)) (add_zero a) (h 0 (omega arith)))
     (all-parts P f (a + 1) n (λ i l. subst (λ x. AllByRecursion P (f x)) (add_one a i) (h (i + 1) (omega arith))))
-  where
-    add_zero : (a : ℕ) → a + 0 ≡ a
-    add_zero a = omega arith
-
-    add_one : (a i : ℕ) → a + (i + 1) ≡ a + 1 + i
-    add_one a i = omega arith

@@ -21,7 +21,7 @@ use Rattle.fb_geometry.specs.Faults.{spare_fault, has_no_data}
 use Rattle.fb_geometry.specs.Turns.{IsZone, IsZoneAt, slot_at, cylinder_slots, position_in}
 use Rattle.fb_geometry.specs.Slips.{IsAscending, slipped, rank, indexes, entry_of_sector, HoldsNone, HoldsSector}
 use Rattle.fb_geometry.specs.Index.{IsGoodOf, good_before}
-use Rattle.fb_geometry.proofs.Grid.{get_left, get_right, get_part, get_range}
+use Rattle.fb_geometry.proofs.Grid.{get_left, get_right, get_part, get_range, zero_add}
 use Rattle.fb_geometry.proofs.Slips.{kept_at, kept_to, marked, rank-le, rank-slipped, slipped-free, rank-at, rank-mono, rank-step, rank_marked, rank_unmarked, rank-below, rank-le_length, among_at, indexes-ascend, length-kept, length-kept_front}
 use Rattle.fb_geometry.proofs.Turns.{good_track-is, good_cylinder-is, range-append, length-cylinder_slots, get-cylinder_slots, position_in-slot_at, slot_at-position_in, position_below}
 use Rattle.fb_geometry.proofs.Faultless.{all_get, slots_at-zone, list_among-zone}
@@ -58,9 +58,6 @@ module _ {A : Type 0} (test : A → Bool) (xs : List A) (numbers : List ℕ) (ar
 
   pub rank_le : (i : ℕ) → rank i numbers ≤ i
   rank_le i = omega (arith, ap (rank i) are, ap (λ j. rank j (indexes test 0 xs)) (zero_add i), rank-le test 0 i xs)
-    where
-      zero_add : (i : ℕ) → 0 + i ≡ i
-      zero_add i = omega arith
 
   -- the k-th that is left
   pub kth : (k : ℕ) → k < length (filter (λ x. not (test x)) xs) → (slipped k numbers < length xs) × (slice_get (filter (λ x. not (test x)) xs) k ≡ slice_get xs (slipped k numbers))
@@ -68,29 +65,17 @@ module _ {A : Type 0} (test : A → Bool) (xs : List A) (numbers : List ℕ) (ar
       let same = kept_at test 0 xs k (slipped k numbers) (ap (λ m. slipped m (indexes test 0 xs)) (zero_add k) ∙ (ap (slipped k) (sym are) ∙ sym (zero_add (slipped k numbers)))) in
       let one = within (filter (λ x. not (test x)) xs) k h in
       (slice_get_within xs (slipped k numbers) one.0 (sym same ∙ one.1), same)
-    where
-      zero_add : (i : ℕ) → 0 + i ≡ i
-      zero_add i = omega arith
 
   -- where one that is left goes
   pub goes : (i : ℕ) (x : A) → slice_get xs i ≡ Some x → test x ≡ false → slice_get (filter (λ x. not (test x)) xs) (i - rank i numbers) ≡ Some x
   goes i x at stays = kept_to test 0 xs i (i - rank i numbers) x at stays (omega (arith, rank_le i, ap (rank i) are, ap (λ j. rank j (indexes test 0 xs)) (zero_add i)))
-    where
-      zero_add : (i : ℕ) → 0 + i ≡ i
-      zero_add i = omega arith
 
   pub is_marked_at : (i : ℕ) (x : A) → slice_get xs i ≡ Some x → list_any (λ other. other == i) numbers ≡ test x
-  is_marked_at i x at = ap (list_any (λ other. other == i)) are ∙ (ap (λ j. list_any (λ other. other == j) (indexes test 0 xs)) (zero_add i) ∙ marked test 0 xs i x at)
-    where
-      zero_add : (i : ℕ) → i ≡ 0 + i
-      zero_add i = omega arith
+  is_marked_at i x at = ap (list_any (λ other. other == i)) are ∙ (ap (λ j. list_any (λ other. other == j) (indexes test 0 xs)) (sym (zero_add i)) ∙ marked test 0 xs i x at)
 
   -- what is left of the front
   pub length_front : (i : ℕ) → i ≤ length xs → length (filter (λ x. not (test x)) (take i xs)) ≡ i - rank i numbers
   length_front i h = omega (arith, length-kept_front test 0 i xs h, ap (rank i) are, ap (λ j. rank j (indexes test 0 xs)) (zero_add i))
-    where
-      zero_add : (i : ℕ) → 0 + i ≡ i
-      zero_add i = omega arith
 
 -- ---- spares at the end of each track
 
@@ -179,9 +164,6 @@ module _ (disk : Shape) (zone : Zone) (cylinder : ℕ) (at : IsZoneAt disk cylin
       sum : (m a n : ℕ) → a + n ≤ m → m ≡ a + (n + (m - a - n))
       sum m a n h = omega arith
 
-      zero_add : (a : ℕ) → 0 + a ≡ a
-      zero_add a = omega arith
-
   module _ (few : spare_fault PerTrack disk ≡ None) where
     sectors_on : (head : ℕ) → zone.sectors - zone.spares ≤ length (good_track disk zone (record { cylinder = cylinder; head = head }))
     sectors_on head = omega (arith, length-track disk zone cylinder at head few, length-take (zone.sectors - zone.spares) (on_track head))
@@ -191,9 +173,6 @@ module _ (disk : Shape) (zone : Zone) (cylinder : ℕ) (at : IsZoneAt disk cylin
         get_part (λ head. take (zone.sectors - zone.spares) (good_track disk zone (record { cylinder = cylinder; head = head }))) (zone.sectors - zone.spares) (λ head. length-track disk zone cylinder at head few)
         (range_with_len 0 disk.heads) head i (head * (zone.sectors - zone.spares) + i) head (get_range 0 disk.heads head h ∙ ap Some (zero_add head)) l refl
         ∙ get_take (zone.sectors - zone.spares) (on_track head) i l
-      where
-        zero_add : (a : ℕ) → 0 + a ≡ a
-        zero_add a = omega arith
 
     -- the place of the i-th sector of a track
     pub place_by_track : (j head i k : ℕ) → head * (zone.sectors - zone.spares) + i ≡ j → head < disk.heads → i < zone.sectors - zone.spares → head * zone.sectors - rank (head * zone.sectors) numbers + i ≡ k

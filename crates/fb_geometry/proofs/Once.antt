@@ -17,6 +17,7 @@ use Rattle.fb_geometry.specs.Index.{IsFaultless}
 use Rattle.fb_geometry.proofs.Faultless.{all_get, next, zones_from, zone_by_bounds, ranges_of, some_rotation, short_rotation, some_heads, few_heads, some_zones, few_zones, few_cylinders, data_of, short_slots}
 use Rattle.fb_geometry.proofs.Lookups.{index_by_track, index_by_cylinder, spares_by, some_by_track, lies_on, one_index_on}
 use Rattle.fb_geometry.proofs.Laws.{all-append, all-parts, has_spares, length-data_list, some_size}
+use Rattle.fb_geometry.proofs.Grid.{add_zero, add_one}
 
 -- each element differs from all that follow
 abbrev pub Distinct : {A : Type 0} → List A → Type 0
@@ -53,12 +54,6 @@ module _ {A : Type 0} (key : A → ℕ) (f : ℕ → List A) where
       distinct-append (f a) (flat_map f (range_with_len (a + 1) n)) first.0 (distinct-parts (a + 1) n later)
       (all_weaker (λ x. key x ≡ a) (λ x. AllByRecursion (λ y. x ≢ y) (flat_map f (range_with_len (a + 1) n)))
       (λ x e. all_weaker (λ y. a < key y) (λ y. x ≢ y) (λ y less same. absurd (omega (arith, ap key same))) (flat_map f (range_with_len (a + 1) n)) rest) (f a) first.1)
-    where
-      add_zero : (a : ℕ) → a + 0 ≡ a
-      add_zero a = omega arith
-
-      add_one : (a i : ℕ) → a + (i + 1) ≡ a + 1 + i
-      add_one a i = omega arith
 
 all_from_index : {A : Type 0} (P : A → Type 0) (xs : List A) → ((i : ℕ) (x : A) → slice_get xs i ≡ Some x → P x) → AllByRecursion P xs
 all_from_index P [] h = tt

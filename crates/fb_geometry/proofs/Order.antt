@@ -1,16 +1,11 @@
 -- Marks in order: what binary searches find among them.
-use Rattle.std.proofs.Common.{◌≡◌, ℕ, zero, suc, ◌+◌, ◌-◌, ◌<◌, ◌≤◌, List, [], ◌∷◌, length, refl, ap, sym, ◌∙◌, arith, Bool, true, false, cond, take, drop, inl, inr, map, get_or, Ok, Err, Result, subst}
-use denote.Ref.{Bor}
-use denote.Param.Members.{Mut}
-use Rattle.std.specs.Fn.{ComputesKey, Called}
-use Rattle.std.specs.Prelude.{filter, slice_get, option_map, Some, nat_lt, nat_le, ◌==◌, ◌&&◌, is_ok}
-use Rattle.std.specs.List.{AllByRecursion, HoldsAt, list_any}
-use Rattle.std.specs.List.Sorted.{IsNonDecreasingBy, IsPartitionPoint, IsBinarySearchResult, IsSearchInRange}
-use Rattle.std.specs.Ordering.{nat_cmp, ordering_index}
-use Rattle.std.specs.declared.cmp.Ordering.TheVariants.{Less, Equal, Greater}
-use Rattle.std.proofs.lemmas.Bool.{cases_Bool, cases_lt, lt-ltb, le-ltb, and_parts, or_cases, ltb-true, eqb-true, eq-eqb, ne_eqb, cases_eq, or_left, or_right, or_from}
+use Rattle.std.proofs.Common.{◌≡◌, ℕ, zero, suc, ◌+◌, ◌-◌, ◌<◌, ◌≤◌, List, [], ◌∷◌, length, refl, ap, sym, ◌∙◌, arith, Bool, true, false, cond, take, drop, inl, inr, map, get_or, subst}
+use Rattle.std.specs.Prelude.{filter, slice_get, option_map, Some, nat_lt, nat_le, ◌==◌, ◌&&◌}
+use Rattle.std.specs.List.{AllByRecursion}
+use Rattle.std.specs.List.Sorted.{IsNonDecreasingBy, IsPartitionPoint}
+use Rattle.std.proofs.lemmas.Bool.{cases_Bool, lt-ltb, le-ltb, and_parts, or_cases, ltb-true, eqb-true}
 use Rattle.std.proofs.lemmas.Bool.Decides.{nat_tests}
-use Rattle.std.proofs.lemmas.List.Sorted.{IsNonDecreasingBy-drop, answers_always}
+use Rattle.std.proofs.lemmas.List.Sorted.{IsNonDecreasingBy-drop}
 use Rattle.std.proofs.lemmas.Option.{slice_get-map, slice_get-get_or}
 use Rattle.std.proofs.lemmas.List.{get_or-map}
 use Rattle.fb_geometry.specs.declared.marks.Mark.{Mark}
@@ -130,55 +125,6 @@ part-of cylinder marks rest from n e h m low high = subst
 pub rest-rises : (marks rest : List Mark) (from : ℕ) → AreInOrder marks → rest ≡ drop from marks → IsNonDecreasingBy (λ mark. mark.cylinder) rest
 rest-rises marks rest from up e = subst (λ rest. IsNonDecreasingBy (λ mark. mark.cylinder) rest) (sym e) (IsNonDecreasingBy-drop (λ mark. mark.cylinder) from marks (cylinders-rise marks up))
 
--- what a search for a position says
-pub found-is : (position : ℕ) (marks : List Mark) (r : Result ℕ ℕ) → IsNonDecreasingBy (λ mark. mark.position) marks → IsSearchInRange r (length marks)
-    → IsBinarySearchResult (λ mark. nat_cmp mark.position position) marks r → is_ok r ≡ list_any (λ other. other == position) (positions marks)
-found-is position marks (Ok i) rise range at = sym (found position marks i range at)
-  where
-    equal : (a b : ℕ) → nat_cmp a b ≡ Equal → (a == b) ≡ true
-    equal a b e = grind (arith, nat_tests)
-
-    found : (position : ℕ) (marks : List Mark) (i : ℕ) → i < length marks → HoldsAt (λ mark. nat_cmp mark.position position ≡ Equal) marks i → list_any (λ other. other == position) (positions marks) ≡ true
-    found position [] i range at = absurd (omega arith)
-    found position (mark ∷ marks) zero range at = or_left (mark.position == position) (list_any (λ other. other == position) (positions marks)) (equal mark.position position (at mark))
-    found position (mark ∷ marks) (suc i) range at = or_right (mark.position == position) (list_any (λ other. other == position) (positions marks)) (found position marks i (omega arith) at)
-found-is position marks (Err i) rise range at = sym (missing position marks (λ k d h. differs k d h))
-  where
-    less : (a b : ℕ) → nat_cmp a b ≡ Less → (a == b) ≡ false
-    less a b e = grind (arith, nat_tests)
-
-    greater : (a b : ℕ) → nat_cmp a b ≡ Greater → (a == b) ≡ false
-    greater a b e = grind (arith, nat_tests)
-
-    index_rises : (a b q : ℕ) → a ≤ b → ordering_index (nat_cmp a q) ≤ ordering_index (nat_cmp b q)
-    index_rises a b q h = elim (cases_lt a q) [
-      | inl low ↦ rw (lt-ltb a q low) (omega arith)
-      | inr from ↦ rw (le-ltb a q from, le-ltb b q (omega arith)) (same_index a b q h from)
-    ]
-      where
-        same_index : (a b q : ℕ) → a ≤ b → q ≤ a → ordering_index (cond (a == q) Equal Greater) ≤ ordering_index (cond (b == q) Equal Greater)
-        same_index a b q h from = elim (cases_eq b q) [
-          | inl same ↦ rw (eq-eqb a q (omega arith), eq-eqb b q same) (omega arith)
-          | inr differs ↦ rw (ne_eqb b q differs) (below_two (a == q))
-        ]
-          where
-            below_two : (b : Bool) → ordering_index (cond b Equal Greater) ≤ 2
-            below_two true = omega arith
-            below_two false = omega arith
-
-    point : IsPartitionPoint (λ mark. nat_cmp mark.position position ≡ Less) (λ mark. nat_cmp mark.position position ≡ Greater) marks i
-    point = at (λ j k d le h. index_rises (get_or marks j d).position (get_or marks k d).position position (rise j k d le h))
-
-    differs : (k : ℕ) (d : Mark) → k < length marks → ((get_or marks k d).position == position) ≡ false
-    differs k d h = elim (cases_lt k i) [
-      | inl before ↦ less (get_or marks k d).position position (point.0 k d (omega arith) before)
-      | inr behind ↦ greater (get_or marks k d).position position (point.1 k d behind h)
-    ]
-
-    missing : (position : ℕ) (marks : List Mark) → ((k : ℕ) (d : Mark) → k < length marks → ((get_or marks k d).position == position) ≡ false) → list_any (λ other. other == position) (positions marks) ≡ false
-    missing position [] all = refl
-    missing position (mark ∷ marks) all = or_from (mark.position == position) (list_any (λ other. other == position) (positions marks)) (all 0 mark (omega arith)) (missing position marks (λ k d h. all (suc k) d (omega arith)))
-
 -- ---- slipping
 
 pub gaps : (numbers : List ℕ) (i j : ℕ) → IsAscending numbers → i ≤ j → j < length numbers → get_or numbers i 0 + (j - i) ≤ get_or numbers j 0
@@ -208,13 +154,6 @@ slips_upto number middle numbers up h here i l = omega (arith, gaps numbers i mi
 pub slips_before : (number middle : ℕ) (numbers : List ℕ) → IsAscending numbers → number + middle < get_or numbers middle 0
     → (i : ℕ) → middle ≤ i → i < length numbers → number + i < get_or numbers i 0
 slips_before number middle numbers up here i l h = omega (arith, gaps numbers middle i up l h)
-
--- what a search by position says, where each call of the closure gives the position
-pub marked-is : {F : Type 0} {g : Mut F (Bor Mark × Unit {0}) ℕ} {f : F} (position : ℕ) (marks : List Mark) (r : Result ℕ ℕ) → IsAscending (positions marks) → IsSearchInRange r (length marks)
-    → ((key : Mark → ℕ) → ComputesKey g key f → IsBinarySearchResult (λ mark. nat_cmp (key mark) position) marks r)
-    → ((f : F) (a : Bor Mark × Unit {0}) (r : ℕ) (f' : F) → Called g f a r f' → r ≡ a.0.now.position) → is_ok r ≡ list_any (λ other. other == position) (positions marks)
-marked-is {g = g} {f = f} position marks r up range clause each =
-    found-is position marks r (positions-rise marks up) range (clause (λ mark. mark.position) (answers_always g (λ a r. r ≡ a.0.now.position) f each))
 
 -- the position at an index
 pub position_get : (marks : List Mark) (i : ℕ) (d : Mark) → i < length marks → slice_get (positions marks) i ≡ Some (get_or marks i d).position

@@ -6,6 +6,7 @@ use Rattle.std.proofs.lemmas.Bool.{cases_Bool, cases_lt, true≢false, lt-ltb, l
 use Rattle.std.proofs.lemmas.Bool.Decides.{nat_tests}
 use Rattle.std.proofs.lemmas.Option.{same_Some, none-some}
 use Rattle.fb_geometry.specs.Slips.{IsAscending, slipped, rank, indexes, with_index}
+use Rattle.fb_geometry.proofs.Grid.{add_zero}
 
 -- ---- ascending numbers
 
@@ -61,10 +62,7 @@ dropped_first a x xs kept numbers k i e rest =
 kept_first : {A : Type 0} (a : ℕ) (x : A) (xs kept : List A) (numbers : List ℕ) (k i : ℕ) → AllByRecursion (λ later. a < later) numbers → slipped (a + k) numbers ≡ a + i
     → ((k j : ℕ) → slipped (a + 1 + k) numbers ≡ a + 1 + j → slice_get kept k ≡ slice_get xs j) → slice_get (x ∷ kept) k ≡ slice_get (x ∷ xs) i
 kept_first a x xs kept numbers zero zero all e rest = refl
-kept_first a x xs kept numbers zero (suc i) all e rest = absurd (omega (arith, slip_here a numbers all, ap (λ n. slipped n numbers) (a_zero a)))
-  where
-    a_zero : (a : ℕ) → a + 0 ≡ a
-    a_zero a = omega arith
+kept_first a x xs kept numbers zero (suc i) all e rest = absurd (omega (arith, slip_here a numbers all, ap (λ n. slipped n numbers) (add_zero a)))
 kept_first a x xs kept numbers (suc k) zero all e rest = absurd (omega (arith, slipped-le (a + suc k) numbers))
 kept_first a x xs kept numbers (suc k) (suc i) all e rest = rest k i (ap (λ n. slipped n numbers) (omega arith) ∙ e ∙ omega arith)
 
@@ -282,11 +280,8 @@ marked_here false a numbers all = not_among_later a numbers all
 -- an index is among them just where its element passes
 pub marked : {A : Type 0} (test : A → Bool) (a : ℕ) (xs : List A) (i : ℕ) (x : A) → slice_get xs i ≡ Some x → list_any (λ other. other == a + i) (indexes test a xs) ≡ test x
 marked test a [] i x at = absurd (none-some x at)
-marked test a (y ∷ xs) zero x at = ap (λ n. list_any (λ other. other == n) (indexes test a (y ∷ xs))) (a_zero a)
+marked test a (y ∷ xs) zero x at = ap (λ n. list_any (λ other. other == n) (indexes test a (y ∷ xs))) (add_zero a)
     ∙ marked_here (test y) a (indexes test (a + 1) xs) (indexes-over test a (a + 1) xs (omega arith)) ∙ ap test (same_Some y x at)
-  where
-    a_zero : (a : ℕ) → a + 0 ≡ a
-    a_zero a = omega arith
 marked test a (y ∷ xs) (suc i) x at = marked_step (test y) a (a + suc i) (indexes test (a + 1) xs) (omega arith)
     ∙ ap (λ n. list_any (λ other. other == n) (indexes test (a + 1) xs)) (omega arith) ∙ marked test (a + 1) xs i x at
 

@@ -4,7 +4,7 @@ use Rattle.std.specs.Prelude.{◌==◌, slice_get}
 use Rattle.std.specs.List.{list_any}
 use Rattle.std.proofs.Math.Nat.{mod-lt, mod-add-mod}
 use Rattle.std.proofs.lemmas.Nat.{div-add-mod', div_below}
-use Rattle.std.proofs.lemmas.Bool.{cases_Bool, cases_lt, true≢false}
+use Rattle.std.proofs.lemmas.Bool.{cases_Bool, cases_lt, true≢false, ne_eqb, eq-eqb}
 use Rattle.std.proofs.lemmas.Option.{same_Some}
 use Rattle.fb_units.specs.declared.types.Place.{Place}
 use Rattle.fb_geometry.specs.declared.zone.Zone.{Zone}
@@ -42,6 +42,15 @@ module _ (numbers : List ℕ) (up : IsAscending numbers) where
   next_from position next at = elim (cases_lt next position) [
     | inl less ↦ absurd (omega (arith, rank_marked next position numbers up (among_at (rank position numbers) next numbers at) less, rank-at (rank position numbers) numbers next up at))
     | inr more ↦ more
+  ]
+
+  -- a position is marked if it is that of the next one
+  pub next_is : (position next : ℕ) → slice_get numbers (rank position numbers) ≡ Some next → list_any (λ other. other == position) numbers ≡ (next == position)
+  next_is position next at = elim (cases_lt position next) [
+    | inl less ↦ free_before position position next at (omega arith) less ∙ sym (ne_eqb next position (λ e. omega arith))
+    | inr upto ↦
+        let same : next ≡ position = omega (arith, next_from position next at) in
+        ap (λ q. list_any (λ other. other == q) numbers) (sym same) ∙ (among_at (rank position numbers) next numbers at ∙ sym (eq-eqb next position same))
   ]
 
   rank_flat : (p i : ℕ) → ((q : ℕ) → p ≤ q → q < p + i → list_any (λ other. other == q) numbers ≡ false) → rank (p + i) numbers ≡ rank p numbers

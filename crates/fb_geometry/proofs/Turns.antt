@@ -15,7 +15,7 @@ use Rattle.fb_geometry.specs.declared.zone.Zone.{Zone}
 use Rattle.fb_geometry.specs.Shape.{Shape, offset_in, is_among}
 use Rattle.fb_geometry.specs.Places.{turn, good_track, by_head}
 use Rattle.fb_geometry.specs.Turns.{position_in, slot_at, cylinder_slots}
-use Rattle.fb_geometry.proofs.Grid.{get_range}
+use Rattle.fb_geometry.proofs.Grid.{get_range, zero_add, add_zero, add_one}
 
 -- ---- once round
 
@@ -46,25 +46,13 @@ round-forward offset slot n o h = elim (cases_lt slot offset) [
 map-ranges : {X : Type 0} (f g : ℕ → X) (a b n : ℕ) → ((i : ℕ) → i < n → f (a + i) ≡ g (b + i)) → map f (range_with_len a n) ≡ map g (range_with_len b n)
 map-ranges f g a b zero same = refl
 map-ranges f g a b (suc n) same =
-    let head : f a ≡ g b = ap f (a_zero a) ∙ (same 0 (omega arith) ∙ ap g (sym (a_zero b))) in
+    let head : f a ≡ g b = ap f (sym (add_zero a)) ∙ (same 0 (omega arith) ∙ ap g (add_zero b)) in
     let tail : map f (range_with_len (a + 1) n) ≡ map g (range_with_len (b + 1) n) =
-    map-ranges f g (a + 1) (b + 1) n (λ i h. ap f (add_one a i) ∙ (same (i + 1) (omega arith) ∙ ap g (sym (add_one b i)))) in
+    map-ranges f g (a + 1) (b + 1) n (λ i h. ap f (sym (add_one a i)) ∙ (same (i + 1) (omega arith) ∙ ap g (add_one b i))) in
     ap (λ x. x ∷ map f (range_with_len (a + 1) n)) head ∙ ap (λ xs. g b ∷ xs) tail
-  where
-    a_zero : (a : ℕ) → a ≡ a + 0
-    a_zero a = omega arith
-
-    add_one : (a i : ℕ) → a + 1 + i ≡ a + (i + 1)
-    add_one a i = omega arith
 
 pub range-append : (a m n : ℕ) → range_with_len a (m + n) ≡ range_with_len a m ++ range_with_len (a + m) n
-range-append a zero n = ap (range_with_len a) (zero_add n) ∙ ap (λ x. range_with_len x n) (add_zero a)
-  where
-    zero_add : (n : ℕ) → 0 + n ≡ n
-    zero_add n = omega arith
-
-    add_zero : (a : ℕ) → a ≡ a + 0
-    add_zero a = omega arith
+range-append a zero n = ap (range_with_len a) (zero_add n) ∙ ap (λ x. range_with_len x n) (sym (add_zero a))
 range-append a (suc m) n = ap (range_with_len a) (suc_add m n) ∙ ap (λ xs. a ∷ xs) (range-append (a + 1) m n ∙ ap (λ x. range_with_len (a + 1) m ++ range_with_len x n) (omega arith))
   where
     suc_add : (m n : ℕ) → suc m + n ≡ suc (m + n)
@@ -73,15 +61,9 @@ range-append a (suc m) n = ap (range_with_len a) (suc_add m n) ∙ ap (λ xs. a 
 ranged : (f : ℕ → ℕ) (a b n : ℕ) → ((i : ℕ) → i < n → b + i ≡ f (a + i)) → range_with_len b n ≡ map f (range_with_len a n)
 ranged f a b zero same = refl
 ranged f a b (suc n) same =
-    let head : b ≡ f a = add_zero b ∙ (same 0 (omega arith) ∙ ap f (sym (add_zero a))) in
-    let tail : range_with_len (b + 1) n ≡ map f (range_with_len (a + 1) n) = ranged f (a + 1) (b + 1) n (λ i h. add_one b i ∙ (same (i + 1) (omega arith) ∙ ap f (sym (add_one a i)))) in
+    let head : b ≡ f a = sym (add_zero b) ∙ (same 0 (omega arith) ∙ ap f (add_zero a)) in
+    let tail : range_with_len (b + 1) n ≡ map f (range_with_len (a + 1) n) = ranged f (a + 1) (b + 1) n (λ i h. sym (add_one b i) ∙ (same (i + 1) (omega arith) ∙ ap f (add_one a i))) in
     ap (λ x. x ∷ range_with_len (b + 1) n) head ∙ ap (λ xs. f a ∷ xs) tail
-  where
-    add_zero : (a : ℕ) → a ≡ a + 0
-    add_zero a = omega arith
-
-    add_one : (a i : ℕ) → a + 1 + i ≡ a + (i + 1)
-    add_one a i = omega arith
 
 -- the turn, slot by slot
 pub turn-is : (n offset : ℕ) → offset < n → turn n offset ≡ map (λ i. (offset + i) % n) (range_with_len 0 n)
@@ -90,9 +72,6 @@ turn-is n offset h =
     ∙ (ap (λ xs. map (λ i. (offset + i) % n) (range_with_len 0 (n - offset)) ++ xs) (ranged (λ i. (offset + i) % n) (n - offset) 0 offset (λ i l. sym (round-behind (offset + (n - offset + i)) n (omega arith) (omega arith) ∙ omega arith)))
     ∙ (sym (map-append (λ i. (offset + i) % n) (range_with_len 0 (n - offset)) (range_with_len (n - offset) offset))
     ∙ ap (map (λ i. (offset + i) % n)) (ap (λ x. range_with_len 0 (n - offset) ++ range_with_len x offset) (sym (zero_add (n - offset))) ∙ (sym (range-append 0 (n - offset) offset) ∙ ap (range_with_len 0) (omega arith)))))
-  where
-    zero_add : (i : ℕ) → 0 + i ≡ i
-    zero_add i = omega arith
 
 -- ---- positions and places
 
@@ -158,9 +137,6 @@ module _ (zone : Zone) (heads : ℕ) (some : 0 < zone.sectors) where
       ∙ (map-map (λ slot. record { track = track; slot = slot }) (λ i. (offset_in zone heads track + i) % zone.sectors) (range_with_len 0 zone.sectors)
       ∙ map-ranges (λ i. record { track = track; slot = (offset_in zone heads track + i) % zone.sectors }) (slot_at zone heads track.cylinder) 0 (track.head * zone.sectors) zone.sectors
       (λ i h. ap (λ j. record { track = track; slot = (offset_in zone heads track + j) % zone.sectors }) (zero_add i) ∙ sym (slot_on track.cylinder track.head i h)))
-    where
-      zero_add : (i : ℕ) → 0 + i ≡ i
-      zero_add i = omega arith
 
   -- the good slots of a track are those of its part of the cylinder
   pub good_track-is : (disk : Shape) (track : Track) → disk.heads ≡ heads → good_track disk zone track

@@ -110,9 +110,11 @@ pub fn is_marked(marks: &[Mark], position: u32) -> bool
     requires ascending { IsAscending (positions marks.now) }
     ensures { result ≡ list_any (λ other. other == position) (positions marks.now) }
 {
-    marks
-        .binary_search_by_key(&position, |mark| mark.position)
-        .is_ok()
+    let next = rank(marks, position) as usize;
+    if next == marks.len() {
+        return false;
+    }
+    marks[next].position == position
 }
 
 // The position of the `number`-th unmarked position, counted from 0: the number, and one more for
