@@ -18,6 +18,7 @@ use Rattle.fb_geometry.specs.Faults.{is_outside, is_place_before, least, repeate
 use Rattle.fb_geometry.specs.Slips.{Pairwise}
 use Rattle.fb_geometry.specs.Marks.{mark_of, is_mark_before, same_mark, AreInOrder, AreSorted}
 use Rattle.fb_geometry.specs.Index.{HasZones}
+use Rattle.fb_geometry.proofs.Grid.{count_cons}
 use Rattle.fb_geometry.proofs.Counting.{same_places}
 use Rattle.fb_geometry.proofs.Order.{length-filter-map, all_at}
 use Rattle.fb_geometry.proofs.Faultless.{all_get}
@@ -62,9 +63,6 @@ sorted-rise before rank xs d up = pairwise_from (λ x later. before later x ≡ 
 
 -- ---- counts
 
-pub count_cons : {A : Type 0} (test : A → Bool) (x : A) (xs : List A) → length (filter test (x ∷ xs)) ≡ cond (test x) 1 0 + length (filter test xs)
-count_cons test x xs = elim (cases_Bool (test x)) [ inl in_ ↦ rw in_ (omega arith) | inr out ↦ rw out (omega arith) ]
-
 -- an element passes if some number does
 pub any_count : {A : Type 0} (test : A → Bool) (xs : List A) → list_any test xs ≡ nat_lt 0 (length (filter test xs))
 any_count test [] = refl
@@ -83,7 +81,7 @@ permuted xs ys x h one =
 abbrev count : Place → List Place → ℕ
 count place places = length (filter (same_place place) places)
 
-same_place-refl : (a : Place) → same_place a a ≡ true
+pub same_place-refl : (a : Place) → same_place a a ≡ true
 same_place-refl a = grind (arith, nat_tests)
 
 repeated_counted : (places : List Place) (place : Place) → Among (repeated places) place → 2 ≤ count place places

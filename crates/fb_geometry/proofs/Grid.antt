@@ -1,8 +1,9 @@
 -- Reading a list that is made of parts of one length.
-use Rattle.std.proofs.Common.{◌≡◌, ℕ, zero, suc, ◌+◌, ◌*◌, ◌<◌, List, [], ◌∷◌, ◌++◌, length, refl, ap, ◌∙◌, arith, Some}
-use Rattle.std.specs.Prelude.{slice_get}
+use Rattle.std.proofs.Common.{◌≡◌, ℕ, zero, suc, ◌+◌, ◌*◌, ◌<◌, List, [], ◌∷◌, ◌++◌, length, refl, ap, ◌∙◌, arith, Some, Bool, cond, inl, inr}
+use Rattle.std.specs.Prelude.{slice_get, filter}
 use Rattle.std.specs.List.{flat_map, range_with_len}
 use Rattle.std.proofs.lemmas.List.{length-append}
+use Rattle.std.proofs.lemmas.Bool.{cases_Bool}
 
 pub zero_add : (a : ℕ) → 0 + a ≡ a
 zero_add a = omega arith
@@ -12,6 +13,10 @@ add_zero a = omega arith
 
 pub add_one : (a i : ℕ) → a + (i + 1) ≡ a + 1 + i
 add_one a i = omega arith
+
+-- one element more adds one where it passes
+pub count_cons : {A : Type 0} (test : A → Bool) (x : A) (xs : List A) → length (filter test (x ∷ xs)) ≡ cond (test x) 1 0 + length (filter test xs)
+count_cons test x xs = elim (cases_Bool (test x)) [ inl in_ ↦ rw in_ (omega arith) | inr out ↦ rw out (omega arith) ]
 
 pub get_left : {X : Type 0} (xs ys : List X) (i : ℕ) → i < length xs → slice_get (xs ++ ys) i ≡ slice_get xs i
 get_left [] ys i h = absurd (omega arith)

@@ -3,7 +3,6 @@ use Rattle.std.proofs.Common.{◌≡◌, ℕ, suc, ◌+◌, ◌-◌, ◌*◌, �
 use Rattle.std.specs.Prelude.{filter, nat_lt, ◌==◌, ◌&&◌, ◌||◌, slice_get}
 use Rattle.std.specs.List.{list_any, AllByRecursion}
 use Rattle.std.proofs.lemmas.Bool.{cases_lt, cases_order, cases_eq, true≢false, eq-eqb, ne_eqb, eqb-true, ltb-true, lt-ltb, or_cases, or_left, or_right, and_parts, and_from}
-use Rattle.std.proofs.lemmas.Bool.Decides.{nat_tests}
 use Rattle.std.proofs.lemmas.Option.{same_Some, slice_get_within}
 use Rattle.fb_units.specs.declared.types.Place.{Place}
 use Rattle.fb_geometry.specs.declared.zone.Zone.{Zone}
@@ -15,13 +14,13 @@ use Rattle.fb_geometry.specs.Turns.{IsZoneOf, IsZoneAt, zone_at, position_in, sl
 use Rattle.fb_geometry.specs.Slips.{IsAscending, rank, slipped, indexes, with_index}
 use Rattle.fb_geometry.specs.Marks.{mark_of, is_mark_before, same_mark, positions, marks_on, among_unmarked, AreMarksOf, AreInOrder}
 use Rattle.fb_geometry.specs.Index.{HasZones, IsIndexed}
-use Rattle.fb_geometry.proofs.Slips.{indexes-ascend, marked, rank-step, rank-below, rank_unmarked}
+use Rattle.fb_geometry.proofs.Slips.{all_over, not_among_later, indexes-ascend, marked, rank-step, rank-below, rank_unmarked}
 use Rattle.fb_geometry.proofs.Order.{marks_on-ascend}
 use Rattle.fb_geometry.proofs.Turns.{get-cylinder_slots, length-cylinder_slots, good_cylinder-is}
 use Rattle.fb_geometry.proofs.Counting.{same_places}
 use Rattle.fb_geometry.proofs.Marking.{position_is, mark_of-slot_at, on_disk, among-on, same_marks, same_mark-refl}
 use Rattle.fb_geometry.proofs.Leasts.{Among, among-map, among-mapped, among-any, any-among}
-use Rattle.fb_geometry.proofs.Clashes.{mark_among, place_among, inside_of, among_others}
+use Rattle.fb_geometry.proofs.Clashes.{same_place-refl, mark_among, place_among, inside_of, among_others}
 use Rattle.fb_geometry.proofs.Lookups.{within, goes, slot_of, good_index, good_at}
 use Rattle.fb_geometry.proofs.Faultless.{slots_at-zone, all_get, filter-none}
 use Rattle.fb_geometry.proofs.Grid.{zero_add}
@@ -33,14 +32,6 @@ iff_same true b to from = sym (to refl)
 iff_same false true to from = from refl
 iff_same false false to from = refl
 
-not_later : (number : ℕ) (numbers : List ℕ) → AllByRecursion (λ later. number < later) numbers → list_any (λ other. other == number) numbers ≡ false
-not_later number [] all = refl
-not_later number (x ∷ numbers) all = rw (ne_eqb x number (λ e. omega (arith, all.0))) (not_later number numbers all.1)
-
-later_all : (a b : ℕ) (numbers : List ℕ) → a < b → AllByRecursion (λ later. b < later) numbers → AllByRecursion (λ later. a < later) numbers
-later_all a b [] h all = tt
-later_all a b (x ∷ numbers) h all = (omega (arith, all.0), later_all a b numbers h all.1)
-
 head_among : (x : ℕ) (xs : List ℕ) → list_any (λ other. other == x) (x ∷ xs) ≡ true
 head_among x xs = or_left (x == x) (list_any (λ other. other == x) xs) (eq-eqb x x refl)
 
@@ -51,14 +42,14 @@ ascending_same (x ∷ xs) [] a b same = absurd (true≢false (sym (head_among x 
 ascending_same (x ∷ xs) (y ∷ ys) a b same = elim (cases_order x y) [
   | inl here ↦ ap (λ z. z ∷ xs) here ∙ ap (λ zs. y ∷ zs) (ascending_same xs ys a.1 b.1 (λ q. rest q here))
   | inr apart ↦ elim apart [
-    | inl less ↦ absurd (true≢false (sym (head_among x xs) ∙ (same x ∙ not_later x (y ∷ ys) (less, later_all x y ys less b.0))))
-    | inr more ↦ absurd (true≢false (sym (head_among y ys) ∙ (sym (same y) ∙ not_later y (x ∷ xs) (more, later_all y x xs more a.0))))
+    | inl less ↦ absurd (true≢false (sym (head_among x xs) ∙ (same x ∙ not_among_later x (y ∷ ys) (less, all_over x y ys (omega arith) b.0))))
+    | inr more ↦ absurd (true≢false (sym (head_among y ys) ∙ (sym (same y) ∙ not_among_later y (x ∷ xs) (more, all_over y x xs (omega arith) a.0))))
   ]
 ]
   where
     rest : (q : ℕ) → x ≡ y → list_any (λ other. other == q) xs ≡ list_any (λ other. other == q) ys
     rest q here = elim (cases_eq x q) [
-      | inl at ↦ subst (λ q. list_any (λ other. other == q) xs ≡ list_any (λ other. other == q) ys) at (not_later x xs a.0 ∙ sym (subst (λ x. list_any (λ other. other == x) ys ≡ false) (sym here) (not_later y ys b.0)))
+      | inl at ↦ subst (λ q. list_any (λ other. other == q) xs ≡ list_any (λ other. other == q) ys) at (not_among_later x xs a.0 ∙ sym (subst (λ x. list_any (λ other. other == x) ys ≡ false) (sym here) (not_among_later y ys b.0)))
       | inr off ↦
           let off_y : y ≡ q → ⊥ = λ e. off (here ∙ e) in
           sym (ap (λ b. b || list_any (λ other. other == q) xs) (ne_eqb x q off)) ∙ (same q ∙ ap (λ b. b || list_any (λ other. other == q) ys) (ne_eqb y q off_y))
@@ -99,9 +90,6 @@ of_cylinder cylinder q marks one =
 
 mark_by : (mark : Mark) (cylinder position : ℕ) → mark.cylinder ≡ cylinder → mark.position ≡ position → mark ≡ record { cylinder = cylinder; position = position }
 mark_by mark cylinder position c p = ap (λ c. record { cylinder = c; position = mark.position }) c ∙ ap (λ p. record { cylinder = cylinder; position = p }) p
-
-same_place-refl : (a : Place) → same_place a a ≡ true
-same_place-refl a = grind (arith, nat_tests)
 
 module _ (disk : Shape) (zones : HasZones disk) (defects : List Mark) (are : AreMarksOf disk disk.defects defects) where
   -- the zone of a place on the cylinder

@@ -1,5 +1,5 @@
 -- What the parts of a judgement say of the whole.
-use Rattle.std.proofs.Common.{◌≡◌, List, [], ◌∷◌, ◌++◌, length, refl, ap, sym, ◌∙◌, arith, Bool, true, false, Option, Some, None, map, subst}
+use Rattle.std.proofs.Common.{◌≡◌, List, [], ◌∷◌, ◌++◌, length, refl, ap, sym, ◌∙◌, arith, Bool, true, false, Option, Some, None, subst}
 use Rattle.std.specs.Prelude.{filter, find, position, nat_lt, slice_get, option_map, if◌then◌else◌, All}
 use Rattle.std.proofs.lemmas.List.Elements.{All-from_recursion, All-append}
 use Rattle.std.proofs.lemmas.List.Sorted.{All-permutation}
@@ -138,13 +138,6 @@ cylinder_spares disk items sorted found layout h are e f =
     ap (λ layout. spare_fault layout disk) layout ∙ rw (parts.0, parts.1) (ap (fault_at TooManyInCylinder)
     (least_full nat_lt number_order (λ place. place.track.cylinder) (λ a b h. grind (arith, nat_tests)) (is_full_cylinder disk) (disk.defects ++ disk.grown) items are
     ∙ ap (option_map (λ place. place.track.cylinder)) (sym (f ∙ ap (find (λ place. is_full_cylinder disk place.track.cylinder)) e))))
-
-pub fault_of_grown : (disk : Shape) (fault : GeometryFault) → grown_fault disk ≡ Some fault → spare_fault PerCylinder disk ≡ Some fault
-fault_of_grown disk fault h =
-    let outside = fault_at GrownOutside (find (is_outside disk) disk.grown) in
-    let twice = fault_at GrownTwice (least is_place_before (repeated disk.grown ++ filter (is_among disk.defects) disk.grown)) in
-    let full = fault_at TooManyInCylinder (least nat_lt (filter (is_full_cylinder disk) (map (λ place. place.track.cylinder) (disk.defects ++ disk.grown)))) in
-    sym (or_else-assoc outside twice full) ∙ ap (λ o. or_else o full) h
 
 pub fits_per_cylinder : (layout : Layout) (grown : List Place) → layout ≡ PerCylinder → layout ≡ PerTrack → grown ≡ []
 fits_per_cylinder layout grown h k = cc

@@ -48,8 +48,6 @@ few_on_track disk track h =
 
 -- what an outline with spares per cylinder keeps
 pub record HasSpares (disk : Shape) : Type 0 where
-  pub grown_inside : find (is_outside disk) disk.grown ≡ None
-  pub grown_once : least is_place_before (repeated disk.grown ++ filter (is_among disk.defects) disk.grown) ≡ None
   pub few : (cylinder : ℕ) → length (filter (λ place. place.track.cylinder == cylinder) (disk.defects ++ disk.grown)) ≤ cylinder_spares_at disk.zones cylinder
 
 pub has_spares : (disk : Shape) → spare_fault PerCylinder disk ≡ None → HasSpares disk
@@ -60,8 +58,6 @@ has_spares disk h =
     let b = or_else-none (fault_at GrownTwice (least is_place_before clash)) (fault_at TooManyInCylinder (least nat_lt full)) a.1 in
     let none = filter-none (is_full_cylinder disk) (map (λ place. place.track.cylinder) (disk.defects ++ disk.grown)) (least-none nat_lt full (fault_at-none TooManyInCylinder (least nat_lt full) b.1)) in
     record {
-      grown_inside = fault_at-none GrownOutside (find (is_outside disk) disk.grown) a.0;
-      grown_once = fault_at-none GrownTwice (least is_place_before clash) b.0;
       few = λ cylinder. few_from (cylinder_spares_at disk.zones cylinder) (length (filter (λ place. place.track.cylinder == cylinder) (disk.defects ++ disk.grown)))
           (none_or_not (λ k. k == cylinder) (is_full_cylinder disk) (λ place. place.track.cylinder) cylinder (λ k e. sym (eqb-true k cylinder e)) (disk.defects ++ disk.grown) none);
     }

@@ -22,7 +22,7 @@ use Rattle.fb_geometry.specs.Turns.{IsZone, IsZoneAt, slot_at, cylinder_slots, p
 use Rattle.fb_geometry.specs.Slips.{IsAscending, slipped, rank, indexes, entry_of_sector, HoldsNone, HoldsSector}
 use Rattle.fb_geometry.specs.Index.{IsGoodOf, good_before}
 use Rattle.fb_geometry.proofs.Grid.{get_left, get_right, get_part, get_range, zero_add}
-use Rattle.fb_geometry.proofs.Slips.{kept_at, kept_to, marked, rank-le, rank-slipped, slipped-free, rank-at, rank-mono, rank-step, rank_marked, rank_unmarked, rank-below, rank-le_length, among_at, indexes-ascend, length-kept, length-kept_front}
+use Rattle.fb_geometry.proofs.Slips.{kept_at, kept_to, marked, rank-le, rank-slipped, slipped-free, rank-at, rank-mono, rank-step, rank_marked, rank_unmarked, rank-below, among_at, indexes-ascend, length-kept, length-kept_front}
 use Rattle.fb_geometry.proofs.Turns.{good_track-is, good_cylinder-is, range-append, length-cylinder_slots, get-cylinder_slots, position_in-slot_at, slot_at-position_in, position_below}
 use Rattle.fb_geometry.proofs.Faultless.{all_get, slots_at-zone, list_among-zone}
 use Rattle.fb_geometry.proofs.Laws.{HasSpares, has_spares, length-track, length-per_track, length-good, few_flaws, length-per_cylinder, all-filter}
@@ -52,9 +52,6 @@ within (x ∷ xs) (suc i) h = within xs i (omega arith)
 module _ {A : Type 0} (test : A → Bool) (xs : List A) (numbers : List ℕ) (are : numbers ≡ indexes test 0 xs) where
   pub ascends : IsAscending numbers
   ascends = subst IsAscending (sym are) (indexes-ascend test 0 xs)
-
-  pub few_numbers : length numbers ≤ length xs
-  few_numbers = omega (arith, ap length are, length-kept test 0 xs)
 
   pub rank_le : (i : ℕ) → rank i numbers ≤ i
   rank_le i = omega (arith, ap (rank i) are, ap (λ j. rank j (indexes test 0 xs)) (zero_add i), rank-le test 0 i xs)
@@ -334,7 +331,7 @@ module _ (disk : Shape) (zone : Zone) (cylinder : ℕ) (at : IsZoneAt disk cylin
   moved : (j : ℕ) (place spare : Place) → j < base → slice_get whole j ≡ Some place → is_among disk.grown place ≡ true → slice_get spares (rank j grown) ≡ Some spare → slice_get (per_cylinder disk zone cylinder) j ≡ Some spare
   moved j place spare l here moves stand = replaced-moves disk (take base whole) spares j place spare (get_take base whole j l ∙ here) moves (ap (slice_get spares) (grown_before j (omega arith)) ∙ stand)
 
-  stayed : (j : ℕ) (place : Place) → j < base → slice_get whole j ≡ Some place → is_among disk.grown place ≡ false → slice_get (per_cylinder disk zone cylinder) j ≡ Some place
+  pub stayed : (j : ℕ) (place : Place) → j < disk.heads * zone.sectors - zone.cylinder_spares → slice_get (by_head disk cylinder (good_track disk zone)) j ≡ Some place → is_among disk.grown place ≡ false → slice_get (per_cylinder disk zone cylinder) j ≡ Some place
   stayed j place l here stays = replaced-stays disk (take base whole) spares j place (get_take base whole j l ∙ here) stays
 
   at_whole : (k : ℕ) (place : Place) → slice_get whole k ≡ Some place → (slipped k numbers < disk.heads * zone.sectors) × (Some place ≡ Some (slot_at zone disk.heads cylinder (slipped k numbers)))
@@ -439,13 +436,6 @@ module _ (disk : Shape) (zone : Zone) (cylinder : ℕ) (at : IsZoneAt disk cylin
   in_whole place c hd l stays = ap (λ xs. slice_get xs (position_in zone disk.heads place - rank (position_in zone disk.heads place) numbers)) whole-is
       ∙ goes (is_among disk.defects) (cylinder_slots zone disk.heads cylinder) numbers are (position_in zone disk.heads place) place (slot_of disk zone cylinder at numbers are place c hd l) stays
 
-  pub grown_at_index : (k : ℕ) (place : Place) → slice_get whole k ≡ Some place → list_any (λ other. other == k) grown ≡ is_among disk.grown place
-  grown_at_index k place here = is_marked_at (is_among disk.grown) whole grown those k place here
-
-  -- one of the base list that is not grown holds the sector of its index
-  pub holds_staying : (k : ℕ) (place : Place) → slice_get whole k ≡ Some place → is_among disk.grown place ≡ false → k < base → slice_get (per_cylinder disk zone cylinder) k ≡ Some place
-  holds_staying k place here stays l = stayed k place l here stays
-
   moved_by : (g s : ℕ) (old place : Place) → g < base → slice_get whole g ≡ Some old → slice_get grown s ≡ Some g → rank g grown ≡ s → slice_get spares s ≡ Some place → slice_get (per_cylinder disk zone cylinder) g ≡ Some place
   moved_by g s old place below here entry_ index stand = moved g old place below here (sym (is_marked_at (is_among disk.grown) whole grown those g old here) ∙ among_at s g grown entry_) (spare_for (rank g grown) s place index stand)
 
@@ -467,9 +457,6 @@ module _ (disk : Shape) (zone : Zone) (cylinder : ℕ) (at : IsZoneAt disk cylin
       let one = base_entry g below in
       let left : slice_get (filter clean whole) (k - rank k grown) ≡ Some place = goes (is_among disk.grown) whole grown those k place here stays in
       moved_by g s one.0 place below one.1 entry_ index (spare_at s (k - rank k grown) place free left)
-
-  pub few_before : rank base grown ≤ length grown
-  few_before = rank-le_length base grown
 
 -- ---- by the layout
 
@@ -602,13 +589,13 @@ module _ (disk : Shape) (zone : Zone) (place : Place) (at : IsZoneAt disk place.
       judged_entry heads None e none some = λ j found.
           let one = index_by_cylinder disk zone place.track.cylinder at kept defects refl grown those j place (sym (ap (λ xs. slice_get xs j) (list_by disk zone place.track.cylinder PerCylinder at layout)) ∙ found) in
           elim none [
-            | inl marks ↦ true≢false (sym marks ∙ (grown_at_index disk zone place.track.cylinder at kept defects refl grown those good place here ∙ one.1))
+            | inl marks ↦ true≢false (sym marks ∙ (is_marked_at (is_among disk.grown) (by_head disk place.track.cylinder (good_track disk zone)) grown those good place here ∙ one.1))
             | inr late ↦ absurd (omega (arith, one.3, ap (λ k. rank k grown) is, ap (λ heads. heads * zone.sectors) e))
           ]
       judged_entry heads (Some j) e none some =
           let own = subst (λ heads. HoldsSector grown (heads * zone.sectors - zone.cylinder_spares) good j) e some in
-          let clean : is_among disk.grown place ≡ false = sym (grown_at_index disk zone place.track.cylinder at kept defects refl grown those good place here) ∙ own.0 in
+          let clean : is_among disk.grown place ≡ false = sym (is_marked_at (is_among disk.grown) (by_head disk place.track.cylinder (good_track disk zone)) grown those good place here) ∙ own.0 in
           ap (λ xs. slice_get xs j) (list_by disk zone place.track.cylinder PerCylinder at layout) ∙ elim own.1 [
-            | inl same ↦ ap (slice_get (per_cylinder disk zone place.track.cylinder)) same.1 ∙ holds_staying disk zone place.track.cylinder at kept defects refl grown those good place here clean same.0
+            | inl same ↦ ap (slice_get (per_cylinder disk zone place.track.cylinder)) same.1 ∙ stayed disk zone place.track.cylinder at kept defects refl grown those good place same.0 here clean
             | inr stead ↦ holds_moving disk zone place.track.cylinder at kept defects refl grown those good j place here clean stead.0 stead.1 stead.2
           ]

@@ -6,11 +6,11 @@ use Rattle.std.proofs.lemmas.Bool.{cases_Bool, cases_lt, true≢false, lt-ltb, l
 use Rattle.std.proofs.lemmas.Bool.Decides.{nat_tests}
 use Rattle.std.proofs.lemmas.Option.{same_Some, none-some}
 use Rattle.fb_geometry.specs.Slips.{IsAscending, slipped, rank, indexes, with_index}
-use Rattle.fb_geometry.proofs.Grid.{add_zero}
+use Rattle.fb_geometry.proofs.Grid.{count_cons, add_zero}
 
 -- ---- ascending numbers
 
-all_over : (a b : ℕ) (numbers : List ℕ) → a ≤ b → AllByRecursion (λ later. b < later) numbers → AllByRecursion (λ later. a < later) numbers
+pub all_over : (a b : ℕ) (numbers : List ℕ) → a ≤ b → AllByRecursion (λ later. b < later) numbers → AllByRecursion (λ later. a < later) numbers
 all_over a b [] h all = tt
 all_over a b (x ∷ numbers) h all = (omega (arith, all.0), all_over a b numbers h all.1)
 
@@ -78,10 +78,7 @@ kept_at test a (x ∷ xs) k i e = elim (cases_Bool (test x)) [
 -- ---- ranks
 
 rank_cons : (number x : ℕ) (numbers : List ℕ) → rank number (x ∷ numbers) ≡ cond (nat_lt x number) 1 0 + rank number numbers
-rank_cons number x numbers = elim (cases_lt x number) [
-  | inl h ↦ rw (lt-ltb x number h) (omega arith)
-  | inr h ↦ rw (le-ltb x number h) (omega arith)
-]
+rank_cons number x numbers = count_cons (λ passed. nat_lt passed number) x numbers
 
 -- no number is before one that all are behind
 pub rank_none : (number : ℕ) (numbers : List ℕ) → AllByRecursion (λ later. number ≤ later) numbers → rank number numbers ≡ 0
@@ -208,7 +205,7 @@ rank-slipped number q (x ∷ numbers) up e = elim (cases_lt number x) [
       omega (arith, rank_cons q x numbers, ap {B = ℕ} (λ b. cond b 1 0) (lt-ltb x q before), rank-slipped (number + 1) q numbers up.1 after)
 ]
 
-not_among_later : (number : ℕ) (numbers : List ℕ) → AllByRecursion (λ later. number < later) numbers → list_any (λ other. other == number) numbers ≡ false
+pub not_among_later : (number : ℕ) (numbers : List ℕ) → AllByRecursion (λ later. number < later) numbers → list_any (λ other. other == number) numbers ≡ false
 not_among_later number [] all = refl
 not_among_later number (x ∷ numbers) all = let off : (x == number) ≡ false = grind (arith, nat_tests, all.0) in rw off (not_among_later number numbers all.1)
 

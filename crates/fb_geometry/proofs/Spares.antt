@@ -8,9 +8,10 @@ use Rattle.fb_units.specs.declared.types.Place.{Place}
 use Rattle.fb_geometry.specs.Faults.{is_place_before, least}
 use Rattle.fb_geometry.specs.Slips.{Pairwise}
 use Rattle.fb_geometry.specs.Marks.{AreSorted}
+use Rattle.fb_geometry.proofs.Grid.{count_cons}
 use Rattle.fb_geometry.proofs.Order.{point-is}
 use Rattle.fb_geometry.proofs.Leasts.{IsOrder, Among, among-filter, among-filtered, least-head}
-use Rattle.fb_geometry.proofs.Clashes.{pairwise_at, pairwise-filter, pairwise-map, count_cons, same_count, permuted}
+use Rattle.fb_geometry.proofs.Clashes.{pairwise_at, pairwise-filter, pairwise-map, same_count, permuted}
 
 -- ---- the first that is full
 

@@ -182,9 +182,6 @@ module _ (disk : Shape) (zone : Zone) (cylinder : ℕ) (at : IsZoneAt disk cylin
   pub cylinder-is : place.track.cylinder ≡ cylinder
   cylinder-is = ap (λ (p : Place). p.track.cylinder) place-is
 
-  pub slot-below : place.slot < zone.sectors
-  slot-below = omega (arith, ap (λ (p : Place). p.slot) place-is, mod-lt (offset_in zone disk.heads (slot_at zone disk.heads cylinder position).track + position % zone.sectors) some_slots)
-
   turned-by : turn_position disk place ≡ position % zone.sectors
   turned-by =
       let slots = ap (slots_at disk.zones) cylinder-is ∙ slots_at-zone disk.zones cylinder zone at.found in
