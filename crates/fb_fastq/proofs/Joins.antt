@@ -12,14 +12,14 @@ use Rattle.fb_units.specs.declared.types.Request.{Request}
 use Rattle.fb_fastq.specs.Joining.{order, Waiting, number_of, join_in, in_order, pending_of, AreNumbered, IsIndex}
 use Rattle.fb_fastq.proofs.Keys.{same_number}
 
-join_before_last : (w x : Waiting) (ws : List Waiting) → number_of w < number_of x → join_in w (ws ++ x ∷ []) ≡ join_in w ws ++ x ∷ []
+pub join_before_last : (w x : Waiting) (ws : List Waiting) → number_of w < number_of x → join_in w (ws ++ x ∷ []) ≡ join_in w ws ++ x ∷ []
 join_before_last w x [] h = let t : nat_lt (number_of w) (number_of x) ≡ true = grind (arith, nat_tests) in rw t refl
 join_before_last w x (y ∷ ws) h = elim (cases_Bool (nat_lt (number_of w) (number_of y))) [
   | inl less ↦ rw less refl
   | inr more ↦ rw more (ap (λ l. y ∷ l) (join_before_last w x ws h))
 ]
 
-map_last : (ws : List Waiting) (x : Waiting) → map (λ w. w.1) (ws ++ x ∷ []) ≡ map (λ w. w.1) ws ++ x.1 ∷ []
+pub map_last : (ws : List Waiting) (x : Waiting) → map (λ w. w.1) (ws ++ x ∷ []) ≡ map (λ w. w.1) ws ++ x.1 ∷ []
 map_last [] x = refl
 map_last (w ∷ ws) x = ap (λ l. w.1 ∷ l) (map_last ws x)
 
@@ -34,7 +34,7 @@ pub all_in_order : (P : Waiting → Type 0) (ws : List Waiting) → AllByRecursi
 all_in_order P [] h = tt
 all_in_order P (w ∷ ws) h = all_join P w (in_order ws) h.0 (all_in_order P ws h.1)
 
-joins_last : (x : Waiting) (ws : List Waiting) → AllByRecursion (λ w. number_of w < number_of x) ws → join_in x ws ≡ ws ++ x ∷ []
+pub joins_last : (x : Waiting) (ws : List Waiting) → AllByRecursion (λ w. number_of w < number_of x) ws → join_in x ws ≡ ws ++ x ∷ []
 joins_last x [] h = refl
 joins_last x (w ∷ ws) h =
     let under : number_of w < number_of x = h.0 in

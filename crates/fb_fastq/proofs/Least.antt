@@ -22,7 +22,7 @@ all_of P w [] all e = elim e [ ]
 all_of P w (x ∷ ws) all (inl e) = subst P (sym e) all.0
 all_of P w (x ∷ ws) all (inr e) = all_of P w ws all.1 e
 
-abbrev IsRising : List Waiting → Type 0
+abbrev pub IsRising : List Waiting → Type 0
 IsRising [] = Unit {0}
 IsRising (w ∷ ws) = AllByRecursion (λ x. number_of w < number_of x) ws × IsRising ws
 
@@ -38,15 +38,15 @@ join_rising w (x ∷ ws) apart h = elim (cases_Bool (nat_lt (number_of w) (numbe
       rw more (all_join (λ y. number_of x < number_of y) w ws lt h.0, join_rising w ws apart.1 h.1)
 ]
 
-in_order_rising : (ws : List Waiting) → AreNumbered ws → IsRising (in_order ws)
+pub in_order_rising : (ws : List Waiting) → AreNumbered ws → IsRising (in_order ws)
 in_order_rising [] h = tt
 in_order_rising (w ∷ ws) h = join_rising w (in_order ws) (all_in_order (λ x. number_of x ≢ number_of w) ws h.0) (in_order_rising ws h.1)
 
-abbrev without : ℕ → List Waiting → List Waiting
+abbrev pub without : ℕ → List Waiting → List Waiting
 without n [] = []
 without n (w ∷ ws) = if number_of w == n then ws else w ∷ without n ws
 
-without_joined : (w : Waiting) (ws : List Waiting) → AllByRecursion (λ x. number_of x ≢ number_of w) ws → without (number_of w) (join_in w ws) ≡ ws
+pub without_joined : (w : Waiting) (ws : List Waiting) → AllByRecursion (λ x. number_of x ≢ number_of w) ws → without (number_of w) (join_in w ws) ≡ ws
 without_joined w [] h = let t : (number_of w == number_of w) ≡ true = grind (arith, nat_tests) in rw t refl
 without_joined w (x ∷ ws) h = elim (cases_Bool (nat_lt (number_of w) (number_of x))) [
   | inl less ↦ let t : (number_of w == number_of w) ≡ true = grind (arith, nat_tests) in rw (less, t) refl
@@ -57,7 +57,7 @@ joins_front : (w : Waiting) (ws : List Waiting) → AllByRecursion (λ x. number
 joins_front w [] h = refl
 joins_front w (x ∷ ws) h = let lt : number_of w < number_of x = h.0 in let t : nat_lt (number_of w) (number_of x) ≡ true = grind (arith, nat_tests) in rw t refl
 
-without_other : (n : ℕ) (w : Waiting) (ws : List Waiting) → number_of w ≢ n → IsRising ws → without n (join_in w ws) ≡ join_in w (without n ws)
+pub without_other : (n : ℕ) (w : Waiting) (ws : List Waiting) → number_of w ≢ n → IsRising ws → without n (join_in w ws) ≡ join_in w (without n ws)
 without_other n w [] other h = let t : (number_of w == n) ≡ false = grind (arith, nat_tests) in rw t refl
 without_other n w (x ∷ ws) other h = let s : (number_of w == n) ≡ false = grind (arith, nat_tests) in
     elim (cases_Bool (nat_lt (number_of w) (number_of x))) [
@@ -99,7 +99,7 @@ not_above rank w (x ∷ ws) h = (elim h.0 [ inl less ↦ omega (arith, less) | i
 later_better : (rank : Request → ℕ) (r q : Request) (rs qs : List Request) (best : Option (Request × List Request)) → best ≡ Some (q, qs) → rank q < rank r → better rank r rs best ≡ Some (q, r ∷ qs)
 later_better rank r q rs qs best e lt = let t : nat_le (rank r) (rank q) ≡ false = grind (arith, nat_tests) in ap (better rank r rs) e ∙ ap (λ b. if b then Some (r, rs) else Some (q, r ∷ qs)) t
 
-least_rising : (rank : Request → ℕ) (w : Waiting) (ws : List Waiting) → IsRising ws → IsIn w ws → IsFirst rank w ws → first_least rank (map (λ x. x.1) ws) ≡ Some (w.1, map (λ x. x.1) (without (number_of w) ws))
+pub least_rising : (rank : Request → ℕ) (w : Waiting) (ws : List Waiting) → IsRising ws → IsIn w ws → IsFirst rank w ws → first_least rank (map (λ x. x.1) ws) ≡ Some (w.1, map (λ x. x.1) (without (number_of w) ws))
 least_rising rank w [] h e first = elim e [ ]
 least_rising rank w (x ∷ ws) h (inl e) first = subst (λ y. first_least rank (map (λ z. z.1) (y ∷ ws)) ≡ Some (w.1, map (λ z. z.1) (without (number_of w) (y ∷ ws)))) e
     (let t : (number_of w == number_of w) ≡ true = grind (arith, nat_tests) in
@@ -118,7 +118,7 @@ in_joined w x (y ∷ ws) h = elim (cases_Bool (nat_lt (number_of x) (number_of y
   | inr more ↦ rw more (elim h [ inl e ↦ inr (in_joined w x ws (inl e)) | inr there ↦ elim there [ inl e ↦ inl e | inr e ↦ inr (in_joined w x ws (inr e)) ] ])
 ]
 
-in_in_order : (w : Waiting) (ws : List Waiting) → IsIn w ws → IsIn w (in_order ws)
+pub in_in_order : (w : Waiting) (ws : List Waiting) → IsIn w ws → IsIn w (in_order ws)
 in_in_order w [] e = elim e [ ]
 in_in_order w (x ∷ ws) (inl e) = in_joined w x (in_order ws) (inl e)
 in_in_order w (x ∷ ws) (inr e) = in_joined w x (in_order ws) (inr (in_in_order w ws e))

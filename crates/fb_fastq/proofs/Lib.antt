@@ -9,3 +9,7 @@ pub mod Sweeps
 pub mod Alike
 pub mod Walks
 pub mod Breaks
+pub mod ByHead
+pub mod InRows
+pub mod OneMore
+pub mod Divided

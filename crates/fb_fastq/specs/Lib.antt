@@ -4,4 +4,6 @@ pub mod Turns
 pub mod Lanes
 pub mod Visits
 pub mod Candidates
+pub mod More
+pub mod ByCylinder
 pub mod NonePending

@@ -1,6 +1,6 @@
 // Lanes: the tracks laid end to end, each once for reads and once for writes.
 ghost use Rattle.std.specs.Prelude.{◌≡◌, ◌+◌, ◌*◌, ◌<◌, ◌≤◌, ◌^◌};
-ghost use Rattle.fb_geometry.specs.Shape.{IsTrackOf, cylinders_of};
+ghost use Rattle.fb_geometry.specs.Shape.{cylinders_of};
 ghost use Rattle.fb_model.specs.Accepted.{IsRequestOf};
 ghost use Rattle.fb_fastq.specs.Lanes.{IsLane, IsAlong};
 
@@ -12,7 +12,7 @@ use fb_units::{Ns, Request, Track};
 pub const LANE: Ns = 1_073_741_824;
 
 /// The length of a cylinder's lanes, in ns: room for two lanes for each of 64 heads.
-const CYLINDER: Ns = 128 * LANE;
+pub const CYLINDER: Ns = 128 * LANE;
 
 /// A track for reads or for writes.
 #[derive(Clone, Copy)]
@@ -23,8 +23,8 @@ pub struct Lane {
     pub start: Ns,
 }
 
-// A disk has few cylinders and heads.
-fn few_tracks(disk: &Disk)
+/// A disk has few cylinders and heads.
+pub fn few_tracks(disk: &Disk)
     ensures cylinders { cylinders_of disk.now.map.zones ≤ 10 ^ 6 }
     ensures heads { disk.now.map.heads ≤ 64 }
 {
@@ -43,9 +43,10 @@ pub fn cylinder_start(disk: &Disk, cylinder: u32) -> Ns
     cylinder as u64 * CYLINDER
 }
 
-// The lane of a track for reads or for writes.
-fn lane_at(disk: &Disk, track: Track, write: bool) -> Lane
-    requires { IsTrackOf disk.now.map track }
+/// The lane of a track for reads or for writes.
+pub fn lane_of(disk: &Disk, track: Track, write: bool) -> Lane
+    requires cylinder { track.cylinder < cylinders_of disk.now.map.zones }
+    requires head { track.head < 64 }
     ensures lane { IsLane result }
     ensures track { result.track ≡ track }
     ensures write { result.write ≡ write }
@@ -90,5 +91,5 @@ pub fn along(disk: &Disk, request: &Request) -> Ns
     few_tracks(disk);
     let place = disk.map.place(request.lbn);
     let begin = disk.map.geometry().slot_begin(place.track, place.slot);
-    lane_at(disk, place.track, request.write).start + begin
+    lane_of(disk, place.track, request.write).start + begin
 }

@@ -7,10 +7,12 @@
 //! For `SstfMap` and `ClookMap` the spot is the cylinder, so that the first request of the nearest
 //! one or of the next one is found at once. For `SptfLanes` all tracks are laid end to end, each
 //! once for reads and once for writes, since a write has to settle. The spot is how far along these
-//! lanes the request's first sector begins, so that in each lane the next request from the angle of
-//! arrival on is found at once. The walk goes outwards from the head's cylinder, on each side until
-//! the seek alone takes longer than the shortest wait found. The requests of a lane are valued one
-//! after another, by their spots alone; where more than a few wait, the lane is searched.
+//! lanes the request's first sector begins, which is all that its wait depends on.
+//!
+//! Where more than a few wait, `SptfLanes` keeps a row for each cylinder, whose requests are valued
+//! one after another, the head's own cylinder first and then outwards, until the seek alone takes
+//! longer than the shortest wait found. What a row has no room for waits in the index, where in each
+//! lane the next request from the angle of arrival on is found by a search.
 #![tactic(auto)]
 
 mod choice;
@@ -20,15 +22,18 @@ mod indexed;
 mod lanes;
 mod nearest;
 mod ring;
+mod rows;
 mod soonest;
+mod sptf;
 #[cfg(test)]
 mod tests;
 mod upwards;
 mod visit;
+mod ways;
 
 pub use choice::Choice;
 pub use indexed::Indexed;
 pub use nearest::{Nearest, SstfMap};
 pub use ring::FcfsRing;
-pub use soonest::{Soonest, SptfLanes};
+pub use sptf::SptfLanes;
 pub use upwards::{ClookMap, Upwards};

@@ -1,20 +1,20 @@
 // Shortest positioning time first.
-ghost use Rattle.std.specs.Prelude.{◌≡◌, ℕ, ◌+◌, ◌*◌, ◌<◌, ◌≤◌, ◌^◌, ◌⊎◌, true, IfSome, MatchOption};
+ghost use Rattle.std.specs.Prelude.{◌≡◌, ℕ, ◌+◌, ◌*◌, ◌<◌, ◌≤◌, ◌^◌, ◌⊎◌, true, IfSome, MatchOption, ◌-◌, length};
 ghost use Rattle.fb_units.specs.declared.types.Request.{Request};
+ghost use Rattle.fb_geometry.specs.Shape.{IsTrackOf};
 ghost use Rattle.fb_sectormap.specs.Lookup.{track_at};
 ghost use Rattle.fb_seek.specs.Positioning.{distance_of};
 ghost use Rattle.fb_service.specs.declared.approach.Departure.{Departure};
 ghost use Rattle.fb_service.specs.Approaching.{IsDeparture};
 ghost use Rattle.fb_model.specs.PlainReplay.{sptf};
-ghost use Rattle.fb_fastq.specs.Joining.{AllHeld};
+ghost use Rattle.fb_fastq.specs.Joining.{AllHeld, IsFirstHeld};
 ghost use Rattle.fb_fastq.specs.Lanes.{IsLane, IsAlong};
 ghost use Rattle.fb_fastq.specs.Visits.{IsVisit};
 ghost use Rattle.fb_fastq.specs.Candidates.{IsCandidate, IsBefore, BeatsFrom, BeatsBetween};
 
 use crate::index::{next_or_first, next_round};
-use crate::lanes::{LANE, along, cylinder_start};
+use crate::lanes::{LANE, cylinder_start};
 use crate::visit::{Visit, visit_to};
-use crate::{Choice, Indexed};
 use fb_service::{Departure, Disk, departure_from};
 use fb_units::{Ns, Request, Track};
 use std::collections::BTreeMap;
@@ -22,19 +22,18 @@ use std::collections::BTreeMap;
 // So many requests of a lane are valued one after another. Where more wait, a search for the first to pass is less work.
 const FEW: u32 = 16;
 
-/// The soonest first passage first.
-#[derive(Clone, Copy, Default)]
-pub struct Soonest;
-
-/// Shortest positioning time first, over an index by lane and angle.
-pub type SptfLanes = Indexed<Soonest>;
-
 /// A request that waits, and how long it is until its first sector passes.
 #[derive(Clone, Copy)]
 pub struct Candidate {
     pub key: (u64, u64),
     pub wait: Ns,
 }
+
+// One that never passes.
+const NEVER: Candidate = Candidate {
+    key: (0, u64::MAX),
+    wait: u64::MAX,
+};
 
 /// What a walk along one side of the arm found.
 #[derive(Clone, Copy)]
@@ -233,28 +232,31 @@ fn soonest_below(
     walked.best
 }
 
-impl Choice for Soonest {
-    ghost key = { sptf };
-
-    ghost stands = { IsAlong };
-
-    fn spot_of(&self, disk: &Disk, request: &Request) -> u64 {
-        along(disk, request)
+/// The request of an index whose first sector passes soonest, while the head is on this track at
+/// the instant `now`, in ns; where none waits, one that never passes.
+///
+/// Of several that pass at the same time the one that joined first is found.
+pub fn soonest_in_map(
+    waiting: &BTreeMap<(u64, u64), Request>,
+    disk: &Disk,
+    head: Track,
+    now: Ns,
+) -> Candidate
+    requires spots { AllHeld (λ key request. IsAlong disk.now request key.0) waiting.now }
+    requires head { IsTrackOf disk.now.map head }
+    requires now { now ≤ 9 * 10 ^ 18 }
+    ensures found { 0 < length waiting.now.entries → IsCandidate disk.now head now waiting.now result }
+    ensures first { 0 < length waiting.now.entries → IsFirstHeld (sptf disk.now head now) waiting.now result.key }
+    ensures none { length waiting.now.entries ≡ 0 → result.wait ≡ 2 ^ 64 - 1 }
+{
+    if waiting.is_empty() {
+        return NEVER;
     }
-
-    fn choose(
-        &self,
-        waiting: &BTreeMap<(u64, u64), Request>,
-        disk: &Disk,
-        head: Track,
-        now: Ns,
-    ) -> (u64, u64) {
-        let from = departure_from(disk, head, now);
-        let start = cylinder_start(disk, head.cylinder);
-        let (key, _) = next_or_first(waiting, start);
-        let visit = visit_to(disk, &from, key.0);
-        let wait = visit.wait(disk, key.0);
-        let above = soonest_above(waiting, disk, from, start, visit, Candidate { key, wait });
-        soonest_below(waiting, disk, from, start, visit, above).key
-    }
+    let from = departure_from(disk, head, now);
+    let start = cylinder_start(disk, head.cylinder);
+    let (key, _) = next_or_first(waiting, start);
+    let visit = visit_to(disk, &from, key.0);
+    let wait = visit.wait(disk, key.0);
+    let above = soonest_above(waiting, disk, from, start, visit, Candidate { key, wait });
+    soonest_below(waiting, disk, from, start, visit, above)
 }

@@ -82,7 +82,7 @@ impl Draw {
         (self.state >> 33) % end
     }
 
-    // A request for a sector of the second cylinder.
+    // A request for a sector of the second cylinder, or at times of the first or second one.
     fn request(&mut self, disk: &Disk, number: u32) -> Request
         requires { 48 ≤ length (places disk.now.map) }
         ensures { IsRequestOf disk.now.map result }
@@ -90,7 +90,11 @@ impl Draw {
         Request {
             name: Name::Traced(number),
             arrival: 0,
-            lbn: 24 + self.below(24),
+            lbn: if self.below(4) == 0 {
+                self.below(48)
+            } else {
+                24 + self.below(24)
+            },
             count: 1,
             write: self.below(2) == 0,
         }
@@ -109,7 +113,8 @@ impl Draw {
     }
 }
 
-// A request joins a queue or is taken from it, at random.
+// A request joins a queue or is taken from it, at random: for the first half of the steps three of four join, so that some
+// five hundred wait then.
 fn step<Q: Queue>(
     disk: &Disk,
     draw: &mut Draw,
@@ -127,7 +132,8 @@ fn step<Q: Queue>(
     ensures serves { OnOk result (Q.serves queue.new disk.now) }
     ensures on_disk { OnOk result (AllByRecursion (IsRequestOf disk.now.map) (Q.pending queue.new)) }
 {
-    if draw.below(2) == 0 || queue.is_empty() {
+    let joins = if number < STEPS / 2 { 3 } else { 1 };
+    if draw.below(4) < joins || queue.is_empty() {
         let request = draw.request(disk, number as u32);
         queue.add(disk, request)?;
         return Ok(None);

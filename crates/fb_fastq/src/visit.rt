@@ -2,6 +2,7 @@
 ghost use Rattle.std.specs.Prelude.{◌≡◌, ◌⊎◌, true, false, ◌+◌, ◌*◌, ◌%◌, ◌<◌, ◌≤◌, ◌^◌};
 ghost use Rattle.fb_units.specs.declared.types.Request.{Request};
 ghost use Rattle.fb_geometry.specs.Shape.{cylinders_of};
+ghost use Rattle.fb_seek.specs.Positioning.{seek, distance_of};
 ghost use Rattle.fb_service.specs.declared.approach.Departure.{Departure};
 ghost use Rattle.fb_service.specs.Approaching.{IsDeparture};
 ghost use Rattle.fb_model.specs.PlainReplay.{sptf};
@@ -40,8 +41,9 @@ impl Visit {
         requires angle { self.now.angle < disk.now.map.rotation }
         requires from { self.now.lane.start ≤ spot }
         requires before { spot < self.now.lane.start + 2 ^ 30 }
-        ensures { (from : Departure) (request : Request) → IsVisit disk.now from self.now → IsAlong disk.now request spot
+        ensures value { (from : Departure) (request : Request) → IsVisit disk.now from self.now → IsAlong disk.now request spot
             → result ≡ sptf disk.now from.track from.instant request }
+        ensures soon { result ≤ 4 * 10 ^ 9 }
     {
         let rotation = disk.map.geometry().rotation();
         let angle = spot - self.lane.start;
@@ -118,12 +120,24 @@ fn visit_of(disk: &Disk, from: &Departure, lane: Lane) -> Visit
     let seek = disk
         .mechanism
         .seek(from.track.cylinder.abs_diff(lane.track.cylinder));
+    visit_after(disk, from, seek, lane)
+}
+
+/// The visit to a lane, to whose cylinder the seek takes so long.
+pub fn visit_after(disk: &Disk, from: &Departure, time: Ns, lane: Lane) -> Visit
+    requires from { IsDeparture disk.now from.now }
+    requires lane { IsLane lane }
+    requires seek { time ≡ seek disk.now.mechanism (distance_of from.now.track.cylinder lane.track.cylinder) }
+    requires short { time ≤ 10 ^ 9 }
+    ensures visit { IsVisit disk.now from.now result }
+    ensures lane { result.lane ≡ lane }
+{
     let way = disk
         .mechanism
-        .pos_with(seek, from.track, lane.track, lane.write);
+        .pos_with(time, from.track, lane.track, lane.write);
     Visit {
         lane,
-        seek,
+        seek: time,
         way,
         angle: angle_at(disk, from, way),
     }

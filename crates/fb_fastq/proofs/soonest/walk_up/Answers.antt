@@ -79,7 +79,7 @@ loop-key-preserved c =
     let there : IsIn x c.loop-key.key-iterator = subst (IsIn x) (sym steps) (inl refl) in
     let own = walk.inside x there in
     let next : Candidate = record { key = x.0; wait = c.wait-wait.result } in
-    let wait = c.wait-wait.ensures c.args.from x.1 c.go_on.ensures.visit (c.requires.spots x.0 x.1 own.0) in (
+    let wait = c.wait-wait.ensures.value c.args.from x.1 c.go_on.ensures.visit (c.requires.spots x.0 x.1 own.0) in (
       tt,
       tt,
       c.go_on.ensures.visit,

@@ -2,15 +2,20 @@ use Rattle.std.proofs.Common.{ℕ, subst}
 use Rattle.fb_units.specs.declared.types.Track.{Track}
 use Rattle.fb_model.specs.PlainReplay.{sptf}
 use Rattle.fb_fastq.specs.Joining.{IsFirstHeld}
-use Rattle.fb_fastq.proofs.Least.{waits_there}
+use Rattle.fb_fastq.specs.Candidates.{IsCandidate}
 use Rattle.fb_fastq.proofs.Sweeps.{soonest_is_first}
-use Rattle.fb_fastq.proofs.soonest.SoonestChoice.choose.Goals as goal
+use Rattle.fb_fastq.proofs.soonest.soonest_in_map.Goals as goal
 
 pub returns-clause-found : goal.returns-clause-found
-returns-clause-found c = waits_there c.args.waiting.now c.soonest_below.result.key c.soonest_below.ensures.found.request c.soonest_below.ensures.found.waits
+returns-clause-found c = λ some.
+    let disk = c.args.disk.now in
+    let waiting = c.args.waiting.now in
+    let from = c.departure_from-from.result in
+    subst (λ (track : Track). IsCandidate disk track c.args.now waiting c.soonest_below.result) c.departure_from-from.ensures.track
+    (subst (λ (now : ℕ). IsCandidate disk from.track now waiting c.soonest_below.result) c.departure_from-from.ensures.instant c.soonest_below.ensures.found)
 
 pub returns-clause-first : goal.returns-clause-first
-returns-clause-first c =
+returns-clause-first c = λ some.
     let disk = c.args.disk.now in
     let waiting = c.args.waiting.now in
     let key = c.soonest_below.result.key in

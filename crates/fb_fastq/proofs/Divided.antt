@@ -1,0 +1,134 @@
+-- Requests that are divided among a map and rows.
+use Rattle.std.proofs.Common.{◌≡◌, ◌≢◌, ℕ, ◌+◌, ◌-◌, ◌^◌, ◌<◌, ◌≤◌, List, [], ◌∷◌, ◌++◌, sym, ap, subst, ◌∙◌, arith, inl, inr, length}
+use Rattle.std.specs.List.{AllByRecursion}
+use Rattle.std.specs.BTreeMap.{BTreeMap}
+use Rattle.std.proofs.lemmas.Bool.{cases_lt}
+use Rattle.fb_units.specs.declared.types.Track.{Track}
+use Rattle.fb_units.specs.declared.types.Request.{Request}
+use Rattle.fb_service.specs.declared.disk.Disk.{Disk}
+use Rattle.fb_model.specs.PlainReplay.{sptf}
+use Rattle.fb_fastq.specs.declared.soonest.Candidate.{Candidate}
+use Rattle.fb_fastq.specs.Joining.{Waiting, number_of, pending_of, AreNumbered, IsIndex, IsNoLater, IsFirst, IsFirstHeld}
+use Rattle.fb_fastq.specs.Candidates.{IsCandidate, IsBefore, Beats}
+use Rattle.fb_fastq.specs.More.{IsMore}
+use Rattle.fb_fastq.specs.ByCylinder.{Row, all_of_rows, AreRows, Settles, SettlesAll, IsDivided}
+use Rattle.fb_fastq.proofs.Least.{first_listed, length_pending}
+use Rattle.fb_fastq.proofs.Sweeps.{no_later_trans}
+use Rattle.fb_fastq.proofs.InRows.{all_both, all_left}
+use Rattle.fb_fastq.proofs.OneMore.{more_left, more_right, index_more, index_less, length_more}
+
+pub numbered_left : (xs ys : List Waiting) → AreNumbered (xs ++ ys) → AreNumbered xs
+numbered_left [] ys h = tt
+numbered_left (x ∷ xs) ys h = (all_left (λ y. number_of y ≢ number_of x) xs ys h.0, numbered_left xs ys h.1)
+
+none_in : (P : Waiting → Type 0) (ws : List Waiting) → length ws ≤ 0 → AllByRecursion P ws
+none_in P [] none = tt
+none_in P (w ∷ ws) none = absurd (omega (arith, none))
+
+all_turned : (P Q : Waiting → Type 0) (ws : List Waiting) → ((w : Waiting) → P w → Q w) → AllByRecursion P ws → AllByRecursion Q ws
+all_turned P Q [] h all = tt
+all_turned P Q (w ∷ ws) h all = (h w all.0, all_turned P Q ws h all.1)
+
+module _ (disk : Disk) (head : Track) (now : ℕ) (map : BTreeMap (ℕ × ℕ) Request) (rows : List Row) where
+  -- what is no later than the first of the map is no later than any of it
+  pub beats_map : (limit best : Candidate) → AreNumbered map.entries → (0 < length map.entries → IsCandidate disk head now map limit) → (0 < length map.entries → IsFirstHeld (sptf disk head now) map limit.key) → IsBefore best limit
+      → AllByRecursion (λ w. Beats disk head now best w.0 w.1) map.entries
+  beats_map limit best apart found first before = elim (cases_lt 0 (length map.entries)) [
+    | inl some ↦
+        let is = found some in
+        let rank = sptf disk head now in
+        all_turned (λ w. IsNoLater (rank is.request) limit.key.1 (rank w.1) (number_of w)) (λ w. Beats disk head now best w.0 w.1) map.entries
+        (λ w own. no_later_trans best.wait best.key.1 limit.wait limit.key.1 (rank w.1) w.0.1 before (subst (λ n. IsNoLater n limit.key.1 (rank w.1) w.0.1) (sym is.wait) own))
+        (first_listed rank limit.key is.request map apart is.waits (first some))
+    | inr none ↦ none_in (λ w. Beats disk head now best w.0 w.1) map.entries none
+  ]
+
+  -- what is no later than all of both is the first
+  pub first_of_both : (best : Candidate) (w : Waiting) → best.key ≡ w.0 → best.wait ≡ sptf disk head now w.1 → AllByRecursion (λ x. Beats disk head now best x.0 x.1) map.entries
+      → SettlesAll disk head now best (all_of_rows rows) → IsFirst (sptf disk head now) w (map.entries ++ all_of_rows rows)
+  first_of_both best w key wait over settles =
+      let rank = sptf disk head now in
+      all_turned (λ x. Beats disk head now best x.0 x.1) (λ x. IsNoLater (rank w.1) (number_of w) (rank x.1) (number_of x)) (map.entries ++ all_of_rows rows)
+      (λ x own. subst (λ n. IsNoLater n w.0.1 (rank x.1) x.0.1) wait (subst (λ (q : ℕ × ℕ). IsNoLater best.wait q.1 (rank x.1) x.0.1) key own))
+      (all_both (λ x. Beats disk head now best x.0 x.1) map.entries (all_of_rows rows) over
+      (all_turned (Settles disk head now best) (λ x. Beats disk head now best x.0 x.1) (all_of_rows rows) (λ x own. own.0) settles))
+
+  -- where one that never passes is no later than the requests of the rows, there are none
+  pub none_settled : (best : Candidate) → best.wait ≡ 2 ^ 64 - 1 → SettlesAll disk head now best (all_of_rows rows) → length (all_of_rows rows) ≤ 0
+  none_settled best never settles = at (all_of_rows rows) settles
+    where
+      at : (ws : List Waiting) → SettlesAll disk head now best ws → length ws ≤ 0
+      at [] h = omega arith
+      at (w ∷ ws) h = let soon = h.0.1 in absurd (omega (arith, never, soon))
+
+  -- so where any wait, and none of the rows is picked, the map has one
+  pub some_of_map : (limit : Candidate) → 0 < length (pending_of (map.entries ++ all_of_rows rows)) → (length map.entries ≡ 0 → limit.wait ≡ 2 ^ 64 - 1) → SettlesAll disk head now limit (all_of_rows rows) → 0 < length map.entries
+  some_of_map limit some none settles = elim (cases_lt 0 (length map.entries)) [
+    | inl any ↦ any
+    | inr empty ↦
+        let left = none_settled limit (none (omega (arith, empty))) settles in
+        let all = length_pending (map.entries ++ all_of_rows rows) in
+        let sum = both map.entries in
+        absurd (omega (arith, some, all, sum, left, empty))
+  ]
+    where
+      both : (xs : List Waiting) → length (xs ++ all_of_rows rows) ≡ length xs + length (all_of_rows rows)
+      both [] = omega arith
+      both (x ∷ xs) = let rest = both xs in omega (arith, rest)
+
+pub index_left : (xs ys : List Waiting) (joined : ℕ) → IsIndex (xs ++ ys) joined → IsIndex xs joined
+index_left xs ys joined h = record { given = all_left (λ w. number_of w < joined) xs ys h.given; numbered = numbered_left xs ys h.numbered }
+
+-- one of the rows' is taken out, or one of the map's
+pub rows_taken : (entries : List Waiting) (rows new : List Row) (in_rows joined : ℕ) (w : Waiting) → IsDivided entries rows in_rows joined → IsMore w (all_of_rows new) (all_of_rows rows) → AreRows 0 new → IsDivided entries new (in_rows - 1) joined
+rows_taken entries rows new in_rows joined w is less own = record {
+  index = index_less w (entries ++ all_of_rows new) (entries ++ all_of_rows rows) (more_left w (all_of_rows new) (all_of_rows rows) less entries) joined is.index;
+  own_rows = own;
+  counted = let one = length_more w (all_of_rows new) (all_of_rows rows) less in let all = is.counted in omega (arith, one, all);
+  few = let all = is.few in omega (arith, all);
+}
+
+pub map_taken : (entries new : List Waiting) (rows : List Row) (in_rows joined : ℕ) (w : Waiting) → IsDivided entries rows in_rows joined → IsMore w new entries → IsDivided new rows in_rows joined
+map_taken entries new rows in_rows joined w is less = record {
+  index = index_less w (new ++ all_of_rows rows) (entries ++ all_of_rows rows) (more_right w new entries less (all_of_rows rows)) joined is.index;
+  own_rows = is.own_rows;
+  counted = is.counted;
+  few = is.few;
+}
+
+-- one joins the rows', or the map's
+pub rows_joined : (entries : List Waiting) (rows new : List Row) (in_rows spot joined : ℕ) (r : Request) → IsDivided entries rows in_rows joined → IsMore ((spot, joined), r) (all_of_rows rows) (all_of_rows new) → AreRows 0 new → IsDivided entries new (in_rows + 1) (joined + 1)
+rows_joined entries rows new in_rows spot joined r is more own = record {
+  index = index_more ((spot, joined), r) (entries ++ all_of_rows rows) (entries ++ all_of_rows new) (more_left ((spot, joined), r) (all_of_rows rows) (all_of_rows new) more entries) is.index;
+  own_rows = own;
+  counted = let one = length_more ((spot, joined), r) (all_of_rows rows) (all_of_rows new) more in let all = is.counted in omega (arith, one, all);
+  few = let all = is.few in omega (arith, all);
+}
+
+pub map_joined : (entries new : List Waiting) (rows : List Row) (in_rows spot joined : ℕ) (r : Request) → IsDivided entries rows in_rows joined → IsMore ((spot, joined), r) entries new → IsDivided new rows in_rows (joined + 1)
+map_joined entries new rows in_rows spot joined r is more = record {
+  index = index_more ((spot, joined), r) (entries ++ all_of_rows rows) (new ++ all_of_rows rows) (more_right ((spot, joined), r) entries new more (all_of_rows rows)) is.index;
+  own_rows = is.own_rows;
+  counted = is.counted;
+  few = let all = is.few in omega (arith, all);
+}
+
+-- what the rows are is what they were
+pub rows_same : (entries : List Waiting) (rows new : List Row) (in_rows joined : ℕ) → IsDivided entries rows in_rows joined → all_of_rows new ≡ all_of_rows rows → AreRows 0 new → IsDivided entries new in_rows joined
+rows_same entries rows new in_rows joined is same own = record {
+  index = subst (λ ws. IsIndex (entries ++ ws) joined) (sym same) is.index;
+  own_rows = own;
+  counted = is.counted ∙ ap length (sym same);
+  few = is.few;
+}
+
+-- none wait where neither has any
+pub none_of_both : (entries : List Waiting) (rows : List Row) (in_rows joined : ℕ) → IsDivided entries rows in_rows joined → length (pending_of (entries ++ all_of_rows rows)) ≡ length entries + in_rows
+none_of_both entries rows in_rows joined is =
+    let sum = both entries in
+    let count = is.counted in
+    let all = length_pending (entries ++ all_of_rows rows) in omega (arith, sum, count, all)
+  where
+    both : (xs : List Waiting) → length (xs ++ all_of_rows rows) ≡ length xs + length (all_of_rows rows)
+    both [] = omega arith
+    both (x ∷ xs) = let rest = both xs in omega (arith, rest)

@@ -1,0 +1,164 @@
+-- Requests in rows.
+use Rattle.std.proofs.Common.{◌≡◌, ℕ, zero, suc, ◌+◌, ◌*◌, ◌^◌, ◌<◌, ◌≤◌, List, [], ◌∷◌, ◌++◌, refl, sym, ap, subst, ◌∙◌, arith, inl, inr, ◌⊎◌, Some, None, slice_get, length}
+use Rattle.std.specs.Prelude.{MatchOption}
+use Rattle.std.specs.List.{AllByRecursion}
+use Rattle.fb_units.specs.declared.types.Track.{Track}
+use Rattle.fb_geometry.specs.Shape.{cylinders_of}
+use Rattle.fb_sectormap.specs.Lookup.{track_at}
+use Rattle.fb_seek.specs.Positioning.{seek, distance_of}
+use Rattle.fb_seek.specs.Rising.{SeeksRise}
+use Rattle.fb_service.specs.declared.disk.Disk.{Disk}
+use Rattle.fb_model.specs.PlainReplay.{sptf}
+use Rattle.fb_fastq.specs.declared.soonest.Candidate.{Candidate}
+use Rattle.fb_fastq.specs.declared.rows.Place.{Place}
+use Rattle.fb_fastq.specs.declared.rows.Pick.{Pick}
+use Rattle.fb_fastq.specs.Joining.{Waiting}
+use Rattle.fb_fastq.specs.Lanes.{IsAlong}
+use Rattle.fb_fastq.specs.Candidates.{IsBefore}
+use Rattle.fb_fastq.specs.ByCylinder.{Row, all_of_rows, at_place, IsOnCylinder, AreRows, IsAt, IsPick, Settles, SettlesAll}
+use Rattle.fb_fastq.proofs.Least.{some_injective}
+use Rattle.fb_fastq.proofs.Sweeps.{no_later_trans}
+use Rattle.fb_fastq.proofs.Far.{waits_for_arm}
+use Rattle.fb_fastq.proofs.OnLanes.{on_cylinder}
+
+-- what is so at each place is so of all
+pub all_at : (P : Waiting → Type 0) (ws : List Waiting) → ((k : ℕ) (w : Waiting) → slice_get ws k ≡ Some w → P w) → AllByRecursion P ws
+all_at P [] h = tt
+all_at P (w ∷ ws) h = (h 0 w refl, all_at P ws (λ k x e. h (suc k) x e))
+
+-- and the other way round
+pub at_each : (P : Waiting → Type 0) (ws : List Waiting) (k : ℕ) (w : Waiting) → AllByRecursion P ws → slice_get ws k ≡ Some w → P w
+at_each P [] k w h e = absurd (none_some w e)
+  where
+    none_some : (x : Waiting) → None ≡ Some x → ⊥
+    none_some x e = cc
+at_each P (x ∷ ws) zero w h e = subst P (some_injective x w e) h.0
+at_each P (x ∷ ws) (suc k) w h e = at_each P ws k w h.1 e
+
+pub all_both : (P : Waiting → Type 0) (xs ys : List Waiting) → AllByRecursion P xs → AllByRecursion P ys → AllByRecursion P (xs ++ ys)
+all_both P [] ys h k = k
+all_both P (x ∷ xs) ys h k = (h.0, all_both P xs ys h.1 k)
+
+pub all_left : (P : Waiting → Type 0) (xs ys : List Waiting) → AllByRecursion P (xs ++ ys) → AllByRecursion P xs
+all_left P [] ys h = tt
+all_left P (x ∷ xs) ys h = (h.0, all_left P xs ys h.1)
+
+pub all_right : (P : Waiting → Type 0) (xs ys : List Waiting) → AllByRecursion P (xs ++ ys) → AllByRecursion P ys
+all_right P [] ys h = h
+all_right P (x ∷ xs) ys h = all_right P xs ys h.1
+
+none_row : (row : Row) → None ≡ Some row → ⊥
+none_row row e = cc
+
+same_row : (a b : Row) → Some a ≡ Some b → a ≡ b
+same_row a b e = cc
+
+-- what is so of all rows is so of each
+pub row_of_all : (P : Waiting → Type 0) (rows : List Row) (i : ℕ) (row : Row) → AllByRecursion P (all_of_rows rows) → slice_get rows i ≡ Some row → AllByRecursion P row.items
+row_of_all P [] i row h e = absurd (none_row row e)
+row_of_all P (x ∷ rows) zero row h e = subst (λ (r : Row). AllByRecursion P r.items) (same_row x row e) (all_left P x.items (all_of_rows rows) h)
+row_of_all P (x ∷ rows) (suc i) row h e = row_of_all P rows i row (all_right P x.items (all_of_rows rows) h) e
+
+-- and the other way round
+pub all_rows : (P : Waiting → Type 0) (rows : List Row) → ((i : ℕ) (row : Row) → slice_get rows i ≡ Some row → AllByRecursion P row.items) → AllByRecursion P (all_of_rows rows)
+all_rows P [] h = tt
+all_rows P (x ∷ rows) h = all_both P x.items (all_of_rows rows) (h 0 x refl) (all_rows P rows (λ i row e. h (suc i) row e))
+
+-- each row has requests of its own cylinder alone
+pub row_on : (cylinder : ℕ) (rows : List Row) (i : ℕ) (row : Row) → AreRows cylinder rows → slice_get rows i ≡ Some row → AllByRecursion (λ w. IsOnCylinder (cylinder + i) w.0.0) row.items
+row_on cylinder [] i row h e = absurd (none_row row e)
+row_on cylinder (x ∷ rows) zero row h e =
+    let own : cylinder ≡ cylinder + 0 = omega arith in
+    subst (λ (r : Row). AllByRecursion (λ w. IsOnCylinder (cylinder + 0) w.0.0) r.items) (same_row x row e) (subst (λ c. AllByRecursion (λ (w : Waiting). IsOnCylinder c w.0.0) x.items) own h.0)
+row_on cylinder (x ∷ rows) (suc i) row h e =
+    let next : cylinder + 1 + i ≡ cylinder + suc i = omega arith in
+    subst (λ c. AllByRecursion (λ (w : Waiting). IsOnCylinder c w.0.0) row.items) next (row_on (cylinder + 1) rows i row h.1 e)
+
+module _ (disk : Disk) (head : Track) (now : ℕ) where
+  -- one that is no later settles whatever is settled
+  pub settles_more : (a b : Candidate) (w : Waiting) → IsBefore a b → Settles disk head now b w → Settles disk head now a w
+  settles_more a b w before h = (
+    no_later_trans a.wait a.key.1 b.wait b.key.1 (sptf disk head now w.1) w.0.1 before h.0,
+    let le = h.1 in elim before [ inl less ↦ omega (arith, less, le) | inr tied ↦ (let same = tied.0 in omega (arith, same, le)) ],
+  )
+
+  pub settles_all : (a b : Candidate) (ws : List Waiting) → IsBefore a b → SettlesAll disk head now b ws → SettlesAll disk head now a ws
+  settles_all a b [] before h = tt
+  settles_all a b (w ∷ ws) before h = (settles_more a b w before h.0, settles_all a b ws before h.1)
+
+  -- a candidate that is no later than the one of a request settles the request
+  pub settles_own : (a next : Candidate) (w : Waiting) → IsBefore a next → next.key ≡ w.0 → next.wait ≡ sptf disk head now w.1 → next.wait ≤ 4 * 10 ^ 9 → Settles disk head now a w
+  settles_own a next w before key wait soon =
+      settles_more a next w before
+      (inr (wait, let number = ap (λ (q : ℕ × ℕ). q.1) key in omega (arith, number)), soon)
+
+  module _ (rows : List Row) where
+    -- the one of two that is picked
+    pub picks_one : (limit : Candidate) (pick new : Pick) (next : Candidate) (place : Place) (w : Waiting) → IsPick disk head now rows limit pick
+        → at_place rows place ≡ Some w → next.key ≡ w.0 → next.wait ≡ sptf disk head now w.1
+        → (new ≡ pick) ⊎ ((new.best ≡ next) × (new.place ≡ Some place)) → IsBefore new.best pick.best → IsPick disk head now rows limit new
+    picks_one limit pick new next place w is there key wait (inl same) before = subst (IsPick disk head now rows limit) (sym same) is
+    picks_one limit pick new next place w is there key wait (inr other) before = record {
+      found = subst (λ o. MatchOption o (new.best ≡ limit) (λ p. IsAt disk head now rows p new.best)) (sym other.1) (record {
+        waiting = w;
+        there = there;
+        key = ap (λ (b : Candidate). b.key) other.0 ∙ key;
+        wait = ap (λ (b : Candidate). b.wait) other.0 ∙ wait;
+      });
+      before = no_later_trans new.best.wait new.best.key.1 pick.best.wait pick.best.key.1 limit.wait limit.key.1 before is.before;
+    }
+
+    -- where a place is in a row
+    pub in_row : (place : Place) (row : Row) (w : Waiting) → slice_get rows place.row ≡ Some row → slice_get row.items place.index ≡ Some w → at_place rows place ≡ Some w
+    in_row place row w there at = rw there at
+
+-- what is so of all is so of one of a row
+pub held_in_row : (P : Waiting → Type 0) (rows : List Row) (i : ℕ) (row : Row) (ws : List Waiting) (k : ℕ) (w : Waiting) → AllByRecursion P (all_of_rows rows) → slice_get rows i ≡ Some row → ws ≡ row.items → slice_get ws k ≡ Some w → P w
+held_in_row P rows i row ws k w h there is at = at_each P ws k w (subst (AllByRecursion P) (sym is) (row_of_all P rows i row h there)) at
+
+-- its spot is one of the row's cylinder
+pub held_on : (rows : List Row) (i : ℕ) (row : Row) (ws : List Waiting) (k : ℕ) (w : Waiting) → AreRows 0 rows → slice_get rows i ≡ Some row → ws ≡ row.items → slice_get ws k ≡ Some w → IsOnCylinder i w.0.0
+held_on rows i row ws k w h there is at =
+    let own : 0 + i ≡ i = omega arith in
+    subst (λ n. IsOnCylinder n w.0.0) own
+    (at_each (λ x. IsOnCylinder (0 + i) x.0.0) ws k w (subst (AllByRecursion (λ (x : Waiting). IsOnCylinder (0 + i) x.0.0)) (sym is) (row_on 0 rows i row h there)) at)
+
+pub same_row_of : (rows : List Row) (i : ℕ) (a b : Row) → slice_get rows i ≡ Some a → slice_get rows i ≡ Some b → a ≡ b
+same_row_of rows i a b e f = same_row a b (sym e ∙ f)
+
+module _ (disk : Disk) (rows : List Row) (own : AreRows 0 rows) (spots : AllByRecursion (λ w. IsAlong disk w.1 w.0.0) (all_of_rows rows)) (i : ℕ) (row : Row) (there : slice_get rows i ≡ Some row) where
+  -- a request of a row is one of its cylinder
+  on_row : (k : ℕ) (w : Waiting) → slice_get row.items k ≡ Some w → ((track_at disk.map w.1.lbn).cylinder ≡ i) × (i < cylinders_of disk.map.zones)
+  on_row k w at =
+      let along = held_in_row (λ x. IsAlong disk x.1 x.0.0) rows i row row.items k w spots there refl at in
+      let on = held_on rows i row row.items k w own there refl at in
+      let is = on_cylinder disk w.1 w.0.0 along in
+      let a = is.0 in let b = is.1 in let x = on.0 in let y = on.1 in let end = along.on_disk in
+      (omega (arith, a, b, x, y), omega (arith, x, end))
+
+  -- beyond the disk there are none
+  pub none_beyond : (P : Waiting → Type 0) → cylinders_of disk.map.zones ≤ i → AllByRecursion P row.items
+  none_beyond P beyond = all_at P row.items (λ k w at. let on = (on_row k w at).1 in absurd (omega (arith, on, beyond)))
+
+  -- a row that has any is one of the disk's
+  pub some_within : 0 < length row.items → i < cylinders_of disk.map.zones
+  some_within some = at_first row.items refl
+    where
+      at_first : (ws : List Waiting) → row.items ≡ ws → i < cylinders_of disk.map.zones
+      at_first [] e = absurd (let none = ap length e in omega (arith, none, some))
+      at_first (w ∷ ws) e = (on_row 0 w (ap (λ xs. slice_get xs 0) e)).1
+
+  -- where the arm alone takes longer than the best
+  pub far_row : (head : Track) (now distance time : ℕ) (best : Candidate) → SeeksRise disk.mechanism → time ≡ seek disk.mechanism distance → time ≤ 10 ^ 9 → best.wait < time
+      → distance ≤ distance_of head.cylinder i → SettlesAll disk head now best row.items
+  far_row head now distance time best rise is short longer far = all_at (Settles disk head now best) row.items (λ k w at.
+      let on = (on_row k w at).0 in
+      let farther : distance ≤ distance_of head.cylinder (track_at disk.map w.1.lbn).cylinder = subst (λ c. distance ≤ distance_of head.cylinder c) (sym on) far in
+      let more = rise distance (distance_of head.cylinder (track_at disk.map w.1.lbn).cylinder) farther in
+      let waits = waits_for_arm disk head now w.1 in
+      (inl (omega (arith, is, longer, more, waits)), omega (arith, longer, short)))
+
+-- where there are none
+pub none_settles : (disk : Disk) (head : Track) (now : ℕ) (candidate : Candidate) (ws : List Waiting) → length ws ≡ 0 → SettlesAll disk head now candidate ws
+none_settles disk head now candidate [] none = tt
+none_settles disk head now candidate (w ∷ ws) none = absurd (omega (arith, none))

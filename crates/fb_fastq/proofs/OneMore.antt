@@ -1,0 +1,245 @@
+-- One request more, or less, among those that wait.
+use Rattle.std.proofs.Common.{◌≡◌, ◌≢◌, ℕ, zero, suc, ◌+◌, ◌<◌, ◌≤◌, List, [], ◌∷◌, ◌++◌, map, refl, sym, ap, subst, ◌∙◌, arith, inl, inr, ◌⊎◌, Some, append_assoc, append-nil, slice_get, length, take, drop, set, Option, None, IfSome, IsSome, Result, Ok, Err, OnErr}
+use Rattle.std.specs.Prelude.{remove, option_and_then}
+use Rattle.std.specs.List.{AllByRecursion}
+use Rattle.std.specs.Ordering.{match_ordering}
+use Rattle.std.specs.declared.cmp.Ordering.{Ordering}
+use Rattle.std.specs.declared.cmp.Ordering.TheVariants.{Less, Equal, Greater}
+use Rattle.std.specs.BTreeMap.{insert_entry, is_at}
+use Rattle.std.specs.Map.{remove_entry}
+use Rattle.std.proofs.lemmas.Bool.{true≢false}
+use Rattle.std.proofs.lemmas.Option.{slice_get_within}
+use Rattle.fb_units.specs.declared.types.Request.{Request}
+use Rattle.fb_model.specs.PlainReplay.{first_least}
+use Rattle.fb_fastq.specs.Joining.{order, Waiting, number_of, join_in, in_order, pending_of, AreNumbered, IsIndex, IsFirst}
+use Rattle.fb_fastq.specs.declared.rows.Place.{Place}
+use Rattle.fb_fastq.specs.More.{IsMore}
+use Rattle.fb_fastq.specs.ByCylinder.{Row, all_of_rows, at_place, IsOnCylinder, AreRows}
+use Rattle.fb_fastq.proofs.Keys.{same_number, here_equal, same_key}
+use Rattle.fb_fastq.proofs.Joins.{all_in_order, joins_last, join_before_last, map_last}
+use Rattle.fb_fastq.proofs.Least.{IsIn, all_of, without, without_joined, without_other, in_order_rising, least_rising, in_in_order, some_injective}
+use Rattle.fb_fastq.proofs.InRows.{row_on}
+
+pub all_put : (P : Waiting → Type 0) (w : Waiting) (before behind : List Waiting) → P w → AllByRecursion P (before ++ behind) → AllByRecursion P (before ++ w ∷ behind)
+all_put P w [] behind p h = (p, h)
+all_put P w (x ∷ before) behind p h = (h.0, all_put P w before behind p h.1)
+
+pub all_drawn : (P : Waiting → Type 0) (w : Waiting) (before behind : List Waiting) → AllByRecursion P (before ++ w ∷ behind) → P w × AllByRecursion P (before ++ behind)
+all_drawn P w [] behind h = h
+all_drawn P w (x ∷ before) behind h = let rest = all_drawn P w before behind h.1 in (rest.0, (h.0, rest.1))
+
+in_order_put : (w : Waiting) (before behind : List Waiting) → AllByRecursion (λ x. number_of x < number_of w) (before ++ behind) → in_order (before ++ w ∷ behind) ≡ in_order (before ++ behind) ++ w ∷ []
+in_order_put w [] behind h = joins_last w (in_order behind) (all_in_order (λ x. number_of x < number_of w) behind h)
+in_order_put w (x ∷ before) behind h = ap (join_in x) (in_order_put w before behind h.1) ∙ join_before_last x w (in_order (before ++ behind)) h.0
+
+in_order_drawn : (w : Waiting) (before behind : List Waiting) → AreNumbered (before ++ w ∷ behind) → in_order (before ++ behind) ≡ without (number_of w) (in_order (before ++ w ∷ behind))
+in_order_drawn w [] behind h = sym (without_joined w (in_order behind) (all_in_order (λ y. number_of y ≢ number_of w) behind h.0))
+in_order_drawn w (x ∷ before) behind h =
+    let other = (all_drawn (λ y. number_of y ≢ number_of x) w before behind h.0).0 in
+    ap (join_in x) (in_order_drawn w before behind h.1) ∙ sym (without_other (number_of w) x (in_order (before ++ w ∷ behind)) (λ s. other (sym s)) (in_order_rising (before ++ w ∷ behind) h.1))
+
+numbered_put : (w : Waiting) (before behind : List Waiting) → AllByRecursion (λ x. number_of x < number_of w) (before ++ behind) → AreNumbered (before ++ behind) → AreNumbered (before ++ w ∷ behind)
+numbered_put w [] behind h apart = (unlike behind h, apart)
+  where
+    unlike : (ws : List Waiting) → AllByRecursion (λ x. number_of x < number_of w) ws → AllByRecursion (λ x. number_of x ≢ number_of w) ws
+    unlike [] h = tt
+    unlike (x ∷ ws) h = ((λ e. let under : number_of x < number_of w = h.0 in omega (arith, under, e)), unlike ws h.1)
+numbered_put w (x ∷ before) behind h apart =
+    (all_put (λ y. number_of y ≢ number_of x) w before behind (λ e. let under : number_of x < number_of w = h.0 in omega (arith, under, e)) apart.0, numbered_put w before behind h.1 apart.1)
+
+numbered_drawn : (w : Waiting) (before behind : List Waiting) → AreNumbered (before ++ w ∷ behind) → AreNumbered (before ++ behind)
+numbered_drawn w [] behind h = h.1
+numbered_drawn w (x ∷ before) behind h = ((all_drawn (λ y. number_of y ≢ number_of x) w before behind h.0).1, numbered_drawn w before behind h.1)
+
+in_middle : (w : Waiting) (before behind : List Waiting) → IsIn w (before ++ w ∷ behind)
+in_middle w [] behind = inl refl
+in_middle w (x ∷ before) behind = inr (in_middle w before behind)
+
+wider : (n : ℕ) (ws : List Waiting) → AllByRecursion (λ w. number_of w < n) ws → AllByRecursion (λ w. number_of w < n + 1) ws
+wider n [] h = tt
+wider n (w ∷ ws) h = (let under : number_of w < n = h.0 in omega (arith, under), wider n ws h.1)
+
+module _ (w : Waiting) (less more : List Waiting) (is : IsMore w less more) where
+  pub all_more : (P : Waiting → Type 0) → P w → AllByRecursion P less → AllByRecursion P more
+  all_more P p h = subst (AllByRecursion P) (sym is.more_is) (all_put P w is.before is.behind p (subst (AllByRecursion P) is.less_is h))
+
+  pub all_less : (P : Waiting → Type 0) → AllByRecursion P more → AllByRecursion P less
+  all_less P h = subst (AllByRecursion P) (sym is.less_is) (all_drawn P w is.before is.behind (subst (AllByRecursion P) is.more_is h)).1
+
+  -- one that joins comes last
+  pub pending_more : AllByRecursion (λ x. number_of x < number_of w) less → pending_of more ≡ pending_of less ++ w.1 ∷ []
+  pending_more h =
+      ap pending_of is.more_is
+      ∙ (ap (map (λ x. x.1)) (in_order_put w is.before is.behind (subst (AllByRecursion (λ x. number_of x < number_of w)) is.less_is h))
+      ∙ (map_last (in_order (is.before ++ is.behind)) w ∙ ap (λ ws. pending_of ws ++ w.1 ∷ []) (sym is.less_is)))
+
+  pub index_more : IsIndex less (number_of w) → IsIndex more (number_of w + 1)
+  index_more h = record {
+    given = all_more (λ x. number_of x < number_of w + 1) (omega arith) (wider (number_of w) less h.given);
+    numbered = subst AreNumbered (sym is.more_is)
+        (numbered_put w is.before is.behind (subst (AllByRecursion (λ x. number_of x < number_of w)) is.less_is h.given) (subst AreNumbered is.less_is h.numbered));
+  }
+
+  pub index_less : (joined : ℕ) → IsIndex more joined → IsIndex less joined
+  index_less joined h = record {
+    given = all_less (λ x. number_of x < joined) h.given;
+    numbered = subst AreNumbered (sym is.less_is) (numbered_drawn w is.before is.behind (subst AreNumbered is.more_is h.numbered));
+  }
+
+  -- the first of least rank is what the plain replay takes
+  pub least_more : (rank : Request → ℕ) → AreNumbered more → IsFirst rank w more → first_least rank (pending_of more) ≡ Some (w.1, pending_of less)
+  least_more rank apart first =
+      let own = subst AreNumbered is.more_is apart in
+      let ws = is.before ++ w ∷ is.behind in
+      let its = subst (IsFirst rank w) is.more_is first in
+      ap (λ xs. first_least rank (pending_of xs)) is.more_is
+      ∙ (least_rising rank w (in_order ws) (in_order_rising ws own) (in_in_order w ws (in_middle w is.before is.behind))
+      (all_in_order (λ x. (rank w.1 < rank x.1) ⊎ ((rank w.1 ≡ rank x.1) × (number_of w ≤ number_of x))) ws its)
+      ∙ ap (λ l. Some (w.1, map (λ x. x.1) l)) (sym (in_order_drawn w is.before is.behind own) ∙ ap in_order (sym is.less_is)))
+
+  -- beside others
+  pub more_left : (others : List Waiting) → IsMore w (others ++ less) (others ++ more)
+  more_left others = record {
+    before = others ++ is.before;
+    behind = is.behind;
+    less_is = ap (λ ws. others ++ ws) is.less_is ∙ sym (append_assoc others is.before is.behind);
+    more_is = ap (λ ws. others ++ ws) is.more_is ∙ sym (append_assoc others is.before (w ∷ is.behind));
+  }
+
+  pub more_right : (others : List Waiting) → IsMore w (less ++ others) (more ++ others)
+  more_right others = record {
+    before = is.before;
+    behind = is.behind ++ others;
+    less_is = ap (λ ws. ws ++ others) is.less_is ∙ append_assoc is.before is.behind others;
+    more_is = ap (λ ws. ws ++ others) is.more_is ∙ append_assoc is.before (w ∷ is.behind) others;
+  }
+
+-- a request joins a map
+pub insert_more : (l n : ℕ) (r : Request) (ws : List Waiting) → AllByRecursion (λ w. number_of w < n) ws → IsMore ((l, n), r) ws (insert_entry order ws (l, n) r)
+insert_more l n r [] h = record { before = []; behind = []; less_is = refl; more_is = refl }
+insert_more l n r (w ∷ ws) h = at (insert_more l n r ws h.1) (order (l, n) w.0) refl
+  where
+    at : IsMore ((l, n), r) ws (insert_entry order ws (l, n) r) → (o : Ordering) → order (l, n) w.0 ≡ o → IsMore ((l, n), r) (w ∷ ws) (match_ordering o (((l, n), r) ∷ w ∷ ws) ((w.0, r) ∷ ws) (w ∷ insert_entry order ws (l, n) r))
+    at rest Less e = record { before = []; behind = w ∷ ws; less_is = refl; more_is = refl }
+    at rest Equal e = let same : n ≡ w.0.1 = same_number l n w.0.0 w.0.1 e in let under : w.0.1 < n = h.0 in absurd (omega arith)
+    at rest Greater e = record { before = w ∷ rest.before; behind = rest.behind; less_is = ap (λ xs. w ∷ xs) rest.less_is; more_is = ap (λ xs. w ∷ xs) rest.more_is }
+
+-- and is taken out of it
+pub remove_more : (w : Waiting) (ws : List Waiting) → AreNumbered ws → IsIn w ws → IsMore w (remove_entry (is_at (order w.0)) ws) ws
+remove_more w [] h e = elim e [ ]
+remove_more w (x ∷ ws) h (inl e) = subst (λ y. IsMore w (remove_entry (is_at (order w.0)) (y ∷ ws)) (y ∷ ws)) e
+    (let t = here_equal w.0.0 w.0.1 in rw t (record { before = []; behind = ws; less_is = refl; more_is = refl }))
+remove_more w (x ∷ ws) h (inr e) =
+    let other : number_of w ≢ number_of x = all_of (λ y. number_of y ≢ number_of x) w ws h.0 e in
+    let t = same_key w.0.0 w.0.1 x.0.0 x.0.1 other in
+    let rest = remove_more w ws h.1 e in
+    rw t (record { before = x ∷ rest.before; behind = rest.behind; less_is = ap (λ xs. x ∷ xs) rest.less_is; more_is = ap (λ xs. x ∷ xs) rest.more_is })
+
+-- a request joins a row at its end
+pub push_more : (w : Waiting) (ws more : List Waiting) → more ≡ ws ++ w ∷ [] → IsMore w ws more
+push_more w ws more is = record { before = ws; behind = []; less_is = sym (append-nil ws); more_is = is }
+
+none_some : (w : Waiting) → None ≡ Some w → ⊥
+none_some w e = cc
+
+split_at : (ws : List Waiting) (k : ℕ) (w : Waiting) → slice_get ws k ≡ Some w → ws ≡ take k ws ++ w ∷ drop (suc k) ws
+split_at [] k w e = absurd (none_some w e)
+split_at (x ∷ ws) zero w e = ap (λ y. y ∷ ws) (some_injective x w e)
+split_at (x ∷ ws) (suc k) w e = ap (λ xs. x ∷ xs) (split_at ws k w e)
+
+-- and is taken out of it
+pub removed_more : (w : Waiting) (ws less : List Waiting) (k : ℕ) → less ≡ remove ws k → slice_get ws k ≡ Some w → IsMore w less ws
+removed_more w ws less k is there = record { before = take k ws; behind = drop (suc k) ws; less_is = is; more_is = split_at ws k w there }
+
+none_row : (row : Row) → None ≡ Some row → ⊥
+none_row row e = cc
+
+same_row : (a b : Row) → Some a ≡ Some b → a ≡ b
+same_row a b e = cc
+
+-- one row in the place of another
+pub set_same : (rows : List Row) (i : ℕ) (row new : Row) → slice_get rows i ≡ Some row → new.items ≡ row.items → all_of_rows (set rows i new) ≡ all_of_rows rows
+set_same [] i row new there is = refl
+set_same (x ∷ rows) zero row new there is = ap (λ ws. ws ++ all_of_rows rows) (is ∙ ap (λ (r : Row). r.items) (sym (same_row x row there)))
+set_same (x ∷ rows) (suc i) row new there is = ap (λ ws. x.items ++ ws) (set_same rows i row new there is)
+
+pub set_more : (w : Waiting) (rows : List Row) (i : ℕ) (row new : Row) → slice_get rows i ≡ Some row → IsMore w row.items new.items → IsMore w (all_of_rows rows) (all_of_rows (set rows i new))
+set_more w [] i row new there is = absurd (none_row row there)
+set_more w (x ∷ rows) zero row new there is = more_right w x.items new.items (subst (λ (r : Row). IsMore w r.items new.items) (sym (same_row x row there)) is) (all_of_rows rows)
+set_more w (x ∷ rows) (suc i) row new there is = more_left w (all_of_rows rows) (all_of_rows (set rows i new)) (set_more w rows i row new there is) x.items
+
+pub set_less : (w : Waiting) (rows : List Row) (i : ℕ) (row new : Row) → slice_get rows i ≡ Some row → IsMore w new.items row.items → IsMore w (all_of_rows (set rows i new)) (all_of_rows rows)
+set_less w [] i row new there is = absurd (none_row row there)
+set_less w (x ∷ rows) zero row new there is = more_right w new.items x.items (subst (λ (r : Row). IsMore w new.items r.items) (sym (same_row x row there)) is) (all_of_rows rows)
+set_less w (x ∷ rows) (suc i) row new there is = more_left w (all_of_rows (set rows i new)) (all_of_rows rows) (set_less w rows i row new there is) x.items
+
+pub set_rows : (cylinder : ℕ) (rows : List Row) (i : ℕ) (new : Row) → AreRows cylinder rows → AllByRecursion (λ w. IsOnCylinder (cylinder + i) w.0.0) new.items → AreRows cylinder (set rows i new)
+set_rows cylinder [] i new h on = tt
+set_rows cylinder (x ∷ rows) zero new h on =
+    let own : cylinder + 0 ≡ cylinder = omega arith in
+    (subst (λ c. AllByRecursion (λ (w : Waiting). IsOnCylinder c w.0.0) new.items) own on, h.1)
+set_rows cylinder (x ∷ rows) (suc i) new h on =
+    let next : cylinder + suc i ≡ cylinder + 1 + i = omega arith in
+    (h.0, set_rows (cylinder + 1) rows i new h.1 (subst (λ c. AllByRecursion (λ (w : Waiting). IsOnCylinder c w.0.0) new.items) next on))
+
+pub length_more : (w : Waiting) (less more : List Waiting) → IsMore w less more → length more ≡ length less + 1
+length_more w less more is =
+    let one = put is.before in
+    let a = ap length is.less_is in let b = ap length is.more_is in omega (arith, a, b, one)
+  where
+    put : (before : List Waiting) → length (before ++ w ∷ is.behind) ≡ length (before ++ is.behind) + 1
+    put [] = omega arith
+    put (x ∷ before) = let rest = put before in omega (arith, rest)
+
+-- the request at a place is taken out of its row
+pub taken_less : (rows : List Row) (place : Place) (row new : Row) → slice_get rows place.row ≡ Some row → new.items ≡ remove row.items place.index
+    → IfSome (at_place rows place) (λ w. IsMore w (all_of_rows (set rows place.row new)) (all_of_rows rows))
+taken_less rows place row new there is = go (at_place rows place) refl
+  where
+    go : (o : Option Waiting) → at_place rows place ≡ o → IfSome o (λ w. IsMore w (all_of_rows (set rows place.row new)) (all_of_rows rows))
+    go None e = tt
+    go (Some w) e =
+        let at = sym (ap (option_and_then (λ (r : Row). slice_get r.items place.index)) there) ∙ e in
+        set_less w rows place.row row new there (removed_more w row.items new.items place.index is at)
+
+pub all_kept : (P : Waiting → Type 0) (ws : List Waiting) (k : ℕ) → AllByRecursion P ws → AllByRecursion P (remove ws k)
+all_kept P [] zero h = tt
+all_kept P [] (suc k) h = tt
+all_kept P (x ∷ ws) zero h = h.1
+all_kept P (x ∷ ws) (suc k) h = (h.0, all_kept P ws k h.1)
+
+-- a row that has one request less, or one more of its cylinder
+pub less_rows : (rows : List Row) (i k : ℕ) (row new : Row) → slice_get rows i ≡ Some row → new.items ≡ remove row.items k → AreRows 0 rows → AreRows 0 (set rows i new)
+less_rows rows i k row new there is h =
+    set_rows 0 rows i new h (subst (AllByRecursion (λ (w : Waiting). IsOnCylinder (0 + i) w.0.0)) (sym is) (all_kept (λ w. IsOnCylinder (0 + i) w.0.0) row.items k (row_on 0 rows i row h there)))
+
+pub more_rows : (w : Waiting) (rows : List Row) (i : ℕ) (row new : Row) → slice_get rows i ≡ Some row → IsMore w row.items new.items → IsOnCylinder i w.0.0 → AreRows 0 rows → AreRows 0 (set rows i new)
+more_rows w rows i row new there is on h =
+    let own : i ≡ 0 + i = omega arith in
+    set_rows 0 rows i new h (all_more w row.items new.items is (λ x. IsOnCylinder (0 + i) x.0.0) (subst (λ n. IsOnCylinder n w.0.0) own on) (row_on 0 rows i row h there))
+
+pub same_rows : (rows : List Row) (i : ℕ) (row new : Row) → slice_get rows i ≡ Some row → new.items ≡ row.items → AreRows 0 rows → AreRows 0 (set rows i new)
+same_rows rows i row new there is h =
+    set_rows 0 rows i new h (subst (AllByRecursion (λ (w : Waiting). IsOnCylinder (0 + i) w.0.0)) (sym is) (row_on 0 rows i row h there))
+
+-- a place that has a request is in one of the rows
+pub place_within : (rows : List Row) (place : Place) → IsSome (at_place rows place) → place.row < length rows
+place_within rows place has = go (slice_get rows place.row) refl has
+  where
+    go : (o : Option Row) → slice_get rows place.row ≡ o → IsSome (option_and_then (λ (r : Row). slice_get r.items place.index) o) → place.row < length rows
+    go None e h = absurd (true≢false (sym h))
+    go (Some row) e h = slice_get_within rows place.row row e
+
+-- what is so either way is so after an error
+pub on_err : {A B : Type 0} (result : Result A B) (P : Type 0) → P → OnErr result P
+on_err (Ok a) P p = tt
+on_err (Err e) P p = p
+
+-- a row with no request is one more
+pub no_more : (rows : List Row) (new : Row) → new.items ≡ [] → all_of_rows (rows ++ new ∷ []) ≡ all_of_rows rows
+no_more [] new none = ap (λ ws. ws ++ []) none
+no_more (x ∷ rows) new none = ap (λ ws. x.items ++ ws) (no_more rows new none)
+
+pub no_more_rows : (cylinder : ℕ) (rows : List Row) (new : Row) → new.items ≡ [] → AreRows cylinder rows → AreRows cylinder (rows ++ new ∷ [])
+no_more_rows cylinder [] new none h = (subst (AllByRecursion (λ (w : Waiting). IsOnCylinder cylinder w.0.0)) (sym none) tt, tt)
+no_more_rows cylinder (x ∷ rows) new none h = (h.0, no_more_rows (cylinder + 1) rows new none h.1)

@@ -1,0 +1,12 @@
+use Rattle.std.proofs.Common.{◌≡◌, ◌+◌, ◌-◌, length}
+use Rattle.fb_fastq.specs.ByCylinder.{all_of_rows, AreRows}
+use Rattle.fb_fastq.proofs.rows.reach.Given as goal
+
+abbrev pub invariant-loop-alloc : goal.invariant-loop-alloc
+invariant-loop-alloc l = record {
+  same : all_of_rows l.rows.items ≡ all_of_rows l.fn.rows.items;
+  rows : AreRows 0 l.fn.rows.items → AreRows 0 l.rows.items;
+}
+
+abbrev pub decreases-loop-alloc : goal.decreases-loop-alloc
+decreases-loop-alloc l = l.number + 1 - length l.rows.items

@@ -1,0 +1,82 @@
+use Rattle.std.proofs.Common.{◌≡◌, Some, slice_get, get_or, length, false, refl, sym, subst, ap, ◌∙◌, arith, inl, inr}
+use Rattle.std.proofs.lemmas.Bool.{cases_lt}
+use Rattle.std.proofs.lemmas.Option.{slice_get_read, slice_get-get_or, slice_get_within}
+use Rattle.fb_units.specs.declared.types.Name.TheVariants.{Traced}
+use Rattle.fb_fastq.specs.declared.soonest.Candidate.{Candidate}
+use Rattle.fb_fastq.specs.declared.rows.Place.{Place}
+use Rattle.fb_fastq.specs.Joining.{Waiting}
+use Rattle.fb_fastq.specs.Lanes.{IsAlong}
+use Rattle.fb_fastq.specs.ByCylinder.{Row, IsOnCylinder, Settles, SettlesAll}
+use Rattle.fb_fastq.proofs.Least.{some_injective}
+use Rattle.fb_fastq.proofs.Sweeps.{no_later_trans}
+use Rattle.fb_fastq.proofs.InRows.{all_at, held_in_row, held_on, same_row_of, settles_more, settles_own, picks_one, in_row}
+use Rattle.fb_fastq.proofs.rows.soonest_of_row.Goals as goal
+
+abbrev blank : Waiting
+blank = ((0, 0), record { name = Traced 0; arrival = 0; lbn = 0; count = 0; write = false })
+
+pub loop-index-init : goal.loop-index-init
+loop-index-init c = record {
+  pick = λ limit is. is;
+  before = inr (refl, omega arith);
+  seen = λ k w lt e. absurd (omega (arith, lt));
+}
+
+pub wait-wait-requires-clause-along : goal.wait-wait-requires-clause-along
+wait-wait-requires-clause-along c =
+    let rows = c.args.rows.now in
+    let ws = c.as_slice-row.result.now in
+    let there = slice_get_read rows (length rows) c.args.number c.index-rows-number.result refl c.requires.there c.index-rows-number.is in
+    held_in_row (λ w. IsAlong c.args.disk.now w.1 w.0.0) rows c.args.number c.index-rows-number.result ws c.loop-index.index _ c.requires.spots there c.as_slice-row.ensures.value (slice_get-get_or ws c.loop-index.index _ c.loop-index-test.true)
+
+pub wait-wait-requires-clause-on : goal.wait-wait-requires-clause-on
+wait-wait-requires-clause-on c =
+    let rows = c.args.rows.now in
+    let ws = c.as_slice-row.result.now in
+    let there = slice_get_read rows (length rows) c.args.number c.index-rows-number.result refl c.requires.there c.index-rows-number.is in
+    let w = get_or ws c.loop-index.index blank in
+    subst (λ n. IsOnCylinder n w.0.0) (sym c.requires.cylinder)
+    (held_on rows c.args.number c.index-rows-number.result ws c.loop-index.index w c.requires.rows there c.as_slice-row.ensures.value (slice_get-get_or ws c.loop-index.index blank c.loop-index-test.true))
+
+pub loop-index-preserved : goal.loop-index-preserved
+loop-index-preserved c =
+    let disk = c.args.disk.now in
+    let head = c.args.from.now.track in
+    let now = c.args.from.now.instant in
+    let rows = c.args.rows.now in
+    let ws = c.as_slice-row.result.now in
+    let index = c.loop-index.index in
+    let row = c.index-rows-number.result in
+    let old = c.loop-index.pick in
+    let new = c.sooner-pick.result in
+    let is = c.sooner-pick.ensures in
+    let w = get_or ws index blank in
+    let next : Candidate = record { key = w.0; wait = c.wait-wait.result } in
+    let place : Place = record { row = c.args.number; index = index } in
+    let there = slice_get_read rows (length rows) c.args.number row refl c.requires.there c.index-rows-number.is in
+    let at = slice_get-get_or ws index blank c.loop-index-test.true in
+    let stands = in_row disk head now rows place row w there (subst (λ xs. slice_get xs index ≡ Some w) c.as_slice-row.ensures.value at) in record {
+      pick = λ limit was. picks_one disk head now rows limit old new next place w (c.loop-index.invariant.pick limit was) stands refl c.wait-wait.ensures.value is.one is.first;
+      before = no_later_trans new.best.wait new.best.key.1 old.best.wait old.best.key.1 c.args.pick.best.wait c.args.pick.best.key.1 is.first c.loop-index.invariant.before;
+      seen = λ k x lt e. elim (cases_lt k index) [
+        | inl less ↦ settles_more disk head now new.best old.best x is.first (c.loop-index.invariant.seen k x less e)
+        | inr ge ↦
+            let same : k ≡ index = omega (arith, lt, ge) in
+            let one : w ≡ x = some_injective w x (sym at ∙ (ap (slice_get ws) (sym same) ∙ e)) in
+            subst (Settles disk head now new.best) one (settles_own disk head now new.best next w is.second refl c.wait-wait.ensures.value c.wait-wait.ensures.soon)
+      ];
+    }
+
+pub returns-clause-least : goal.returns-clause-least
+returns-clause-least c = λ row e.
+    let disk = c.args.disk.now in
+    let head = c.args.from.now.track in
+    let now = c.args.from.now.instant in
+    let rows = c.args.rows.now in
+    let ws = c.as_slice-row.result.now in
+    let best = c.loop-index.pick.best in
+    let there = slice_get_read rows (length rows) c.args.number c.index-rows-number.result refl c.requires.there c.index-rows-number.is in
+    let one = same_row_of rows c.args.number c.index-rows-number.result row there e in
+    subst (λ (r : Row). SettlesAll disk head now best r.items) one
+    (subst (SettlesAll disk head now best) c.as_slice-row.ensures.value
+    (all_at (Settles disk head now best) ws (λ k w at. c.loop-index.invariant.seen k w (let within = slice_get_within ws k w at in omega (arith, within, c.loop-index-test.false)) at)))

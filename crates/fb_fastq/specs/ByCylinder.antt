@@ -1,0 +1,85 @@
+-- Requests that wait in a row for each cylinder.
+use Rattle.std.specs.Prelude.{◌≡◌, ℕ, ◌+◌, ◌*◌, ◌<◌, ◌≤◌, ◌^◌, List, [], ◌∷◌, ◌++◌, true, false, Option, Some, flat_map, length, slice_get, option_and_then, Vec, Bool, ◌==◌, MatchOption}
+use Rattle.std.specs.List.{AllByRecursion}
+use Rattle.std.specs.declared.alloc.Global.{Global}
+use Rattle.fb_units.specs.declared.types.Track.{Track}
+use Rattle.fb_service.specs.declared.disk.Disk.{Disk}
+use Rattle.fb_service.specs.declared.approach.Departure.{Departure}
+use Rattle.fb_model.specs.PlainReplay.{sptf}
+use Rattle.fb_fastq.specs.declared.soonest.Candidate.{Candidate}
+use Rattle.fb_fastq.specs.declared.visit.Visit.{Visit}
+use Rattle.fb_fastq.specs.declared.ways.Ways.{Ways}
+use Rattle.fb_fastq.specs.declared.rows.Place.{Place}
+use Rattle.fb_fastq.specs.declared.rows.Pick.{Pick}
+use Rattle.fb_fastq.specs.Joining.{Waiting, IsIndex}
+use Rattle.fb_fastq.specs.Visits.{IsVisit}
+use Rattle.fb_fastq.specs.Candidates.{IsBefore, Beats}
+
+-- the requests of a cylinder
+abbrev pub Row : Type 0
+Row = Vec Waiting Global
+
+-- the requests of all rows
+abbrev pub all_of_rows : List Row → List Waiting
+all_of_rows rows = flat_map (λ row. row.items) rows
+
+-- the request at a place
+abbrev pub at_place : List Row → Place → Option Waiting
+at_place rows place = option_and_then (λ (row : Row). slice_get row.items place.index) (slice_get rows place.row)
+
+-- the spot is one of this cylinder's
+abbrev pub IsOnCylinder : ℕ → ℕ → Type 0
+IsOnCylinder cylinder spot = (cylinder * 2 ^ 37 ≤ spot) × (spot < cylinder * 2 ^ 37 + 2 ^ 37)
+
+-- from this cylinder on, each row has requests of its own cylinder alone
+abbrev pub AreRows : ℕ → List Row → Type 0
+AreRows cylinder [] = Unit {0}
+AreRows cylinder (row ∷ rows) = AllByRecursion (λ w. IsOnCylinder cylinder w.0.0) row.items × AreRows (cylinder + 1) rows
+
+-- the visit to a track of this cylinder, under the same head or another, for reads or for writes
+pub record IsWay (disk : Disk) (from : Departure) (cylinder : ℕ) (own write : Bool) (visit : Visit) : Type 0 where
+  pub is_visit : IsVisit disk from visit
+  pub on : visit.lane.track.cylinder ≡ cylinder
+  pub under : (from.track.head == visit.lane.track.head) ≡ own
+  pub for_writes : visit.lane.write ≡ write
+
+-- the four ways to a cylinder
+pub record IsWays (disk : Disk) (from : Departure) (ways : Ways) : Type 0 where
+  pub own_read : IsWay disk from ways.cylinder true false ways.own_read
+  pub own_write : IsWay disk from ways.cylinder true true ways.own_write
+  pub other_read : IsWay disk from ways.cylinder false false ways.other_read
+  pub other_write : IsWay disk from ways.cylinder false true ways.other_write
+
+-- the way under the same head or another, for reads or for writes
+abbrev pub way_of : Ways → Bool → Bool → Visit
+way_of ways true true = ways.own_write
+way_of ways true false = ways.own_read
+way_of ways false true = ways.other_write
+way_of ways false false = ways.other_read
+
+-- the candidate is the request at a place
+pub record IsAt (disk : Disk) (head : Track) (now : ℕ) (rows : List Row) (place : Place) (candidate : Candidate) : Type 0 where
+  pub waiting : Waiting
+  pub there : at_place rows place ≡ Some waiting
+  pub key : candidate.key ≡ waiting.0
+  pub wait : candidate.wait ≡ sptf disk head now waiting.1
+
+-- what is picked is the limit still, or a request of the rows that comes before it
+pub record IsPick (disk : Disk) (head : Track) (now : ℕ) (rows : List Row) (limit : Candidate) (pick : Pick) : Type 0 where
+  pub found : MatchOption pick.place (pick.best ≡ limit) (λ place. IsAt disk head now rows place pick.best)
+  pub before : IsBefore pick.best limit
+
+-- the candidate is no later than a request that waits, and so it comes soon
+abbrev pub Settles : Disk → Track → ℕ → Candidate → Waiting → Type 0
+Settles disk head now candidate w = Beats disk head now candidate w.0 w.1 × (candidate.wait ≤ 4 * 10 ^ 9)
+
+-- it is no later than any of these
+abbrev pub SettlesAll : Disk → Track → ℕ → Candidate → List Waiting → Type 0
+SettlesAll disk head now candidate ws = AllByRecursion (Settles disk head now candidate) ws
+
+-- the requests that wait are divided among a map and the rows, and those of the rows are counted
+pub record IsDivided (entries : List Waiting) (rows : List Row) (in_rows joined : ℕ) : Type 0 where
+  pub index : IsIndex (entries ++ all_of_rows rows) joined
+  pub own_rows : AreRows 0 rows
+  pub counted : in_rows ≡ length (all_of_rows rows)
+  pub few : in_rows ≤ joined

@@ -1,0 +1,125 @@
+// Shortest positioning time first.
+ghost use Rattle.std.specs.Prelude.{◌≡◌, []};
+ghost use Rattle.std.specs.List.{AllByRecursion};
+ghost use Rattle.fb_model.specs.PlainReplay.{sptf};
+ghost use Rattle.fb_fastq.specs.Joining.{pending_of};
+ghost use Rattle.fb_fastq.specs.Lanes.{IsAlong};
+
+use crate::index::{add, take_out};
+use crate::lanes::{CYLINDER, along};
+use crate::rows::{put, reach, soonest_in_rows, take_from};
+use crate::soonest::soonest_in_map;
+use fb_queue::Queue;
+use fb_service::{Disk, departure_from};
+use fb_units::{NoMemory, Ns, Request, Track};
+use std::alloc::Global;
+use std::collections::BTreeMap;
+use std::marker::Model;
+
+// While no more than so many wait, they wait in the map alone.
+const FEW: usize = 64;
+
+// So many requests of a cylinder are valued one after another. Where more wait, the others wait in the map.
+const ROOM: usize = 128;
+
+// Rows are kept for so many cylinders.
+const ROWS: usize = 65_536;
+
+/// Shortest positioning time first.
+///
+/// Requests wait in a row for each cylinder, whose requests are valued one after another; where few
+/// wait, or more than a row has room for, they wait in an index by lane and angle, which is searched.
+#[derive(Drop)]
+pub struct SptfLanes {
+    alloc: Global,
+    waiting: BTreeMap<(u64, u64), Request>,
+    rows: Vec<Vec<((u64, u64), Request)>>,
+    in_rows: u64,
+    joined: u64,
+}
+
+impl Model for SptfLanes {
+    ghost use Rattle.std.specs.Prelude.{◌++◌};
+    ghost use Rattle.fb_fastq.specs.Joining.{Index};
+    ghost use Rattle.fb_fastq.specs.ByCylinder.{all_of_rows, IsDivided};
+
+    ghost Value = { Index };
+
+    ghost view = { λ q. record { waiting = q.waiting.entries ++ all_of_rows q.rows.items; joined = q.joined } };
+
+    ghost invariant = { λ q. IsDivided q.waiting.entries q.rows.items q.in_rows q.joined };
+}
+
+impl SptfLanes {
+    /// An empty queue.
+    pub fn new(alloc: Global) -> SptfLanes
+        ensures pending { pending_of result.waiting ≡ [] }
+        ensures joined { result.joined ≡ 0 }
+    {
+        SptfLanes {
+            alloc,
+            waiting: BTreeMap::new(alloc),
+            rows: Vec::new(alloc),
+            in_rows: 0,
+            joined: 0,
+        }
+    }
+
+    // Whether a request of a cylinder is to wait in its row.
+    fn has_room(&self, row: usize) -> bool {
+        if self.waiting.len() < FEW && self.in_rows < FEW as u64 {
+            return false;
+        }
+        match self.rows.get(row) {
+            Some(row) => row.len() < ROOM,
+            None => row < ROWS,
+        }
+    }
+}
+
+impl Queue for SptfLanes {
+    ghost pending = { λ q. pending_of q.waiting };
+
+    ghost joined = { λ q. q.joined };
+
+    ghost key = { sptf };
+
+    ghost serves = { λ q disk. AllByRecursion (λ w. IsAlong disk w.1 w.0.0) q.waiting };
+
+    ghost use Rattle.fb_fastq.specs.NonePending.{all_of_none};
+
+    ghost serves_any = { λ q disk none. all_of_none (λ w. IsAlong disk w.1 w.0.0) q.waiting none };
+
+    fn add(&mut self, disk: &Disk, request: Request) -> Result<(), NoMemory> {
+        let spot = along(disk, &request);
+        let row = (spot / CYLINDER) as usize;
+        if !self.has_room(row) {
+            add(&mut self.waiting, spot, self.joined, request)?;
+            self.joined += 1;
+            return Ok(());
+        }
+        reach(self.alloc, &mut self.rows, row)?;
+        put(&mut self.rows, row, ((spot, self.joined), request))?;
+        self.in_rows += 1;
+        self.joined += 1;
+        Ok(())
+    }
+
+    fn take(&mut self, disk: &Disk, head: Track, now: Ns) -> Request {
+        let limit = soonest_in_map(&self.waiting, disk, head, now);
+        let from = departure_from(disk, head, now);
+        let pick = soonest_in_rows(self.rows.as_slice(), disk, &from, limit, self.in_rows);
+        match pick.place {
+            Some(place) => {
+                let request = take_from(&mut self.rows, place);
+                self.in_rows -= 1;
+                request
+            }
+            None => take_out(&mut self.waiting, limit.key),
+        }
+    }
+
+    fn is_empty(&self) -> bool {
+        self.waiting.is_empty() && self.in_rows == 0
+    }
+}
