@@ -1,42 +1,21 @@
 -- A session is opened, a log segment is added to one, or a range is wanted for one.
-use Rattle.std.proofs.Common.{◌≡◌, ℕ, zero, suc, ◌+◌, ◌<◌, ◌≤◌, ◌==◌, not, List, [], ◌∷◌, ◌++◌, false, None, Some, length, slice_get, filter, append-nil, length-append, refl, ap, sym, ◌∙◌, arith, subst, ◌-◌, ◌*◌, ◌^◌, Bool, true, Option, map, set, get_or, ◌&&◌, if◌then◌else◌}
-use Rattle.std.proofs.Math.Bool.{and-false}
-use Rattle.std.specs.List.{AllByRecursion, slice_index_or, list_any, flat_map}
-use Rattle.std.proofs.lemmas.Bool.{true≢false, and_parts}
-use Rattle.fb_geometry.specs.Shape.{Shape}
-use Rattle.fb_calls.specs.declared.call.Action.TheVariants.{Open, Segment, Want}
-use Rattle.fb_calls.specs.declared.call.Call.{Call}
-use Rattle.fb_calls.specs.declared.call.Kind.{Kind}
-use Rattle.fb_calls.specs.declared.call.Kind.TheVariants.{Plain, Clean}
-use Rattle.fb_calls.specs.Allowed.{MayAsk, has_want}
-use Rattle.fb_store.specs.Index.{held_at}
-use Rattle.fb_wanted.specs.declared.block.Block.{Block}
-use Rattle.fb_wanted.specs.declared.block.Entry.{Entry}
-use Rattle.fb_model.specs.History.{Past, Terms, called, calls_of, tasks, terms_of, opened_by, registered, LogSegment, same_block}
-use Rattle.fb_model.specs.Completion.{Work, TaskView, view, is_complete_as, is_unsealed, state_in, Choice, added_view, is_over, is_choice_of, own_of, wanted_view}
-use Rattle.fb_model.specs.Segments.{is_chosen, numbered}
-use Rattle.fb_model.proofs.Views.{opened-silent, opened-view, called-silent, added-view, wanted-silent, wanted-view}
-use Rattle.fb_tasks.specs.declared.session.Session.{Session}
-use Rattle.fb_tasks.specs.Standing.{Told, Cleans, IsUntouched, IsPlaced, IsBlockOf, IsAtNumber, HoldsBlock, HoldsChoice, choice_in, kept_segment, IsSegmentOf, HoldsImage, IsQuiet, entry_of, Stands, AreIndexed, Ascend, AreReported, IsAtWork, IsCutFrom}
-use Rattle.fb_tasks.specs.Telling.{Tells, MayTake, IsCall}
+use Rattle.fb_tasks.proofs.Words.{◌≡◌, ℕ, zero, suc, ◌+◌, ◌<◌, ◌≤◌, ◌==◌, not, List, [], ◌∷◌, ◌++◌, false, None, Some, length, slice_get}
+use Rattle.fb_tasks.proofs.Words.{filter, append-nil, length-append, refl, ap, sym, ◌∙◌, arith, subst, ◌-◌, ◌*◌, ◌^◌, Bool, true, Option}
+use Rattle.fb_tasks.proofs.Words.{map, set, get_or, ◌&&◌, if◌then◌else◌, and-false, AllByRecursion, slice_index_or, list_any, flat_map}
+use Rattle.fb_tasks.proofs.Words.{true≢false, and_parts, Shape, Open, Segment, Want, Call, Kind, Plain, Clean, MayAsk, has_want, held_at}
+use Rattle.fb_tasks.proofs.Words.{Block, Entry, Past, Terms, called, calls_of, tasks, terms_of, opened_by, registered, LogSegment}
+use Rattle.fb_tasks.proofs.Words.{same_block, Work, TaskView, view, is_complete_as, is_unsealed, state_in, Choice, added_view, is_over}
+use Rattle.fb_tasks.proofs.Words.{is_choice_of, own_of, wanted_view, is_chosen, numbered, opened-silent, opened-view, called-silent}
+use Rattle.fb_tasks.proofs.Words.{added-view, wanted-silent, wanted-view, Session, Told, Cleans, IsUntouched, IsPlaced, IsBlockOf}
+use Rattle.fb_tasks.proofs.Words.{IsAtNumber, HoldsBlock, HoldsChoice, choice_in, kept_segment, IsSegmentOf, HoldsImage, IsQuiet}
+use Rattle.fb_tasks.proofs.Words.{entry_of, Stands, AreIndexed, Ascend, AreReported, IsAtWork, IsCutFrom, Tells, MayTake, IsCall}
+use Rattle.fb_tasks.proofs.Words.{all_weaker, some_same, number_other, one_or_other, all_append, any_none, all_with, each_push}
+use Rattle.fb_tasks.proofs.Words.{get_or_push, length-map, map-append, slice_get-get_or, slice_get_within, places, is_clean, is_backup}
+use Rattle.fb_tasks.proofs.Words.{Content, drop-append_seam, cutting, is_within, Wanted, is_delivered, take_call, blocks_by, new_entries}
+use Rattle.fb_tasks.proofs.Words.{entries_by, cuts_are}
 use Rattle.fb_tasks.proofs.Asked.{opened_same, open_there, terms_there, segments_few}
 use Rattle.fb_tasks.proofs.Frames.{kept-entries, one-tells}
-use Rattle.fb_tasks.proofs.Lists.{all_weaker, some_same, number_other, one_or_other, all_append, any_none, all_with, each_push}
-use Rattle.std.proofs.lemmas.List.{get_or_push, length-map, map-append}
-use Rattle.std.proofs.lemmas.Option.{slice_get-get_or, slice_get_within}
-use Rattle.fb_geometry.specs.Places.{places}
-use Rattle.fb_calls.specs.Sessions.{is_clean, is_backup}
-use Rattle.fb_store.specs.declared.content.Content.{Content}
-use Rattle.std.proofs.Math.Seq.{drop-append_seam}
-use Rattle.fb_sectormap.specs.Cutting.{cutting}
-use Rattle.fb_store.specs.Writes.{is_within}
-use Rattle.fb_wanted.specs.declared.block.State.TheVariants.{Wanted}
-use Rattle.fb_wanted.specs.States.{is_delivered}
-use Rattle.fb_model.specs.Steps.{take_call, blocks_by}
-use Rattle.fb_tasks.specs.Keeping.{new_entries}
-use Rattle.fb_tasks.specs.Leaving.{entries_by}
 use Rattle.fb_tasks.proofs.Registered.{named_same, indexed_append, all_member, registered-entries}
-use Rattle.fb_model.proofs.Cuts.{cuts_are}
 use Rattle.fb_tasks.proofs.Cuts.{cuts_placed, cuts_ascend, cuts_indexed, cuts_own, cuts_count}
 use Rattle.fb_calls.specs.Allowed as allowed
 use Rattle.fb_clean.specs.Segments as clean

@@ -1,33 +1,15 @@
 -- The rows that follow a delivery, and the sessions after them.
-use Rattle.std.proofs.Common.{◌≡◌, ℕ, zero, suc, ◌+◌, ◌<◌, ◌≤◌, ◌==◌, ◌&&◌, if◌then◌else◌, List, [], ◌∷◌, ◌++◌, Bool, true, false, Some, None, Option, inl, inr, length, map, set, get_or, slice_get, append-nil, append_assoc, refl, ap, ap₂, sym, ◌∙◌, arith, subst}
-use Rattle.std.specs.List.{AllByRecursion, flat_map, list_any, range_with_len}
-use Rattle.std.proofs.lemmas.Bool.{cases_Bool, true≢false}
-use Rattle.std.proofs.lemmas.Bool.Decides.{nat_tests}
-use Rattle.std.proofs.lemmas.List.{length-set}
-use Rattle.std.proofs.lemmas.Option.{slice_get_within, slice_get-get_or}
-use Rattle.fb_geometry.specs.Shape.{Shape}
-use Rattle.fb_calls.specs.declared.call.Kind.{Kind}
-use Rattle.fb_calls.specs.Sessions.{is_clean}
-use Rattle.std.specs.Option.{option_map}
-use Rattle.fb_rows.specs.declared.back.BackRow.{BackRow}
-use Rattle.fb_rows.specs.declared.back.BackRow.TheVariants.{Bad as BadLine, Got as GotLine}
-use Rattle.fb_rows.specs.declared.back.DeliveryRow.{DeliveryRow}
-use Rattle.fb_wanted.specs.declared.block.Change.TheVariants.{Deliver}
-use Rattle.fb_wanted.specs.declared.block.Entry.{Entry}
-use Rattle.fb_wanted.specs.declared.block.State.TheVariants.{Wanted}
-use Rattle.fb_wanted.specs.States.{after, is_block}
-use Rattle.fb_store.specs.declared.content.Content.{Content}
-use Rattle.fb_store.specs.Sparse.{Gives}
-use Rattle.fb_model.specs.History.{Past, tested, delivered, tasks, terms_of, registered, is_seal_of}
-use Rattle.fb_model.specs.Completion.{Choice, TaskView, view, delivered_view, is_unsealed, is_done, is_cleaned}
-use Rattle.fb_model.proofs.Views.{delivered-silent, delivered-view, tested-view, number_same}
-use Rattle.fb_model.specs.Images.{test_rows, segment_rows, seal_rows, complete_rows, is_newly_cleaned, findings, is_scrub, bad_sectors}
-use Rattle.fb_tasks.specs.declared.session.Session.{Session}
-use Rattle.fb_tasks.specs.Taken.{by_deliveries, rows_after}
-use Rattle.fb_tasks.specs.Keeping.{HasTaken}
-use Rattle.fb_tasks.specs.Standing.{entry_of, choice_in, AreReported, MayFinish, IsBlockOf, IsAtWork, HoldsBlocks, Stands, Told, HasNoChoice}
-use Rattle.fb_tasks.specs.Telling.{Tells, IsSettled, MayDeliver}
-use Rattle.fb_tasks.proofs.Lists.{all_at, number_other, same_number, other_number, some_at, map_at, each_set, flat_none, all_range}
+use Rattle.fb_tasks.proofs.Words.{◌≡◌, ℕ, zero, suc, ◌+◌, ◌<◌, ◌≤◌, ◌==◌, ◌&&◌, if◌then◌else◌, List, [], ◌∷◌, ◌++◌, Bool, true, false}
+use Rattle.fb_tasks.proofs.Words.{Some, None, Option, inl, inr, length, map, set, get_or, slice_get, append-nil, append_assoc, refl, ap}
+use Rattle.fb_tasks.proofs.Words.{ap₂, sym, ◌∙◌, arith, subst, AllByRecursion, flat_map, list_any, range_with_len, cases_Bool, true≢false}
+use Rattle.fb_tasks.proofs.Words.{nat_tests, length-set, slice_get_within, slice_get-get_or, Shape, Kind, is_clean, option_map, BackRow}
+use Rattle.fb_tasks.proofs.Words.{BadLine, GotLine, DeliveryRow, Deliver, Entry, Wanted, after, is_block, Content, Gives, Past, tested}
+use Rattle.fb_tasks.proofs.Words.{delivered, tasks, terms_of, registered, is_seal_of, Choice, TaskView, view, delivered_view, is_unsealed}
+use Rattle.fb_tasks.proofs.Words.{is_done, is_cleaned, delivered-silent, delivered-view, tested-view, number_same, test_rows}
+use Rattle.fb_tasks.proofs.Words.{segment_rows, seal_rows, complete_rows, is_newly_cleaned, findings, is_scrub, bad_sectors, Session}
+use Rattle.fb_tasks.proofs.Words.{by_deliveries, rows_after, HasTaken, entry_of, choice_in, AreReported, MayFinish, IsBlockOf, IsAtWork}
+use Rattle.fb_tasks.proofs.Words.{HoldsBlocks, Stands, Told, HasNoChoice, Tells, IsSettled, MayDeliver, all_at, number_other, same_number}
+use Rattle.fb_tasks.proofs.Words.{other_number, some_at, map_at, each_set, flat_none, all_range, HasBegun}
 use Rattle.fb_tasks.proofs.RowsOf.{rows-given, seals_given, findings-mute}
 use Rattle.fb_tasks.proofs.Tested.{settled-tested, AreAllRows, tells-tested, still-stands, no-ends}
 use Rattle.fb_tasks.proofs.States.{flagged-stands}
@@ -35,7 +17,6 @@ use Rattle.fb_tasks.proofs.Deliveries.{delivered-entries, WasWanted, was_wanted,
 use Rattle.fb_tasks.proofs.Complete.{done_is, was_is}
 use Rattle.fb_tasks.proofs.Sealed.{open_is}
 use Rattle.fb_tasks.proofs.AllChoices.{reported_rows}
-use Rattle.fb_tasks.specs.Leaving.{HasBegun}
 use Rattle.fb_tasks.proofs.Leaving.{begun_after, begun_longer, begun_same}
 
 -- where one number alone gives anything

@@ -1,28 +1,15 @@
 -- The choices of a session, one after another, and those of all sessions.
-use Rattle.std.proofs.Common.{◌≡◌, ℕ, zero, suc, ◌+◌, ◌-◌, ◌≤◌, ◌&&◌, not, if◌then◌else◌, List, [], ◌++◌, true, false, length, append-nil, refl, ap, sym, ◌∙◌, arith, ◌∷◌, Bool, inl, inr, subst, ◌*◌, ◌^◌, ◌<◌, Some, set, slice_get}
-use Rattle.std.proofs.lemmas.Bool.{and_parts, cases_Bool, true≢false}
-use Rattle.std.proofs.lemmas.List.{length-map, length-set}
-use Rattle.fb_geometry.specs.Shape.{Shape}
-use Rattle.fb_calls.specs.Sessions.{is_clean}
-use Rattle.fb_wanted.specs.declared.block.Entry.{Entry}
-use Rattle.fb_rows.specs.declared.back.BackRow.{BackRow}
-use Rattle.fb_model.specs.History.{Past, LogSegment, chose, tasks, task_numbers, registered}
-use Rattle.fb_model.specs.Completion.{view, chosen_view}
-use Rattle.fb_model.specs.Segments.{choose_once, choose_up_to, choose_in, is_better, is_busy, is_chosen, unchosen, with_choices}
-use Rattle.fb_model.specs.Images.{segment_rows, is_newly_cleaned}
-use Rattle.fb_tasks.specs.declared.session.Session.{Session}
-use Rattle.fb_tasks.specs.Taken.{by_deliveries}
-use Rattle.fb_tasks.specs.Standing.{Stands, MayChoose, HasChosen, AreReported, IsSegmentOf, HasNoChoice, HoldsBlocks, IsQuiet, IsAtWork, HaveChosen, choosable_by}
-use Rattle.fb_tasks.proofs.Lists.{filter_none, flat_same, some_at, number_other, other_number, each_set, one_or_other, step_to}
-use Rattle.std.specs.List.{AllByRecursion, sum_by, best_of, flat_map, fold, range_with_len}
-use Rattle.std.proofs.lemmas.List.Sums.{sum_by-cons}
+use Rattle.fb_tasks.proofs.Words.{◌≡◌, ℕ, zero, suc, ◌+◌, ◌-◌, ◌≤◌, ◌&&◌, not, if◌then◌else◌, List, [], ◌++◌, true, false, length}
+use Rattle.fb_tasks.proofs.Words.{append-nil, refl, ap, sym, ◌∙◌, arith, ◌∷◌, Bool, inl, inr, subst, ◌*◌, ◌^◌, ◌<◌, Some, set, slice_get}
+use Rattle.fb_tasks.proofs.Words.{and_parts, cases_Bool, true≢false, length-map, length-set, Shape, is_clean, Entry, BackRow, Past}
+use Rattle.fb_tasks.proofs.Words.{LogSegment, chose, tasks, task_numbers, registered, view, chosen_view, choose_once, choose_up_to}
+use Rattle.fb_tasks.proofs.Words.{choose_in, is_better, is_busy, is_chosen, unchosen, with_choices, segment_rows, is_newly_cleaned}
+use Rattle.fb_tasks.proofs.Words.{Session, by_deliveries, Stands, MayChoose, HasChosen, AreReported, IsSegmentOf, HasNoChoice}
+use Rattle.fb_tasks.proofs.Words.{HoldsBlocks, IsQuiet, IsAtWork, HaveChosen, choosable_by, filter_none, flat_same, some_at, number_other}
+use Rattle.fb_tasks.proofs.Words.{other_number, each_set, one_or_other, step_to, AllByRecursion, sum_by, best_of, flat_map, fold}
+use Rattle.fb_tasks.proofs.Words.{range_with_len, sum_by-cons, nat_tests, slice_get_within, Block, chosen-silent, MaySettle}
 use Rattle.fb_tasks.proofs.ChoiceSteps.{best_left, chosen_blocks, chosen_for, next_view, numbered_is, once_is, left_less, added_own, segment_rows_of, segment_rows_is, few_less, best_of_left}
 use Rattle.fb_tasks.proofs.Complete.{filter-le}
-use Rattle.std.proofs.lemmas.Bool.Decides.{nat_tests}
-use Rattle.std.proofs.lemmas.Option.{slice_get_within}
-use Rattle.fb_wanted.specs.declared.block.Block.{Block}
-use Rattle.fb_model.proofs.Views.{chosen-silent}
-use Rattle.fb_tasks.specs.Telling.{MaySettle}
 pub use Rattle.fb_tasks.proofs.Lists.{all_range}
 use Rattle.fb_tasks.proofs.Cuts.{range_next}
 use Rattle.fb_tasks.proofs.Tested.{rows_more}

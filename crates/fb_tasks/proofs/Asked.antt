@@ -1,22 +1,10 @@
 -- What the rules of calls say of a history.
-use Rattle.std.proofs.Common.{◌≡◌, ℕ, ◌+◌, ◌<◌, ◌≤◌, ◌==◌, ◌&&◌, List, [], ◌∷◌, ◌++◌, false, length, append-nil, length-append, refl, ap, sym, ◌∙◌, arith, subst}
-use Rattle.std.proofs.Math.Bool.{or-false, or_comm}
-use Rattle.std.specs.List.{slice_index_or}
-use Rattle.std.proofs.lemmas.List.Folds.{list_any-append}
-use Rattle.std.proofs.lemmas.List.Concat.{flat_map-append}
-use Rattle.fb_geometry.specs.Shape.{Shape}
-use Rattle.fb_calls.specs.declared.call.Action.{Action}
-use Rattle.fb_calls.specs.declared.call.Action.TheVariants.{Open, Segment}
-use Rattle.fb_calls.specs.declared.call.Call.{Call}
-use Rattle.fb_calls.specs.declared.call.Kind.TheVariants.{Plain}
+use Rattle.fb_tasks.proofs.Words.{◌≡◌, ℕ, ◌+◌, ◌<◌, ◌≤◌, ◌==◌, ◌&&◌, List, [], ◌∷◌, ◌++◌, false, length, append-nil, length-append, refl}
+use Rattle.fb_tasks.proofs.Words.{ap, sym, ◌∙◌, arith, subst, or-false, or_comm, slice_index_or, list_any-append, flat_map-append, Shape}
+use Rattle.fb_tasks.proofs.Words.{Action, Open, Segment, Call, Plain, MayAsk, terms_in, Entry, Past, LogSegment, called, calls_of, tasks}
+use Rattle.fb_tasks.proofs.Words.{opened_by, is_closed, segments, segment_by, view, Session, Tells, MayTake, take_call, blocks_by}
+use Rattle.fb_calls.specs.Allowed.{Terms}
 use Rattle.fb_calls.specs.Allowed as allowed
-use Rattle.fb_calls.specs.Allowed.{Terms, MayAsk, terms_in}
-use Rattle.fb_wanted.specs.declared.block.Entry.{Entry}
-use Rattle.fb_model.specs.History.{Past, LogSegment, called, calls_of, tasks, opened_by}
-use Rattle.fb_model.specs.Completion.{is_closed, segments, segment_by, view}
-use Rattle.fb_tasks.specs.declared.session.Session.{Session}
-use Rattle.fb_tasks.specs.Telling.{Tells, MayTake}
-use Rattle.fb_model.specs.Steps.{take_call, blocks_by}
 
 opened_more : (action : Action) (before : List Terms) → before ++ terms_in action ≡ opened_by action before
 opened_more (Open kind weight block) before = refl

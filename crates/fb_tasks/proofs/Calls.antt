@@ -1,40 +1,20 @@
 -- The calls of a script take effect one after another: how many blocks are registered or can be by choices, and that other events leave it as it is.
-use Rattle.std.proofs.Common.{◌≡◌, ℕ, zero, suc, ◌+◌, ◌<◌, ◌≤◌, ◌==◌, not, List, [], ◌∷◌, ◌++◌, Bool, inl, inr, length, filter, length-append, refl, ap, sym, ◌∙◌, arith, subst, ◌^◌, Some, length-take, take, drop, slice_get, append-nil, append_assoc}
-use Rattle.std.specs.List.{AllByRecursion, fold, range_with_len, sum_by}
-use Rattle.std.proofs.lemmas.Bool.{cases_Bool}
-use Rattle.std.proofs.lemmas.List.Elements.{filter-append}
-use Rattle.std.proofs.lemmas.List.Sums.{sum_by-cons, sum_by-append}
-use Rattle.fb_geometry.specs.Shape.{Shape}
-use Rattle.fb_sectormap.specs.Cutting.{cutting}
-use Rattle.fb_units.specs.declared.types.Request.{Request}
-use Rattle.fb_calls.specs.declared.call.Action.{Action}
-use Rattle.fb_calls.specs.declared.call.Action.TheVariants.{Open, Want, Segment}
-use Rattle.fb_calls.specs.declared.call.Call.{Call}
-use Rattle.fb_calls.specs.declared.call.Kind.{Kind}
-use Rattle.fb_calls.specs.Allowed.{MayAsk, AreAllowed, blocks_from}
-use Rattle.fb_calls.specs.Blocks.{blocks_in, live_cuts}
-use Rattle.fb_wanted.specs.declared.block.Block.{Block}
-use Rattle.fb_rows.specs.declared.back.BackRow.{BackRow}
-use Rattle.fb_rows.specs.declared.back.DeliveryRow.{DeliveryRow}
-use Rattle.fb_model.specs.History.{Past, LogSegment, called, chose, tested, delivered, finished, tasks, task_numbers, terms_of, blocks_of, registered, opened_by}
-use Rattle.fb_model.specs.Completion.{view, segments, segment_by}
-use Rattle.fb_model.proofs.Views.{called-silent, opened-silent, opened-view, added-view}
-use Rattle.fb_model.specs.Segments.{next_blocks, is_chosen, choose_in, with_choices}
-use Rattle.fb_model.specs.Steps.{take_call, blocks_by, with_delivery}
-use Rattle.fb_tasks.specs.Standing.{choosable_by, IsSegmentOf, IsUntouched}
-use Rattle.fb_tasks.specs.Telling.{calls_of, choosable, Tells, MayTake}
-use Rattle.fb_tasks.proofs.Lists.{same_number, other_number, number_other}
+use Rattle.fb_tasks.proofs.Words.{◌≡◌, ℕ, zero, suc, ◌+◌, ◌<◌, ◌≤◌, ◌==◌, not, List, [], ◌∷◌, ◌++◌, Bool, inl, inr, length, filter}
+use Rattle.fb_tasks.proofs.Words.{length-append, refl, ap, sym, ◌∙◌, arith, subst, ◌^◌, Some, length-take, take, drop, slice_get}
+use Rattle.fb_tasks.proofs.Words.{append-nil, append_assoc, AllByRecursion, fold, range_with_len, sum_by, cases_Bool, filter-append}
+use Rattle.fb_tasks.proofs.Words.{sum_by-cons, sum_by-append, Shape, cutting, Request, Action, Open, Want, Segment, Call, Kind, MayAsk}
+use Rattle.fb_tasks.proofs.Words.{AreAllowed, blocks_from, blocks_in, live_cuts, Block, BackRow, DeliveryRow, Past, LogSegment, called}
+use Rattle.fb_tasks.proofs.Words.{chose, tested, delivered, finished, tasks, task_numbers, terms_of, registered, opened_by, view}
+use Rattle.fb_tasks.proofs.Words.{segments, segment_by, called-silent, opened-silent, opened-view, added-view, next_blocks, is_chosen}
+use Rattle.fb_tasks.proofs.Words.{choose_in, with_choices, take_call, blocks_by, with_delivery, choosable_by, IsSegmentOf, IsUntouched}
+use Rattle.fb_tasks.proofs.Words.{choosable, Tells, MayTake, same_number, other_number, number_other, nat_tests, drop_more, take_more}
+use Rattle.fb_tasks.proofs.Words.{slice_get_within, get_or_from_slice_get, Entry, Session, delivery_of, IsCalled}
+use Rattle.fb_model.specs.History.{blocks_of}
+use Rattle.fb_tasks.specs.Telling.{calls_of}
 use Rattle.fb_tasks.proofs.Asked.{opened_same, open_there, terms_there}
 use Rattle.fb_tasks.proofs.Cuts.{cuts_count, range_next}
 use Rattle.fb_tasks.proofs.Additions.{next_segment}
 use Rattle.fb_tasks.proofs.AllChoices.{in_same, in_tasks, in_fewer, by_task, all_range, sum_range, choosable-same, by_all}
-use Rattle.std.proofs.lemmas.Bool.Decides.{nat_tests}
-use Rattle.std.proofs.lemmas.List.{drop_more, take_more}
-use Rattle.std.proofs.lemmas.Option.{slice_get_within, get_or_from_slice_get}
-use Rattle.fb_wanted.specs.declared.block.Entry.{Entry}
-use Rattle.fb_tasks.specs.declared.session.Session.{Session}
-use Rattle.fb_tasks.specs.Taken.{delivery_of}
-use Rattle.fb_tasks.specs.Script.{IsCalled}
 use Rattle.fb_calls.specs.Allowed as allowed
 
 -- how many blocks are registered, and how many the choices can register

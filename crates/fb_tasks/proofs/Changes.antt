@@ -1,35 +1,19 @@
 -- Calls and writes that change the states of blocks alone.
-use Rattle.std.proofs.Common.{◌≡◌, ℕ, ◌<◌, List, [], ◌∷◌, Bool, true, false, length, set, get_or, ap, arith, subst, Some, slice_get, append-nil, refl, sym, ◌∙◌, ◌+◌, ◌≤◌, min, max, nat_lt, map, ◌==◌, ◌&&◌, not, if◌then◌else◌, inl, inr}
-use Rattle.fb_geometry.specs.Shape.{Shape}
-use Rattle.fb_calls.specs.declared.call.Action.TheVariants.{Suspend, Resume, Abort, Promote, Close}
-use Rattle.fb_calls.specs.declared.call.Call.{Call}
-use Rattle.fb_wanted.specs.declared.block.Change.TheVariants.{Suspend as SuspendAll, Resume as ResumeAll, Abort as AbortRange, Rewant}
-use Rattle.fb_wanted.specs.declared.block.Entry.{Entry}
-use Rattle.fb_wanted.specs.States.{after, shares, is_delivered}
-use Rattle.fb_model.specs.History.{Past, called, tasks, opened_by, calls_of, registered, LogSegment, finished}
-use Rattle.fb_model.specs.Completion.{TaskView, view, ended, aborted_view, closed_view, is_over, is_unsealed, is_cleaned, is_complete_as, is_done, written_view, rewanted, state_in}
-use Rattle.fb_model.proofs.Views.{suspended-view, resumed-view, aborted-view, promoted-silent, closed-view, written-view, written-silent}
-use Rattle.fb_tasks.specs.declared.session.Session.{Session}
-use Rattle.fb_tasks.specs.Standing.{Told, IsQuiet, Cleans, HoldsChoice, choice_in, kept_segment, HoldsImage, AreReported, IsAtWork, entry_by, entry_of, Stands, IsPlaced, IsUntouched, IsBlockOf}
-use Rattle.fb_tasks.specs.Telling.{Tells, IsCall, MayTake}
+use Rattle.fb_tasks.proofs.Words.{◌≡◌, ℕ, ◌<◌, List, [], ◌∷◌, Bool, true, false, length, set, get_or, ap, arith, subst, Some, slice_get}
+use Rattle.fb_tasks.proofs.Words.{append-nil, refl, sym, ◌∙◌, ◌+◌, ◌≤◌, min, max, nat_lt, map, ◌==◌, ◌&&◌, not, if◌then◌else◌, inl, inr}
+use Rattle.fb_tasks.proofs.Words.{Shape, Suspend, Resume, Abort, Promote, Close, Call, SuspendAll, ResumeAll, AbortRange, Rewant, Entry}
+use Rattle.fb_tasks.proofs.Words.{after, shares, is_delivered, Past, called, tasks, opened_by, calls_of, registered, LogSegment, finished}
+use Rattle.fb_tasks.proofs.Words.{TaskView, view, ended, aborted_view, closed_view, is_over, is_unsealed, is_cleaned, is_complete_as}
+use Rattle.fb_tasks.proofs.Words.{is_done, written_view, rewanted, state_in, suspended-view, resumed-view, aborted-view, promoted-silent}
+use Rattle.fb_tasks.proofs.Words.{closed-view, written-view, written-silent, Session, Told, IsQuiet, Cleans, HoldsChoice, choice_in}
+use Rattle.fb_tasks.proofs.Words.{kept_segment, HoldsImage, AreReported, IsAtWork, entry_by, entry_of, Stands, IsPlaced, IsUntouched}
+use Rattle.fb_tasks.proofs.Words.{IsBlockOf, Tells, IsCall, MayTake, true≢false, cases_Bool, and_parts, MayAsk, is_clean, is_backup}
+use Rattle.fb_tasks.proofs.Words.{some_at, all_any, all_weaker, map_same, list_all_each, each_all, one_or_other, step_to}
+use Rattle.fb_tasks.proofs.Words.{get_or_from_slice_get, and-false, nat_tests, places, held_at, Block, State, AllByRecursion, list_all}
+use Rattle.fb_tasks.proofs.Words.{Request, Kind, Backup}
 use Rattle.fb_tasks.proofs.Frames.{call-tells, silent-tells, changed-entries, kept-entries}
 use Rattle.fb_tasks.proofs.States.{show_suspended, show_resumed, never_held_back, show_aborted, states-told, ended-done, holds-fewer, show_rewanted}
-use Rattle.std.proofs.lemmas.Bool.{true≢false, cases_Bool, and_parts}
-use Rattle.fb_calls.specs.Allowed.{MayAsk}
-use Rattle.fb_calls.specs.Sessions.{is_clean, is_backup}
 use Rattle.fb_tasks.proofs.Asked.{open_there, terms_there}
-use Rattle.fb_tasks.proofs.Lists.{some_at, all_any, all_weaker, map_same, list_all_each, each_all, one_or_other, step_to}
-use Rattle.std.proofs.lemmas.Option.{get_or_from_slice_get}
-use Rattle.std.proofs.Math.Bool.{and-false}
-use Rattle.std.proofs.lemmas.Bool.Decides.{nat_tests}
-use Rattle.fb_geometry.specs.Places.{places}
-use Rattle.fb_store.specs.Index.{held_at}
-use Rattle.fb_wanted.specs.declared.block.Block.{Block}
-use Rattle.fb_wanted.specs.declared.block.State.{State}
-use Rattle.std.specs.List.{AllByRecursion, list_all}
-use Rattle.fb_units.specs.declared.types.Request.{Request}
-use Rattle.fb_calls.specs.declared.call.Kind.{Kind}
-use Rattle.fb_calls.specs.declared.call.Kind.TheVariants.{Backup}
 use Rattle.fb_clean.specs.Segments as clean
 
 suspension-told : (held_back : Bool) (v : TaskView) (session : Session) → Told v session → Told (record v { suspended = held_back }) (record session { suspended = held_back })

@@ -1,43 +1,22 @@
 -- A task chooses a segment, as its session and as the history makes it.
-use Rattle.std.proofs.Common.{◌≡◌, ℕ, ◌+◌, ◌-◌, ◌*◌, ◌^◌, ◌<◌, ◌≤◌, ◌==◌, not, if◌then◌else◌, List, [], ◌∷◌, ◌++◌, true, false, Some, None, Option, length, map, slice_get, append-nil, refl, ap, sym, ◌∙◌, arith, subst, ◌&&◌, Bool, inl, inr, filter, append_assoc, length-append}
-use Rattle.std.specs.List.{AllByRecursion, list_any, list_all, flat_map, best_of, sum_by}
-use Rattle.std.specs.Option.{option_map}
-use Rattle.std.proofs.lemmas.Bool.{true≢false, not-true, cases_Bool, cases_lt, and_parts}
-use Rattle.std.proofs.lemmas.List.Concat.{flat_map-append}
-use Rattle.std.proofs.lemmas.List.Folds.{list_any-append}
-use Rattle.std.proofs.lemmas.Option.{slice_get_within, none-some}
-use Rattle.fb_geometry.specs.Shape.{Shape}
-use Rattle.fb_geometry.specs.Places.{places}
-use Rattle.fb_calls.specs.Blocks.{live_cuts}
-use Rattle.fb_wanted.specs.declared.block.Block.{Block}
-use Rattle.fb_wanted.specs.declared.block.Entry.{Entry}
-use Rattle.fb_wanted.specs.declared.block.State.TheVariants.{Wanted}
-use Rattle.fb_wanted.specs.States.{is_delivered}
-use Rattle.fb_model.specs.History.{Past, LogSegment, chose, tasks, registered, same_block}
-use Rattle.fb_model.specs.Completion.{Choice, TaskView, view, own_of, chosen_view, is_cleaned, is_choice_of, Work, is_unsealed}
-use Rattle.fb_model.proofs.Views.{chosen-silent, chosen-view, number_same}
-use Rattle.fb_model.specs.Segments.{numbered, is_better, is_chosen, unchosen, live_count, is_busy, choose_best, choose_once}
-use Rattle.fb_tasks.specs.declared.session.Session.{Session}
-use Rattle.fb_tasks.specs.Keeping.{new_entries, is_none, cuts_of}
-use Rattle.fb_tasks.specs.Standing.{Cleans, HoldsBlocks, HoldsBlock, IsPlaced, IsCutFrom, IsBlockOf, IsSegmentOf, AreIndexed, choice_in, kept_segment, CleansBy, HoldsChoice, Ascend, IsAtNumber, entry_of, Stands, MayChoose, choosable_by, HoldsImage}
-use Rattle.fb_tasks.proofs.Lists.{all_weaker, all_with, all_append, all_filter, all_pass, all_flat, all_same, number_other, none_pass, one_or_other, some_same, filter_same}
+use Rattle.fb_tasks.proofs.Words.{◌≡◌, ℕ, ◌+◌, ◌-◌, ◌*◌, ◌^◌, ◌<◌, ◌≤◌, ◌==◌, not, if◌then◌else◌, List, [], ◌∷◌, ◌++◌, true, false, Some}
+use Rattle.fb_tasks.proofs.Words.{None, Option, length, map, slice_get, append-nil, refl, ap, sym, ◌∙◌, arith, subst, ◌&&◌, Bool, inl}
+use Rattle.fb_tasks.proofs.Words.{inr, filter, append_assoc, length-append, AllByRecursion, list_any, list_all, flat_map, best_of, sum_by}
+use Rattle.fb_tasks.proofs.Words.{option_map, true≢false, not-true, cases_Bool, cases_lt, and_parts, flat_map-append, list_any-append}
+use Rattle.fb_tasks.proofs.Words.{slice_get_within, none-some, Shape, places, live_cuts, Block, Entry, Wanted, is_delivered, Past}
+use Rattle.fb_tasks.proofs.Words.{LogSegment, chose, tasks, registered, same_block, Choice, TaskView, view, own_of, chosen_view}
+use Rattle.fb_tasks.proofs.Words.{is_cleaned, is_choice_of, Work, is_unsealed, chosen-silent, chosen-view, number_same, numbered}
+use Rattle.fb_tasks.proofs.Words.{is_better, is_chosen, unchosen, live_count, is_busy, choose_best, choose_once, Session, new_entries}
+use Rattle.fb_tasks.proofs.Words.{is_none, cuts_of, Cleans, HoldsBlocks, HoldsBlock, IsPlaced, IsCutFrom, IsBlockOf, IsSegmentOf}
+use Rattle.fb_tasks.proofs.Words.{AreIndexed, choice_in, kept_segment, CleansBy, HoldsChoice, Ascend, IsAtNumber, entry_of, Stands}
+use Rattle.fb_tasks.proofs.Words.{MayChoose, choosable_by, HoldsImage, all_weaker, all_with, all_append, all_filter, all_pass, all_flat}
+use Rattle.fb_tasks.proofs.Words.{all_same, number_other, none_pass, one_or_other, some_same, filter_same, nat_tests, or-true, length-map}
+use Rattle.fb_tasks.proofs.Words.{map-append, nil_from_length, filter-append, Kind, is_backup, is_clean, ContentRun, runs_of, sectors_of}
+use Rattle.fb_tasks.proofs.Words.{BackRow, SegmentLine, segment_rows, is_newly_cleaned, found_for, by_deliveries, held_at}
 use Rattle.fb_tasks.proofs.Registered.{all_member, no_smaller, indexed_append, registered-entries, named_same, blocks_in}
 use Rattle.fb_tasks.proofs.Cuts.{cuts_own, cuts_indexed, cuts_count}
 use Rattle.fb_tasks.proofs.Segmented.{NumberedFrom, at_number, all_best, live_placed, live_cover, live_ascend, numbered_given, choice_kept, live_there, live_within, live_some, cuts_of_live, sum_without}
-use Rattle.std.proofs.lemmas.Bool.Decides.{nat_tests}
-use Rattle.std.proofs.Math.Bool.{or-true}
-use Rattle.std.proofs.lemmas.List.{length-map, map-append, nil_from_length}
-use Rattle.std.proofs.lemmas.List.Elements.{filter-append}
-use Rattle.fb_calls.specs.declared.call.Kind.{Kind}
-use Rattle.fb_calls.specs.Sessions.{is_backup, is_clean}
-use Rattle.fb_store.specs.declared.content.ContentRun.{ContentRun}
-use Rattle.fb_store.specs.Runs.{runs_of, sectors_of}
-use Rattle.fb_rows.specs.declared.back.BackRow.{BackRow}
-use Rattle.fb_rows.specs.declared.back.BackRow.TheVariants.{Segment as SegmentLine}
-use Rattle.fb_model.specs.Images.{segment_rows, is_newly_cleaned}
-use Rattle.fb_tasks.specs.Taken.{found_for, by_deliveries}
 use Rattle.fb_tasks.proofs.Complete.{busy_by}
-use Rattle.fb_store.specs.Index.{held_at}
 use Rattle.fb_clean.specs.Segments as clean
 use Rattle.fb_wanted.specs.Numbering as numbering
 

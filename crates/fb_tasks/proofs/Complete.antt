@@ -1,34 +1,16 @@
 -- How many blocks of a task there are in each state, whether it is complete by what its session keeps, and its row.
-use Rattle.std.proofs.Common.{◌≡◌, ℕ, ◌+◌, ◌≤◌, ◌==◌, List, [], ◌∷◌, Bool, inl, inr, length, filter, map, refl, arith, zero, suc, ◌-◌, ◌<◌, ◌&&◌, not, nat_lt, ◌++◌, true, false, Some, None, Option, slice_get, find, append-nil, ap, sym, ◌∙◌, append_assoc}
-use Rattle.std.specs.List.{list_all, AllByRecursion, list_any, range_with_len}
-use Rattle.std.proofs.lemmas.Bool.{cases_Bool, true≢false}
-use Rattle.std.proofs.lemmas.List.{length-map}
-use Rattle.fb_wanted.specs.declared.block.Block.{Block}
-use Rattle.fb_wanted.specs.declared.block.Counts.{Counts}
-use Rattle.fb_wanted.specs.declared.block.Entry.{Entry}
-use Rattle.fb_wanted.specs.declared.block.State.{State}
-use Rattle.fb_wanted.specs.States.{is_delivered, is_aborted}
-use Rattle.fb_wanted.specs.Counting.{of_task, counts_of}
-use Rattle.fb_model.specs.History.{Past, blocks_of, registered, LogSegment}
-use Rattle.fb_model.specs.Completion.{Work, TaskView, view, state_in, is_over, Choice, is_cleaned, is_through, is_choice_of, is_complete, is_complete_as, is_done, was_complete}
-use Rattle.fb_tasks.specs.Standing.{entry_by, entry_of, Stands, Cleans, IsAtWork, choice_in, kept_segment, CleansBy}
-use Rattle.fb_tasks.proofs.Lists.{same_number, some_same, all_flat, any_none, each_all, find_all, find_none, all_any, all_weaker}
+use Rattle.fb_tasks.proofs.Words.{◌≡◌, ℕ, ◌+◌, ◌≤◌, ◌==◌, List, [], ◌∷◌, Bool, inl, inr, length, filter, map, refl, arith, zero, suc, ◌-◌}
+use Rattle.fb_tasks.proofs.Words.{◌<◌, ◌&&◌, not, nat_lt, ◌++◌, true, false, Some, None, Option, slice_get, find, append-nil, ap, sym}
+use Rattle.fb_tasks.proofs.Words.{◌∙◌, append_assoc, list_all, AllByRecursion, list_any, range_with_len, cases_Bool, true≢false}
+use Rattle.fb_tasks.proofs.Words.{length-map, Block, Counts, Entry, State, is_delivered, is_aborted, of_task, counts_of, Past, registered}
+use Rattle.fb_tasks.proofs.Words.{LogSegment, Work, TaskView, view, state_in, is_over, Choice, is_cleaned, is_through, is_choice_of}
+use Rattle.fb_tasks.proofs.Words.{is_complete, is_complete_as, is_done, was_complete, entry_by, entry_of, Stands, Cleans, IsAtWork}
+use Rattle.fb_tasks.proofs.Words.{choice_in, kept_segment, CleansBy, same_number, some_same, all_flat, any_none, each_all, find_all}
+use Rattle.fb_tasks.proofs.Words.{find_none, all_any, all_weaker, nat_tests, and-false, list_any-append, Kind, Clean, is_clean, is_busy}
+use Rattle.fb_tasks.proofs.Words.{number_same, Session, is_none, is_worked_off, are_over, complete_as, complete_by, length-filter}
+use Rattle.fb_tasks.proofs.Words.{BackRow, TaskLine, task_row, map-range_with_len_more}
+use Rattle.fb_model.specs.History.{blocks_of}
 use Rattle.fb_tasks.proofs.States.{shown, shown_delivered, shown_aborted}
-use Rattle.std.proofs.lemmas.Bool.Decides.{nat_tests}
-use Rattle.std.proofs.Math.Bool.{and-false}
-use Rattle.std.proofs.lemmas.List.Folds.{list_any-append}
-use Rattle.fb_calls.specs.declared.call.Kind.{Kind}
-use Rattle.fb_calls.specs.declared.call.Kind.TheVariants.{Clean}
-use Rattle.fb_calls.specs.Sessions.{is_clean}
-use Rattle.fb_model.specs.Segments.{is_busy}
-use Rattle.fb_model.proofs.Views.{number_same}
-use Rattle.fb_tasks.specs.declared.session.Session.{Session}
-use Rattle.fb_tasks.specs.Keeping.{is_none, is_worked_off, are_over, complete_as, complete_by}
-use Rattle.std.proofs.lemmas.List.Sums.{length-filter}
-use Rattle.fb_rows.specs.declared.back.BackRow.{BackRow}
-use Rattle.fb_rows.specs.declared.back.BackRow.TheVariants.{Task as TaskLine}
-use Rattle.fb_model.specs.Steps.{task_row}
-use Rattle.std.proofs.lemmas.List.FromFn.{map-range_with_len_more}
 use Rattle.fb_wanted.specs.Numbering as numbering
 use Rattle.fb_clean.specs.Segments as clean
 

@@ -1,23 +1,12 @@
 -- Blocks of a task that are cut from a range, and those of a segment's live blocks, one after another.
-use Rattle.std.proofs.Common.{◌≡◌, ℕ, zero, suc, ◌+◌, ◌-◌, ◌^◌, ◌<◌, ◌≤◌, List, [], ◌∷◌, ◌++◌, length, refl, ap, sym, ◌∙◌, arith, subst, Some, drop, slice_get, append_assoc, length-append}
-use Rattle.std.specs.List.{AllByRecursion, flat_map, range_with_len}
-use Rattle.fb_geometry.specs.Shape.{Shape}
-use Rattle.fb_geometry.specs.Places.{places}
-use Rattle.fb_sectormap.specs.declared.cut.Cut.{Cut}
+use Rattle.fb_tasks.proofs.Words.{◌≡◌, ℕ, zero, suc, ◌+◌, ◌-◌, ◌^◌, ◌<◌, ◌≤◌, List, [], ◌∷◌, ◌++◌, length, refl, ap, sym, ◌∙◌, arith}
+use Rattle.fb_tasks.proofs.Words.{subst, Some, drop, slice_get, append_assoc, length-append, AllByRecursion, flat_map, range_with_len}
+use Rattle.fb_tasks.proofs.Words.{Shape, places, Cut, IsOneTurn, cutting, numbered, AreCuts, cuts_rise, IsBlockOf, AreIndexed, Ascend}
+use Rattle.fb_tasks.proofs.Words.{map-append, length-map, drop_more, filter-append, Block, Entry, blocks_of, Session, new_entries}
+use Rattle.fb_tasks.proofs.Words.{cuts_of, slice_get_within, get_or_from_slice_get}
 use Rattle.fb_sectormap.specs.Lookup.{track_at}
-use Rattle.fb_sectormap.specs.Cutting.{IsOneTurn, cutting}
-use Rattle.fb_model.specs.Segments.{numbered}
-use Rattle.fb_model.proofs.Cuts.{AreCuts, cuts_rise}
-use Rattle.fb_tasks.specs.Standing.{IsBlockOf, AreIndexed, Ascend}
-use Rattle.std.proofs.lemmas.List.{map-append, length-map, drop_more}
-use Rattle.std.proofs.lemmas.List.Elements.{filter-append}
-use Rattle.fb_wanted.specs.declared.block.Block.{Block}
-use Rattle.fb_wanted.specs.declared.block.Entry.{Entry}
-use Rattle.fb_wanted.specs.Numbering.{registered, blocks_of}
-use Rattle.fb_tasks.specs.declared.session.Session.{Session}
-use Rattle.fb_tasks.specs.Keeping.{new_entries, cuts_of}
+use Rattle.fb_wanted.specs.Numbering.{registered}
 use Rattle.fb_tasks.proofs.Registered.{all_own}
-use Rattle.std.proofs.lemmas.Option.{slice_get_within, get_or_from_slice_get}
 
 pub cuts_placed : (disk : Shape) (tasks task weight block n from end : ℕ) (cuts : List Cut) → task < tasks → weight ≤ 1000 → block ≤ 2048 → end ≤ length (places disk) → end ≤ 10 ^ 12 → AreCuts disk block from end cuts
     → AllByRecursion (IsBlockOf disk tasks) (numbered task weight n cuts)

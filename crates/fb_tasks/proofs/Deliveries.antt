@@ -1,33 +1,16 @@
 -- A block has been delivered, and its session stands as its task does.
-use Rattle.std.proofs.Common.{◌≡◌, ℕ, zero, suc, ◌+◌, ◌<◌, ◌≤◌, ◌==◌, if◌then◌else◌, List, [], ◌∷◌, ◌++◌, true, false, Some, None, Option, inl, inr, ◌⊎◌, map, slice_get, refl, ap, sym, ◌∙◌, arith, subst, not, Bool, append-nil}
-use Rattle.std.specs.List.{AllByRecursion, list_any, flat_map, range_with_len, list_all}
-use Rattle.std.proofs.lemmas.Bool.{cases_Bool, and_parts}
-use Rattle.std.proofs.lemmas.Bool.Decides.{nat_tests}
-use Rattle.fb_store.specs.declared.content.Content.{Content}
-use Rattle.fb_store.specs.Sparse.{Gives, after_take, held_in}
-use Rattle.fb_store.specs.Runs.{sectors_of}
-use Rattle.fb_store.specs.Writes.{is_within}
-use Rattle.fb_wanted.specs.declared.block.Block.{Block}
-use Rattle.fb_wanted.specs.declared.block.Change.TheVariants.{Deliver}
-use Rattle.fb_wanted.specs.declared.block.Entry.{Entry}
-use Rattle.fb_wanted.specs.declared.block.State.TheVariants.{Wanted, Delivered}
-use Rattle.fb_wanted.specs.States.{after, is_delivered, is_wanted}
-use Rattle.fb_rows.specs.declared.back.DeliveryRow.{DeliveryRow}
-use Rattle.fb_model.specs.History.{Past, delivered, registered, wanted, state}
-use Rattle.fb_model.specs.Completion.{Choice, TaskView, view, state_in, delivered_view, is_cleaned, is_over}
-use Rattle.fb_model.proofs.Views.{delivered-silent, delivered-view, number_same}
-use Rattle.fb_tasks.specs.Standing.{entry_of, HoldsBlock, AreIndexed, Ascend, Stands, Cleans, IsUntouched, IsPlaced, HoldsBlocks, HoldsChoice, choice_in, CleansBy, IsCutFrom}
-use Rattle.fb_tasks.proofs.Lists.{some_same, all_any, all_at, all_weaker, all_with, same_number, other_number, list_all_each, none_pass, all_right, all_flat, filter_from, filter_to}
+use Rattle.fb_tasks.proofs.Words.{◌≡◌, ℕ, zero, suc, ◌+◌, ◌<◌, ◌≤◌, ◌==◌, if◌then◌else◌, List, [], ◌∷◌, ◌++◌, true, false, Some, None}
+use Rattle.fb_tasks.proofs.Words.{Option, inl, inr, ◌⊎◌, map, slice_get, refl, ap, sym, ◌∙◌, arith, subst, not, Bool, append-nil}
+use Rattle.fb_tasks.proofs.Words.{AllByRecursion, list_any, flat_map, range_with_len, list_all, cases_Bool, and_parts, nat_tests, Content}
+use Rattle.fb_tasks.proofs.Words.{Gives, after_take, held_in, sectors_of, is_within, Block, Deliver, Entry, Wanted, Delivered, after}
+use Rattle.fb_tasks.proofs.Words.{is_delivered, is_wanted, DeliveryRow, Past, delivered, registered, wanted, state, Choice, TaskView}
+use Rattle.fb_tasks.proofs.Words.{view, state_in, delivered_view, is_cleaned, is_over, delivered-silent, delivered-view, number_same}
+use Rattle.fb_tasks.proofs.Words.{entry_of, HoldsBlock, AreIndexed, Ascend, Stands, Cleans, IsUntouched, IsPlaced, HoldsBlocks}
+use Rattle.fb_tasks.proofs.Words.{HoldsChoice, choice_in, CleansBy, IsCutFrom, some_same, all_any, all_at, all_weaker, all_with}
+use Rattle.fb_tasks.proofs.Words.{same_number, other_number, list_all_each, none_pass, all_right, all_flat, filter_from, filter_to}
+use Rattle.fb_tasks.proofs.Words.{all_both, none-some, Shape, is_backup, held_at, State, Session, HasTaken}
 use Rattle.fb_tasks.proofs.Frames.{changed-entries}
 use Rattle.fb_tasks.proofs.Sealed.{held_same, held_all, within, before_it, behind_it, ascend_from}
-use Rattle.fb_model.proofs.Lists.{all_both}
-use Rattle.std.proofs.lemmas.Option.{none-some}
-use Rattle.fb_geometry.specs.Shape.{Shape}
-use Rattle.fb_calls.specs.Sessions.{is_backup}
-use Rattle.fb_store.specs.Index.{held_at}
-use Rattle.fb_wanted.specs.declared.block.State.{State}
-use Rattle.fb_tasks.specs.declared.session.Session.{Session}
-use Rattle.fb_tasks.specs.Keeping.{HasTaken}
 use Rattle.fb_tasks.proofs.States.{shown}
 use Rattle.fb_clean.specs.Segments as clean
 

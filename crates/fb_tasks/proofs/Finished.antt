@@ -1,34 +1,16 @@
 -- A chosen segment is finished where each of its blocks is delivered.
-use Rattle.std.proofs.Common.{◌≡◌, ℕ, suc, ◌+◌, ◌==◌, not, if◌then◌else◌, List, [], ◌∷◌, ◌++◌, Bool, true, false, Some, None, Option, inl, inr, length, filter, append-nil, refl, ap, sym, ◌∙◌, arith}
-use Rattle.std.specs.List.{AllByRecursion, flat_map, list_any, range_with_len}
-use Rattle.std.specs.Option.{option_map}
-use Rattle.std.proofs.lemmas.Bool.{cases_Bool, true≢false}
+use Rattle.fb_tasks.proofs.Words.{◌≡◌, ℕ, suc, ◌+◌, ◌==◌, not, if◌then◌else◌, List, [], ◌∷◌, ◌++◌, Bool, true, false, Some, None, Option}
+use Rattle.fb_tasks.proofs.Words.{inl, inr, length, filter, append-nil, refl, ap, sym, ◌∙◌, arith, AllByRecursion, flat_map, list_any}
+use Rattle.fb_tasks.proofs.Words.{range_with_len, option_map, cases_Bool, true≢false, filter-append, none-some, Shape, is_clean, BackRow}
+use Rattle.fb_tasks.proofs.Words.{SegmentLine, ContentRun, held_sector, held_in, runs_of, sectors_of, Block, Counts, Entry, is_delivered}
+use Rattle.fb_tasks.proofs.Words.{counts_of, Past, bare_state, content_of, Choice, Work, view, is_cleaned, segment_rows, is_newly_cleaned}
+use Rattle.fb_tasks.proofs.Words.{Session, is_none, found_for, by_deliveries, Stands, Cleans, MayFinish, IsAtWork, IsCutFrom, HoldsBlock}
+use Rattle.fb_tasks.proofs.Words.{choice_in, CleansBy, all_weaker, all_with, all_append, all_left, all_right, all_flat, flat_all}
+use Rattle.fb_tasks.proofs.Words.{flat_same, some_same, filter_none, each_all, list_all_each, other_number}
 use Rattle.std.proofs.lemmas.Grind.{flat_map-append}
-use Rattle.std.proofs.lemmas.List.Elements.{filter-append}
-use Rattle.std.proofs.lemmas.Option.{none-some}
-use Rattle.fb_geometry.specs.Shape.{Shape}
-use Rattle.fb_calls.specs.Sessions.{is_clean}
-use Rattle.fb_rows.specs.declared.back.BackRow.{BackRow}
-use Rattle.fb_rows.specs.declared.back.BackRow.TheVariants.{Segment as SegmentLine}
-use Rattle.fb_store.specs.declared.content.ContentRun.{ContentRun}
-use Rattle.fb_store.specs.Sparse.{held_sector, held_in}
-use Rattle.fb_store.specs.Runs.{runs_of, sectors_of}
-use Rattle.fb_wanted.specs.declared.block.Block.{Block}
-use Rattle.fb_wanted.specs.declared.block.Counts.{Counts}
-use Rattle.fb_wanted.specs.declared.block.Entry.{Entry}
-use Rattle.fb_wanted.specs.States.{is_delivered}
-use Rattle.fb_wanted.specs.Counting.{counts_of}
-use Rattle.fb_clean.specs.Segments as clean
-use Rattle.fb_model.specs.History.{Past, bare_state, content_of}
-use Rattle.fb_model.specs.Completion.{Choice, Work, view, is_cleaned}
-use Rattle.fb_model.specs.Images.{segment_rows, is_newly_cleaned}
-use Rattle.fb_tasks.specs.declared.session.Session.{Session}
-use Rattle.fb_tasks.specs.Keeping.{is_none}
-use Rattle.fb_tasks.specs.Taken.{found_for, by_deliveries}
-use Rattle.fb_tasks.specs.Standing.{Stands, Cleans, MayFinish, IsAtWork, IsCutFrom, HoldsBlock, choice_in, CleansBy}
-use Rattle.fb_tasks.proofs.Lists.{all_weaker, all_with, all_append, all_left, all_right, all_flat, flat_all, flat_same, some_same, filter_none, each_all, list_all_each, other_number}
 use Rattle.fb_tasks.proofs.Complete.{counts_same, filter-le, busy_by}
 use Rattle.fb_tasks.proofs.Segmented.{live_there}
+use Rattle.fb_clean.specs.Segments as clean
 
 filter_whole : {X : Type 0} (p : X → Bool) (xs : List X) → AllByRecursion (λ x. p x ≡ true) xs → length (filter p xs) ≡ length xs
 filter_whole p [] h = refl

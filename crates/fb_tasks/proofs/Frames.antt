@@ -1,22 +1,10 @@
 -- One task changes, and the others stay.
-use Rattle.std.proofs.Common.{◌≡◌, ℕ, zero, suc, ◌<◌, ◌≤◌, ◌==◌, if◌then◌else◌, List, [], ◌∷◌, false, Some, length, map, set, get_or, slice_get, append-nil, refl, ap, sym, ◌∙◌, arith, subst}
-use Rattle.std.specs.List.{AllByRecursion}
-use Rattle.std.proofs.lemmas.List.{length-set}
-use Rattle.std.proofs.lemmas.Option.{slice_get-get_or}
-use Rattle.fb_geometry.specs.Shape.{Shape}
-use Rattle.fb_calls.specs.declared.call.Call.{Call}
-use Rattle.fb_wanted.specs.declared.block.Block.{Block}
+use Rattle.fb_tasks.proofs.Words.{◌≡◌, ℕ, zero, suc, ◌<◌, ◌≤◌, ◌==◌, if◌then◌else◌, List, [], ◌∷◌, false, Some, length, map, set, get_or}
+use Rattle.fb_tasks.proofs.Words.{slice_get, append-nil, refl, ap, sym, ◌∙◌, arith, subst, AllByRecursion, length-set, slice_get-get_or}
+use Rattle.fb_tasks.proofs.Words.{Shape, Call, Block, Entry, after, state_after, Event, Past, called, tasks, registered, TaskView, view}
+use Rattle.fb_tasks.proofs.Words.{state_in, called-silent, number_same, Session, entry_by, entry_of, Told, IsPlaced, IsBlockOf, Tells}
+use Rattle.fb_tasks.proofs.Words.{some_same, all_weaker, number_other, each_set, one_or_other, nat_tests}
 use Rattle.fb_wanted.specs.declared.block.Change.{Change}
-use Rattle.fb_wanted.specs.declared.block.Entry.{Entry}
-use Rattle.fb_wanted.specs.States.{after, state_after}
-use Rattle.fb_model.specs.History.{Event, Past, called, tasks, registered}
-use Rattle.fb_model.specs.Completion.{TaskView, view, state_in}
-use Rattle.fb_model.proofs.Views.{called-silent, number_same}
-use Rattle.fb_tasks.specs.declared.session.Session.{Session}
-use Rattle.fb_tasks.specs.Standing.{entry_by, entry_of, Told, IsPlaced, IsBlockOf}
-use Rattle.fb_tasks.specs.Telling.{Tells}
-use Rattle.fb_tasks.proofs.Lists.{some_same, all_weaker, number_other, each_set, one_or_other}
-use Rattle.std.proofs.lemmas.Bool.Decides.{nat_tests}
 
 pub get_other : {X : Type 0} (xs : List X) (i k : ℕ) (y : X) → (i ≡ k → ⊥) → slice_get (set xs i y) k ≡ slice_get xs k
 get_other [] i k y other = refl

@@ -1,26 +1,14 @@
 -- Lists that only grow, and what a call leaves that ran out of memory.
-use Rattle.std.proofs.Common.{◌≡◌, ◌≤◌, ◌+◌, ℕ, List, [], ◌∷◌, ◌++◌, true, false, Some, inl, inr, length, map, set, slice_get, take, drop, append-nil, append_assoc, length-append, refl, ap, sym, ◌∙◌, subst, arith}
-use Rattle.std.specs.List.{AllByRecursion, range_with_len}
-use Rattle.std.proofs.Math.Seq.{map-set_same}
-use Rattle.std.proofs.lemmas.Bool.{cases_Bool}
-use Rattle.std.proofs.lemmas.List.{map-append, append_cancel_left, length-map, take-append-drop, take-map}
-use Rattle.std.proofs.lemmas.List.Elements.{filter-append}
-use Rattle.std.proofs.lemmas.Option.{slice_get_within, get_or_from_slice_get}
-use Rattle.fb_sectormap.specs.declared.cut.Cut.{Cut}
-use Rattle.fb_calls.specs.Sessions.{is_clean}
-use Rattle.fb_wanted.specs.declared.block.Block.{Block}
-use Rattle.fb_wanted.specs.declared.block.Entry.{Entry}
-use Rattle.fb_wanted.specs.Numbering.{registered, blocks_of}
-use Rattle.fb_wanted.specs.States.{wanted_unless}
-use Rattle.fb_model.specs.Segments.{numbered}
-use Rattle.fb_model.proofs.Views.{number_same}
-use Rattle.fb_tasks.specs.declared.session.Session.{Session}
-use Rattle.fb_tasks.specs.Keeping.{new_entries}
-use Rattle.fb_tasks.specs.Leaving.{HasGrown, HasBegun, OnlyRegisters, MayClean, OnlyTouched, by_calls}
-use Rattle.fb_tasks.proofs.Lists.{all_append, all_left, all_map, all_weaker, map_at, some_at, some_same}
+use Rattle.fb_tasks.proofs.Words.{◌≡◌, ◌≤◌, ◌+◌, ℕ, List, [], ◌∷◌, ◌++◌, true, false, Some, inl, inr, length, map, set, slice_get, take}
+use Rattle.fb_tasks.proofs.Words.{drop, append-nil, append_assoc, length-append, refl, ap, sym, ◌∙◌, subst, arith, AllByRecursion}
+use Rattle.fb_tasks.proofs.Words.{range_with_len, map-set_same, cases_Bool, map-append, append_cancel_left, length-map, take-append-drop}
+use Rattle.fb_tasks.proofs.Words.{take-map, filter-append, slice_get_within, get_or_from_slice_get, Cut, is_clean, Block, Entry}
+use Rattle.fb_tasks.proofs.Words.{blocks_of, wanted_unless, numbered, number_same, Session, new_entries, HasGrown, HasBegun}
+use Rattle.fb_tasks.proofs.Words.{OnlyRegisters, MayClean, OnlyTouched, by_calls, all_append, all_left, all_map, all_weaker, map_at}
+use Rattle.fb_tasks.proofs.Words.{some_at, some_same, take-map-range_with_len}
+use Rattle.fb_wanted.specs.Numbering.{registered}
 use Rattle.fb_tasks.proofs.Frames.{get_other}
 use Rattle.fb_tasks.proofs.Cuts.{cuts_own}
-use Rattle.std.proofs.lemmas.List.FromFn.{take-map-range_with_len}
 
 pub grown_not : {A : Type 0} (xs : List A) → HasGrown xs xs
 grown_not xs = record { added = []; is = sym (append-nil xs) }

@@ -1,3 +1,4 @@
+pub mod Words
 pub mod Leaving
 pub mod Lists
 pub mod Frames

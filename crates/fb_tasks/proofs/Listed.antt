@@ -1,14 +1,7 @@
 -- The lists of touched sessions and of those that a write asks, as sessions change.
-use Rattle.std.proofs.Common.{◌≡◌, ◌⊎◌, ◌<◌, ◌&&◌, not, ℕ, Bool, List, [], ◌∷◌, ◌++◌, length, true, false, Some, inl, inr, set, get_or, slice_get, length-append, ap, sym, ◌∙◌, arith}
-use Rattle.std.specs.BTreeSet.{BTreeSet, contains}
-use Rattle.std.specs.Ordering.{nat_cmp}
-use Rattle.std.proofs.lemmas.Bool.{true≢false}
-use Rattle.std.proofs.lemmas.List.{length-set}
-use Rattle.std.proofs.lemmas.Option.{slice_get-get_or}
-use Rattle.fb_calls.specs.Sessions.{is_backup}
-use Rattle.fb_tasks.specs.declared.session.Session.{Session}
-use Rattle.fb_tasks.specs.Listing.{AreListed, IsNoted}
-use Rattle.fb_tasks.proofs.Lists.{each_set, each_push}
+use Rattle.fb_tasks.proofs.Words.{◌≡◌, ◌⊎◌, ◌<◌, ◌&&◌, not, ℕ, Bool, List, [], ◌∷◌, ◌++◌, length, true, false, Some, inl, inr, set}
+use Rattle.fb_tasks.proofs.Words.{get_or, slice_get, length-append, ap, sym, ◌∙◌, arith, BTreeSet, contains, nat_cmp, true≢false}
+use Rattle.fb_tasks.proofs.Words.{length-set, slice_get-get_or, is_backup, Session, AreListed, IsNoted, each_set, each_push}
 
 abbrev IsTouchedIn : BTreeSet ℕ → ℕ → Session → Type 0
 IsTouchedIn touched k session = session.touched ≡ true → contains nat_cmp touched k ≡ true

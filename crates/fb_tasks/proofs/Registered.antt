@@ -1,22 +1,11 @@
 -- Blocks that an event registers.
-use Rattle.std.proofs.Common.{◌≡◌, ℕ, suc, ◌+◌, ◌<◌, ◌==◌, if◌then◌else◌, List, [], ◌∷◌, ◌++◌, true, false, inl, inr, length, filter, map, refl, ap, sym, ◌∙◌, arith, subst}
-use Rattle.std.proofs.Math.Bool.{or-true}
-use Rattle.std.specs.List.{AllByRecursion, list_any}
-use Rattle.std.proofs.lemmas.Bool.{cases_Bool}
-use Rattle.std.proofs.lemmas.List.{map-append}
-use Rattle.fb_wanted.specs.declared.block.Block.{Block}
-use Rattle.fb_wanted.specs.declared.block.Entry.{Entry}
-use Rattle.fb_wanted.specs.declared.block.State.TheVariants.{Wanted}
-use Rattle.fb_wanted.specs.States.{wanted_unless}
+use Rattle.fb_tasks.proofs.Words.{◌≡◌, ℕ, suc, ◌+◌, ◌<◌, ◌==◌, if◌then◌else◌, List, [], ◌∷◌, ◌++◌, true, false, inl, inr, length, filter}
+use Rattle.fb_tasks.proofs.Words.{map, refl, ap, sym, ◌∙◌, arith, subst, or-true, AllByRecursion, list_any, cases_Bool, map-append, Block}
+use Rattle.fb_tasks.proofs.Words.{Entry, Wanted, wanted_unless, Past, registered, same_block, view, own_of, state_in, number_same}
+use Rattle.fb_tasks.proofs.Words.{Session, new_entries, entry_of, AreIndexed, entry_in, all_weaker, all_pass, all_with, map_same}
+use Rattle.fb_tasks.proofs.Words.{same_number, other_number, one_or_other, nat_tests}
+use Rattle.fb_model.specs.History.{blocks_of}
 use Rattle.fb_wanted.specs.Numbering as numbering
-use Rattle.fb_model.specs.History.{Past, blocks_of, registered, same_block}
-use Rattle.fb_model.specs.Completion.{view, own_of, state_in}
-use Rattle.fb_model.proofs.Views.{number_same}
-use Rattle.fb_tasks.specs.declared.session.Session.{Session}
-use Rattle.fb_tasks.specs.Keeping.{new_entries}
-use Rattle.fb_tasks.specs.Standing.{entry_of, AreIndexed, entry_in}
-use Rattle.fb_tasks.proofs.Lists.{all_weaker, all_pass, all_with, map_same, same_number, other_number, one_or_other}
-use Rattle.std.proofs.lemmas.Bool.Decides.{nat_tests}
 
 pub itself : (block : Block) → same_block block block ≡ true
 itself block = rw (number_same block.task block.task refl, number_same block.index block.index refl) refl

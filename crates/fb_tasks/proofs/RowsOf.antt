@@ -1,29 +1,16 @@
 -- The sectors that can't be read, and what the rows of a test say of each task.
-use Rattle.std.proofs.Common.{◌≡◌, ℕ, ◌+◌, ◌-◌, ◌≤◌, List, [], ◌∷◌, ◌++◌, true, false, Some, if◌then◌else◌, take, slice_get, append-nil, append_assoc, sym, arith, refl, zero, suc, ◌<◌, ◌==◌, ◌&&◌, ◌||◌, not, Bool, inl, inr, length, filter, map, ap, ◌∙◌}
-use Rattle.std.specs.List.{range_with_len, flat_map, list_any}
-use Rattle.fb_store.specs.declared.content.Content.TheVariants.{Unreadable}
-use Rattle.fb_store.specs.declared.content.ContentRun.{ContentRun}
-use Rattle.fb_store.specs.Runs.{same_content}
-use Rattle.fb_model.specs.Images.{bad_sectors, Sources, test_rows, segment_rows, seal_rows, complete_rows, is_newly_cleaned, findings, is_scrub}
+use Rattle.fb_tasks.proofs.Words.{◌≡◌, ℕ, ◌+◌, ◌-◌, ◌≤◌, List, [], ◌∷◌, ◌++◌, true, false, Some, if◌then◌else◌, take, slice_get}
+use Rattle.fb_tasks.proofs.Words.{append-nil, append_assoc, sym, arith, refl, zero, suc, ◌<◌, ◌==◌, ◌&&◌, ◌||◌, not, Bool, inl, inr}
+use Rattle.fb_tasks.proofs.Words.{length, filter, map, ap, ◌∙◌, range_with_len, flat_map, list_any, Unreadable, ContentRun, same_content}
+use Rattle.fb_tasks.proofs.Words.{bad_sectors, Sources, test_rows, segment_rows, seal_rows, complete_rows, is_newly_cleaned, findings}
+use Rattle.fb_tasks.proofs.Words.{is_scrub, take_more, get_or_past, slice_get_within, get_or_from_slice_get, flat_map-append, and-false}
+use Rattle.fb_tasks.proofs.Words.{or-false, cases_Bool, nat_tests, list_any-append, BackRow, BadLine, SealLine, SegmentLine, CompleteLine}
+use Rattle.fb_tasks.proofs.Words.{DeliveryRow, Past, tasks, task_numbers, terms_of, is_seal_of, is_open_backup, Choice, view, work}
+use Rattle.fb_tasks.proofs.Words.{choices, is_complete, was_complete, is_segment_of, live_count, AreRowsOf, all_any, any_same, any_none}
+use Rattle.fb_tasks.proofs.Words.{Plain}
 use Rattle.fb_tasks.proofs.Cuts.{range_more}
-use Rattle.std.proofs.lemmas.List.{take_more, get_or_past}
-use Rattle.std.proofs.lemmas.Option.{slice_get_within, get_or_from_slice_get}
-use Rattle.std.proofs.lemmas.List.Concat.{flat_map-append}
-use Rattle.std.proofs.Math.Bool.{and-false, or-false}
-use Rattle.std.proofs.lemmas.Bool.{cases_Bool}
-use Rattle.std.proofs.lemmas.Bool.Decides.{nat_tests}
-use Rattle.std.proofs.lemmas.List.Folds.{list_any-append}
-use Rattle.fb_rows.specs.declared.back.BackRow.{BackRow}
-use Rattle.fb_rows.specs.declared.back.BackRow.TheVariants.{Bad as BadLine, Seal as SealLine, Segment as SegmentLine, Complete as CompleteLine}
 use Rattle.fb_rows.specs.declared.back.CompleteRow.{CompleteRow}
-use Rattle.fb_rows.specs.declared.back.DeliveryRow.{DeliveryRow}
 use Rattle.fb_rows.specs.declared.back.SealRow.{SealRow}
-use Rattle.fb_model.specs.History.{Past, tasks, task_numbers, terms_of, is_seal_of, is_open_backup}
-use Rattle.fb_model.specs.Completion.{Choice, view, work, choices, is_complete, was_complete, is_segment_of}
-use Rattle.fb_model.specs.Segments.{live_count}
-use Rattle.fb_tasks.specs.Standing.{AreRowsOf}
-use Rattle.fb_tasks.proofs.Lists.{all_any, any_same, any_none}
-use Rattle.fb_calls.specs.declared.call.Kind.TheVariants.{Plain}
 
 pub range_pushed : (before now : List ℕ) (first lbn : ℕ) → first ≤ lbn → now ≡ before ++ range_with_len first (lbn - first) → now ++ lbn ∷ [] ≡ before ++ range_with_len first (lbn + 1 - first)
 range_pushed before now first lbn from so_far =

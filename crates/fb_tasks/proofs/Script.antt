@@ -1,32 +1,14 @@
 -- The course of a script: what happens in it may happen, and it goes on.
-use Rattle.std.proofs.Common.{◌≡◌, ℕ, zero, suc, ◌+◌, ◌^◌, ◌≤◌, List, [], ◌∷◌, Bool, true, false, Some, length, map, refl, ap, sym, ◌∙◌, arith, subst}
+use Rattle.fb_tasks.proofs.Words.{◌≡◌, ℕ, zero, suc, ◌+◌, ◌^◌, ◌≤◌, List, [], ◌∷◌, Bool, true, false, Some, length, map, refl, ap, sym}
+use Rattle.fb_tasks.proofs.Words.{◌∙◌, arith, subst, length-map-range_with_len, true≢false, Request, Shape, Call, IsScript, Content}
+use Rattle.fb_tasks.proofs.Words.{Gives, Block, Entry, Wanted, is_wanted, BackRow, DeliveryRow, Past, finished, registered, state, tasks}
+use Rattle.fb_tasks.proofs.Words.{wanted, view, with_choices, test_rows, take_call, with_delivery, task_row, task_rows, Session}
+use Rattle.fb_tasks.proofs.Words.{by_deliveries, delivery_of, Tells, MayTake, MaySettle, MayDeliver, IsSettled, settled_at, Follows}
+use Rattle.fb_tasks.proofs.Words.{IsCalled, all_at, filter_to, some_same}
 use Rattle.std.specs.Prelude.{slice_get, Result, Ok, Err, OnOk}
-use Rattle.std.proofs.lemmas.List.FromFn.{length-map-range_with_len}
-use Rattle.std.proofs.lemmas.Bool.{true≢false}
-use Rattle.fb_units.specs.declared.types.Request.{Request}
-use Rattle.fb_geometry.specs.Shape.{Shape}
-use Rattle.fb_calls.specs.declared.call.Call.{Call}
-use Rattle.fb_calls.specs.Allowed.{IsScript}
-use Rattle.fb_store.specs.declared.content.Content.{Content}
-use Rattle.fb_store.specs.Sparse.{Gives}
-use Rattle.fb_wanted.specs.declared.block.Block.{Block}
-use Rattle.fb_wanted.specs.declared.block.Entry.{Entry}
-use Rattle.fb_wanted.specs.declared.block.State.TheVariants.{Wanted}
-use Rattle.fb_wanted.specs.States.{is_wanted}
 use Rattle.fb_rows.specs.Ranges.{AreRanges}
-use Rattle.fb_rows.specs.declared.back.BackRow.{BackRow}
-use Rattle.fb_rows.specs.declared.back.DeliveryRow.{DeliveryRow}
-use Rattle.fb_model.specs.History.{Past, finished, registered, state, tasks, wanted}
-use Rattle.fb_model.specs.Completion.{view}
-use Rattle.fb_model.specs.Segments.{with_choices}
-use Rattle.fb_model.specs.Images.{test_rows}
-use Rattle.fb_model.specs.Steps.{take_call, with_delivery, task_row, task_rows}
-use Rattle.fb_tasks.specs.declared.session.Session.{Session}
-use Rattle.fb_tasks.specs.Taken.{by_deliveries, delivery_of}
-use Rattle.fb_tasks.specs.Telling.{Tells, MayTake, MaySettle, MayDeliver, IsSettled, settled_at, IsBlockOf, entry_of}
-use Rattle.fb_tasks.specs.Script.{Follows, IsCalled}
+use Rattle.fb_tasks.specs.Telling.{IsBlockOf, entry_of}
 use Rattle.fb_tasks.proofs.Calls.{may-take, called-more, called-tested, called-chosen, called-delivered, called-finished}
-use Rattle.fb_tasks.proofs.Lists.{all_at, filter_to, some_same}
 
 module _ {settled : Bool} {disk : Shape} {calls : List Call} {next : ℕ} {sessions : List Session} {held : List Entry} (h : Follows settled disk calls next sessions held) where
   -- and after this as well

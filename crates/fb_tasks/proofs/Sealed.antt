@@ -1,45 +1,21 @@
 -- What is held of sectors and of blocks that ascend; a backup is sealed: its image has the delivered blocks alone.
-use Rattle.std.proofs.Common.{◌≡◌, ℕ, zero, suc, ◌+◌, ◌<◌, ◌≤◌, List, [], ◌∷◌, true, false, Some, Option, map, refl, arith, append-nil, ◌-◌, ◌==◌, ◌&&◌, ◌||◌, ◌^◌, not, nat_lt, if◌then◌else◌, ◌++◌, Bool, None, length, filter, take, slice_get, ap, ap₂, sym, ◌∙◌, subst, inl, inr}
-use Rattle.std.specs.List.{AllByRecursion, range_with_len, flat_map, list_any, list_all}
-use Rattle.std.proofs.lemmas.Bool.Decides.{nat_tests}
-use Rattle.fb_store.specs.declared.content.Content.{Content}
-use Rattle.fb_store.specs.Sparse.{held_in, EndsBy}
-use Rattle.fb_store.specs.Writes.{is_within}
-use Rattle.fb_wanted.specs.declared.block.Block.{Block}
-use Rattle.fb_tasks.specs.Standing.{Ascend, entry_of, entry_in, AreIndexed, IsBlockOf, HoldsBlock, HoldsBlocks, HoldsImage, Stands}
-use Rattle.fb_tasks.proofs.Lists.{all_weaker, all_with, all_filter, all_at, some_same, filter_from, map_at, some_at, list_all_each}
-use Rattle.std.proofs.Math.Bool.{and-false, and_comm, and-true, or-false}
-use Rattle.std.proofs.lemmas.Option.{slice_get_within, get_or_from_slice_get}
-use Rattle.std.proofs.lemmas.List.{take_more}
-use Rattle.std.proofs.lemmas.Bool.{and_parts, cases_Bool}
+use Rattle.fb_tasks.proofs.Words.{◌≡◌, ℕ, zero, suc, ◌+◌, ◌<◌, ◌≤◌, List, [], ◌∷◌, true, false, Some, Option, map, refl, arith}
+use Rattle.fb_tasks.proofs.Words.{append-nil, ◌-◌, ◌==◌, ◌&&◌, ◌||◌, ◌^◌, not, nat_lt, if◌then◌else◌, ◌++◌, Bool, None, length, filter}
+use Rattle.fb_tasks.proofs.Words.{take, slice_get, ap, ap₂, sym, ◌∙◌, subst, inl, inr, AllByRecursion, range_with_len, flat_map, list_any}
+use Rattle.fb_tasks.proofs.Words.{list_all, nat_tests, Content, held_in, EndsBy, is_within, Block, Ascend, entry_of, entry_in, AreIndexed}
+use Rattle.fb_tasks.proofs.Words.{IsBlockOf, HoldsBlock, HoldsBlocks, HoldsImage, Stands, all_weaker, all_with, all_filter, all_at}
+use Rattle.fb_tasks.proofs.Words.{some_same, filter_from, map_at, some_at, list_all_each, and-false, and_comm, and-true, or-false}
+use Rattle.fb_tasks.proofs.Words.{slice_get_within, get_or_from_slice_get, take_more, and_parts, cases_Bool, Shape, Kind, Backup}
+use Rattle.fb_tasks.proofs.Words.{is_backup, ContentRun, held_at, runs_of, sectors_of, Entry, is_delivered, is_aborted, is_block}
+use Rattle.fb_tasks.proofs.Words.{counts_of, Past, tasks, registered, is_open_backup, Work, TaskView, view, is_unsealed, is_over}
+use Rattle.fb_tasks.proofs.Words.{is_complete, is_complete_as, is_done, number_same, without_aborted, SealLine, seal_rows, BackRow}
+use Rattle.fb_tasks.proofs.Words.{found_for, by_deliveries, Session, take-length, all_both, list_any-append}
 use Rattle.std.proofs.lemmas.Grind.{flat_map-append}
-use Rattle.fb_geometry.specs.Shape.{Shape}
-use Rattle.fb_calls.specs.declared.call.Kind.{Kind}
-use Rattle.fb_calls.specs.declared.call.Kind.TheVariants.{Backup}
-use Rattle.fb_calls.specs.Sessions.{is_backup}
-use Rattle.fb_store.specs.declared.content.ContentRun.{ContentRun}
-use Rattle.fb_store.specs.Index.{held_at}
-use Rattle.fb_store.specs.Runs.{runs_of, sectors_of}
-use Rattle.fb_wanted.specs.declared.block.Entry.{Entry}
-use Rattle.fb_wanted.specs.States.{is_delivered, is_aborted, is_block}
-use Rattle.fb_wanted.specs.Counting.{counts_of}
-use Rattle.fb_model.specs.History.{Past, tasks, registered, is_open_backup}
-use Rattle.fb_model.specs.Completion.{Work, TaskView, view, is_unsealed, is_over, is_complete, is_complete_as, is_done}
-use Rattle.fb_model.proofs.Views.{number_same}
-use Rattle.fb_tasks.specs.Keeping.{without_aborted}
-use Rattle.fb_rows.specs.declared.back.BackRow.TheVariants.{Seal as SealLine}
-use Rattle.fb_model.specs.Images.{seal_rows}
-use Rattle.fb_rows.specs.declared.back.BackRow.{BackRow}
-use Rattle.fb_tasks.specs.Taken.{found_for, by_deliveries}
-use Rattle.fb_tasks.specs.declared.session.Session.{Session}
 use Rattle.fb_tasks.proofs.Complete.{counts_same}
 use Rattle.fb_tasks.proofs.Registered.{blocks_in, own}
 use Rattle.fb_tasks.proofs.States.{shown_aborted}
 use Rattle.fb_tasks.proofs.Changes.{open_by}
 use Rattle.fb_tasks.proofs.Cuts.{ranges_join}
-use Rattle.std.proofs.Math.Seq.{take-length}
-use Rattle.fb_model.proofs.Lists.{all_both}
-use Rattle.std.proofs.lemmas.List.Folds.{list_any-append}
 
 -- ascending blocks begin at the first sector or after it
 pub ascend_from : (low : ℕ) (bs : List Block) → Ascend low bs → AllByRecursion (λ b. low ≤ b.lbn) bs

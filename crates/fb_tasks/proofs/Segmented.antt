@@ -1,27 +1,13 @@
 -- The segments of a log, as the history and as the session have them.
-use Rattle.std.proofs.Common.{◌≡◌, ℕ, zero, suc, ◌+◌, ◌-◌, ◌*◌, ◌^◌, ◌<◌, ◌≤◌, ◌==◌, not, if◌then◌else◌, List, [], ◌∷◌, ◌++◌, Bool, true, false, Some, None, Option, inl, inr, length, filter, map, slice_get, length-append, refl, ap, sym, ◌∙◌, arith, subst}
-use Rattle.std.specs.List.{AllByRecursion, flat_map, range_with_len, slice_index_or, sum_by, best_of}
-use Rattle.std.proofs.lemmas.Bool.{cases_Bool}
-use Rattle.std.proofs.lemmas.List.Sums.{sum_by-cons}
-use Rattle.std.proofs.lemmas.List.Concat.{flat_map-append}
-use Rattle.std.proofs.lemmas.Option.{get_or_from_slice_get}
-use Rattle.fb_geometry.specs.Shape.{Shape}
-use Rattle.fb_geometry.specs.Places.{places}
-use Rattle.fb_sectormap.specs.declared.cut.Cut.{Cut}
-use Rattle.fb_sectormap.specs.Cutting.{cutting, with_sector}
-use Rattle.fb_calls.specs.declared.call.Action.{Action}
-use Rattle.fb_calls.specs.declared.call.Action.TheVariants.{Segment}
-use Rattle.fb_calls.specs.Blocks.{live_cuts}
-use Rattle.fb_wanted.specs.declared.block.Block.{Block}
-use Rattle.fb_clean.specs.Segments as clean
-use Rattle.fb_model.specs.History.{Past, LogSegment, called}
-use Rattle.fb_model.specs.Completion.{Work, segments, segment_by}
-use Rattle.fb_model.specs.Segments.{numbered, live_count, is_better, is_chosen, unchosen}
-use Rattle.fb_tasks.specs.Keeping.{cuts_of}
-use Rattle.fb_tasks.specs.Standing.{kept_segment, Ascend, IsBlockOf}
-use Rattle.fb_tasks.proofs.Lists.{some_same, all_append, all_weaker, map_at}
-use Rattle.fb_model.proofs.Cuts.{cuts_are}
+use Rattle.fb_tasks.proofs.Words.{◌≡◌, ℕ, zero, suc, ◌+◌, ◌-◌, ◌*◌, ◌^◌, ◌<◌, ◌≤◌, ◌==◌, not, if◌then◌else◌, List, [], ◌∷◌, ◌++◌, Bool}
+use Rattle.fb_tasks.proofs.Words.{true, false, Some, None, Option, inl, inr, length, filter, map, slice_get, length-append, refl, ap, sym}
+use Rattle.fb_tasks.proofs.Words.{◌∙◌, arith, subst, AllByRecursion, flat_map, range_with_len, slice_index_or, sum_by, best_of}
+use Rattle.fb_tasks.proofs.Words.{cases_Bool, sum_by-cons, flat_map-append, get_or_from_slice_get, Shape, places, Cut, cutting}
+use Rattle.fb_tasks.proofs.Words.{with_sector, Action, Segment, live_cuts, Block, Past, LogSegment, called, Work, segments, segment_by}
+use Rattle.fb_tasks.proofs.Words.{numbered, live_count, is_better, is_chosen, unchosen, cuts_of, kept_segment, Ascend, IsBlockOf}
+use Rattle.fb_tasks.proofs.Words.{some_same, all_append, all_weaker, map_at, cuts_are}
 use Rattle.fb_tasks.proofs.Cuts.{cuts_placed, cuts_ascend, cuts_end, cuts_cover, numbered_append}
+use Rattle.fb_clean.specs.Segments as clean
 
 abbrev pub NumberedFrom : ℕ → List LogSegment → Type 0
 NumberedFrom n [] = Unit {0}

@@ -1,19 +1,9 @@
 -- The states of registered blocks, suspended or not.
-use Rattle.std.proofs.Common.{◌≡◌, ℕ, ◌&&◌, not, if◌then◌else◌, List, [], ◌∷◌, Bool, true, false, Option, refl, sym, ◌∙◌, arith}
-use Rattle.std.specs.List.{AllByRecursion}
-use Rattle.std.proofs.lemmas.Bool.{true≢false}
-use Rattle.fb_wanted.specs.declared.block.Block.{Block}
-use Rattle.fb_wanted.specs.declared.block.State.{State}
-use Rattle.fb_wanted.specs.declared.block.State.TheVariants.{Wanted, Suspended, Aborted}
-use Rattle.fb_wanted.specs.States.{is_wanted, is_delivered, is_suspended, is_open, is_aborted, wanted_unless}
-use Rattle.fb_model.specs.History.{Past, bare_state}
-use Rattle.fb_model.specs.Completion.{Work, TaskView, view, own_of, ended, with_states, is_unsealed}
-use Rattle.fb_store.specs.declared.content.Content.{Content}
-use Rattle.fb_tasks.specs.Standing.{HoldsBlock, Stands, Told, IsQuiet, HoldsImage, AreReported, Cleans, IsAtWork}
-use Rattle.fb_tasks.specs.declared.session.Session.{Session}
-use Rattle.fb_calls.specs.Sessions.{is_clean}
-use Rattle.fb_store.specs.Index.{held_at}
-use Rattle.fb_tasks.proofs.Lists.{all_weaker}
+use Rattle.fb_tasks.proofs.Words.{◌≡◌, ℕ, ◌&&◌, not, if◌then◌else◌, List, [], ◌∷◌, Bool, true, false, Option, refl, sym, ◌∙◌, arith}
+use Rattle.fb_tasks.proofs.Words.{AllByRecursion, true≢false, Block, State, Wanted, Suspended, Aborted, is_wanted, is_delivered}
+use Rattle.fb_tasks.proofs.Words.{is_suspended, is_open, is_aborted, wanted_unless, Past, bare_state, Work, TaskView, view, own_of, ended}
+use Rattle.fb_tasks.proofs.Words.{with_states, is_unsealed, Content, HoldsBlock, Stands, Told, IsQuiet, HoldsImage, AreReported, Cleans}
+use Rattle.fb_tasks.proofs.Words.{IsAtWork, Session, is_clean, held_at, all_weaker}
 
 -- a block of a task that is held back is suspended where it would be wanted
 abbrev pub shown : State → Bool → State

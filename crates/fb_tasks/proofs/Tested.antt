@@ -1,33 +1,19 @@
 -- A test has given its rows, and the sessions are tested one after the other.
-use Rattle.std.proofs.Common.{◌≡◌, ℕ, ◌<◌, ◌==◌, ◌&&◌, ◌||◌, not, if◌then◌else◌, List, [], ◌∷◌, ◌++◌, Bool, true, false, Some, None, Option, length, refl, ap, ap₂, sym, ◌∙◌, arith, ◌+◌, ◌≤◌, set, slice_get, append-nil, append_assoc}
-use Rattle.std.proofs.Math.Bool.{and-false, or-true}
-use Rattle.std.specs.List.{AllByRecursion, list_any, flat_map, range_with_len}
-use Rattle.std.proofs.lemmas.List.Folds.{list_any-append}
-use Rattle.fb_calls.specs.Sessions.{is_backup}
-use Rattle.fb_rows.specs.declared.back.BackRow.{BackRow}
-use Rattle.fb_rows.specs.declared.back.BackRow.TheVariants.{Seal as SealLine, Complete as CompleteLine}
-use Rattle.fb_store.specs.declared.content.Content.{Content}
-use Rattle.fb_store.specs.Index.{held_at}
-use Rattle.fb_model.specs.History.{Past, tested, tasks, task_numbers, bare_state, content_of, is_open_backup, registered}
-use Rattle.fb_model.specs.Completion.{Choice, TaskView, view, tested_view, is_unsealed, is_cleaned, is_done, is_complete, is_segment_of, work}
-use Rattle.fb_model.specs.Segments.{is_busy}
-use Rattle.fb_model.specs.Images.{Sources, test_rows, segment_rows, seal_rows, complete_rows, is_newly_cleaned}
-use Rattle.fb_model.proofs.Views.{number_same, tested-view}
-use Rattle.fb_tasks.specs.declared.session.Session.{Session}
-use Rattle.fb_tasks.specs.Keeping.{is_none, IsSealed}
-use Rattle.fb_tasks.specs.Standing.{AreRowsOf, AreReported, IsAtWork, Stands, Cleans, HoldsBlock, HoldsImage, choice_in, CleansBy, IsUntouched, IsQuiet, HasNoChoice, HoldsBlocks, HasChosen, HaveChosen}
-use Rattle.fb_tasks.specs.Telling.{IsSettled, Tells}
-use Rattle.fb_tasks.proofs.Lists.{all_weaker, filter_none, flat_none, all_range, some_at, each_set, one_or_other, step_to}
+use Rattle.fb_tasks.proofs.Words.{◌≡◌, ℕ, ◌<◌, ◌==◌, ◌&&◌, ◌||◌, not, if◌then◌else◌, List, [], ◌∷◌, ◌++◌, Bool, true, false, Some, None}
+use Rattle.fb_tasks.proofs.Words.{Option, length, refl, ap, ap₂, sym, ◌∙◌, arith, ◌+◌, ◌≤◌, set, slice_get, append-nil, append_assoc}
+use Rattle.fb_tasks.proofs.Words.{and-false, or-true, AllByRecursion, list_any, flat_map, range_with_len, list_any-append, is_backup}
+use Rattle.fb_tasks.proofs.Words.{BackRow, SealLine, CompleteLine, Content, held_at, Past, tested, tasks, task_numbers, bare_state}
+use Rattle.fb_tasks.proofs.Words.{content_of, is_open_backup, registered, Choice, TaskView, view, tested_view, is_unsealed, is_cleaned}
+use Rattle.fb_tasks.proofs.Words.{is_done, is_complete, is_segment_of, work, is_busy, Sources, test_rows, segment_rows, seal_rows}
+use Rattle.fb_tasks.proofs.Words.{complete_rows, is_newly_cleaned, number_same, tested-view, Session, is_none, IsSealed, AreRowsOf}
+use Rattle.fb_tasks.proofs.Words.{AreReported, IsAtWork, Stands, Cleans, HoldsBlock, HoldsImage, choice_in, CleansBy, IsUntouched}
+use Rattle.fb_tasks.proofs.Words.{IsQuiet, HasNoChoice, HoldsBlocks, HasChosen, HaveChosen, IsSettled, Tells, all_weaker, filter_none}
+use Rattle.fb_tasks.proofs.Words.{flat_none, all_range, some_at, each_set, one_or_other, step_to, nat_tests, get_or_past, length-set}
+use Rattle.fb_tasks.proofs.Words.{Shape, Entry, by_deliveries, Plain}
 use Rattle.fb_tasks.proofs.Sealed.{held_same}
 use Rattle.fb_tasks.proofs.Complete.{busy_by}
-use Rattle.std.proofs.lemmas.Bool.Decides.{nat_tests}
 use Rattle.std.proofs.lemmas.Grind.{flat_map-append}
-use Rattle.std.proofs.lemmas.List.{get_or_past, length-set}
-use Rattle.fb_geometry.specs.Shape.{Shape}
-use Rattle.fb_wanted.specs.declared.block.Entry.{Entry}
-use Rattle.fb_tasks.specs.Taken.{by_deliveries}
 use Rattle.fb_tasks.proofs.Frames.{kept-entries, get_other}
-use Rattle.fb_calls.specs.declared.call.Kind.TheVariants.{Plain}
 use Rattle.fb_tasks.proofs.Additions.{none-yet}
 use Rattle.fb_tasks.proofs.States.{flagged-stands}
 use Rattle.fb_tasks.proofs.Cuts.{range_next}

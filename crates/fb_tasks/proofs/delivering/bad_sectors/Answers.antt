@@ -1,6 +1,4 @@
-use Rattle.std.proofs.Common.{ap, ◌∙◌}
-use Rattle.fb_store.specs.declared.content.Content.TheVariants.{Unreadable}
-use Rattle.fb_store.specs.Runs.{same_content}
+use Rattle.fb_tasks.proofs.Words.{ap, ◌∙◌, Unreadable, same_content}
 use Rattle.fb_tasks.proofs.RowsOf.{bad_pushed, bad_passed}
 use Rattle.fb_tasks.proofs.delivering.bad_sectors.Goals.{in-Unreadable+in_ok-push_range-in-Unreadable, in-Filled}
 use Rattle.fb_tasks.proofs.delivering.bad_sectors.Goals as goal

@@ -1,5 +1,4 @@
-use Rattle.std.proofs.Common.{◌≡◌, take}
-use Rattle.fb_model.specs.Images.{bad_sectors}
+use Rattle.fb_tasks.proofs.Words.{◌≡◌, take, bad_sectors}
 use Rattle.fb_tasks.proofs.delivering.bad_sectors.Given as goal
 
 abbrev pub invariant-loop-i : goal.invariant-loop-i

@@ -1,6 +1,4 @@
-use Rattle.std.proofs.Common.{◌∙◌}
-use Rattle.fb_rows.specs.declared.back.BackRow.TheVariants.{Bad}
-use Rattle.fb_wanted.proofs.Lists.{on_err}
+use Rattle.fb_tasks.proofs.Words.{◌∙◌, Bad, on_err}
 use Rattle.fb_tasks.proofs.Leaving.{begun_mapped}
 use Rattle.fb_tasks.proofs.delivering.push_findings.Goals as goal
 

@@ -1,5 +1,4 @@
-use Rattle.std.proofs.Common.{◌≡◌, ◌++◌, map, take}
-use Rattle.fb_rows.specs.declared.back.BackRow.TheVariants.{Bad}
+use Rattle.fb_tasks.proofs.Words.{◌≡◌, ◌++◌, map, take, Bad}
 use Rattle.fb_tasks.proofs.delivering.push_findings.Given as goal
 
 abbrev pub invariant-loop-lbn : goal.invariant-loop-lbn

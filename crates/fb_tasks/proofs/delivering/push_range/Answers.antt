@@ -1,4 +1,4 @@
-use Rattle.std.proofs.Common.{◌∙◌}
+use Rattle.fb_tasks.proofs.Words.{◌∙◌}
 use Rattle.fb_tasks.proofs.RowsOf.{range_pushed}
 use Rattle.fb_tasks.proofs.delivering.push_range.Goals as goal
 

@@ -1,5 +1,4 @@
-use Rattle.std.proofs.Common.{◌≡◌, ◌-◌, ◌++◌}
-use Rattle.std.specs.List.{range_with_len}
+use Rattle.fb_tasks.proofs.Words.{◌≡◌, ◌-◌, ◌++◌, range_with_len}
 use Rattle.fb_tasks.proofs.delivering.push_range.Given as goal
 
 abbrev pub invariant-loop-lbn : goal.invariant-loop-lbn

@@ -1,6 +1,4 @@
-use Rattle.std.proofs.Common.{refl}
-use Rattle.fb_model.specs.History.{finished}
-use Rattle.fb_model.proofs.Views.{read-silent}
+use Rattle.fb_tasks.proofs.Words.{refl, finished, read-silent}
 use Rattle.fb_tasks.proofs.Frames.{silent-tells}
 use Rattle.fb_tasks.proofs.sessions.reads_change_nothing.Goals as goal
 

@@ -1,5 +1,4 @@
-use Rattle.std.proofs.Common.{◌≡◌, ℕ, ◌<◌, ◌≤◌, ◌-◌, false, Some, length, slice_get}
-use Rattle.fb_tasks.specs.declared.session.Session.{Session}
+use Rattle.fb_tasks.proofs.Words.{◌≡◌, ℕ, ◌<◌, ◌≤◌, ◌-◌, false, Some, length, slice_get, Session}
 use Rattle.fb_tasks.proofs.touched.next_touched.Given as goal
 
 -- no session before this one was touched

@@ -1,13 +1,5 @@
-use Rattle.std.proofs.Common.{◌≡◌, ℕ, ◌+◌, List, length, drop, refl, ap, ◌∙◌, length-append, arith}
-use Rattle.fb_sectormap.specs.Cutting.{cutting}
-use Rattle.fb_clean.specs.Segments.{live_of}
-use Rattle.fb_tasks.specs.Keeping.{cuts_of}
-use Rattle.fb_geometry.specs.Shape.{Shape}
-use Rattle.fb_wanted.specs.declared.block.Entry.{Entry}
-use Rattle.fb_model.specs.Segments.{numbered}
-use Rattle.fb_tasks.specs.declared.session.Session.{Session}
-use Rattle.fb_tasks.specs.Keeping.{new_entries}
-use Rattle.fb_tasks.specs.Leaving.{HasBegun, OnlyRegisters}
+use Rattle.fb_tasks.proofs.Words.{◌≡◌, ℕ, ◌+◌, List, length, drop, refl, ap, ◌∙◌, length-append, arith, cutting, live_of, cuts_of, Shape}
+use Rattle.fb_tasks.proofs.Words.{Entry, numbered, Session, new_entries, HasBegun, OnlyRegisters}
 use Rattle.fb_tasks.proofs.Leaving.{registers_none, registers_more, begun_own}
 use Rattle.fb_tasks.proofs.Cuts.{drop_at, live-more}
 use Rattle.fb_tasks.proofs.wanting.want_live.Goals as goal

@@ -1,9 +1,5 @@
-use Rattle.std.proofs.Common.{◌≡◌, ◌+◌, ◌≤◌, ◌++◌, length, drop}
-use Rattle.fb_clean.specs.Segments.{live_of}
-use Rattle.fb_wanted.specs.Numbering.{registered, blocks_of}
-use Rattle.fb_model.specs.Segments.{numbered}
-use Rattle.fb_tasks.specs.Keeping.{new_entries, cuts_of}
-use Rattle.fb_tasks.specs.Leaving.{OnlyRegisters}
+use Rattle.fb_tasks.proofs.Words.{◌≡◌, ◌+◌, ◌≤◌, ◌++◌, length, drop, live_of, blocks_of, numbered, new_entries, cuts_of, OnlyRegisters}
+use Rattle.fb_wanted.specs.Numbering.{registered}
 use Rattle.fb_tasks.proofs.wanting.want_live.Given as goal
 
 -- the registered blocks and those that are left are all that the live blocks give

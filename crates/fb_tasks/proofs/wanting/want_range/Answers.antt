@@ -1,14 +1,7 @@
-use Rattle.std.proofs.Common.{◌≡◌, ℕ, ◌+◌, ◌-◌, List, [], ◌∷◌, ◌++◌, length, length-append, refl, ap, sym, subst, ◌∙◌, append-nil, arith}
-use Rattle.fb_geometry.specs.Shape.{Shape}
-use Rattle.fb_sectormap.specs.Cutting.{cutting}
-use Rattle.fb_wanted.specs.Numbering.{registered, blocks_of}
-use Rattle.fb_wanted.specs.declared.block.Entry.{Entry}
-use Rattle.fb_model.specs.Segments.{numbered}
-use Rattle.fb_tasks.specs.declared.session.Session.{Session}
-use Rattle.fb_tasks.specs.Keeping.{new_entries}
+use Rattle.fb_tasks.proofs.Words.{◌≡◌, ℕ, ◌+◌, ◌-◌, List, [], ◌∷◌, ◌++◌, length, length-append, refl, ap, sym, subst, ◌∙◌, append-nil}
+use Rattle.fb_tasks.proofs.Words.{arith, Shape, cutting, blocks_of, Entry, numbered, Session, new_entries, HasBegun, wanted_unless}
+use Rattle.fb_wanted.specs.Numbering.{registered}
 use Rattle.fb_tasks.proofs.Complete.{registered_count, registered_few}
-use Rattle.fb_tasks.specs.Leaving.{HasBegun}
-use Rattle.fb_wanted.specs.States.{wanted_unless}
 use Rattle.fb_tasks.proofs.Leaving.{grown_not, grown_more, begun_not, begun_by, cut_registered, one_counted}
 use Rattle.fb_tasks.proofs.wanting.want_range.Goals as goal
 

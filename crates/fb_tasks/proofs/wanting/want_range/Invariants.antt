@@ -1,10 +1,6 @@
-use Rattle.std.proofs.Common.{◌≡◌, ◌+◌, ◌≤◌, ◌++◌, length}
-use Rattle.fb_sectormap.specs.Cutting.{cutting}
+use Rattle.fb_tasks.proofs.Words.{◌≡◌, ◌+◌, ◌≤◌, ◌++◌, length, cutting, blocks_of, numbered, new_entries, HasGrown}
 use Rattle.fb_sectormap.specs.Runs.{IsSpan}
-use Rattle.fb_wanted.specs.Numbering.{registered, blocks_of}
-use Rattle.fb_model.specs.Segments.{numbered}
-use Rattle.fb_tasks.specs.Keeping.{new_entries}
-use Rattle.fb_tasks.specs.Leaving.{HasGrown}
+use Rattle.fb_wanted.specs.Numbering.{registered}
 use Rattle.fb_tasks.proofs.wanting.want_range.Given as goal
 
 -- the registered blocks and those that are left are all that the range gives

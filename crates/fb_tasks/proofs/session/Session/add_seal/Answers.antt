@@ -1,12 +1,9 @@
-use Rattle.std.proofs.Common.{refl, ◌≡◌, true, ap, ◌∙◌, ◌++◌, sym}
-use Rattle.std.proofs.lemmas.Result.{on_ok_weaker}
-use Rattle.fb_model.specs.Completion.{view, is_unsealed}
+use Rattle.fb_tasks.proofs.Words.{refl, ◌≡◌, true, ap, ◌∙◌, ◌++◌, sym, on_ok_weaker, view, is_unsealed, and-false}
 use Rattle.fb_tasks.proofs.Complete.{done_is}
 use Rattle.fb_tasks.proofs.Sealed.{open_is, seal_row, no-seal}
-use Rattle.std.proofs.Math.Bool.{and-false}
-use Rattle.fb_tasks.proofs.session.Session.add_seal.Goals as goal
 use Rattle.fb_tasks.proofs.session.Session.add_seal.Goals.{then-not-complete-via-then-not-complete, then-not-complete-via-else-not-complete+then-not-is_open_backup}
 use Rattle.fb_tasks.proofs.Changes.{open_by}
+use Rattle.fb_tasks.proofs.session.Session.add_seal.Goals as goal
 
 pub returns-clause-rows : goal.returns-clause-rows
 returns-clause-rows c = on_ok_weaker c.push.result (λ pushed disk past holds stands says.

@@ -1,13 +1,6 @@
-use Rattle.std.proofs.Common.{◌≡◌, ◌&&◌, ℕ, List, ◌++◌, not, Bool, true, false, append-nil, refl, ap, sym, ◌∙◌, subst, arith}
-use Rattle.std.proofs.lemmas.Bool.{and_parts}
-use Rattle.fb_calls.specs.Sessions.{is_clean}
-use Rattle.fb_model.specs.Images.{segment_rows}
-use Rattle.fb_model.specs.Segments.{choose_up_to}
-use Rattle.fb_tasks.specs.Taken.{by_deliveries}
-use Rattle.fb_wanted.specs.declared.block.Entry.{Entry}
-use Rattle.fb_tasks.specs.declared.session.Session.{Session}
-use Rattle.fb_tasks.specs.Leaving.{OnlyRegisters}
-use Rattle.fb_tasks.specs.Standing.{MayChoose}
+use Rattle.fb_tasks.proofs.Words.{◌≡◌, ◌&&◌, ℕ, List, ◌++◌, not, Bool, true, false, append-nil, refl, ap, sym, ◌∙◌, subst, arith}
+use Rattle.fb_tasks.proofs.Words.{and_parts, is_clean, segment_rows, choose_up_to, by_deliveries, Entry, Session, OnlyRegisters}
+use Rattle.fb_tasks.proofs.Words.{MayChoose}
 use Rattle.fb_tasks.proofs.Leaving.{grown_not, grown_more, registers_none, registers_more, registers_weaker}
 use Rattle.fb_tasks.proofs.AllChoices.{up_to_more, reported_rows, idle-chosen, idle-rows, turns_in, turns_all, turned-chosen}
 use Rattle.fb_tasks.proofs.session.Session.choose.Goals as goal

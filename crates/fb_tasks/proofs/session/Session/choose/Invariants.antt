@@ -1,12 +1,5 @@
-use Rattle.std.proofs.Common.{◌≡◌, ◌++◌, true, false}
-use Rattle.fb_calls.specs.Sessions.{is_clean}
-use Rattle.fb_model.specs.History.{Past}
-use Rattle.fb_model.specs.Segments.{choose_up_to}
-use Rattle.fb_model.specs.Images.{segment_rows}
-use Rattle.fb_tasks.specs.Taken.{by_deliveries}
-use Rattle.fb_model.specs.Completion.{view}
-use Rattle.fb_tasks.specs.Standing.{MayChoose, AreReported}
-use Rattle.fb_tasks.specs.Leaving.{HasGrown, OnlyRegisters, by_calls}
+use Rattle.fb_tasks.proofs.Words.{◌≡◌, ◌++◌, true, false, is_clean, Past, choose_up_to, segment_rows, by_deliveries, view, MayChoose}
+use Rattle.fb_tasks.proofs.Words.{AreReported, HasGrown, OnlyRegisters, by_calls}
 use Rattle.fb_tasks.proofs.session.Session.choose.Given as goal
 
 -- so many choices were made as turns have passed

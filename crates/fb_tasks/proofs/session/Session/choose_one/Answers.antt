@@ -1,14 +1,8 @@
-use Rattle.std.proofs.Common.{◌≡◌, ◌+◌, ◌≤◌, ◌++◌, length, ap, sym, ◌∙◌, subst, arith}
-use Rattle.std.specs.List.{AllByRecursion}
-use Rattle.fb_geometry.specs.Places.{places}
-use Rattle.fb_clean.specs.Segments as clean
-use Rattle.fb_model.specs.Segments.{choose_once}
-use Rattle.fb_model.specs.Images.{segment_rows}
-use Rattle.fb_tasks.specs.Keeping.{cuts_of}
-use Rattle.fb_tasks.specs.Taken.{by_deliveries}
-use Rattle.fb_tasks.specs.Standing.{MayChoose}
+use Rattle.fb_tasks.proofs.Words.{◌≡◌, ◌+◌, ◌≤◌, ◌++◌, length, ap, sym, ◌∙◌, subst, arith, AllByRecursion, places, choose_once}
+use Rattle.fb_tasks.proofs.Words.{segment_rows, cuts_of, by_deliveries, MayChoose}
 use Rattle.fb_tasks.proofs.Leaving.{registers_none}
 use Rattle.fb_tasks.proofs.ChoiceSteps.{choice-step, none-step, live-on_disk, live-few, live-may, live-rows, empty-may, empty-rows}
+use Rattle.fb_clean.specs.Segments as clean
 use Rattle.fb_tasks.proofs.session.Session.choose_one.Goals as goal
 
 pub want_live-requires-clause-on_disk : goal.want_live-requires-clause-on_disk

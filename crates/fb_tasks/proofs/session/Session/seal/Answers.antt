@@ -1,17 +1,6 @@
-use Rattle.std.proofs.Common.{ap, ◌∙◌, arith, ◌≡◌, true, ℕ, filter}
-use Rattle.std.proofs.lemmas.Bool.{true≢false}
-use Rattle.std.proofs.lemmas.Result.{IfOk-weaker}
-use Rattle.fb_store.specs.Index.{held_at}
-use Rattle.std.specs.List.{range_with_len}
-use Rattle.fb_geometry.specs.Shape.{Shape}
-use Rattle.fb_store.specs.Sparse.{held_in, EndsBy}
-use Rattle.fb_store.specs.Runs.{runs_of}
-use Rattle.fb_wanted.specs.States.{is_delivered}
-use Rattle.fb_model.specs.History.{Past, is_open_backup}
-use Rattle.fb_model.specs.Completion.{view, is_complete}
-use Rattle.fb_tasks.specs.Taken.{found_for}
-use Rattle.fb_tasks.specs.Keeping.{without_aborted}
-use Rattle.fb_tasks.specs.Standing.{entry_in, HoldsBlocks, Stands}
+use Rattle.fb_tasks.proofs.Words.{ap, ◌∙◌, arith, ◌≡◌, true, ℕ, filter, true≢false, IfOk-weaker, held_at, range_with_len, Shape, held_in}
+use Rattle.fb_tasks.proofs.Words.{EndsBy, runs_of, is_delivered, Past, is_open_backup, view, is_complete, found_for, without_aborted}
+use Rattle.fb_tasks.proofs.Words.{entry_in, HoldsBlocks, Stands}
 use Rattle.fb_tasks.proofs.Complete.{done_is}
 use Rattle.fb_tasks.proofs.Sealed.{entry_at, open_is, block_at, all_blocks, dropped, dropped_next, sealed_content}
 use Rattle.fb_tasks.proofs.session.Session.seal.Goals as goal

@@ -1,10 +1,4 @@
-use Rattle.std.proofs.Common.{◌≡◌, ℕ, take, true}
-use Rattle.fb_geometry.specs.Shape.{Shape}
-use Rattle.fb_store.specs.Index.{held_at}
-use Rattle.fb_model.specs.History.{Past}
-use Rattle.fb_model.specs.Completion.{view}
-use Rattle.fb_tasks.specs.Keeping.{IsSealed}
-use Rattle.fb_tasks.specs.Standing.{HoldsBlocks}
+use Rattle.fb_tasks.proofs.Words.{◌≡◌, ℕ, take, true, Shape, held_at, Past, view, IsSealed, HoldsBlocks}
 use Rattle.fb_tasks.proofs.Sealed.{dropped}
 use Rattle.fb_tasks.proofs.session.Session.seal.Given as goal
 

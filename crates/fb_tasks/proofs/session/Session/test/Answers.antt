@@ -1,13 +1,6 @@
-use Rattle.std.proofs.Common.{ap, ap₂, ◌∙◌, ◌++◌, ◌∷◌, [], ◌&&◌, not, if◌then◌else◌, subst, rules}
-use Rattle.std.proofs.lemmas.Result.{on_ok_weaker, on_err_weaker}
-use Rattle.fb_rows.specs.declared.back.BackRow.TheVariants.{Complete as CompleteLine}
-use Rattle.fb_model.specs.Completion.{view}
-use Rattle.fb_model.proofs.Views.{tested-view}
-use Rattle.fb_model.specs.Images.{seal_rows}
-use Rattle.fb_tasks.specs.Keeping.{complete_by, IsSealed}
-use Rattle.fb_tasks.specs.Taken.{by_deliveries}
+use Rattle.fb_tasks.proofs.Words.{ap, ap₂, ◌∙◌, ◌++◌, ◌∷◌, [], ◌&&◌, not, if◌then◌else◌, subst, rules, on_ok_weaker, on_err_weaker}
+use Rattle.fb_tasks.proofs.Words.{CompleteLine, view, tested-view, seal_rows, complete_by, IsSealed, by_deliveries, on_err}
 use Rattle.fb_tasks.proofs.Complete.{done_same, done_is, was_is, counts_small}
-use Rattle.fb_wanted.proofs.Lists.{on_err}
 use Rattle.fb_tasks.proofs.Leaving.{grown_more, begun_after, begun_same}
 use Rattle.fb_tasks.proofs.Sealed.{seals_same}
 use Rattle.fb_tasks.proofs.Tested.{stands-tested, at_work-tested, noted}

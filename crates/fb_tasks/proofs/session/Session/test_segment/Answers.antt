@@ -1,5 +1,4 @@
-use Rattle.std.proofs.Common.{◌++◌, ap, sym, ◌∙◌, append-nil}
-use Rattle.std.proofs.lemmas.Result.{on_ok_weaker}
+use Rattle.fb_tasks.proofs.Words.{◌++◌, ap, sym, ◌∙◌, append-nil, on_ok_weaker}
 use Rattle.fb_tasks.proofs.Finished.{unequal_tested, unchosen_tested, chosen_tested}
 use Rattle.fb_tasks.proofs.session.Session.test_segment.Goals as goal
 

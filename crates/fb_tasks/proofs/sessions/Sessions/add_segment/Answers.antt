@@ -1,6 +1,4 @@
-use Rattle.std.proofs.Common.{Some, ap, sym, ◌∙◌, subst, arith}
-use Rattle.std.proofs.lemmas.Option.{slice_get-get_or}
-use Rattle.fb_tasks.specs.Telling.{MayTake}
+use Rattle.fb_tasks.proofs.Words.{Some, ap, sym, ◌∙◌, subst, arith, slice_get-get_or, MayTake}
 use Rattle.fb_tasks.proofs.Listed.{listed-more, listed-noted}
 use Rattle.fb_tasks.proofs.Additions.{may_add, added-tells, asked_within}
 use Rattle.fb_tasks.proofs.sessions.Sessions.add_segment.Goals as goal

@@ -1,16 +1,10 @@
-use Rattle.std.proofs.Common.{◌<◌, Some, length, slice_get, ap, sym, ◌∙◌, subst, arith}
-use Rattle.std.specs.List.{AllByRecursion}
-use Rattle.std.proofs.lemmas.Option.{slice_get-get_or}
-use Rattle.fb_wanted.specs.declared.block.Change.TheVariants.{Rewant}
-use Rattle.fb_wanted.specs.States.{after}
-use Rattle.fb_model.specs.History.{registered}
+use Rattle.fb_tasks.proofs.Words.{◌<◌, Some, length, slice_get, ap, sym, ◌∙◌, subst, arith, AllByRecursion, slice_get-get_or, Rewant}
+use Rattle.fb_tasks.proofs.Words.{after, registered, some_at, view}
 use Rattle.fb_tasks.specs.Telling.{IsBlockOf}
-use Rattle.fb_tasks.proofs.Lists.{some_at}
 use Rattle.fb_tasks.proofs.Listed.{no-backup-there}
-use Rattle.fb_model.specs.Completion.{view}
 use Rattle.fb_tasks.proofs.Changes.{none_until, all_until, until_wanted, until_left, until-to, written-tells, open_by}
-use Rattle.fb_tasks.proofs.sessions.Sessions.after_write.Goals as goal
 use Rattle.fb_tasks.proofs.sessions.Sessions.after_write.Goals.{then-is_open_backup, else-is_open_backup}
+use Rattle.fb_tasks.proofs.sessions.Sessions.after_write.Goals as goal
 
 pub loop-task-init : goal.loop-task-init
 loop-task-init c = record { within = omega arith; until = λ disk past request write first count h. h.entries ∙ none_until disk past request write (registered past) }

@@ -1,8 +1,4 @@
-use Rattle.std.proofs.Common.{◌≡◌, ◌≤◌, ◌-◌, true, map, length}
-use Rattle.fb_geometry.specs.Shape.{Shape}
-use Rattle.fb_units.specs.declared.types.Request.{Request}
-use Rattle.fb_model.specs.History.{Past, registered}
-use Rattle.fb_tasks.specs.Telling.{Tells}
+use Rattle.fb_tasks.proofs.Words.{◌≡◌, ◌≤◌, ◌-◌, true, map, length, Shape, Request, Past, registered, Tells}
 use Rattle.fb_tasks.proofs.Changes.{entry_until}
 use Rattle.fb_tasks.proofs.sessions.Sessions.after_write.Given as goal
 

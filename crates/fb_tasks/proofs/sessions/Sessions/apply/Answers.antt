@@ -1,9 +1,5 @@
-use Rattle.std.proofs.Common.{ap, subst, refl}
-use Rattle.std.proofs.lemmas.Result.{on_ok_weaker, on_err_weaker}
-use Rattle.fb_calls.specs.Allowed.{MayAsk}
-use Rattle.fb_model.specs.Steps.{blocks_by}
+use Rattle.fb_tasks.proofs.Words.{ap, subst, refl, on_ok_weaker, on_err_weaker, MayAsk, blocks_by, on_err}
 use Rattle.fb_tasks.specs.Telling.{calls_of}
-use Rattle.fb_wanted.proofs.Lists.{on_err}
 use Rattle.fb_tasks.proofs.Leaving.{begun_not, begun_same}
 use Rattle.fb_tasks.proofs.Changes.{promoted-tells, asked-aborts}
 use Rattle.fb_tasks.proofs.Asked.{room_for_one, session_there, takes_none}

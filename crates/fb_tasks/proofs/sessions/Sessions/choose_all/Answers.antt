@@ -1,9 +1,5 @@
-use Rattle.std.proofs.Common.{◌<◌, length, slice_get, append-nil, ap, sym, ◌∙◌, subst, arith}
-use Rattle.std.proofs.lemmas.List.{length-set}
-use Rattle.fb_model.specs.History.{Past}
-use Rattle.fb_tasks.specs.Telling.{MaySettle}
-use Rattle.fb_tasks.specs.Listing.{AreListed}
-use Rattle.fb_tasks.specs.Leaving.{OnlyTouched, MayClean}
+use Rattle.fb_tasks.proofs.Words.{◌<◌, length, slice_get, append-nil, ap, sym, ◌∙◌, subst, arith, length-set, Past, MaySettle, AreListed}
+use Rattle.fb_tasks.proofs.Words.{OnlyTouched, MayClean}
 use Rattle.fb_tasks.proofs.Leaving.{grown_not, grown_more, registers_none, touched_none, touched_set, chosen_own}
 use Rattle.fb_tasks.proofs.Listed.{listed-set, listed-there}
 use Rattle.fb_tasks.proofs.AllChoices.{partly-start, partly-may, partly-more, partly-to, rows-more, all-chosen, all-rows, past_at}

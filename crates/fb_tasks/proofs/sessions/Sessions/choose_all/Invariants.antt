@@ -1,8 +1,4 @@
-use Rattle.std.proofs.Common.{◌≤◌, ◌-◌, length}
-use Rattle.fb_model.specs.History.{Past}
-use Rattle.fb_tasks.specs.Telling.{MaySettle}
-use Rattle.fb_tasks.specs.Listing.{AreListed}
-use Rattle.fb_tasks.specs.Leaving.{HasGrown, OnlyRegisters, MayClean, OnlyTouched}
+use Rattle.fb_tasks.proofs.Words.{◌≤◌, ◌-◌, length, Past, MaySettle, AreListed, HasGrown, OnlyRegisters, MayClean, OnlyTouched}
 use Rattle.fb_tasks.proofs.AllChoices.{Partly, HasRows}
 use Rattle.fb_tasks.proofs.sessions.Sessions.choose_all.Given as goal
 

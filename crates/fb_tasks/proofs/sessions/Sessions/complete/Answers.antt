@@ -1,6 +1,4 @@
-use Rattle.std.proofs.Common.{Some, get_or, ap, sym, ◌∙◌, rules}
-use Rattle.std.proofs.lemmas.Option.{slice_get-get_or}
-use Rattle.fb_tasks.specs.Keeping.{complete_by}
+use Rattle.fb_tasks.proofs.Words.{Some, get_or, ap, sym, ◌∙◌, rules, slice_get-get_or, complete_by}
 use Rattle.fb_tasks.proofs.Complete.{complete_same, counts_small}
 use Rattle.fb_tasks.proofs.sessions.Sessions.complete.Goals as goal
 

@@ -1,10 +1,5 @@
-use Rattle.std.proofs.Common.{◌∷◌, ◌<◌, length, sym, ◌∙◌, subst, arith, ap}
-use Rattle.fb_model.specs.History.{delivered}
-use Rattle.fb_tasks.specs.Taken.{rows_after}
-use Rattle.fb_tasks.specs.Telling.{MayDeliver}
+use Rattle.fb_tasks.proofs.Words.{◌∷◌, ◌<◌, length, sym, ◌∙◌, subst, arith, ap, delivered, rows_after, MayDeliver, on_err, some_at}
 use Rattle.fb_tasks.proofs.Listed.{listed-more, listed-noted}
-use Rattle.fb_wanted.proofs.Lists.{on_err}
-use Rattle.fb_tasks.proofs.Lists.{some_at}
 use Rattle.fb_tasks.proofs.Frames.{set_same}
 use Rattle.fb_tasks.proofs.AfterDelivery.{begun-findings, begun-segment, begun-ends, opened, own-there, wanted-entry, busy-own, kind-own, held-now, may-finish, all-given, tells-delivered, settled-delivered, rows-one_by_one}
 use Rattle.fb_tasks.proofs.sessions.Sessions.delivered.Goals as goal

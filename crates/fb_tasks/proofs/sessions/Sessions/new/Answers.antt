@@ -1,5 +1,4 @@
-use Rattle.std.proofs.Common.{rules}
-use Rattle.fb_model.specs.Completion.{view}
+use Rattle.fb_tasks.proofs.Words.{rules, view}
 use Rattle.fb_tasks.proofs.sessions.Sessions.new.Goals as goal
 
 pub returns : goal.returns

@@ -1,6 +1,5 @@
-use Rattle.std.proofs.Common.{◌<◌, ◌++◌, ◌∷◌, [], length, ap, ◌∙◌, sym, subst}
+use Rattle.fb_tasks.proofs.Words.{◌<◌, ◌++◌, ◌∷◌, [], length, ap, ◌∙◌, sym, subst, AreListed}
 use Rattle.fb_tasks.proofs.Listed.{listed-push, listed-failed}
-use Rattle.fb_tasks.specs.Listing.{AreListed}
 use Rattle.fb_tasks.proofs.Additions.{opened-tells}
 use Rattle.fb_tasks.proofs.sessions.Sessions.open.Goals as goal
 

@@ -1,10 +1,5 @@
-use Rattle.std.proofs.Common.{◌++◌, [], ap, ◌∙◌, append_assoc}
-use Rattle.std.proofs.lemmas.Result.{on_ok_weaker}
-use Rattle.std.specs.List.{flat_map}
-use Rattle.fb_model.specs.History.{task_numbers}
-use Rattle.fb_model.specs.Images.{test_rows, segment_rows, seal_rows, complete_rows}
-use Rattle.fb_model.specs.Segments.{with_choices}
-use Rattle.fb_tasks.specs.Taken.{by_deliveries}
+use Rattle.fb_tasks.proofs.Words.{◌++◌, [], ap, ◌∙◌, append_assoc, on_ok_weaker, flat_map, task_numbers, test_rows, segment_rows}
+use Rattle.fb_tasks.proofs.Words.{seal_rows, complete_rows, with_choices, by_deliveries}
 use Rattle.fb_tasks.proofs.Leaving.{grown_more, touched_more}
 use Rattle.fb_tasks.proofs.RowsOf.{rows-given, nothing-mute}
 use Rattle.fb_tasks.proofs.Tested.{settled-tested}

@@ -1,9 +1,5 @@
-use Rattle.std.proofs.Common.{◌≡◌, ◌<◌, ◌≤◌, ◌++◌, Some, length, map, slice_get, ap, sym, ◌∙◌, arith, rules}
-use Rattle.std.specs.List.{range_with_len}
-use Rattle.std.proofs.lemmas.Option.{slice_get-get_or}
-use Rattle.fb_model.specs.Steps.{task_row, task_rows}
-use Rattle.fb_model.specs.History.{tasks}
-use Rattle.fb_wanted.proofs.Lists.{on_err}
+use Rattle.fb_tasks.proofs.Words.{◌≡◌, ◌<◌, ◌≤◌, ◌++◌, Some, length, map, slice_get, ap, sym, ◌∙◌, arith, rules, range_with_len}
+use Rattle.fb_tasks.proofs.Words.{slice_get-get_or, task_row, task_rows, tasks, on_err}
 use Rattle.fb_tasks.proofs.Leaving.{begun_counted}
 use Rattle.fb_tasks.proofs.Complete.{counts_small, map_more, row_same}
 use Rattle.fb_tasks.proofs.sessions.Sessions.task_rows.Goals as goal

@@ -1,9 +1,4 @@
-use Rattle.std.proofs.Common.{◌≡◌, ◌++◌, map}
-use Rattle.std.specs.List.{range_with_len}
-use Rattle.fb_geometry.specs.Shape.{Shape}
-use Rattle.fb_model.specs.History.{Past}
-use Rattle.fb_model.specs.Steps.{task_row}
-use Rattle.fb_tasks.specs.Telling.{Tells}
+use Rattle.fb_tasks.proofs.Words.{◌≡◌, ◌++◌, map, range_with_len, Shape, Past, task_row, Tells}
 use Rattle.fb_tasks.proofs.sessions.Sessions.task_rows.Given as goal
 
 abbrev pub invariant-loop-task : goal.invariant-loop-task

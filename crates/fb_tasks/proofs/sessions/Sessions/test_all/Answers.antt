@@ -1,16 +1,7 @@
-use Rattle.std.proofs.Common.{◌≡◌, ◌<◌, ◌≤◌, ◌++◌, ℕ, [], Some, false, length, slice_get, append-nil, ap, sym, ◌∙◌, subst, arith, refl, append_assoc}
-use Rattle.std.specs.BTreeSet.{contains}
-use Rattle.std.specs.Ordering.{nat_cmp}
-use Rattle.std.proofs.lemmas.List.{length-set}
-use Rattle.std.proofs.lemmas.Option.{slice_get_within}
-use Rattle.std.specs.List.{flat_map, range_with_len}
-use Rattle.fb_model.specs.Images.{test_rows, seal_rows, complete_rows}
-use Rattle.fb_tasks.specs.declared.session.Session.{Session}
-use Rattle.fb_tasks.specs.Taken.{by_deliveries}
-use Rattle.fb_tasks.specs.Standing.{HaveChosen}
-use Rattle.fb_tasks.proofs.Lists.{some_at}
-use Rattle.fb_tasks.specs.Listing.{AreListed}
-use Rattle.fb_tasks.specs.Leaving.{OnlyTouched}
+use Rattle.fb_tasks.proofs.Words.{◌≡◌, ◌<◌, ◌≤◌, ◌++◌, ℕ, [], Some, false, length, slice_get, append-nil, ap, sym, ◌∙◌, subst, arith}
+use Rattle.fb_tasks.proofs.Words.{refl, append_assoc, contains, nat_cmp, length-set, slice_get_within, flat_map, range_with_len}
+use Rattle.fb_tasks.proofs.Words.{test_rows, seal_rows, complete_rows, Session, by_deliveries, HaveChosen, some_at, AreListed}
+use Rattle.fb_tasks.proofs.Words.{OnlyTouched}
 use Rattle.fb_tasks.proofs.Leaving.{grown_not, grown_more, touched_none, touched_set}
 use Rattle.fb_tasks.proofs.Listed.{listed-set, listed-less, listed-there}
 use Rattle.fb_tasks.proofs.Tested.{AreAllRows, none_tested, chosen_at, one_tested, rows_more, ends_of, tested-to, rows-to, tells-tested}

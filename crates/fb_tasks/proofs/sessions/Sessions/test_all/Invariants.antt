@@ -1,10 +1,5 @@
-use Rattle.std.proofs.Common.{◌≡◌, ◌≤◌, ◌-◌, ◌++◌, length}
-use Rattle.std.specs.List.{flat_map, range_with_len}
-use Rattle.fb_geometry.specs.Shape.{Shape}
-use Rattle.fb_model.specs.History.{Past}
-use Rattle.fb_tasks.specs.Standing.{HaveChosen}
-use Rattle.fb_tasks.specs.Listing.{AreListed}
-use Rattle.fb_tasks.specs.Leaving.{HasGrown, OnlyTouched}
+use Rattle.fb_tasks.proofs.Words.{◌≡◌, ◌≤◌, ◌-◌, ◌++◌, length, flat_map, range_with_len, Shape, Past, HaveChosen, AreListed, HasGrown}
+use Rattle.fb_tasks.proofs.Words.{OnlyTouched}
 use Rattle.fb_tasks.proofs.Tested.{AreTested, ends_of}
 use Rattle.fb_tasks.proofs.sessions.Sessions.test_all.Given as goal
 

@@ -1,7 +1,4 @@
-use Rattle.std.proofs.Common.{◌<◌, Some, length, ap, sym, ◌∙◌, subst, true, set, slice_get}
-use Rattle.std.proofs.lemmas.Option.{slice_get-get_or}
-use Rattle.fb_tasks.specs.declared.session.Session.{Session}
-use Rattle.fb_tasks.proofs.Lists.{some_same}
+use Rattle.fb_tasks.proofs.Words.{◌<◌, Some, length, ap, sym, ◌∙◌, subst, true, set, slice_get, slice_get-get_or, Session, some_same}
 use Rattle.fb_tasks.proofs.Listed.{listed-more, listed-noted}
 use Rattle.fb_tasks.proofs.sessions.Sessions.touch.Goals as goal
 

@@ -1,8 +1,4 @@
-use Rattle.std.proofs.Common.{◌<◌, Some, length, ap, sym, ◌∙◌, subst, arith}
-use Rattle.std.proofs.lemmas.Option.{slice_get-get_or}
-use Rattle.std.proofs.lemmas.Result.{on_ok_weaker}
-use Rattle.fb_tasks.specs.Leaving.{HasBegun}
-use Rattle.fb_tasks.specs.Telling.{MayTake}
+use Rattle.fb_tasks.proofs.Words.{◌<◌, Some, length, ap, sym, ◌∙◌, subst, arith, slice_get-get_or, on_ok_weaker, HasBegun, MayTake}
 use Rattle.fb_tasks.proofs.Additions.{may_want, wanted-tells, want_within, wanted_due}
 use Rattle.fb_tasks.proofs.sessions.Sessions.want.Goals as goal
 

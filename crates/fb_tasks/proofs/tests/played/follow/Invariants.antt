@@ -1,4 +1,4 @@
-use Rattle.fb_tasks.specs.Script.{Follows}
+use Rattle.fb_tasks.proofs.Words.{Follows}
 use Rattle.fb_tasks.proofs.tests.played.follow.Given as goal
 
 -- a history of the steps so far

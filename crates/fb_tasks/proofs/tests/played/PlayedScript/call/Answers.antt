@@ -1,5 +1,4 @@
-use Rattle.std.proofs.Common.{◌∙◌}
-use Rattle.std.proofs.lemmas.Option.{slice_get_read}
+use Rattle.fb_tasks.proofs.Words.{◌∙◌, slice_get_read}
 use Rattle.fb_tasks.proofs.Script.{follows-may, follows-more}
 use Rattle.fb_tasks.proofs.tests.played.PlayedScript.call.Goals as goal
 

@@ -1,5 +1,4 @@
-use Rattle.std.proofs.Common.{◌-◌, length, false}
-use Rattle.fb_tasks.specs.Script.{Follows}
+use Rattle.fb_tasks.proofs.Words.{◌-◌, length, false, Follows}
 use Rattle.fb_tasks.proofs.tests.played.PlayedScript.call.Given as goal
 
 -- the calls so far have taken effect

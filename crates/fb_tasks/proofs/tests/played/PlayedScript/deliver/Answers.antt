@@ -1,10 +1,4 @@
-use Rattle.std.proofs.Common.{ap, ◌∙◌, map}
-use Rattle.std.specs.List.{range_with_len}
-use Rattle.std.proofs.lemmas.Result.{on_ok_weaker}
-use Rattle.fb_rows.specs.declared.back.DeliveryRow.{DeliveryRow}
-use Rattle.fb_store.specs.Index.{content_in}
-use Rattle.fb_store.specs.Runs.{sectors_of}
-use Rattle.fb_wanted.specs.declared.block.State.TheVariants.{Wanted}
+use Rattle.fb_tasks.proofs.Words.{ap, ◌∙◌, map, range_with_len, on_ok_weaker, DeliveryRow, content_in, sectors_of, Wanted}
 use Rattle.fb_tasks.proofs.Script.{within-at, follows-may-deliver, follows-delivered, on_ok_both}
 use Rattle.fb_tasks.proofs.tests.played.PlayedScript.deliver.Goals as goal
 

@@ -1,5 +1,4 @@
-use Rattle.std.proofs.Common.{◌++◌, ap, ◌∙◌, arith}
-use Rattle.fb_model.specs.Steps.{task_rows}
+use Rattle.fb_tasks.proofs.Words.{◌++◌, ap, ◌∙◌, arith, task_rows}
 use Rattle.fb_tasks.proofs.Script.{rows-there}
 use Rattle.fb_tasks.proofs.tests.played.PlayedScript.end.Goals as goal
 

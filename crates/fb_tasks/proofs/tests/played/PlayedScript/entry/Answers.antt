@@ -1,7 +1,4 @@
-use Rattle.std.proofs.Common.{Some, ap, ◌∙◌}
-use Rattle.fb_wanted.specs.declared.block.Counts.{Counts}
-use Rattle.fb_model.specs.Completion.{view}
-use Rattle.fb_tasks.specs.Standing.{entry_in}
+use Rattle.fb_tasks.proofs.Words.{Some, ap, ◌∙◌, Counts, view, entry_in}
 use Rattle.fb_tasks.proofs.Sealed.{entry_at, block_at}
 use Rattle.fb_tasks.proofs.tests.played.PlayedScript.entry.Goals as goal
 

@@ -1,5 +1,4 @@
-use Rattle.std.proofs.Common.{false, sym, subst}
-use Rattle.fb_tasks.specs.Script.{Follows}
+use Rattle.fb_tasks.proofs.Words.{false, sym, subst, Follows}
 use Rattle.fb_tasks.proofs.Script.{follows-first}
 use Rattle.fb_tasks.proofs.tests.played.PlayedScript.new.Goals as goal
 

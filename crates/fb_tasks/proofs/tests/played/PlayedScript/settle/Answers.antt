@@ -1,4 +1,4 @@
-use Rattle.std.proofs.lemmas.Result.{on_ok_weaker}
+use Rattle.fb_tasks.proofs.Words.{on_ok_weaker}
 use Rattle.fb_tasks.proofs.Script.{follows-may-settle, follows-settled, on_ok_both}
 use Rattle.fb_tasks.proofs.tests.played.PlayedScript.settle.Goals as goal
 

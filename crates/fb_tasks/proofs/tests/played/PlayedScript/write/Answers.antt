@@ -1,5 +1,4 @@
-use Rattle.std.proofs.Common.{true, refl}
-use Rattle.fb_units.specs.declared.types.Request.{Request}
+use Rattle.fb_tasks.proofs.Words.{true, refl, Request}
 use Rattle.fb_units.specs.declared.types.Name.TheVariants.{Traced}
 use Rattle.fb_tasks.proofs.Script.{follows-finished}
 use Rattle.fb_tasks.proofs.tests.played.PlayedScript.write.Goals as goal
