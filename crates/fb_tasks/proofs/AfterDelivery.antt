@@ -10,14 +10,11 @@ use Rattle.fb_tasks.proofs.Words.{segment_rows, seal_rows, complete_rows, is_new
 use Rattle.fb_tasks.proofs.Words.{by_deliveries, rows_after, HasTaken, entry_of, choice_in, AreReported, MayFinish, IsBlockOf, IsAtWork}
 use Rattle.fb_tasks.proofs.Words.{HoldsBlocks, Stands, Told, HasNoChoice, Tells, IsSettled, MayDeliver, all_at, number_other, same_number}
 use Rattle.fb_tasks.proofs.Words.{other_number, some_at, map_at, each_set, flat_none, all_range, HasBegun}
-use Rattle.fb_tasks.proofs.RowsOf.{rows-given, seals_given, findings-mute}
-use Rattle.fb_tasks.proofs.Tested.{settled-tested, AreAllRows, tells-tested, still-stands, no-ends}
-use Rattle.fb_tasks.proofs.States.{flagged-stands}
-use Rattle.fb_tasks.proofs.Deliveries.{delivered-entries, WasWanted, was_wanted, delivered-holds, delivered-stands, at_work_now}
-use Rattle.fb_tasks.proofs.Complete.{done_is, was_is}
-use Rattle.fb_tasks.proofs.Sealed.{open_is}
-use Rattle.fb_tasks.proofs.AllChoices.{reported_rows}
-use Rattle.fb_tasks.proofs.Leaving.{begun_after, begun_longer, begun_same}
+use Rattle.fb_tasks.proofs.{RowsOf.rows-given, RowsOf.seals_given, RowsOf.findings-mute, Tested.settled-tested, Tested.AreAllRows}
+use Rattle.fb_tasks.proofs.{Tested.tells-tested, Tested.still-stands, Tested.no-ends, States.flagged-stands, Deliveries.delivered-entries}
+use Rattle.fb_tasks.proofs.{Deliveries.WasWanted, Deliveries.was_wanted, Deliveries.delivered-holds, Deliveries.delivered-stands}
+use Rattle.fb_tasks.proofs.{Deliveries.at_work_now, Complete.done_is, Complete.was_is, Sealed.open_is, AllChoices.reported_rows}
+use Rattle.fb_tasks.proofs.{Leaving.begun_after, Leaving.begun_longer, Leaving.begun_same}
 
 -- where one number alone gives anything
 flat_one : {X : Type 0} (f : ℕ → List X) (k a n : ℕ) → a ≤ k → k < a + n → ((j : ℕ) → a ≤ j → j < a + n → (j ≡ k → ⊥) → f j ≡ []) → flat_map f (range_with_len a n) ≡ f k

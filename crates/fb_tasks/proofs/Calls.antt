@@ -11,10 +11,9 @@ use Rattle.fb_tasks.proofs.Words.{choosable, Tells, MayTake, same_number, other_
 use Rattle.fb_tasks.proofs.Words.{slice_get_within, get_or_from_slice_get, Entry, Session, delivery_of, IsCalled}
 use Rattle.fb_model.specs.History.{blocks_of}
 use Rattle.fb_tasks.specs.Telling.{calls_of}
-use Rattle.fb_tasks.proofs.Asked.{opened_same, open_there, terms_there}
-use Rattle.fb_tasks.proofs.Cuts.{cuts_count, range_next}
-use Rattle.fb_tasks.proofs.Additions.{next_segment}
-use Rattle.fb_tasks.proofs.AllChoices.{in_same, in_tasks, in_fewer, by_task, all_range, sum_range, choosable-same, by_all}
+use Rattle.fb_tasks.proofs.{Asked.opened_same, Asked.open_there, Asked.terms_there, Cuts.cuts_count, Cuts.range_next}
+use Rattle.fb_tasks.proofs.{Additions.next_segment, AllChoices.in_same, AllChoices.in_tasks, AllChoices.in_fewer, AllChoices.by_task}
+use Rattle.fb_tasks.proofs.{AllChoices.all_range, AllChoices.sum_range, AllChoices.choosable-same, AllChoices.by_all}
 use Rattle.fb_calls.specs.Allowed as allowed
 
 -- how many blocks are registered, and how many the choices can register

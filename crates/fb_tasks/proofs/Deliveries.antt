@@ -9,9 +9,8 @@ use Rattle.fb_tasks.proofs.Words.{entry_of, HoldsBlock, AreIndexed, Ascend, Stan
 use Rattle.fb_tasks.proofs.Words.{HoldsChoice, choice_in, CleansBy, IsCutFrom, some_same, all_any, all_at, all_weaker, all_with}
 use Rattle.fb_tasks.proofs.Words.{same_number, other_number, list_all_each, none_pass, all_right, all_flat, filter_from, filter_to}
 use Rattle.fb_tasks.proofs.Words.{all_both, none-some, Shape, is_backup, held_at, State, Session, HasTaken}
-use Rattle.fb_tasks.proofs.Frames.{changed-entries}
-use Rattle.fb_tasks.proofs.Sealed.{held_same, held_all, within, before_it, behind_it, ascend_from}
-use Rattle.fb_tasks.proofs.States.{shown}
+use Rattle.fb_tasks.proofs.{Frames.changed-entries, Sealed.held_same, Sealed.held_all, Sealed.within, Sealed.before_it, Sealed.behind_it}
+use Rattle.fb_tasks.proofs.{Sealed.ascend_from, States.shown}
 use Rattle.fb_clean.specs.Segments as clean
 
 get_append : {X : Type 0} (xs ys : List X) (i : ℕ) (x : X) → slice_get (xs ++ ys) i ≡ Some x → (slice_get xs i ≡ Some x) ⊎ ((j : ℕ) × (slice_get ys j ≡ Some x))

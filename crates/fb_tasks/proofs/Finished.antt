@@ -8,8 +8,7 @@ use Rattle.fb_tasks.proofs.Words.{Session, is_none, found_for, by_deliveries, St
 use Rattle.fb_tasks.proofs.Words.{choice_in, CleansBy, all_weaker, all_with, all_append, all_left, all_right, all_flat, flat_all}
 use Rattle.fb_tasks.proofs.Words.{flat_same, some_same, filter_none, each_all, list_all_each, other_number}
 use Rattle.std.proofs.lemmas.Grind.{flat_map-append}
-use Rattle.fb_tasks.proofs.Complete.{counts_same, filter-le, busy_by}
-use Rattle.fb_tasks.proofs.Segmented.{live_there}
+use Rattle.fb_tasks.proofs.{Complete.counts_same, Complete.filter-le, Complete.busy_by, Segmented.live_there}
 use Rattle.fb_clean.specs.Segments as clean
 
 filter_whole : {X : Type 0} (p : X → Bool) (xs : List X) → AllByRecursion (λ x. p x ≡ true) xs → length (filter p xs) ≡ length xs

@@ -7,8 +7,7 @@ use Rattle.fb_tasks.proofs.Words.{blocks_of, wanted_unless, numbered, number_sam
 use Rattle.fb_tasks.proofs.Words.{OnlyRegisters, MayClean, OnlyTouched, by_calls, all_append, all_left, all_map, all_weaker, map_at}
 use Rattle.fb_tasks.proofs.Words.{some_at, some_same, take-map-range_with_len}
 use Rattle.fb_wanted.specs.Numbering.{registered}
-use Rattle.fb_tasks.proofs.Frames.{get_other}
-use Rattle.fb_tasks.proofs.Cuts.{cuts_own}
+use Rattle.fb_tasks.proofs.{Frames.get_other, Cuts.cuts_own}
 
 pub grown_not : {A : Type 0} (xs : List A) → HasGrown xs xs
 grown_not xs = record { added = []; is = sym (append-nil xs) }

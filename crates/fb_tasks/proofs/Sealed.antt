@@ -11,11 +11,8 @@ use Rattle.fb_tasks.proofs.Words.{counts_of, Past, tasks, registered, is_open_ba
 use Rattle.fb_tasks.proofs.Words.{is_complete, is_complete_as, is_done, number_same, without_aborted, SealLine, seal_rows, BackRow}
 use Rattle.fb_tasks.proofs.Words.{found_for, by_deliveries, Session, take-length, all_both, list_any-append}
 use Rattle.std.proofs.lemmas.Grind.{flat_map-append}
-use Rattle.fb_tasks.proofs.Complete.{counts_same}
-use Rattle.fb_tasks.proofs.Registered.{blocks_in, own}
-use Rattle.fb_tasks.proofs.States.{shown_aborted}
-use Rattle.fb_tasks.proofs.Changes.{open_by}
-use Rattle.fb_tasks.proofs.Cuts.{ranges_join}
+use Rattle.fb_tasks.proofs.{Complete.counts_same, Registered.blocks_in, Registered.own, States.shown_aborted, Changes.open_by}
+use Rattle.fb_tasks.proofs.{Cuts.ranges_join}
 
 -- ascending blocks begin at the first sector or after it
 pub ascend_from : (low : ℕ) (bs : List Block) → Ascend low bs → AllByRecursion (λ b. low ≤ b.lbn) bs

@@ -10,13 +10,9 @@ use Rattle.fb_tasks.proofs.Words.{AreReported, IsAtWork, Stands, Cleans, HoldsBl
 use Rattle.fb_tasks.proofs.Words.{IsQuiet, HasNoChoice, HoldsBlocks, HasChosen, HaveChosen, IsSettled, Tells, all_weaker, filter_none}
 use Rattle.fb_tasks.proofs.Words.{flat_none, all_range, some_at, each_set, one_or_other, step_to, nat_tests, get_or_past, length-set}
 use Rattle.fb_tasks.proofs.Words.{Shape, Entry, by_deliveries, Plain}
-use Rattle.fb_tasks.proofs.Sealed.{held_same}
-use Rattle.fb_tasks.proofs.Complete.{busy_by}
+use Rattle.fb_tasks.proofs.{Sealed.held_same, Complete.busy_by, Frames.kept-entries, Frames.get_other, Additions.none-yet}
+use Rattle.fb_tasks.proofs.{States.flagged-stands, Cuts.range_next}
 use Rattle.std.proofs.lemmas.Grind.{flat_map-append}
-use Rattle.fb_tasks.proofs.Frames.{kept-entries, get_other}
-use Rattle.fb_tasks.proofs.Additions.{none-yet}
-use Rattle.fb_tasks.proofs.States.{flagged-stands}
-use Rattle.fb_tasks.proofs.Cuts.{range_next}
 use Rattle.fb_clean.specs.Segments as clean
 
 pub once : (b : Bool) → (b && not b) ≡ false

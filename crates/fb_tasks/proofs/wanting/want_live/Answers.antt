@@ -1,7 +1,6 @@
 use Rattle.fb_tasks.proofs.Words.{◌≡◌, ℕ, ◌+◌, List, length, drop, refl, ap, ◌∙◌, length-append, arith, cutting, live_of, cuts_of, Shape}
 use Rattle.fb_tasks.proofs.Words.{Entry, numbered, Session, new_entries, HasBegun, OnlyRegisters}
-use Rattle.fb_tasks.proofs.Leaving.{registers_none, registers_more, begun_own}
-use Rattle.fb_tasks.proofs.Cuts.{drop_at, live-more}
+use Rattle.fb_tasks.proofs.{Leaving.registers_none, Leaving.registers_more, Leaving.begun_own, Cuts.drop_at, Cuts.live-more}
 use Rattle.fb_tasks.proofs.wanting.want_live.Goals as goal
 
 pub want_range-requires-clause-few : goal.want_range-requires-clause-few

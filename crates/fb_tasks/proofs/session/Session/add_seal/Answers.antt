@@ -1,8 +1,6 @@
 use Rattle.fb_tasks.proofs.Words.{refl, ◌≡◌, true, ap, ◌∙◌, ◌++◌, sym, on_ok_weaker, view, is_unsealed, and-false}
-use Rattle.fb_tasks.proofs.Complete.{done_is}
-use Rattle.fb_tasks.proofs.Sealed.{open_is, seal_row, no-seal}
+use Rattle.fb_tasks.proofs.{Complete.done_is, Sealed.open_is, Sealed.seal_row, Sealed.no-seal, Changes.open_by}
 use Rattle.fb_tasks.proofs.session.Session.add_seal.Goals.{then-not-complete-via-then-not-complete, then-not-complete-via-else-not-complete+then-not-is_open_backup}
-use Rattle.fb_tasks.proofs.Changes.{open_by}
 use Rattle.fb_tasks.proofs.session.Session.add_seal.Goals as goal
 
 pub returns-clause-rows : goal.returns-clause-rows

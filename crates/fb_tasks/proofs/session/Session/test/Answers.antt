@@ -1,9 +1,8 @@
 use Rattle.fb_tasks.proofs.Words.{ap, ap₂, ◌∙◌, ◌++◌, ◌∷◌, [], ◌&&◌, not, if◌then◌else◌, subst, rules, on_ok_weaker, on_err_weaker}
 use Rattle.fb_tasks.proofs.Words.{CompleteLine, view, tested-view, seal_rows, complete_by, IsSealed, by_deliveries, on_err}
-use Rattle.fb_tasks.proofs.Complete.{done_same, done_is, was_is, counts_small}
-use Rattle.fb_tasks.proofs.Leaving.{grown_more, begun_after, begun_same}
-use Rattle.fb_tasks.proofs.Sealed.{seals_same}
-use Rattle.fb_tasks.proofs.Tested.{stands-tested, at_work-tested, noted}
+use Rattle.fb_tasks.proofs.{Complete.done_same, Complete.done_is, Complete.was_is, Complete.counts_small, Leaving.grown_more}
+use Rattle.fb_tasks.proofs.{Leaving.begun_after, Leaving.begun_same, Sealed.seals_same, Tested.stands-tested, Tested.at_work-tested}
+use Rattle.fb_tasks.proofs.{Tested.noted}
 use Rattle.fb_tasks.proofs.session.Session.test.Goals as goal
 
 pub is_complete-complete-requires : goal.is_complete-complete-requires

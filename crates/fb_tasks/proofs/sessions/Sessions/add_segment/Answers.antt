@@ -1,6 +1,5 @@
 use Rattle.fb_tasks.proofs.Words.{Some, ap, sym, ◌∙◌, subst, arith, slice_get-get_or, MayTake}
-use Rattle.fb_tasks.proofs.Listed.{listed-more, listed-noted}
-use Rattle.fb_tasks.proofs.Additions.{may_add, added-tells, asked_within}
+use Rattle.fb_tasks.proofs.{Listed.listed-more, Listed.listed-noted, Additions.may_add, Additions.added-tells, Additions.asked_within}
 use Rattle.fb_tasks.proofs.sessions.Sessions.add_segment.Goals as goal
 
 pub index_mut-cleaner-requires : goal.index_mut-cleaner-requires

@@ -1,8 +1,7 @@
 use Rattle.fb_tasks.proofs.Words.{ap, subst, refl, on_ok_weaker, on_err_weaker, MayAsk, blocks_by, on_err}
 use Rattle.fb_tasks.specs.Telling.{calls_of}
-use Rattle.fb_tasks.proofs.Leaving.{begun_not, begun_same}
-use Rattle.fb_tasks.proofs.Changes.{promoted-tells, asked-aborts}
-use Rattle.fb_tasks.proofs.Asked.{room_for_one, session_there, takes_none}
+use Rattle.fb_tasks.proofs.{Leaving.begun_not, Leaving.begun_same, Changes.promoted-tells, Changes.asked-aborts, Asked.room_for_one}
+use Rattle.fb_tasks.proofs.{Asked.session_there, Asked.takes_none}
 use Rattle.fb_tasks.proofs.sessions.Sessions.apply.Goals as goal
 
 pub open-requires : goal.open-requires

@@ -1,5 +1,4 @@
-use Rattle.fb_tasks.proofs.Changes.{closed-tells}
-use Rattle.fb_tasks.proofs.Listed.{listed-more, listed-noted}
+use Rattle.fb_tasks.proofs.{Changes.closed-tells, Listed.listed-more, Listed.listed-noted}
 use Rattle.fb_tasks.proofs.sessions.Sessions.close.Goals as goal
 
 pub returns-clause-ok : goal.returns-clause-ok

@@ -1,6 +1,5 @@
 use Rattle.fb_tasks.proofs.Words.{◌<◌, ◌++◌, ◌∷◌, [], length, ap, ◌∙◌, sym, subst, AreListed}
-use Rattle.fb_tasks.proofs.Listed.{listed-push, listed-failed}
-use Rattle.fb_tasks.proofs.Additions.{opened-tells}
+use Rattle.fb_tasks.proofs.{Listed.listed-push, Listed.listed-failed, Additions.opened-tells}
 use Rattle.fb_tasks.proofs.sessions.Sessions.open.Goals as goal
 
 pub returns-clause-ok : goal.returns-clause-ok

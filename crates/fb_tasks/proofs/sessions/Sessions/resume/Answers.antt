@@ -1,6 +1,5 @@
 use Rattle.fb_tasks.proofs.Words.{◌<◌, length, false, refl, sym, subst}
-use Rattle.fb_tasks.proofs.Listed.{listed-kept}
-use Rattle.fb_tasks.proofs.Changes.{resumed-tells}
+use Rattle.fb_tasks.proofs.{Listed.listed-kept, Changes.resumed-tells}
 use Rattle.fb_tasks.proofs.sessions.Sessions.resume.Goals as goal
 
 pub returns : goal.returns

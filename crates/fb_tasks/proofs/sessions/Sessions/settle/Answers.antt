@@ -1,8 +1,6 @@
 use Rattle.fb_tasks.proofs.Words.{◌++◌, [], ap, ◌∙◌, append_assoc, on_ok_weaker, flat_map, task_numbers, test_rows, segment_rows}
 use Rattle.fb_tasks.proofs.Words.{seal_rows, complete_rows, with_choices, by_deliveries}
-use Rattle.fb_tasks.proofs.Leaving.{grown_more, touched_more}
-use Rattle.fb_tasks.proofs.RowsOf.{rows-given, nothing-mute}
-use Rattle.fb_tasks.proofs.Tested.{settled-tested}
+use Rattle.fb_tasks.proofs.{Leaving.grown_more, Leaving.touched_more, RowsOf.rows-given, RowsOf.nothing-mute, Tested.settled-tested}
 use Rattle.fb_tasks.proofs.sessions.Sessions.settle.Goals as goal
 
 pub test_all-requires : goal.test_all-requires

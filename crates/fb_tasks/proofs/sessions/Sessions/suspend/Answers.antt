@@ -1,6 +1,5 @@
 use Rattle.fb_tasks.proofs.Words.{◌<◌, length, true, refl, sym, subst}
-use Rattle.fb_tasks.proofs.Listed.{listed-kept}
-use Rattle.fb_tasks.proofs.Changes.{suspended-tells}
+use Rattle.fb_tasks.proofs.{Listed.listed-kept, Changes.suspended-tells}
 use Rattle.fb_tasks.proofs.sessions.Sessions.suspend.Goals as goal
 
 pub returns : goal.returns

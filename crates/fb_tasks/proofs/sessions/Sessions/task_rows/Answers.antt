@@ -1,7 +1,6 @@
 use Rattle.fb_tasks.proofs.Words.{◌≡◌, ◌<◌, ◌≤◌, ◌++◌, Some, length, map, slice_get, ap, sym, ◌∙◌, arith, rules, range_with_len}
 use Rattle.fb_tasks.proofs.Words.{slice_get-get_or, task_row, task_rows, tasks, on_err}
-use Rattle.fb_tasks.proofs.Leaving.{begun_counted}
-use Rattle.fb_tasks.proofs.Complete.{counts_small, map_more, row_same}
+use Rattle.fb_tasks.proofs.{Leaving.begun_counted, Complete.counts_small, Complete.map_more, Complete.row_same}
 use Rattle.fb_tasks.proofs.sessions.Sessions.task_rows.Goals as goal
 
 pub is_complete-requires : goal.is_complete-requires
