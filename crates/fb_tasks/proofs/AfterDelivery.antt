@@ -159,7 +159,7 @@ module _ {disk : Shape} {past : Past} {sessions : List Session} {held : List Ent
         let taken = takes may.content_at may.content in record {
           blocks = held-now now is;
           stands = rw (delivered-view past got got.block.task refl) (delivered-stands (view past got.block.task) got (placed got may).own_place (placed got may).own_there (placed got may).bare may.content_at old mid (may.tells.placed got.block.task).indexed may.content taken told-own.stands);
-          reported = rw (delivered-view past got got.block.task refl) (others-silent (view past got.block.task) got old mid told-own.stands told-own.reported taken.same.unfinished);
+          reported = rw (delivered-view past got got.block.task refl) (others-silent (view past got.block.task) got old mid told-own.stands told-own.reported (ap (λ (s : Session). s.log.unfinished) taken.same));
         }
 
   -- the session of the delivered block

@@ -6,9 +6,9 @@ use Rattle.fb_tasks.proofs.Words.{Gives, after_take, held_in, sectors_of, is_wit
 use Rattle.fb_tasks.proofs.Words.{is_delivered, is_wanted, DeliveryRow, Past, delivered, registered, wanted, state, Choice, TaskView}
 use Rattle.fb_tasks.proofs.Words.{view, state_in, delivered_view, is_cleaned, is_over, delivered-silent, delivered-view, number_same}
 use Rattle.fb_tasks.proofs.Words.{entry_of, HoldsBlock, AreIndexed, Ascend, Stands, Cleans, IsUntouched, IsPlaced, HoldsBlocks}
-use Rattle.fb_tasks.proofs.Words.{HoldsChoice, choice_in, CleansBy, IsCutFrom, some_same, all_any, all_at, all_weaker, all_with}
-use Rattle.fb_tasks.proofs.Words.{same_number, other_number, list_all_each, none_pass, all_right, all_flat, filter_from, filter_to}
-use Rattle.fb_tasks.proofs.Words.{all_both, none-some, Shape, is_backup, held_at, State, Session, HasTaken}
+use Rattle.fb_tasks.proofs.Words.{HoldsChoice, choice_in, CleansBy, some_same, all_any, all_at, all_weaker, all_with, same_number}
+use Rattle.fb_tasks.proofs.Words.{other_number, list_all_each, none_pass, all_right, all_flat, filter_from, filter_to, all_both}
+use Rattle.fb_tasks.proofs.Words.{none-some, Shape, is_backup, held_at, State, Session, HasTaken, is_unsealed, HoldsImage, is_clean}
 use Rattle.fb_tasks.proofs.{Frames.changed-entries, Sealed.held_same, Sealed.held_all, Sealed.within, Sealed.before_it, Sealed.behind_it}
 use Rattle.fb_tasks.proofs.{Sealed.ascend_from, States.shown}
 use Rattle.fb_clean.specs.Segments as clean
@@ -158,51 +158,34 @@ module _ (v : TaskView) (got : DeliveryRow) (place : ℕ) (there : slice_get v.b
     none_there None by = none-some got.block (in_current v got h.done [] place (rw (by.blocks, by.chosen) at there) by.cleaned bare).1
     none_there (Some choice) by = none-some choice.segment.number (sym idle ∙ by.unfinished)
 
-  delivered-cleans : (content_at : ℕ → Content) (old new : clean.Cleaning) → AreIndexed 0 v.blocks → Gives got.content content_at got.block.lbn got.block.count
-      → new.block ≡ old.block → new.segments ≡ old.segments → new.unfinished ≡ old.unfinished
-      → ((number lbn : ℕ) → old.unfinished ≡ Some number → clean.taken_for new number lbn ≡ after_take content_at got.block.lbn got.block.count lbn (clean.taken_for old number lbn))
-      → Cleans v.work old → Cleans (delivered_view got v).work new
-  delivered-cleans content_at old new indexed gives block given unfinished takes h =
-      let block_now = block ∙ h.block in
+  delivered-cleans : (content_at : ℕ → Content) (old : clean.Cleaning) (now : List (List (ℕ × Option Content))) → AreIndexed 0 v.blocks → Gives got.content content_at got.block.lbn got.block.count
+      → ((number lbn : ℕ) → old.unfinished ≡ Some number → clean.taken_for (record old { taken = now }) number lbn ≡ after_take content_at got.block.lbn got.block.count lbn (clean.taken_for old number lbn))
+      → Cleans v.work old → Cleans (delivered_view got v).work (record old { taken = now })
+  delivered-cleans content_at old now indexed gives takes h =
       let cleaned = cleaned_still h.done h.cleaned in
-      let unfinished_now = unfinished ∙ h.unfinished in
-      let cut : AllByRecursion (IsCutFrom new.block) v.choices = rw block h.cut in
       let taken = taken_now h.current h.by in
       let over : v.closed ≡ true → AllByRecursion (λ b. is_over ((delivered_view got v).bare b) ≡ true) v.blocks = λ closed.
       all_weaker (λ b. is_over (v.bare b) ≡ true) (λ b. is_over ((delivered_view got v).bare b) ≡ true) (still_over v got) v.blocks (h.over closed) in
-      let segments = given ∙ h.segments in
-      record { done = h.done; current = h.current; by = assumption (block_now, cleaned, unfinished_now, cut, taken, over, segments, h.by) } where
-        taken_now : (current : Option Choice) → CleansBy v.work old h.done current → AllByRecursion (HoldsChoice (delivered_view got v).work new) (choice_in current)
+      record { done = h.done; current = h.current; by = assumption (cleaned, taken, over, h.by) } where
+        taken_now : (current : Option Choice) → CleansBy v.work old h.done current → AllByRecursion (HoldsChoice (delivered_view got v).work (record old { taken = now })) (choice_in current)
         taken_now None by = tt
         taken_now (Some choice) by =
             let whole = rw by.chosen at by.blocks in
-            let now = in_current v got h.done (choice ∷ []) place (rw whole at there) by.cleaned bare in
+            let there_now = in_current v got h.done (choice ∷ []) place (rw whole at there) by.cleaned bare in
             let only = all_right (λ (c : Choice). AllByRecursion (λ b. b.index ≡ got.block.index → b ≡ got.block) c.blocks) h.done (choice ∷ [])
             (all_flat (λ b. b.index ≡ got.block.index → b ≡ got.block) (λ (c : Choice). c.blocks) (h.done ++ choice ∷ []) (rw whole at (single indexed))) in (
-              taken-holds v got (clean.taken_for old choice.segment.number) (clean.taken_for new choice.segment.number) content_at 0 now.0 choice.blocks
-                  (λ lbn. takes choice.segment.number lbn by.unfinished) gives by.ascend.0 (rw append-nil at now.1) only.0 by.taken.0,
+              taken-holds v got (clean.taken_for old choice.segment.number) (clean.taken_for (record old { taken = now }) choice.segment.number) content_at 0 there_now.0 choice.blocks
+                  (λ lbn. takes choice.segment.number lbn by.unfinished) gives by.ascend.0 (rw append-nil at there_now.1) only.0 by.taken.0,
               tt,
             )
 
   pub delivered-stands : (content_at : ℕ → Content) (old new : Session) → AreIndexed 0 v.blocks → Gives got.content content_at got.block.lbn got.block.count → HasTaken content_at got.block old new → Stands v old → Stands (delivered_view got v) new
   delivered-stands content_at old new indexed gives takes h =
-      let same = takes.same in
-      record {
-        terms = rw (same.kind, same.weight, same.block) h.terms;
-        weight = rw same.weight h.weight;
-        block = rw same.block h.block;
-        suspended = same.suspended ∙ h.suspended;
-        closed = same.closed ∙ h.closed;
-        complete = same.complete ∙ h.complete;
-        sealed = same.sealed ∙ h.sealed;
-        ascend = rw same.kind h.ascend;
-        unwanted = rw same.kind h.unwanted;
-        image = λ is_open.
-            let backup : is_backup old.kind ≡ true = ap (λ t. is_backup t.kind) (sym h.terms) ∙ (and_parts (is_backup v.terms.kind) (not v.sealed) is_open).0 in
-            let image = h.image is_open in record {
-              each = taken-holds v got (held_at old.image) (held_at new.image) content_at 0 place v.blocks (takes.image backup) gives (h.ascend backup) there (single indexed) image.each;
-              only = taken-only v got (held_at old.image) (held_at new.image) content_at place v.blocks (takes.image backup) there image.only;
-            };
-        log = rw same.kind (λ cleans. delivered-cleans content_at old.log new.log indexed gives same.log_block same.segments same.unfinished (takes.log cleans) (h.log cleans));
-        unchosen = rw same.kind h.unchosen;
-      }
+      let image : is_unsealed v ≡ true → HoldsImage (delivered_view got v).work (held_at new.image) = λ is_open.
+      let backup : is_backup old.kind ≡ true = ap (λ t. is_backup t.kind) (sym h.terms) ∙ (and_parts (is_backup v.terms.kind) (not v.sealed) is_open).0 in
+      let image = h.image is_open in record {
+        each = taken-holds v got (held_at old.image) (held_at new.image) content_at 0 place v.blocks (takes.image backup) gives (h.ascend backup) there (single indexed) image.each;
+        only = taken-only v got (held_at old.image) (held_at new.image) content_at place v.blocks (takes.image backup) there image.only;
+      } in
+      let log = λ (cleans : is_clean old.kind ≡ true). delivered-cleans content_at old.log new.log.taken indexed gives (takes.log cleans) (h.log cleans) in
+      rw takes.same (assumption (image, log, h))

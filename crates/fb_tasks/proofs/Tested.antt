@@ -9,7 +9,7 @@ use Rattle.fb_tasks.proofs.Words.{complete_rows, is_newly_cleaned, number_same, 
 use Rattle.fb_tasks.proofs.Words.{AreReported, IsAtWork, Stands, Cleans, HoldsBlock, HoldsImage, choice_in, CleansBy, IsUntouched}
 use Rattle.fb_tasks.proofs.Words.{IsQuiet, HasNoChoice, HoldsBlocks, HasChosen, HaveChosen, IsSettled, Tells, all_weaker, filter_none}
 use Rattle.fb_tasks.proofs.Words.{flat_none, all_range, some_at, each_set, one_or_other, step_to, nat_tests, get_or_past, length-set}
-use Rattle.fb_tasks.proofs.Words.{Shape, Entry, by_deliveries, Plain}
+use Rattle.fb_tasks.proofs.Words.{Shape, Entry, by_deliveries, Plain, is_clean, subst}
 use Rattle.fb_tasks.proofs.{Sealed.held_same, Complete.busy_by, Frames.kept-entries, Frames.get_other, Additions.none-yet}
 use Rattle.fb_tasks.proofs.{States.flagged-stands, Cuts.range_next}
 use Rattle.std.proofs.lemmas.Grind.{flat_map-append}
@@ -104,18 +104,8 @@ settled-tested past rows given = record {
   ) refl;
 }
 
--- a session whose backup was sealed where the test had to, whatever it notes of its completion
-pub record IsTested (seals : Bool) (old new : Session) : Type 0 where
-  pub kind : new.kind ≡ old.kind
-  pub weight : new.weight ≡ old.weight
-  pub block : new.block ≡ old.block
-  pub suspended : new.suspended ≡ old.suspended
-  pub closed : new.closed ≡ old.closed
-  pub sealed : new.sealed ≡ (seals || old.sealed)
-  pub log : new.log ≡ old.log
-  pub image : seals ≡ false → (lbn : ℕ) → held_at new.image lbn ≡ held_at old.image lbn
-
-module _ (task : ℕ) (v : TaskView) (rows : List BackRow) (given : AreRowsOf task v rows) (old new : Session) (is : IsTested (is_unsealed v && is_done v.work) old new) (complete : new.complete ≡ is_done v.work) where
+-- a backup was sealed where the test had to, and its completion is noted
+module _ (task : ℕ) (v : TaskView) (rows : List BackRow) (given : AreRowsOf task v rows) (old mid : Session) (is : IsSealed (is_unsealed v && is_done v.work) old mid) where
   open_was : is_unsealed (tested_view task rows v) ≡ true → (is_unsealed v ≡ true) × ((is_unsealed v && is_done v.work) ≡ false)
   open_was h = by (is_backup v.terms.kind) v.sealed (is_done v.work) (rw (sym given.seals) h) where
     by : (backup sealed complete : Bool) → (backup && not (((backup && not sealed) && complete) || sealed)) ≡ true → ((backup && not sealed) ≡ true) × (((backup && not sealed) && complete) ≡ false)
@@ -127,28 +117,14 @@ module _ (task : ℕ) (v : TaskView) (rows : List BackRow) (given : AreRowsOf ta
     only = λ lbn none. same lbn ∙ h.only lbn none;
   }
 
-  pub stands-tested : Stands v old → IsAtWork v.work old → Stands (tested_view task rows v) new
-  stands-tested h work = record {
-    terms = rw (is.kind, is.weight, is.block) h.terms;
-    weight = rw is.weight h.weight;
-    block = rw is.block h.block;
-    suspended = is.suspended ∙ h.suspended;
-    closed = is.closed ∙ h.closed;
-    complete = complete;
-    sealed = rw (is.sealed, given.seals, h.sealed) refl;
-    ascend = rw is.kind h.ascend;
-    unwanted = rw is.kind h.unwanted;
-    image = λ is_open. assumption (holds_still (held_at old.image) (held_at new.image) (is.image (open_was is_open).1) (h.image (open_was is_open).0));
-    log = rw (is.kind, is.log) (λ cleans. cleans-tested task v rows given old.log (work cleans) (h.log cleans));
-    unchosen = rw is.kind h.unchosen;
-  }
-
-  pub at_work-tested : IsAtWork v.work old → IsAtWork (tested_view task rows v).work new
-  at_work-tested work = rw (is.kind, is.log) work
-
--- what a session notes of its completion is not what was sealed
-pub noted : {seals : Bool} {old : Session} (mid new : Session) (complete : Bool) → new ≡ record mid { complete = complete } → IsSealed seals old mid → IsTested seals old new
-noted {seals} {old} mid new complete is h = rw is (assumption h)
+  pub stands-tested : Stands v old → IsAtWork v.work old
+      → (Stands (tested_view task rows v) (record mid { complete = is_done v.work })) × (IsAtWork (tested_view task rows v).work (record mid { complete = is_done v.work }))
+  stands-tested h work =
+      let sealed : ((is_unsealed v && is_done v.work) || old.sealed) ≡ (tested_view task rows v).sealed = rw (given.seals, h.sealed) refl in
+      let image : is_unsealed (tested_view task rows v) ≡ true → HoldsImage (tested_view task rows v).work (held_at mid.image) = λ is_open.
+      assumption (holds_still (held_at old.image) (held_at mid.image) (is.image (open_was is_open).1) (h.image (open_was is_open).0)) in
+      let log = λ (cleans : is_clean old.kind ≡ true). cleans-tested task v rows given old.log (work cleans) (h.log cleans) in
+      rw is.same (assumption (sealed, image, log, h), work)
 
 -- these rows are all that a test of the tasks has to give
 abbrev pub AreAllRows : Past → List BackRow → Type 0
@@ -189,12 +165,9 @@ module _ (held : List Entry) (old now : List Session) (n : ℕ) (session new : S
 
 -- a quiet task stands as it did after the test, and gives no row
 module _ (task : ℕ) (v : TaskView) (rows : List BackRow) (given : AreRowsOf task v rows) (session : Session) (none : (is_unsealed v && is_done v.work) ≡ false) (noted : session.complete ≡ is_done v.work) where
-  still_tested : IsTested (is_unsealed v && is_done v.work) session session
-  still_tested = record { kind = refl; weight = refl; block = refl; suspended = refl; closed = refl; sealed = rw none refl; log = refl; image = λ _ lbn. refl }
-
   pub still-stands : Stands v session → IsAtWork v.work session → (Stands (tested_view task rows v) session) × (IsAtWork (tested_view task rows v).work session)
-  still-stands stands at_work =
-      (stands-tested task v rows given session session still_tested noted stands at_work, at_work-tested task v rows given session session still_tested noted at_work)
+  still-stands stands at_work = subst (λ b. (Stands (tested_view task rows v) (record session { complete = b })) × (IsAtWork (tested_view task rows v).work session)) (sym noted)
+      (stands-tested task v rows given session session (record { same = rw none refl; image = λ _ lbn. refl }) stands at_work)
 
 pub no-ends : (past : Past) (now task : ℕ) → (is_unsealed (view past task) && is_done (view past task).work) ≡ false → (view past task).was_complete ≡ is_done (view past task).work
     → (seal_rows by_deliveries past now task ++ complete_rows past now task) ≡ []

@@ -53,44 +53,13 @@ cuts_of disk block lbns = flat_map (λ lbn. cutting disk block lbn block) lbns
 abbrev pub without_aborted : Entry → ℕ → Option Content → Option Content
 without_aborted entry lbn before = if is_aborted entry.state && is_within entry.block.lbn entry.block.count lbn then None else before
 
--- all but the image stays
-pub record IsSameButImage (old new : Session) : Type 0 where
-  pub kind : new.kind ≡ old.kind
-  pub weight : new.weight ≡ old.weight
-  pub block : new.block ≡ old.block
-  pub suspended : new.suspended ≡ old.suspended
-  pub closed : new.closed ≡ old.closed
-  pub complete : new.complete ≡ old.complete
-  pub sealed : new.sealed ≡ old.sealed
-  pub log : new.log ≡ old.log
-
--- a backup has been sealed if it was due; its image isn't needed afterwards
+-- a backup has been sealed if it was due, and nothing else has changed; its image isn't needed afterwards
 pub record IsSealed (seals : Bool) (old new : Session) : Type 0 where
-  pub kind : new.kind ≡ old.kind
-  pub weight : new.weight ≡ old.weight
-  pub block : new.block ≡ old.block
-  pub suspended : new.suspended ≡ old.suspended
-  pub closed : new.closed ≡ old.closed
-  pub complete : new.complete ≡ old.complete
-  pub sealed : new.sealed ≡ (seals || old.sealed)
-  pub log : new.log ≡ old.log
+  pub same : new ≡ record old { sealed = seals || old.sealed; image = new.image }
   pub image : seals ≡ false → (lbn : ℕ) → held_at new.image lbn ≡ held_at old.image lbn
 
--- all but the image and what was taken for the log stays
-pub record IsSameButTaken (old new : Session) : Type 0 where
-  pub kind : new.kind ≡ old.kind
-  pub weight : new.weight ≡ old.weight
-  pub block : new.block ≡ old.block
-  pub suspended : new.suspended ≡ old.suspended
-  pub closed : new.closed ≡ old.closed
-  pub complete : new.complete ≡ old.complete
-  pub sealed : new.sealed ≡ old.sealed
-  pub log_block : new.log.block ≡ old.log.block
-  pub segments : new.log.segments ≡ old.log.segments
-  pub unfinished : new.log.unfinished ≡ old.log.unfinished
-
--- the content of a block was taken into the image of a backup, or for the chosen segment
+-- the content of a block was taken into the image of a backup, or for the chosen segment, and nothing else has changed
 pub record HasTaken (content_at : ℕ → Content) (block : Block) (old new : Session) : Type 0 where
-  pub same : IsSameButTaken old new
+  pub same : new ≡ record old { image = new.image; log = record old.log { taken = new.log.taken } }
   pub image : is_backup old.kind ≡ true → (lbn : ℕ) → held_at new.image lbn ≡ after_take content_at block.lbn block.count lbn (held_at old.image lbn)
   pub log : is_clean old.kind ≡ true → (number lbn : ℕ) → old.log.unfinished ≡ Some number → taken_for new.log number lbn ≡ after_take content_at block.lbn block.count lbn (taken_for old.log number lbn)

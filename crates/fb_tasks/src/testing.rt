@@ -12,7 +12,7 @@ ghost use Rattle.fb_rows.specs.declared.back.BackRow.TheVariants.{Segment as Seg
 ghost use Rattle.fb_model.specs.History.{Past, tested, is_open_backup};
 ghost use Rattle.fb_model.specs.Completion.{view, is_complete};
 ghost use Rattle.fb_model.specs.Images.{segment_rows, seal_rows, complete_rows};
-ghost use Rattle.fb_tasks.specs.Keeping.{IsSameButImage, IsSealed, without_aborted};
+ghost use Rattle.fb_tasks.specs.Keeping.{IsSealed, without_aborted};
 ghost use Rattle.fb_tasks.specs.Taken.{by_deliveries, found_for};
 ghost use Rattle.fb_tasks.specs.Leaving.{HasGrown, HasBegun, by_calls};
 ghost use Rattle.fb_tasks.specs.Standing.{Stands, HoldsBlocks, IsAtWork, AreRowsOf, HasChosen, MayFinish};
@@ -187,7 +187,7 @@ impl Session {
     // Takes an aborted block's sectors out of the image.
     fn drop_aborted(&mut self, wanted: &Wanted, task: u32, index: u32) -> Result<(), NoMemory>
         requires { (e : Entry) × (i : ℕ) × (slice_get wanted.now i ≡ Some e) × (is_block task index e ≡ true) × (e.block.lbn + e.block.count ≤ 10 ^ 12) }
-        ensures session { IsSameButImage self.old self.new }
+        ensures session { self.new ≡ record self.old { image = self.new.image } }
         ensures image { OnOk result ((e : Entry) (i lbn : ℕ) → slice_get wanted.now i ≡ Some e → is_block task index e ≡ true → held_at self.new.image lbn ≡ without_aborted e lbn (held_at self.old.image lbn)) }
     {
         let entry = wanted.entry(task, index);

@@ -1,6 +1,6 @@
 use Rattle.fb_tasks.proofs.Words.{ap, ◌∙◌, arith, ◌≡◌, true, ℕ, filter, true≢false, IfOk-weaker, held_at, range_with_len, Shape, held_in}
 use Rattle.fb_tasks.proofs.Words.{EndsBy, runs_of, is_delivered, Past, is_open_backup, view, is_complete, found_for, without_aborted}
-use Rattle.fb_tasks.proofs.Words.{entry_in, HoldsBlocks, Stands}
+use Rattle.fb_tasks.proofs.Words.{entry_in, HoldsBlocks, Stands, Session}
 use Rattle.fb_tasks.proofs.Complete.{done_is}
 use Rattle.fb_tasks.proofs.Sealed.{entry_at, open_is, block_at, all_blocks, dropped, dropped_next, sealed_content}
 use Rattle.fb_tasks.proofs.session.Session.seal.Goals as goal
@@ -15,15 +15,8 @@ drop_aborted-requires c =
 
 pub loop-index-preserved : goal.loop-index-preserved
 loop-index-preserved c = record {
-  sealed = let was = c.loop-index.invariant.sealed in let is = c.drop_aborted.ensures.session in record {
-    kind = is.kind ∙ was.kind;
-    weight = is.weight ∙ was.weight;
-    block = is.block ∙ was.block;
-    suspended = is.suspended ∙ was.suspended;
-    closed = is.closed ∙ was.closed;
-    complete = is.complete ∙ was.complete;
-    sealed = is.sealed ∙ was.sealed;
-    log = is.log ∙ was.log;
+  sealed = record {
+    same = c.drop_aborted.ensures.session ∙ ap (λ (s : Session). record s { image = c.drop_aborted.new.self.image }) c.loop-index.invariant.sealed.same;
     image = λ never. absurd (true≢false never);
   };
   image = λ disk past holds lbn.

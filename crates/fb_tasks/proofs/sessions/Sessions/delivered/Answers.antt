@@ -1,4 +1,5 @@
 use Rattle.fb_tasks.proofs.Words.{◌∷◌, ◌<◌, length, sym, ◌∙◌, subst, arith, ap, delivered, rows_after, MayDeliver, on_err, some_at}
+use Rattle.fb_tasks.proofs.Words.{Session}
 use Rattle.fb_tasks.proofs.Listed.{listed-more, listed-noted}
 use Rattle.fb_tasks.proofs.Frames.{set_same}
 use Rattle.fb_tasks.proofs.AfterDelivery.{begun-findings, begun-segment, begun-ends, opened, own-there, wanted-entry, busy-own, kind-own, held-now, may-finish, all-given, tells-delivered, settled-delivered, rows-one_by_one}
@@ -78,7 +79,7 @@ returns-clause-rows c = λ disk past outer.
     let there = own-there c.args.got may c.index_mut-session.result.now c.index_mut-session.ensures.value in
     let new = delivered c.args.got ∷ past in
     let finished = c.in_ok-test_segment.ensures.ok disk new (may-finish c.args.got may c.index_mut-session.result.now there c.deliver.new.self c.take.new.self c.deliver.ensures c.in_ok-take.ensures) in
-    let kind = kind-own c.args.got may c.index_mut-session.result.now there ∙ sym (c.in_ok-take.ensures may.content_at may.content).same.kind in
+    let kind = kind-own c.args.got may c.index_mut-session.result.now there ∙ sym (ap (λ (s : Session). s.kind) (c.in_ok-take.ensures may.content_at may.content).same) in
     rows-one_by_one c.args.got may c.args.rows.now c.push.new.self c.push_findings.new.rows c.test_segment.new.rows c.test.new.rows c.take.new.self.kind c.deref.result.now kind (c.deref.ensures.value ∙ c.in_ok-findings.ensures)
     c.in_ok-push.ensures.ok c.in_ok-push_findings.ensures.ok finished.2 (c.in_ok-test.ensures.rows disk new (record { blocks = held-now c.args.got may c.deliver.new.self c.deliver.ensures; stands = finished.0; at_work = finished.1 }))
 
@@ -92,21 +93,21 @@ pub returns-in_err-push_findings-clause-err_rows : goal.returns-in_err-push_find
 returns-in_err-push_findings-clause-err_rows c = on_err c.from_residual-in_err-push_findings.result (λ disk past outer.
     let may = subst (λ xs. MayDeliver disk past xs c.args.wanted.now c.args.got) (sym c.self.view_is) outer in
     let there = own-there c.args.got may c.index_mut-session.result.now c.index_mut-session.ensures.value in
-    let kind = kind-own c.args.got may c.index_mut-session.result.now there ∙ sym (c.in_ok-take.ensures may.content_at may.content).same.kind in
+    let kind = kind-own c.args.got may c.index_mut-session.result.now there ∙ sym (ap (λ (s : Session). s.kind) (c.in_ok-take.ensures may.content_at may.content).same) in
     begun-findings c.args.got may c.args.rows.now c.push.new.self c.take.new.self.kind c.deref.result.now kind (c.deref.ensures.value ∙ c.in_ok-findings.ensures) c.in_ok-push.ensures.ok c.push_findings.new.rows c.in_err-push_findings.ensures.err)
 
 pub returns-in_err-test_segment-clause-err_rows : goal.returns-in_err-test_segment-clause-err_rows
 returns-in_err-test_segment-clause-err_rows c = on_err c.from_residual-in_err-test_segment.result (λ disk past outer.
     let may = subst (λ xs. MayDeliver disk past xs c.args.wanted.now c.args.got) (sym c.self.view_is) outer in
     let there = own-there c.args.got may c.index_mut-session.result.now c.index_mut-session.ensures.value in
-    let kind = kind-own c.args.got may c.index_mut-session.result.now there ∙ sym (c.in_ok-take.ensures may.content_at may.content).same.kind in
+    let kind = kind-own c.args.got may c.index_mut-session.result.now there ∙ sym (ap (λ (s : Session). s.kind) (c.in_ok-take.ensures may.content_at may.content).same) in
     begun-segment c.args.got may c.args.rows.now c.push.new.self c.take.new.self.kind c.deref.result.now kind (c.deref.ensures.value ∙ c.in_ok-findings.ensures) c.in_ok-push.ensures.ok c.push_findings.new.rows c.in_ok-push_findings.ensures.ok c.test_segment.new.rows c.in_err-test_segment.ensures.err)
 
 pub returns-in_err-test-clause-err_rows : goal.returns-in_err-test-clause-err_rows
 returns-in_err-test-clause-err_rows c = on_err c.from_residual-in_err-test.result (λ disk past outer.
     let may = subst (λ xs. MayDeliver disk past xs c.args.wanted.now c.args.got) (sym c.self.view_is) outer in
     let there = own-there c.args.got may c.index_mut-session.result.now c.index_mut-session.ensures.value in
-    let kind = kind-own c.args.got may c.index_mut-session.result.now there ∙ sym (c.in_ok-take.ensures may.content_at may.content).same.kind in
+    let kind = kind-own c.args.got may c.index_mut-session.result.now there ∙ sym (ap (λ (s : Session). s.kind) (c.in_ok-take.ensures may.content_at may.content).same) in
     let new = delivered c.args.got ∷ past in
     let finished = c.in_ok-test_segment.ensures.ok disk new (may-finish c.args.got may c.index_mut-session.result.now there c.deliver.new.self c.take.new.self c.deliver.ensures c.in_ok-take.ensures) in
     begun-ends c.args.got may c.args.rows.now c.push.new.self c.take.new.self.kind c.deref.result.now kind (c.deref.ensures.value ∙ c.in_ok-findings.ensures) c.in_ok-push.ensures.ok c.push_findings.new.rows c.in_ok-push_findings.ensures.ok c.test_segment.new.rows c.test.new.rows finished.2
