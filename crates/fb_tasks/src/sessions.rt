@@ -124,6 +124,7 @@ impl Sessions {
     ///
     /// Also out of memory, all rows and blocks that stood are as before, and so is each session that
     /// was not touched; what was registered are blocks of open clean tasks.
+    #[tactic(auto, using(crate::proofs::Leaving::grown_more, crate::proofs::Leaving::touched_more))]
     pub fn settle(
         &mut self,
         map: &SectorMap,

@@ -90,6 +90,7 @@ impl Session {
     }
 
     /// Tests whether the task is complete, and adds the rows of its seal and its completion.
+    #[tactic(auto, using(crate::proofs::Leaving::grown_more))]
     pub fn test(
         &mut self,
         alloc: Global,

@@ -1,7 +1,7 @@
 use Rattle.fb_tasks.proofs.Words.{ap, ap₂, ◌∙◌, ◌++◌, ◌∷◌, [], ◌&&◌, not, if◌then◌else◌, subst, rules, on_ok_weaker, on_err_weaker}
 use Rattle.fb_tasks.proofs.Words.{CompleteLine, view, tested-view, seal_rows, complete_by, IsSealed, by_deliveries, on_err, Session, ◌≡◌}
 use Rattle.fb_tasks.proofs.Words.{is_done}
-use Rattle.fb_tasks.proofs.{Complete.done_same, Complete.done_is, Complete.was_is, Complete.counts_small, Leaving.grown_more}
+use Rattle.fb_tasks.proofs.{Complete.done_same, Complete.done_is, Complete.was_is, Complete.counts_small}
 use Rattle.fb_tasks.proofs.{Leaving.begun_after, Leaving.begun_same, Sealed.seals_same, Tested.stands-tested}
 use Rattle.fb_tasks.proofs.session.Session.test.Goals as goal
 
@@ -27,9 +27,6 @@ pub returns-clause-err_rows : goal.returns-clause-err_rows
 returns-clause-err_rows c = on_err_weaker c.add_completion.result (λ same disk past may.
     let says = c.is_complete-complete.ensures ∙ (ap (complete_by c.args.self.now) c.counts.ensures ∙ done_same past c.args.task c.args.self.now c.args.wanted.now may.stands may.at_work may.blocks.entries) in
     begun_after (seal_rows by_deliveries past c.args.now c.args.task) (c.in_ok-add_seal.ensures.rows disk past may.blocks may.stands (says ∙ done_is past c.args.task)) (begun_same same)) c.add_completion.ensures.err
-
-pub returns-clause-grown : goal.returns-clause-grown
-returns-clause-grown c = grown_more c.args.rows.now c.add_seal.new.rows c.add_completion.new.rows c.add_seal.ensures.grown c.add_completion.ensures.grown
 
 pub returns-in_err-add_seal-clause-err_rows : goal.returns-in_err-add_seal-clause-err_rows
 returns-in_err-add_seal-clause-err_rows c = on_err c.from_residual.result (λ disk past may. begun_same c.in_err-add_seal.ensures.err)

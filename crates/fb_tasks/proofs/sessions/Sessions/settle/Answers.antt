@@ -1,6 +1,6 @@
 use Rattle.fb_tasks.proofs.Words.{◌++◌, [], ap, ◌∙◌, append_assoc, on_ok_weaker, flat_map, task_numbers, test_rows, segment_rows}
 use Rattle.fb_tasks.proofs.Words.{seal_rows, complete_rows, with_choices, by_deliveries}
-use Rattle.fb_tasks.proofs.{Leaving.grown_more, Leaving.touched_more, RowsOf.rows-given, RowsOf.nothing-mute, Tested.settled-tested}
+use Rattle.fb_tasks.proofs.{RowsOf.rows-given, RowsOf.nothing-mute, Tested.settled-tested}
 use Rattle.fb_tasks.proofs.sessions.Sessions.settle.Goals as goal
 
 pub test_all-requires : goal.test_all-requires
@@ -22,9 +22,3 @@ returns-clause-rows c = on_ok_weaker c.test_all.result (λ pushed past may.
     pushed c.args.map.now new (c.in_ok-choose_all.ensures.chosen past may)
     ∙ (ap (λ rows. rows ++ flat_map (λ task. seal_rows by_deliveries new c.args.now task ++ complete_rows new c.args.now task) (task_numbers new)) (c.in_ok-choose_all.ensures.rows past may)
     ∙ append_assoc c.args.rows.now (flat_map (segment_rows by_deliveries new c.args.now) (task_numbers new)) (flat_map (λ task. seal_rows by_deliveries new c.args.now task ++ complete_rows new c.args.now task) (task_numbers new)))) c.test_all.ensures.rows
-
-pub returns-clause-stay_sessions : goal.returns-clause-stay_sessions
-returns-clause-stay_sessions c = touched_more c.args.self.now c.choose_all.new.self c.test_all.new.self c.choose_all.ensures.stay_sessions c.test_all.ensures.stay_sessions
-
-pub returns-clause-stay_rows : goal.returns-clause-stay_rows
-returns-clause-stay_rows c = grown_more c.args.rows.now c.choose_all.new.rows c.test_all.new.rows c.choose_all.ensures.stay_rows c.test_all.ensures.stay_rows
