@@ -183,28 +183,22 @@ may_add disk past call task first blocks age live sessions session held is at h 
       room = omega (arith, ap length log.segments, length-map (view past task).segments (kept_segment (view past task).work), segments_few past task, h.few_calls);
     }
 
-pub added-tells : (disk : Shape) (past : Past) (call : Call) (task first blocks age : ℕ) (live : List Bool) (items seen : List Session) (session : Session) (log : clean.Cleaning) (held : List Entry) → IsCall task (Segment first blocks age live) call → items ≡ seen → task < length items → session ≡ get_or items task session
-    → log ≡ clean.after_add first blocks age live session.log → MayTake disk past seen held call → Tells disk (called call [] ∷ past) (set items task (record session { touched = true; log = log })) held
-added-tells disk past call task first blocks age live items seen session log held is same within at added h =
-    let there : slice_get seen task ≡ Some session = subst (λ xs. slice_get xs task ≡ Some session) same (slice_get-get_or items task session within ∙ ap Some (sym at)) in
+pub added-tells : (disk : Shape) (past : Past) (call : Call) (task first blocks age : ℕ) (live : List Bool) (seen : List Session) (session : Session) (log : clean.Cleaning) (held : List Entry) → IsCall task (Segment first blocks age live) call → task < length seen → session ≡ get_or seen task session
+    → log ≡ clean.after_add first blocks age live session.log → MayTake disk past seen held call → Tells disk (called call [] ∷ past) (set seen task (record session { touched = true; log = log })) held
+added-tells disk past call task first blocks age live seen session log held is within at added h =
+    let there = slice_get-get_or seen task session within ∙ ap Some (sym at) in
     let may = may_add disk past call task first blocks age live seen session held is there h in
     let kept : tasks (called call [] ∷ past) ≡ tasks past = ap (λ a. opened_by a (tasks past)) is.action in
     let own_now = added-view past call kept task first blocks age live is.task is.action in
     let others = λ (t : ℕ) (other : (task == t) ≡ false). called-silent past call kept t (ap (λ k. k == t) is.task ∙ other) in
     let placed = h.tells.placed task in
     let told = h.tells.each task session there in
-    rw (added, same) (one-tells disk past (called call []) task others kept seen (record session { touched = true; log = clean.after_add first blocks age live session.log }) held held may.opened
+    rw added (one-tells disk past (called call []) task others kept seen (record session { touched = true; log = clean.after_add first blocks age live session.log }) held held may.opened
     (rw append-nil h.tells.on_disk)
     (h.tells.entries ∙ rw append-nil (kept-entries (view past) (view (called call [] ∷ past)) (λ t b. one_or_other
     (λ t. state_in (view past t) b ≡ state_in (view (called call [] ∷ past) t) b) task t (rw own_now refl) (λ other. rw (others t other) refl)) (registered past)))
     (rw own_now (record { indexed = placed.indexed; segments = all_append (IsSegmentOf disk (view past task).terms.block) (view past task).segments (next_segment (view past task) first blocks age live ∷ []) placed.segments ((subst (λ b. first + blocks * b ≤ length (places disk)) (ap (λ t. t.block) (sym told.terms)) may.on_disk, may.size, may.few), tt) }))
     (rw own_now (added-told (view past task) first blocks age live may.not_closed session told)) h.tells)
-
-pub asked_within : (disk : Shape) (past : Past) (call : Call) (task first blocks age : ℕ) (live : List Bool) (items seen : List Session) (held : List Entry) → IsCall task (Segment first blocks age live) call → items ≡ seen → MayTake disk past seen held call → task < length items
-asked_within disk past call task first blocks age live items seen held is view h =
-    let asks = subst (λ a. MayAsk disk (calls_of past) call.task a) is.action h.asks in
-    let there = open_there past task (subst (λ t. allowed.IsOpen (calls_of past) t) is.task asks.0) in
-    omega (arith, there.0, h.tells.as_many, ap length view)
 
 -- an open backup holds nothing as yet, and no other session is an image
 wanted-told : (task : ℕ) (added : List Block) (v : TaskView) (session : Session) → is_clean session.kind ≡ false → is_backup session.kind && v.wants ≡ false → Ascend 0 added → AllByRecursion (λ b. b.task ≡ task) added
@@ -278,12 +272,12 @@ module _ (disk : Shape) (past : Past) (call : Call) (task first count : ℕ) (is
       (rw own_now (record { indexed = indexed_append 0 (view past task).blocks added placed.indexed (let e : length (view past task).blocks ≡ 0 + length (view past task).blocks = omega arith in subst (λ n. AreIndexed n added) e after); segments = placed.segments }))
       (rw own_now (wanted-told task added (view past task) session other once ascends own told)) h
 
-pub wanted-tells : (disk : Shape) (past : Past) (call : Call) (task first count : ℕ) (items seen touched : List Session) (session : Session) (held now : List Entry) → length (places disk) ≤ 10 ^ 12 → IsCall task (Want first count) call → items ≡ seen → task < length items → session ≡ get_or items task session
+pub wanted-tells : (disk : Shape) (past : Past) (call : Call) (task first count : ℕ) (seen touched : List Session) (session : Session) (held now : List Entry) → length (places disk) ≤ 10 ^ 12 → IsCall task (Want first count) call → task < length seen → session ≡ get_or seen task session
     → now ≡ held ++ new_entries session (numbered task session.weight (numbering.registered task (numbering.blocks_of held)) (cutting disk session.block first count))
     → ((s : Session) → slice_get seen task ≡ Some s → touched ≡ set seen task (record s { touched = true }))
     → MayTake disk past seen held call → Tells disk (take_call disk past call) touched now
-wanted-tells disk past call task first count items seen touched session held now small is same within at pushed flagged h =
-    let there : slice_get seen task ≡ Some session = subst (λ xs. slice_get xs task ≡ Some session) same (slice_get-get_or items task session within ∙ ap Some (sym at)) in
+wanted-tells disk past call task first count seen touched session held now small is within at pushed flagged h =
+    let there = slice_get-get_or seen task session within ∙ ap Some (sym at) in
     let may = may_want disk past call task first count seen session held is there h in
     let told = h.tells.each task session there in
     let placed = h.tells.placed task in
@@ -297,20 +291,14 @@ wanted-tells disk past call task first count items seen touched session held now
     (cuts_placed disk (length (tasks past)) task session.weight session.block next first (first + count) cuts may.opened may.stands.weight may.stands.block.1 may.on_disk (omega (arith, may.on_disk, small)) are)
     (pushed ∙ ap (λ bs. held ++ new_entries session bs) added_are) h.tells)
 
-pub want_within : (disk : Shape) (past : Past) (call : Call) (task first count : ℕ) (items seen : List Session) (held : List Entry) → IsCall task (Want first count) call → items ≡ seen → MayTake disk past seen held call → task < length items
-want_within disk past call task first count items seen held is view h =
-    let asks = subst (λ a. MayAsk disk (calls_of past) call.task a) is.action h.asks in
-    let there = open_there past task (subst (λ t. allowed.IsOpen (calls_of past) t) is.task asks.0) in
-    omega (arith, there.0, h.tells.as_many, ap length view)
-
 -- what a want registers are the blocks that the call gives, in their states
-pub wanted_due : (disk : Shape) (past : Past) (call : Call) (task first count : ℕ) (items seen : List Session) (session : Session) (held : List Entry) → length (places disk) ≤ 10 ^ 12 → IsCall task (Want first count) call → items ≡ seen → task < length items → session ≡ get_or items task session
+pub wanted_due : (disk : Shape) (past : Past) (call : Call) (task first count : ℕ) (seen : List Session) (session : Session) (held : List Entry) → length (places disk) ≤ 10 ^ 12 → IsCall task (Want first count) call → task < length seen → session ≡ get_or seen task session
     → MayTake disk past seen held call → new_entries session (numbered task session.weight (numbering.registered task (numbering.blocks_of held)) (cutting disk session.block first count)) ≡ entries_by disk past call
-wanted_due disk past call task first count items seen session held small is same within at h =
-    let there : slice_get seen task ≡ Some session = rw (sym same) (slice_get-get_or items task session within ∙ ap Some (sym at)) in
+wanted_due disk past call task first count seen session held small is within at h =
+    let there = slice_get-get_or seen task session within ∙ ap Some (sym at) in
     let added = new_entries session (numbered task session.weight (numbering.registered task (numbering.blocks_of held)) (cutting disk session.block first count)) in
     let entry = entry_of (take_call disk past call) in
-    let tells = wanted-tells disk past call task first count items seen (set seen task (record session { touched = true })) session held (held ++ added) small is same within at refl
+    let tells = wanted-tells disk past call task first count seen (set seen task (record session { touched = true })) session held (held ++ added) small is within at refl
     (λ s here. ap (λ (x : Session). set seen task (record x { touched = true })) (some_same session s (sym there ∙ here))) h in
     let all : held ++ added ≡ map entry (registered past) ++ entries_by disk past call = tells.entries ∙ map-append entry (registered past) (blocks_by disk past call.task call.action) in
     let size : length held ≡ length (map entry (registered past)) = rw h.tells.entries (simp length-map) in

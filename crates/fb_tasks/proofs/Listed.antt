@@ -14,8 +14,8 @@ the_other either none = elim either [ inl p ↦ absurd (none p) | inr q ↦ q ]
 
 module _ {sessions : List Session} {touched asked : BTreeSet ℕ} (h : AreListed sessions touched asked) where
   -- a session that is listed changes
-  pub listed-set : (task : ℕ) (new : Session) → contains nat_cmp touched task ≡ true → AreListed (set sessions task new) touched asked
-  listed-set task new there = record {
+  pub listed_set : (task : ℕ) (new : Session) → contains nat_cmp touched task ≡ true → AreListed (set sessions task new) touched asked
+  listed_set task new there = record {
     room = omega (arith, h.room, length-set sessions task new);
     listed = each_set (IsTouchedIn touched) sessions task new (λ _. there) (λ k session differ at. h.listed k session at);
     covered = h.covered;
@@ -24,8 +24,8 @@ module _ {sessions : List Session} {touched asked : BTreeSet ℕ} (h : AreListed
   }
 
   -- a session changes, but stays as touched and as open as it was
-  pub listed-kept : (task : ℕ) (old new : Session) → task < length sessions → old ≡ get_or sessions task old → new.touched ≡ old.touched → (is_backup new.kind && not new.sealed) ≡ (is_backup old.kind && not old.sealed) → AreListed (set sessions task new) touched asked
-  listed-kept task old new within at same open_same =
+  pub listed_kept : (task : ℕ) (old new : Session) → task < length sessions → old ≡ get_or sessions task old → new.touched ≡ old.touched → (is_backup new.kind && not new.sealed) ≡ (is_backup old.kind && not old.sealed) → AreListed (set sessions task new) touched asked
+  listed_kept task old new within at same open_same =
       let there = slice_get-get_or sessions task old within ∙ ap Some (sym at) in
       record {
         room = omega (arith, h.room, length-set sessions task new);
@@ -36,13 +36,13 @@ module _ {sessions : List Session} {touched asked : BTreeSet ℕ} (h : AreListed
       }
 
   -- the session of a listed task
-  pub listed-there : (task : ℕ) (session : Session) → contains nat_cmp touched task ≡ true → session ≡ get_or sessions task session → slice_get sessions task ≡ Some session
-  listed-there task session is at = slice_get-get_or sessions task session (h.within task (h.covered task is)) ∙ ap Some (sym at)
+  pub listed_there : (task : ℕ) (session : Session) → contains nat_cmp touched task ≡ true → session ≡ get_or sessions task session → slice_get sessions task ≡ Some session
+  listed_there task session is at = slice_get-get_or sessions task session (h.within task (h.covered task is)) ∙ ap Some (sym at)
 
   -- a task is noted
   module _ {task : ℕ} {more more_asked : BTreeSet ℕ} (less : task < length sessions) (is : IsNoted task touched asked more more_asked) where
-    pub listed-more : AreListed sessions more more_asked
-    listed-more = record {
+    pub listed_more : AreListed sessions more more_asked
+    listed_more = record {
       room = h.room;
       listed = λ k session at now. is.stay k (h.listed k session at now);
       covered = λ k now. elim (is.covers k now) [ inl new ↦ new | inr before ↦ is.asked_stay k (h.covered k before) ];
@@ -51,8 +51,8 @@ module _ {sessions : List Session} {touched asked : BTreeSet ℕ} (h : AreListed
     }
 
     -- and its session changes
-    pub listed-noted : contains nat_cmp more task ≡ true → contains nat_cmp more_asked task ≡ true → (new : Session) → AreListed (set sessions task new) more more_asked
-    listed-noted noted asked_noted new = let all = listed-more in record {
+    pub listed_noted : contains nat_cmp more task ≡ true → contains nat_cmp more_asked task ≡ true → (new : Session) → AreListed (set sessions task new) more more_asked
+    listed_noted noted asked_noted new = let all = listed_more in record {
       room = omega (arith, h.room, length-set sessions task new);
       listed = each_set (IsTouchedIn more) sessions task new (λ _. noted) (λ k session differ at. all.listed k session at);
       covered = all.covered;
@@ -61,9 +61,9 @@ module _ {sessions : List Session} {touched asked : BTreeSet ℕ} (h : AreListed
     }
 
   -- a session that isn't touched is opened, and asked if it is a backup
-  pub listed-push : (new : Session) (more_asked : BTreeSet ℕ) (task : ℕ) → task ≡ length sessions → new.touched ≡ false → length sessions < 4294967295 → ((k : ℕ) → contains nat_cmp asked k ≡ true → contains nat_cmp more_asked k ≡ true)
+  pub listed_push : (new : Session) (more_asked : BTreeSet ℕ) (task : ℕ) → task ≡ length sessions → new.touched ≡ false → length sessions < 4294967295 → ((k : ℕ) → contains nat_cmp asked k ≡ true → contains nat_cmp more_asked k ≡ true)
       → ((k : ℕ) → contains nat_cmp more_asked k ≡ true → (k ≡ task) ⊎ (contains nat_cmp asked k ≡ true)) → ((is_backup new.kind && not new.sealed) ≡ true → contains nat_cmp more_asked task ≡ true) → AreListed (sessions ++ new ∷ []) touched more_asked
-  listed-push new more_asked task last untouched more stay only there = record {
+  listed_push new more_asked task last untouched more stay only there = record {
     room = omega (arith, more, length-append sessions (new ∷ []));
     listed = each_push (IsTouchedIn touched) sessions new (λ is. absurd (true≢false (sym is ∙ untouched))) h.listed;
     covered = λ k is. stay k (h.covered k is);
@@ -72,11 +72,11 @@ module _ {sessions : List Session} {touched asked : BTreeSet ℕ} (h : AreListed
   }
 
   -- a task was tested: it isn't touched any more, and is asked if it is an open backup
-  pub listed-less : (task : ℕ) (new : Session) (less less_asked : BTreeSet ℕ) (flag : Bool) → contains nat_cmp touched task ≡ true → new.touched ≡ false → flag ≡ (is_backup new.kind && not new.sealed)
+  pub listed_less : (task : ℕ) (new : Session) (less less_asked : BTreeSet ℕ) (flag : Bool) → contains nat_cmp touched task ≡ true → new.touched ≡ false → flag ≡ (is_backup new.kind && not new.sealed)
       → ((k : ℕ) → contains nat_cmp touched k ≡ true → (k ≡ task) ⊎ (contains nat_cmp less k ≡ true)) → ((k : ℕ) → contains nat_cmp less k ≡ true → contains nat_cmp touched k ≡ true) → contains nat_cmp less task ≡ false
       → ((k : ℕ) → contains nat_cmp asked k ≡ true → (k ≡ task) ⊎ (contains nat_cmp less_asked k ≡ true)) → ((k : ℕ) → contains nat_cmp less_asked k ≡ true → contains nat_cmp asked k ≡ true)
       → (flag ≡ true → contains nat_cmp asked task ≡ true → contains nat_cmp less_asked task ≡ true) → AreListed (set sessions task new) less less_asked
-  listed-less task new less less_asked flag there untouched is_open others only gone asked_others asked_only kept = record {
+  listed_less task new less less_asked flag there untouched is_open others only gone asked_others asked_only kept = record {
     room = omega (arith, h.room, length-set sessions task new);
     listed = each_set (IsTouchedIn less) sessions task new (λ is. absurd (true≢false (sym is ∙ untouched)))
         (λ k session differ at is. the_other (others k (h.listed k session at is)) (λ it. differ (sym it)));
@@ -87,8 +87,8 @@ module _ {sessions : List Session} {touched asked : BTreeSet ℕ} (h : AreListed
   }
 
   -- a note that failed added nothing
-  pub listed-failed : (more_asked : BTreeSet ℕ) → ((k : ℕ) → contains nat_cmp asked k ≡ true → contains nat_cmp more_asked k ≡ true) → ((k : ℕ) → contains nat_cmp more_asked k ≡ true → contains nat_cmp asked k ≡ true) → AreListed sessions touched more_asked
-  listed-failed more_asked stay only = record {
+  pub listed_failed : (more_asked : BTreeSet ℕ) → ((k : ℕ) → contains nat_cmp asked k ≡ true → contains nat_cmp more_asked k ≡ true) → ((k : ℕ) → contains nat_cmp more_asked k ≡ true → contains nat_cmp asked k ≡ true) → AreListed sessions touched more_asked
+  listed_failed more_asked stay only = record {
     room = h.room;
     listed = h.listed;
     covered = λ k is. stay k (h.covered k is);
@@ -97,5 +97,5 @@ module _ {sessions : List Session} {touched asked : BTreeSet ℕ} (h : AreListed
   }
 
   -- what isn't asked is no open backup
-  pub no-backup-there : (k : ℕ) (session : Session) → contains nat_cmp asked k ≡ false → slice_get sessions k ≡ Some session → (is_backup session.kind && not session.sealed) ≡ false
-  no-backup-there k session none at = grind (arith, h.backups k session at)
+  pub no_backup_there : (k : ℕ) (session : Session) → contains nat_cmp asked k ≡ false → slice_get sessions k ≡ Some session → (is_backup session.kind && not session.sealed) ≡ false
+  no_backup_there k session none at = grind (arith, h.backups k session at)

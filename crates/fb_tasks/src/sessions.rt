@@ -249,7 +249,8 @@ impl Sessions {
         first: u64,
         count: u64,
     ) -> Result<(), NoMemory>
-        requires { (past : Past) × (call : Asked) × IsCall task (Want first count) call × MayTake map.now past self.old wanted.old call }
+        requires opened { task < length self.old }
+        requires call { (past : Past) × (call : Asked) × IsCall task (Want first count) call × MayTake map.now past self.old wanted.old call }
         ensures ok { OnOk result ((past : Past) (call : Asked) → IsCall task (Want first count) call → MayTake map.now past self.old wanted.old call → Tells map.now (take_call map.now past call) self.new wanted.new) }
         ensures err { OnErr result (self.new ≡ self.old) }
         ensures blocks { (past : Past) (call : Asked) → IsCall task (Want first count) call → MayTake map.now past self.old wanted.old call → HasBegun wanted.old (entries_by map.now past call) wanted.new }
@@ -266,6 +267,7 @@ impl Sessions {
         self.touch(task)
     }
 
+    #[tactic(auto, using(crate::proofs::Listed::listed_kept))]
     fn suspend(&mut self, wanted: &mut Wanted, task: u32)
         requires { task < length self.old }
         ensures { (disk : Shape) (past : Past) (call : Asked) → IsCall task Suspend call → Tells disk past self.old wanted.old → Tells disk (called call [] ∷ past) self.new wanted.new }
@@ -274,6 +276,7 @@ impl Sessions {
         wanted.suspend(task);
     }
 
+    #[tactic(auto, using(crate::proofs::Listed::listed_kept))]
     fn resume(&mut self, wanted: &mut Wanted, task: u32)
         requires { task < length self.old }
         ensures { (disk : Shape) (past : Past) (call : Asked) → IsCall task Resume call → Tells disk past self.old wanted.old → Tells disk (called call [] ∷ past) self.new wanted.new }
@@ -283,6 +286,7 @@ impl Sessions {
     }
 
     // Aborts what is left of the task, and drops the segments that it has not chosen.
+    #[tactic(auto, using(crate::proofs::Listed::listed_more, crate::proofs::Listed::listed_noted))]
     fn close(&mut self, map: &SectorMap, wanted: &mut Wanted, task: u32) -> Result<(), NoMemory>
         requires { task < length self.old }
         ensures ok { OnOk result ((past : Past) (call : Asked) → IsCall task Close call → Tells map.now past self.old wanted.old → Tells map.now (called call [] ∷ past) self.new wanted.new) }
@@ -297,6 +301,7 @@ impl Sessions {
         Ok(())
     }
 
+    #[tactic(auto, using(crate::proofs::Listed::listed_more, crate::proofs::Listed::listed_noted))]
     fn add_segment(
         &mut self,
         map: &SectorMap,
@@ -306,7 +311,8 @@ impl Sessions {
         age: u64,
         live: &Live,
     ) -> Result<(), NoMemory>
-        requires { (past : Past) × (call : Asked) × (held : List Entry) × IsCall task (Segment first blocks age live.now) call × MayTake map.now past self.old held call }
+        requires opened { task < length self.old }
+        requires call { (past : Past) × (call : Asked) × (held : List Entry) × IsCall task (Segment first blocks age live.now) call × MayTake map.now past self.old held call }
         ensures ok { OnOk result ((past : Past) (call : Asked) (held : List Entry) → IsCall task (Segment first blocks age live.now) call → MayTake map.now past self.old held call → Tells map.now (called call [] ∷ past) self.new held) }
         ensures err { OnErr result (self.new ≡ self.old) }
     {
@@ -319,6 +325,7 @@ impl Sessions {
     }
 
     // Something was done to a task that may change what it chooses or what its test gives.
+    #[tactic(auto, using(crate::proofs::Listed::listed_more, crate::proofs::Listed::listed_noted))]
     fn touch(&mut self, task: u32) -> Result<(), NoMemory>
         requires { task < length self.old }
         ensures ok { OnOk result ((session : Session) → slice_get self.old task ≡ Some session → self.new ≡ set self.old task (record session { touched = true })) }
@@ -330,6 +337,7 @@ impl Sessions {
     }
 
     // Lets each touched session choose, in order of opening: no other would choose anything.
+    #[tactic(auto, using(crate::proofs::Listed::listed_set))]
     fn choose_all(
         &mut self,
         map: &SectorMap,
@@ -353,6 +361,7 @@ impl Sessions {
     }
 
     // Tests each touched session, in order of opening: no other would give a row.
+    #[tactic(auto, using(crate::proofs::Listed::listed_set, crate::proofs::Leaving::grown_more))]
     fn test_all(&mut self, wanted: &Wanted, now: Ns, rows: &mut BackRows) -> Result<(), NoMemory>
         requires { (disk : Shape) × (past : Past) × HaveChosen disk past self.old wanted.now }
         ensures tells { OnOk result ((disk : Shape) (past : Past) → HaveChosen disk past self.old wanted.now → Tells disk (tested (test_rows by_deliveries past now) ∷ past) self.new wanted.now) }

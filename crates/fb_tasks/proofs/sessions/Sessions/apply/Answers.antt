@@ -16,6 +16,12 @@ resume-requires c = session_there c.args.map.now c.requires.0 c.args.self.now c.
 pub close-requires : goal.close-requires
 close-requires c = session_there c.args.map.now c.requires.0 c.args.self.now c.args.wanted.now c.args.call.now (λ a. subst (λ x. MayAsk c.args.map.now (calls_of c.requires.0) c.args.call.now.task x) c.in-Close.is a) c.requires.1
 
+pub want-requires-clause-opened : goal.want-requires-clause-opened
+want-requires-clause-opened c = session_there c.args.map.now c.requires.0 c.args.self.now c.args.wanted.now c.args.call.now (λ a. (subst (λ x. MayAsk c.args.map.now (calls_of c.requires.0) c.args.call.now.task x) c.in-Want.is a).0) c.requires.1
+
+pub add_segment-requires-clause-opened : goal.add_segment-requires-clause-opened
+add_segment-requires-clause-opened c = session_there c.args.map.now c.requires.0 c.args.self.now c.args.wanted.now c.args.call.now (λ a. (subst (λ x. MayAsk c.args.map.now (calls_of c.requires.0) c.args.call.now.task x) c.in-Segment.is a).0) c.requires.1
+
 pub touch-requires : goal.touch-requires
 touch-requires c = session_there c.args.map.now c.requires.0 c.args.self.now c.args.wanted.now c.args.call.now (λ a. (subst (λ x. MayAsk c.args.map.now (calls_of c.requires.0) c.args.call.now.task x) c.in-Abort.is a).0) c.requires.1
 

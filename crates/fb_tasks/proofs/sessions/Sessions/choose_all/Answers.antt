@@ -1,7 +1,7 @@
 use Rattle.fb_tasks.proofs.Words.{◌<◌, length, slice_get, append-nil, ap, sym, ◌∙◌, subst, arith, length-set, Past, MaySettle, AreListed}
 use Rattle.fb_tasks.proofs.Words.{OnlyTouched, MayClean}
 use Rattle.fb_tasks.proofs.Leaving.{grown_not, grown_more, registers_none, touched_none, touched_set, chosen_own}
-use Rattle.fb_tasks.proofs.Listed.{listed-set, listed-there}
+use Rattle.fb_tasks.proofs.Listed.{listed_set, listed_there}
 use Rattle.fb_tasks.proofs.AllChoices.{partly-start, partly-may, partly-more, partly-to, rows-more, all-chosen, all-rows, past_at}
 use Rattle.fb_tasks.proofs.sessions.Sessions.choose_all.Goals as goal
 
@@ -26,13 +26,10 @@ choose-requires c =
     let items = c.loop-task.self-inside.sessions.items in
     let n = c.in-Some.task in
     let within : n < length items = inv.kept.within n (inv.kept.covered n c.in-Some.ensures.found) in
-    let there = listed-there inv.kept n c.index_mut.result.now c.in-Some.ensures.found c.index_mut.ensures.value in
+    let there = listed_there inv.kept n c.index_mut.result.now c.in-Some.ensures.found c.index_mut.ensures.value in
     let to = λ (past : Past) (h : MaySettle disk past c.args.self.now c.args.wanted.now). partly-to disk past items c.loop-task.wanted c.args.now c.args.rows.now c.loop-task.rows c.loop-task.from n c.in-Some.ensures.from (omega (arith, within))
     (λ k s low high at. c.in-Some.ensures.first k s low high (ap (λ xs. slice_get xs k) c.deref.ensures.value ∙ at)) (inv.partly past h) (inv.rows past h) in
     (past_at disk c.requires.0 n, partly-may disk c.requires.0 items c.loop-task.wanted n c.index_mut.result.now there (to c.requires.0 c.requires.1).0)
-
-pub invariant_of-self : goal.invariant_of-self
-invariant_of-self c = listed-set c.loop-task.invariant.kept c.in-Some.task c.choose.new.self c.in-Some.ensures.found
 
 pub loop-task-preserved : goal.loop-task-preserved
 loop-task-preserved c =
@@ -41,12 +38,12 @@ loop-task-preserved c =
     let items = c.loop-task.self-inside.sessions.items in
     let n = c.in-Some.task in
     let within : n < length items = inv.kept.within n (inv.kept.covered n c.in-Some.ensures.found) in
-    let there = listed-there inv.kept n c.index_mut.result.now c.in-Some.ensures.found c.index_mut.ensures.value in
+    let there = listed_there inv.kept n c.index_mut.result.now c.in-Some.ensures.found c.index_mut.ensures.value in
     let to = λ (past : Past) (h : MaySettle disk past c.args.self.now c.args.wanted.now). partly-to disk past items c.loop-task.wanted c.args.now c.args.rows.now c.loop-task.rows c.loop-task.from n c.in-Some.ensures.from (omega (arith, within))
     (λ k s low high at. c.in-Some.ensures.first k s low high (ap (λ xs. slice_get xs k) c.deref.ensures.value ∙ at)) (inv.partly past h) (inv.rows past h) in
     let may = λ (past : Past) (h : MaySettle disk past c.args.self.now c.args.wanted.now). partly-may disk past items c.loop-task.wanted n c.index_mut.result.now there (to past h).0 in
     record {
-      kept = listed-set inv.kept n c.choose.new.self c.in-Some.ensures.found;
+      kept = listed_set inv.kept n c.choose.new.self c.in-Some.ensures.found;
       within = omega (arith, within, length-set items n c.choose.new.self);
       partly = λ past h. partly-more disk past items c.loop-task.wanted c.choose.new.wanted n c.index_mut.result.now c.choose.new.self there c.choose.ensures.same.1 (to past h).0 (c.in_ok-choose.ensures.chosen (past_at disk past n) (may past h));
       stay = touched_set c.args.self.now items n c.index_mut.result.now c.choose.new.self there (c.in-Some.ensures.touched c.index_mut.result.now (ap (λ xs. slice_get xs n) c.deref.ensures.value ∙ there)) c.choose.ensures.same.0 inv.stay;
@@ -74,18 +71,18 @@ returns c =
 pub next_touched-requires : goal.next_touched-requires
 next_touched-requires c = (c.loop-task.self-inside.asked, subst (λ xs. AreListed xs c.loop-task.self-inside.touched c.loop-task.self-inside.asked) (sym c.deref.ensures.value) c.loop-task.invariant.kept)
 
-pub returns-in_err-choose-clause-stay_sessions : goal.returns-in_err-choose-clause-stay_sessions
-returns-in_err-choose-clause-stay_sessions c =
-    let inv = c.loop-task.invariant in
-    let items = c.loop-task.self-inside.sessions.items in
-    let n = c.in-Some.task in
-    let there = listed-there inv.kept n c.index_mut.result.now c.in-Some.ensures.found c.index_mut.ensures.value in
-    touched_set c.args.self.now items n c.index_mut.result.now c.choose.new.self there (c.in-Some.ensures.touched c.index_mut.result.now (ap (λ xs. slice_get xs n) c.deref.ensures.value ∙ there)) c.choose.ensures.same.0 inv.stay
-
 pub returns-in_err-choose-clause-stay_blocks : goal.returns-in_err-choose-clause-stay_blocks
 returns-in_err-choose-clause-stay_blocks c =
     let inv = c.loop-task.invariant in
     let items = c.loop-task.self-inside.sessions.items in
     let n = c.in-Some.task in
-    let there = listed-there inv.kept n c.index_mut.result.now c.in-Some.ensures.found c.index_mut.ensures.value in
+    let there = listed_there inv.kept n c.index_mut.result.now c.in-Some.ensures.found c.index_mut.ensures.value in
     chosen_own c.args.self.now items n c.index_mut.result.now c.args.wanted.now c.loop-task.wanted c.choose.new.wanted there (c.in-Some.ensures.touched c.index_mut.result.now (ap (λ xs. slice_get xs n) c.deref.ensures.value ∙ there)) inv.stay inv.own c.choose.ensures.own
+
+pub returns-in_err-choose-clause-stay_sessions : goal.returns-in_err-choose-clause-stay_sessions
+returns-in_err-choose-clause-stay_sessions c =
+    let inv = c.loop-task.invariant in
+    let items = c.loop-task.self-inside.sessions.items in
+    let n = c.in-Some.task in
+    let there = listed_there inv.kept n c.index_mut.result.now c.in-Some.ensures.found c.index_mut.ensures.value in
+    touched_set c.args.self.now items n c.index_mut.result.now c.choose.new.self there (c.in-Some.ensures.touched c.index_mut.result.now (ap (λ xs. slice_get xs n) c.deref.ensures.value ∙ there)) c.choose.ensures.same.0 inv.stay

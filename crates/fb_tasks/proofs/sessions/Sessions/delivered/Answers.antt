@@ -1,6 +1,6 @@
 use Rattle.fb_tasks.proofs.Words.{◌∷◌, ◌<◌, length, sym, ◌∙◌, subst, arith, ap, delivered, rows_after, MayDeliver, on_err, some_at}
 use Rattle.fb_tasks.proofs.Words.{Session}
-use Rattle.fb_tasks.proofs.Listed.{listed-more, listed-noted}
+use Rattle.fb_tasks.proofs.Listed.{listed_more, listed_noted}
 use Rattle.fb_tasks.proofs.Frames.{set_same}
 use Rattle.fb_tasks.proofs.AfterDelivery.{begun-findings, begun-segment, begun-ends, opened, own-there, wanted-entry, busy-own, kind-own, held-now, may-finish, all-given, tells-delivered, settled-delivered, rows-one_by_one}
 use Rattle.fb_tasks.proofs.sessions.Sessions.delivered.Goals as goal
@@ -27,35 +27,35 @@ test-requires c =
     (c.requires.0, new, record { blocks = held-now c.args.got may c.deliver.new.self c.deliver.ensures; stands = finished.0; at_work = finished.1 })
 
 pub invariant_of-self : goal.invariant_of-self
-invariant_of-self c = listed-more c.self.invariant
+invariant_of-self c = listed_more c.self.invariant
     (omega (arith, opened c.args.got c.requires.2, c.requires.2.tells.as_many, ap length c.self.view_is)) c.note_touch.ensures.stay
 
 pub invariant_of-self-in_err-take : goal.invariant_of-self-in_err-take
-invariant_of-self-in_err-take c = listed-noted c.self.invariant (omega (arith, opened c.args.got c.requires.2, c.requires.2.tells.as_many, ap length c.self.view_is))
+invariant_of-self-in_err-take c = listed_noted c.self.invariant (omega (arith, opened c.args.got c.requires.2, c.requires.2.tells.as_many, ap length c.self.view_is))
     c.note_touch.ensures.stay c.in_ok-note_touch.ensures.noted c.in_ok-note_touch.ensures.asked_noted _
 
 pub invariant_of-self-in_err-findings : goal.invariant_of-self-in_err-findings
-invariant_of-self-in_err-findings c = listed-noted c.self.invariant (omega (arith, opened c.args.got c.requires.2, c.requires.2.tells.as_many, ap length c.self.view_is))
+invariant_of-self-in_err-findings c = listed_noted c.self.invariant (omega (arith, opened c.args.got c.requires.2, c.requires.2.tells.as_many, ap length c.self.view_is))
     c.note_touch.ensures.stay c.in_ok-note_touch.ensures.noted c.in_ok-note_touch.ensures.asked_noted _
 
 pub invariant_of-self-in_err-push : goal.invariant_of-self-in_err-push
-invariant_of-self-in_err-push c = listed-noted c.self.invariant (omega (arith, opened c.args.got c.requires.2, c.requires.2.tells.as_many, ap length c.self.view_is))
+invariant_of-self-in_err-push c = listed_noted c.self.invariant (omega (arith, opened c.args.got c.requires.2, c.requires.2.tells.as_many, ap length c.self.view_is))
     c.note_touch.ensures.stay c.in_ok-note_touch.ensures.noted c.in_ok-note_touch.ensures.asked_noted _
 
 pub invariant_of-self-in_err-push_findings : goal.invariant_of-self-in_err-push_findings
-invariant_of-self-in_err-push_findings c = listed-noted c.self.invariant (omega (arith, opened c.args.got c.requires.2, c.requires.2.tells.as_many, ap length c.self.view_is))
+invariant_of-self-in_err-push_findings c = listed_noted c.self.invariant (omega (arith, opened c.args.got c.requires.2, c.requires.2.tells.as_many, ap length c.self.view_is))
     c.note_touch.ensures.stay c.in_ok-note_touch.ensures.noted c.in_ok-note_touch.ensures.asked_noted _
 
 pub invariant_of-self-in_err-test_segment : goal.invariant_of-self-in_err-test_segment
-invariant_of-self-in_err-test_segment c = listed-noted c.self.invariant (omega (arith, opened c.args.got c.requires.2, c.requires.2.tells.as_many, ap length c.self.view_is))
+invariant_of-self-in_err-test_segment c = listed_noted c.self.invariant (omega (arith, opened c.args.got c.requires.2, c.requires.2.tells.as_many, ap length c.self.view_is))
     c.note_touch.ensures.stay c.in_ok-note_touch.ensures.noted c.in_ok-note_touch.ensures.asked_noted _
 
 pub invariant_of-self-in_err-test : goal.invariant_of-self-in_err-test
-invariant_of-self-in_err-test c = listed-noted c.self.invariant (omega (arith, opened c.args.got c.requires.2, c.requires.2.tells.as_many, ap length c.self.view_is))
+invariant_of-self-in_err-test c = listed_noted c.self.invariant (omega (arith, opened c.args.got c.requires.2, c.requires.2.tells.as_many, ap length c.self.view_is))
     c.note_touch.ensures.stay c.in_ok-note_touch.ensures.noted c.in_ok-note_touch.ensures.asked_noted _
 
 pub invariant_of-self-2 : goal.invariant_of-self-2
-invariant_of-self-2 c = listed-noted c.self.invariant (omega (arith, opened c.args.got c.requires.2, c.requires.2.tells.as_many, ap length c.self.view_is))
+invariant_of-self-2 c = listed_noted c.self.invariant (omega (arith, opened c.args.got c.requires.2, c.requires.2.tells.as_many, ap length c.self.view_is))
     c.note_touch.ensures.stay c.in_ok-note_touch.ensures.noted c.in_ok-note_touch.ensures.asked_noted _
 
 pub returns-clause-tells : goal.returns-clause-tells

@@ -3,7 +3,7 @@ use Rattle.fb_tasks.proofs.Words.{refl, append_assoc, contains, nat_cmp, length-
 use Rattle.fb_tasks.proofs.Words.{test_rows, seal_rows, complete_rows, Session, by_deliveries, HaveChosen, some_at, AreListed}
 use Rattle.fb_tasks.proofs.Words.{OnlyTouched}
 use Rattle.fb_tasks.proofs.Leaving.{grown_not, grown_more, touched_none, touched_set}
-use Rattle.fb_tasks.proofs.Listed.{listed-set, listed-less, listed-there}
+use Rattle.fb_tasks.proofs.Listed.{listed_set, listed_less, listed_there}
 use Rattle.fb_tasks.proofs.Tested.{AreAllRows, none_tested, chosen_at, one_tested, rows_more, ends_of, tested-to, rows-to, tells-tested}
 use Rattle.fb_tasks.proofs.RowsOf.{rows-given, nothing-mute}
 use Rattle.fb_tasks.proofs.sessions.Sessions.test_all.Goals as goal
@@ -29,12 +29,9 @@ test-requires c =
     let items = c.loop-task.self-inside.sessions.items in
     let n = c.in-Some.task in
     let within : n < length items = inv.kept.within n (inv.kept.covered n c.in-Some.ensures.found) in
-    let there = listed-there inv.kept n c.index_mut-session.result.now c.in-Some.ensures.found c.index_mut-session.ensures.value in
+    let there = listed_there inv.kept n c.index_mut-session.result.now c.in-Some.ensures.found c.index_mut-session.ensures.value in
     let is = tested-to c.args.wanted.now olds items c.loop-task.from n c.in-Some.ensures.from (omega (arith, within)) (λ k s low high at. c.in-Some.ensures.first k s low high (ap (λ xs. slice_get xs k) c.deref.ensures.value ∙ at)) inv.sessions in
     (c.requires.0, c.requires.1, chosen_at chosen n c.index_mut-session.result.now (sym (is.later n (omega arith)) ∙ there))
-
-pub invariant_of-self : goal.invariant_of-self
-invariant_of-self c = listed-set c.loop-task.invariant.kept c.in-Some.task c.test.new.self c.in-Some.ensures.found
 
 pub loop-task-preserved : goal.loop-task-preserved
 loop-task-preserved c =
@@ -43,10 +40,10 @@ loop-task-preserved c =
     let items = c.loop-task.self-inside.sessions.items in
     let n = c.in-Some.task in
     let within : n < length items = inv.kept.within n (inv.kept.covered n c.in-Some.ensures.found) in
-    let there = listed-there inv.kept n c.index_mut-session.result.now c.in-Some.ensures.found c.index_mut-session.ensures.value in
+    let there = listed_there inv.kept n c.index_mut-session.result.now c.in-Some.ensures.found c.index_mut-session.ensures.value in
     let is = tested-to c.args.wanted.now olds items c.loop-task.from n c.in-Some.ensures.from (omega (arith, within)) (λ k s low high at. c.in-Some.ensures.first k s low high (ap (λ xs. slice_get xs k) c.deref.ensures.value ∙ at)) inv.sessions in
     record {
-      kept = listed-less inv.kept n (record c.test.new.self { touched = false }) c.forget.new.list c.forget-in-Some.new.list c.is_open_backup-is_open_backup.result c.in-Some.ensures.found refl c.is_open_backup-is_open_backup.ensures
+      kept = listed_less inv.kept n (record c.test.new.self { touched = false }) c.forget.new.list c.forget-in-Some.new.list c.is_open_backup-is_open_backup.result c.in-Some.ensures.found refl c.is_open_backup-is_open_backup.ensures
           c.forget.ensures.others c.forget.ensures.only (c.forget.ensures.gone refl) c.forget-in-Some.ensures.others c.forget-in-Some.ensures.only
           (λ stays is. ap (λ list. contains nat_cmp list n) (c.forget-in-Some.ensures.kept stays) ∙ is);
       within = omega (arith, within, length-set items n (record c.test.new.self { touched = false }));
@@ -89,8 +86,5 @@ returns-in_err-test-clause-stay_sessions c =
     let inv = c.loop-task.invariant in
     let items = c.loop-task.self-inside.sessions.items in
     let n = c.in-Some.task in
-    let there = listed-there inv.kept n c.index_mut-session.result.now c.in-Some.ensures.found c.index_mut-session.ensures.value in
+    let there = listed_there inv.kept n c.index_mut-session.result.now c.in-Some.ensures.found c.index_mut-session.ensures.value in
     touched_set c.args.self.now items n c.index_mut-session.result.now c.test.new.self there (c.in-Some.ensures.touched c.index_mut-session.result.now (ap (λ xs. slice_get xs n) c.deref.ensures.value ∙ there)) c.test.ensures.same inv.stay
-
-pub returns-in_err-test-clause-stay_rows : goal.returns-in_err-test-clause-stay_rows
-returns-in_err-test-clause-stay_rows c = grown_more c.args.rows.now c.loop-task.rows c.test.new.rows c.loop-task.invariant.grown c.test.ensures.grown

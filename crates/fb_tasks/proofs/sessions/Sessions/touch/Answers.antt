@@ -1,12 +1,6 @@
 use Rattle.fb_tasks.proofs.Words.{◌<◌, Some, length, ap, sym, ◌∙◌, subst, true, set, slice_get, slice_get-get_or, Session, some_same}
-use Rattle.fb_tasks.proofs.Listed.{listed-more, listed-noted}
+use Rattle.fb_tasks.proofs.Listed.{listed_more, listed_noted}
 use Rattle.fb_tasks.proofs.sessions.Sessions.touch.Goals as goal
-
-pub invariant_of-self : goal.invariant_of-self
-invariant_of-self c = listed-more c.self.invariant (rw c.self.view_is c.requires) c.note_touch.ensures.stay
-
-pub invariant_of-self-2 : goal.invariant_of-self-2
-invariant_of-self-2 c = listed-noted c.self.invariant (rw c.self.view_is c.requires) c.note_touch.ensures.stay c.in_ok-note_touch.ensures.noted c.in_ok-note_touch.ensures.asked_noted _
 
 pub returns-clause-ok : goal.returns-clause-ok
 returns-clause-ok c = λ session at.
