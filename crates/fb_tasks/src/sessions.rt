@@ -2,6 +2,7 @@
 ghost use Rattle.std.specs.Prelude.{◌≡◌, ◌≤◌, ◌<◌, ◌^◌, ◌*◌, ◌-◌, ℕ, List, [], ◌∷◌, ◌++◌, Bool, true, false, length, set, slice_get, Some, OnOk, OnErr};
 ghost use Rattle.std.specs.List.{flat_map};
 ghost use Rattle.fb_geometry.specs.Shape.{Shape};
+ghost use Rattle.fb_geometry.specs.Places.{places};
 ghost use Rattle.fb_units.specs.declared.types.Request.{Request};
 ghost use Rattle.fb_calls.specs.declared.call.Call.{Call as Asked};
 ghost use Rattle.fb_calls.specs.declared.call.Action.TheVariants.{Open, Want, Suspend, Resume, Close, Segment};
@@ -115,7 +116,10 @@ impl Sessions {
                 blocks,
                 age,
                 live,
-            } => self.add_segment(map, call.task, *first, *blocks, *age, live),
+            } => {
+                let _sectors = map.count();
+                self.add_segment(call.task, *first, *blocks, *age, live)
+            }
         }
     }
 
@@ -301,10 +305,10 @@ impl Sessions {
         Ok(())
     }
 
+    // Adds a segment to a task's log.
     #[tactic(auto, using(crate::proofs::Listed::listed_more, crate::proofs::Listed::listed_noted))]
     fn add_segment(
         &mut self,
-        map: &SectorMap,
         task: u32,
         first: u64,
         blocks: u32,
@@ -312,11 +316,10 @@ impl Sessions {
         live: &Live,
     ) -> Result<(), NoMemory>
         requires opened { task < length self.old }
-        requires call { (past : Past) × (call : Asked) × (held : List Entry) × IsCall task (Segment first blocks age live.now) call × MayTake map.now past self.old held call }
-        ensures ok { OnOk result ((past : Past) (call : Asked) (held : List Entry) → IsCall task (Segment first blocks age live.now) call → MayTake map.now past self.old held call → Tells map.now (called call [] ∷ past) self.new held) }
+        requires call { (disk : Shape) × (past : Past) × (call : Asked) × (held : List Entry) × IsCall task (Segment first blocks age live.now) call × MayTake disk past self.old held call × (length (places disk) ≤ 10 ^ 12) }
+        ensures ok { OnOk result ((disk : Shape) (past : Past) (call : Asked) (held : List Entry) → IsCall task (Segment first blocks age live.now) call → MayTake disk past self.old held call → Tells disk (called call [] ∷ past) self.new held) }
         ensures err { OnErr result (self.new ≡ self.old) }
     {
-        let _sectors = map.count();
         note_touch(&mut self.touched, &mut self.asked, task)?;
         let cleaner = &mut self.sessions[task as usize];
         cleaner.log.add(first, blocks, age, live)?;

@@ -1,4 +1,4 @@
-use Rattle.fb_tasks.proofs.Words.{ap, subst, refl, on_ok_weaker, on_err_weaker, MayAsk, blocks_by, on_err}
+use Rattle.fb_tasks.proofs.Words.{ap, subst, refl, on_ok_weaker, on_err_weaker, MayAsk, blocks_by, on_err, arith}
 use Rattle.fb_tasks.specs.Telling.{calls_of}
 use Rattle.fb_tasks.proofs.{Leaving.begun_not, Leaving.begun_same, Changes.promoted-tells, Changes.asked-aborts, Asked.room_for_one}
 use Rattle.fb_tasks.proofs.{Asked.session_there, Asked.takes_none}
@@ -21,6 +21,10 @@ want-requires-clause-opened c = session_there c.args.map.now c.requires.0 c.args
 
 pub add_segment-requires-clause-opened : goal.add_segment-requires-clause-opened
 add_segment-requires-clause-opened c = session_there c.args.map.now c.requires.0 c.args.self.now c.args.wanted.now c.args.call.now (λ a. (subst (λ x. MayAsk c.args.map.now (calls_of c.requires.0) c.args.call.now.task x) c.in-Segment.is a).0) c.requires.1
+
+pub add_segment-requires-clause-call : goal.add_segment-requires-clause-call
+add_segment-requires-clause-call c =
+    (c.args.map.now, c.requires.0, c.args.call.now, c.args.wanted.now, record { task = refl; action = c.in-Segment.is }, c.requires.1, omega (arith, c.count-sectors.ensures.value, c.count-sectors.ensures.bound))
 
 pub touch-requires : goal.touch-requires
 touch-requires c = session_there c.args.map.now c.requires.0 c.args.self.now c.args.wanted.now c.args.call.now (λ a. (subst (λ x. MayAsk c.args.map.now (calls_of c.requires.0) c.args.call.now.task x) c.in-Abort.is a).0) c.requires.1
@@ -73,7 +77,7 @@ returns-in-Close c = record {
 pub returns-in-Segment : goal.returns-in-Segment
 returns-in-Segment c = record {
   ok = on_ok_weaker c.add_segment.result (λ says past h. takes_none c.args.map.now past c.args.call.now c.add_segment.new.self c.args.wanted.now (ap (blocks_by c.args.map.now past c.args.call.now.task) c.in-Segment.is)
-      (says past c.args.call.now c.args.wanted.now (record { task = refl; action = c.in-Segment.is }) h)) c.add_segment.ensures.ok;
+      (says c.args.map.now past c.args.call.now c.args.wanted.now (record { task = refl; action = c.in-Segment.is }) h)) c.add_segment.ensures.ok;
   err_sessions = c.add_segment.ensures.err;
   err_blocks = on_err_weaker c.add_segment.result (λ _ past may. begun_not) c.add_segment.ensures.err;
 }
