@@ -12,7 +12,7 @@ use Rattle.fb_tasks.proofs.Words.{entry_of, Stands, AreIndexed, Ascend, AreRepor
 use Rattle.fb_tasks.proofs.Words.{all_weaker, some_same, number_other, one_or_other, all_append, any_none, all_with, each_push}
 use Rattle.fb_tasks.proofs.Words.{get_or_push, length-map, map-append, slice_get-get_or, slice_get_within, places, is_clean, is_backup}
 use Rattle.fb_tasks.proofs.Words.{Content, drop-append_seam, cutting, is_within, Wanted, is_delivered, take_call, blocks_by, new_entries}
-use Rattle.fb_tasks.proofs.Words.{entries_by, cuts_are}
+use Rattle.fb_tasks.proofs.Words.{entries_by, cuts_are, slice_get_read, get_or_from_slice_get}
 use Rattle.fb_tasks.proofs.Asked.{opened_same, open_there, terms_there, segments_few}
 use Rattle.fb_tasks.proofs.Frames.{kept-entries, one-tells}
 use Rattle.fb_tasks.proofs.Registered.{named_same, indexed_append, all_member, registered-entries}
@@ -20,6 +20,7 @@ use Rattle.fb_tasks.proofs.Cuts.{cuts_placed, cuts_ascend, cuts_indexed, cuts_ow
 use Rattle.fb_calls.specs.Allowed as allowed
 use Rattle.fb_clean.specs.Segments as clean
 use Rattle.fb_wanted.specs.Numbering as numbering
+use Rattle.std.proofs.lemmas.List.{get_or_append_left}
 
 none_own : (n : ℕ) (bs : List Block) → AllByRecursion (λ block. block.task < n) bs → filter (λ block. block.task == n) bs ≡ []
 none_own n [] h = refl
@@ -119,9 +120,9 @@ taken_same (t ∷ taken) (suc i) = taken_same taken i
 
 -- an element stands where it stood after more were added
 get_left : {X : Type 0} (xs more : List X) (i : ℕ) (x : X) → slice_get xs i ≡ Some x → slice_get (xs ++ more) i ≡ Some x
-get_left [] more i x at = absurd (grind arith)
-get_left (y ∷ ys) more zero x at = at
-get_left (y ∷ ys) more (suc i) x at = get_left ys more i x at
+get_left xs more i x at =
+    let inside = slice_get_within xs i x at in
+    slice_get_read (xs ++ more) _ i x refl (omega (arith, inside, length-append xs more)) (sym (get_or_append_left xs more x i inside ∙ get_or_from_slice_get xs i x x at))
 
 -- the next segment of a task
 abbrev pub next_segment : TaskView → ℕ → ℕ → ℕ → List Bool → LogSegment

@@ -3,8 +3,9 @@ use Rattle.fb_tasks.proofs.Words.{◌≡◌, ℕ, zero, suc, ◌<◌, ◌≤◌,
 use Rattle.fb_tasks.proofs.Words.{slice_get, append-nil, refl, ap, sym, ◌∙◌, arith, subst, AllByRecursion, length-set, slice_get-get_or}
 use Rattle.fb_tasks.proofs.Words.{Shape, Call, Block, Entry, after, state_after, Event, Past, called, tasks, registered, TaskView, view}
 use Rattle.fb_tasks.proofs.Words.{state_in, called-silent, number_same, Session, entry_by, entry_of, Told, IsPlaced, IsBlockOf, Tells}
-use Rattle.fb_tasks.proofs.Words.{some_same, all_weaker, number_other, each_set, one_or_other, nat_tests}
+use Rattle.fb_tasks.proofs.Words.{all_weaker, number_other, each_set, one_or_other, nat_tests, get_or_from_slice_get}
 use Rattle.fb_wanted.specs.declared.block.Change.{Change}
+use Rattle.std.proofs.lemmas.List.{set-get_or}
 
 pub get_other : {X : Type 0} (xs : List X) (i k : ℕ) (y : X) → (i ≡ k → ⊥) → slice_get (set xs i y) k ≡ slice_get xs k
 get_other [] i k y other = refl
@@ -13,9 +14,7 @@ get_other (x ∷ xs) (suc i) (suc k) y other = get_other xs i k y (λ e. other (
 get_other (x ∷ xs) _ _ y other = grind arith
 
 pub set_same : {X : Type 0} (xs : List X) (i : ℕ) (x : X) → slice_get xs i ≡ Some x → set xs i x ≡ xs
-set_same [] i x h = refl
-set_same (y ∷ ys) zero x h = ap (λ z. z ∷ ys) (sym (some_same y x h))
-set_same (y ∷ ys) (suc i) x h = ap (λ zs. y ∷ zs) (set_same ys i x h)
+set_same xs i x h = ap (set xs i) (sym (get_or_from_slice_get xs i x x h)) ∙ set-get_or xs i x
 
 -- no block changes its state
 pub kept-entries : (old new : ℕ → TaskView) → ((t : ℕ) (block : Block) → state_in (old t) block ≡ state_in (new t) block) → (bs : List Block)

@@ -1,20 +1,15 @@
-use Rattle.fb_tasks.proofs.Words.{◌≡◌, ◌&&◌, ℕ, List, ◌++◌, not, Bool, true, false, append-nil, refl, ap, sym, ◌∙◌, subst, arith}
-use Rattle.fb_tasks.proofs.Words.{and_parts, is_clean, segment_rows, choose_up_to, by_deliveries, Entry, Session, OnlyRegisters}
-use Rattle.fb_tasks.proofs.Words.{MayChoose}
+use Rattle.fb_tasks.proofs.Words.{◌≡◌, ◌&&◌, ℕ, List, ◌++◌, not, true, false, append-nil, refl, ap, sym, ◌∙◌, subst, arith, and_parts}
+use Rattle.fb_tasks.proofs.Words.{is_clean, segment_rows, choose_up_to, by_deliveries, Entry, Session, OnlyRegisters, MayChoose, not-true}
 use Rattle.fb_tasks.proofs.Leaving.{grown_not, grown_more, registers_none, registers_more, registers_weaker}
 use Rattle.fb_tasks.proofs.AllChoices.{up_to_more, reported_rows, idle-chosen, idle-rows, turns_in, turns_all, turned-chosen}
 use Rattle.fb_tasks.proofs.session.Session.choose.Goals as goal
-
-not_true : (b : Bool) → not b ≡ true → b ≡ false
-not_true true h = sym h
-not_true false h = refl
 
 -- what one session registers is of a clean task that is open
 own_clean : (task : ℕ) (session : Session) (held now : List Entry) → is_clean session.kind && not session.closed ≡ true → OnlyRegisters (λ other. other ≡ task) held now
     → OnlyRegisters (λ other. (other ≡ task) × (is_clean session.kind ≡ true) × (session.closed ≡ false)) held now
 own_clean task session held now may h =
     let may_be = and_parts (is_clean session.kind) (not session.closed) may in
-    registers_weaker (λ other. other ≡ task) (λ other. (other ≡ task) × (is_clean session.kind ≡ true) × (session.closed ≡ false)) held now (λ other own. (own, may_be.0, not_true session.closed may_be.1)) h
+    registers_weaker (λ other. other ≡ task) (λ other. (other ≡ task) × (is_clean session.kind ≡ true) × (session.closed ≡ false)) held now (λ other own. (own, may_be.0, not-true session.closed may_be.1)) h
 
 pub returns-then-not-may_choose-clause-own : goal.returns-then-not-may_choose-clause-own
 returns-then-not-may_choose-clause-own c = registers_none (λ other. (other ≡ c.args.task) × (is_clean c.args.self.now.kind ≡ true) × (c.args.self.now.closed ≡ false)) c.args.wanted.now
@@ -43,7 +38,7 @@ pub loop-turn-init : goal.loop-turn-init
 loop-turn-init c =
     let may_be = and_parts (is_clean c.args.self.now.kind) (not c.args.self.now.closed) (sym c.may_choose.ensures ∙ c.if-not-may_choose.false) in
     record {
-      cleans = (may_be.0, not_true c.args.self.now.closed may_be.1);
+      cleans = (may_be.0, not-true c.args.self.now.closed may_be.1);
       same = (refl, refl);
       own = registers_none (λ other. other ≡ c.args.task) c.args.wanted.now;
       grown = grown_not c.args.rows.now;
