@@ -1,5 +1,5 @@
 pub mod Verdict
-pub mod Asked
+pub mod Printed
 pub mod Comparing
 pub mod Judged
 pub mod Printing

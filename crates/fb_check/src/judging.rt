@@ -1,41 +1,23 @@
 // Judges printed reports, decision by decision.
 ghost use Rattle.std.specs.Prelude.{◌≡◌, ◌%◌, [], true, false, length, None, IfOk};
 ghost use Rattle.fb_calls.specs.Allowed.{tasks};
+ghost use Rattle.fb_decide.specs.Asked.{inputs_of};
 ghost use Rattle.fb_decide.specs.Making.{HasMade};
 ghost use Rattle.fb_model.specs.Accepted.{IsAccepted};
 ghost use Rattle.fb_report.specs.Grammar.{back_grammar, fore_grammar};
 ghost use Rattle.fb_report.specs.Reading.{IsReport};
-ghost use Rattle.fb_check.specs.Asked.{inputs_of, reports_of};
 ghost use Rattle.fb_check.specs.Judged.{HasJudged};
+ghost use Rattle.fb_check.specs.Printed.{reports_of};
 ghost use Rattle.fb_check.specs.Verdict.{IsVerdict};
 
 use crate::Verdict;
 use crate::comparing::Comparison;
-use fb_calls::Calls;
-use fb_decide::{Decider, decisions_make_a_run};
+use fb_decide::{Asked, Decider, decisions_make_a_run};
 use fb_plan::Planner;
 use fb_queue::Queue;
 use fb_report::{Bytes, ReportLines, reports_end_once};
-use fb_service::Disk;
-use fb_trace::Trace;
-use fb_units::{NoMemory, Ns};
+use fb_units::NoMemory;
 use std::alloc::Global;
-
-/// The accepted inputs of a replay.
-#[derive(Clone, Copy)]
-pub struct Asked<'a> {
-    /// The disk.
-    pub disk: &'a Disk,
-    /// The LBNs of the sectors that can't be read until a write has passed them.
-    pub latent: &'a [u64],
-    /// The requests of one device.
-    pub trace: &'a Trace,
-    /// The call script.
-    pub calls: &'a Calls,
-    /// The instant, in ns, up to which the head goes on reading background when nothing else is
-    /// left to do.
-    pub until: Ns,
-}
 
 /// Two printed reports.
 #[derive(Clone, Copy)]
@@ -69,14 +51,7 @@ pub fn judge<Q: Queue, P: Planner>(
     requires back { IsReport back_grammar printed.back.now }
     ensures { IfOk result (IsVerdict (inputs_of asked.entry Q.key) (reports_of asked.entry printed.entry)) }
 {
-    let mut decider = Decider::new(
-        alloc,
-        asked.disk,
-        asked.latent,
-        asked.trace,
-        asked.calls,
-        queue,
-    )?;
+    let mut decider = Decider::new(alloc, asked, queue)?;
     judge_over(alloc, asked, &mut decider, planner, printed)
 }
 
@@ -106,7 +81,7 @@ fn judge_over<Q: Queue, P: Planner>(
     let names = &asked.calls.names;
     let mut goes_on = true;
     while goes_on {
-        goes_on = decider.decide(alloc, asked.disk, asked.calls, planner, asked.until)?;
+        goes_on = decider.decide(alloc, asked, planner)?;
         let rows = decider.take_rows(alloc);
         fore.compare_fore(alloc, &rows.fore, sector_bytes, printed.bytes)?;
         if let Some(mismatch) = fore.wrong {

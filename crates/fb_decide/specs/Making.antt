@@ -35,16 +35,6 @@ use Rattle.fb_decide.specs.Deciding.{PassagesTakeTime}
 abbrev pub Step : Type 0
 Step = Decision × Part
 
--- what a replay is given only once, before its first decision: the latent sectors, the trace, and how many of its lines were passed over
-pub record Given : Type 0 where
-  pub latent : List ℕ
-  pub trace : List Request
-  pub passed_over : ℕ
-
--- the inputs of a replay: what it is given once, the disk, the calls, the queue's key, and the instant up to which it reads on
-abbrev pub inputs_with : Given → Disk → List Call → Key → ℕ → Inputs
-inputs_with given disk calls key until = record { disk = disk; latent = given.latent; trace = given.trace; passed_over = given.passed_over; calls = calls; key = key; until = until }
-
 -- ---- what one decision adds
 
 -- a decision's plan, deliveries and tests are those of a full run

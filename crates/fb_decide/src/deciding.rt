@@ -10,12 +10,14 @@ ghost use Rattle.fb_model.specs.History.{Past};
 ghost use Rattle.fb_model.specs.Steps.{history, task_rows};
 ghost use Rattle.fb_model.specs.PlainReplay.{first_least};
 ghost use Rattle.fb_tasks.specs.Telling.{Tells};
+ghost use Rattle.fb_decide.specs.Asked.{inputs_of};
 ghost use Rattle.fb_decide.specs.Waiting.{IsWaiting, IsForegroundOf};
 ghost use Rattle.fb_decide.specs.Calls.{IsScriptOf, IsCalled};
 ghost use Rattle.fb_decide.specs.Deliveries.{IsCurrent};
 ghost use Rattle.fb_decide.specs.Deciding.{IsAtStart, next_of, HasServedNext, HasStayed, HasDecided};
-ghost use Rattle.fb_decide.specs.Making.{Step, Given, inputs_with, HasMade, HasMadeOne, RowFits};
+ghost use Rattle.fb_decide.specs.Making.{Step, HasMade, HasMadeOne, RowFits};
 
+use crate::asked::Asked;
 use crate::background::Background;
 use crate::foreground::foreground;
 use crate::joining::join_arrived;
@@ -69,29 +71,20 @@ pub struct Rows {
 impl<'a, Q: Queue> Decider<'a, Q> {
     /// A replay before its first decision.
     ///
-    /// `latent` are the LBNs of the sectors that can't be read until a write has passed them. The
-    /// queue must be new: empty, and never used. The only error is out of memory.
-    pub fn new(
-        alloc: Global,
-        disk: &Disk,
-        latent: &[u64],
-        trace: &'a Trace,
-        calls: &Calls,
-        queue: Q,
-    ) -> Result<Decider<'a, Q>, NoMemory>
+    /// The queue must be new: empty, and never used. The only error is out of memory.
+    pub fn new(alloc: Global, asked: Asked<'a>, queue: Q) -> Result<Decider<'a, Q>, NoMemory>
         requires empty { Q.pending queue ≡ [] }
         requires fresh { Q.joined queue ≡ 0 }
-        requires accepted { (until : ℕ) × IsAccepted (inputs_with (record { latent = latent.now; trace = trace.now.requests.items; passed_over = trace.now.passed_over }) disk.now calls.now.calls.items Q.key until) }
-        ensures made { IfOk result (λ decider. (until : ℕ) → IsAccepted (inputs_with (record { latent = latent.now; trace = trace.now.requests.items; passed_over = trace.now.passed_over }) disk.now calls.now.calls.items Q.key until)
-            → HasMade (inputs_with (record { latent = latent.now; trace = trace.now.requests.items; passed_over = trace.now.passed_over }) disk.now calls.now.calls.items Q.key until) true [] decider.requests decider.course (Q.pending decider.queue) (Q.joined decider.queue)) }
+        requires accepted { IsAccepted (inputs_of asked Q.key) }
+        ensures made { IfOk result (λ decider. HasMade (inputs_of asked.entry Q.key) true [] decider.requests decider.course (Q.pending decider.queue) (Q.joined decider.queue)) }
         ensures no_fore { IfOk result (λ decider. decider.course.fore ≡ []) }
         ensures no_back { IfOk result (λ decider. decider.course.background.rows ≡ []) }
-        ensures serves { IfOk result (λ decider. Q.serves decider.queue disk.now) }
+        ensures serves { IfOk result (λ decider. Q.serves decider.queue asked.entry.disk.now) }
     {
         foreground_lists_ascend();
-        disk_is_sound(disk);
-        let requests = foreground(alloc, trace.requests.as_slice(), calls)?;
-        let course = at_start(alloc, latent)?;
+        disk_is_sound(asked.disk);
+        let requests = foreground(alloc, asked.trace.requests.as_slice(), asked.calls)?;
+        let course = at_start(alloc, asked.latent)?;
         Ok(Decider {
             requests,
             queue,
@@ -101,33 +94,27 @@ impl<'a, Q: Queue> Decider<'a, Q> {
 
     /// Makes the next decision and adds its rows; returns whether another decision follows.
     ///
-    /// A request that is served has the best plan for its gap. `until` is the instant, in ns, up to
-    /// which the head goes on reading background when nothing else is left to do. It must be the
-    /// same at each call, and so must the disk and the calls, which are those that `new` was given.
-    /// Once the answer was `false` it isn't called again. The only error is out of memory, after
-    /// which nothing is promised of the decider.
+    /// A request that is served has the best plan for its gap. What is asked must be the same at
+    /// each call, and what `new` was given. Once the answer was `false` it isn't called again. The
+    /// only error is out of memory, after which nothing is promised of the decider.
     pub fn decide<P: Planner>(
         &mut self,
         alloc: Global,
-        disk: &Disk,
-        calls: &Calls,
+        asked: Asked<'_>,
         planner: &P,
-        until: Ns,
     ) -> Result<bool, NoMemory>
-        requires made { (given : Given) × (steps : List Step) × HasMade (inputs_with given disk.now calls.now.calls.items Q.key until) true steps self.old.requests self.old.course (Q.pending self.old.queue) (Q.joined self.old.queue) }
-        requires serves { Q.serves self.old.queue disk.now }
-        ensures decided { IfOk result (λ goes_on. (given : Given) (steps : List Step) → HasMade (inputs_with given disk.now calls.now.calls.items Q.key until) true steps self.old.requests self.old.course (Q.pending self.old.queue) (Q.joined self.old.queue)
-            → HasMadeOne (inputs_with given disk.now calls.now.calls.items Q.key until) steps goes_on self.old.requests self.old.course (Q.pending self.old.queue) self.new.course (Q.pending self.new.queue) (Q.joined self.new.queue)) }
+        requires made { (steps : List Step) × HasMade (inputs_of asked Q.key) true steps self.old.requests self.old.course (Q.pending self.old.queue) (Q.joined self.old.queue) }
+        requires serves { Q.serves self.old.queue asked.disk.now }
+        ensures decided { IfOk result (λ goes_on. (steps : List Step) → HasMade (inputs_of asked.entry Q.key) true steps self.old.requests self.old.course (Q.pending self.old.queue) (Q.joined self.old.queue)
+            → HasMadeOne (inputs_of asked.entry Q.key) steps goes_on self.old.requests self.old.course (Q.pending self.old.queue) self.new.course (Q.pending self.new.queue) (Q.joined self.new.queue)) }
         ensures requests { OnOk result (self.new.requests ≡ self.old.requests) }
-        ensures serves { OnOk result (Q.serves self.new.queue disk.now) }
+        ensures serves { OnOk result (Q.serves self.new.queue asked.entry.disk.now) }
     {
         advance(
             alloc,
-            disk,
+            asked,
             self.requests.as_slice(),
-            calls,
             planner,
-            until,
             &mut self.queue,
             &mut self.course,
         )
@@ -206,28 +193,28 @@ fn at_start(alloc: Global, latent: &[u64]) -> Result<Course, NoMemory>
 // reached. Returns whether another decision follows.
 fn advance<Q: Queue, P: Planner>(
     alloc: Global,
-    disk: &Disk,
+    asked: Asked<'_>,
     requests: &[Request],
-    calls: &Calls,
     planner: &P,
-    until: Ns,
     queue: &mut Q,
     course: &mut Course,
 ) -> Result<bool, NoMemory>
-    requires list { IsForegroundOf disk.now requests.now }
-    requires script { IsScriptOf disk.now.map calls.now.calls.items }
-    requires serves { Q.serves queue.old disk.now }
-    requires waiting { IsWaiting disk.now requests.now course.old.now course.old.joined (Q.joined queue.old) (Q.pending queue.old) }
+    requires list { IsForegroundOf asked.disk.now requests.now }
+    requires script { IsScriptOf asked.disk.now.map asked.calls.now.calls.items }
+    requires serves { Q.serves queue.old asked.disk.now }
+    requires waiting { IsWaiting asked.disk.now requests.now course.old.now course.old.joined (Q.joined queue.old) (Q.pending queue.old) }
     requires come { AllByRecursion (λ r. r.arrival ≤ course.old.now) (take course.old.joined requests.now) }
-    requires head { IsTrackOf disk.now.map course.old.head }
+    requires head { IsTrackOf asked.disk.now.map course.old.head }
     requires now { course.old.now ≤ 9 * 10 ^ 18 - 10 ^ 15 }
-    requires called { (past : Past) × IsCalled disk.now.map calls.now.calls.items past course.old.called × Tells disk.now.map past course.old.background.sessions course.old.background.wanted }
-    ensures decided { IfOk result (λ goes_on. (past : Past) → IsCalled disk.now.map calls.now.calls.items past course.old.called
-        → Tells disk.now.map past course.old.background.sessions course.old.background.wanted
-        → HasDecided disk.now requests.now calls.now.calls.items Q.key until past course.old (Q.pending queue.old) goes_on course.new (Q.pending queue.new)) }
-    ensures waiting { IfOk result (λ goes_on. goes_on ≡ true → IsWaiting disk.now requests.now course.new.now course.new.joined (Q.joined queue.new) (Q.pending queue.new)) }
-    ensures serves { OnOk result (Q.serves queue.new disk.now) }
+    requires called { (past : Past) × IsCalled asked.disk.now.map asked.calls.now.calls.items past course.old.called × Tells asked.disk.now.map past course.old.background.sessions course.old.background.wanted }
+    ensures decided { IfOk result (λ goes_on. (past : Past) → IsCalled asked.entry.disk.now.map asked.entry.calls.now.calls.items past course.old.called
+        → Tells asked.entry.disk.now.map past course.old.background.sessions course.old.background.wanted
+        → HasDecided asked.entry.disk.now requests.now asked.entry.calls.now.calls.items Q.key asked.entry.until past course.old (Q.pending queue.old) goes_on course.new (Q.pending queue.new)) }
+    ensures waiting { IfOk result (λ goes_on. goes_on ≡ true → IsWaiting asked.entry.disk.now requests.now course.new.now course.new.joined (Q.joined queue.new) (Q.pending queue.new)) }
+    ensures serves { OnOk result (Q.serves queue.new asked.entry.disk.now) }
 {
+    let disk = asked.disk;
+    let calls = asked.calls;
     let now = course.now;
     course.called = course.background.settle(disk, calls, course.called, now)?;
     course.joined = join_arrived(disk, requests, queue, course.joined, now)?;
@@ -241,8 +228,8 @@ fn advance<Q: Queue, P: Planner>(
             Ok(true)
         }
         None => {
-            if now < until {
-                stay_until(alloc, disk, course, until)?;
+            if now < asked.until {
+                stay_until(alloc, disk, course, asked.until)?;
             }
             Ok(false)
         }

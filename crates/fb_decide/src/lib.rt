@@ -7,6 +7,7 @@
 //! their traits. After an error of `decide` nothing is promised of its decider.
 #![tactic(auto)]
 
+mod asked;
 mod background;
 mod deciding;
 mod foreground;
@@ -18,5 +19,6 @@ mod serving;
 mod settling;
 mod timing;
 
+pub use asked::Asked;
 pub use deciding::{Decider, Rows};
 pub use full_runs::decisions_make_a_run;

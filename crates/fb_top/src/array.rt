@@ -27,7 +27,7 @@ use crate::reading::no_calls;
 use crate::writing::write_lines;
 use crate::{Outcome, Runs};
 use fb_calls::Calls;
-use fb_check::Asked;
+use fb_decide::Asked;
 use fb_desk::{Desk, Output};
 use fb_mirror::{Rebuilt, rebuild, runs_lie_on_the_disk};
 use fb_units::NoMemory;

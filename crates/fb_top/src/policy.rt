@@ -1,8 +1,9 @@
 // The replay, and the judgement of its reports, in the order of the policy that the words name.
 ghost use Rattle.std.specs.Prelude.{◌≡◌, ◌≤◌, ◌*◌, ◌^◌, [], length, IfOk};
 ghost use Rattle.fb_calls.specs.Allowed.{tasks};
-ghost use Rattle.fb_check.specs.Asked.{inputs_of, reports_of};
+ghost use Rattle.fb_check.specs.Printed.{reports_of};
 ghost use Rattle.fb_check.specs.Verdict.{IsVerdict};
+ghost use Rattle.fb_decide.specs.Asked.{inputs_of};
 ghost use Rattle.fb_model.specs.Accepted.{IsAccepted};
 ghost use Rattle.fb_model.specs.FullRun.{IsFull};
 ghost use Rattle.fb_report.specs.Grammar.{back_grammar, fore_grammar};
@@ -10,7 +11,8 @@ ghost use Rattle.fb_report.specs.Reading.{IsReport};
 ghost use Rattle.fb_top.specs.Done.{CanBeTold};
 ghost use Rattle.fb_top.specs.Read.{key_of};
 
-use fb_check::{Asked, Printed, Verdict, judge};
+use fb_check::{Printed, Verdict, judge};
+use fb_decide::Asked;
 use fb_detour::IndexedPlanner;
 use fb_engine::replay;
 use fb_fastq::{ClookMap, FcfsRing, SptfLanes, SstfMap};
@@ -48,16 +50,7 @@ pub fn replay_in<Q: Queue>(alloc: Global, queue: Q, asked: Asked<'_>) -> Result<
     ensures early { IfOk result (λ run. run.end ≤ 9 * 10 ^ 18) }
     ensures told { IfOk result (CanBeTold asked.entry.calls.now.names) }
 {
-    replay(
-        alloc,
-        asked.disk,
-        asked.latent,
-        asked.trace,
-        asked.calls,
-        queue,
-        &IndexedPlanner,
-        asked.until,
-    )
+    replay(alloc, asked, queue, &IndexedPlanner)
 }
 
 /// Judges two printed reports against the full run of accepted inputs, in a policy's order.

@@ -1,11 +1,8 @@
 use Rattle.fb_check.proofs.judging.judge.Goals as goal
 
-pub new-requires-clause-accepted : goal.new-requires-clause-accepted
-new-requires-clause-accepted g c = (c.args.asked.until, c.requires.accepted)
-
 pub judge_over-requires : goal.judge_over-requires
 judge_over-requires g c = record {
-  made = c.in_ok-decider.ensures.made c.args.asked.until c.requires.accepted;
+  made = c.in_ok-decider.ensures.made;
   no_fore = c.in_ok-decider.ensures.no_fore;
   no_back = c.in_ok-decider.ensures.no_back;
   serves = c.in_ok-decider.ensures.serves;

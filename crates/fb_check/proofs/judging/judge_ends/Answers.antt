@@ -1,7 +1,7 @@
 use Rattle.std.proofs.Common.{◌++◌, length, ap, ◌∙◌}
 use Rattle.fb_calls.specs.Allowed.{tasks}
 use Rattle.fb_model.specs.Steps.{history, task_rows}
-use Rattle.fb_check.specs.Asked.{inputs_of}
+use Rattle.fb_decide.specs.Asked.{inputs_of}
 use Rattle.fb_check.proofs.Judged.{some_same, last_wrong, all_right, back_wrong, tasks_ranges, tasks_named, none_by}
 use Rattle.fb_check.proofs.judging.judge_ends.Goals as goal
 

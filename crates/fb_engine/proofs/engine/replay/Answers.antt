@@ -1,12 +1,63 @@
+use Rattle.std.proofs.Common.{length, ◌∙◌}
+use Rattle.fb_calls.proofs.Lists.{all_weaker}
+use Rattle.fb_rows.specs.Ranges.{HasBackRanges}
+use Rattle.fb_rows.specs.Tasks.{HasNamedTask}
+use Rattle.fb_calls.specs.Allowed.{tasks}
+use Rattle.fb_decide.specs.Making.{RowFits}
+use Rattle.fb_decide.specs.Asked.{inputs_of}
+use Rattle.fb_engine.proofs.Looping.{at_first, gone_on, one_on, less_by, is_full, is_few, rows_fit}
 use Rattle.fb_engine.proofs.engine.replay.Goals as goal
 
-pub new-requires-clause-accepted : goal.new-requires-clause-accepted
-new-requires-clause-accepted g c = (c.args.until, c.requires.accepted)
-
-pub run_of-requires : goal.run_of-requires
-run_of-requires g c = record {
-  made = c.in_ok-decider.ensures.made c.args.until c.requires.accepted;
-  no_fore = c.in_ok-decider.ensures.no_fore;
-  no_back = c.in_ok-decider.ensures.no_back;
+pub loop-goes_on-init : goal.loop-goes_on-init
+loop-goes_on-init g c = record {
+  gone = at_first c.in_ok-decider.ensures.made c.in_ok-decider.ensures.no_fore c.in_ok-decider.ensures.no_back;
   serves = c.in_ok-decider.ensures.serves;
 }
+
+pub decide-requires-clause-made : goal.decide-requires-clause-made
+decide-requires-clause-made g c =
+    let gone = gone_on c.loop-goes_on-test.true c.loop-goes_on.invariant.gone in
+    (gone.steps, gone.made)
+
+pub loop-goes_on-preserved : goal.loop-goes_on-preserved
+loop-goes_on-preserved g c =
+    let gone = gone_on c.loop-goes_on-test.true c.loop-goes_on.invariant.gone in
+    record {
+      gone = one_on c.decisions_make_a_run.ensures gone c.in_ok-goes_on.ensures.requests (c.in_ok-goes_on.ensures.decided gone.steps gone.made);
+      serves = c.in_ok-goes_on.ensures.serves;
+    }
+
+pub loop-goes_on-smaller : goal.loop-goes_on-smaller
+loop-goes_on-smaller g c =
+    let gone = gone_on c.loop-goes_on-test.true c.loop-goes_on.invariant.gone in
+    less_by {inputs = inputs_of c.args.asked g.Q.Queue.key} c.loop-goes_on-test.true (c.in_ok-goes_on.ensures.decided gone.steps gone.made)
+
+pub add_task_rows-requires : goal.add_task_rows-requires
+add_task_rows-requires g c =
+    let gone = gone_on c.loop-goes_on-test.false c.loop-goes_on.invariant.gone in
+    (_, gone.steps, gone.made)
+
+pub returns-clause-full : goal.returns-clause-full
+returns-clause-full g c =
+    let gone = gone_on c.loop-goes_on-test.false c.loop-goes_on.invariant.gone in
+    is_full gone c.take_rows-rows.result.fore c.take_rows-rows.result.back (c.take_rows-rows.ensures.fore ∙ c.in_ok-add_task_rows.ensures.fore)
+    (c.take_rows-rows.ensures.back ∙ c.in_ok-add_task_rows.ensures.rows _ gone.steps gone.made) c.instant-end.result c.decisions_make_a_run.ensures (c.instant-end.ensures.end _ gone.steps gone.made)
+
+pub returns-clause-few : goal.returns-clause-few
+returns-clause-few g c =
+    is_few (gone_on c.loop-goes_on-test.false c.loop-goes_on.invariant.gone) c.take_rows-rows.result.fore (c.take_rows-rows.ensures.fore ∙ c.in_ok-add_task_rows.ensures.fore) c.decisions_make_a_run.ensures
+
+pub returns-clause-back_ranges : goal.returns-clause-back_ranges
+returns-clause-back_ranges g c =
+    let gone = gone_on c.loop-goes_on-test.false c.loop-goes_on.invariant.gone in
+    all_weaker (RowFits (length (tasks c.args.asked.calls.now.calls.items))) HasBackRanges (λ row fits. fits.ranges) c.take_rows-rows.result.back
+    (rows_fit gone c.take_rows-rows.result.back (c.take_rows-rows.ensures.back ∙ c.in_ok-add_task_rows.ensures.rows _ gone.steps gone.made) (c.in_ok-add_task_rows.ensures.fits _ gone.steps gone.made))
+
+pub returns-clause-named : goal.returns-clause-named
+returns-clause-named g c = λ names e.
+    let gone = gone_on c.loop-goes_on-test.false c.loop-goes_on.invariant.gone in
+    all_weaker (RowFits (length (tasks c.args.asked.calls.now.calls.items))) (HasNamedTask names) (λ row fits. fits.named names e) c.take_rows-rows.result.back
+    (rows_fit gone c.take_rows-rows.result.back (c.take_rows-rows.ensures.back ∙ c.in_ok-add_task_rows.ensures.rows _ gone.steps gone.made) (c.in_ok-add_task_rows.ensures.fits _ gone.steps gone.made))
+
+pub returns-clause-early : goal.returns-clause-early
+returns-clause-early g c = c.instant-end.ensures.early _ (gone_on c.loop-goes_on-test.false c.loop-goes_on.invariant.gone).steps (gone_on c.loop-goes_on-test.false c.loop-goes_on.invariant.gone).made

@@ -2,7 +2,7 @@ use Rattle.std.proofs.Common.{rules, sym, subst}
 use Rattle.fb_calls.specs.declared.call.Calls.{Calls}
 use Rattle.fb_model.specs.Accepted.{IsAccepted}
 use Rattle.fb_model.specs.Inputs.{Inputs}
-use Rattle.fb_check.specs.Asked.{inputs_of as asked_inputs}
+use Rattle.fb_decide.specs.Asked.{inputs_of as asked_inputs}
 use Rattle.fb_check.specs.Verdict.{IsVerdict}
 use Rattle.fb_top.specs.Read.{key_of}
 use Rattle.fb_top.proofs.check.judge_with.Goals as goal

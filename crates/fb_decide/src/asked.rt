@@ -1,0 +1,21 @@
+// What a replay is asked.
+use fb_calls::Calls;
+use fb_service::Disk;
+use fb_trace::Trace;
+use fb_units::Ns;
+
+/// The accepted inputs of a replay.
+#[derive(Clone, Copy)]
+pub struct Asked<'a> {
+    /// The disk.
+    pub disk: &'a Disk,
+    /// The LBNs of the sectors that can't be read until a write has passed them.
+    pub latent: &'a [u64],
+    /// The requests of one device.
+    pub trace: &'a Trace,
+    /// The call script.
+    pub calls: &'a Calls,
+    /// The instant, in ns, up to which the head goes on reading background when nothing else is
+    /// left to do.
+    pub until: Ns,
+}
