@@ -16,20 +16,19 @@ use Rattle.fb_calls.proofs.Lists.{all_weaker}
 use Rattle.fb_wanted.specs.declared.block.Block.{Block}
 use Rattle.fb_rows.specs.declared.gap.Gap.{Gap}
 use Rattle.fb_rows.specs.declared.gap.Plan.{Plan}
-use Rattle.fb_rows.specs.declared.gap.How.TheVariants.{Gap as ByGap}
 use Rattle.fb_rows.specs.declared.back.BackRow.{BackRow}
 use Rattle.fb_rows.specs.declared.back.BackRow.TheVariants.{Gap as GapLine}
 use Rattle.fb_rows.specs.declared.back.DeliveryRow.{DeliveryRow}
 use Rattle.fb_model.specs.History.{Past, finished, wanted}
 use Rattle.fb_model.specs.PlainReplay.{Served, service, target}
-use Rattle.fb_model.specs.Plans.{IsBest, early_dwell, late_dwell}
-use Rattle.fb_model.specs.Rides.{gap_of, missed}
+use Rattle.fb_model.specs.Plans.{IsBest}
+use Rattle.fb_model.specs.Rides.{gap_of}
 use Rattle.fb_model.proofs.Passages.{from_on, passed_between}
 use Rattle.fb_model.proofs.Lists.{all_left, all_right}
 use Rattle.fb_plan.specs.Ways.{IsGap}
 use Rattle.fb_tasks.specs.Telling.{Tells}
 use Rattle.fb_decide.specs.declared.background.Background.{Background}
-use Rattle.fb_decide.specs.Deliveries.{IsCurrent, HasDelivered, HasServed, caught_in, rides_in, due_in, followed, past_with, rows_of}
+use Rattle.fb_decide.specs.Deliveries.{IsCurrent, HasDelivered, HasServed, gap_caught_in, gap_missed, rides_in, due_in, followed, past_with, rows_of}
 use Rattle.fb_decide.proofs.Delivering.{delivered-join}
 
 abbrev pub gap_from : Track → ℕ → Bool → Track → ℕ → Gap
@@ -81,11 +80,10 @@ extents-begin disk head start write lbn n extents end most unbroken same ends so
 -- the gap's deliveries, then those of the ride
 module _ (disk : Disk) (holding : Holding) (served : Served) (plan : Plan) (past : Past) where
   abbrev in_gap : Gap → List DeliveryRow
-  in_gap gap = caught_in disk holding ByGap (early_dwell disk gap plan) (wanted past)
-      ++ caught_in disk holding ByGap (late_dwell disk gap plan) (missed disk (early_dwell disk gap plan) (wanted past))
+  in_gap gap = gap_caught_in disk holding gap plan (wanted past)
 
   abbrev left : Gap → List Block
-  left gap = missed disk (late_dwell disk gap plan) (missed disk (early_dwell disk gap plan) (wanted past))
+  left gap = gap_missed disk gap plan (wanted past)
 
   abbrev opening : Gap → BackRow
   opening gap = GapLine (record { name = served.request.name; gap = gap; plan = plan })

@@ -7,6 +7,7 @@ use Rattle.fb_store.specs.Runs.{runs_of, bad_of}
 use Rattle.fb_store.specs.Index.{Holding, content_in}
 use Rattle.fb_wanted.specs.declared.block.Block.{Block}
 use Rattle.fb_rows.specs.declared.gap.Dwell.{Dwell}
+use Rattle.fb_rows.specs.declared.gap.Gap.{Gap}
 use Rattle.fb_rows.specs.declared.gap.Plan.{Plan}
 use Rattle.fb_rows.specs.declared.gap.How.{How}
 use Rattle.fb_rows.specs.declared.gap.How.TheVariants.{Gap as ByGap, Ride as ByRide}
@@ -45,13 +46,18 @@ rides_in holding served blocks = if served.request.write then [] else in_order (
     (λ block. delivery_in holding ByRide block (begin_at served.passages block.lbn) (end_at served.passages (block.lbn + block.count - 1)))
     (filter (lies_in served.request) blocks))
 
--- what the early dwell catches, then the late dwell, then the ride, each from the blocks that are left
+-- what the early dwell of a gap catches, and then the late one of the blocks that are left
+abbrev pub gap_caught_in : Disk → Holding → Gap → Plan → List Block → List DeliveryRow
+gap_caught_in disk holding gap plan wanted =
+    caught_in disk holding ByGap (early_dwell disk gap plan) wanted ++ caught_in disk holding ByGap (late_dwell disk gap plan) (missed disk (early_dwell disk gap plan) wanted)
+
+-- those that are left then
+abbrev pub gap_missed : Disk → Gap → Plan → List Block → List Block
+gap_missed disk gap plan wanted = missed disk (late_dwell disk gap plan) (missed disk (early_dwell disk gap plan) wanted)
+
+-- what the gap catches, and then what the ride carries of the blocks that are left
 abbrev pub due_in : Disk → Holding → Served → Plan → List Block → List DeliveryRow
-due_in disk holding served plan wanted =
-    let early = early_dwell disk (gap_of disk served) plan in
-    let late = late_dwell disk (gap_of disk served) plan in
-    let left = missed disk early wanted in
-    caught_in disk holding ByGap early wanted ++ caught_in disk holding ByGap late left ++ rides_in holding served (missed disk late left)
+due_in disk holding served plan wanted = gap_caught_in disk holding (gap_of disk served) plan wanted ++ rides_in holding served (gap_missed disk (gap_of disk served) plan wanted)
 
 -- these deliveries one after another, each with its findings and what its test gives
 abbrev pub followed : Past → List DeliveryRow → List Delivery

@@ -1,4 +1,5 @@
 pub mod Asked
+pub mod Turn
 pub mod Contents
 pub mod Waiting
 pub mod Carried

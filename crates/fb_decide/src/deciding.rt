@@ -24,6 +24,7 @@ use crate::joining::join_arrived;
 use crate::requests::Requests;
 use crate::serving::serve_request;
 use crate::timing::disk_is_sound;
+use crate::turn::Turn;
 use fb_calls::Calls;
 use fb_model::foreground_lists_ascend;
 use fb_plan::Planner;
@@ -268,15 +269,18 @@ fn serve_next<Q: Queue, P: Planner>(
     ensures serves { OnOk result (Q.serves queue.new disk.now) }
 {
     let request = queue.take(disk, course.head, course.now);
+    let turn = Turn {
+        head: course.head,
+        start: course.now,
+        request,
+    };
     let serving = serve_request(
         alloc,
         disk,
         planner,
         &mut course.store,
         &mut course.background,
-        course.head,
-        course.now,
-        request,
+        turn,
     )?;
     course.head = serving.head;
     course.now = serving.row.finish;

@@ -18,6 +18,7 @@ mod riding;
 mod serving;
 mod settling;
 mod timing;
+mod turn;
 
 pub use asked::Asked;
 pub use deciding::{Decider, Rows};

@@ -1,23 +1,22 @@
 // The background blocks that a foreground read carries along.
 ghost use Rattle.std.specs.Prelude.{◌≡◌, ◌==◌, ◌+◌, ◌*◌, ◌≤◌, ◌<◌, ◌^◌, find, map, OnOk, IfOk};
 ghost use Rattle.std.specs.List.{AllByRecursion, fold};
-ghost use Rattle.fb_service.specs.Service.{passages};
 ghost use Rattle.fb_service.specs.Extents.{all_passages_of, IsUnbroken};
-ghost use Rattle.fb_model.specs.Accepted.{IsRequestOf};
 ghost use Rattle.fb_model.specs.History.{Past, wanted};
-ghost use Rattle.fb_model.specs.PlainReplay.{service};
 ghost use Rattle.fb_model.specs.Rides.{lies_in};
 ghost use Rattle.fb_wanted.specs.States.{on_track, wanted_of};
 ghost use Rattle.fb_plan.specs.Order.{place_in};
 ghost use Rattle.fb_decide.specs.Carried.{carried_of, ride_of, begins_in, begun_in, AreExtents, with_ride, AreLaid, AreWholeBlocks, IsWholeBlock};
 ghost use Rattle.fb_decide.specs.Deliveries.{IsCurrent, HasDelivered, AreDistinct, rides_in};
+ghost use Rattle.fb_decide.specs.Turn.{IsTurnOn, served_in};
 
 use crate::background::Background;
+use crate::turn::Turn;
 use fb_plan::{Catch, is_wanted, place_in};
 use fb_rows::How;
 use fb_service::{Disk, Extent, Passage, nth_passage};
 use fb_store::Store;
-use fb_units::{NoMemory, Ns, Request, Track};
+use fb_units::{NoMemory, Request};
 use fb_wanted::{Block, Entry, Wanted};
 use std::alloc::Global;
 
@@ -30,23 +29,21 @@ impl Background {
         alloc: Global,
         disk: &Disk,
         store: &Store,
-        source: Track,
-        start: Ns,
-        request: Request,
+        turn: Turn,
         extents: &[Extent],
     ) -> Result<(), NoMemory>
         requires current { (past : Past) × IsCurrent disk.now.map past self.old }
-        requires request { IsRequestOf disk.now.map request }
-        requires passages { all_passages_of disk.now.map extents.now ≡ passages disk.now source start request.write request.lbn request.count }
+        requires turn { IsTurnOn disk.now turn }
+        requires passages { all_passages_of disk.now.map extents.now ≡ (served_in disk.now turn).passages }
         requires unbroken { AllByRecursion (IsUnbroken disk.now.map) extents.now }
         requires early { AllByRecursion (λ extent. extent.begin ≤ 10 ^ 19) extents.now }
         ensures { OnOk result ((past : Past) → IsCurrent disk.now.map past self.old
-            → HasDelivered disk.now.map past (rides_in store.now (service disk.now source start request) (wanted past)) self.old.rows self.new) }
+            → HasDelivered disk.now.map past (rides_in store.now (served_in disk.now turn) (wanted past)) self.old.rows self.new) }
     {
-        if request.write {
+        if turn.request.write {
             return Ok(());
         }
-        let catches = carried(alloc, disk, &self.wanted, request, extents)?;
+        let catches = carried(alloc, disk, &self.wanted, turn.request, extents)?;
         self.deliver_all(alloc, store, How::Ride, catches.as_slice())
     }
 }

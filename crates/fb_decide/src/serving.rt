@@ -6,26 +6,25 @@ ghost use Rattle.fb_geometry.specs.Shape.{Shape, IsTrackOf};
 ghost use Rattle.fb_geometry.specs.Places.{places};
 ghost use Rattle.fb_rows.specs.Ranges.{HasRanges};
 ghost use Rattle.fb_store.specs.Index.{content_in};
-ghost use Rattle.fb_service.specs.Service.{passages};
 ghost use Rattle.fb_service.specs.Extents.{all_passages_of, IsUnbroken};
-ghost use Rattle.fb_model.specs.Accepted.{IsRequestOf};
 ghost use Rattle.fb_model.specs.Content.{number_of};
 ghost use Rattle.fb_model.specs.History.{Past, finished, wanted};
-ghost use Rattle.fb_model.specs.PlainReplay.{service, last_track};
-ghost use Rattle.fb_model.specs.Plans.{IsPlan, early_dwell, late_dwell};
-ghost use Rattle.fb_model.specs.Rides.{gap_of, missed};
+ghost use Rattle.fb_model.specs.PlainReplay.{last_track};
+ghost use Rattle.fb_model.specs.Plans.{IsPlan};
 ghost use Rattle.fb_plan.specs.Ways.{IsGap};
 ghost use Rattle.fb_tasks.specs.Telling.{Tells};
 ghost use Rattle.fb_decide.specs.Contents.{found_in, left_by, IsRowOf};
-ghost use Rattle.fb_decide.specs.Deliveries.{IsCurrent, HasDelivered, HasServed, caught_in, past_with};
+ghost use Rattle.fb_decide.specs.Deliveries.{IsCurrent, HasDelivered, HasServed, gap_caught_in, gap_missed, past_with};
+ghost use Rattle.fb_decide.specs.Turn.{IsTurnOn, served_in};
 
 use crate::background::Background;
+use crate::turn::Turn;
 use fb_plan::{Planner, dwells};
-use fb_rows::{BackRow, ForeRow, Gap, GapRow, How, Plan};
+use fb_rows::{BackRow, ForeRow, Gap, GapRow, How};
 use fb_service::{Disk, serve};
 use fb_store::{Contents, Store};
 use fb_tasks::reads_change_nothing;
-use fb_units::{Name, NoMemory, Ns, Request, Track};
+use fb_units::{Name, NoMemory, Request, Track};
 use std::alloc::Global;
 
 /// A served request.
@@ -37,7 +36,7 @@ pub struct Serving {
     pub head: Track,
 }
 
-/// Serves a request, with the head on the track `head` at the instant `start`, in ns.
+/// Serves a request in its turn.
 ///
 /// The only error is out of memory.
 pub fn serve_request<P: Planner>(
@@ -46,52 +45,42 @@ pub fn serve_request<P: Planner>(
     planner: &P,
     store: &mut Store,
     background: &mut Background,
-    head: Track,
-    start: Ns,
-    request: Request,
+    turn: Turn,
 ) -> Result<Serving, NoMemory>
-    requires request { IsRequestOf disk.now.map request }
-    requires head { IsTrackOf disk.now.map head }
-    requires start { start ≤ 9 * 10 ^ 18 - 10 ^ 14 }
+    requires turn { IsTurnOn disk.now turn }
     requires current { (past : Past) × IsCurrent disk.now.map past background.old }
-    ensures row { IfOk result (λ serving. IsRowOf store.old (service disk.now head start request) serving.row) }
-    ensures leaves { OnOk result ((lbn : ℕ) → content_in store.new lbn ≡ left_by request lbn (content_in store.old lbn)) }
-    ensures head { IfOk result (λ serving. serving.head ≡ last_track disk.now (service disk.now head start request)) }
+    ensures row { IfOk result (λ serving. IsRowOf store.old (served_in disk.now turn) serving.row) }
+    ensures leaves { OnOk result ((lbn : ℕ) → content_in store.new lbn ≡ left_by turn.request lbn (content_in store.old lbn)) }
+    ensures head { IfOk result (λ serving. serving.head ≡ last_track disk.now (served_in disk.now turn)) }
     ensures on_disk { IfOk result (λ serving. IsTrackOf disk.now.map serving.head) }
     ensures ranges { IfOk result (λ serving. HasRanges serving.row) }
-    ensures each { OnOk result (AllByRecursion (λ passage. passage.begin < passage.end) (passages disk.now head start request.write request.lbn request.count)) }
-    ensures later { IfOk result (λ serving. start < serving.row.finish) }
-    ensures soon { IfOk result (λ serving. serving.row.finish ≤ start + 2048 * (4 * 10 ^ 9)) }
+    ensures each { OnOk result (AllByRecursion (λ passage. passage.begin < passage.end) (served_in disk.now turn).passages) }
+    ensures later { IfOk result (λ serving. turn.start < serving.row.finish) }
+    ensures soon { IfOk result (λ serving. serving.row.finish ≤ turn.start + 2048 * (4 * 10 ^ 9)) }
     ensures served { OnOk result ((past : Past) → IsCurrent disk.now.map past background.old
-        → HasServed disk.now store.old past (service disk.now head start request) background.old.rows background.new) }
+        → HasServed disk.now store.old past (served_in disk.now turn) background.old.rows background.new) }
 {
+    let request = turn.request;
     let service = serve(
         alloc,
         disk,
-        head,
-        start,
+        turn.head,
+        turn.start,
         request.lbn,
         request.count,
         request.write,
     )?;
     let gap = Gap {
-        source: head,
+        source: turn.head,
         target: disk.map.place(request.lbn).track,
-        now: start,
+        now: turn.start,
         deadline: service.media,
         write: request.write,
     };
     let plan = planner.best(disk, &background.wanted, &gap);
-    background.pass(alloc, disk, store, request.name, gap, plan)?;
-    background.ride(
-        alloc,
-        disk,
-        store,
-        head,
-        start,
-        request,
-        service.extents.as_slice(),
-    )?;
+    let name = request.name;
+    background.pass(alloc, disk, store, GapRow { name, gap, plan })?;
+    background.ride(alloc, disk, store, turn, service.extents.as_slice())?;
     let content = found(alloc, store, request)?;
     let bad = content.bad() as u32;
     leave(store, request)?;
@@ -99,7 +88,7 @@ pub fn serve_request<P: Planner>(
     Ok(Serving {
         row: ForeRow {
             request,
-            start,
+            start: turn.start,
             media: service.media,
             finish: service.finish,
             bad,
@@ -110,32 +99,24 @@ pub fn serve_request<P: Planner>(
 }
 
 impl Background {
-    // Goes through a gap by a plan, and delivers what its dwells catch.
+    // Adds the row of a gap, goes through it by the row's plan, and delivers what its dwells catch.
     fn pass(
         &mut self,
         alloc: Global,
         disk: &Disk,
         store: &Store,
-        name: Name,
-        gap: Gap,
-        plan: Plan,
+        row: GapRow,
     ) -> Result<(), NoMemory>
         requires current { (past : Past) × IsCurrent disk.now.map past self.old }
-        requires gap { IsGap disk.now gap }
-        requires plan { IsPlan disk.now gap plan }
+        requires gap { IsGap disk.now row.gap }
+        requires plan { IsPlan disk.now row.gap row.plan }
         ensures delivered { OnOk result ((past : Past) → IsCurrent disk.now.map past self.old
-            → HasDelivered disk.now.map past
-            (caught_in disk.now store.now How.Gap (early_dwell disk.now gap plan) (wanted past)
-            ++ caught_in disk.now store.now How.Gap (late_dwell disk.now gap plan) (missed disk.now (early_dwell disk.now gap plan) (wanted past)))
-            (self.old.rows ++ BackRow.Gap (record { name = name; gap = gap; plan = plan }) ∷ []) self.new) }
+            → HasDelivered disk.now.map past (gap_caught_in disk.now store.now row.gap row.plan (wanted past)) (self.old.rows ++ BackRow.Gap row ∷ []) self.new) }
         ensures left { OnOk result ((past : Past) → IsCurrent disk.now.map past self.old
-            → wanted (past_with past
-            (caught_in disk.now store.now How.Gap (early_dwell disk.now gap plan) (wanted past)
-            ++ caught_in disk.now store.now How.Gap (late_dwell disk.now gap plan) (missed disk.now (early_dwell disk.now gap plan) (wanted past))))
-            ≡ missed disk.now (late_dwell disk.now gap plan) (missed disk.now (early_dwell disk.now gap plan) (wanted past))) }
+            → wanted (past_with past (gap_caught_in disk.now store.now row.gap row.plan (wanted past))) ≡ gap_missed disk.now row.gap row.plan (wanted past)) }
     {
-        self.rows.push(BackRow::Gap(GapRow { name, gap, plan }))?;
-        let pair = dwells(disk, plan, &gap);
+        self.rows.push(BackRow::Gap(row))?;
+        let pair = dwells(disk, row.plan, &row.gap);
         self.stay(alloc, disk, store, How::Gap, pair.early)?;
         self.stay(alloc, disk, store, How::Gap, pair.late)
     }

@@ -3,8 +3,7 @@ use Rattle.std.proofs.lemmas.Result.{on_ok_weaker}
 use Rattle.fb_rows.specs.declared.gap.How.TheVariants.{Gap as ByGap}
 use Rattle.fb_model.specs.History.{wanted}
 use Rattle.fb_model.specs.Rides.{missed}
-use Rattle.fb_model.specs.Plans.{early_dwell, late_dwell}
-use Rattle.fb_decide.specs.Deliveries.{IsCurrent, HasDelivered, caught_in, past_with}
+use Rattle.fb_decide.specs.Deliveries.{IsCurrent, HasDelivered, caught_in, gap_caught_in, past_with}
 use Rattle.fb_decide.proofs.Staying.{delivered-both, left-both}
 use Rattle.fb_decide.proofs.background.Background.pass.Goals as goal
 
@@ -14,9 +13,7 @@ returns-clause-delivered c = on_ok_weaker c.stay-2.result (λ next past current.
     let holding = c.args.store.now in
     let pushed : IsCurrent disk.map past (record { sessions = c.args.self.now.sessions; wanted = c.args.self.now.wanted; rows = c.push.new.self }) = record { tells = current.tells; settled = current.settled } in
     subst (λ rows. HasDelivered disk.map past
-    (caught_in disk holding ByGap (early_dwell disk c.args.gap c.args.plan) (wanted past)
-    ++ caught_in disk holding ByGap (late_dwell disk c.args.gap c.args.plan) (missed disk (early_dwell disk c.args.gap c.args.plan) (wanted past)))
-    rows c.stay-2.new.self) c.in_ok-push.ensures.ok
+    (gap_caught_in disk holding c.args.row.gap c.args.row.plan (wanted past)) rows c.stay-2.new.self) c.in_ok-push.ensures.ok
     (subst₂ (λ early late. HasDelivered disk.map past (caught_in disk holding ByGap early (wanted past) ++ caught_in disk holding ByGap late (missed disk early (wanted past))) c.push.new.self c.stay-2.new.self)
     c.dwells-pair.ensures.early c.dwells-pair.ensures.late
     (delivered-both disk holding ByGap c.dwells-pair.result.early c.dwells-pair.result.late past c.push.new.self c.stay.new.self c.stay-2.new.self

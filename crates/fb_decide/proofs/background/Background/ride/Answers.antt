@@ -2,9 +2,9 @@ use Rattle.std.proofs.Common.{◌∙◌, ◌≡◌, ap, sym, subst, map}
 use Rattle.fb_rows.specs.declared.gap.How.TheVariants.{Ride as ByRide}
 use Rattle.fb_wanted.specs.States.{wanted_of}
 use Rattle.fb_model.specs.History.{wanted}
-use Rattle.fb_model.specs.PlainReplay.{service}
 use Rattle.fb_decide.specs.Carried.{carried_of}
 use Rattle.fb_decide.specs.Deliveries.{HasDelivered, AreDistinct, AreDue, row_in, rides_in}
+use Rattle.fb_decide.specs.Turn.{served_in}
 use Rattle.fb_decide.proofs.Distinct.{wanted-distinct}
 use Rattle.fb_decide.proofs.Delivering.{wanted-told, on_ok_map}
 use Rattle.fb_decide.proofs.Laying.{laid, laid_within}
@@ -14,14 +14,14 @@ use Rattle.fb_decide.proofs.background.Background.ride.Goals as goal
 pub carried-requires-clause-extents : goal.carried-requires-clause-extents
 carried-requires-clause-extents c =
     let disk = c.args.disk.now in
-    let request = c.args.request in
+    let request = c.args.turn.request in
     all-extents disk c.args.extents.now
-    (laid_within c.args.extents.now request.lbn request.count _ (laid disk c.args.extents.now c.args.source c.args.start request.write request.lbn request.count c.requires.passages c.requires.unbroken) c.requires.request.range.inside)
+    (laid_within c.args.extents.now request.lbn request.count _ (laid disk c.args.extents.now c.args.turn.head c.args.turn.start request.write request.lbn request.count c.requires.passages c.requires.unbroken) c.requires.turn.request.range.inside)
     c.requires.unbroken c.requires.early disk.few_blocks
 
 pub carried-requires-clause-covers : goal.carried-requires-clause-covers
 carried-requires-clause-covers c =
-    laid c.args.disk.now c.args.extents.now c.args.source c.args.start c.args.request.write c.args.request.lbn c.args.request.count c.requires.passages c.requires.unbroken
+    laid c.args.disk.now c.args.extents.now c.args.turn.head c.args.turn.start c.args.turn.request.write c.args.turn.request.lbn c.args.turn.request.count c.requires.passages c.requires.unbroken
 
 pub carried-requires-clause-registered : goal.carried-requires-clause-registered
 carried-requires-clause-registered c = whole-told c.args.disk.now c.requires.current.0 c.args.self.now.sessions c.args.self.now.wanted c.requires.current.1.tells
@@ -33,20 +33,20 @@ pub deliver_all-requires : goal.deliver_all-requires
 deliver_all-requires c =
     let past = c.requires.current.0 in
     let current = c.requires.current.1 in
-    let served = service c.args.disk.now c.args.source c.args.start c.args.request in
+    let served = served_in c.args.disk.now c.args.turn in
     let rows : map (row_in c.args.store.now ByRide) c.as_slice.result.now ≡ rides_in c.args.store.now served (wanted past) =
-    ap (map (row_in c.args.store.now ByRide)) (c.as_slice.ensures.value ∙ c.in_ok-catches.ensures ∙ ap (λ ps. carried_of ps c.args.request (wanted_of c.args.self.now.wanted)) c.requires.passages
-    ∙ ap (carried_of served.passages c.args.request) (wanted-told current.tells))
-    ∙ rows-carried c.args.store.now served (wanted past) c.if-request.false in
-    (c.args.disk.now.map, past, current, subst (AreDue past) (sym rows) (due-carried c.args.store.now served past c.if-request.false (wanted-distinct current.tells)))
+    ap (map (row_in c.args.store.now ByRide)) (c.as_slice.ensures.value ∙ c.in_ok-catches.ensures ∙ ap (λ ps. carried_of ps c.args.turn.request (wanted_of c.args.self.now.wanted)) c.requires.passages
+    ∙ ap (carried_of served.passages c.args.turn.request) (wanted-told current.tells))
+    ∙ rows-carried c.args.store.now served (wanted past) c.if-turn.false in
+    (c.args.disk.now.map, past, current, subst (AreDue past) (sym rows) (due-carried c.args.store.now served past c.if-turn.false (wanted-distinct current.tells)))
 
 pub returns : goal.returns
 returns c = on_ok_map _ _ c.deliver_all.result (λ all past current.
-    let served = service c.args.disk.now c.args.source c.args.start c.args.request in
+    let served = served_in c.args.disk.now c.args.turn in
     let rows : map (row_in c.args.store.now ByRide) c.as_slice.result.now ≡ rides_in c.args.store.now served (wanted past) =
-    ap (map (row_in c.args.store.now ByRide)) (c.as_slice.ensures.value ∙ c.in_ok-catches.ensures ∙ ap (λ ps. carried_of ps c.args.request (wanted_of c.args.self.now.wanted)) c.requires.passages
-    ∙ ap (carried_of served.passages c.args.request) (wanted-told current.tells))
-    ∙ rows-carried c.args.store.now served (wanted past) c.if-request.false in
+    ap (map (row_in c.args.store.now ByRide)) (c.as_slice.ensures.value ∙ c.in_ok-catches.ensures ∙ ap (λ ps. carried_of ps c.args.turn.request (wanted_of c.args.self.now.wanted)) c.requires.passages
+    ∙ ap (carried_of served.passages c.args.turn.request) (wanted-told current.tells))
+    ∙ rows-carried c.args.store.now served (wanted past) c.if-turn.false in
     subst (λ gots. HasDelivered c.args.disk.now.map past gots c.args.self.now.rows c.deliver_all.new.self) rows
-    (all c.args.disk.now.map past current (subst (AreDue past) (sym rows) (due-carried c.args.store.now served past c.if-request.false (wanted-distinct current.tells)))))
+    (all c.args.disk.now.map past current (subst (AreDue past) (sym rows) (due-carried c.args.store.now served past c.if-turn.false (wanted-distinct current.tells)))))
     c.deliver_all.ensures
