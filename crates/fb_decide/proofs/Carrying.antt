@@ -4,8 +4,8 @@ use Rattle.std.specs.Prelude.{slice_get, nat_le, nat_lt, ◌||◌}
 use Rattle.std.specs.List.{fold, AllByRecursion}
 use Rattle.std.proofs.lemmas.Bool.{cases_Bool}
 use Rattle.std.proofs.lemmas.Bool.Decides.{nat_tests}
-use Rattle.std.proofs.lemmas.List.{take_more, drop_more}
-use Rattle.std.proofs.lemmas.Option.{slice_get_within, get_or_from_slice_get}
+use Rattle.std.proofs.lemmas.List.{take_more, drop_more, drop_all}
+use Rattle.std.proofs.lemmas.Option.{slice_get_within, get_or_from_slice_get, slice_get-get_or}
 use Rattle.fb_units.specs.declared.types.Request.{Request}
 use Rattle.fb_units.specs.declared.types.Track.{Track}
 use Rattle.fb_units.specs.Tracks.{same_track}
@@ -23,29 +23,19 @@ use Rattle.fb_plan.specs.Order.{place_in}
 use Rattle.fb_decide.specs.Carried.{ride_of, begins_in, begun_in, carried_of, with_ride, AreLaid}
 use Rattle.fb_decide.specs.Deliveries.{AreDistinct}
 use Rattle.fb_decide.proofs.Swapping.{both_kinds}
+use Rattle.fb_wanted.proofs.Kept.{same_itself as track_itself}
+use Rattle.fb_tasks.proofs.Lists.{filter_none, filter_same, all_any, all_at, all_weaker}
 
 -- what these registered blocks add, where they begin in the extent
 abbrev pub added : List Passage → Extent → Request → List Catch → List Entry → List Catch
 added passages extent request found entries = fold place_in found (map (ride_of passages) (begun_in extent request (wanted_of entries)))
 
 pub added_one : (passages : List Passage) (extent : Extent) (request : Request) (found : List Catch) (entry : Entry) → added passages extent request found (entry ∷ []) ≡ with_ride passages extent request found entry
-added_one passages extent request found entry = elim (cases_Bool (is_wanted entry.state)) [
-  | inl w ↦ elim (cases_Bool (begins_in extent entry.block && lies_in request entry.block)) [
-    | inl b ↦ rw (w, b) refl
-    | inr n ↦ rw (w, n) refl
-  ]
-  | inr n ↦ rw n refl
-]
+added_one passages extent request found entry = grind arith
 
 added_first : (passages : List Passage) (extent : Extent) (request : Request) (found : List Catch) (entry : Entry) (entries : List Entry)
     → added passages extent request found (entry ∷ entries) ≡ added passages extent request (with_ride passages extent request found entry) entries
-added_first passages extent request found entry entries = elim (cases_Bool (is_wanted entry.state)) [
-  | inl w ↦ elim (cases_Bool (begins_in extent entry.block && lies_in request entry.block)) [
-    | inl b ↦ rw (w, b) refl
-    | inr n ↦ rw (w, n) refl
-  ]
-  | inr n ↦ rw n refl
-]
+added_first passages extent request found entry entries = grind arith
 
 added_last : (passages : List Passage) (extent : Extent) (request : Request) (found : List Catch) (entries : List Entry) (entry : Entry)
     → added passages extent request found (entries ++ entry ∷ []) ≡ with_ride passages extent request (added passages extent request found entries) entry
@@ -67,45 +57,29 @@ added_more passages extent request start found found' entries i entry at so_far 
 abbrev pub begins_among : ℕ → ℕ → Block → Bool
 begins_among first count block = nat_le first block.lbn && nat_lt block.lbn (first + count)
 
-same_filter : (p q : Block → Bool) → (blocks : List Block) → AllByRecursion (λ b. p b ≡ q b) blocks → filter p blocks ≡ filter q blocks
-same_filter p q [] all = refl
-same_filter p q (b ∷ blocks) all = elim (cases_Bool (q b)) [
-  | inl holds ↦ rw (all.0 ∙ holds, holds) (ap (λ bs. b ∷ bs) (same_filter p q blocks all.1))
-  | inr fails ↦ rw (all.0 ∙ fails, fails) (same_filter p q blocks all.1)
-]
-
-none_filtered : (p : Block → Bool) (blocks : List Block) → ((b : Block) → p b ≡ false) → filter p blocks ≡ []
-none_filtered p [] none = refl
-none_filtered p (b ∷ blocks) none = rw (none b) (none_filtered p blocks none)
-
-all_same : (p q : Block → Bool) → ((b : Block) → p b ≡ q b) → (blocks : List Block) → AllByRecursion (λ b. p b ≡ q b) blocks
-all_same p q same [] = tt
-all_same p q same (b ∷ blocks) = (same b, all_same p q same blocks)
 
 -- what the extents add one after another
 abbrev pub added_by_all : List Passage → List Extent → Request → List Catch → List Block → List Catch
 added_by_all passages [] request found blocks = found
 added_by_all passages (extent ∷ extents) request found blocks = added_by_all passages extents request (fold place_in found (map (ride_of passages) (begun_in extent request blocks))) blocks
 
-its_block : (passages : List Passage) (block : Block) → (ride_of passages block).block ≡ block
-its_block passages block = refl
 
 -- extents that are laid end to end add all that begins among their sectors
 pub all_added : (passages : List Passage) (extents : List Extent) (request : Request) (first count : ℕ) → AreLaid first extents count → (blocks : List Block) → AreDistinct blocks → (found : List Catch)
     → added_by_all passages extents request found blocks ≡ fold place_in found (map (ride_of passages) (filter (λ b. begins_among first count b && lies_in request b) blocks))
 all_added passages [] request first count laid blocks apart found =
-    sym (ap (λ bs. fold place_in found (map (ride_of passages) bs)) (none_filtered (λ b. begins_among first count b && lies_in request b) blocks
-    (λ b. let none : begins_among first count b ≡ false = grind (arith, nat_tests) in rw none refl)))
+    sym (ap (λ bs. fold place_in found (map (ride_of passages) bs)) (filter_none (λ b. begins_among first count b && lies_in request b) blocks
+    (all_any _ (λ b. let none : begins_among first count b ≡ false = grind (arith, nat_tests) in rw none refl) blocks)))
 all_added passages (extent ∷ extents) request first count laid blocks apart found =
     let rest = first + extent.count in
     let left = count - extent.count in
     let here = λ (b : Block). begins_in extent b && lies_in request b in
     let later = λ (b : Block). begins_among rest left b && lies_in request b in
     all_added passages extents request rest left laid.2 blocks apart (fold place_in found (map (ride_of passages) (begun_in extent request blocks)))
-    ∙ both_kinds (ride_of passages) (its_block passages) here later
+    ∙ both_kinds (ride_of passages) (λ b. refl) here later
     (λ b is_here. not_later extent request first rest left laid.0 refl b is_here) blocks apart found
-    ∙ ap (λ bs. fold place_in found (map (ride_of passages) bs)) (same_filter (λ b. here b || later b) (λ b. begins_among first count b && lies_in request b) blocks
-    (all_same (λ b. here b || later b) (λ b. begins_among first count b && lies_in request b) (λ b. either_way extent request first count laid.0 laid.1 b) blocks))
+    ∙ ap (λ bs. fold place_in found (map (ride_of passages) bs)) (filter_same (λ b. here b || later b) (λ b. begins_among first count b && lies_in request b) blocks
+    (all_any _ (λ b. either_way extent request first count laid.0 laid.1 b) blocks))
   where
     not_later : (extent : Extent) (request : Request) (first rest left : ℕ) → extent.first ≡ first → rest ≡ first + extent.count → (b : Block) → begins_in extent b && lies_in request b ≡ true
         → begins_among rest left b && lies_in request b ≡ false
@@ -115,8 +89,6 @@ all_added passages (extent ∷ extents) request first count laid blocks apart fo
         → (begins_in extent b && lies_in request b) || (begins_among (first + extent.count) (count - extent.count) b && lies_in request b) ≡ begins_among first count b && lies_in request b
     either_way extent request first count at few b = grind (arith, nat_tests)
 
-same_itself : (track : Track) → same_track track track ≡ true
-same_itself track = grind (arith, nat_tests)
 
 -- what begins in an extent lies on its track
 own_track : (disk : Shape) (extent : Extent) (request : Request) → IsUnbroken disk extent → (entries : List Entry) → AllByRecursion (λ entry. entry.block.track ≡ track_at disk entry.block.lbn) entries
@@ -146,7 +118,7 @@ own_track disk extent request unbroken (entry ∷ entries) all = elim (cases_Boo
           let to : block.lbn < extent.first + extent.count = grind (arith, nat_tests) in
           let place : extent.first + (block.lbn - extent.first) ≡ block.lbn = omega arith in
           let same : block.track ≡ extent.track = at ∙ ap (track_at disk) (sym place) ∙ unbroken.on_track (block.lbn - extent.first) (omega arith) in
-          let is_same : same_track extent.track block.track ≡ true = ap (same_track extent.track) same ∙ same_itself extent.track in
+          let is_same : same_track extent.track block.track ≡ true = ap (same_track extent.track) same ∙ track_itself extent.track in
           absurd (let wrong : true ≡ false = sym is_same ∙ off in cc)
       | inr other ↦ rw other refl
     ]
@@ -161,17 +133,10 @@ next_added disk passages extents i d request found found' entries within unbroke
     (ap (λ bs. fold place_in found (map (ride_of passages) bs)) (sym (own_track disk (get_or extents i d) request unbroken entries on_tracks)) ∙ sym next)
 
 pub none_added : (passages : List Passage) (extents : List Extent) (n : ℕ) (request : Request) (found : List Catch) (blocks : List Block) → length extents ≤ n → added_by_all passages (drop n extents) request found blocks ≡ found
-none_added passages [] zero request found blocks within = refl
-none_added passages [] (suc n) request found blocks within = refl
-none_added passages (e ∷ es) zero request found blocks within = absurd (omega arith)
-none_added passages (e ∷ es) (suc n) request found blocks within = none_added passages es n request found blocks (omega arith)
+none_added passages extents n request found blocks within = ap (λ es. added_by_all passages es request found blocks) (drop_all n extents within)
 
-all_begin : (request : Request) (blocks : List Block) → AllByRecursion (λ block. 0 < block.count) blocks → AllByRecursion (λ b. (begins_among request.lbn request.count b && lies_in request b) ≡ lies_in request b) blocks
-all_begin request [] all = tt
-all_begin request (block ∷ blocks) all = (begins request block all.0, all_begin request blocks all.1)
-  where
-    begins : (request : Request) (block : Block) → 0 < block.count → (begins_among request.lbn request.count block && lies_in request block) ≡ lies_in request block
-    begins request block some = grind (arith, nat_tests)
+begins : (request : Request) (block : Block) → 0 < block.count → (begins_among request.lbn request.count block && lies_in request block) ≡ lies_in request block
+begins request block some = grind (arith, nat_tests)
 
 -- extents of a whole read add what it carries
 pub carried_whole : (passages : List Passage) (extents : List Extent) (request : Request) (blocks : List Block) → AreLaid request.lbn extents request.count → AreDistinct blocks → AllByRecursion (λ block. 0 < block.count) blocks
@@ -179,7 +144,7 @@ pub carried_whole : (passages : List Passage) (extents : List Extent) (request :
 unfolding carried_of
 carried_whole passages extents request blocks laid apart some =
     all_added passages extents request request.lbn request.count laid blocks apart []
-    ∙ ap (λ bs. fold place_in [] (map (ride_of passages) bs)) (same_filter _ (lies_in request) blocks (all_begin request blocks some))
+    ∙ ap (λ bs. fold place_in [] (map (ride_of passages) bs)) (filter_same _ (lies_in request) blocks (all_weaker _ _ (begins request) blocks some))
 
 -- each registered block, from each place
 pub each_entry : (P : Entry → Type 0) (entries : List Entry) → ((i : ℕ) (entry : Entry) → slice_get entries i ≡ Some entry → P entry) → AllByRecursion P entries
@@ -188,12 +153,7 @@ each_entry P (entry ∷ entries) each = (each 0 entry refl, each_entry P entries
 
 pub each_wanted : (P : Block → Type 0) (entries : List Entry) → AllByRecursion (λ entry. P entry.block) entries → AllByRecursion P (wanted_of entries)
 each_wanted P [] all = tt
-each_wanted P (entry ∷ entries) all = elim (cases_Bool (is_wanted entry.state)) [
-  | inl w ↦ rw w (all.0, each_wanted P entries all.1)
-  | inr n ↦ rw n (each_wanted P entries all.1)
-]
+each_wanted P (entry ∷ entries) all = grind (arith, all.0, each_wanted P entries all.1)
 
 pub extent_at : (P : Extent → Type 0) (extents : List Extent) → AllByRecursion P extents → (i : ℕ) (d : Extent) → i < length extents → P (get_or extents i d)
-extent_at P [] all i d within = absurd (omega arith)
-extent_at P (extent ∷ extents) all zero d within = all.0
-extent_at P (extent ∷ extents) all (suc i) d within = extent_at P extents all.1 i d (omega arith)
+extent_at P extents all i d within = all_at P extents i (get_or extents i d) all (slice_get-get_or extents i d within)

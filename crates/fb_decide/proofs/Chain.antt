@@ -14,7 +14,9 @@ use Rattle.fb_model.specs.Inputs.{Inputs, requests, served}
 use Rattle.fb_model.specs.Decisions.{Decision, serves, idles, ends, among, instants_of, idle_until, last_decision, decisions_from, decisions}
 use Rattle.fb_model.specs.Laws.{IsFirstReady, IsReadyPickOf}
 use Rattle.fb_model.proofs.Picks.{ready_pick}
-use Rattle.fb_model.proofs.Replays.{late_or}
+use Rattle.fb_model.proofs.Replays.{start_from}
+use Rattle.fb_model.proofs.Instants.{IsAmong, was_all_among}
+use Rattle.fb_decide.proofs.Instants.{one_filtered, filtered_below, fold_max, most_among, most_below}
 
 -- ---- a chain
 
@@ -44,82 +46,25 @@ idle_follow P disk head now (instant ∷ instants) later h = elim (cases_Bool (n
 
 idle_services : (head : Track) (now : ℕ) (instants : List ℕ) (later : List Decision) → services (idle_until head now instants ++ later) ≡ services later
 idle_services head now [] later = refl
-idle_services head now (instant ∷ instants) later = elim (cases_Bool (nat_lt now instant)) [
-  | inl before ↦ rw before (idle_services head instant instants later)
-  | inr after ↦ rw after (idle_services head now instants later)
-]
+idle_services head now (instant ∷ instants) later = grind (arith, idle_services head instant instants later, idle_services head now instants later)
 
 -- ---- the instants
 
--- an instant stands in the list
-abbrev pub Stands : ℕ → List ℕ → Type 0
-Stands instant [] = ⊥
-Stands instant (other ∷ instants) = (instant ≡ other) ⊎ Stands instant instants
 
-stands_itself : (instant : ℕ) (instants : List ℕ) → Stands instant (among instants instant)
-stands_itself instant [] = inl refl
-stands_itself instant (first ∷ instants) = elim (cases_Bool (nat_le first instant)) [
-  | inl before ↦ rw before (inr (stands_itself instant instants))
-  | inr after ↦ rw after (inl refl)
-]
-
-stands_among : (instant other : ℕ) (instants : List ℕ) → Stands instant instants → Stands instant (among instants other)
-stands_among instant other [] stands = absurd stands
-stands_among instant other (first ∷ instants) stands = elim (cases_Bool (nat_le first other)) [
-  | inl before ↦ rw before (elim stands [ inl here ↦ inl here | inr behind ↦ inr (stands_among instant other instants behind) ])
-  | inr after ↦ rw after (inr stands)
-]
-
-stands_on : (instant : ℕ) (others instants : List ℕ) → Stands instant instants → Stands instant (fold among instants others)
-stands_on instant [] instants stands = stands
-stands_on instant (other ∷ others) instants stands = stands_on instant others (among instants other) (stands_among instant other instants stands)
-
--- the latest of the instants up to one is that one, where it stands among them
-latest_below : (start now : ℕ) (instants : List ℕ) → now ≤ start → fold max now (filter (λ instant. nat_le instant start) instants) ≤ start
-latest_below start now [] h = h
-latest_below start now (instant ∷ instants) h = elim (cases_Bool (nat_le instant start)) [
-  | inl come ↦ rw come (latest_below start (max now instant) instants (grind (arith, nat_tests)))
-  | inr late ↦ rw late (latest_below start now instants h)
-]
-
-latest_from : (start now : ℕ) (instants : List ℕ) → now ≤ fold max now (filter (λ instant. nat_le instant start) instants)
-latest_from start now [] = omega arith
-latest_from start now (instant ∷ instants) = elim (cases_Bool (nat_le instant start)) [
-  | inl come ↦ rw come (omega (arith, latest_from start (max now instant) instants))
-  | inr late ↦ rw late (latest_from start now instants)
-]
-
-latest_stands : (start now : ℕ) (instants : List ℕ) → Stands start instants → start ≤ fold max now (filter (λ instant. nat_le instant start) instants)
-latest_stands start now [] stands = absurd stands
-latest_stands start now (instant ∷ instants) stands = elim stands [
-  | inl here ↦ let come : nat_le instant start ≡ true = grind (arith, nat_tests) in rw come (omega (arith, latest_from start (max now instant) instants))
-  | inr behind ↦ elim (cases_Bool (nat_le instant start)) [
-    | inl come ↦ rw come (latest_stands start (max now instant) instants behind)
-    | inr late ↦ rw late (latest_stands start now instants behind)
-  ]
-]
-
-latest_is : (start now : ℕ) (instants : List ℕ) → now ≤ start → (start ≡ now) ⊎ Stands start instants → fold max now (filter (λ instant. nat_le instant start) instants) ≡ start
-latest_is start now instants h at = omega (arith, latest_below start now instants h, latest_least)
-  where
-    latest_least : start ≤ fold max now (filter (λ instant. nat_le instant start) instants)
-    latest_least = elim at [
-      | inl here ↦ omega (arith, here, latest_from start now instants)
-      | inr stands ↦ latest_stands start now instants stands
+latest_is : (start now : ℕ) (instants : List ℕ) → now ≤ start → (start ≡ now) ⊎ IsAmong start instants → fold max now (filter (λ instant. nat_le instant start) instants) ≡ start
+latest_is start now instants h at =
+    let before = filter (λ instant. nat_le instant start) instants in
+    let most = most_below start now before (filtered_below start instants) in
+    elim at [
+      | inl here ↦ omega (arith, h, here, most, fold_max now before)
+      | inr there ↦ omega (arith, h, most, fold_max now before, most_among start before (one_filtered (λ instant. nat_le instant start) start instants (grind (arith, nat_tests)) there))
     ]
 
 -- ---- the start of a service
 
--- not before now
-start_from : (now : ℕ) (left : List Request) → now ≤ start_of now left
-start_from now [] = omega arith
-start_from now (request ∷ requests) = elim (cases_Bool (list_any (has_arrived now) (request ∷ requests))) [
-  | inl some ↦ rw some (omega arith)
-  | inr none ↦ rw none (let late = late_or now request.arrival (list_any (has_arrived now) requests) none in omega arith)
-]
 
 -- now, or when one arrives
-start_at : (now : ℕ) (left : List Request) (instants : List ℕ) → AllByRecursion (λ (r : Request). Stands r.arrival instants) left → (start_of now left ≡ now) ⊎ Stands (start_of now left) instants
+start_at : (now : ℕ) (left : List Request) (instants : List ℕ) → AllByRecursion (λ (r : Request). IsAmong r.arrival instants) left → (start_of now left ≡ now) ⊎ IsAmong (start_of now left) instants
 start_at now [] instants all = inl refl
 start_at now (request ∷ requests) instants all = elim (cases_Bool (list_any (has_arrived now) (request ∷ requests))) [
   | inl some ↦ rw some (inl refl)
@@ -133,7 +78,7 @@ all_without P [] back pick all = all
 all_without P (request ∷ front) back pick all = let rest = all_without P front back pick all.1 in (rest.0, (all.0, rest.1))
 
 -- the pick meets the condition, and so do the others
-pick_meets : (P : Request → Type 0) (key : Request → ℕ) (now : ℕ) (left others : List Request) (pick : Request) → IsFirstReady key now left pick others → AllByRecursion P left → P pick × AllByRecursion P others
+pub pick_meets : (P : Request → Type 0) (key : Request → ℕ) (now : ℕ) (left others : List Request) (pick : Request) → IsFirstReady key now left pick others → AllByRecursion P left → P pick × AllByRecursion P others
 pick_meets P key now left others pick m all =
     let both = all_without P m.front m.back pick (subst (AllByRecursion P) m.whole all) in
     (both.0, subst (AllByRecursion P) (sym m.rest) both.1)
@@ -145,10 +90,7 @@ last_follows P disk head now until = elim (cases_Bool (nat_lt now until)) [
 ]
 
 last_services : (head : Track) (now until : ℕ) → services (last_decision head now until ∷ []) ≡ []
-last_services head now until = elim (cases_Bool (nat_lt now until)) [
-  | inl before ↦ rw before refl
-  | inr after ↦ rw after refl
-]
+last_services head now until = grind arith
 
 module _ (P : Request → Type 0) (disk : Disk) (key : Key) (instants : List ℕ) (until : ℕ) where
   abbrev Chained : Track → ℕ → List Served → Type 0
@@ -161,7 +103,7 @@ module _ (P : Request → Type 0) (disk : Disk) (key : Key) (instants : List ℕ
     idle_services head now instants (last_decision head (fold max now instants) until ∷ []) ∙ last_services head (fold max now instants) until,
   )
 
-  one_chained : (head : Track) (now start : ℕ) (request : Request) (later : List Served) → now ≤ start → (start ≡ now) ⊎ Stands start instants → P request
+  one_chained : (head : Track) (now start : ℕ) (request : Request) (later : List Served) → now ≤ start → (start ≡ now) ⊎ IsAmong start instants → P request
       → (let served = service disk head start request in Chained (last_track disk served) (finish served) later → Chained head now (served ∷ later))
   unfolding decisions_from
   one_chained head now start request later h at meets rest =
@@ -174,9 +116,9 @@ module _ (P : Request → Type 0) (disk : Disk) (key : Key) (instants : List ℕ
       )
 
   -- a pick and what is served behind it
-  picked : (n : ℕ) (head : Track) (now start : ℕ) (left : List Request) (pick : Option (Request × List Request)) → now ≤ start → (start ≡ now) ⊎ Stands start instants
-      → AllByRecursion P left → AllByRecursion (λ (r : Request). Stands r.arrival instants) left → IsReadyPickOf (key disk head start) start left pick
-      → ((head : Track) (now : ℕ) (left : List Request) → AllByRecursion P left → AllByRecursion (λ (r : Request). Stands r.arrival instants) left → Chained head now (plain n disk key head now left))
+  picked : (n : ℕ) (head : Track) (now start : ℕ) (left : List Request) (pick : Option (Request × List Request)) → now ≤ start → (start ≡ now) ⊎ IsAmong start instants
+      → AllByRecursion P left → AllByRecursion (λ (r : Request). IsAmong r.arrival instants) left → IsReadyPickOf (key disk head start) start left pick
+      → ((head : Track) (now : ℕ) (left : List Request) → AllByRecursion P left → AllByRecursion (λ (r : Request). IsAmong r.arrival instants) left → Chained head now (plain n disk key head now left))
       → Chained head now (unwrap_or (option_map (λ pick.
       let served = service disk head start pick.0 in
       served ∷ plain n disk key (last_track disk served) (finish served) pick.1) pick) [])
@@ -184,11 +126,11 @@ module _ (P : Request → Type 0) (disk : Disk) (key : Key) (instants : List ℕ
   picked n head now start left (Some pick) h at meet stand m rest =
       let served = service disk head start pick.0 in
       let meets = pick_meets P (key disk head start) start left pick.1 pick.0 m meet in
-      let stands = pick_meets (λ (r : Request). Stands r.arrival instants) (key disk head start) start left pick.1 pick.0 m stand in
+      let stands = pick_meets (λ (r : Request). IsAmong r.arrival instants) (key disk head start) start left pick.1 pick.0 m stand in
       one_chained head now start pick.0 (plain n disk key (last_track disk served) (finish served) pick.1) h at meets.0 (rest (last_track disk served) (finish served) pick.1 meets.1 stands.1)
 
   -- the decisions of a plain replay of requests that meet the condition, and whose arrivals stand among the instants
-  pub plain_chained : (n : ℕ) (head : Track) (now : ℕ) (left : List Request) → AllByRecursion P left → AllByRecursion (λ (r : Request). Stands r.arrival instants) left
+  pub plain_chained : (n : ℕ) (head : Track) (now : ℕ) (left : List Request) → AllByRecursion P left → AllByRecursion (λ (r : Request). IsAmong r.arrival instants) left
       → Chained head now (plain n disk key head now left)
   unfolding plain
   plain_chained zero head now left meet stand = none_chained head now
@@ -199,7 +141,7 @@ module _ (P : Request → Type 0) (disk : Disk) (key : Key) (instants : List ℕ
 -- ---- the decisions of a run
 
 -- each arrival stands among the arrivals
-arrivals_stand : (arriving : List Request) → AllByRecursion (λ (r : Request). Stands r.arrival (map (λ request. request.arrival) arriving)) arriving
+arrivals_stand : (arriving : List Request) → AllByRecursion (λ (r : Request). IsAmong r.arrival (map (λ request. request.arrival) arriving)) arriving
 arrivals_stand [] = tt
 arrivals_stand (request ∷ later) = (inl refl, all_weaker _ _ (λ r stands. inr stands) later (arrivals_stand later))
 
@@ -208,4 +150,4 @@ pub decisions_follow : (P : Request → Type 0) (inputs : Inputs) → AllByRecur
     → Follow P inputs.disk first_track 0 (decisions inputs) × (services (decisions inputs) ≡ served inputs)
 unfolding decisions served
 decisions_follow P inputs all = plain_chained P inputs.disk inputs.key (instants_of inputs) inputs.until (length (requests inputs)) first_track 0 (requests inputs) all
-    (all_weaker _ _ (λ (r : Request) stands. stands_on r.arrival (map (λ call. call.instant) inputs.calls) (map (λ request. request.arrival) (requests inputs)) stands) (requests inputs) (arrivals_stand (requests inputs)))
+    (all_weaker _ _ (λ (r : Request) stands. was_all_among r.arrival (map (λ call. call.instant) inputs.calls) (map (λ request. request.arrival) (requests inputs)) stands) (requests inputs) (arrivals_stand (requests inputs)))

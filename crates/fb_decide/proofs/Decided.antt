@@ -13,8 +13,9 @@ use Rattle.fb_model.specs.Decisions.{serves, idles, idle_until, last_decision, d
 use Rattle.fb_model.proofs.Instants.{IsAmong}
 use Rattle.fb_decide.specs.Waiting.{AreByArrival}
 use Rattle.fb_decide.proofs.Readiness.{start_ahead}
-use Rattle.fb_decide.proofs.Passed.{start_after}
-use Rattle.fb_decide.proofs.Instants.{LieApart, all_filtered, rising_filtered, one_filtered, filtered_below, idle_none, idle_next, last_after, last_passed}
+use Rattle.fb_decide.proofs.Instants.{LieApart, one_filtered, filtered_below, idle_none, idle_next, last_after, last_passed}
+use Rattle.fb_model.proofs.Lists.{all_filter, rising_filter}
+use Rattle.fb_model.proofs.Replays.{start_from as start_after}
 
 -- a request that starts now is the next decision
 pub serves_now : (disk : Disk) (instants : List ℕ) (until : ℕ) (head : Track) (now : ℕ) (request : Request) (later : List Served)
@@ -41,9 +42,9 @@ stays_next disk instants until head now t [] less rising there apart starts =
 stays_next disk instants until head now t (served ∷ later) less rising there apart starts =
     let by : ℕ → Bool = λ instant. nat_le instant served.start in
     ap (λ dwells. dwells ++ serves served ∷ decisions_from disk instants until (last_track disk served) (finish served) later)
-    (idle_next head now t (filter by instants) less (rising_filtered by instants rising)
+    (idle_next head now t (filter by instants) less (rising_filter by instants rising)
     (one_filtered by t instants (let early : nat_le t served.start ≡ true = grind (arith, nat_tests) in early) there)
-    (all_filtered (λ x. (x ≤ now) ⊎ (t ≤ x)) by instants apart))
+    (all_filter (λ x. (x ≤ now) ⊎ (t ≤ x)) by instants apart))
 
 -- nothing is to come: the last decision
 pub ends_now : (disk : Disk) (instants : List ℕ) (until : ℕ) (head : Track) (now : ℕ) → AllByRecursion (λ instant. instant ≤ now) instants

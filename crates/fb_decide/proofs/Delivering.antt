@@ -37,10 +37,7 @@ use Rattle.fb_decide.specs.Deliveries.{IsCurrent, HasDelivered, IsRegistered, Ar
 wanted_by : (past : Past) (bs : List Block) → wanted_of (map (entry_of past) bs) ≡ filter (λ b. is_wanted (state past b)) bs
 unfolding view
 wanted_by past [] = refl
-wanted_by past (b ∷ bs) = elim (cases_Bool (is_wanted (state past b))) [
-  | inl is ↦ rw is (ap (λ xs. b ∷ xs) (wanted_by past bs))
-  | inr none ↦ rw none (wanted_by past bs)
-]
+wanted_by past (b ∷ bs) = grind (arith, wanted_by past bs)
 
 pub wanted-told : {disk : Shape} {past : Past} {sessions : List Session} {held : List Entry} → Tells disk past sessions held → wanted_of held ≡ wanted past
 unfolding wanted
@@ -61,8 +58,7 @@ abbrev pub none_of : List DeliveryRow → Block → Bool
 none_of gots block = not (list_any (λ got. same_block got.block block) gots)
 
 still_wanted : (it held_back : Bool) (bare : State) → is_wanted (shown (if it then Delivered else bare) held_back) ≡ (not it && is_wanted (shown bare held_back))
-still_wanted true held_back bare = refl
-still_wanted false held_back bare = refl
+still_wanted it held_back bare = grind arith
 
 wanted_then : (past : Past) (got : DeliveryRow) (block : Block) → is_wanted (state (with_delivery past (delivery_of past got)) block) ≡ (not (same_block got.block block) && is_wanted (state past block))
 unfolding bare_state
@@ -70,16 +66,7 @@ wanted_then past got block = still_wanted (same_block got.block block) (is_suspe
 
 filter_again : {X : Type 0} (p q r : X → Bool) → ((x : X) → r x ≡ (q x && p x)) → (xs : List X) → filter r xs ≡ filter q (filter p xs)
 filter_again p q r same [] = refl
-filter_again p q r same (x ∷ xs) = elim (cases_Bool (p x)) [
-  | inl pass ↦ elim (cases_Bool (q x)) [
-    | inl also ↦ let both : r x ≡ true = same x ∙ rw (pass, also) refl in rw (both, pass) (rw also (ap (λ ys. x ∷ ys) (filter_again p q r same xs)))
-    | inr only ↦ let one : r x ≡ false = same x ∙ rw only refl in rw (one, pass) (rw only (filter_again p q r same xs))
-  ]
-  | inr fail ↦ elim (cases_Bool (q x)) [
-    | inl other ↦ let none : r x ≡ false = same x ∙ rw (fail, other) refl in rw (none, fail) (filter_again p q r same xs)
-    | inr neither ↦ let none : r x ≡ false = same x ∙ rw neither refl in rw (none, fail) (filter_again p q r same xs)
-  ]
-]
+filter_again p q r same (x ∷ xs) = grind (arith, same x, filter_again p q r same xs)
 
 same_registered : (past : Past) (delivery : Delivery) → registered (with_delivery past delivery) ≡ registered past
 same_registered past delivery = refl
@@ -92,10 +79,7 @@ wanted-after past got =
     ∙ filter_again (λ b. is_wanted (state past b)) (λ b. not (same_block got.block b)) (λ b. is_wanted (state (with_delivery past (delivery_of past got)) b)) (wanted_then past got) (registered past)
 
 none_more : (a b : Bool) → not (a || b) ≡ (not b && not a)
-none_more true true = refl
-none_more true false = refl
-none_more false true = refl
-none_more false false = refl
+none_more a b = grind arith
 
 all_left : {X : Type 0} (xs : List X) → xs ≡ filter (λ x. true) xs
 all_left [] = refl

@@ -66,10 +66,7 @@ numbered-distinct (b ∷ bs) h =
 
 pub filter-distinct : (p : Block → Bool) (bs : List Block) → AreDistinct bs → AreDistinct (filter p bs)
 filter-distinct p [] h = tt
-filter-distinct p (b ∷ bs) h = elim (cases_Bool (p b)) [
-  | inl pass ↦ rw pass (all_filter (λ c. same_block b c ≡ false) p bs h.0, filter-distinct p bs h.1)
-  | inr fail ↦ rw fail (filter-distinct p bs h.1)
-]
+filter-distinct p (b ∷ bs) h = grind (arith, all_filter (λ c. same_block b c ≡ false) p bs h.0, filter-distinct p bs h.1)
 
 pub wanted-distinct : {disk : Shape} {past : Past} {sessions : List Session} {held : List Entry} → Tells disk past sessions held → AreDistinct (wanted past)
 unfolding wanted view

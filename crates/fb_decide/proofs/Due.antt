@@ -1,6 +1,6 @@
 -- What is due at a decision, from the disk as it is: each delivery lies within the decision, and the medium gives the same.
 use Rattle.std.proofs.Common.{◌≡◌, ℕ, ◌+◌, ◌-◌, ◌≤◌, ◌<◌, List, [], ◌∷◌, ◌++◌, map, filter, Bool, true, false, inl, inr, refl, ap, ap₂, arith}
-use Rattle.std.specs.Prelude.{if◌then◌else◌}
+use Rattle.std.specs.Prelude.{if◌then◌else◌, not}
 use Rattle.std.specs.List.{AllByRecursion}
 use Rattle.std.proofs.lemmas.Bool.{cases_Bool}
 use Rattle.std.proofs.lemmas.Bool.Decides.{nat_tests}
@@ -28,6 +28,8 @@ use Rattle.fb_decide.specs.Standing.{Mirrors, IsFoundIn}
 use Rattle.fb_decide.proofs.DiskRows.{mirrored}
 use Rattle.fb_decide.proofs.Placing.{in_order-each, delivery_by}
 use Rattle.fb_decide.proofs.Rides.{ride_row}
+use Rattle.fb_tasks.proofs.Lists.{all_weaker, all_pass, all_filter, all_map, all_append}
+use Rattle.fb_model.proofs.Lists.{all_both, same_kept, same_map_where}
 
 delivery_same : (medium : Medium) (holding : Holding) (from to : ℕ) → Mirrors medium holding from to → (how : How) (block : Block) (begin end : ℕ) → from ≤ begin → begin ≤ to
     → delivery_in holding how block begin end ≡ delivery medium how block begin end
@@ -38,17 +40,13 @@ delivery_same medium holding from to mirrors how block begin end after before =
 caught_rows : (medium : Medium) (holding : Holding) (how : How) (dwell : Dwell) (from to : ℕ) → Mirrors medium holding from to → from ≤ dwell.begin → dwell.end ≤ to → (blocks : List Block)
     → map (delivery_by medium.disk holding how dwell) (filter (catches medium.disk dwell) blocks)
     ≡ map (λ block. delivery medium how block (block_begin medium.disk.map block dwell.begin) (block_end medium.disk.map block dwell.begin)) (filter (catches medium.disk dwell) blocks)
-caught_rows medium holding how dwell from to mirrors after before [] = refl
-caught_rows medium holding how dwell from to mirrors after before (block ∷ blocks) = elim (cases_Bool (catches medium.disk dwell block)) [
-  | inl is_caught ↦
-      let ends = ends_in_time medium.disk dwell block is_caught in
-      let begins = begins_later medium.disk block dwell.begin in
-      let order = ends_behind medium.disk block dwell.begin in
-      rw is_caught (ap₂ (λ row rows. row ∷ rows)
-      (delivery_same medium holding from to mirrors how block (block_begin medium.disk.map block dwell.begin) (block_end medium.disk.map block dwell.begin) (omega (arith, after, begins)) (omega (arith, before, ends, order)))
-      (caught_rows medium holding how dwell from to mirrors after before blocks))
-  | inr is_missed ↦ rw is_missed (caught_rows medium holding how dwell from to mirrors after before blocks)
-]
+caught_rows medium holding how dwell from to mirrors after before blocks = same_kept (catches medium.disk dwell) _ _
+    (λ block is_caught.
+    let ends = ends_in_time medium.disk dwell block is_caught in
+    let begins = begins_later medium.disk block dwell.begin in
+    let order = ends_behind medium.disk block dwell.begin in
+    delivery_same medium holding from to mirrors how block (block_begin medium.disk.map block dwell.begin) (block_end medium.disk.map block dwell.begin) (omega (arith, after, begins)) (omega (arith, before, ends, order)))
+    blocks
 
 pub caught_same : (medium : Medium) (holding : Holding) (how : How) (dwell : Dwell) (from to : ℕ) → Mirrors medium holding from to → from ≤ dwell.begin → dwell.end ≤ to → (blocks : List Block)
     → caught_in medium.disk holding how dwell blocks ≡ caught medium how dwell blocks
@@ -57,15 +55,13 @@ caught_same medium holding how dwell from to mirrors after before blocks = ap in
 -- what a dwell catches lies within it
 found_rows : (disk : Disk) (holding : Holding) (how : How) (dwell : Dwell) (from to : ℕ) → from ≤ dwell.begin → dwell.end ≤ to → (blocks : List Block)
     → AllByRecursion (IsFoundIn holding from to) (map (delivery_by disk holding how dwell) (filter (catches disk dwell) blocks))
-found_rows disk holding how dwell from to after before [] = tt
-found_rows disk holding how dwell from to after before (block ∷ blocks) = elim (cases_Bool (catches disk dwell block)) [
-  | inl is_caught ↦
-      let ends = ends_in_time disk dwell block is_caught in
-      let begins = begins_later disk block dwell.begin in
-      let order = ends_behind disk block dwell.begin in
-      rw is_caught (record { row = refl; begin = omega (arith, after, begins); order = order; end = omega (arith, before, ends) }, found_rows disk holding how dwell from to after before blocks)
-  | inr is_missed ↦ rw is_missed (found_rows disk holding how dwell from to after before blocks)
-]
+found_rows disk holding how dwell from to after before blocks = all_map (IsFoundIn holding from to) (delivery_by disk holding how dwell) _ (all_weaker _ _
+    (λ block is_caught.
+    let ends = ends_in_time disk dwell block is_caught in
+    let begins = begins_later disk block dwell.begin in
+    let order = ends_behind disk block dwell.begin in
+    record { row = refl; begin = omega (arith, after, begins); order = order; end = omega (arith, before, ends) })
+    _ (all_pass (catches disk dwell) blocks))
 
 pub caught_found : (disk : Disk) (holding : Holding) (how : How) (dwell : Dwell) (from to : ℕ) → from ≤ dwell.begin → dwell.end ≤ to → (blocks : List Block)
     → AllByRecursion (IsFoundIn holding from to) (caught_in disk holding how dwell blocks)
@@ -83,27 +79,25 @@ module _ (medium : Medium) (holding : Holding) (source : Track) (start : ℕ) (r
   abbrev served : Served
   served = service medium.disk source start request
 
+  -- the blocks that lie in it have sectors
+  lie_some : (blocks : List Block) → AllByRecursion (λ block. 0 < block.count) blocks → AllByRecursion (λ block. (lies_in request block ≡ true) × (0 < block.count)) (filter (lies_in request) blocks)
+  lie_some blocks some = all_both _ _ _ (all_pass (lies_in request) blocks) (all_filter (λ block. 0 < block.count) (lies_in request) blocks some)
+
   ride_rows : Mirrors medium holding start to → (blocks : List Block) → AllByRecursion (λ block. 0 < block.count) blocks
       → map (ride_row holding served) (filter (lies_in request) blocks)
       ≡ map (λ block. delivery medium ByRide block (begin_at served.passages block.lbn) (end_at served.passages (block.lbn + block.count - 1))) (filter (lies_in request) blocks)
-  ride_rows mirrors [] some = refl
-  ride_rows mirrors (block ∷ blocks) some = elim (cases_Bool (lies_in request block)) [
-    | inl lies ↦
-        let pass = block_passes medium.disk source start request block some.0 lies in
-        rw lies (ap₂ (λ row rows. row ∷ rows)
-        (delivery_same medium holding start to mirrors ByRide block (begin_at served.passages block.lbn) (end_at served.passages (block.lbn + block.count - 1)) pass.0 (omega (arith, pass.1, pass.2, ends)))
-        (ride_rows mirrors blocks some.1))
-    | inr other ↦ rw other (ride_rows mirrors blocks some.1)
-  ]
+  ride_rows mirrors blocks some = same_map_where (λ block. (lies_in request block ≡ true) × (0 < block.count)) _ _
+      (λ block h.
+      let pass = block_passes medium.disk source start request block h.1 h.0 in
+      delivery_same medium holding start to mirrors ByRide block (begin_at served.passages block.lbn) (end_at served.passages (block.lbn + block.count - 1)) pass.0 (omega (arith, pass.1, pass.2, ends)))
+      (filter (lies_in request) blocks) (lie_some blocks some)
 
   ride_found : (blocks : List Block) → AllByRecursion (λ block. 0 < block.count) blocks → AllByRecursion (IsFoundIn holding start to) (map (ride_row holding served) (filter (lies_in request) blocks))
-  ride_found [] some = tt
-  ride_found (block ∷ blocks) some = elim (cases_Bool (lies_in request block)) [
-    | inl lies ↦
-        let pass = block_passes medium.disk source start request block some.0 lies in
-        rw lies (record { row = refl; begin = pass.0; order = pass.1; end = omega (arith, pass.2, ends) }, ride_found blocks some.1)
-    | inr other ↦ rw other (ride_found blocks some.1)
-  ]
+  ride_found blocks some = all_map (IsFoundIn holding start to) (ride_row holding served) _ (all_weaker _ _
+      (λ block h.
+      let pass = block_passes medium.disk source start request block h.1 h.0 in
+      record { row = refl; begin = pass.0; order = pass.1; end = omega (arith, pass.2, ends) })
+      (filter (lies_in request) blocks) (lie_some blocks some))
 
 same_unless : {A : Type 0} {xs ys : List A} (b : Bool) → (b ≡ false → xs ≡ ys) → (if b then [] else xs) ≡ (if b then [] else ys)
 same_unless true same = refl
@@ -113,17 +107,6 @@ all_unless : {A : Type 0} (P : A → Type 0) (xs : List A) (b : Bool) → (b ≡
 all_unless P xs true all = tt
 all_unless P xs false all = all refl
 
-all_missed : (P : Block → Type 0) (disk : Disk) (dwell : Dwell) (blocks : List Block) → AllByRecursion P blocks → AllByRecursion P (missed disk dwell blocks)
-all_missed P disk dwell [] all = tt
-all_missed P disk dwell (block ∷ blocks) all = elim (cases_Bool (catches disk dwell block)) [
-  | inl is_caught ↦ rw is_caught (all_missed P disk dwell blocks all.1)
-  | inr is_missed ↦ rw is_missed (all.0, all_missed P disk dwell blocks all.1)
-]
-
-all_three : (P : DeliveryRow → Type 0) (xs ys zs : List DeliveryRow) → AllByRecursion P xs → AllByRecursion P ys → AllByRecursion P zs → AllByRecursion P (xs ++ ys ++ zs)
-all_three P [] [] zs a b c = c
-all_three P [] (y ∷ ys) zs a b c = (b.0, all_three P [] ys zs a b.1 c)
-all_three P (x ∷ xs) ys zs a b c = (a.0, all_three P xs ys zs a.1 b c)
 
 -- the dwells of a gap's plan lie in the gap
 pub record LieWithin (disk : Disk) (served : Served) (plan : Plan) : Type 0 where
@@ -148,7 +131,7 @@ due_same medium holding source start request plan to blocks some is_plan media_b
     let late = late_dwell medium.disk (gap_of medium.disk served) plan in
     let within = dwells_within medium.disk served plan is_plan in
     let left = missed medium.disk early blocks in
-    let some_left = all_missed (λ block. 0 < block.count) medium.disk late left (all_missed (λ block. 0 < block.count) medium.disk early blocks some) in
+    let some_left = all_filter (λ block. 0 < block.count) (λ block. not (catches medium.disk late block)) left (all_filter (λ block. 0 < block.count) (λ block. not (catches medium.disk early block)) blocks some) in
     ap₂ (λ xs ys. xs ++ ys)
     (ap₂ (λ xs ys. xs ++ ys)
     (caught_same medium holding ByGap early start to mirrors within.early_begin (omega (arith, within.early_end, media_by)) blocks)
@@ -166,8 +149,9 @@ due_found medium holding source start request plan to blocks some is_plan media_
     let late = late_dwell medium.disk (gap_of medium.disk served) plan in
     let within = dwells_within medium.disk served plan is_plan in
     let left = missed medium.disk early blocks in
-    let some_left = all_missed (λ block. 0 < block.count) medium.disk late left (all_missed (λ block. 0 < block.count) medium.disk early blocks some) in
-    all_three (IsFoundIn holding start to) (caught_in medium.disk holding ByGap early blocks) (caught_in medium.disk holding ByGap late left) (rides_in holding served (missed medium.disk late left))
+    let some_left = all_filter (λ block. 0 < block.count) (λ block. not (catches medium.disk late block)) left (all_filter (λ block. 0 < block.count) (λ block. not (catches medium.disk early block)) blocks some) in
+    all_append (IsFoundIn holding start to) _ (rides_in holding served (missed medium.disk late left))
+    (all_append (IsFoundIn holding start to) (caught_in medium.disk holding ByGap early blocks) (caught_in medium.disk holding ByGap late left)
     (caught_found medium.disk holding ByGap early start to within.early_begin (omega (arith, within.early_end, media_by)) blocks)
-    (caught_found medium.disk holding ByGap late start to within.late_begin (omega (arith, within.late_end, media_by)) left)
+    (caught_found medium.disk holding ByGap late start to within.late_begin (omega (arith, within.late_end, media_by)) left))
     (all_unless (IsFoundIn holding start to) _ request.write (λ reads. in_order-each (IsFoundIn holding start to) _ (ride_found medium holding source start request to (finish_by reads) (missed medium.disk late left) some_left)))

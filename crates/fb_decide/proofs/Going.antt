@@ -22,7 +22,7 @@ use Rattle.fb_model.specs.Decisions.{serves, idles, ends, instants_of, decisions
 use Rattle.fb_model.specs.History.{Past}
 use Rattle.fb_model.specs.Steps.{history, take_call, calls_due}
 use Rattle.fb_model.proofs.Instants.{IsAmong}
-use Rattle.fb_model.proofs.Lists.{all_append, all_left, all_right, all_map}
+use Rattle.fb_model.proofs.Lists.{all_append, all_left, all_right, all_map, is_by}
 use Rattle.fb_tasks.specs.Telling.{calls_of}
 use Rattle.fb_decide.specs.declared.background.Background.{Background}
 use Rattle.fb_decide.specs.declared.deciding.Course.{Course}
@@ -32,7 +32,6 @@ use Rattle.fb_decide.specs.Standing.{Mirrors}
 use Rattle.fb_decide.specs.Deciding.{next_of, stay_of, prepared, HasServedNext, HasStayed, HasActed, serves_pick, stays_on, stays_last, ends_here, HasPrepared, HasDecided}
 use Rattle.fb_decide.proofs.Readiness.{taken, taken_ready, start_waiting, ahead_of, plain_next, order_dropped}
 use Rattle.fb_decide.proofs.Readiness as readiness
-use Rattle.fb_decide.proofs.Passed.{written_after}
 use Rattle.fb_decide.specs.Making.{Step, Replayed, all_writes, fore_row_of, decided_in, HasRun, GoesOn, HasEnded, HasComeTo, AreKnown, decisions_by, decisions_left, rest_by, rest_of}
 use Rattle.fb_decide.proofs.Replayed.{row_made, replayed_more}
 use Rattle.fb_decide.proofs.Instants.{all_of_both}
@@ -42,6 +41,7 @@ use Rattle.fb_decide.proofs.Coming.{HasCome, to_come, among_instants, apart_inst
 use Rattle.fb_tasks.proofs.AllChoices.{by_all}
 use Rattle.fb_decide.proofs.Stepping.{HasStepped, stepped, serves_done, stays_done, ends_done, has_served, served_gots, stayed_gots}
 use Rattle.fb_decide.proofs.Running.{one_decided, run_more, called_more}
+use Rattle.fb_tasks.proofs.Lists.{all_pass, all_at}
 
 -- ---- the calls that have taken effect
 
@@ -61,11 +61,7 @@ all_dropped P (suc n) [] all = tt
 all_dropped P (suc n) (x ∷ xs) all = all_dropped P n xs all.1
 
 all_come : (now : ℕ) (calls : List Call) → AllByRecursion (λ c. c.instant ≤ now) (filter (λ call. nat_le call.instant now) calls)
-all_come now [] = tt
-all_come now (call ∷ calls) = elim (cases_Bool (nat_le call.instant now)) [
-  | inl kept ↦ rw kept ((let h : call.instant ≤ now = grind (arith, nat_tests) in h), all_come now calls)
-  | inr dropped ↦ rw dropped (all_come now calls)
-]
+all_come now calls = all_weaker _ _ (λ (c : Call) by. is_by c.instant now by) _ (all_pass (λ call. nat_le call.instant now) calls)
 
 -- ---- every instant is early
 
@@ -214,7 +210,7 @@ module _ (inputs : Inputs) (known : AreKnown inputs) (before : Course) (pending 
     unfolding medium_of
     row_is = row_made inputs.disk inputs.latent (served inputs) run.done rest later before.head before.now after.now request before.store run.replayed next
         (let h = now_served.later in omega (arith, h)) now_served.finished now_served.row now_served.is_row now_served.each
-        (written_after (length (others ++ ahead)) inputs.disk inputs.key after.head after.now (others ++ ahead))
+        (all_weaker _ _ (λ (w : Written) h. omega (arith, h)) _ (all_late (length (others ++ ahead)) inputs.disk known.takes_time inputs.key after.head after.now (others ++ ahead) others_on_disk))
 
     replayed : Replayed inputs.latent (served inputs) later after.now after.store (run.done ++ this ∷ [])
     replayed = replayed_more inputs.disk inputs.latent (served inputs) run.done rest later before.head before.now after.now request before.store run.replayed next

@@ -8,15 +8,14 @@ use Rattle.fb_units.specs.declared.types.Track.{Track}
 use Rattle.fb_units.specs.Rising.{IsRising}
 use Rattle.fb_model.specs.Decisions.{idles, among, idle_until}
 use Rattle.fb_model.proofs.Instants.{IsAmong, all_among, was_all_among}
+use Rattle.fb_tasks.proofs.Lists.{all_weaker, all_pass}
+use Rattle.fb_model.proofs.Lists.{is_by}
 
 -- ---- an instant comes among others
 
 itself_among : (xs : List ℕ) (t : ℕ) → IsAmong t (among xs t)
 itself_among [] t = inl refl
-itself_among (x ∷ xs) t = elim (cases_Bool (nat_le x t)) [
-  | inl first ↦ rw first (inr (itself_among xs t))
-  | inr later ↦ rw later (inl refl)
-]
+itself_among (x ∷ xs) t = grind (arith, itself_among xs t)
 
 -- ---- and so do many
 
@@ -33,19 +32,6 @@ one_of_second u (t ∷ ts) xs there = elim there [
 
 -- ---- some of them
 
-pub all_filtered : (P : ℕ → Type 0) (p : ℕ → Bool) (xs : List ℕ) → AllByRecursion P xs → AllByRecursion P (filter p xs)
-all_filtered P p [] all = tt
-all_filtered P p (x ∷ xs) all = elim (cases_Bool (p x)) [
-  | inl kept ↦ rw kept (all.0, all_filtered P p xs all.1)
-  | inr dropped ↦ rw dropped (all_filtered P p xs all.1)
-]
-
-pub rising_filtered : (p : ℕ → Bool) (xs : List ℕ) → IsRising xs → IsRising (filter p xs)
-rising_filtered p [] rising = tt
-rising_filtered p (x ∷ xs) rising = elim (cases_Bool (p x)) [
-  | inl kept ↦ rw kept (all_filtered (λ later. x ≤ later) p xs rising.0, rising_filtered p xs rising.1)
-  | inr dropped ↦ rw dropped (rising_filtered p xs rising.1)
-]
 
 pub one_filtered : (p : ℕ → Bool) (t : ℕ) (xs : List ℕ) → p t ≡ true → IsAmong t xs → IsAmong t (filter p xs)
 one_filtered p t [] h there = absurd there
@@ -58,11 +44,7 @@ one_filtered p t (x ∷ xs) h there = elim (cases_Bool (p x)) [
 ]
 
 pub filtered_below : (t : ℕ) (xs : List ℕ) → AllByRecursion (λ x. x ≤ t) (filter (λ x. nat_le x t) xs)
-filtered_below t [] = tt
-filtered_below t (x ∷ xs) = elim (cases_Bool (nat_le x t)) [
-  | inl kept ↦ rw kept ((let h : x ≤ t = grind (arith, nat_tests) in h), filtered_below t xs)
-  | inr dropped ↦ rw dropped (filtered_below t xs)
-]
+filtered_below t xs = all_weaker _ _ (λ x by. is_by x t by) _ (all_pass (λ x. nat_le x t) xs)
 
 -- ---- idle dwells
 
@@ -103,11 +85,11 @@ idle_next head now t (x ∷ xs) less rising there apart = elim apart.0 [
 
 -- ---- the last instant
 
-fold_max : (a : ℕ) (xs : List ℕ) → fold max a xs ≡ max a (fold max 0 xs)
+pub fold_max : (a : ℕ) (xs : List ℕ) → fold max a xs ≡ max a (fold max 0 xs)
 fold_max a [] = omega arith
 fold_max a (x ∷ xs) = omega (arith, fold_max (max a x) xs, fold_max (max 0 x) xs)
 
-most_among : (t : ℕ) (xs : List ℕ) → IsAmong t xs → t ≤ fold max 0 xs
+pub most_among : (t : ℕ) (xs : List ℕ) → IsAmong t xs → t ≤ fold max 0 xs
 most_among t [] there = absurd there
 most_among t (x ∷ xs) there = elim there [
   | inl here ↦ omega (arith, here, fold_max (max 0 x) xs)
@@ -121,3 +103,8 @@ last_after now t xs before there = omega (arith, before, fold_max now xs, fold_m
 pub last_passed : (now : ℕ) (xs : List ℕ) → AllByRecursion (λ x. x ≤ now) xs → fold max now xs ≡ now
 last_passed now [] all = refl
 last_passed now (x ∷ xs) all = let same : max now x ≡ now = omega (arith, all.0) in ap (λ a. fold max a xs) same ∙ last_passed now xs all.1
+
+-- none is later than the latest of these and another
+pub most_below : (t now : ℕ) (xs : List ℕ) → AllByRecursion (λ x. x ≤ t) xs → fold max now xs ≤ max now t
+most_below t now [] all = omega arith
+most_below t now (x ∷ xs) all = omega (arith, all.0, most_below t (max now x) xs all.1)

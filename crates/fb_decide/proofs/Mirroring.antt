@@ -26,9 +26,12 @@ use Rattle.fb_model.proofs.Lists.{all_both, all_append, all_map}
 use Rattle.fb_model.proofs.ContentsUpTo.{is_of_by}
 use Rattle.fb_decide.specs.Deciding.{PassagesTakeTime}
 use Rattle.fb_decide.specs.Standing.{Mirrors}
-use Rattle.fb_decide.proofs.Passed.{start_after}
 use Rattle.fb_decide.specs.Making.{Replayed, all_writes, held_after}
-use Rattle.fb_decide.proofs.Replayed.{medium_by, ended_by, not_yet}
+use Rattle.fb_decide.proofs.Replayed.{medium_by, content_then}
+use Rattle.fb_model.proofs.Replays.{start_from as start_after}
+use Rattle.fb_model.proofs.Picks.{ready_pick}
+use Rattle.fb_model.specs.Laws.{IsReadyPickOf}
+use Rattle.fb_decide.proofs.Chain.{pick_meets}
 
 -- ---- passages take time
 
@@ -59,25 +62,13 @@ abbrev pub PicksOf : (Request → Type 0) → Option (Request × List Request) �
 PicksOf P None = Unit {0}
 PicksOf P (Some best) = P best.0 × AllByRecursion P best.1
 
-picks_better : (P : Request → Type 0) (key : Request → ℕ) (r : Request) (rs : List Request) (best : Option (Request × List Request)) → P r → AllByRecursion P rs → PicksOf P best → PicksOf P (better key r rs best)
-picks_better P key r rs None h all picks = (h, all)
-picks_better P key r rs (Some best) h all picks = chosen (nat_le (key r) (key best.0))
-  where
-    chosen : (b : Bool) → PicksOf P (if b then Some (r, rs) else Some (best.0, r ∷ best.1))
-    chosen true = (h, all)
-    chosen false = (picks.0, (h, picks.1))
-
-picks_kept : (P : Request → Type 0) (r : Request) (best : Option (Request × List Request)) → P r → PicksOf P best → PicksOf P (kept r best)
-picks_kept P r None h picks = tt
-picks_kept P r (Some best) h picks = (picks.0, (h, picks.1))
-
-picks_with : (P : Request → Type 0) (b : Bool) (key : Request → ℕ) (r : Request) (rs : List Request) (best : Option (Request × List Request)) → P r → AllByRecursion P rs → PicksOf P best → PicksOf P (pick_with b key r rs best)
-picks_with P true key r rs best h all picks = picks_better P key r rs best h all picks
-picks_with P false key r rs best h all picks = picks_kept P r best h picks
 
 picks_ready : (P : Request → Type 0) (key : Request → ℕ) (now : ℕ) (rs : List Request) → AllByRecursion P rs → PicksOf P (first_ready key now rs)
-picks_ready P key now [] all = tt
-picks_ready P key now (r ∷ rs) all = picks_with P (has_arrived now r) key r rs (first_ready key now rs) all.0 all.1 (picks_ready P key now rs all.1)
+picks_ready P key now rs all = of (first_ready key now rs) (ready_pick key now rs)
+  where
+    of : (pick : Option (Request × List Request)) → IsReadyPickOf key now rs pick → PicksOf P pick
+    of None m = tt
+    of (Some best) m = pick_meets P key now rs best.1 best.0 m all
 
 -- ---- what is served later is written later
 
@@ -103,16 +94,6 @@ all_late (suc n) disk long key head now left on_disk = late_pick n disk long key
 
 -- ---- and until then the disk holds what it holds
 
-content_then : (disk : Disk) (latent : List ℕ) (done rest : List Served) (now lbn t : ℕ)
-    → AllByRecursion (λ (w : Written). w.passage.end ≤ now) (all_writes done) → now ≤ t → AllByRecursion (λ (w : Written). t < w.passage.end) (all_writes rest)
-    → content (medium_by disk latent (done ++ rest)) lbn t ≡ held_after latent done lbn
-content_then disk latent done rest now lbn t before since after =
-    ap (λ ws. content_by (last_or None (filter (is_of_by lbn t) ws)) (unwritten latent lbn)) (flat_map-append writes_of done rest)
-    ∙ ap (λ ws. content_by (last_or None ws) (unwritten latent lbn))
-    (filter-append (is_of_by lbn t) (all_writes done) (all_writes rest)
-    ∙ ap (λ ws. filter (is_of_by lbn t) (all_writes done) ++ ws) (not_yet lbn t (all_writes rest) after)
-    ∙ append-nil (filter (is_of_by lbn t) (all_writes done))
-    ∙ ended_by lbn t (all_writes done) (all_weaker _ _ (λ (w : Written) h. omega (arith, h, since)) _ before))
 
 mirrors_by : (disk : Disk) (latent : List ℕ) (whole done rest : List Served) (now to : ℕ) (holding : Holding)
     → Replayed latent whole rest now holding done → AllByRecursion (λ (w : Written). to < w.passage.end) (all_writes rest) → Mirrors (medium_by disk latent whole) holding now to

@@ -21,23 +21,11 @@ use Rattle.fb_model.specs.Content.{Written, writes_of, number_of, content_by}
 use Rattle.fb_model.proofs.Passages.{passed_between, written_by}
 use Rattle.fb_model.proofs.Lists.{all_append, all_map}
 
-not_come : (now : ℕ) (request : Request) (left : List Request) → list_any (has_arrived now) (request ∷ left) ≡ false → now ≤ request.arrival
-not_come now request left none = elim (cases_lt now request.arrival) [
-  | inl late ↦ omega arith
-  | inr come ↦ absurd (let has : has_arrived now request ≡ true = grind (arith, nat_tests) in let wrong : true ≡ false = rw has at none in cc)
-]
 
 all_ends : (disk : Disk) (source : Track) (now : ℕ) (write : Bool) (lbn n : ℕ)
     → AllByRecursion (λ (p : Passage). (now ≤ p.end) × (p.end ≤ finish_of now (passages disk source now write lbn n))) (passages disk source now write lbn n)
 all_ends disk source now write lbn n = all_weaker _ _ (λ p h. (omega (arith, h.0, h.1), h.2)) _ (passed_between disk source now write lbn n).1
 
--- a request starts no earlier than the one before it ended
-pub start_after : (now : ℕ) (left : List Request) → now ≤ start_of now left
-start_after now [] = omega arith
-start_after now (request ∷ left) = elim (cases_Bool (list_any (has_arrived now) (request ∷ left))) [
-  | inl come ↦ rw come (omega arith)
-  | inr none ↦ rw none (let late = not_come now request left none in omega arith)
-]
 
 -- what is written by a service ends between its start and its finish
 pub written_between : (disk : Disk) (head : Track) (start : ℕ) (request : Request)
@@ -48,27 +36,6 @@ written_between disk head start request = elim (cases_Bool request.write) [
   | inr reads ↦ rw reads tt
 ]
 
-after_pick : (n : ℕ) (disk : Disk) (key : Key) (head : Track) (now start : ℕ) → now ≤ start → (pick : Option (Request × List Request))
-    → ((head : Track) (now : ℕ) (left : List Request) → AllByRecursion (λ (w : Written). now ≤ w.passage.end) (flat_map writes_of (plain n disk key head now left)))
-    → AllByRecursion (λ (w : Written). now ≤ w.passage.end) (flat_map writes_of (unwrap_or (option_map (λ pick.
-    let served = service disk head start pick.0 in
-    served ∷ plain n disk key (last_track disk served) (finish served) pick.1) pick) []))
-after_pick n disk key head now start late None later = tt
-after_pick n disk key head now start late (Some pick) later =
-    let served = service disk head start pick.0 in
-    let own = written_between disk head start pick.0 in
-    let ends = passed_between disk head start pick.0.write pick.0.lbn pick.0.count in
-    all_append _ (writes_of served) (flat_map writes_of (plain n disk key (last_track disk served) (finish served) pick.1))
-    (all_weaker _ _ (λ w h. omega (arith, h.0)) (writes_of served) own)
-    (all_weaker _ _ (λ w h. omega (arith, ends.0)) _ (later (last_track disk served) (finish served) pick.1))
-
--- what is served later is written later
-pub written_after : (n : ℕ) (disk : Disk) (key : Key) (head : Track) (now : ℕ) (left : List Request)
-    → AllByRecursion (λ (w : Written). now ≤ w.passage.end) (flat_map writes_of (plain n disk key head now left))
-unfolding plain
-written_after zero disk key head now left = tt
-written_after (suc n) disk key head now left = after_pick n disk key head now (start_of now left) (start_after now left) (first_ready (key disk head (start_of now left)) (start_of now left) left)
-    (written_after n disk key)
 
 -- the sector is not the one: the number that the write leaves elsewhere doesn't count
 pub last_joined : {X : Type 0} (o : Option X) (xs ys : List X) → last_or o (xs ++ ys) ≡ last_or (last_or o xs) ys

@@ -1,5 +1,5 @@
 -- Deliveries in their order are those of the catches in their order; none is lost, and none is added.
-use Rattle.std.proofs.Common.{◌≡◌, suc, ◌||◌, not, List, [], ◌∷◌, Bool, true, false, filter, map, inl, inr, refl, ap, sym, ◌∙◌, subst}
+use Rattle.std.proofs.Common.{◌≡◌, suc, ◌||◌, not, List, [], ◌∷◌, Bool, true, false, filter, map, inl, inr, refl, ap, sym, ◌∙◌, subst, arith}
 use Rattle.std.specs.List.{AllByRecursion, list_any, fold}
 use Rattle.std.proofs.lemmas.Bool.{cases_Bool}
 use Rattle.fb_wanted.specs.declared.block.Block.{Block}
@@ -53,10 +53,7 @@ rows-caught disk holding how dwell bs = rows-in_order holding how (map (catch_of
 -- what holds of each row holds of each in order
 placed-all : (P : DeliveryRow → Type 0) (rows : List DeliveryRow) (row : DeliveryRow) → P row → AllByRecursion P rows → AllByRecursion P (placed rows row)
 placed-all P [] row p all = (p, tt)
-placed-all P (x ∷ xs) row p all = elim (cases_Bool (goes_before row x)) [
-  | inl front ↦ rw front (p, all)
-  | inr behind ↦ rw behind (all.0, placed-all P xs row p all.1)
-]
+placed-all P (x ∷ xs) row p all = grind (arith, p, all, placed-all P xs row p all.1)
 
 placed-each : (P : DeliveryRow → Type 0) (acc rows : List DeliveryRow) → AllByRecursion P acc → AllByRecursion P rows → AllByRecursion P (fold placed acc rows)
 placed-each P acc [] a r = a
@@ -119,27 +116,16 @@ due-filtered past p f own distinct = record {
   distinct = in_order-distinct (map f (filter p (wanted past))) (apart_by f own (filter p (wanted past)) (filter-distinct p (wanted past) distinct));
 }
 
--- those that are not among them are left
-or_turned : (a b c : Bool) → (a || (b || c)) ≡ (b || (a || c))
-or_turned true true c = refl
-or_turned true false c = refl
-or_turned false b c = refl
 
 any-placed : (p : DeliveryRow → Bool) (rows : List DeliveryRow) (row : DeliveryRow) → list_any p (placed rows row) ≡ (p row || list_any p rows)
 any-placed p [] row = refl
-any-placed p (x ∷ xs) row = elim (cases_Bool (goes_before row x)) [
-  | inl front ↦ rw front refl
-  | inr behind ↦ rw behind (ap (λ b. p x || b) (any-placed p xs row) ∙ or_turned (p x) (p row) (list_any p xs))
-]
+any-placed p (x ∷ xs) row = grind (arith, any-placed p xs row)
 
 or_moved : (a b c : Bool) → ((a || b) || c) ≡ (b || (a || c))
-or_moved true true c = refl
-or_moved true false c = refl
-or_moved false b c = refl
+or_moved a b c = grind arith
 
 or_false : (a : Bool) → (a || false) ≡ a
-or_false true = refl
-or_false false = refl
+or_false a = grind arith
 
 any-fold : (p : DeliveryRow → Bool) (acc rows : List DeliveryRow) → list_any p (fold placed acc rows) ≡ (list_any p acc || list_any p rows)
 any-fold p acc [] = sym (or_false (list_any p acc))
@@ -151,10 +137,7 @@ any_by f own block (b ∷ bs) = rw (own b, any_by f own block bs) refl
 
 none_same : (p : Block → Bool) (x : Block) (xs : List Block) → AllByRecursion (λ y. same_block x y ≡ false) xs → list_any (λ y. same_block y x) (filter p xs) ≡ false
 none_same p x [] h = refl
-none_same p x (y ∷ ys) h = elim (cases_Bool (p y)) [
-  | inl pass ↦ let other = either_way x y h.0 in rw pass (rw other (none_same p x ys h.1))
-  | inr fail ↦ rw fail (none_same p x ys h.1)
-]
+none_same p x (y ∷ ys) h = grind (arith, either_way x y h.0, none_same p x ys h.1)
 
 passes : (p : Block → Bool) (xs : List Block) → AreDistinct xs → AllByRecursion (λ x. list_any (λ y. same_block y x) (filter p xs) ≡ p x) xs
 passes p [] h = tt

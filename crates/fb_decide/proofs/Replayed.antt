@@ -39,39 +39,37 @@ abbrev is_of : ℕ → Written → Bool
 is_of lbn write = write.passage.lbn == lbn
 
 -- writes that ended by then are those of the sector
-pub ended_by : (lbn t : ℕ) (writes : List Written) → AllByRecursion (λ (w : Written). w.passage.end ≤ t) writes → filter (is_of_by lbn t) writes ≡ filter (is_of lbn) writes
+ended_by : (lbn t : ℕ) (writes : List Written) → AllByRecursion (λ (w : Written). w.passage.end ≤ t) writes → filter (is_of_by lbn t) writes ≡ filter (is_of lbn) writes
 ended_by lbn t [] all = refl
-ended_by lbn t (w ∷ writes) all =
-    let ends : nat_le w.passage.end t ≡ true = let h = all.0 in grind (arith, nat_tests) in
-    elim (cases_Bool (w.passage.lbn == lbn)) [
-      | inl same ↦ rw (same, ends) (ap (λ ws. w ∷ ws) (ended_by lbn t writes all.1))
-      | inr other ↦ rw other (ended_by lbn t writes all.1)
-    ]
+ended_by lbn t (w ∷ writes) all = grind (arith, nat_tests, all.0, ended_by lbn t writes all.1)
 
 -- and those that end later don't count
-pub not_yet : (lbn t : ℕ) (writes : List Written) → AllByRecursion (λ (w : Written). t < w.passage.end) writes → filter (is_of_by lbn t) writes ≡ []
+not_yet : (lbn t : ℕ) (writes : List Written) → AllByRecursion (λ (w : Written). t < w.passage.end) writes → filter (is_of_by lbn t) writes ≡ []
 not_yet lbn t [] all = refl
-not_yet lbn t (w ∷ writes) all =
-    let late : nat_le w.passage.end t ≡ false = let h = all.0 in grind (arith, nat_tests) in
-    elim (cases_Bool (w.passage.lbn == lbn)) [
-      | inl same ↦ rw (same, late) (not_yet lbn t writes all.1)
-      | inr other ↦ rw other (not_yet lbn t writes all.1)
-    ]
+not_yet lbn t (w ∷ writes) all = grind (arith, nat_tests, all.0, not_yet lbn t writes all.1)
 
 no_writes : (served : Served) → served.request.write ≡ false → writes_of served ≡ []
 no_writes served reads = rw reads refl
 
--- at an instant of a read's service a sector holds what it held when the read began
+-- what those services left, until one of the later writes ends
+pub content_then : (disk : Disk) (latent : List ℕ) (done rest : List Served) (now lbn t : ℕ)
+    → AllByRecursion (λ (w : Written). w.passage.end ≤ now) (all_writes done) → now ≤ t → AllByRecursion (λ (w : Written). t < w.passage.end) (all_writes rest)
+    → content (medium_by disk latent (done ++ rest)) lbn t ≡ held_after latent done lbn
+content_then disk latent done rest now lbn t before since after =
+    ap (λ ws. content_by (last_or None (filter (is_of_by lbn t) ws)) (unwritten latent lbn)) (flat_map-append writes_of done rest)
+    ∙ ap (λ ws. content_by (last_or None ws) (unwritten latent lbn))
+    (filter-append (is_of_by lbn t) (all_writes done) (all_writes rest)
+    ∙ ap (λ ws. filter (is_of_by lbn t) (all_writes done) ++ ws) (not_yet lbn t (all_writes rest) after)
+    ∙ append-nil (filter (is_of_by lbn t) (all_writes done))
+    ∙ ended_by lbn t (all_writes done) (all_weaker _ _ (λ (w : Written) h. omega (arith, h, since)) _ before))
+
+-- a read writes nothing, so at an instant of its service a sector holds what it held when the read began
 content_now : (disk : Disk) (latent : List ℕ) (done later : List Served) (read : Served) (now lbn t : ℕ) → read.request.write ≡ false
     → AllByRecursion (λ (w : Written). w.passage.end ≤ now) (all_writes done) → now ≤ t → AllByRecursion (λ (w : Written). t < w.passage.end) (all_writes later)
     → content (medium_by disk latent (done ++ read ∷ later)) lbn t ≡ held_after latent done lbn
-content_now disk latent done later read now lbn t reads before since after =
-    ap (λ ws. content_by (last_or None (filter (is_of_by lbn t) ws)) (unwritten latent lbn)) (flat_map-append writes_of done (read ∷ later) ∙ ap (λ ws. all_writes done ++ (ws ++ all_writes later)) (no_writes read reads))
-    ∙ ap (λ ws. content_by (last_or None ws) (unwritten latent lbn))
-    (filter-append (is_of_by lbn t) (all_writes done) (all_writes later)
-    ∙ ap (λ ws. filter (is_of_by lbn t) (all_writes done) ++ ws) (not_yet lbn t (all_writes later) after)
-    ∙ append-nil (filter (is_of_by lbn t) (all_writes done))
-    ∙ ended_by lbn t (all_writes done) (all_weaker _ _ (λ w h. omega arith) _ before))
+content_now disk latent done later read now lbn t reads before since after = content_then disk latent done (read ∷ later) now lbn t before since
+    (subst (λ ws. AllByRecursion (λ (w : Written). t < w.passage.end) (ws ++ all_writes later)) (sym (no_writes read reads)) after)
+
 
 -- the contents of passages, where each is that of its sector
 abbrev at_passage : (ℕ → ℕ → Content) → Passage → ℕ × Content

@@ -4,7 +4,7 @@ use Rattle.std.specs.Option.{option_or}
 use Rattle.std.specs.List.{range_with_len}
 use Rattle.std.proofs.lemmas.Bool.{cases_Bool}
 use Rattle.std.proofs.lemmas.Bool.Decides.{nat_tests}
-use Rattle.std.proofs.lemmas.List.{drop_more}
+use Rattle.std.proofs.lemmas.List.{drop_more, drop_all}
 use Rattle.std.proofs.lemmas.List.Folds.{find-append}
 use Rattle.fb_geometry.specs.Shape.{Shape}
 use Rattle.fb_service.specs.declared.passage.Passage.{Passage}
@@ -71,7 +71,4 @@ pub it_is_behind : (disk : Shape) (extents : List Extent) (i : ℕ) (d : Extent)
 it_is_behind disk extents i d lbn within above = next_extent disk extents i d lbn within ∙ ap (λ o. option_or o (passing lbn (all_passages_of disk (drop (i + 1) extents)))) (behind_extent disk (get_or extents i d) lbn above)
 
 pub it_is_nowhere : (disk : Shape) (extents : List Extent) (n lbn : ℕ) → length extents ≤ n → passing lbn (all_passages_of disk (drop n extents)) ≡ None
-it_is_nowhere disk [] zero lbn within = refl
-it_is_nowhere disk [] (suc n) lbn within = refl
-it_is_nowhere disk (e ∷ es) zero lbn within = absurd (omega arith)
-it_is_nowhere disk (e ∷ es) (suc n) lbn within = it_is_nowhere disk es n lbn (omega arith)
+it_is_nowhere disk extents n lbn within = ap (λ es. passing lbn (all_passages_of disk es)) (drop_all n extents within)

@@ -71,10 +71,10 @@ pub both_kinds : (f : Block → Catch) → ((b : Block) → (f b).block ≡ b) �
 both_kinds f its p q never [] apart os = refl
 both_kinds f its p q never (b ∷ blocks) apart os = elim (cases_Bool (p b)) [
   | inl is_p ↦ let not_q = never b is_p in rw (is_p, not_q) (both_kinds f its p q never blocks apart.1 (place_in os (f b)))
-  | inr not_p ↦ elim (cases_Bool (q b)) [
-    | inl is_q ↦ rw (not_p, is_q)
-        (ap (λ xs. fold place_in xs (map f (filter q blocks))) (sym (moved os (f b) (map f (filter p blocks)) (filtered_apart f its p b blocks apart.0)))
-        ∙ both_kinds f its p q never blocks apart.1 (place_in os (f b)))
-    | inr not_q ↦ rw (not_p, not_q) (both_kinds f its p q never blocks apart.1 os)
-  ]
+  | inr not_p ↦ grind (
+    arith,
+    moved os (f b) (map f (filter p blocks)) (filtered_apart f its p b blocks apart.0),
+    both_kinds f its p q never blocks apart.1 (place_in os (f b)),
+    both_kinds f its p q never blocks apart.1 os,
+  )
 ]

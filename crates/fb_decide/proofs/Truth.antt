@@ -25,7 +25,7 @@ use Rattle.fb_decide.specs.Calls.{settled_by, settling_rows, past_settled}
 use Rattle.fb_decide.specs.Contents.{left_by}
 use Rattle.fb_decide.specs.Deliveries.{IsRegistered, followed, past_with}
 use Rattle.fb_decide.specs.Standing.{Mirrors, IsFoundIn, IsTrue}
-use Rattle.fb_tasks.proofs.Lists.{all_weaker, map_same}
+use Rattle.fb_tasks.proofs.Lists.{all_weaker, map_same, all_range}
 use Rattle.fb_decide.proofs.RegisteredBlocks.{AreOpened, AreOwn, AreDistinct, there_before, still_there, distinct-kept, opened-kept}
 use Rattle.fb_decide.proofs.DiskRows.{mirrored, rows-true}
 use Rattle.fb_decide.proofs.StillTrue.{if_delivered, still-true, still-then, settled-still, tested-still}
@@ -124,9 +124,6 @@ module _ (medium : Medium) (holding : Holding) (from to : ℕ) (mirrors : Mirror
 apart : (lbn first n : ℕ) (block : Block) → shares first n block ≡ false → block.lbn ≤ lbn → lbn < block.lbn + block.count → is_within first n lbn ≡ false
 apart lbn first n block none from before = grind (arith, nat_tests)
 
-in_range : (P : ℕ → Type 0) (a n : ℕ) → ((k : ℕ) → a ≤ k → k < a + n → P k) → AllByRecursion P (range_with_len a n)
-in_range P a zero h = tt
-in_range P a (suc n) h = (h a (omega arith) (omega arith), in_range P (a + 1) n (λ k from before. h k (omega (arith, from)) (omega (arith, before))))
 
 -- a request that wrote nothing into the block's sectors
 not_rewanted : (write shared done free : Bool) → done ≡ true → free ≡ true → (((write && shared) && done) && free) ≡ false → (write ≡ false) ⊎ (shared ≡ false)
@@ -160,5 +157,5 @@ module _ (medium : Medium) (holding left : Holding) (past : Past) (request : Req
         let spared = not_rewanted request.write (shares request.lbn request.count block) (is_delivered (bare_state past block)) (is_open_backup past block.task) was.1 is_open was.0 in
         finished_content block ∙ (before.kept block (there_before past (finished request) block refl known) was.1 is_open
         ∙ ap runs_of (map_same (λ lbn. (lbn, content_in holding lbn)) (λ lbn. (lbn, content_in left lbn)) (range_with_len block.lbn block.count)
-        (in_range (λ lbn. ◌≡◌ {A = ℕ × Content} (lbn, content_in holding lbn) (lbn, content_in left lbn)) block.lbn block.count (λ lbn from end. ap (λ c. (lbn, c)) (left_in block spared lbn from end)))));
+        (all_range (λ lbn. ◌≡◌ {A = ℕ × Content} (lbn, content_in holding lbn) (lbn, content_in left lbn)) block.lbn block.count (λ lbn from end. ap (λ c. (lbn, c)) (left_in block spared lbn from end)))));
   }
