@@ -2,7 +2,7 @@
 use Rattle.std.proofs.Common.{◌≡◌, ℕ, zero, suc, ◌+◌, ◌-◌, ◌≤◌, ◌<◌, List, [], ◌∷◌, ◌++◌, length, take, take_all, drop, get_or, map, true, false, refl, sym, ap, ◌∙◌, arith, subst, append_assoc}
 use Rattle.std.specs.Prelude.{slice_get, IfSome, nat_le}
 use Rattle.std.specs.List.{AllByRecursion, fold}
-use Rattle.std.proofs.lemmas.List.{drop_more, length-drop}
+use Rattle.std.proofs.lemmas.List.{drop_more, drop_all, length-drop}
 use Rattle.std.proofs.lemmas.Bool.Decides.{nat_tests}
 use Rattle.fb_units.specs.declared.types.Request.{Request}
 use Rattle.fb_units.specs.Rising.{IsRising}
@@ -11,6 +11,7 @@ use Rattle.fb_calls.specs.declared.call.Action.{Action}
 use Rattle.fb_calls.specs.declared.call.Action.TheVariants.{Open, Want, Abort, Promote, Suspend, Resume, Close, Segment}
 use Rattle.fb_calls.specs.Promoted.{read_of, promoted_from, promoted}
 use Rattle.fb_model.specs.Foreground.{behind}
+use Rattle.fb_tasks.proofs.Lists.{all_weaker, all_any, all_append}
 
 -- a read goes behind all of these
 pub passed_by : (early later : List Request) (read : Request) → AllByRecursion (λ r. r.arrival ≤ read.arrival) early → behind (early ++ later) read ≡ early ++ behind later read
@@ -26,17 +27,7 @@ stops_before (r ∷ later) read h =
     let late : nat_le r.arrival read.arrival ≡ false = grind (arith, nat_tests) in
     rw late refl
 
--- instants that are at least this one
-abbrev pub IsFrom : ℕ → List Request → Type 0
-IsFrom now reads = AllByRecursion (λ (r : Request). now ≤ r.arrival) reads
 
-pub weaker : (a b : ℕ) → a ≤ b → (rs : List Request) → AllByRecursion (λ (r : Request). r.arrival ≤ a) rs → AllByRecursion (λ (r : Request). r.arrival ≤ b) rs
-weaker a b le [] all = tt
-weaker a b le (r ∷ rs) all = (omega (arith, all.0), weaker a b le rs all.1)
-
-pub joined_all : (P : Request → Type 0) (xs ys : List Request) → AllByRecursion P xs → AllByRecursion P ys → AllByRecursion P (xs ++ ys)
-joined_all P [] ys a b = b
-joined_all P (x ∷ xs) ys a b = (a.0, joined_all P xs ys a.1 b)
 
 -- the reads of calls, whose instants don't fall
 abbrev pub RiseFrom : ℕ → List Request → Type 0
@@ -65,12 +56,9 @@ reads_from now n (call ∷ calls) all rising = by_action (λ m. reads_from call.
     by_action rest Close e = rise_less now call.instant all.0 _ (rest (n + 0))
     by_action rest (Segment first blocks age live) e = rise_less now call.instant all.0 _ (rest (n + 0))
 
-all_zero : (calls : List Call) → AllByRecursion (λ (c : Call). 0 ≤ c.instant) calls
-all_zero [] = tt
-all_zero (c ∷ calls) = (omega arith, all_zero calls)
 
 pub reads_rise : (calls : List Call) → IsRising (map (λ (c : Call). c.instant) calls) → RiseFrom 0 (promoted calls)
-reads_rise calls rising = reads_from 0 1 calls (all_zero calls) rising
+reads_rise calls rising = reads_from 0 1 calls (all_any _ (λ c. omega arith) calls) rising
 
 -- the list so far, in which all have arrived by this instant, and the trace's requests to come: the next reads go behind it
 pub record HasPlaced (whole reads requests trace : List Request) (i next now : ℕ) : Type 0 where
@@ -79,33 +67,12 @@ pub record HasPlaced (whole reads requests trace : List Request) (i next now : �
   pub come : AllByRecursion (λ (r : Request). r.arrival ≤ now) requests
   pub rise : RiseFrom now (drop i reads)
 
-pub placed_more : (whole reads requests trace requests' : List Request) (i next next' now : ℕ) (d : Request) → i < length reads → HasPlaced whole reads requests trace i next now
-    → requests' ++ drop next' trace ≡ requests ++ drop next trace → next' ≤ length trace → AllByRecursion (λ (r : Request). r.arrival ≤ (get_or reads i d).arrival) requests'
-    → IfSome (slice_get trace next') (λ r. (get_or reads i d).arrival < r.arrival)
-    → drop i reads ≡ get_or reads i d ∷ drop (i + 1) reads → slice_get trace next' ≡ slice_get (drop next' trace) 0
-    → HasPlaced whole reads (requests' ++ get_or reads i d ∷ []) trace (i + 1) next' (get_or reads i d).arrival
-placed_more whole reads requests trace requests' i next next' now d less placed same within come ahead split at =
-    let read = get_or reads i d in
-    let step : behind (requests ++ drop next trace) read ≡ (requests' ++ read ∷ []) ++ drop next' trace =
-    ap (λ rs. behind rs read) (sym same) ∙ passed_by requests' (drop next' trace) read come
-    ∙ ap (λ rs. requests' ++ rs) (stops_before (drop next' trace) read (subst (λ o. IfSome o (λ r. read.arrival < r.arrival)) at ahead))
-    ∙ sym (append_assoc requests' (read ∷ []) (drop next' trace)) in
-    let rise : RiseFrom now (read ∷ drop (i + 1) reads) = subst (RiseFrom now) split placed.rise in
-    record {
-      within = within;
-      same = ap (λ rs. fold behind rs (drop (i + 1) reads)) (sym step) ∙ ap (fold behind (requests ++ drop next trace)) (sym split) ∙ placed.same;
-      come = joined_all (λ (r : Request). r.arrival ≤ read.arrival) requests' (read ∷ []) come (omega arith, tt);
-      rise = rise.1;
-    }
-
 pub placed_first : (trace : List Request) (calls : List Call) (reads requests : List Request) → reads ≡ promoted calls → requests ≡ [] → IsRising (map (λ (c : Call). c.instant) calls)
     → HasPlaced (fold behind trace reads) reads requests trace 0 0 0
 placed_first trace calls reads requests r e rising = subst (λ rs. HasPlaced (fold behind trace rs) rs requests trace 0 0 0) (sym r)
     (subst (λ qs. HasPlaced (fold behind trace (promoted calls)) (promoted calls) qs trace 0 0 0) (sym e)
     (record { within = omega arith; same = refl; come = tt; rise = reads_rise calls rising }))
 
-split_at : (reads : List Request) (i : ℕ) (d : Request) → i < length reads → drop i reads ≡ get_or reads i d ∷ drop (i + 1) reads
-split_at reads i d less = drop_more reads i d less
 
 first_of : (trace : List Request) (n : ℕ) → slice_get trace n ≡ slice_get (drop n trace) 0
 first_of [] zero = refl
@@ -116,16 +83,27 @@ first_of (r ∷ rs) (suc n) = first_of rs n
 pub placed_come : (whole reads requests trace : List Request) (i next now : ℕ) (d : Request) → i < length reads → HasPlaced whole reads requests trace i next now
     → AllByRecursion (λ (r : Request). r.arrival ≤ (get_or reads i d).arrival) requests
 placed_come whole reads requests trace i next now d less placed =
-    let rise : RiseFrom now (get_or reads i d ∷ drop (i + 1) reads) = subst (RiseFrom now) (split_at reads i d less) placed.rise in
-    weaker now (get_or reads i d).arrival rise.0 requests placed.come
+    let rise : RiseFrom now (get_or reads i d ∷ drop (i + 1) reads) = subst (RiseFrom now) (drop_more reads i d less) placed.rise in
+    all_weaker (λ (r : Request). r.arrival ≤ now) (λ r. r.arrival ≤ (get_or reads i d).arrival) (λ r h. omega (arith, h, rise.0)) requests placed.come
 
 pub placed_next : (whole reads requests trace requests' requests'' : List Request) (i next next' now : ℕ) (d : Request) → i < length reads → HasPlaced whole reads requests trace i next now
     → requests' ++ drop next' trace ≡ requests ++ drop next trace → next' ≤ length trace → AllByRecursion (λ (r : Request). r.arrival ≤ (get_or reads i d).arrival) requests'
     → IfSome (slice_get trace next') (λ r. (get_or reads i d).arrival < r.arrival) → requests'' ≡ requests' ++ get_or reads i d ∷ []
     → HasPlaced whole reads requests'' trace (i + 1) next' (get_or reads i d).arrival
 placed_next whole reads requests trace requests' requests'' i next next' now d less placed same within come ahead pushed =
-    subst (λ rs. HasPlaced whole reads rs trace (i + 1) next' (get_or reads i d).arrival) (sym pushed)
-    (placed_more whole reads requests trace requests' i next next' now d less placed same within come ahead (split_at reads i d less) (first_of trace next'))
+    let read = get_or reads i d in
+    let split = drop_more reads i d less in
+    let step : behind (requests ++ drop next trace) read ≡ (requests' ++ read ∷ []) ++ drop next' trace =
+    ap (λ rs. behind rs read) (sym same) ∙ passed_by requests' (drop next' trace) read come
+    ∙ ap (λ rs. requests' ++ rs) (stops_before (drop next' trace) read (subst (λ o. IfSome o (λ r. read.arrival < r.arrival)) (first_of trace next') ahead))
+    ∙ sym (append_assoc requests' (read ∷ []) (drop next' trace)) in
+    let rise : RiseFrom now (read ∷ drop (i + 1) reads) = subst (RiseFrom now) split placed.rise in
+    rw pushed (record {
+      within = within;
+      same = ap (λ rs. fold behind rs (drop (i + 1) reads)) (sym step) ∙ ap (fold behind (requests ++ drop next trace)) (sym split) ∙ placed.same;
+      come = all_append (λ (r : Request). r.arrival ≤ read.arrival) requests' (read ∷ []) come (omega arith, tt);
+      rise = rise.1;
+    })
 
 rest_taken : {A : Type 0} (n : ℕ) (xs : List A) → take (length xs - n) (drop n xs) ≡ drop n xs
 rest_taken n xs = take_all (length xs - n) (drop n xs) (omega (arith, length-drop n xs))
@@ -135,9 +113,3 @@ placed_slice requests trace n = ap (λ rs. requests ++ rs) (rest_taken n trace)
 
 pub placed_whole : (whole reads requests trace : List Request) (i next now : ℕ) → length reads ≤ i → HasPlaced whole reads requests trace i next now → requests ++ drop next trace ≡ whole
 placed_whole whole reads requests trace i next now all placed = ap (fold behind (requests ++ drop next trace)) (sym (drop_all i reads all)) ∙ placed.same
-  where
-    drop_all : (n : ℕ) (rs : List Request) → length rs ≤ n → drop n rs ≡ []
-    drop_all zero [] h = refl
-    drop_all (suc n) [] h = refl
-    drop_all zero (r ∷ rs) h = absurd (omega arith)
-    drop_all (suc n) (r ∷ rs) h = drop_all n rs (omega arith)

@@ -95,19 +95,8 @@ own_track : (disk : Shape) (extent : Extent) (request : Request) → IsUnbroken 
     → begun_in extent request (wanted_of (on_track extent.track entries)) ≡ begun_in extent request (wanted_of entries)
 own_track disk extent request unbroken [] all = refl
 own_track disk extent request unbroken (entry ∷ entries) all = elim (cases_Bool (same_track extent.track entry.block.track)) [
-  | inl on ↦ elim (cases_Bool (is_wanted entry.state)) [
-    | inl w ↦ elim (cases_Bool (begins_in extent entry.block && lies_in request entry.block)) [
-      | inl b ↦ rw (on, w, b) (ap (λ bs. entry.block ∷ bs) (own_track disk extent request unbroken entries all.1))
-      | inr n ↦ rw (on, w, n) (own_track disk extent request unbroken entries all.1)
-    ]
-    | inr n ↦ rw (on, n) (own_track disk extent request unbroken entries all.1)
-  ]
-  | inr off ↦
-      let elsewhere : begins_in extent entry.block && lies_in request entry.block ≡ false = not_here disk extent request unbroken entry.block all.0 off in
-      elim (cases_Bool (is_wanted entry.state)) [
-        | inl w ↦ rw (off, w, elsewhere) (own_track disk extent request unbroken entries all.1)
-        | inr n ↦ rw (off, n) (own_track disk extent request unbroken entries all.1)
-      ]
+  | inl on ↦ grind (arith, own_track disk extent request unbroken entries all.1)
+  | inr off ↦ grind (arith, not_here disk extent request unbroken entry.block all.0 off, own_track disk extent request unbroken entries all.1)
 ]
   where
     not_here : (disk : Shape) (extent : Extent) (request : Request) → IsUnbroken disk extent → (block : Block) → block.track ≡ track_at disk block.lbn → same_track extent.track block.track ≡ false

@@ -73,7 +73,7 @@ start_at now (request ∷ requests) instants all = elim (cases_Bool (list_any (h
 
 -- ---- the decisions of a plain replay
 
-all_without : (P : Request → Type 0) (front back : List Request) (pick : Request) → AllByRecursion P (front ++ pick ∷ back) → P pick × AllByRecursion P (front ++ back)
+pub all_without : (P : Request → Type 0) (front back : List Request) (pick : Request) → AllByRecursion P (front ++ pick ∷ back) → P pick × AllByRecursion P (front ++ back)
 all_without P [] back pick all = all
 all_without P (request ∷ front) back pick all = let rest = all_without P front back pick all.1 in (rest.0, (all.0, rest.1))
 

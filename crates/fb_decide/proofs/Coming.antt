@@ -11,6 +11,7 @@ use Rattle.fb_model.specs.Decisions.{instants_of}
 use Rattle.fb_model.proofs.Instants.{IsAmong, rising_all_among, was_all_among}
 use Rattle.fb_decide.specs.Deciding.{next_of}
 use Rattle.fb_decide.proofs.Instants.{LieApart, all_of_both, one_of_second}
+use Rattle.std.proofs.lemmas.Bool.{cases_lt}
 
 -- no request arrives and no call takes effect before this instant, and one does then
 pub record IsNextOf (a : Option Request) (b : Option Call) (t : ℕ) : Type 0 where
@@ -28,15 +29,11 @@ either_is : (r : Request) (c : Call) (t : ℕ) → min r.arrival c.instant ≡ t
 either_is r c t e = record {
   arrives = omega (arith, e);
   calls = omega (arith, e);
-  one = elim (cases_le r.arrival c.instant) [
+  one = elim (cases_lt r.arrival c.instant) [
     | inl first ↦ inl (r, refl, (let h : r.arrival ≡ t = omega (arith, e, first) in h))
     | inr second ↦ inr (c, refl, (let h : c.instant ≡ t = omega (arith, e, second) in h))
   ];
-} where
-  cases_le : (a b : ℕ) → (a ≤ b) ⊎ (b ≤ a)
-  cases_le zero b = inl (omega arith)
-  cases_le (suc a) zero = inr (omega arith)
-  cases_le (suc a) (suc b) = elim (cases_le a b) [ inl h ↦ inl (omega (arith, h)) | inr h ↦ inr (omega (arith, h)) ]
+}
 
 pub next_is : (a : Option Request) (b : Option Call) (t : ℕ) → next_of a b ≡ Some t → IsNextOf a b t
 next_is None None t e = absurd (no_some t e)

@@ -35,12 +35,8 @@ own task bs = filter (λ b. b.task == task) bs
 alone : (a : Block) (bs : List Block) → AllByRecursion (λ b. a.index < b.index) (own a.task bs) → AllByRecursion (λ b. same_block a b ≡ false) bs
 alone a [] h = tt
 alone a (b ∷ bs) h = elim (cases_Bool (b.task == a.task)) [
-  | inl mine ↦
-      let k = subst (λ x. AllByRecursion (λ c. a.index < c.index) (if x then b ∷ own a.task bs else own a.task bs)) mine h in
-      (lesser a b k.0, alone a bs k.1)
-  | inr other ↦
-      let k = subst (λ x. AllByRecursion (λ c. a.index < c.index) (if x then b ∷ own a.task bs else own a.task bs)) other h in
-      (of_another a b other, alone a bs k)
+  | inl mine ↦ let k = rw mine at h in (lesser a b k.0, alone a bs k.1)
+  | inr other ↦ (of_another a b other, alone a bs (rw other at h))
 ]
 
 -- the blocks of each task are numbered on from some number

@@ -30,6 +30,7 @@ use Rattle.fb_decide.proofs.Placing.{in_order-each, delivery_by}
 use Rattle.fb_decide.proofs.Rides.{ride_row}
 use Rattle.fb_tasks.proofs.Lists.{all_weaker, all_pass, all_filter, all_map, all_append}
 use Rattle.fb_model.proofs.Lists.{all_both, same_kept, same_map_where}
+use Rattle.fb_decide.proofs.Replayed.{same_choice}
 
 delivery_same : (medium : Medium) (holding : Holding) (from to : ℕ) → Mirrors medium holding from to → (how : How) (block : Block) (begin end : ℕ) → from ≤ begin → begin ≤ to
     → delivery_in holding how block begin end ≡ delivery medium how block begin end
@@ -99,9 +100,6 @@ module _ (medium : Medium) (holding : Holding) (source : Track) (start : ℕ) (r
       record { row = refl; begin = pass.0; order = pass.1; end = omega (arith, pass.2, ends) })
       (filter (lies_in request) blocks) (lie_some blocks some))
 
-same_unless : {A : Type 0} {xs ys : List A} (b : Bool) → (b ≡ false → xs ≡ ys) → (if b then [] else xs) ≡ (if b then [] else ys)
-same_unless true same = refl
-same_unless false same = same refl
 
 all_unless : {A : Type 0} (P : A → Type 0) (xs : List A) (b : Bool) → (b ≡ false → AllByRecursion P xs) → AllByRecursion P (if b then [] else xs)
 all_unless P xs true all = tt
@@ -136,7 +134,7 @@ due_same medium holding source start request plan to blocks some is_plan media_b
     (ap₂ (λ xs ys. xs ++ ys)
     (caught_same medium holding ByGap early start to mirrors within.early_begin (omega (arith, within.early_end, media_by)) blocks)
     (caught_same medium holding ByGap late start to mirrors within.late_begin (omega (arith, within.late_end, media_by)) left))
-    (same_unless request.write (λ reads. ap in_order (ride_rows medium holding source start request to (finish_by reads) mirrors (missed medium.disk late left) some_left)))
+    (same_choice request.write [] _ _ (λ reads. ap in_order (ride_rows medium holding source start request to (finish_by reads) mirrors (missed medium.disk late left) some_left)))
 
 -- and each lies within the service
 pub due_found : (medium : Medium) (holding : Holding) (source : Track) (start : ℕ) (request : Request) (plan : Plan) (to : ℕ) (blocks : List Block) → AllByRecursion (λ block. 0 < block.count) blocks

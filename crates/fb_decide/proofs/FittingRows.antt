@@ -1,6 +1,6 @@
 -- The background rows of a run cover sectors of the disk, and their tasks are the script's.
 use Rattle.std.proofs.Common.{◌≡◌, ℕ, ◌+◌, ◌<◌, ◌≤◌, ◌^◌, List, [], ◌∷◌, ◌++◌, length, map, take, drop, ap, sym, subst, ◌∙◌, arith, inl, inr}
-use Rattle.std.specs.Prelude.{◌&&◌, ◌==◌, not, filter}
+use Rattle.std.specs.Prelude.{Bool, true, false, ◌&&◌, ◌==◌, not, filter, if◌then◌else◌}
 use Rattle.std.specs.List.{AllByRecursion, flat_map, fold, range_with_len}
 use Rattle.std.proofs.lemmas.List.{length-append, take-append-drop}
 use Rattle.std.proofs.lemmas.List.Concat.{flat_map-append}
@@ -43,6 +43,7 @@ use Rattle.fb_decide.specs.Deliveries.{IsRegistered}
 use Rattle.fb_decide.proofs.Placing.{in_order-each}
 use Rattle.fb_decide.proofs.RegisteredBlocks.{all_in, registered_after, tasks_more, chosen_there}
 use Rattle.fb_decide.specs.Making.{IsMade, RowFits}
+use Rattle.fb_rows.specs.declared.back.BackRow.{BackRow}
 
 -- ---- contents of sectors of the disk
 
@@ -118,6 +119,10 @@ module _ (n : ℕ) where
   in_range : (past : Past) → PastFits n past → AllByRecursion (λ task. task < n) (task_numbers past)
   in_range past fits = all_range (λ task. task < n) 0 (length (tasks past)) (λ k from below. let few = fits.few in omega (arith, below, few))
 
+  one_fits : (b : Bool) (row : BackRow) → RowFits n row → AllByRecursion (RowFits n) (if b then row ∷ [] else [])
+  one_fits true row fits = (fits, tt)
+  one_fits false row fits = tt
+
   module _ (medium : Medium) (past : Past) (now : ℕ) (fits : PastFits n past) where
     chosen_fits : (task : ℕ) → AllByRecursion (λ (choice : Choice). AllByRecursion (BlockFits n) choice.blocks) (choices past task)
     chosen_fits task = all_weaker (λ (choice : Choice). AllByRecursion (IsRegistered past) choice.blocks) (λ choice. AllByRecursion (BlockFits n) choice.blocks)
@@ -138,16 +143,10 @@ module _ (n : ℕ) where
         (all_filter (BlockFits n) (λ block. is_delivered ((work past task).bare block)) (blocks_of past task) (all_filter (BlockFits n) (λ block. block.task == task) (registered past) fits.blocks))))
 
     seals_fit : (task : ℕ) → task < n → AllByRecursion (RowFits n) (seal_rows (on_disk medium) past now task)
-    seals_fit task below = elim (cases_Bool (is_open_backup past task && is_complete past task)) [
-      | inl sealed ↦ rw sealed (record { ranges = image_within task; named = λ names e. omega (arith, e, below) }, tt)
-      | inr unsealed ↦ rw unsealed tt
-    ]
+    seals_fit task below = one_fits (is_open_backup past task && is_complete past task) _ (record { ranges = image_within task; named = λ names e. omega (arith, e, below) })
 
     completes_fit : (task : ℕ) → task < n → AllByRecursion (RowFits n) (complete_rows past now task)
-    completes_fit task below = elim (cases_Bool (is_complete past task && not (was_complete past task))) [
-      | inl new ↦ rw new (record { ranges = tt; named = λ names e. omega (arith, e, below) }, tt)
-      | inr old ↦ rw old tt
-    ]
+    completes_fit task below = one_fits (is_complete past task && not (was_complete past task)) _ (record { ranges = tt; named = λ names e. omega (arith, e, below) })
 
     tests_fit : AllByRecursion (RowFits n) (test_rows (on_disk medium) past now)
     unfolding test_rows

@@ -18,6 +18,7 @@ use Rattle.fb_decide.specs.Making.{Step, IsMade, fore_row_of, decided_in, rest_o
 use Rattle.fb_decide.specs.FullRuns.{RowsGoOn, ForeRowsBegin, ForeRowsEnd, RowsAreFull}
 use Rattle.fb_decide.proofs.Chain.{services, decisions_follow}
 use Rattle.fb_decide.proofs.Possible.{possible}
+use Rattle.fb_tasks.proofs.Lists.{all_any}
 
 -- ---- one decision more
 
@@ -41,14 +42,11 @@ served_rows medium (serves served ∷ later) = ap (λ rows. fore_row medium serv
 served_rows medium (idles dwell ∷ later) = served_rows medium later
 served_rows medium (ends now ∷ later) = served_rows medium later
 
-any_meet : (requests : List Request) → AllByRecursion (λ (r : Request). Unit {0}) requests
-any_meet [] = tt
-any_meet (r ∷ requests) = (tt, any_meet requests)
 
 -- those of a run's decisions are the plain replay's
 rows_of_all : (inputs : Inputs) → flat_map (fore_row_of (medium_of inputs)) (decisions inputs) ≡ fore_rows inputs
 unfolding fore_rows
-rows_of_all inputs = served_rows (medium_of inputs) (decisions inputs) ∙ ap (map (fore_row (medium_of inputs))) (decisions_follow (λ r. Unit {0}) inputs (any_meet (requests inputs))).1
+rows_of_all inputs = served_rows (medium_of inputs) (decisions inputs) ∙ ap (map (fore_row (medium_of inputs))) (decisions_follow (λ r. Unit {0}) inputs (all_any (λ r. Unit {0}) (λ r. tt) (requests inputs))).1
 
 pub fore_rows_end : ForeRowsEnd
 fore_rows_end inputs steps list course pending count fore back made rows =

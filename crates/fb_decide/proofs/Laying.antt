@@ -23,16 +23,10 @@ served_lbns disk source now write lbn (suc n) = ap (λ ls. lbn ∷ ls) (served_l
 
 slot_lbns : (disk : Shape) (first begin k n : ℕ) → map lbn_of (map (λ i. passage_from disk (first + i) begin) (range_with_len k n)) ≡ range_with_len (first + k) n
 slot_lbns disk first begin k zero = refl
-slot_lbns disk first begin k (suc n) = ap (λ ls. (first + k) ∷ ls) (slot_lbns disk first begin (k + 1) n ∙ ap (λ m. range_with_len m n) next)
-  where
-    next : first + (k + 1) ≡ first + k + 1
-    next = omega arith
+slot_lbns disk first begin k (suc n) = ap (λ ls. (first + k) ∷ ls) (slot_lbns disk first begin (k + 1) n ∙ ap₂ range_with_len (omega arith) refl)
 
 extent_lbns : (disk : Shape) (extent : Extent) → map lbn_of (passages_of disk extent) ≡ range_with_len extent.first extent.count
-extent_lbns disk extent = slot_lbns disk extent.first extent.begin 0 extent.count ∙ ap (λ m. range_with_len m extent.count) none
-  where
-    none : extent.first + 0 ≡ extent.first
-    none = omega arith
+extent_lbns disk extent = slot_lbns disk extent.first extent.begin 0 extent.count ∙ ap₂ range_with_len (omega arith) refl
 
 all_lbns : (disk : Shape) (extents : List Extent) → map lbn_of (all_passages_of disk extents) ≡ flat_map (λ extent. range_with_len extent.first extent.count) extents
 all_lbns disk [] = refl

@@ -95,17 +95,13 @@ all_late (suc n) disk long key head now left on_disk = late_pick n disk long key
 -- ---- and until then the disk holds what it holds
 
 
-mirrors_by : (disk : Disk) (latent : List ℕ) (whole done rest : List Served) (now to : ℕ) (holding : Holding)
-    → Replayed latent whole rest now holding done → AllByRecursion (λ (w : Written). to < w.passage.end) (all_writes rest) → Mirrors (medium_by disk latent whole) holding now to
-mirrors_by disk latent whole done rest now to holding so_far after = λ lbn t from upto.
-    ap (λ served. content (medium_by disk latent served) lbn t) (sym so_far.all)
-    ∙ content_then disk latent done rest now lbn t so_far.ended from (all_weaker _ _ (λ (w : Written) h. omega (arith, h, upto)) _ after)
-    ∙ sym (so_far.holds lbn)
-
 pub mirrors_run : (inputs : Inputs) (done rest : List Served) (now to : ℕ) (holding : Holding)
     → Replayed inputs.latent (served inputs) rest now holding done → AllByRecursion (λ (w : Written). to < w.passage.end) (all_writes rest) → Mirrors (medium_of inputs) holding now to
 unfolding medium_of
-mirrors_run inputs done rest now to holding so_far after = mirrors_by inputs.disk inputs.latent (served inputs) done rest now to holding so_far after
+mirrors_run inputs done rest now to holding so_far after = λ lbn t from upto.
+    ap (λ served. content (medium_by inputs.disk inputs.latent served) lbn t) (sym so_far.all)
+    ∙ content_then inputs.disk inputs.latent done rest now lbn t so_far.ended from (all_weaker _ _ (λ (w : Written) h. omega (arith, h, upto)) _ after)
+    ∙ sym (so_far.holds lbn)
 
 -- ---- while a request is served
 
@@ -144,19 +140,10 @@ media_first disk head start write lbn (suc n) some = let all = (passed_between d
 
 pub held_between : (disk : Disk) (head : Track) (start : ℕ) (request : Request) → 0 < request.count
     → (start ≤ held_until (service disk head start request)) × (held_until (service disk head start request) ≤ finish (service disk head start request))
-held_between disk head start request some = by request.write
-  where
-    by : (b : Bool) → (start ≤ (if b then media_of (passages disk head start request.write request.lbn request.count) else finish_of start (passages disk head start request.write request.lbn request.count)))
-        × ((if b then media_of (passages disk head start request.write request.lbn request.count) else finish_of start (passages disk head start request.write request.lbn request.count)) ≤ finish_of start (passages disk head start request.write request.lbn request.count))
-    by true = media_first disk head start request.write request.lbn request.count some
-    by false = ((passed_between disk head start request.write request.lbn request.count).0, omega arith)
+held_between disk head start request some = grind (arith, media_first disk head start request.write request.lbn request.count some, (passed_between disk head start request.write request.lbn request.count).0)
 
 pub media_held : (served : Served) → media served ≤ finish served → media served ≤ held_until served
-media_held served order = by served.request.write
-  where
-    by : (b : Bool) → media served ≤ (if b then media served else finish served)
-    by true = omega arith
-    by false = order
+media_held served order = grind (arith, order)
 
 pub finish_held : (served : Served) → served.request.write ≡ false → finish served ≤ held_until served
 finish_held served reads = rw reads (omega arith)

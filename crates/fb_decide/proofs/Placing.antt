@@ -15,7 +15,7 @@ use Rattle.fb_model.specs.Rides.{placed, in_order, missed}
 use Rattle.fb_plan.specs.declared.catching.Catch.{Catch}
 use Rattle.fb_plan.specs.Order.{is_before, place_in, catch_of, caught_of}
 use Rattle.fb_plan.proofs.Sorted.{put_front, put_behind}
-use Rattle.fb_tasks.proofs.Lists.{all_map, all_weaker, filter_same, filter_from}
+use Rattle.fb_tasks.proofs.Lists.{all_map, all_weaker, filter_same, filter_from, all_any, all_with}
 use Rattle.fb_decide.specs.Deliveries.{AreDistinct, AreDue, IsOneOf, block_in, row_in, delivery_in, caught_in, past_with}
 use Rattle.fb_decide.proofs.Distinct.{itself, either_way, filter-distinct}
 use Rattle.fb_decide.proofs.Delivering.{none_of, wanted-with}
@@ -83,16 +83,13 @@ fold-apart : (acc rows : List DeliveryRow) → AreApart acc → AllByRecursion (
 fold-apart acc [] a all r = a
 fold-apart acc (x ∷ xs) a all r = fold-apart (placed acc x) xs (placed-apart acc x all.0 a) (all_places x acc xs all.1 r.0) r.1
 
-all_none : (rows : List DeliveryRow) → AllByRecursion (λ (row : DeliveryRow). AllByRecursion (λ (other : DeliveryRow). same_block row.block other.block ≡ false) []) rows
-all_none [] = tt
-all_none (x ∷ xs) = (tt, all_none xs)
 
 distinct_by : (rows : List DeliveryRow) → AreApart rows → AreDistinct (map block_in rows)
 distinct_by [] h = tt
 distinct_by (x ∷ xs) h = (all_map (λ b. same_block x.block b ≡ false) block_in xs h.0, distinct_by xs h.1)
 
 pub in_order-distinct : (rows : List DeliveryRow) → AreApart rows → AreDistinct (map block_in (in_order rows))
-in_order-distinct rows apart = distinct_by (in_order rows) (fold-apart [] rows tt (all_none rows) apart)
+in_order-distinct rows apart = distinct_by (in_order rows) (fold-apart [] rows tt (all_any _ (λ row. tt) rows) apart)
 
 apart_by : (f : Block → DeliveryRow) → ((b : Block) → (f b).block ≡ b) → (bs : List Block) → AreDistinct bs → AreApart (map f bs)
 apart_by f own [] h = tt
@@ -144,18 +141,13 @@ passes p [] h = tt
 passes p (x ∷ xs) h = elim (cases_Bool (p x)) [
   | inl pass ↦ (
     rw pass (ap (λ b. b || list_any (λ y. same_block y x) (filter p xs)) (itself x)),
-    all_both_then xs h.0 (passes p xs h.1) (λ z other rest. rw pass (ap (λ b. b || list_any (λ y. same_block y z) (filter p xs)) other ∙ rest)),
+    all_with (λ z. same_block x z ≡ false) (λ z. list_any (λ y. same_block y z) (filter p xs) ≡ p z) (λ z. list_any (λ y. same_block y z) (filter p (x ∷ xs)) ≡ p z) (λ z other rest. rw pass (ap (λ b. b || list_any (λ y. same_block y z) (filter p xs)) other ∙ rest)) xs h.0 (passes p xs h.1),
   )
   | inr fail ↦ (
     rw fail (none_same p x xs h.0),
     all_weaker (λ z. list_any (λ y. same_block y z) (filter p xs) ≡ p z) (λ z. list_any (λ y. same_block y z) (filter p (x ∷ xs)) ≡ p z) (λ z rest. rw fail rest) xs (passes p xs h.1),
   )
-] where
-  all_both_then : (zs : List Block) → AllByRecursion (λ z. same_block x z ≡ false) zs → AllByRecursion (λ z. list_any (λ y. same_block y z) (filter p xs) ≡ p z) zs
-      → ((z : Block) → same_block x z ≡ false → list_any (λ y. same_block y z) (filter p xs) ≡ p z → list_any (λ y. same_block y z) (filter p (x ∷ xs)) ≡ p z)
-      → AllByRecursion (λ z. list_any (λ y. same_block y z) (filter p (x ∷ xs)) ≡ p z) zs
-  all_both_then [] a b f = tt
-  all_both_then (z ∷ zs) a b f = (f z a.0 b.0, all_both_then zs a.1 b.1 f)
+]
 
 pub left-filtered : (past : Past) (p : Block → Bool) (f : Block → DeliveryRow) → ((b : Block) → (f b).block ≡ b) → AreDistinct (wanted past)
     → wanted (past_with past (in_order (map f (filter p (wanted past))))) ≡ filter (λ b. not (p b)) (wanted past)

@@ -18,7 +18,7 @@ use Rattle.fb_model.specs.Images.{Sources, bad_sectors, is_scrub, findings, is_n
 use Rattle.fb_model.specs.Steps.{Delivery, Part, with_delivery, tested_past, settled_past, task_row, task_rows}
 use Rattle.fb_model.specs.SoundRun.{AreFollowed, IsTested}
 use Rattle.fb_model.proofs.RowsUpTo.{delivered_rows}
-use Rattle.fb_model.proofs.Lists.{all_append}
+use Rattle.fb_model.proofs.Lists.{all_append, all_flat_map}
 
 -- no gap row and no idle row
 abbrev pub IsQuiet : BackRow → Type 0
@@ -47,9 +47,6 @@ abbrev segment_line : Sources → Past → ℕ → ℕ → Choice → BackRow
 segment_line sources past now task choice =
     SegmentLine (record { task = task; segment = choice.segment.number; instant = now; live = live_count choice.segment; content = sources.packed_for past task choice })
 
-lists_quiet : {X : Type 0} (f : X → List BackRow) (xs : List X) → ((x : X) → AllByRecursion IsQuiet (f x)) → AllByRecursion IsQuiet (flat_map f xs)
-lists_quiet f [] quiet = tt
-lists_quiet f (x ∷ xs) quiet = all_append IsQuiet (f x) (flat_map f xs) (quiet x) (lists_quiet f xs quiet)
 
 segments_quiet : (sources : Sources) (past : Past) (now task : ℕ) (found : List Choice) → AllByRecursion IsQuiet (map (segment_line sources past now task) found)
 segments_quiet sources past now task [] = tt
@@ -63,11 +60,11 @@ pub test_quiet : (sources : Sources) (past : Past) (now : ℕ) → AllByRecursio
 unfolding test_rows
 test_quiet sources past now =
     all_append IsQuiet (flat_map (segment_rows sources past now) (task_numbers past)) (flat_map (λ task. seal_rows sources past now task ++ complete_rows past now task) (task_numbers past))
-    (lists_quiet (segment_rows sources past now) (task_numbers past) (λ task. segments_quiet sources past now task (filter (is_newly_cleaned (work past task)) (choices past task))))
-    (lists_quiet (λ task. seal_rows sources past now task ++ complete_rows past now task) (task_numbers past) (λ task.
+    (all_flat_map IsQuiet (segment_rows sources past now) (λ task. segments_quiet sources past now task (filter (is_newly_cleaned (work past task)) (choices past task))) (task_numbers past))
+    (all_flat_map IsQuiet (λ task. seal_rows sources past now task ++ complete_rows past now task) (λ task.
     all_append IsQuiet (seal_rows sources past now task) (complete_rows past now task)
     (one_quiet (is_open_backup past task && is_complete past task) (SealLine (record { task = task; instant = now; content = sources.image_at past task now })) tt)
-    (one_quiet (is_complete past task && not (was_complete past task)) (CompleteLine (record { task = task; instant = now })) tt)))
+    (one_quiet (is_complete past task && not (was_complete past task)) (CompleteLine (record { task = task; instant = now })) tt)) (task_numbers past))
 
 sectors_quiet : (task : ℕ) (lbns : List ℕ) → AllByRecursion IsQuiet (map (λ lbn. BadLine (record { task = task; lbn = lbn })) lbns)
 sectors_quiet task [] = tt

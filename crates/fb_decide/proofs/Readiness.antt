@@ -10,6 +10,11 @@ use Rattle.fb_units.specs.declared.types.Request.{Request}
 use Rattle.fb_service.specs.declared.disk.Disk.{Disk}
 use Rattle.fb_model.specs.PlainReplay.{Key, has_arrived, better, first_least, first_ready, start_of, service, finish, last_track, plain, Served}
 use Rattle.fb_decide.specs.Waiting.{left, AreByArrival}
+use Rattle.fb_model.specs.Laws.{IsFirstLeast, IsPickOf}
+use Rattle.fb_model.proofs.Picks.{pick_of-first_least}
+use Rattle.fb_decide.proofs.Chain.{all_without}
+use Rattle.fb_tasks.proofs.Lists.{all_weaker}
+use Rattle.std.proofs.lemmas.List.{length-append}
 
 has_come : (now : ℕ) (r : Request) → r.arrival ≤ now → has_arrived now r ≡ true
 has_come now r h = grind (arith, nat_tests)
@@ -19,8 +24,7 @@ not_come now r h = grind (arith, nat_tests)
 
 -- none of them has arrived
 pub none_come : (now a : ℕ) → now < a → (rs : List Request) → AllByRecursion (λ r. a ≤ r.arrival) rs → AllByRecursion (λ r. now < r.arrival) rs
-none_come now a h [] all = tt
-none_come now a h (r ∷ rs) all = (omega (arith, all.0), none_come now a h rs all.1)
+none_come now a h rs all = all_weaker (λ (r : Request). a ≤ r.arrival) (λ r. now < r.arrival) (λ r le. omega (arith, h, le)) rs all
 
 none_any : (now : ℕ) (rs : List Request) → AllByRecursion (λ r. now < r.arrival) rs → list_any (has_arrived now) rs ≡ false
 none_any now [] all = refl
@@ -47,11 +51,7 @@ with_rest qs best = (best.0, best.1 ++ qs)
 
 better_rest : (key : Request → ℕ) (p : Request) (ps qs : List Request) (best : Option (Request × List Request)) → better key p (ps ++ qs) (option_map (with_rest qs) best) ≡ option_map (with_rest qs) (better key p ps best)
 better_rest key p ps qs None = refl
-better_rest key p ps qs (Some best) = pushed (nat_le (key p) (key best.0))
-  where
-    pushed : (b : Bool) → (if b then Some (p, ps ++ qs) else Some (best.0, p ∷ (best.1 ++ qs))) ≡ option_map (with_rest qs) (if b then Some (p, ps) else Some (best.0, p ∷ best.1))
-    pushed true = refl
-    pushed false = refl
+better_rest key p ps qs (Some best) = grind arith
 
 -- those ahead are not looked at
 pub ready_waiting : (key : Request → ℕ) (now : ℕ) (ps qs : List Request) → AllByRecursion (λ r. r.arrival ≤ now) ps → AllByRecursion (λ r. now < r.arrival) qs
@@ -60,22 +60,6 @@ ready_waiting key now [] qs here ahead = none_ready key now qs ahead
 ready_waiting key now (p ∷ ps) qs here ahead =
     rw (has_come now p here.0, ready_waiting key now ps qs here.1 ahead) (better_rest key p ps qs (first_least key ps))
 
--- what was taken and what is left have P, and are as many
-abbrev pub Picks : (Request → Type 0) → ℕ → Option (Request × List Request) → Type 0
-Picks P n None = Unit {0}
-Picks P n (Some best) = P best.0 × (AllByRecursion P best.1 × (length best.1 + 1 ≡ n))
-
-pick_better : (P : Request → Type 0) (key : Request → ℕ) (r : Request) (rs : List Request) (best : Option (Request × List Request)) → P r → AllByRecursion P rs → Picks P (length rs) best → Picks P (suc (length rs)) (better key r rs best)
-pick_better P key r rs None h all picks = (h, (all, omega arith))
-pick_better P key r rs (Some best) h all picks = chosen (nat_le (key r) (key best.0))
-  where
-    chosen : (b : Bool) → Picks P (suc (length rs)) (if b then Some (r, rs) else Some (best.0, r ∷ best.1))
-    chosen true = (h, (all, omega arith))
-    chosen false = (picks.0, ((h, picks.1.0), omega (arith, picks.1.1)))
-
-pub picks_all : (P : Request → Type 0) (key : Request → ℕ) (rs : List Request) → AllByRecursion P rs → Picks P (length rs) (first_least key rs)
-picks_all P key [] all = tt
-picks_all P key (r ∷ rs) all = pick_better P key r rs (first_least key rs) all.0 all.1 (picks_all P key rs all.1)
 
 pub order_dropped : (n : ℕ) (rs : List Request) → AreByArrival rs → AreByArrival (drop n rs)
 order_dropped zero rs order = order
@@ -102,7 +86,10 @@ not_none n e = grind (arith, nat_tests)
 
 pub taken : (P : Request → Type 0) (key : Request → ℕ) (ps : List Request) (r : Request) (rest : List Request) → AllByRecursion P ps → first_least key ps ≡ Some (r, rest)
     → P r × (AllByRecursion P rest × (length rest + 1 ≡ length ps))
-taken P key ps r rest all e = subst (Picks P (length ps)) e (picks_all P key ps all)
+taken P key ps r rest all e =
+    let m : IsFirstLeast key ps r rest = subst (IsPickOf key ps) e (pick_of-first_least key ps) in
+    let both = all_without P m.front m.back r (subst (AllByRecursion P) m.whole all) in
+    (both.0, (subst (AllByRecursion P) (sym m.rest) both.1, omega (arith, ap length m.whole, ap length m.rest, length-append m.front (r ∷ m.back), length-append m.front m.back)))
 
 -- what the queue takes is what the plain replay takes
 pub taken_ready : (key : Request → ℕ) (now : ℕ) (ps qs : List Request) (r : Request) (rest : List Request) → AllByRecursion (λ r. r.arrival ≤ now) ps → AllByRecursion (λ r. now < r.arrival) qs

@@ -50,10 +50,7 @@ all_in P xs x all there = all_at P xs there.0 x all there.1
 pub in_any : (blocks : List Block) (i : ℕ) (block : Block) → slice_get blocks i ≡ Some block → list_any (same_block block) blocks ≡ true
 in_any [] i block h = absurd (grind arith)
 in_any (b ∷ blocks) zero block h = subst (λ b. list_any (same_block block) (b ∷ blocks) ≡ true) (sym (some_same b block h)) (rw (itself block) refl)
-in_any (b ∷ blocks) (suc i) block h = rw (in_any blocks i block h) (or-true (same_block block b)) where
-  or-true : (c : Bool) → (c || true) ≡ true
-  or-true true = refl
-  or-true false = refl
+in_any (b ∷ blocks) (suc i) block h = grind (arith, in_any blocks i block h)
 
 -- what an event registers stands behind what was registered before
 pub registered_after : (past : Past) (event : Event) → registered (event ∷ past) ≡ registered past ++ registered_by event

@@ -100,7 +100,7 @@ read_finds disk latent done later head now start end request holding reads from 
     ∙ sym (holds p.lbn))
     _ (all_both _ _ _ (passed_between disk head start request.write request.lbn request.count).1 each))
 
-same_choice : {A : Type 0} (b : Bool) (none one other : A) → (b ≡ false → one ≡ other) → (if b then none else one) ≡ (if b then none else other)
+pub same_choice : {A : Type 0} (b : Bool) (none one other : A) → (b ≡ false → one ≡ other) → (if b then none else one) ≡ (if b then none else other)
 same_choice true none one other h = refl
 same_choice false none one other h = h refl
 

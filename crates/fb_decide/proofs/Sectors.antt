@@ -28,15 +28,11 @@ found disk first begin lbn k (suc n) from to = elim (cases_Bool (first + k == lb
 
 absent_below : (disk : Shape) (first begin lbn k n : ℕ) → lbn < first + k → passing lbn (slots disk first begin k n) ≡ None
 absent_below disk first begin lbn k zero below = refl
-absent_below disk first begin lbn k (suc n) below =
-    let other : (first + k == lbn) ≡ false = grind (arith, nat_tests) in
-    rw other (absent_below disk first begin lbn (k + 1) n (omega arith))
+absent_below disk first begin lbn k (suc n) below = grind (arith, nat_tests, absent_below disk first begin lbn (k + 1) n (omega arith))
 
 absent_above : (disk : Shape) (first begin lbn k n : ℕ) → first + k + n ≤ lbn → passing lbn (slots disk first begin k n) ≡ None
 absent_above disk first begin lbn k zero above = refl
-absent_above disk first begin lbn k (suc n) above =
-    let other : (first + k == lbn) ≡ false = grind (arith, nat_tests) in
-    rw other (absent_above disk first begin lbn (k + 1) n (omega arith))
+absent_above disk first begin lbn k (suc n) above = grind (arith, nat_tests, absent_above disk first begin lbn (k + 1) n (omega arith))
 
 -- it is the extent's, if the extent has the sector
 pub in_extent : (disk : Shape) (extent : Extent) (lbn : ℕ) → extent.first ≤ lbn → lbn < extent.first + extent.count → passing lbn (passages_of disk extent) ≡ Some (passage_from disk lbn extent.begin)

@@ -82,9 +82,7 @@ terms_kept past (Open kind weight block) task less = first_terms (tasks past) _ 
 terms_kept past _ task less = refl
 
 unsealed : (backup now before : Bool) → (backup && not (now || before)) ≡ true → (backup && not before) ≡ true
-unsealed true true before h = absurd (true≢false (sym h))
-unsealed true false before h = h
-unsealed false now before h = h
+unsealed backup now before h = grind (arith, h)
 
 -- a task that was open, and is an open backup after an event, was so before it
 open_before : (past : Past) (event : Event) (task : ℕ) → task < length (tasks past) → is_open_backup (event ∷ past) task ≡ true → is_open_backup past task ≡ true
@@ -92,40 +90,30 @@ open_before past (called call blocks) task less is_open = ap (λ (terms : Terms)
 open_before past (tested rows) task less is_open = unsealed (is_backup (terms_of past task).kind) (list_any (is_seal_of task) rows) (is_sealed past task) is_open
 open_before past (_) task less is_open = is_open
 
+still-by : (past : Past) (event : Event) → ((block : Block) → IsRegistered (event ∷ past) block → is_delivered (bare_state (event ∷ past) block) ≡ true → IsRegistered past block × (is_delivered (bare_state past block) ≡ true))
+    → ((block : Block) → content_of (event ∷ past) block ≡ content_of past block) → ((block : Block) → delivery_begin (event ∷ past) block ≡ delivery_begin past block) → IsStill past (event ∷ past)
+still-by past event delivered content begin = record { delivered = delivered; content = content; begin = begin; more = tasks_more past event; backup = open_before past event }
+
 pub called-still : (past : Past) (call : Call) (blocks : List Block) → IsStill past (called call blocks ∷ past)
 unfolding bare_state content_of
-called-still past call blocks = record {
-  delivered = λ block there done.
-      let fresh = if_delivered (list_any (same_block block) blocks) Wanted _ refl done in
-      let ended = if_delivered ((call.task == block.task) && ends_block call.action block && not (is_delivered (bare_state past block))) Aborted _ refl fresh.1 in
-      (there_before past (called call blocks) block fresh.0 there, ended.1);
-  content = λ block. refl;
-  begin = λ block. refl;
-  more = tasks_more past (called call blocks);
-  backup = open_before past (called call blocks);
-}
+called-still past call blocks = still-by past (called call blocks)
+    (λ block there done.
+    let fresh = if_delivered (list_any (same_block block) blocks) Wanted _ refl done in
+    let ended = if_delivered ((call.task == block.task) && ends_block call.action block && not (is_delivered (bare_state past block))) Aborted _ refl fresh.1 in
+    (there_before past (called call blocks) block fresh.0 there, ended.1))
+    (λ block. refl) (λ block. refl)
 
 pub chosen-still : (past : Past) (task : ℕ) (segment : LogSegment) (blocks : List Block) → IsStill past (chose task segment blocks ∷ past)
 unfolding bare_state content_of
-chosen-still past task segment blocks = record {
-  delivered = λ block there done.
-      let fresh = if_delivered (list_any (same_block block) blocks) Wanted (bare_state past block) refl done in
-      (there_before past (chose task segment blocks) block fresh.0 there, fresh.1);
-  content = λ block. refl;
-  begin = λ block. refl;
-  more = tasks_more past (chose task segment blocks);
-  backup = open_before past (chose task segment blocks);
-}
+chosen-still past task segment blocks = still-by past (chose task segment blocks)
+    (λ block there done.
+    let fresh = if_delivered (list_any (same_block block) blocks) Wanted (bare_state past block) refl done in
+    (there_before past (chose task segment blocks) block fresh.0 there, fresh.1))
+    (λ block. refl) (λ block. refl)
 
 pub tested-still : (past : Past) (rows : List BackRow) → IsStill past (tested rows ∷ past)
 unfolding bare_state content_of
-tested-still past rows = record {
-  delivered = λ block there done. (there_before past (tested rows) block refl there, done);
-  content = λ block. refl;
-  begin = λ block. refl;
-  more = tasks_more past (tested rows);
-  backup = open_before past (tested rows);
-}
+tested-still past rows = still-by past (tested rows) (λ block there done. (there_before past (tested rows) block refl there, done)) (λ block. refl) (λ block. refl)
 
 pub calls-still : (disk : Shape) (past : Past) (calls : List Call) → IsStill past (fold (take_call disk) past calls)
 calls-still disk past [] = still-same past

@@ -65,32 +65,17 @@ module _ (medium : Medium) (holding : Holding) (from to : ℕ) (mirrors : Mirror
     got_then : got.content ≡ runs_of (contents_at medium got.block.lbn got.block.count got.begin)
     got_then = got_content ∙ ap runs_of (mirrored medium holding from to mirrors got.block.lbn got.block.count got.begin found.begin (let order = found.order in let end = found.end in omega (arith, order, end)))
 
-    own_content : (block : Block) (own : Bool) → same_block got.block block ≡ own → content_of (delivered got ∷ past) block ≡ (if own then got.content else content_of past block)
-    unfolding content_of
-    own_content block own e = ap (λ b. if b then got.content else content_of past block) e
-
-    own_begin : (block : Block) (own : Bool) → same_block got.block block ≡ own → delivery_begin (delivered got ∷ past) block ≡ (if own then got.begin else delivery_begin past block)
-    own_begin block own e = ap (λ b. if b then got.begin else delivery_begin past block) e
-
-    own_state : (block : Block) (own : Bool) → same_block got.block block ≡ own → bare_state (delivered got ∷ past) block ≡ (if own then Delivered else bare_state past block)
-    unfolding bare_state
-    own_state block own e = ap (λ b. if b then Delivered else bare_state past block) e
 
     pub delivered_true : IsTrue medium holding past → IsTrue medium holding (delivered got ∷ past)
+    unfolding bare_state content_of
     delivered_true before = record {
       found = λ block known done. elim (cases_Bool (same_block got.block block)) [
-        | inl own ↦ own_content block true own
-            ∙ (subst (λ (b : Block). got.content ≡ runs_of (contents_at medium b.lbn b.count got.begin)) (distinct got.block block there (known_before block known) own) got_then
-            ∙ ap (λ begin. runs_of (contents_at medium block.lbn block.count begin)) (sym (own_begin block true own)))
-        | inr other ↦ own_content block false other
-            ∙ (before.found block (known_before block known) (ap is_delivered (sym (own_state block false other)) ∙ done)
-            ∙ ap (λ begin. runs_of (contents_at medium block.lbn block.count begin)) (sym (own_begin block false other)))
+        | inl own ↦ rw own (subst (λ (b : Block). got.content ≡ runs_of (contents_at medium b.lbn b.count got.begin)) (distinct got.block block there (known_before block known) own) got_then)
+        | inr other ↦ rw other (before.found block (known_before block known) (rw other at done))
       ];
       kept = λ block known done is_open. elim (cases_Bool (same_block got.block block)) [
-        | inl own ↦ own_content block true own
-            ∙ subst (λ (b : Block). got.content ≡ runs_of (map (λ lbn. (lbn, content_in holding lbn)) (range_with_len b.lbn b.count))) (distinct got.block block there (known_before block known) own) got_content
-        | inr other ↦ own_content block false other
-            ∙ before.kept block (known_before block known) (ap is_delivered (sym (own_state block false other)) ∙ done) is_open
+        | inl own ↦ rw own (subst (λ (b : Block). got.content ≡ runs_of (map (λ lbn. (lbn, content_in holding lbn)) (range_with_len b.lbn b.count))) (distinct got.block block there (known_before block known) own) got_content)
+        | inr other ↦ rw other (before.kept block (known_before block known) (rw other at done) is_open)
       ];
     }
 

@@ -1,6 +1,7 @@
-use Rattle.std.proofs.Common.{length, ◌∙◌}
+use Rattle.std.proofs.Common.{length, ◌∙◌, sym, subst}
+use Rattle.std.specs.List.{AllByRecursion}
 use Rattle.fb_calls.proofs.Lists.{all_weaker}
-use Rattle.fb_rows.specs.Ranges.{HasBackRanges}
+use Rattle.fb_rows.specs.Ranges.{HasRanges, HasBackRanges}
 use Rattle.fb_rows.specs.Tasks.{HasNamedTask}
 use Rattle.fb_calls.specs.Allowed.{tasks}
 use Rattle.fb_decide.specs.Making.{RowFits}
@@ -15,9 +16,7 @@ loop-goes_on-init g c = record {
 }
 
 pub decide-requires-clause-made : goal.decide-requires-clause-made
-decide-requires-clause-made g c =
-    let gone = gone_on c.loop-goes_on-test.true c.loop-goes_on.invariant.gone in
-    (gone.steps, gone.made)
+decide-requires-clause-made g c = let gone = gone_on c.loop-goes_on-test.true c.loop-goes_on.invariant.gone in (gone.steps, gone.made)
 
 pub loop-goes_on-preserved : goal.loop-goes_on-preserved
 loop-goes_on-preserved g c =
@@ -33,31 +32,22 @@ loop-goes_on-smaller g c =
     less_by {inputs = inputs_of c.args.asked g.Q.Queue.key} c.loop-goes_on-test.true (c.in_ok-goes_on.ensures.decided gone.steps gone.made)
 
 pub add_task_rows-requires : goal.add_task_rows-requires
-add_task_rows-requires g c =
+add_task_rows-requires g c = let gone = gone_on c.loop-goes_on-test.false c.loop-goes_on.invariant.gone in (_, gone.steps, gone.made)
+
+pub returns : goal.returns
+returns g c =
+    let law = c.decisions_make_a_run.ensures in
     let gone = gone_on c.loop-goes_on-test.false c.loop-goes_on.invariant.gone in
-    (_, gone.steps, gone.made)
-
-pub returns-clause-full : goal.returns-clause-full
-returns-clause-full g c =
-    let gone = gone_on c.loop-goes_on-test.false c.loop-goes_on.invariant.gone in
-    is_full gone c.take_rows-rows.result.fore c.take_rows-rows.result.back (c.take_rows-rows.ensures.fore ∙ c.in_ok-add_task_rows.ensures.fore)
-    (c.take_rows-rows.ensures.back ∙ c.in_ok-add_task_rows.ensures.rows _ gone.steps gone.made) c.instant-end.result c.decisions_make_a_run.ensures (c.instant-end.ensures.end _ gone.steps gone.made)
-
-pub returns-clause-few : goal.returns-clause-few
-returns-clause-few g c =
-    is_few (gone_on c.loop-goes_on-test.false c.loop-goes_on.invariant.gone) c.take_rows-rows.result.fore (c.take_rows-rows.ensures.fore ∙ c.in_ok-add_task_rows.ensures.fore) c.decisions_make_a_run.ensures
-
-pub returns-clause-back_ranges : goal.returns-clause-back_ranges
-returns-clause-back_ranges g c =
-    let gone = gone_on c.loop-goes_on-test.false c.loop-goes_on.invariant.gone in
-    all_weaker (RowFits (length (tasks c.args.asked.calls.now.calls.items))) HasBackRanges (λ row fits. fits.ranges) c.take_rows-rows.result.back
-    (rows_fit gone c.take_rows-rows.result.back (c.take_rows-rows.ensures.back ∙ c.in_ok-add_task_rows.ensures.rows _ gone.steps gone.made) (c.in_ok-add_task_rows.ensures.fits _ gone.steps gone.made))
-
-pub returns-clause-named : goal.returns-clause-named
-returns-clause-named g c = λ names e.
-    let gone = gone_on c.loop-goes_on-test.false c.loop-goes_on.invariant.gone in
-    all_weaker (RowFits (length (tasks c.args.asked.calls.now.calls.items))) (HasNamedTask names) (λ row fits. fits.named names e) c.take_rows-rows.result.back
-    (rows_fit gone c.take_rows-rows.result.back (c.take_rows-rows.ensures.back ∙ c.in_ok-add_task_rows.ensures.rows _ gone.steps gone.made) (c.in_ok-add_task_rows.ensures.fits _ gone.steps gone.made))
-
-pub returns-clause-early : goal.returns-clause-early
-returns-clause-early g c = c.instant-end.ensures.early _ (gone_on c.loop-goes_on-test.false c.loop-goes_on.invariant.gone).steps (gone_on c.loop-goes_on-test.false c.loop-goes_on.invariant.gone).made
+    let rows = c.take_rows-rows.result in
+    let n = length (tasks c.args.asked.calls.now.calls.items) in
+    let fore = c.take_rows-rows.ensures.fore ∙ c.in_ok-add_task_rows.ensures.fore in
+    let back = c.take_rows-rows.ensures.back ∙ c.in_ok-add_task_rows.ensures.rows _ gone.steps gone.made in
+    let fit = rows_fit gone rows.back back (c.in_ok-add_task_rows.ensures.fits _ gone.steps gone.made) in
+    record {
+      full = is_full gone rows.fore rows.back fore back c.instant-end.result law (c.instant-end.ensures.end _ gone.steps gone.made);
+      ranges = subst (AllByRecursion HasRanges) (sym fore) gone.fit.ranges;
+      few = is_few gone rows.fore fore law;
+      back_ranges = all_weaker (RowFits n) HasBackRanges (λ row fits. fits.ranges) rows.back fit;
+      early = c.instant-end.ensures.early _ gone.steps gone.made;
+      named = λ names e. all_weaker (RowFits n) (HasNamedTask names) (λ row fits. fits.named names e) rows.back fit;
+    }

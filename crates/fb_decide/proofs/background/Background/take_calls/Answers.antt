@@ -35,34 +35,24 @@ loop-next-preserved c =
       rows = c.loop-next.invariant.rows;
     }
 
-ahead_in : goal.returns-else-index-now-clause-ahead
-ahead_in c =
+pub returns-else-index-now : goal.returns-else-index-now
+returns-else-index-now c =
     let at = slice_get_read c.args.calls.now.calls.items c.len.result c.loop-next.next c.index.result.now (c.len.ensures ∙ c.args.calls.now.calls.ok.0) c.loop-next-test.true c.index.ensures in
-    subst (λ o. IfSome o (λ (call : Call). c.args.now < call.instant)) (sym at) c.if-index-now.false
+    let ahead = subst (λ o. IfSome o (λ (call : Call). c.args.now < call.instant)) (sym at) c.if-index-now.false in
+    record {
+      tells = λ past called tells. taken-tells _ _ c.requires.script past c.args.now _ _ _ (c.loop-next.invariant.taken past called tells) ahead;
+      called = λ past called tells. taken-called _ _ c.requires.script past c.args.now _ _ _ (c.loop-next.invariant.taken past called tells) ahead;
+      ahead = ahead;
+      rows = c.loop-next.invariant.rows;
+    }
 
-ahead_after : goal.returns-after-loop-next-clause-ahead
-ahead_after c =
+pub returns-after-loop-next : goal.returns-after-loop-next
+returns-after-loop-next c =
     let none = slice_get_past c.args.calls.now.calls.items c.loop-next.next (omega (arith, c.loop-next-test.false, c.len.ensures)) in
-    subst (λ o. IfSome o (λ (call : Call). c.args.now < call.instant)) (sym none) tt
-
-pub returns-else-index-now-clause-tells : goal.returns-else-index-now-clause-tells
-returns-else-index-now-clause-tells c = λ past called tells.
-    taken-tells c.args.disk.now.map c.args.calls.now.calls.items c.requires.script past c.args.now c.loop-next.next c.loop-next.self.sessions c.loop-next.self.wanted (c.loop-next.invariant.taken past called tells) (ahead_in c)
-
-pub returns-else-index-now-clause-called : goal.returns-else-index-now-clause-called
-returns-else-index-now-clause-called c = λ past called tells.
-    taken-called c.args.disk.now.map c.args.calls.now.calls.items c.requires.script past c.args.now c.loop-next.next c.loop-next.self.sessions c.loop-next.self.wanted (c.loop-next.invariant.taken past called tells) (ahead_in c)
-
-pub returns-else-index-now-clause-ahead : goal.returns-else-index-now-clause-ahead
-returns-else-index-now-clause-ahead c = ahead_in c
-
-pub returns-after-loop-next-clause-tells : goal.returns-after-loop-next-clause-tells
-returns-after-loop-next-clause-tells c = λ past called tells.
-    taken-tells c.args.disk.now.map c.args.calls.now.calls.items c.requires.script past c.args.now c.loop-next.next c.loop-next.self.sessions c.loop-next.self.wanted (c.loop-next.invariant.taken past called tells) (ahead_after c)
-
-pub returns-after-loop-next-clause-called : goal.returns-after-loop-next-clause-called
-returns-after-loop-next-clause-called c = λ past called tells.
-    taken-called c.args.disk.now.map c.args.calls.now.calls.items c.requires.script past c.args.now c.loop-next.next c.loop-next.self.sessions c.loop-next.self.wanted (c.loop-next.invariant.taken past called tells) (ahead_after c)
-
-pub returns-after-loop-next-clause-ahead : goal.returns-after-loop-next-clause-ahead
-returns-after-loop-next-clause-ahead c = ahead_after c
+    let ahead = subst (λ o. IfSome o (λ (call : Call). c.args.now < call.instant)) (sym none) tt in
+    record {
+      tells = λ past called tells. taken-tells _ _ c.requires.script past c.args.now _ _ _ (c.loop-next.invariant.taken past called tells) ahead;
+      called = λ past called tells. taken-called _ _ c.requires.script past c.args.now _ _ _ (c.loop-next.invariant.taken past called tells) ahead;
+      ahead = ahead;
+      rows = c.loop-next.invariant.rows;
+    }

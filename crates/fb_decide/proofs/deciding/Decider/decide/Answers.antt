@@ -2,26 +2,21 @@ use Rattle.fb_decide.proofs.Delivering.{if_ok_with}
 use Rattle.fb_decide.proofs.Looping.{now_listed, now_scripted, now_waits, now_come, now_early, now_called, made_one}
 use Rattle.fb_decide.proofs.deciding.Decider.decide.Goals as goal
 
-pub advance-requires-clause-list : goal.advance-requires-clause-list
-advance-requires-clause-list g c = now_listed _ c.requires.made.0 _ _ _ _ c.requires.made.1 _ c.as_slice.ensures.value
-
-pub advance-requires-clause-script : goal.advance-requires-clause-script
-advance-requires-clause-script g c = now_scripted _ c.requires.made.0 _ _ _ _ c.requires.made.1 _ c.as_slice.ensures.value
-
-pub advance-requires-clause-waiting : goal.advance-requires-clause-waiting
-advance-requires-clause-waiting g c = now_waits _ c.requires.made.0 _ _ _ _ c.requires.made.1 _ c.as_slice.ensures.value
-
-pub advance-requires-clause-come : goal.advance-requires-clause-come
-advance-requires-clause-come g c = now_come _ c.requires.made.0 _ _ _ _ c.requires.made.1 _ c.as_slice.ensures.value
-
-pub advance-requires-clause-head : goal.advance-requires-clause-head
-advance-requires-clause-head g c = c.requires.made.1.come_to.stands
-
-pub advance-requires-clause-now : goal.advance-requires-clause-now
-advance-requires-clause-now g c = now_early _ c.requires.made.0 _ _ _ _ c.requires.made.1 _ c.as_slice.ensures.value
-
-pub advance-requires-clause-called : goal.advance-requires-clause-called
-advance-requires-clause-called g c = now_called _ c.requires.made.0 _ _ _ _ c.requires.made.1 _ c.as_slice.ensures.value
+pub advance-requires : goal.advance-requires
+advance-requires g c =
+    let steps = c.requires.made.0 in
+    let made = c.requires.made.1 in
+    let same = c.as_slice.ensures.value in
+    record {
+      list = now_listed _ steps _ _ _ _ made _ same;
+      script = now_scripted _ steps _ _ _ _ made _ same;
+      serves = c.requires.serves;
+      waiting = now_waits _ steps _ _ _ _ made _ same;
+      come = now_come _ steps _ _ _ _ made _ same;
+      head = made.come_to.stands;
+      now = now_early _ steps _ _ _ _ made _ same;
+      called = now_called _ steps _ _ _ _ made _ same;
+    }
 
 pub returns-clause-decided : goal.returns-clause-decided
 returns-clause-decided g c = if_ok_with _ _ _ c.advance.result
