@@ -1,9 +1,15 @@
--- What a read carries, gathered extent by extent, is what it carries.
-use Rattle.std.proofs.Common.{◌≡◌, ℕ, zero, suc, ◌+◌, ◌-◌, ◌≤◌, ◌<◌, List, [], ◌∷◌, ◌++◌, length, take, drop, get_or, map, filter, Bool, true, false, ◌&&◌, Some, inl, inr, refl, sym, ap, ◌∙◌, arith}
-use Rattle.std.specs.Prelude.{slice_get, nat_le, nat_lt, ◌||◌}
+-- What a read carries, gathered extent by extent, is what it carries, and is due.
+use Rattle.std.proofs.Common.{◌≡◌, List, [], ◌∷◌, ◌++◌, map, filter, Bool, true, false, ◌||◌, inl, inr, refl, sym, ap, ◌∙◌, arith, subst, ℕ, zero, suc, ◌+◌, ◌-◌, ◌≤◌, ◌<◌, length, take, drop, get_or, ◌&&◌, Some, ◌^◌}
 use Rattle.std.specs.List.{fold, AllByRecursion}
 use Rattle.std.proofs.lemmas.Bool.{cases_Bool}
 use Rattle.std.proofs.lemmas.Bool.Decides.{nat_tests}
+use Rattle.fb_wanted.specs.declared.block.Block.{Block}
+use Rattle.fb_model.specs.History.{same_block, Past, registered, wanted}
+use Rattle.fb_plan.specs.declared.catching.Catch.{Catch}
+use Rattle.fb_plan.specs.Order.{is_before, place_in}
+use Rattle.fb_plan.proofs.Sorted.{put_front, put_behind}
+use Rattle.fb_decide.specs.Deliveries.{AreDistinct, AreDue, row_in, delivery_in, rides_in}
+use Rattle.std.specs.Prelude.{slice_get, nat_le, nat_lt}
 use Rattle.std.proofs.lemmas.List.{take_more, drop_more, drop_all}
 use Rattle.std.proofs.lemmas.Option.{slice_get_within, get_or_from_slice_get, slice_get-get_or}
 use Rattle.fb_units.specs.declared.types.Request.{Request}
@@ -14,17 +20,93 @@ use Rattle.fb_sectormap.specs.Lookup.{track_at}
 use Rattle.fb_service.specs.Extents.{IsUnbroken}
 use Rattle.fb_service.specs.declared.passage.Extent.{Extent}
 use Rattle.fb_service.specs.declared.passage.Passage.{Passage}
-use Rattle.fb_wanted.specs.declared.block.Block.{Block}
 use Rattle.fb_wanted.specs.declared.block.Entry.{Entry}
 use Rattle.fb_wanted.specs.States.{is_wanted, on_track, wanted_of}
-use Rattle.fb_model.specs.Rides.{lies_in}
-use Rattle.fb_plan.specs.declared.catching.Catch.{Catch}
-use Rattle.fb_plan.specs.Order.{place_in}
-use Rattle.fb_decide.specs.Carried.{ride_of, begins_in, begun_in, carried_of, with_ride, AreLaid}
-use Rattle.fb_decide.specs.Deliveries.{AreDistinct}
-use Rattle.fb_decide.proofs.Swapping.{both_kinds}
+use Rattle.fb_model.specs.Rides.{lies_in, begin_at, end_at, in_order}
+use Rattle.fb_decide.specs.Carried.{ride_of, begins_in, begun_in, carried_of, with_ride, AreLaid, AreExtents, IsWholeBlock, AreWholeBlocks}
 use Rattle.fb_wanted.proofs.Kept.{same_itself as track_itself}
-use Rattle.fb_tasks.proofs.Lists.{filter_none, filter_same, all_any, all_at, all_weaker}
+use Rattle.fb_tasks.proofs.Lists.{filter_none, filter_same, all_any, all_at, all_weaker, all_map}
+use Rattle.fb_geometry.specs.Places.{places}
+use Rattle.fb_service.specs.declared.disk.Disk.{Disk}
+use Rattle.fb_store.specs.Index.{Holding}
+use Rattle.fb_rows.specs.declared.back.DeliveryRow.{DeliveryRow}
+use Rattle.fb_rows.specs.declared.gap.How.TheVariants.{Ride as ByRide}
+use Rattle.fb_model.specs.PlainReplay.{Served}
+use Rattle.fb_tasks.specs.declared.session.Session.{Session}
+use Rattle.fb_tasks.specs.Standing.{entry_of}
+use Rattle.fb_tasks.specs.Telling.{Tells}
+use Rattle.fb_decide.proofs.Placing.{rows-in_order, due-filtered}
+
+after_all : (a b c : Catch) → is_before a b ≡ true → is_before b c ≡ true → is_before a c ≡ true
+after_all a b c h k = grind (arith, nat_tests)
+
+not_both : (a b : Catch) → is_before a b ≡ true → is_before b a ≡ false
+not_both a b h = grind (arith, nat_tests)
+
+-- of two catches of different blocks one comes before the other
+one_is_first : (a b : Catch) → same_block a.block b.block ≡ false → is_before a b ≡ false → is_before b a ≡ true
+one_is_first a b apart h = grind (arith, nat_tests)
+
+-- a catch that is to stand before a placed one
+front : (os : List Catch) (a b : Catch) → is_before a b ≡ true → place_in (place_in os a) b ≡ place_in (place_in os b) a
+front [] a b h = put_behind a b [] (not_both a b h) ∙ sym (put_front b a [] h)
+front (o ∷ os) a b h = elim (cases_Bool (is_before b o)) [
+  | inl holds ↦
+      let also = after_all a b o h holds in
+      ap (λ xs. place_in xs b) (put_front o a os also) ∙ put_behind a b (o ∷ os) (not_both a b h) ∙ ap (λ xs. a ∷ xs) (put_front o b os holds)
+      ∙ sym (ap (λ xs. place_in xs a) (put_front o b os holds) ∙ put_front b a (o ∷ os) h)
+  | inr fails ↦ elim (cases_Bool (is_before a o)) [
+    | inl first ↦
+        ap (λ xs. place_in xs b) (put_front o a os first) ∙ put_behind a b (o ∷ os) (not_both a b h) ∙ ap (λ xs. a ∷ xs) (put_behind o b os fails)
+        ∙ sym (ap (λ xs. place_in xs a) (put_behind o b os fails) ∙ put_front o a (place_in os b) first)
+    | inr later ↦
+        ap (λ xs. place_in xs b) (put_behind o a os later) ∙ put_behind o b (place_in os a) fails ∙ ap (λ xs. o ∷ xs) (front os a b h)
+        ∙ sym (ap (λ xs. place_in xs a) (put_behind o b os fails) ∙ put_behind o a (place_in os b) later)
+  ]
+]
+
+pub swapped : (os : List Catch) (a b : Catch) → same_block a.block b.block ≡ false → place_in (place_in os a) b ≡ place_in (place_in os b) a
+swapped os a b apart = elim (cases_Bool (is_before a b)) [
+  | inl holds ↦ front os a b holds
+  | inr fails ↦ sym (front os b a (one_is_first a b apart fails))
+]
+
+-- each of these is of another block
+abbrev pub IsApart : Catch → List Catch → Type 0
+IsApart catch others = AllByRecursion (λ other. same_block catch.block other.block ≡ false) others
+
+-- placed behind the others, it stands where it does when it is placed before them
+pub moved : (os : List Catch) (catch : Catch) (others : List Catch) → IsApart catch others → fold place_in (place_in os catch) others ≡ place_in (fold place_in os others) catch
+moved os catch [] apart = refl
+moved os catch (other ∷ others) apart = ap (λ xs. fold place_in xs others) (swapped os catch other apart.0) ∙ moved (place_in os other) catch others apart.1
+
+filtered_apart : (f : Block → Catch) → ((b : Block) → (f b).block ≡ b) → (p : Block → Bool) (block : Block) (blocks : List Block) → AllByRecursion (λ other. same_block block other ≡ false) blocks
+    → IsApart (f block) (map f (filter p blocks))
+filtered_apart f its p block [] apart = tt
+filtered_apart f its p block (other ∷ blocks) apart = elim (cases_Bool (p other)) [
+  | inl holds ↦ rw holds (subst (λ b. same_block b (f other).block ≡ false) (sym (its block)) (subst (λ b. same_block block b ≡ false) (sym (its other)) apart.0), filtered_apart f its p block blocks apart.1)
+  | inr fails ↦ rw fails (filtered_apart f its p block blocks apart.1)
+]
+
+fold_joined : (os xs ys : List Catch) → fold place_in os (xs ++ ys) ≡ fold place_in (fold place_in os xs) ys
+fold_joined os [] ys = refl
+fold_joined os (x ∷ xs) ys = fold_joined (place_in os x) xs ys
+
+-- blocks of one kind and then those of another are the blocks of both kinds
+pub both_kinds : (f : Block → Catch) → ((b : Block) → (f b).block ≡ b) → (p q : Block → Bool) → ((b : Block) → p b ≡ true → q b ≡ false) → (blocks : List Block) → AreDistinct blocks → (os : List Catch)
+    → fold place_in (fold place_in os (map f (filter p blocks))) (map f (filter q blocks)) ≡ fold place_in os (map f (filter (λ b. p b || q b) blocks))
+both_kinds f its p q never [] apart os = refl
+both_kinds f its p q never (b ∷ blocks) apart os = elim (cases_Bool (p b)) [
+  | inl is_p ↦ let not_q = never b is_p in rw (is_p, not_q) (both_kinds f its p q never blocks apart.1 (place_in os (f b)))
+  | inr not_p ↦ grind (
+    arith,
+    moved os (f b) (map f (filter p blocks)) (filtered_apart f its p b blocks apart.0),
+    both_kinds f its p q never blocks apart.1 (place_in os (f b)),
+    both_kinds f its p q never blocks apart.1 os,
+  )
+]
+
+-- ---- what a read carries, gathered extent by extent, is what it carries
 
 -- what these registered blocks add, where they begin in the extent
 abbrev pub added : List Passage → Extent → Request → List Catch → List Entry → List Catch
@@ -146,3 +228,36 @@ each_wanted P (entry ∷ entries) all = grind (arith, all.0, each_wanted P entri
 
 pub extent_at : (P : Extent → Type 0) (extents : List Extent) → AllByRecursion P extents → (i : ℕ) (d : Extent) → i < length extents → P (get_or extents i d)
 extent_at P extents all i d within = all_at P extents i (get_or extents i d) all (slice_get-get_or extents i d within)
+
+-- ---- what a read carries is due: its blocks are wanted, and each is another than the others
+
+abbrev pub ride_row : Holding → Served → Block → DeliveryRow
+ride_row holding served block = delivery_in holding ByRide block (begin_at served.passages block.lbn) (end_at served.passages (block.lbn + block.count - 1))
+
+rows_by : (holding : Holding) (served : Served) (bs : List Block) → map (row_in holding ByRide) (map (ride_of served.passages) bs) ≡ map (ride_row holding served) bs
+rows_by holding served [] = refl
+rows_by holding served (b ∷ bs) = ap (λ rs. ride_row holding served b ∷ rs) (rows_by holding served bs)
+
+-- the deliveries of what is carried
+pub rows-carried : (holding : Holding) (served : Served) (blocks : List Block) → served.request.write ≡ false
+    → map (row_in holding ByRide) (carried_of served.passages served.request blocks) ≡ rides_in holding served blocks
+unfolding carried_of
+rows-carried holding served blocks reads = rw reads
+    (rows-in_order holding ByRide (map (ride_of served.passages) (filter (lies_in served.request) blocks)) ∙ ap in_order (rows_by holding served (filter (lies_in served.request) blocks)))
+
+pub due-carried : (holding : Holding) (served : Served) (past : Past) → served.request.write ≡ false → AreDistinct (wanted past) → AreDue past (rides_in holding served (wanted past))
+due-carried holding served past reads distinct = rw reads (due-filtered past (lies_in served.request) (ride_row holding served) (λ b. refl) distinct)
+
+pub none-carried : (holding : Holding) (served : Served) (blocks : List Block) → served.request.write ≡ true → rides_in holding served blocks ≡ []
+none-carried holding served blocks writes = rw writes refl
+
+-- registered blocks have sectors, and lie on their tracks
+pub whole-told : (disk : Disk) (past : Past) (sessions : List Session) (held : List Entry) → Tells disk.map past sessions held → AreWholeBlocks disk.map held
+whole-told disk past sessions held tells = λ i entry at. all_at (λ (e : Entry). IsWholeBlock disk.map e.block) held i entry
+    (subst (AllByRecursion (λ (e : Entry). IsWholeBlock disk.map e.block)) (sym tells.entries) (all_map (λ (e : Entry). IsWholeBlock disk.map e.block) (entry_of past) (registered past)
+    (all_weaker _ (IsWholeBlock disk.map) (λ b h. record { some = h.some; within = h.within; track = h.track }) (registered past) tells.on_disk))) at
+
+pub all-extents : (disk : Disk) (extents : List Extent) → AllByRecursion (λ extent. extent.first + extent.count ≤ length (places disk.map)) extents → AllByRecursion (IsUnbroken disk.map) extents
+    → AllByRecursion (λ extent. extent.begin ≤ 10 ^ 19) extents → length (places disk.map) ≤ 10 ^ 12 → AreExtents disk.map extents
+all-extents disk [] within unbroken early few = tt
+all-extents disk (extent ∷ extents) within unbroken early few = (record { on_disk = within.0; within = omega (arith, within.0, few); early = early.0; unbroken = unbroken.0 }, all-extents disk extents within.1 unbroken.1 early.1 few)

@@ -1,21 +1,151 @@
--- The next decision, from what stands before it.
-use Rattle.std.proofs.Common.{◌≡◌, ◌⊎◌, ℕ, zero, suc, ◌<◌, ◌≤◌, max, List, [], ◌∷◌, ◌++◌, length, Bool, Option, Some, None, refl, ap, sym, ◌∙◌, arith, true}
-use Rattle.std.specs.Prelude.{nat_le, filter, unwrap_or}
-use Rattle.std.specs.Option.{option_map}
+-- The next instant and the next decision, from what stands before it.
+use Rattle.std.proofs.Common.{◌≡◌, ◌⊎◌, ℕ, zero, suc, ◌<◌, ◌≤◌, min, List, [], ◌∷◌, map, take, drop, Option, Some, None, refl, ap, sym, arith, inl, inr, subst, max, ◌++◌, length, Bool, ◌∙◌, true}
+use Rattle.std.specs.Prelude.{IfSome, slice_get, nat_le, filter, unwrap_or}
 use Rattle.std.specs.List.{AllByRecursion, fold}
+use Rattle.fb_units.specs.Rising.{IsRising}
+use Rattle.fb_units.specs.declared.types.Request.{Request}
+use Rattle.fb_calls.specs.declared.call.Call.{Call}
+use Rattle.fb_calls.proofs.Lists.{all_weaker}
+use Rattle.fb_model.specs.Inputs.{Inputs, requests}
+use Rattle.fb_model.specs.Decisions.{instants_of, serves, idles, idle_until, last_decision, decisions_from}
+use Rattle.fb_model.proofs.Instants.{IsAmong, rising_all_among, was_all_among}
+use Rattle.fb_decide.specs.Deciding.{next_of}
+use Rattle.fb_decide.proofs.Instants.{LieApart, all_of_both, one_of_second, one_filtered, filtered_below, idle_none, idle_next, last_after, last_passed}
+use Rattle.std.proofs.lemmas.Bool.{cases_lt}
+use Rattle.std.specs.Option.{option_map}
 use Rattle.std.proofs.lemmas.Bool.Decides.{nat_tests}
 use Rattle.fb_units.specs.declared.types.Track.{Track}
-use Rattle.fb_units.specs.declared.types.Request.{Request}
-use Rattle.fb_units.specs.Rising.{IsRising}
 use Rattle.fb_service.specs.declared.disk.Disk.{Disk}
 use Rattle.fb_model.specs.PlainReplay.{Key, Served, plain, service, finish, last_track, start_of, first_ready}
-use Rattle.fb_model.specs.Decisions.{serves, idles, idle_until, last_decision, decisions_from}
-use Rattle.fb_model.proofs.Instants.{IsAmong}
 use Rattle.fb_decide.specs.Waiting.{AreByArrival}
 use Rattle.fb_decide.proofs.Readiness.{start_ahead}
-use Rattle.fb_decide.proofs.Instants.{LieApart, one_filtered, filtered_below, idle_none, idle_next, last_after, last_passed}
 use Rattle.fb_model.proofs.Lists.{all_filter, rising_filter}
 use Rattle.fb_model.proofs.Replays.{start_from as start_after}
+
+-- no request arrives and no call takes effect before this instant, and one does then
+pub record IsNextOf (a : Option Request) (b : Option Call) (t : ℕ) : Type 0 where
+  pub arrives : IfSome a (λ r. t ≤ r.arrival)
+  pub calls : IfSome b (λ c. t ≤ c.instant)
+  pub one : ((r : Request) × (a ≡ Some r) × (r.arrival ≡ t)) ⊎ ((c : Call) × (b ≡ Some c) × (c.instant ≡ t))
+
+some_one : {X : Type 0} (x y : X) → ◌≡◌ {A = Option X} (Some x) (Some y) → x ≡ y
+some_one x y e = cc
+
+no_some : {X : Type 0} (x : X) → ◌≡◌ {A = Option X} None (Some x) → ⊥
+no_some x e = cc
+
+either_is : (r : Request) (c : Call) (t : ℕ) → min r.arrival c.instant ≡ t → IsNextOf (Some r) (Some c) t
+either_is r c t e = record {
+  arrives = omega (arith, e);
+  calls = omega (arith, e);
+  one = elim (cases_lt r.arrival c.instant) [
+    | inl first ↦ inl (r, refl, (let h : r.arrival ≡ t = omega (arith, e, first) in h))
+    | inr second ↦ inr (c, refl, (let h : c.instant ≡ t = omega (arith, e, second) in h))
+  ];
+}
+
+pub next_is : (a : Option Request) (b : Option Call) (t : ℕ) → next_of a b ≡ Some t → IsNextOf a b t
+next_is None None t e = absurd (no_some t e)
+next_is (Some r) None t e = let same = some_one r.arrival t e in record { arrives = omega (arith, same); calls = tt; one = inl (r, refl, same) }
+next_is None (Some c) t e = let same = some_one c.instant t e in record { arrives = tt; calls = omega (arith, same); one = inr (c, refl, same) }
+next_is (Some r) (Some c) t e = either_is r c t (some_one (min r.arrival c.instant) t e)
+
+-- and where there is none, nothing is to come
+pub none_is : (a : Option Request) (b : Option Call) → next_of a b ≡ None → (a ≡ None) × (b ≡ None)
+none_is None None e = (refl, refl)
+none_is (Some r) None e = absurd (no_some r.arrival (sym e))
+none_is None (Some c) e = absurd (no_some c.instant (sym e))
+none_is (Some r) (Some c) e = absurd (no_some (min r.arrival c.instant) (sym e))
+
+module _ {X : Type 0} (f : X → ℕ) where
+  -- of elements in order the first n have come, and the others come no earlier than the next
+  apart_at : (now t n : ℕ) (xs : List X) → IsRising (map f xs) → AllByRecursion (λ x. f x ≤ now) (take n xs) → IfSome (slice_get xs n) (λ x. t ≤ f x) → LieApart now t (map f xs)
+  apart_at now t zero [] rising come next = tt
+  apart_at now t zero (x ∷ xs) rising come next = (inr next, all_weaker (λ y. f x ≤ y) (λ y. (y ≤ now) ⊎ (t ≤ y)) (λ y h. inr (omega (arith, h, next))) (map f xs) rising.0)
+  apart_at now t (suc n) [] rising come next = tt
+  apart_at now t (suc n) (x ∷ xs) rising come next = (inl come.0, apart_at now t n xs rising.1 come.1 next)
+
+  passed_at : (now n : ℕ) (xs : List X) → AllByRecursion (λ x. f x ≤ now) (take n xs) → slice_get xs n ≡ None → AllByRecursion (λ t. t ≤ now) (map f xs)
+  passed_at now zero [] come none = tt
+  passed_at now zero (x ∷ xs) come none = absurd (no_some x (sym none))
+  passed_at now (suc n) [] come none = tt
+  passed_at now (suc n) (x ∷ xs) come none = (come.0, passed_at now n xs come.1 none)
+
+  there_at : (n : ℕ) (xs : List X) (x : X) → slice_get xs n ≡ Some x → IsAmong (f x) (map f xs)
+  there_at n [] x at = absurd (no_some x at)
+  there_at zero (y ∷ xs) x at = inl (ap f (some_one y x at))
+  there_at (suc n) (y ∷ xs) x at = inr (there_at n xs x at)
+
+-- none is left behind the last one
+pub none_dropped : {X : Type 0} (n : ℕ) (xs : List X) → slice_get xs n ≡ None → drop n xs ≡ []
+none_dropped zero [] none = refl
+none_dropped zero (x ∷ xs) none = absurd (no_some x (sym none))
+none_dropped (suc n) [] none = refl
+none_dropped (suc n) (x ∷ xs) none = none_dropped n xs none
+
+-- requests behind the next one arrive no earlier
+pub later_dropped : (t n : ℕ) (list : List Request) → IsRising (map (λ r. r.arrival) list) → IfSome (slice_get list n) (λ r. t ≤ r.arrival) → AllByRecursion (λ r. t ≤ r.arrival) (drop n list)
+later_dropped t zero [] rising next = tt
+later_dropped t zero (r ∷ rs) rising next = (next, behind rs rising.0) where
+  behind : (rs : List Request) → AllByRecursion (λ later. r.arrival ≤ later) (map (λ r. r.arrival) rs) → AllByRecursion (λ r. t ≤ r.arrival) rs
+  behind [] all = tt
+  behind (o ∷ rs) all = (omega (arith, all.0, next), behind rs all.1)
+later_dropped t (suc n) [] rising next = tt
+later_dropped t (suc n) (r ∷ rs) rising next = later_dropped t n rs rising.1 next
+
+-- what has come by now, and that nothing else has
+pub record HasCome (inputs : Inputs) (now joined called : ℕ) : Type 0 where
+  pub rising : IsRising (map (λ r. r.arrival) (requests inputs))
+  pub instants : IsRising (map (λ c. c.instant) inputs.calls)
+  pub arrivals : AllByRecursion (λ r. r.arrival ≤ now) (take joined (requests inputs))
+  pub calls : AllByRecursion (λ c. c.instant ≤ now) (take called inputs.calls)
+  pub no_arrival : IfSome (slice_get (requests inputs) joined) (λ r. now < r.arrival)
+  pub no_call : IfSome (slice_get inputs.calls called) (λ c. now < c.instant)
+
+module _ (inputs : Inputs) (now joined called : ℕ) (come : HasCome inputs now joined called) where
+  abbrev next : Option ℕ
+  next = next_of (slice_get (requests inputs) joined) (slice_get inputs.calls called)
+
+  pub rising_instants : IsRising (instants_of inputs)
+  rising_instants = rising_all_among (map (λ c. c.instant) inputs.calls) (map (λ r. r.arrival) (requests inputs)) come.rising
+
+  module _ (t : ℕ) (h : next ≡ Some t) where
+    is_next : IsNextOf (slice_get (requests inputs) joined) (slice_get inputs.calls called) t
+    is_next = next_is (slice_get (requests inputs) joined) (slice_get inputs.calls called) t h
+
+    pub to_come : now < t
+    to_come = elim is_next.one [
+      | inl first ↦ (let late : now < first.0.arrival = subst (λ (o : Option Request). IfSome o (λ r. now < r.arrival)) first.1 come.no_arrival in omega (arith, late, first.2))
+      | inr second ↦ (let late : now < second.0.instant = subst (λ (o : Option Call). IfSome o (λ c. now < c.instant)) second.1 come.no_call in omega (arith, late, second.2))
+    ]
+
+    pub among_instants : IsAmong t (instants_of inputs)
+    among_instants = elim is_next.one [
+      | inl first ↦ was_all_among t (map (λ c. c.instant) inputs.calls) (map (λ r. r.arrival) (requests inputs))
+          (subst (λ u. IsAmong u (map (λ r. r.arrival) (requests inputs))) first.2 (there_at (λ r. r.arrival) joined (requests inputs) first.0 first.1))
+      | inr second ↦ one_of_second t (map (λ c. c.instant) inputs.calls) (map (λ r. r.arrival) (requests inputs))
+          (subst (λ u. IsAmong u (map (λ c. c.instant) inputs.calls)) second.2 (there_at (λ c. c.instant) called inputs.calls second.0 second.1))
+    ]
+
+    pub apart_instants : LieApart now t (instants_of inputs)
+    apart_instants = all_of_both (λ x. (x ≤ now) ⊎ (t ≤ x)) (map (λ c. c.instant) inputs.calls) (map (λ r. r.arrival) (requests inputs))
+        (apart_at (λ r. r.arrival) now t joined (requests inputs) come.rising come.arrivals is_next.arrives)
+        (apart_at (λ c. c.instant) now t called inputs.calls come.instants come.calls is_next.calls)
+
+    pub left_later : AllByRecursion (λ r. t ≤ r.arrival) (drop joined (requests inputs))
+    left_later = later_dropped t joined (requests inputs) come.rising is_next.arrives
+
+  module _ (h : next ≡ None) where
+    pub passed_instants : AllByRecursion (λ x. x ≤ now) (instants_of inputs)
+    passed_instants =
+        let none = none_is (slice_get (requests inputs) joined) (slice_get inputs.calls called) h in
+        all_of_both (λ x. x ≤ now) (map (λ c. c.instant) inputs.calls) (map (λ r. r.arrival) (requests inputs))
+        (passed_at (λ r. r.arrival) now joined (requests inputs) come.arrivals none.0) (passed_at (λ c. c.instant) now called inputs.calls come.calls none.1)
+
+    pub none_left : drop joined (requests inputs) ≡ []
+    none_left = none_dropped joined (requests inputs) (none_is (slice_get (requests inputs) joined) (slice_get inputs.calls called) h).0
+
+-- ---- the next decision, from what stands before it
 
 -- a request that starts now is the next decision
 pub serves_now : (disk : Disk) (instants : List ℕ) (until : ℕ) (head : Track) (now : ℕ) (request : Request) (later : List Served)

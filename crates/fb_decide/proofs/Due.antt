@@ -27,7 +27,7 @@ use Rattle.fb_decide.specs.Deliveries.{delivery_in, caught_in, rides_in, due_in}
 use Rattle.fb_decide.specs.Standing.{Mirrors, IsFoundIn}
 use Rattle.fb_decide.proofs.DiskRows.{mirrored}
 use Rattle.fb_decide.proofs.Placing.{in_order-each, delivery_by}
-use Rattle.fb_decide.proofs.Rides.{ride_row}
+use Rattle.fb_decide.proofs.Carrying.{ride_row}
 use Rattle.fb_tasks.proofs.Lists.{all_weaker, all_pass, all_filter, all_map, all_append}
 use Rattle.fb_model.proofs.Lists.{all_both, same_kept, same_map_where}
 use Rattle.fb_decide.proofs.Replayed.{same_choice}

@@ -1,8 +1,20 @@
 -- A run goes on by one decision.
-use Rattle.std.proofs.Common.{◌≡◌, ℕ, zero, suc, ◌+◌, ◌<◌, ◌≤◌, ◌^◌, List, [], ◌∷◌, ◌++◌, Bool, true, false, None, Some, length, map, take, drop, refl, ap, sym, subst, ◌∙◌, arith, inl, inr, append_assoc, append-nil}
+use Rattle.std.proofs.Common.{◌≡◌, ℕ, List, [], ◌∷◌, ◌++◌, refl, ap, sym, subst, ◌∙◌, append_assoc, zero, suc, ◌+◌, ◌<◌, ◌≤◌, ◌^◌, Bool, true, false, None, Some, length, map, take, drop, arith, inl, inr, append-nil}
+use Rattle.std.specs.List.{fold, AllByRecursion}
+use Rattle.std.proofs.lemmas.List.{map-append, length-append}
+use Rattle.fb_model.specs.PlainReplay.{Served, service, finish, last_track, plain, first_least, start_of}
+use Rattle.fb_model.specs.Inputs.{Inputs, served, requests}
+use Rattle.fb_model.specs.Content.{medium_of, Written, fore_row}
+use Rattle.fb_model.specs.Decisions.{Decision, end_of, run_end, serves, idles, ends, instants_of, decisions_from, decisions, last_decision}
+use Rattle.fb_model.specs.Steps.{past_after, history, take_call, calls_due}
+use Rattle.fb_model.proofs.Steps.{history-append}
+use Rattle.fb_tasks.specs.Telling.{Tells, calls_of}
+use Rattle.fb_decide.specs.declared.deciding.Course.{Course}
+use Rattle.fb_decide.specs.Calls.{IsCalled, past_settled, part_by}
+use Rattle.fb_decide.specs.Standing.{IsTrue, Mirrors}
+use Rattle.fb_decide.specs.Making.{Step, Replayed, HasRun, decided_in, all_writes, fore_row_of, GoesOn, HasEnded, HasComeTo, AreKnown, decisions_by, decisions_left, rest_by, rest_of}
+use Rattle.fb_decide.proofs.Stepping.{HasStepped, StepsBy, serves_step, stays_step, ends_step}
 use Rattle.std.specs.Prelude.{nat_lt, nat_le, slice_get, filter, if◌then◌else◌}
-use Rattle.std.specs.List.{AllByRecursion, fold}
-use Rattle.std.proofs.lemmas.List.{length-append}
 use Rattle.std.proofs.lemmas.Bool.{cases_Bool}
 use Rattle.std.proofs.lemmas.Bool.Decides.{nat_tests}
 use Rattle.fb_units.specs.declared.types.Request.{Request}
@@ -14,34 +26,53 @@ use Rattle.fb_calls.proofs.Lists.{all_weaker}
 use Rattle.fb_rows.specs.Ranges.{HasRanges}
 use Rattle.fb_rows.specs.declared.gap.Plan.{Plan}
 use Rattle.fb_rows.specs.declared.gap.Plan.TheVariants.{Direct}
-use Rattle.fb_model.specs.PlainReplay.{Served, service, finish, last_track, plain, first_least, start_of}
-use Rattle.fb_model.specs.Inputs.{Inputs, requests, served}
 use Rattle.fb_model.specs.Accepted.{IsRequestOf}
-use Rattle.fb_model.specs.Content.{Written, medium_of, fore_row}
-use Rattle.fb_model.specs.Decisions.{serves, idles, ends, instants_of, decisions_from, decisions, last_decision}
 use Rattle.fb_model.specs.History.{Past}
-use Rattle.fb_model.specs.Steps.{history, take_call, calls_due}
 use Rattle.fb_model.proofs.Instants.{IsAmong}
 use Rattle.fb_model.proofs.Lists.{all_append, all_left, all_right, all_map, is_by}
-use Rattle.fb_tasks.specs.Telling.{calls_of}
 use Rattle.fb_decide.specs.declared.background.Background.{Background}
-use Rattle.fb_decide.specs.declared.deciding.Course.{Course}
 use Rattle.fb_decide.specs.Waiting.{left, IsWaiting, AreByArrival}
-use Rattle.fb_decide.specs.Calls.{past_settled, part_by}
-use Rattle.fb_decide.specs.Standing.{Mirrors}
 use Rattle.fb_decide.specs.Deciding.{next_of, stay_of, prepared, HasServedNext, HasStayed, HasActed, serves_pick, stays_on, stays_last, ends_here, HasPrepared, HasDecided}
 use Rattle.fb_decide.proofs.Readiness.{taken, taken_ready, start_waiting, ahead_of, plain_next, order_dropped}
-use Rattle.fb_decide.proofs.Readiness as readiness
-use Rattle.fb_decide.specs.Making.{Step, Replayed, all_writes, fore_row_of, decided_in, HasRun, GoesOn, HasEnded, HasComeTo, AreKnown, decisions_by, decisions_left, rest_by, rest_of}
 use Rattle.fb_decide.proofs.Replayed.{row_made, replayed_more}
 use Rattle.fb_decide.proofs.Instants.{all_of_both}
-use Rattle.fb_decide.proofs.Decided.{serves_now, stays_next, ends_now, plain_same, starts_from, StartsFrom}
+use Rattle.fb_decide.proofs.Decided.{serves_now, stays_next, ends_now, plain_same, starts_from, StartsFrom, HasCome, to_come, among_instants, apart_instants, left_later, passed_instants, none_left, rising_instants}
 use Rattle.fb_decide.proofs.Mirroring.{held_until, mirrors_run, all_late, served_late}
-use Rattle.fb_decide.proofs.Coming.{HasCome, to_come, among_instants, apart_instants, left_later, passed_instants, none_left, rising_instants}
 use Rattle.fb_tasks.proofs.AllChoices.{by_all}
-use Rattle.fb_decide.proofs.Stepping.{HasStepped, stepped, serves_done, stays_done, ends_done, has_served, served_gots, stayed_gots}
-use Rattle.fb_decide.proofs.Running.{one_decided, run_more, called_more}
 use Rattle.fb_tasks.proofs.Lists.{all_pass, all_at}
+use Rattle.fb_decide.proofs.Readiness as readiness
+
+-- ---- one more step
+
+pub one_decided : (steps : List Step) (step : Step) (rest later whole : List Decision)
+    → decided_in steps ++ rest ≡ whole → rest ≡ step.0 ∷ later → decided_in (steps ++ step ∷ []) ++ later ≡ whole
+one_decided steps step rest later whole so_far next =
+    ap (λ ds. ds ++ later) (map-append (λ (step : Step). step.0) steps (step ∷ []))
+    ∙ append_assoc (decided_in steps) (step.0 ∷ []) later
+    ∙ ap (λ ds. decided_in steps ++ ds) (sym next) ∙ so_far
+
+pub fold_last : (now : ℕ) (ds : List Decision) (d : Decision) → fold (λ end decision. end_of decision) now (ds ++ d ∷ []) ≡ end_of d
+fold_last now [] d = refl
+fold_last now (e ∷ ds) d = fold_last (end_of e) ds d
+
+module _ (inputs : Inputs) (rest later : List Served) (before : Course) (steps : List Step) (run : HasRun inputs rest before steps)
+    (step : Step) (after : Course) (this : HasStepped inputs (history inputs steps) before step after) where
+  pub same_history : history inputs (steps ++ step ∷ []) ≡ past_after inputs (history inputs steps) step
+  same_history = history-append inputs [] steps (step ∷ [])
+
+  pub called_more : IsCalled inputs.disk.map inputs.calls (history inputs (steps ++ step ∷ [])) after.called
+  called_more = subst (λ past. IsCalled inputs.disk.map inputs.calls past after.called) (sym same_history) this.called
+
+  abbrev pub run_more : (done : List Served) → Replayed inputs.latent (served inputs) later after.now after.store done → HasRun inputs later after (steps ++ step ∷ [])
+  run_more done replayed = record {
+    done = done;
+    replayed = replayed;
+    tells = subst (λ past. Tells inputs.disk.map past after.background.sessions after.background.wanted) (sym same_history) this.tells;
+    finds = subst (IsTrue (medium_of inputs) after.store) (sym same_history) this.finds;
+    ends_at = ap run_end (map-append (λ (step : Step). step.0) steps (step ∷ [])) ∙ fold_last 0 (decided_in steps) step.0 ∙ this.ends_at;
+  }
+
+-- ---- a run goes on by one decision
 
 -- ---- the calls that have taken effect
 
@@ -159,7 +190,7 @@ module _ (inputs : Inputs) (known : AreKnown inputs) (before : Course) (pending 
     this = service inputs.disk before.head before.now request
 
     abbrev later : List Served
-    later = plain (length (others ++ ahead)) inputs.disk inputs.key after.head after.now (others ++ ahead)
+    later = rest_of inputs after others
 
     among : IsRequestOf inputs.disk.map request × (AllByRecursion (IsRequestOf inputs.disk.map) others × (length others + 1 ≡ length waiting))
     among = taken (IsRequestOf inputs.disk.map) (inputs.key inputs.disk before.head before.now) waiting request others (all_left (IsRequestOf inputs.disk.map) waiting ahead on_disk) pick
@@ -177,51 +208,33 @@ module _ (inputs : Inputs) (known : AreKnown inputs) (before : Course) (pending 
         ∙ plain_next (length (others ++ ahead)) inputs.disk inputs.key before.head before.now left_over before.now request (others ++ ahead) start
         (taken_ready (inputs.key inputs.disk before.head before.now) before.now waiting ahead request others ready.arrived not_come pick)
 
-    to_head : rest ≡ this ∷ plain (length (others ++ ahead)) inputs.disk inputs.key after.head (finish this) (others ++ ahead)
-    to_head = first_served ∙ ap (λ head. this ∷ plain (length (others ++ ahead)) inputs.disk inputs.key head (finish this) (others ++ ahead)) (sym now_served.stands)
-
     next : rest ≡ this ∷ later
-    next = to_head ∙ ap (λ t. this ∷ plain (length (others ++ ahead)) inputs.disk inputs.key after.head t (others ++ ahead)) (sym now_served.finished)
+    next = rw (now_served.same_joined, now_served.stands, now_served.finished) first_served
 
     mirrors : Mirrors (medium_of inputs) before.store before.now (held_until this)
     mirrors = mirrors_run inputs run.done rest before.now (held_until this) before.store run.replayed
-        (subst (λ services. AllByRecursion (λ (w : Written). held_until this < w.passage.end) (all_writes services)) (sym to_head)
-        (served_late (length (others ++ ahead)) inputs.disk known.takes_time inputs.key before.head before.now request after.head (others ++ ahead) among.0 others_on_disk))
+        (subst (λ services. AllByRecursion (λ (w : Written). held_until this < w.passage.end) (all_writes services)) (sym first_served)
+        (served_late (length (others ++ ahead)) inputs.disk known.takes_time inputs.key before.head before.now request (last_track inputs.disk this) (others ++ ahead) among.0 others_on_disk))
 
-    abbrev plan : Plan
-    plan = (has_served inputs (history inputs steps) before background joined called ready.settled request among.0 after now_served mirrors).plan
+    made : StepsBy inputs (history inputs steps) before (serves this) after
+    made = serves_step inputs (history inputs steps) before background joined called ready.settled run.tells run.finds request among.0 after now_served mirrors
 
     abbrev step : Step
-    step = (
-      serves this,
-      part_by inputs.disk.map inputs.calls (history inputs steps) before.now plan
-          (served_gots inputs (history inputs steps) before background joined called ready.settled request among.0 after now_served mirrors),
-    )
-
-    is_stepped : HasStepped inputs (history inputs steps) before step after
-    is_stepped = stepped inputs (history inputs steps) before background called (serves this) plan
-        (served_gots inputs (history inputs steps) before background joined called ready.settled request among.0 after now_served mirrors) after (held_until this)
-        (serves_done inputs (history inputs steps) before background joined called ready.settled request among.0 after now_served mirrors) run.tells run.finds ready.settled
-
-    same_later : later ≡ rest_of inputs after others
-    same_later = ap (λ n. rest_by inputs after (others ++ drop n (requests inputs))) (sym now_served.same_joined)
+    step = (serves this, made.part)
 
     row_is : now_served.row ≡ fore_row (medium_of inputs) this
     unfolding medium_of
     row_is = row_made inputs.disk inputs.latent (served inputs) run.done rest later before.head before.now after.now request before.store run.replayed next
         (let h = now_served.later in omega (arith, h)) now_served.finished now_served.row now_served.is_row now_served.each
-        (all_weaker _ _ (λ (w : Written) h. omega (arith, h)) _ (all_late (length (others ++ ahead)) inputs.disk known.takes_time inputs.key after.head after.now (others ++ ahead) others_on_disk))
+        (all_weaker _ _ (λ (w : Written) h. omega (arith, h)) _ (all_late (length (left (requests inputs) after.joined others)) inputs.disk known.takes_time inputs.key after.head after.now (left (requests inputs) after.joined others) waits.on_disk))
 
     replayed : Replayed inputs.latent (served inputs) later after.now after.store (run.done ++ this ∷ [])
     replayed = replayed_more inputs.disk inputs.latent (served inputs) run.done rest later before.head before.now after.now request before.store run.replayed next
         (let h = now_served.later in omega (arith, h)) now_served.finished after.store now_served.leaves
 
-    next_decided : decisions_by inputs before rest ≡ serves this ∷ decisions_by inputs after (rest_of inputs after others)
-    next_decided = ap (decisions_by inputs before) next
-        ∙ serves_now inputs.disk (instants_of inputs) inputs.until before.head before.now request later
-        ∙ ap (λ head. serves this ∷ decisions_from inputs.disk (instants_of inputs) inputs.until head (finish this) later) (sym now_served.stands)
-        ∙ ap (λ t. serves this ∷ decisions_from inputs.disk (instants_of inputs) inputs.until after.head t later) (sym now_served.finished)
-        ∙ ap (λ services. serves this ∷ decisions_by inputs after services) same_later
+    next_decided : decisions_by inputs before rest ≡ serves this ∷ decisions_by inputs after later
+    next_decided = rw (now_served.same_joined, now_served.stands, now_served.finished)
+        (ap (decisions_by inputs before) first_served ∙ serves_now inputs.disk (instants_of inputs) inputs.until before.head before.now request _)
 
     longer : length (run.done ++ this ∷ []) ≡ length run.done + 1
     longer = length-append run.done (this ∷ [])
@@ -231,10 +244,9 @@ module _ (inputs : Inputs) (known : AreKnown inputs) (before : Course) (pending 
         let late = now_served.later in
         let soon = now_served.soon in
         record {
-          run = run_more inputs rest (rest_of inputs after others) before steps run step after is_stepped (run.done ++ this ∷ [])
-              (subst (λ services. Replayed inputs.latent (served inputs) services after.now after.store (run.done ++ this ∷ [])) same_later replayed);
-          decided = one_decided steps step (decisions_by inputs before rest) (decisions_by inputs after (rest_of inputs after others)) (decisions inputs) decided next_decided;
-          called = called_more inputs rest (rest_of inputs after others) before steps run step after is_stepped;
+          run = run_more inputs rest later before steps run step after made.stepped (run.done ++ this ∷ []) replayed;
+          decided = one_decided steps step (decisions_by inputs before rest) (decisions_by inputs after later) (decisions inputs) decided next_decided;
+          called = called_more inputs rest later before steps run step after made.stepped;
           arrivals = subst (λ n. AllByRecursion (λ r. r.arrival ≤ after.now) (take n (requests inputs))) (sym now_served.same_joined)
               (all_weaker (λ (r : Request). r.arrival ≤ before.now) (λ r. r.arrival ≤ after.now) (λ r h. omega (arith, h, late)) (take joined (requests inputs)) ready.come);
           calls_taken = subst (λ n. AllByRecursion (λ c. c.instant ≤ after.now) (take n inputs.calls)) (sym now_served.same_called)
@@ -248,14 +260,33 @@ module _ (inputs : Inputs) (known : AreKnown inputs) (before : Course) (pending 
     leads_serving : LeadsOn inputs before pending steps true after others count_after
     leads_serving = record {
       step = step;
-      stepped = is_stepped;
+      stepped = made.stepped;
       fore = now_served.more ∙ ap (λ row. before.fore ++ row ∷ []) row_is;
       fore_ranges = (subst HasRanges row_is now_served.ranges, tt);
       come_to = goes_on_serving;
       fewer = omega (arith, ap length next_decided, same_left);
     }
 
-  -- the head stays until the next instant
+  -- the head stays, and nothing that is left to be written ends by then
+  module _ (instant : ℕ) (upto : before.now ≤ instant) (after : Course) (stayed : HasStayed inputs.disk instant (prepared before background joined called) after)
+      (late : AllByRecursion (λ (w : Written). instant < w.passage.end) (all_writes rest)) where
+    stays : StepsBy inputs (history inputs steps) before (idles (stay_of before instant)) after
+    stays = stays_step inputs (history inputs steps) before background joined called ready.settled run.tells run.finds instant upto after stayed
+        (mirrors_run inputs run.done rest before.now instant before.store run.replayed late)
+
+  leads_by : (instant : ℕ) (after : Course) (count_after : ℕ) (more : Bool) → HasStayed inputs.disk instant (prepared before background joined called) after
+      → (made : StepsBy inputs (history inputs steps) before (idles (stay_of before instant)) after) → HasComeTo inputs more after waiting count_after (steps ++ (idles (stay_of before instant), made.part) ∷ [])
+      → decisions_left inputs more after waiting < length (decisions_by inputs before rest) → LeadsOn inputs before pending steps more after waiting count_after
+  leads_by instant after count_after more stayed made come_to fewer = record {
+    step = (idles (stay_of before instant), made.part);
+    stepped = made.stepped;
+    fore = stayed.same_fore ∙ sym (append-nil before.fore);
+    fore_ranges = tt;
+    come_to = come_to;
+    fewer = omega (arith, fewer, same_left);
+  }
+
+  -- until the next instant
   module _ (instant : ℕ) (after : Course) (count_after : ℕ) (empty : waiting ≡ []) (next : next_of (slice_get (requests inputs) joined) (slice_get inputs.calls called) ≡ Some instant)
       (stayed : HasStayed inputs.disk instant (prepared before background joined called) after) (waits : IsWaiting inputs.disk (requests inputs) after.now after.joined count_after waiting) where
     less : before.now < instant
@@ -274,36 +305,24 @@ module _ (inputs : Inputs) (known : AreKnown inputs) (before : Course) (pending 
     same_then = plain_same (length left_over) inputs.disk inputs.key before.head before.now instant left_over (omega (arith, less)) order_left late_left
 
     same_after : rest_then ≡ rest_of inputs after waiting
-    same_after =
-        ap (λ head. plain (length left_over) inputs.disk inputs.key head instant left_over) (sym stayed.same_head)
-        ∙ ap (λ t. plain (length left_over) inputs.disk inputs.key after.head t left_over) (sym stayed.until)
-        ∙ ap (λ n. rest_by inputs after (waiting ++ drop n (requests inputs))) (sym stayed.same_joined)
+    same_after = rw (stayed.same_joined, stayed.same_head, stayed.until) refl
 
-    mirrors_stay : Mirrors (medium_of inputs) before.store before.now instant
-    mirrors_stay = mirrors_run inputs run.done rest before.now instant before.store run.replayed
-        (subst (λ services. AllByRecursion (λ (w : Written). instant < w.passage.end) (all_writes services)) (sym same_then)
-        (all_late (length left_over) inputs.disk known.takes_time inputs.key before.head instant left_over on_disk))
+    late_writes : AllByRecursion (λ (w : Written). instant < w.passage.end) (all_writes rest)
+    late_writes = subst (λ services. AllByRecursion (λ (w : Written). instant < w.passage.end) (all_writes services)) (sym same_then)
+        (all_late (length left_over) inputs.disk known.takes_time inputs.key before.head instant left_over on_disk)
+
+    stays_now : StepsBy inputs (history inputs steps) before (idles (stay_of before instant)) after
+    stays_now = stays instant (omega (arith, less)) after stayed late_writes
 
     abbrev step_stay : Step
-    step_stay = (
-      idles (stay_of (prepared before background joined called) instant),
-      part_by inputs.disk.map inputs.calls (history inputs steps) before.now (Direct 0)
-          (stayed_gots inputs (history inputs steps) before background joined called ready.settled instant (omega (arith, less)) after stayed mirrors_stay),
-    )
-
-    stay_is_stepped : HasStepped inputs (history inputs steps) before step_stay after
-    stay_is_stepped = stepped inputs (history inputs steps) before background called step_stay.0 (Direct 0)
-        (stayed_gots inputs (history inputs steps) before background joined called ready.settled instant (omega (arith, less)) after stayed mirrors_stay) after instant
-        (stays_done inputs (history inputs steps) before background joined called ready.settled instant (omega (arith, less)) after stayed mirrors_stay) run.tells run.finds ready.settled
+    step_stay = (idles (stay_of before instant), stays_now.part)
 
     next_stay : decisions_by inputs before rest ≡ step_stay.0 ∷ decisions_by inputs after (rest_of inputs after waiting)
-    next_stay =
-        stays_next inputs.disk (instants_of inputs) inputs.until before.head before.now instant rest less (rising_instants inputs before.now joined called come)
+    next_stay = rw (stayed.same_joined, stayed.same_head, stayed.until)
+        (stays_next inputs.disk (instants_of inputs) inputs.until before.head before.now instant rest less (rising_instants inputs before.now joined called come)
         (among_instants inputs before.now joined called come instant next) (apart_instants inputs before.now joined called come instant next)
         (subst (StartsFrom instant) (sym same_then) (starts_from (length left_over) inputs.disk inputs.key before.head instant left_over))
-        ∙ ap (λ services. step_stay.0 ∷ decisions_from inputs.disk (instants_of inputs) inputs.until before.head instant services) (same_then ∙ same_after)
-        ∙ ap (λ head. step_stay.0 ∷ decisions_from inputs.disk (instants_of inputs) inputs.until head instant (rest_of inputs after waiting)) (sym stayed.same_head)
-        ∙ ap (λ t. step_stay.0 ∷ decisions_from inputs.disk (instants_of inputs) inputs.until after.head t (rest_of inputs after waiting)) (sym stayed.until)
+        ∙ ap (λ services. step_stay.0 ∷ decisions_from inputs.disk (instants_of inputs) inputs.until before.head instant services) same_then)
 
     replayed_stay : Replayed inputs.latent (served inputs) (rest_of inputs after waiting) after.now after.store run.done
     replayed_stay = stays_replayed inputs.latent (served inputs) run.done rest before.now before.store (rest_of inputs after waiting) after.now after.store
@@ -313,9 +332,9 @@ module _ (inputs : Inputs) (known : AreKnown inputs) (before : Course) (pending 
     goes_on_staying =
         let until = stayed.until in
         record {
-          run = run_more inputs rest (rest_of inputs after waiting) before steps run step_stay after stay_is_stepped run.done replayed_stay;
+          run = run_more inputs rest (rest_of inputs after waiting) before steps run step_stay after stays_now.stepped run.done replayed_stay;
           decided = one_decided steps step_stay (decisions_by inputs before rest) (decisions_by inputs after (rest_of inputs after waiting)) (decisions inputs) decided next_stay;
-          called = called_more inputs rest (rest_of inputs after waiting) before steps run step_stay after stay_is_stepped;
+          called = called_more inputs rest (rest_of inputs after waiting) before steps run step_stay after stays_now.stepped;
           arrivals = subst (λ n. AllByRecursion (λ r. r.arrival ≤ after.now) (take n (requests inputs))) (sym stayed.same_joined)
               (all_weaker (λ (r : Request). r.arrival ≤ before.now) (λ r. r.arrival ≤ after.now) (λ r h. omega (arith, h, less, until)) (take joined (requests inputs)) ready.come);
           calls_taken = subst (λ n. AllByRecursion (λ c. c.instant ≤ after.now) (take n inputs.calls)) (sym stayed.same_called)
@@ -327,14 +346,7 @@ module _ (inputs : Inputs) (known : AreKnown inputs) (before : Course) (pending 
         }
 
     leads_staying : LeadsOn inputs before pending steps true after waiting count_after
-    leads_staying = record {
-      step = step_stay;
-      stepped = stay_is_stepped;
-      fore = stayed.same_fore ∙ sym (append-nil before.fore);
-      fore_ranges = tt;
-      come_to = goes_on_staying;
-      fewer = omega (arith, ap length next_stay, same_left);
-    }
+    leads_staying = leads_by instant after count_after true stayed stays_now goes_on_staying (omega (arith, ap length next_stay))
 
   -- nothing is to come: the head stays until the end, or the run ends
   module _ (empty : waiting ≡ []) (next : next_of (slice_get (requests inputs) joined) (slice_get inputs.calls called) ≡ None) where
@@ -346,67 +358,53 @@ module _ (inputs : Inputs) (known : AreKnown inputs) (before : Course) (pending 
     last_is = ap (decisions_by inputs before) no_rest
         ∙ ends_now inputs.disk (instants_of inputs) inputs.until before.head before.now (passed_instants inputs before.now joined called come next)
 
-    mirrors_on : (end : ℕ) → Mirrors (medium_of inputs) before.store before.now end
-    mirrors_on end = mirrors_run inputs run.done rest before.now end before.store run.replayed
-        (subst (λ services. AllByRecursion (λ (w : Written). end < w.passage.end) (all_writes services)) (sym no_rest) tt)
+    none_late : (end : ℕ) → AllByRecursion (λ (w : Written). end < w.passage.end) (all_writes rest)
+    none_late end = subst (λ services. AllByRecursion (λ (w : Written). end < w.passage.end) (all_writes services)) (sym no_rest) tt
 
     few_served : length (served inputs) ≤ 10 ^ 6
     few_served = omega (arith, ap length run.replayed.all, length-append run.done rest, ap length no_rest, so_far.counted, known.list.few)
 
     module _ (later : before.now < inputs.until) (after : Course) (stayed : HasStayed inputs.disk inputs.until (prepared before background joined called) after) where
-      abbrev step_last : Step
-      step_last = (
-        idles (stay_of (prepared before background joined called) inputs.until),
-        part_by inputs.disk.map inputs.calls (history inputs steps) before.now (Direct 0)
-            (stayed_gots inputs (history inputs steps) before background joined called ready.settled inputs.until (omega (arith, later)) after stayed (mirrors_on inputs.until)),
-      )
+      stays_last_time : StepsBy inputs (history inputs steps) before (idles (stay_of before inputs.until)) after
+      stays_last_time = stays inputs.until (omega (arith, later)) after stayed (none_late inputs.until)
 
-      last_is_stepped : HasStepped inputs (history inputs steps) before step_last after
-      last_is_stepped = stepped inputs (history inputs steps) before background called step_last.0 (Direct 0)
-          (stayed_gots inputs (history inputs steps) before background joined called ready.settled inputs.until (omega (arith, later)) after stayed (mirrors_on inputs.until)) after inputs.until
-          (stays_done inputs (history inputs steps) before background joined called ready.settled inputs.until (omega (arith, later)) after stayed (mirrors_on inputs.until)) run.tells run.finds ready.settled
+      abbrev step_last : Step
+      step_last = (idles (stay_of before inputs.until), stays_last_time.part)
 
       ends_staying : HasEnded inputs after (steps ++ step_last ∷ [])
       ends_staying =
           let until = stayed.until in
           let idle : nat_lt before.now inputs.until ≡ true = grind (arith, nat_tests) in
           record {
-            run = run_more inputs rest [] before steps run step_last after last_is_stepped run.done
+            run = run_more inputs rest [] before steps run step_last after stays_last_time.stepped run.done
                 (stays_replayed inputs.latent (served inputs) run.done rest before.now before.store [] after.now after.store run.replayed no_rest (omega (arith, until, later)) stayed.same_store);
             decided = sym (append-nil (decided_in (steps ++ step_last ∷ []))) ∙ one_decided steps step_last (decisions_by inputs before rest) [] (decisions inputs) decided
                 (last_is ∙ ap (λ b. (if b then step_last.0 else ends before.now) ∷ []) idle);
-            calls_made = (called_more inputs rest [] before steps run step_last after last_is_stepped).taken;
+            calls_made = (called_more inputs rest [] before steps run step_last after stays_last_time.stepped).taken;
             few = few_served;
             early = omega (arith, until, known.accepted.until);
           }
 
       leads_last : (count_after : ℕ) → LeadsOn inputs before pending steps false after waiting count_after
-      leads_last count_after = record {
-        step = step_last;
-        stepped = last_is_stepped;
-        fore = stayed.same_fore ∙ sym (append-nil before.fore);
-        fore_ranges = tt;
-        come_to = ends_staying;
-        fewer = omega (arith, ap length last_is, same_left);
-      }
+      leads_last count_after = leads_by inputs.until after count_after false stayed stays_last_time ends_staying (omega (arith, ap length last_is))
 
     module _ (over : inputs.until ≤ before.now) where
-      abbrev step_end : Step
-      step_end = (ends before.now, part_by inputs.disk.map inputs.calls (history inputs steps) before.now (Direct 0) [])
+      ends_now_by : StepsBy inputs (history inputs steps) before (ends before.now) (prepared before background joined called)
+      ends_now_by = ends_step inputs (history inputs steps) before background joined called ready.settled run.tells run.finds
+          (mirrors_run inputs run.done rest before.now before.now before.store run.replayed (none_late before.now))
 
-      end_is_stepped : HasStepped inputs (history inputs steps) before step_end (prepared before background joined called)
-      end_is_stepped = stepped inputs (history inputs steps) before background called (ends before.now) (Direct 0) [] (prepared before background joined called) before.now
-          (ends_done inputs (history inputs steps) before background joined called ready.settled (mirrors_on before.now)) run.tells run.finds ready.settled
+      abbrev step_end : Step
+      step_end = (ends before.now, ends_now_by.part)
 
       ends_there : HasEnded inputs (prepared before background joined called) (steps ++ step_end ∷ [])
       ends_there =
           let ends_now : nat_lt before.now inputs.until ≡ false = grind (arith, nat_tests) in
           record {
-            run = run_more inputs rest [] before steps run step_end (prepared before background joined called) end_is_stepped run.done
+            run = run_more inputs rest [] before steps run step_end (prepared before background joined called) ends_now_by.stepped run.done
                 (subst (λ services. Replayed inputs.latent (served inputs) services before.now before.store run.done) no_rest run.replayed);
             decided = sym (append-nil (decided_in (steps ++ step_end ∷ []))) ∙ one_decided steps step_end (decisions_by inputs before rest) [] (decisions inputs) decided
                 (last_is ∙ ap (λ b. (if b then idles (stay_of before inputs.until) else step_end.0) ∷ []) ends_now);
-            calls_made = (called_more inputs rest [] before steps run step_end (prepared before background joined called) end_is_stepped).taken;
+            calls_made = (called_more inputs rest [] before steps run step_end (prepared before background joined called) ends_now_by.stepped).taken;
             few = few_served;
             early = omega (arith, so_far.soon, so_far.counted, known.list.few);
           }
@@ -414,7 +412,7 @@ module _ (inputs : Inputs) (known : AreKnown inputs) (before : Course) (pending 
       leads_to_end : (count_after : ℕ) → LeadsOn inputs before pending steps false (prepared before background joined called) waiting count_after
       leads_to_end count_after = record {
         step = step_end;
-        stepped = end_is_stepped;
+        stepped = ends_now_by.stepped;
         fore = sym (append-nil before.fore);
         fore_ranges = tt;
         come_to = ends_there;

@@ -1,25 +1,102 @@
--- One decision after another, with the list of requests as the program has it.
-use Rattle.std.proofs.Common.{◌≡◌, ℕ, ◌-◌, ◌*◌, ◌≤◌, ◌^◌, List, Bool, true, false, length, take, sym, subst, ◌∙◌, arith}
-use Rattle.std.specs.List.{AllByRecursion}
+-- A run from its beginning on, one decision after another, with the list of requests as the program has it.
+use Rattle.std.proofs.Common.{◌≡◌, ℕ, ◌+◌, ◌≤◌, ◌^◌, List, [], ◌∷◌, ◌++◌, length, arith, inl, inr, refl, sym, ◌∙◌, ◌-◌, ◌*◌, Bool, true, false, take, subst}
+use Rattle.std.specs.Prelude.{nat_le}
+use Rattle.std.specs.List.{AllByRecursion, fold}
+use Rattle.std.proofs.lemmas.Bool.{cases_Bool}
 use Rattle.fb_units.specs.declared.types.Request.{Request}
-use Rattle.fb_geometry.specs.Sound.{IsSound}
-use Rattle.fb_calls.specs.Allowed as allowed
-use Rattle.fb_model.specs.Inputs.{Inputs, requests}
-use Rattle.fb_model.specs.Accepted.{IsAccepted}
+use Rattle.fb_geometry.specs.Shape.{Shape}
+use Rattle.fb_calls.specs.declared.call.Action.{Action}
+use Rattle.fb_calls.specs.declared.call.Action.TheVariants.{Promote}
+use Rattle.fb_calls.specs.declared.call.Call.{Call}
+use Rattle.fb_calls.specs.Allowed.{AreAllowed, MayAsk}
+use Rattle.fb_model.specs.Inputs.{Inputs, requests, served}
+use Rattle.fb_model.specs.Foreground.{behind, read_of, promoted_from, promoted}
+use Rattle.fb_model.specs.Accepted.{IsAccepted, IsRequestOf}
 use Rattle.fb_model.specs.Laws.{ForegroundListsAscend}
-use Rattle.fb_model.specs.History.{Past}
-use Rattle.fb_model.specs.Steps.{history, past_after, task_rows}
-use Rattle.fb_tasks.specs.Telling.{Tells}
-use Rattle.fb_decide.specs.declared.deciding.Course.{Course}
-use Rattle.fb_decide.specs.Waiting.{IsWaiting, IsForegroundOf}
-use Rattle.fb_decide.specs.Calls.{IsScriptOf, IsCalled}
-use Rattle.fb_decide.specs.Deciding.{PassagesTakeTime, HasDecided}
-use Rattle.fb_decide.proofs.Listed.{listed}
+use Rattle.fb_model.proofs.Passages.{all_requests}
+use Rattle.fb_model.proofs.Lists.{all_append}
+use Rattle.fb_decide.specs.Waiting.{IsForegroundOf, IsWaiting}
+use Rattle.fb_decide.proofs.Replayed.{in_order}
+use Rattle.fb_store.specs.Writes.{unwritten}
+use Rattle.fb_store.specs.Index.{Holding, content_in}
+use Rattle.fb_wanted.specs.declared.block.Entry.{Entry}
 use Rattle.fb_rows.specs.declared.fore.ForeRow.{ForeRow}
 use Rattle.fb_rows.specs.declared.back.BackRow.{BackRow}
-use Rattle.fb_decide.specs.Making.{Step, RowFits, AreKnown, HasComeTo, HasMade, HasMadeOne}
+use Rattle.fb_units.specs.declared.types.Track.{Track}
+use Rattle.fb_model.specs.Content.{medium_of}
+use Rattle.fb_model.specs.PlainReplay.{first_track}
+use Rattle.fb_model.specs.Decisions.{decisions}
+use Rattle.fb_tasks.specs.declared.session.Session.{Session}
+use Rattle.fb_tasks.specs.Telling.{Tells}
+use Rattle.fb_decide.specs.declared.deciding.Course.{Course}
+use Rattle.fb_decide.specs.Deciding.{IsAtStart, PassagesTakeTime, HasDecided}
+use Rattle.fb_decide.specs.Making.{Replayed, GoesOn, AreKnown, rest_of, Step, RowFits, HasComeTo, HasMade, HasMadeOne}
+use Rattle.fb_decide.proofs.Calling.{called_first}
+use Rattle.fb_decide.proofs.Truth.{true_first}
+use Rattle.fb_geometry.specs.Sound.{IsSound}
+use Rattle.fb_model.specs.History.{Past}
+use Rattle.fb_model.specs.Steps.{history, past_after, task_rows}
+use Rattle.fb_decide.specs.Calls.{IsScriptOf, IsCalled}
 use Rattle.fb_decide.proofs.FittingRows.{step_fits, tasks_fit, fits-told}
 use Rattle.fb_decide.proofs.Going.{LeadsOn, decided_more}
+use Rattle.fb_calls.specs.Allowed as allowed
+
+read_on_disk : (disk : Shape) (before : List Call) (n : ℕ) (call : Call) (action : Action) → call.instant ≤ 10 ^ 15 → MayAsk disk before call.task action → AllByRecursion (IsRequestOf disk) (read_of n call action)
+read_on_disk disk before n call (Promote first count) early may = (record { range = may.1; few = may.2; arrival = early }, tt)
+read_on_disk disk before n call _ early may = tt
+
+reads_on_disk : (disk : Shape) (before calls : List Call) (n : ℕ) → AreAllowed disk before calls → AllByRecursion (IsRequestOf disk) (promoted_from n calls)
+reads_on_disk disk before [] n allowed = tt
+reads_on_disk disk before (call ∷ calls) n allowed =
+    all_append (IsRequestOf disk) (read_of n call call.action) (promoted_from (n + length (read_of n call call.action)) calls)
+    (read_on_disk disk before n call call.action allowed.0 allowed.1) (reads_on_disk disk (before ++ call ∷ []) calls (n + length (read_of n call call.action)) allowed.2)
+
+length_behind : (list : List Request) (read : Request) → length (behind list read) ≡ length list + 1
+length_behind [] read = omega arith
+length_behind (request ∷ list) read = elim (cases_Bool (nat_le request.arrival read.arrival)) [
+  | inl first ↦ rw first (omega (arith, length_behind list read))
+  | inr later ↦ rw later (omega arith)
+]
+
+length_listed : (reads list : List Request) → length (fold behind list reads) ≡ length list + length reads
+length_listed [] list = omega arith
+length_listed (read ∷ reads) list = omega (arith, length_listed reads (behind list read), length_behind list read)
+
+pub listed : (inputs : Inputs) → ForegroundListsAscend → IsAccepted inputs → IsForegroundOf inputs.disk (requests inputs)
+listed inputs lists accepted = record {
+  order = in_order (requests inputs) (lists inputs accepted).ascend;
+  on_disk = all_requests (IsRequestOf inputs.disk.map) (promoted inputs.calls) inputs.trace accepted.requests (reads_on_disk inputs.disk.map [] inputs.calls 1 accepted.calls);
+  few = omega (arith, length_listed (promoted inputs.calls) inputs.trace, accepted.few_requests);
+}
+
+-- ---- where a run begins
+
+pub begins : (inputs : Inputs) (course : Course) (pending : List Request) (count : ℕ) → AreKnown inputs → IsAtStart inputs.latent course → pending ≡ [] → count ≡ 0 → GoesOn inputs course pending count []
+unfolding decisions served
+begins inputs course pending count known start none zero_count = record {
+  run = record {
+    done = [];
+    replayed = record { all = rw (none, start.none_joined, start.first_head, start.first_instant) refl; ended = tt; holds = start.unwritten_yet };
+    tells = rw start.none_wanted (start.none_opened inputs.disk.map);
+    finds = true_first (medium_of inputs) course.store;
+    ends_at = sym start.first_instant;
+  };
+  decided = rw (none, start.none_joined, start.first_head, start.first_instant) refl;
+  called = rw start.none_called (called_first inputs.disk.map inputs.calls known.accepted.few_blocks);
+  arrivals = rw start.none_joined tt;
+  calls_taken = rw start.none_called tt;
+  waits = record {
+    within = omega (arith, start.none_joined);
+    counted = zero_count ∙ sym start.none_joined;
+    arrived = rw none tt;
+    on_disk = rw (none, start.none_joined) known.list.on_disk;
+  };
+  stands = rw start.first_head (record { cylinder = inputs.disk.some_cylinders; head = inputs.disk.some_heads });
+  soon = omega (arith, start.first_instant);
+  counted = rw (none, start.none_joined) (omega arith);
+}
+
+-- ---- one decision after another, with the list of requests as the program has it
 
 pub known_inputs : (inputs : Inputs) → IsAccepted inputs → ForegroundListsAscend → IsSound inputs.disk.map → PassagesTakeTime inputs.disk.map → AreKnown inputs
 known_inputs inputs accepted lists sound takes_time = record { accepted = accepted; list = listed inputs lists accepted; rising = (lists inputs accepted).ascend; sound = sound; takes_time = takes_time }

@@ -1,24 +1,90 @@
 -- Deliveries in their order are those of the catches in their order; none is lost, and none is added.
-use Rattle.std.proofs.Common.{◌≡◌, suc, ◌||◌, not, List, [], ◌∷◌, Bool, true, false, filter, map, inl, inr, refl, ap, sym, ◌∙◌, subst, arith}
+use Rattle.std.proofs.Common.{◌≡◌, ℕ, ◌+◌, ◌<◌, ◌≤◌, ◌==◌, if◌then◌else◌, List, [], ◌∷◌, Bool, true, false, filter, inl, inr, arith, subst, suc, ◌||◌, not, map, refl, ap, sym, ◌∙◌, zero, ◌++◌, Some, length, take, take_all, get_or, slice_get}
 use Rattle.std.specs.List.{AllByRecursion, list_any, fold}
 use Rattle.std.proofs.lemmas.Bool.{cases_Bool}
+use Rattle.std.proofs.lemmas.Bool.Decides.{nat_tests}
+use Rattle.fb_geometry.specs.Shape.{Shape}
 use Rattle.fb_wanted.specs.declared.block.Block.{Block}
+use Rattle.fb_wanted.specs.declared.block.Entry.{Entry}
+use Rattle.fb_wanted.specs.States.{is_wanted, wanted_of}
+use Rattle.fb_model.specs.History.{Past, same_block, registered, state, wanted}
+use Rattle.fb_model.specs.Completion.{view}
+use Rattle.fb_tasks.specs.declared.session.Session.{Session}
+use Rattle.fb_tasks.specs.Standing.{AreIndexed}
+use Rattle.fb_tasks.specs.Telling.{Tells}
+use Rattle.fb_tasks.proofs.Lists.{all_weaker, all_filter, all_map, filter_same, filter_from, all_any, all_with, map_at, some_same}
+use Rattle.fb_tasks.proofs.Deliveries.{indexed_from}
+use Rattle.fb_decide.specs.Deliveries.{AreDistinct, AreDue, IsOneOf, block_in, row_in, delivery_in, caught_in, past_with, IsCurrent, HasDelivered}
 use Rattle.fb_rows.specs.declared.gap.Dwell.{Dwell}
 use Rattle.fb_rows.specs.declared.gap.How.{How}
 use Rattle.fb_rows.specs.declared.back.DeliveryRow.{DeliveryRow}
 use Rattle.fb_service.specs.declared.disk.Disk.{Disk}
 use Rattle.fb_store.specs.Index.{Holding}
-use Rattle.fb_model.specs.History.{Past, same_block, wanted}
 use Rattle.fb_model.specs.Plans.{catches, block_begin, block_end}
-use Rattle.fb_model.specs.Rides as rides
 use Rattle.fb_model.specs.Rides.{placed, in_order, missed}
 use Rattle.fb_plan.specs.declared.catching.Catch.{Catch}
 use Rattle.fb_plan.specs.Order.{is_before, place_in, catch_of, caught_of}
 use Rattle.fb_plan.proofs.Sorted.{put_front, put_behind}
-use Rattle.fb_tasks.proofs.Lists.{all_map, all_weaker, filter_same, filter_from, all_any, all_with}
-use Rattle.fb_decide.specs.Deliveries.{AreDistinct, AreDue, IsOneOf, block_in, row_in, delivery_in, caught_in, past_with}
-use Rattle.fb_decide.proofs.Distinct.{itself, either_way, filter-distinct}
-use Rattle.fb_decide.proofs.Delivering.{none_of, wanted-with}
+use Rattle.fb_decide.proofs.Delivering.{none_of, wanted-with, next-wanted, delivered-join, past_with-append, wanted-told}
+use Rattle.std.proofs.lemmas.Option.{slice_get-get_or}
+use Rattle.std.proofs.lemmas.List.{length-map}
+use Rattle.fb_rows.specs.declared.back.BackRow.{BackRow}
+use Rattle.fb_decide.specs.declared.background.Background.{Background}
+use Rattle.fb_model.specs.Rides as rides
+
+pub itself : (block : Block) → same_block block block ≡ true
+itself block = grind (arith, nat_tests)
+
+pub either_way : (a b : Block) → same_block a b ≡ false → same_block b a ≡ false
+either_way a b h = grind (arith, nat_tests)
+
+lesser : (a b : Block) → a.index < b.index → same_block a b ≡ false
+lesser a b less = grind (arith, nat_tests)
+
+of_another : (a b : Block) → (b.task == a.task) ≡ false → same_block a b ≡ false
+of_another a b other = grind (arith, nat_tests)
+
+abbrev own : ℕ → List Block → List Block
+own task bs = filter (λ b. b.task == task) bs
+
+-- a block whose task's further blocks have greater numbers is none of the further blocks
+alone : (a : Block) (bs : List Block) → AllByRecursion (λ b. a.index < b.index) (own a.task bs) → AllByRecursion (λ b. same_block a b ≡ false) bs
+alone a [] h = tt
+alone a (b ∷ bs) h = elim (cases_Bool (b.task == a.task)) [
+  | inl mine ↦ let k = rw mine at h in (lesser a b k.0, alone a bs k.1)
+  | inr other ↦ (of_another a b other, alone a bs (rw other at h))
+]
+
+-- the blocks of each task are numbered on from some number
+abbrev AreNumbered : List Block → Type 0
+AreNumbered bs = (task : ℕ) → (n : ℕ) × AreIndexed n (own task bs)
+
+fewer : (b : Block) (bs : List Block) → AreNumbered (b ∷ bs) → AreNumbered bs
+fewer b bs h = λ task. elim (cases_Bool (b.task == task)) [
+  | inl mine ↦ let k = subst (λ x. (n : ℕ) × AreIndexed n (if x then b ∷ own task bs else own task bs)) mine (h task) in (k.0 + 1, k.1.1)
+  | inr other ↦ subst (λ x. (n : ℕ) × AreIndexed n (if x then b ∷ own task bs else own task bs)) other (h task)
+]
+
+its_own : (b : Block) → (b.task == b.task) ≡ true
+its_own b = grind (arith, nat_tests)
+
+numbered-distinct : (bs : List Block) → AreNumbered bs → AreDistinct bs
+numbered-distinct [] h = tt
+numbered-distinct (b ∷ bs) h =
+    let k = subst (λ x. (n : ℕ) × AreIndexed n (if x then b ∷ own b.task bs else own b.task bs)) (its_own b) (h b.task) in (
+      alone b bs (all_weaker (λ c. k.0 + 1 ≤ c.index) (λ c. b.index < c.index) (λ c le. omega (arith, le, k.1.0)) (own b.task bs) (indexed_from (k.0 + 1) (own b.task bs) k.1.1)),
+      numbered-distinct bs (fewer b bs h),
+    )
+
+pub filter-distinct : (p : Block → Bool) (bs : List Block) → AreDistinct bs → AreDistinct (filter p bs)
+filter-distinct p [] h = tt
+filter-distinct p (b ∷ bs) h = grind (arith, all_filter (λ c. same_block b c ≡ false) p bs h.0, filter-distinct p bs h.1)
+
+pub wanted-distinct : {disk : Shape} {past : Past} {sessions : List Session} {held : List Entry} → Tells disk past sessions held → AreDistinct (wanted past)
+unfolding wanted view
+wanted-distinct {past} tells = filter-distinct (λ b. is_wanted (state past b)) (registered past) (numbered-distinct (registered past) (λ task. (0, (tells.placed task).indexed)))
+
+-- ---- deliveries in their order are those of the catches in their order; none is lost, and none is added
 
 abbrev goes_before : DeliveryRow → DeliveryRow → Bool
 goes_before a b = rides.is_before a.end a.block b.end b.block
@@ -164,3 +230,54 @@ due-caught disk holding how dwell past distinct = due-filtered past (catches dis
 pub left-caught : (disk : Disk) (holding : Holding) (how : How) (dwell : Dwell) (past : Past) → AreDistinct (wanted past)
     → wanted (past_with past (caught_in disk holding how dwell (wanted past))) ≡ missed disk dwell (wanted past)
 left-caught disk holding how dwell past distinct = left-filtered past (catches disk dwell) (delivery_by disk holding how dwell) (λ b. refl) distinct
+
+-- ---- the catches of a dwell are delivered one after another
+
+take_more : {X : Type 0} (xs : List X) (k : ℕ) (x : X) → slice_get xs k ≡ Some x → take k xs ++ x ∷ [] ≡ take (suc k) xs
+take_more [] k x at = absurd (grind arith)
+take_more (y ∷ ys) zero x at = ap (λ z. z ∷ []) (sym (some_same y x at))
+take_more (y ∷ ys) (suc k) x at = ap (λ zs. y ∷ zs) (take_more ys k x at)
+
+one_more : (k : ℕ) → suc k ≡ k + 1
+one_more k = omega arith
+
+-- of deliveries in their order the next one follows the first ones
+pub delivered-more : {disk : Shape} {past : Past} {rows : List BackRow} {middle after : Background} (gots : List DeliveryRow) (k : ℕ) (got : DeliveryRow) → slice_get gots k ≡ Some got
+    → HasDelivered disk past (take k gots) rows middle → HasDelivered disk (past_with past (take k gots)) (got ∷ []) middle.rows after → HasDelivered disk past (take (k + 1) gots) rows after
+delivered-more {disk} {past} {rows} {after} gots k got at first next =
+    subst (λ gs. HasDelivered disk past gs rows after) (take_more gots k got at ∙ ap (λ n. take n gots) (one_more k)) (delivered-join first next)
+
+-- the next of some catches that are due is still wanted
+pub row-at : (holding : Holding) (how : How) (cs : List Catch) (k : ℕ) (d : Catch) → k < length cs → slice_get (map (row_in holding how) cs) k ≡ Some (row_in holding how (get_or cs k d))
+row-at holding how cs k d less = map_at (row_in holding how) cs k (get_or cs k d) (slice_get-get_or cs k d less)
+
+pub next-catch : (holding : Holding) (how : How) (past : Past) (cs : List Catch) → AreDue past (map (row_in holding how) cs) → (k : ℕ) (d : Catch) → k < length cs
+    → IsOneOf (wanted (past_with past (take k (map (row_in holding how) cs)))) (get_or cs k d).block
+next-catch holding how past cs due k d less = next-wanted past (map (row_in holding how) cs) k (row_in holding how (get_or cs k d)) due (row-at holding how cs k d less)
+
+pub all-taken : (holding : Holding) (how : How) (cs : List Catch) (n : ℕ) → length cs ≤ n → take n (map (row_in holding how) cs) ≡ map (row_in holding how) cs
+all-taken holding how cs n enough = take_all n (map (row_in holding how) cs) (omega (arith, enough, length-map cs (row_in holding how)))
+
+-- the catches of a dwell are its deliveries
+pub rows-of_catches : (disk : Disk) (holding : Holding) (how : How) (dwell : Dwell) (past : Past) (before : Background) → IsCurrent disk.map past before → (cs : List Catch) → cs ≡ caught_of disk dwell (wanted_of before.wanted)
+    → map (row_in holding how) cs ≡ caught_in disk holding how dwell (wanted past)
+rows-of_catches disk holding how dwell past before current cs all = ap (map (row_in holding how)) (all ∙ ap (caught_of disk dwell) (wanted-told current.tells)) ∙ rows-caught disk holding how dwell (wanted past)
+
+-- what one dwell catches, and then what another one catches of what is left
+module _ (disk : Disk) (holding : Holding) (how : How) (early late : Dwell) (past : Past) where
+  abbrev first_caught : List DeliveryRow
+  first_caught = caught_in disk holding how early (wanted past)
+
+  pub delivered-both : (rows : List BackRow) (middle after : Background) → wanted (past_with past first_caught) ≡ missed disk early (wanted past) → HasDelivered disk.map past first_caught rows middle
+      → ((later : Past) → IsCurrent disk.map later middle → HasDelivered disk.map later (caught_in disk holding how late (wanted later)) middle.rows after)
+      → HasDelivered disk.map past (first_caught ++ caught_in disk holding how late (missed disk early (wanted past))) rows after
+  delivered-both rows middle after left first next =
+      delivered-join first (subst (λ bs. HasDelivered disk.map (past_with past first_caught) (caught_in disk holding how late bs) middle.rows after) left (next (past_with past first_caught) first.current))
+
+  pub left-both : wanted (past_with past first_caught) ≡ missed disk early (wanted past)
+      → wanted (past_with (past_with past first_caught) (caught_in disk holding how late (wanted (past_with past first_caught)))) ≡ missed disk late (wanted (past_with past first_caught))
+      → wanted (past_with past (first_caught ++ caught_in disk holding how late (missed disk early (wanted past)))) ≡ missed disk late (missed disk early (wanted past))
+  left-both left next =
+      ap wanted (past_with-append past first_caught (caught_in disk holding how late (missed disk early (wanted past))))
+      ∙ (ap (λ bs. wanted (past_with (past_with past first_caught) (caught_in disk holding how late bs))) (sym left)
+      ∙ (next ∙ ap (missed disk late) left))

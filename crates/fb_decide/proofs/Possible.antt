@@ -22,9 +22,8 @@ use Rattle.fb_model.specs.SoundRun.{IsPlanned, HasPlan, IsTested, Throughout}
 use Rattle.fb_model.proofs.Leads.{Leads, lead_on, lead_gap, lead_stay}
 use Rattle.fb_model.proofs.RowsUpTo.{delivered_rows}
 use Rattle.fb_model.proofs.Passages.{LiesOnDisk, requests_lie}
-use Rattle.fb_decide.proofs.Ways.{lead_service}
+use Rattle.fb_decide.proofs.Ways.{lead_service, have_angles}
 use Rattle.fb_decide.proofs.Chain.{Follow, services, decisions_follow}
-use Rattle.fb_decide.proofs.OnDisk.{have_angles}
 use Rattle.fb_decide.proofs.QuietRows.{IsQuiet, quiet_before, all_quiet, tasks_quiet, IsQuietPart, quiet_part}
 
 -- ---- one decision

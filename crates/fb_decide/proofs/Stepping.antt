@@ -33,7 +33,7 @@ use Rattle.fb_decide.specs.Making.{IsMade}
 use Rattle.fb_tasks.proofs.Lists.{all_filter}
 use Rattle.fb_tasks.proofs.Calls.{called-finished}
 use Rattle.fb_decide.proofs.Calling.{called_delivered}
-use Rattle.fb_decide.proofs.TestedTrue.{LeftBy, decision_true, after_true}
+use Rattle.fb_decide.proofs.Truth.{LeftBy, decision_true, after_true}
 use Rattle.fb_decide.proofs.Mirroring.{held_until, held_between, media_held, media_before, finish_held}
 use Rattle.fb_decide.proofs.Due.{due_found, due_same, caught_found, caught_same}
 
@@ -51,6 +51,11 @@ pub record HasStepped (inputs : Inputs) (past : Past) (before : Course) (step : 
   pub finds : IsTrue (medium_of inputs) after.store (past_after inputs past step)
   pub called : IsCalled inputs.disk.map inputs.calls (past_after inputs past step) after.called
   pub ends_at : end_of step.0 ≡ after.now
+
+-- with some part
+pub record StepsBy (inputs : Inputs) (past : Past) (before : Course) (decision : Decision) (after : Course) : Type 0 where
+  pub part : Part
+  pub stepped : HasStepped inputs past before (decision, part) after
 
 -- ---- what deliveries and tests leave of wanted blocks and rows
 
@@ -131,7 +136,17 @@ module _ (inputs : Inputs) (past : Past) (before : Course) (background : Backgro
 -- ---- each kind of decision
 
 module _ (inputs : Inputs) (past : Past) (before : Course) (background : Background) (joined called : ℕ)
-    (settled : HasSettled inputs.disk.map inputs.calls past before.now called before.background.rows background) where
+    (settled : HasSettled inputs.disk.map inputs.calls past before.now called before.background.rows background)
+    (tells : Tells inputs.disk.map past before.background.sessions before.background.wanted) (finds : IsTrue (medium_of inputs) before.store past) where
+  -- by its deliveries and what they leave
+  abbrev stepped_by : (decision : Decision) → instant_of decision ≡ before.now → (plan : Plan) (gots : List DeliveryRow) (after : Course) (end : ℕ)
+      → HasDone inputs past before background called decision plan gots after end → StepsBy inputs past before decision after
+  stepped_by decision now plan gots after end h = record {
+    part = part_by inputs.disk.map inputs.calls past (instant_of decision) plan gots;
+    stepped = stepped inputs past before background called decision plan gots after end h tells finds
+        (subst (λ t. HasSettled inputs.disk.map inputs.calls past t called before.background.rows background) (sym now) settled);
+  }
+
   abbrev ready : Course
   ready = prepared before background joined called
 
@@ -145,18 +160,18 @@ module _ (inputs : Inputs) (past : Past) (before : Course) (background : Backgro
   -- a request is served
   module _ (request : Request) (inside : IsRequestOf inputs.disk.map request) (after : Course) (now_served : HasServedNext inputs.disk request ready after)
       (mirrors : Mirrors (medium_of inputs) before.store before.now (held_until (service inputs.disk before.head before.now request))) where
-    abbrev pub served : Served
+    abbrev served : Served
     served = service inputs.disk before.head before.now request
 
-    abbrev pub has_served : HasServed inputs.disk before.store settled_now served background.rows after.background
+    abbrev has_served : HasServed inputs.disk before.store settled_now served background.rows after.background
     has_served = now_served.served settled_now settled.current
 
-    abbrev pub served_gots : List DeliveryRow
+    abbrev served_gots : List DeliveryRow
     served_gots = due_in inputs.disk before.store served has_served.plan (wanted settled_now)
 
-    pub serves_done : HasDone inputs past before background called (serves served) has_served.plan served_gots after (held_until served)
+    pub serves_step : StepsBy inputs past before (serves served) after
     unfolding due medium_of
-    serves_done = record {
+    serves_step = stepped_by (serves served) refl has_served.plan served_gots after (held_until served) (record {
       order = (held_between inputs.disk before.head before.now request inside.range.some).0;
       mirrors = mirrors;
       found = due_found (medium_of inputs) before.store before.head before.now request has_served.plan (held_until served) (wanted settled_now) all_some has_served.best.is_plan
@@ -170,7 +185,7 @@ module _ (inputs : Inputs) (past : Past) (before : Course) (background : Backgro
       leaves = now_served.leaves;
       same_called = now_served.same_called;
       ends_at = sym now_served.finished;
-    }
+    })
 
   -- the head stays
   module _ (instant : ℕ) (later : before.now ≤ instant) (after : Course) (stayed : HasStayed inputs.disk instant ready after)
@@ -178,12 +193,12 @@ module _ (inputs : Inputs) (past : Past) (before : Course) (background : Backgro
     has_delivered : HasDelivered inputs.disk.map settled_now (caught_in inputs.disk before.store ByIdle (stay_of ready instant) (wanted settled_now)) (background.rows ++ opening inputs.disk (idles (stay_of ready instant)) (Direct 0)) after.background
     has_delivered = stayed.delivered settled_now settled.current
 
-    abbrev pub stayed_gots : List DeliveryRow
+    abbrev stayed_gots : List DeliveryRow
     stayed_gots = caught_in inputs.disk before.store ByIdle (stay_of ready instant) (wanted settled_now)
 
-    pub stays_done : HasDone inputs past before background called (idles (stay_of ready instant)) (Direct 0) stayed_gots after instant
+    pub stays_step : StepsBy inputs past before (idles (stay_of ready instant)) after
     unfolding due medium_of
-    stays_done = record {
+    stays_step = stepped_by (idles (stay_of ready instant)) refl (Direct 0) stayed_gots after instant (record {
       order = later;
       mirrors = mirrors;
       found = caught_found inputs.disk before.store ByIdle (stay_of ready instant) before.now instant (omega arith) (omega arith) (wanted settled_now);
@@ -195,12 +210,12 @@ module _ (inputs : Inputs) (past : Past) (before : Course) (background : Backgro
       leaves = stayed.same_store;
       same_called = stayed.same_called;
       ends_at = sym stayed.until;
-    }
+    })
 
   -- the run ends
-  pub ends_done : Mirrors (medium_of inputs) before.store before.now before.now → HasDone inputs past before background called (ends before.now) (Direct 0) [] ready before.now
+  pub ends_step : Mirrors (medium_of inputs) before.store before.now before.now → StepsBy inputs past before (ends before.now) ready
   unfolding due
-  ends_done mirrors = record {
+  ends_step mirrors = stepped_by (ends before.now) refl (Direct 0) [] ready before.now (record {
     order = omega arith;
     mirrors = mirrors;
     found = tt;
@@ -212,4 +227,4 @@ module _ (inputs : Inputs) (past : Past) (before : Course) (background : Backgro
     leaves = refl;
     same_called = refl;
     ends_at = refl;
-  }
+  })

@@ -1,20 +1,39 @@
--- Where legs lead the head through the passages of a service.
-use Rattle.std.proofs.Common.{◌≡◌, ℕ, zero, suc, ◌+◌, ◌-◌, ◌<◌, ◌≤◌, [], ◌∷◌, true, refl, ap, ◌∙◌, arith, subst}
+-- Sectors begin at angles of the rotation and take time to pass, and legs lead the head through the passages of a service.
+use Rattle.std.proofs.Common.{◌<◌, sym, subst, arith, ◌≡◌, ℕ, zero, suc, ◌+◌, ◌-◌, ◌≤◌, [], ◌∷◌, true, refl, ap, ◌∙◌, length}
+use Rattle.fb_units.specs.declared.types.Place.{Place}
+use Rattle.fb_geometry.specs.Shape.{Shape, slots_at}
+use Rattle.fb_geometry.specs.Sound.{IsSound, LiesOn}
+use Rattle.fb_sectormap.proofs.ByCylinder.{has_place}
+use Rattle.fb_service.specs.Passing.{length_of, begin_angle, begin_from, end_from}
+use Rattle.fb_model.specs.Laws.{SlotsCoverRotation}
+use Rattle.fb_model.proofs.Passages.{slots_short, from_on, LiesOnDisk}
+use Rattle.fb_decide.specs.Deciding.{PassagesTakeTime}
 use Rattle.std.specs.Prelude.{Bool, ◌&&◌, ◌==◌, ◌%◌}
 use Rattle.std.proofs.lemmas.Bool.Decides.{nat_tests}
 use Rattle.fb_units.specs.declared.types.Track.{Track}
 use Rattle.fb_units.specs.Tracks.{same_track}
 use Rattle.fb_units.proofs.Waits.{wait_least}
-use Rattle.fb_geometry.specs.Shape.{Shape}
 use Rattle.fb_sectormap.specs.Lookup.{place_at, track_at}
 use Rattle.fb_seek.specs.Positioning.{pos}
 use Rattle.fb_service.specs.declared.disk.Disk.{Disk}
-use Rattle.fb_service.specs.Passing.{begin_angle, begin_from, end_from, length_of}
 use Rattle.fb_service.specs.Service.{passages, passage_from, media_of, finish_of}
 use Rattle.fb_wanted.proofs.Kept.{same_itself}
 use Rattle.fb_model.specs.Timeline.{stay, pass, way, passing, led_to}
 use Rattle.fb_model.proofs.Leads.{Leads, lead_on, lead_one, lead_stay, lead_way, no_way}
-use Rattle.fb_model.proofs.Passages.{from_on}
+use Rattle.fb_units.specs.declared.types.Request.{Request}
+use Rattle.fb_geometry.specs.Places.{places}
+use Rattle.fb_model.proofs.Disks.{begins_within}
+
+pub long_slots : (disk : Shape) → IsSound disk → SlotsCoverRotation → PassagesTakeTime disk
+long_slots disk sound cover = λ lbn inside.
+    let found = has_place disk sound lbn inside in
+    let lies = found.lies in
+    let n = slots_at disk.zones found.place.track.cylinder in
+    let slot : found.place.slot < n = subst (λ c. found.place.slot < slots_at disk.zones c) (sym lies.cylinder_is) lies.slot in
+    let more = (cover disk.rotation n (omega (arith, slot)) (slots_short disk.rotation disk.zones found.place.track.cylinder sound.short_slots)).ascend found.place.slot slot in
+    subst (λ (place : Place). 0 < length_of disk place) (sym found.placed_at) (omega (arith, more))
+
+-- ---- where legs lead the head through the passages of a service
 
 -- each sector from one on begins at an angle of the rotation
 abbrev pub HaveAngles : Shape → ℕ → ℕ → Type 0
@@ -102,3 +121,22 @@ lead_service disk source start write lbn (suc n) some angles =
     let led = lead_first disk there begin arrived write lbn n (own_angle disk.map lbn n angles) (omega (arith, no_way disk.mechanism there there write (same_itself there)))
     (lead_passages disk there end write (lbn + 1) n (later_angles disk.map lbn n angles)) in
     λ more. led more ∙ ap (λ (on : Track). led_to disk on (finish_of end ps) more) (last_is disk there lbn n ∙ ap (track_at disk.map) (let same : lbn + n ≡ lbn + suc n - 1 = omega arith in same))
+
+-- ---- the foreground requests of accepted inputs lie on the disk, and its sectors begin at angles of its rotation
+
+-- ---- requests
+
+-- ---- angles
+
+begins_on : (disk : Shape) (cylinder : ℕ) (place : Place) → IsSound disk → LiesOn disk cylinder place → begin_angle disk place < disk.rotation
+begins_on disk cylinder place sound lies = begins_within disk.rotation (slots_at disk.zones place.track.cylinder) place.slot
+    (slots_short disk.rotation disk.zones place.track.cylinder sound.short_slots) (omega (arith, ap (slots_at disk.zones) lies.cylinder_is, lies.slot))
+
+-- each sector of the disk begins at an angle of the rotation
+pub angle_below : (disk : Shape) → IsSound disk → (lbn : ℕ) → lbn < length (places disk) → begin_angle disk (place_at disk lbn) < disk.rotation
+angle_below disk sound lbn inside =
+    let found = has_place disk sound lbn inside in
+    subst (λ (place : Place). begin_angle disk place < disk.rotation) (sym found.placed_at) (begins_on disk found.cylinder found.place sound found.lies)
+
+pub have_angles : (disk : Shape) → IsSound disk → (request : Request) → LiesOnDisk disk request → HaveAngles disk request.lbn request.count
+have_angles disk sound request lies i less = angle_below disk sound (request.lbn + i) (omega (arith, lies.inside))

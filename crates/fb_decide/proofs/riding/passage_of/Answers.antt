@@ -1,5 +1,5 @@
 use Rattle.std.proofs.Common.{◌∙◌, sym}
-use Rattle.fb_decide.proofs.Sectors.{it_is_here, it_is_before, it_is_behind, it_is_nowhere}
+use Rattle.fb_decide.proofs.Extents.{it_is_here, it_is_before, it_is_behind, it_is_nowhere}
 use Rattle.fb_decide.proofs.riding.passage_of.Goals.{else-extent-lbn-via-then-extent-lbn+else-lbn-extent, else-extent-lbn-via-else-extent-lbn}
 use Rattle.fb_decide.proofs.riding.passage_of.Goals as goal
 

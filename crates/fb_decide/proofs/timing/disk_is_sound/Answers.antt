@@ -1,6 +1,6 @@
 use Rattle.std.proofs.Common.{subst}
 use Rattle.fb_geometry.specs.Sound.{IsSound}
-use Rattle.fb_decide.proofs.LongSlots.{long_slots}
+use Rattle.fb_decide.proofs.Ways.{long_slots}
 use Rattle.fb_decide.proofs.timing.disk_is_sound.Goals as goal
 
 pub returns-clause-takes_time : goal.returns-clause-takes_time

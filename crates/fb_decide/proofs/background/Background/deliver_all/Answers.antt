@@ -1,7 +1,7 @@
 use Rattle.std.proofs.Common.{map, take, arith, subst}
 use Rattle.fb_decide.specs.Deliveries.{HasDelivered, past_with, row_in}
 use Rattle.fb_decide.proofs.Delivering.{delivered-none}
-use Rattle.fb_decide.proofs.Staying.{delivered-more, row-at, next-catch, all-taken}
+use Rattle.fb_decide.proofs.Placing.{delivered-more, row-at, next-catch, all-taken}
 use Rattle.fb_decide.proofs.background.Background.deliver_all.Goals as goal
 
 pub loop-catch-init : goal.loop-catch-init

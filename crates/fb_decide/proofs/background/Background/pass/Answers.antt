@@ -4,7 +4,7 @@ use Rattle.fb_rows.specs.declared.gap.How.TheVariants.{Gap as ByGap}
 use Rattle.fb_model.specs.History.{wanted}
 use Rattle.fb_model.specs.Rides.{missed}
 use Rattle.fb_decide.specs.Deliveries.{IsCurrent, HasDelivered, caught_in, gap_caught_in, past_with}
-use Rattle.fb_decide.proofs.Staying.{delivered-both, left-both}
+use Rattle.fb_decide.proofs.Placing.{delivered-both, left-both}
 use Rattle.fb_decide.proofs.background.Background.pass.Goals as goal
 
 pub returns-clause-delivered : goal.returns-clause-delivered

@@ -5,10 +5,10 @@ use Rattle.fb_model.specs.History.{wanted}
 use Rattle.fb_decide.specs.Carried.{carried_of}
 use Rattle.fb_decide.specs.Deliveries.{HasDelivered, AreDistinct, AreDue, row_in, rides_in}
 use Rattle.fb_decide.specs.Turn.{served_in}
-use Rattle.fb_decide.proofs.Distinct.{wanted-distinct}
+use Rattle.fb_decide.proofs.Placing.{wanted-distinct}
 use Rattle.fb_decide.proofs.Delivering.{wanted-told, on_ok_map}
-use Rattle.fb_decide.proofs.Laying.{laid, laid_within}
-use Rattle.fb_decide.proofs.Rides.{rows-carried, due-carried, whole-told, all-extents}
+use Rattle.fb_decide.proofs.Extents.{laid, laid_within}
+use Rattle.fb_decide.proofs.Carrying.{rows-carried, due-carried, whole-told, all-extents}
 use Rattle.fb_decide.proofs.background.Background.ride.Goals as goal
 
 pub carried-requires-clause-extents : goal.carried-requires-clause-extents

@@ -1,9 +1,7 @@
 use Rattle.std.proofs.Common.{◌∙◌, sym, subst}
 use Rattle.fb_decide.specs.Deliveries.{HasDelivered, AreDue}
-use Rattle.fb_decide.proofs.Distinct.{wanted-distinct}
+use Rattle.fb_decide.proofs.Placing.{wanted-distinct, due-caught, left-caught, rows-of_catches}
 use Rattle.fb_decide.proofs.Delivering.{fits-told, on_ok_map}
-use Rattle.fb_decide.proofs.Placing.{due-caught, left-caught}
-use Rattle.fb_decide.proofs.Staying.{rows-of_catches}
 use Rattle.fb_decide.proofs.background.Background.stay.Goals as goal
 
 pub caught-requires-clause-blocks : goal.caught-requires-clause-blocks

@@ -1,7 +1,6 @@
 use Rattle.std.proofs.Common.{ap, ◌∙◌}
 use Rattle.fb_model.specs.Foreground.{foreground_list}
-use Rattle.fb_decide.proofs.Begun.{begins}
-use Rattle.fb_decide.proofs.Looping.{known_inputs}
+use Rattle.fb_decide.proofs.Looping.{begins, known_inputs}
 use Rattle.fb_decide.proofs.deciding.Decider.new.Goals as goal
 
 pub returns-clause-made : goal.returns-clause-made
