@@ -1,33 +1,27 @@
 -- Reads that are put behind those that arrive by their instants, one after another.
-use Rattle.std.proofs.Common.{◌≡◌, ℕ, zero, suc, ◌+◌, ◌-◌, ◌≤◌, ◌<◌, List, [], ◌∷◌, ◌++◌, length, take, take_all, drop, get_or, map, true, false, refl, sym, ap, ◌∙◌, arith, subst, append_assoc}
-use Rattle.std.specs.Prelude.{slice_get, IfSome, nat_le}
+use Rattle.std.proofs.Common.{◌≡◌, ℕ, zero, suc, ◌+◌, ◌-◌, ◌≤◌, ◌<◌, List, [], ◌∷◌, ◌++◌, length, take, take_all, drop, get_or, map, refl, sym, ap, ◌∙◌, arith, subst, append_assoc}
+use Rattle.std.specs.Prelude.{slice_get, IfSome}
 use Rattle.std.specs.List.{AllByRecursion, fold}
 use Rattle.std.proofs.lemmas.List.{drop_more, drop_all, length-drop}
-use Rattle.std.proofs.lemmas.Bool.Decides.{nat_tests}
 use Rattle.fb_units.specs.declared.types.Request.{Request}
 use Rattle.fb_units.specs.Rising.{IsRising}
 use Rattle.fb_calls.specs.declared.call.Call.{Call}
 use Rattle.fb_calls.specs.declared.call.Action.{Action}
-use Rattle.fb_calls.specs.declared.call.Action.TheVariants.{Open, Want, Abort, Promote, Suspend, Resume, Close, Segment}
+use Rattle.fb_calls.specs.declared.call.Action.TheVariants.{Promote}
 use Rattle.fb_calls.specs.Promoted.{read_of, promoted_from, promoted}
 use Rattle.fb_model.specs.Foreground.{behind}
 use Rattle.fb_tasks.proofs.Lists.{all_weaker, all_any, all_append}
+use Rattle.fb_model.proofs.Lists.{by_is, after_is}
 
 -- a read goes behind all of these
 pub passed_by : (early later : List Request) (read : Request) → AllByRecursion (λ r. r.arrival ≤ read.arrival) early → behind (early ++ later) read ≡ early ++ behind later read
 passed_by [] later read all = refl
-passed_by (r ∷ early) later read all =
-    let come : nat_le r.arrival read.arrival ≡ true = let h = all.0 in grind (arith, nat_tests) in
-    rw come (ap (λ rs. r ∷ rs) (passed_by early later read all.1))
+passed_by (r ∷ early) later read all = rw (by_is r.arrival read.arrival all.0) (ap (λ rs. r ∷ rs) (passed_by early later read all.1))
 
 -- and before one that arrives later
 pub stops_before : (later : List Request) (read : Request) → IfSome (slice_get later 0) (λ r. read.arrival < r.arrival) → behind later read ≡ read ∷ later
 stops_before [] read h = refl
-stops_before (r ∷ later) read h =
-    let late : nat_le r.arrival read.arrival ≡ false = grind (arith, nat_tests) in
-    rw late refl
-
-
+stops_before (r ∷ later) read h = rw (after_is r.arrival read.arrival h) refl
 
 -- the reads of calls, whose instants don't fall
 abbrev pub RiseFrom : ℕ → List Request → Type 0
@@ -48,14 +42,7 @@ reads_from now n (call ∷ calls) all rising = by_action (λ m. reads_from call.
   where
     by_action : ((m : ℕ) → RiseFrom call.instant (promoted_from m calls)) → (action : Action) → call.action ≡ action → RiseFrom now (read_of n call action ++ promoted_from (n + length (read_of n call action)) calls)
     by_action rest (Promote first count) e = (all.0, rest (n + 1))
-    by_action rest (Open kind weight block) e = rise_less now call.instant all.0 _ (rest (n + 0))
-    by_action rest (Want first count) e = rise_less now call.instant all.0 _ (rest (n + 0))
-    by_action rest (Abort first count) e = rise_less now call.instant all.0 _ (rest (n + 0))
-    by_action rest Suspend e = rise_less now call.instant all.0 _ (rest (n + 0))
-    by_action rest Resume e = rise_less now call.instant all.0 _ (rest (n + 0))
-    by_action rest Close e = rise_less now call.instant all.0 _ (rest (n + 0))
-    by_action rest (Segment first blocks age live) e = rise_less now call.instant all.0 _ (rest (n + 0))
-
+    by_action rest _ e = rise_less now call.instant all.0 _ (rest (n + 0))
 
 pub reads_rise : (calls : List Call) → IsRising (map (λ (c : Call). c.instant) calls) → RiseFrom 0 (promoted calls)
 reads_rise calls rising = reads_from 0 1 calls (all_any _ (λ c. omega arith) calls) rising
@@ -72,7 +59,6 @@ pub placed_first : (trace : List Request) (calls : List Call) (reads requests : 
 placed_first trace calls reads requests r e rising = subst (λ rs. HasPlaced (fold behind trace rs) rs requests trace 0 0 0) (sym r)
     (subst (λ qs. HasPlaced (fold behind trace (promoted calls)) (promoted calls) qs trace 0 0 0) (sym e)
     (record { within = omega arith; same = refl; come = tt; rise = reads_rise calls rising }))
-
 
 first_of : (trace : List Request) (n : ℕ) → slice_get trace n ≡ slice_get (drop n trace) 0
 first_of [] zero = refl

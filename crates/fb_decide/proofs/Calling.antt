@@ -1,9 +1,8 @@
 -- Calls take effect one after another, and other events leave them as they are.
-use Rattle.std.proofs.Common.{◌≡◌, ℕ, zero, suc, ◌+◌, ◌*◌, ◌^◌, ◌<◌, ◌≤◌, nat_le, Bool, List, [], ◌∷◌, true, false, Some, inl, inr, length, length-append, drop, filter, map, refl, ap, sym, ◌∙◌, arith, subst}
+use Rattle.std.proofs.Common.{◌≡◌, ℕ, zero, suc, ◌+◌, ◌*◌, ◌^◌, ◌<◌, ◌≤◌, nat_le, Bool, List, [], ◌∷◌, Some, inl, inr, length, length-append, drop, filter, map, refl, ap, sym, ◌∙◌, arith, subst}
 use Rattle.std.specs.Prelude.{slice_get, IfSome}
 use Rattle.std.specs.List.{AllByRecursion, fold}
 use Rattle.std.proofs.lemmas.Bool.{cases_lt}
-use Rattle.std.proofs.lemmas.Bool.Decides.{nat_tests}
 use Rattle.fb_units.specs.Rising.{IsRising}
 use Rattle.fb_geometry.specs.Shape.{Shape}
 use Rattle.fb_calls.specs.declared.call.Call.{Call}
@@ -18,6 +17,8 @@ use Rattle.fb_tasks.specs.Telling.{Tells, MayTake, MaySettle}
 use Rattle.fb_tasks.proofs.Calls.{count-is, left-is, may-take, called-more, called-delivered}
 use Rattle.fb_decide.specs.Calls.{IsScriptOf, IsCalled}
 use Rattle.fb_decide.specs.Deliveries.{past_with}
+use Rattle.fb_model.proofs.Lists.{by_is, after_is}
+use Rattle.std.proofs.lemmas.List.{drop_all}
 
 -- the calls of a history are those that have taken effect
 pub taken_count : (past : Past) → calls_taken past ≡ length (calls_of past)
@@ -29,19 +30,9 @@ taken_count (_ ∷ past) = taken_count past
 abbrev pub come_by : ℕ → Call → Bool
 come_by now call = nat_le call.instant now
 
-come : (now : ℕ) (call : Call) → call.instant ≤ now → come_by now call ≡ true
-come now call h = grind (arith, nat_tests)
-
-not_come : (now : ℕ) (call : Call) → now < call.instant → come_by now call ≡ false
-not_come now call h = grind (arith, nat_tests)
-
 none_come : (now instant : ℕ) (calls : List Call) → now < instant → AllByRecursion (λ later. instant ≤ later) (map (λ call. call.instant) calls) → filter (come_by now) calls ≡ []
 none_come now instant [] late h = refl
-none_come now instant (call ∷ calls) late h = rw (not_come now call (omega (arith, h.0))) (none_come now instant calls late h.1)
-
-drop_none : (n : ℕ) → ◌≡◌ {A = List Call} (drop n []) []
-drop_none zero = refl
-drop_none (suc n) = refl
+none_come now instant (call ∷ calls) late h = rw (after_is call.instant now (omega (arith, h.0))) (none_come now instant calls late h.1)
 
 -- of calls in order, those that have come and are not yet taken are those of the rest
 filter_dropped : (now n : ℕ) (calls : List Call) → IsRising (map (λ call. call.instant) calls) → drop n (filter (come_by now) calls) ≡ filter (come_by now) (drop n calls)
@@ -50,13 +41,13 @@ filter_dropped now (suc n) [] rising = refl
 filter_dropped now (suc n) (call ∷ calls) rising = elim (cases_lt now call.instant) [
   | inl late ↦
       let none = none_come now call.instant calls late rising.0 in
-      rw (not_come now call late) (ap (drop (suc n)) none ∙ (sym (drop_none n) ∙ (ap (drop n) (sym none) ∙ filter_dropped now n calls rising.1)))
-  | inr here ↦ rw (come now call here) (filter_dropped now n calls rising.1)
+      rw (after_is call.instant now late) (ap (drop (suc n)) none ∙ (sym (drop_all n [] (omega arith)) ∙ (ap (drop n) (sym none) ∙ filter_dropped now n calls rising.1)))
+  | inr here ↦ rw (by_is call.instant now here) (filter_dropped now n calls rising.1)
 ]
 
 none_ahead : (now n : ℕ) (calls : List Call) → IsRising (map (λ call. call.instant) calls) → IfSome (slice_get calls n) (λ call. now < call.instant) → filter (come_by now) (drop n calls) ≡ []
-none_ahead now n [] rising ahead = ap (filter (come_by now)) (drop_none n)
-none_ahead now zero (call ∷ calls) rising ahead = rw (not_come now call ahead) (none_come now call.instant calls ahead rising.0)
+none_ahead now n [] rising ahead = ap (filter (come_by now)) (drop_all n [] (omega arith))
+none_ahead now zero (call ∷ calls) rising ahead = rw (after_is call.instant now ahead) (none_come now call.instant calls ahead rising.0)
 none_ahead now (suc n) (call ∷ calls) rising ahead = none_ahead now n calls rising.1 ahead
 
 module _ (disk : Shape) (calls : List Call) (script : IsScriptOf disk calls) where
@@ -75,7 +66,7 @@ module _ (disk : Shape) (calls : List Call) (script : IsScriptOf disk calls) whe
     taken-call = called-more disk calls script.allowed script.few past next h call at sessions held tells
 
     pub due-more : (now : ℕ) → call.instant ≤ now → calls_due calls past now ≡ call ∷ calls_due calls (take_call disk past call) now
-    due-more now here = rw (due_is past next now h, due_is (take_call disk past call) (next + 1) now taken-call, left-is disk calls script.allowed script.few past next h call at, come now call here) refl
+    due-more now here = rw (due_is past next now h, due_is (take_call disk past call) (next + 1) now taken-call, left-is disk calls script.allowed script.few past next h call at, by_is call.instant now here) refl
 
 -- some of the calls that are due have been taken, and the rest of them stands next
 pub record HasTaken (disk : Shape) (calls : List Call) (past : Past) (now next : ℕ) (sessions : List Session) (held : List Entry) : Type 0 where

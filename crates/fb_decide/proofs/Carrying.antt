@@ -1,5 +1,5 @@
 -- What a read carries, gathered extent by extent, is what it carries, and is due.
-use Rattle.std.proofs.Common.{◌≡◌, List, [], ◌∷◌, ◌++◌, map, filter, Bool, true, false, ◌||◌, inl, inr, refl, sym, ap, ◌∙◌, arith, subst, ℕ, zero, suc, ◌+◌, ◌-◌, ◌≤◌, ◌<◌, length, take, drop, get_or, ◌&&◌, Some, ◌^◌}
+use Rattle.std.proofs.Common.{◌≡◌, List, [], ◌∷◌, ◌++◌, map, filter, Bool, true, false, ◌||◌, inl, inr, refl, sym, ap, ◌∙◌, arith, subst, ℕ, suc, ◌+◌, ◌-◌, ◌≤◌, ◌<◌, length, take, drop, get_or, ◌&&◌, Some, ◌^◌}
 use Rattle.std.specs.List.{fold, AllByRecursion}
 use Rattle.std.proofs.lemmas.Bool.{cases_Bool}
 use Rattle.std.proofs.lemmas.Bool.Decides.{nat_tests}
@@ -10,10 +10,9 @@ use Rattle.fb_plan.specs.Order.{is_before, place_in}
 use Rattle.fb_plan.proofs.Sorted.{put_front, put_behind}
 use Rattle.fb_decide.specs.Deliveries.{AreDistinct, AreDue, row_in, delivery_in, rides_in}
 use Rattle.std.specs.Prelude.{slice_get, nat_le, nat_lt}
-use Rattle.std.proofs.lemmas.List.{take_more, drop_more, drop_all}
-use Rattle.std.proofs.lemmas.Option.{slice_get_within, get_or_from_slice_get, slice_get-get_or}
+use Rattle.std.proofs.lemmas.List.{drop_more, drop_all}
+use Rattle.std.proofs.lemmas.Option.{slice_get-get_or}
 use Rattle.fb_units.specs.declared.types.Request.{Request}
-use Rattle.fb_units.specs.declared.types.Track.{Track}
 use Rattle.fb_units.specs.Tracks.{same_track}
 use Rattle.fb_geometry.specs.Shape.{Shape}
 use Rattle.fb_sectormap.specs.Lookup.{track_at}
@@ -21,7 +20,7 @@ use Rattle.fb_service.specs.Extents.{IsUnbroken}
 use Rattle.fb_service.specs.declared.passage.Extent.{Extent}
 use Rattle.fb_service.specs.declared.passage.Passage.{Passage}
 use Rattle.fb_wanted.specs.declared.block.Entry.{Entry}
-use Rattle.fb_wanted.specs.States.{is_wanted, on_track, wanted_of}
+use Rattle.fb_wanted.specs.States.{on_track, wanted_of}
 use Rattle.fb_model.specs.Rides.{lies_in, begin_at, end_at, in_order}
 use Rattle.fb_decide.specs.Carried.{ride_of, begins_in, begun_in, carried_of, with_ride, AreLaid, AreExtents, IsWholeBlock, AreWholeBlocks}
 use Rattle.fb_wanted.proofs.Kept.{same_itself as track_itself}
@@ -35,7 +34,7 @@ use Rattle.fb_model.specs.PlainReplay.{Served}
 use Rattle.fb_tasks.specs.declared.session.Session.{Session}
 use Rattle.fb_tasks.specs.Standing.{entry_of}
 use Rattle.fb_tasks.specs.Telling.{Tells}
-use Rattle.fb_decide.proofs.Placing.{rows-in_order, due-filtered}
+use Rattle.fb_decide.proofs.Placing.{rows-in_order, due-filtered, take_at}
 
 after_all : (a b c : Catch) → is_before a b ≡ true → is_before b c ≡ true → is_before a c ≡ true
 after_all a b c h k = grind (arith, nat_tests)
@@ -112,16 +111,13 @@ both_kinds f its p q never (b ∷ blocks) apart os = elim (cases_Bool (p b)) [
 abbrev pub added : List Passage → Extent → Request → List Catch → List Entry → List Catch
 added passages extent request found entries = fold place_in found (map (ride_of passages) (begun_in extent request (wanted_of entries)))
 
-pub added_one : (passages : List Passage) (extent : Extent) (request : Request) (found : List Catch) (entry : Entry) → added passages extent request found (entry ∷ []) ≡ with_ride passages extent request found entry
-added_one passages extent request found entry = grind arith
-
 added_first : (passages : List Passage) (extent : Extent) (request : Request) (found : List Catch) (entry : Entry) (entries : List Entry)
     → added passages extent request found (entry ∷ entries) ≡ added passages extent request (with_ride passages extent request found entry) entries
 added_first passages extent request found entry entries = grind arith
 
 added_last : (passages : List Passage) (extent : Extent) (request : Request) (found : List Catch) (entries : List Entry) (entry : Entry)
     → added passages extent request found (entries ++ entry ∷ []) ≡ with_ride passages extent request (added passages extent request found entries) entry
-added_last passages extent request found [] entry = added_one passages extent request found entry
+added_last passages extent request found [] entry = grind arith
 added_last passages extent request found (first ∷ entries) entry =
     added_first passages extent request found first (entries ++ entry ∷ [])
     ∙ added_last passages extent request (with_ride passages extent request found first) entries entry
@@ -133,18 +129,16 @@ pub added_more : (passages : List Passage) (extent : Extent) (request : Request)
 added_more passages extent request start found found' entries i entry at so_far next =
     next ∙ ap (λ f. with_ride passages extent request f entry) so_far
     ∙ sym (added_last passages extent request start (take i entries) entry)
-    ∙ sym (ap (added passages extent request start) (take_more entries i entry (slice_get_within entries i entry at) ∙ ap (λ e. take i entries ++ e ∷ []) (get_or_from_slice_get entries i entry entry at)))
+    ∙ sym (ap (added passages extent request start) (take_at entries i entry at))
 
 -- the block's first sector is one of these
 abbrev pub begins_among : ℕ → ℕ → Block → Bool
 begins_among first count block = nat_le first block.lbn && nat_lt block.lbn (first + count)
 
-
 -- what the extents add one after another
 abbrev pub added_by_all : List Passage → List Extent → Request → List Catch → List Block → List Catch
 added_by_all passages [] request found blocks = found
 added_by_all passages (extent ∷ extents) request found blocks = added_by_all passages extents request (fold place_in found (map (ride_of passages) (begun_in extent request blocks))) blocks
-
 
 -- extents that are laid end to end add all that begins among their sectors
 pub all_added : (passages : List Passage) (extents : List Extent) (request : Request) (first count : ℕ) → AreLaid first extents count → (blocks : List Block) → AreDistinct blocks → (found : List Catch)
@@ -170,7 +164,6 @@ all_added passages (extent ∷ extents) request first count laid blocks apart fo
     either_way : (extent : Extent) (request : Request) (first count : ℕ) → extent.first ≡ first → extent.count ≤ count → (b : Block)
         → (begins_in extent b && lies_in request b) || (begins_among (first + extent.count) (count - extent.count) b && lies_in request b) ≡ begins_among first count b && lies_in request b
     either_way extent request first count at few b = grind (arith, nat_tests)
-
 
 -- what begins in an extent lies on its track
 own_track : (disk : Shape) (extent : Extent) (request : Request) → IsUnbroken disk extent → (entries : List Entry) → AllByRecursion (λ entry. entry.block.track ≡ track_at disk entry.block.lbn) entries

@@ -1,5 +1,5 @@
 -- The decisions of a run are a chain: each begins where and when the one before it left the head.
-use Rattle.std.proofs.Common.{◌≡◌, ◌⊎◌, ℕ, zero, suc, ◌≤◌, List, [], ◌∷◌, ◌++◌, true, length, map, refl, ap, sym, subst, ◌∙◌, arith, inl, inr, max}
+use Rattle.std.proofs.Common.{◌≡◌, ◌⊎◌, ℕ, zero, suc, ◌≤◌, List, [], ◌∷◌, ◌++◌, length, map, refl, ap, sym, subst, ◌∙◌, arith, inl, inr, max}
 use Rattle.std.specs.Prelude.{Option, Some, None, unwrap_or, nat_le, nat_lt, filter}
 use Rattle.std.specs.Option.{option_map}
 use Rattle.std.specs.List.{AllByRecursion, fold, list_any}
@@ -11,7 +11,7 @@ use Rattle.fb_service.specs.declared.disk.Disk.{Disk}
 use Rattle.fb_calls.proofs.Lists.{all_weaker}
 use Rattle.fb_model.specs.PlainReplay.{Key, Served, service, finish, last_track, has_arrived, first_ready, start_of, plain, first_track}
 use Rattle.fb_model.specs.Inputs.{Inputs, requests, served}
-use Rattle.fb_model.specs.Decisions.{Decision, serves, idles, ends, among, instants_of, idle_until, last_decision, decisions_from, decisions}
+use Rattle.fb_model.specs.Decisions.{Decision, serves, idles, ends, instants_of, idle_until, last_decision, decisions_from, decisions}
 use Rattle.fb_model.specs.Laws.{IsFirstReady, IsReadyPickOf}
 use Rattle.fb_model.proofs.Picks.{ready_pick}
 use Rattle.fb_model.proofs.Replays.{start_from}
@@ -50,7 +50,6 @@ idle_services head now (instant ∷ instants) later = grind (arith, idle_service
 
 -- ---- the instants
 
-
 latest_is : (start now : ℕ) (instants : List ℕ) → now ≤ start → (start ≡ now) ⊎ IsAmong start instants → fold max now (filter (λ instant. nat_le instant start) instants) ≡ start
 latest_is start now instants h at =
     let before = filter (λ instant. nat_le instant start) instants in
@@ -61,7 +60,6 @@ latest_is start now instants h at =
     ]
 
 -- ---- the start of a service
-
 
 -- now, or when one arrives
 start_at : (now : ℕ) (left : List Request) (instants : List ℕ) → AllByRecursion (λ (r : Request). IsAmong r.arrival instants) left → (start_of now left ≡ now) ⊎ IsAmong (start_of now left) instants

@@ -1,8 +1,7 @@
 -- What deliveries make of a history, and deliveries after deliveries.
-use Rattle.std.proofs.Common.{◌≡◌, ℕ, zero, suc, ◌+◌, ◌^◌, ◌≤◌, ◌&&◌, ◌||◌, not, if◌then◌else◌, List, [], ◌∷◌, ◌++◌, Bool, true, false, Some, length, filter, map, take, slice_get, append-nil, append_assoc, inl, inr, refl, ap, ap₂, sym, ◌∙◌, subst, arith}
-use Rattle.std.specs.Prelude.{Result, Ok, Err, OnOk, IfOk}
+use Rattle.std.proofs.Common.{◌≡◌, ℕ, zero, suc, ◌+◌, ◌^◌, ◌≤◌, ◌&&◌, ◌||◌, not, if◌then◌else◌, List, [], ◌∷◌, ◌++◌, Bool, true, false, Some, length, filter, map, take, slice_get, append-nil, append_assoc, refl, ap, ap₂, sym, ◌∙◌, subst, arith}
+use Rattle.std.specs.Prelude.{Result, Ok, Err, IfOk}
 use Rattle.std.specs.List.{AllByRecursion, list_any, range_with_len}
-use Rattle.std.proofs.lemmas.Bool.{cases_Bool}
 use Rattle.std.proofs.lemmas.List.Concat.{flat_map-append}
 use Rattle.fb_geometry.specs.Shape.{Shape}
 use Rattle.fb_wanted.specs.declared.block.Block.{Block}
@@ -147,11 +146,6 @@ pub row-is : (holding : Holding) (how : How) (block : Block) (begin end bad : �
     → made how block begin end bad content ≡ delivery_in holding how block begin end
 row-is holding how block begin end bad content is counted =
     ap₂ (made how block begin end) (counted ∙ ap bad_of is) is
-
--- what a call says in several clauses, where it succeeds
-pub on_ok_map : {T E : Type 0} (P Q : Type 0) (r : Result T E) → (P → Q) → OnOk r P → OnOk r Q
-on_ok_map P Q (Ok t) f p = f p
-on_ok_map P Q (Err e) f p = tt
 
 pub if_ok_with : {T E : Type 0} (P Q R : T → Type 0) (r : Result T E) → ((x : T) → P x → Q x → R x) → IfOk r P → IfOk r Q → IfOk r R
 if_ok_with P Q R (Ok x) f p q = f x p q

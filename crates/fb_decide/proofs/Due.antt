@@ -1,8 +1,7 @@
 -- What is due at a decision, from the disk as it is: each delivery lies within the decision, and the medium gives the same.
-use Rattle.std.proofs.Common.{◌≡◌, ℕ, ◌+◌, ◌-◌, ◌≤◌, ◌<◌, List, [], ◌∷◌, ◌++◌, map, filter, Bool, true, false, inl, inr, refl, ap, ap₂, arith}
+use Rattle.std.proofs.Common.{◌≡◌, ℕ, ◌+◌, ◌-◌, ◌≤◌, ◌<◌, List, [], ◌++◌, map, filter, Bool, true, false, refl, ap, ap₂, arith}
 use Rattle.std.specs.Prelude.{if◌then◌else◌, not}
 use Rattle.std.specs.List.{AllByRecursion}
-use Rattle.std.proofs.lemmas.Bool.{cases_Bool}
 use Rattle.std.proofs.lemmas.Bool.Decides.{nat_tests}
 use Rattle.fb_units.specs.declared.types.Track.{Track}
 use Rattle.fb_units.specs.declared.types.Request.{Request}
@@ -15,7 +14,6 @@ use Rattle.fb_rows.specs.declared.gap.How.{How}
 use Rattle.fb_rows.specs.declared.gap.How.TheVariants.{Gap as ByGap, Ride as ByRide}
 use Rattle.fb_rows.specs.declared.gap.Plan.{Plan}
 use Rattle.fb_rows.specs.declared.gap.Plan.TheVariants.{Direct, Detour}
-use Rattle.fb_rows.specs.declared.back.DeliveryRow.{DeliveryRow}
 use Rattle.fb_model.specs.Content.{Medium}
 use Rattle.fb_model.specs.Decisions.{serves}
 use Rattle.fb_model.specs.PlainReplay.{Served, service, media, finish}
@@ -38,35 +36,26 @@ delivery_same medium holding from to mirrors how block begin end after before =
     ap (λ sectors. record { block = block; begin = begin; end = end; how = how; bad = bad_of (runs_of sectors); content = runs_of sectors })
     (mirrored medium holding from to mirrors block.lbn block.count begin after before)
 
-caught_rows : (medium : Medium) (holding : Holding) (how : How) (dwell : Dwell) (from to : ℕ) → Mirrors medium holding from to → from ≤ dwell.begin → dwell.end ≤ to → (blocks : List Block)
-    → map (delivery_by medium.disk holding how dwell) (filter (catches medium.disk dwell) blocks)
-    ≡ map (λ block. delivery medium how block (block_begin medium.disk.map block dwell.begin) (block_end medium.disk.map block dwell.begin)) (filter (catches medium.disk dwell) blocks)
-caught_rows medium holding how dwell from to mirrors after before blocks = same_kept (catches medium.disk dwell) _ _
+pub caught_same : (medium : Medium) (holding : Holding) (how : How) (dwell : Dwell) (from to : ℕ) → Mirrors medium holding from to → from ≤ dwell.begin → dwell.end ≤ to → (blocks : List Block)
+    → caught_in medium.disk holding how dwell blocks ≡ caught medium how dwell blocks
+caught_same medium holding how dwell from to mirrors after before blocks = ap in_order (same_kept (catches medium.disk dwell) _ _
     (λ block is_caught.
     let ends = ends_in_time medium.disk dwell block is_caught in
     let begins = begins_later medium.disk block dwell.begin in
     let order = ends_behind medium.disk block dwell.begin in
     delivery_same medium holding from to mirrors how block (block_begin medium.disk.map block dwell.begin) (block_end medium.disk.map block dwell.begin) (omega (arith, after, begins)) (omega (arith, before, ends, order)))
-    blocks
-
-pub caught_same : (medium : Medium) (holding : Holding) (how : How) (dwell : Dwell) (from to : ℕ) → Mirrors medium holding from to → from ≤ dwell.begin → dwell.end ≤ to → (blocks : List Block)
-    → caught_in medium.disk holding how dwell blocks ≡ caught medium how dwell blocks
-caught_same medium holding how dwell from to mirrors after before blocks = ap in_order (caught_rows medium holding how dwell from to mirrors after before blocks)
+    blocks)
 
 -- what a dwell catches lies within it
-found_rows : (disk : Disk) (holding : Holding) (how : How) (dwell : Dwell) (from to : ℕ) → from ≤ dwell.begin → dwell.end ≤ to → (blocks : List Block)
-    → AllByRecursion (IsFoundIn holding from to) (map (delivery_by disk holding how dwell) (filter (catches disk dwell) blocks))
-found_rows disk holding how dwell from to after before blocks = all_map (IsFoundIn holding from to) (delivery_by disk holding how dwell) _ (all_weaker _ _
+pub caught_found : (disk : Disk) (holding : Holding) (how : How) (dwell : Dwell) (from to : ℕ) → from ≤ dwell.begin → dwell.end ≤ to → (blocks : List Block)
+    → AllByRecursion (IsFoundIn holding from to) (caught_in disk holding how dwell blocks)
+caught_found disk holding how dwell from to after before blocks = in_order-each (IsFoundIn holding from to) _ (all_map (IsFoundIn holding from to) (delivery_by disk holding how dwell) _ (all_weaker _ _
     (λ block is_caught.
     let ends = ends_in_time disk dwell block is_caught in
     let begins = begins_later disk block dwell.begin in
     let order = ends_behind disk block dwell.begin in
     record { row = refl; begin = omega (arith, after, begins); order = order; end = omega (arith, before, ends) })
-    _ (all_pass (catches disk dwell) blocks))
-
-pub caught_found : (disk : Disk) (holding : Holding) (how : How) (dwell : Dwell) (from to : ℕ) → from ≤ dwell.begin → dwell.end ≤ to → (blocks : List Block)
-    → AllByRecursion (IsFoundIn holding from to) (caught_in disk holding how dwell blocks)
-caught_found disk holding how dwell from to after before blocks = in_order-each (IsFoundIn holding from to) _ (found_rows disk holding how dwell from to after before blocks)
+    _ (all_pass (catches disk dwell) blocks)))
 
 -- a block that lies in a request passes with it
 block_passes : (disk : Disk) (source : Track) (start : ℕ) (request : Request) (block : Block) → 0 < block.count → lies_in request block ≡ true
@@ -100,11 +89,9 @@ module _ (medium : Medium) (holding : Holding) (source : Track) (start : ℕ) (r
       record { row = refl; begin = pass.0; order = pass.1; end = omega (arith, pass.2, ends) })
       (filter (lies_in request) blocks) (lie_some blocks some))
 
-
 all_unless : {A : Type 0} (P : A → Type 0) (xs : List A) (b : Bool) → (b ≡ false → AllByRecursion P xs) → AllByRecursion P (if b then [] else xs)
 all_unless P xs true all = tt
 all_unless P xs false all = all refl
-
 
 -- the dwells of a gap's plan lie in the gap
 pub record LieWithin (disk : Disk) (served : Served) (plan : Plan) : Type 0 where

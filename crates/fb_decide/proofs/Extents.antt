@@ -1,5 +1,5 @@
 -- The extents of a service lie end to end, and have the passage of each sector.
-use Rattle.std.proofs.Common.{◌≡◌, ℕ, zero, suc, ◌+◌, ◌-◌, ◌≤◌, ◌<◌, List, [], ◌∷◌, ◌++◌, length, drop, get_or, map, Bool, refl, sym, ap, ap₂, ◌∙◌, arith, find, false, ◌==◌, Option, None, Some, inl, inr}
+use Rattle.std.proofs.Common.{◌≡◌, ℕ, zero, suc, ◌+◌, ◌-◌, ◌≤◌, ◌<◌, List, [], ◌∷◌, ◌++◌, length, drop, get_or, map, Bool, refl, sym, ap, ap₂, ◌∙◌, arith, find, ◌==◌, Option, None, Some, inl, inr}
 use Rattle.std.specs.List.{AllByRecursion, flat_map, range_with_len}
 use Rattle.std.proofs.lemmas.List.{map-append, drop_more, drop_all}
 use Rattle.fb_units.specs.declared.types.Track.{Track}
@@ -91,16 +91,6 @@ absent_above : (disk : Shape) (first begin lbn k n : ℕ) → first + k + n ≤ 
 absent_above disk first begin lbn k zero above = refl
 absent_above disk first begin lbn k (suc n) above = grind (arith, nat_tests, absent_above disk first begin lbn (k + 1) n (omega arith))
 
--- it is the extent's, if the extent has the sector
-pub in_extent : (disk : Shape) (extent : Extent) (lbn : ℕ) → extent.first ≤ lbn → lbn < extent.first + extent.count → passing lbn (passages_of disk extent) ≡ Some (passage_from disk lbn extent.begin)
-in_extent disk extent lbn from to = found disk extent.first extent.begin lbn 0 extent.count (omega arith) (omega arith)
-
-pub before_extent : (disk : Shape) (extent : Extent) (lbn : ℕ) → lbn < extent.first → passing lbn (passages_of disk extent) ≡ None
-before_extent disk extent lbn below = absent_below disk extent.first extent.begin lbn 0 extent.count (omega arith)
-
-pub behind_extent : (disk : Shape) (extent : Extent) (lbn : ℕ) → extent.first + extent.count ≤ lbn → passing lbn (passages_of disk extent) ≡ None
-behind_extent disk extent lbn above = absent_above disk extent.first extent.begin lbn 0 extent.count (omega arith)
-
 -- one extent after the others
 pub next_extent : (disk : Shape) (extents : List Extent) (i : ℕ) (d : Extent) (lbn : ℕ) → i < length extents
     → passing lbn (all_passages_of disk (drop i extents)) ≡ option_or (passing lbn (passages_of disk (get_or extents i d))) (passing lbn (all_passages_of disk (drop (i + 1) extents)))
@@ -113,15 +103,15 @@ pub it_is_here : (disk : Shape) (extents : List Extent) (i : ℕ) (d : Extent) (
 it_is_here disk extents i d lbn passage within from to is =
     let same : (get_or extents i d).first + (lbn - (get_or extents i d).first) ≡ lbn = omega arith in
     ap Some (is ∙ ap (λ l. passage_from disk l (get_or extents i d).begin) same)
-    ∙ sym (next_extent disk extents i d lbn within ∙ ap (λ o. option_or o (passing lbn (all_passages_of disk (drop (i + 1) extents)))) (in_extent disk (get_or extents i d) lbn from to))
+    ∙ sym (next_extent disk extents i d lbn within ∙ ap (λ o. option_or o (passing lbn (all_passages_of disk (drop (i + 1) extents)))) (found disk (get_or extents i d).first (get_or extents i d).begin lbn 0 (get_or extents i d).count (omega arith) (omega arith)))
 
 pub it_is_before : (disk : Shape) (extents : List Extent) (i : ℕ) (d : Extent) (lbn : ℕ) → i < length extents → lbn < (get_or extents i d).first
     → passing lbn (all_passages_of disk (drop i extents)) ≡ passing lbn (all_passages_of disk (drop (i + 1) extents))
-it_is_before disk extents i d lbn within below = next_extent disk extents i d lbn within ∙ ap (λ o. option_or o (passing lbn (all_passages_of disk (drop (i + 1) extents)))) (before_extent disk (get_or extents i d) lbn below)
+it_is_before disk extents i d lbn within below = next_extent disk extents i d lbn within ∙ ap (λ o. option_or o (passing lbn (all_passages_of disk (drop (i + 1) extents)))) (absent_below disk (get_or extents i d).first (get_or extents i d).begin lbn 0 (get_or extents i d).count (omega arith))
 
 pub it_is_behind : (disk : Shape) (extents : List Extent) (i : ℕ) (d : Extent) (lbn : ℕ) → i < length extents → (get_or extents i d).first + (get_or extents i d).count ≤ lbn
     → passing lbn (all_passages_of disk (drop i extents)) ≡ passing lbn (all_passages_of disk (drop (i + 1) extents))
-it_is_behind disk extents i d lbn within above = next_extent disk extents i d lbn within ∙ ap (λ o. option_or o (passing lbn (all_passages_of disk (drop (i + 1) extents)))) (behind_extent disk (get_or extents i d) lbn above)
+it_is_behind disk extents i d lbn within above = next_extent disk extents i d lbn within ∙ ap (λ o. option_or o (passing lbn (all_passages_of disk (drop (i + 1) extents)))) (absent_above disk (get_or extents i d).first (get_or extents i d).begin lbn 0 (get_or extents i d).count (omega arith))
 
 pub it_is_nowhere : (disk : Shape) (extents : List Extent) (n lbn : ℕ) → length extents ≤ n → passing lbn (all_passages_of disk (drop n extents)) ≡ None
 it_is_nowhere disk extents n lbn within = ap (λ es. passing lbn (all_passages_of disk es)) (drop_all n extents within)

@@ -1,5 +1,5 @@
 -- A run goes on by one decision.
-use Rattle.std.proofs.Common.{◌≡◌, ℕ, List, [], ◌∷◌, ◌++◌, refl, ap, sym, subst, ◌∙◌, append_assoc, zero, suc, ◌+◌, ◌<◌, ◌≤◌, ◌^◌, Bool, true, false, None, Some, length, map, take, drop, arith, inl, inr, append-nil}
+use Rattle.std.proofs.Common.{◌≡◌, ℕ, List, [], ◌∷◌, ◌++◌, refl, ap, sym, subst, ◌∙◌, append_assoc, zero, suc, ◌+◌, ◌<◌, ◌≤◌, ◌^◌, Bool, true, false, None, Some, length, map, take, drop, arith, append-nil}
 use Rattle.std.specs.List.{fold, AllByRecursion}
 use Rattle.std.proofs.lemmas.List.{map-append, length-append}
 use Rattle.fb_model.specs.PlainReplay.{Served, service, finish, last_track, plain, first_least, start_of}
@@ -10,12 +10,11 @@ use Rattle.fb_model.specs.Steps.{past_after, history, take_call, calls_due}
 use Rattle.fb_model.proofs.Steps.{history-append}
 use Rattle.fb_tasks.specs.Telling.{Tells, calls_of}
 use Rattle.fb_decide.specs.declared.deciding.Course.{Course}
-use Rattle.fb_decide.specs.Calls.{IsCalled, past_settled, part_by}
+use Rattle.fb_decide.specs.Calls.{IsCalled, past_settled}
 use Rattle.fb_decide.specs.Standing.{IsTrue, Mirrors}
 use Rattle.fb_decide.specs.Making.{Step, Replayed, HasRun, decided_in, all_writes, fore_row_of, GoesOn, HasEnded, HasComeTo, AreKnown, decisions_by, decisions_left, rest_by, rest_of}
 use Rattle.fb_decide.proofs.Stepping.{HasStepped, StepsBy, serves_step, stays_step, ends_step}
 use Rattle.std.specs.Prelude.{nat_lt, nat_le, slice_get, filter, if◌then◌else◌}
-use Rattle.std.proofs.lemmas.Bool.{cases_Bool}
 use Rattle.std.proofs.lemmas.Bool.Decides.{nat_tests}
 use Rattle.fb_units.specs.declared.types.Request.{Request}
 use Rattle.fb_geometry.specs.Shape.{Shape, IsTrackOf}
@@ -24,8 +23,6 @@ use Rattle.fb_calls.specs.Allowed.{AreAllowed}
 use Rattle.fb_store.specs.Index.{Holding, content_in}
 use Rattle.fb_calls.proofs.Lists.{all_weaker}
 use Rattle.fb_rows.specs.Ranges.{HasRanges}
-use Rattle.fb_rows.specs.declared.gap.Plan.{Plan}
-use Rattle.fb_rows.specs.declared.gap.Plan.TheVariants.{Direct}
 use Rattle.fb_model.specs.Accepted.{IsRequestOf}
 use Rattle.fb_model.specs.History.{Past}
 use Rattle.fb_model.proofs.Instants.{IsAmong}
@@ -33,14 +30,12 @@ use Rattle.fb_model.proofs.Lists.{all_append, all_left, all_right, all_map, is_b
 use Rattle.fb_decide.specs.declared.background.Background.{Background}
 use Rattle.fb_decide.specs.Waiting.{left, IsWaiting, AreByArrival}
 use Rattle.fb_decide.specs.Deciding.{next_of, stay_of, prepared, HasServedNext, HasStayed, HasActed, serves_pick, stays_on, stays_last, ends_here, HasPrepared, HasDecided}
-use Rattle.fb_decide.proofs.Readiness.{taken, taken_ready, start_waiting, ahead_of, plain_next, order_dropped}
+use Rattle.fb_decide.proofs.Decided.{none_served, taken, taken_ready, start_waiting, ahead_of, plain_next, order_dropped, serves_now, stays_next, ends_now, plain_same, starts_from, StartsFrom, HasCome, to_come, among_instants, apart_instants, left_later, passed_instants, none_left, rising_instants}
 use Rattle.fb_decide.proofs.Replayed.{row_made, replayed_more}
-use Rattle.fb_decide.proofs.Instants.{all_of_both}
-use Rattle.fb_decide.proofs.Decided.{serves_now, stays_next, ends_now, plain_same, starts_from, StartsFrom, HasCome, to_come, among_instants, apart_instants, left_later, passed_instants, none_left, rising_instants}
+use Rattle.fb_decide.proofs.Instants.{all_of_both, at_among}
 use Rattle.fb_decide.proofs.Mirroring.{held_until, mirrors_run, all_late, served_late}
 use Rattle.fb_tasks.proofs.AllChoices.{by_all}
-use Rattle.fb_tasks.proofs.Lists.{all_pass, all_at}
-use Rattle.fb_decide.proofs.Readiness as readiness
+use Rattle.fb_tasks.proofs.Lists.{all_pass}
 
 -- ---- one more step
 
@@ -99,13 +94,6 @@ all_come now calls = all_weaker _ _ (λ (c : Call) by. is_by c.instant now by) _
 early_calls : (disk : Shape) (before calls : List Call) → AreAllowed disk before calls → AllByRecursion (λ c. c.instant ≤ 10 ^ 15) calls
 early_calls disk before [] allowed = tt
 early_calls disk before (call ∷ calls) allowed = (allowed.0, early_calls disk (before ++ call ∷ []) calls allowed.2)
-
-at_among : (P : ℕ → Type 0) (t : ℕ) (xs : List ℕ) → AllByRecursion P xs → IsAmong t xs → P t
-at_among P t [] all there = absurd there
-at_among P t (x ∷ xs) all there = elim there [
-  | inl here ↦ subst P here all.0
-  | inr rest ↦ at_among P t xs all.1 rest
-]
 
 early_instant : (inputs : Inputs) (t : ℕ) → AreKnown inputs → IsAmong t (instants_of inputs) → t ≤ 10 ^ 15
 early_instant inputs t known there = at_among (λ x. x ≤ 10 ^ 15) t (instants_of inputs)
@@ -351,7 +339,7 @@ module _ (inputs : Inputs) (known : AreKnown inputs) (before : Course) (pending 
   -- nothing is to come: the head stays until the end, or the run ends
   module _ (empty : waiting ≡ []) (next : next_of (slice_get (requests inputs) joined) (slice_get inputs.calls called) ≡ None) where
     no_rest : rest ≡ []
-    no_rest = readiness.none_left (length left_over) inputs.disk inputs.key before.head before.now left_over
+    no_rest = none_served (length left_over) inputs.disk inputs.key before.head before.now left_over
         (ap length (ap (λ ws. ws ++ ahead) empty ∙ none_left inputs before.now joined called come next))
 
     last_is : decisions_by inputs before rest ≡ last_decision before.head before.now inputs.until ∷ []

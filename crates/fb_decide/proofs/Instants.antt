@@ -32,7 +32,6 @@ one_of_second u (t ∷ ts) xs there = elim there [
 
 -- ---- some of them
 
-
 pub one_filtered : (p : ℕ → Bool) (t : ℕ) (xs : List ℕ) → p t ≡ true → IsAmong t xs → IsAmong t (filter p xs)
 one_filtered p t [] h there = absurd there
 one_filtered p t (x ∷ xs) h there = elim (cases_Bool (p x)) [
@@ -55,11 +54,11 @@ idle_none head now (x ∷ xs) all =
     let passed : nat_lt now x ≡ false = let h = all.0 in grind (arith, nat_tests) in
     rw passed (idle_none head now xs all.1)
 
-least_among : (x t : ℕ) (xs : List ℕ) → AllByRecursion (λ y. x ≤ y) xs → IsAmong t xs → x ≤ t
-least_among x t [] all there = absurd there
-least_among x t (y ∷ ys) all there = elim there [
-  | inl here ↦ omega (arith, all.0, here)
-  | inr rest ↦ least_among x t ys all.1 rest
+pub at_among : (P : ℕ → Type 0) (t : ℕ) (xs : List ℕ) → AllByRecursion P xs → IsAmong t xs → P t
+at_among P t [] all there = absurd there
+at_among P t (x ∷ xs) all there = elim there [
+  | inl here ↦ subst P here all.0
+  | inr rest ↦ at_among P t xs all.1 rest
 ]
 
 -- nothing lies between two instants
@@ -76,7 +75,7 @@ idle_next head now t (x ∷ xs) less rising there apart = elim apart.0 [
       let skips_too : nat_lt t x ≡ false = grind (arith, nat_tests) in
       rw (skips, skips_too) (idle_next head now t xs less rising.1 (elim there [ inl here ↦ absurd (omega (arith, here, before, less)) | inr rest ↦ rest ]) apart.1)
   | inr after ↦
-      let least : x ≤ t = elim there [ inl here ↦ (let same : x ≤ t = omega (arith, here) in same) | inr rest ↦ least_among x t xs rising.0 rest ] in
+      let least : x ≤ t = elim there [ inl here ↦ (let same : x ≤ t = omega (arith, here) in same) | inr rest ↦ at_among (λ y. x ≤ y) t xs rising.0 rest ] in
       let same : x ≡ t = omega (arith, least, after) in
       let begins : nat_lt now x ≡ true = grind (arith, nat_tests) in
       let ends : nat_lt t x ≡ false = grind (arith, nat_tests) in

@@ -1,4 +1,3 @@
-pub mod Readiness
 pub mod Replayed
 pub mod Behind
 pub mod Due
@@ -9,7 +8,6 @@ pub mod Served
 pub mod Calling
 pub mod RegisteredBlocks
 pub mod DiskRows
-pub mod StillTrue
 pub mod Truth
 pub mod Ways
 pub mod Extents
@@ -22,5 +20,4 @@ pub mod FittingRows
 pub mod Looping
 pub mod Chain
 pub mod QuietRows
-pub mod Possible
 pub mod FullRuns

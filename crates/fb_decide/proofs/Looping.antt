@@ -1,5 +1,5 @@
 -- A run from its beginning on, one decision after another, with the list of requests as the program has it.
-use Rattle.std.proofs.Common.{◌≡◌, ℕ, ◌+◌, ◌≤◌, ◌^◌, List, [], ◌∷◌, ◌++◌, length, arith, inl, inr, refl, sym, ◌∙◌, ◌-◌, ◌*◌, Bool, true, false, take, subst}
+use Rattle.std.proofs.Common.{◌≡◌, ℕ, ◌+◌, ◌≤◌, ◌^◌, List, [], ◌∷◌, ◌++◌, length, arith, inl, inr, refl, sym, ◌∙◌, Bool, true, false, subst}
 use Rattle.std.specs.Prelude.{nat_le}
 use Rattle.std.specs.List.{AllByRecursion, fold}
 use Rattle.std.proofs.lemmas.Bool.{cases_Bool}
@@ -17,26 +17,20 @@ use Rattle.fb_model.proofs.Passages.{all_requests}
 use Rattle.fb_model.proofs.Lists.{all_append}
 use Rattle.fb_decide.specs.Waiting.{IsForegroundOf, IsWaiting}
 use Rattle.fb_decide.proofs.Replayed.{in_order}
-use Rattle.fb_store.specs.Writes.{unwritten}
-use Rattle.fb_store.specs.Index.{Holding, content_in}
-use Rattle.fb_wanted.specs.declared.block.Entry.{Entry}
 use Rattle.fb_rows.specs.declared.fore.ForeRow.{ForeRow}
 use Rattle.fb_rows.specs.declared.back.BackRow.{BackRow}
-use Rattle.fb_units.specs.declared.types.Track.{Track}
 use Rattle.fb_model.specs.Content.{medium_of}
-use Rattle.fb_model.specs.PlainReplay.{first_track}
 use Rattle.fb_model.specs.Decisions.{decisions}
-use Rattle.fb_tasks.specs.declared.session.Session.{Session}
 use Rattle.fb_tasks.specs.Telling.{Tells}
 use Rattle.fb_decide.specs.declared.deciding.Course.{Course}
-use Rattle.fb_decide.specs.Deciding.{IsAtStart, PassagesTakeTime, HasDecided}
-use Rattle.fb_decide.specs.Making.{Replayed, GoesOn, AreKnown, rest_of, Step, RowFits, HasComeTo, HasMade, HasMadeOne}
+use Rattle.fb_decide.specs.Deciding.{IsAtStart, PassagesTakeTime, HasDecided, IsReady}
+use Rattle.fb_decide.specs.Making.{GoesOn, AreKnown, Step, RowFits, HasComeTo, HasMade, HasMadeOne}
 use Rattle.fb_decide.proofs.Calling.{called_first}
 use Rattle.fb_decide.proofs.Truth.{true_first}
 use Rattle.fb_geometry.specs.Sound.{IsSound}
 use Rattle.fb_model.specs.History.{Past}
 use Rattle.fb_model.specs.Steps.{history, past_after, task_rows}
-use Rattle.fb_decide.specs.Calls.{IsScriptOf, IsCalled}
+use Rattle.fb_decide.specs.Calls.{IsCalled}
 use Rattle.fb_decide.proofs.FittingRows.{step_fits, tasks_fit, fits-told}
 use Rattle.fb_decide.proofs.Going.{LeadsOn, decided_more}
 use Rattle.fb_calls.specs.Allowed as allowed
@@ -107,20 +101,15 @@ module _ (inputs : Inputs) (steps : List Step) (list : List Request) (course : C
   list_is : now_list ≡ requests inputs
   list_is = same ∙ made.list_is
 
-  pub now_listed : IsForegroundOf inputs.disk now_list
-  now_listed = subst (IsForegroundOf inputs.disk) (sym list_is) made.known.list
-
-  pub now_scripted : IsScriptOf inputs.disk.map inputs.calls
-  now_scripted = record { instants = made.known.accepted.instants; allowed = made.known.accepted.calls; few = made.known.accepted.few_calls }
-
-  pub now_waits : IsWaiting inputs.disk now_list course.now course.joined count pending
-  now_waits = subst (λ list. IsWaiting inputs.disk list course.now course.joined count pending) (sym list_is) made.come_to.waits
-
-  pub now_come : AllByRecursion (λ r. r.arrival ≤ course.now) (take course.joined now_list)
-  now_come = subst (λ list. AllByRecursion (λ r. r.arrival ≤ course.now) (take course.joined list)) (sym list_is) made.come_to.arrivals
-
-  pub now_early : course.now ≤ 9 * 10 ^ 18 - 10 ^ 15
-  now_early = omega (arith, made.come_to.soon, made.come_to.counted, made.known.list.few)
+  pub now_ready : IsReady inputs.disk now_list inputs.calls course count pending
+  now_ready = subst (λ list. IsReady inputs.disk list inputs.calls course count pending) (sym list_is) (record {
+    list = made.known.list;
+    script = record { instants = made.known.accepted.instants; allowed = made.known.accepted.calls; few = made.known.accepted.few_calls };
+    waiting = made.come_to.waits;
+    come = made.come_to.arrivals;
+    head = made.come_to.stands;
+    now = omega (arith, made.come_to.soon, made.come_to.counted, made.known.list.few);
+  })
 
   pub now_called : (past : Past) × IsCalled inputs.disk.map inputs.calls past course.called × Tells inputs.disk.map past course.background.sessions course.background.wanted
   now_called = (history inputs steps, made.come_to.called, made.come_to.run.tells)

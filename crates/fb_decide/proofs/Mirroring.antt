@@ -1,11 +1,9 @@
 -- What the disk holds between two decisions it holds until the next write has passed.
-use Rattle.std.proofs.Common.{◌≡◌, ℕ, zero, suc, ◌+◌, ◌<◌, ◌≤◌, List, [], ◌∷◌, ◌++◌, length, map, Bool, true, false, Option, Some, None, ap, sym, ◌∙◌, arith, inl, inr, append-nil}
-use Rattle.std.specs.Prelude.{nat_le, filter, unwrap_or, if◌then◌else◌}
+use Rattle.std.proofs.Common.{◌≡◌, ℕ, zero, suc, ◌+◌, ◌<◌, ◌≤◌, List, [], ◌∷◌, length, map, Bool, true, false, Option, Some, None, ap, sym, ◌∙◌, arith, inl, inr}
+use Rattle.std.specs.Prelude.{unwrap_or, if◌then◌else◌}
 use Rattle.std.specs.Option.{option_map}
-use Rattle.std.specs.List.{AllByRecursion, last_or}
+use Rattle.std.specs.List.{AllByRecursion}
 use Rattle.std.proofs.lemmas.Bool.{cases_Bool}
-use Rattle.std.proofs.lemmas.List.Elements.{filter-append}
-use Rattle.std.proofs.lemmas.List.Concat.{flat_map-append}
 use Rattle.fb_units.specs.declared.types.Track.{Track}
 use Rattle.fb_units.specs.declared.types.Request.{Request}
 use Rattle.fb_geometry.specs.Places.{places}
@@ -14,19 +12,17 @@ use Rattle.fb_sectormap.specs.Lookup.{track_at}
 use Rattle.fb_service.specs.declared.disk.Disk.{Disk}
 use Rattle.fb_service.specs.declared.passage.Passage.{Passage}
 use Rattle.fb_service.specs.Service.{passages, passage_from, finish_of, media_of}
-use Rattle.fb_store.specs.Writes.{unwritten}
 use Rattle.fb_store.specs.Index.{Holding}
 use Rattle.fb_calls.proofs.Lists.{all_weaker}
-use Rattle.fb_model.specs.PlainReplay.{Key, Served, plain, service, media, finish, last_track, start_of, has_arrived, better, kept, pick_with, first_ready}
+use Rattle.fb_model.specs.PlainReplay.{Key, Served, plain, service, media, finish, last_track, start_of, first_ready}
 use Rattle.fb_model.specs.Accepted.{IsRequestOf}
 use Rattle.fb_model.specs.Inputs.{Inputs, served}
-use Rattle.fb_model.specs.Content.{Written, medium_of, writes_of, number_of, content, content_by}
+use Rattle.fb_model.specs.Content.{Written, medium_of, writes_of, number_of, content}
 use Rattle.fb_model.proofs.Passages.{passed_between, written_by}
 use Rattle.fb_model.proofs.Lists.{all_both, all_append, all_map}
-use Rattle.fb_model.proofs.ContentsUpTo.{is_of_by}
 use Rattle.fb_decide.specs.Deciding.{PassagesTakeTime}
 use Rattle.fb_decide.specs.Standing.{Mirrors}
-use Rattle.fb_decide.specs.Making.{Replayed, all_writes, held_after}
+use Rattle.fb_decide.specs.Making.{Replayed, all_writes}
 use Rattle.fb_decide.proofs.Replayed.{medium_by, content_then}
 use Rattle.fb_model.proofs.Replays.{start_from as start_after}
 use Rattle.fb_model.proofs.Picks.{ready_pick}
@@ -62,7 +58,6 @@ abbrev pub PicksOf : (Request → Type 0) → Option (Request × List Request) �
 PicksOf P None = Unit {0}
 PicksOf P (Some best) = P best.0 × AllByRecursion P best.1
 
-
 picks_ready : (P : Request → Type 0) (key : Request → ℕ) (now : ℕ) (rs : List Request) → AllByRecursion P rs → PicksOf P (first_ready key now rs)
 picks_ready P key now rs all = of (first_ready key now rs) (ready_pick key now rs)
   where
@@ -93,7 +88,6 @@ all_late (suc n) disk long key head now left on_disk = late_pick n disk long key
     (picks_ready (IsRequestOf disk.map) (key disk head (start_of now left)) (start_of now left) left on_disk) (all_late n disk long key)
 
 -- ---- and until then the disk holds what it holds
-
 
 pub mirrors_run : (inputs : Inputs) (done rest : List Served) (now to : ℕ) (holding : Holding)
     → Replayed inputs.latent (served inputs) rest now holding done → AllByRecursion (λ (w : Written). to < w.passage.end) (all_writes rest) → Mirrors (medium_of inputs) holding now to

@@ -1,5 +1,5 @@
 -- Deliveries in their order are those of the catches in their order; none is lost, and none is added.
-use Rattle.std.proofs.Common.{◌≡◌, ℕ, ◌+◌, ◌<◌, ◌≤◌, ◌==◌, if◌then◌else◌, List, [], ◌∷◌, Bool, true, false, filter, inl, inr, arith, subst, suc, ◌||◌, not, map, refl, ap, sym, ◌∙◌, zero, ◌++◌, Some, length, take, take_all, get_or, slice_get}
+use Rattle.std.proofs.Common.{◌≡◌, ℕ, ◌+◌, ◌<◌, ◌≤◌, ◌==◌, if◌then◌else◌, List, [], ◌∷◌, Bool, true, false, filter, inl, inr, arith, subst, ◌||◌, not, map, refl, ap, sym, ◌∙◌, ◌++◌, Some, length, take, take_all, get_or, slice_get}
 use Rattle.std.specs.List.{AllByRecursion, list_any, fold}
 use Rattle.std.proofs.lemmas.Bool.{cases_Bool}
 use Rattle.std.proofs.lemmas.Bool.Decides.{nat_tests}
@@ -12,7 +12,7 @@ use Rattle.fb_model.specs.Completion.{view}
 use Rattle.fb_tasks.specs.declared.session.Session.{Session}
 use Rattle.fb_tasks.specs.Standing.{AreIndexed}
 use Rattle.fb_tasks.specs.Telling.{Tells}
-use Rattle.fb_tasks.proofs.Lists.{all_weaker, all_filter, all_map, filter_same, filter_from, all_any, all_with, map_at, some_same}
+use Rattle.fb_tasks.proofs.Lists.{all_weaker, all_filter, all_map, filter_same, all_any, all_with, map_at}
 use Rattle.fb_tasks.proofs.Deliveries.{indexed_from}
 use Rattle.fb_decide.specs.Deliveries.{AreDistinct, AreDue, IsOneOf, block_in, row_in, delivery_in, caught_in, past_with, IsCurrent, HasDelivered}
 use Rattle.fb_rows.specs.declared.gap.Dwell.{Dwell}
@@ -26,23 +26,18 @@ use Rattle.fb_plan.specs.declared.catching.Catch.{Catch}
 use Rattle.fb_plan.specs.Order.{is_before, place_in, catch_of, caught_of}
 use Rattle.fb_plan.proofs.Sorted.{put_front, put_behind}
 use Rattle.fb_decide.proofs.Delivering.{none_of, wanted-with, next-wanted, delivered-join, past_with-append, wanted-told}
-use Rattle.std.proofs.lemmas.Option.{slice_get-get_or}
-use Rattle.std.proofs.lemmas.List.{length-map}
+use Rattle.std.proofs.lemmas.Option.{slice_get-get_or, slice_get_within, get_or_from_slice_get}
+use Rattle.std.proofs.lemmas.List.{length-map, take_more}
 use Rattle.fb_rows.specs.declared.back.BackRow.{BackRow}
 use Rattle.fb_decide.specs.declared.background.Background.{Background}
 use Rattle.fb_model.specs.Rides as rides
+use Rattle.fb_decide.proofs.RegisteredBlocks.{each_in}
 
 pub itself : (block : Block) → same_block block block ≡ true
 itself block = grind (arith, nat_tests)
 
 pub either_way : (a b : Block) → same_block a b ≡ false → same_block b a ≡ false
 either_way a b h = grind (arith, nat_tests)
-
-lesser : (a b : Block) → a.index < b.index → same_block a b ≡ false
-lesser a b less = grind (arith, nat_tests)
-
-of_another : (a b : Block) → (b.task == a.task) ≡ false → same_block a b ≡ false
-of_another a b other = grind (arith, nat_tests)
 
 abbrev own : ℕ → List Block → List Block
 own task bs = filter (λ b. b.task == task) bs
@@ -51,8 +46,8 @@ own task bs = filter (λ b. b.task == task) bs
 alone : (a : Block) (bs : List Block) → AllByRecursion (λ b. a.index < b.index) (own a.task bs) → AllByRecursion (λ b. same_block a b ≡ false) bs
 alone a [] h = tt
 alone a (b ∷ bs) h = elim (cases_Bool (b.task == a.task)) [
-  | inl mine ↦ let k = rw mine at h in (lesser a b k.0, alone a bs k.1)
-  | inr other ↦ (of_another a b other, alone a bs (rw other at h))
+  | inl mine ↦ let k = rw mine at h in ((let less : a.index < b.index = k.0 in grind (arith, nat_tests)), alone a bs k.1)
+  | inr other ↦ (grind (arith, nat_tests), alone a bs (rw other at h))
 ]
 
 -- the blocks of each task are numbered on from some number
@@ -65,13 +60,10 @@ fewer b bs h = λ task. elim (cases_Bool (b.task == task)) [
   | inr other ↦ subst (λ x. (n : ℕ) × AreIndexed n (if x then b ∷ own task bs else own task bs)) other (h task)
 ]
 
-its_own : (b : Block) → (b.task == b.task) ≡ true
-its_own b = grind (arith, nat_tests)
-
 numbered-distinct : (bs : List Block) → AreNumbered bs → AreDistinct bs
 numbered-distinct [] h = tt
 numbered-distinct (b ∷ bs) h =
-    let k = subst (λ x. (n : ℕ) × AreIndexed n (if x then b ∷ own b.task bs else own b.task bs)) (its_own b) (h b.task) in (
+    let k = subst (λ x. (n : ℕ) × AreIndexed n (if x then b ∷ own b.task bs else own b.task bs)) (let own : (b.task == b.task) ≡ true = grind (arith, nat_tests) in own) (h b.task) in (
       alone b bs (all_weaker (λ c. k.0 + 1 ≤ c.index) (λ c. b.index < c.index) (λ c le. omega (arith, le, k.1.0)) (own b.task bs) (indexed_from (k.0 + 1) (own b.task bs) k.1.1)),
       numbered-distinct bs (fewer b bs h),
     )
@@ -149,7 +141,6 @@ fold-apart : (acc rows : List DeliveryRow) → AreApart acc → AllByRecursion (
 fold-apart acc [] a all r = a
 fold-apart acc (x ∷ xs) a all r = fold-apart (placed acc x) xs (placed-apart acc x all.0 a) (all_places x acc xs all.1 r.0) r.1
 
-
 distinct_by : (rows : List DeliveryRow) → AreApart rows → AreDistinct (map block_in rows)
 distinct_by [] h = tt
 distinct_by (x ∷ xs) h = (all_map (λ b. same_block x.block b ≡ false) block_in xs h.0, distinct_by xs h.1)
@@ -165,20 +156,15 @@ apart_by f own (b ∷ bs) h = (
   apart_by f own bs h.1,
 )
 
-members : (bs cs : List Block) → ((b : Block) → IsOneOf cs b → IsOneOf bs b) → AllByRecursion (IsOneOf bs) cs
-members bs [] h = tt
-members bs (c ∷ cs) h = (h c (0, refl), members bs cs (λ b at. h b (suc at.0, at.1)))
-
 -- the deliveries of some of the wanted blocks, in order, are of different wanted blocks
 pub due-filtered : (past : Past) (p : Block → Bool) (f : Block → DeliveryRow) → ((b : Block) → (f b).block ≡ b) → AreDistinct (wanted past) → AreDue past (in_order (map f (filter p (wanted past))))
 due-filtered past p f own distinct = record {
   each = in_order-each (λ got. IsOneOf (wanted past) got.block) (map f (filter p (wanted past)))
       (all_map (λ got. IsOneOf (wanted past) got.block) f (filter p (wanted past))
       (all_weaker (IsOneOf (wanted past)) (λ b. IsOneOf (wanted past) (f b).block) (λ b h. subst (IsOneOf (wanted past)) (sym (own b)) h) (filter p (wanted past))
-      (members (wanted past) (filter p (wanted past)) (λ b at. let found = filter_from p (wanted past) at.0 b at.1 in (found.0, found.1)))));
+      (all_filter (IsOneOf (wanted past)) p (wanted past) (each_in (wanted past)))));
   distinct = in_order-distinct (map f (filter p (wanted past))) (apart_by f own (filter p (wanted past)) (filter-distinct p (wanted past) distinct));
 }
-
 
 any-placed : (p : DeliveryRow → Bool) (rows : List DeliveryRow) (row : DeliveryRow) → list_any p (placed rows row) ≡ (p row || list_any p rows)
 any-placed p [] row = refl
@@ -233,19 +219,14 @@ left-caught disk holding how dwell past distinct = left-filtered past (catches d
 
 -- ---- the catches of a dwell are delivered one after another
 
-take_more : {X : Type 0} (xs : List X) (k : ℕ) (x : X) → slice_get xs k ≡ Some x → take k xs ++ x ∷ [] ≡ take (suc k) xs
-take_more [] k x at = absurd (grind arith)
-take_more (y ∷ ys) zero x at = ap (λ z. z ∷ []) (sym (some_same y x at))
-take_more (y ∷ ys) (suc k) x at = ap (λ zs. y ∷ zs) (take_more ys k x at)
-
-one_more : (k : ℕ) → suc k ≡ k + 1
-one_more k = omega arith
+pub take_at : {X : Type 0} (xs : List X) (i : ℕ) (x : X) → slice_get xs i ≡ Some x → take (i + 1) xs ≡ take i xs ++ x ∷ []
+take_at xs i x at = take_more xs i x (slice_get_within xs i x at) ∙ ap (λ y. take i xs ++ y ∷ []) (get_or_from_slice_get xs i x x at)
 
 -- of deliveries in their order the next one follows the first ones
 pub delivered-more : {disk : Shape} {past : Past} {rows : List BackRow} {middle after : Background} (gots : List DeliveryRow) (k : ℕ) (got : DeliveryRow) → slice_get gots k ≡ Some got
     → HasDelivered disk past (take k gots) rows middle → HasDelivered disk (past_with past (take k gots)) (got ∷ []) middle.rows after → HasDelivered disk past (take (k + 1) gots) rows after
 delivered-more {disk} {past} {rows} {after} gots k got at first next =
-    subst (λ gs. HasDelivered disk past gs rows after) (take_more gots k got at ∙ ap (λ n. take n gots) (one_more k)) (delivered-join first next)
+    subst (λ gs. HasDelivered disk past gs rows after) (sym (take_at gots k got at)) (delivered-join first next)
 
 -- the next of some catches that are due is still wanted
 pub row-at : (holding : Holding) (how : How) (cs : List Catch) (k : ℕ) (d : Catch) → k < length cs → slice_get (map (row_in holding how) cs) k ≡ Some (row_in holding how (get_or cs k d))

@@ -5,20 +5,20 @@ use Rattle.std.specs.List.{AllByRecursion, flat_map}
 use Rattle.fb_service.specs.declared.disk.Disk.{Disk}
 use Rattle.fb_rows.specs.declared.fore.ForeRow.{ForeRow}
 use Rattle.fb_rows.specs.declared.back.BackRow.{BackRow}
-use Rattle.fb_rows.specs.declared.back.BackRow.TheVariants.{Gap as GapLine, Idle as IdleLine, Bad as BadLine, Seal as SealLine, Segment as SegmentLine, Complete as CompleteLine}
+use Rattle.fb_rows.specs.declared.back.BackRow.TheVariants.{Gap as GapLine, Idle as IdleLine, Bad as BadLine, Seal as SealLine, Complete as CompleteLine}
 use Rattle.fb_rows.specs.declared.back.DeliveryRow.{DeliveryRow}
 use Rattle.fb_model.specs.Inputs.{Inputs}
 use Rattle.fb_model.specs.Content.{Medium}
 use Rattle.fb_model.specs.Timeline.{timeline}
 use Rattle.fb_model.specs.Decisions.{Decision, instant_of}
 use Rattle.fb_model.specs.History.{Past, delivered, task_numbers, terms_of, is_open_backup}
-use Rattle.fb_model.specs.Completion.{Choice, choices, work, is_complete, was_complete}
-use Rattle.fb_model.specs.Segments.{live_count}
+use Rattle.fb_model.specs.Completion.{choices, work, is_complete, was_complete}
 use Rattle.fb_model.specs.Images.{Sources, bad_sectors, is_scrub, findings, is_newly_cleaned, on_disk, segment_rows, seal_rows, complete_rows, test_rows}
 use Rattle.fb_model.specs.Steps.{Delivery, Part, with_delivery, tested_past, settled_past, task_row, task_rows}
 use Rattle.fb_model.specs.SoundRun.{AreFollowed, IsTested}
 use Rattle.fb_model.proofs.RowsUpTo.{delivered_rows}
-use Rattle.fb_model.proofs.Lists.{all_append, all_flat_map}
+use Rattle.fb_model.proofs.Lists.{all_append, all_flat_map, all_map}
+use Rattle.fb_tasks.proofs.Lists.{all_any}
 
 -- no gap row and no idle row
 abbrev pub IsQuiet : BackRow → Type 0
@@ -43,15 +43,6 @@ all_quiet disk (_ ∷ rows) fore all = all_quiet disk rows fore all.1
 
 -- ---- which rows are so
 
-abbrev segment_line : Sources → Past → ℕ → ℕ → Choice → BackRow
-segment_line sources past now task choice =
-    SegmentLine (record { task = task; segment = choice.segment.number; instant = now; live = live_count choice.segment; content = sources.packed_for past task choice })
-
-
-segments_quiet : (sources : Sources) (past : Past) (now task : ℕ) (found : List Choice) → AllByRecursion IsQuiet (map (segment_line sources past now task) found)
-segments_quiet sources past now task [] = tt
-segments_quiet sources past now task (choice ∷ found) = (tt, segments_quiet sources past now task found)
-
 one_quiet : (b : Bool) (row : BackRow) → IsQuiet row → AllByRecursion IsQuiet (if b then row ∷ [] else [])
 one_quiet true row quiet = (quiet, tt)
 one_quiet false row quiet = tt
@@ -60,30 +51,22 @@ pub test_quiet : (sources : Sources) (past : Past) (now : ℕ) → AllByRecursio
 unfolding test_rows
 test_quiet sources past now =
     all_append IsQuiet (flat_map (segment_rows sources past now) (task_numbers past)) (flat_map (λ task. seal_rows sources past now task ++ complete_rows past now task) (task_numbers past))
-    (all_flat_map IsQuiet (segment_rows sources past now) (λ task. segments_quiet sources past now task (filter (is_newly_cleaned (work past task)) (choices past task))) (task_numbers past))
+    (all_flat_map IsQuiet (segment_rows sources past now) (λ task. all_map IsQuiet _ (filter (is_newly_cleaned (work past task)) (choices past task)) (all_any _ (λ choice. tt) _)) (task_numbers past))
     (all_flat_map IsQuiet (λ task. seal_rows sources past now task ++ complete_rows past now task) (λ task.
     all_append IsQuiet (seal_rows sources past now task) (complete_rows past now task)
     (one_quiet (is_open_backup past task && is_complete past task) (SealLine (record { task = task; instant = now; content = sources.image_at past task now })) tt)
     (one_quiet (is_complete past task && not (was_complete past task)) (CompleteLine (record { task = task; instant = now })) tt)) (task_numbers past))
 
-sectors_quiet : (task : ℕ) (lbns : List ℕ) → AllByRecursion IsQuiet (map (λ lbn. BadLine (record { task = task; lbn = lbn })) lbns)
-sectors_quiet task [] = tt
-sectors_quiet task (lbn ∷ lbns) = (tt, sectors_quiet task lbns)
-
 found_quiet : (b : Bool) (task : ℕ) (lbns : List ℕ) → AllByRecursion IsQuiet (if b then map (λ lbn. BadLine (record { task = task; lbn = lbn })) lbns else [])
-found_quiet true task lbns = sectors_quiet task lbns
+found_quiet true task lbns = all_map IsQuiet _ lbns (all_any _ (λ lbn. tt) lbns)
 found_quiet false task lbns = tt
 
 findings_quiet : (past : Past) (row : DeliveryRow) → AllByRecursion IsQuiet (findings past row)
 findings_quiet past row = found_quiet (is_scrub (terms_of past row.block.task).kind) row.block.task (bad_sectors row.content)
 
-counts_quiet : (past : Past) (numbers : List ℕ) → AllByRecursion IsQuiet (map (task_row past) numbers)
-counts_quiet past [] = tt
-counts_quiet past (task ∷ numbers) = (tt, counts_quiet past numbers)
-
 pub tasks_quiet : (past : Past) → AllByRecursion IsQuiet (task_rows past)
 unfolding task_rows
-tasks_quiet past = counts_quiet past (task_numbers past)
+tasks_quiet past = all_map IsQuiet (task_row past) (task_numbers past) (all_any _ (λ task. tt) (task_numbers past))
 
 -- ---- a decision's rows beside the one that opens it
 

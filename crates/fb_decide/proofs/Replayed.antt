@@ -1,9 +1,8 @@
 -- What services leave on the disk, and the rows that they give.
 use Rattle.std.proofs.Common.{◌≡◌, ℕ, zero, suc, ◌+◌, ◌≤◌, List, [], ◌∷◌, ◌++◌, map, Bool, true, false, refl, ap, ◌∙◌, arith, Option, Some, None, inl, inr, ◌<◌, sym, subst, append-nil}
-use Rattle.std.specs.Prelude.{◌==◌, filter, if◌then◌else◌, unwrap_or, nat_le}
-use Rattle.std.specs.Option.{option_map}
-use Rattle.std.specs.List.{list_any, AllByRecursion, last_or, flat_map, range_with_len}
-use Rattle.std.proofs.lemmas.Bool.{cases_Bool, cases_lt}
+use Rattle.std.specs.Prelude.{◌==◌, filter, if◌then◌else◌}
+use Rattle.std.specs.List.{AllByRecursion, last_or, range_with_len}
+use Rattle.std.proofs.lemmas.Bool.{cases_Bool}
 use Rattle.std.proofs.lemmas.Bool.Decides.{nat_tests}
 use Rattle.fb_units.specs.declared.types.Track.{Track}
 use Rattle.fb_units.specs.declared.types.Request.{Request}
@@ -16,7 +15,7 @@ use Rattle.fb_store.specs.declared.content.Content.{Content}
 use Rattle.fb_store.specs.declared.content.Content.TheVariants.{Filled}
 use Rattle.fb_store.specs.Writes.{is_within, unwritten}
 use Rattle.fb_calls.proofs.Lists.{all_weaker}
-use Rattle.fb_model.specs.PlainReplay.{Key, plain, service, start_of, has_arrived, first_ready, last_track, finish, Served, media}
+use Rattle.fb_model.specs.PlainReplay.{service, finish, Served, media}
 use Rattle.fb_model.specs.Content.{Written, writes_of, number_of, content_by, Medium, content, found, fore_row}
 use Rattle.fb_model.proofs.Passages.{passed_between, written_by}
 use Rattle.fb_model.proofs.Lists.{all_append, all_map, all_both}
@@ -31,12 +30,11 @@ use Rattle.fb_model.proofs.ContentsUpTo.{is_of_by}
 use Rattle.fb_decide.specs.Waiting.{AreByArrival}
 use Rattle.fb_decide.specs.Contents.{found_in, left_by, IsRowOf}
 use Rattle.fb_decide.specs.Making.{all_writes, held_after, Replayed}
-use Rattle.fb_decide.proofs.Readiness.{one_more}
+use Rattle.fb_decide.proofs.Decided.{one_more}
 
 all_ends : (disk : Disk) (source : Track) (now : ℕ) (write : Bool) (lbn n : ℕ)
     → AllByRecursion (λ (p : Passage). (now ≤ p.end) × (p.end ≤ finish_of now (passages disk source now write lbn n))) (passages disk source now write lbn n)
 all_ends disk source now write lbn n = all_weaker _ _ (λ p h. (omega (arith, h.0, h.1), h.2)) _ (passed_between disk source now write lbn n).1
-
 
 -- what is written by a service ends between its start and its finish
 pub written_between : (disk : Disk) (head : Track) (start : ℕ) (request : Request)
@@ -46,7 +44,6 @@ written_between disk head start request = elim (cases_Bool request.write) [
       (all_ends disk head start true request.lbn request.count))
   | inr reads ↦ rw reads tt
 ]
-
 
 -- the sector is not the one: the number that the write leaves elsewhere doesn't count
 pub last_joined : {X : Type 0} (o : Option X) (xs ys : List X) → last_or o (xs ++ ys) ≡ last_or (last_or o xs) ys
@@ -110,7 +107,6 @@ content_now : (disk : Disk) (latent : List ℕ) (done later : List Served) (read
 content_now disk latent done later read now lbn t reads before since after = content_then disk latent done (read ∷ later) now lbn t before since
     (subst (λ ws. AllByRecursion (λ (w : Written). t < w.passage.end) (ws ++ all_writes later)) (sym (no_writes read reads)) after)
 
-
 -- the contents of passages, where each is that of its sector
 abbrev at_passage : (ℕ → ℕ → Content) → Passage → ℕ × Content
 at_passage f p = (p.lbn, f p.lbn p.begin)
@@ -125,35 +121,9 @@ unfolding passages
 by_sector disk f g source now write lbn zero all = refl
 by_sector disk f g source now write lbn (suc n) all = rw (all.0) (ap (λ xs. of_sector g lbn ∷ xs) (by_sector disk f g (track_at disk.map lbn) (passage_from disk.map lbn (now + pos disk.mechanism source (track_at disk.map lbn) write)).end write (lbn + 1) n all.1))
 
--- what a read finds is what the disk holds
-read_finds : (disk : Disk) (latent : List ℕ) (done later : List Served) (head : Track) (now start end : ℕ) (request : Request) (holding : Holding)
-    → request.write ≡ false → now ≤ start → end ≡ finish (service disk head start request)
-    → AllByRecursion (λ (p : Passage). p.begin < p.end) (passages disk head start request.write request.lbn request.count)
-    → AllByRecursion (λ (w : Written). w.passage.end ≤ now) (all_writes done) → AllByRecursion (λ (w : Written). end ≤ w.passage.end) (all_writes later)
-    → ((lbn : ℕ) → content_in holding lbn ≡ held_after latent done lbn)
-    → map (at_passage (content (medium_by disk latent (done ++ service disk head start request ∷ later)))) (passages disk head start request.write request.lbn request.count)
-    ≡ map (of_sector (content_in holding)) (range_with_len request.lbn request.count)
-read_finds disk latent done later head now start end request holding reads from ends each before after holds =
-    by_sector disk (content (medium_by disk latent (done ++ service disk head start request ∷ later))) (content_in holding) head start request.write request.lbn request.count
-    (all_weaker _ _ (λ (p : Passage) h.
-    content_now disk latent done later (service disk head start request) now p.lbn p.begin reads before (omega (arith, from, h.0.0)) (all_weaker _ _ (λ (w : Written) late. omega (arith, late, h.0.2, h.1, ends)) _ after)
-    ∙ sym (holds p.lbn))
-    _ (all_both _ _ _ (passed_between disk head start request.write request.lbn request.count).1 each))
-
 pub same_choice : {A : Type 0} (b : Bool) (none one other : A) → (b ≡ false → one ≡ other) → (if b then none else one) ≡ (if b then none else other)
 same_choice true none one other h = refl
 same_choice false none one other h = h refl
-
-finds : (disk : Disk) (latent : List ℕ) (done later : List Served) (head : Track) (now start end : ℕ) (request : Request) (holding : Holding)
-    → now ≤ start → end ≡ finish (service disk head start request)
-    → AllByRecursion (λ (p : Passage). p.begin < p.end) (passages disk head start request.write request.lbn request.count)
-    → AllByRecursion (λ (w : Written). w.passage.end ≤ now) (all_writes done) → AllByRecursion (λ (w : Written). end ≤ w.passage.end) (all_writes later)
-    → ((lbn : ℕ) → content_in holding lbn ≡ held_after latent done lbn)
-    → found_in holding request ≡ found (medium_by disk latent (done ++ service disk head start request ∷ later)) (service disk head start request)
-finds disk latent done later head now start end request holding from ends each before after holds =
-    same_choice request.write [] (runs_of (map (of_sector (content_in holding)) (range_with_len request.lbn request.count)))
-    (runs_of (map (at_passage (content (medium_by disk latent (done ++ service disk head start request ∷ later)))) (passages disk head start request.write request.lbn request.count)))
-    (λ reads. ap runs_of (sym (read_finds disk latent done later head now start end request holding reads from ends each before after holds)))
 
 -- the row of a service is the one of the definition
 row_is : (row : ForeRow) (request : Request) (start media finish bad : ℕ) (content : List ContentRun) → row.request ≡ request → row.start ≡ start → row.media ≡ media → row.finish ≡ finish
@@ -192,13 +162,28 @@ module _ (disk : Disk) (latent : List ℕ) (whole done rest later : List Served)
   abbrev this : Served
   this = service disk head now request
 
+  module _ (each : AllByRecursion (λ (p : Passage). p.begin < p.end) this.passages) (after : AllByRecursion (λ (w : Written). end ≤ w.passage.end) (all_writes later)) where
+    abbrev medium : Medium
+    medium = medium_by disk latent (done ++ this ∷ later)
+
+    -- what a read finds is what the disk holds
+    read_finds : request.write ≡ false → map (at_passage (content medium)) this.passages ≡ map (of_sector (content_in holding)) (range_with_len request.lbn request.count)
+    read_finds reads = by_sector disk (content medium) (content_in holding) head now request.write request.lbn request.count
+        (all_weaker _ _ (λ (p : Passage) h.
+        content_now disk latent done later this now p.lbn p.begin reads so_far.ended (omega (arith, h.0.0)) (all_weaker _ _ (λ (w : Written) late. omega (arith, late, h.0.2, h.1, ends)) _ after)
+        ∙ sym (so_far.holds p.lbn))
+        _ (all_both _ _ _ (passed_between disk head now request.write request.lbn request.count).1 each))
+
+    finds : found_in holding request ≡ found medium this
+    finds = same_choice request.write [] (runs_of (map (of_sector (content_in holding)) (range_with_len request.lbn request.count))) (runs_of (map (at_passage (content medium)) this.passages))
+        (λ reads. ap runs_of (sym (read_finds reads)))
+
   -- its row is the one of the definition
   pub row_made : (row : ForeRow) → IsRowOf holding this row → AllByRecursion (λ (p : Passage). p.begin < p.end) (passages disk head now request.write request.lbn request.count)
       → AllByRecursion (λ (w : Written). end ≤ w.passage.end) (all_writes later) → row ≡ fore_row (medium_by disk latent whole) this
   row_made row is each after =
       let here : found_in holding request ≡ found (medium_by disk latent whole) this =
-      finds disk latent done later head now now end request holding (omega arith) ends each so_far.ended after so_far.holds
-      ∙ ap (λ ws. found (medium_by disk latent ws) this) (ap (λ xs. done ++ xs) (sym next) ∙ so_far.all) in
+      finds each after ∙ ap (λ ws. found (medium_by disk latent ws) this) (ap (λ xs. done ++ xs) (sym next) ∙ so_far.all) in
       row_is row request now (media this) (finish this) (bad_of (found (medium_by disk latent whole) this)) (found (medium_by disk latent whole) this)
       is.request is.start is.media is.finish (is.bad ∙ ap bad_of (is.content ∙ here)) (is.content ∙ here)
 

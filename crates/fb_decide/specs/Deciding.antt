@@ -1,5 +1,5 @@
 -- What stands between two decisions, and what a decision makes of it.
-use Rattle.std.specs.Prelude.{◌≡◌, ◌≤◌, ◌<◌, ◌+◌, ◌*◌, ◌^◌, ℕ, List, [], ◌∷◌, ◌++◌, Bool, true, false, Option, None, Some, min, length, take, IfSome, slice_get}
+use Rattle.std.specs.Prelude.{◌≡◌, ◌≤◌, ◌<◌, ◌+◌, ◌-◌, ◌*◌, ◌^◌, ℕ, List, [], ◌∷◌, ◌++◌, Bool, true, false, Option, None, Some, min, length, take, IfSome, slice_get}
 use Rattle.std.specs.List.{AllByRecursion}
 use Rattle.fb_units.specs.declared.types.Request.{Request}
 use Rattle.fb_geometry.specs.Shape.{Shape, IsTrackOf}
@@ -22,9 +22,9 @@ use Rattle.fb_model.specs.History.{Past, wanted}
 use Rattle.fb_decide.specs.declared.background.Background.{Background}
 use Rattle.fb_decide.specs.declared.deciding.Course.{Course}
 use Rattle.fb_decide.specs.Contents.{left_by, IsRowOf}
-use Rattle.fb_decide.specs.Waiting.{left}
+use Rattle.fb_decide.specs.Waiting.{left, IsWaiting, IsForegroundOf}
 use Rattle.fb_decide.specs.Deliveries.{IsCurrent, HasDelivered, HasServed, caught_in}
-use Rattle.fb_decide.specs.Calls.{HasSettled}
+use Rattle.fb_decide.specs.Calls.{HasSettled, IsScriptOf}
 
 -- each sector of the disk takes some time to pass
 abbrev pub PassagesTakeTime : Shape → Type 0
@@ -96,6 +96,16 @@ pub data HasActed (disk : Disk) (key : Key) (until : ℕ) (next : Option ℕ) (w
 -- the same with the background after the calls up to now, and with the requests that have joined
 abbrev pub prepared : Course → Background → ℕ → ℕ → Course
 prepared course background joined called = record course { background = background; joined = joined; called = called }
+
+-- what must stand before a decision: requests and calls that a replay can have, of which those that wait have arrived, and a head that
+-- is on a track of the disk, so early that one more service ends at an instant
+pub record IsReady (disk : Disk) (requests : List Request) (calls : List Call) (course : Course) (count : ℕ) (pending : List Request) : Type 0 where
+  pub list : IsForegroundOf disk requests
+  pub script : IsScriptOf disk.map calls
+  pub waiting : IsWaiting disk requests course.now course.joined count pending
+  pub come : AllByRecursion (λ r. r.arrival ≤ course.now) (take course.joined requests)
+  pub head : IsTrackOf disk.map course.head
+  pub now : course.now ≤ 9 * 10 ^ 18 - 10 ^ 15
 
 -- all that is due at an instant has happened: calls have taken effect, with choices and tests, and the requests that have arrived wait
 pub record HasPrepared (disk : Disk) (requests : List Request) (calls : List Call) (past : Past) (before : Course) (pending : List Request)

@@ -5,8 +5,6 @@ use Rattle.fb_units.specs.declared.types.Request.{Request}
 use Rattle.fb_units.specs.Rising.{IsRising}
 use Rattle.fb_geometry.specs.Shape.{IsTrackOf}
 use Rattle.fb_geometry.specs.Sound.{IsSound}
-use Rattle.fb_service.specs.declared.disk.Disk.{Disk}
-use Rattle.fb_calls.specs.declared.call.Call.{Call}
 use Rattle.fb_calls.specs.Allowed as allowed
 use Rattle.fb_store.specs.declared.content.Content.{Content}
 use Rattle.fb_store.specs.Writes.{unwritten}
@@ -15,7 +13,7 @@ use Rattle.fb_rows.specs.Ranges.{HasRanges, HasBackRanges}
 use Rattle.fb_rows.specs.Tasks.{HasNamedTask}
 use Rattle.fb_rows.specs.declared.fore.ForeRow.{ForeRow}
 use Rattle.fb_rows.specs.declared.back.BackRow.{BackRow}
-use Rattle.fb_model.specs.PlainReplay.{Key, Served, plain}
+use Rattle.fb_model.specs.PlainReplay.{Served, plain}
 use Rattle.fb_model.specs.Inputs.{Inputs, requests, served}
 use Rattle.fb_model.specs.Accepted.{IsAccepted}
 use Rattle.fb_model.specs.Content.{Written, Medium, medium_of, writes_of, content_by, fore_row}

@@ -1,5 +1,5 @@
 // A replay, one decision after another.
-ghost use Rattle.std.specs.Prelude.{◌≡◌, ℕ, ◌-◌, ◌*◌, ◌<◌, ◌≤◌, ◌^◌, ◌++◌, List, [], Bool, true, false, length, take, Some, IfOk, OnOk, slice_get};
+ghost use Rattle.std.specs.Prelude.{◌≡◌, ℕ, ◌-◌, ◌*◌, ◌<◌, ◌≤◌, ◌^◌, ◌++◌, List, [], Bool, true, false, length, Some, IfOk, OnOk, slice_get};
 ghost use Rattle.std.specs.List.{AllByRecursion};
 ghost use Rattle.fb_geometry.specs.Shape.{IsTrackOf};
 ghost use Rattle.fb_calls.specs.Allowed.{tasks};
@@ -11,10 +11,10 @@ ghost use Rattle.fb_model.specs.Steps.{history, task_rows};
 ghost use Rattle.fb_model.specs.PlainReplay.{first_least};
 ghost use Rattle.fb_tasks.specs.Telling.{Tells};
 ghost use Rattle.fb_decide.specs.Asked.{inputs_of};
-ghost use Rattle.fb_decide.specs.Waiting.{IsWaiting, IsForegroundOf};
-ghost use Rattle.fb_decide.specs.Calls.{IsScriptOf, IsCalled};
+ghost use Rattle.fb_decide.specs.Waiting.{IsWaiting};
+ghost use Rattle.fb_decide.specs.Calls.{IsCalled};
 ghost use Rattle.fb_decide.specs.Deliveries.{IsCurrent};
-ghost use Rattle.fb_decide.specs.Deciding.{IsAtStart, next_of, HasServedNext, HasStayed, HasDecided};
+ghost use Rattle.fb_decide.specs.Deciding.{IsAtStart, IsReady, next_of, HasServedNext, HasStayed, HasDecided};
 ghost use Rattle.fb_decide.specs.Making.{Step, HasMade, HasMadeOne, RowFits};
 
 use crate::asked::Asked;
@@ -200,13 +200,8 @@ fn advance<Q: Queue, P: Planner>(
     queue: &mut Q,
     course: &mut Course,
 ) -> Result<bool, NoMemory>
-    requires list { IsForegroundOf asked.disk.now requests.now }
-    requires script { IsScriptOf asked.disk.now.map asked.calls.now.calls.items }
+    requires ready { IsReady asked.disk.now requests.now asked.calls.now.calls.items course.old (Q.joined queue.old) (Q.pending queue.old) }
     requires serves { Q.serves queue.old asked.disk.now }
-    requires waiting { IsWaiting asked.disk.now requests.now course.old.now course.old.joined (Q.joined queue.old) (Q.pending queue.old) }
-    requires come { AllByRecursion (λ r. r.arrival ≤ course.old.now) (take course.old.joined requests.now) }
-    requires head { IsTrackOf asked.disk.now.map course.old.head }
-    requires now { course.old.now ≤ 9 * 10 ^ 18 - 10 ^ 15 }
     requires called { (past : Past) × IsCalled asked.disk.now.map asked.calls.now.calls.items past course.old.called × Tells asked.disk.now.map past course.old.background.sessions course.old.background.wanted }
     ensures decided { IfOk result (λ goes_on. (past : Past) → IsCalled asked.entry.disk.now.map asked.entry.calls.now.calls.items past course.old.called
         → Tells asked.entry.disk.now.map past course.old.background.sessions course.old.background.wanted

@@ -4,13 +4,13 @@ use Rattle.fb_calls.proofs.Lists.{all_weaker}
 use Rattle.fb_model.specs.Accepted.{IsRequestOf}
 use Rattle.fb_model.proofs.Lists.{all_append, all_left, all_right}
 use Rattle.fb_decide.specs.Deciding.{serves_pick, stays_on, stays_last, ends_here}
-use Rattle.fb_decide.proofs.Readiness.{taken, none_waits}
+use Rattle.fb_decide.proofs.Decided.{taken, none_waits}
 use Rattle.fb_decide.proofs.deciding.advance.Goals as goal
 
 pub serve_next-requires-clause-on_disk : goal.serve_next-requires-clause-on_disk
 serve_next-requires-clause-on_disk g c =
     all_left (IsRequestOf c.args.asked.disk.now.map) (g.Q.Queue.pending c.join_arrived.new.queue) (drop c.in_ok-course-2.field-0 c.args.requests.now)
-    (subst (AllByRecursion (IsRequestOf c.args.asked.disk.now.map)) (sym c.in_ok-course-2.ensures.left) c.requires.waiting.on_disk)
+    (subst (AllByRecursion (IsRequestOf c.args.asked.disk.now.map)) (sym c.in_ok-course-2.ensures.left) c.requires.ready.waiting.on_disk)
 
 pub returns-then-not-is_empty-clause-decided : goal.returns-then-not-is_empty-clause-decided
 returns-then-not-is_empty-clause-decided g c = λ past called tells.
@@ -35,7 +35,7 @@ returns-then-not-is_empty-clause-waiting g c = λ _.
     let key = g.Q.Queue.key c.args.asked.disk.now c.args.course.now.head c.args.course.now.now in
     let rest = g.Q.Queue.pending c.serve_next.new.queue in
     let later = served.2.later in
-    let all : AllByRecursion (IsRequestOf c.args.asked.disk.now.map) (ps ++ qs) = subst (AllByRecursion (IsRequestOf c.args.asked.disk.now.map)) (sym joined.left) c.requires.waiting.on_disk in
+    let all : AllByRecursion (IsRequestOf c.args.asked.disk.now.map) (ps ++ qs) = subst (AllByRecursion (IsRequestOf c.args.asked.disk.now.map)) (sym joined.left) c.requires.ready.waiting.on_disk in
     let came = taken (λ r. r.arrival ≤ c.args.course.now.now) key ps served.0 rest joined.arrived served.1 in
     let lie = taken (IsRequestOf c.args.asked.disk.now.map) key ps served.0 rest (all_left (IsRequestOf c.args.asked.disk.now.map) ps qs all) served.1 in
     let same : c.serve_next.new.course.joined ≡ c.in_ok-course-2.field-0 = served.2.same_joined in

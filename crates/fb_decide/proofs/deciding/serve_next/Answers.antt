@@ -1,6 +1,6 @@
 use Rattle.std.proofs.Common.{arith}
 use Rattle.fb_model.specs.Accepted.{IsRequestOf}
-use Rattle.fb_decide.proofs.Readiness.{taken}
+use Rattle.fb_decide.proofs.Decided.{taken}
 use Rattle.fb_decide.proofs.deciding.serve_next.Goals as goal
 
 pub serve_request-requires-clause-turn : goal.serve_request-requires-clause-turn

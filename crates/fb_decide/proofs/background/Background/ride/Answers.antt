@@ -1,4 +1,5 @@
 use Rattle.std.proofs.Common.{◌∙◌, ◌≡◌, ap, sym, subst, map}
+use Rattle.std.proofs.lemmas.Result.{on_ok_weaker}
 use Rattle.fb_rows.specs.declared.gap.How.TheVariants.{Ride as ByRide}
 use Rattle.fb_wanted.specs.States.{wanted_of}
 use Rattle.fb_model.specs.History.{wanted}
@@ -6,7 +7,7 @@ use Rattle.fb_decide.specs.Carried.{carried_of}
 use Rattle.fb_decide.specs.Deliveries.{HasDelivered, AreDistinct, AreDue, row_in, rides_in}
 use Rattle.fb_decide.specs.Turn.{served_in}
 use Rattle.fb_decide.proofs.Placing.{wanted-distinct}
-use Rattle.fb_decide.proofs.Delivering.{wanted-told, on_ok_map}
+use Rattle.fb_decide.proofs.Delivering.{wanted-told}
 use Rattle.fb_decide.proofs.Extents.{laid, laid_within}
 use Rattle.fb_decide.proofs.Carrying.{rows-carried, due-carried, whole-told, all-extents}
 use Rattle.fb_decide.proofs.background.Background.ride.Goals as goal
@@ -41,7 +42,7 @@ deliver_all-requires c =
     (c.args.disk.now.map, past, current, subst (AreDue past) (sym rows) (due-carried c.args.store.now served past c.if-turn.false (wanted-distinct current.tells)))
 
 pub returns : goal.returns
-returns c = on_ok_map _ _ c.deliver_all.result (λ all past current.
+returns c = on_ok_weaker c.deliver_all.result (λ all past current.
     let served = served_in c.args.disk.now c.args.turn in
     let rows : map (row_in c.args.store.now ByRide) c.as_slice.result.now ≡ rides_in c.args.store.now served (wanted past) =
     ap (map (row_in c.args.store.now ByRide)) (c.as_slice.ensures.value ∙ c.in_ok-catches.ensures ∙ ap (λ ps. carried_of ps c.args.turn.request (wanted_of c.args.self.now.wanted)) c.requires.passages

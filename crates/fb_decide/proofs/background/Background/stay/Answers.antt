@@ -1,7 +1,8 @@
 use Rattle.std.proofs.Common.{◌∙◌, sym, subst}
+use Rattle.std.proofs.lemmas.Result.{on_ok_weaker}
 use Rattle.fb_decide.specs.Deliveries.{HasDelivered, AreDue}
 use Rattle.fb_decide.proofs.Placing.{wanted-distinct, due-caught, left-caught, rows-of_catches}
-use Rattle.fb_decide.proofs.Delivering.{fits-told, on_ok_map}
+use Rattle.fb_decide.proofs.Delivering.{fits-told}
 use Rattle.fb_decide.proofs.background.Background.stay.Goals as goal
 
 pub caught-requires-clause-blocks : goal.caught-requires-clause-blocks
@@ -19,11 +20,11 @@ deliver_all-requires c =
     )
 
 pub returns-clause-delivered : goal.returns-clause-delivered
-returns-clause-delivered c = on_ok_map _ _ c.deliver_all.result (λ all past current.
+returns-clause-delivered c = on_ok_weaker c.deliver_all.result (λ all past current.
     let rows = rows-of_catches c.args.disk.now c.args.store.now c.args.how c.args.dwell past c.args.self.now current c.as_slice.result.now (c.as_slice.ensures.value ∙ c.in_ok-catches.ensures.all) in
     subst (λ gots. HasDelivered c.args.disk.now.map past gots c.args.self.now.rows c.deliver_all.new.self) rows
     (all c.args.disk.now.map past current (subst (AreDue past) (sym rows) (due-caught c.args.disk.now c.args.store.now c.args.how c.args.dwell past (wanted-distinct current.tells)))))
     c.deliver_all.ensures
 
 pub returns-clause-left : goal.returns-clause-left
-returns-clause-left c = on_ok_map _ _ c.deliver_all.result (λ all past current. left-caught c.args.disk.now c.args.store.now c.args.how c.args.dwell past (wanted-distinct current.tells)) c.deliver_all.ensures
+returns-clause-left c = on_ok_weaker c.deliver_all.result (λ all past current. left-caught c.args.disk.now c.args.store.now c.args.how c.args.dwell past (wanted-distinct current.tells)) c.deliver_all.ensures

@@ -1,5 +1,5 @@
+use Rattle.std.proofs.lemmas.Result.{on_ok_weaker}
 use Rattle.fb_model.specs.Steps.{history}
-use Rattle.fb_decide.proofs.Delivering.{on_ok_map}
 use Rattle.fb_decide.proofs.Looping.{ended_fits, made_without}
 use Rattle.fb_decide.proofs.deciding.Decider.add_task_rows.Goals as goal
 
@@ -7,7 +7,7 @@ pub task_rows-requires : goal.task_rows-requires
 task_rows-requires g c = (c.requires.0.disk.map, history c.requires.0 c.requires.1, c.requires.2.come_to.run.tells)
 
 pub returns-clause-rows : goal.returns-clause-rows
-returns-clause-rows g c = on_ok_map _ _ c.task_rows.result (λ rows inputs steps made. rows inputs.disk.map (history inputs steps) made.come_to.run.tells) c.task_rows.ensures.ok
+returns-clause-rows g c = on_ok_weaker c.task_rows.result (λ rows inputs steps made. rows inputs.disk.map (history inputs steps) made.come_to.run.tells) c.task_rows.ensures.ok
 
 pub returns-clause-fits : goal.returns-clause-fits
 returns-clause-fits g c = λ inputs steps made. ended_fits inputs steps _ _ _ _ made
