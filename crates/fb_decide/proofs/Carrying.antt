@@ -36,6 +36,8 @@ use Rattle.fb_tasks.specs.Standing.{entry_of}
 use Rattle.fb_tasks.specs.Telling.{Tells}
 use Rattle.fb_decide.proofs.Placing.{rows-in_order, due-filtered, take_at}
 
+-- ---- catches that are placed one after another stand in the order of deliveries, whichever of them is placed first
+
 after_all : (a b c : Catch) → is_before a b ≡ true → is_before b c ≡ true → is_before a c ≡ true
 after_all a b c h k = grind (arith, nat_tests)
 

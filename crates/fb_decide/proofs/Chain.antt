@@ -50,6 +50,7 @@ idle_services head now (instant ∷ instants) later = grind (arith, idle_service
 
 -- ---- the instants
 
+-- the latest of the instants up to one is that one, where it stands among them
 latest_is : (start now : ℕ) (instants : List ℕ) → now ≤ start → (start ≡ now) ⊎ IsAmong start instants → fold max now (filter (λ instant. nat_le instant start) instants) ≡ start
 latest_is start now instants h at =
     let before = filter (λ instant. nat_le instant start) instants in

@@ -25,6 +25,8 @@ use Rattle.fb_decide.specs.Deciding.{next_of}
 use Rattle.fb_decide.proofs.Instants.{LieApart, all_of_both, one_of_second, one_filtered, filtered_below, idle_none, idle_next, last_after, last_passed}
 use Rattle.fb_model.proofs.Replays.{start_from as start_after}
 
+-- ---- who has arrived, and who is taken
+
 -- none of them has arrived
 pub none_come : (now a : ℕ) → now < a → (rs : List Request) → AllByRecursion (λ r. a ≤ r.arrival) rs → AllByRecursion (λ r. now < r.arrival) rs
 none_come now a h rs all = all_weaker (λ (r : Request). a ≤ r.arrival) (λ r. now < r.arrival) (λ r le. omega (arith, h, le)) rs all
@@ -112,7 +114,7 @@ pub none_waits : (ps : List Request) → true ≡ (length ps == 0) → ps ≡ []
 none_waits [] e = refl
 none_waits (p ∷ ps) e = absurd (not_none (length ps) e)
 
--- ---- the next instant and the next decision, from what stands before it
+-- ---- the next instant at which a request arrives or a call takes effect
 
 -- no request arrives and no call takes effect before this instant, and one does then
 pub record IsNextOf (a : Option Request) (b : Option Call) (t : ℕ) : Type 0 where

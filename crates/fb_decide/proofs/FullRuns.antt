@@ -33,7 +33,7 @@ use Rattle.fb_decide.specs.Making.{Step, IsMade, fore_row_of, decided_in, rest_o
 use Rattle.fb_decide.specs.FullRuns.{RowsGoOn, ForeRowsBegin, ForeRowsEnd, RowsAreFull}
 use Rattle.fb_tasks.proofs.Lists.{all_any}
 
--- ---- one decision
+-- ---- the head can go the way that a run's rows tell
 
 -- the rows of a part that tell nothing of the head fall away
 part_timeline : (disk : Disk) (step : Decision × Part) (back : List BackRow) (fore : List ForeRow) → IsQuietPart step.1
@@ -58,8 +58,6 @@ lead_served : (disk : Disk) (medium : Medium) (head : Track) (now : ℕ) (served
 lead_served disk medium head now served plan sound same lies is_plan =
     subst (λ (s : Served). Leads disk head now (gap_legs disk (gap_of disk s) plan ++ service_legs disk (gap_of disk s) (fore_row medium s)) (last_track disk s) (finish s)) (sym same)
     (lead_serve disk medium head now served.request plan sound lies (subst (λ (s : Served). IsPlan disk (gap_of disk s) plan) same is_plan))
-
--- ---- one after another
 
 module _ (inputs : Inputs) (medium : Medium) (tasks : List BackRow) (quiet : AllByRecursion IsQuiet tasks) (sound : IsSound inputs.disk.map) where
   abbrev back_rows : List Decision → List Part → List BackRow
@@ -121,8 +119,6 @@ possible inputs parts past sound accepted each planned tested =
     chain.1 (arrives inputs (medium_of inputs) (task_rows past) (tasks_quiet past) sound [] first_track 0 (decisions inputs) parts chain.0 each planned tested)
 
 -- ---- the rows of decisions, and that a run whose decisions have all been made is full
-
--- ---- one decision more
 
 one_more : {X Y : Type 0} (f : X → List Y) (xs : List X) (x : X) (ys : List Y) → ys ≡ flat_map f xs → ys ++ f x ≡ flat_map f (xs ++ x ∷ [])
 one_more f xs x ys before = ap (λ rows. rows ++ f x) before ∙ (ap (λ rows. flat_map f xs ++ rows) (sym (append-nil (f x))) ∙ sym (flat_map-append f xs (x ∷ [])))

@@ -67,8 +67,6 @@ module _ (inputs : Inputs) (rest later : List Served) (before : Course) (steps :
     ends_at = ap run_end (map-append (λ (step : Step). step.0) steps (step ∷ [])) ∙ fold_last 0 (decided_in steps) step.0 ∙ this.ends_at;
   }
 
--- ---- a run goes on by one decision
-
 -- ---- the calls that have taken effect
 
 calls_after : (disk : Shape) (past : Past) (calls : List Call) → calls_of (fold (take_call disk) past calls) ≡ calls_of past ++ calls

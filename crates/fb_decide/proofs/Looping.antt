@@ -35,6 +35,8 @@ use Rattle.fb_decide.proofs.FittingRows.{step_fits, tasks_fit, fits-told}
 use Rattle.fb_decide.proofs.Going.{LeadsOn, decided_more}
 use Rattle.fb_calls.specs.Allowed as allowed
 
+-- ---- the foreground list of accepted inputs is one that the disk can serve
+
 read_on_disk : (disk : Shape) (before : List Call) (n : ℕ) (call : Call) (action : Action) → call.instant ≤ 10 ^ 15 → MayAsk disk before call.task action → AllByRecursion (IsRequestOf disk) (read_of n call action)
 read_on_disk disk before n call (Promote first count) early may = (record { range = may.1; few = may.2; arrival = early }, tt)
 read_on_disk disk before n call _ early may = tt

@@ -33,6 +33,8 @@ use Rattle.fb_decide.specs.declared.background.Background.{Background}
 use Rattle.fb_model.specs.Rides as rides
 use Rattle.fb_decide.proofs.RegisteredBlocks.{each_in}
 
+-- ---- registered blocks are told apart by task and index
+
 pub itself : (block : Block) → same_block block block ≡ true
 itself block = grind (arith, nat_tests)
 

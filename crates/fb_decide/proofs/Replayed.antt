@@ -32,6 +32,8 @@ use Rattle.fb_decide.specs.Contents.{found_in, left_by, IsRowOf}
 use Rattle.fb_decide.specs.Making.{all_writes, held_after, Replayed}
 use Rattle.fb_decide.proofs.Decided.{one_more}
 
+-- ---- what the services so far have left on the disk, and what the ones to come can't have left yet
+
 all_ends : (disk : Disk) (source : Track) (now : ℕ) (write : Bool) (lbn n : ℕ)
     → AllByRecursion (λ (p : Passage). (now ≤ p.end) × (p.end ≤ finish_of now (passages disk source now write lbn n))) (passages disk source now write lbn n)
 all_ends disk source now write lbn n = all_weaker _ _ (λ p h. (omega (arith, h.0, h.1), h.2)) _ (passed_between disk source now write lbn n).1

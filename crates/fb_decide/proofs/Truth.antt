@@ -43,6 +43,8 @@ use Rattle.fb_model.specs.Decisions.{Decision, serves, idles, ends, instant_of}
 use Rattle.fb_tasks.specs.declared.session.Session.{Session}
 use Rattle.fb_tasks.specs.Telling.{Tells}
 
+-- ---- calls, choices and tests deliver nothing and overwrite nothing: what deliveries found stays true
+
 -- a delivered block was in none of the cases that end otherwise
 pub if_delivered : (other : Bool) (there rest : State) → is_delivered there ≡ false → is_delivered (if other then there else rest) ≡ true → (other ≡ false) × (is_delivered rest ≡ true)
 if_delivered true there rest none done = absurd (true≢false (sym done ∙ none))

@@ -24,6 +24,8 @@ use Rattle.fb_units.specs.declared.types.Request.{Request}
 use Rattle.fb_geometry.specs.Places.{places}
 use Rattle.fb_model.proofs.Disks.{begins_within}
 
+-- ---- a slot of a sound disk takes some time to pass
+
 pub long_slots : (disk : Shape) → IsSound disk → SlotsCoverRotation → PassagesTakeTime disk
 long_slots disk sound cover = λ lbn inside.
     let found = has_place disk sound lbn inside in
@@ -38,8 +40,6 @@ long_slots disk sound cover = λ lbn inside.
 -- each sector from one on begins at an angle of the rotation
 abbrev pub HaveAngles : Shape → ℕ → ℕ → Type 0
 HaveAngles disk lbn n = (i : ℕ) → i < n → begin_angle disk (place_at disk (lbn + i)) < disk.rotation
-
--- ---- a service
 
 -- a sector begins at its angle
 begins_at : (disk : Shape) (lbn t : ℕ) → begin_angle disk (place_at disk lbn) < disk.rotation → begin_from disk (place_at disk lbn) t % disk.rotation ≡ begin_angle disk (place_at disk lbn)
@@ -123,10 +123,6 @@ lead_service disk source start write lbn (suc n) some angles =
     λ more. led more ∙ ap (λ (on : Track). led_to disk on (finish_of end ps) more) (last_is disk there lbn n ∙ ap (track_at disk.map) (let same : lbn + n ≡ lbn + suc n - 1 = omega arith in same))
 
 -- ---- the foreground requests of accepted inputs lie on the disk, and its sectors begin at angles of its rotation
-
--- ---- requests
-
--- ---- angles
 
 begins_on : (disk : Shape) (cylinder : ℕ) (place : Place) → IsSound disk → LiesOn disk cylinder place → begin_angle disk place < disk.rotation
 begins_on disk cylinder place sound lies = begins_within disk.rotation (slots_at disk.zones place.track.cylinder) place.slot
