@@ -1,4 +1,4 @@
--- Bounds that are lowered for a cylinder, and for the 64 to which it belongs.
+-- Bounds that are lowered for a cylinder, and for the 32 to which it belongs.
 use Rattle.std.proofs.Common.{◌≡◌, ℕ, ◌/◌, ◌==◌, ◌≤◌, List, true, Result, Ok, Err, OnOk, OnErr, get_or, min, inl, inr, subst, arith, if◌then◌else◌}
 use Rattle.std.proofs.lemmas.Bool.{cases_Bool}
 use Rattle.std.proofs.lemmas.Bool.Decides.{nat_tests}
@@ -15,25 +15,25 @@ no_greater_than old new index sectors k is = elim (cases_Bool (index == k)) [
 
 -- the upper bounds alone are lowered
 pub under_lowered : (upper new_upper lower : List ℕ) (index sectors : ℕ) → IsUnder upper lower → IsLowered upper new_upper index sectors → IsUnder new_upper lower
-under_lowered upper new_upper lower index sectors under is = λ k. omega (arith, under k, no_greater_than upper new_upper index sectors (k / 64) is)
+under_lowered upper new_upper lower index sectors under is = λ k. omega (arith, under k, no_greater_than upper new_upper index sectors (k / 32) is)
 
 -- both are lowered
-pub both_lowered : (upper new_upper lower new_lower : List ℕ) (index sectors : ℕ) → IsUnder upper lower → IsLowered upper new_upper (index / 64) sectors → IsLowered lower new_lower index sectors
+pub both_lowered : (upper new_upper lower new_lower : List ℕ) (index sectors : ℕ) → IsUnder upper lower → IsLowered upper new_upper (index / 32) sectors → IsLowered lower new_lower index sectors
     → IsUnder new_upper new_lower
 both_lowered upper new_upper lower new_lower index sectors under above below = λ k. elim (cases_Bool (index == k)) [
   | inl here ↦
       let same : index ≡ k = grind (arith, nat_tests) in
-      let group : (index / 64 == k / 64) ≡ true = subst (λ n. (index / 64 == n / 64) ≡ true) same (grind (arith, nat_tests)) in
+      let group : (index / 32 == k / 32) ≡ true = subst (λ n. (index / 32 == n / 32) ≡ true) same (grind (arith, nat_tests)) in
       let low : get_or new_lower k 2049 ≡ min (get_or lower k 2049) sectors = rw here at (below k) in
-      let high : get_or new_upper (k / 64) 2049 ≡ min (get_or upper (k / 64) 2049) sectors = rw group at (above (k / 64)) in
+      let high : get_or new_upper (k / 32) 2049 ≡ min (get_or upper (k / 32) 2049) sectors = rw group at (above (k / 32)) in
       omega (arith, low, high, under k)
   | inr other ↦
       let low : get_or new_lower k 2049 ≡ get_or lower k 2049 = rw other at (below k) in
-      omega (arith, low, under k, no_greater_than upper new_upper (index / 64) sectors (k / 64) above)
+      omega (arith, low, under k, no_greater_than upper new_upper (index / 32) sectors (k / 32) above)
 ]
 
 -- the lower bounds only where there was memory
-pub either_lowered : {A E : Type 0} (r : Result A E) (upper new_upper lower new_lower : List ℕ) (index sectors : ℕ) → IsUnder upper lower → IsLowered upper new_upper (index / 64) sectors
+pub either_lowered : {A E : Type 0} (r : Result A E) (upper new_upper lower new_lower : List ℕ) (index sectors : ℕ) → IsUnder upper lower → IsLowered upper new_upper (index / 32) sectors
     → OnOk r (IsLowered lower new_lower index sectors) → OnErr r ((k : ℕ) → get_or new_lower k 2049 ≡ get_or lower k 2049) → IsUnder new_upper new_lower
 either_lowered (Ok x) upper new_upper lower new_lower index sectors under above ok err = both_lowered upper new_upper lower new_lower index sectors under above ok
-either_lowered (Err x) upper new_upper lower new_lower index sectors under above ok err = λ k. omega (arith, under_lowered upper new_upper lower (index / 64) sectors under above k, err k)
+either_lowered (Err x) upper new_upper lower new_lower index sectors under above ok err = λ k. omega (arith, under_lowered upper new_upper lower (index / 32) sectors under above k, err k)

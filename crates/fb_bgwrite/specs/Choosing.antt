@@ -1,8 +1,8 @@
 -- The search for the best spill of a gap: what is known of the best so far.
-use Rattle.std.specs.Prelude.{◌≡◌, ◌⊎◌, ℕ, ◌*◌, ◌^◌, ◌<◌, ◌≤◌, List, Bool, true, ◌&&◌, map, Option, Some, None, slice_get}
+use Rattle.std.specs.Prelude.{◌≡◌, ◌⊎◌, ℕ, ◌+◌, ◌*◌, ◌/◌, ◌^◌, ◌<◌, ◌≤◌, List, Bool, true, ◌&&◌, map, Option, Some, None, slice_get}
 use Rattle.std.specs.List.{AllByRecursion}
 use Rattle.fb_units.specs.declared.types.Track.{Track}
-use Rattle.fb_geometry.specs.Shape.{IsTrackOf}
+use Rattle.fb_geometry.specs.Shape.{slots_at, IsTrackOf}
 use Rattle.fb_seek.specs.Positioning.{pos}
 use Rattle.fb_service.specs.declared.disk.Disk.{Disk}
 use Rattle.fb_wanted.specs.declared.block.Block.{Block}
@@ -12,6 +12,7 @@ use Rattle.fb_rows.specs.declared.gap.Dwell.{Dwell}
 use Rattle.fb_rows.specs.declared.gap.Gap.{Gap}
 use Rattle.fb_model.specs.Plans.{block_end, catches}
 use Rattle.fb_plan.specs.Ways.{AreOnDisk}
+use Rattle.fb_detour.specs.Bounds.{slots_within}
 use Rattle.fb_bgwrite.specs.declared.choice.Spill.{Spill}
 use Rattle.fb_bgwrite.specs.declared.choice.Valued.{Valued}
 use Rattle.fb_bgwrite.specs.declared.range.SectorRange.{SectorRange}
@@ -80,6 +81,11 @@ IsMostOn disk gap pending track most = (leave : ℕ) → (let spill : Spill = re
 -- nor more than their bound on a track of these cylinders
 abbrev pub IsMost : Disk → Gap → List Block → Part → Type 0
 IsMost disk gap pending part = (track : Track) → part.from ≤ track.cylinder → track.cylinder < part.end → IsMostOn disk gap pending track part.most
+
+-- in any time no more slots pass on a track of these cylinders than it has of these shares, and one
+abbrev pub IsShare : Disk → ℕ → ℕ → ℕ → Type 0
+IsShare disk from end share = (0 < share)
+    × ((cylinder time : ℕ) → from ≤ cylinder → cylinder < end → slots_within disk.map.rotation (slots_at disk.map.zones cylinder) time ≤ time / share + 1)
 
 -- lower bounds on the times of both moves of a spill on a track of these cylinders
 abbrev pub AreLeast : Disk → Gap → ℕ → ℕ → Moves → Type 0

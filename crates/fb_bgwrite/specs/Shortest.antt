@@ -4,9 +4,9 @@ use Rattle.std.specs.List.{AllByRecursion}
 use Rattle.fb_wanted.specs.declared.block.Entry.{Entry}
 use Rattle.fb_wanted.specs.States.{is_wanted}
 
--- no bound is less than that of the 64 to which it belongs
+-- no bound is less than that of the 32 to which it belongs
 abbrev pub IsUnder : List ℕ → List ℕ → Type 0
-IsUnder upper lower = (k : ℕ) → get_or upper (k / 64) 2049 ≤ get_or lower k 2049
+IsUnder upper lower = (k : ℕ) → get_or upper (k / 32) 2049 ≤ get_or lower k 2049
 
 -- the block, if it is pending, has at least as many sectors as its cylinder's bound
 abbrev pub IsNoShorter : List ℕ → Entry → Type 0

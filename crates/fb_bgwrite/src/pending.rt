@@ -1,5 +1,5 @@
 // The registered blocks of puts, of which those are pending that are still wanted.
-ghost use Rattle.std.specs.Prelude.{◌≡◌, ◌<◌, ◌≤◌, ℕ, [], ◌∷◌, ◌++◌, length, Some, slice_get, true, IfOk, OnOk, ◌*◌, ◌^◌};
+ghost use Rattle.std.specs.Prelude.{◌≡◌, ◌+◌, ◌<◌, ◌≤◌, ℕ, [], ◌∷◌, ◌++◌, length, Some, slice_get, true, IfOk, OnOk, ◌*◌, ◌^◌};
 ghost use Rattle.fb_wanted.specs.declared.block.Entry.{Entry};
 ghost use Rattle.fb_wanted.specs.declared.block.Change.{Change};
 ghost use Rattle.fb_wanted.specs.declared.block.State.TheVariants.{Wanted as StillWanted};
@@ -145,7 +145,15 @@ impl Pending {
         self.shortest.among(from, end)
     }
 
-    /// Where the first of these cylinders is that may have a pending block, or earlier by up to 4,095.
+    /// A lower bound on the sectors of each pending block of this cylinder; 2,049 where it is known that
+    /// there is none.
+    pub fn shortest_at(&self, cylinder: u32) -> u32
+        ensures { AreAtLeast cylinder (cylinder + 1) result self.now }
+    {
+        self.shortest.at(cylinder)
+    }
+
+    /// Where the first of these cylinders is that may have a pending block, or earlier by up to 1,023.
     pub fn first_in(&self, from: u32, end: u32) -> u32
         requires some { from < end }
         ensures after { from ≤ result }
@@ -154,7 +162,7 @@ impl Pending {
         self.shortest.first_in(from, end)
     }
 
-    /// Where the last of these cylinders ends that may have a pending block, or later by up to 4,095.
+    /// Where the last of these cylinders ends that may have a pending block, or later by up to 1,023.
     pub fn end_in(&self, from: u32, end: u32) -> u32
         requires some { from < end }
         ensures after { from < result }

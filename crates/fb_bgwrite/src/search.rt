@@ -10,11 +10,12 @@ ghost use Rattle.fb_plan.specs.Turns.{IsOfDwell};
 ghost use Rattle.fb_model.specs.Plans.{block_end};
 ghost use Rattle.fb_detour.specs.Bounds.{slots_within, stay_gain};
 ghost use Rattle.fb_bgwrite.specs.declared.choice.Spill.{Spill};
-ghost use Rattle.fb_bgwrite.specs.Choosing.{AreLeast, ArePending, BeatsOn, BeatsRange, IsBestIf, IsEnough, IsGap, IsLast, IsMost, IsMostOn, IsValuedIf, Keeps, passes};
+ghost use Rattle.fb_bgwrite.specs.Choosing.{AreLeast, ArePending, BeatsOn, BeatsRange, IsBestIf, IsEnough, IsGap, IsLast, IsMost, IsMostOn, IsShare, IsValuedIf, Keeps, passes};
 ghost use Rattle.fb_bgwrite.specs.Spilling.{value, IsSpill};
 
 use crate::choice::{Spill, Valued, better};
 use crate::pending::{Pending, least_on};
+use crate::shortest::WIDTH;
 use fb_detour::most_slots;
 use fb_plan::{Turning, Until, is_wanted};
 use fb_rows::{Dwell, Gap};
@@ -25,14 +26,20 @@ use fb_wanted::{Entry, TrackBlocks};
 // The most sectors of a block.
 const LONGEST: u32 = 2_048;
 
-// Of a range of more cylinders than these the weights aren't looked at.
-const WIDE: u32 = 4_096;
+// Of a range of more cylinders than these the weights aren't looked at, and the time of a slot is
+// that of a wider range.
+const WIDE: u32 = 2_048;
 
-// The cylinders from one up to another, and an upper bound on what a spill writes on a track there.
+// So few cylinders are tried one after the other, with one bound.
+const FEW: u32 = 2 * WIDTH;
+
+// The cylinders from one up to another, the least time of a slot there, in ns, and an upper bound
+// on what a spill writes on a track there.
 #[derive(Clone, Copy)]
 struct Part {
     from: u32,
     end: u32,
+    share: Ns,
     most: u64,
 }
 
@@ -58,7 +65,8 @@ pub fn best_spill(disk: &Disk, pending: &Pending, gap: &Gap) -> Option<Valued>
     ensures valued { IsValuedIf disk.now gap.entry.now (wanted_of pending.now) result }
 {
     let end = disk.map.geometry().cylinders();
-    let all = part_of(disk, pending, gap, 0, end);
+    let share = least_share(disk, gap, 0, end);
+    let all = part_of(disk, pending, gap, 0, end, share);
     visit(disk, pending, gap, all, None)
 }
 
@@ -73,6 +81,7 @@ fn visit(
 ) -> Option<Valued>
     requires order { part.from ≤ part.end }
     requires within { part.end ≤ disk.now.mechanism.cylinders }
+    requires share { IsShare disk.now part.from part.end part.share }
     requires most { IsMost disk.now gap.now (wanted_of pending.now) part }
     requires gap { IsGap disk.now gap.now }
     requires blocks { ArePending disk.now pending.now }
@@ -81,15 +90,15 @@ fn visit(
     ensures keeps { Keeps disk.now gap.entry.now (wanted_of pending.now) start result }
     ensures tried { BeatsRange disk.now gap.entry.now (wanted_of pending.now) result part.from part.end }
 {
-    if part.end == part.from || is_enough(start, part.most, part.from) {
+    if is_enough(start, part.most, part.from) {
         return start;
     }
-    if part.end - part.from == 1 {
-        return try_cylinder(disk, pending, gap, part, start);
+    if part.end - part.from <= FEW {
+        return try_cylinders(disk, pending, gap, part, start);
     }
     let middle = split_at(pending, gap, part.from, part.end);
-    let low = part_of(disk, pending, gap, part.from, middle);
-    let high = part_of(disk, pending, gap, middle, part.end);
+    let low = child_of(disk, pending, gap, part, part.from, middle);
+    let high = child_of(disk, pending, gap, part, middle, part.end);
     if low.most < high.most {
         let best = visit(disk, pending, gap, high, start);
         return visit(disk, pending, gap, low, best);
@@ -98,46 +107,129 @@ fn visit(
     visit(disk, pending, gap, high, best)
 }
 
-// Where a range is divided. Beside both tracks of the gap cylinders without a pending block are cut
-// off, and then as many cylinders as lie between the range and the gap, but no more than half.
+// Where a range is divided: where pending blocks end or begin; else beside the tracks of the gap, or
+// behind as many cylinders as lie between them and the range, but no more than half.
 fn split_at(pending: &Pending, gap: &Gap, from: u32, end: u32) -> u32
     requires some { from + 1 < end }
     ensures after { from < result }
     ensures within { result < end }
 {
+    let behind = pending.end_in(from, end);
+    if behind < end {
+        return behind;
+    }
+    let first = pending.first_in(from, end);
+    if from < first {
+        return first;
+    }
+    let split = split_beside(gap, from, end);
+    let band = split - split % WIDTH;
+    let split = if from < band { band } else { split };
+    split.max(from + 1).min(end - 1)
+}
+
+// The same where all bands have pending blocks.
+fn split_beside(gap: &Gap, from: u32, end: u32) -> u32
+    requires some { from + 1 < end }
+    ensures after { from ≤ result }
+    ensures within { result ≤ end }
+{
     let low = gap.source.cylinder.min(gap.target.cylinder);
     let high = gap.source.cylinder.max(gap.target.cylinder);
     let half = (end - from) / 2;
     if end <= low {
-        let behind = pending.end_in(from, end);
-        let near = end - half.min(low - end + 1);
-        let split = if behind < end { behind } else { near };
-        return split.max(from + 1).min(end - 1);
+        end - half.min((low - end).max(FEW))
+    } else if high < from {
+        from + half.min((from - high).max(FEW))
+    } else if from < low {
+        low
+    } else if high < end - 1 {
+        high + 1
+    } else {
+        from + half
     }
-    if high < from {
-        let first = pending.first_in(from, end);
-        let near = from + half.min(from - high);
-        let split = if from < first { first } else { near };
-        return split.max(from + 1).min(end - 1);
-    }
-    let split = if from < low { low } else { from + half };
-    split.max(from + 1).min(end - 1)
 }
 
-// These cylinders with their bound.
-fn part_of(disk: &Disk, pending: &Pending, gap: &Gap, from: u32, end: u32) -> Part
+// Some of the cylinders of a part, with their bounds: that of the whole, if they are as near to the
+// gap, or one of their own.
+fn child_of(disk: &Disk, pending: &Pending, gap: &Gap, whole: Part, from: u32, end: u32) -> Part
     requires some { from < end }
-    requires within { end ≤ disk.now.mechanism.cylinders }
+    requires after { whole.from ≤ from }
+    requires inside { end ≤ whole.end }
+    requires within { whole.end ≤ disk.now.mechanism.cylinders }
+    requires share { IsShare disk.now whole.from whole.end whole.share }
+    requires most { IsMost disk.now gap.now (wanted_of pending.now) whole }
     requires gap { IsGap disk.now gap.now }
     requires blocks { ArePending disk.now pending.now }
     ensures from { result.from ≡ from }
     ensures end { result.end ≡ end }
+    ensures share { IsShare disk.now from end result.share }
+    ensures most { IsMost disk.now gap.entry.now (wanted_of pending.now) result }
+{
+    if whole.end - whole.from <= WIDE && is_as_near(gap, whole, from, end) {
+        let most = unless_longer(whole.most, pending.shortest_in(from, end));
+        return Part {
+            from,
+            end,
+            most,
+            share: whole.share,
+        };
+    }
+    let share = share_inside(disk, gap, whole, from, end);
+    part_of(disk, pending, gap, from, end, share)
+}
+
+// This bound, or 0 if each block is longer.
+fn unless_longer(most: u64, shortest: u32) -> u64
+    ensures { ((result ≡ most) × (shortest ≤ most)) ⊎ ((result ≡ 0) × (most < shortest)) }
+{
+    if most < shortest as u64 { 0 } else { most }
+}
+
+// The least time of a slot of some of the cylinders of a part: found anew where they are few of many.
+fn share_inside(disk: &Disk, gap: &Gap, whole: Part, from: u32, end: u32) -> Ns
+    requires some { from < end }
+    requires after { whole.from ≤ from }
+    requires inside { end ≤ whole.end }
+    requires share { IsShare disk.now whole.from whole.end whole.share }
+    requires gap { IsGap disk.now gap.now }
+    ensures { IsShare disk.now from end result }
+{
+    if whole.end - whole.from > WIDE && end - from <= WIDE {
+        return least_share(disk, gap, from, end);
+    }
+    whole.share
+}
+
+// Whether the cylinder of these that is nearest to the source is that of the whole, and the one that
+// is nearest to the target too.
+fn is_as_near(gap: &Gap, whole: Part, from: u32, end: u32) -> bool
+    requires some { from < end }
+    requires whole { whole.from < whole.end }
+{
+    let source = gap.source.cylinder;
+    let target = gap.target.cylinder;
+    nearest(whole.from, whole.end, source) == nearest(from, end, source)
+        && nearest(whole.from, whole.end, target) == nearest(from, end, target)
+}
+
+// These cylinders with a bound of their own.
+fn part_of(disk: &Disk, pending: &Pending, gap: &Gap, from: u32, end: u32, share: Ns) -> Part
+    requires some { from < end }
+    requires within { end ≤ disk.now.mechanism.cylinders }
+    requires share { IsShare disk.now from end share }
+    requires gap { IsGap disk.now gap.now }
+    requires blocks { ArePending disk.now pending.now }
+    ensures from { result.from ≡ from }
+    ensures end { result.end ≡ end }
+    ensures share { result.share ≡ share }
     ensures most { IsMost disk.now gap.entry.now (wanted_of pending.now) result }
 {
     Part {
         from,
         end,
-        most: most_in(disk, pending, gap, from, end),
+        share,
+        most: most_in(disk, pending, gap, from, end, share),
     }
 }
 
@@ -157,9 +249,10 @@ fn is_enough(best: Option<Valued>, most: u64, from: u32) -> bool
 // An upper bound on what a spill writes on a track of these cylinders: by the slots that pass in the
 // time that is left beside the moves, and by the blocks of the heaviest track; 0 where each block is
 // longer than that time.
-fn most_in(disk: &Disk, pending: &Pending, gap: &Gap, from: u32, end: u32) -> u64
+fn most_in(disk: &Disk, pending: &Pending, gap: &Gap, from: u32, end: u32, share: Ns) -> u64
     requires some { from < end }
     requires within { end ≤ disk.now.mechanism.cylinders }
+    requires share { IsShare disk.now from end share }
     requires gap { IsGap disk.now gap.now }
     requires blocks { ArePending disk.now pending.now }
     ensures { (spill : Spill) → from ≤ spill.track.cylinder → spill.track.cylinder < end → IsSpill disk.now gap.entry.now spill
@@ -176,7 +269,7 @@ fn most_in(disk: &Disk, pending: &Pending, gap: &Gap, from: u32, end: u32) -> u6
     if gap.deadline < back {
         return 0;
     }
-    let passing = most_in_time(disk, gap, from, end, gap.deadline - back);
+    let passing = (gap.deadline - back) / share + 1;
     if passing < shortest as u64 {
         return 0;
     }
@@ -186,16 +279,13 @@ fn most_in(disk: &Disk, pending: &Pending, gap: &Gap, from: u32, end: u32) -> u6
     passing.min(pending.greatest_weight_in(from, end))
 }
 
-// An upper bound on how many slots pass in this time, in ns, over all tracks of these cylinders.
-fn most_in_time(disk: &Disk, gap: &Gap, from: u32, end: u32, time: Ns) -> u64
+// A lower bound on the time of a slot, in ns, over all tracks of these cylinders.
+fn least_share(disk: &Disk, gap: &Gap, from: u32, end: u32) -> Ns
     requires some { from < end }
     requires gap { IsGap disk.now gap.now }
-    requires time { time ≤ 9 * 10 ^ 18 }
-    ensures { (cylinder : ℕ) → from ≤ cylinder → cylinder < end → slots_within disk.now.map.rotation (slots_at disk.now.map.zones cylinder) time ≤ result }
+    ensures { IsShare disk.now from end result }
 {
-    let geometry = disk.map.geometry();
-    let share = geometry.rotation() / most_slots(disk, from, end, gap.target) as u64;
-    time / share + 1
+    disk.map.geometry().rotation() / most_slots(disk, from, end, gap.target) as u64
 }
 
 // Lower bounds on the times of both moves, over all tracks of these cylinders.
@@ -235,6 +325,63 @@ fn nearest(from: u32, end: u32, cylinder: u32) -> u32
     } else {
         end - 1
     }
+}
+
+// Tries the tracks of these few cylinders, one cylinder after the other.
+fn try_cylinders(
+    disk: &Disk,
+    pending: &Pending,
+    gap: &Gap,
+    part: Part,
+    start: Option<Valued>,
+) -> Option<Valued>
+    requires order { part.from ≤ part.end }
+    requires within { part.end ≤ disk.now.mechanism.cylinders }
+    requires share { IsShare disk.now part.from part.end part.share }
+    requires most { IsMost disk.now gap.now (wanted_of pending.now) part }
+    requires gap { IsGap disk.now gap.now }
+    requires blocks { ArePending disk.now pending.now }
+    requires best { IsValuedIf disk.now gap.now (wanted_of pending.now) start }
+    ensures valued { IsValuedIf disk.now gap.entry.now (wanted_of pending.now) result }
+    ensures keeps { Keeps disk.now gap.entry.now (wanted_of pending.now) start result }
+    ensures tried { BeatsRange disk.now gap.entry.now (wanted_of pending.now) result part.from part.end }
+{
+    let mut best = start;
+    for cylinder in part.from..part.end {
+        best = try_if_short(disk, pending, gap, part, cylinder, best);
+    }
+    best
+}
+
+// Tries the tracks of a cylinder of this part, if a pending block there is short enough.
+fn try_if_short(
+    disk: &Disk,
+    pending: &Pending,
+    gap: &Gap,
+    part: Part,
+    cylinder: u32,
+    start: Option<Valued>,
+) -> Option<Valued>
+    requires after { part.from ≤ cylinder }
+    requires inside { cylinder < part.end }
+    requires within { part.end ≤ disk.now.mechanism.cylinders }
+    requires share { IsShare disk.now part.from part.end part.share }
+    requires most { IsMost disk.now gap.now (wanted_of pending.now) part }
+    requires gap { IsGap disk.now gap.now }
+    requires blocks { ArePending disk.now pending.now }
+    requires best { IsValuedIf disk.now gap.now (wanted_of pending.now) start }
+    ensures valued { IsValuedIf disk.now gap.entry.now (wanted_of pending.now) result }
+    ensures keeps { Keeps disk.now gap.entry.now (wanted_of pending.now) start result }
+    ensures tried { BeatsRange disk.now gap.entry.now (wanted_of pending.now) result cylinder (cylinder + 1) }
+{
+    if part.most < pending.shortest_at(cylinder) as u64 {
+        return start;
+    }
+    let own = part_of(disk, pending, gap, cylinder, cylinder + 1, part.share);
+    if is_enough(start, own.most, cylinder) {
+        return start;
+    }
+    try_cylinder(disk, pending, gap, own, start)
 }
 
 // Tries the tracks of a range of one cylinder.

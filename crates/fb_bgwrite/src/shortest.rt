@@ -8,8 +8,8 @@ use std::marker::Model;
 /// More sectors than a block has: the bound where no block is pending.
 pub const NONE: u32 = 2_049;
 
-// A band has so many cylinders, and a region so many bands.
-const WIDTH: u32 = 64;
+/// A band has so many cylinders, and a region so many bands.
+pub const WIDTH: u32 = 32;
 
 // The bound of each cylinder, and of each band and each region one that is no greater than those of
 // its parts.
@@ -37,8 +37,11 @@ fn least_of(bounds: &[u32], from: usize, end: usize) -> u32
     ensures most { result ≤ 2049 }
 {
     let mut least = NONE;
-    for i in from..end.min(bounds.len()) {
-        least = least.min(bounds[i]);
+    let end = end.min(bounds.len());
+    if from < end {
+        for bound in &bounds[from..end] {
+            least = least.min(*bound);
+        }
     }
     least
 }
@@ -50,44 +53,6 @@ fn bound_at(bounds: &[u32], index: u32) -> u32
     match bounds.get(index as usize) {
         Some(bound) => *bound,
         None => NONE,
-    }
-}
-
-// The begin of the cylinder's region, if that is behind `from`; else that of its band; else itself.
-fn begin_of(cylinder: u32, from: u32) -> u32
-    requires { from ≤ cylinder }
-    ensures after { from ≤ result }
-    ensures within { result ≤ cylinder }
-{
-    let region = cylinder - cylinder % (WIDTH * WIDTH);
-    let band = cylinder - cylinder % WIDTH;
-    if from < region {
-        region
-    } else if from < band {
-        band
-    } else {
-        cylinder
-    }
-}
-
-// The end of the region of the cylinder before `behind`, if that is before the end; else that of its
-// band; else `behind`.
-fn end_of(behind: u32, end: u32) -> u32
-    requires order { behind ≤ end }
-    requires some { 0 < behind }
-    ensures after { behind ≤ result }
-    ensures within { result ≤ end }
-{
-    let left = end - behind;
-    let last = behind - 1;
-    let to_region = WIDTH * WIDTH - 1 - last % (WIDTH * WIDTH);
-    let to_band = WIDTH - 1 - last % WIDTH;
-    if to_region < left {
-        behind + to_region
-    } else if to_band < left {
-        behind + to_band
-    } else {
-        behind
     }
 }
 
@@ -171,16 +136,21 @@ impl Shortest {
         )
     }
 
-    // Of how many cylinders with this one no block is pending: a region, a band, the cylinder alone,
-    // or none.
+    // The bound of a cylinder.
+    pub fn at(&self, cylinder: u32) -> u32
+        ensures { result ≡ get_or self.now cylinder 2049 }
+    {
+        bound_at(&self.cylinders, cylinder)
+    }
+
+    // How many cylinders a region or a band has, if no block is pending in that of this cylinder; else
+    // 0.
     fn empty_around(&self, cylinder: u32) -> u32
-        ensures few { result ≤ 4096 }
+        ensures few { result ≤ 1024 }
     {
         let band = cylinder / WIDTH;
-        if bound_at(&self.cylinders, cylinder) < NONE {
+        if bound_at(&self.bands, band) < NONE {
             0
-        } else if bound_at(&self.bands, band) < NONE {
-            1
         } else if bound_at(&self.regions, band / WIDTH) < NONE {
             WIDTH
         } else {
@@ -203,7 +173,21 @@ impl Shortest {
             }
             next += (empty - next % empty).min(end - 1 - next);
         }
-        begin_of(next, from)
+        next
+    }
+
+    // The end of the last band that has a bound, if it lies between `from` and the end; else the end, or
+    // the cylinder behind `from`.
+    fn known_end(&self, from: u32, end: u32) -> u32
+        requires some { from < end }
+        ensures after { from < result }
+        ensures within { result ≤ end }
+    {
+        let bands = self.bands.len();
+        if bands >= (end / WIDTH) as usize {
+            return end;
+        }
+        (bands as u32 * WIDTH).max(from + 1)
     }
 
     // The cylinder behind the last one with a bound below 2,049, from `from` up to the end, or that
@@ -214,7 +198,7 @@ impl Shortest {
         ensures after { from < result }
         ensures within { result ≤ end }
     {
-        let mut next = end;
+        let mut next = self.known_end(from, end);
         while from + 1 < next {
             let empty = self.empty_around(next - 1);
             if empty == 0 {
@@ -222,6 +206,6 @@ impl Shortest {
             }
             next -= ((next - 1) % empty + 1).min(next - from - 1);
         }
-        end_of(next, end)
+        next
     }
 }

@@ -1,4 +1,4 @@
-use Rattle.std.proofs.Common.{arith, subst}
+use Rattle.std.proofs.Common.{◌+◌, ◌-◌, ◌/◌, arith, subst}
 use Rattle.fb_geometry.specs.Sound.{IsSound, HasOwnPlaces}
 use Rattle.fb_bgwrite.proofs.Depths.{there_is_time, value_by_weight, value_in_time}
 use Rattle.fb_bgwrite.proofs.Lengths.{none_there, too_long_in}
@@ -21,17 +21,20 @@ pub returns-then-passing-shortest : goal.returns-then-passing-shortest
 returns-then-passing-shortest c = λ spill low high is.
     let moves = c.least_moves-moves in
     let shortest = c.shortest_in-shortest in
-    let passing = c.most_in_time-passing in
+    let gap = c.args.gap.now in
+    let left = gap.deadline - (gap.now + moves.result.there + moves.result.on) in
     let blocks = c.requires.blocks in
-    let time = value_in_time c.args.disk.now c.args.gap.now c.args.pending.now blocks (subst IsSound c.geometry.ensures c.sound.ensures) (subst HasOwnPlaces c.geometry-2.ensures c.own_places.ensures)
-    c.args.from c.args.end moves.result moves.ensures.least spill low high is passing.result (passing.ensures spill.track.cylinder low high) in
-    omega (arith, too_long_in c.args.disk.now c.args.gap.now c.args.pending.now spill blocks.light shortest.result c.args.from c.args.end shortest.ensures.each low high passing.result blocks.on_disk time (omega (arith, c.if-passing-shortest.true)))
+    let time = value_in_time c.args.disk.now gap c.args.pending.now blocks (subst IsSound c.geometry.ensures c.sound.ensures) (subst HasOwnPlaces c.geometry-2.ensures c.own_places.ensures)
+    c.args.from c.args.end moves.result moves.ensures.least spill low high is (left / c.args.share + 1) (c.requires.share.1 spill.track.cylinder left low high) in
+    omega (arith, too_long_in c.args.disk.now gap c.args.pending.now spill blocks.light shortest.result c.args.from c.args.end shortest.ensures.each low high (left / c.args.share + 1) blocks.on_disk time (omega (arith, c.if-passing-shortest.true)))
 
 pub returns-then-end-from-gt-WIDE : goal.returns-then-end-from-gt-WIDE
 returns-then-end-from-gt-WIDE c = λ spill low high is.
     let moves = c.least_moves-moves in
-    value_in_time c.args.disk.now c.args.gap.now c.args.pending.now c.requires.blocks (subst IsSound c.geometry.ensures c.sound.ensures) (subst HasOwnPlaces c.geometry-2.ensures c.own_places.ensures)
-    c.args.from c.args.end moves.result moves.ensures.least spill low high is c.most_in_time-passing.result (c.most_in_time-passing.ensures spill.track.cylinder low high)
+    let gap = c.args.gap.now in
+    let left = gap.deadline - (gap.now + moves.result.there + moves.result.on) in
+    value_in_time c.args.disk.now gap c.args.pending.now c.requires.blocks (subst IsSound c.geometry.ensures c.sound.ensures) (subst HasOwnPlaces c.geometry-2.ensures c.own_places.ensures)
+    c.args.from c.args.end moves.result moves.ensures.least spill low high is (left / c.args.share + 1) (c.requires.share.1 spill.track.cylinder left low high)
 
 pub returns : goal.returns
 returns c = λ spill low high is.
@@ -41,6 +44,7 @@ returns c = λ spill low high is.
     let entries = c.args.pending.now in
     let sound = subst IsSound c.geometry.ensures c.sound.ensures in
     let own = subst HasOwnPlaces c.geometry-2.ensures c.own_places.ensures in
+    let left = gap.deadline - (gap.now + moves.result.there + moves.result.on) in
     let weight = value_by_weight disk gap entries c.requires.blocks sound own c.args.from c.args.end moves.result moves.ensures.least spill low high is c.greatest_weight_in.result (c.greatest_weight_in.ensures.each spill.track low high) in
-    let time = value_in_time disk gap entries c.requires.blocks sound own c.args.from c.args.end moves.result moves.ensures.least spill low high is c.most_in_time-passing.result (c.most_in_time-passing.ensures spill.track.cylinder low high) in
+    let time = value_in_time disk gap entries c.requires.blocks sound own c.args.from c.args.end moves.result moves.ensures.least spill low high is (left / c.args.share + 1) (c.requires.share.1 spill.track.cylinder left low high) in
     omega (arith, weight, time, c.min.ensures)

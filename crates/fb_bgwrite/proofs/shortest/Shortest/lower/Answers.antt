@@ -5,7 +5,7 @@ use Rattle.fb_bgwrite.proofs.shortest.Shortest.lower.Goals as goal
 pub invariant_of-self-2 : goal.invariant_of-self-2
 invariant_of-self-2 c =
     let old = c.self.inside in
-    let band = c.args.cylinder / 64 in
+    let band = c.args.cylinder / 32 in
     let regions = c.lower.new.bounds.items in
     let bands = c.lower-2.new.bounds.items in
     let sectors = c.args.sectors in (
