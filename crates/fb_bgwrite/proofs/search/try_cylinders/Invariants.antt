@@ -1,4 +1,3 @@
-use Rattle.std.proofs.Common.{◌≤◌}
 use Rattle.fb_wanted.specs.States.{wanted_of}
 use Rattle.fb_bgwrite.specs.Choosing.{BeatsRange, IsValuedIf, Keeps}
 use Rattle.fb_bgwrite.proofs.search.try_cylinders.Given as goal
