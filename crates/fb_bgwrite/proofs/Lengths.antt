@@ -1,5 +1,5 @@
 -- A block that is caught has no more sectors than all that are caught; so where each is longer than that, nothing is.
-use Rattle.std.proofs.Common.{◌≡◌, ℕ, zero, suc, ◌*◌, ◌<◌, ◌≤◌, ◌⊎◌, List, [], ◌∷◌, true, ◌==◌, Some, slice_get, get_or, inl, inr, refl, sym, ap, ◌∙◌, subst, arith}
+use Rattle.std.proofs.Common.{◌≡◌, ℕ, zero, suc, ◌*◌, ◌<◌, ◌≤◌, ◌⊎◌, List, [], ◌∷◌, true, ◌==◌, Some, slice_get, get_or, min, inl, inr, refl, sym, ap, ◌∙◌, subst, arith}
 use Rattle.std.specs.List.{AllByRecursion, sum_by}
 use Rattle.std.proofs.lemmas.Bool.{cases_Bool, true≢false}
 use Rattle.std.proofs.lemmas.Bool.Decides.{nat_tests}
@@ -94,6 +94,10 @@ module _ (disk : Disk) (gap : Gap) (entries : List Entry) (spill : Spill) (light
     -- nor one of the range
     pub too_long_in : (most : ℕ) → AreOnDisk disk entries → value disk gap (wanted_of entries) spill ≤ most → most < least → value disk gap (wanted_of entries) spill ≡ 0
     too_long_in most on_disk few less = elim (none_or_long on_disk) [ inl none ↦ none | inr long ↦ absurd (omega (arith, long.0, few, less)) ]
+
+    -- and none of those of at most 2,048
+    pub none_short : (most : ℕ) → AreOnDisk disk entries → value disk gap (wanted_of entries) spill ≤ most → min most 2048 < least → value disk gap (wanted_of entries) spill ≡ 0
+    none_short most on_disk few less = elim (none_or_long on_disk) [ inl none ↦ none | inr long ↦ absurd (omega (arith, long.0, long.1, few, less)) ]
 
     -- there is none
     pub none_there : AreOnDisk disk entries → 2048 < least → value disk gap (wanted_of entries) spill ≡ 0

@@ -153,6 +153,18 @@ impl Pending {
         self.shortest.at(cylinder)
     }
 
+    /// Where the last of these cylinders ends that may have a pending block of at most so many sectors;
+    /// `from` if none has.
+    pub fn end_short(&self, from: u32, end: u32, most: u32) -> u32
+        requires order { from ≤ end }
+        requires short { most ≤ 2048 }
+        ensures after { from ≤ result }
+        ensures within { result ≤ end }
+        ensures each { AreAtLeast result end (most + 1) self.now }
+    {
+        self.shortest.end_short(from, end, most)
+    }
+
     /// Where the first of these cylinders is that may have a pending block, or earlier by up to 1,023.
     pub fn first_in(&self, from: u32, end: u32) -> u32
         requires some { from < end }

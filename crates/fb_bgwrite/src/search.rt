@@ -33,6 +33,9 @@ const WIDE: u32 = 2_048;
 // So few cylinders are tried one after the other, with one bound.
 const FEW: u32 = 2 * WIDTH;
 
+// At least so many cylinders of those on one side of a gap are looked at first.
+const NEAR: u32 = 1_024;
+
 // The cylinders from one up to another, the least time of a slot there, in ns, and an upper bound
 // on what a spill writes on a track there.
 #[derive(Clone, Copy)]
@@ -48,6 +51,13 @@ struct Part {
 struct Moves {
     there: Ns,
     on: Ns,
+}
+
+// The best spill so far, and the cylinders that are still to be tried.
+#[derive(Clone, Copy)]
+struct Swept {
+    best: Option<Valued>,
+    rest: Part,
 }
 
 // What a stay writes, and when the last passage of that ends, in ns.
@@ -96,6 +106,9 @@ fn visit(
     if part.end - part.from <= FEW {
         return try_cylinders(disk, pending, gap, part, start);
     }
+    if part.end - part.from <= WIDE && is_below(gap, part.end) {
+        return try_below(disk, pending, gap, part, start);
+    }
     let middle = split_at(pending, gap, part.from, part.end);
     let low = child_of(disk, pending, gap, part, part.from, middle);
     let high = child_of(disk, pending, gap, part, middle, part.end);
@@ -138,9 +151,9 @@ fn split_beside(gap: &Gap, from: u32, end: u32) -> u32
     let high = gap.source.cylinder.max(gap.target.cylinder);
     let half = (end - from) / 2;
     if end <= low {
-        end - half.min((low - end).max(FEW))
+        end - half.min((low - end).max(NEAR))
     } else if high < from {
-        from + half.min((from - high).max(FEW))
+        from + half.min((from - high).max(NEAR))
     } else if from < low {
         low
     } else if high < end - 1 {
@@ -325,6 +338,111 @@ fn nearest(from: u32, end: u32, cylinder: u32) -> u32
     } else {
         end - 1
     }
+}
+
+// Whether the cylinders before this one lie before both tracks of the gap.
+fn is_below(gap: &Gap, end: u32) -> bool {
+    end <= gap.source.cylinder && end <= gap.target.cylinder
+}
+
+// Tries the tracks of cylinders before the gap, from the nearest one on, until a bound shows that no
+// other is better.
+fn try_below(
+    disk: &Disk,
+    pending: &Pending,
+    gap: &Gap,
+    part: Part,
+    start: Option<Valued>,
+) -> Option<Valued>
+    requires order { part.from ≤ part.end }
+    requires within { part.end ≤ disk.now.mechanism.cylinders }
+    requires share { IsShare disk.now part.from part.end part.share }
+    requires most { IsMost disk.now gap.now (wanted_of pending.now) part }
+    requires gap { IsGap disk.now gap.now }
+    requires blocks { ArePending disk.now pending.now }
+    requires best { IsValuedIf disk.now gap.now (wanted_of pending.now) start }
+    ensures valued { IsValuedIf disk.now gap.entry.now (wanted_of pending.now) result }
+    ensures keeps { Keeps disk.now gap.entry.now (wanted_of pending.now) start result }
+    ensures tried { BeatsRange disk.now gap.entry.now (wanted_of pending.now) result part.from part.end }
+{
+    let mut swept = Swept {
+        best: start,
+        rest: part,
+    };
+    while !is_enough(swept.best, swept.rest.most, swept.rest.from) {
+        if swept.rest.end == swept.rest.from {
+            break;
+        }
+        swept = try_last(disk, pending, gap, swept.rest, swept.best);
+    }
+    swept.best
+}
+
+// Tries the last cylinder of a part that has a block short enough for the part's bound. The cylinders
+// before it are left, with a bound for all up to this one.
+fn try_last(disk: &Disk, pending: &Pending, gap: &Gap, part: Part, start: Option<Valued>) -> Swept
+    requires some { part.from < part.end }
+    requires within { part.end ≤ disk.now.mechanism.cylinders }
+    requires share { IsShare disk.now part.from part.end part.share }
+    requires most { IsMost disk.now gap.now (wanted_of pending.now) part }
+    requires gap { IsGap disk.now gap.now }
+    requires blocks { ArePending disk.now pending.now }
+    requires best { IsValuedIf disk.now gap.now (wanted_of pending.now) start }
+    ensures from { result.rest.from ≡ part.from }
+    ensures order { part.from ≤ result.rest.end }
+    ensures fewer { result.rest.end < part.end }
+    ensures share { IsShare disk.now part.from result.rest.end result.rest.share }
+    ensures most { IsMost disk.now gap.entry.now (wanted_of pending.now) result.rest }
+    ensures valued { IsValuedIf disk.now gap.entry.now (wanted_of pending.now) result.best }
+    ensures keeps { Keeps disk.now gap.entry.now (wanted_of pending.now) start result.best }
+    ensures tried { BeatsRange disk.now gap.entry.now (wanted_of pending.now) result.best result.rest.end part.end }
+{
+    let short = part.most.min(LONGEST as u64) as u32;
+    let end = pending.end_short(part.from, part.end, short);
+    if end == part.from {
+        return Swept {
+            best: start,
+            rest: Part { end, ..part },
+        };
+    }
+    let near = part_of(disk, pending, gap, part.from, end, part.share);
+    let best = try_end(disk, pending, gap, near, start);
+    Swept {
+        best,
+        rest: Part {
+            end: end - 1,
+            ..near
+        },
+    }
+}
+
+// Tries the tracks of the last cylinder of a part, if a pending block there is short enough.
+fn try_end(
+    disk: &Disk,
+    pending: &Pending,
+    gap: &Gap,
+    part: Part,
+    start: Option<Valued>,
+) -> Option<Valued>
+    requires some { part.from < part.end }
+    requires within { part.end ≤ disk.now.mechanism.cylinders }
+    requires most { IsMost disk.now gap.now (wanted_of pending.now) part }
+    requires gap { IsGap disk.now gap.now }
+    requires blocks { ArePending disk.now pending.now }
+    requires best { IsValuedIf disk.now gap.now (wanted_of pending.now) start }
+    ensures valued { IsValuedIf disk.now gap.entry.now (wanted_of pending.now) result }
+    ensures keeps { Keeps disk.now gap.entry.now (wanted_of pending.now) start result }
+    ensures tried { BeatsRange disk.now gap.entry.now (wanted_of pending.now) result (part.end - 1) part.end }
+{
+    let cylinder = part.end - 1;
+    if part.most < pending.shortest_at(cylinder) as u64 {
+        return start;
+    }
+    let own = Part {
+        from: cylinder,
+        ..part
+    };
+    try_cylinder(disk, pending, gap, own, start)
 }
 
 // Tries the tracks of these few cylinders, one cylinder after the other.

@@ -56,6 +56,22 @@ fn bound_at(bounds: &[u32], index: u32) -> u32
     }
 }
 
+// The index behind the last of these bounds, from `from` up to the end, that is no greater than
+// `most`; `from` if there is none.
+fn end_low(bounds: &[u32], from: u32, end: u32, most: u32) -> u32
+    requires order { from ≤ end }
+    requires short { most ≤ 2048 }
+    ensures after { from ≤ result }
+    ensures within { result ≤ end }
+    ensures each { (i : ℕ) → result ≤ i → i < end → most < get_or bounds.now i 2049 }
+{
+    let mut next = end;
+    while from < next && most < bound_at(bounds, next - 1) {
+        next -= 1;
+    }
+    next
+}
+
 // Lowers the bound with this index to the number, if it is greater. Out of memory, no bound has
 // changed.
 fn lower(bounds: &mut Vec<u32>, index: u32, sectors: u32) -> Result<(), NoMemory>
@@ -172,6 +188,50 @@ impl Shortest {
                 break;
             }
             next += (empty - next % empty).min(end - 1 - next);
+        }
+        next
+    }
+
+    // Where the region of the cylinder before `end` begins, if it has no bound as low as `most`; else
+    // where its band begins, if that has none; else `end`.
+    fn begin_long(&self, end: u32, most: u32) -> u32
+        requires some { 0 < end }
+        requires short { most ≤ 2048 }
+        ensures within { result ≤ end }
+        ensures each { (c : ℕ) → result ≤ c → c < end → most < get_or self.now c 2049 }
+    {
+        let band = (end - 1) / WIDTH;
+        if bound_at(&self.bands, band) <= most {
+            return end;
+        }
+        if bound_at(&self.regions, band / WIDTH) <= most {
+            return band * WIDTH;
+        }
+        band / WIDTH * (WIDTH * WIDTH)
+    }
+
+    // The cylinder behind the last one, from `from` up to the end, with a bound no greater than `most`;
+    // `from` if there is none.
+    pub fn end_short(&self, from: u32, end: u32, most: u32) -> u32
+        requires order { from ≤ end }
+        requires short { most ≤ 2048 }
+        ensures after { from ≤ result }
+        ensures within { result ≤ end }
+        ensures each { (c : ℕ) → result ≤ c → c < end → most < get_or self.now c 2049 }
+    {
+        let mut next = end;
+        while from < next {
+            let begin = self.begin_long(next, most);
+            if begin < next {
+                next = begin.max(from);
+                continue;
+            }
+            let band = (next - 1) / WIDTH * WIDTH;
+            let found = end_low(&self.cylinders, band.max(from), next, most);
+            if band.max(from) < found {
+                return found;
+            }
+            next = found;
         }
         next
     }

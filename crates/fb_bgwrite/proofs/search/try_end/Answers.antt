@@ -1,0 +1,19 @@
+use Rattle.std.proofs.Common.{◌+◌, ◌-◌, arith}
+use Rattle.fb_wanted.specs.States.{wanted_of}
+use Rattle.fb_bgwrite.specs.declared.choice.Spill.{Spill}
+use Rattle.fb_bgwrite.proofs.Choices.{nothing_beaten}
+use Rattle.fb_bgwrite.proofs.Lengths.{too_long_in}
+use Rattle.fb_bgwrite.proofs.search.try_end.Goals as goal
+
+pub returns-then-part-shortest_at-clause-tried : goal.returns-then-part-shortest_at-clause-tried
+returns-then-part-shortest_at-clause-tried c = λ track low high leave is.
+    let disk = c.args.disk.now in
+    let gap = c.args.gap.now in
+    let entries = c.args.pending.now in
+    let blocks = c.requires.blocks in
+    let part = c.args.part in
+    let shortest = c.shortest_at in
+    let spill : Spill = record { track = track; leave = leave } in
+    let few = c.requires.most track (omega (arith, low, c.requires.some)) high leave is in
+    let none = too_long_in disk gap entries spill blocks.light shortest.result (part.end - 1) (part.end - 1 + 1) shortest.ensures low (omega (arith, high, c.requires.some)) part.most blocks.on_disk few (omega (arith, c.if-part-shortest_at.true)) in
+    nothing_beaten disk gap (wanted_of entries) c.args.start spill c.requires.best none
