@@ -18,16 +18,14 @@ use Rattle.fb_service.specs.declared.disk.Disk.{Disk}
 use Rattle.fb_wanted.specs.declared.block.Entry.{Entry}
 use Rattle.fb_wanted.specs.Depth.{depth_at, is_in, weight_on}
 use Rattle.fb_wanted.specs.States.{on_track, wanted_of}
-use Rattle.fb_wanted.specs.Tracks.{wanted_weight}
 use Rattle.fb_rows.specs.declared.gap.Gap.{Gap}
 use Rattle.fb_detour.specs.Bounds.{slots_within}
-use Rattle.fb_detour.proofs.Ceilings.{weight_of_stay}
 use Rattle.fb_detour.proofs.Packing.{div-rises, packing}
 use Rattle.fb_bgwrite.specs.declared.choice.Spill.{Spill}
 use Rattle.fb_bgwrite.specs.declared.search.Moves.{Moves}
 use Rattle.fb_bgwrite.specs.Ranges.{share, AreApart}
 use Rattle.fb_bgwrite.specs.Choosing.{block_range, AreLeast, ArePending}
-use Rattle.fb_bgwrite.specs.Spilling.{ready, stay_of, value, IsSpill}
+use Rattle.fb_bgwrite.specs.Spilling.{ready, value, IsSpill}
 use Rattle.fb_bgwrite.proofs.TakenRanges.{is_shares}
 use Rattle.fb_bgwrite.proofs.Values.{value_stay, AreLight}
 
@@ -94,9 +92,6 @@ module _ (disk : Disk) (gap : Gap) (entries : List Entry) (pending : ArePending 
         div-rises (spill.leave - begin) (gap.deadline - (gap.now + moves.there + moves.on)) share (omega (arith, both.0, both.1, is.after_ready, is.in_time)),
         enough,
       )
-
-  pub value_by_weight : (most : ℕ) → wanted_weight spill.track entries ≤ most → value disk gap (wanted_of entries) spill ≤ most
-  value_by_weight most enough = omega (arith, value_stay disk gap entries spill pending.light, weight_of_stay disk (stay_of disk gap spill) entries, enough)
 
 shorter : (rotation n most : ℕ) → 0 < n → n ≤ most → rotation / most ≤ rotation / n
 shorter rotation n most some le = le-div (rotation / most) rotation n some (omega (arith, mul-le (rotation / most) n (rotation / most) most (omega arith) le, div-mul-le_self rotation most))

@@ -165,7 +165,7 @@ impl Pending {
         self.shortest.end_short(from, end, most)
     }
 
-    /// Where the first of these cylinders is that may have a pending block, or earlier by up to 1,023.
+    /// Where the first of these cylinders is that may have a pending block, or earlier by up to 31.
     pub fn first_in(&self, from: u32, end: u32) -> u32
         requires some { from < end }
         ensures after { from ≤ result }
@@ -174,7 +174,7 @@ impl Pending {
         self.shortest.first_in(from, end)
     }
 
-    /// Where the last of these cylinders ends that may have a pending block, or later by up to 1,023.
+    /// Where the last of these cylinders ends that may have a pending block, or later by up to 31.
     pub fn end_in(&self, from: u32, end: u32) -> u32
         requires some { from < end }
         ensures after { from < result }

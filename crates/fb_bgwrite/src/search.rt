@@ -1,9 +1,10 @@
 // The search for the best spill of a gap. Ranges of cylinders are passed over where no spill can be
 // better than the best so far.
-ghost use Rattle.std.specs.Prelude.{◌≡◌, ◌+◌, ◌-◌, ◌*◌, ◌<◌, ◌≤◌, ◌^◌, ◌⊎◌, ℕ, true, max, if◌then◌else◌};
+ghost use Rattle.std.specs.Prelude.{◌≡◌, ◌+◌, ◌-◌, ◌*◌, ◌<◌, ◌≤◌, ◌^◌, ◌⊎◌, ℕ, List, true, max, if◌then◌else◌};
 ghost use Rattle.std.specs.List.{sum_by};
 ghost use Rattle.fb_geometry.specs.Shape.{slots_at, IsTrackOf};
 ghost use Rattle.fb_seek.specs.Positioning.{distance_of};
+ghost use Rattle.fb_wanted.specs.declared.block.Entry.{Entry as Registered};
 ghost use Rattle.fb_wanted.specs.States.{on_track, wanted_of};
 ghost use Rattle.fb_plan.specs.Ways.{AreOnDisk, FitsDisk};
 ghost use Rattle.fb_plan.specs.Turns.{IsOfDwell};
@@ -74,7 +75,11 @@ pub fn best_spill(disk: &Disk, pending: &Pending, gap: &Gap) -> Option<Valued>
     ensures best { IsBestIf disk.now gap.entry.now (wanted_of pending.now) result }
     ensures valued { IsValuedIf disk.now gap.entry.now (wanted_of pending.now) result }
 {
-    let end = disk.map.geometry().cylinders();
+    let cylinders = disk.map.geometry().cylinders();
+    let end = pending.end_short(0, cylinders, LONGEST);
+    if end == 0 {
+        return None;
+    }
     let share = least_share(disk, gap, 0, end);
     let all = part_of(disk, pending, gap, 0, end, share);
     visit(disk, pending, gap, all, None)
@@ -275,14 +280,7 @@ fn most_in(disk: &Disk, pending: &Pending, gap: &Gap, from: u32, end: u32, share
     if shortest > LONGEST {
         return 0;
     }
-    disk.map.geometry().sound();
-    disk.map.geometry().own_places();
-    let moves = least_moves(disk, gap, from, end);
-    let back = gap.now + moves.there + moves.on;
-    if gap.deadline < back {
-        return 0;
-    }
-    let passing = (gap.deadline - back) / share + 1;
+    let passing = most_passing(disk, gap, from, end, share);
     if passing < shortest as u64 {
         return 0;
     }
@@ -290,6 +288,26 @@ fn most_in(disk: &Disk, pending: &Pending, gap: &Gap, from: u32, end: u32, share
         return passing;
     }
     passing.min(pending.greatest_weight_in(from, end))
+}
+
+// An upper bound on the slots that pass on a track of these cylinders in the time that is left beside
+// the moves, of at least `share` ns each; 0 where none is left.
+fn most_passing(disk: &Disk, gap: &Gap, from: u32, end: u32, share: Ns) -> u64
+    requires some { from < end }
+    requires within { end ≤ disk.now.mechanism.cylinders }
+    requires share { IsShare disk.now from end share }
+    requires gap { IsGap disk.now gap.now }
+    ensures { (entries : List Registered) (spill : Spill) → ArePending disk.now entries → from ≤ spill.track.cylinder → spill.track.cylinder < end → IsSpill disk.now gap.entry.now spill
+        → value disk.now gap.entry.now (wanted_of entries) spill ≤ result }
+{
+    disk.map.geometry().sound();
+    disk.map.geometry().own_places();
+    let moves = least_moves(disk, gap, from, end);
+    let back = gap.now + moves.there + moves.on;
+    if gap.deadline < back {
+        return 0;
+    }
+    (gap.deadline - back) / share + 1
 }
 
 // A lower bound on the time of a slot, in ns, over all tracks of these cylinders.
@@ -405,7 +423,8 @@ fn try_last(disk: &Disk, pending: &Pending, gap: &Gap, part: Part, start: Option
             rest: Part { end, ..part },
         };
     }
-    let near = part_of(disk, pending, gap, part.from, end, part.share);
+    let most = most_passing(disk, gap, part.from, end, part.share).min(part.most);
+    let near = Part { end, most, ..part };
     let best = try_end(disk, pending, gap, near, start);
     Swept {
         best,

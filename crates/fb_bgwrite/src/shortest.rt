@@ -129,7 +129,7 @@ impl Shortest {
         self.regions[region] = least_of(&self.bands, region * width, region * width + width);
     }
 
-    // A lower bound for the cylinders from `from` up to the end. At most 64 bounds are looked at, or
+    // A lower bound for the cylinders from `from` up to the end. At most 32 bounds are looked at, or
     // one for each region.
     pub fn among(&self, from: u32, end: u32) -> u32
         requires some { from < end }
@@ -174,8 +174,7 @@ impl Shortest {
         }
     }
 
-    // The first cylinder with a bound below 2,049, from `from` up to the end, or the first one of its
-    // region or band if these begin later than `from`; the same of the last one if there is none.
+    // The first of these cylinders in a band that has a bound below 2,049; the last one if there is none.
     pub fn first_in(&self, from: u32, end: u32) -> u32
         requires some { from < end }
         ensures after { from ≤ result }
@@ -210,6 +209,21 @@ impl Shortest {
         band / WIDTH * (WIDTH * WIDTH)
     }
 
+    // The end of the cylinders with a bound, if it lies between `from` and the end; else the end, or
+    // `from`.
+    fn known_end(&self, from: u32, end: u32) -> u32
+        requires order { from ≤ end }
+        ensures after { from ≤ result }
+        ensures within { result ≤ end }
+        ensures each { (c : ℕ) → result ≤ c → c < end → get_or self.now c 2049 ≡ 2049 }
+    {
+        let known = self.cylinders.len();
+        if known >= end as usize {
+            return end;
+        }
+        (known as u32).max(from)
+    }
+
     // The cylinder behind the last one, from `from` up to the end, with a bound no greater than `most`;
     // `from` if there is none.
     pub fn end_short(&self, from: u32, end: u32, most: u32) -> u32
@@ -219,7 +233,7 @@ impl Shortest {
         ensures within { result ≤ end }
         ensures each { (c : ℕ) → result ≤ c → c < end → most < get_or self.now c 2049 }
     {
-        let mut next = end;
+        let mut next = self.known_end(from, end);
         while from < next {
             let begin = self.begin_long(next, most);
             if begin < next {
@@ -236,29 +250,14 @@ impl Shortest {
         next
     }
 
-    // The end of the last band that has a bound, if it lies between `from` and the end; else the end, or
-    // the cylinder behind `from`.
-    fn known_end(&self, from: u32, end: u32) -> u32
-        requires some { from < end }
-        ensures after { from < result }
-        ensures within { result ≤ end }
-    {
-        let bands = self.bands.len();
-        if bands >= (end / WIDTH) as usize {
-            return end;
-        }
-        (bands as u32 * WIDTH).max(from + 1)
-    }
-
-    // The cylinder behind the last one with a bound below 2,049, from `from` up to the end, or that
-    // behind its region or band if these end earlier than the end; the same of the second one if there
-    // is none.
+    // The cylinder behind the last of these in a band that has a bound below 2,049; the one behind the
+    // first if there is none.
     pub fn end_in(&self, from: u32, end: u32) -> u32
         requires some { from < end }
         ensures after { from < result }
         ensures within { result ≤ end }
     {
-        let mut next = self.known_end(from, end);
+        let mut next = end;
         while from + 1 < next {
             let empty = self.empty_around(next - 1);
             if empty == 0 {
