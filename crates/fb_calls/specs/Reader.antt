@@ -29,7 +29,7 @@ action (AskedPromote first count) = Promote first count
 action AskedSuspend = Suspend
 action AskedResume = Resume
 action AskedClose = Close
-action (AskedSegment first blocks age live) = Segment first blocks age (take blocks (bits live.now))
+action (AskedSegment segment) = Segment segment.first segment.blocks segment.age (take segment.blocks (bits segment.live.now))
 
 abbrev pub asked : Result Asked CallsReason → Result Action CallsReason
 asked known = known >>= (λ asked. Ok (action asked))
@@ -43,7 +43,8 @@ abbrev pub IsWithin : Asked → Type 0
 IsWithin (AskedWant first count) = (first ≤ 10 ^ 15) × (count ≤ 10 ^ 15)
 IsWithin (AskedAbort first count) = (first ≤ 10 ^ 15) × (count ≤ 10 ^ 15)
 IsWithin (AskedPromote first count) = (first ≤ 10 ^ 15) × (count ≤ 10 ^ 15)
-IsWithin (AskedSegment first blocks age live) = (first ≤ 10 ^ 15) × (blocks ≤ 10 ^ 15) × (age ≤ 10 ^ 15) × (is_live blocks live.now ≡ true)
+IsWithin (AskedSegment segment) =
+    (segment.first ≤ 10 ^ 15) × (segment.blocks ≤ 10 ^ 15) × (segment.age ≤ 10 ^ 15) × (is_live segment.blocks segment.live.now ≡ true)
 IsWithin _ = Unit {0}
 
 abbrev pub IsAskedWithin : Result Asked CallsReason → Type 0
@@ -54,7 +55,7 @@ IsAskedWithin (Err reason) = Unit {0}
 abbrev pub IsSmall : Asked → Type 0
 IsSmall (AskedOpen kind weight block) = (weight ≤ 1000) × (1 ≤ block) × (block ≤ 2048)
 IsSmall (AskedPromote first count) = count ≤ 2048
-IsSmall (AskedSegment first blocks age live) = blocks ≤ 4096
+IsSmall (AskedSegment segment) = segment.blocks ≤ 4096
 IsSmall _ = Unit {0}
 
 -- the names of the tasks

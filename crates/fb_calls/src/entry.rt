@@ -19,39 +19,34 @@ use std::alloc::Global;
 #[derive(Clone, Copy)]
 pub enum Asked<'a> {
     /// To open a task: its kind, weight, and block size in sectors.
-    Open {
-        kind: Kind,
-        weight: u64,
-        block: u64,
-    },
+    Open { kind: Kind, weight: u64, block: u64 },
     /// To want a range of sectors.
-    Want {
-        first: u64,
-        count: u64,
-    },
+    Want { first: u64, count: u64 },
     /// To abort the blocks of a range of sectors.
-    Abort {
-        first: u64,
-        count: u64,
-    },
+    Abort { first: u64, count: u64 },
     /// To read a range of sectors in the foreground.
-    Promote {
-        first: u64,
-        count: u64,
-    },
+    Promote { first: u64, count: u64 },
     /// To suspend the task.
     Suspend,
     /// To resume the task.
     Resume,
     /// To close the task.
     Close,
-    /// To add a log segment: its first sector, blocks, age, and the digits of its live blocks.
-    Segment {
-        first: u64,
-        blocks: u64,
-        age: u64,
-        live: &'a [u8],
-    },
+    /// To add a log segment.
+    Segment(SegmentFields<'a>),
+}
+
+/// The fields of a line that adds a log segment.
+#[derive(Clone, Copy)]
+pub struct SegmentFields<'a> {
+    /// The first sector.
+    pub first: u64,
+    /// The number of blocks.
+    pub blocks: u64,
+    /// The age.
+    pub age: u64,
+    /// The digits of the live blocks.
+    pub live: &'a [u8],
 }
 
 impl Asked<'_> {
@@ -80,16 +75,11 @@ impl Asked<'_> {
             Asked::Suspend => Action::Suspend,
             Asked::Resume => Action::Resume,
             Asked::Close => Action::Close,
-            Asked::Segment {
-                first,
-                blocks,
-                age,
-                live,
-            } => Action::Segment {
-                first,
-                blocks: blocks as u32,
-                age,
-                live: read_live(alloc, blocks, live)?,
+            Asked::Segment(segment) => Action::Segment {
+                first: segment.first,
+                blocks: segment.blocks as u32,
+                age: segment.age,
+                live: read_live(alloc, segment.blocks, segment.live)?,
             },
         })
     }
@@ -265,10 +255,10 @@ fn segment(rest: &[u8]) -> Result<Result<Asked<'_>, CallsReason>, CallsReason>
     if !is_live(blocks, live) {
         return Err(CallsReason::BadNumber(7));
     }
-    Ok(Ok(Asked::Segment {
+    Ok(Ok(Asked::Segment(SegmentFields {
         first,
         blocks,
         age,
         live,
-    }))
+    })))
 }

@@ -14,7 +14,7 @@ ghost use Rattle.fb_calls.specs.Reader.{said, action, call, names, progress, wit
 ghost use Rattle.fb_calls.specs.Verdict.{Agrees};
 
 use crate::blocks::{count_cuts, count_live_cuts};
-use crate::entry::{Asked, Entry, read_entry};
+use crate::entry::{Asked, Entry, SegmentFields, read_entry};
 use crate::opened_task::OpenedTask;
 use crate::reader::Reader;
 use crate::{CallsReason, Kind};
@@ -207,12 +207,7 @@ impl Reader {
                 self.promoted(map, session, first, count)?;
                 Ok(0)
             }
-            Asked::Segment {
-                first,
-                blocks,
-                age,
-                live,
-            } => self.added(map, session, first, blocks, age, live),
+            Asked::Segment(segment) => self.added(map, session, segment),
             _ => Ok(0),
         }
     }
@@ -274,27 +269,31 @@ impl Reader {
         &self,
         map: &SectorMap,
         session: OpenedTask,
-        first: u64,
-        blocks: u64,
-        age: u64,
-        live: &[u8],
+        segment: SegmentFields<'_>,
     ) -> Result<u64, CallsReason>
         requires few { self.now.blocks ≤ 16 * 10 ^ 6 }
         requires session { HasBlock session }
-        requires within { IsWithin (AskedSegment first blocks age live) }
-        ensures value { Agrees (λ _. tt) result (allowed map.now (progress self.now) session (action (AskedSegment first blocks age live.entry))) }
-        ensures blocks { IfOk result (AreBlocksOf map.now self.now.blocks session.block (AskedSegment first blocks age live.entry)) }
-        ensures small { OnOk result (blocks ≤ 4096) }
+        requires within { IsWithin (AskedSegment segment) }
+        ensures value { Agrees (λ _. tt) result (allowed map.now (progress self.now) session (action (AskedSegment segment.entry))) }
+        ensures blocks { IfOk result (AreBlocksOf map.now self.now.blocks session.block (AskedSegment segment.entry)) }
+        ensures small { OnOk result (segment.entry.blocks ≤ 4096) }
     {
         if session.kind != Kind::Clean {
             return Err(CallsReason::WrongKind);
         }
-        on_disk(map, first, blocks * session.block as u64)?;
-        if blocks > MOST_SEGMENT_BLOCKS {
+        on_disk(map, segment.first, segment.blocks * session.block as u64)?;
+        if segment.blocks > MOST_SEGMENT_BLOCKS {
             return Err(CallsReason::TooLarge);
         }
         let room = MOST_BLOCKS - self.blocks;
-        match count_live_cuts(map, session.block, first, blocks, live, room) {
+        match count_live_cuts(
+            map,
+            session.block,
+            segment.first,
+            segment.blocks,
+            segment.live,
+            room,
+        ) {
             Some(blocks) => Ok(blocks),
             None => Err(CallsReason::TooManyBlocks),
         }
