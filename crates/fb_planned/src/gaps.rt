@@ -110,7 +110,8 @@ fn disk_of(alloc: Global, setting: &Setting) -> Result<Option<Disk>, NoMemory> {
     let geometry = map.geometry();
     geometry.sound();
     let _count = map.count();
-    match Mechanism::new(setting.seek.to_vec(alloc)?, geometry.cylinders(), 200, 50) {
+    let points = setting.seek.to_vec(alloc)?;
+    match Mechanism::new(alloc, points, geometry.cylinders(), 200, 50) {
         Ok(mechanism) => Ok(Some(Disk {
             map,
             mechanism,

@@ -1,2 +1,3 @@
+mod Times
 pub mod Lookup
 pub mod Rises

@@ -1,8 +1,9 @@
 -- A seek table in which times can be looked up.
-use Rattle.std.specs.Prelude.{◌≡◌, ℕ, ◌+◌, ◌^◌, ◌<◌, ◌≤◌, length}
+use Rattle.std.specs.Prelude.{◌≡◌, ℕ, ◌+◌, ◌^◌, ◌<◌, ◌≤◌, List, length}
 use Rattle.std.specs.List.{slice_index_or}
 use Rattle.fb_seek.specs.declared.point.SeekPoint.{SeekPoint}
 use Rattle.fb_seek.specs.Mechanics.{Mechanics}
+use Rattle.fb_seek.specs.Positioning.{seek}
 
 -- distances rise from 1 to the greatest distance of two cylinders, times don't fall, and no time is over a second
 pub record IsTable (arm : Mechanics) : Type 0 where
@@ -15,3 +16,12 @@ pub record IsTable (arm : Mechanics) : Type 0 where
   pub head_switch : arm.head_switch ≤ 10 ^ 9
   pub write_settle : arm.write_settle ≤ 10 ^ 9
   pub some_cylinders : 0 < arm.cylinders
+
+-- the times of seeks over 0, 1, 2 and so on cylinders
+abbrev pub AreTimes : Mechanics → List ℕ → Type 0
+AreTimes arm times = (distance d : ℕ) → distance < length times → (slice_index_or times distance d ≡ seek arm distance) × (seek arm distance ≤ 10 ^ 9)
+
+-- a seek table, with the times of some seeks
+pub record IsArm (arm : Mechanics) (known : List ℕ) : Type 0 where
+  pub table : IsTable arm
+  pub times : AreTimes arm known

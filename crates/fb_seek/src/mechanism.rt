@@ -4,10 +4,12 @@ ghost use Rattle.fb_seek.specs.Mechanics.{Mechanics};
 ghost use Rattle.fb_seek.specs.Positioning.{seek, pos, distance_of};
 ghost use Rattle.fb_seek.specs.Rising.{SeeksRise};
 ghost use Rattle.fb_seek.specs.Faults.{Judges};
+ghost use Rattle.fb_seek.specs.Table.{AreTimes};
 
 use crate::table::{fault_of, next_point};
 use crate::{SeekFault, SeekPoint};
 use fb_units::{Ns, Track};
+use std::alloc::Global;
 use std::marker::Model;
 
 /// The moving parts of a disk: its seek table, the time of a head switch, and the time that a head
@@ -18,23 +20,29 @@ pub struct Mechanism {
     cylinders: u32,
     head_switch: Ns,
     write_settle: Ns,
+    // The time of each distance from 0 on, as far as there was memory for it.
+    times: Vec<u32>,
 }
 
 impl Model for Mechanism {
     ghost use Rattle.fb_seek.specs.Mechanics.{Mechanics};
-    ghost use Rattle.fb_seek.specs.Table.{IsTable};
+    ghost use Rattle.fb_seek.specs.Table.{IsArm};
 
     ghost Value = { Mechanics };
 
     ghost view = { λ m. record { points = m.points.items; cylinders = m.cylinders; head_switch = m.head_switch; write_settle = m.write_settle } };
 
-    ghost invariant = { λ m. IsTable (record { points = m.points.items; cylinders = m.cylinders; head_switch = m.head_switch; write_settle = m.write_settle }) };
+    ghost invariant = { λ m. IsArm (record { points = m.points.items; cylinders = m.cylinders; head_switch = m.head_switch; write_settle = m.write_settle }) m.times.items };
 }
 
 impl Mechanism {
     /// The mechanism with this seek table, for a disk of this many cylinders; or the first fault.
     /// Times are in nanoseconds.
+    ///
+    /// The time of each distance is worked out here, so that `seek` only looks it up. Where memory
+    /// for it is refused, `seek` works it out, and gives the same time.
     pub fn new(
+        alloc: Global,
         points: Vec<SeekPoint>,
         cylinders: u32,
         head_switch: Ns,
@@ -44,19 +52,36 @@ impl Mechanism {
     {
         match fault_of(points.as_slice(), cylinders, head_switch, write_settle) {
             Some(fault) => Err(fault),
-            None => Ok(Mechanism {
-                points,
-                cylinders,
-                head_switch,
-                write_settle,
-            }),
+            None => {
+                let mut mechanism = Mechanism {
+                    points,
+                    cylinders,
+                    head_switch,
+                    write_settle,
+                    times: Vec::new(alloc),
+                };
+                mechanism.times = mechanism.all_times(alloc);
+                Ok(mechanism)
+            }
         }
     }
 
-    /// The time of a seek over this many cylinders, in nanoseconds, at most 10^9: 0 for distance 0,
-    /// the table's time at one of its points, and on the straight line between two points, rounded
-    /// down.
-    pub fn seek(&self, distance: u32) -> Ns
+    // The times of all distances in order, as far as there is memory for them.
+    fn all_times(&self, alloc: Global) -> Vec<u32>
+        ensures { AreTimes self.now result.items }
+    {
+        let mut times = Vec::new(alloc);
+        for distance in 0..self.cylinders {
+            let time = self.time_of(distance);
+            if times.push(time as u32).is_err() {
+                return times;
+            }
+        }
+        times
+    }
+
+    // The time of a seek over this many cylinders by the table's points.
+    fn time_of(&self, distance: u32) -> Ns
         requires { distance < self.now.cylinders }
         ensures value { result ≡ seek self.now distance }
         ensures bound { result ≤ 10 ^ 9 }
@@ -70,6 +95,20 @@ impl Mechanism {
             return points[0].time;
         }
         interpolate(points[next - 1], points[next], distance)
+    }
+
+    /// The time of a seek over this many cylinders, in nanoseconds, at most 10^9: 0 for distance 0,
+    /// the table's time at one of its points, and on the straight line between two points, rounded
+    /// down.
+    pub fn seek(&self, distance: u32) -> Ns
+        requires { distance < self.now.cylinders }
+        ensures value { result ≡ seek self.now distance }
+        ensures bound { result ≤ 10 ^ 9 }
+    {
+        match self.times.get(distance as usize) {
+            Some(time) => *time as Ns,
+            None => self.time_of(distance),
+        }
     }
 
     /// A seek over more cylinders takes no less time.
