@@ -12,7 +12,7 @@ use Rattle.fb_geometry.specs.Shape.{Shape, is_among}
 use Rattle.fb_geometry.specs.Places.{by_head, good_track, data_list_at}
 use Rattle.fb_geometry.specs.Faults.{or_else, fault_at, range_fault, is_out_of_range, first_apart, is_too_skewed, is_outside, least, is_place_before, repeated, spare_fault}
 use Rattle.fb_geometry.specs.Sound.{IsSound}
-use Rattle.fb_geometry.specs.Turns.{IsZoneAt, cylinder_slots, slot_at, position_in}
+use Rattle.fb_geometry.specs.Turns.{AreZoneNumbers, IsZoneAt, cylinder_slots, slot_at, position_in}
 use Rattle.fb_geometry.specs.Slips.{indexes, slipped, rank}
 use Rattle.fb_geometry.specs.Marks.{AreSorted, positions, marks_on}
 
@@ -60,9 +60,10 @@ pub record IsIndexed (disk : Shape) (defects grown : List Mark) : Type 0 where
   pub grown_at : (zone : Zone) (cylinder : ℕ) → IsZoneAt disk cylinder zone
       → positions (marks_on cylinder grown) ≡ indexes (is_among disk.grown) 0 (by_head disk cylinder (good_track disk zone))
 
--- the outline has no fault, the facts that follow from it hold, and the marks are its index
-pub record IsKept (disk : Shape) (defects grown : List Mark) : Type 0 where
+-- the outline has no fault, the facts that follow from it hold, the numbers are those of its zones, and the marks are its index
+pub record IsKept (disk : Shape) (numbers : List ℕ) (defects grown : List Mark) : Type 0 where
   pub faultless : IsFaultless disk
+  pub numbered : AreZoneNumbers disk.zones numbers
   pub sound : IsSound disk
   pub indexed : IsIndexed disk defects grown
   pub fits : disk.layout ≡ PerTrack → disk.grown ≡ []

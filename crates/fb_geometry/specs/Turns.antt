@@ -1,10 +1,10 @@
 -- Positions on a cylinder: head by head, the slots of each track in the order of its turn.
-use Rattle.std.specs.Prelude.{ℕ, ◌+◌, ◌-◌, ◌*◌, ◌/◌, ◌%◌, ◌<◌, ◌≤◌, ◌^◌, ◌≡◌, List, map, find, nat_le, Option, Some, None, false}
-use Rattle.std.specs.List.{range_with_len}
+use Rattle.std.specs.Prelude.{ℕ, ◌+◌, ◌-◌, ◌*◌, ◌/◌, ◌%◌, ◌<◌, ◌≤◌, ◌^◌, ◌≡◌, List, length, map, find, slice_get, nat_le, Option, Some, None, false}
+use Rattle.std.specs.List.{range_with_len, slice_index_or}
 use Rattle.fb_units.specs.declared.types.Place.{Place}
 use Rattle.fb_units.specs.declared.types.Track.{Track}
 use Rattle.fb_geometry.specs.declared.zone.Zone.{Zone}
-use Rattle.fb_geometry.specs.Shape.{Shape, offset_in}
+use Rattle.fb_geometry.specs.Shape.{Shape, cylinders_of, offset_in}
 use Rattle.fb_geometry.specs.Faults.{has_no_data, spare_fault}
 
 -- the numbers of a zone are in their ranges
@@ -19,6 +19,15 @@ pub record IsZone (zone : Zone) : Type 0 where
 -- the zone of a cylinder
 abbrev pub zone_at : List Zone → ℕ → Option Zone
 zone_at zones cylinder = find (λ zone. nat_le cylinder zone.last) zones
+
+-- the number is the index of the cylinder's zone
+abbrev pub NumbersZone : List Zone → ℕ → ℕ → Type 0
+NumbersZone zones cylinder number = (number < length zones) × (zone_at zones cylinder ≡ slice_get zones number)
+
+-- these are the indexes of the zones of all cylinders, in the order of cylinders
+pub record AreZoneNumbers (zones : List Zone) (numbers : List ℕ) : Type 0 where
+  pub all : length numbers ≡ cylinders_of zones
+  pub each : (cylinder d : ℕ) → cylinder < length numbers → NumbersZone zones cylinder (slice_index_or numbers cylinder d)
 
 -- the zone is that of the cylinder, with its numbers in their ranges
 pub record IsZoneOf (disk : Shape) (cylinder : ℕ) (zone : Zone) : Type 0 where

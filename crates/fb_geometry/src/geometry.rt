@@ -26,6 +26,7 @@ use std::marker::Model;
 #[derive(Drop)]
 pub struct Geometry {
     outline: Outline,
+    zone_numbers: Vec<u8>,
     defect_marks: Marks,
     grown_marks: Marks,
 }
@@ -38,7 +39,7 @@ impl Model for Geometry {
 
     ghost view = { λ g. g.outline };
 
-    ghost invariant = { λ g. IsKept g.outline g.defect_marks g.grown_marks };
+    ghost invariant = { λ g. IsKept g.outline g.zone_numbers.items g.defect_marks g.grown_marks };
 }
 
 impl Geometry {
@@ -90,8 +91,10 @@ impl Geometry {
             return Err(GeometryError::Fault(GeometryFault::TooManyDefects(place.track)));
         }
         let marks = outline.marks(alloc, outline.defects.as_slice())?;
+        let zone_numbers = outline.zone_numbers(alloc)?;
         Ok(Geometry {
             outline,
+            zone_numbers,
             defect_marks: Marks::of(marks),
             grown_marks: Marks::none(alloc),
         })
@@ -113,8 +116,10 @@ impl Geometry {
         let defects = outline.marks(alloc, outline.defects.as_slice())?;
         let grown = outline.marks(alloc, outline.grown.as_slice())?;
         let grown = among_unmarked(alloc, &defects, &grown)?;
+        let zone_numbers = outline.zone_numbers(alloc)?;
         Ok(Geometry {
             outline,
+            zone_numbers,
             defect_marks: Marks::of(defects),
             grown_marks: Marks::of(grown),
         })
@@ -201,7 +206,8 @@ impl Geometry {
         ensures slots { slots_at self.now.zones cylinder ≡ result.sectors }
         ensures list { data_list_at self.now cylinder ≡ data_list self.now result cylinder }
     {
-        self.outline.zone_of(cylinder)
+        let numbers = self.zone_numbers.as_slice();
+        self.outline.zone_numbered(numbers, cylinder)
     }
 
     /// The number of slots of a track.

@@ -1,15 +1,15 @@
 // The outline of a disk as it is given, and what may be wrong with it.
-ghost use Rattle.std.specs.Prelude.{◌≡◌, ◌<◌, ◌≤◌, ◌^◌, [], ◌++◌, length, map, find, position, slice_get, None, false, IfOk, IfErr, All};
+ghost use Rattle.std.specs.Prelude.{◌≡◌, ◌<◌, ◌≤◌, ◌^◌, [], ◌++◌, length, map, find, position, slice_get, Some, None, false, IfOk, IfErr, All};
 ghost use Rattle.std.specs.List.{list_any};
 ghost use Rattle.fb_geometry.specs.Shape.{Shape, cylinders_of, slots_at};
 ghost use Rattle.fb_geometry.specs.Faults.{is_out_of_range, is_bad_zone, has_no_data, first_apart, is_too_skewed, is_outside, is_place_before, is_track_before, repeated, is_full_track, is_full_cylinder};
-ghost use Rattle.fb_geometry.specs.Turns.{IsZoneOf};
+ghost use Rattle.fb_geometry.specs.Turns.{IsZoneOf, AreZoneNumbers, zone_at};
 ghost use Rattle.fb_geometry.specs.Slips.{Pairwise};
 ghost use Rattle.fb_geometry.specs.Marks.{mark_of, AreMarksOf, AreSorted};
 ghost use Rattle.fb_geometry.specs.Index.{HasZones, zone_fault, defect_fault, grown_fault, Answers, AreJudged};
 
 use crate::marks::Mark;
-use crate::zone::zone_of;
+use crate::zone::zone_number;
 use crate::{GeometryError, GeometryFault, Layout, Zone};
 use fb_units::{NoMemory, Ns, Place, Track};
 use std::alloc::Global;
@@ -153,7 +153,30 @@ impl Outline {
         ensures zone { IsZoneOf self.now cylinder result }
         ensures slots { slots_at self.now.zones cylinder ≡ result.sectors }
     {
-        zone_of(self.zones.as_slice(), cylinder)
+        self.zones[zone_number(self.zones.as_slice(), cylinder)]
+    }
+
+    // The index of the zone of each cylinder, in the order of cylinders.
+    pub fn zone_numbers(&self, alloc: Global) -> Result<Vec<u8>, NoMemory>
+        requires { HasZones self.now }
+        ensures { IfOk result (λ numbers. AreZoneNumbers self.now.zones numbers.items) }
+    {
+        let zones = self.zones.as_slice();
+        let cylinders = self.cylinders();
+        let mut numbers = Vec::with_capacity(alloc, cylinders as usize)?;
+        for cylinder in 0..cylinders {
+            numbers.push(zone_number(zones, cylinder) as u8)?;
+        }
+        Ok(numbers)
+    }
+
+    // The zone of a cylinder, looked up by these numbers.
+    pub fn zone_numbered(&self, numbers: &[u8], cylinder: u32) -> Zone
+        requires numbers { AreZoneNumbers self.now.zones numbers.now }
+        requires on_disk { cylinder < cylinders_of self.now.zones }
+        ensures { zone_at self.now.zones cylinder ≡ Some result }
+    {
+        self.zones[numbers[cylinder as usize] as usize]
     }
 
     // The first of these places that is outside the disk.

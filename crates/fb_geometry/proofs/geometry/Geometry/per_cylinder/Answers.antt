@@ -52,9 +52,10 @@ invariant_of-result c =
     cylinder_spares disk c.in_ok-bad.bad.items c.deref.result.now c.first_on_full_cylinder.result c.requires.layout judged.faultless judged.are c.deref.ensures.value c.first_on_full_cylinder.ensures
     ∙ ap (λ found. fault_at TooManyInCylinder (option_map (λ (place : Place). place.track.cylinder) found)) c.in_default.is in
     let good : IsFaultless disk = faultless disk c.requires.zones c.requires.defects spares in
-    subst (λ marks. IsKept disk marks c.of-2.result) (sym c.of.ensures) (subst (IsKept disk defects) (sym (c.of-2.ensures ∙ same))
+    subst (λ marks. IsKept disk c.in_ok-zone_numbers.zone_numbers.items marks c.of-2.result) (sym c.of.ensures) (subst (IsKept disk c.in_ok-zone_numbers.zone_numbers.items defects) (sym (c.of-2.ensures ∙ same))
     (record {
       faultless = good;
+      numbered = c.in_ok-zone_numbers.ensures;
       sound = sound disk good;
       indexed = indexed disk c.requires.zones defects grown are those (good_grown disk judged.faultless).2;
       fits = fits_per_cylinder disk.layout disk.grown c.requires.layout;

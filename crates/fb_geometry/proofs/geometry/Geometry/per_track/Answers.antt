@@ -30,8 +30,8 @@ invariant_of-result c =
     ∙ ap (λ found. fault_at TooManyDefects (option_map (λ (place : Place). place.track) found)) c.in_default.is in
     let good : IsFaultless disk = faultless disk c.requires.zones c.requires.defects.faultless spares in
     let are : AreMarksOf disk disk.defects marks = subst (λ places. AreMarksOf disk places marks) (c.as_slice.ensures.value ∙ ap (λ disk. disk.defects) c.outline.view_is) c.in_ok-marks.ensures in
-    subst (λ marks. IsKept disk marks c.none.result) (sym c.of.ensures) (subst (IsKept disk marks) (sym c.none.ensures)
-    (record { faultless = good; sound = sound disk good; indexed = indexed_alone disk c.requires.zones marks are c.requires.grown; fits = λ layout. c.requires.grown }))
+    subst (λ marks. IsKept disk c.in_ok-zone_numbers.zone_numbers.items marks c.none.result) (sym c.of.ensures) (subst (IsKept disk c.in_ok-zone_numbers.zone_numbers.items marks) (sym c.none.ensures)
+    (record { faultless = good; numbered = c.in_ok-zone_numbers.ensures; sound = sound disk good; indexed = indexed_alone disk c.requires.zones marks are c.requires.grown; fits = λ layout. c.requires.grown }))
 
 pub returns : goal.returns
 returns c = (

@@ -1,17 +1,24 @@
-use Rattle.std.proofs.Common.{◌≡◌, subst, sym, ap, ◌∙◌, Some}
+use Rattle.std.proofs.Common.{◌≡◌, subst, sym, ap, ◌∙◌, length, ◌<◌}
+use Rattle.std.specs.Prelude.{Some, slice_get}
 use Rattle.std.specs.List.Sorted.{IsNonDecreasingBy}
+use Rattle.std.proofs.lemmas.Option.{slice_get-get_or}
 use Rattle.fb_geometry.specs.Turns.{zone_at}
 use Rattle.fb_geometry.proofs.Faultless.{found_zone, zones-rise, slots_at-zone}
 use Rattle.fb_geometry.proofs.outline.Outline.zone_of.Goals as goal
 
-pub zone_of-requires-clause-rise : goal.zone_of-requires-clause-rise
-zone_of-requires-clause-rise c = subst (IsNonDecreasingBy (λ zone. zone.last)) (ap (λ disk. disk.zones) (sym c.self.view_is) ∙ sym c.as_slice.ensures.value) (zones-rise c.args.self.now c.requires.zones)
+pub zone_number-requires-clause-rise : goal.zone_number-requires-clause-rise
+zone_number-requires-clause-rise c = subst (IsNonDecreasingBy (λ zone. zone.last)) (ap (λ disk. disk.zones) (sym c.self.view_is) ∙ sym c.as_slice.ensures.value) (zones-rise c.args.self.now c.requires.zones)
 
-found : (c : goal.After-zone_of) → zone_at c.args.self.now.zones c.args.cylinder ≡ Some c.zone_of.result
-found c = subst (λ zones. zone_at zones c.args.cylinder ≡ Some c.zone_of.result) (c.as_slice.ensures.value ∙ ap (λ disk. disk.zones) c.self.view_is) c.zone_of.ensures
+found : (c : goal.After-result-1) → zone_at c.args.self.now.zones c.args.cylinder ≡ Some c.index.result.now
+found c =
+    let zones = c.self.inside.zones.items in
+    let inside : c.zone_number.result < length zones = subst (λ zones. c.zone_number.result < length zones) c.as_slice.ensures.value c.zone_number.ensures.inside in
+    let at : zone_at zones c.args.cylinder ≡ slice_get zones c.zone_number.result =
+    subst (λ zones. zone_at zones c.args.cylinder ≡ slice_get zones c.zone_number.result) c.as_slice.ensures.value c.zone_number.ensures.zone in
+    subst (λ disk. zone_at disk.zones c.args.cylinder ≡ Some c.index.result.now) c.self.view_is (at ∙ slice_get-get_or zones c.zone_number.result c.index.result.now inside ∙ ap Some (sym c.index.ensures))
 
 pub returns-clause-zone : goal.returns-clause-zone
-returns-clause-zone c = found_zone c.args.self.now c.requires.zones c.args.cylinder c.zone_of.result (found c)
+returns-clause-zone c = found_zone c.args.self.now c.requires.zones c.args.cylinder c.index.result.now (found c)
 
 pub returns-clause-slots : goal.returns-clause-slots
-returns-clause-slots c = slots_at-zone c.args.self.now.zones c.args.cylinder c.zone_of.result (found c)
+returns-clause-slots c = slots_at-zone c.args.self.now.zones c.args.cylinder c.index.result.now (found c)

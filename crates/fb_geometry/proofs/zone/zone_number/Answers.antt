@@ -1,21 +1,24 @@
-use Rattle.std.proofs.Common.{rules}
-use Rattle.std.specs.Prelude.{nat_lt}
+use Rattle.std.proofs.Common.{rules, ◌≡◌, ◌<◌, length, sym, ◌∙◌}
+use Rattle.std.specs.Prelude.{nat_lt, slice_get}
 use Rattle.std.proofs.lemmas.List.Sorted.{IsPartitionPoint-from_clause, IsPartitionedBy-ltb}
+use Rattle.std.proofs.lemmas.Option.{slice_get-get_or}
 use Rattle.fb_geometry.specs.declared.zone.Zone.{Zone}
+use Rattle.fb_geometry.specs.Turns.{zone_at}
 use Rattle.fb_geometry.proofs.Faultless.{point-zone}
-use Rattle.fb_geometry.proofs.zone.zone_of.Goals as goal
+use Rattle.fb_geometry.proofs.zone.zone_number.Goals as goal
 
 blank : Zone
 blank = record { first = 0; last = 0; sectors = 0; track_skew = 0; cylinder_skew = 0; spares = 0; cylinder_spares = 0 }
 
-pub bounds-zones-partition_point : goal.bounds-zones-partition_point
-bounds-zones-partition_point c =
+pub returns-clause-inside : goal.returns-clause-inside
+returns-clause-inside c =
     let zones = c.args.zones.now in
     let point = IsPartitionPoint-from_clause (λ zone. nat_lt zone.last c.args.cylinder) zones c.partition_point.result c.partition_point.ensures.partitioned (IsPartitionedBy-ltb (λ zone. zone.last) zones c.args.cylinder c.requires.rise) (λ a r f called. search rules) in
     (point-zone c.args.cylinder zones c.partition_point.result blank point c.partition_point.ensures.bound c.requires.on_disk).0
 
-pub returns : goal.returns
-returns c =
+pub returns-clause-zone : goal.returns-clause-zone
+returns-clause-zone c =
     let zones = c.args.zones.now in
     let point = IsPartitionPoint-from_clause (λ zone. nat_lt zone.last c.args.cylinder) zones c.partition_point.result c.partition_point.ensures.partitioned (IsPartitionedBy-ltb (λ zone. zone.last) zones c.args.cylinder c.requires.rise) (λ a r f called. search rules) in
-    (point-zone c.args.cylinder zones c.partition_point.result (record { first = 0; last = 0; sectors = 0; track_skew = 0; cylinder_skew = 0; spares = 0; cylinder_spares = 0 }) point c.partition_point.ensures.bound c.requires.on_disk).1
+    let there = point-zone c.args.cylinder zones c.partition_point.result blank point c.partition_point.ensures.bound c.requires.on_disk in
+    there.1 ∙ sym (slice_get-get_or zones c.partition_point.result blank there.0)
