@@ -6,7 +6,6 @@ pub mod Far
 pub mod OnLanes
 pub mod Visiting
 pub mod Sweeps
-pub mod Alike
 pub mod Walks
 pub mod Breaks
 pub mod ByHead

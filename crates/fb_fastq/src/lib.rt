@@ -25,8 +25,6 @@ mod ring;
 mod rows;
 mod soonest;
 mod sptf;
-#[cfg(test)]
-mod tests;
 mod upwards;
 mod visit;
 mod ways;

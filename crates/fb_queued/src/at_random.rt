@@ -5,7 +5,7 @@ ghost use Rattle.fb_geometry.specs.Shape.{IsTrackOf, cylinders_of};
 ghost use Rattle.fb_geometry.specs.Places.{places};
 ghost use Rattle.fb_model.specs.Accepted.{IsRequestOf};
 
-use crate::{ClookMap, FcfsRing, SptfLanes, SstfMap};
+use fb_fastq::{ClookMap, FcfsRing, SptfLanes, SstfMap};
 use fb_geometry::{Geometry, Layout, Zone};
 use fb_queue::{Clook, Fcfs, Queue, Sptf, Sstf};
 use fb_sectormap::SectorMap;

@@ -1,7 +1,7 @@
 use Rattle.std.proofs.Common.{◌≤◌}
 use Rattle.std.specs.List.{AllByRecursion}
 use Rattle.fb_model.specs.Accepted.{IsRequestOf}
-use Rattle.fb_fastq.proofs.tests.taken.Given as goal
+use Rattle.fb_queued.proofs.at_random.taken.Given as goal
 
 abbrev pub invariant-loop-number : goal.invariant-loop-number
 invariant-loop-number g l = record {

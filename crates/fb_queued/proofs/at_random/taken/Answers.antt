@@ -1,7 +1,7 @@
 use Rattle.std.proofs.Common.{arith, sym, subst}
 use Rattle.std.specs.List.{AllByRecursion}
 use Rattle.fb_model.specs.Accepted.{IsRequestOf}
-use Rattle.fb_fastq.proofs.tests.taken.Goals as goal
+use Rattle.fb_queued.proofs.at_random.taken.Goals as goal
 
 pub loop-number-init : goal.loop-number-init
 loop-number-init g c = record {

@@ -1,0 +1,8 @@
+//! Tests of the queues, the indexed ones beside the plain ones.
+//!
+//! They stand in a crate of their own, since a crate with tests is proved twice. They show what no
+//! contract says; other layers take nothing from them.
+#![tactic(auto)]
+
+#[cfg(test)]
+mod at_random;
