@@ -20,4 +20,3 @@ pub mod AfterDelivery
 pub mod ChoiceSteps
 pub mod AllChoices
 pub mod Calls
-pub mod Script

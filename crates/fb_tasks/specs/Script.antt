@@ -1,23 +1,13 @@
--- The course of a script: its calls take effect one after another, and deliveries and writes between them.
-use Rattle.std.specs.Prelude.{◌≡◌, ◌≤◌, ℕ, ◌+◌, ◌*◌, ◌^◌, List, Bool, true, length, take, drop}
+-- The course of a script: its calls take effect one after another.
+use Rattle.std.specs.Prelude.{◌≡◌, ◌≤◌, ℕ, ◌+◌, ◌*◌, ◌^◌, List, length, take, drop}
 use Rattle.fb_geometry.specs.Shape.{Shape}
 use Rattle.fb_calls.specs.declared.call.Call.{Call}
-use Rattle.fb_calls.specs.Allowed.{IsScript, blocks_from}
-use Rattle.fb_wanted.specs.declared.block.Entry.{Entry}
+use Rattle.fb_calls.specs.Allowed.{blocks_from}
 use Rattle.fb_model.specs.History.{Past, registered}
-use Rattle.fb_tasks.specs.declared.session.Session.{Session}
-use Rattle.fb_tasks.specs.Telling.{Tells, IsSettled, calls_of, choosable}
+use Rattle.fb_tasks.specs.Telling.{calls_of, choosable}
 
 -- the first calls have taken effect, and what all of them can register fits
 pub record IsCalled (disk : Shape) (calls : List Call) (past : Past) (next : ℕ) : Type 0 where
   pub within : next ≤ length calls
   pub taken : calls_of past ≡ take next calls
   pub few : length (registered past) + choosable disk past + blocks_from disk (take next calls) (drop next calls) ≤ 16 * 10 ^ 6
-
--- the sessions and the wanted set tell a history in which the first calls have taken effect, and perhaps all was tested
-pub record Follows (settled : Bool) (disk : Shape) (calls : List Call) (next : ℕ) (sessions : List Session) (held : List Entry) : Type 0 where
-  pub script : IsScript disk 0 calls
-  pub past : Past
-  pub called : IsCalled disk calls past next
-  pub tells : Tells disk past sessions held
-  pub tested : settled ≡ true → IsSettled past

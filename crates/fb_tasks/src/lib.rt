@@ -12,8 +12,6 @@ mod delivering;
 mod session;
 mod sessions;
 mod testing;
-#[cfg(test)]
-mod tests;
 mod touched;
 mod wanting;
 

@@ -1,6 +1,7 @@
-use Rattle.fb_tasks.proofs.Words.{false, sym, subst, Follows}
-use Rattle.fb_tasks.proofs.Script.{follows-first}
-use Rattle.fb_tasks.proofs.tests.played.PlayedScript.new.Goals as goal
+use Rattle.fb_tasks.proofs.Words.{false, sym, subst}
+use Rattle.fb_tasked.specs.Following.{Follows}
+use Rattle.fb_tasked.proofs.Script.{follows-first}
+use Rattle.fb_tasked.proofs.played.PlayedScript.new.Goals as goal
 
 pub returns : goal.returns
 returns c =

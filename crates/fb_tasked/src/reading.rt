@@ -1,5 +1,5 @@
 // Tasks that read blocks.
-use super::played::{Step, follow};
+use crate::played::{Step, follow};
 use fb_rows::How;
 use fb_wanted::State;
 use std::test::Fail;

@@ -1,14 +1,14 @@
 // The course of a script on a disk of 96 sectors: what happens in order, and the rows that it gives.
 ghost use Rattle.std.specs.Prelude.{◌≡◌, ℕ, Some, true, false, slice_get, IfSome, IfOk, OnOk};
-ghost use Rattle.fb_tasks.specs.Script.{Follows};
+ghost use Rattle.fb_tasked.specs.Following.{Follows};
 
-use super::lines::lines;
-use crate::Sessions;
+use crate::lines::lines;
 use fb_calls::{Calls, read_calls};
 use fb_geometry::{Geometry, Layout, Zone};
 use fb_rows::{BackRow, BackRows, DeliveryRow, How};
 use fb_sectormap::SectorMap;
 use fb_store::{Store, runs_are_fewest};
+use fb_tasks::Sessions;
 use fb_units::{NoMemory, Ns};
 use fb_wanted::{Block, Entry, State, Wanted};
 use std::alloc::Global;

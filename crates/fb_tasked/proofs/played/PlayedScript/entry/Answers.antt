@@ -1,6 +1,6 @@
 use Rattle.fb_tasks.proofs.Words.{Some, ap, ◌∙◌, Counts, view, entry_in}
 use Rattle.fb_tasks.proofs.Sealed.{entry_at, block_at}
-use Rattle.fb_tasks.proofs.tests.played.PlayedScript.entry.Goals as goal
+use Rattle.fb_tasked.proofs.played.PlayedScript.entry.Goals as goal
 
 pub entry-requires : goal.entry-requires
 entry-requires c =

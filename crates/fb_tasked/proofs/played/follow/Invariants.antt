@@ -1,5 +1,5 @@
-use Rattle.fb_tasks.proofs.Words.{Follows}
-use Rattle.fb_tasks.proofs.tests.played.follow.Given as goal
+use Rattle.fb_tasked.specs.Following.{Follows}
+use Rattle.fb_tasked.proofs.played.follow.Given as goal
 
 -- a history of the steps so far
 abbrev pub invariant-loop-step : goal.invariant-loop-step

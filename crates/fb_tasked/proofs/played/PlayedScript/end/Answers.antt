@@ -1,6 +1,6 @@
 use Rattle.fb_tasks.proofs.Words.{◌++◌, ap, ◌∙◌, arith, task_rows}
-use Rattle.fb_tasks.proofs.Script.{rows-there}
-use Rattle.fb_tasks.proofs.tests.played.PlayedScript.end.Goals as goal
+use Rattle.fb_tasked.proofs.Script.{rows-there}
+use Rattle.fb_tasked.proofs.played.PlayedScript.end.Goals as goal
 
 pub complete-complete-requires-clause-opened : goal.complete-complete-requires-clause-opened
 complete-complete-requires-clause-opened g c =

@@ -1,5 +1,6 @@
-use Rattle.fb_tasks.proofs.Words.{◌-◌, length, false, Follows}
-use Rattle.fb_tasks.proofs.tests.played.PlayedScript.call.Given as goal
+use Rattle.fb_tasks.proofs.Words.{◌-◌, length, false}
+use Rattle.fb_tasked.specs.Following.{Follows}
+use Rattle.fb_tasked.proofs.played.PlayedScript.call.Given as goal
 
 -- the calls so far have taken effect
 abbrev pub invariant-loop-self : goal.invariant-loop-self

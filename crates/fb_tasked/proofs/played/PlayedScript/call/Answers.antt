@@ -1,6 +1,6 @@
 use Rattle.fb_tasks.proofs.Words.{◌∙◌, slice_get_read}
-use Rattle.fb_tasks.proofs.Script.{follows-may, follows-more}
-use Rattle.fb_tasks.proofs.tests.played.PlayedScript.call.Goals as goal
+use Rattle.fb_tasked.proofs.Script.{follows-may, follows-more}
+use Rattle.fb_tasked.proofs.played.PlayedScript.call.Goals as goal
 
 pub apply-requires : goal.apply-requires
 apply-requires c =

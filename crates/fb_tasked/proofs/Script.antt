@@ -2,10 +2,12 @@
 use Rattle.fb_tasks.proofs.Words.{◌≡◌, ℕ, zero, suc, ◌+◌, ◌^◌, ◌≤◌, List, [], ◌∷◌, Bool, true, false, Some, length, map, refl, ap, sym}
 use Rattle.fb_tasks.proofs.Words.{◌∙◌, arith, subst, length-map-range_with_len, true≢false, Request, Shape, Call, IsScript, Content}
 use Rattle.fb_tasks.proofs.Words.{Gives, Block, Entry, Wanted, is_wanted, BackRow, DeliveryRow, Past, finished, registered, state, tasks}
-use Rattle.fb_tasks.proofs.Words.{wanted, view, with_choices, test_rows, take_call, with_delivery, task_row, task_rows, Session}
-use Rattle.fb_tasks.proofs.Words.{by_deliveries, delivery_of, Tells, MayTake, MaySettle, MayDeliver, IsSettled, settled_at, Follows}
+use Rattle.fb_tasks.proofs.Words.{wanted, view, with_choices, test_rows, take_call, with_delivery, task_row, task_rows}
+use Rattle.fb_tasks.proofs.Words.{by_deliveries, delivery_of, Tells, MayTake, MaySettle, MayDeliver, IsSettled, settled_at}
 use Rattle.fb_tasks.proofs.Words.{IsCalled, all_at, filter_to, some_same}
 use Rattle.std.specs.Prelude.{slice_get, Result, Ok, Err, OnOk}
+use Rattle.fb_tasks.specs.declared.session.Session.{Session}
+use Rattle.fb_tasked.specs.Following.{Follows}
 use Rattle.fb_rows.specs.Ranges.{AreRanges}
 use Rattle.fb_tasks.specs.Telling.{IsBlockOf, entry_of}
 use Rattle.fb_tasks.proofs.Calls.{may-take, called-more, called-tested, called-chosen, called-delivered, called-finished}

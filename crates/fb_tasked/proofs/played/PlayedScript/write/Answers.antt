@@ -1,7 +1,7 @@
 use Rattle.fb_tasks.proofs.Words.{true, refl, Request}
 use Rattle.fb_units.specs.declared.types.Name.TheVariants.{Traced}
-use Rattle.fb_tasks.proofs.Script.{follows-finished}
-use Rattle.fb_tasks.proofs.tests.played.PlayedScript.write.Goals as goal
+use Rattle.fb_tasked.proofs.Script.{follows-finished}
+use Rattle.fb_tasked.proofs.played.PlayedScript.write.Goals as goal
 
 pub returns : goal.returns
 returns c =
