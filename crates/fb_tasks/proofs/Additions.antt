@@ -12,7 +12,7 @@ use Rattle.fb_tasks.proofs.Words.{entry_of, Stands, AreIndexed, Ascend, AreRepor
 use Rattle.fb_tasks.proofs.Words.{all_weaker, some_same, number_other, one_or_other, all_append, any_none, all_with, each_push}
 use Rattle.fb_tasks.proofs.Words.{get_or_push, length-map, map-append, slice_get-get_or, slice_get_within, places, is_clean, is_backup}
 use Rattle.fb_tasks.proofs.Words.{Content, drop-append_seam, cutting, is_within, Wanted, is_delivered, take_call, blocks_by, new_entries}
-use Rattle.fb_tasks.proofs.Words.{entries_by, cuts_are, slice_get_read, get_or_from_slice_get}
+use Rattle.fb_tasks.proofs.Words.{entries_by, cuts_are}
 use Rattle.fb_tasks.proofs.Asked.{opened_same, open_there, terms_there, segments_few}
 use Rattle.fb_tasks.proofs.Frames.{kept-entries, one-tells}
 use Rattle.fb_tasks.proofs.Registered.{named_same, indexed_append, all_member, registered-entries}
@@ -20,7 +20,7 @@ use Rattle.fb_tasks.proofs.Cuts.{cuts_placed, cuts_ascend, cuts_indexed, cuts_ow
 use Rattle.fb_calls.specs.Allowed as allowed
 use Rattle.fb_clean.specs.Segments as clean
 use Rattle.fb_wanted.specs.Numbering as numbering
-use Rattle.std.proofs.lemmas.List.{get_or_append_left}
+use Rattle.fb_geometry.proofs.Grid.{get_left}
 
 none_own : (n : ℕ) (bs : List Block) → AllByRecursion (λ block. block.task < n) bs → filter (λ block. block.task == n) bs ≡ []
 none_own n [] h = refl
@@ -118,12 +118,6 @@ taken_same [] (suc i) = refl
 taken_same (t ∷ taken) zero = refl
 taken_same (t ∷ taken) (suc i) = taken_same taken i
 
--- an element stands where it stood after more were added
-get_left : {X : Type 0} (xs more : List X) (i : ℕ) (x : X) → slice_get xs i ≡ Some x → slice_get (xs ++ more) i ≡ Some x
-get_left xs more i x at =
-    let inside = slice_get_within xs i x at in
-    slice_get_read (xs ++ more) _ i x refl (omega (arith, inside, length-append xs more)) (sym (get_or_append_left xs more x i inside ∙ get_or_from_slice_get xs i x x at))
-
 -- the next segment of a task
 abbrev pub next_segment : TaskView → ℕ → ℕ → ℕ → List Bool → LogSegment
 next_segment v first blocks age live = record { number = length v.segments + 1; first = first; blocks = blocks; age = age; live = live }
@@ -138,7 +132,8 @@ module _ (v : TaskView) (first blocks age : ℕ) (live : List Bool) (going : v.c
       let numbers = all_weaker (λ (choice : Choice). choice.segment.number ≤ length v.segments) (λ choice. choice.segment.number ≤ length (v.segments ++ next ∷ []))
       (λ choice le. omega (arith, le, length-append v.segments (next ∷ []))) v.choices h.numbers in
       let known = all_weaker (IsAtNumber v.segments) (IsAtNumber (v.segments ++ next ∷ []))
-      (λ choice. get_left v.segments (next ∷ []) (choice.segment.number - 1) choice.segment) (choice_in h.current) h.known in
+      (λ choice at. get_left v.segments (next ∷ []) (choice.segment.number - 1)
+      (slice_get_within v.segments (choice.segment.number - 1) choice.segment at) ∙ at) (choice_in h.current) h.known in
       let over : v.closed ≡ true → AllByRecursion (λ block. is_over (v.bare block) ≡ true) v.blocks = λ closed. absurd (true≢false (sym closed ∙ going)) in
       let size : length log.segments ≡ length v.segments = rw h.segments (length-map v.segments (kept_segment v.work)) in
       let none : is_chosen v.choices next ≡ false = any_none (is_choice_of next) v.choices (all_weaker (λ (choice : Choice). choice.segment.number ≤ length v.segments)

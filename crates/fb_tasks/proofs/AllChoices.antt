@@ -4,19 +4,22 @@ use Rattle.fb_tasks.proofs.Words.{append-nil, refl, ap, sym, ◌∙◌, arith, �
 use Rattle.fb_tasks.proofs.Words.{and_parts, cases_Bool, true≢false, length-map, length-set, Shape, is_clean, Entry, BackRow, Past}
 use Rattle.fb_tasks.proofs.Words.{LogSegment, chose, tasks, task_numbers, registered, view, chosen_view, choose_once, choose_up_to}
 use Rattle.fb_tasks.proofs.Words.{choose_in, is_better, is_busy, is_chosen, unchosen, with_choices, segment_rows, is_newly_cleaned}
-use Rattle.fb_tasks.proofs.Words.{Session, by_deliveries, Stands, MayChoose, HasChosen, AreReported, IsSegmentOf, HasNoChoice}
+use Rattle.fb_tasks.proofs.Words.{Session, by_deliveries, Stands, MayChoose, AreReported, IsSegmentOf, HasNoChoice}
 use Rattle.fb_tasks.proofs.Words.{HoldsBlocks, IsQuiet, IsAtWork, HaveChosen, choosable_by, filter_none, flat_same, some_at, number_other}
 use Rattle.fb_tasks.proofs.Words.{other_number, each_set, one_or_other, step_to, AllByRecursion, sum_by, best_of, flat_map, fold}
 use Rattle.fb_tasks.proofs.Words.{range_with_len, sum_by-cons, nat_tests, slice_get_within, Block, chosen-silent, MaySettle}
 use Rattle.fb_tasks.proofs.ChoiceSteps.{best_left, chosen_blocks, chosen_for, next_view, numbered_is, once_is, left_less, added_own, segment_rows_of, segment_rows_is, few_less, best_of_left}
 use Rattle.fb_tasks.proofs.Complete.{filter-le}
+use Rattle.std.proofs.lemmas.List.Sums.{fold-append}
 pub use Rattle.fb_tasks.proofs.Lists.{all_range}
 use Rattle.fb_tasks.proofs.Cuts.{range_next}
 use Rattle.fb_tasks.proofs.Tested.{rows_more}
+use Rattle.fb_tasks.proofs.Frames.{set_same}
+use Rattle.fb_tasks.proofs.Words.{HasTurned, kept_segment}
 
-pub up_to_still : (n : ℕ) (disk : Shape) (task : ℕ) (past : Past) → choose_once disk task past ≡ past → choose_up_to n disk task past ≡ past
+up_to_still : (n : ℕ) (disk : Shape) (task : ℕ) (past : Past) → (0 < n → choose_once disk task past ≡ past) → choose_up_to n disk task past ≡ past
 up_to_still zero disk task past still = refl
-up_to_still (suc n) disk task past still = ap (choose_up_to n disk task) still ∙ up_to_still n disk task past still
+up_to_still (suc n) disk task past still = let e = still (omega arith) in ap (choose_up_to n disk task) e ∙ up_to_still n disk task past (λ _. e)
 
 up_to_split : (k m : ℕ) (disk : Shape) (task : ℕ) (past : Past) → choose_up_to (k + m) disk task past ≡ choose_up_to m disk task (choose_up_to k disk task past)
 up_to_split zero m disk task past = ap (λ n. choose_up_to n disk task past) (let e : 0 + m ≡ m = omega arith in e)
@@ -25,57 +28,42 @@ up_to_split (suc k) m disk task past = ap (λ n. choose_up_to n disk task past) 
 pub up_to_more : (n : ℕ) (disk : Shape) (task : ℕ) (past : Past) → choose_up_to (n + 1) disk task past ≡ choose_once disk task (choose_up_to n disk task past)
 up_to_more n disk task past = up_to_split n 1 disk task past
 
--- where a turn changes nothing no later one does
-up_to_rest : (k n : ℕ) (disk : Shape) (task : ℕ) (past : Past) → k ≤ n → choose_once disk task (choose_up_to k disk task past) ≡ choose_up_to k disk task past → choose_up_to n disk task past ≡ choose_up_to k disk task past
-up_to_rest k n disk task past le still =
-    let e : n ≡ k + (n - k) = omega arith in
-    rw (e, up_to_split k (n - k) disk task past) (up_to_still (n - k) disk task (choose_up_to k disk task past) still)
-
 pub in_is : (disk : Shape) (past : Past) (task : ℕ) → choose_in disk past task ≡ (if is_clean (view past task).terms.kind && not (view past task).closed then choose_up_to (length (view past task).segments) disk task past else past)
 unfolding view
 in_is disk past task = refl
 
--- a task that doesn't choose stays
-not_in : (disk : Shape) (past : Past) (task : ℕ) (session : Session) → Stands (view past task) session → (is_clean session.kind && not session.closed) ≡ false → choose_in disk past task ≡ past
-not_in disk past task session stands h = rw (in_is disk past task, stands.terms, sym stands.closed, h) refl
-
-all_in : (disk : Shape) (past : Past) (task : ℕ) (session : Session) → Stands (view past task) session → (is_clean session.kind && not session.closed) ≡ true → choose_in disk past task ≡ choose_up_to (length (view past task).segments) disk task past
-all_in disk past task session stands h = rw (in_is disk past task, stands.terms, sym stands.closed, h) refl
+-- as its session has it
+in_by : (disk : Shape) (past : Past) (task : ℕ) (session : Session) (b : Bool) → Stands (view past task) session → (is_clean session.kind && not session.closed) ≡ b
+    → choose_in disk past task ≡ (if b then choose_up_to (length (view past task).segments) disk task past else past)
+in_by disk past task session b stands is = rw (in_is disk past task, stands.terms, sym stands.closed, is) refl
 
 -- where each segment has its row none is given
 pub reported_rows : (past : Past) (now task : ℕ) → AreReported (view past task).work → segment_rows by_deliveries past now task ≡ []
 unfolding view
 reported_rows past now task h = rw (filter_none (is_newly_cleaned (view past task).work) (view past task).choices h) refl
 
-has_of : (disk : Shape) (past : Past) (task : ℕ) (session : Session) (held : List Entry) → MayChoose disk past task session held → HasChosen disk past task session held
-has_of disk past task session held h = assumption h
+-- a task that stays
+pub still-turned : {disk : Shape} {past new : Past} {task now : ℕ} {session : Session} {held : List Entry} {rows : List BackRow} → new ≡ past
+    → MayChoose disk past task session held → HasTurned disk past new task now session held rows rows
+still-turned still may = rw still (record { may = may; rows = λ before so_far. so_far })
 
-pub idle-chosen : (disk : Shape) (past : Past) (task : ℕ) (session : Session) (held : List Entry) → (is_clean session.kind && not session.closed) ≡ false → MayChoose disk past task session held → HasChosen disk (choose_in disk past task) task session held
-idle-chosen disk past task session held none may = rw (not_in disk past task session may.stands none) (has_of disk past task session held may)
+pub idle-turned : {disk : Shape} {past : Past} {task now : ℕ} {session : Session} {held : List Entry} {rows : List BackRow}
+    → (is_clean session.kind && not session.closed) ≡ false → MayChoose disk past task session held
+    → HasTurned disk past (choose_in disk past task) task now session held rows rows
+idle-turned {disk} {past} {task} {now} {session} none may = still-turned (in_by disk past task session false may.stands none) may
 
-pub idle-rows : (disk : Shape) (past : Past) (now task : ℕ) (session : Session) (held : List Entry) (rows : List BackRow) → (is_clean session.kind && not session.closed) ≡ false → MayChoose disk past task session held → AreReported (view past task).work
-    → rows ≡ rows ++ segment_rows by_deliveries (choose_in disk past task) now task
-idle-rows disk past now task session held rows none may reported =
-    rw (not_in disk past task session may.stands none, reported_rows past now task reported) (sym (append-nil rows))
+pub turned-on : {disk : Shape} {past mid new : Past} {task now : ℕ} {before session : Session} {was held : List Entry} {old rows more : List BackRow}
+    → HasTurned disk past mid task now before was old rows → HasTurned disk mid new task now session held rows more → HasTurned disk past new task now session held old more
+turned-on a b = record { may = b.may; rows = λ start so_far. b.rows start (a.rows start so_far) }
 
--- a session that may choose has as many segments as its task
-as_many : (disk : Shape) (past : Past) (task : ℕ) (session : Session) (held : List Entry) → (is_clean session.kind && not session.closed) ≡ true → MayChoose disk past task session held
-    → length (view past task).segments ≡ length session.log.segments
-as_many disk past task session held may_be may = rw (may.stands.log (and_parts (is_clean session.kind) (not session.closed) may_be).0).segments (simp length-map)
-
--- after so many turns as there are segments, or after one that changed nothing
-pub turns_in : (disk : Shape) (past : Past) (task k n : ℕ) (session : Session) (held : List Entry) → (is_clean session.kind && not session.closed) ≡ true → n ≡ length session.log.segments → MayChoose disk past task session held → k ≤ n
-    → choose_once disk task (choose_up_to k disk task past) ≡ choose_up_to k disk task past → choose_in disk past task ≡ choose_up_to k disk task past
-turns_in disk past task k n session held may_be count may le still =
-    rw (all_in disk past task session may.stands may_be, as_many disk past task session held may_be may, sym count) (up_to_rest k n disk task past le still)
-
-pub turns_all : (disk : Shape) (past : Past) (task n : ℕ) (session : Session) (held : List Entry) → (is_clean session.kind && not session.closed) ≡ true → n ≡ length session.log.segments → MayChoose disk past task session held
-    → choose_in disk past task ≡ choose_up_to n disk task past
-turns_all disk past task n session held may_be count may =
-    rw (all_in disk past task session may.stands may_be, as_many disk past task session held may_be may, sym count) refl
-
-pub turned-chosen : (disk : Shape) (past next : Past) (task : ℕ) (session : Session) (held : List Entry) → choose_in disk past task ≡ next → MayChoose disk next task session held → HasChosen disk (choose_in disk past task) task session held
-turned-chosen disk past next task session held e may = rw e (has_of disk next task session held may)
+-- after as many turns as there are segments, or after one that changed nothing, all was chosen
+pub turns_in : {disk : Shape} {past : Past} {task : ℕ} {session : Session} {held : List Entry} (k n : ℕ) → (is_clean session.kind && not session.closed) ≡ true
+    → n ≡ length session.log.segments → MayChoose disk past task session held → k ≤ n
+    → (0 < n - k → choose_once disk task (choose_up_to k disk task past) ≡ choose_up_to k disk task past) → choose_in disk past task ≡ choose_up_to k disk task past
+turns_in {disk} {past} {task} {session} k n may_be count may le still =
+    let log = may.stands.log (and_parts (is_clean session.kind) (not session.closed) may_be).0 in
+    let as_many : length (view past task).segments ≡ k + (n - k) = omega (arith, count, ap length log.segments, length-map (view past task).segments (kept_segment (view past task).work)) in
+    rw (in_by disk past task session true may.stands may_be, as_many, up_to_split k (n - k) disk task past) (up_to_still (n - k) disk task (choose_up_to k disk task past) still)
 
 count_is : {X : Type 0} (xs : List X) → sum_by (λ _. 1) xs ≡ length xs
 count_is [] = refl
@@ -90,7 +78,7 @@ module _ (disk : Shape) (task : ℕ) where
   pub stays : (past : Past) → HasNoChoice (view past task) → choose_in disk past task ≡ past
   stays past none = rw (in_is disk past task) (by (is_clean (view past task).terms.kind && not (view past task).closed) refl) where
     by : (b : Bool) → (is_clean (view past task).terms.kind && not (view past task).closed) ≡ b → (if b then choose_up_to (length (view past task).segments) disk task past else past) ≡ past
-    by true chooses = up_to_still (length (view past task).segments) disk task past (still_once past (none chooses))
+    by true chooses = up_to_still (length (view past task).segments) disk task past (λ _. still_once past (none chooses))
     by false other = refl
 
   -- after as many turns as segments are left another changes nothing
@@ -105,7 +93,7 @@ module _ (disk : Shape) (task : ℕ) where
     | inr free ↦ by_left (λ next there left. none_after n next there left) free (unchosen (view past task).work) refl
   ] where
     stopped : choose_once disk task past ≡ past → choose_once disk task (choose_up_to (suc n) disk task past) ≡ choose_up_to (suc n) disk task past
-    stopped still = subst (λ p. choose_once disk task p ≡ p) (sym (up_to_still (suc n) disk task past still)) still
+    stopped still = subst (λ p. choose_once disk task p ≡ p) (sym (up_to_still (suc n) disk task past (λ _. still))) still
 
     by_left : ((next : Past) → AllByRecursion (IsSegmentOf disk (view next task).terms.block) (view next task).segments → length (unchosen (view next task).work) ≤ n → choose_once disk task (choose_up_to n disk task next) ≡ choose_up_to n disk task next)
         → is_busy (view past task).work ≡ false → (left : List LogSegment) → unchosen (view past task).work ≡ left → choose_once disk task (choose_up_to (suc n) disk task past) ≡ choose_up_to (suc n) disk task past
@@ -135,44 +123,39 @@ module _ (disk : Shape) (task : ℕ) where
     by true chooses = none_left (choose_up_to (length (view past task).segments) disk task past) (none_after (length (view past task).segments) past on_disk (filter-le (λ s. not (is_chosen (view past task).choices s)) (view past task).segments))
     by false other = λ chooses free. absurd (true≢false (sym chooses ∙ other))
 
--- what holds of a history and of each choice from it holds after a turn
-once_any : (P : Past → Type 0) (disk : Shape) (task : ℕ) (past : Past) → P past → ((s : LogSegment) (ss : List LogSegment) → unchosen (view past task).work ≡ s ∷ ss → P (chose task (best_of is_better s ss) (chosen_blocks disk task (view past task) (best_of is_better s ss)) ∷ past)) → P (choose_once disk task past)
-once_any P disk task past here there = subst P (sym (once_is disk past task)) (by_busy (is_busy (view past task).work)) where
-  by_left : (left : List LogSegment) → unchosen (view past task).work ≡ left → P (best_of_left disk task past left)
-  by_left [] are = here
-  by_left (s ∷ ss) are = there s ss are
+-- what holds of a history, and still after each choice of a task, holds after all of its choices
+module _ (P : Past → Type 0) (disk : Shape) (task : ℕ)
+    (kept : (past : Past) → P past → (s : LogSegment) (ss : List LogSegment) → unchosen (view past task).work ≡ s ∷ ss → P (best_of_left disk task past (s ∷ ss))) where
+  by_once : (past : Past) → P past → P (choose_once disk task past)
+  by_once past h = subst P (sym (once_is disk past task)) (by_busy (is_busy (view past task).work)) where
+    by_left : (left : List LogSegment) → unchosen (view past task).work ≡ left → P (best_of_left disk task past left)
+    by_left [] are = h
+    by_left (s ∷ ss) are = kept past h s ss are
 
-  by_busy : (b : Bool) → P (if b then past else best_of_left disk task past (unchosen (view past task).work))
-  by_busy true = here
-  by_busy false = by_left (unchosen (view past task).work) refl
+    by_busy : (b : Bool) → P (if b then past else best_of_left disk task past (unchosen (view past task).work))
+    by_busy true = h
+    by_busy false = by_left (unchosen (view past task).work) refl
 
-once_same : (disk : Shape) (task other : ℕ) (past : Past) → (task ≡ other → ⊥) → view (choose_once disk task past) other ≡ view past other
-once_same disk task other past differ = once_any (λ p. view p other ≡ view past other) disk task past refl
-    (λ s ss are. chosen-silent past task (best_of is_better s ss) (chosen_blocks disk task (view past task) (best_of is_better s ss)) (added_own disk task (view past task) (best_of is_better s ss)) other (number_other task other differ))
+  by_up_to : (n : ℕ) (past : Past) → P past → P (choose_up_to n disk task past)
+  by_up_to zero past h = h
+  by_up_to (suc n) past h = by_up_to n (choose_once disk task past) (by_once past h)
 
-up_to_same : (n : ℕ) (disk : Shape) (task other : ℕ) (past : Past) → (task ≡ other → ⊥) → view (choose_up_to n disk task past) other ≡ view past other
-up_to_same zero disk task other past differ = refl
-up_to_same (suc n) disk task other past differ = up_to_same n disk task other (choose_once disk task past) differ ∙ once_same disk task other past differ
-
-in_any : (P : Past → Type 0) (disk : Shape) (task : ℕ) (past : Past) → P past → ((n : ℕ) → P (choose_up_to n disk task past)) → P (choose_in disk past task)
-in_any P disk task past here there = subst P (sym (in_is disk past task)) (by (is_clean (view past task).terms.kind && not (view past task).closed)) where
-  by : (b : Bool) → P (if b then choose_up_to (length (view past task).segments) disk task past else past)
-  by true = there (length (view past task).segments)
-  by false = here
+  by_in : (past : Past) → P past → P (choose_in disk past task)
+  by_in past h = subst P (sym (in_is disk past task)) (by (is_clean (view past task).terms.kind && not (view past task).closed)) where
+    by : (b : Bool) → P (if b then choose_up_to (length (view past task).segments) disk task past else past)
+    by true = by_up_to (length (view past task).segments) past h
+    by false = h
 
 -- another task's choices leave a task as it was
 pub in_same : (disk : Shape) (task other : ℕ) (past : Past) → (task ≡ other → ⊥) → view (choose_in disk past task) other ≡ view past other
-in_same disk task other past differ = in_any (λ p. view p other ≡ view past other) disk task past refl (λ n. up_to_same n disk task other past differ)
+in_same disk task other past differ = by_in (λ p. view p other ≡ view past other) disk task
+    (λ p same s ss are. let best = best_of is_better s ss in
+    chosen-silent p task best (chosen_blocks disk task (view p task) best) (added_own disk task (view p task) best) other (number_other task other differ) ∙ same) past refl
 
 -- what holds after each choice holds after all
 module _ (P : Past → Type 0) (disk : Shape) (kept : (past : Past) (task : ℕ) (segment : LogSegment) (blocks : List Block) → P past → P (chose task segment blocks ∷ past)) where
-  by_up_to : (n task : ℕ) (past : Past) → P past → P (choose_up_to n disk task past)
-  by_up_to zero task past h = h
-  by_up_to (suc n) task past h = by_up_to n task (choose_once disk task past)
-      (once_any P disk task past h (λ s ss are. kept past task (best_of is_better s ss) (chosen_blocks disk task (view past task) (best_of is_better s ss)) h))
-
   pub by_task : (task : ℕ) (past : Past) → P past → P (choose_in disk past task)
-  by_task task past h = in_any P disk task past h (λ n. by_up_to n task past h)
+  by_task task past h = by_in P disk task (λ p here s ss are. kept p task (best_of is_better s ss) (chosen_blocks disk task (view p task) (best_of is_better s ss)) here) past h
 
   by_tasks : (ns : List ℕ) (past : Past) → P past → P (fold (choose_in disk) past ns)
   by_tasks [] past h = h
@@ -186,27 +169,11 @@ pub in_tasks : (disk : Shape) (task : ℕ) (past : Past) → tasks (choose_in di
 in_tasks disk task past = by_task (λ p. tasks p ≡ tasks past) disk (λ p chooser segment blocks same. same) task past refl
 
 -- choices don't register more than they could
-Fewer : Shape → Past → Past → ℕ → Type 0
-Fewer disk past new task = AllByRecursion (IsSegmentOf disk (view new task).terms.block) (view new task).segments × (length (registered new) + choosable_by disk new task ≤ length (registered past) + choosable_by disk past task)
-
-once_fewer : (disk : Shape) (task : ℕ) (past : Past) → AllByRecursion (IsSegmentOf disk (view past task).terms.block) (view past task).segments → Fewer disk past (choose_once disk task past) task
-unfolding Fewer
-once_fewer disk task past on_disk = once_any (λ p. Fewer disk past p task) disk task past (on_disk, omega arith)
-    (λ s ss are.
-    let best = best_of is_better s ss in
-    (rw (next_view disk past task best) on_disk, few_less disk past task best (best_left disk (view past task) s ss (numbered_is past task) on_disk are)))
-
-up_to_fewer : (n : ℕ) (disk : Shape) (task : ℕ) (past : Past) → AllByRecursion (IsSegmentOf disk (view past task).terms.block) (view past task).segments → Fewer disk past (choose_up_to n disk task past) task
-unfolding Fewer
-up_to_fewer zero disk task past on_disk = (on_disk, omega arith)
-up_to_fewer (suc n) disk task past on_disk =
-    let one = once_fewer disk task past on_disk in
-    let rest = up_to_fewer n disk task (choose_once disk task past) one.0 in
-    (rest.0, omega (arith, one.1, rest.1))
-
 pub in_fewer : (disk : Shape) (task : ℕ) (past : Past) → AllByRecursion (IsSegmentOf disk (view past task).terms.block) (view past task).segments → length (registered (choose_in disk past task)) + choosable_by disk (choose_in disk past task) task ≤ length (registered past) + choosable_by disk past task
-unfolding Fewer
-in_fewer disk task past on_disk = in_any (λ p. length (registered p) + choosable_by disk p task ≤ length (registered past) + choosable_by disk past task) disk task past (omega arith) (λ n. (up_to_fewer n disk task past on_disk).1)
+in_fewer disk task past on_disk = (by_in (λ p. AllByRecursion (IsSegmentOf disk (view p task).terms.block) (view p task).segments
+    × (length (registered p) + choosable_by disk p task ≤ length (registered past) + choosable_by disk past task)) disk task
+    (λ p h s ss are. let best = best_of is_better s ss in
+    (rw (next_view disk p task best) h.0, omega (arith, h.1, few_less disk p task best (best_left disk (view p task) s ss (numbered_is p task) h.0 are)))) past (on_disk, omega arith)).1
 
 -- a task that stays gives the same rows
 pub rows-same : (past new : Past) (task now : ℕ) → view new task ≡ view past task → segment_rows by_deliveries new now task ≡ segment_rows by_deliveries past now task
@@ -222,16 +189,12 @@ sum_range f g a (suc n) same =
     let rest = sum_range f g (a + 1) n (λ k from to. same k (omega arith) (omega arith)) in
     omega (arith, sum_by-cons f a (range_with_len (a + 1) n), sum_by-cons g a (range_with_len (a + 1) n), rest, same a (omega arith) (omega arith))
 
-fold_append : (f : Past → ℕ → Past) (past : Past) (xs ys : List ℕ) → fold f past (xs ++ ys) ≡ fold f (fold f past xs) ys
-fold_append f past [] ys = refl
-fold_append f past (x ∷ xs) ys = fold_append f (f past x) xs ys
-
 -- after the choices of the first tasks
 abbrev pub past_at : Shape → Past → ℕ → Past
 past_at disk past n = fold (choose_in disk) past (range_with_len 0 n)
 
 past_more : (disk : Shape) (past : Past) (n : ℕ) → past_at disk past (n + 1) ≡ choose_in disk (past_at disk past n) n
-past_more disk past n = ap (fold (choose_in disk) past) (range_next n) ∙ fold_append (choose_in disk) past (range_with_len 0 n) (n ∷ [])
+past_more disk past n = ap (fold (choose_in disk) past) (range_next n) ∙ fold-append (choose_in disk) past (range_with_len 0 n) (n ∷ [])
 
 fold_tasks : (disk : Shape) (ns : List ℕ) (past : Past) → tasks (fold (choose_in disk) past ns) ≡ tasks past
 fold_tasks disk ns past = by_tasks (λ p. tasks p ≡ tasks past) disk (λ p chooser segment blocks same. same) ns past refl
@@ -247,116 +210,99 @@ pub record HaveBegun (disk : Shape) (count : ℕ) (past : Past) (sessions : List
   pub quiet : (task : ℕ) (session : Session) → slice_get sessions task ≡ Some session → session.touched ≡ false → IsQuiet (view past task)
   pub few : length (registered past) + sum_by (choosable_by disk past) (range_with_len n (count - n)) ≤ 16 * 10 ^ 6
 
-abbrev pub Partly : Shape → Past → List Session → List Entry → ℕ → Type 0
-Partly disk past sessions held n = HaveBegun disk (length (tasks past)) (past_at disk past n) sessions held n
+-- and the rows of what they cleaned follow
+pub record Partly (disk : Shape) (past : Past) (sessions : List Session) (held : List Entry) (instant : ℕ) (before rows : List BackRow) (n : ℕ) : Type 0 where
+  pub begun : HaveBegun disk (length (tasks past)) (past_at disk past n) sessions held n
+  pub open begun use *
+  pub rows_are : rows ≡ before ++ flat_map (segment_rows by_deliveries (past_at disk past n) instant) (range_with_len 0 n)
 
 -- the sum over the tasks that are left, and without the first of them
 left_split : (f : ℕ → ℕ) (n count : ℕ) → n < count → sum_by f (range_with_len n (count - n)) ≡ f n + sum_by f (range_with_len (n + 1) (count - (n + 1)))
 left_split f n count less = let e : count - n ≡ suc (count - (n + 1)) = omega arith in rw e (sum_by-cons f n (range_with_len (n + 1) (count - (n + 1))))
 
-pub partly-start : (disk : Shape) (past : Past) (sessions : List Session) (held : List Entry) → MaySettle disk past sessions held → Partly disk past sessions held 0
-partly-start disk past sessions held h = let tells = h.tells in record {
-  as_many = tells.as_many;
-  each = λ task session at. (tells.each task session at).stands;
-  at_work = λ task session at. (tells.each task session at).at_work;
-  later = λ task session le at. (tells.each task session at).reported;
-  blocks = tells.blocks;
-  chosen = λ task less. absurd (omega (arith, less));
-  quiet = λ task session at untouched. (tells.each task session at).quiet untouched;
-  few = subst (λ k. length (registered past) + sum_by (choosable_by disk past) (range_with_len 0 k) ≤ 16 * 10 ^ 6) (let e : length (tasks past) ≡ length (tasks past) - 0 = omega arith in e) h.few;
+pub partly-start : (disk : Shape) (past : Past) (sessions : List Session) (held : List Entry) (instant : ℕ) (rows : List BackRow) → MaySettle disk past sessions held → Partly disk past sessions held instant rows rows 0
+partly-start disk past sessions held instant rows h = let tells = h.tells in record {
+  begun = record {
+    as_many = tells.as_many;
+    each = λ task session at. (tells.each task session at).stands;
+    at_work = λ task session at. (tells.each task session at).at_work;
+    later = λ task session le at. (tells.each task session at).reported;
+    blocks = tells.blocks;
+    chosen = λ task less. absurd (omega (arith, less));
+    quiet = λ task session at untouched. (tells.each task session at).quiet untouched;
+    few = subst (λ k. length (registered past) + sum_by (choosable_by disk past) (range_with_len 0 k) ≤ 16 * 10 ^ 6) (let e : length (tasks past) ≡ length (tasks past) - 0 = omega arith in e) h.few;
+  };
+  rows_are = sym (append-nil rows);
 }
 
-pub partly-may : (disk : Shape) (past : Past) (sessions : List Session) (held : List Entry) (n : ℕ) (session : Session) → slice_get sessions n ≡ Some session → Partly disk past sessions held n → MayChoose disk (past_at disk past n) n session held
-partly-may disk past sessions held n session at h =
-    let within : n < length (tasks past) = omega (arith, slice_get_within sessions n session at, h.as_many) in
-    record {
-      blocks = h.blocks;
-      stands = h.each n session at;
-      at_work = h.at_work n session at;
-      few = omega (arith, h.few, left_split (choosable_by disk (past_at disk past n)) n (length (tasks past)) within);
-    }
+module _ {disk : Shape} {past : Past} {instant : ℕ} {before : List BackRow} where
+  pub partly-may : {sessions : List Session} {held : List Entry} {rows : List BackRow} {n : ℕ} {session : Session} → slice_get sessions n ≡ Some session
+      → Partly disk past sessions held instant before rows n → MayChoose disk (past_at disk past n) n session held
+  partly-may {sessions} {held} {rows} {n} {session} at h =
+      let within : n < length (tasks past) = omega (arith, slice_get_within sessions n session at, h.as_many) in
+      record {
+        blocks = h.blocks;
+        stands = h.each n session at;
+        at_work = h.at_work n session at;
+        few = omega (arith, h.few, left_split (choosable_by disk (past_at disk past n)) n (length (tasks past)) within);
+      }
 
-pub partly-more : (disk : Shape) (past : Past) (sessions : List Session) (held now : List Entry) (n : ℕ) (session new : Session) → slice_get sessions n ≡ Some session → new.touched ≡ session.touched → Partly disk past sessions held n
-    → HasChosen disk (choose_in disk (past_at disk past n) n) n new now → Partly disk past (set sessions n new) now (n + 1)
-partly-more disk past sessions held now n session new at flag h chosen =
-    let before = past_at disk past n in
-    let after = choose_in disk (past_at disk past n) n in
-    let same = λ (other : ℕ) (differ : n ≡ other → ⊥). in_same disk n other before differ in
-    let within : n < length (tasks past) = omega (arith, slice_get_within sessions n session at, h.as_many) in
-    let fewer = in_fewer disk n before (h.blocks.placed n).segments in
-    let rest = sum_range (choosable_by disk after) (choosable_by disk before) (n + 1) (length (tasks past) - (n + 1)) (λ k from to. choosable-same disk before after k (same k (λ e. absurd (omega arith)))) in
-    rw (past_more disk past n) (record {
-      as_many = length-set sessions n new ∙ h.as_many;
-      each = each_set (λ t. Stands (view after t)) sessions n new chosen.stands (λ t s differ there. rw (same t differ) (h.each t s there));
-      at_work = each_set (λ t. IsAtWork (view after t).work) sessions n new chosen.at_work (λ t s differ there. rw (same t differ) (h.at_work t s there));
-      later = λ task s le there. each_set (λ t s. n + 1 ≤ t → AreReported (view after t).work) sessions n new (λ le. absurd (omega arith))
-          (λ t s differ there le. rw (same t differ) (h.later t s (omega arith) there)) task s there le;
-      blocks = chosen.blocks;
-      chosen = λ task less. one_or_other (λ t. t < n + 1 → HasNoChoice (view after t)) n task (λ _. no-choice-left disk n before (h.blocks.placed n).segments)
-          (λ other less. rw (same task (other_number n task other)) (h.chosen task (grind (arith, nat_tests)))) less;
-      quiet = each_set (λ t s. s.touched ≡ false → IsQuiet (view after t)) sessions n new
-          (λ untouched. let was = h.quiet n session at (sym flag ∙ untouched) in rw (stays disk n before was.chosen) was) (λ t s differ there untouched. rw (same t differ) (h.quiet t s there untouched));
-      few = omega (arith, h.few, fewer, rest, left_split (choosable_by disk before) n (length (tasks past)) within);
-    })
+  -- one session more has chosen
+  pub partly-more : {sessions : List Session} {held now : List Entry} {rows more : List BackRow} {n : ℕ} {session new : Session} → slice_get sessions n ≡ Some session
+      → new.touched ≡ session.touched → Partly disk past sessions held instant before rows n
+      → HasTurned disk (past_at disk past n) (choose_in disk (past_at disk past n) n) n instant new now rows more → Partly disk past (set sessions n new) now instant before more (n + 1)
+  partly-more {sessions} {held} {now} {rows} {more} {n} {session} {new} at flag h turned =
+      let old = past_at disk past n in
+      let after = choose_in disk (past_at disk past n) n in
+      let same = λ (other : ℕ) (differ : n ≡ other → ⊥). in_same disk n other old differ in
+      let within : n < length (tasks past) = omega (arith, slice_get_within sessions n session at, h.as_many) in
+      let fewer = in_fewer disk n old (h.blocks.placed n).segments in
+      let rest = sum_range (choosable_by disk after) (choosable_by disk old) (n + 1) (length (tasks past) - (n + 1)) (λ k from to. choosable-same disk old after k (same k (λ e. absurd (omega arith)))) in
+      let kept = flat_same (segment_rows by_deliveries after instant) (segment_rows by_deliveries old instant) (range_with_len 0 n)
+      (all_range (λ k. segment_rows by_deliveries after instant k ≡ segment_rows by_deliveries old instant k) 0 n (λ k le lt. rows-same old after k instant (same k (λ e. absurd (omega arith))))) in
+      let given = turned.rows rows (rw (reported_rows old instant n (h.later n session (omega arith) at)) (sym (append-nil rows))) in
+      record {
+        begun = rw (past_more disk past n) (record {
+          as_many = length-set sessions n new ∙ h.as_many;
+          each = each_set (λ t. Stands (view after t)) sessions n new turned.may.stands (λ t s differ there. rw (same t differ) (h.each t s there));
+          at_work = each_set (λ t. IsAtWork (view after t).work) sessions n new turned.may.at_work (λ t s differ there. rw (same t differ) (h.at_work t s there));
+          later = λ task s le there. each_set (λ t s. n + 1 ≤ t → AreReported (view after t).work) sessions n new (λ le. absurd (omega arith))
+              (λ t s differ there le. rw (same t differ) (h.later t s (omega arith) there)) task s there le;
+          blocks = turned.may.blocks;
+          chosen = λ task less. one_or_other (λ t. t < n + 1 → HasNoChoice (view after t)) n task (λ _. no-choice-left disk n old (h.blocks.placed n).segments)
+              (λ other less. rw (same task (other_number n task other)) (h.chosen task (grind (arith, nat_tests)))) less;
+          quiet = each_set (λ t s. s.touched ≡ false → IsQuiet (view after t)) sessions n new
+              (λ untouched. let was = h.quiet n session at (sym flag ∙ untouched) in rw (stays disk n old was.chosen) was) (λ t s differ there untouched. rw (same t differ) (h.quiet t s there untouched));
+          few = omega (arith, h.few, fewer, rest, left_split (choosable_by disk old) n (length (tasks past)) within);
+        });
+        rows_are = rw (past_more disk past n) (rows_more (segment_rows by_deliveries after instant) before rows more (segment_rows by_deliveries after instant n) n (h.rows_are ∙ ap (λ rs. before ++ rs) (sym kept)) given refl);
+      }
 
-pub rows-more : (disk : Shape) (past : Past) (sessions : List Session) (held : List Entry) (n instant : ℕ) (session : Session) (before rows more : List BackRow) → slice_get sessions n ≡ Some session → Partly disk past sessions held n
-    → rows ≡ before ++ flat_map (segment_rows by_deliveries (past_at disk past n) instant) (range_with_len 0 n)
-    → more ≡ rows ++ segment_rows by_deliveries (choose_in disk (past_at disk past n) n) instant n
-    → more ≡ before ++ flat_map (segment_rows by_deliveries (past_at disk past (n + 1)) instant) (range_with_len 0 (n + 1))
-rows-more disk past sessions held n instant session before rows more at h so_far more_is =
-    let old = past_at disk past n in
-    let new = choose_in disk (past_at disk past n) n in
-    let kept = flat_same (segment_rows by_deliveries new instant) (segment_rows by_deliveries old instant) (range_with_len 0 n)
-    (all_range (λ k. segment_rows by_deliveries new instant k ≡ segment_rows by_deliveries old instant k) 0 n
-    (λ k le lt. rows-same old new k instant (in_same disk n k old (λ e. absurd (omega arith))))) in
-    subst (λ p. more ≡ before ++ flat_map (segment_rows by_deliveries p instant) (range_with_len 0 (n + 1))) (sym (past_more disk past n))
-    (rows_more (segment_rows by_deliveries new instant) before rows more (segment_rows by_deliveries new instant n) n (so_far ∙ ap (λ rs. before ++ rs) (sym kept)) more_is refl)
-
--- sessions that were not touched have nothing to choose
-partly-skip : (disk : Shape) (past : Past) (sessions : List Session) (held : List Entry) (n : ℕ) (session : Session) → slice_get sessions n ≡ Some session → session.touched ≡ false → Partly disk past sessions held n
-    → (choose_in disk (past_at disk past n) n ≡ past_at disk past n) × Partly disk past sessions held (n + 1)
-partly-skip disk past sessions held n session at untouched h =
-    let before = past_at disk past n in
-    let quiet = h.quiet n session at untouched in
-    let still = stays disk n (past_at disk past n) quiet.chosen in
-    let within : n < length (tasks past) = omega (arith, slice_get_within sessions n session at, h.as_many) in
-    let later : (task : ℕ) (session : Session) → n + 1 ≤ task → slice_get sessions task ≡ Some session → AreReported (view (past_at disk past n) task).work =
-    λ task s le there. h.later task s (omega arith) there in
-    let chosen : (task : ℕ) → task < n + 1 → HasNoChoice (view (past_at disk past n) task) = λ task less.
-    one_or_other (λ t. t < n + 1 → HasNoChoice (view (past_at disk past n) t)) n task (λ _. quiet.chosen) (λ other less. h.chosen task (grind (arith, nat_tests))) less in
-    let few : length (registered before) + sum_by (choosable_by disk before) (range_with_len (n + 1) (length (tasks past) - (n + 1))) ≤ 16 * 10 ^ 6 =
-    omega (arith, h.few, left_split (choosable_by disk (past_at disk past n)) n (length (tasks past)) within) in
-    (still, rw (past_more disk past n, still) (assumption (later, chosen, few, h)))
-
-abbrev pub HasRows : Shape → Past → ℕ → List BackRow → List BackRow → ℕ → Type 0
-HasRows disk past instant before rows n = rows ≡ before ++ flat_map (segment_rows by_deliveries (past_at disk past n) instant) (range_with_len 0 n)
-
-pub partly-to : (disk : Shape) (past : Past) (sessions : List Session) (held : List Entry) (instant : ℕ) (before rows : List BackRow) (n m : ℕ) → n ≤ m → m ≤ length sessions → ((k : ℕ) (session : Session) → n ≤ k → k < m → slice_get sessions k ≡ Some session → session.touched ≡ false)
-    → Partly disk past sessions held n → HasRows disk past instant before rows n → Partly disk past sessions held m × HasRows disk past instant before rows m
-partly-to disk past sessions held instant before rows n m le within untouched h so_far =
-    step_to (λ k. Partly disk past sessions held k × HasRows disk past instant before rows k) n m le (λ k from to now.
-    let found = some_at sessions k (omega (arith, within)) in
-    let skip = partly-skip disk past sessions held k found.0 found.1 (untouched k found.0 from to found.1) now.0 in
-    let none : segment_rows by_deliveries (choose_in disk (past_at disk past k) k) instant k ≡ [] =
-    rw skip.0 (reported_rows (past_at disk past k) instant k (now.0.later k found.0 (omega arith) found.1)) in
-    (skip.1, rows-more disk past sessions held k instant found.0 before rows rows found.1 now.0 now.1 (rw none (sym (append-nil rows))))) (h, so_far)
+  -- sessions that were not touched have nothing to choose
+  pub partly-to : {sessions : List Session} {held : List Entry} {rows : List BackRow} (n m : ℕ) → n ≤ m → m ≤ length sessions
+      → ((k : ℕ) (session : Session) → n ≤ k → k < m → slice_get sessions k ≡ Some session → session.touched ≡ false)
+      → Partly disk past sessions held instant before rows n → Partly disk past sessions held instant before rows m
+  partly-to {sessions} {held} {rows} n m le within untouched h = step_to (Partly disk past sessions held instant before rows) n m le (λ k from to now.
+      let found = some_at sessions k (omega (arith, within)) in
+      let still = stays disk k (past_at disk past k) (now.quiet k found.0 found.1 (untouched k found.0 from to found.1)).chosen in
+      subst (λ xs. Partly disk past xs held instant before rows (k + 1)) (set_same sessions k found.0 found.1)
+      (partly-more found.1 refl now (still-turned still (partly-may found.1 now)))) h
 
 -- after the choices of all tasks
-pub all-chosen : (disk : Shape) (past : Past) (sessions : List Session) (held : List Entry) (n : ℕ) → n ≡ length (tasks past) → Partly disk past sessions held n → HaveChosen disk (with_choices disk past) sessions held
+pub all-chosen : {disk : Shape} {past : Past} {sessions : List Session} {held : List Entry} {instant : ℕ} {before rows : List BackRow} → Partly disk past sessions held instant before rows (length sessions)
+    → HaveChosen disk (with_choices disk past) sessions held × (rows ≡ before ++ flat_map (segment_rows by_deliveries (with_choices disk past) instant) (task_numbers (with_choices disk past)))
 unfolding with_choices
-all-chosen disk past sessions held n all h =
-    subst (λ k. HaveChosen disk (past_at disk past k) sessions held) all (record {
-      as_many = h.as_many ∙ ap length (sym (fold_tasks disk (range_with_len 0 n) past));
-      each = h.each;
-      at_work = h.at_work;
-      chosen = λ task session at. h.chosen task (omega (arith, slice_get_within sessions task session at, h.as_many, all));
-      quiet = h.quiet;
-      blocks = h.blocks;
-    })
-
-pub all-rows : (disk : Shape) (past : Past) (before rows : List BackRow) (n instant : ℕ) → n ≡ length (tasks past) → rows ≡ before ++ flat_map (segment_rows by_deliveries (past_at disk past n) instant) (range_with_len 0 n)
-    → rows ≡ before ++ flat_map (segment_rows by_deliveries (with_choices disk past) instant) (task_numbers (with_choices disk past))
-unfolding with_choices
-all-rows disk past before rows n instant all so_far =
-    so_far ∙ (ap (λ k. before ++ flat_map (segment_rows by_deliveries (past_at disk past k) instant) (range_with_len 0 k)) all
-    ∙ ap (λ ts. before ++ flat_map (segment_rows by_deliveries (past_at disk past (length (tasks past))) instant) (range_with_len 0 (length ts))) (sym (fold_tasks disk (range_with_len 0 (length (tasks past))) past)))
+all-chosen {disk} {past} {sessions} {held} {instant} {before} {rows} h =
+    let new = past_at disk past (length (tasks past)) in
+    let count = ap length (fold_tasks disk (range_with_len 0 (length (tasks past))) past) in
+    let whole = subst (Partly disk past sessions held instant before rows) h.as_many h in (
+      record {
+        as_many = h.as_many ∙ sym count;
+        each = whole.each;
+        at_work = whole.at_work;
+        chosen = λ task session at. whole.chosen task (omega (arith, slice_get_within sessions task session at, h.as_many));
+        quiet = whole.quiet;
+        blocks = whole.blocks;
+      },
+      whole.rows_are ∙ ap (λ n. before ++ flat_map (segment_rows by_deliveries new instant) (range_with_len 0 n)) (sym count),
+    )

@@ -1,6 +1,6 @@
 -- A task chooses a segment, as its session and as the history makes it.
 use Rattle.fb_tasks.proofs.Words.{◌≡◌, ℕ, ◌+◌, ◌-◌, ◌*◌, ◌^◌, ◌<◌, ◌≤◌, ◌==◌, not, if◌then◌else◌, List, [], ◌∷◌, ◌++◌, true, false, Some}
-use Rattle.fb_tasks.proofs.Words.{None, Option, length, map, slice_get, append-nil, refl, ap, sym, ◌∙◌, arith, subst, ◌&&◌, Bool, inl}
+use Rattle.fb_tasks.proofs.Words.{None, Option, length, map, slice_get, append-nil, refl, ap, sym, ◌∙◌, arith, subst, ◌&&◌, inl}
 use Rattle.fb_tasks.proofs.Words.{inr, filter, append_assoc, length-append, AllByRecursion, list_any, list_all, flat_map, best_of, sum_by}
 use Rattle.fb_tasks.proofs.Words.{option_map, true≢false, not-true, cases_Bool, cases_lt, and_parts, flat_map-append, list_any-append}
 use Rattle.fb_tasks.proofs.Words.{slice_get_within, none-some, Shape, places, live_cuts, Block, Entry, Wanted, is_delivered, Past}
@@ -15,9 +15,11 @@ use Rattle.fb_tasks.proofs.Words.{map-append, nil_from_length, filter-append, Ki
 use Rattle.fb_tasks.proofs.Words.{BackRow, SegmentLine, segment_rows, is_newly_cleaned, found_for, by_deliveries, held_at}
 use Rattle.fb_tasks.proofs.Registered.{all_member, no_smaller, indexed_append, registered-entries, named_same, blocks_in}
 use Rattle.fb_tasks.proofs.Cuts.{cuts_own, cuts_indexed, cuts_count}
-use Rattle.fb_tasks.proofs.Segmented.{NumberedFrom, at_number, all_best, live_placed, live_cover, live_ascend, numbered_given, choice_kept, live_there, live_within, live_some, cuts_of_live, sum_without}
+use Rattle.fb_tasks.proofs.Segmented.{NumberedFrom, at_number, all_best, live_placed, live_cover, live_ascend, numbered_given, choice_kept, live_there, live_some, cuts_of_live, sum_without}
+use Rattle.fb_tasks.proofs.Words.{HasTurned}
 use Rattle.fb_tasks.proofs.Complete.{busy_by}
 use Rattle.fb_clean.specs.Segments as clean
+use Rattle.fb_clean.proofs.Live.{live_blocks-count, live_blocks-within}
 use Rattle.fb_wanted.specs.Numbering as numbering
 
 -- what holds of a segment that is left to choose
@@ -173,9 +175,6 @@ pub record ChoiceStep (disk : Shape) (past : Past) (task number : ℕ) (session 
   pub idle : session.log.unfinished ≡ None
   pub once : choose_once disk task past ≡ chose task best (chosen_blocks disk task (view past task) best) ∷ past
 
-abbrev pub LivesAreLive : Type 0
-LivesAreLive = (block first : ℕ) (live : List Bool) → length (clean.live_blocks block first live) ≡ length (filter (λ is_live. is_live) live)
-
 idle_of : (u : Option ℕ) (ss : List clean.LogSegment) (number : ℕ) → clean.choice_while u ss ≡ Some number → u ≡ None
 idle_of None ss number h = refl
 idle_of (Some n) ss number h = absurd (none-some number h)
@@ -238,7 +237,8 @@ live_left : (n : ℕ) (ss : List clean.LogSegment) → map (λ (s : clean.LogSeg
 live_left n [] = refl
 live_left n (s ∷ ss) = grind (arith, live_left n ss)
 
-module _ (disk : Shape) (past : Past) (task : ℕ) (session : Session) (held : List Entry) (lives : LivesAreLive) (cleans : is_clean session.kind ≡ true) (open_still : session.closed ≡ false) (may : MayChoose disk past task session held) where
+module _ {disk : Shape} {past : Past} {task : ℕ} {session : Session} {held : List Entry}
+    (cleans : (is_clean session.kind ≡ true) × (session.closed ≡ false)) (may : MayChoose disk past task session held) where
   abbrev v : TaskView
   v = view past task
 
@@ -252,25 +252,26 @@ module _ (disk : Shape) (past : Past) (task : ℕ) (session : Session) (held : L
   after best = chosen_view task (chosen_for disk task (view past task) best) (view past task)
 
   going : (view past task).closed ≡ false
-  going = sym may.stands.closed ∙ open_still
+  going = sym may.stands.closed ∙ cleans.1
 
   log_is : Cleans (view past task).work session.log
-  log_is = may.stands.log cleans
+  log_is = may.stands.log cleans.0
 
+  -- what the session's choice says of the history
   pub choice-step : (number : ℕ) → clean.choice_of session.log ≡ Some number → ChoiceStep disk past task number session
   choice-step number is = by_left (unchosen v.work) refl where
     idle : session.log.unfinished ≡ None
     idle = idle_of session.log.unfinished session.log.segments number is
 
     free : is_busy (view past task).work ≡ false
-    free = not_busy past task session.log.unfinished idle (may.at_work cleans)
+    free = not_busy past task session.log.unfinished idle (may.at_work cleans.0)
 
     by_left : (left : List LogSegment) → unchosen v.work ≡ left → ChoiceStep disk past task number session
-    by_left [] are = absurd (none-some number (sym (choice_kept v.work going lives session.log log_is.segments idle [] are) ∙ is))
+    by_left [] are = absurd (none-some number (sym (choice_kept v.work going session.log log_is.segments idle [] are) ∙ is))
     by_left (s ∷ ss) are = record {
       best = best_of is_better s ss;
       left = best_left disk v s ss (numbered_is past task) (may.blocks.placed task).segments are;
-      number_is = some_same (best_of is_better s ss).number number (sym (choice_kept v.work going lives session.log log_is.segments idle (s ∷ ss) are) ∙ is);
+      number_is = some_same (best_of is_better s ss).number number (sym (choice_kept v.work going session.log log_is.segments idle (s ∷ ss) are) ∙ is);
       idle = idle;
       once = rw (once_is disk past task, free, are) refl;
     }
@@ -281,43 +282,22 @@ module _ (disk : Shape) (past : Past) (task : ℕ) (session : Session) (held : L
     by_left : is_busy v.work ≡ false → (left : List LogSegment) → unchosen v.work ≡ left → best_of_left disk task past (unchosen v.work) ≡ past
     by_left free [] are = rw are refl
     by_left free (s ∷ ss) are = absurd (none-some (best_of is_better s ss).number
-        (sym is ∙ choice_kept v.work going lives session.log log_is.segments (none_of session.log.unfinished (may.at_work cleans ∙ ap not free)) (s ∷ ss) are))
+        (sym is ∙ choice_kept v.work going session.log log_is.segments (none_of session.log.unfinished (may.at_work cleans.0 ∙ ap not free)) (s ∷ ss) are))
 
-  module _ (number : ℕ) (step : ChoiceStep disk past task number session) where
-    -- the live blocks of the chosen segment
-    pub live-now : clean.live_of (clean.after_choice (Some number) session.log) number ≡ clean.live_blocks session.block step.best.first step.best.live
-    live-now = rw (live_left number session.log.segments, log_is.segments, sym step.number_is, live_there v.work v.segments step.best step.left.there, may.stands.terms) refl
-
-    cuts_now : cuts_of disk session.block (clean.live_of (clean.after_choice (Some number) session.log) number) ≡ live_cuts disk v.terms.block step.best.first step.best.live
-    cuts_now = rw (live-now, cuts_of_live disk session.block step.best.first step.best.live, may.stands.terms) refl
-
-    pub live-on_disk : AllByRecursion (λ lbn. lbn + session.block ≤ length (places disk)) (clean.live_of (clean.after_choice (Some number) session.log) number)
-    live-on_disk =
-        let whole : step.best.first + length step.best.live * session.block ≤ length (places disk) = rw step.left.on_disk.1 (rw may.stands.terms at step.left.on_disk.0) in
-        rw live-now (live_within session.block step.best.first (length (places disk)) step.best.live whole)
-
-    pub live-few : length held + length (cuts_of disk session.block (clean.live_of (clean.after_choice (Some number) session.log) number)) ≤ 16000000
-    live-few =
-        let one = sum_without (λ s. length (live_cuts disk v.terms.block s.first s.live)) (λ s. not (is_chosen v.choices s)) (λ s. false) (λ s e. absurd (true≢false (sym e)))
-        v.segments (step.best.number - 1) step.best step.left.there (ap not step.left.left) refl in
-        omega (arith, one, may.few, ap length may.blocks.entries, length-map (registered past) (entry_of past), ap length cuts_now)
-
-    -- what the wanted set registers are the history's blocks
-    pub blocks-now : numbered task session.weight (numbering.registered task (numbering.blocks_of held)) (cuts_of disk session.block (clean.live_of (clean.after_choice (Some number) session.log) number)) ≡ chosen_blocks disk task (view past task) step.best
-    blocks-now =
-        let many : numbering.registered task (numbering.blocks_of held) ≡ length v.blocks = rw (may.blocks.entries, named_same past (registered past), blocks_in past task) refl in
-        rw (cuts_now, many, may.stands.terms) refl
+  pub none-turned : (log : clean.Cleaning) (now : ℕ) (rows : List BackRow) → clean.choice_of session.log ≡ None → log ≡ session.log
+      → HasTurned disk past (choose_once disk task past) task now (record session { log = log }) held rows rows
+  none-turned log now rows is same = rw (none-step is, same) (record { may = may; rows = λ before so_far. so_far })
 
   -- a chosen session stands as it did, but for its log
   chosen-stands : (best : LogSegment) (log : clean.Cleaning) → Cleans (after best).work log → Stands (after best) (record session { log = log })
   chosen-stands best log now =
       let h = may.stands in
-      let ascend : is_backup session.kind ≡ true → Ascend 0 (after best).blocks = λ backup. absurd (no_backup session.kind cleans backup) in
-      let unwanted : is_backup session.kind ≡ true → v.wants ≡ false → (after best).blocks ≡ [] = λ backup. absurd (no_backup session.kind cleans backup) in
+      let ascend : is_backup session.kind ≡ true → Ascend 0 (after best).blocks = λ backup. absurd (no_backup session.kind cleans.0 backup) in
+      let unwanted : is_backup session.kind ≡ true → v.wants ≡ false → (after best).blocks ≡ [] = λ backup. absurd (no_backup session.kind cleans.0 backup) in
       let image : is_unsealed v ≡ true → HoldsImage (after best).work (held_at session.image) = λ is_open.
-      absurd (no_backup session.kind cleans (ap (λ t. is_backup t.kind) (sym h.terms) ∙ (and_parts (is_backup v.terms.kind) (not v.sealed) is_open).0)) in
+      absurd (no_backup session.kind cleans.0 (ap (λ t. is_backup t.kind) (sym h.terms) ∙ (and_parts (is_backup v.terms.kind) (not v.sealed) is_open).0)) in
       let log_now = λ (_ : is_clean session.kind ≡ true). now in
-      let unchosen : is_clean session.kind ≡ false → (after best).choices ≡ [] = λ other. absurd (true≢false (sym cleans ∙ other)) in
+      let unchosen : is_clean session.kind ≡ false → (after best).choices ≡ [] = λ other. absurd (true≢false (sym cleans.0 ∙ other)) in
       assumption (ascend, unwanted, image, log_now, unchosen, h)
 
   -- a new block is not delivered, so its choice is not cleaned
@@ -337,74 +317,94 @@ module _ (disk : Shape) (past : Past) (task : ℕ) (session : Session) (held : L
       segment_rows_is (next best) now task ∙ (ap (λ v. segment_rows_of v.work now task) (next_view disk past task best)
       ∙ rw (segment_rows_is past now task, filter-append, map-append, same) refl)
 
-  module _ (number : ℕ) (step : ChoiceStep disk past task number session) (small : length (places disk) ≤ 10 ^ 12) (log : clean.Cleaning) (taken : log ≡ clean.after_choice (Some number) session.log) (now : List Entry)
-      (pushed : now ≡ held ++ new_entries session (numbered task session.weight (numbering.registered task (numbering.blocks_of held)) (cuts_of disk session.block (clean.live_of log number)))) where
-    log_at : log ≡ clean.after_choice (Some step.best.number) session.log
-    log_at = rw step.number_is taken
+  module _ (number : ℕ) (step : ChoiceStep disk past task number session) (log : clean.Cleaning) (taken : log ≡ clean.after_choice (Some number) session.log) where
+    -- the live blocks of the chosen segment
+    live-now : clean.live_of log number ≡ clean.live_blocks session.block step.best.first step.best.live
+    live-now = rw (taken, live_left number session.log.segments, log_is.segments, sym step.number_is, live_there v.work v.segments step.best step.left.there, may.stands.terms) refl
 
-    some_block : 0 < (view past task).terms.block
-    some_block = rw may.stands.terms may.stands.block.0
+    cuts_now : cuts_of disk session.block (clean.live_of log number) ≡ live_cuts disk v.terms.block step.best.first step.best.live
+    cuts_now = rw (live-now, cuts_of_live disk session.block step.best.first step.best.live, may.stands.terms) refl
 
-    holds_now : HoldsBlocks disk (next step.best) now
-    holds_now = chosen-holds disk past task step.best session held now opened (rw may.stands.terms may.stands.weight) some_block (rw may.stands.terms may.stands.block.1) small
-        step.left.on_disk may.stands.suspended (pushed ∙ rw (taken, blocks-now number step) refl) may.blocks where
-          -- a task with a segment was opened
-          opened : task < length (tasks past)
-          opened = elim (cases_lt task (length (tasks past))) [
-            | inl less ↦ less
-            | inr beyond ↦ absurd (none-some step.best (rw (may.blocks.unopened task beyond).segments at step.left.there))
-          ]
+    pub live-on_disk : AllByRecursion (λ lbn. lbn + session.block ≤ length (places disk)) (clean.live_of log number)
+    live-on_disk =
+        let whole : step.best.first + length step.best.live * session.block ≤ length (places disk) = rw step.left.on_disk.1 (rw may.stands.terms at step.left.on_disk.0) in
+        rw live-now (live_blocks-within session.block step.best.first (length (places disk)) step.best.live whole)
 
-    few_now : length (registered past ++ added step.best) + choosable_by disk (next step.best) task ≤ 16 * 10 ^ 6
-    few_now = omega (arith, few_less disk past task step.best step.left, may.few)
+    pub live-few : length held + length (cuts_of disk session.block (clean.live_of log number)) ≤ 16000000
+    live-few =
+        let one = sum_without (λ s. length (live_cuts disk v.terms.block s.first s.live)) (λ s. not (is_chosen v.choices s)) (λ s. false) (λ s e. absurd (true≢false (sym e)))
+        v.segments (step.best.number - 1) step.best step.left.there (ap not step.left.left) refl in
+        omega (arith, one, may.few, ap length may.blocks.entries, length-map (registered past) (entry_of past), ap length cuts_now)
 
-    -- how many live blocks there are, and whether they give blocks
-    live_length : length (clean.live_of log number) ≡ length (clean.live_blocks v.terms.block step.best.first step.best.live)
-    live_length = rw (taken, live-now number step, may.stands.terms) refl
+    module _ (small : length (places disk) ≤ 10 ^ 12) (now : List Entry)
+        (pushed : now ≡ held ++ new_entries session (numbered task session.weight (numbering.registered task (numbering.blocks_of held)) (cuts_of disk session.block (clean.live_of log number))))
+        (instant : ℕ) (old : List BackRow) where
+      log_at : log ≡ clean.after_choice (Some step.best.number) session.log
+      log_at = rw step.number_is taken
 
-    added_some : 0 < length (clean.live_of log number) → 0 < length (added step.best)
-    added_some some = omega (
-      arith,
-      cuts_count task v.terms.weight (length v.blocks) (live_cuts disk v.terms.block step.best.first step.best.live),
-      live_some disk v.terms.block step.best.first step.best.live some_block (omega (arith, some, live_length)),
-    )
+      some_block : 0 < (view past task).terms.block
+      some_block = rw may.stands.terms may.stands.block.0
 
-    pub live-may : 0 < length (clean.live_of log number) → MayChoose disk (choose_once disk task past) task (record session { log = log }) now
-    live-may some =
-        let chosen = chosen-by disk task v step.best session.log log_is step.idle going step.left some_block (may.blocks.placed task).indexed in
-        rw step.once (record {
-          blocks = holds_now;
-          stands = rw (next_view disk past task step.best) (chosen-stands step.best log (rw log_at (record { done = log_is.done; current = Some (chosen_for disk task v step.best); by = chosen })));
-          at_work = λ _. rw (log_at, next_view disk past task step.best, busy_by chosen, uncleaned step.best (added_some some)) refl;
-          few = few_now;
-        })
+      -- what the wanted set registers are the history's blocks
+      holds_now : HoldsBlocks disk (next step.best) now
+      holds_now =
+          let many : numbering.registered task (numbering.blocks_of held) ≡ length v.blocks = rw (may.blocks.entries, named_same past (registered past), blocks_in past task) refl in
+          let blocks : numbered task session.weight (numbering.registered task (numbering.blocks_of held)) (cuts_of disk session.block (clean.live_of log number)) ≡ added step.best =
+          rw (cuts_now, many, may.stands.terms) refl in
+          chosen-holds disk past task step.best session held now opened (rw may.stands.terms may.stands.weight) some_block (rw may.stands.terms may.stands.block.1) small
+          step.left.on_disk may.stands.suspended (pushed ∙ rw blocks refl) may.blocks where
+            -- a task with a segment was opened
+            opened : task < length (tasks past)
+            opened = elim (cases_lt task (length (tasks past))) [
+              | inl less ↦ less
+              | inr beyond ↦ absurd (none-some step.best (rw (may.blocks.unopened task beyond).segments at step.left.there))
+            ]
 
-    -- an uncleaned segment has no row
-    pub live-rows : (instant : ℕ) (before rows : List BackRow) → 0 < length (clean.live_of log number) → rows ≡ before ++ segment_rows by_deliveries past instant task → rows ≡ before ++ segment_rows by_deliveries (choose_once disk task past) instant task
-    live-rows instant before rows some so_far = rw (step.once, rows_now step.best instant, uncleaned step.best (added_some some), append-nil) so_far
+      few_now : length (registered past ++ added step.best) + choosable_by disk (next step.best) task ≤ 16 * 10 ^ 6
+      few_now = omega (arith, few_less disk past task step.best step.left, may.few)
 
-    -- a segment without live blocks gives no blocks
-    empty_blocks : length (clean.live_of log number) ≡ 0 → chosen_blocks disk task (view past task) step.best ≡ []
-    empty_blocks none =
-        let live_none : clean.live_blocks v.terms.block step.best.first step.best.live ≡ [] = nil_from_length (clean.live_blocks v.terms.block step.best.first step.best.live) (sym live_length ∙ none) in
-        rw (← cuts_of_live disk v.terms.block step.best.first step.best.live, live_none) refl
+      -- how many live blocks there are
+      live_length : length (clean.live_of log number) ≡ length (clean.live_blocks v.terms.block step.best.first step.best.live)
+      live_length = rw (live-now, may.stands.terms) refl
 
-    pub empty-may : length (clean.live_of log number) ≡ 0 → MayChoose disk (choose_once disk task past) task (record session { log = record log { unfinished = None } }) now
-    empty-may none =
-        let emptied = emptied-by disk task v step.best session.log log_is step.idle going step.left some_block (may.blocks.placed task).indexed (empty_blocks none) in
-        rw step.once (record {
-          blocks = holds_now;
-          stands = rw (next_view disk past task step.best) (chosen-stands step.best (record log { unfinished = None }) (rw log_at (record { done = log_is.done ++ chosen_for disk task v step.best ∷ []; current = None; by = emptied })));
-          at_work = λ _. rw (next_view disk past task step.best, busy_by emptied) refl;
-          few = few_now;
-        })
+      -- some give blocks: their segment is not cleaned, and has no row
+      pub live-turned : 0 < length (clean.live_of log number) → HasTurned disk past (choose_once disk task past) task instant (record session { log = log }) now old old
+      live-turned some =
+          let chosen = chosen-by disk task v step.best session.log log_is step.idle going step.left some_block (may.blocks.placed task).indexed in
+          let some_added : 0 < length (added step.best) = omega (
+            arith,
+            cuts_count task v.terms.weight (length v.blocks) (live_cuts disk v.terms.block step.best.first step.best.live),
+            live_some disk v.terms.block step.best.first step.best.live some_block (omega (arith, some, live_length)),
+          ) in
+          let open_still = uncleaned step.best some_added in
+          rw step.once (record {
+            may = record {
+              blocks = holds_now;
+              stands = rw (next_view disk past task step.best) (chosen-stands step.best log (rw log_at (record { done = log_is.done; current = Some (chosen_for disk task v step.best); by = chosen })));
+              at_work = λ _. rw (log_at, next_view disk past task step.best, busy_by chosen, open_still) refl;
+              few = few_now;
+            };
+            rows = λ before so_far. rw (rows_now step.best instant, open_still, append-nil) so_far;
+          })
 
-    -- it is cleaned, and has its row
-    pub empty-rows : (instant : ℕ) (before rows more : List BackRow) (content : List ContentRun) → length (clean.live_of log number) ≡ 0 → content ≡ [] → rows ≡ before ++ segment_rows by_deliveries past instant task
-        → more ≡ rows ++ SegmentLine (record { task = task; segment = number; instant = instant; live = length (clean.live_of log number); content = content }) ∷ [] → more ≡ before ++ segment_rows by_deliveries (choose_once disk task past) instant task
-    empty-rows instant before rows more content none nothing so_far more_is =
-        let empty = empty_blocks none in
-        let cleaned : is_cleaned (after step.best).work (chosen_for disk task v step.best) ≡ true = ap (list_all (λ block. is_delivered ((after step.best).bare block))) empty in
-        let silent : v.reported step.best.number ≡ false = grind (arith, log_is.reported step.best.number, step.left.left) in
-        let found : found_for (after step.best).work (added step.best) ≡ [] = ap (λ bs. runs_of (flat_map (λ block. sectors_of ((after step.best).found block)) bs)) empty in
-        rw (step.once, rows_now step.best instant, cleaned, silent, more_is, so_far, nothing, found, live_length, lives, sym step.number_is, append_assoc) refl
+      -- none gives no blocks: its segment is cleaned, and has its row
+      pub empty-turned : (rows : List BackRow) (content : List ContentRun) → length (clean.live_of log number) ≡ 0 → content ≡ []
+          → rows ≡ old ++ SegmentLine (record { task = task; segment = number; instant = instant; live = length (clean.live_of log number); content = content }) ∷ []
+          → HasTurned disk past (choose_once disk task past) task instant (record session { log = record log { unfinished = None } }) now old rows
+      empty-turned rows content none nothing rows_are =
+          let live_none : clean.live_blocks v.terms.block step.best.first step.best.live ≡ [] =
+          nil_from_length (clean.live_blocks v.terms.block step.best.first step.best.live) (sym live_length ∙ none) in
+          let empty : added step.best ≡ [] = rw (← cuts_of_live disk v.terms.block step.best.first step.best.live, live_none) refl in
+          let emptied = emptied-by disk task v step.best session.log log_is step.idle going step.left some_block (may.blocks.placed task).indexed empty in
+          let cleaned : is_cleaned (after step.best).work (chosen_for disk task v step.best) ≡ true = ap (list_all (λ block. is_delivered ((after step.best).bare block))) empty in
+          let silent : v.reported step.best.number ≡ false = grind (arith, log_is.reported step.best.number, step.left.left) in
+          let found : found_for (after step.best).work (added step.best) ≡ [] = ap (λ bs. runs_of (flat_map (λ block. sectors_of ((after step.best).found block)) bs)) empty in
+          rw step.once (record {
+            may = record {
+              blocks = holds_now;
+              stands = rw (next_view disk past task step.best) (chosen-stands step.best (record log { unfinished = None }) (rw log_at (record { done = log_is.done ++ chosen_for disk task v step.best ∷ []; current = None; by = emptied })));
+              at_work = λ _. rw (next_view disk past task step.best, busy_by emptied) refl;
+              few = few_now;
+            };
+            rows = λ before so_far. rw (rows_now step.best instant, cleaned, silent, rows_are, so_far, nothing, found, live_length, live_blocks-count, sym step.number_is, append_assoc) refl;
+          })

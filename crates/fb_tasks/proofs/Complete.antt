@@ -9,14 +9,14 @@ use Rattle.fb_tasks.proofs.Words.{choice_in, kept_segment, CleansBy, same_number
 use Rattle.fb_tasks.proofs.Words.{find_none, all_any, all_weaker, nat_tests, and-false, list_any-append, Kind, Clean, is_clean, is_busy}
 use Rattle.fb_tasks.proofs.Words.{number_same, Session, is_none, is_worked_off, are_over, complete_as, complete_by, length-filter}
 use Rattle.fb_tasks.proofs.Words.{BackRow, TaskLine, task_row, map-range_with_len_more}
+use Rattle.std.proofs.lemmas.List.Sums.{count_by-le-length}
 use Rattle.fb_model.specs.History.{blocks_of}
 use Rattle.fb_tasks.proofs.States.{shown, shown_delivered, shown_aborted}
 use Rattle.fb_wanted.specs.Numbering as numbering
 use Rattle.fb_clean.specs.Segments as clean
 
 pub filter-le : {X : Type 0} (p : X → Bool) (xs : List X) → length (filter p xs) ≤ length xs
-filter-le p [] = omega arith
-filter-le p (x ∷ xs) = grind (arith, filter-le p xs)
+filter-le p xs = rw length-filter (count_by-le-length p xs)
 
 pub registered_count : (task : ℕ) (es : List Entry) → (counts_of task es).registered ≡ numbering.registered task (numbering.blocks_of es)
 registered_count task [] = refl
@@ -101,7 +101,7 @@ module _ (w : Work) (log : clean.Cleaning) (h : Cleans w log) where
   chosen_through : w.closed ≡ false → AllByRecursion (λ choice. is_cleaned w choice ≡ true) w.choices → (s : LogSegment) → through s ≡ not (kept_segment w s).waits
   chosen_through going cleaned s = by (find (is_choice_of s) w.choices) refl where
     by : (found : Option Choice) → find (is_choice_of s) w.choices ≡ found → is_through w found ≡ not (kept_segment w s).waits
-    by None e = grind (arith, find_none (is_choice_of s) w.choices e)
+    by None e = grind (arith, any_none (is_choice_of s) w.choices (find_none (is_choice_of s) w.choices e))
     by (Some choice) e = grind (arith, find_all (λ c. is_cleaned w c ≡ true) (is_choice_of s) w.choices choice cleaned e)
 
   all_through : (ss : List LogSegment) → AllByRecursion (λ s. through s ≡ not (kept_segment w s).waits) ss → list_all through ss ≡ not (list_any (λ s. s.waits) (map (kept_segment w) ss))

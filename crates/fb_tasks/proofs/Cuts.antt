@@ -1,9 +1,10 @@
 -- Blocks of a task that are cut from a range, and those of a segment's live blocks, one after another.
-use Rattle.fb_tasks.proofs.Words.{◌≡◌, ℕ, zero, suc, ◌+◌, ◌-◌, ◌^◌, ◌<◌, ◌≤◌, List, [], ◌∷◌, ◌++◌, length, refl, ap, sym, ◌∙◌, arith}
+use Rattle.fb_tasks.proofs.Words.{◌≡◌, ℕ, suc, ◌+◌, ◌-◌, ◌^◌, ◌<◌, ◌≤◌, List, [], ◌∷◌, ◌++◌, length, refl, ap, sym, ◌∙◌, arith}
 use Rattle.fb_tasks.proofs.Words.{subst, Some, drop, slice_get, append_assoc, length-append, AllByRecursion, flat_map, range_with_len}
 use Rattle.fb_tasks.proofs.Words.{Shape, places, Cut, IsOneTurn, cutting, numbered, AreCuts, cuts_rise, IsBlockOf, AreIndexed, Ascend}
 use Rattle.fb_tasks.proofs.Words.{map-append, length-map, drop_more, filter-append, Block, Entry, blocks_of, Session, new_entries}
 use Rattle.fb_tasks.proofs.Words.{cuts_of, slice_get_within, get_or_from_slice_get}
+use Rattle.fb_geometry.proofs.Turns.{range-append}
 use Rattle.fb_sectormap.specs.Lookup.{track_at}
 use Rattle.fb_wanted.specs.Numbering.{registered}
 use Rattle.fb_tasks.proofs.Registered.{all_own}
@@ -47,13 +48,9 @@ pub cuts_count : (task weight n : ℕ) (cuts : List Cut) → length (numbered ta
 cuts_count task weight n [] = refl
 cuts_count task weight n (cut ∷ cuts) = rw (cuts_count task weight (n + 1) cuts) refl
 
-pub ranges_join : (a m n : ℕ) → range_with_len a m ++ range_with_len (a + m) n ≡ range_with_len a (m + n)
-ranges_join a zero n = ap (λ b. range_with_len b n) (let e : a + 0 ≡ a = omega arith in e) ∙ ap (range_with_len a) (let e : n ≡ 0 + n = omega arith in e)
-ranges_join a (suc m) n = ap (λ xs. a ∷ xs) (ap (λ b. range_with_len (a + 1) m ++ range_with_len b n) (let e : a + suc m ≡ a + 1 + m = omega arith in e) ∙ ranges_join (a + 1) m n) ∙ ap (range_with_len a) (let e : suc (m + n) ≡ suc m + n = omega arith in e)
-
 -- one more number
 pub range_more : (a n : ℕ) → range_with_len a (n + 1) ≡ range_with_len a n ++ (a + n) ∷ []
-range_more a n = sym (ranges_join a n 1)
+range_more a n = range-append a n 1
 
 pub range_next : (n : ℕ) → range_with_len 0 (n + 1) ≡ range_with_len 0 n ++ n ∷ []
 range_next n = let e : 0 + n ≡ n = omega arith in rw e at (range_more 0 n)
@@ -65,7 +62,7 @@ cuts_cover disk task weight block n from end (cut ∷ cuts) h =
     let rise = cuts_rise disk block (from + cut.count) end cuts h.4 in
     let size : cut.count + (end - (from + cut.count)) ≡ end - from = omega arith in
     rw (h.0, cuts_cover disk task weight block (n + 1) (from + cut.count) end cuts h.4)
-    (ranges_join from cut.count (end - (from + cut.count)) ∙ ap (range_with_len from) size)
+    (sym (range-append from cut.count (end - (from + cut.count))) ∙ ap (range_with_len from) size)
 
 pub drop_at : {X : Type 0} (xs : List X) (i : ℕ) (x : X) → slice_get xs i ≡ Some x → drop i xs ≡ x ∷ drop (i + 1) xs
 drop_at xs i x h = drop_more xs i x (slice_get_within xs i x h) ∙ rw (get_or_from_slice_get xs i x x h) refl

@@ -1,5 +1,5 @@
 -- A chosen segment is finished where each of its blocks is delivered.
-use Rattle.fb_tasks.proofs.Words.{◌≡◌, ℕ, suc, ◌+◌, ◌==◌, not, if◌then◌else◌, List, [], ◌∷◌, ◌++◌, Bool, true, false, Some, None, Option}
+use Rattle.fb_tasks.proofs.Words.{◌≡◌, ℕ, suc, ◌==◌, not, if◌then◌else◌, List, [], ◌∷◌, ◌++◌, Bool, true, false, Some, None, Option}
 use Rattle.fb_tasks.proofs.Words.{inl, inr, length, filter, append-nil, refl, ap, sym, ◌∙◌, arith, AllByRecursion, flat_map, list_any}
 use Rattle.fb_tasks.proofs.Words.{range_with_len, option_map, cases_Bool, true≢false, filter-append, none-some, Shape, is_clean, BackRow}
 use Rattle.fb_tasks.proofs.Words.{SegmentLine, ContentRun, held_sector, held_in, runs_of, sectors_of, Block, Counts, Entry, is_delivered}
@@ -10,6 +10,7 @@ use Rattle.fb_tasks.proofs.Words.{flat_same, some_same, filter_none, each_all, l
 use Rattle.std.proofs.lemmas.Grind.{flat_map-append}
 use Rattle.fb_tasks.proofs.{Complete.counts_same, Complete.filter-le, Complete.busy_by, Segmented.live_there}
 use Rattle.fb_clean.specs.Segments as clean
+use Rattle.fb_clean.proofs.Live.{live_blocks-count}
 
 filter_whole : {X : Type 0} (p : X → Bool) (xs : List X) → AllByRecursion (λ x. p x ≡ true) xs → length (filter p xs) ≡ length xs
 filter_whole p [] h = refl
@@ -22,11 +23,6 @@ whole_filter p (x ∷ xs) h = grind (arith, filter-le p xs, whole_filter p xs)
 flat_flat : {X Y Z : Type 0} (f : Y → List Z) (g : X → List Y) (xs : List X) → flat_map f (flat_map g xs) ≡ flat_map (λ x. flat_map f (g x)) xs
 flat_flat f g [] = refl
 flat_flat f g (x ∷ xs) = rw (flat_map-append, flat_flat f g xs) refl
-
-live_length : (block first : ℕ) (live : List Bool) → length (clean.live_blocks block first live) ≡ length (filter (λ is_live. is_live) live)
-live_length block first [] = refl
-live_length block first (true ∷ live) = ap suc (live_length block (first + block) live)
-live_length block first (false ∷ live) = live_length block (first + block) live
 
 abbrev pub IsCleanedIn : Work → Choice → Type 0
 IsCleanedIn w choice = is_cleaned w choice ≡ true
@@ -130,7 +126,7 @@ module _ {disk : Shape} {past : Past} {task : ℕ} {held : List Entry} (session 
           rw is (record {
             stands = assumption (log_now, h.stands);
             at_work = λ _. rw (busy_by by, cleaned) refl;
-            rows = rw (gives, same, found, lives, live_length, by.chosen, filter-append, filter_none (is_newly_cleaned w) log.done (done_silent (Some current) by), cleaned, by.unreported.0) refl;
+            rows = rw (gives, same, found, lives, live_blocks-count, by.chosen, filter-append, filter_none (is_newly_cleaned w) log.done (done_silent (Some current) by), cleaned, by.unreported.0) refl;
           })
 
     -- where all blocks are delivered each choice is cleaned

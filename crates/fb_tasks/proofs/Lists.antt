@@ -1,9 +1,12 @@
 -- What holds of each element, and lists that are mapped, filtered and tested.
-use Rattle.std.proofs.Common.{◌≡◌, ℕ, zero, suc, ◌+◌, ◌<◌, ◌≤◌, ◌==◌, List, [], ◌∷◌, Bool, true, false, Some, inl, inr, length, filter, map, find, set, slice_get, refl, arith, subst, None, ◌++◌}
+use Rattle.std.proofs.Common.{◌≡◌, ℕ, zero, suc, ◌+◌, ◌<◌, ◌≤◌, ◌==◌, List, [], ◌∷◌, Bool, true, false, Some, inl, inr, length, filter, map, find, set, slice_get, refl, arith, subst, ◌++◌}
 use Rattle.std.specs.List.{AllByRecursion, flat_map, list_any, list_all, range_with_len}
 use Rattle.std.proofs.lemmas.Bool.{cases_Bool, cases_lt}
 use Rattle.std.proofs.lemmas.Bool.Decides.{nat_tests}
 use Rattle.std.proofs.lemmas.Option.{slice_get-map}
+pub use Rattle.fb_geometry.proofs.Faultless.{all_get as all_at, find-none as find_none, list_any-none as none_pass}
+pub use Rattle.fb_calls.proofs.Lists.{all_weaker}
+pub use Rattle.fb_wanted.proofs.Standing.{get_some as some_at}
 pub use Rattle.fb_model.proofs.Lists.{all_append, all_left, all_right, all_map, all_filter, none_kept as filter_none}
 
 pub some_same : {X : Type 0} (x y : X) → Some x ≡ Some y → x ≡ y
@@ -13,17 +16,9 @@ pub all_with : {X : Type 0} (P Q R : X → Type 0) → ((x : X) → P x → Q x 
 all_with P Q R f [] p q = tt
 all_with P Q R f (x ∷ xs) p q = (f x p.0 q.0, all_with P Q R f xs p.1 q.1)
 
-pub all_weaker : {X : Type 0} (P Q : X → Type 0) → ((x : X) → P x → Q x) → (xs : List X) → AllByRecursion P xs → AllByRecursion Q xs
-all_weaker P Q f xs p = all_with P P Q (λ x h _. f x h) xs p p
-
 pub all_any : {X : Type 0} (P : X → Type 0) → ((x : X) → P x) → (xs : List X) → AllByRecursion P xs
 all_any P f [] = tt
 all_any P f (x ∷ xs) = (f x, all_any P f xs)
-
-pub all_at : {X : Type 0} (P : X → Type 0) (xs : List X) (i : ℕ) (x : X) → AllByRecursion P xs → slice_get xs i ≡ Some x → P x
-all_at P [] i x p h = absurd (cc)
-all_at P (y ∷ xs) zero x p h = subst P (some_same y x h) p.0
-all_at P (y ∷ xs) (suc i) x p h = all_at P xs i x p.1 h
 
 pub all_pass : {X : Type 0} (p : X → Bool) (xs : List X) → AllByRecursion (λ x. p x ≡ true) (filter p xs)
 all_pass p [] = tt
@@ -63,10 +58,6 @@ pub any_none : {X : Type 0} (p : X → Bool) (xs : List X) → AllByRecursion (�
 any_none p [] h = refl
 any_none p (x ∷ xs) h = rw h.0 (any_none p xs h.1)
 
-pub none_pass : {X : Type 0} (p : X → Bool) (xs : List X) → list_any p xs ≡ false → AllByRecursion (λ x. p x ≡ false) xs
-none_pass p [] h = tt
-none_pass p (x ∷ xs) h = (grind arith, none_pass p xs (grind arith))
-
 pub flat_none : {X Y : Type 0} (f : X → List Y) (xs : List X) → AllByRecursion (λ x. f x ≡ []) xs → flat_map f xs ≡ []
 flat_none f [] h = refl
 flat_none f (x ∷ xs) h = rw (h.0, flat_none f xs h.1) refl
@@ -98,11 +89,6 @@ filter_to p (y ∷ ys) (suc i) x h pass = let rest = filter_to p ys i x h pass i
 pub map_at : {X Y : Type 0} (f : X → Y) (xs : List X) (i : ℕ) (x : X) → slice_get xs i ≡ Some x → slice_get (map f xs) i ≡ Some (f x)
 map_at f xs i x at = rw (slice_get-map f xs i, at) refl
 
-pub some_at : {X : Type 0} (xs : List X) (k : ℕ) → k < length xs → (x : X) × (slice_get xs k ≡ Some x)
-some_at [] k less = absurd (omega arith)
-some_at (x ∷ xs) zero less = (x, refl)
-some_at (x ∷ xs) (suc k) less = some_at xs k (omega arith)
-
 -- an element that is found has what all have, and passes
 pub find_all : {X : Type 0} (P : X → Type 0) (p : X → Bool) (xs : List X) (x : X) → AllByRecursion P xs → find p xs ≡ Some x → P x × (list_any p xs ≡ true)
 find_all P p [] x all h = absurd (cc)
@@ -110,10 +96,6 @@ find_all P p (y ∷ ys) x all h = elim (cases_Bool (p y)) [
   | inl pass ↦ rw pass (subst P (some_same y x (rw pass at h)) all.0, refl)
   | inr fail ↦ rw fail (find_all P p ys x all.1 (rw fail at h))
 ]
-
-pub find_none : {X : Type 0} (p : X → Bool) (xs : List X) → find p xs ≡ None → list_any p xs ≡ false
-find_none p [] h = refl
-find_none p (y ∷ ys) h = grind (arith, find_none p ys)
 
 -- a test of all, and each
 pub list_all_each : {X : Type 0} (p : X → Bool) (xs : List X) → list_all p xs ≡ true → AllByRecursion (λ x. p x ≡ true) xs

@@ -12,7 +12,7 @@ use Rattle.fb_tasks.proofs.Words.{is_complete, is_complete_as, is_done, number_s
 use Rattle.fb_tasks.proofs.Words.{found_for, by_deliveries, Session, take-length, all_both, list_any-append}
 use Rattle.std.proofs.lemmas.Grind.{flat_map-append}
 use Rattle.fb_tasks.proofs.{Complete.counts_same, Registered.blocks_in, Registered.own, States.shown_aborted, Changes.open_by}
-use Rattle.fb_tasks.proofs.{Cuts.ranges_join}
+use Rattle.fb_geometry.proofs.Turns.{range-append}
 
 -- ascending blocks begin at the first sector or after it
 pub ascend_from : (low : ℕ) (bs : List Block) → Ascend low bs → AllByRecursion (λ b. low ≤ b.lbn) bs
@@ -93,7 +93,7 @@ held_parts v held from end (b ∷ bs) ascend within parts none =
     let start : from + (b.lbn - from) ≡ b.lbn = omega arith in
     let gap = held_none held from (b.lbn - from) (λ k at_least less. let gap : k < b.lbn = omega arith in none k at_least (gap_none k gap)) in
     let rest = held_parts v held (b.lbn + b.count) end bs ascend.1 within.1 parts.1 (λ lbn from_it other. none lbn (omega arith) (rw (behind_it b.lbn b.count lbn from_it) other)) in
-    rw (whole, sym (ranges_join from (b.lbn - from) (b.count + (end - (b.lbn + b.count)))), start, sym (ranges_join b.lbn b.count (end - (b.lbn + b.count))), flat_map-append, flat_map-append, gap, parts.0, rest)
+    rw (whole, range-append from (b.lbn - from) (b.count + (end - (b.lbn + b.count))), start, range-append b.lbn b.count (end - (b.lbn + b.count)), flat_map-append, flat_map-append, gap, parts.0, rest)
     (by_state (is_delivered (v.bare b))) where
       gap_none : (k : ℕ) → k < b.lbn → list_any (λ (block : Block). is_within block.lbn block.count k) (b ∷ bs) ≡ false
       gap_none k less =

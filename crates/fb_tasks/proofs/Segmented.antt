@@ -8,6 +8,7 @@ use Rattle.fb_tasks.proofs.Words.{numbered, live_count, is_better, is_chosen, un
 use Rattle.fb_tasks.proofs.Words.{some_same, all_append, all_weaker, map_at, cuts_are}
 use Rattle.fb_tasks.proofs.Cuts.{cuts_placed, cuts_ascend, cuts_end, cuts_cover, numbered_append}
 use Rattle.fb_clean.specs.Segments as clean
+use Rattle.fb_clean.proofs.Live.{live_blocks-count}
 
 abbrev pub NumberedFrom : ℕ → List LogSegment → Type 0
 NumberedFrom n [] = Unit {0}
@@ -66,7 +67,7 @@ abbrev pub number_of_best : List LogSegment → Option ℕ
 number_of_best [] = None
 number_of_best (s ∷ ss) = Some (best_of is_better s ss).number
 
-module _ (w : Work) (going : w.closed ≡ false) (lives : (block first : ℕ) (live : List Bool) → length (clean.live_blocks block first live) ≡ length (filter (λ is_live. is_live) live)) where
+module _ (w : Work) (going : w.closed ≡ false) where
   pub waiting_kept : (ss : List LogSegment) → clean.waiting (map (kept_segment w) ss) ≡ map (kept_segment w) (filter (λ s. not (is_chosen w.choices s)) ss)
   waiting_kept [] = refl
   waiting_kept (s ∷ ss) = elim (cases_Bool (is_chosen w.choices s)) [
@@ -76,8 +77,8 @@ module _ (w : Work) (going : w.closed ≡ false) (lives : (block first : ℕ) (l
 
   better_same : (a b : LogSegment) → clean.is_better (kept_segment w a) (kept_segment w b) ≡ is_better a b
   better_same a b =
-      let x : length (kept_segment w a).live ≡ live_count a = lives w.terms.block a.first a.live in
-      let y : length (kept_segment w b).live ≡ live_count b = lives w.terms.block b.first b.live in
+      let x : length (kept_segment w a).live ≡ live_count a = live_blocks-count w.terms.block a.first a.live in
+      let y : length (kept_segment w b).live ≡ live_count b = live_blocks-count w.terms.block b.first b.live in
       rw (x, y) refl
 
   pub best_kept : (s : LogSegment) (ss : List LogSegment) → best_of clean.is_better (kept_segment w s) (map (kept_segment w) ss) ≡ kept_segment w (best_of is_better s ss)
@@ -95,11 +96,6 @@ pub cuts_of_live : (disk : Shape) (block first : ℕ) (live : List Bool) → cut
 cuts_of_live disk block first [] = refl
 cuts_of_live disk block first (true ∷ live) = ap (λ xs. cutting disk block first block ++ xs) (cuts_of_live disk block (first + block) live)
 cuts_of_live disk block first (false ∷ live) = cuts_of_live disk block (first + block) live
-
-pub live_within : (block first bound : ℕ) (live : List Bool) → first + length live * block ≤ bound → AllByRecursion (λ lbn. lbn + block ≤ bound) (clean.live_blocks block first live)
-live_within block first bound [] within = tt
-live_within block first bound (true ∷ live) within = (omega arith, live_within block (first + block) bound live (omega arith))
-live_within block first bound (false ∷ live) within = live_within block (first + block) bound live (omega arith)
 
 pub live_placed : (disk : Shape) (tasks task weight block n first : ℕ) (live : List Bool) → task < tasks → weight ≤ 1000 → 0 < block → block ≤ 2048 → first + length live * block ≤ length (places disk) → first + length live * block ≤ 10 ^ 12
     → AllByRecursion (IsBlockOf disk tasks) (numbered task weight n (live_cuts disk block first live))

@@ -83,7 +83,7 @@ pub use Rattle.fb_tasks.specs.Keeping.{new_entries, without_aborted}
 pub use Rattle.fb_tasks.specs.Leaving.{HasBegun, HasGrown, MayClean, OnlyRegisters, OnlyTouched, by_calls, entries_by}
 pub use Rattle.fb_tasks.specs.Listing.{AreListed, IsNoted}
 pub use Rattle.fb_tasks.specs.Script.{IsCalled}
-pub use Rattle.fb_tasks.specs.Standing.{AreIndexed, AreReported, AreRowsOf, Ascend, Cleans, CleansBy, HasChosen, HasNoChoice, HaveChosen}
+pub use Rattle.fb_tasks.specs.Standing.{AreIndexed, AreReported, AreRowsOf, Ascend, Cleans, CleansBy, HasChosen, HasNoChoice, HasTurned, HaveChosen}
 pub use Rattle.fb_tasks.specs.Standing.{HoldsBlock, HoldsBlocks, HoldsChoice, HoldsImage, IsAtNumber, IsAtWork, IsBlockOf, IsCutFrom}
 pub use Rattle.fb_tasks.specs.Standing.{IsPlaced, IsQuiet, IsSegmentOf, IsUntouched, MayChoose, MayFinish, Stands, Told, choice_in}
 pub use Rattle.fb_tasks.specs.Standing.{choosable_by, entry_by, entry_in, entry_of, kept_segment}

@@ -20,9 +20,10 @@ use Rattle.fb_rows.specs.declared.back.BackRow.{BackRow}
 use Rattle.fb_model.specs.History.{Past, LogSegment, tasks, registered, is_seal_of}
 use Rattle.fb_model.specs.Completion.{Choice, Work, work, TaskView, view, state_in, is_cleaned, is_over, is_done, is_segment_of, is_unsealed}
 use Rattle.fb_model.specs.Segments.{is_chosen, is_busy, unchosen}
-use Rattle.fb_model.specs.Images.{is_newly_cleaned}
+use Rattle.fb_model.specs.Images.{is_newly_cleaned, segment_rows}
 use Rattle.fb_tasks.specs.declared.session.Session.{Session}
 use Rattle.fb_tasks.specs.Keeping.{is_none}
+use Rattle.fb_tasks.specs.Taken.{by_deliveries}
 
 -- a registered block with its state
 abbrev pub entry_in : TaskView → Block → Entry
@@ -207,6 +208,11 @@ pub record MayChoose (disk : Shape) (past : Past) (task : ℕ) (session : Sessio
   pub stands : Stands (view past task) session
   pub at_work : IsAtWork (view past task).work session
   pub few : length (registered past) + choosable_by disk past task ≤ 16 * 10 ^ 6
+
+-- choices were made up to a later history: the session may choose on, and the rows of what they cleaned at once follow
+pub record HasTurned (disk : Shape) (past new : Past) (task now : ℕ) (session : Session) (held : List Entry) (old more : List BackRow) : Type 0 where
+  pub may : MayChoose disk new task session held
+  pub rows : (before : List BackRow) → old ≡ before ++ segment_rows by_deliveries past now task → more ≡ before ++ segment_rows by_deliveries new now task
 
 -- a session has chosen
 pub record HasChosen (disk : Shape) (past : Past) (task : ℕ) (session : Session) (held : List Entry) : Type 0 where

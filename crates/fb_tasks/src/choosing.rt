@@ -1,19 +1,14 @@
 // The choice of segments.
 ghost use Rattle.std.specs.Prelude.{◌≡◌, ℕ, List, ◌&&◌, not, true, false, ◌++◌, OnOk, IfOk};
 ghost use Rattle.fb_calls.specs.Sessions.{is_clean};
-ghost use Rattle.fb_rows.specs.declared.back.BackRow.{BackRow as Row};
 ghost use Rattle.fb_model.specs.History.{Past};
 ghost use Rattle.fb_model.specs.Segments.{choose_once, choose_in};
-ghost use Rattle.fb_model.specs.Images.{segment_rows};
-ghost use Rattle.fb_model.specs.Completion.{view};
-ghost use Rattle.fb_tasks.specs.Taken.{by_deliveries};
 ghost use Rattle.fb_tasks.specs.Leaving.{HasGrown, OnlyRegisters, by_calls};
-ghost use Rattle.fb_tasks.specs.Standing.{MayChoose, HasChosen, AreReported};
+ghost use Rattle.fb_tasks.specs.Standing.{MayChoose, HasTurned};
 
 use crate::session::Session;
 use crate::wanting::want_live;
 use fb_calls::Kind;
-use fb_clean::live_blocks_are_live;
 use fb_rows::BackRows;
 use fb_sectormap::SectorMap;
 use fb_store::Contents;
@@ -33,11 +28,10 @@ impl Session {
         rows: &mut BackRows,
     ) -> Result<(), NoMemory>
         requires { (past : Past) × MayChoose map.now past task self.old wanted.old }
-        ensures chosen { OnOk result ((past : Past) → MayChoose map.now past task self.old wanted.old → HasChosen map.now (choose_in map.now past task) task self.new wanted.new) }
+        ensures chosen { OnOk result ((past : Past) → MayChoose map.now past task self.old wanted.old → HasTurned map.now past (choose_in map.now past task) task now self.new wanted.new rows.old rows.new) }
         ensures same { (by_calls self.new ≡ by_calls self.old) × (self.new.touched ≡ self.old.touched) }
         ensures own { OnlyRegisters (λ other. (other ≡ task) × (is_clean self.old.kind ≡ true) × (self.old.closed ≡ false)) wanted.old wanted.new }
         ensures grown { HasGrown rows.old rows.new }
-        ensures rows { OnOk result ((past : Past) → MayChoose map.now past task self.old wanted.old → AreReported (view past task).work → rows.new ≡ rows.old ++ segment_rows by_deliveries (choose_in map.now past task) now task) }
     {
         if !self.may_choose() {
             return Ok(());
@@ -72,16 +66,13 @@ impl Session {
     ) -> Result<bool, NoMemory>
         requires cleans { (is_clean self.old.kind ≡ true) × (self.old.closed ≡ false) }
         requires may { (past : Past) × MayChoose map.now past task self.old wanted.old }
-        ensures chosen { IfOk result (λ some. (past : Past) → MayChoose map.now past task self.old wanted.old → MayChoose map.now (choose_once map.now task past) task self.new wanted.new) }
+        ensures chosen { IfOk result (λ some. (past : Past) → MayChoose map.now past task self.old wanted.old → HasTurned map.now past (choose_once map.now task past) task now self.new wanted.new rows.old rows.new) }
         ensures same { (by_calls self.new ≡ by_calls self.old) × (self.new.touched ≡ self.old.touched) }
         ensures own { OnlyRegisters (λ other. other ≡ task) wanted.old wanted.new }
         ensures grown { HasGrown rows.old rows.new }
         ensures none { IfOk result (λ some. some ≡ false → (past : Past) → MayChoose map.now past task self.old wanted.old → choose_once map.now task past ≡ past) }
-        ensures rows { IfOk result (λ some. (past : Past) (before : List Row) → MayChoose map.now past task self.old wanted.old
-            → rows.old ≡ before ++ segment_rows by_deliveries past now task → rows.new ≡ before ++ segment_rows by_deliveries (choose_once map.now task past) now task) }
     {
         let _sectors = map.count();
-        live_blocks_are_live();
         match self.log.choose() {
             Some(segment) => {
                 want_live(map, wanted, self, task, segment)?;

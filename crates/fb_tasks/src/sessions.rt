@@ -78,6 +78,7 @@ impl Sessions {
     ///
     /// Out of memory all sessions and blocks are as before, but the first blocks of a want may be
     /// registered.
+    #[tactic(auto, using(crate::proofs::Asked::session_there))]
     pub fn apply(
         &mut self,
         map: &SectorMap,
@@ -349,8 +350,8 @@ impl Sessions {
         rows: &mut BackRows,
     ) -> Result<(), NoMemory>
         requires { (past : Past) × MaySettle map.now past self.old wanted.old }
-        ensures chosen { OnOk result ((past : Past) → MaySettle map.now past self.old wanted.old → HaveChosen map.now (with_choices map.now past) self.new wanted.new) }
-        ensures rows { OnOk result ((past : Past) → MaySettle map.now past self.old wanted.old → rows.new ≡ rows.old ++ flat_map (segment_rows by_deliveries (with_choices map.now past) now) (task_numbers (with_choices map.now past))) }
+        ensures chosen { OnOk result ((past : Past) → MaySettle map.now past self.old wanted.old → HaveChosen map.now (with_choices map.now past) self.new wanted.new
+            × (rows.new ≡ rows.old ++ flat_map (segment_rows by_deliveries (with_choices map.now past) now) (task_numbers (with_choices map.now past)))) }
         ensures stay_sessions { OnlyTouched self.old self.new }
         ensures stay_blocks { OnlyRegisters (MayClean self.old) wanted.old wanted.new }
         ensures stay_rows { HasGrown rows.old rows.new }

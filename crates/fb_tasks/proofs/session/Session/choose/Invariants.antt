@@ -1,5 +1,5 @@
-use Rattle.fb_tasks.proofs.Words.{◌≡◌, ◌++◌, true, false, is_clean, Past, choose_up_to, segment_rows, by_deliveries, view, MayChoose}
-use Rattle.fb_tasks.proofs.Words.{AreReported, HasGrown, OnlyRegisters, by_calls}
+use Rattle.fb_tasks.proofs.Words.{◌≡◌, true, false, is_clean, Past, choose_up_to, MayChoose, HasTurned}
+use Rattle.fb_tasks.proofs.Words.{HasGrown, OnlyRegisters, by_calls}
 use Rattle.fb_tasks.proofs.session.Session.choose.Given as goal
 
 -- so many choices were made as turns have passed
@@ -9,6 +9,6 @@ invariant-loop-turn l = record {
   same : (by_calls l.self ≡ by_calls l.initial.self) × (l.self.touched ≡ l.initial.self.touched);
   own : OnlyRegisters (λ other. other ≡ l.task) l.initial.wanted l.wanted;
   grown : HasGrown l.initial.rows l.rows;
-  chosen : (past : Past) → MayChoose l.map past l.task l.initial.self l.initial.wanted → MayChoose l.map (choose_up_to l._turn l.map l.task past) l.task l.self l.wanted;
-  rows : (past : Past) → MayChoose l.map past l.task l.initial.self l.initial.wanted → AreReported (view past l.task).work → l.rows ≡ l.initial.rows ++ segment_rows by_deliveries (choose_up_to l._turn l.map l.task past) l.now l.task;
+  turned : (past : Past) → MayChoose l.map past l.task l.initial.self l.initial.wanted
+      → HasTurned l.map past (choose_up_to l._turn l.map l.task past) l.task l.now l.self l.wanted l.initial.rows l.rows;
 }

@@ -1,33 +1,14 @@
-use Rattle.fb_tasks.proofs.Words.{ap, subst, refl, on_ok_weaker, on_err_weaker, MayAsk, blocks_by, on_err, arith}
-use Rattle.fb_tasks.specs.Telling.{calls_of}
+use Rattle.fb_tasks.proofs.Words.{ap, refl, on_ok_weaker, on_err_weaker, blocks_by, on_err, arith}
 use Rattle.fb_tasks.proofs.{Leaving.begun_not, Leaving.begun_same, Changes.promoted-tells, Changes.asked-aborts, Asked.room_for_one}
-use Rattle.fb_tasks.proofs.{Asked.session_there, Asked.takes_none}
+use Rattle.fb_tasks.proofs.{Asked.takes_none}
 use Rattle.fb_tasks.proofs.sessions.Sessions.apply.Goals as goal
 
 pub open-requires : goal.open-requires
 open-requires c = room_for_one c.args.map.now c.requires.0 c.args.self.now c.args.wanted.now c.args.call.now c.requires.1
 
-pub suspend-requires : goal.suspend-requires
-suspend-requires c = session_there c.args.map.now c.requires.0 c.args.self.now c.args.wanted.now c.args.call.now (λ a. subst (λ x. MayAsk c.args.map.now (calls_of c.requires.0) c.args.call.now.task x) c.in-Suspend.is a) c.requires.1
-
-pub resume-requires : goal.resume-requires
-resume-requires c = session_there c.args.map.now c.requires.0 c.args.self.now c.args.wanted.now c.args.call.now (λ a. subst (λ x. MayAsk c.args.map.now (calls_of c.requires.0) c.args.call.now.task x) c.in-Resume.is a) c.requires.1
-
-pub close-requires : goal.close-requires
-close-requires c = session_there c.args.map.now c.requires.0 c.args.self.now c.args.wanted.now c.args.call.now (λ a. subst (λ x. MayAsk c.args.map.now (calls_of c.requires.0) c.args.call.now.task x) c.in-Close.is a) c.requires.1
-
-pub want-requires-clause-opened : goal.want-requires-clause-opened
-want-requires-clause-opened c = session_there c.args.map.now c.requires.0 c.args.self.now c.args.wanted.now c.args.call.now (λ a. (subst (λ x. MayAsk c.args.map.now (calls_of c.requires.0) c.args.call.now.task x) c.in-Want.is a).0) c.requires.1
-
-pub add_segment-requires-clause-opened : goal.add_segment-requires-clause-opened
-add_segment-requires-clause-opened c = session_there c.args.map.now c.requires.0 c.args.self.now c.args.wanted.now c.args.call.now (λ a. (subst (λ x. MayAsk c.args.map.now (calls_of c.requires.0) c.args.call.now.task x) c.in-Segment.is a).0) c.requires.1
-
 pub add_segment-requires-clause-call : goal.add_segment-requires-clause-call
 add_segment-requires-clause-call c =
     (c.args.map.now, c.requires.0, c.args.call.now, c.args.wanted.now, record { task = refl; action = c.in-Segment.is }, c.requires.1, omega (arith, c.count-sectors.ensures.value, c.count-sectors.ensures.bound))
-
-pub touch-requires : goal.touch-requires
-touch-requires c = session_there c.args.map.now c.requires.0 c.args.self.now c.args.wanted.now c.args.call.now (λ a. (subst (λ x. MayAsk c.args.map.now (calls_of c.requires.0) c.args.call.now.task x) c.in-Abort.is a).0) c.requires.1
 
 pub returns-in-Open : goal.returns-in-Open
 returns-in-Open c = record {

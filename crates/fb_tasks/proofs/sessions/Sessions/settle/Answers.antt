@@ -4,14 +4,14 @@ use Rattle.fb_tasks.proofs.{RowsOf.rows-given, RowsOf.nothing-mute, Tested.settl
 use Rattle.fb_tasks.proofs.sessions.Sessions.settle.Goals as goal
 
 pub test_all-requires : goal.test_all-requires
-test_all-requires c = (c.args.map.now, with_choices c.args.map.now c.requires.0, c.in_ok-choose_all.ensures.chosen c.requires.0 c.requires.1)
+test_all-requires c = (c.args.map.now, with_choices c.args.map.now c.requires.0, (c.in_ok-choose_all.ensures.chosen c.requires.0 c.requires.1).0)
 
 pub returns-clause-tells : goal.returns-clause-tells
-returns-clause-tells c = on_ok_weaker c.test_all.result (λ tells past may. tells c.args.map.now (with_choices c.args.map.now past) (c.in_ok-choose_all.ensures.chosen past may)) c.test_all.ensures.tells
+returns-clause-tells c = on_ok_weaker c.test_all.result (λ tells past may. tells c.args.map.now (with_choices c.args.map.now past) (c.in_ok-choose_all.ensures.chosen past may).0) c.test_all.ensures.tells
 
 pub returns-clause-settled : goal.returns-clause-settled
 returns-clause-settled c = on_ok_weaker c.test_all.result (λ tells past may.
-    let chosen = c.in_ok-choose_all.ensures.chosen past may in
+    let chosen = (c.in_ok-choose_all.ensures.chosen past may).0 in
     settled-tested (with_choices c.args.map.now past) (test_rows by_deliveries (with_choices c.args.map.now past) c.args.now)
     (λ task less. rows-given by_deliveries (with_choices c.args.map.now past) c.args.now [] nothing-mute task (λ more. (chosen.blocks.unopened task more).choices))) c.test_all.ensures.tells
 
@@ -19,6 +19,7 @@ pub returns-clause-rows : goal.returns-clause-rows
 unfolding test_rows
 returns-clause-rows c = on_ok_weaker c.test_all.result (λ pushed past may.
     let new = with_choices c.args.map.now past in
-    pushed c.args.map.now new (c.in_ok-choose_all.ensures.chosen past may)
-    ∙ (ap (λ rows. rows ++ flat_map (λ task. seal_rows by_deliveries new c.args.now task ++ complete_rows new c.args.now task) (task_numbers new)) (c.in_ok-choose_all.ensures.rows past may)
+    let chosen = c.in_ok-choose_all.ensures.chosen past may in
+    pushed c.args.map.now new chosen.0
+    ∙ (ap (λ rows. rows ++ flat_map (λ task. seal_rows by_deliveries new c.args.now task ++ complete_rows new c.args.now task) (task_numbers new)) chosen.1
     ∙ append_assoc c.args.rows.now (flat_map (segment_rows by_deliveries new c.args.now) (task_numbers new)) (flat_map (λ task. seal_rows by_deliveries new c.args.now task ++ complete_rows new c.args.now task) (task_numbers new)))) c.test_all.ensures.rows

@@ -3,7 +3,7 @@ use Rattle.fb_tasks.proofs.Words.{refl, append_assoc, contains, nat_cmp, length-
 use Rattle.fb_tasks.proofs.Words.{test_rows, seal_rows, complete_rows, Session, by_deliveries, HaveChosen, some_at, AreListed}
 use Rattle.fb_tasks.proofs.Words.{OnlyTouched}
 use Rattle.fb_tasks.proofs.Leaving.{grown_not, grown_more, touched_none, touched_set}
-use Rattle.fb_tasks.proofs.Listed.{listed_set, listed_less, listed_there}
+use Rattle.fb_tasks.proofs.Listed.{listed_less, listed_there}
 use Rattle.fb_tasks.proofs.Tested.{AreAllRows, none_tested, chosen_at, one_tested, rows_more, ends_of, tested-to, rows-to, tells-tested}
 use Rattle.fb_tasks.proofs.RowsOf.{rows-given, nothing-mute}
 use Rattle.fb_tasks.proofs.sessions.Sessions.test_all.Goals as goal

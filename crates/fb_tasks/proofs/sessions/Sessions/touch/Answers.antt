@@ -1,5 +1,4 @@
 use Rattle.fb_tasks.proofs.Words.{◌<◌, Some, length, ap, sym, ◌∙◌, subst, true, set, slice_get, slice_get-get_or, Session, some_same}
-use Rattle.fb_tasks.proofs.Listed.{listed_more, listed_noted}
 use Rattle.fb_tasks.proofs.sessions.Sessions.touch.Goals as goal
 
 pub returns-clause-ok : goal.returns-clause-ok
