@@ -2,7 +2,7 @@
 use Rattle.fb_tasks.proofs.Words.{◌≡◌, ℕ, zero, suc, ◌+◌, ◌<◌, ◌≤◌, ◌==◌, ◌&&◌, if◌then◌else◌, List, [], ◌∷◌, ◌++◌, Bool, true, false}
 use Rattle.fb_tasks.proofs.Words.{Some, None, Option, inl, inr, length, map, set, get_or, slice_get, append-nil, append_assoc, refl, ap}
 use Rattle.fb_tasks.proofs.Words.{ap₂, sym, ◌∙◌, arith, subst, AllByRecursion, flat_map, list_any, range_with_len, cases_Bool, true≢false}
-use Rattle.fb_tasks.proofs.Words.{nat_tests, length-set, slice_get_within, slice_get-get_or, Shape, Kind, is_clean, option_map, BackRow}
+use Rattle.fb_tasks.proofs.Words.{nat_tests, length-set, slice_get_within, slice_get-get_or, Shape, is_clean, option_map, BackRow}
 use Rattle.fb_tasks.proofs.Words.{BadLine, GotLine, DeliveryRow, Deliver, Entry, Wanted, after, is_block, Content, Gives, Past, tested}
 use Rattle.fb_tasks.proofs.Words.{delivered, tasks, terms_of, registered, is_seal_of, Choice, TaskView, view, delivered_view, is_unsealed}
 use Rattle.fb_tasks.proofs.Words.{is_done, is_cleaned, delivered-silent, delivered-view, tested-view, number_same, test_rows}
@@ -10,6 +10,8 @@ use Rattle.fb_tasks.proofs.Words.{segment_rows, seal_rows, complete_rows, is_new
 use Rattle.fb_tasks.proofs.Words.{by_deliveries, rows_after, HasTaken, entry_of, choice_in, AreReported, MayFinish, IsBlockOf, IsAtWork}
 use Rattle.fb_tasks.proofs.Words.{HoldsBlocks, Stands, Told, HasNoChoice, Tells, IsSettled, MayDeliver, all_at, number_other, same_number}
 use Rattle.fb_tasks.proofs.Words.{other_number, some_at, map_at, each_set, flat_none, all_range, HasBegun}
+use Rattle.fb_tasks.proofs.Words.{Delivers, HasChosen}
+use Rattle.fb_tasks.proofs.Words.{ends_of}
 use Rattle.fb_tasks.proofs.{RowsOf.rows-given, RowsOf.seals_given, RowsOf.findings-mute, Tested.settled-tested, Tested.AreAllRows}
 use Rattle.fb_tasks.proofs.{Tested.tells-tested, Tested.still-stands, Tested.no-ends, States.flagged-stands, Deliveries.delivered-entries}
 use Rattle.fb_tasks.proofs.{Deliveries.WasWanted, Deliveries.was_wanted, Deliveries.delivered-holds, Deliveries.delivered-stands}
@@ -65,17 +67,6 @@ module _ {disk : Shape} {past : Past} {sessions : List Session} {held : List Ent
   own-rows now = ap₂ (λ a b. a ++ b)
       (flat_one (segment_rows by_deliveries (delivered got ∷ past) now) got.block.task 0 (length (tasks past)) (omega arith) (omega (arith, opened)) (λ j from less differ. no_segments j (λ e. differ (sym e)) (omega (arith, less)) now))
       (flat_one (λ task. seal_rows by_deliveries (delivered got ∷ past) now task ++ complete_rows (delivered got ∷ past) now task) got.block.task 0 (length (tasks past)) (omega arith) (omega (arith, opened)) (λ j from less differ. no_ends j (λ e. differ (sym e)) (omega (arith, less)) now))
-
-  pub all-rows : (old rows : List BackRow) → rows ≡ ((((old ++ GotLine got ∷ []) ++ findings past got) ++ segment_rows by_deliveries (delivered got ∷ past) got.end got.block.task) ++ seal_rows by_deliveries (delivered got ∷ past) got.end got.block.task) ++ complete_rows (delivered got ∷ past) got.end got.block.task
-      → rows ≡ old ++ GotLine got ∷ rows_after past got
-  all-rows old rows is = rw (is, own-rows got.end) (simp append_assoc)
-
-  -- its findings are those of its session
-  pub findings_same : (kind : Kind) (lbns : List ℕ) → (terms_of past got.block.task).kind ≡ kind → lbns ≡ (if is_scrub kind then bad_sectors got.content else []) → map (λ lbn. BadLine (record { task = got.block.task; lbn = lbn })) lbns ≡ findings past got
-  findings_same kind lbns same is = rw (same, is) (either (is_scrub kind)) where
-    either : (b : Bool) → map (λ lbn. BadLine (record { task = got.block.task; lbn = lbn })) (if b then bad_sectors got.content else [])
-        ≡ (if b then map (λ lbn. BadLine (record { task = got.block.task; lbn = lbn })) (bad_sectors got.content) else [])
-    either b = grind arith
 
   module _ (now : List Entry) (h : HoldsBlocks disk (delivered got ∷ past) now) where
     pub all-given : AreAllRows (delivered got ∷ past) (rows_after past got)
@@ -143,71 +134,87 @@ module _ {disk : Shape} {past : Past} {sessions : List Session} {held : List Ent
         was.shown_wanted,
       )
 
-  module _ (old : Session) (at : slice_get sessions got.block.task ≡ Some old) where
-    told-own : Told (view past got.block.task) old
-    told-own = may.tells.each got.block.task old at
-
-    pub busy-own : is_clean old.kind ≡ true → old.log.unfinished ≡ None → ⊥
-    busy-own cleans idle = at_work_now (view past got.block.task) got (placed got may).own_place (placed got may).own_there (placed got may).bare old.log (told-own.stands.log cleans) idle
-
-    pub kind-own : (terms_of past got.block.task).kind ≡ old.kind
-    kind-own = terms_is past got.block.task ∙ ap (λ t. t.kind) told-own.stands.terms
-
-    pub may-finish : (now : List Entry) (mid : Session) → now ≡ after got.block.task (Deliver got.block.index) held → ((content_at : ℕ → Content) → Gives got.content content_at got.block.lbn got.block.count → HasTaken content_at got.block old mid)
-        → MayFinish disk (delivered got ∷ past) got.block.task mid now
-    may-finish now mid is takes =
-        let taken = takes may.content_at may.content in record {
-          blocks = held-now now is;
-          stands = rw (delivered-view past got got.block.task refl) (delivered-stands (view past got.block.task) got (placed got may).own_place (placed got may).own_there (placed got may).bare may.content_at old mid (may.tells.placed got.block.task).indexed may.content taken told-own.stands);
-          reported = rw (delivered-view past got got.block.task refl) (others-silent (view past got.block.task) got old mid told-own.stands told-own.reported (ap (λ (s : Session). s.log.unfinished) taken.same));
-        }
-
   -- the session of the delivered block
-  pub own-there : (old : Session) → old ≡ get_or sessions got.block.task old → slice_get sessions got.block.task ≡ Some old
-  own-there old is =
+  pub delivers : {items : List Session} {now : List Entry} {old : Session} → items ≡ sessions → old ≡ get_or items got.block.task old
+      → now ≡ after got.block.task (Deliver got.block.index) held → Delivers disk past sessions held got old now
+  delivers {items} {now} {old} same says is =
       let within : got.block.task < length sessions = rw may.tells.as_many (opened got may) in
-      slice_get-get_or sessions got.block.task old within ∙ ap Some (sym is)
+      record { may = may; at = slice_get-get_or sessions got.block.task old within ∙ ap Some (sym (rw same at says)); is = is }
 
-  -- the rows of the session's test, one after the other
-  pub rows-one_by_one : (old with_got with_findings with_segment rows : List BackRow) (kind : Kind) (lbns : List ℕ) → (terms_of past got.block.task).kind ≡ kind → lbns ≡ (if is_scrub kind then bad_sectors got.content else [])
-      → with_got ≡ old ++ GotLine got ∷ [] → with_findings ≡ with_got ++ map (λ lbn. BadLine (record { task = got.block.task; lbn = lbn })) lbns
-      → with_segment ≡ with_findings ++ segment_rows by_deliveries (delivered got ∷ past) got.end got.block.task
-      → rows ≡ (with_segment ++ seal_rows by_deliveries (delivered got ∷ past) got.end got.block.task) ++ complete_rows (delivered got ∷ past) got.end got.block.task
-      → rows ≡ old ++ GotLine got ∷ rows_after past got
-  rows-one_by_one old with_got with_findings with_segment rows kind lbns same is pushed found segment ends =
-      all-rows got may old rows (rw (ends, segment, found, pushed, findings_same got may kind lbns same is) refl)
+module _ {disk : Shape} {past : Past} {sessions : List Session} {held now : List Entry} {got : DeliveryRow} {old : Session} (t : Delivers disk past sessions held got old now) where
+  told-own : Told (view past got.block.task) old
+  told-own = t.may.tells.each got.block.task old t.at
 
-module _ {disk : Shape} {past : Past} {sessions : List Session} {held : List Entry} (got : DeliveryRow) (may : MayDeliver disk past sessions held got)
-    (old with_got : List BackRow) (kind : Kind) (lbns : List ℕ) (same : (terms_of past got.block.task).kind ≡ kind) (is : lbns ≡ (if is_scrub kind then bad_sectors got.content else [])) (pushed : with_got ≡ old ++ GotLine got ∷ []) where
-  abbrev found : List BackRow
-  found = map (λ lbn. BadLine (record { task = got.block.task; lbn = lbn })) lbns
+  was : WasWanted past got.block
+  was = placed got t.may
 
-  abbrev segments : List BackRow
-  segments = segment_rows by_deliveries (delivered got ∷ past) got.end got.block.task
+  pub busy-own : is_clean old.kind ≡ true → old.log.unfinished ≡ None → ⊥
+  busy-own cleans idle = at_work_now (view past got.block.task) got was.own_place was.own_there was.bare old.log (told-own.stands.log cleans) idle
 
-  abbrev seals : List BackRow
-  seals = seal_rows by_deliveries (delivered got ∷ past) got.end got.block.task
+  module _ {mid : Session} (takes : (content_at : ℕ → Content) → Gives got.content content_at got.block.lbn got.block.count → HasTaken content_at got.block old mid) where
+    taken : HasTaken t.may.content_at got.block old mid
+    taken = takes t.may.content_at t.may.content
 
-  abbrev ends : List BackRow
-  ends = complete_rows (delivered got ∷ past) got.end got.block.task
+    may-finish : MayFinish disk (delivered got ∷ past) got.block.task mid now
+    may-finish = record {
+      blocks = held-now got t.may now t.is;
+      stands = rw (delivered-view past got got.block.task refl) (delivered-stands (view past got.block.task) got was.own_place was.own_there was.bare
+          t.may.content_at old mid (t.may.tells.placed got.block.task).indexed t.may.content taken told-own.stands);
+      reported = rw (delivered-view past got got.block.task refl) (others-silent (view past got.block.task) got old mid told-own.stands told-own.reported
+          (ap (λ (s : Session). s.log.unfinished) taken.same));
+    }
 
-  abbrev Begun : List BackRow → Type 0
-  Begun new = HasBegun old (GotLine got ∷ rows_after past got) new
+    -- the rows of the session's test, one after the other
+    module _ (rows : List BackRow) {with_got : List BackRow} {lbns : List ℕ} (is : lbns ≡ (if is_scrub mid.kind then bad_sectors got.content else [])) (pushed : with_got ≡ rows ++ GotLine got ∷ []) where
+      abbrev found : List BackRow
+      found = map (λ lbn. BadLine (record { task = got.block.task; lbn = lbn })) lbns
 
-  due : (new : List BackRow) → HasBegun old (((GotLine got ∷ [] ++ found) ++ segments) ++ (seals ++ ends)) new → Begun new
-  due new h = subst (λ rows. HasBegun old rows new)
-      (sym (append_assoc ((GotLine got ∷ [] ++ found) ++ segments) seals ends)
-      ∙ rows-one_by_one got may [] (GotLine got ∷ []) (GotLine got ∷ [] ++ found) ((GotLine got ∷ [] ++ found) ++ segments) ((((GotLine got ∷ [] ++ found) ++ segments) ++ seals) ++ ends) kind lbns same is refl refl refl refl) h
+      abbrev segments : List BackRow
+      segments = segment_rows by_deliveries (delivered got ∷ past) got.end got.block.task
 
-  pub begun-findings : (new : List BackRow) → HasBegun with_got found new → Begun new
-  begun-findings new h = due new (begun_longer (seals ++ ends) (begun_longer segments (begun_after (GotLine got ∷ []) pushed h)))
+      abbrev ends : List BackRow
+      ends = ends_of (delivered got ∷ past) got.end got.block.task
 
-  module _ (with_findings : List BackRow) (added : with_findings ≡ with_got ++ found) where
-    all_found : with_findings ≡ old ++ (GotLine got ∷ [] ++ found)
-    all_found = rw (added, pushed) (append_assoc old (GotLine got ∷ []) found)
+      -- its findings are those of its session
+      findings_same : found ≡ findings past got
+      findings_same =
+          let kind : (terms_of past got.block.task).kind ≡ mid.kind =
+          terms_is past got.block.task ∙ (ap (λ t. t.kind) told-own.stands.terms ∙ sym (ap (λ (s : Session). s.kind) taken.same)) in
+          rw (kind, is) (either (is_scrub mid.kind)) where
+            either : (b : Bool) → map (λ lbn. BadLine (record { task = got.block.task; lbn = lbn })) (if b then bad_sectors got.content else [])
+                ≡ (if b then map (λ lbn. BadLine (record { task = got.block.task; lbn = lbn })) (bad_sectors got.content) else [])
+            either b = grind arith
 
-    pub begun-segment : (new : List BackRow) → new ≡ with_findings → Begun new
-    begun-segment new none = due new (begun_longer (seals ++ ends) (begun_after (GotLine got ∷ [] ++ found) all_found (begun_same none)))
+      due_is : GotLine got ∷ rows_after past got ≡ ((GotLine got ∷ found) ++ segments) ++ ends
+      due_is = ap (λ more. GotLine got ∷ findings past got ++ more) (own-rows got t.may got.end)
+          ∙ ap (λ rows. GotLine got ∷ rows) (ap (λ rows. rows ++ (segments ++ ends)) (sym findings_same) ∙ sym (append_assoc found segments ends))
 
-    pub begun-ends : (with_segment new : List BackRow) → with_segment ≡ with_findings ++ segments → HasBegun with_segment (seals ++ ends) new → Begun new
-    begun-ends with_segment new cleaned h = due new (begun_after ((GotLine got ∷ [] ++ found) ++ segments) (rw (cleaned, all_found, append_assoc) refl) h)
+      abbrev Begun : List BackRow → Type 0
+      Begun new = HasBegun rows (GotLine got ∷ rows_after past got) new
+
+      due : {new : List BackRow} → HasBegun rows (((GotLine got ∷ found) ++ segments) ++ ends) new → Begun new
+      due {new} h = subst (λ due. HasBegun rows due new) (sym due_is) h
+
+      pub begun-findings : {new : List BackRow} → HasBegun with_got found new → HasBegun rows (GotLine got ∷ rows_after past got) new
+      begun-findings h = due (begun_longer ends (begun_longer segments (begun_after (GotLine got ∷ []) pushed h)))
+
+      module _ {with_findings : List BackRow} (added : with_findings ≡ with_got ++ found) where
+        all_found : with_findings ≡ rows ++ (GotLine got ∷ found)
+        all_found = rw (added, pushed) (append_assoc rows (GotLine got ∷ []) found)
+
+        pub begun-segment : {new : List BackRow} → new ≡ with_findings → HasBegun rows (GotLine got ∷ rows_after past got) new
+        begun-segment none = due (begun_longer ends (begun_after (GotLine got ∷ found) all_found (begun_same none)))
+
+        module _ {with_segment : List BackRow} {finished : Session} (finishes : (disk : Shape) (past : Past) → MayFinish disk past got.block.task mid now
+            → (Stands (view past got.block.task) finished) × (IsAtWork (view past got.block.task).work finished) × (with_segment ≡ with_findings ++ segment_rows by_deliveries past got.end got.block.task)) where
+          pub has-chosen : HasChosen disk (delivered got ∷ past) got.block.task finished now
+          has-chosen = let is = finishes disk (delivered got ∷ past) may-finish in record { blocks = held-now got t.may now t.is; stands = is.0; at_work = is.1 }
+
+          with_all : with_segment ≡ rows ++ ((GotLine got ∷ found) ++ segments)
+          with_all = (finishes disk (delivered got ∷ past) may-finish).2 ∙ (ap (λ rows. rows ++ segments) all_found ∙ append_assoc rows (GotLine got ∷ found) segments)
+
+          pub begun-ends : {new : List BackRow} → HasBegun with_segment ends new → HasBegun rows (GotLine got ∷ rows_after past got) new
+          begun-ends h = due (begun_after ((GotLine got ∷ found) ++ segments) with_all h)
+
+          pub rows-all : {new : List BackRow} → new ≡ with_segment ++ ends → new ≡ rows ++ GotLine got ∷ rows_after past got
+          rows-all is = is ∙ (ap (λ rows. rows ++ ends) with_all ∙ (append_assoc rows ((GotLine got ∷ found) ++ segments) ends ∙ ap (λ due. rows ++ due) (sym due_is)))

@@ -8,9 +8,11 @@ use Rattle.fb_tasks.proofs.Words.{is_done, is_complete, is_segment_of, work, is_
 use Rattle.fb_tasks.proofs.Words.{complete_rows, is_newly_cleaned, number_same, tested-view, Session, is_none, IsSealed, AreRowsOf}
 use Rattle.fb_tasks.proofs.Words.{AreReported, IsAtWork, Stands, Cleans, HoldsBlock, HoldsImage, choice_in, CleansBy, IsUntouched}
 use Rattle.fb_tasks.proofs.Words.{IsQuiet, HasNoChoice, HoldsBlocks, HasChosen, HaveChosen, IsSettled, Tells, all_weaker, filter_none}
-use Rattle.fb_tasks.proofs.Words.{flat_none, all_range, some_at, each_set, one_or_other, step_to, nat_tests, get_or_past, length-set}
+use Rattle.fb_tasks.proofs.Words.{flat_none, all_range, some_at, each_set, step_to, get_or_past, length-set}
 use Rattle.fb_tasks.proofs.Words.{Shape, Entry, by_deliveries, Plain, is_clean, subst}
-use Rattle.fb_tasks.proofs.{Sealed.held_same, Complete.busy_by, Frames.kept-entries, Frames.get_other, Additions.none-yet}
+use Rattle.fb_tasks.proofs.Words.{IsTested, ends_of, slice_get_within}
+use Rattle.fb_tasks.proofs.RowsOf.{rows-given, nothing-mute}
+use Rattle.fb_tasks.proofs.{Sealed.held_same, Complete.busy_by, Frames.kept-entries, Frames.get_other, Frames.set_same, Additions.none-yet}
 use Rattle.fb_tasks.proofs.{States.flagged-stands, Cuts.range_next}
 use Rattle.std.proofs.lemmas.Grind.{flat_map-append}
 use Rattle.fb_clean.specs.Segments as clean
@@ -130,38 +132,9 @@ module _ (task : ℕ) (v : TaskView) (rows : List BackRow) (given : AreRowsOf ta
 abbrev pub AreAllRows : Past → List BackRow → Type 0
 AreAllRows past rows = (task : ℕ) → AreRowsOf task (view past task) rows
 
--- the first sessions are tested, the others are as they were
-pub record AreTested (held : List Entry) (old : List Session) (n : ℕ) (now : List Session) : Type 0 where
-  pub as_many : length now ≡ length old
-  pub later : (k : ℕ) → n ≤ k → slice_get now k ≡ slice_get old k
-  pub earlier : (disk : Shape) (past : Past) (all : List BackRow) → HaveChosen disk past old held → AreAllRows past all → (k : ℕ) (session : Session) → k < n → slice_get now k ≡ Some session
-      → (Stands (view (tested all ∷ past) k) session) × (IsAtWork (view (tested all ∷ past) k).work session)
-  pub clear : (k : ℕ) (session : Session) → k < n → slice_get now k ≡ Some session → session.touched ≡ false
-
-pub none_tested : (held : List Entry) (old : List Session) → AreTested held old 0 old
-none_tested held old = record { as_many = refl; later = λ k more. refl; earlier = λ disk past all chosen given k session less at. absurd (omega (arith, less)); clear = λ k session less at. absurd (omega (arith, less)) }
-
 -- what has chosen before its test
 pub chosen_at : {disk : Shape} {past : Past} {old : List Session} {held : List Entry} → HaveChosen disk past old held → (k : ℕ) (session : Session) → slice_get old k ≡ Some session → HasChosen disk past k session held
 chosen_at h k session at = record { blocks = h.blocks; stands = h.each k session at; at_work = h.at_work k session at }
-
-module _ (held : List Entry) (old now : List Session) (n : ℕ) (session new : Session) (is : AreTested held old n now) (there : slice_get now n ≡ Some session)
-    (tests : (disk : Shape) (past : Past) (all : List BackRow) → HasChosen disk past n session held → AreRowsOf n (view past n) all → (Stands (view (tested all ∷ past) n) new) × (IsAtWork (view (tested all ∷ past) n).work new)) where
-  -- it is tested, and no more touched
-  abbrev cleared : Session
-  cleared = record new { touched = false }
-
-  pub one_tested : AreTested held old (n + 1) (set now n (record new { touched = false }))
-  one_tested = record {
-    as_many = length-set now n cleared ∙ is.as_many;
-    later = λ k more. get_other now n k cleared (λ e. absurd (omega arith)) ∙ is.later k (omega arith);
-    clear = λ k some less at. each_set (λ k s. k < n + 1 → s.touched ≡ false) now n cleared (λ _. refl)
-        (λ k s differ at less. is.clear k s (grind arith) at) k some at less;
-    earlier = λ disk past all chosen given k some less at.
-        let test = tests disk past all (chosen_at chosen n session (sym (is.later n (omega arith)) ∙ there)) (given n) in
-        each_set (λ k s. k < n + 1 → (Stands (view (tested all ∷ past) k) s) × (IsAtWork (view (tested all ∷ past) k).work s)) now n cleared
-        (λ _. (flagged-stands false (view (tested all ∷ past) n) new test.0, test.1)) (λ k s differ at less. is.earlier disk past all chosen given k s (grind arith) at) k some at less;
-  }
 
 -- a quiet task stands as it did after the test, and gives no row
 module _ (task : ℕ) (v : TaskView) (rows : List BackRow) (given : AreRowsOf task v rows) (session : Session) (none : (is_unsealed v && is_done v.work) ≡ false) (noted : session.complete ≡ is_done v.work) where
@@ -174,43 +147,50 @@ pub no-ends : (past : Past) (now task : ℕ) → (is_unsealed (view past task) &
 unfolding view is_complete
 no-ends past now task none same = rw (none, same, once (is_done (work past task))) refl
 
--- sessions that were not touched need no test
-skip_tested : (held : List Entry) (old now : List Session) (n : ℕ) → ((session : Session) → slice_get now n ≡ Some session → session.touched ≡ false) → AreTested held old n now → AreTested held old (n + 1) now
-skip_tested held old now n untouched is = record {
-  as_many = is.as_many;
-  later = λ k more. is.later k (omega arith);
-  clear = λ k session less at. one_or_other (λ k. k < n + 1 → slice_get now k ≡ Some session → session.touched ≡ false) n k (λ _. untouched session)
-      (λ other less. is.clear k session (grind (arith, nat_tests))) less at;
-  earlier = λ disk past all chosen given k session less at.
-      one_or_other (λ k. k < n + 1 → slice_get now k ≡ Some session → (Stands (view (tested all ∷ past) k) session) × (IsAtWork (view (tested all ∷ past) k).work session)) n k
-      (λ _ at.
-      let was = sym (is.later n (omega arith)) ∙ at in
-      let quiet = chosen.quiet n session was (untouched session at) in
-      rw (tested-view past all n) (still-stands n (view past n) all (given n) session quiet.sealed ((chosen.each n session was).complete ∙ quiet.tested) (chosen.each n session was) (chosen.at_work n session was)))
-      (λ other less. is.earlier disk past all chosen given k session (grind (arith, nat_tests))) less at;
-}
-
 pub rows_more : {X : Type 0} (f : ℕ → List X) (before was is more : List X) (n : ℕ) → was ≡ before ++ flat_map f (range_with_len 0 n) → is ≡ was ++ more → more ≡ f n → is ≡ before ++ flat_map f (range_with_len 0 (n + 1))
 rows_more f before was is more n so_far pushed same = rw (pushed, so_far, same, range_next n, flat_map-append, append-nil, append_assoc) refl
 
--- the rows of one more task
-abbrev pub ends_of : Past → ℕ → ℕ → List BackRow
-ends_of past now task = seal_rows by_deliveries past now task ++ complete_rows past now task
+-- the first sessions are tested, and their rows stand; the others are as they were
+pub record AreTested (past : Past) (old now : List Session) (instant : ℕ) (before rows : List BackRow) (n : ℕ) : Type 0 where
+  pub as_many : length now ≡ length old
+  pub later : (k : ℕ) → n ≤ k → slice_get now k ≡ slice_get old k
+  pub earlier : (all : List BackRow) → AreAllRows past all → (k : ℕ) (session : Session) → k < n → slice_get now k ≡ Some session
+      → (Stands (view (tested all ∷ past) k) session) × (IsAtWork (view (tested all ∷ past) k).work session)
+  pub rows_are : rows ≡ before ++ flat_map (ends_of past instant) (range_with_len 0 n)
 
--- from one session to a later one nothing was touched between them
-module _ (held : List Entry) (old now : List Session) (n m : ℕ) (le : n ≤ m) (within : m ≤ length now) (untouched : (k : ℕ) (session : Session) → n ≤ k → k < m → slice_get now k ≡ Some session → session.touched ≡ false) (is : AreTested held old n now) where
-  pub tested-to : AreTested held old m now
-  tested-to = step_to (λ k. AreTested held old k now) n m le (λ k from to. skip_tested held old now k (λ session. untouched k session from to)) is
+pub none_tested : {past : Past} {old : List Session} {instant : ℕ} {rows : List BackRow} → AreTested past old old instant rows rows 0
+none_tested {past} {old} {instant} {rows} =
+    record { as_many = refl; later = λ k more. refl; earlier = λ all given k session less at. absurd (omega (arith, less)); rows_are = sym (append-nil rows) }
 
-  pub rows-to : (disk : Shape) (past : Past) (instant : ℕ) (before rows : List BackRow) → HaveChosen disk past old held → rows ≡ before ++ flat_map (ends_of past instant) (range_with_len 0 n) → rows ≡ before ++ flat_map (ends_of past instant) (range_with_len 0 m)
-  rows-to disk past instant before rows chosen so_far =
-      step_to (λ k. rows ≡ before ++ flat_map (ends_of past instant) (range_with_len 0 k)) n m le
-      (λ k from to so_far. rows_more (ends_of past instant) before rows rows [] k so_far (sym (append-nil rows)) (sym (quiet k from to))) so_far where
-        quiet : (k : ℕ) → n ≤ k → k < m → ends_of past instant k ≡ []
-        quiet k from to =
-            let found = some_at now k (omega (arith, within)) in
-            let quiet = chosen.quiet k found.0 (sym (is.later k from) ∙ found.1) (untouched k found.0 from to found.1) in
-            no-ends past instant k quiet.sealed quiet.tested
+module _ {past : Past} {old now : List Session} {instant : ℕ} {before rows : List BackRow} where
+  -- one more is tested, and no more touched
+  pub one_tested : {more : List BackRow} {n : ℕ} {new : Session} → AreTested past old now instant before rows n → IsTested past n instant new rows more
+      → AreTested past old (set now n (record new { touched = false })) instant before more (n + 1)
+  one_tested {more} {n} {new} is test = let cleared = record new { touched = false } in record {
+    as_many = length-set now n cleared ∙ is.as_many;
+    later = λ k more. get_other now n k cleared (λ e. absurd (omega arith)) ∙ is.later k (omega arith);
+    earlier = λ all given k some less at. let own = test.session all (given n) in
+        each_set (λ k s. k < n + 1 → (Stands (view (tested all ∷ past) k) s) × (IsAtWork (view (tested all ∷ past) k).work s)) now n cleared
+        (λ _. (flagged-stands false (view (tested all ∷ past) n) new own.0, own.1)) (λ k s differ at less. is.earlier all given k s (grind arith) at) k some at less;
+    rows_are = rows_more (ends_of past instant) before rows more (ends_of past instant n) n is.rows_are test.rows refl;
+  }
+
+  -- what was not touched has no test to pass
+  pub tested-to : {disk : Shape} {held : List Entry} (n m : ℕ) → n ≤ m → m ≤ length now
+      → ((k : ℕ) (session : Session) → n ≤ k → k < m → slice_get now k ≡ Some session → session.touched ≡ false) → HaveChosen disk past old held
+      → AreTested past old now instant before rows n → AreTested past old now instant before rows m
+  tested-to n m le within untouched chosen = step_to (AreTested past old now instant before rows) n m le (λ k from to is.
+      let found = some_at now k (omega (arith, within)) in
+      let was = sym (is.later k (omega arith)) ∙ found.1 in
+      let flag = untouched k found.0 from to found.1 in
+      let quiet = chosen.quiet k found.0 was flag in
+      let test : IsTested past k instant found.0 rows rows = record {
+        session = λ all given. rw (tested-view past all k) (still-stands k (view past k) all given found.0 quiet.sealed
+            ((chosen.each k found.0 was).complete ∙ quiet.tested) (chosen.each k found.0 was) (chosen.at_work k found.0 was));
+        rows = rw (no-ends past instant k quiet.sealed quiet.tested) (sym (append-nil rows));
+      } in
+      subst (λ xs. AreTested past old xs instant before rows (k + 1)) (ap (λ b. set now k (record found.0 { touched = b })) (sym flag) ∙ set_same now k found.0 found.1)
+      (one_tested is test))
 
 -- a task that is not opened has neither blocks nor terms
 no_terms : (past : Past) (task : ℕ) → length (tasks past) ≤ task → (view past task).terms ≡ record { kind = Plain; weight = 1; block = 1 }
@@ -250,3 +230,16 @@ tells-tested {disk} {past} {held} rows sessions h as_many given each chosen = re
     unopened = λ task more. rw (tested-view past rows task) (untouched-tested disk past held h task more rows (given task));
   };
 }
+
+pub all-tested : {disk : Shape} {past : Past} {old now : List Session} {held : List Entry} {instant : ℕ} {before rows : List BackRow} → HaveChosen disk past old held
+    → AreTested past old now instant before rows (length now)
+    → Tells disk (tested (test_rows by_deliveries past instant) ∷ past) now held × (rows ≡ before ++ flat_map (ends_of past instant) (task_numbers past))
+all-tested {disk} {past} {old} {now} {held} {instant} {before} chosen is =
+    let all = test_rows by_deliveries past instant in
+    let given : AreAllRows past all = λ task. rows-given by_deliveries past instant [] nothing-mute task (λ more. (chosen.blocks.unopened task more).choices) in (
+      tells-tested all now chosen.blocks (is.as_many ∙ chosen.as_many) given
+          (λ task session at. is.earlier all given task session (slice_get_within now task session at) at)
+          (λ task session at untouched. let found = some_at old task (omega (arith, slice_get_within now task session at, is.as_many)) in
+          chosen.chosen task found.0 found.1),
+      is.rows_are ∙ ap (λ n. before ++ flat_map (ends_of past instant) (range_with_len 0 n)) (is.as_many ∙ chosen.as_many),
+    )

@@ -17,10 +17,10 @@ use Rattle.fb_wanted.specs.declared.block.Entry.{Entry}
 use Rattle.fb_wanted.specs.States.{is_delivered}
 use Rattle.fb_clean.specs.Segments as clean
 use Rattle.fb_rows.specs.declared.back.BackRow.{BackRow}
-use Rattle.fb_model.specs.History.{Past, LogSegment, tasks, registered, is_seal_of}
+use Rattle.fb_model.specs.History.{Past, LogSegment, tasks, registered, tested, is_seal_of}
 use Rattle.fb_model.specs.Completion.{Choice, Work, work, TaskView, view, state_in, is_cleaned, is_over, is_done, is_segment_of, is_unsealed}
 use Rattle.fb_model.specs.Segments.{is_chosen, is_busy, unchosen}
-use Rattle.fb_model.specs.Images.{is_newly_cleaned, segment_rows}
+use Rattle.fb_model.specs.Images.{is_newly_cleaned, segment_rows, seal_rows, complete_rows}
 use Rattle.fb_tasks.specs.declared.session.Session.{Session}
 use Rattle.fb_tasks.specs.Keeping.{is_none}
 use Rattle.fb_tasks.specs.Taken.{by_deliveries}
@@ -191,6 +191,16 @@ pub record Told (view : TaskView) (session : Session) : Type 0 where
 pub record AreRowsOf (task : ℕ) (view : TaskView) (rows : List BackRow) : Type 0 where
   pub seals : list_any (is_seal_of task) rows ≡ (is_unsealed view && is_done view.work)
   pub segments : (number : ℕ) → list_any (is_segment_of task number) rows ≡ list_any (λ choice. (choice.segment.number == number) && is_newly_cleaned view.work choice) view.choices
+
+-- the rows of a task's seal and of its completion
+abbrev pub ends_of : Past → ℕ → ℕ → List BackRow
+ends_of past now task = seal_rows by_deliveries past now task ++ complete_rows past now task
+
+-- a session is tested: it is as its task stands after a test that gives these rows and any of other tasks
+pub record IsTested (past : Past) (task now : ℕ) (new : Session) (old more : List BackRow) : Type 0 where
+  pub session : (all : List BackRow) → AreRowsOf task (view past task) all
+      → (Stands (view (tested all ∷ past) task) new) × (IsAtWork (view (tested all ∷ past) task).work new)
+  pub rows : more ≡ old ++ ends_of past now task
 
 -- a session may finish its segment: each other one that is cleaned has its row
 pub record MayFinish (disk : Shape) (past : Past) (task : ℕ) (session : Session) (held : List Entry) : Type 0 where

@@ -6,6 +6,8 @@ use Rattle.fb_calls.specs.declared.call.Action.{Action}
 use Rattle.fb_calls.specs.declared.call.Call.{Call}
 use Rattle.fb_calls.specs.Allowed.{MayAsk}
 use Rattle.fb_wanted.specs.declared.block.Entry.{Entry}
+use Rattle.fb_wanted.specs.declared.block.Change.TheVariants.{Deliver}
+use Rattle.fb_wanted.specs.States.{after}
 use Rattle.fb_rows.specs.declared.back.DeliveryRow.{DeliveryRow}
 use Rattle.fb_rows.specs.Ranges.{AreRanges}
 use Rattle.fb_store.specs.declared.content.Content.{Content}
@@ -62,6 +64,12 @@ pub record MayDeliver (disk : Shape) (past : Past) (sessions : List Session) (en
   pub content_at : ℕ → Content
   pub content : Gives got.content content_at got.block.lbn got.block.count
   pub ranges : AreRanges got.content
+
+-- this is the session of the delivered block's task, and the wanted set has the block delivered
+pub record Delivers (disk : Shape) (past : Past) (sessions : List Session) (held : List Entry) (got : DeliveryRow) (session : Session) (now : List Entry) : Type 0 where
+  pub may : MayDeliver disk past sessions held got
+  pub at : slice_get sessions got.block.task ≡ Some session
+  pub is : now ≡ after got.block.task (Deliver got.block.index) held
 
 -- a call of a task asks for an action
 pub record IsCall (asker : ℕ) (asked : Action) (call : Call) : Type 0 where

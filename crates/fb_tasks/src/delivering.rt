@@ -1,25 +1,60 @@
 // What a delivery leaves in a session, and its findings.
-ghost use Rattle.std.specs.Prelude.{◌≡◌, ◌≢◌, ℕ, [], ◌++◌, ◌+◌, ◌≤◌, ◌^◌, None, map, true, IfOk, OnOk, OnErr, if◌then◌else◌};
+ghost use Rattle.std.specs.Prelude.{◌≡◌, ◌≢◌, ℕ, List, [], ◌∷◌, ◌++◌, ◌+◌, ◌≤◌, ◌^◌, None, map, true, IfOk, OnOk, OnErr, if◌then◌else◌};
 ghost use Rattle.std.specs.List.{AllByRecursion, range_with_len};
 ghost use Rattle.fb_calls.specs.Sessions.{is_backup, is_clean};
 ghost use Rattle.fb_store.specs.declared.content.Content.{Content};
 ghost use Rattle.fb_store.specs.Sparse.{Gives};
-ghost use Rattle.fb_rows.specs.declared.back.BackRow.TheVariants.{Bad as BadLine};
+ghost use Rattle.fb_geometry.specs.Shape.{Shape};
+ghost use Rattle.fb_wanted.specs.declared.block.Entry.{Entry};
+ghost use Rattle.fb_rows.specs.declared.back.BackRow.TheVariants.{Bad as BadLine, Got as GotLine};
+ghost use Rattle.fb_model.specs.History.{Past, tested, delivered};
+ghost use Rattle.fb_model.specs.Completion.{view};
 ghost use Rattle.fb_model.specs.Images.{bad_sectors, is_scrub};
 ghost use Rattle.fb_tasks.specs.Keeping.{HasTaken};
 ghost use Rattle.fb_tasks.specs.Leaving.{HasBegun};
+ghost use Rattle.fb_tasks.specs.Taken.{rows_after};
+ghost use Rattle.fb_tasks.specs.Standing.{Stands, IsAtWork};
+ghost use Rattle.fb_tasks.specs.Telling.{Delivers};
 
 use crate::session::Session;
 use fb_calls::Kind;
 use fb_rows::{BackRow, BackRows, BadRow, DeliveryRow};
 use fb_store::{Content, Contents};
 use fb_units::NoMemory;
-use fb_wanted::Block;
+use fb_wanted::{Block, Wanted};
 use std::alloc::Global;
 
 impl Session {
-    /// Keeps what a delivered block holds, where the session's rows will give it.
-    pub fn take(&mut self, block: Block, content: &Contents) -> Result<(), NoMemory>
+    /// A block of the task was delivered: keeps what it holds, adds its row, then its findings and
+    /// the rows of its test.
+    pub fn deliver(
+        &mut self,
+        alloc: Global,
+        wanted: &Wanted,
+        got: DeliveryRow,
+        rows: &mut BackRows,
+    ) -> Result<(), NoMemory>
+        requires { (disk : Shape) × (past : Past) × (sessions : List Session) × (held : List Entry) × Delivers disk past sessions held got self.old wanted.now }
+        ensures session { OnOk result ((disk : Shape) (past : Past) (sessions : List Session) (held : List Entry) → Delivers disk past sessions held got self.old wanted.now
+            → (Stands (view (tested (rows_after past got) ∷ delivered got ∷ past) got.block.task) self.new)
+            × (IsAtWork (view (tested (rows_after past got) ∷ delivered got ∷ past) got.block.task).work self.new)) }
+        ensures rows { OnOk result ((disk : Shape) (past : Past) (sessions : List Session) (held : List Entry) → Delivers disk past sessions held got self.old wanted.now
+            → rows.new ≡ rows.old ++ GotLine got ∷ rows_after past got) }
+        ensures err_rows { OnErr result ((disk : Shape) (past : Past) (sessions : List Session) (held : List Entry) → Delivers disk past sessions held got self.old wanted.now
+            → HasBegun rows.old (GotLine got ∷ rows_after past got) rows.new) }
+    {
+        let task = got.block.task;
+        let end = got.end;
+        self.take(got.block, &got.content)?;
+        let findings = self.findings(alloc, &got)?;
+        rows.push(BackRow::Got(got))?;
+        push_findings(rows, task, &findings)?;
+        self.test_segment(alloc, wanted, task, end, rows)?;
+        self.test(alloc, wanted, task, end, rows)
+    }
+
+    // Keeps what a delivered block holds, where the session's rows will give it.
+    fn take(&mut self, block: Block, content: &Contents) -> Result<(), NoMemory>
         requires ranges { AllByRecursion (λ run. run.first + run.count ≤ 10 ^ 12) content.now }
         requires covers { (content_at : ℕ → Content) × Gives content.now content_at block.lbn block.count }
         requires chosen { is_clean self.old.kind ≡ true → self.old.log.unfinished ≢ None }
@@ -32,8 +67,8 @@ impl Session {
         }
     }
 
-    /// The sectors of a scrub's delivery that can't be read, ascending.
-    pub fn findings(&self, alloc: Global, got: &DeliveryRow) -> Result<Vec<u64>, NoMemory>
+    // The sectors of a scrub's delivery that can't be read, ascending.
+    fn findings(&self, alloc: Global, got: &DeliveryRow) -> Result<Vec<u64>, NoMemory>
         requires { AllByRecursion (λ run. run.first + run.count ≤ 10 ^ 12) got.now.content }
         ensures { IfOk result (λ lbns. lbns.items ≡ if is_scrub self.now.kind then bad_sectors got.now.content else []) }
     {
@@ -71,8 +106,8 @@ fn push_range(lbns: &mut Vec<u64>, first: u64, count: u64) -> Result<(), NoMemor
     Ok(())
 }
 
-/// Adds a finding's row for each sector.
-pub fn push_findings(rows: &mut BackRows, task: u32, lbns: &[u64]) -> Result<(), NoMemory>
+// Adds a finding's row for each sector.
+fn push_findings(rows: &mut BackRows, task: u32, lbns: &[u64]) -> Result<(), NoMemory>
     ensures ok { OnOk result (rows.new ≡ rows.old ++ map (λ lbn. BadLine (record { task = task; lbn = lbn })) lbns.now) }
     ensures err { OnErr result (HasBegun rows.old (map (λ lbn. BadLine (record { task = task; lbn = lbn })) lbns.now) rows.new) }
 {

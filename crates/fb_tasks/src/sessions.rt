@@ -13,15 +13,14 @@ ghost use Rattle.fb_rows.specs.declared.back.BackRow.TheVariants.{Got as GotLine
 ghost use Rattle.fb_model.specs.History.{Past, called, tested, finished, task_numbers};
 ghost use Rattle.fb_model.specs.Completion.{is_complete};
 ghost use Rattle.fb_model.specs.Steps.{take_call, with_delivery, task_rows};
-ghost use Rattle.fb_model.specs.Images.{test_rows, segment_rows, seal_rows, complete_rows};
+ghost use Rattle.fb_model.specs.Images.{test_rows, segment_rows};
 ghost use Rattle.fb_model.specs.Segments.{with_choices};
 ghost use Rattle.fb_tasks.specs.declared.session.Session.{Session};
 ghost use Rattle.fb_tasks.specs.Taken.{by_deliveries, rows_after, delivery_of};
-ghost use Rattle.fb_tasks.specs.Standing.{HaveChosen};
+ghost use Rattle.fb_tasks.specs.Standing.{HaveChosen, ends_of};
 ghost use Rattle.fb_tasks.specs.Leaving.{HasGrown, HasBegun, entries_by, OnlyRegisters, MayClean, OnlyTouched};
 ghost use Rattle.fb_tasks.specs.Telling.{Tells, MayTake, MaySettle, MayDeliver, IsSettled, IsCall, settled_at};
 
-use crate::delivering::push_findings;
 use crate::session::Session;
 use crate::touched::{forget, next_noted, next_touched, note, note_touch};
 use crate::wanting::want_range;
@@ -168,16 +167,10 @@ impl Sessions {
         ensures err_rows { OnErr result ((disk : Shape) (past : Past) → MayDeliver disk past self.old wanted.old got → HasBegun rows.old (GotLine got ∷ rows_after past got) rows.new) }
     {
         let task = got.block.task;
-        let end = got.end;
         wanted.deliver(task, got.block.index);
         note_touch(&mut self.touched, &mut self.asked, task)?;
         let session = &mut self.sessions[task as usize];
-        session.take(got.block, &got.content)?;
-        let findings = session.findings(self.alloc, &got)?;
-        rows.push(BackRow::Got(got))?;
-        push_findings(rows, task, &findings)?;
-        session.test_segment(self.alloc, wanted, task, end, rows)?;
-        session.test(self.alloc, wanted, task, end, rows)?;
+        session.deliver(self.alloc, wanted, got, rows)?;
         session.touched = true;
         Ok(())
     }
@@ -368,8 +361,8 @@ impl Sessions {
     #[tactic(auto, using(crate::proofs::Listed::listed_set, crate::proofs::Leaving::grown_more))]
     fn test_all(&mut self, wanted: &Wanted, now: Ns, rows: &mut BackRows) -> Result<(), NoMemory>
         requires { (disk : Shape) × (past : Past) × HaveChosen disk past self.old wanted.now }
-        ensures tells { OnOk result ((disk : Shape) (past : Past) → HaveChosen disk past self.old wanted.now → Tells disk (tested (test_rows by_deliveries past now) ∷ past) self.new wanted.now) }
-        ensures rows { OnOk result ((disk : Shape) (past : Past) → HaveChosen disk past self.old wanted.now → rows.new ≡ rows.old ++ flat_map (λ task. seal_rows by_deliveries past now task ++ complete_rows past now task) (task_numbers past)) }
+        ensures tested { OnOk result ((disk : Shape) (past : Past) → HaveChosen disk past self.old wanted.now
+            → Tells disk (tested (test_rows by_deliveries past now) ∷ past) self.new wanted.now × (rows.new ≡ rows.old ++ flat_map (ends_of past now) (task_numbers past))) }
         ensures stay_sessions { OnlyTouched self.old self.new }
         ensures stay_rows { HasGrown rows.old rows.new }
     {

@@ -7,7 +7,6 @@ ghost use Rattle.fb_wanted.specs.declared.block.Entry.{Entry};
 ghost use Rattle.fb_wanted.specs.Counting.{counts_of};
 ghost use Rattle.fb_wanted.specs.States.{is_block, is_delivered};
 ghost use Rattle.fb_clean.specs.Segments.{live_of};
-ghost use Rattle.fb_rows.specs.declared.back.BackRow.{BackRow as Row};
 ghost use Rattle.fb_rows.specs.declared.back.BackRow.TheVariants.{Segment as SegmentLine, Complete as CompleteLine};
 ghost use Rattle.fb_model.specs.History.{Past, tested, is_open_backup};
 ghost use Rattle.fb_model.specs.Completion.{view, is_complete};
@@ -15,7 +14,7 @@ ghost use Rattle.fb_model.specs.Images.{segment_rows, seal_rows, complete_rows};
 ghost use Rattle.fb_tasks.specs.Keeping.{IsSealed, without_aborted};
 ghost use Rattle.fb_tasks.specs.Taken.{by_deliveries, found_for};
 ghost use Rattle.fb_tasks.specs.Leaving.{HasGrown, HasBegun, by_calls};
-ghost use Rattle.fb_tasks.specs.Standing.{Stands, HoldsBlocks, IsAtWork, AreRowsOf, HasChosen, MayFinish};
+ghost use Rattle.fb_tasks.specs.Standing.{Stands, HoldsBlocks, IsAtWork, HasChosen, MayFinish, IsTested, ends_of};
 
 use crate::session::Session;
 use fb_calls::Kind;
@@ -100,12 +99,9 @@ impl Session {
         rows: &mut BackRows,
     ) -> Result<(), NoMemory>
         requires { (disk : Shape) × (past : Past) × HasChosen disk past task self.old wanted.now }
-        ensures session { OnOk result ((disk : Shape) (past : Past) (all : List Row) → HasChosen disk past task self.old wanted.now → AreRowsOf task (view past task) all
-            → (Stands (view (tested all ∷ past) task) self.new) × (IsAtWork (view (tested all ∷ past) task).work self.new)) }
-        ensures rows { OnOk result ((disk : Shape) (past : Past) → HasChosen disk past task self.old wanted.now
-            → rows.new ≡ rows.old ++ seal_rows by_deliveries past now task ++ complete_rows past now task) }
+        ensures tested { OnOk result ((disk : Shape) (past : Past) → HasChosen disk past task self.old wanted.now → IsTested past task now self.new rows.old rows.new) }
         ensures err_rows { OnErr result ((disk : Shape) (past : Past) → HasChosen disk past task self.old wanted.now
-            → HasBegun rows.old (seal_rows by_deliveries past now task ++ complete_rows past now task) rows.new) }
+            → HasBegun rows.old (ends_of past now task) rows.new) }
         ensures grown { HasGrown rows.old rows.new }
         ensures same { by_calls self.new ≡ by_calls self.old }
     {

@@ -1,5 +1,5 @@
 use Rattle.fb_tasks.proofs.Words.{◌++◌, [], ap, ◌∙◌, append_assoc, on_ok_weaker, flat_map, task_numbers, test_rows, segment_rows}
-use Rattle.fb_tasks.proofs.Words.{seal_rows, complete_rows, with_choices, by_deliveries}
+use Rattle.fb_tasks.proofs.Words.{ends_of, with_choices, by_deliveries}
 use Rattle.fb_tasks.proofs.{RowsOf.rows-given, RowsOf.nothing-mute, Tested.settled-tested}
 use Rattle.fb_tasks.proofs.sessions.Sessions.settle.Goals as goal
 
@@ -7,19 +7,19 @@ pub test_all-requires : goal.test_all-requires
 test_all-requires c = (c.args.map.now, with_choices c.args.map.now c.requires.0, (c.in_ok-choose_all.ensures.chosen c.requires.0 c.requires.1).0)
 
 pub returns-clause-tells : goal.returns-clause-tells
-returns-clause-tells c = on_ok_weaker c.test_all.result (λ tells past may. tells c.args.map.now (with_choices c.args.map.now past) (c.in_ok-choose_all.ensures.chosen past may).0) c.test_all.ensures.tells
+returns-clause-tells c = on_ok_weaker c.test_all.result (λ tested past may. (tested c.args.map.now (with_choices c.args.map.now past) (c.in_ok-choose_all.ensures.chosen past may).0).0) c.test_all.ensures.tested
 
 pub returns-clause-settled : goal.returns-clause-settled
-returns-clause-settled c = on_ok_weaker c.test_all.result (λ tells past may.
+returns-clause-settled c = on_ok_weaker c.test_all.result (λ _ past may.
     let chosen = (c.in_ok-choose_all.ensures.chosen past may).0 in
     settled-tested (with_choices c.args.map.now past) (test_rows by_deliveries (with_choices c.args.map.now past) c.args.now)
-    (λ task less. rows-given by_deliveries (with_choices c.args.map.now past) c.args.now [] nothing-mute task (λ more. (chosen.blocks.unopened task more).choices))) c.test_all.ensures.tells
+    (λ task less. rows-given by_deliveries (with_choices c.args.map.now past) c.args.now [] nothing-mute task (λ more. (chosen.blocks.unopened task more).choices))) c.test_all.ensures.tested
 
 pub returns-clause-rows : goal.returns-clause-rows
 unfolding test_rows
-returns-clause-rows c = on_ok_weaker c.test_all.result (λ pushed past may.
+returns-clause-rows c = on_ok_weaker c.test_all.result (λ tested past may.
     let new = with_choices c.args.map.now past in
     let chosen = c.in_ok-choose_all.ensures.chosen past may in
-    pushed c.args.map.now new chosen.0
-    ∙ (ap (λ rows. rows ++ flat_map (λ task. seal_rows by_deliveries new c.args.now task ++ complete_rows new c.args.now task) (task_numbers new)) chosen.1
-    ∙ append_assoc c.args.rows.now (flat_map (segment_rows by_deliveries new c.args.now) (task_numbers new)) (flat_map (λ task. seal_rows by_deliveries new c.args.now task ++ complete_rows new c.args.now task) (task_numbers new)))) c.test_all.ensures.rows
+    (tested c.args.map.now new chosen.0).1
+    ∙ (ap (λ rows. rows ++ flat_map (ends_of new c.args.now) (task_numbers new)) chosen.1
+    ∙ append_assoc c.args.rows.now (flat_map (segment_rows by_deliveries new c.args.now) (task_numbers new)) (flat_map (ends_of new c.args.now) (task_numbers new)))) c.test_all.ensures.tested
