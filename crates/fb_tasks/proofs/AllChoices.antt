@@ -6,8 +6,9 @@ use Rattle.fb_tasks.proofs.Words.{LogSegment, chose, tasks, task_numbers, regist
 use Rattle.fb_tasks.proofs.Words.{choose_in, is_better, is_busy, is_chosen, unchosen, with_choices, segment_rows, is_newly_cleaned}
 use Rattle.fb_tasks.proofs.Words.{Session, by_deliveries, Stands, MayChoose, AreReported, IsSegmentOf, HasNoChoice}
 use Rattle.fb_tasks.proofs.Words.{HoldsBlocks, IsQuiet, IsAtWork, HaveChosen, choosable_by, filter_none, flat_same, some_at, number_other}
-use Rattle.fb_tasks.proofs.Words.{other_number, each_set, one_or_other, step_to, AllByRecursion, sum_by, best_of, flat_map, fold}
-use Rattle.fb_tasks.proofs.Words.{range_with_len, sum_by-cons, nat_tests, slice_get_within, Block, chosen-silent, MaySettle}
+use Rattle.fb_tasks.proofs.Words.{each_set, step_to, AllByRecursion, sum_by, best_of, flat_map, fold}
+use Rattle.fb_tasks.proofs.Words.{range_with_len, sum_by-cons, slice_get_within, Block, chosen-silent, MaySettle}
+use Rattle.fb_tasks.proofs.Words.{TaskView}
 use Rattle.fb_tasks.proofs.ChoiceSteps.{best_left, chosen_blocks, chosen_for, next_view, numbered_is, once_is, left_less, added_own, segment_rows_of, segment_rows_is, few_less, best_of_left}
 use Rattle.fb_tasks.proofs.Complete.{filter-le}
 use Rattle.std.proofs.lemmas.List.Sums.{fold-append}
@@ -199,15 +200,19 @@ past_more disk past n = ap (fold (choose_in disk) past) (range_next n) ∙ fold-
 fold_tasks : (disk : Shape) (ns : List ℕ) (past : Past) → tasks (fold (choose_in disk) past ns) ≡ tasks past
 fold_tasks disk ns past = by_tasks (λ p. tasks p ≡ tasks past) disk (λ p chooser segment blocks same. same) ns past refl
 
+-- a session when the first n tasks have chosen
+pub record Begins (n task : ℕ) (view : TaskView) (session : Session) : Type 0 where
+  pub stands : Stands view session
+  pub at_work : IsAtWork view.work session
+  pub later : n ≤ task → AreReported view.work
+  pub chosen : task < n → HasNoChoice view
+  pub quiet : session.touched ≡ false → IsQuiet view
+
 -- the first n of so many tasks have chosen
 pub record HaveBegun (disk : Shape) (count : ℕ) (past : Past) (sessions : List Session) (held : List Entry) (n : ℕ) : Type 0 where
   pub as_many : length sessions ≡ count
-  pub each : (task : ℕ) (session : Session) → slice_get sessions task ≡ Some session → Stands (view past task) session
-  pub at_work : (task : ℕ) (session : Session) → slice_get sessions task ≡ Some session → IsAtWork (view past task).work session
-  pub later : (task : ℕ) (session : Session) → n ≤ task → slice_get sessions task ≡ Some session → AreReported (view past task).work
+  pub each : (task : ℕ) (session : Session) → slice_get sessions task ≡ Some session → Begins n task (view past task) session
   pub blocks : HoldsBlocks disk past held
-  pub chosen : (task : ℕ) → task < n → HasNoChoice (view past task)
-  pub quiet : (task : ℕ) (session : Session) → slice_get sessions task ≡ Some session → session.touched ≡ false → IsQuiet (view past task)
   pub few : length (registered past) + sum_by (choosable_by disk past) (range_with_len n (count - n)) ≤ 16 * 10 ^ 6
 
 -- and the rows of what they cleaned follow
@@ -224,12 +229,9 @@ pub partly-start : (disk : Shape) (past : Past) (sessions : List Session) (held 
 partly-start disk past sessions held instant rows h = let tells = h.tells in record {
   begun = record {
     as_many = tells.as_many;
-    each = λ task session at. (tells.each task session at).stands;
-    at_work = λ task session at. (tells.each task session at).at_work;
-    later = λ task session le at. (tells.each task session at).reported;
+    each = λ task session at. let told = tells.each task session at in
+        record { stands = told.stands; at_work = told.at_work; later = λ _. told.reported; chosen = λ less. absurd (omega (arith, less)); quiet = told.quiet };
     blocks = tells.blocks;
-    chosen = λ task less. absurd (omega (arith, less));
-    quiet = λ task session at untouched. (tells.each task session at).quiet untouched;
     few = subst (λ k. length (registered past) + sum_by (choosable_by disk past) (range_with_len 0 k) ≤ 16 * 10 ^ 6) (let e : length (tasks past) ≡ length (tasks past) - 0 = omega arith in e) h.few;
   };
   rows_are = sym (append-nil rows);
@@ -242,8 +244,8 @@ module _ {disk : Shape} {past : Past} {instant : ℕ} {before : List BackRow} wh
       let within : n < length (tasks past) = omega (arith, slice_get_within sessions n session at, h.as_many) in
       record {
         blocks = h.blocks;
-        stands = h.each n session at;
-        at_work = h.at_work n session at;
+        stands = (h.each n session at).stands;
+        at_work = (h.each n session at).at_work;
         few = omega (arith, h.few, left_split (choosable_by disk (past_at disk past n)) n (length (tasks past)) within);
       }
 
@@ -260,19 +262,19 @@ module _ {disk : Shape} {past : Past} {instant : ℕ} {before : List BackRow} wh
       let rest = sum_range (choosable_by disk after) (choosable_by disk old) (n + 1) (length (tasks past) - (n + 1)) (λ k from to. choosable-same disk old after k (same k (λ e. absurd (omega arith)))) in
       let kept = flat_same (segment_rows by_deliveries after instant) (segment_rows by_deliveries old instant) (range_with_len 0 n)
       (all_range (λ k. segment_rows by_deliveries after instant k ≡ segment_rows by_deliveries old instant k) 0 n (λ k le lt. rows-same old after k instant (same k (λ e. absurd (omega arith))))) in
-      let given = turned.rows rows (rw (reported_rows old instant n (h.later n session (omega arith) at)) (sym (append-nil rows))) in
+      let given = turned.rows rows (rw (reported_rows old instant n ((h.each n session at).later (omega arith))) (sym (append-nil rows))) in
       record {
         begun = rw (past_more disk past n) (record {
           as_many = length-set sessions n new ∙ h.as_many;
-          each = each_set (λ t. Stands (view after t)) sessions n new turned.may.stands (λ t s differ there. rw (same t differ) (h.each t s there));
-          at_work = each_set (λ t. IsAtWork (view after t).work) sessions n new turned.may.at_work (λ t s differ there. rw (same t differ) (h.at_work t s there));
-          later = λ task s le there. each_set (λ t s. n + 1 ≤ t → AreReported (view after t).work) sessions n new (λ le. absurd (omega arith))
-              (λ t s differ there le. rw (same t differ) (h.later t s (omega arith) there)) task s there le;
+          each = each_set (λ t. Begins (n + 1) t (view after t)) sessions n new (record {
+            stands = turned.may.stands;
+            at_work = turned.may.at_work;
+            later = λ le. absurd (omega arith);
+            chosen = λ _. no-choice-left disk n old (h.blocks.placed n).segments;
+            quiet = λ untouched. let was = (h.each n session at).quiet (sym flag ∙ untouched) in rw (stays disk n old was.chosen) was;
+          }) (λ t s differ there. let was = h.each t s there in
+              rw (same t differ) (record { stands = was.stands; at_work = was.at_work; later = λ le. was.later (omega arith); chosen = λ less. was.chosen (grind arith); quiet = was.quiet }));
           blocks = turned.may.blocks;
-          chosen = λ task less. one_or_other (λ t. t < n + 1 → HasNoChoice (view after t)) n task (λ _. no-choice-left disk n old (h.blocks.placed n).segments)
-              (λ other less. rw (same task (other_number n task other)) (h.chosen task (grind (arith, nat_tests)))) less;
-          quiet = each_set (λ t s. s.touched ≡ false → IsQuiet (view after t)) sessions n new
-              (λ untouched. let was = h.quiet n session at (sym flag ∙ untouched) in rw (stays disk n old was.chosen) was) (λ t s differ there untouched. rw (same t differ) (h.quiet t s there untouched));
           few = omega (arith, h.few, fewer, rest, left_split (choosable_by disk old) n (length (tasks past)) within);
         });
         rows_are = rw (past_more disk past n) (rows_more (segment_rows by_deliveries after instant) before rows more (segment_rows by_deliveries after instant n) n (h.rows_are ∙ ap (λ rs. before ++ rs) (sym kept)) given refl);
@@ -284,7 +286,7 @@ module _ {disk : Shape} {past : Past} {instant : ℕ} {before : List BackRow} wh
       → Partly disk past sessions held instant before rows n → Partly disk past sessions held instant before rows m
   partly-to {sessions} {held} {rows} n m le within untouched h = step_to (Partly disk past sessions held instant before rows) n m le (λ k from to now.
       let found = some_at sessions k (omega (arith, within)) in
-      let still = stays disk k (past_at disk past k) (now.quiet k found.0 found.1 (untouched k found.0 from to found.1)).chosen in
+      let still = stays disk k (past_at disk past k) ((now.each k found.0 found.1).quiet (untouched k found.0 from to found.1)).chosen in
       subst (λ xs. Partly disk past xs held instant before rows (k + 1)) (set_same sessions k found.0 found.1)
       (partly-more found.1 refl now (still-turned still (partly-may found.1 now)))) h
 
@@ -298,10 +300,12 @@ all-chosen {disk} {past} {sessions} {held} {instant} {before} {rows} h =
     let whole = subst (Partly disk past sessions held instant before rows) h.as_many h in (
       record {
         as_many = h.as_many ∙ sym count;
-        each = whole.each;
-        at_work = whole.at_work;
-        chosen = λ task session at. whole.chosen task (omega (arith, slice_get_within sessions task session at, h.as_many));
-        quiet = whole.quiet;
+        each = λ task session at. let is = whole.each task session at in record {
+          stands = is.stands;
+          at_work = is.at_work;
+          chosen = is.chosen (omega (arith, slice_get_within sessions task session at, h.as_many));
+          quiet = is.quiet;
+        };
         blocks = whole.blocks;
       },
       whole.rows_are ∙ ap (λ n. before ++ flat_map (segment_rows by_deliveries new instant) (range_with_len 0 n)) (sym count),

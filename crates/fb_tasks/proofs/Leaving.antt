@@ -6,6 +6,7 @@ use Rattle.fb_tasks.proofs.Words.{take-map, filter-append, slice_get_within, get
 use Rattle.fb_tasks.proofs.Words.{blocks_of, wanted_unless, numbered, number_same, Session, new_entries, HasGrown, HasBegun}
 use Rattle.fb_tasks.proofs.Words.{OnlyRegisters, MayClean, OnlyTouched, by_calls, all_append, all_left, all_map, all_weaker, map_at}
 use Rattle.fb_tasks.proofs.Words.{some_at, some_same, take-map-range_with_len}
+use Rattle.fb_tasks.proofs.Words.{◌&&◌, not, and_parts, not-true}
 use Rattle.fb_wanted.specs.Numbering.{registered}
 use Rattle.fb_tasks.proofs.{Frames.get_other, Cuts.cuts_own}
 
@@ -103,11 +104,15 @@ clean_before olds items n session at clean is_open touched h =
 
 -- a touched session has chosen
 pub chosen_own : (olds items : List Session) (n : ℕ) (session : Session) (old before now : List Entry) → slice_get items n ≡ Some session → session.touched ≡ true → OnlyTouched olds items
-    → OnlyRegisters (MayClean olds) old before → OnlyRegisters (λ other. (other ≡ n) × (is_clean session.kind ≡ true) × (session.closed ≡ false)) before now → OnlyRegisters (MayClean olds) old now
-chosen_own olds items n session old before now at touched stay own more =
-    registers_more (MayClean olds) old before now own
-    (registers_weaker (λ other. (other ≡ n) × (is_clean session.kind ≡ true) × (session.closed ≡ false)) (MayClean olds) before now
-    (λ other is. subst (MayClean olds) (sym is.0) (clean_before olds items n session at is.1 is.2 touched stay)) more)
+    → OnlyRegisters (MayClean olds) old before → OnlyRegisters (λ other. other ≡ n) before now → ((is_clean session.kind && not session.closed) ≡ false → now ≡ before)
+    → OnlyRegisters (MayClean olds) old now
+chosen_own olds items n session old before now at touched stay own more idle = elim (cases_Bool (is_clean session.kind && not session.closed)) [
+  | inl may ↦
+      let is = and_parts (is_clean session.kind) (not session.closed) may in
+      let was = clean_before olds items n session at is.0 (not-true session.closed is.1) touched stay in
+      registers_more (MayClean olds) old before now own (registers_weaker (λ other. other ≡ n) (MayClean olds) before now (λ other own. subst (MayClean olds) (sym own) was) more)
+  | inr none ↦ subst (OnlyRegisters (MayClean olds) old) (sym (idle none)) own
+]
 
 -- the blocks that are registered and those that are left stay the same
 pub cut_registered : (task index : ℕ) (session : Session) (before now : List Entry) (cut : Cut) (cuts rest : List Cut) (block : Block) → cuts ≡ cut ∷ rest

@@ -134,7 +134,7 @@ AreAllRows past rows = (task : ℕ) → AreRowsOf task (view past task) rows
 
 -- what has chosen before its test
 pub chosen_at : {disk : Shape} {past : Past} {old : List Session} {held : List Entry} → HaveChosen disk past old held → (k : ℕ) (session : Session) → slice_get old k ≡ Some session → HasChosen disk past k session held
-chosen_at h k session at = record { blocks = h.blocks; stands = h.each k session at; at_work = h.at_work k session at }
+chosen_at h k session at = record { blocks = h.blocks; stands = (h.each k session at).stands; at_work = (h.each k session at).at_work }
 
 -- a quiet task stands as it did after the test, and gives no row
 module _ (task : ℕ) (v : TaskView) (rows : List BackRow) (given : AreRowsOf task v rows) (session : Session) (none : (is_unsealed v && is_done v.work) ≡ false) (noted : session.complete ≡ is_done v.work) where
@@ -183,10 +183,11 @@ module _ {past : Past} {old now : List Session} {instant : ℕ} {before rows : L
       let found = some_at now k (omega (arith, within)) in
       let was = sym (is.later k (omega arith)) ∙ found.1 in
       let flag = untouched k found.0 from to found.1 in
-      let quiet = chosen.quiet k found.0 was flag in
+      let ready = chosen.each k found.0 was in
+      let quiet = ready.quiet flag in
       let test : IsTested past k instant found.0 rows rows = record {
         session = λ all given. rw (tested-view past all k) (still-stands k (view past k) all given found.0 quiet.sealed
-            ((chosen.each k found.0 was).complete ∙ quiet.tested) (chosen.each k found.0 was) (chosen.at_work k found.0 was));
+            (ready.stands.complete ∙ quiet.tested) ready.stands ready.at_work);
         rows = rw (no-ends past instant k quiet.sealed quiet.tested) (sym (append-nil rows));
       } in
       subst (λ xs. AreTested past old xs instant before rows (k + 1)) (ap (λ b. set now k (record found.0 { touched = b })) (sym flag) ∙ set_same now k found.0 found.1)
@@ -240,6 +241,6 @@ all-tested {disk} {past} {old} {now} {held} {instant} {before} chosen is =
       tells-tested all now chosen.blocks (is.as_many ∙ chosen.as_many) given
           (λ task session at. is.earlier all given task session (slice_get_within now task session at) at)
           (λ task session at untouched. let found = some_at old task (omega (arith, slice_get_within now task session at, is.as_many)) in
-          chosen.chosen task found.0 found.1),
+          (chosen.each task found.0 found.1).chosen),
       is.rows_are ∙ ap (λ n. before ++ flat_map (ends_of past instant) (range_with_len 0 n)) (is.as_many ∙ chosen.as_many),
     )

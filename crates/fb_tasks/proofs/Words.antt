@@ -85,7 +85,7 @@ pub use Rattle.fb_tasks.specs.Listing.{AreListed, IsNoted}
 pub use Rattle.fb_tasks.specs.Script.{IsCalled}
 pub use Rattle.fb_tasks.specs.Standing.{AreIndexed, AreReported, AreRowsOf, Ascend, Cleans, CleansBy, HasChosen, HasNoChoice, HasTurned, HaveChosen}
 pub use Rattle.fb_tasks.specs.Standing.{HoldsBlock, HoldsBlocks, HoldsChoice, HoldsImage, IsAtNumber, IsAtWork, IsBlockOf, IsCutFrom}
-pub use Rattle.fb_tasks.specs.Standing.{IsPlaced, IsQuiet, IsSegmentOf, IsTested, IsUntouched, MayChoose, MayFinish, Stands, Told, choice_in}
+pub use Rattle.fb_tasks.specs.Standing.{IsPlaced, IsQuiet, IsReady, IsSegmentOf, IsTested, IsUntouched, MayChoose, MayFinish, Stands, Told, choice_in}
 pub use Rattle.fb_tasks.specs.Standing.{choosable_by, ends_of, entry_by, entry_in, entry_of, kept_segment}
 pub use Rattle.fb_tasks.specs.Taken.{by_deliveries, delivery_of, found_for, rows_after}
 pub use Rattle.fb_tasks.specs.Telling.{Delivers, IsCall, IsSettled, MayDeliver, MaySettle, MayTake, Tells, choosable, settled_at}

@@ -230,11 +230,15 @@ pub record HasChosen (disk : Shape) (past : Past) (task : ℕ) (session : Sessio
   pub stands : Stands (view past task) session
   pub at_work : IsAtWork (view past task).work session
 
+-- a session has chosen, and a test finds something only where it was touched
+pub record IsReady (view : TaskView) (session : Session) : Type 0 where
+  pub stands : Stands view session
+  pub at_work : IsAtWork view.work session
+  pub chosen : HasNoChoice view
+  pub quiet : session.touched ≡ false → IsQuiet view
+
 -- after all choices, before their test
 pub record HaveChosen (disk : Shape) (past : Past) (sessions : List Session) (held : List Entry) : Type 0 where
   pub as_many : length sessions ≡ length (tasks past)
-  pub each : (task : ℕ) (session : Session) → slice_get sessions task ≡ Some session → Stands (view past task) session
-  pub at_work : (task : ℕ) (session : Session) → slice_get sessions task ≡ Some session → IsAtWork (view past task).work session
-  pub chosen : (task : ℕ) (session : Session) → slice_get sessions task ≡ Some session → HasNoChoice (view past task)
-  pub quiet : (task : ℕ) (session : Session) → slice_get sessions task ≡ Some session → session.touched ≡ false → IsQuiet (view past task)
+  pub each : (task : ℕ) (session : Session) → slice_get sessions task ≡ Some session → IsReady (view past task) session
   pub blocks : HoldsBlocks disk past held

@@ -18,6 +18,7 @@ use std::alloc::Global;
 
 impl Session {
     /// Chooses segments until one has live blocks or none is left; one without live blocks is finished at once.
+    #[tactic(auto, using(crate::proofs::Leaving::registers_none))]
     pub fn choose(
         &mut self,
         alloc: Global,
@@ -30,7 +31,8 @@ impl Session {
         requires { (past : Past) × MayChoose map.now past task self.old wanted.old }
         ensures chosen { OnOk result ((past : Past) → MayChoose map.now past task self.old wanted.old → HasTurned map.now past (choose_in map.now past task) task now self.new wanted.new rows.old rows.new) }
         ensures same { (by_calls self.new ≡ by_calls self.old) × (self.new.touched ≡ self.old.touched) }
-        ensures own { OnlyRegisters (λ other. (other ≡ task) × (is_clean self.old.kind ≡ true) × (self.old.closed ≡ false)) wanted.old wanted.new }
+        ensures own { OnlyRegisters (λ other. other ≡ task) wanted.old wanted.new }
+        ensures idle { (is_clean self.old.kind && not self.old.closed) ≡ false → wanted.new ≡ wanted.old }
         ensures grown { HasGrown rows.old rows.new }
     {
         if !self.may_choose() {
@@ -55,6 +57,7 @@ impl Session {
     }
 
     // Chooses a segment, if none is unfinished and one is left. Tells whether one was chosen.
+    #[tactic(auto, using(crate::proofs::Leaving::registers_none))]
     fn choose_one(
         &mut self,
         alloc: Global,

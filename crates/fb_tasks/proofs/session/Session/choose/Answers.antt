@@ -1,32 +1,19 @@
-use Rattle.fb_tasks.proofs.Words.{◌≡◌, ◌&&◌, ℕ, List, not, true, false, refl, ap, sym, ◌∙◌, arith, and_parts}
-use Rattle.fb_tasks.proofs.Words.{is_clean, choose_up_to, Entry, Session, OnlyRegisters, not-true}
-use Rattle.fb_tasks.proofs.Leaving.{grown_not, grown_more, registers_none, registers_more, registers_weaker}
+use Rattle.fb_tasks.proofs.Words.{◌≡◌, not, refl, ap, sym, ◌∙◌, arith, and_parts}
+use Rattle.fb_tasks.proofs.Words.{is_clean, choose_up_to, not-true}
+use Rattle.fb_tasks.proofs.Leaving.{grown_not, grown_more, registers_none, registers_more}
 use Rattle.fb_tasks.proofs.AllChoices.{up_to_more, still-turned, idle-turned, turned-on, turns_in}
 use Rattle.fb_tasks.proofs.session.Session.choose.Goals as goal
 
--- what one session registers is of a clean task that is open
-own_clean : (task : ℕ) (session : Session) (held now : List Entry) → is_clean session.kind && not session.closed ≡ true → OnlyRegisters (λ other. other ≡ task) held now
-    → OnlyRegisters (λ other. (other ≡ task) × (is_clean session.kind ≡ true) × (session.closed ≡ false)) held now
-own_clean task session held now may h =
-    let may_be = and_parts (is_clean session.kind) (not session.closed) may in
-    registers_weaker (λ other. other ≡ task) (λ other. (other ≡ task) × (is_clean session.kind ≡ true) × (session.closed ≡ false)) held now (λ other own. (own, may_be.0, not-true session.closed may_be.1)) h
-
-pub returns-then-not-may_choose-clause-own : goal.returns-then-not-may_choose-clause-own
-returns-then-not-may_choose-clause-own c = registers_none (λ other. (other ≡ c.args.task) × (is_clean c.args.self.now.kind ≡ true) × (c.args.self.now.closed ≡ false)) c.args.wanted.now
-
-pub returns-in_err-choose_one-clause-own : goal.returns-in_err-choose_one-clause-own
-returns-in_err-choose_one-clause-own c = own_clean c.args.task c.args.self.now c.args.wanted.now c.choose_one.new.wanted (sym c.may_choose.ensures ∙ c.if-not-may_choose.false)
-    (registers_more (λ other. other ≡ c.args.task) c.args.wanted.now c.loop-turn.wanted c.choose_one.new.wanted c.loop-turn.invariant.own c.choose_one.ensures.own)
-
-pub returns-then-not-branch-clause-own : goal.returns-then-not-branch-clause-own
-returns-then-not-branch-clause-own c = own_clean c.args.task c.args.self.now c.args.wanted.now c.choose_one.new.wanted (sym c.may_choose.ensures ∙ c.if-not-may_choose.false)
-    (registers_more (λ other. other ≡ c.args.task) c.args.wanted.now c.loop-turn.wanted c.choose_one.new.wanted c.loop-turn.invariant.own c.choose_one.ensures.own)
-
-pub returns-clause-own : goal.returns-clause-own
-returns-clause-own c = own_clean c.args.task c.args.self.now c.args.wanted.now c.loop-turn.wanted (sym c.may_choose.ensures ∙ c.if-not-may_choose.false) c.loop-turn.invariant.own
-
 pub returns-then-not-may_choose-clause-chosen : goal.returns-then-not-may_choose-clause-chosen
 returns-then-not-may_choose-clause-chosen c = λ past may. idle-turned (sym c.may_choose.ensures ∙ c.if-not-may_choose.true) may
+
+pub returns-in_err-choose_one-clause-own : goal.returns-in_err-choose_one-clause-own
+returns-in_err-choose_one-clause-own c =
+    registers_more (λ other. other ≡ c.args.task) c.args.wanted.now c.loop-turn.wanted c.choose_one.new.wanted c.loop-turn.invariant.own c.choose_one.ensures.own
+
+pub returns-then-not-branch-clause-own : goal.returns-then-not-branch-clause-own
+returns-then-not-branch-clause-own c =
+    registers_more (λ other. other ≡ c.args.task) c.args.wanted.now c.loop-turn.wanted c.choose_one.new.wanted c.loop-turn.invariant.own c.choose_one.ensures.own
 
 pub choose_one-requires-clause-may : goal.choose_one-requires-clause-may
 choose_one-requires-clause-may c = (choose_up_to c.loop-turn._turn c.args.map.now c.args.task c.requires.0, (c.loop-turn.invariant.turned c.requires.0 c.requires.1).may)

@@ -1,5 +1,4 @@
-use Rattle.fb_tasks.proofs.Words.{◌≡◌, sym, ◌∙◌, arith}
-use Rattle.fb_tasks.proofs.Leaving.{registers_none}
+use Rattle.fb_tasks.proofs.Words.{sym, ◌∙◌, arith}
 use Rattle.fb_tasks.proofs.ChoiceSteps.{choice-step, none-step, none-turned, live-on_disk, live-few, live-turned, empty-turned}
 use Rattle.fb_tasks.proofs.session.Session.choose_one.Goals as goal
 
@@ -32,6 +31,3 @@ returns-in-None-clause-chosen c = λ past may.
 
 pub returns-in-None-clause-none : goal.returns-in-None-clause-none
 returns-in-None-clause-none c = λ _ past may. none-step c.requires.cleans may (sym c.in-None.ensures.choice)
-
-pub returns-in-None-clause-own : goal.returns-in-None-clause-own
-returns-in-None-clause-own c = registers_none (λ other. other ≡ c.args.task) c.args.wanted.now
