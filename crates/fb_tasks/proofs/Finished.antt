@@ -129,52 +129,45 @@ module _ {disk : Shape} {past : Past} {task : ℕ} {held : List Entry} (session 
             rows = rw (gives, same, found, lives, live_blocks-count, by.chosen, filter-append, filter_none (is_newly_cleaned w) log.done (done_silent (Some current) by), cleaned, by.unreported.0) refl;
           })
 
-    -- where all blocks are delivered each choice is cleaned
+    -- each choice is cleaned just where all blocks are delivered
     all_done : (counts : Counts) → counts ≡ counts_of task held → counts.delivered ≡ counts.registered → AllByRecursion (IsCleanedIn w) w.choices
     all_done counts is equal =
         let same = is ∙ counts_same past task held h.blocks.entries in
         all_cleaned w w.choices (rw log.blocks at (whole_filter (λ block. is_delivered (w.bare block)) w.blocks (sym (ap (λ c. c.delivered) same) ∙ (equal ∙ ap (λ c. c.registered) same))))
 
-    -- and where they aren't one is not
-    some_open : (counts : Counts) → counts ≡ counts_of task held → (counts.delivered ≡ counts.registered → ⊥) → AllByRecursion (IsCleanedIn w) w.choices → ⊥
-    some_open counts is differ all =
+    all_delivered : (counts : Counts) → counts ≡ counts_of task held → AllByRecursion (IsCleanedIn w) w.choices → counts.delivered ≡ counts.registered
+    all_delivered counts is all =
         let same = is ∙ counts_same past task held h.blocks.entries in
-        differ (ap (λ c. c.delivered) same ∙ (filter_whole (λ block. is_delivered (w.bare block)) w.blocks (rw log.blocks (cleaned_all w w.choices all)) ∙ sym (ap (λ c. c.registered) same)))
+        ap (λ c. c.delivered) same ∙ (filter_whole (λ block. is_delivered (w.bare block)) w.blocks (rw log.blocks (cleaned_all w w.choices all)) ∙ sym (ap (λ c. c.registered) same))
 
-    open_tested : (counts : Counts) → counts ≡ counts_of task held → (counts.delivered ≡ counts.registered → ⊥) → (current : Option Choice) → CleansBy w session.log log.done current → IsSegmentTested past task now session []
-    open_tested counts is differ None by = unfinished_tested None by tt
-    open_tested counts is differ (Some current) by = elim (cases_Bool (is_cleaned w current)) [
-      | inl cleaned ↦ absurd (some_open counts is differ (rw by.chosen (all_append (IsCleanedIn w) log.done (current ∷ []) log.cleaned (cleaned, tt))))
-      | inr not_yet ↦ unfinished_tested (Some current) by (not_yet, tt)
+  -- where no chosen segment is cleaned none is finished
+  open_tested : ((cleans : is_clean session.kind ≡ true) (current : Choice) → CleansBy (w cleans) session.log (log cleans).done (Some current) → is_cleaned (w cleans) current ≡ true → ⊥)
+      → IsSegmentTested past task now session []
+  open_tested none = elim (cases_Bool (is_clean session.kind)) [ inl cleans ↦ by cleans (log cleans).current (log cleans).by | inr other ↦ other_tested other ] where
+    by : (cleans : is_clean session.kind ≡ true) (current : Option Choice) → CleansBy (w cleans) session.log (log cleans).done current → IsSegmentTested past task now session []
+    by cleans None is = unfinished_tested cleans None is tt
+    by cleans (Some current) is = elim (cases_Bool (is_cleaned (w cleans) current)) [
+      | inl cleaned ↦ absurd (none cleans current is cleaned)
+      | inr not_yet ↦ unfinished_tested cleans (Some current) is (not_yet, tt)
     ]
 
-    none_tested : session.log.unfinished ≡ None → (current : Option Choice) → CleansBy w session.log log.done current → IsSegmentTested past task now session []
-    none_tested none None by = unfinished_tested None by tt
-    none_tested none (Some current) by = absurd (none-some current.segment.number (sym none ∙ by.unfinished))
-
-    some_tested : (counts : Counts) → counts ≡ counts_of task held → counts.delivered ≡ counts.registered → (new : Session) (segment : ℕ) (content : List ContentRun) → new ≡ record session { log = record session.log { unfinished = None } } → session.log.unfinished ≡ Some segment → content ≡ runs_of (clean.packed_sectors session.log segment)
-        → (current : Option Choice) → CleansBy w session.log log.done current → IsSegmentTested past task now new (row_of segment (length (clean.live_of session.log segment)) content ∷ [])
-    some_tested counts is equal new segment content new_is says gives None by = absurd (none-some segment (sym by.unfinished ∙ says))
-    some_tested counts is equal new segment content new_is says gives (Some current) by =
-        let cleaned = (all_right (IsCleanedIn w) log.done (current ∷ []) (rw by.chosen at (all_done counts is equal))).0 in
-        finished_tested current by cleaned new segment content new_is says gives
-
   pub unequal_tested : (counts : Counts) → counts ≡ counts_of task held → (counts.delivered ≡ counts.registered → ⊥) → IsSegmentTested past task now session []
-  unequal_tested counts is differ = elim (cases_Bool (is_clean session.kind)) [
-    | inl cleans ↦ open_tested cleans counts is differ (log cleans).current (log cleans).by
-    | inr other ↦ other_tested other
-  ]
+  unequal_tested counts is differ = open_tested (λ cleans current by cleaned. differ (all_delivered cleans counts is
+      (rw by.chosen (all_append (IsCleanedIn (w cleans)) (log cleans).done (current ∷ []) (log cleans).cleaned (cleaned, tt)))))
 
   pub unchosen_tested : (if is_clean session.kind then session.log.unfinished else None) ≡ None → IsSegmentTested past task now session []
-  unchosen_tested none = elim (cases_Bool (is_clean session.kind)) [
-    | inl cleans ↦ none_tested cleans (rw cleans at none) (log cleans).current (log cleans).by
-    | inr other ↦ other_tested other
-  ]
+  unchosen_tested none = open_tested (λ cleans current by cleaned. none-some current.segment.number (sym (rw cleans at none) ∙ by.unfinished))
 
   pub chosen_tested : (counts : Counts) → counts ≡ counts_of task held → counts.delivered ≡ counts.registered → (new : Session) (segment : ℕ) (content : List ContentRun) → new ≡ record session { log = record session.log { unfinished = None } }
       → (if is_clean session.kind then session.log.unfinished else None) ≡ Some segment → content ≡ runs_of (clean.packed_sectors session.log segment)
       → IsSegmentTested past task now new (row_of segment (length (clean.live_of session.log segment)) content ∷ [])
   chosen_tested counts is equal new segment content new_is says gives = elim (cases_Bool (is_clean session.kind)) [
-    | inl cleans ↦ some_tested cleans counts is equal new segment content new_is (rw cleans at says) gives (log cleans).current (log cleans).by
+    | inl cleans ↦ by cleans (rw cleans at says) (log cleans).current (log cleans).by
     | inr other ↦ absurd (none-some segment (rw other at says))
-  ]
+  ] where
+    by : (cleans : is_clean session.kind ≡ true) → session.log.unfinished ≡ Some segment → (current : Option Choice) → CleansBy (w cleans) session.log (log cleans).done current
+        → IsSegmentTested past task now new (row_of segment (length (clean.live_of session.log segment)) content ∷ [])
+    by cleans says None this = absurd (none-some segment (sym this.unfinished ∙ says))
+    by cleans says (Some current) this =
+        let cleaned = (all_right (IsCleanedIn (w cleans)) (log cleans).done (current ∷ []) (rw this.chosen at (all_done cleans counts is equal))).0 in
+        finished_tested cleans current this cleaned new segment content new_is says gives

@@ -77,7 +77,7 @@ impl Sessions {
     ///
     /// Out of memory all sessions and blocks are as before, but the first blocks of a want may be
     /// registered.
-    #[tactic(auto, using(crate::proofs::Asked::session_there))]
+    #[tactic(auto, using(crate::proofs::Asked::session_there, crate::proofs::Leaving::begun_not))]
     pub fn apply(
         &mut self,
         map: &SectorMap,

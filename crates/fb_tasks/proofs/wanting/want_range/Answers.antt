@@ -2,7 +2,7 @@ use Rattle.fb_tasks.proofs.Words.{◌≡◌, ℕ, ◌+◌, ◌-◌, List, [], �
 use Rattle.fb_tasks.proofs.Words.{arith, Shape, cutting, blocks_of, Entry, numbered, Session, new_entries, HasBegun, wanted_unless}
 use Rattle.fb_wanted.specs.Numbering.{registered}
 use Rattle.fb_tasks.proofs.Complete.{registered_count, registered_few}
-use Rattle.fb_tasks.proofs.Leaving.{grown_not, grown_more, begun_not, begun_by, cut_registered, one_counted}
+use Rattle.fb_tasks.proofs.Leaving.{grown_not, grown_more, begun_by, cut_registered, one_counted}
 use Rattle.fb_tasks.proofs.wanting.want_range.Goals as goal
 
 -- a range without sectors gives nothing
@@ -31,14 +31,8 @@ overflow_add-index c = omega (arith, c.loop-left.invariant.next, c.loop-left.inv
 pub returns-clause-all : goal.returns-clause-all
 returns-clause-all c = none-new c.args.map.now c.args.session.now c.args.task c.loop-left.index c.loop-left.lbn c.loop-left.left c.loop-left.wanted (omega (arith, c.loop-left-test.false)) ∙ c.loop-left.invariant.all
 
-pub returns-then-count-eq0-clause-begun : goal.returns-then-count-eq0-clause-begun
-returns-then-count-eq0-clause-begun c = begun_not
-
 pub returns-in_err-register-clause-begun : goal.returns-in_err-register-clause-begun
 returns-in_err-register-clause-begun c = subst (HasBegun c.args.wanted.now _) (sym c.in_err-register.ensures.err) (begun_by _ c.loop-left.invariant.grown c.loop-left.invariant.all)
-
-pub returns-clause-begun : goal.returns-clause-begun
-returns-clause-begun c = begun_by _ c.loop-left.invariant.grown c.loop-left.invariant.all
 
 pub loop-left-preserved : goal.loop-left-preserved
 loop-left-preserved c =

@@ -1,5 +1,5 @@
-use Rattle.fb_tasks.proofs.Words.{ap, refl, on_ok_weaker, on_err_weaker, blocks_by, on_err, arith}
-use Rattle.fb_tasks.proofs.{Leaving.begun_not, Leaving.begun_same, Changes.promoted-tells, Changes.asked-aborts, Asked.room_for_one}
+use Rattle.fb_tasks.proofs.Words.{ap, refl, on_ok_weaker, on_err_weaker, blocks_by, arith}
+use Rattle.fb_tasks.proofs.{Leaving.begun_same, Changes.promoted-tells, Changes.asked-aborts, Asked.room_for_one}
 use Rattle.fb_tasks.proofs.{Asked.takes_none}
 use Rattle.fb_tasks.proofs.sessions.Sessions.apply.Goals as goal
 
@@ -10,30 +10,18 @@ pub add_segment-requires-clause-call : goal.add_segment-requires-clause-call
 add_segment-requires-clause-call c =
     (c.args.map.now, c.requires.0, c.args.call.now, c.args.wanted.now, record { task = refl; action = c.in-Segment.is }, c.requires.1, omega (arith, c.count-sectors.ensures.value, c.count-sectors.ensures.bound))
 
-pub returns-in-Open : goal.returns-in-Open
-returns-in-Open c = record {
-  ok = on_ok_weaker c.open.result (λ says past h. takes_none c.args.map.now past c.args.call.now c.open.new.self c.args.wanted.now (ap (blocks_by c.args.map.now past c.args.call.now.task) c.in-Open.is) (says c.args.map.now past c.args.call.now c.args.wanted.now c.in-Open.is h)) c.open.ensures.ok;
-  err_sessions = c.open.ensures.err;
-  err_blocks = on_err_weaker c.open.result (λ _ past may. begun_not) c.open.ensures.err;
-}
+pub returns-in-Open-clause-ok : goal.returns-in-Open-clause-ok
+returns-in-Open-clause-ok c = on_ok_weaker c.open.result (λ says past h. takes_none c.args.map.now past c.args.call.now c.open.new.self c.args.wanted.now (ap (blocks_by c.args.map.now past c.args.call.now.task) c.in-Open.is) (says c.args.map.now past c.args.call.now c.args.wanted.now c.in-Open.is h)) c.open.ensures.ok
 
-pub returns-in-Want : goal.returns-in-Want
-returns-in-Want c = record {
-  ok = on_ok_weaker c.want.result (λ says past h. says past c.args.call.now (record { task = refl; action = c.in-Want.is }) h) c.want.ensures.ok;
-  err_sessions = c.want.ensures.err;
-  err_blocks = on_err_weaker c.want.result (λ _ past may. c.want.ensures.blocks past c.args.call.now (record { task = refl; action = c.in-Want.is }) may) c.want.ensures.err;
-}
+pub returns-in-Want-clause-ok : goal.returns-in-Want-clause-ok
+returns-in-Want-clause-ok c = on_ok_weaker c.want.result (λ says past h. says past c.args.call.now (record { task = refl; action = c.in-Want.is }) h) c.want.ensures.ok
 
-pub returns-in_err-touch-in-Abort-clause-err_blocks : goal.returns-in_err-touch-in-Abort-clause-err_blocks
-returns-in_err-touch-in-Abort-clause-err_blocks c = on_err c.from_residual.result (λ past may. begun_not)
+pub returns-in-Want-clause-err_blocks : goal.returns-in-Want-clause-err_blocks
+returns-in-Want-clause-err_blocks c = on_err_weaker c.want.result (λ _ past may. c.want.ensures.blocks past c.args.call.now (record { task = refl; action = c.in-Want.is }) may) c.want.ensures.err
 
-pub returns-in_ok-touch-in-Abort : goal.returns-in_ok-touch-in-Abort
-returns-in_ok-touch-in-Abort c = record {
-  ok = λ past h. takes_none c.args.map.now past c.args.call.now c.touch.new.self c.abort.new.self (ap (blocks_by c.args.map.now past c.args.call.now.task) c.in-Abort.is)
-      (asked-aborts c.args.map.now past c.args.call.now c.in-Abort.first c.in-Abort.count c.args.self.now c.touch.new.self c.args.wanted.now c.abort.new.self c.in-Abort.is c.abort.ensures.states c.in_ok-touch-in-Abort.ensures.ok h);
-  err_sessions = tt;
-  err_blocks = tt;
-}
+pub returns-in_ok-touch-in-Abort-clause-ok : goal.returns-in_ok-touch-in-Abort-clause-ok
+returns-in_ok-touch-in-Abort-clause-ok c = λ past h. takes_none c.args.map.now past c.args.call.now c.touch.new.self c.abort.new.self (ap (blocks_by c.args.map.now past c.args.call.now.task) c.in-Abort.is)
+    (asked-aborts c.args.map.now past c.args.call.now c.in-Abort.first c.in-Abort.count c.args.self.now c.touch.new.self c.args.wanted.now c.abort.new.self c.in-Abort.is c.abort.ensures.states c.in_ok-touch-in-Abort.ensures.ok h)
 
 pub returns-in-Promote-clause-ok : goal.returns-in-Promote-clause-ok
 returns-in-Promote-clause-ok c = λ past h. takes_none c.args.map.now past c.args.call.now c.args.self.now c.args.wanted.now (ap (blocks_by c.args.map.now past c.args.call.now.task) c.in-Promote.is)
@@ -55,10 +43,6 @@ returns-in-Close c = record {
   err_blocks = on_err_weaker c.close.result (λ same past may. begun_same same.1) c.close.ensures.err;
 }
 
-pub returns-in-Segment : goal.returns-in-Segment
-returns-in-Segment c = record {
-  ok = on_ok_weaker c.add_segment.result (λ says past h. takes_none c.args.map.now past c.args.call.now c.add_segment.new.self c.args.wanted.now (ap (blocks_by c.args.map.now past c.args.call.now.task) c.in-Segment.is)
-      (says c.args.map.now past c.args.call.now c.args.wanted.now (record { task = refl; action = c.in-Segment.is }) h)) c.add_segment.ensures.ok;
-  err_sessions = c.add_segment.ensures.err;
-  err_blocks = on_err_weaker c.add_segment.result (λ _ past may. begun_not) c.add_segment.ensures.err;
-}
+pub returns-in-Segment-clause-ok : goal.returns-in-Segment-clause-ok
+returns-in-Segment-clause-ok c = on_ok_weaker c.add_segment.result (λ says past h. takes_none c.args.map.now past c.args.call.now c.add_segment.new.self c.args.wanted.now (ap (blocks_by c.args.map.now past c.args.call.now.task) c.in-Segment.is)
+    (says c.args.map.now past c.args.call.now c.args.wanted.now (record { task = refl; action = c.in-Segment.is }) h)) c.add_segment.ensures.ok
