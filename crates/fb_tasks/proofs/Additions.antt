@@ -1,21 +1,21 @@
 -- A session is opened, a log segment is added to one, or a range is wanted for one.
 use Rattle.fb_tasks.proofs.Words.{◌≡◌, ℕ, zero, suc, ◌+◌, ◌<◌, ◌≤◌, ◌==◌, not, List, [], ◌∷◌, ◌++◌, false, None, Some, length, slice_get}
 use Rattle.fb_tasks.proofs.Words.{filter, append-nil, length-append, refl, ap, sym, ◌∙◌, arith, subst, ◌-◌, ◌*◌, ◌^◌, Bool, true, Option}
-use Rattle.fb_tasks.proofs.Words.{map, set, get_or, ◌&&◌, if◌then◌else◌, and-false, AllByRecursion, slice_index_or, list_any, flat_map}
+use Rattle.fb_tasks.proofs.Words.{map, set, get_or, ◌&&◌, and-false, AllByRecursion, slice_index_or, list_any, flat_map}
 use Rattle.fb_tasks.proofs.Words.{true≢false, and_parts, Shape, Open, Segment, Want, Call, Kind, Plain, Clean, MayAsk, has_want, held_at}
 use Rattle.fb_tasks.proofs.Words.{Block, Entry, Past, Terms, called, calls_of, tasks, terms_of, opened_by, registered, LogSegment}
-use Rattle.fb_tasks.proofs.Words.{same_block, Work, TaskView, view, is_complete_as, is_unsealed, state_in, Choice, added_view, is_over}
-use Rattle.fb_tasks.proofs.Words.{is_choice_of, own_of, wanted_view, is_chosen, numbered, opened-silent, opened-view, called-silent}
+use Rattle.fb_tasks.proofs.Words.{Work, TaskView, view, is_complete_as, is_unsealed, state_in, Choice, added_view, is_over}
+use Rattle.fb_tasks.proofs.Words.{is_choice_of, wanted_view, is_chosen, numbered, opened-silent, opened-view, called-silent}
 use Rattle.fb_tasks.proofs.Words.{added-view, wanted-silent, wanted-view, Session, Told, Cleans, IsUntouched, IsPlaced, IsBlockOf}
 use Rattle.fb_tasks.proofs.Words.{IsAtNumber, HoldsBlock, HoldsChoice, choice_in, kept_segment, IsSegmentOf, HoldsImage, IsQuiet}
 use Rattle.fb_tasks.proofs.Words.{entry_of, Stands, AreIndexed, Ascend, AreReported, IsAtWork, IsCutFrom, Tells, MayTake, IsCall}
-use Rattle.fb_tasks.proofs.Words.{all_weaker, some_same, number_other, one_or_other, all_append, any_none, all_with, each_push}
+use Rattle.fb_tasks.proofs.Words.{all_weaker, some_same, number_other, one_or_other, all_append, any_none, each_push}
 use Rattle.fb_tasks.proofs.Words.{get_or_push, length-map, map-append, slice_get-get_or, slice_get_within, places, is_clean, is_backup}
 use Rattle.fb_tasks.proofs.Words.{Content, drop-append_seam, cutting, is_within, Wanted, is_delivered, take_call, blocks_by, new_entries}
 use Rattle.fb_tasks.proofs.Words.{entries_by, cuts_are}
 use Rattle.fb_tasks.proofs.Asked.{opened_same, open_there, terms_there, segments_few}
 use Rattle.fb_tasks.proofs.Frames.{kept-entries, one-tells}
-use Rattle.fb_tasks.proofs.Registered.{named_same, indexed_append, all_member, registered-entries}
+use Rattle.fb_tasks.proofs.Registered.{named_same, indexed_append, fresh_wanted, registered-entries}
 use Rattle.fb_tasks.proofs.Cuts.{cuts_placed, cuts_ascend, cuts_indexed, cuts_own, cuts_count}
 use Rattle.fb_calls.specs.Allowed as allowed
 use Rattle.fb_clean.specs.Segments as clean
@@ -206,16 +206,15 @@ wanted-told task added v session other once ascends own h =
     let ascend : is_backup session.kind ≡ true → Ascend 0 (v.blocks ++ added) = λ backup. rw (none backup) ascends in
     let image : is_unsealed v ≡ true → HoldsImage view.work (held_at session.image) = λ is_open.
     let empty = none (ap (λ t. is_backup t.kind) (sym h.terms) ∙ (and_parts (is_backup v.terms.kind) (not v.sealed) is_open).0) in record {
-      each = rw empty (all_with (λ b. list_any (same_block b) added ≡ true) (λ b. b.task ≡ task) (HoldsBlock view.work (held_at session.image)) fresh added (all_member added) own);
+      each = rw empty (all_weaker (λ b. view.bare b ≡ Wanted) (HoldsBlock view.work (held_at session.image))
+          (λ b fresh done. absurd (true≢false (sym done ∙ ap is_delivered fresh))) added (fresh_wanted task added v.bare view.bare (λ _. refl) own));
       only = λ lbn outside. (h.image is_open).only lbn (ap (list_any (λ b. is_within b.lbn b.count lbn)) empty);
     } in
     let log : is_clean session.kind ≡ true → Cleans view.work session.log = λ cleans. absurd (true≢false (sym cleans ∙ other)) in
     let at_work : IsAtWork view.work session = λ cleans. absurd (true≢false (sym cleans ∙ other)) in
     let reported : AreReported view.work = rw (h.unchosen other) tt in
     let quiet : true ≡ false → IsQuiet view = λ untouched. absurd (true≢false untouched) in
-    assumption (wants, ascend, image, log, at_work, reported, quiet, h) where
-      fresh : (b : Block) → list_any (same_block b) added ≡ true → b.task ≡ task → HoldsBlock (wanted_view task added v).work (held_at session.image) b
-      fresh b one mine done = absurd (true≢false (sym done ∙ ap (λ hit. is_delivered (if hit then Wanted else v.bare b)) (ap (λ t. list_any (same_block (own_of t b)) added) (sym mine) ∙ one)))
+    assumption (wants, ascend, image, log, at_work, reported, quiet, h)
 
 -- what a want may ask for, of its session
 pub record MayWant (disk : Shape) (past : Past) (task first count : ℕ) (held : List Entry) (session : Session) : Type 0 where

@@ -12,6 +12,7 @@ use Rattle.fb_tasks.proofs.Words.{HoldsBlocks, Stands, Told, HasNoChoice, Tells,
 use Rattle.fb_tasks.proofs.Words.{other_number, some_at, map_at, each_set, flat_none, all_range, HasBegun}
 use Rattle.fb_tasks.proofs.Words.{Delivers, HasChosen}
 use Rattle.fb_tasks.proofs.Words.{ends_of}
+use Rattle.fb_tasks.proofs.Words.{IsTested}
 use Rattle.fb_tasks.proofs.{RowsOf.rows-given, RowsOf.seals_given, RowsOf.findings-mute, Tested.settled-tested, Tested.AreAllRows}
 use Rattle.fb_tasks.proofs.{Tested.tells-tested, Tested.still-stands, Tested.no-ends, States.flagged-stands, Deliveries.delivered-entries}
 use Rattle.fb_tasks.proofs.{Deliveries.WasWanted, Deliveries.was_wanted, Deliveries.delivered-holds, Deliveries.delivered-stands}
@@ -84,7 +85,8 @@ module _ {disk : Shape} {past : Past} {sessions : List Session} {held : List Ent
         (rw (silent task other less) (done-other task other less)) (told.complete ∙ rw (silent task other less) (tested-other task other less)) told.stands told.at_work)
 
     -- the sessions tell the history with its delivery and its test
-    pub tells-delivered : (new : Session) → (Stands (view (tested (rows_after past got) ∷ delivered got ∷ past) got.block.task) new) × (IsAtWork (view (tested (rows_after past got) ∷ delivered got ∷ past) got.block.task).work new)
+    pub tells-delivered : {Rows : Type 0} (new : Session) → (Stands (view (tested (rows_after past got) ∷ delivered got ∷ past) got.block.task) new)
+        × (IsAtWork (view (tested (rows_after past got) ∷ delivered got ∷ past) got.block.task).work new) × Rows
         → Tells disk (tested (rows_after past got) ∷ delivered got ∷ past) (set sessions got.block.task (record new { touched = true })) now
     tells-delivered new own =
         let after : Past = tested (rows_after past got) ∷ delivered got ∷ past in
@@ -208,13 +210,28 @@ module _ {disk : Shape} {past : Past} {sessions : List Session} {held now : List
         module _ {with_segment : List BackRow} {finished : Session} (finishes : (disk : Shape) (past : Past) → MayFinish disk past got.block.task mid now
             → (Stands (view past got.block.task) finished) × (IsAtWork (view past got.block.task).work finished) × (with_segment ≡ with_findings ++ segment_rows by_deliveries past got.end got.block.task)) where
           pub has-chosen : HasChosen disk (delivered got ∷ past) got.block.task finished now
-          has-chosen = let is = finishes disk (delivered got ∷ past) may-finish in record { blocks = held-now got t.may now t.is; stands = is.0; at_work = is.1 }
+          has-chosen =
+              let is = finishes disk (delivered got ∷ past) may-finish in
+              record { blocks = held-now got t.may now t.is; stands = is.0; at_work = is.1 }
 
           with_all : with_segment ≡ rows ++ ((GotLine got ∷ found) ++ segments)
-          with_all = (finishes disk (delivered got ∷ past) may-finish).2 ∙ (ap (λ rows. rows ++ segments) all_found ∙ append_assoc rows (GotLine got ∷ found) segments)
+          with_all = (finishes disk (delivered got ∷ past) may-finish).2
+              ∙ (ap (λ rows. rows ++ segments) all_found ∙ append_assoc rows (GotLine got ∷ found) segments)
 
-          pub begun-ends : {new : List BackRow} → HasBegun with_segment ends new → HasBegun rows (GotLine got ∷ rows_after past got) new
-          begun-ends h = due (begun_after ((GotLine got ∷ found) ++ segments) with_all h)
+          pub begun-ends : {new : List BackRow} → ((disk : Shape) (past : Past) → HasChosen disk past got.block.task finished now
+              → HasBegun with_segment (ends_of past got.end got.block.task) new) → HasBegun rows (GotLine got ∷ rows_after past got) new
+          begun-ends begins = due (begun_after ((GotLine got ∷ found) ++ segments) with_all (begins disk (delivered got ∷ past) has-chosen))
 
-          pub rows-all : {new : List BackRow} → new ≡ with_segment ++ ends → new ≡ rows ++ GotLine got ∷ rows_after past got
-          rows-all is = is ∙ (ap (λ rows. rows ++ ends) with_all ∙ (append_assoc rows ((GotLine got ∷ found) ++ segments) ends ∙ ap (λ due. rows ++ due) (sym due_is)))
+          pub has-delivered : {new : Session} {more : List BackRow} → ((disk : Shape) (past : Past) → HasChosen disk past got.block.task finished now
+              → IsTested past got.block.task got.end new with_segment more)
+              → (Stands (view (tested (rows_after past got) ∷ delivered got ∷ past) got.block.task) new)
+              × (IsAtWork (view (tested (rows_after past got) ∷ delivered got ∷ past) got.block.task).work new)
+              × (more ≡ rows ++ GotLine got ∷ rows_after past got)
+          has-delivered tests =
+              let is = tests disk (delivered got ∷ past) has-chosen in
+              let own = is.session (rows_after past got) (all-given got t.may now (held-now got t.may now t.is) got.block.task) in (
+                own.0,
+                own.1,
+                is.rows ∙ (ap (λ rows. rows ++ ends) with_all
+                    ∙ (append_assoc rows ((GotLine got ∷ found) ++ segments) ends ∙ ap (λ due. rows ++ due) (sym due_is))),
+              )

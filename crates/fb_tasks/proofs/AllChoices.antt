@@ -9,6 +9,7 @@ use Rattle.fb_tasks.proofs.Words.{HoldsBlocks, IsQuiet, IsAtWork, HaveChosen, ch
 use Rattle.fb_tasks.proofs.Words.{each_set, step_to, AllByRecursion, sum_by, best_of, flat_map, fold}
 use Rattle.fb_tasks.proofs.Words.{range_with_len, sum_by-cons, slice_get_within, Block, chosen-silent, MaySettle}
 use Rattle.fb_tasks.proofs.Words.{TaskView}
+use Rattle.fb_tasks.proofs.Words.{nil_from_length}
 use Rattle.fb_tasks.proofs.ChoiceSteps.{best_left, chosen_blocks, chosen_for, next_view, numbered_is, once_is, left_less, added_own, segment_rows_of, segment_rows_is, few_less, best_of_left}
 use Rattle.fb_tasks.proofs.Complete.{filter-le}
 use Rattle.std.proofs.lemmas.List.Sums.{fold-append}
@@ -82,23 +83,23 @@ module _ (disk : Shape) (task : ℕ) where
     by true chooses = up_to_still (length (view past task).segments) disk task past (λ _. still_once past (none chooses))
     by false other = refl
 
-  -- after as many turns as segments are left another changes nothing
-  none_after : (n : ℕ) (past : Past) → AllByRecursion (IsSegmentOf disk (view past task).terms.block) (view past task).segments → length (unchosen (view past task).work) ≤ n
-      → choose_once disk task (choose_up_to n disk task past) ≡ choose_up_to n disk task past
-  none_after zero past on_disk few = still_once past (λ free. nothing (unchosen (view past task).work) (omega (arith, few))) where
-    nothing : (left : List LogSegment) → length left ≤ 0 → left ≡ []
-    nothing [] h = refl
-    nothing (s ∷ ss) h = absurd (omega (arith, h))
+  -- after as many turns as segments are left none is left to choose
+  abbrev IsDone : Past → Type 0
+  IsDone past = is_busy (view past task).work ≡ false → unchosen (view past task).work ≡ []
+
+  none_after : (n : ℕ) (past : Past) → AllByRecursion (IsSegmentOf disk (view past task).terms.block) (view past task).segments
+      → length (unchosen (view past task).work) ≤ n → IsDone (choose_up_to n disk task past)
+  none_after zero past on_disk few = λ _. nil_from_length (unchosen (view past task).work) (omega (arith, few))
   none_after (suc n) past on_disk few = elim (cases_Bool (is_busy (view past task).work)) [
-    | inl busy ↦ stopped (once_is disk past task ∙ rw busy refl)
+    | inl busy ↦ stopped (λ free. absurd (true≢false (sym busy ∙ free)))
     | inr free ↦ by_left (λ next there left. none_after n next there left) free (unchosen (view past task).work) refl
   ] where
-    stopped : choose_once disk task past ≡ past → choose_once disk task (choose_up_to (suc n) disk task past) ≡ choose_up_to (suc n) disk task past
-    stopped still = subst (λ p. choose_once disk task p ≡ p) (sym (up_to_still (suc n) disk task past (λ _. still))) still
+    stopped : IsDone past → IsDone (choose_up_to (suc n) disk task past)
+    stopped none = subst IsDone (sym (up_to_still (suc n) disk task past (λ _. still_once past none))) none
 
-    by_left : ((next : Past) → AllByRecursion (IsSegmentOf disk (view next task).terms.block) (view next task).segments → length (unchosen (view next task).work) ≤ n → choose_once disk task (choose_up_to n disk task next) ≡ choose_up_to n disk task next)
-        → is_busy (view past task).work ≡ false → (left : List LogSegment) → unchosen (view past task).work ≡ left → choose_once disk task (choose_up_to (suc n) disk task past) ≡ choose_up_to (suc n) disk task past
-    by_left rest free [] are = stopped (once_is disk past task ∙ rw (free, are) refl)
+    by_left : ((next : Past) → AllByRecursion (IsSegmentOf disk (view next task).terms.block) (view next task).segments → length (unchosen (view next task).work) ≤ n → IsDone (choose_up_to n disk task next))
+        → is_busy (view past task).work ≡ false → (left : List LogSegment) → unchosen (view past task).work ≡ left → IsDone (choose_up_to (suc n) disk task past)
+    by_left rest free [] are = stopped (λ _. are)
     by_left rest free (s ∷ ss) are =
         let best = best_of is_better s ss in
         let next = chose task best (chosen_blocks disk task (view past task) best) ∷ past in
@@ -106,22 +107,12 @@ module _ (disk : Shape) (task : ℕ) where
         let seen = next_view disk past task best in
         let fewer = left_less (λ _. 1) disk task (view past task) best (best_left disk (view past task) s ss (numbered_is past task) on_disk are) in
         let count : length (unchosen (view next task).work) + 1 ≤ length (unchosen (view past task).work) = rw seen (omega (arith, fewer, count_is (unchosen (view past task).work), count_is (unchosen (chosen_view task (chosen_for disk task (view past task) best) (view past task)).work))) in
-        subst (λ p. choose_once disk task (choose_up_to n disk task p) ≡ choose_up_to n disk task p) (sym once) (rest next (rw seen on_disk) (omega (arith, count, few)))
-
-  -- where a turn changes nothing no segment is left to choose
-  none_left : (past : Past) → choose_once disk task past ≡ past → HasNoChoice (view past task)
-  none_left past still = λ chooses free. by_left free (unchosen (view past task).work) refl where
-    by_left : is_busy (view past task).work ≡ false → (left : List LogSegment) → unchosen (view past task).work ≡ left → unchosen (view past task).work ≡ []
-    by_left free [] are = are
-    by_left free (s ∷ ss) are =
-        let best = best_of is_better s ss in
-        let once : choose_once disk task past ≡ chose task best (chosen_blocks disk task (view past task) best) ∷ past = once_is disk past task ∙ rw (free, are) refl in
-        absurd (omega (arith, ap length (sym once ∙ still)))
+        subst (λ p. IsDone (choose_up_to n disk task p)) (sym once) (rest next (rw seen on_disk) (omega (arith, count, few)))
 
   pub no-choice-left : (past : Past) → AllByRecursion (IsSegmentOf disk (view past task).terms.block) (view past task).segments → HasNoChoice (view (choose_in disk past task) task)
   no-choice-left past on_disk = subst (λ p. HasNoChoice (view p task)) (sym (in_is disk past task)) (by (is_clean (view past task).terms.kind && not (view past task).closed) refl) where
     by : (b : Bool) → (is_clean (view past task).terms.kind && not (view past task).closed) ≡ b → HasNoChoice (view (if b then choose_up_to (length (view past task).segments) disk task past else past) task)
-    by true chooses = none_left (choose_up_to (length (view past task).segments) disk task past) (none_after (length (view past task).segments) past on_disk (filter-le (λ s. not (is_chosen (view past task).choices s)) (view past task).segments))
+    by true chooses = λ _. (none_after (length (view past task).segments) past on_disk (filter-le (λ s. not (is_chosen (view past task).choices s)) (view past task).segments))
     by false other = λ chooses free. absurd (true≢false (sym chooses ∙ other))
 
 -- what holds of a history, and still after each choice of a task, holds after all of its choices

@@ -4,7 +4,7 @@ use Rattle.fb_tasks.proofs.Words.{length-append, refl, ap, sym, ◌∙◌, arith
 use Rattle.fb_tasks.proofs.Words.{append-nil, append_assoc, AllByRecursion, fold, range_with_len, sum_by, cases_Bool, filter-append}
 use Rattle.fb_tasks.proofs.Words.{sum_by-cons, sum_by-append, Shape, cutting, Request, Action, Open, Want, Segment, Call, Kind, MayAsk}
 use Rattle.fb_tasks.proofs.Words.{AreAllowed, blocks_from, blocks_in, live_cuts, Block, BackRow, DeliveryRow, Past, LogSegment, called}
-use Rattle.fb_tasks.proofs.Words.{chose, tested, delivered, finished, tasks, task_numbers, terms_of, registered, opened_by, view}
+use Rattle.fb_tasks.proofs.Words.{chose, tested, finished, tasks, task_numbers, terms_of, registered, opened_by, view}
 use Rattle.fb_tasks.proofs.Words.{segments, segment_by, called-silent, opened-silent, opened-view, added-view, next_blocks, is_chosen}
 use Rattle.fb_tasks.proofs.Words.{choose_in, with_choices, take_call, blocks_by, with_delivery, choosable_by, IsSegmentOf, IsUntouched}
 use Rattle.fb_tasks.proofs.Words.{choosable, Tells, MayTake, same_number, other_number, number_other, nat_tests, drop_more, take_more}
@@ -223,10 +223,7 @@ module _ (disk : Shape) (calls : List Call) (past : Past) (next : ℕ) (h : IsCa
     few = omega (arith, choices_less disk past (λ task. (tells.placed task).segments), h.few);
   }
 
-  called_got : (got : DeliveryRow) → IsCalled disk calls (delivered got ∷ past) next
-  unfolding view
-  called_got got = record { within = h.within; taken = h.taken; few = h.few }
-
 -- a delivery and its test
 pub called-delivered : (disk : Shape) (calls : List Call) (past : Past) (next : ℕ) (got : DeliveryRow) → IsCalled disk calls past next → IsCalled disk calls (with_delivery past (delivery_of past got)) next
-called-delivered disk calls past next got h = called-tested disk calls (delivered got ∷ past) next (called_got disk calls past next h got) (delivery_of past got).after
+unfolding view
+called-delivered disk calls past next got h = record { within = h.within; taken = h.taken; few = h.few }

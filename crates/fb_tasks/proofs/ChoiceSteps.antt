@@ -1,10 +1,10 @@
 -- A task chooses a segment, as its session and as the history makes it.
 use Rattle.fb_tasks.proofs.Words.{◌≡◌, ℕ, ◌+◌, ◌-◌, ◌*◌, ◌^◌, ◌<◌, ◌≤◌, ◌==◌, not, if◌then◌else◌, List, [], ◌∷◌, ◌++◌, true, false, Some}
 use Rattle.fb_tasks.proofs.Words.{None, Option, length, map, slice_get, append-nil, refl, ap, sym, ◌∙◌, arith, subst, ◌&&◌, inl}
-use Rattle.fb_tasks.proofs.Words.{inr, filter, append_assoc, length-append, AllByRecursion, list_any, list_all, flat_map, best_of, sum_by}
+use Rattle.fb_tasks.proofs.Words.{inr, filter, append_assoc, length-append, AllByRecursion, list_all, flat_map, best_of, sum_by}
 use Rattle.fb_tasks.proofs.Words.{option_map, true≢false, not-true, cases_Bool, cases_lt, and_parts, flat_map-append, list_any-append}
 use Rattle.fb_tasks.proofs.Words.{slice_get_within, none-some, Shape, places, live_cuts, Block, Entry, Wanted, is_delivered, Past}
-use Rattle.fb_tasks.proofs.Words.{LogSegment, chose, tasks, registered, same_block, Choice, TaskView, view, own_of, chosen_view}
+use Rattle.fb_tasks.proofs.Words.{LogSegment, chose, tasks, registered, Choice, TaskView, view, own_of, chosen_view}
 use Rattle.fb_tasks.proofs.Words.{is_cleaned, is_choice_of, Work, is_unsealed, chosen-silent, chosen-view, number_same, numbered}
 use Rattle.fb_tasks.proofs.Words.{is_better, is_chosen, unchosen, live_count, is_busy, choose_best, choose_once, Session, new_entries}
 use Rattle.fb_tasks.proofs.Words.{is_none, cuts_of, Cleans, HoldsBlocks, HoldsBlock, IsPlaced, IsCutFrom, IsBlockOf, IsSegmentOf}
@@ -13,7 +13,7 @@ use Rattle.fb_tasks.proofs.Words.{MayChoose, choosable_by, HoldsImage, all_weake
 use Rattle.fb_tasks.proofs.Words.{all_same, number_other, none_pass, one_or_other, some_same, filter_same, nat_tests, or-true, length-map}
 use Rattle.fb_tasks.proofs.Words.{map-append, nil_from_length, filter-append, Kind, is_backup, is_clean, ContentRun, runs_of, sectors_of}
 use Rattle.fb_tasks.proofs.Words.{BackRow, SegmentLine, segment_rows, is_newly_cleaned, found_for, by_deliveries, held_at}
-use Rattle.fb_tasks.proofs.Registered.{all_member, no_smaller, indexed_append, registered-entries, named_same, blocks_in}
+use Rattle.fb_tasks.proofs.Registered.{fresh_wanted, no_smaller, indexed_append, registered-entries, named_same, blocks_in}
 use Rattle.fb_tasks.proofs.Cuts.{cuts_own, cuts_indexed, cuts_count}
 use Rattle.fb_tasks.proofs.Segmented.{NumberedFrom, at_number, all_best, live_placed, live_cover, live_ascend, numbered_given, choice_kept, live_there, live_some, cuts_of_live, sum_without}
 use Rattle.fb_tasks.proofs.Words.{HasTurned}
@@ -82,8 +82,7 @@ module _ (disk : Shape) (task : ℕ) (v : TaskView) (best : LogSegment) where
       (λ block less. rw (no_smaller (own_of task block) (length v.blocks) fresh (omega (arith, less)) added_indexed) refl) v.blocks (indexed_below 0 v.blocks indexed)
 
   pub new_bare : AllByRecursion (λ block. (chosen_view task (chosen_for disk task v best) v).bare block ≡ Wanted) (chosen_blocks disk task v best)
-  new_bare = all_with (λ block. list_any (same_block block) fresh ≡ true) (λ b. b.task ≡ task) (λ block. new.bare block ≡ Wanted)
-      (λ block one mine. rw (ap (λ t. list_any (same_block (own_of t block)) fresh) (sym mine) ∙ one) refl) fresh (all_member fresh) added_own
+  new_bare = fresh_wanted task fresh v.bare new.bare (λ _. refl) added_own
 
   pub cleaned_same : AreIndexed 0 v.blocks → v.blocks ≡ flat_map (λ choice. choice.blocks) v.choices → AllByRecursion (λ choice. is_cleaned (chosen_view task (chosen_for disk task v best) v).work choice ≡ is_cleaned v.work choice) v.choices
   cleaned_same indexed blocks = all_weaker (λ (c : Choice). AllByRecursion (λ block. new.bare block ≡ v.bare block) c.blocks) (λ c. is_cleaned new.work c ≡ is_cleaned v.work c)

@@ -1,4 +1,5 @@
 -- Blocks that an event registers.
+use Rattle.fb_tasks.proofs.Words.{State}
 use Rattle.fb_tasks.proofs.Words.{◌≡◌, ℕ, suc, ◌+◌, ◌<◌, ◌==◌, if◌then◌else◌, List, [], ◌∷◌, ◌++◌, true, false, inl, inr, length, filter}
 use Rattle.fb_tasks.proofs.Words.{map, refl, ap, sym, ◌∙◌, arith, subst, or-true, AllByRecursion, list_any, cases_Bool, map-append, Block}
 use Rattle.fb_tasks.proofs.Words.{Entry, Wanted, wanted_unless, Past, registered, same_block, view, own_of, state_in, number_same}
@@ -67,16 +68,18 @@ pub all_own : (task : ℕ) (added : List Block) → AllByRecursion (λ b. b.task
 all_own task [] h = refl
 all_own task (b ∷ bs) h = let own : (b.task == task) ≡ true = number_same b.task task h.0 in rw own (ap (λ xs. b ∷ xs) (all_own task bs h.1))
 
+-- blocks that were just registered are wanted
+pub fresh_wanted : (task : ℕ) (added : List Block) (before now : Block → State) → ((block : Block) → now block ≡ (if list_any (same_block (own_of task block)) added then Wanted else before block))
+    → AllByRecursion (λ b. b.task ≡ task) added → AllByRecursion (λ block. now block ≡ Wanted) added
+fresh_wanted task added before now bare own = all_with (λ block. list_any (same_block block) added ≡ true) (λ b. b.task ≡ task) (λ block. now block ≡ Wanted)
+    (λ block one mine. bare block ∙ rw (ap (λ t. list_any (same_block (own_of t block)) added) (sym mine) ∙ one) refl) added (all_member added) own
+
 -- an event registers blocks of a task, and suspends or resumes nothing
 module _ (past new : Past) (task : ℕ) (added : List Block)
     (others : (t : ℕ) → (task == t) ≡ false → view new t ≡ view past t)
     (bare : (block : Block) → (view new task).bare block ≡ (if list_any (same_block (own_of task block)) added then Wanted else (view past task).bare block))
     (still : (view new task).suspended ≡ (view past task).suspended)
     (before : AreIndexed 0 (view past task).blocks) (after : AreIndexed (length (view past task).blocks) added) (own : AllByRecursion (λ b. b.task ≡ task) added) where
-  pub new_bare : AllByRecursion (λ block. (view new task).bare block ≡ Wanted) added
-  new_bare = all_with (λ block. list_any (same_block block) added ≡ true) (λ b. b.task ≡ task) (λ block. (view new task).bare block ≡ Wanted)
-      (λ block one mine. bare block ∙ rw (ap (λ t. list_any (same_block (own_of t block)) added) (sym mine) ∙ one) refl) added (all_member added) own
-
   pub old_bare : AllByRecursion (λ block. block.task ≡ task → (view new task).bare block ≡ (view past task).bare block) (registered past)
   old_bare = all_weaker (λ block. list_any (same_block block) added ≡ false) (λ block. block.task ≡ task → (view new task).bare block ≡ (view past task).bare block)
       (λ block none mine. bare block ∙ rw (ap (λ t. list_any (same_block (own_of t block)) added) (sym mine) ∙ none) refl) (registered past) (none_again past task added (rw (sym (blocks_in past task)) before) (rw (sym (blocks_in past task)) after) own)
@@ -87,7 +90,7 @@ module _ (past new : Past) (task : ℕ) (added : List Block)
       let olds = map_same (entry_of past) (entry_of new) (registered past) (all_weaker (λ block. block.task ≡ task → (view new task).bare block ≡ (view past task).bare block)
       (λ block. entry_of past block ≡ entry_of new block) old_entry (registered past) old_bare) in
       let news = map_same (λ block. record { block = block; state = wanted_unless session.suspended }) (entry_of new) added (all_with (λ block. (view new task).bare block ≡ Wanted) (λ b. b.task ≡ task)
-      (λ block. ◌≡◌ {A = Entry} (record { block = block; state = wanted_unless session.suspended }) (entry_of new block)) new_entry added new_bare own) in
+      (λ block. ◌≡◌ {A = Entry} (record { block = block; state = wanted_unless session.suspended }) (entry_of new block)) new_entry added (fresh_wanted task added (view past task).bare (view new task).bare bare own) own) in
       rw (pushed, entries, olds, map-append) (ap (λ es. map (entry_of new) (registered past) ++ es) news) where
         old_entry : (block : Block) → (block.task ≡ task → (view new task).bare block ≡ (view past task).bare block) → entry_of past block ≡ entry_of new block
         old_entry block same = one_or_other (λ t. (block.task ≡ t) → entry_in (view past t) block ≡ entry_in (view new t) block) task block.task

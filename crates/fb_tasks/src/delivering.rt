@@ -35,11 +35,10 @@ impl Session {
         rows: &mut BackRows,
     ) -> Result<(), NoMemory>
         requires { (disk : Shape) × (past : Past) × (sessions : List Session) × (held : List Entry) × Delivers disk past sessions held got self.old wanted.now }
-        ensures session { OnOk result ((disk : Shape) (past : Past) (sessions : List Session) (held : List Entry) → Delivers disk past sessions held got self.old wanted.now
+        ensures delivered { OnOk result ((disk : Shape) (past : Past) (sessions : List Session) (held : List Entry) → Delivers disk past sessions held got self.old wanted.now
             → (Stands (view (tested (rows_after past got) ∷ delivered got ∷ past) got.block.task) self.new)
-            × (IsAtWork (view (tested (rows_after past got) ∷ delivered got ∷ past) got.block.task).work self.new)) }
-        ensures rows { OnOk result ((disk : Shape) (past : Past) (sessions : List Session) (held : List Entry) → Delivers disk past sessions held got self.old wanted.now
-            → rows.new ≡ rows.old ++ GotLine got ∷ rows_after past got) }
+            × (IsAtWork (view (tested (rows_after past got) ∷ delivered got ∷ past) got.block.task).work self.new)
+            × (rows.new ≡ rows.old ++ GotLine got ∷ rows_after past got)) }
         ensures err_rows { OnErr result ((disk : Shape) (past : Past) (sessions : List Session) (held : List Entry) → Delivers disk past sessions held got self.old wanted.now
             → HasBegun rows.old (GotLine got ∷ rows_after past got) rows.new) }
     {

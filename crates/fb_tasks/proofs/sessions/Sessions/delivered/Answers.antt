@@ -40,7 +40,7 @@ returns-in_err-note_touch-clause-stay_sessions c =
 pub returns-clause-tells : goal.returns-clause-tells
 returns-clause-tells c = λ disk past may. rw c.self.view_is
     (tells-delivered c.args.got may c.deliver.new.self (held-now c.args.got may c.deliver.new.self c.deliver.ensures) c.deliver-2.new.self
-    (c.in_ok-deliver.ensures.session disk past c.args.self.now c.args.wanted.now
+    (c.in_ok-deliver.ensures.delivered disk past c.args.self.now c.args.wanted.now
     (delivers c.args.got may c.self.view_is c.index_mut-session.ensures.value c.deliver.ensures)))
 
 pub returns-clause-settled : goal.returns-clause-settled
@@ -48,8 +48,8 @@ returns-clause-settled c = λ disk past may.
     settled-delivered c.args.got may c.deliver.new.self (held-now c.args.got may c.deliver.new.self c.deliver.ensures)
 
 pub returns-clause-rows : goal.returns-clause-rows
-returns-clause-rows c = λ disk past may. c.in_ok-deliver.ensures.rows disk past c.args.self.now c.args.wanted.now
-    (delivers c.args.got may c.self.view_is c.index_mut-session.ensures.value c.deliver.ensures)
+returns-clause-rows c = λ disk past may. (c.in_ok-deliver.ensures.delivered disk past c.args.self.now c.args.wanted.now
+    (delivers c.args.got may c.self.view_is c.index_mut-session.ensures.value c.deliver.ensures)).2
 
 pub returns-in_err-deliver-clause-err_rows : goal.returns-in_err-deliver-clause-err_rows
 returns-in_err-deliver-clause-err_rows c = on_err c.from_residual-in_err-deliver.result (λ disk past may.
