@@ -1,16 +1,15 @@
 -- The course of a script: what happens in it may happen, and it goes on.
-use Rattle.fb_tasks.proofs.Words.{◌≡◌, ℕ, zero, suc, ◌+◌, ◌^◌, ◌≤◌, List, [], ◌∷◌, Bool, true, false, Some, length, map, refl, ap, sym}
-use Rattle.fb_tasks.proofs.Words.{◌∙◌, arith, subst, length-map-range_with_len, true≢false, Request, Shape, Call, IsScript, Content}
-use Rattle.fb_tasks.proofs.Words.{Gives, Block, Entry, Wanted, is_wanted, BackRow, DeliveryRow, Past, finished, registered, state, tasks}
-use Rattle.fb_tasks.proofs.Words.{wanted, view, with_choices, test_rows, take_call, with_delivery, task_row, task_rows}
-use Rattle.fb_tasks.proofs.Words.{by_deliveries, delivery_of, Tells, MayTake, MaySettle, MayDeliver, IsSettled, settled_at}
-use Rattle.fb_tasks.proofs.Words.{IsCalled, all_at, filter_to, some_same}
+use Rattle.fb_tasks.proofs.Words.{◌≡◌, ℕ, zero, suc, ◌+◌, ◌^◌, ◌≤◌, List, [], ◌∷◌, Bool, true, false, Some, length, map, refl, ap, sym, ◌∙◌}
+use Rattle.fb_tasks.proofs.Words.{arith, subst, length-map-range_with_len, true≢false, Request, Shape, Call, IsScript, Content, Gives}
+use Rattle.fb_tasks.proofs.Words.{Block, Entry, Wanted, is_wanted, BackRow, DeliveryRow, Past, finished, registered, state, tasks, wanted}
+use Rattle.fb_tasks.proofs.Words.{view, with_choices, test_rows, take_call, with_delivery, task_row, task_rows, by_deliveries, delivery_of}
+use Rattle.fb_tasks.proofs.Words.{Tells, MayTake, MaySettle, MayDeliver, IsSettled, settled_at, IsCalled, all_at, filter_to, some_same}
+use Rattle.fb_tasks.proofs.Calls.{may-take, called-more, called-tested, called-chosen, called-delivered, called-finished}
 use Rattle.std.specs.Prelude.{slice_get, Result, Ok, Err, OnOk}
 use Rattle.fb_tasks.specs.declared.session.Session.{Session}
 use Rattle.fb_tasked.specs.Following.{Follows}
 use Rattle.fb_rows.specs.Ranges.{AreRanges}
 use Rattle.fb_tasks.specs.Telling.{IsBlockOf, entry_of}
-use Rattle.fb_tasks.proofs.Calls.{may-take, called-more, called-tested, called-chosen, called-delivered, called-finished}
 
 module _ {settled : Bool} {disk : Shape} {calls : List Call} {next : ℕ} {sessions : List Session} {held : List Entry} (h : Follows settled disk calls next sessions held) where
   -- and after this as well

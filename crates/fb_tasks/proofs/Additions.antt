@@ -1,18 +1,17 @@
 -- A session is opened, a log segment is added to one, or a range is wanted for one.
 use Rattle.fb_tasks.proofs.Words.{◌≡◌, ℕ, zero, suc, ◌+◌, ◌<◌, ◌≤◌, ◌==◌, not, List, [], ◌∷◌, ◌++◌, false, None, Some, length, slice_get}
 use Rattle.fb_tasks.proofs.Words.{filter, append-nil, length-append, refl, ap, sym, ◌∙◌, arith, subst, ◌-◌, ◌*◌, ◌^◌, Bool, true, Option}
-use Rattle.fb_tasks.proofs.Words.{map, set, get_or, ◌&&◌, and-false, AllByRecursion, slice_index_or, list_any, flat_map}
-use Rattle.fb_tasks.proofs.Words.{true≢false, and_parts, Shape, Open, Segment, Want, Call, Kind, Plain, Clean, MayAsk, has_want, held_at}
-use Rattle.fb_tasks.proofs.Words.{Block, Entry, Past, Terms, called, calls_of, tasks, terms_of, opened_by, registered, LogSegment}
-use Rattle.fb_tasks.proofs.Words.{Work, TaskView, view, is_complete_as, is_unsealed, state_in, Choice, added_view, is_over}
-use Rattle.fb_tasks.proofs.Words.{is_choice_of, wanted_view, is_chosen, numbered, opened-silent, opened-view, called-silent}
-use Rattle.fb_tasks.proofs.Words.{added-view, wanted-silent, wanted-view, Session, Told, Cleans, IsUntouched, IsPlaced, IsBlockOf}
-use Rattle.fb_tasks.proofs.Words.{IsAtNumber, HoldsBlock, HoldsChoice, choice_in, kept_segment, IsSegmentOf, HoldsImage, IsQuiet}
-use Rattle.fb_tasks.proofs.Words.{entry_of, Stands, AreIndexed, Ascend, AreReported, IsAtWork, IsCutFrom, Tells, MayTake, IsCall}
-use Rattle.fb_tasks.proofs.Words.{all_weaker, some_same, number_other, one_or_other, all_append, any_none, each_push}
-use Rattle.fb_tasks.proofs.Words.{get_or_push, length-map, map-append, slice_get-get_or, slice_get_within, places, is_clean, is_backup}
-use Rattle.fb_tasks.proofs.Words.{Content, drop-append_seam, cutting, is_within, Wanted, is_delivered, take_call, blocks_by, new_entries}
-use Rattle.fb_tasks.proofs.Words.{entries_by, cuts_are}
+use Rattle.fb_tasks.proofs.Words.{map, set, get_or, ◌&&◌, and-false, AllByRecursion, slice_index_or, list_any, flat_map, true≢false}
+use Rattle.fb_tasks.proofs.Words.{and_parts, Shape, Open, Segment, Want, Call, Kind, Plain, Clean, MayAsk, has_want, held_at, Block, Entry}
+use Rattle.fb_tasks.proofs.Words.{Past, Terms, called, calls_of, tasks, terms_of, opened_by, registered, LogSegment, Work, TaskView, view}
+use Rattle.fb_tasks.proofs.Words.{is_complete_as, is_unsealed, state_in, Choice, added_view, is_over, is_choice_of, wanted_view, is_chosen}
+use Rattle.fb_tasks.proofs.Words.{numbered, opened-silent, opened-view, called-silent, added-view, wanted-silent, wanted-view, Session}
+use Rattle.fb_tasks.proofs.Words.{Told, Cleans, IsUntouched, IsPlaced, IsBlockOf, IsAtNumber, HoldsBlock, HoldsChoice, choice_in}
+use Rattle.fb_tasks.proofs.Words.{kept_segment, IsSegmentOf, HoldsImage, IsQuiet, entry_of, Stands, AreIndexed, Ascend, AreReported}
+use Rattle.fb_tasks.proofs.Words.{IsAtWork, IsCutFrom, Tells, MayTake, IsCall, all_weaker, some_same, number_other, one_or_other}
+use Rattle.fb_tasks.proofs.Words.{all_append, any_none, each_push, get_or_push, length-map, map-append, slice_get-get_or, slice_get_within}
+use Rattle.fb_tasks.proofs.Words.{places, is_clean, is_backup, Content, drop-append_seam, cutting, is_within, Wanted, is_delivered}
+use Rattle.fb_tasks.proofs.Words.{take_call, blocks_by, new_entries, entries_by, cuts_are, filter_none}
 use Rattle.fb_tasks.proofs.Asked.{opened_same, open_there, terms_there, segments_few}
 use Rattle.fb_tasks.proofs.Frames.{kept-entries, one-tells}
 use Rattle.fb_tasks.proofs.Registered.{named_same, indexed_append, fresh_wanted, registered-entries}
@@ -21,10 +20,6 @@ use Rattle.fb_calls.specs.Allowed as allowed
 use Rattle.fb_clean.specs.Segments as clean
 use Rattle.fb_wanted.specs.Numbering as numbering
 use Rattle.fb_geometry.proofs.Grid.{get_left}
-
-none_own : (n : ℕ) (bs : List Block) → AllByRecursion (λ block. block.task < n) bs → filter (λ block. block.task == n) bs ≡ []
-none_own n [] h = refl
-none_own n (b ∷ bs) h = let other : (b.task == n) ≡ false = number_other b.task n (λ e. absurd (omega (arith, h.0))) in rw other (none_own n bs h.1)
 
 -- what a session is when it has just been opened
 pub record IsFresh (kind : Kind) (weight block : ℕ) (session : Session) : Type 0 where
@@ -77,8 +72,8 @@ fresh-told v kind weight block session terms fresh light size now none = record 
 
 pub none-yet : (disk : Shape) (past : Past) (n : ℕ) → length (tasks past) ≤ n → AllByRecursion (IsBlockOf disk (length (tasks past))) (registered past) → (view past n).blocks ≡ []
 unfolding view
-none-yet disk past n beyond placed = none_own n (registered past)
-    (all_weaker (IsBlockOf disk (length (tasks past))) (λ b. b.task < n) (λ b on. omega (arith, on.task)) (registered past) placed)
+none-yet disk past n beyond placed = filter_none (λ b. b.task == n) (registered past) (all_weaker (IsBlockOf disk (length (tasks past)))
+    (λ b. (b.task == n) ≡ false) (λ b on. number_other b.task n (λ e. absurd (omega (arith, on.task)))) (registered past) placed)
 
 pub opened-tells : (disk : Shape) (past : Past) (call : Call) (kind : Kind) (weight block : ℕ) (items seen more : List Session) (session : Session) (held : List Entry) → call.action ≡ Open kind weight block → items ≡ seen
     → more ≡ items ++ session ∷ [] → IsFresh kind weight block session → MayTake disk past seen held call → Tells disk (called call [] ∷ past) more held
@@ -207,7 +202,8 @@ wanted-told task added v session other once ascends own h =
     let image : is_unsealed v ≡ true → HoldsImage view.work (held_at session.image) = λ is_open.
     let empty = none (ap (λ t. is_backup t.kind) (sym h.terms) ∙ (and_parts (is_backup v.terms.kind) (not v.sealed) is_open).0) in record {
       each = rw empty (all_weaker (λ b. view.bare b ≡ Wanted) (HoldsBlock view.work (held_at session.image))
-          (λ b fresh done. absurd (true≢false (sym done ∙ ap is_delivered fresh))) added (fresh_wanted task added v.bare view.bare (λ _. refl) own));
+          (λ b fresh done. absurd (true≢false (sym done ∙ ap is_delivered fresh))) added
+          (fresh_wanted task added v.bare view.bare (λ _. refl) own));
       only = λ lbn outside. (h.image is_open).only lbn (ap (list_any (λ b. is_within b.lbn b.count lbn)) empty);
     } in
     let log : is_clean session.kind ≡ true → Cleans view.work session.log = λ cleans. absurd (true≢false (sym cleans ∙ other)) in
@@ -274,8 +270,6 @@ pub wanted-tells : (disk : Shape) (past : Past) (call : Call) (task first count 
 wanted-tells disk past call task first count seen touched session held now small is within at pushed flagged h =
     let there = slice_get-get_or seen task session within ∙ ap Some (sym at) in
     let may = may_want disk past call task first count seen session held is there h in
-    let told = h.tells.each task session there in
-    let placed = h.tells.placed task in
     let taken : blocks_by disk past call.task call.action ≡ numbered task session.weight (length (view past task).blocks) (cutting disk session.block first count) = ap (λ t. blocks_by disk past t call.action) is.task ∙ (ap (blocks_by disk past task) is.action ∙ may.taken) in
     let next = length (view past task).blocks in
     let cuts = cutting disk session.block first count in

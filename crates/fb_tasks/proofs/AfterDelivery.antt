@@ -1,18 +1,15 @@
 -- The rows that follow a delivery, and the sessions after them.
-use Rattle.fb_tasks.proofs.Words.{◌≡◌, ℕ, zero, suc, ◌+◌, ◌<◌, ◌≤◌, ◌==◌, ◌&&◌, if◌then◌else◌, List, [], ◌∷◌, ◌++◌, Bool, true, false}
-use Rattle.fb_tasks.proofs.Words.{Some, None, Option, inl, inr, length, map, set, get_or, slice_get, append-nil, append_assoc, refl, ap}
-use Rattle.fb_tasks.proofs.Words.{ap₂, sym, ◌∙◌, arith, subst, AllByRecursion, flat_map, list_any, range_with_len, cases_Bool, true≢false}
-use Rattle.fb_tasks.proofs.Words.{nat_tests, length-set, slice_get_within, slice_get-get_or, Shape, is_clean, option_map, BackRow}
-use Rattle.fb_tasks.proofs.Words.{BadLine, GotLine, DeliveryRow, Deliver, Entry, Wanted, after, is_block, Content, Gives, Past, tested}
-use Rattle.fb_tasks.proofs.Words.{delivered, tasks, terms_of, registered, is_seal_of, Choice, TaskView, view, delivered_view, is_unsealed}
-use Rattle.fb_tasks.proofs.Words.{is_done, is_cleaned, delivered-silent, delivered-view, tested-view, number_same, test_rows}
-use Rattle.fb_tasks.proofs.Words.{segment_rows, seal_rows, complete_rows, is_newly_cleaned, findings, is_scrub, bad_sectors, Session}
-use Rattle.fb_tasks.proofs.Words.{by_deliveries, rows_after, HasTaken, entry_of, choice_in, AreReported, MayFinish, IsBlockOf, IsAtWork}
-use Rattle.fb_tasks.proofs.Words.{HoldsBlocks, Stands, Told, HasNoChoice, Tells, IsSettled, MayDeliver, all_at, number_other, same_number}
-use Rattle.fb_tasks.proofs.Words.{other_number, some_at, map_at, each_set, flat_none, all_range, HasBegun}
-use Rattle.fb_tasks.proofs.Words.{Delivers, HasChosen}
-use Rattle.fb_tasks.proofs.Words.{ends_of}
-use Rattle.fb_tasks.proofs.Words.{IsTested}
+use Rattle.fb_tasks.proofs.Words.{◌≡◌, ℕ, zero, suc, ◌+◌, ◌<◌, ◌≤◌, ◌==◌, ◌&&◌, if◌then◌else◌, List, [], ◌∷◌, ◌++◌, Bool, true, false, Some}
+use Rattle.fb_tasks.proofs.Words.{None, Option, inl, inr, length, map, set, get_or, slice_get, append-nil, append_assoc, refl, ap, ap₂, sym}
+use Rattle.fb_tasks.proofs.Words.{◌∙◌, arith, subst, AllByRecursion, flat_map, list_any, range_with_len, cases_Bool, true≢false, nat_tests}
+use Rattle.fb_tasks.proofs.Words.{length-set, slice_get_within, slice_get-get_or, Shape, is_clean, option_map, BackRow, BadLine, GotLine}
+use Rattle.fb_tasks.proofs.Words.{DeliveryRow, Deliver, Entry, Wanted, after, is_block, Content, Gives, Past, tested, delivered, tasks}
+use Rattle.fb_tasks.proofs.Words.{terms_of, registered, is_seal_of, Choice, TaskView, view, delivered_view, is_unsealed, is_done}
+use Rattle.fb_tasks.proofs.Words.{is_cleaned, delivered-silent, delivered-view, tested-view, number_same, test_rows, segment_rows}
+use Rattle.fb_tasks.proofs.Words.{seal_rows, complete_rows, is_newly_cleaned, findings, is_scrub, bad_sectors, Session, by_deliveries}
+use Rattle.fb_tasks.proofs.Words.{rows_after, HasTaken, entry_of, choice_in, AreReported, MayFinish, IsBlockOf, IsAtWork, HoldsBlocks}
+use Rattle.fb_tasks.proofs.Words.{Stands, Told, HasNoChoice, Tells, IsSettled, MayDeliver, all_at, number_other, same_number, other_number}
+use Rattle.fb_tasks.proofs.Words.{some_at, map_at, each_set, flat_none, all_range, HasBegun, Delivers, HasChosen, ends_of, IsTested}
 use Rattle.fb_tasks.proofs.{RowsOf.rows-given, RowsOf.seals_given, RowsOf.findings-mute, Tested.settled-tested, Tested.AreAllRows}
 use Rattle.fb_tasks.proofs.{Tested.tells-tested, Tested.still-stands, Tested.no-ends, States.flagged-stands, Deliveries.delivered-entries}
 use Rattle.fb_tasks.proofs.{Deliveries.WasWanted, Deliveries.was_wanted, Deliveries.delivered-holds, Deliveries.delivered-stands}
@@ -85,7 +82,8 @@ module _ {disk : Shape} {past : Past} {sessions : List Session} {held : List Ent
         (rw (silent task other less) (done-other task other less)) (told.complete ∙ rw (silent task other less) (tested-other task other less)) told.stands told.at_work)
 
     -- the sessions tell the history with its delivery and its test
-    pub tells-delivered : {Rows : Type 0} (new : Session) → (Stands (view (tested (rows_after past got) ∷ delivered got ∷ past) got.block.task) new)
+    pub tells-delivered : {Rows : Type 0} (new : Session) → (Stands
+        (view (tested (rows_after past got) ∷ delivered got ∷ past) got.block.task) new)
         × (IsAtWork (view (tested (rows_after past got) ∷ delivered got ∷ past) got.block.task).work new) × Rows
         → Tells disk (tested (rows_after past got) ∷ delivered got ∷ past) (set sessions got.block.task (record new { touched = true })) now
     tells-delivered new own =
@@ -160,7 +158,8 @@ module _ {disk : Shape} {past : Past} {sessions : List Session} {held now : List
     may-finish : MayFinish disk (delivered got ∷ past) got.block.task mid now
     may-finish = record {
       blocks = held-now got t.may now t.is;
-      stands = rw (delivered-view past got got.block.task refl) (delivered-stands (view past got.block.task) got was.own_place was.own_there was.bare
+      stands = rw (delivered-view past got got.block.task refl)
+          (delivered-stands (view past got.block.task) got was.own_place was.own_there was.bare
           t.may.content_at old mid (t.may.tells.placed got.block.task).indexed t.may.content taken told-own.stands);
       reported = rw (delivered-view past got got.block.task refl) (others-silent (view past got.block.task) got old mid told-own.stands told-own.reported
           (ap (λ (s : Session). s.log.unfinished) taken.same));
@@ -189,7 +188,8 @@ module _ {disk : Shape} {past : Past} {sessions : List Session} {held now : List
 
       due_is : GotLine got ∷ rows_after past got ≡ ((GotLine got ∷ found) ++ segments) ++ ends
       due_is = ap (λ more. GotLine got ∷ findings past got ++ more) (own-rows got t.may got.end)
-          ∙ ap (λ rows. GotLine got ∷ rows) (ap (λ rows. rows ++ (segments ++ ends)) (sym findings_same) ∙ sym (append_assoc found segments ends))
+          ∙ ap (λ rows. GotLine got ∷ rows) (ap (λ rows. rows ++ (segments ++ ends)) (sym findings_same)
+          ∙ sym (append_assoc found segments ends))
 
       abbrev Begun : List BackRow → Type 0
       Begun new = HasBegun rows (GotLine got ∷ rows_after past got) new
@@ -207,8 +207,10 @@ module _ {disk : Shape} {past : Past} {sessions : List Session} {held now : List
         pub begun-segment : {new : List BackRow} → new ≡ with_findings → HasBegun rows (GotLine got ∷ rows_after past got) new
         begun-segment none = due (begun_longer ends (begun_after (GotLine got ∷ found) all_found (begun_same none)))
 
-        module _ {with_segment : List BackRow} {finished : Session} (finishes : (disk : Shape) (past : Past) → MayFinish disk past got.block.task mid now
-            → (Stands (view past got.block.task) finished) × (IsAtWork (view past got.block.task).work finished) × (with_segment ≡ with_findings ++ segment_rows by_deliveries past got.end got.block.task)) where
+        module _ {with_segment : List BackRow} {finished : Session}
+            (finishes : (disk : Shape) (past : Past) → MayFinish disk past got.block.task mid now
+            → (Stands (view past got.block.task) finished) × (IsAtWork (view past got.block.task).work finished)
+            × (with_segment ≡ with_findings ++ segment_rows by_deliveries past got.end got.block.task)) where
           pub has-chosen : HasChosen disk (delivered got ∷ past) got.block.task finished now
           has-chosen =
               let is = finishes disk (delivered got ∷ past) may-finish in
@@ -222,7 +224,8 @@ module _ {disk : Shape} {past : Past} {sessions : List Session} {held now : List
               → HasBegun with_segment (ends_of past got.end got.block.task) new) → HasBegun rows (GotLine got ∷ rows_after past got) new
           begun-ends begins = due (begun_after ((GotLine got ∷ found) ++ segments) with_all (begins disk (delivered got ∷ past) has-chosen))
 
-          pub has-delivered : {new : Session} {more : List BackRow} → ((disk : Shape) (past : Past) → HasChosen disk past got.block.task finished now
+          pub has-delivered : {new : Session} {more : List BackRow}
+              → ((disk : Shape) (past : Past) → HasChosen disk past got.block.task finished now
               → IsTested past got.block.task got.end new with_segment more)
               → (Stands (view (tested (rows_after past got) ∷ delivered got ∷ past) got.block.task) new)
               × (IsAtWork (view (tested (rows_after past got) ∷ delivered got ∷ past) got.block.task).work new)

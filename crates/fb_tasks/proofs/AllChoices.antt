@@ -3,25 +3,22 @@ use Rattle.fb_tasks.proofs.Words.{◌≡◌, ℕ, zero, suc, ◌+◌, ◌-◌, �
 use Rattle.fb_tasks.proofs.Words.{append-nil, refl, ap, sym, ◌∙◌, arith, ◌∷◌, Bool, inl, inr, subst, ◌*◌, ◌^◌, ◌<◌, Some, set, slice_get}
 use Rattle.fb_tasks.proofs.Words.{and_parts, cases_Bool, true≢false, length-map, length-set, Shape, is_clean, Entry, BackRow, Past}
 use Rattle.fb_tasks.proofs.Words.{LogSegment, chose, tasks, task_numbers, registered, view, chosen_view, choose_once, choose_up_to}
-use Rattle.fb_tasks.proofs.Words.{choose_in, is_better, is_busy, is_chosen, unchosen, with_choices, segment_rows, is_newly_cleaned}
-use Rattle.fb_tasks.proofs.Words.{Session, by_deliveries, Stands, MayChoose, AreReported, IsSegmentOf, HasNoChoice}
-use Rattle.fb_tasks.proofs.Words.{HoldsBlocks, IsQuiet, IsAtWork, HaveChosen, choosable_by, filter_none, flat_same, some_at, number_other}
-use Rattle.fb_tasks.proofs.Words.{each_set, step_to, AllByRecursion, sum_by, best_of, flat_map, fold}
-use Rattle.fb_tasks.proofs.Words.{range_with_len, sum_by-cons, slice_get_within, Block, chosen-silent, MaySettle}
-use Rattle.fb_tasks.proofs.Words.{TaskView}
-use Rattle.fb_tasks.proofs.Words.{nil_from_length}
-use Rattle.fb_tasks.proofs.ChoiceSteps.{best_left, chosen_blocks, chosen_for, next_view, numbered_is, once_is, left_less, added_own, segment_rows_of, segment_rows_is, few_less, best_of_left}
-use Rattle.fb_tasks.proofs.Complete.{filter-le}
+use Rattle.fb_tasks.proofs.Words.{choose_in, is_better, is_busy, is_chosen, unchosen, with_choices, segment_rows, is_newly_cleaned, Session}
+use Rattle.fb_tasks.proofs.Words.{by_deliveries, Stands, MayChoose, AreReported, IsSegmentOf, HasNoChoice, HoldsBlocks, IsQuiet, IsAtWork}
+use Rattle.fb_tasks.proofs.Words.{HaveChosen, choosable_by, filter_none, flat_same, some_at, number_other, each_set, step_to}
+use Rattle.fb_tasks.proofs.Words.{AllByRecursion, sum_by, best_of, flat_map, fold, range_with_len, sum_by-cons, slice_get_within, Block}
+use Rattle.fb_tasks.proofs.Words.{chosen-silent, MaySettle, TaskView, nil_from_length, HasTurned, kept_segment}
+use Rattle.fb_tasks.proofs.{ChoiceSteps.best_left, ChoiceSteps.chosen_blocks, ChoiceSteps.chosen_for, ChoiceSteps.next_view}
+use Rattle.fb_tasks.proofs.{ChoiceSteps.numbered_is, ChoiceSteps.once_is, ChoiceSteps.left_less, ChoiceSteps.added_own}
+use Rattle.fb_tasks.proofs.{ChoiceSteps.segment_rows_of, ChoiceSteps.segment_rows_is, ChoiceSteps.few_less, ChoiceSteps.best_of_left}
+use Rattle.fb_tasks.proofs.{Complete.filter-le, Cuts.range_next, Tested.rows_more, Frames.set_same}
 use Rattle.std.proofs.lemmas.List.Sums.{fold-append}
 pub use Rattle.fb_tasks.proofs.Lists.{all_range}
-use Rattle.fb_tasks.proofs.Cuts.{range_next}
-use Rattle.fb_tasks.proofs.Tested.{rows_more}
-use Rattle.fb_tasks.proofs.Frames.{set_same}
-use Rattle.fb_tasks.proofs.Words.{HasTurned, kept_segment}
 
 up_to_still : (n : ℕ) (disk : Shape) (task : ℕ) (past : Past) → (0 < n → choose_once disk task past ≡ past) → choose_up_to n disk task past ≡ past
 up_to_still zero disk task past still = refl
-up_to_still (suc n) disk task past still = let e = still (omega arith) in ap (choose_up_to n disk task) e ∙ up_to_still n disk task past (λ _. e)
+up_to_still (suc n) disk task past still = let e = still (omega arith) in ap (choose_up_to n disk task) e
+    ∙ up_to_still n disk task past (λ _. e)
 
 up_to_split : (k m : ℕ) (disk : Shape) (task : ℕ) (past : Past) → choose_up_to (k + m) disk task past ≡ choose_up_to m disk task (choose_up_to k disk task past)
 up_to_split zero m disk task past = ap (λ n. choose_up_to n disk task past) (let e : 0 + m ≡ m = omega arith in e)
@@ -45,7 +42,8 @@ unfolding view
 reported_rows past now task h = rw (filter_none (is_newly_cleaned (view past task).work) (view past task).choices h) refl
 
 -- a task that stays
-pub still-turned : {disk : Shape} {past new : Past} {task now : ℕ} {session : Session} {held : List Entry} {rows : List BackRow} → new ≡ past
+pub still-turned : {disk : Shape} {past new : Past} {task now : ℕ} {session : Session} {held : List Entry} {rows : List BackRow} → new
+    ≡ past
     → MayChoose disk past task session held → HasTurned disk past new task now session held rows rows
 still-turned still may = rw still (record { may = may; rows = λ before so_far. so_far })
 
@@ -55,7 +53,8 @@ pub idle-turned : {disk : Shape} {past : Past} {task now : ℕ} {session : Sessi
 idle-turned {disk} {past} {task} {now} {session} none may = still-turned (in_by disk past task session false may.stands none) may
 
 pub turned-on : {disk : Shape} {past mid new : Past} {task now : ℕ} {before session : Session} {was held : List Entry} {old rows more : List BackRow}
-    → HasTurned disk past mid task now before was old rows → HasTurned disk mid new task now session held rows more → HasTurned disk past new task now session held old more
+    → HasTurned disk past mid task now before was old rows → HasTurned disk mid new task now session held rows more
+    → HasTurned disk past new task now session held old more
 turned-on a b = record { may = b.may; rows = λ start so_far. b.rows start (a.rows start so_far) }
 
 -- after as many turns as there are segments, or after one that changed nothing, all was chosen
@@ -64,8 +63,10 @@ pub turns_in : {disk : Shape} {past : Past} {task : ℕ} {session : Session} {he
     → (0 < n - k → choose_once disk task (choose_up_to k disk task past) ≡ choose_up_to k disk task past) → choose_in disk past task ≡ choose_up_to k disk task past
 turns_in {disk} {past} {task} {session} k n may_be count may le still =
     let log = may.stands.log (and_parts (is_clean session.kind) (not session.closed) may_be).0 in
-    let as_many : length (view past task).segments ≡ k + (n - k) = omega (arith, count, ap length log.segments, length-map (view past task).segments (kept_segment (view past task).work)) in
-    rw (in_by disk past task session true may.stands may_be, as_many, up_to_split k (n - k) disk task past) (up_to_still (n - k) disk task (choose_up_to k disk task past) still)
+    let as_many : length (view past task).segments ≡ k + (n - k) = omega
+    (arith, count, ap length log.segments, length-map (view past task).segments (kept_segment (view past task).work)) in
+    rw (in_by disk past task session true may.stands may_be, as_many, up_to_split k (n - k) disk task past)
+    (up_to_still (n - k) disk task (choose_up_to k disk task past) still)
 
 count_is : {X : Type 0} (xs : List X) → sum_by (λ _. 1) xs ≡ length xs
 count_is [] = refl
@@ -117,7 +118,8 @@ module _ (disk : Shape) (task : ℕ) where
 
 -- what holds of a history, and still after each choice of a task, holds after all of its choices
 module _ (P : Past → Type 0) (disk : Shape) (task : ℕ)
-    (kept : (past : Past) → P past → (s : LogSegment) (ss : List LogSegment) → unchosen (view past task).work ≡ s ∷ ss → P (best_of_left disk task past (s ∷ ss))) where
+    (kept : (past : Past) → P past → (s : LogSegment) (ss : List LogSegment) → unchosen (view past task).work ≡ s ∷ ss
+    → P (best_of_left disk task past (s ∷ ss))) where
   by_once : (past : Past) → P past → P (choose_once disk task past)
   by_once past h = subst P (sym (once_is disk past task)) (by_busy (is_busy (view past task).work)) where
     by_left : (left : List LogSegment) → unchosen (view past task).work ≡ left → P (best_of_left disk task past left)
@@ -221,7 +223,14 @@ partly-start disk past sessions held instant rows h = let tells = h.tells in rec
   begun = record {
     as_many = tells.as_many;
     each = λ task session at. let told = tells.each task session at in
-        record { stands = told.stands; at_work = told.at_work; later = λ _. told.reported; chosen = λ less. absurd (omega (arith, less)); quiet = told.quiet };
+        record {
+          stands = told.stands;
+          at_work = told.at_work;
+          later = λ _. told.reported;
+          chosen = λ less. absurd
+              (omega (arith, less));
+          quiet = told.quiet;
+        };
     blocks = tells.blocks;
     few = subst (λ k. length (registered past) + sum_by (choosable_by disk past) (range_with_len 0 k) ≤ 16 * 10 ^ 6) (let e : length (tasks past) ≡ length (tasks past) - 0 = omega arith in e) h.few;
   };
@@ -229,7 +238,8 @@ partly-start disk past sessions held instant rows h = let tells = h.tells in rec
 }
 
 module _ {disk : Shape} {past : Past} {instant : ℕ} {before : List BackRow} where
-  pub partly-may : {sessions : List Session} {held : List Entry} {rows : List BackRow} {n : ℕ} {session : Session} → slice_get sessions n ≡ Some session
+  pub partly-may : {sessions : List Session} {held : List Entry} {rows : List BackRow} {n : ℕ} {session : Session} → slice_get sessions n
+      ≡ Some session
       → Partly disk past sessions held instant before rows n → MayChoose disk (past_at disk past n) n session held
   partly-may {sessions} {held} {rows} {n} {session} at h =
       let within : n < length (tasks past) = omega (arith, slice_get_within sessions n session at, h.as_many) in
@@ -241,9 +251,11 @@ module _ {disk : Shape} {past : Past} {instant : ℕ} {before : List BackRow} wh
       }
 
   -- one session more has chosen
-  pub partly-more : {sessions : List Session} {held now : List Entry} {rows more : List BackRow} {n : ℕ} {session new : Session} → slice_get sessions n ≡ Some session
+  pub partly-more : {sessions : List Session} {held now : List Entry} {rows more : List BackRow} {n : ℕ} {session new : Session}
+      → slice_get sessions n ≡ Some session
       → new.touched ≡ session.touched → Partly disk past sessions held instant before rows n
-      → HasTurned disk (past_at disk past n) (choose_in disk (past_at disk past n) n) n instant new now rows more → Partly disk past (set sessions n new) now instant before more (n + 1)
+      → HasTurned disk (past_at disk past n) (choose_in disk (past_at disk past n) n) n instant new now rows more
+      → Partly disk past (set sessions n new) now instant before more (n + 1)
   partly-more {sessions} {held} {now} {rows} {more} {n} {session} {new} at flag h turned =
       let old = past_at disk past n in
       let after = choose_in disk (past_at disk past n) n in
@@ -252,7 +264,8 @@ module _ {disk : Shape} {past : Past} {instant : ℕ} {before : List BackRow} wh
       let fewer = in_fewer disk n old (h.blocks.placed n).segments in
       let rest = sum_range (choosable_by disk after) (choosable_by disk old) (n + 1) (length (tasks past) - (n + 1)) (λ k from to. choosable-same disk old after k (same k (λ e. absurd (omega arith)))) in
       let kept = flat_same (segment_rows by_deliveries after instant) (segment_rows by_deliveries old instant) (range_with_len 0 n)
-      (all_range (λ k. segment_rows by_deliveries after instant k ≡ segment_rows by_deliveries old instant k) 0 n (λ k le lt. rows-same old after k instant (same k (λ e. absurd (omega arith))))) in
+      (all_range (λ k. segment_rows by_deliveries after instant k ≡ segment_rows by_deliveries old instant k) 0 n
+      (λ k le lt. rows-same old after k instant (same k (λ e. absurd (omega arith))))) in
       let given = turned.rows rows (rw (reported_rows old instant n ((h.each n session at).later (omega arith))) (sym (append-nil rows))) in
       record {
         begun = rw (past_more disk past n) (record {
@@ -264,7 +277,14 @@ module _ {disk : Shape} {past : Past} {instant : ℕ} {before : List BackRow} wh
             chosen = λ _. no-choice-left disk n old (h.blocks.placed n).segments;
             quiet = λ untouched. let was = (h.each n session at).quiet (sym flag ∙ untouched) in rw (stays disk n old was.chosen) was;
           }) (λ t s differ there. let was = h.each t s there in
-              rw (same t differ) (record { stands = was.stands; at_work = was.at_work; later = λ le. was.later (omega arith); chosen = λ less. was.chosen (grind arith); quiet = was.quiet }));
+              rw (same t differ) (record {
+                stands = was.stands;
+                at_work = was.at_work;
+                later = λ le. was.later (omega arith);
+                chosen =
+                    λ less. was.chosen (grind arith);
+                quiet = was.quiet;
+              }));
           blocks = turned.may.blocks;
           few = omega (arith, h.few, fewer, rest, left_split (choosable_by disk old) n (length (tasks past)) within);
         });
@@ -275,15 +295,18 @@ module _ {disk : Shape} {past : Past} {instant : ℕ} {before : List BackRow} wh
   pub partly-to : {sessions : List Session} {held : List Entry} {rows : List BackRow} (n m : ℕ) → n ≤ m → m ≤ length sessions
       → ((k : ℕ) (session : Session) → n ≤ k → k < m → slice_get sessions k ≡ Some session → session.touched ≡ false)
       → Partly disk past sessions held instant before rows n → Partly disk past sessions held instant before rows m
-  partly-to {sessions} {held} {rows} n m le within untouched h = step_to (Partly disk past sessions held instant before rows) n m le (λ k from to now.
+  partly-to {sessions} {held} {rows} n m le within untouched h = step_to
+      (Partly disk past sessions held instant before rows) n m le (λ k from to now.
       let found = some_at sessions k (omega (arith, within)) in
       let still = stays disk k (past_at disk past k) ((now.each k found.0 found.1).quiet (untouched k found.0 from to found.1)).chosen in
       subst (λ xs. Partly disk past xs held instant before rows (k + 1)) (set_same sessions k found.0 found.1)
       (partly-more found.1 refl now (still-turned still (partly-may found.1 now)))) h
 
 -- after the choices of all tasks
-pub all-chosen : {disk : Shape} {past : Past} {sessions : List Session} {held : List Entry} {instant : ℕ} {before rows : List BackRow} → Partly disk past sessions held instant before rows (length sessions)
-    → HaveChosen disk (with_choices disk past) sessions held × (rows ≡ before ++ flat_map (segment_rows by_deliveries (with_choices disk past) instant) (task_numbers (with_choices disk past)))
+pub all-chosen : {disk : Shape} {past : Past} {sessions : List Session} {held : List Entry} {instant : ℕ} {before rows : List BackRow}
+    → Partly disk past sessions held instant before rows (length sessions)
+    → HaveChosen disk (with_choices disk past) sessions held ×
+    (rows ≡ before ++ flat_map (segment_rows by_deliveries (with_choices disk past) instant) (task_numbers (with_choices disk past)))
 unfolding with_choices
 all-chosen {disk} {past} {sessions} {held} {instant} {before} {rows} h =
     let new = past_at disk past (length (tasks past)) in

@@ -4,16 +4,16 @@ use Rattle.fb_tasks.proofs.Words.{length-append, refl, ap, sym, ◌∙◌, arith
 use Rattle.fb_tasks.proofs.Words.{append-nil, append_assoc, AllByRecursion, fold, range_with_len, sum_by, cases_Bool, filter-append}
 use Rattle.fb_tasks.proofs.Words.{sum_by-cons, sum_by-append, Shape, cutting, Request, Action, Open, Want, Segment, Call, Kind, MayAsk}
 use Rattle.fb_tasks.proofs.Words.{AreAllowed, blocks_from, blocks_in, live_cuts, Block, BackRow, DeliveryRow, Past, LogSegment, called}
-use Rattle.fb_tasks.proofs.Words.{chose, tested, finished, tasks, task_numbers, terms_of, registered, opened_by, view}
-use Rattle.fb_tasks.proofs.Words.{segments, segment_by, called-silent, opened-silent, opened-view, added-view, next_blocks, is_chosen}
-use Rattle.fb_tasks.proofs.Words.{choose_in, with_choices, take_call, blocks_by, with_delivery, choosable_by, IsSegmentOf, IsUntouched}
-use Rattle.fb_tasks.proofs.Words.{choosable, Tells, MayTake, same_number, other_number, number_other, nat_tests, drop_more, take_more}
-use Rattle.fb_tasks.proofs.Words.{slice_get_within, get_or_from_slice_get, Entry, Session, delivery_of, IsCalled}
-use Rattle.fb_model.specs.History.{blocks_of}
-use Rattle.fb_tasks.specs.Telling.{calls_of}
+use Rattle.fb_tasks.proofs.Words.{chose, tested, finished, tasks, task_numbers, terms_of, registered, opened_by, view, segments, segment_by}
+use Rattle.fb_tasks.proofs.Words.{called-silent, opened-silent, opened-view, added-view, next_blocks, is_chosen, choose_in, with_choices}
+use Rattle.fb_tasks.proofs.Words.{take_call, blocks_by, with_delivery, choosable_by, IsSegmentOf, IsUntouched, choosable, Tells, MayTake}
+use Rattle.fb_tasks.proofs.Words.{same_number, other_number, number_other, nat_tests, drop_more, take_more, slice_get_within}
+use Rattle.fb_tasks.proofs.Words.{get_or_from_slice_get, Entry, Session, delivery_of, IsCalled}
 use Rattle.fb_tasks.proofs.{Asked.opened_same, Asked.open_there, Asked.terms_there, Cuts.cuts_count, Cuts.range_next}
 use Rattle.fb_tasks.proofs.{Additions.next_segment, AllChoices.in_same, AllChoices.in_tasks, AllChoices.in_fewer, AllChoices.by_task}
 use Rattle.fb_tasks.proofs.{AllChoices.all_range, AllChoices.sum_range, AllChoices.choosable-same, AllChoices.by_all}
+use Rattle.fb_model.specs.History.{blocks_of}
+use Rattle.fb_tasks.specs.Telling.{calls_of}
 use Rattle.fb_calls.specs.Allowed as allowed
 
 -- how many blocks are registered, and how many the choices can register

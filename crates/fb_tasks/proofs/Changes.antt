@@ -11,9 +11,9 @@ use Rattle.fb_tasks.proofs.Words.{IsBlockOf, Tells, IsCall, MayTake, true≢fals
 use Rattle.fb_tasks.proofs.Words.{some_at, all_any, all_weaker, map_same, list_all_each, each_all, one_or_other, step_to}
 use Rattle.fb_tasks.proofs.Words.{get_or_from_slice_get, and-false, nat_tests, places, held_at, Block, State, AllByRecursion, list_all}
 use Rattle.fb_tasks.proofs.Words.{Request, Kind, Backup}
-use Rattle.fb_tasks.proofs.Frames.{call-tells, silent-tells, changed-entries, kept-entries}
-use Rattle.fb_tasks.proofs.States.{show_suspended, show_resumed, never_held_back, show_aborted, states-told, ended-done, holds-fewer, show_rewanted}
-use Rattle.fb_tasks.proofs.Asked.{open_there, terms_there}
+use Rattle.fb_tasks.proofs.{Frames.call-tells, Frames.silent-tells, Frames.changed-entries, Frames.kept-entries, States.show_suspended}
+use Rattle.fb_tasks.proofs.{States.show_resumed, States.never_held_back, States.show_aborted, States.states-told, States.ended-done}
+use Rattle.fb_tasks.proofs.{States.holds-fewer, States.show_rewanted, Asked.open_there, Asked.terms_there}
 use Rattle.fb_clean.specs.Segments as clean
 
 suspension-told : (held_back : Bool) (v : TaskView) (session : Session) → Told v session → Told (record v { suspended = held_back }) (record session { suspended = held_back })

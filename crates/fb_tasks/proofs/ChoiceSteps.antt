@@ -1,22 +1,22 @@
 -- A task chooses a segment, as its session and as the history makes it.
 use Rattle.fb_tasks.proofs.Words.{◌≡◌, ℕ, ◌+◌, ◌-◌, ◌*◌, ◌^◌, ◌<◌, ◌≤◌, ◌==◌, not, if◌then◌else◌, List, [], ◌∷◌, ◌++◌, true, false, Some}
-use Rattle.fb_tasks.proofs.Words.{None, Option, length, map, slice_get, append-nil, refl, ap, sym, ◌∙◌, arith, subst, ◌&&◌, inl}
-use Rattle.fb_tasks.proofs.Words.{inr, filter, append_assoc, length-append, AllByRecursion, list_all, flat_map, best_of, sum_by}
-use Rattle.fb_tasks.proofs.Words.{option_map, true≢false, not-true, cases_Bool, cases_lt, and_parts, flat_map-append, list_any-append}
-use Rattle.fb_tasks.proofs.Words.{slice_get_within, none-some, Shape, places, live_cuts, Block, Entry, Wanted, is_delivered, Past}
-use Rattle.fb_tasks.proofs.Words.{LogSegment, chose, tasks, registered, Choice, TaskView, view, own_of, chosen_view}
-use Rattle.fb_tasks.proofs.Words.{is_cleaned, is_choice_of, Work, is_unsealed, chosen-silent, chosen-view, number_same, numbered}
-use Rattle.fb_tasks.proofs.Words.{is_better, is_chosen, unchosen, live_count, is_busy, choose_best, choose_once, Session, new_entries}
-use Rattle.fb_tasks.proofs.Words.{is_none, cuts_of, Cleans, HoldsBlocks, HoldsBlock, IsPlaced, IsCutFrom, IsBlockOf, IsSegmentOf}
-use Rattle.fb_tasks.proofs.Words.{AreIndexed, choice_in, kept_segment, CleansBy, HoldsChoice, Ascend, IsAtNumber, entry_of, Stands}
-use Rattle.fb_tasks.proofs.Words.{MayChoose, choosable_by, HoldsImage, all_weaker, all_with, all_append, all_filter, all_pass, all_flat}
-use Rattle.fb_tasks.proofs.Words.{all_same, number_other, none_pass, one_or_other, some_same, filter_same, nat_tests, or-true, length-map}
-use Rattle.fb_tasks.proofs.Words.{map-append, nil_from_length, filter-append, Kind, is_backup, is_clean, ContentRun, runs_of, sectors_of}
-use Rattle.fb_tasks.proofs.Words.{BackRow, SegmentLine, segment_rows, is_newly_cleaned, found_for, by_deliveries, held_at}
+use Rattle.fb_tasks.proofs.Words.{None, Option, length, map, slice_get, append-nil, refl, ap, sym, ◌∙◌, arith, subst, ◌&&◌, inl, inr}
+use Rattle.fb_tasks.proofs.Words.{filter, append_assoc, length-append, AllByRecursion, list_all, flat_map, best_of, sum_by, option_map}
+use Rattle.fb_tasks.proofs.Words.{true≢false, not-true, cases_Bool, cases_lt, and_parts, flat_map-append, list_any-append, slice_get_within}
+use Rattle.fb_tasks.proofs.Words.{none-some, Shape, places, live_cuts, Block, Entry, Wanted, is_delivered, Past, LogSegment, chose, tasks}
+use Rattle.fb_tasks.proofs.Words.{registered, Choice, TaskView, view, own_of, chosen_view, is_cleaned, is_choice_of, Work, is_unsealed}
+use Rattle.fb_tasks.proofs.Words.{chosen-silent, chosen-view, number_same, numbered, is_better, is_chosen, unchosen, live_count, is_busy}
+use Rattle.fb_tasks.proofs.Words.{choose_best, choose_once, Session, new_entries, is_none, cuts_of, Cleans, HoldsBlocks, HoldsBlock}
+use Rattle.fb_tasks.proofs.Words.{IsPlaced, IsCutFrom, IsBlockOf, IsSegmentOf, AreIndexed, choice_in, kept_segment, CleansBy, HoldsChoice}
+use Rattle.fb_tasks.proofs.Words.{Ascend, IsAtNumber, entry_of, Stands, MayChoose, choosable_by, HoldsImage, all_weaker, all_with}
+use Rattle.fb_tasks.proofs.Words.{all_append, all_filter, all_pass, all_flat, all_same, number_other, none_pass, one_or_other, some_same}
+use Rattle.fb_tasks.proofs.Words.{filter_same, nat_tests, or-true, length-map, map-append, nil_from_length, filter-append, Kind, is_backup}
+use Rattle.fb_tasks.proofs.Words.{is_clean, ContentRun, runs_of, sectors_of, BackRow, SegmentLine, segment_rows, is_newly_cleaned}
+use Rattle.fb_tasks.proofs.Words.{found_for, by_deliveries, held_at, HasTurned}
 use Rattle.fb_tasks.proofs.Registered.{fresh_wanted, no_smaller, indexed_append, registered-entries, named_same, blocks_in}
 use Rattle.fb_tasks.proofs.Cuts.{cuts_own, cuts_indexed, cuts_count}
-use Rattle.fb_tasks.proofs.Segmented.{NumberedFrom, at_number, all_best, live_placed, live_cover, live_ascend, numbered_given, choice_kept, live_there, live_some, cuts_of_live, sum_without}
-use Rattle.fb_tasks.proofs.Words.{HasTurned}
+use Rattle.fb_tasks.proofs.Segmented.{NumberedFrom, at_number, all_best, live_placed, live_cover, live_ascend, numbered_given, choice_kept}
+use Rattle.fb_tasks.proofs.Segmented.{live_there, live_some, cuts_of_live, sum_without}
 use Rattle.fb_tasks.proofs.Complete.{busy_by}
 use Rattle.fb_clean.specs.Segments as clean
 use Rattle.fb_clean.proofs.Live.{live_blocks-count, live_blocks-within}
@@ -388,8 +388,16 @@ module _ {disk : Shape} {past : Past} {task : ℕ} {session : Session} {held : L
 
       -- none gives no blocks: its segment is cleaned, and has its row
       pub empty-turned : (rows : List BackRow) (content : List ContentRun) → length (clean.live_of log number) ≡ 0 → content ≡ []
-          → rows ≡ old ++ SegmentLine (record { task = task; segment = number; instant = instant; live = length (clean.live_of log number); content = content }) ∷ []
-          → HasTurned disk past (choose_once disk task past) task instant (record session { log = record log { unfinished = None } }) now old rows
+          → rows ≡ old ++ SegmentLine (record {
+            task = task;
+            segment = number;
+            instant = instant;
+            live = length
+                (clean.live_of log number);
+            content = content;
+          }) ∷ []
+          → HasTurned disk past (choose_once disk task past) task instant
+          (record session { log = record log { unfinished = None } }) now old rows
       empty-turned rows content none nothing rows_are =
           let live_none : clean.live_blocks v.terms.block step.best.first step.best.live ≡ [] =
           nil_from_length (clean.live_blocks v.terms.block step.best.first step.best.live) (sym live_length ∙ none) in

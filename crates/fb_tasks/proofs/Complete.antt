@@ -1,17 +1,17 @@
 -- How many blocks of a task there are in each state, whether it is complete by what its session keeps, and its row.
 use Rattle.fb_tasks.proofs.Words.{◌≡◌, ℕ, ◌+◌, ◌≤◌, ◌==◌, List, [], ◌∷◌, Bool, inl, inr, length, filter, map, refl, arith, zero, suc, ◌-◌}
-use Rattle.fb_tasks.proofs.Words.{◌<◌, ◌&&◌, not, nat_lt, ◌++◌, true, false, Some, None, Option, slice_get, find, append-nil, ap, sym}
-use Rattle.fb_tasks.proofs.Words.{◌∙◌, append_assoc, list_all, AllByRecursion, list_any, range_with_len, cases_Bool, true≢false}
-use Rattle.fb_tasks.proofs.Words.{length-map, Block, Counts, Entry, State, is_delivered, is_aborted, of_task, counts_of, Past, registered}
-use Rattle.fb_tasks.proofs.Words.{LogSegment, Work, TaskView, view, state_in, is_over, Choice, is_cleaned, is_through, is_choice_of}
-use Rattle.fb_tasks.proofs.Words.{is_complete, is_complete_as, is_done, was_complete, entry_by, entry_of, Stands, Cleans, IsAtWork}
-use Rattle.fb_tasks.proofs.Words.{choice_in, kept_segment, CleansBy, same_number, some_same, all_flat, any_none, each_all, find_all}
-use Rattle.fb_tasks.proofs.Words.{find_none, all_any, all_weaker, nat_tests, and-false, list_any-append, Kind, Clean, is_clean, is_busy}
-use Rattle.fb_tasks.proofs.Words.{number_same, Session, is_none, is_worked_off, are_over, complete_as, complete_by, length-filter}
-use Rattle.fb_tasks.proofs.Words.{BackRow, TaskLine, task_row, map-range_with_len_more}
+use Rattle.fb_tasks.proofs.Words.{◌<◌, ◌&&◌, not, nat_lt, ◌++◌, true, false, Some, None, Option, slice_get, find, append-nil, ap, sym, ◌∙◌}
+use Rattle.fb_tasks.proofs.Words.{append_assoc, list_all, AllByRecursion, list_any, range_with_len, cases_Bool, true≢false, length-map}
+use Rattle.fb_tasks.proofs.Words.{Block, Counts, Entry, State, is_delivered, is_aborted, of_task, counts_of, Past, registered, LogSegment}
+use Rattle.fb_tasks.proofs.Words.{Work, TaskView, view, state_in, is_over, Choice, is_cleaned, is_through, is_choice_of, is_complete}
+use Rattle.fb_tasks.proofs.Words.{is_complete_as, is_done, was_complete, entry_by, entry_of, Stands, Cleans, IsAtWork, choice_in}
+use Rattle.fb_tasks.proofs.Words.{kept_segment, CleansBy, same_number, some_same, all_flat, any_none, each_all, find_all, find_none}
+use Rattle.fb_tasks.proofs.Words.{all_any, all_weaker, nat_tests, and-false, list_any-append, Kind, Clean, is_clean, is_busy, number_same}
+use Rattle.fb_tasks.proofs.Words.{Session, is_none, is_worked_off, are_over, complete_as, complete_by, length-filter, BackRow, TaskLine}
+use Rattle.fb_tasks.proofs.Words.{task_row, map-range_with_len_more}
+use Rattle.fb_tasks.proofs.States.{shown, shown_delivered, shown_aborted}
 use Rattle.std.proofs.lemmas.List.Sums.{count_by-le-length}
 use Rattle.fb_model.specs.History.{blocks_of}
-use Rattle.fb_tasks.proofs.States.{shown, shown_delivered, shown_aborted}
 use Rattle.fb_wanted.specs.Numbering as numbering
 use Rattle.fb_clean.specs.Segments as clean
 

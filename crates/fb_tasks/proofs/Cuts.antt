@@ -1,13 +1,13 @@
 -- Blocks of a task that are cut from a range, and those of a segment's live blocks, one after another.
-use Rattle.fb_tasks.proofs.Words.{◌≡◌, ℕ, suc, ◌+◌, ◌-◌, ◌^◌, ◌<◌, ◌≤◌, List, [], ◌∷◌, ◌++◌, length, refl, ap, sym, ◌∙◌, arith}
-use Rattle.fb_tasks.proofs.Words.{subst, Some, drop, slice_get, append_assoc, length-append, AllByRecursion, flat_map, range_with_len}
-use Rattle.fb_tasks.proofs.Words.{Shape, places, Cut, IsOneTurn, cutting, numbered, AreCuts, cuts_rise, IsBlockOf, AreIndexed, Ascend}
-use Rattle.fb_tasks.proofs.Words.{map-append, length-map, drop_more, filter-append, Block, Entry, blocks_of, Session, new_entries}
-use Rattle.fb_tasks.proofs.Words.{cuts_of, slice_get_within, get_or_from_slice_get}
+use Rattle.fb_tasks.proofs.Words.{◌≡◌, ℕ, suc, ◌+◌, ◌-◌, ◌^◌, ◌<◌, ◌≤◌, List, [], ◌∷◌, ◌++◌, length, refl, ap, sym, ◌∙◌, arith, subst, Some}
+use Rattle.fb_tasks.proofs.Words.{drop, slice_get, append_assoc, length-append, AllByRecursion, flat_map, range_with_len, Shape, places}
+use Rattle.fb_tasks.proofs.Words.{Cut, IsOneTurn, cutting, numbered, AreCuts, cuts_rise, IsBlockOf, AreIndexed, Ascend, map-append}
+use Rattle.fb_tasks.proofs.Words.{length-map, drop_more, filter-append, Block, Entry, blocks_of, Session, new_entries, cuts_of}
+use Rattle.fb_tasks.proofs.Words.{slice_get_within, get_or_from_slice_get}
+use Rattle.fb_tasks.proofs.Registered.{all_own}
 use Rattle.fb_geometry.proofs.Turns.{range-append}
 use Rattle.fb_sectormap.specs.Lookup.{track_at}
 use Rattle.fb_wanted.specs.Numbering.{registered}
-use Rattle.fb_tasks.proofs.Registered.{all_own}
 
 pub cuts_placed : (disk : Shape) (tasks task weight block n from end : ℕ) (cuts : List Cut) → task < tasks → weight ≤ 1000 → block ≤ 2048 → end ≤ length (places disk) → end ≤ 10 ^ 12 → AreCuts disk block from end cuts
     → AllByRecursion (IsBlockOf disk tasks) (numbered task weight n cuts)

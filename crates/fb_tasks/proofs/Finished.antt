@@ -1,14 +1,14 @@
 -- A chosen segment is finished where each of its blocks is delivered.
-use Rattle.fb_tasks.proofs.Words.{◌≡◌, ℕ, suc, ◌==◌, not, if◌then◌else◌, List, [], ◌∷◌, ◌++◌, Bool, true, false, Some, None, Option}
-use Rattle.fb_tasks.proofs.Words.{inl, inr, length, filter, append-nil, refl, ap, sym, ◌∙◌, arith, AllByRecursion, flat_map, list_any}
+use Rattle.fb_tasks.proofs.Words.{◌≡◌, ℕ, suc, ◌==◌, not, if◌then◌else◌, List, [], ◌∷◌, ◌++◌, Bool, true, false, Some, None, Option, inl}
+use Rattle.fb_tasks.proofs.Words.{inr, length, filter, append-nil, refl, ap, sym, ◌∙◌, arith, AllByRecursion, flat_map, list_any}
 use Rattle.fb_tasks.proofs.Words.{range_with_len, option_map, cases_Bool, true≢false, filter-append, none-some, Shape, is_clean, BackRow}
 use Rattle.fb_tasks.proofs.Words.{SegmentLine, ContentRun, held_sector, held_in, runs_of, sectors_of, Block, Counts, Entry, is_delivered}
 use Rattle.fb_tasks.proofs.Words.{counts_of, Past, bare_state, content_of, Choice, Work, view, is_cleaned, segment_rows, is_newly_cleaned}
 use Rattle.fb_tasks.proofs.Words.{Session, is_none, found_for, by_deliveries, Stands, Cleans, MayFinish, IsAtWork, IsCutFrom, HoldsBlock}
-use Rattle.fb_tasks.proofs.Words.{choice_in, CleansBy, all_weaker, all_with, all_append, all_left, all_right, all_flat, flat_all}
-use Rattle.fb_tasks.proofs.Words.{flat_same, some_same, filter_none, each_all, list_all_each, other_number}
-use Rattle.std.proofs.lemmas.Grind.{flat_map-append}
+use Rattle.fb_tasks.proofs.Words.{choice_in, CleansBy, all_weaker, all_with, all_append, all_left, all_right, all_flat, flat_all, flat_same}
+use Rattle.fb_tasks.proofs.Words.{some_same, filter_none, each_all, list_all_each, other_number}
 use Rattle.fb_tasks.proofs.{Complete.counts_same, Complete.filter-le, Complete.busy_by, Segmented.live_there}
+use Rattle.std.proofs.lemmas.Grind.{flat_map-append}
 use Rattle.fb_clean.specs.Segments as clean
 use Rattle.fb_clean.proofs.Live.{live_blocks-count}
 
@@ -135,15 +135,21 @@ module _ {disk : Shape} {past : Past} {task : ℕ} {held : List Entry} (session 
         let same = is ∙ counts_same past task held h.blocks.entries in
         all_cleaned w w.choices (rw log.blocks at (whole_filter (λ block. is_delivered (w.bare block)) w.blocks (sym (ap (λ c. c.delivered) same) ∙ (equal ∙ ap (λ c. c.registered) same))))
 
-    all_delivered : (counts : Counts) → counts ≡ counts_of task held → AllByRecursion (IsCleanedIn w) w.choices → counts.delivered ≡ counts.registered
+    all_delivered : (counts : Counts) → counts ≡ counts_of task held → AllByRecursion (IsCleanedIn w) w.choices → counts.delivered
+        ≡ counts.registered
     all_delivered counts is all =
         let same = is ∙ counts_same past task held h.blocks.entries in
         ap (λ c. c.delivered) same ∙ (filter_whole (λ block. is_delivered (w.bare block)) w.blocks (rw log.blocks (cleaned_all w w.choices all)) ∙ sym (ap (λ c. c.registered) same))
 
   -- where no chosen segment is cleaned none is finished
-  open_tested : ((cleans : is_clean session.kind ≡ true) (current : Choice) → CleansBy (w cleans) session.log (log cleans).done (Some current) → is_cleaned (w cleans) current ≡ true → ⊥)
+  open_tested : ((cleans : is_clean session.kind ≡ true) (current : Choice)
+      → CleansBy (w cleans) session.log (log cleans).done (Some current) → is_cleaned (w cleans) current ≡ true → ⊥)
       → IsSegmentTested past task now session []
-  open_tested none = elim (cases_Bool (is_clean session.kind)) [ inl cleans ↦ by cleans (log cleans).current (log cleans).by | inr other ↦ other_tested other ] where
+  open_tested none = elim (cases_Bool (is_clean session.kind)) [
+    | inl cleans ↦ by cleans (log cleans).current
+        (log cleans).by
+    | inr other ↦ other_tested other
+  ] where
     by : (cleans : is_clean session.kind ≡ true) (current : Option Choice) → CleansBy (w cleans) session.log (log cleans).done current → IsSegmentTested past task now session []
     by cleans None is = unfinished_tested cleans None is tt
     by cleans (Some current) is = elim (cases_Bool (is_cleaned (w cleans) current)) [
@@ -156,7 +162,8 @@ module _ {disk : Shape} {past : Past} {task : ℕ} {held : List Entry} (session 
       (rw by.chosen (all_append (IsCleanedIn (w cleans)) (log cleans).done (current ∷ []) (log cleans).cleaned (cleaned, tt)))))
 
   pub unchosen_tested : (if is_clean session.kind then session.log.unfinished else None) ≡ None → IsSegmentTested past task now session []
-  unchosen_tested none = open_tested (λ cleans current by cleaned. none-some current.segment.number (sym (rw cleans at none) ∙ by.unfinished))
+  unchosen_tested none = open_tested (λ cleans current by cleaned. none-some current.segment.number
+      (sym (rw cleans at none) ∙ by.unfinished))
 
   pub chosen_tested : (counts : Counts) → counts ≡ counts_of task held → counts.delivered ≡ counts.registered → (new : Session) (segment : ℕ) (content : List ContentRun) → new ≡ record session { log = record session.log { unfinished = None } }
       → (if is_clean session.kind then session.log.unfinished else None) ≡ Some segment → content ≡ runs_of (clean.packed_sectors session.log segment)
@@ -165,9 +172,11 @@ module _ {disk : Shape} {past : Past} {task : ℕ} {held : List Entry} (session 
     | inl cleans ↦ by cleans (rw cleans at says) (log cleans).current (log cleans).by
     | inr other ↦ absurd (none-some segment (rw other at says))
   ] where
-    by : (cleans : is_clean session.kind ≡ true) → session.log.unfinished ≡ Some segment → (current : Option Choice) → CleansBy (w cleans) session.log (log cleans).done current
+    by : (cleans : is_clean session.kind ≡ true) → session.log.unfinished ≡ Some segment → (current : Option Choice)
+        → CleansBy (w cleans) session.log (log cleans).done current
         → IsSegmentTested past task now new (row_of segment (length (clean.live_of session.log segment)) content ∷ [])
     by cleans says None this = absurd (none-some segment (sym this.unfinished ∙ says))
     by cleans says (Some current) this =
-        let cleaned = (all_right (IsCleanedIn (w cleans)) (log cleans).done (current ∷ []) (rw this.chosen at (all_done cleans counts is equal))).0 in
+        let cleaned = (all_right (IsCleanedIn (w cleans)) (log cleans).done (current ∷ [])
+        (rw this.chosen at (all_done cleans counts is equal))).0 in
         finished_tested cleans current this cleaned new segment content new_is says gives

@@ -4,6 +4,7 @@ use Rattle.fb_tasks.proofs.Words.{slice_get, append-nil, refl, ap, sym, ◌∙�
 use Rattle.fb_tasks.proofs.Words.{Shape, Call, Block, Entry, after, state_after, Event, Past, called, tasks, registered, TaskView, view}
 use Rattle.fb_tasks.proofs.Words.{state_in, called-silent, number_same, Session, entry_by, entry_of, Told, IsPlaced, IsBlockOf, Tells}
 use Rattle.fb_tasks.proofs.Words.{all_weaker, number_other, each_set, one_or_other, nat_tests, get_or_from_slice_get}
+use Rattle.fb_model.proofs.Lists.{same_map}
 use Rattle.fb_wanted.specs.declared.block.Change.{Change}
 use Rattle.std.proofs.lemmas.List.{set-get_or}
 
@@ -19,8 +20,7 @@ set_same xs i x h = ap (set xs i) (sym (get_or_from_slice_get xs i x x h)) ∙ s
 -- no block changes its state
 pub kept-entries : (old new : ℕ → TaskView) → ((t : ℕ) (block : Block) → state_in (old t) block ≡ state_in (new t) block) → (bs : List Block)
     → map (entry_by old) bs ≡ map (entry_by new) bs
-kept-entries old new same [] = refl
-kept-entries old new same (b ∷ bs) = rw (same b.task b, kept-entries old new same bs) refl
+kept-entries old new same bs = same_map (entry_by old) (entry_by new) (λ b. ap (λ s. record { block = b; state = s }) (same b.task b)) bs
 
 -- the blocks of one task are changed, as far as its new view says
 pub changed-entries : (task : ℕ) (change : Change) (old new : ℕ → TaskView) (bs : List Block)

@@ -2,13 +2,12 @@
 use Rattle.fb_tasks.proofs.Words.{◌≡◌, ◌≤◌, ◌+◌, ℕ, List, [], ◌∷◌, ◌++◌, true, false, Some, inl, inr, length, map, set, slice_get, take}
 use Rattle.fb_tasks.proofs.Words.{drop, append-nil, append_assoc, length-append, refl, ap, sym, ◌∙◌, subst, arith, AllByRecursion}
 use Rattle.fb_tasks.proofs.Words.{range_with_len, map-set_same, cases_Bool, map-append, append_cancel_left, length-map, take-append-drop}
-use Rattle.fb_tasks.proofs.Words.{take-map, filter-append, slice_get_within, get_or_from_slice_get, Cut, is_clean, Block, Entry}
-use Rattle.fb_tasks.proofs.Words.{blocks_of, wanted_unless, numbered, number_same, Session, new_entries, HasGrown, HasBegun}
-use Rattle.fb_tasks.proofs.Words.{OnlyRegisters, MayClean, OnlyTouched, by_calls, all_append, all_left, all_map, all_weaker, map_at}
-use Rattle.fb_tasks.proofs.Words.{some_at, some_same, take-map-range_with_len}
-use Rattle.fb_tasks.proofs.Words.{◌&&◌, not, and_parts, not-true}
-use Rattle.fb_wanted.specs.Numbering.{registered}
+use Rattle.fb_tasks.proofs.Words.{take-map, filter-append, slice_get_within, get_or_from_slice_get, Cut, is_clean, Block, Entry, blocks_of}
+use Rattle.fb_tasks.proofs.Words.{wanted_unless, numbered, number_same, Session, new_entries, HasGrown, HasBegun, OnlyRegisters, MayClean}
+use Rattle.fb_tasks.proofs.Words.{OnlyTouched, by_calls, all_append, all_left, all_map, all_weaker, map_at, some_at, some_same}
+use Rattle.fb_tasks.proofs.Words.{take-map-range_with_len, ◌&&◌, not, and_parts, not-true}
 use Rattle.fb_tasks.proofs.{Frames.get_other, Cuts.cuts_own}
+use Rattle.fb_wanted.specs.Numbering.{registered}
 
 pub grown_not : {A : Type 0} (xs : List A) → HasGrown xs xs
 grown_not xs = record { added = []; is = sym (append-nil xs) }
@@ -106,13 +105,15 @@ clean_before olds items n session at clean is_open touched h =
 pub chosen_own : (olds items : List Session) (n : ℕ) (session : Session) (old before now : List Entry) → slice_get items n ≡ Some session → session.touched ≡ true → OnlyTouched olds items
     → OnlyRegisters (MayClean olds) old before → OnlyRegisters (λ other. other ≡ n) before now → ((is_clean session.kind && not session.closed) ≡ false → now ≡ before)
     → OnlyRegisters (MayClean olds) old now
-chosen_own olds items n session old before now at touched stay own more idle = elim (cases_Bool (is_clean session.kind && not session.closed)) [
-  | inl may ↦
-      let is = and_parts (is_clean session.kind) (not session.closed) may in
-      let was = clean_before olds items n session at is.0 (not-true session.closed is.1) touched stay in
-      registers_more (MayClean olds) old before now own (registers_weaker (λ other. other ≡ n) (MayClean olds) before now (λ other own. subst (MayClean olds) (sym own) was) more)
-  | inr none ↦ subst (OnlyRegisters (MayClean olds) old) (sym (idle none)) own
-]
+chosen_own olds items n session old before now at touched stay own more idle = elim
+    (cases_Bool (is_clean session.kind && not session.closed)) [
+      | inl may ↦
+          let is = and_parts (is_clean session.kind) (not session.closed) may in
+          let was = clean_before olds items n session at is.0 (not-true session.closed is.1) touched stay in
+          registers_more (MayClean olds) old before now own (registers_weaker (λ other. other ≡ n)
+          (MayClean olds) before now (λ other own. subst (MayClean olds) (sym own) was) more)
+      | inr none ↦ subst (OnlyRegisters (MayClean olds) old) (sym (idle none)) own
+    ]
 
 -- the blocks that are registered and those that are left stay the same
 pub cut_registered : (task index : ℕ) (session : Session) (before now : List Entry) (cut : Cut) (cuts rest : List Cut) (block : Block) → cuts ≡ cut ∷ rest

@@ -1,7 +1,7 @@
 -- The lists of touched sessions and of those that a write asks, as sessions change.
-use Rattle.fb_tasks.proofs.Words.{◌≡◌, ◌⊎◌, ◌<◌, ◌&&◌, not, ℕ, Bool, List, [], ◌∷◌, ◌++◌, length, true, false, Some, inl, inr, set}
-use Rattle.fb_tasks.proofs.Words.{get_or, slice_get, length-append, ap, sym, ◌∙◌, arith, BTreeSet, contains, nat_cmp, true≢false}
-use Rattle.fb_tasks.proofs.Words.{length-set, slice_get-get_or, is_backup, Session, AreListed, IsNoted, each_set, each_push}
+use Rattle.fb_tasks.proofs.Words.{◌≡◌, ◌⊎◌, ◌<◌, ◌&&◌, not, ℕ, Bool, List, [], ◌∷◌, ◌++◌, length, true, false, Some, inl, inr, set, get_or}
+use Rattle.fb_tasks.proofs.Words.{slice_get, length-append, ap, sym, ◌∙◌, arith, BTreeSet, contains, nat_cmp, true≢false, length-set}
+use Rattle.fb_tasks.proofs.Words.{slice_get-get_or, is_backup, Session, AreListed, IsNoted, each_set, each_push}
 
 abbrev IsTouchedIn : BTreeSet ℕ → ℕ → Session → Type 0
 IsTouchedIn touched k session = session.touched ≡ true → contains nat_cmp touched k ≡ true

@@ -1,8 +1,7 @@
 -- Blocks that an event registers.
-use Rattle.fb_tasks.proofs.Words.{State}
-use Rattle.fb_tasks.proofs.Words.{◌≡◌, ℕ, suc, ◌+◌, ◌<◌, ◌==◌, if◌then◌else◌, List, [], ◌∷◌, ◌++◌, true, false, inl, inr, length, filter}
-use Rattle.fb_tasks.proofs.Words.{map, refl, ap, sym, ◌∙◌, arith, subst, or-true, AllByRecursion, list_any, cases_Bool, map-append, Block}
-use Rattle.fb_tasks.proofs.Words.{Entry, Wanted, wanted_unless, Past, registered, same_block, view, own_of, state_in, number_same}
+use Rattle.fb_tasks.proofs.Words.{State, ◌≡◌, ℕ, suc, ◌+◌, ◌<◌, ◌==◌, if◌then◌else◌, List, [], ◌∷◌, ◌++◌, true, false, inl, inr, length}
+use Rattle.fb_tasks.proofs.Words.{filter, map, refl, ap, sym, ◌∙◌, arith, subst, or-true, AllByRecursion, list_any, cases_Bool, map-append}
+use Rattle.fb_tasks.proofs.Words.{Block, Entry, Wanted, wanted_unless, Past, registered, same_block, view, own_of, state_in, number_same}
 use Rattle.fb_tasks.proofs.Words.{Session, new_entries, entry_of, AreIndexed, entry_in, all_weaker, all_pass, all_with, map_same}
 use Rattle.fb_tasks.proofs.Words.{same_number, other_number, one_or_other, nat_tests}
 use Rattle.fb_model.specs.History.{blocks_of}
@@ -69,7 +68,8 @@ all_own task [] h = refl
 all_own task (b ∷ bs) h = let own : (b.task == task) ≡ true = number_same b.task task h.0 in rw own (ap (λ xs. b ∷ xs) (all_own task bs h.1))
 
 -- blocks that were just registered are wanted
-pub fresh_wanted : (task : ℕ) (added : List Block) (before now : Block → State) → ((block : Block) → now block ≡ (if list_any (same_block (own_of task block)) added then Wanted else before block))
+pub fresh_wanted : (task : ℕ) (added : List Block) (before now : Block → State)
+    → ((block : Block) → now block ≡ (if list_any (same_block (own_of task block)) added then Wanted else before block))
     → AllByRecursion (λ b. b.task ≡ task) added → AllByRecursion (λ block. now block ≡ Wanted) added
 fresh_wanted task added before now bare own = all_with (λ block. list_any (same_block block) added ≡ true) (λ b. b.task ≡ task) (λ block. now block ≡ Wanted)
     (λ block one mine. bare block ∙ rw (ap (λ t. list_any (same_block (own_of t block)) added) (sym mine) ∙ one) refl) added (all_member added) own

@@ -1,13 +1,12 @@
 -- The sectors that can't be read, and what the rows of a test say of each task.
-use Rattle.fb_tasks.proofs.Words.{◌≡◌, ℕ, ◌+◌, ◌-◌, ◌≤◌, List, [], ◌∷◌, ◌++◌, true, false, Some, if◌then◌else◌, take, slice_get}
-use Rattle.fb_tasks.proofs.Words.{append-nil, append_assoc, sym, arith, refl, zero, suc, ◌<◌, ◌==◌, ◌&&◌, ◌||◌, not, Bool, inl, inr}
-use Rattle.fb_tasks.proofs.Words.{length, filter, map, ap, ◌∙◌, range_with_len, flat_map, list_any, Unreadable, ContentRun, same_content}
-use Rattle.fb_tasks.proofs.Words.{bad_sectors, Sources, test_rows, segment_rows, seal_rows, complete_rows, is_newly_cleaned, findings}
-use Rattle.fb_tasks.proofs.Words.{is_scrub, take_more, get_or_past, slice_get_within, get_or_from_slice_get, flat_map-append, and-false}
-use Rattle.fb_tasks.proofs.Words.{or-false, cases_Bool, nat_tests, list_any-append, BackRow, BadLine, SealLine, SegmentLine, CompleteLine}
-use Rattle.fb_tasks.proofs.Words.{DeliveryRow, Past, tasks, task_numbers, terms_of, is_seal_of, is_open_backup, Choice, view, work}
-use Rattle.fb_tasks.proofs.Words.{choices, is_complete, was_complete, is_segment_of, live_count, AreRowsOf, all_any, any_same, any_none}
-use Rattle.fb_tasks.proofs.Words.{Plain}
+use Rattle.fb_tasks.proofs.Words.{◌≡◌, ℕ, ◌+◌, ◌-◌, ◌≤◌, List, [], ◌∷◌, ◌++◌, true, false, Some, if◌then◌else◌, take, slice_get, append-nil}
+use Rattle.fb_tasks.proofs.Words.{append_assoc, sym, arith, refl, zero, suc, ◌<◌, ◌==◌, ◌&&◌, ◌||◌, not, Bool, inl, inr, length, filter}
+use Rattle.fb_tasks.proofs.Words.{map, ap, ◌∙◌, range_with_len, flat_map, list_any, Unreadable, ContentRun, same_content, bad_sectors}
+use Rattle.fb_tasks.proofs.Words.{Sources, test_rows, segment_rows, seal_rows, complete_rows, is_newly_cleaned, findings, is_scrub}
+use Rattle.fb_tasks.proofs.Words.{take_more, get_or_past, slice_get_within, get_or_from_slice_get, flat_map-append, and-false, or-false}
+use Rattle.fb_tasks.proofs.Words.{cases_Bool, nat_tests, list_any-append, BackRow, BadLine, SealLine, SegmentLine, CompleteLine}
+use Rattle.fb_tasks.proofs.Words.{DeliveryRow, Past, tasks, task_numbers, terms_of, is_seal_of, is_open_backup, Choice, view, work, choices}
+use Rattle.fb_tasks.proofs.Words.{is_complete, was_complete, is_segment_of, live_count, AreRowsOf, all_any, any_same, any_none, Plain}
 use Rattle.fb_tasks.proofs.Cuts.{range_more}
 use Rattle.fb_rows.specs.declared.back.CompleteRow.{CompleteRow}
 use Rattle.fb_rows.specs.declared.back.SealRow.{SealRow}

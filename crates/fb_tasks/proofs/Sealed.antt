@@ -1,17 +1,17 @@
 -- What is held of sectors and of blocks that ascend; a backup is sealed: its image has the delivered blocks alone.
-use Rattle.fb_tasks.proofs.Words.{◌≡◌, ℕ, zero, suc, ◌+◌, ◌<◌, ◌≤◌, List, [], ◌∷◌, true, false, Some, Option, map, refl, arith}
-use Rattle.fb_tasks.proofs.Words.{append-nil, ◌-◌, ◌==◌, ◌&&◌, ◌||◌, ◌^◌, not, nat_lt, if◌then◌else◌, ◌++◌, Bool, None, length, filter}
-use Rattle.fb_tasks.proofs.Words.{take, slice_get, ap, ap₂, sym, ◌∙◌, subst, inl, inr, AllByRecursion, range_with_len, flat_map, list_any}
-use Rattle.fb_tasks.proofs.Words.{list_all, nat_tests, Content, held_in, EndsBy, is_within, Block, Ascend, entry_of, entry_in, AreIndexed}
-use Rattle.fb_tasks.proofs.Words.{IsBlockOf, HoldsBlock, HoldsBlocks, HoldsImage, Stands, all_weaker, all_with, all_filter, all_at}
-use Rattle.fb_tasks.proofs.Words.{some_same, filter_from, map_at, some_at, list_all_each, and-false, and_comm, and-true, or-false}
-use Rattle.fb_tasks.proofs.Words.{slice_get_within, get_or_from_slice_get, take_more, and_parts, cases_Bool, Shape, Kind, Backup}
-use Rattle.fb_tasks.proofs.Words.{is_backup, ContentRun, held_at, runs_of, sectors_of, Entry, is_delivered, is_aborted, is_block}
-use Rattle.fb_tasks.proofs.Words.{counts_of, Past, tasks, registered, is_open_backup, Work, TaskView, view, is_unsealed, is_over}
-use Rattle.fb_tasks.proofs.Words.{is_complete, is_complete_as, is_done, number_same, without_aborted, SealLine, seal_rows, BackRow}
-use Rattle.fb_tasks.proofs.Words.{found_for, by_deliveries, Session, take-length, all_both, list_any-append}
-use Rattle.std.proofs.lemmas.Grind.{flat_map-append}
+use Rattle.fb_tasks.proofs.Words.{◌≡◌, ℕ, zero, suc, ◌+◌, ◌<◌, ◌≤◌, List, [], ◌∷◌, true, false, Some, Option, map, refl, arith, append-nil}
+use Rattle.fb_tasks.proofs.Words.{◌-◌, ◌==◌, ◌&&◌, ◌||◌, ◌^◌, not, nat_lt, if◌then◌else◌, ◌++◌, Bool, None, length, filter, take, slice_get}
+use Rattle.fb_tasks.proofs.Words.{ap, ap₂, sym, ◌∙◌, subst, inl, inr, AllByRecursion, range_with_len, flat_map, list_any, list_all}
+use Rattle.fb_tasks.proofs.Words.{nat_tests, Content, held_in, EndsBy, is_within, Block, Ascend, entry_of, entry_in, AreIndexed, IsBlockOf}
+use Rattle.fb_tasks.proofs.Words.{HoldsBlock, HoldsBlocks, HoldsImage, Stands, all_weaker, all_with, all_filter, all_at, some_same}
+use Rattle.fb_tasks.proofs.Words.{filter_from, map_at, some_at, list_all_each, and-false, and_comm, and-true, or-false, slice_get_within}
+use Rattle.fb_tasks.proofs.Words.{get_or_from_slice_get, take_more, and_parts, cases_Bool, Shape, Kind, Backup, is_backup, ContentRun}
+use Rattle.fb_tasks.proofs.Words.{held_at, runs_of, sectors_of, Entry, is_delivered, is_aborted, is_block, counts_of, Past, tasks}
+use Rattle.fb_tasks.proofs.Words.{registered, is_open_backup, Work, TaskView, view, is_unsealed, is_over, is_complete, is_complete_as}
+use Rattle.fb_tasks.proofs.Words.{is_done, number_same, without_aborted, SealLine, seal_rows, BackRow, found_for, by_deliveries, Session}
+use Rattle.fb_tasks.proofs.Words.{take-length, all_both, list_any-append}
 use Rattle.fb_tasks.proofs.{Complete.counts_same, Registered.blocks_in, Registered.own, States.shown_aborted, Changes.open_by}
+use Rattle.std.proofs.lemmas.Grind.{flat_map-append}
 use Rattle.fb_geometry.proofs.Turns.{range-append}
 
 -- ascending blocks begin at the first sector or after it

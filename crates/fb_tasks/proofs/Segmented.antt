@@ -1,11 +1,11 @@
 -- The segments of a log, as the history and as the session have them.
 use Rattle.fb_tasks.proofs.Words.{◌≡◌, ℕ, zero, suc, ◌+◌, ◌-◌, ◌*◌, ◌^◌, ◌<◌, ◌≤◌, ◌==◌, not, if◌then◌else◌, List, [], ◌∷◌, ◌++◌, Bool}
 use Rattle.fb_tasks.proofs.Words.{true, false, Some, None, Option, inl, inr, length, filter, map, slice_get, length-append, refl, ap, sym}
-use Rattle.fb_tasks.proofs.Words.{◌∙◌, arith, subst, AllByRecursion, flat_map, range_with_len, slice_index_or, sum_by, best_of}
-use Rattle.fb_tasks.proofs.Words.{cases_Bool, sum_by-cons, flat_map-append, get_or_from_slice_get, Shape, places, Cut, cutting}
-use Rattle.fb_tasks.proofs.Words.{with_sector, Action, Segment, live_cuts, Block, Past, LogSegment, called, Work, segments, segment_by}
-use Rattle.fb_tasks.proofs.Words.{numbered, live_count, is_better, is_chosen, unchosen, cuts_of, kept_segment, Ascend, IsBlockOf}
-use Rattle.fb_tasks.proofs.Words.{some_same, all_append, all_weaker, map_at, cuts_are}
+use Rattle.fb_tasks.proofs.Words.{◌∙◌, arith, subst, AllByRecursion, flat_map, range_with_len, slice_index_or, sum_by, best_of, cases_Bool}
+use Rattle.fb_tasks.proofs.Words.{sum_by-cons, flat_map-append, get_or_from_slice_get, Shape, places, Cut, cutting, with_sector, Action}
+use Rattle.fb_tasks.proofs.Words.{Segment, live_cuts, Block, Past, LogSegment, called, Work, segments, segment_by, numbered, live_count}
+use Rattle.fb_tasks.proofs.Words.{is_better, is_chosen, unchosen, cuts_of, kept_segment, Ascend, IsBlockOf, some_same, all_append}
+use Rattle.fb_tasks.proofs.Words.{all_weaker, map_at, cuts_are}
 use Rattle.fb_tasks.proofs.Cuts.{cuts_placed, cuts_ascend, cuts_end, cuts_cover, numbered_append}
 use Rattle.fb_clean.specs.Segments as clean
 use Rattle.fb_clean.proofs.Live.{live_blocks-count}

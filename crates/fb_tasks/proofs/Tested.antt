@@ -6,14 +6,12 @@ use Rattle.fb_tasks.proofs.Words.{BackRow, SealLine, CompleteLine, Content, held
 use Rattle.fb_tasks.proofs.Words.{content_of, is_open_backup, registered, Choice, TaskView, view, tested_view, is_unsealed, is_cleaned}
 use Rattle.fb_tasks.proofs.Words.{is_done, is_complete, is_segment_of, work, is_busy, Sources, test_rows, segment_rows, seal_rows}
 use Rattle.fb_tasks.proofs.Words.{complete_rows, is_newly_cleaned, number_same, tested-view, Session, is_none, IsSealed, AreRowsOf}
-use Rattle.fb_tasks.proofs.Words.{AreReported, IsAtWork, Stands, Cleans, HoldsBlock, HoldsImage, choice_in, CleansBy, IsUntouched}
-use Rattle.fb_tasks.proofs.Words.{IsQuiet, HasNoChoice, HoldsBlocks, HasChosen, HaveChosen, IsSettled, Tells, all_weaker, filter_none}
-use Rattle.fb_tasks.proofs.Words.{flat_none, all_range, some_at, each_set, step_to, get_or_past, length-set}
-use Rattle.fb_tasks.proofs.Words.{Shape, Entry, by_deliveries, Plain, is_clean, subst}
-use Rattle.fb_tasks.proofs.Words.{IsTested, ends_of, slice_get_within}
-use Rattle.fb_tasks.proofs.RowsOf.{rows-given, nothing-mute}
-use Rattle.fb_tasks.proofs.{Sealed.held_same, Complete.busy_by, Frames.kept-entries, Frames.get_other, Frames.set_same, Additions.none-yet}
-use Rattle.fb_tasks.proofs.{States.flagged-stands, Cuts.range_next}
+use Rattle.fb_tasks.proofs.Words.{AreReported, IsAtWork, Stands, Cleans, HoldsBlock, HoldsImage, choice_in, CleansBy, IsUntouched, IsQuiet}
+use Rattle.fb_tasks.proofs.Words.{HasNoChoice, HoldsBlocks, HasChosen, HaveChosen, IsSettled, Tells, all_weaker, filter_none, flat_none}
+use Rattle.fb_tasks.proofs.Words.{all_range, some_at, each_set, step_to, get_or_past, length-set, Shape, Entry, by_deliveries, Plain}
+use Rattle.fb_tasks.proofs.Words.{is_clean, subst, IsTested, ends_of, slice_get_within}
+use Rattle.fb_tasks.proofs.{RowsOf.rows-given, RowsOf.nothing-mute, Sealed.held_same, Complete.busy_by, Frames.kept-entries}
+use Rattle.fb_tasks.proofs.{Frames.get_other, Frames.set_same, Additions.none-yet, States.flagged-stands, Cuts.range_next}
 use Rattle.std.proofs.lemmas.Grind.{flat_map-append}
 use Rattle.fb_clean.specs.Segments as clean
 
@@ -164,7 +162,8 @@ none_tested {past} {old} {instant} {rows} =
 
 module _ {past : Past} {old now : List Session} {instant : ℕ} {before rows : List BackRow} where
   -- one more is tested, and no more touched
-  pub one_tested : {more : List BackRow} {n : ℕ} {new : Session} → AreTested past old now instant before rows n → IsTested past n instant new rows more
+  pub one_tested : {more : List BackRow} {n : ℕ} {new : Session} → AreTested past old now instant before rows n
+      → IsTested past n instant new rows more
       → AreTested past old (set now n (record new { touched = false })) instant before more (n + 1)
   one_tested {more} {n} {new} is test = let cleared = record new { touched = false } in record {
     as_many = length-set now n cleared ∙ is.as_many;
@@ -190,7 +189,8 @@ module _ {past : Past} {old now : List Session} {instant : ℕ} {before rows : L
             (ready.stands.complete ∙ quiet.tested) ready.stands ready.at_work);
         rows = rw (no-ends past instant k quiet.sealed quiet.tested) (sym (append-nil rows));
       } in
-      subst (λ xs. AreTested past old xs instant before rows (k + 1)) (ap (λ b. set now k (record found.0 { touched = b })) (sym flag) ∙ set_same now k found.0 found.1)
+      subst (λ xs. AreTested past old xs instant before rows (k + 1))
+      (ap (λ b. set now k (record found.0 { touched = b })) (sym flag) ∙ set_same now k found.0 found.1)
       (one_tested is test))
 
 -- a task that is not opened has neither blocks nor terms
@@ -232,9 +232,11 @@ tells-tested {disk} {past} {held} rows sessions h as_many given each chosen = re
   };
 }
 
-pub all-tested : {disk : Shape} {past : Past} {old now : List Session} {held : List Entry} {instant : ℕ} {before rows : List BackRow} → HaveChosen disk past old held
+pub all-tested : {disk : Shape} {past : Past} {old now : List Session} {held : List Entry} {instant : ℕ} {before rows : List BackRow}
+    → HaveChosen disk past old held
     → AreTested past old now instant before rows (length now)
-    → Tells disk (tested (test_rows by_deliveries past instant) ∷ past) now held × (rows ≡ before ++ flat_map (ends_of past instant) (task_numbers past))
+    → Tells disk (tested (test_rows by_deliveries past instant) ∷ past) now held
+    × (rows ≡ before ++ flat_map (ends_of past instant) (task_numbers past))
 all-tested {disk} {past} {old} {now} {held} {instant} {before} chosen is =
     let all = test_rows by_deliveries past instant in
     let given : AreAllRows past all = λ task. rows-given by_deliveries past instant [] nothing-mute task (λ more. (chosen.blocks.unopened task more).choices) in (

@@ -222,7 +222,8 @@ pub record MayChoose (disk : Shape) (past : Past) (task : ℕ) (session : Sessio
 -- choices were made up to a later history: the session may choose on, and the rows of what they cleaned at once follow
 pub record HasTurned (disk : Shape) (past new : Past) (task now : ℕ) (session : Session) (held : List Entry) (old more : List BackRow) : Type 0 where
   pub may : MayChoose disk new task session held
-  pub rows : (before : List BackRow) → old ≡ before ++ segment_rows by_deliveries past now task → more ≡ before ++ segment_rows by_deliveries new now task
+  pub rows : (before : List BackRow) → old ≡ before ++ segment_rows by_deliveries past now task → more
+      ≡ before ++ segment_rows by_deliveries new now task
 
 -- a session has chosen
 pub record HasChosen (disk : Shape) (past : Past) (task : ℕ) (session : Session) (held : List Entry) : Type 0 where

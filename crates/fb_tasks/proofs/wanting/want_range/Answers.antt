@@ -1,8 +1,8 @@
 use Rattle.fb_tasks.proofs.Words.{◌≡◌, ℕ, ◌+◌, ◌-◌, List, [], ◌∷◌, ◌++◌, length, length-append, refl, ap, sym, subst, ◌∙◌, append-nil}
 use Rattle.fb_tasks.proofs.Words.{arith, Shape, cutting, blocks_of, Entry, numbered, Session, new_entries, HasBegun, wanted_unless}
-use Rattle.fb_wanted.specs.Numbering.{registered}
 use Rattle.fb_tasks.proofs.Complete.{registered_count, registered_few}
 use Rattle.fb_tasks.proofs.Leaving.{grown_not, grown_more, begun_by, cut_registered, one_counted}
+use Rattle.fb_wanted.specs.Numbering.{registered}
 use Rattle.fb_tasks.proofs.wanting.want_range.Goals as goal
 
 -- a range without sectors gives nothing

@@ -1,5 +1,4 @@
-use Rattle.fb_tasks.proofs.Words.{◌≡◌, not, refl, ap, sym, ◌∙◌, arith, and_parts}
-use Rattle.fb_tasks.proofs.Words.{is_clean, choose_up_to, not-true}
+use Rattle.fb_tasks.proofs.Words.{◌≡◌, not, refl, ap, sym, ◌∙◌, arith, and_parts, is_clean, choose_up_to, not-true}
 use Rattle.fb_tasks.proofs.Leaving.{grown_not, grown_more, registers_none, registers_more}
 use Rattle.fb_tasks.proofs.AllChoices.{up_to_more, still-turned, idle-turned, turned-on, turns_in}
 use Rattle.fb_tasks.proofs.session.Session.choose.Goals as goal

@@ -1,5 +1,4 @@
-use Rattle.fb_tasks.proofs.Words.{◌≡◌, true, false, is_clean, Past, choose_up_to, MayChoose, HasTurned}
-use Rattle.fb_tasks.proofs.Words.{HasGrown, OnlyRegisters, by_calls}
+use Rattle.fb_tasks.proofs.Words.{◌≡◌, true, false, is_clean, Past, choose_up_to, MayChoose, HasTurned, HasGrown, OnlyRegisters, by_calls}
 use Rattle.fb_tasks.proofs.session.Session.choose.Given as goal
 
 -- so many choices were made as turns have passed

@@ -4,17 +4,20 @@ use Rattle.fb_tasks.proofs.session.Session.choose_one.Goals as goal
 
 pub want_live-requires-clause-on_disk : goal.want_live-requires-clause-on_disk
 want_live-requires-clause-on_disk c =
-    live-on_disk c.requires.cleans c.requires.may.1 c.in-Some.segment (choice-step c.requires.cleans c.requires.may.1 c.in-Some.segment (sym c.in-Some.ensures.choice))
+    live-on_disk c.requires.cleans c.requires.may.1 c.in-Some.segment
+    (choice-step c.requires.cleans c.requires.may.1 c.in-Some.segment (sym c.in-Some.ensures.choice))
     c.choose.new.self c.in-Some.ensures.state
 
 pub want_live-requires-clause-few : goal.want_live-requires-clause-few
 want_live-requires-clause-few c =
-    live-few c.requires.cleans c.requires.may.1 c.in-Some.segment (choice-step c.requires.cleans c.requires.may.1 c.in-Some.segment (sym c.in-Some.ensures.choice))
+    live-few c.requires.cleans c.requires.may.1 c.in-Some.segment
+    (choice-step c.requires.cleans c.requires.may.1 c.in-Some.segment (sym c.in-Some.ensures.choice))
     c.choose.new.self c.in-Some.ensures.state
 
 pub returns-in_ok-finish-in-Some-clause-chosen : goal.returns-in_ok-finish-in-Some-clause-chosen
 returns-in_ok-finish-in-Some-clause-chosen c = λ past may. rw c.in_ok-finish-in-Some.ensures.session
-    (empty-turned c.requires.cleans may c.in-Some.segment (choice-step c.requires.cleans may c.in-Some.segment (sym c.in-Some.ensures.choice))
+    (empty-turned c.requires.cleans may c.in-Some.segment (choice-step c.requires.cleans may c.in-Some.segment
+    (sym c.in-Some.ensures.choice))
     c.choose.new.self c.in-Some.ensures.state (omega (arith, c.count-sectors.ensures.value, c.count-sectors.ensures.bound)) c.want_live.new.wanted c.in_ok-want_live-in-Some.ensures.all
     c.args.now c.args.rows.now c.finish.new.rows c.new.result (sym c.live_count.ensures ∙ c.if-live_count-eq0.true) c.new.ensures
     c.in_ok-finish-in-Some.ensures.row)

@@ -1,8 +1,8 @@
-use Rattle.fb_tasks.proofs.Words.{append_assoc, complete_rows, ap, ◌∙◌, ◌++◌, ◌∷◌, [], ◌&&◌, not, if◌then◌else◌, subst, rules, on_ok_weaker, on_err_weaker}
-use Rattle.fb_tasks.proofs.Words.{CompleteLine, view, tested-view, seal_rows, complete_by, IsSealed, by_deliveries, on_err, Session, ◌≡◌}
-use Rattle.fb_tasks.proofs.Words.{is_done}
-use Rattle.fb_tasks.proofs.{Complete.done_same, Complete.done_is, Complete.was_is, Complete.counts_small}
-use Rattle.fb_tasks.proofs.{Leaving.begun_after, Leaving.begun_same, Sealed.seals_same, Tested.stands-tested}
+use Rattle.fb_tasks.proofs.Words.{append_assoc, complete_rows, ap, ◌∙◌, ◌++◌, ◌∷◌, [], ◌&&◌, not, if◌then◌else◌, subst, rules, on_ok_weaker}
+use Rattle.fb_tasks.proofs.Words.{on_err_weaker, CompleteLine, view, tested-view, seal_rows, complete_by, IsSealed, by_deliveries, on_err}
+use Rattle.fb_tasks.proofs.Words.{Session, ◌≡◌, is_done}
+use Rattle.fb_tasks.proofs.{Complete.done_same, Complete.done_is, Complete.was_is, Complete.counts_small, Leaving.begun_after}
+use Rattle.fb_tasks.proofs.{Leaving.begun_same, Sealed.seals_same, Tested.stands-tested}
 use Rattle.fb_tasks.proofs.session.Session.test.Goals as goal
 
 pub is_complete-complete-requires : goal.is_complete-complete-requires
@@ -20,10 +20,13 @@ returns-clause-tested c = on_ok_weaker c.add_completion.result (λ pushed disk p
     c.add_completion.ensures.session ∙ ap (λ b. record mid { complete = b }) says in
     let was = ap (λ (s : Session). s.complete) c.add_seal.ensures.session.same ∙ may.stands.complete in
     record {
-      session = λ all given. rw (tested-view past all task, after) (stands-tested task (view past task) all given self mid sealed may.stands may.at_work);
-      rows = pushed ∙ (ap (λ rows. rows ++ (if c.is_complete-complete.result && not mid.complete then CompleteLine (record { task = task; instant = c.args.now }) ∷ [] else []))
+      session = λ all given. rw (tested-view past all task, after)
+          (stands-tested task (view past task) all given self mid sealed may.stands may.at_work);
+      rows = pushed ∙ (ap (λ rows. rows ++ (if c.is_complete-complete.result && not mid.complete then CompleteLine
+          (record { task = task; instant = c.args.now }) ∷ [] else []))
           (c.in_ok-add_seal.ensures.rows disk past may.blocks may.stands (says ∙ done_is past task))
-          ∙ rw (says, done_is past task, was, was_is past task) (append_assoc c.args.rows.now (seal_rows by_deliveries past c.args.now task) (complete_rows past c.args.now task)));
+          ∙ rw (says, done_is past task, was, was_is past task)
+          (append_assoc c.args.rows.now (seal_rows by_deliveries past c.args.now task) (complete_rows past c.args.now task)));
     }) c.add_completion.ensures.rows
 
 pub returns-clause-err_rows : goal.returns-clause-err_rows

@@ -1,8 +1,8 @@
-use Rattle.fb_tasks.proofs.Words.{◌<◌, Some, length, slice_get, ap, sym, ◌∙◌, subst, arith, AllByRecursion, slice_get-get_or, Rewant}
-use Rattle.fb_tasks.proofs.Words.{after, registered, some_at, view}
-use Rattle.fb_tasks.specs.Telling.{IsBlockOf}
+use Rattle.fb_tasks.proofs.Words.{◌<◌, Some, length, slice_get, ap, sym, ◌∙◌, subst, arith, AllByRecursion, slice_get-get_or, Rewant, after}
+use Rattle.fb_tasks.proofs.Words.{registered, some_at, view}
 use Rattle.fb_tasks.proofs.Listed.{no_backup_there}
 use Rattle.fb_tasks.proofs.Changes.{none_until, all_until, until_wanted, until_left, until-to, written-tells, open_by}
+use Rattle.fb_tasks.specs.Telling.{IsBlockOf}
 use Rattle.fb_tasks.proofs.sessions.Sessions.after_write.Goals.{then-is_open_backup, else-is_open_backup}
 use Rattle.fb_tasks.proofs.sessions.Sessions.after_write.Goals as goal
 

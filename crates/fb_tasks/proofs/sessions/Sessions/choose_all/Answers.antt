@@ -1,5 +1,4 @@
-use Rattle.fb_tasks.proofs.Words.{◌<◌, length, sym, subst, arith, length-set, MaySettle}
-use Rattle.fb_tasks.proofs.Words.{OnlyTouched, MayClean}
+use Rattle.fb_tasks.proofs.Words.{◌<◌, length, sym, subst, arith, length-set, MaySettle, OnlyTouched, MayClean}
 use Rattle.fb_tasks.proofs.Leaving.{grown_not, grown_more, registers_none, touched_none, touched_set, chosen_own}
 use Rattle.fb_tasks.proofs.Listed.{listed_set, listed_there}
 use Rattle.fb_tasks.proofs.AllChoices.{partly-start, partly-may, partly-more, partly-to, all-chosen, past_at}
@@ -27,7 +26,8 @@ choose-requires c =
     let inv = c.loop-task.invariant in
     let n = c.in-Some.task in
     let there = listed_there inv.kept n c.index_mut.result.now c.in-Some.ensures.found c.index_mut.ensures.value in
-    let to = partly-to c.loop-task.from n c.in-Some.ensures.from (omega (arith, inv.kept.within n (inv.kept.covered n c.in-Some.ensures.found)))
+    let to = partly-to c.loop-task.from n c.in-Some.ensures.from
+    (omega (arith, inv.kept.within n (inv.kept.covered n c.in-Some.ensures.found)))
     (rw c.deref.ensures.value at c.in-Some.ensures.first) (inv.partly c.requires.0 c.requires.1) in
     (past_at c.args.map.now c.requires.0 n, partly-may there to)
 
@@ -44,7 +44,8 @@ loop-task-preserved c =
       kept = listed_set inv.kept n c.choose.new.self c.in-Some.ensures.found;
       within = omega (arith, within, length-set items n c.choose.new.self);
       partly = λ past h.
-          let to = partly-to c.loop-task.from n c.in-Some.ensures.from (omega (arith, within)) (rw c.deref.ensures.value at c.in-Some.ensures.first) (inv.partly past h) in
+          let to = partly-to c.loop-task.from n c.in-Some.ensures.from (omega (arith, within))
+          (rw c.deref.ensures.value at c.in-Some.ensures.first) (inv.partly past h) in
           partly-more there c.choose.ensures.same.1 to (c.in_ok-choose.ensures.chosen _ (partly-may there to));
       stay = touched_set c.args.self.now items n session c.choose.new.self there touched c.choose.ensures.same.0 inv.stay;
       own = chosen_own c.args.self.now items n session c.args.wanted.now c.loop-task.wanted c.choose.new.wanted there touched inv.stay inv.own c.choose.ensures.own c.choose.ensures.idle;

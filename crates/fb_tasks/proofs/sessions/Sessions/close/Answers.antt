@@ -1,4 +1,4 @@
-use Rattle.fb_tasks.proofs.{Changes.closed-tells}
+use Rattle.fb_tasks.proofs.Changes.{closed-tells}
 use Rattle.fb_tasks.proofs.sessions.Sessions.close.Goals as goal
 
 pub returns-clause-ok : goal.returns-clause-ok

@@ -1,4 +1,4 @@
-use Rattle.fb_tasks.proofs.{Changes.resumed-tells}
+use Rattle.fb_tasks.proofs.Changes.{resumed-tells}
 use Rattle.fb_tasks.proofs.sessions.Sessions.resume.Goals as goal
 
 pub returns : goal.returns

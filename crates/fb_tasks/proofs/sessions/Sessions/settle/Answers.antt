@@ -1,5 +1,5 @@
-use Rattle.fb_tasks.proofs.Words.{◌++◌, [], ap, ◌∙◌, append_assoc, on_ok_weaker, flat_map, task_numbers, test_rows, segment_rows}
-use Rattle.fb_tasks.proofs.Words.{ends_of, with_choices, by_deliveries}
+use Rattle.fb_tasks.proofs.Words.{◌++◌, [], ap, ◌∙◌, append_assoc, on_ok_weaker, flat_map, task_numbers, test_rows, segment_rows, ends_of}
+use Rattle.fb_tasks.proofs.Words.{with_choices, by_deliveries}
 use Rattle.fb_tasks.proofs.{RowsOf.rows-given, RowsOf.nothing-mute, Tested.settled-tested}
 use Rattle.fb_tasks.proofs.sessions.Sessions.settle.Goals as goal
 

@@ -1,4 +1,4 @@
-use Rattle.fb_tasks.proofs.{Changes.suspended-tells}
+use Rattle.fb_tasks.proofs.Changes.{suspended-tells}
 use Rattle.fb_tasks.proofs.sessions.Sessions.suspend.Goals as goal
 
 pub returns : goal.returns

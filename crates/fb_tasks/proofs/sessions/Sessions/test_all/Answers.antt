@@ -1,6 +1,4 @@
-use Rattle.fb_tasks.proofs.Words.{◌<◌, false, length, ap, sym, ◌∙◌, subst, arith}
-use Rattle.fb_tasks.proofs.Words.{refl, contains, nat_cmp, length-set}
-use Rattle.fb_tasks.proofs.Words.{HaveChosen}
+use Rattle.fb_tasks.proofs.Words.{◌<◌, false, length, ap, sym, ◌∙◌, subst, arith, refl, contains, nat_cmp, length-set, HaveChosen}
 use Rattle.fb_tasks.proofs.Words.{OnlyTouched}
 use Rattle.fb_tasks.proofs.Leaving.{grown_not, grown_more, touched_none, touched_set}
 use Rattle.fb_tasks.proofs.Listed.{listed_less, listed_there}
@@ -28,7 +26,8 @@ test-requires c =
     let n = c.in-Some.task in
     let chosen : HaveChosen c.requires.0 c.requires.1 c.self.inside.sessions.items c.args.wanted.now = rw c.self.view_is c.requires.2 in
     let there = listed_there inv.kept n c.index_mut-session.result.now c.in-Some.ensures.found c.index_mut-session.ensures.value in
-    let to = tested-to c.loop-task.from n c.in-Some.ensures.from (omega (arith, inv.kept.within n (inv.kept.covered n c.in-Some.ensures.found)))
+    let to = tested-to c.loop-task.from n c.in-Some.ensures.from
+    (omega (arith, inv.kept.within n (inv.kept.covered n c.in-Some.ensures.found)))
     (rw c.deref.ensures.value at c.in-Some.ensures.first) chosen (inv.tested c.requires.0 c.requires.1 chosen) in
     (c.requires.0, c.requires.1, chosen_at chosen n c.index_mut-session.result.now (sym (to.later n (omega arith)) ∙ there))
 
@@ -45,10 +44,12 @@ loop-task-preserved c =
     record {
       kept = listed_less inv.kept n cleared c.forget.new.list c.forget-in-Some.new.list c.is_open_backup-is_open_backup.result c.in-Some.ensures.found refl
           c.is_open_backup-is_open_backup.ensures c.forget.ensures.others c.forget.ensures.only (c.forget.ensures.gone refl)
-          c.forget-in-Some.ensures.others c.forget-in-Some.ensures.only (λ stays is. ap (λ list. contains nat_cmp list n) (c.forget-in-Some.ensures.kept stays) ∙ is);
+          c.forget-in-Some.ensures.others c.forget-in-Some.ensures.only
+          (λ stays is. ap (λ list. contains nat_cmp list n) (c.forget-in-Some.ensures.kept stays) ∙ is);
       within = omega (arith, within, length-set items n cleared);
       tested = λ disk past chosen.
-          let to = tested-to c.loop-task.from n c.in-Some.ensures.from (omega (arith, within)) (rw c.deref.ensures.value at c.in-Some.ensures.first) chosen (inv.tested disk past chosen) in
+          let to = tested-to c.loop-task.from n c.in-Some.ensures.from (omega (arith, within))
+          (rw c.deref.ensures.value at c.in-Some.ensures.first) chosen (inv.tested disk past chosen) in
           one_tested to (c.in_ok-test.ensures.tested disk past (chosen_at chosen n session (sym (to.later n (omega arith)) ∙ there)));
       stay = touched_set c.args.self.now items n session cleared there touched c.test.ensures.same inv.stay;
       grown = grown_more c.args.rows.now c.loop-task.rows c.test.new.rows inv.grown c.test.ensures.grown;

@@ -1,5 +1,4 @@
-use Rattle.fb_tasks.proofs.Words.{◌≤◌, ◌-◌, length, Shape, Past, HaveChosen, AreListed, HasGrown}
-use Rattle.fb_tasks.proofs.Words.{OnlyTouched}
+use Rattle.fb_tasks.proofs.Words.{◌≤◌, ◌-◌, length, Shape, Past, HaveChosen, AreListed, HasGrown, OnlyTouched}
 use Rattle.fb_tasks.proofs.Tested.{AreTested}
 use Rattle.fb_tasks.proofs.sessions.Sessions.test_all.Given as goal
 
