@@ -20,7 +20,7 @@ use Rattle.fb_bgwrite.specs.declared.choice.Spill.{Spill}
 use Rattle.fb_bgwrite.specs.declared.choice.Valued.{Valued}
 use Rattle.fb_bgwrite.specs.Spilling.{ready, stay_of, value, IsNoLater, IsSpill}
 use Rattle.fb_bgwrite.specs.declared.search.Part.{Part}
-use Rattle.fb_bgwrite.specs.Choosing.{ArePending, Beats, BeatsOn, BeatsRange, IsBestIf, IsEnough, IsLast, IsMost, IsOver, IsShare, IsValuedIf, Keeps}
+use Rattle.fb_bgwrite.specs.Choosing.{ArePending, Beats, BeatsOn, BeatsRange, IsBestIf, IsEnough, IsLast, IsMost, IsOnly, IsOver, IsShare, IsValuedIf, Keeps}
 use Rattle.fb_bgwrite.proofs.Values.{as_much_by_last, less_before_last, value_stay, AreLight}
 
 before_on : (s t u : Track) → IsTrackBefore s t → IsTrackBefore t u → IsTrackBefore s u
@@ -96,6 +96,18 @@ module _ (disk : Disk) (gap : Gap) (pending : List Block) where
     | inl earlier ↦ on_kept old new (record { cylinder = cylinder; head = head }) keeps (before head earlier)
     | inr last ↦ subst (λ h. BeatsOn disk gap pending new (record { cylinder = cylinder; head = h })) (let same : n ≡ head = omega (arith, less, last) in same) here
   ]
+
+  -- where no spill writes anything but those of the part, to beat these is to beat all
+  pub beats_all : (best : Option Valued) (from end : ℕ) (part : Part) → IsValuedIf disk gap pending best → IsOnly disk gap pending from end part → BeatsRange disk gap pending best part.from part.end → BeatsRange disk gap pending best from end
+  beats_all best from end part valued only inside track low high leave is =
+      let spill : Spill = record { track = track; leave = leave } in
+      elim (cases_lt track.cylinder part.from) [
+        | inl before ↦ nothing_beaten best spill valued (omega (arith, only track low high (inl before) leave is))
+        | inr after ↦ elim (cases_lt track.cylinder part.end) [
+          | inl within ↦ inside track after within leave is
+          | inr behind ↦ nothing_beaten best spill valued (omega (arith, only track low high (inr behind) leave is))
+        ]
+      ]
 
   -- spills of little value on later tracks are beaten
   pub enough_beats : (best : Option Valued) (most from : ℕ) (other : Spill) → IsEnough best most from → value disk gap pending other ≤ most → from ≤ other.track.cylinder → Beats disk gap pending best other

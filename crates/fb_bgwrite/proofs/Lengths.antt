@@ -1,5 +1,5 @@
 -- A block that is caught has no more sectors than all that are caught; so where each is longer than that, nothing is.
-use Rattle.std.proofs.Common.{◌≡◌, ℕ, zero, suc, ◌*◌, ◌<◌, ◌≤◌, ◌⊎◌, List, [], ◌∷◌, true, ◌==◌, Some, slice_get, get_or, min, inl, inr, refl, sym, ap, ◌∙◌, subst, arith}
+use Rattle.std.proofs.Common.{◌≡◌, ℕ, zero, suc, ◌+◌, ◌*◌, ◌<◌, ◌≤◌, ◌⊎◌, List, [], ◌∷◌, true, ◌==◌, Option, Some, slice_get, get_or, min, inl, inr, refl, sym, ap, ◌∙◌, subst, arith}
 use Rattle.std.specs.List.{AllByRecursion, sum_by}
 use Rattle.std.proofs.lemmas.Bool.{cases_Bool, true≢false}
 use Rattle.std.proofs.lemmas.Bool.Decides.{nat_tests}
@@ -18,13 +18,14 @@ use Rattle.fb_plan.specs.Ways.{AreOnDisk}
 use Rattle.fb_detour.specs.Bounds.{stay_gain}
 use Rattle.fb_detour.proofs.Ceilings.{stay-of}
 use Rattle.fb_bgwrite.specs.declared.choice.Spill.{Spill}
-use Rattle.fb_bgwrite.specs.Choosing.{passes}
+use Rattle.fb_bgwrite.specs.declared.choice.Valued.{Valued}
+use Rattle.fb_bgwrite.specs.Choosing.{passes, ArePending, Beats, IsValuedIf}
 use Rattle.fb_bgwrite.specs.Shortest.{AreAtLeast, IsAtLeast, IsNoShorter}
 use Rattle.fb_bgwrite.specs.Spilling.{stay_of, value}
 use Rattle.fb_bgwrite.proofs.Lists.{all_of, at_all, some_one}
 use Rattle.fb_bgwrite.proofs.Values.{value_caught, value_stay, AreLight}
 use Rattle.fb_bgwrite.proofs.Amended.{track_on_disk}
-use Rattle.fb_bgwrite.proofs.Choices.{light_on}
+use Rattle.fb_bgwrite.proofs.Choices.{light_on, nothing_beaten}
 
 -- one of the blocks is caught
 pub record HasCaught (disk : Disk) (dwell : Dwell) (entries : List Entry) : Type 0 where
@@ -102,6 +103,13 @@ module _ (disk : Disk) (gap : Gap) (entries : List Entry) (spill : Spill) (light
     -- there is none
     pub none_there : AreOnDisk disk entries → 2048 < least → value disk gap (wanted_of entries) spill ≡ 0
     none_there on_disk more = elim (none_or_long on_disk) [ inl none ↦ none | inr long ↦ absurd (omega (arith, long.1, more)) ]
+
+-- a spill is beaten where each pending block is longer than what it may write
+pub short_beaten : (disk : Disk) (gap : Gap) (entries : List Entry) → ArePending disk entries → (best : Option Valued) → IsValuedIf disk gap (wanted_of entries) best → (spill : Spill) (short from end most : ℕ)
+    → AreAtLeast from end (short + 1) entries → from ≤ spill.track.cylinder → spill.track.cylinder < end → value disk gap (wanted_of entries) spill ≤ most → min most 2048 ≤ short
+    → Beats disk gap (wanted_of entries) best spill
+short_beaten disk gap entries blocks best valued spill short from end most long low high few less =
+    nothing_beaten disk gap (wanted_of entries) best spill valued (none_short disk gap entries spill blocks.light (short + 1) from end long low high most blocks.on_disk few (omega (arith, less)))
 
 -- ---- the bounds of cylinders
 

@@ -135,16 +135,6 @@ impl Pending {
         self.wanted.greatest_weight_in(from, end)
     }
 
-    /// A lower bound on the sectors of each pending block of these cylinders; 2,049 where it is known
-    /// that there is none.
-    pub fn shortest_in(&self, from: u32, end: u32) -> u32
-        requires some { from < end }
-        ensures each { AreAtLeast from end result self.now }
-        ensures most { result ≤ 2049 }
-    {
-        self.shortest.among(from, end)
-    }
-
     /// A lower bound on the sectors of each pending block of this cylinder; 2,049 where it is known that
     /// there is none.
     pub fn shortest_at(&self, cylinder: u32) -> u32
@@ -165,21 +155,15 @@ impl Pending {
         self.shortest.end_short(from, end, most)
     }
 
-    /// Where the first of these cylinders is that may have a pending block, or earlier by up to 31.
-    pub fn first_in(&self, from: u32, end: u32) -> u32
-        requires some { from < end }
+    /// Where the first of these cylinders is that may have a pending block of at most so many sectors;
+    /// the end if none has.
+    pub fn first_short(&self, from: u32, end: u32, most: u32) -> u32
+        requires order { from ≤ end }
+        requires short { most ≤ 2048 }
         ensures after { from ≤ result }
-        ensures within { result < end }
-    {
-        self.shortest.first_in(from, end)
-    }
-
-    /// Where the last of these cylinders ends that may have a pending block, or later by up to 31.
-    pub fn end_in(&self, from: u32, end: u32) -> u32
-        requires some { from < end }
-        ensures after { from < result }
         ensures within { result ≤ end }
+        ensures each { AreAtLeast from result (most + 1) self.now }
     {
-        self.shortest.end_in(from, end)
+        self.shortest.first_short(from, end, most)
     }
 }

@@ -1,22 +1,26 @@
 // The search for the best spill of a gap. Ranges of cylinders are passed over where no spill can be
 // better than the best so far.
-ghost use Rattle.std.specs.Prelude.{◌≡◌, ◌+◌, ◌-◌, ◌*◌, ◌<◌, ◌≤◌, ◌^◌, ◌⊎◌, ℕ, List, true, max, if◌then◌else◌};
+ghost use Rattle.std.specs.Prelude.{◌≡◌, ◌+◌, ◌-◌, ◌*◌, ◌<◌, ◌≤◌, ◌^◌, ◌⊎◌, ℕ, List, false, true, max, if◌then◌else◌};
 ghost use Rattle.std.specs.List.{sum_by};
 ghost use Rattle.fb_geometry.specs.Shape.{slots_at, IsTrackOf};
 ghost use Rattle.fb_seek.specs.Positioning.{distance_of};
 ghost use Rattle.fb_wanted.specs.declared.block.Entry.{Entry as Registered};
 ghost use Rattle.fb_wanted.specs.States.{on_track, wanted_of};
+ghost use Rattle.fb_wanted.specs.Tracks.{wanted_weight};
+ghost use Rattle.fb_units.specs.declared.types.Track.{Track};
+ghost use Rattle.fb_service.specs.declared.disk.Disk.{Disk};
+ghost use Rattle.fb_rows.specs.declared.gap.Gap.{Gap};
 ghost use Rattle.fb_plan.specs.Ways.{AreOnDisk, FitsDisk};
 ghost use Rattle.fb_plan.specs.Turns.{IsOfDwell};
 ghost use Rattle.fb_model.specs.Plans.{block_end};
 ghost use Rattle.fb_detour.specs.Bounds.{slots_within, stay_gain};
 ghost use Rattle.fb_bgwrite.specs.declared.choice.Spill.{Spill};
-ghost use Rattle.fb_bgwrite.specs.Choosing.{AreLeast, ArePending, BeatsOn, BeatsRange, IsBestIf, IsEnough, IsGap, IsLast, IsMost, IsMostOn, IsShare, IsValuedIf, Keeps, passes};
+ghost use Rattle.fb_bgwrite.specs.Choosing.{AreLeast, ArePending, BeatsOn, BeatsRange, IsBestIf, IsEnough, IsGap, IsLast, IsMost, IsMostOn, IsOnly, IsShare, IsValuedIf, Keeps, passes};
+ghost use Rattle.fb_bgwrite.specs.Shortest.{AreAtLeast};
 ghost use Rattle.fb_bgwrite.specs.Spilling.{value, IsSpill};
 
 use crate::choice::{Spill, Valued, better};
 use crate::pending::{Pending, least_on};
-use crate::shortest::WIDTH;
 use fb_detour::most_slots;
 use fb_plan::{Turning, Until, is_wanted};
 use fb_rows::{Dwell, Gap};
@@ -31,20 +35,21 @@ const LONGEST: u32 = 2_048;
 // that of a wider range.
 const WIDE: u32 = 2_048;
 
-// So few cylinders are tried one after the other, with one bound.
-const FEW: u32 = 2 * WIDTH;
+// So few cylinders are tried one after the other.
+const FEW: u32 = 32;
 
-// At least so many cylinders of those on one side of a gap are looked at first.
+// At least so many cylinders of those on one side of a gap are looked at first, if little time is left.
 const NEAR: u32 = 1_024;
 
-// The cylinders from one up to another, the least time of a slot there, in ns, and an upper bound
-// on what a spill writes on a track there.
+// The cylinders from one up to another, the least time of a slot there, in ns, an upper bound on what a
+// spill writes on a track there, and whether less than a turn is left beside the moves.
 #[derive(Clone, Copy)]
 struct Part {
     from: u32,
     end: u32,
     share: Ns,
     most: u64,
+    brief: bool,
 }
 
 // The least time, in ns, of a move to a track, and of the move on from it to the target.
@@ -76,13 +81,28 @@ pub fn best_spill(disk: &Disk, pending: &Pending, gap: &Gap) -> Option<Valued>
     ensures valued { IsValuedIf disk.now gap.entry.now (wanted_of pending.now) result }
 {
     let cylinders = disk.map.geometry().cylinders();
-    let end = pending.end_short(0, cylinders, LONGEST);
-    if end == 0 {
+    let (from, end) = trimmed(pending, 0, cylinders, LONGEST);
+    if from == end {
         return None;
     }
-    let share = least_share(disk, gap, 0, end);
-    let all = part_of(disk, pending, gap, 0, end, share);
+    let share = least_share(disk, gap, from, end);
+    let all = part_of(disk, pending, gap, from, end, share);
     visit(disk, pending, gap, all, None)
+}
+
+// Where the first of these cylinders is that may have a pending block of at most so many sectors, and
+// where the last one ends.
+fn trimmed(pending: &Pending, from: u32, end: u32, most: u32) -> (u32, u32)
+    requires order { from ≤ end }
+    requires short { most ≤ 2048 }
+    ensures after { from ≤ result.0 }
+    ensures order { result.0 ≤ result.1 }
+    ensures within { result.1 ≤ end }
+    ensures before { AreAtLeast from result.0 (most + 1) pending.now }
+    ensures behind { AreAtLeast result.1 end (most + 1) pending.now }
+{
+    let behind = pending.end_short(from, end, most);
+    (pending.first_short(from, behind, most), behind)
 }
 
 // Tries the tracks of these cylinders, if their bound leaves it open whether a spill there is better
@@ -108,15 +128,12 @@ fn visit(
     if is_enough(start, part.most, part.from) {
         return start;
     }
-    if part.end - part.from <= FEW {
-        return try_cylinders(disk, pending, gap, part, start);
+    if is_swept(gap, part) {
+        return sweep(disk, pending, gap, part, start);
     }
-    if part.end - part.from <= WIDE && is_below(gap, part.end) {
-        return try_below(disk, pending, gap, part, start);
-    }
-    let middle = split_at(pending, gap, part.from, part.end);
-    let low = child_of(disk, pending, gap, part, part.from, middle);
-    let high = child_of(disk, pending, gap, part, middle, part.end);
+    let middle = split_at(gap, part);
+    let low = narrowed(disk, pending, gap, part, part.from, middle);
+    let high = narrowed(disk, pending, gap, part, middle, part.end);
     if low.most < high.most {
         let best = visit(disk, pending, gap, high, start);
         return visit(disk, pending, gap, low, best);
@@ -125,53 +142,45 @@ fn visit(
     visit(disk, pending, gap, high, best)
 }
 
-// Where a range is divided: where pending blocks end or begin; else beside the tracks of the gap, or
-// behind as many cylinders as lie between them and the range, but no more than half.
-fn split_at(pending: &Pending, gap: &Gap, from: u32, end: u32) -> u32
-    requires some { from + 1 < end }
-    ensures after { from < result }
-    ensures within { result < end }
+// Whether the cylinders of a part are tried one after the other: if they are few, or if they lie on one
+// side of the gap, so that the moves get longer from one to the next, and less than a turn is left.
+fn is_swept(gap: &Gap, part: Part) -> bool
+    requires { part.from ≤ part.end }
+    ensures { result ≡ false → part.from + 1 < part.end }
 {
-    let behind = pending.end_in(from, end);
-    if behind < end {
-        return behind;
-    }
-    let first = pending.first_in(from, end);
-    if from < first {
-        return first;
-    }
-    let split = split_beside(gap, from, end);
-    let band = split - split % WIDTH;
-    let split = if from < band { band } else { split };
-    split.max(from + 1).min(end - 1)
+    let cylinders = part.end - part.from;
+    let beside = is_below(gap, part.end) || is_above(gap, part.from);
+    cylinders <= FEW || part.brief && beside && cylinders <= WIDE
 }
 
-// The same where all bands have pending blocks.
-fn split_beside(gap: &Gap, from: u32, end: u32) -> u32
-    requires some { from + 1 < end }
-    ensures after { from ≤ result }
-    ensures within { result ≤ end }
+// Where a part is divided: beside the tracks of the gap, or behind as many cylinders as lie between them
+// and the part, but no more than half.
+fn split_at(gap: &Gap, part: Part) -> u32
+    requires some { part.from + 1 < part.end }
+    ensures after { part.from < result }
+    ensures within { result < part.end }
 {
     let low = gap.source.cylinder.min(gap.target.cylinder);
     let high = gap.source.cylinder.max(gap.target.cylinder);
-    let half = (end - from) / 2;
-    if end <= low {
-        end - half.min((low - end).max(NEAR))
-    } else if high < from {
-        from + half.min((from - high).max(NEAR))
-    } else if from < low {
+    let half = (part.end - part.from) / 2;
+    let near = if part.brief { NEAR } else { FEW };
+    if part.end <= low {
+        part.end - half.min((low - part.end).max(near))
+    } else if high < part.from {
+        part.from + half.min((part.from - high).max(near))
+    } else if part.from < low {
         low
-    } else if high < end - 1 {
+    } else if high < part.end - 1 {
         high + 1
     } else {
-        from + half
+        part.from + half
     }
 }
 
-// Some of the cylinders of a part, with their bounds: that of the whole, if they are as near to the
-// gap, or one of their own.
-fn child_of(disk: &Disk, pending: &Pending, gap: &Gap, whole: Part, from: u32, end: u32) -> Part
-    requires some { from < end }
+// Some of the cylinders of a part, from the first to the last that may have a pending block short enough
+// for its bound, with a bound of their own.
+fn narrowed(disk: &Disk, pending: &Pending, gap: &Gap, whole: Part, from: u32, end: u32) -> Part
+    requires order { from ≤ end }
     requires after { whole.from ≤ from }
     requires inside { end ≤ whole.end }
     requires within { whole.end ≤ disk.now.mechanism.cylinders }
@@ -179,29 +188,25 @@ fn child_of(disk: &Disk, pending: &Pending, gap: &Gap, whole: Part, from: u32, e
     requires most { IsMost disk.now gap.now (wanted_of pending.now) whole }
     requires gap { IsGap disk.now gap.now }
     requires blocks { ArePending disk.now pending.now }
-    ensures from { result.from ≡ from }
-    ensures end { result.end ≡ end }
-    ensures share { IsShare disk.now from end result.share }
+    ensures after { from ≤ result.from }
+    ensures order { result.from ≤ result.end }
+    ensures within { result.end ≤ end }
+    ensures share { IsShare disk.now result.from result.end result.share }
     ensures most { IsMost disk.now gap.entry.now (wanted_of pending.now) result }
+    ensures only { IsOnly disk.now gap.entry.now (wanted_of pending.now) from end result }
 {
-    if whole.end - whole.from <= WIDE && is_as_near(gap, whole, from, end) {
-        let most = unless_longer(whole.most, pending.shortest_in(from, end));
+    let short = whole.most.min(LONGEST as u64) as u32;
+    let (from, end) = trimmed(pending, from, end, short);
+    if from == end {
         return Part {
             from,
             end,
-            most,
-            share: whole.share,
+            most: 0,
+            ..whole
         };
     }
     let share = share_inside(disk, gap, whole, from, end);
     part_of(disk, pending, gap, from, end, share)
-}
-
-// This bound, or 0 if each block is longer.
-fn unless_longer(most: u64, shortest: u32) -> u64
-    ensures { ((result ≡ most) × (shortest ≤ most)) ⊎ ((result ≡ 0) × (most < shortest)) }
-{
-    if most < shortest as u64 { 0 } else { most }
 }
 
 // The least time of a slot of some of the cylinders of a part: found anew where they are few of many.
@@ -219,18 +224,6 @@ fn share_inside(disk: &Disk, gap: &Gap, whole: Part, from: u32, end: u32) -> Ns
     whole.share
 }
 
-// Whether the cylinder of these that is nearest to the source is that of the whole, and the one that
-// is nearest to the target too.
-fn is_as_near(gap: &Gap, whole: Part, from: u32, end: u32) -> bool
-    requires some { from < end }
-    requires whole { whole.from < whole.end }
-{
-    let source = gap.source.cylinder;
-    let target = gap.target.cylinder;
-    nearest(whole.from, whole.end, source) == nearest(from, end, source)
-        && nearest(whole.from, whole.end, target) == nearest(from, end, target)
-}
-
 // These cylinders with a bound of their own.
 fn part_of(disk: &Disk, pending: &Pending, gap: &Gap, from: u32, end: u32, share: Ns) -> Part
     requires some { from < end }
@@ -243,11 +236,13 @@ fn part_of(disk: &Disk, pending: &Pending, gap: &Gap, from: u32, end: u32, share
     ensures share { result.share ≡ share }
     ensures most { IsMost disk.now gap.entry.now (wanted_of pending.now) result }
 {
+    let passing = most_passing(disk, gap, from, end, share);
     Part {
         from,
         end,
         share,
-        most: most_in(disk, pending, gap, from, end, share),
+        most: unless_lighter(pending, from, end, passing),
+        brief: passing <= disk.map.geometry().rotation() / share,
     }
 }
 
@@ -264,30 +259,17 @@ fn is_enough(best: Option<Valued>, most: u64, from: u32) -> bool
     }
 }
 
-// An upper bound on what a spill writes on a track of these cylinders: by the slots that pass in the
-// time that is left beside the moves, and by the blocks of the heaviest track; 0 where each block is
-// longer than that time.
-fn most_in(disk: &Disk, pending: &Pending, gap: &Gap, from: u32, end: u32, share: Ns) -> u64
+// This number, or a bound on the sectors of the heaviest track of these cylinders, if that is less; many
+// cylinders aren't looked at.
+fn unless_lighter(pending: &Pending, from: u32, end: u32, most: u64) -> u64
     requires some { from < end }
-    requires within { end ≤ disk.now.mechanism.cylinders }
-    requires share { IsShare disk.now from end share }
-    requires gap { IsGap disk.now gap.now }
-    requires blocks { ArePending disk.now pending.now }
-    ensures { (spill : Spill) → from ≤ spill.track.cylinder → spill.track.cylinder < end → IsSpill disk.now gap.entry.now spill
-        → value disk.now gap.entry.now (wanted_of pending.now) spill ≤ result }
+    ensures { (result ≡ most) ⊎ ((result < most) × ((track : Track) → from ≤ track.cylinder → track.cylinder < end → wanted_weight track pending.now ≤ result)) }
 {
-    let shortest = pending.shortest_in(from, end);
-    if shortest > LONGEST {
-        return 0;
-    }
-    let passing = most_passing(disk, gap, from, end, share);
-    if passing < shortest as u64 {
-        return 0;
-    }
     if end - from > WIDE {
-        return passing;
+        return most;
     }
-    passing.min(pending.greatest_weight_in(from, end))
+    let weight = pending.greatest_weight_in(from, end);
+    if weight < most { weight } else { most }
 }
 
 // An upper bound on the slots that pass on a track of these cylinders in the time that is left beside
@@ -363,9 +345,14 @@ fn is_below(gap: &Gap, end: u32) -> bool {
     end <= gap.source.cylinder && end <= gap.target.cylinder
 }
 
-// Tries the tracks of cylinders before the gap, from the nearest one on, until a bound shows that no
-// other is better.
-fn try_below(
+// Whether the cylinders from this one on lie behind both tracks of the gap.
+fn is_above(gap: &Gap, from: u32) -> bool {
+    gap.source.cylinder < from && gap.target.cylinder < from
+}
+
+// Tries the tracks of the cylinders of a part one after the other, beside the gap from the nearest one
+// on, until a bound shows that no other is better.
+fn sweep(
     disk: &Disk,
     pending: &Pending,
     gap: &Gap,
@@ -391,9 +378,37 @@ fn try_below(
         if swept.rest.end == swept.rest.from {
             break;
         }
-        swept = try_last(disk, pending, gap, swept.rest, swept.best);
+        swept = try_next(disk, pending, gap, swept.rest, swept.best);
     }
     swept.best
+}
+
+// Tries one more cylinder of a part, the first one if it lies behind the gap, else the last one; the
+// others are left.
+fn try_next(disk: &Disk, pending: &Pending, gap: &Gap, part: Part, start: Option<Valued>) -> Swept
+    requires some { part.from < part.end }
+    requires within { part.end ≤ disk.now.mechanism.cylinders }
+    requires share { IsShare disk.now part.from part.end part.share }
+    requires most { IsMost disk.now gap.now (wanted_of pending.now) part }
+    requires gap { IsGap disk.now gap.now }
+    requires blocks { ArePending disk.now pending.now }
+    requires best { IsValuedIf disk.now gap.now (wanted_of pending.now) start }
+    ensures after { part.from ≤ result.rest.from }
+    ensures order { result.rest.from ≤ result.rest.end }
+    ensures within { result.rest.end ≤ part.end }
+    ensures fewer { result.rest.end + part.from < part.end + result.rest.from }
+    ensures share { IsShare disk.now result.rest.from result.rest.end result.rest.share }
+    ensures most { IsMost disk.now gap.entry.now (wanted_of pending.now) result.rest }
+    ensures valued { IsValuedIf disk.now gap.entry.now (wanted_of pending.now) result.best }
+    ensures keeps { Keeps disk.now gap.entry.now (wanted_of pending.now) start result.best }
+    ensures before { BeatsRange disk.now gap.entry.now (wanted_of pending.now) result.best part.from result.rest.from }
+    ensures behind { BeatsRange disk.now gap.entry.now (wanted_of pending.now) result.best result.rest.end part.end }
+{
+    if is_above(gap, part.from) {
+        try_first(disk, pending, gap, part, start)
+    } else {
+        try_last(disk, pending, gap, part, start)
+    }
 }
 
 // Tries the last cylinder of a part that has a block short enough for the part's bound. The cylinders
@@ -423,58 +438,104 @@ fn try_last(disk: &Disk, pending: &Pending, gap: &Gap, part: Part, start: Option
             rest: Part { end, ..part },
         };
     }
+    if is_light(pending, end - 1, start) {
+        return Swept {
+            best: start,
+            rest: Part {
+                end: end - 1,
+                ..part
+            },
+        };
+    }
     let most = most_passing(disk, gap, part.from, end, part.share).min(part.most);
-    let near = Part { end, most, ..part };
-    let best = try_end(disk, pending, gap, near, start);
+    let own = Part {
+        from: end - 1,
+        end,
+        most,
+        ..part
+    };
     Swept {
-        best,
+        best: try_if_short(disk, pending, gap, own, start),
         rest: Part {
             end: end - 1,
-            ..near
+            most,
+            ..part
         },
     }
 }
 
-// Tries the tracks of the last cylinder of a part, if a pending block there is short enough.
-fn try_end(
-    disk: &Disk,
-    pending: &Pending,
-    gap: &Gap,
-    part: Part,
-    start: Option<Valued>,
-) -> Option<Valued>
+// Tries the first cylinder of a part that has a block short enough for the part's bound. The cylinders
+// behind it are left, with a bound for all from this one on.
+fn try_first(disk: &Disk, pending: &Pending, gap: &Gap, part: Part, start: Option<Valued>) -> Swept
     requires some { part.from < part.end }
     requires within { part.end ≤ disk.now.mechanism.cylinders }
+    requires share { IsShare disk.now part.from part.end part.share }
     requires most { IsMost disk.now gap.now (wanted_of pending.now) part }
     requires gap { IsGap disk.now gap.now }
     requires blocks { ArePending disk.now pending.now }
     requires best { IsValuedIf disk.now gap.now (wanted_of pending.now) start }
-    ensures valued { IsValuedIf disk.now gap.entry.now (wanted_of pending.now) result }
-    ensures keeps { Keeps disk.now gap.entry.now (wanted_of pending.now) start result }
-    ensures tried { BeatsRange disk.now gap.entry.now (wanted_of pending.now) result (part.end - 1) part.end }
+    ensures end { result.rest.end ≡ part.end }
+    ensures order { result.rest.from ≤ part.end }
+    ensures fewer { part.from < result.rest.from }
+    ensures share { IsShare disk.now result.rest.from part.end result.rest.share }
+    ensures most { IsMost disk.now gap.entry.now (wanted_of pending.now) result.rest }
+    ensures valued { IsValuedIf disk.now gap.entry.now (wanted_of pending.now) result.best }
+    ensures keeps { Keeps disk.now gap.entry.now (wanted_of pending.now) start result.best }
+    ensures tried { BeatsRange disk.now gap.entry.now (wanted_of pending.now) result.best part.from result.rest.from }
 {
-    let cylinder = part.end - 1;
-    if part.most < pending.shortest_at(cylinder) as u64 {
-        return start;
+    let short = part.most.min(LONGEST as u64) as u32;
+    let from = pending.first_short(part.from, part.end, short);
+    if from == part.end {
+        return Swept {
+            best: start,
+            rest: Part { from, ..part },
+        };
     }
+    if is_light(pending, from, start) {
+        return Swept {
+            best: start,
+            rest: Part {
+                from: from + 1,
+                ..part
+            },
+        };
+    }
+    let most = most_passing(disk, gap, from, part.end, part.share).min(part.most);
     let own = Part {
-        from: cylinder,
+        from,
+        end: from + 1,
+        most,
         ..part
     };
-    try_cylinder(disk, pending, gap, own, start)
+    Swept {
+        best: try_if_short(disk, pending, gap, own, start),
+        rest: Part {
+            from: from + 1,
+            most,
+            ..part
+        },
+    }
 }
 
-// Tries the tracks of these few cylinders, one cylinder after the other.
-fn try_cylinders(
+// Whether the best so far is at least as good as each spill on a track of this cylinder, by its weights.
+fn is_light(pending: &Pending, cylinder: u32, start: Option<Valued>) -> bool
+    requires { cylinder < 2 ^ 32 - 1 }
+    ensures { result ≡ true → (disk : Disk) (gap : Gap) → ArePending disk pending.now → BeatsRange disk gap (wanted_of pending.now) start cylinder (cylinder + 1) }
+{
+    let weight = pending.greatest_weight_in(cylinder, cylinder + 1);
+    is_enough(start, weight, cylinder)
+}
+
+// Tries the tracks of a range of one cylinder, if a pending block there is short enough.
+fn try_if_short(
     disk: &Disk,
     pending: &Pending,
     gap: &Gap,
     part: Part,
     start: Option<Valued>,
 ) -> Option<Valued>
-    requires order { part.from ≤ part.end }
-    requires within { part.end ≤ disk.now.mechanism.cylinders }
-    requires share { IsShare disk.now part.from part.end part.share }
+    requires one { part.end ≡ part.from + 1 }
+    requires cylinder { part.from < disk.now.mechanism.cylinders }
     requires most { IsMost disk.now gap.now (wanted_of pending.now) part }
     requires gap { IsGap disk.now gap.now }
     requires blocks { ArePending disk.now pending.now }
@@ -483,42 +544,10 @@ fn try_cylinders(
     ensures keeps { Keeps disk.now gap.entry.now (wanted_of pending.now) start result }
     ensures tried { BeatsRange disk.now gap.entry.now (wanted_of pending.now) result part.from part.end }
 {
-    let mut best = start;
-    for cylinder in part.from..part.end {
-        best = try_if_short(disk, pending, gap, part, cylinder, best);
-    }
-    best
-}
-
-// Tries the tracks of a cylinder of this part, if a pending block there is short enough.
-fn try_if_short(
-    disk: &Disk,
-    pending: &Pending,
-    gap: &Gap,
-    part: Part,
-    cylinder: u32,
-    start: Option<Valued>,
-) -> Option<Valued>
-    requires after { part.from ≤ cylinder }
-    requires inside { cylinder < part.end }
-    requires within { part.end ≤ disk.now.mechanism.cylinders }
-    requires share { IsShare disk.now part.from part.end part.share }
-    requires most { IsMost disk.now gap.now (wanted_of pending.now) part }
-    requires gap { IsGap disk.now gap.now }
-    requires blocks { ArePending disk.now pending.now }
-    requires best { IsValuedIf disk.now gap.now (wanted_of pending.now) start }
-    ensures valued { IsValuedIf disk.now gap.entry.now (wanted_of pending.now) result }
-    ensures keeps { Keeps disk.now gap.entry.now (wanted_of pending.now) start result }
-    ensures tried { BeatsRange disk.now gap.entry.now (wanted_of pending.now) result cylinder (cylinder + 1) }
-{
-    if part.most < pending.shortest_at(cylinder) as u64 {
+    if part.most < pending.shortest_at(part.from) as u64 {
         return start;
     }
-    let own = part_of(disk, pending, gap, cylinder, cylinder + 1, part.share);
-    if is_enough(start, own.most, cylinder) {
-        return start;
-    }
-    try_cylinder(disk, pending, gap, own, start)
+    try_cylinder(disk, pending, gap, part, start)
 }
 
 // Tries the tracks of a range of one cylinder.

@@ -129,66 +129,11 @@ impl Shortest {
         self.regions[region] = least_of(&self.bands, region * width, region * width + width);
     }
 
-    // A lower bound for the cylinders from `from` up to the end. At most 32 bounds are looked at, or
-    // one for each region.
-    pub fn among(&self, from: u32, end: u32) -> u32
-        requires some { from < end }
-        ensures each { (c : ℕ) → from ≤ c → c < end → result ≤ get_or self.now c 2049 }
-        ensures most { result ≤ 2049 }
-    {
-        let last = end - 1;
-        if last - from < WIDTH {
-            return least_of(&self.cylinders, from as usize, end as usize);
-        }
-        let (first_band, last_band) = (from / WIDTH, last / WIDTH);
-        if last_band - first_band < WIDTH {
-            return least_of(&self.bands, first_band as usize, last_band as usize + 1);
-        }
-        let (first_region, last_region) = (first_band / WIDTH, last_band / WIDTH);
-        least_of(
-            &self.regions,
-            first_region as usize,
-            last_region as usize + 1,
-        )
-    }
-
     // The bound of a cylinder.
     pub fn at(&self, cylinder: u32) -> u32
         ensures { result ≡ get_or self.now cylinder 2049 }
     {
         bound_at(&self.cylinders, cylinder)
-    }
-
-    // How many cylinders a region or a band has, if no block is pending in that of this cylinder; else
-    // 0.
-    fn empty_around(&self, cylinder: u32) -> u32
-        ensures few { result ≤ 1024 }
-    {
-        let band = cylinder / WIDTH;
-        if bound_at(&self.bands, band) < NONE {
-            0
-        } else if bound_at(&self.regions, band / WIDTH) < NONE {
-            WIDTH
-        } else {
-            WIDTH * WIDTH
-        }
-    }
-
-    // The first of these cylinders in a band that has a bound below 2,049; the last one if there is none.
-    pub fn first_in(&self, from: u32, end: u32) -> u32
-        requires some { from < end }
-        ensures after { from ≤ result }
-        ensures within { result < end }
-    {
-        let mut next = from;
-        while next < end - 1 {
-            let empty = self.empty_around(next);
-            if empty == 0 {
-                break;
-            }
-            next += (empty - next % empty).min(end - 1 - next);
-        }
-        next
     }
 
     // Where the region of the cylinder before `end` begins, if it has no bound as low as `most`; else
@@ -250,20 +195,43 @@ impl Shortest {
         next
     }
 
-    // The cylinder behind the last of these in a band that has a bound below 2,049; the one behind the
-    // first if there is none.
-    pub fn end_in(&self, from: u32, end: u32) -> u32
-        requires some { from < end }
-        ensures after { from < result }
-        ensures within { result ≤ end }
+    // For how many cylinders from this one on no bound is as low as `most`: up to the end of its region,
+    // or else of its band; 0 if there is one in its band.
+    fn long_from(&self, cylinder: u32, most: u32) -> u32
+        requires short { most ≤ 2048 }
+        ensures each { (c : ℕ) → cylinder ≤ c → c < cylinder + result → most < get_or self.now c 2049 }
+        ensures few { result ≤ 1024 }
     {
-        let mut next = end;
-        while from + 1 < next {
-            let empty = self.empty_around(next - 1);
-            if empty == 0 {
-                break;
+        let band = cylinder / WIDTH;
+        if bound_at(&self.bands, band) <= most {
+            return 0;
+        }
+        if bound_at(&self.regions, band / WIDTH) <= most {
+            return WIDTH - cylinder % WIDTH;
+        }
+        WIDTH * WIDTH - cylinder % (WIDTH * WIDTH)
+    }
+
+    // The first cylinder, from `from` up to the end, with a bound no greater than `most`; the end if
+    // there is none.
+    pub fn first_short(&self, from: u32, end: u32, most: u32) -> u32
+        requires order { from ≤ end }
+        requires short { most ≤ 2048 }
+        ensures after { from ≤ result }
+        ensures within { result ≤ end }
+        ensures each { (c : ℕ) → from ≤ c → c < result → most < get_or self.now c 2049 }
+    {
+        let mut next = from;
+        while next < end {
+            let long = self.long_from(next, most);
+            if long > 0 {
+                next += long.min(end - next);
+                continue;
             }
-            next -= ((next - 1) % empty + 1).min(next - from - 1);
+            if bound_at(&self.cylinders, next) <= most {
+                return next;
+            }
+            next += 1;
         }
         next
     }

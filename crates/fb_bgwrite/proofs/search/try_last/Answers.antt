@@ -1,28 +1,33 @@
-use Rattle.std.proofs.Common.{◌+◌, inl, inr, arith}
+use Rattle.std.proofs.Common.{◌≤◌, inl, inr, arith}
 use Rattle.std.proofs.lemmas.Bool.{cases_lt}
-use Rattle.fb_wanted.specs.States.{wanted_of}
 use Rattle.fb_bgwrite.specs.declared.choice.Spill.{Spill}
-use Rattle.fb_bgwrite.proofs.Choices.{nothing_beaten}
-use Rattle.fb_bgwrite.proofs.Lengths.{none_short}
+use Rattle.fb_bgwrite.proofs.Lengths.{short_beaten}
 use Rattle.fb_bgwrite.proofs.search.try_last.Goals as goal
 
 pub returns-then-end-part-clause-tried : goal.returns-then-end-part-clause-tried
 returns-then-end-part-clause-tried c = λ track low high leave is.
-    let disk = c.args.disk.now in
-    let gap = c.args.gap.now in
-    let entries = c.args.pending.now in
-    let blocks = c.requires.blocks in
     let short = c.end_short-end in
     let spill : Spill = record { track = track; leave = leave } in
     let few = c.requires.most track (omega (arith, low, short.ensures.after)) high leave is in
-    let none = none_short disk gap entries spill blocks.light (c.min-short.result + 1) short.result c.args.part.end short.ensures.each low high c.args.part.most blocks.on_disk few (omega (arith, c.min-short.ensures)) in
-    nothing_beaten disk gap (wanted_of entries) c.args.start spill c.requires.best none
+    short_beaten c.args.disk.now c.args.gap.now c.args.pending.now c.requires.blocks c.args.start c.requires.best spill c.min-short.result short.result c.args.part.end c.args.part.most short.ensures.each low high few (omega (arith, c.min-short.ensures))
 
-pub try_end-best-requires-clause-most : goal.try_end-best-requires-clause-most
-try_end-best-requires-clause-most c = λ track low high leave is.
+pub returns-then-is_light-clause-tried : goal.returns-then-is_light-clause-tried
+returns-then-is_light-clause-tried c = λ track low high leave is.
+    let short = c.end_short-end in
     let spill : Spill = record { track = track; leave = leave } in
-    let passing = c.most_passing.ensures c.args.pending.now spill c.requires.blocks low high is in
-    let few = c.requires.most track low (omega (arith, high, c.end_short-end.ensures.within)) leave is in
+    elim (cases_lt track.cylinder short.result) [
+      | inl last ↦ c.is_light.ensures c.if-is_light.true c.args.disk.now c.args.gap.now c.requires.blocks track low (omega (arith, last)) leave is
+      | inr behind ↦
+          let few = c.requires.most track (omega (arith, behind, short.ensures.after)) high leave is in
+          short_beaten c.args.disk.now c.args.gap.now c.args.pending.now c.requires.blocks c.args.start c.requires.best spill c.min-short.result short.result c.args.part.end c.args.part.most short.ensures.each behind high few (omega (arith, c.min-short.ensures))
+    ]
+
+pub try_if_short-requires-clause-most : goal.try_if_short-requires-clause-most
+try_if_short-requires-clause-most c = λ track low high leave is.
+    let spill : Spill = record { track = track; leave = leave } in
+    let before : c.args.part.from ≤ track.cylinder = omega (arith, low, c.end_short-end.ensures.after, c.if-end-part.false) in
+    let passing = c.most_passing.ensures c.args.pending.now spill c.requires.blocks before high is in
+    let few = c.requires.most track before (omega (arith, high, c.end_short-end.ensures.within)) leave is in
     omega (arith, passing, few, c.min-most.ensures)
 
 pub returns-clause-most : goal.returns-clause-most
@@ -34,17 +39,12 @@ returns-clause-most c = λ track low high leave is.
 
 pub returns-clause-tried : goal.returns-clause-tried
 returns-clause-tried c = λ track low high leave is.
-    let disk = c.args.disk.now in
-    let gap = c.args.gap.now in
-    let entries = c.args.pending.now in
-    let blocks = c.requires.blocks in
     let short = c.end_short-end in
-    let best = c.try_end-best in
+    let best = c.try_if_short in
     let spill : Spill = record { track = track; leave = leave } in
     elim (cases_lt track.cylinder short.result) [
       | inl last ↦ best.ensures.tried track low last leave is
       | inr behind ↦
           let few = c.requires.most track (omega (arith, behind, short.ensures.after)) high leave is in
-          let none = none_short disk gap entries spill blocks.light (c.min-short.result + 1) short.result c.args.part.end short.ensures.each behind high c.args.part.most blocks.on_disk few (omega (arith, c.min-short.ensures)) in
-          nothing_beaten disk gap (wanted_of entries) best.result spill best.ensures.valued none
+          short_beaten c.args.disk.now c.args.gap.now c.args.pending.now c.requires.blocks best.result best.ensures.valued spill c.min-short.result short.result c.args.part.end c.args.part.most short.ensures.each behind high few (omega (arith, c.min-short.ensures))
     ]

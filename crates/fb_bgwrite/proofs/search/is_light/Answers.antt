@@ -1,0 +1,14 @@
+use Rattle.std.proofs.Common.{◌≤◌, arith}
+use Rattle.fb_wanted.specs.States.{wanted_of}
+use Rattle.fb_bgwrite.specs.declared.choice.Spill.{Spill}
+use Rattle.fb_bgwrite.specs.Spilling.{value}
+use Rattle.fb_bgwrite.proofs.Choices.{by_weight, enough_beats}
+use Rattle.fb_bgwrite.proofs.search.is_light.Goals as goal
+
+pub returns : goal.returns
+returns c = λ yes disk gap blocks track low high leave is.
+    let entries = c.args.pending.now in
+    let spill : Spill = record { track = track; leave = leave } in
+    let weight = c.greatest_weight_in-weight in
+    let few : value disk gap (wanted_of entries) spill ≤ weight.result = omega (arith, by_weight disk gap entries blocks track leave, weight.ensures.each track low high) in
+    enough_beats disk gap (wanted_of entries) c.args.start weight.result c.args.cylinder spill (c.is_enough.ensures yes) few low

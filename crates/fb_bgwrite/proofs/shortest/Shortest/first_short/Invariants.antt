@@ -1,0 +1,13 @@
+use Rattle.std.proofs.Common.{◌-◌, ◌<◌, ◌≤◌, ℕ, get_or}
+use Rattle.fb_bgwrite.proofs.shortest.Shortest.first_short.Given as goal
+
+-- the bounds before this one are greater
+abbrev pub invariant-loop-next : goal.invariant-loop-next
+invariant-loop-next l = record {
+  after : l.from ≤ l.next;
+  within : l.next ≤ l.end;
+  each : (c : ℕ) → l.from ≤ c → c < l.next → l.most < get_or l.self c 2049;
+}
+
+abbrev pub decreases-loop-next : goal.decreases-loop-next
+decreases-loop-next l = l.end - l.next
