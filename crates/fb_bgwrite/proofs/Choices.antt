@@ -20,7 +20,7 @@ use Rattle.fb_bgwrite.specs.declared.choice.Spill.{Spill}
 use Rattle.fb_bgwrite.specs.declared.choice.Valued.{Valued}
 use Rattle.fb_bgwrite.specs.Spilling.{ready, stay_of, value, IsNoLater, IsSpill}
 use Rattle.fb_bgwrite.specs.declared.search.Part.{Part}
-use Rattle.fb_bgwrite.specs.Choosing.{ArePending, Beats, BeatsOn, BeatsRange, IsBestIf, IsEnough, IsLast, IsMost, IsOnly, IsOver, IsShare, IsValuedIf, Keeps}
+use Rattle.fb_bgwrite.specs.Choosing.{ArePending, Beats, BeatsOn, BeatsRange, IsBestIf, IsEnough, IsLast, IsOnly, IsOver, IsShare, IsValuedIf, Keeps}
 use Rattle.fb_bgwrite.proofs.Values.{as_much_by_last, less_before_last, value_stay, AreLight}
 
 before_on : (s t u : Track) → IsTrackBefore s t → IsTrackBefore t u → IsTrackBefore s u
@@ -77,10 +77,6 @@ module _ (disk : Disk) (gap : Gap) (pending : List Block) where
     | inl less ↦ before track low less
     | inr more ↦ after track more high
   ]
-
-  -- a bound holds for some of the cylinders too
-  pub most_inside : (whole part : Part) → IsMost disk gap pending whole → whole.from ≤ part.from → part.end ≤ whole.end → part.most ≡ whole.most → IsMost disk gap pending part
-  most_inside whole part most after inside same track low high leave is = omega (arith, most track (omega (arith, after, low)) (omega (arith, inside, high)) leave is, same)
 
   pub cylinder_done : (best : Option Valued) (cylinder n : ℕ) → disk.map.heads ≤ n → ((head : ℕ) → head < n → BeatsOn disk gap pending best (record { cylinder = cylinder; head = head }))
       → BeatsRange disk gap pending best cylinder (cylinder + 1)

@@ -31,8 +31,8 @@ use fb_wanted::{Entry, TrackBlocks};
 // The most sectors of a block.
 const LONGEST: u32 = 2_048;
 
-// Of a range of more cylinders than these the weights aren't looked at, and the time of a slot is
-// that of a wider range.
+// More cylinders than these aren't tried one after the other. Their weights aren't looked at, and the
+// time of a slot is that of a wider range.
 const WIDE: u32 = 2_048;
 
 // So few cylinders are tried one after the other.

@@ -8,8 +8,8 @@ use std::marker::Model;
 /// More sectors than a block has: the bound where no block is pending.
 pub const NONE: u32 = 2_049;
 
-/// A band has so many cylinders, and a region so many bands.
-pub const WIDTH: u32 = 32;
+// A band has so many cylinders, and a region so many bands.
+const WIDTH: u32 = 32;
 
 // The bound of each cylinder, and of each band and each region one that is no greater than those of
 // its parts.
