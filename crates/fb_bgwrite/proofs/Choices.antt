@@ -94,7 +94,8 @@ module _ (disk : Disk) (gap : Gap) (pending : List Block) where
   ]
 
   -- where no spill writes anything but those of the part, to beat these is to beat all
-  pub beats_all : (best : Option Valued) (from end : ℕ) (part : Part) → IsValuedIf disk gap pending best → IsOnly disk gap pending from end part → BeatsRange disk gap pending best part.from part.end → BeatsRange disk gap pending best from end
+  pub beats_all : (best : Option Valued) (from end : ℕ) (part : Part) → IsValuedIf disk gap pending best → IsOnly disk gap pending from end part
+      → BeatsRange disk gap pending best part.from part.end → BeatsRange disk gap pending best from end
   beats_all best from end part valued only inside track low high leave is =
       let spill : Spill = record { track = track; leave = leave } in
       elim (cases_lt track.cylinder part.from) [

@@ -105,11 +105,14 @@ module _ (disk : Disk) (gap : Gap) (entries : List Entry) (spill : Spill) (light
     none_there on_disk more = elim (none_or_long on_disk) [ inl none ↦ none | inr long ↦ absurd (omega (arith, long.1, more)) ]
 
 -- a spill is beaten where each pending block is longer than what it may write
-pub short_beaten : (disk : Disk) (gap : Gap) (entries : List Entry) → ArePending disk entries → (best : Option Valued) → IsValuedIf disk gap (wanted_of entries) best → (spill : Spill) (short from end most : ℕ)
-    → AreAtLeast from end (short + 1) entries → from ≤ spill.track.cylinder → spill.track.cylinder < end → value disk gap (wanted_of entries) spill ≤ most → min most 2048 ≤ short
+pub short_beaten : (disk : Disk) (gap : Gap) (entries : List Entry) → ArePending disk entries
+    → (best : Option Valued) → IsValuedIf disk gap (wanted_of entries) best → (spill : Spill) (short from end most : ℕ)
+    → AreAtLeast from end (short + 1) entries → from ≤ spill.track.cylinder → spill.track.cylinder < end
+    → value disk gap (wanted_of entries) spill ≤ most → min most 2048 ≤ short
     → Beats disk gap (wanted_of entries) best spill
 short_beaten disk gap entries blocks best valued spill short from end most long low high few less =
-    nothing_beaten disk gap (wanted_of entries) best spill valued (none_short disk gap entries spill blocks.light (short + 1) from end long low high most blocks.on_disk few (omega (arith, less)))
+    let none = none_short disk gap entries spill blocks.light (short + 1) from end long low high most blocks.on_disk few (omega (arith, less)) in
+    nothing_beaten disk gap (wanted_of entries) best spill valued none
 
 -- ---- the bounds of cylinders
 

@@ -84,7 +84,8 @@ IsMost disk gap pending part = (track : Track) → part.from ≤ track.cylinder 
 
 -- on these cylinders no spill writes anything but on those of the part
 abbrev pub IsOnly : Disk → Gap → List Block → ℕ → ℕ → Part → Type 0
-IsOnly disk gap pending from end part = (track : Track) → from ≤ track.cylinder → track.cylinder < end → (track.cylinder < part.from) ⊎ (part.end ≤ track.cylinder) → IsMostOn disk gap pending track 0
+IsOnly disk gap pending from end part = (track : Track) → from ≤ track.cylinder → track.cylinder < end
+    → (track.cylinder < part.from) ⊎ (part.end ≤ track.cylinder) → IsMostOn disk gap pending track 0
 
 -- in any time no more slots pass on a track of these cylinders than it has of these shares, and one
 abbrev pub IsShare : Disk → ℕ → ℕ → ℕ → Type 0

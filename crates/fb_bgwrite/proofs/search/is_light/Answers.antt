@@ -10,5 +10,6 @@ returns c = λ yes disk gap blocks track low high leave is.
     let entries = c.args.pending.now in
     let spill : Spill = record { track = track; leave = leave } in
     let weight = c.greatest_weight_in-weight in
-    let few : value disk gap (wanted_of entries) spill ≤ weight.result = omega (arith, by_weight disk gap entries blocks track leave, weight.ensures.each track low high) in
+    let few : value disk gap (wanted_of entries) spill ≤ weight.result =
+    omega (arith, by_weight disk gap entries blocks track leave, weight.ensures.each track low high) in
     enough_beats disk gap (wanted_of entries) c.args.start weight.result c.args.cylinder spill (c.is_enough.ensures yes) few low

@@ -15,5 +15,6 @@ returns-then-part-shortest_at-clause-tried c = λ track low high leave is.
     let shortest = c.shortest_at in
     let spill : Spill = record { track = track; leave = leave } in
     let few = c.requires.most track low high leave is in
-    let none = too_long_in disk gap entries spill blocks.light shortest.result part.from (part.from + 1) shortest.ensures low (omega (arith, high, c.requires.one)) part.most blocks.on_disk few (omega (arith, c.if-part-shortest_at.true)) in
+    let none = too_long_in disk gap entries spill blocks.light shortest.result part.from (part.from + 1)
+    shortest.ensures low (omega (arith, high, c.requires.one)) part.most blocks.on_disk few (omega (arith, c.if-part-shortest_at.true)) in
     nothing_beaten disk gap (wanted_of entries) c.args.start spill c.requires.best none

@@ -9,17 +9,22 @@ returns-then-end-part-clause-tried c = λ track low high leave is.
     let short = c.end_short-end in
     let spill : Spill = record { track = track; leave = leave } in
     let few = c.requires.most track (omega (arith, low, short.ensures.after)) high leave is in
-    short_beaten c.args.disk.now c.args.gap.now c.args.pending.now c.requires.blocks c.args.start c.requires.best spill c.min-short.result short.result c.args.part.end c.args.part.most short.ensures.each low high few (omega (arith, c.min-short.ensures))
+    short_beaten c.args.disk.now c.args.gap.now c.args.pending.now c.requires.blocks c.args.start c.requires.best spill
+    c.min-short.result short.result c.args.part.end c.args.part.most
+    short.ensures.each low high few (omega (arith, c.min-short.ensures))
 
 pub returns-then-is_light-clause-tried : goal.returns-then-is_light-clause-tried
 returns-then-is_light-clause-tried c = λ track low high leave is.
     let short = c.end_short-end in
     let spill : Spill = record { track = track; leave = leave } in
     elim (cases_lt track.cylinder short.result) [
-      | inl last ↦ c.is_light.ensures c.if-is_light.true c.args.disk.now c.args.gap.now c.requires.blocks track low (omega (arith, last)) leave is
+      | inl last ↦
+          c.is_light.ensures c.if-is_light.true c.args.disk.now c.args.gap.now c.requires.blocks track low (omega (arith, last)) leave is
       | inr behind ↦
           let few = c.requires.most track (omega (arith, behind, short.ensures.after)) high leave is in
-          short_beaten c.args.disk.now c.args.gap.now c.args.pending.now c.requires.blocks c.args.start c.requires.best spill c.min-short.result short.result c.args.part.end c.args.part.most short.ensures.each behind high few (omega (arith, c.min-short.ensures))
+          short_beaten c.args.disk.now c.args.gap.now c.args.pending.now c.requires.blocks c.args.start c.requires.best spill
+          c.min-short.result short.result c.args.part.end c.args.part.most
+          short.ensures.each behind high few (omega (arith, c.min-short.ensures))
     ]
 
 pub try_if_short-requires-clause-most : goal.try_if_short-requires-clause-most
@@ -46,5 +51,7 @@ returns-clause-tried c = λ track low high leave is.
       | inl last ↦ best.ensures.tried track low last leave is
       | inr behind ↦
           let few = c.requires.most track (omega (arith, behind, short.ensures.after)) high leave is in
-          short_beaten c.args.disk.now c.args.gap.now c.args.pending.now c.requires.blocks best.result best.ensures.valued spill c.min-short.result short.result c.args.part.end c.args.part.most short.ensures.each behind high few (omega (arith, c.min-short.ensures))
+          short_beaten c.args.disk.now c.args.gap.now c.args.pending.now c.requires.blocks best.result best.ensures.valued spill
+          c.min-short.result short.result c.args.part.end c.args.part.most
+          short.ensures.each behind high few (omega (arith, c.min-short.ensures))
     ]
