@@ -42,7 +42,8 @@ const FEW: u32 = 32;
 const NEAR: u32 = 1_024;
 
 // The cylinders from one up to another, the least time of a slot there, in ns, an upper bound on what a
-// spill writes on a track there, and whether less than a turn is left beside the moves.
+// spill writes on a track there, and whether less than a turn is left beside the moves, of which the
+// heaviest track may take half.
 #[derive(Clone, Copy)]
 struct Part {
     from: u32,
@@ -237,13 +238,21 @@ fn part_of(disk: &Disk, pending: &Pending, gap: &Gap, from: u32, end: u32, share
     ensures most { IsMost disk.now gap.entry.now (wanted_of pending.now) result }
 {
     let passing = most_passing(disk, gap, from, end, share);
+    let most = unless_lighter(pending, from, end, passing);
     Part {
         from,
         end,
         share,
-        most: unless_lighter(pending, from, end, passing),
-        brief: passing <= disk.map.geometry().rotation() / share,
+        most,
+        brief: is_brief(disk, share, passing, most),
     }
+}
+
+// Whether no more slots pass than in a turn, and the heaviest track may take half of them.
+fn is_brief(disk: &Disk, share: Ns, passing: u64, most: u64) -> bool
+    requires { 0 < share }
+{
+    passing <= disk.map.geometry().rotation() / share && passing / 2 <= most
 }
 
 // Whether the best so far is at least as good as each spill that writes `most` sectors at most, on
