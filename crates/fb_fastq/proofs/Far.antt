@@ -15,7 +15,7 @@ use Rattle.fb_service.specs.Passing.{begin_from}
 use Rattle.fb_model.specs.PlainReplay.{sptf}
 
 -- the arm moves as long as its seek at least
-moves : (arm : Mechanics) (a b : Track) (write : Bool) → seek arm (distance_of a.cylinder b.cylinder) ≤ pos arm a b write
+pub moves : (arm : Mechanics) (a b : Track) (write : Bool) → seek arm (distance_of a.cylinder b.cylinder) ≤ pos arm a b write
 unfolding pos
 moves arm a b write = elim (cases_Bool (same_track a b)) [
   | inl same ↦ let still : distance_of a.cylinder b.cylinder ≡ 0 = grind (arith, nat_tests) in rw (same, still) (omega arith)

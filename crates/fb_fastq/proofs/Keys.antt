@@ -48,3 +48,19 @@ is_before a c d h = grind (arith, nat_tests)
 
 pub before_is : (a c d : ℕ) → c < a → (true && not (is_le (ordering_then (nat_cmp a c) (nat_cmp 0 d)))) ≡ true
 before_is a c d h = grind (arith, nat_tests)
+
+-- numbers from a first one on and before an end
+pub is_within : (a b k : ℕ) → (is_le (nat_cmp a k) && not (is_le (nat_cmp b k))) ≡ true → (a ≤ k) × (k < b)
+is_within a b k h = (grind (arith, nat_tests), grind (arith, nat_tests))
+
+pub within_is : (a b k : ℕ) → a ≤ k → k < b → (is_le (nat_cmp a k) && not (is_le (nat_cmp b k))) ≡ true
+within_is a b k from below = grind (arith, nat_tests)
+
+pub is_under : (b k : ℕ) → (true && not (is_le (nat_cmp b k))) ≡ true → k < b
+is_under b k h = grind (arith, nat_tests)
+
+pub under_is : (b k : ℕ) → k < b → (true && not (is_le (nat_cmp b k))) ≡ true
+under_is b k h = grind (arith, nat_tests)
+
+pub number_follows : (a b : ℕ) → nat_cmp a b ≡ Less → a ≤ b
+number_follows a b h = grind (arith, nat_tests)

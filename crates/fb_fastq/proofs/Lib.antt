@@ -8,7 +8,8 @@ pub mod Visiting
 pub mod Sweeps
 pub mod Walks
 pub mod Breaks
-pub mod ByHead
+pub mod Arriving
 pub mod InRows
+pub mod Outwards
 pub mod OneMore
 pub mod Divided

@@ -32,6 +32,20 @@ write_room : (w : Bool) → (if w then 2 ^ 30 else 0) ≤ 2 ^ 30
 write_room true = omega arith
 write_room false = omega arith
 
+shifted : (b rotation now way : ℕ) → 0 < rotation → (now + way + (b + (rotation - (now + way) % rotation)) % rotation) - now ≡ way + (b + rotation - (now + way) % rotation) % rotation
+shifted b rotation now way some =
+    let at = (now + way) % rotation in
+    let under : at < rotation = mod-lt (now + way) some in
+    let sum : b + (rotation - at) ≡ b + rotation - at = omega arith in
+    ap (λ x. (now + way + x % rotation) - now) sum ∙ omega arith
+
+-- the wait is the way to the request's track, and the platter's turn from there to its first sector
+pub waits_turn : (disk : Disk) (r : Request) (head : Track) (now : ℕ)
+    → sptf disk head now r ≡ pos disk.mechanism head (track_at disk.map r.lbn) r.write
+    + turn disk.map.rotation ((now + pos disk.mechanism head (track_at disk.map r.lbn) r.write) % disk.map.rotation) (begin_angle disk.map (place_at disk.map r.lbn))
+unfolding begin_from
+waits_turn disk r head now = shifted (begin_angle disk.map (place_at disk.map r.lbn)) disk.map.rotation now (pos disk.mechanism head (track_at disk.map r.lbn) r.write) disk.some_rotation
+
 module _ (disk : Disk) (r : Request) (spot : ℕ) (along : IsAlong disk r spot) where
   -- the spots of a cylinder
   pub on_cylinder : ((track_at disk.map r.lbn).cylinder * 2 ^ 37 ≤ spot) × (spot < (track_at disk.map r.lbn).cylinder * 2 ^ 37 + 2 ^ 37)
@@ -60,19 +74,10 @@ module _ (disk : Disk) (r : Request) (spot : ℕ) (along : IsAlong disk r spot) 
     -- the wait is the way to the lane, and the platter's turn from there to the spot
     pub waits_on_lane : (head : Track) (now : ℕ) → track_at disk.map r.lbn ≡ lane.track → r.write ≡ lane.write
         → sptf disk head now r ≡ pos disk.mechanism head lane.track lane.write + turn disk.map.rotation ((now + pos disk.mechanism head lane.track lane.write) % disk.map.rotation) (spot - lane.start)
-    unfolding begin_from
     waits_on_lane head now track write =
         let rotation = disk.map.rotation in
         let b = begin_angle disk.map (place_at disk.map r.lbn) in
         let way = pos disk.mechanism head lane.track lane.write in
         let same : pos disk.mechanism head (track_at disk.map r.lbn) r.write ≡ way = ap (λ t. pos disk.mechanism head t r.write) track ∙ ap (pos disk.mechanism head lane.track) write in
         let begin : spot - lane.start ≡ b = (let at = (begins track write).0 in omega (arith, at)) in
-        ap (λ x. (now + x + (b + (rotation - (now + x) % rotation)) % rotation) - now) same
-        ∙ (shifted b rotation now way disk.some_rotation ∙ ap (λ x. way + turn rotation ((now + way) % rotation) x) (sym begin))
-      where
-        shifted : (b rotation now way : ℕ) → 0 < rotation → (now + way + (b + (rotation - (now + way) % rotation)) % rotation) - now ≡ way + (b + rotation - (now + way) % rotation) % rotation
-        shifted b rotation now way some =
-            let at = (now + way) % rotation in
-            let under : at < rotation = mod-lt (now + way) some in
-            let sum : b + (rotation - at) ≡ b + rotation - at = omega arith in
-            ap (λ x. (now + way + x % rotation) - now) sum ∙ omega arith
+        waits_turn disk r head now ∙ (ap (λ x. x + turn rotation ((now + x) % rotation) b) same ∙ ap (λ x. way + turn rotation ((now + way) % rotation) x) (sym begin))

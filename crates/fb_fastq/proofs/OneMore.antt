@@ -1,20 +1,22 @@
 -- One request more, or less, among those that wait.
-use Rattle.std.proofs.Common.{◌≡◌, ◌≢◌, ℕ, zero, suc, ◌+◌, ◌<◌, ◌≤◌, List, [], ◌∷◌, ◌++◌, map, refl, sym, ap, subst, ◌∙◌, arith, inl, inr, ◌⊎◌, Some, append_assoc, append-nil, slice_get, length, take, drop, set, Option, None, IfSome, IsSome, Result, Ok, Err, OnErr}
-use Rattle.std.specs.Prelude.{remove, option_and_then}
+use Rattle.std.proofs.Common.{◌≡◌, ◌≢◌, ℕ, zero, suc, ◌+◌, ◌<◌, ◌≤◌, List, [], ◌∷◌, ◌++◌, map, refl, sym, ap, subst, ◌∙◌, arith, inl, inr, ◌⊎◌, Some, append_assoc, append-nil, slice_get, length, take, drop, set, Option, None, IfSome, IsSome, Result, Ok, Err, OnErr, Bool, true, false}
+use Rattle.std.specs.Prelude.{remove, option_and_then, cond}
 use Rattle.std.specs.List.{AllByRecursion}
-use Rattle.std.specs.Ordering.{match_ordering}
+use Rattle.std.specs.Ordering.{match_ordering, nat_cmp}
 use Rattle.std.specs.declared.cmp.Ordering.{Ordering}
 use Rattle.std.specs.declared.cmp.Ordering.TheVariants.{Less, Equal, Greater}
 use Rattle.std.specs.BTreeMap.{insert_entry, is_at}
+use Rattle.std.specs.BTreeSet.{BTreeSet, contains}
 use Rattle.std.specs.Map.{remove_entry}
-use Rattle.std.proofs.lemmas.Bool.{true≢false}
+use Rattle.std.proofs.lemmas.Bool.{true≢false, cases_Bool}
+use Rattle.std.proofs.lemmas.Bool.Decides.{nat_tests}
 use Rattle.std.proofs.lemmas.Option.{slice_get_within}
 use Rattle.fb_units.specs.declared.types.Request.{Request}
 use Rattle.fb_model.specs.PlainReplay.{first_least}
 use Rattle.fb_fastq.specs.Joining.{order, Waiting, number_of, join_in, in_order, pending_of, AreNumbered, IsIndex, IsFirst}
 use Rattle.fb_fastq.specs.declared.rows.Place.{Place}
 use Rattle.fb_fastq.specs.More.{IsMore}
-use Rattle.fb_fastq.specs.ByCylinder.{Row, all_of_rows, at_place, IsOnCylinder, AreRows}
+use Rattle.fb_fastq.specs.ByCylinder.{Row, all_of_rows, at_place, IsOnCylinder, AreRows, AreOccupied}
 use Rattle.fb_fastq.proofs.Keys.{same_number, here_equal, same_key}
 use Rattle.fb_fastq.proofs.Joins.{all_in_order, joins_last, join_before_last, map_last}
 use Rattle.fb_fastq.proofs.Least.{IsIn, all_of, without, without_joined, without_other, in_order_rising, least_rising, in_in_order, some_injective}
@@ -243,3 +245,60 @@ no_more (x ∷ rows) new none = ap (λ ws. x.items ++ ws) (no_more rows new none
 pub no_more_rows : (cylinder : ℕ) (rows : List Row) (new : Row) → new.items ≡ [] → AreRows cylinder rows → AreRows cylinder (rows ++ new ∷ [])
 no_more_rows cylinder [] new none h = (subst (AllByRecursion (λ (w : Waiting). IsOnCylinder cylinder w.0.0)) (sym none) tt, tt)
 no_more_rows cylinder (x ∷ rows) new none h = (h.0, no_more_rows (cylinder + 1) rows new none h.1)
+
+-- a row of rows of which one is new
+set_get : (rows : List Row) (i k : ℕ) (new row : Row) → slice_get (set rows i new) k ≡ Some row → ((k ≡ i) × (row ≡ new)) ⊎ (slice_get rows k ≡ Some row)
+set_get [] i k new row e = inr e
+set_get (x ∷ rows) zero zero new row e = inl (refl, sym (same_row new row e))
+set_get (x ∷ rows) zero (suc k) new row e = inr e
+set_get (x ∷ rows) (suc i) zero new row e = inr e
+set_get (x ∷ rows) (suc i) (suc k) new row e = elim (set_get rows i k new row e) [ inl one ↦ inl (ap suc one.0, one.1) | inr other ↦ inr other ]
+
+end_get : (rows : List Row) (k : ℕ) (new row : Row) → slice_get (rows ++ new ∷ []) k ≡ Some row → (row ≡ new) ⊎ (slice_get rows k ≡ Some row)
+end_get [] zero new row e = inl (sym (same_row new row e))
+end_get [] (suc k) new row e = absurd (none_row row e)
+end_get (x ∷ rows) zero new row e = inr e
+end_get (x ∷ rows) (suc k) new row e = end_get rows k new row e
+
+-- the rows that have requests
+pub occupied_set : (occupied : BTreeSet ℕ) (rows : List Row) (i : ℕ) (new : Row) → (0 < length new.items → contains nat_cmp occupied i ≡ true) → AreOccupied occupied rows → AreOccupied occupied (set rows i new)
+occupied_set occupied rows i new own are = λ k row there some. elim (set_get rows i k new row there) [
+  | inl one ↦ subst (λ n. contains nat_cmp occupied n ≡ true) (sym one.0) (own (subst (λ (r : Row). 0 < length r.items) one.1 some))
+  | inr other ↦ are k row other some
+]
+
+pub occupied_end : (occupied : BTreeSet ℕ) (rows : List Row) (new : Row) → new.items ≡ [] → AreOccupied occupied rows → AreOccupied occupied (rows ++ new ∷ [])
+occupied_end occupied rows new none are = λ k row there some. elim (end_get rows k new row there) [
+  | inl one ↦ absurd (let any : 0 < length new.items = subst (λ (r : Row). 0 < length r.items) one some in let empty = ap length none in omega (arith, any, empty))
+  | inr other ↦ are k row other some
+]
+
+pub occupied_less : (occupied less : BTreeSet ℕ) (rows : List Row) (i : ℕ) (new : Row) → new.items ≡ [] → ((k : ℕ) → is_at (nat_cmp i) k ≡ false → contains nat_cmp less k ≡ contains nat_cmp occupied k)
+    → AreOccupied occupied rows → AreOccupied less (set rows i new)
+occupied_less occupied less rows i new none kept are = λ k row there some. elim (set_get rows i k new row there) [
+  | inl one ↦ absurd (let any : 0 < length new.items = subst (λ (r : Row). 0 < length r.items) one.1 some in let empty = ap length none in omega (arith, any, empty))
+  | inr other ↦ elim (cases_Bool (is_at (nat_cmp i) k)) [
+    | inl here ↦ absurd (let same : i ≡ k = grind (arith, nat_tests) in
+        let at : slice_get (set rows i new) i ≡ Some row = subst (λ n. slice_get (set rows i new) n ≡ Some row) (sym same) there in
+        let any : 0 < length new.items = subst (λ (r : Row). 0 < length r.items) (set_here rows i new row at) some in let empty = ap length none in omega (arith, any, empty))
+    | inr apart ↦ kept k apart ∙ are k row other some
+  ]
+]
+  where
+    set_here : (xs : List Row) (n : ℕ) (a b : Row) → slice_get (set xs n a) n ≡ Some b → b ≡ a
+    set_here [] n a b e = absurd (none_row b e)
+    set_here (x ∷ xs) zero a b e = sym (same_row a b e)
+    set_here (x ∷ xs) (suc n) a b e = set_here xs n a b e
+
+pub occupied_more : (occupied more : BTreeSet ℕ) (rows : List Row) (i : ℕ) → ((k : ℕ) → contains nat_cmp more k ≡ cond (is_at (nat_cmp i) k) true (contains nat_cmp occupied k)) → AreOccupied occupied rows → AreOccupied more rows
+occupied_more occupied more rows i kept are = λ k row there some. kept k ∙ still (is_at (nat_cmp i) k) (contains nat_cmp occupied k) (are k row there some)
+  where
+    still : (here old : Bool) → old ≡ true → cond here true old ≡ true
+    still true old h = refl
+    still false old h = h
+
+-- what is left of a row that had any
+pub some_removed : (ws : List Waiting) (k : ℕ) → 0 < length (remove ws k) → 0 < length ws
+some_removed [] zero h = h
+some_removed [] (suc k) h = h
+some_removed (w ∷ ws) k h = omega arith

@@ -1,7 +1,7 @@
 -- The turns of the spots of a ring.
-use Rattle.std.proofs.Common.{◌≡◌, ℕ, ◌+◌, ◌-◌, ◌%◌, ◌<◌, ◌≤◌, arith, inl, inr, ap, ◌∙◌, IfSome, Option, Some, None}
+use Rattle.std.proofs.Common.{◌≡◌, ℕ, ◌+◌, ◌-◌, ◌%◌, ◌<◌, ◌≤◌, arith, inl, inr, ap, sym, ◌∙◌, IfSome, Option, Some, None}
 use Rattle.std.proofs.lemmas.Bool.{cases_lt}
-use Rattle.std.proofs.Math.Nat.{add-mod_left, mod-eq_of_lt, mod-add-mod}
+use Rattle.std.proofs.Math.Nat.{add-mod_left, mod-eq_of_lt, mod-add-mod, mod-le, mod-lt}
 use Rattle.std.specs.BTreeMap.{BTreeMap}
 use Rattle.fb_units.specs.declared.types.Request.{Request}
 use Rattle.fb_fastq.specs.Joining.{Waits, IsNoLater}
@@ -19,6 +19,41 @@ ahead c h n le lt =
 
 pub round : (c h n : ℕ) → c < h → h < n → (c + n - h) % n ≡ c + n - h
 round c h n lt below = let small : c + n - h < n = omega arith in mod-eq_of_lt small
+
+-- the platter stands at a spot when it has turned to it
+turned_to : (n h b : ℕ) → h < n → b < n → (h + turn n h b) % n ≡ b
+turned_to n h b on_h on_b = elim (cases_lt b h) [
+  | inl behind ↦
+      let sum : h + turn n h b ≡ n + b = (let turns = round b h n behind on_h in omega (arith, turns, on_h)) in
+      ap (λ x. x % n) sum ∙ (add-mod_left n b ∙ mod-eq_of_lt on_b)
+  | inr front ↦
+      let sum : h + turn n h b ≡ b = (let turns = ahead b h n front on_b in omega (arith, turns, front)) in
+      ap (λ x. x % n) sum ∙ mod-eq_of_lt on_b
+]
+
+-- and turns to it no later than by any other time after which it stands there
+turns_first : (n h b x : ℕ) → h < n → (h + x) % n ≡ b → turn n h b ≤ x
+turns_first n h b x on_h there =
+    let sum : h + x + (n - h) ≡ n + x = omega arith in
+    let put : b + n - h ≡ b + (n - h) = omega (arith, on_h) in
+    let is : turn n h b ≡ x % n =
+    ap (λ s. s % n) put ∙ (ap (λ s. (s + (n - h)) % n) (sym there) ∙ (mod-add-mod (h + x) n (n - h) ∙ (ap (λ s. s % n) sum ∙ add-mod_left n x))) in
+    let le = mod-le x n in omega (arith, is, le)
+
+-- who comes later sees no spot sooner
+pub no_sooner : (n now early late b : ℕ) → 0 < n → b < n → early ≤ late → early + turn n ((now + early) % n) b ≤ late + turn n ((now + late) % n) b
+no_sooner n now early late b some on_b le =
+    let h = (now + early) % n in
+    let later = (now + late) % n in
+    let on_h : h < n = mod-lt (now + early) some in
+    let on_later : later < n = mod-lt (now + late) some in
+    let rest = turn n later b in
+    let gap : now + early + (late - early) ≡ now + late = omega (arith, le) in
+    let sum : h + (late - early + rest) ≡ h + (late - early) + rest = omega arith in
+    let at : (h + (late - early)) % n ≡ later = mod-add-mod (now + early) n (late - early) ∙ ap (λ s. s % n) gap in
+    let there : (h + (late - early + rest)) % n ≡ b =
+    ap (λ s. s % n) sum ∙ (sym (mod-add-mod (h + (late - early)) n rest) ∙ (ap (λ s. (s + rest) % n) at ∙ turned_to n later b on_later on_b)) in
+    let first = turns_first n h b (late - early + rest) on_h there in omega (arith, first, le)
 
 -- the least spot from the first one on comes first
 onwards_ahead : (h a b n : ℕ) → a < n → b < n → h < n → h ≤ a → (h ≤ b → a ≤ b) → (a + n - h) % n ≤ (b + n - h) % n

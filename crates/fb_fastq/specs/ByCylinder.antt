@@ -1,18 +1,19 @@
 -- Requests that wait in a row for each cylinder.
-use Rattle.std.specs.Prelude.{◌≡◌, ℕ, ◌+◌, ◌*◌, ◌<◌, ◌≤◌, ◌^◌, List, [], ◌∷◌, ◌++◌, true, false, Option, Some, flat_map, length, slice_get, option_and_then, Vec, Bool, ◌==◌, MatchOption}
+use Rattle.std.specs.Prelude.{◌≡◌, ℕ, ◌+◌, ◌*◌, ◌<◌, ◌≤◌, ◌^◌, List, [], ◌∷◌, ◌++◌, ◌%◌, true, Option, Some, flat_map, length, slice_get, option_and_then, Vec, MatchOption}
 use Rattle.std.specs.List.{AllByRecursion}
+use Rattle.std.specs.Ordering.{nat_cmp}
+use Rattle.std.specs.BTreeSet.{BTreeSet, contains}
 use Rattle.std.specs.declared.alloc.Global.{Global}
 use Rattle.fb_units.specs.declared.types.Track.{Track}
 use Rattle.fb_service.specs.declared.disk.Disk.{Disk}
 use Rattle.fb_service.specs.declared.approach.Departure.{Departure}
+use Rattle.fb_seek.specs.Positioning.{seek, distance_of}
 use Rattle.fb_model.specs.PlainReplay.{sptf}
 use Rattle.fb_fastq.specs.declared.soonest.Candidate.{Candidate}
-use Rattle.fb_fastq.specs.declared.visit.Visit.{Visit}
-use Rattle.fb_fastq.specs.declared.ways.Ways.{Ways}
+use Rattle.fb_fastq.specs.declared.arrival.Arrival.{Arrival}
 use Rattle.fb_fastq.specs.declared.rows.Place.{Place}
 use Rattle.fb_fastq.specs.declared.rows.Pick.{Pick}
 use Rattle.fb_fastq.specs.Joining.{Waiting, IsIndex}
-use Rattle.fb_fastq.specs.Visits.{IsVisit}
 use Rattle.fb_fastq.specs.Candidates.{IsBefore, Beats}
 
 -- the requests of a cylinder
@@ -36,26 +37,21 @@ abbrev pub AreRows : ℕ → List Row → Type 0
 AreRows cylinder [] = Unit {0}
 AreRows cylinder (row ∷ rows) = AllByRecursion (λ w. IsOnCylinder cylinder w.0.0) row.items × AreRows (cylinder + 1) rows
 
--- the visit to a track of this cylinder, under the same head or another, for reads or for writes
-pub record IsWay (disk : Disk) (from : Departure) (cylinder : ℕ) (own write : Bool) (visit : Visit) : Type 0 where
-  pub is_visit : IsVisit disk from visit
-  pub on : visit.lane.track.cylinder ≡ cylinder
-  pub under : (from.track.head == visit.lane.track.head) ≡ own
-  pub for_writes : visit.lane.write ≡ write
+-- a set of cylinders
+abbrev pub Numbers : Type 0
+Numbers = BTreeSet ℕ
 
--- the four ways to a cylinder
-pub record IsWays (disk : Disk) (from : Departure) (ways : Ways) : Type 0 where
-  pub own_read : IsWay disk from ways.cylinder true false ways.own_read
-  pub own_write : IsWay disk from ways.cylinder true true ways.own_write
-  pub other_read : IsWay disk from ways.cylinder false false ways.other_read
-  pub other_write : IsWay disk from ways.cylinder false true ways.other_write
+-- each row that has requests is one of these
+abbrev pub AreOccupied : Numbers → List Row → Type 0
+AreOccupied occupied rows = (i : ℕ) (row : Row) → slice_get rows i ≡ Some row → 0 < length row.items → contains nat_cmp occupied i ≡ true
 
--- the way under the same head or another, for reads or for writes
-abbrev pub way_of : Ways → Bool → Bool → Visit
-way_of ways true true = ways.own_write
-way_of ways true false = ways.own_read
-way_of ways false true = ways.other_write
-way_of ways false false = ways.other_read
+-- the seek's time from the departure to the cylinder, and the angle of the platter when the arm has come there
+pub record IsArrival (disk : Disk) (from : Departure) (arrival : Arrival) : Type 0 where
+  pub seek_is : arrival.seek ≡ seek disk.mechanism (distance_of from.track.cylinder arrival.cylinder)
+  pub short : arrival.seek ≤ 10 ^ 9
+  pub angle_is : arrival.angle ≡ (from.instant + arrival.seek) % disk.map.rotation
+  pub turned : arrival.angle < disk.map.rotation
+  pub rotation_is : arrival.rotation ≡ disk.map.rotation
 
 -- the candidate is the request at a place
 pub record IsAt (disk : Disk) (head : Track) (now : ℕ) (rows : List Row) (place : Place) (candidate : Candidate) : Type 0 where

@@ -3,6 +3,7 @@ ghost use Rattle.std.specs.Prelude.{◌≡◌, ◌+◌, ◌*◌, ◌<◌, ◌≤
 ghost use Rattle.fb_geometry.specs.Shape.{cylinders_of};
 ghost use Rattle.fb_model.specs.Accepted.{IsRequestOf};
 ghost use Rattle.fb_fastq.specs.Lanes.{IsLane, IsAlong};
+ghost use Rattle.fb_fastq.specs.ByCylinder.{IsOnCylinder};
 
 use fb_service::Disk;
 use fb_units::{Ns, Request, Track};
@@ -81,6 +82,15 @@ pub fn lane_around(disk: &Disk, spot: Ns) -> Lane
         write: number % 2 == 1,
         start: spot - along % LANE,
     }
+}
+
+/// The cylinder in whose room a spot lies.
+pub fn cylinder_around(disk: &Disk, spot: Ns) -> u32
+    requires { spot < cylinders_of disk.now.map.zones * 2 ^ 37 }
+    ensures { IsOnCylinder result spot }
+{
+    few_tracks(disk);
+    (spot / CYLINDER) as u32
 }
 
 /// Where a request's first sector begins along all lanes laid end to end, in ns.

@@ -15,6 +15,7 @@
 //! lane the next request from the angle of arrival on is found by a search.
 #![tactic(auto)]
 
+mod arrival;
 mod choice;
 mod cylinders;
 mod index;
@@ -27,7 +28,6 @@ mod soonest;
 mod sptf;
 mod upwards;
 mod visit;
-mod ways;
 
 pub use choice::Choice;
 pub use indexed::Indexed;

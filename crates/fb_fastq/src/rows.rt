@@ -1,26 +1,27 @@
 // Requests that wait in a row for each cylinder.
-ghost use Rattle.std.specs.Prelude.{◌≡◌, ◌⊎◌, ℕ, ◌+◌, ◌*◌, ◌<◌, ◌≤◌, ◌^◌, List, Some, length, slice_get, IfNone, IfSome, IsSome, OnOk, OnErr};
+ghost use Rattle.std.specs.Prelude.{◌≡◌, ◌⊎◌, ℕ, ◌<◌, ◌≤◌, Some, true, length, slice_get, IfSome, IsSome, OnOk, OnErr};
 ghost use Rattle.std.specs.List.{AllByRecursion};
-ghost use Rattle.fb_seek.specs.Positioning.{seek, distance_of};
+ghost use Rattle.std.specs.Ordering.{nat_cmp};
+ghost use Rattle.std.specs.BTreeSet.{contains};
 ghost use Rattle.fb_service.specs.Approaching.{IsDeparture};
 ghost use Rattle.fb_fastq.specs.declared.soonest.Candidate.{Candidate};
 ghost use Rattle.fb_fastq.specs.Joining.{Waiting};
 ghost use Rattle.fb_fastq.specs.Lanes.{IsAlong};
 ghost use Rattle.fb_fastq.specs.Candidates.{IsBefore};
 ghost use Rattle.fb_fastq.specs.More.{IsMore};
-ghost use Rattle.fb_fastq.specs.ByCylinder.{Row, all_of_rows, at_place, IsOnCylinder, AreRows, IsWays, IsPick, SettlesAll};
+ghost use Rattle.fb_fastq.specs.ByCylinder.{Row, all_of_rows, at_place, IsOnCylinder, AreRows, AreOccupied, IsArrival, IsPick, SettlesAll, Numbers};
 
-use crate::lanes::few_tracks;
+use crate::arrival::{Arrival, arrival_at};
 use crate::soonest::Candidate;
-use crate::ways::{Ways, ways_to};
 use fb_service::{Departure, Disk};
-use fb_units::{NoMemory, Ns, Request};
+use fb_units::{NoMemory, Request};
 use std::alloc::Global;
+use std::collections::BTreeSet;
 
 /// Where a request stands among the rows.
 #[derive(Clone, Copy)]
 pub struct Place {
-    pub row: usize,
+    pub row: u32,
     pub index: usize,
 }
 
@@ -49,126 +50,127 @@ fn sooner(pick: Pick, next: Candidate, place: Place) -> Pick
     }
 }
 
-// The soonest of what is picked and the requests of a row.
+// The soonest of what is picked and the requests of a cylinder at which the head arrives.
 fn soonest_of_row(
     rows: &[Vec<((u64, u64), Request)>],
-    number: usize,
     disk: &Disk,
     from: &Departure,
-    ways: &Ways,
+    arrival: &Arrival,
     pick: Pick,
 ) -> Pick
-    requires there { number < length rows.now }
     requires rows { AreRows 0 rows.now }
     requires spots { AllByRecursion (λ w. IsAlong disk.now w.1 w.0.0) (all_of_rows rows.now) }
-    requires ways { IsWays disk.now from.now ways.now }
-    requires cylinder { ways.now.cylinder ≡ number }
+    requires from { IsDeparture disk.now from.now }
+    requires arrival { IsArrival disk.now from.now arrival.now }
     ensures pick { (limit : Candidate) → IsPick disk.now from.now.track from.now.instant rows.now limit pick → IsPick disk.now from.now.track from.now.instant rows.now limit result }
     ensures first { IsBefore result.best pick.best }
-    ensures least { (row : Row) → slice_get rows.now number ≡ Some row → SettlesAll disk.now from.now.track from.now.instant result.best row.items }
+    ensures least { (row : Row) → slice_get rows.now arrival.now.cylinder ≡ Some row → SettlesAll disk.now from.now.track from.now.instant result.best row.items }
 {
+    let number = arrival.cylinder as usize;
+    if rows.len() <= number {
+        return pick;
+    }
     let row = rows[number].as_slice();
     let mut pick = pick;
     for index in 0..row.len() {
         let waiting = &row[index];
-        let wait = ways.wait(disk, from, waiting);
+        if pick.best.wait < arrival.least_wait(disk, from, waiting) {
+            continue;
+        }
+        let wait = arrival.wait(disk, from, waiting);
         let next = Candidate {
             key: waiting.0,
             wait,
         };
-        let place = Place { row: number, index };
+        let place = Place {
+            row: arrival.cylinder,
+            index,
+        };
         pick = sooner(pick, next, place);
     }
     pick
 }
 
-// The soonest of what is picked and the requests of a cylinder, to which the seek takes so long.
-fn soonest_of_cylinder(
+// The soonest of what is picked and the requests of the head's cylinder and of those above.
+fn walk_up(
     rows: &[Vec<((u64, u64), Request)>],
-    cylinder: u32,
+    occupied: &BTreeSet<u32>,
     disk: &Disk,
     from: &Departure,
-    time: Ns,
     pick: Pick,
 ) -> Pick
     requires rows { AreRows 0 rows.now }
     requires spots { AllByRecursion (λ w. IsAlong disk.now w.1 w.0.0) (all_of_rows rows.now) }
+    requires occupied { AreOccupied occupied.now rows.now }
     requires from { IsDeparture disk.now from.now }
-    requires seek { time ≡ seek disk.now.mechanism (distance_of from.now.track.cylinder cylinder) }
-    requires short { time ≤ 10 ^ 9 }
     ensures pick { (limit : Candidate) → IsPick disk.now from.now.track from.now.instant rows.now limit pick → IsPick disk.now from.now.track from.now.instant rows.now limit result }
     ensures first { IsBefore result.best pick.best }
-    ensures least { (row : Row) → slice_get rows.now cylinder ≡ Some row → SettlesAll disk.now from.now.track from.now.instant result.best row.items }
+    ensures least { (i : ℕ) (row : Row) → slice_get rows.now i ≡ Some row → from.now.track.cylinder ≤ i → SettlesAll disk.now from.now.track from.now.instant result.best row.items }
 {
-    let number = cylinder as usize;
-    if rows.len() <= number || rows[number].as_slice().is_empty() {
-        return pick;
+    let end = disk.map.geometry().cylinders();
+    let mut pick = pick;
+    disk.mechanism.seeks_rise();
+    for cylinder in occupied.range(from.track.cylinder..end) {
+        let arrival = arrival_at(disk, from, *cylinder);
+        if pick.best.wait < arrival.seek {
+            return pick;
+        }
+        pick = soonest_of_row(rows, disk, from, &arrival, pick);
     }
-    let ways = ways_to(disk, from, cylinder, time);
-    soonest_of_row(rows, number, disk, from, &ways, pick)
+    pick
 }
 
-// The soonest of what is picked and the requests of the two cylinders at a distance, to which the seek takes so long.
-fn soonest_at(
+// The soonest of what is picked and the requests of the cylinders below the head's.
+fn walk_down(
     rows: &[Vec<((u64, u64), Request)>],
-    distance: u32,
+    occupied: &BTreeSet<u32>,
     disk: &Disk,
     from: &Departure,
-    time: Ns,
     pick: Pick,
 ) -> Pick
     requires rows { AreRows 0 rows.now }
     requires spots { AllByRecursion (λ w. IsAlong disk.now w.1 w.0.0) (all_of_rows rows.now) }
+    requires occupied { AreOccupied occupied.now rows.now }
     requires from { IsDeparture disk.now from.now }
-    requires distance { distance < 10 ^ 6 }
-    requires seek { time ≡ seek disk.now.mechanism distance }
-    requires short { time ≤ 10 ^ 9 }
     ensures pick { (limit : Candidate) → IsPick disk.now from.now.track from.now.instant rows.now limit pick → IsPick disk.now from.now.track from.now.instant rows.now limit result }
     ensures first { IsBefore result.best pick.best }
-    ensures least { (i : ℕ) (row : Row) → slice_get rows.now i ≡ Some row → distance_of from.now.track.cylinder i ≡ distance → SettlesAll disk.now from.now.track from.now.instant result.best row.items }
+    ensures least { (i : ℕ) (row : Row) → slice_get rows.now i ≡ Some row → i < from.now.track.cylinder → SettlesAll disk.now from.now.track from.now.instant result.best row.items }
 {
-    few_tracks(disk);
-    let head = from.track.cylinder;
-    let above = soonest_of_cylinder(rows, head + distance, disk, from, time, pick);
-    if distance == 0 || head < distance {
-        return above;
+    let mut pick = pick;
+    disk.mechanism.seeks_rise();
+    for cylinder in occupied.range(..from.track.cylinder).rev() {
+        let arrival = arrival_at(disk, from, *cylinder);
+        if pick.best.wait < arrival.seek {
+            return pick;
+        }
+        pick = soonest_of_row(rows, disk, from, &arrival, pick);
     }
-    soonest_of_cylinder(rows, head - distance, disk, from, time, above)
+    pick
 }
 
-/// The soonest of the requests of all rows, of which there are so many, and a limit.
+/// The soonest of the requests of all rows, and a limit.
 ///
 /// Of two with the same wait it is the one that joined first.
 pub fn soonest_in_rows(
     rows: &[Vec<((u64, u64), Request)>],
+    occupied: &BTreeSet<u32>,
     disk: &Disk,
     from: &Departure,
     limit: Candidate,
-    count: u64,
 ) -> Pick
     requires rows { AreRows 0 rows.now }
     requires spots { AllByRecursion (λ w. IsAlong disk.now w.1 w.0.0) (all_of_rows rows.now) }
+    requires occupied { AreOccupied occupied.now rows.now }
     requires from { IsDeparture disk.now from.now }
-    requires count { count ≡ length (all_of_rows rows.now) }
     ensures pick { IsPick disk.now from.now.track from.now.instant rows.now limit result }
     ensures least { SettlesAll disk.now from.now.track from.now.instant result.best (all_of_rows rows.now) }
 {
-    let mut pick = Pick {
+    let pick = Pick {
         best: limit,
         place: None,
     };
-    if count == 0 {
-        return pick;
-    }
-    disk.mechanism.seeks_rise();
-    for distance in 0..disk.map.geometry().cylinders() {
-        let time = disk.mechanism.seek(distance);
-        if pick.best.wait < time {
-            return pick;
-        }
-        pick = soonest_at(rows, distance, disk, from, time, pick);
-    }
-    pick
+    let above = walk_up(rows, occupied, disk, from, pick);
+    walk_down(rows, occupied, disk, from, above)
 }
 
 /// Makes rows, up to this one.
@@ -177,13 +179,14 @@ pub fn soonest_in_rows(
 pub fn reach(
     alloc: Global,
     rows: &mut Vec<Vec<((u64, u64), Request)>>,
-    number: usize,
+    number: u32,
 ) -> Result<(), NoMemory>
     ensures same { all_of_rows rows.new.items ≡ all_of_rows rows.old.items }
     ensures rows { AreRows 0 rows.old.items → AreRows 0 rows.new.items }
     ensures long { OnOk result (number < length rows.new.items) }
+    ensures occupied { (occupied : Numbers) → AreOccupied occupied rows.old.items → AreOccupied occupied rows.new.items }
 {
-    while rows.len() <= number {
+    while rows.len() <= number as usize {
         rows.push(Vec::new(alloc))?;
     }
     Ok(())
@@ -194,7 +197,7 @@ pub fn reach(
 /// The only error is out of memory, after which the same requests wait.
 pub fn put(
     rows: &mut Vec<Vec<((u64, u64), Request)>>,
-    number: usize,
+    number: u32,
     waiting: ((u64, u64), Request),
 ) -> Result<(), NoMemory>
     requires there { number < length rows.old.items }
@@ -202,8 +205,9 @@ pub fn put(
     ensures more { OnOk result (IsMore waiting (all_of_rows rows.old.items) (all_of_rows rows.new.items)) }
     ensures err { OnErr result (all_of_rows rows.new.items ≡ all_of_rows rows.old.items) }
     ensures rows { AreRows 0 rows.old.items → AreRows 0 rows.new.items }
+    ensures occupied { (occupied : Numbers) → contains nat_cmp occupied number ≡ true → AreOccupied occupied rows.old.items → AreOccupied occupied rows.new.items }
 {
-    rows[number].push(waiting)?;
+    rows[number as usize].push(waiting)?;
     Ok(())
 }
 
@@ -213,6 +217,27 @@ pub fn take_from(rows: &mut Vec<Vec<((u64, u64), Request)>>, place: Place) -> Re
     ensures value { IfSome (at_place rows.old.items place) (λ w. result ≡ w.1) }
     ensures less { IfSome (at_place rows.old.items place) (λ w. IsMore w (all_of_rows rows.new.items) (all_of_rows rows.old.items)) }
     ensures rows { AreRows 0 rows.old.items → AreRows 0 rows.new.items }
+    ensures there { place.row < length rows.new.items }
+    ensures occupied { (occupied : Numbers) → AreOccupied occupied rows.old.items → AreOccupied occupied rows.new.items }
 {
-    rows[place.row].remove(place.index).1
+    rows[place.row as usize].remove(place.index).1
+}
+
+/// Lets go of a row's memory if the row has no request, and of its number.
+pub fn leave_if_empty(
+    alloc: Global,
+    rows: &mut Vec<Vec<((u64, u64), Request)>>,
+    occupied: &mut BTreeSet<u32>,
+    number: u32,
+)
+    requires there { number < length rows.old.items }
+    ensures same { all_of_rows rows.new.items ≡ all_of_rows rows.old.items }
+    ensures rows { AreRows 0 rows.old.items → AreRows 0 rows.new.items }
+    ensures occupied { AreOccupied occupied.old rows.old.items → AreOccupied occupied.new rows.new.items }
+{
+    let row = number as usize;
+    if rows[row].is_empty() {
+        rows[row] = Vec::new(alloc);
+        occupied.remove(&number);
+    }
 }

@@ -6,34 +6,30 @@ ghost use Rattle.fb_fastq.specs.Joining.{pending_of};
 ghost use Rattle.fb_fastq.specs.Lanes.{IsAlong};
 
 use crate::index::{add, take_out};
-use crate::lanes::{CYLINDER, along};
-use crate::rows::{put, reach, soonest_in_rows, take_from};
+use crate::lanes::{along, cylinder_around};
+use crate::rows::{leave_if_empty, put, reach, soonest_in_rows, take_from};
 use crate::soonest::soonest_in_map;
 use fb_queue::Queue;
 use fb_service::{Disk, departure_from};
 use fb_units::{NoMemory, Ns, Request, Track};
 use std::alloc::Global;
-use std::collections::BTreeMap;
+use std::collections::{BTreeMap, BTreeSet};
 use std::marker::Model;
 
-// While no more than so many wait, they wait in the map alone.
-const FEW: usize = 64;
-
-// So many requests of a cylinder are valued one after another. Where more wait, the others wait in the map.
+// So many requests of a cylinder are looked at one after another. Where more wait, the others wait in the map.
 const ROOM: usize = 128;
-
-// Rows are kept for so many cylinders.
-const ROWS: usize = 65_536;
 
 /// Shortest positioning time first.
 ///
-/// Requests wait in a row for each cylinder, whose requests are valued one after another; where few
-/// wait, or more than a row has room for, they wait in an index by lane and angle, which is searched.
+/// Requests wait in a row for each cylinder, whose requests are looked at one after another; where
+/// more wait than a row has room for, they wait in an index by lane and angle, which is searched.
 #[derive(Drop)]
 pub struct SptfLanes {
     alloc: Global,
     waiting: BTreeMap<(u64, u64), Request>,
     rows: Vec<Vec<((u64, u64), Request)>>,
+    // The rows that have requests.
+    occupied: BTreeSet<u32>,
     in_rows: u64,
     joined: u64,
 }
@@ -41,13 +37,13 @@ pub struct SptfLanes {
 impl Model for SptfLanes {
     ghost use Rattle.std.specs.Prelude.{◌++◌};
     ghost use Rattle.fb_fastq.specs.Joining.{Index};
-    ghost use Rattle.fb_fastq.specs.ByCylinder.{all_of_rows, IsDivided};
+    ghost use Rattle.fb_fastq.specs.ByCylinder.{all_of_rows, IsDivided, AreOccupied};
 
     ghost Value = { Index };
 
     ghost view = { λ q. record { waiting = q.waiting.entries ++ all_of_rows q.rows.items; joined = q.joined } };
 
-    ghost invariant = { λ q. IsDivided q.waiting.entries q.rows.items q.in_rows q.joined };
+    ghost invariant = { λ q. IsDivided q.waiting.entries q.rows.items q.in_rows q.joined × AreOccupied q.occupied q.rows.items };
 }
 
 impl SptfLanes {
@@ -60,19 +56,17 @@ impl SptfLanes {
             alloc,
             waiting: BTreeMap::new(alloc),
             rows: Vec::new(alloc),
+            occupied: BTreeSet::new(alloc),
             in_rows: 0,
             joined: 0,
         }
     }
 
     // Whether a request of a cylinder is to wait in its row.
-    fn has_room(&self, row: usize) -> bool {
-        if self.waiting.len() < FEW && self.in_rows < FEW as u64 {
-            return false;
-        }
-        match self.rows.get(row) {
+    fn has_room(&self, row: u32) -> bool {
+        match self.rows.get(row as usize) {
             Some(row) => row.len() < ROOM,
-            None => row < ROWS,
+            None => true,
         }
     }
 }
@@ -92,13 +86,14 @@ impl Queue for SptfLanes {
 
     fn add(&mut self, disk: &Disk, request: Request) -> Result<(), NoMemory> {
         let spot = along(disk, &request);
-        let row = (spot / CYLINDER) as usize;
+        let row = cylinder_around(disk, spot);
         if !self.has_room(row) {
             add(&mut self.waiting, spot, self.joined, request)?;
             self.joined += 1;
             return Ok(());
         }
         reach(self.alloc, &mut self.rows, row)?;
+        self.occupied.insert(row)?;
         put(&mut self.rows, row, ((spot, self.joined), request))?;
         self.in_rows += 1;
         self.joined += 1;
@@ -108,10 +103,11 @@ impl Queue for SptfLanes {
     fn take(&mut self, disk: &Disk, head: Track, now: Ns) -> Request {
         let limit = soonest_in_map(&self.waiting, disk, head, now);
         let from = departure_from(disk, head, now);
-        let pick = soonest_in_rows(self.rows.as_slice(), disk, &from, limit, self.in_rows);
+        let pick = soonest_in_rows(self.rows.as_slice(), &self.occupied, disk, &from, limit);
         match pick.place {
             Some(place) => {
                 let request = take_from(&mut self.rows, place);
+                leave_if_empty(self.alloc, &mut self.rows, &mut self.occupied, place.row);
                 self.in_rows -= 1;
                 request
             }

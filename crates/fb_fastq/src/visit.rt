@@ -143,8 +143,8 @@ pub fn visit_after(disk: &Disk, from: &Departure, time: Ns, lane: Lane) -> Visit
     }
 }
 
-// The angle of the platter a time after the departure, in ns.
-fn angle_at(disk: &Disk, from: &Departure, time: Ns) -> Ns
+/// The angle of the platter a time after the departure, in ns.
+pub fn angle_at(disk: &Disk, from: &Departure, time: Ns) -> Ns
     requires from { IsDeparture disk.now from.now }
     requires short { time ≤ 2 * 10 ^ 9 }
     ensures value { result ≡ (from.now.instant + time) % disk.now.map.rotation }
@@ -154,6 +154,8 @@ fn angle_at(disk: &Disk, from: &Departure, time: Ns) -> Ns
     let turned = from.angle + time;
     if turned < rotation {
         turned
+    } else if turned - rotation < rotation {
+        turned - rotation
     } else {
         turned % rotation
     }

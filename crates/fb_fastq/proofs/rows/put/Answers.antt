@@ -1,6 +1,6 @@
 use Rattle.std.proofs.Common.{length, refl}
 use Rattle.std.proofs.lemmas.Option.{slice_get_read}
-use Rattle.fb_fastq.proofs.OneMore.{on_err, push_more, set_same, set_more, same_rows, more_rows}
+use Rattle.fb_fastq.proofs.OneMore.{on_err, push_more, set_same, set_more, same_rows, more_rows, occupied_set}
 use Rattle.fb_fastq.proofs.rows.put.Goals as goal
 
 pub returns-in_err-push-clause-err : goal.returns-in_err-push-clause-err
@@ -31,3 +31,9 @@ returns-clause-rows c =
     let row = c.index_mut.result.now in
     let there = slice_get_read rows (length rows) c.args.number row refl c.requires.there c.index_mut.ensures.value in
     more_rows c.args.waiting rows c.args.number row c.push.new.self there (push_more c.args.waiting row.items c.push.new.self.items (c.in_ok-push.ensures).items) c.requires.on
+
+pub returns-clause-occupied : goal.returns-clause-occupied
+returns-clause-occupied c = λ occupied has are. occupied_set occupied c.args.rows.now.items c.args.number c.push.new.self (λ some. has) are
+
+pub returns-in_err-push-clause-occupied : goal.returns-in_err-push-clause-occupied
+returns-in_err-push-clause-occupied c = λ occupied has are. occupied_set occupied c.args.rows.now.items c.args.number c.push.new.self (λ some. has) are

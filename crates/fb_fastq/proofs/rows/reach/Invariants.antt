@@ -1,11 +1,13 @@
-use Rattle.std.proofs.Common.{◌≡◌, ◌+◌, ◌-◌, length}
-use Rattle.fb_fastq.specs.ByCylinder.{all_of_rows, AreRows}
+use Rattle.std.proofs.Common.{◌≡◌, ℕ, ◌+◌, ◌-◌, length}
+use Rattle.std.specs.BTreeSet.{BTreeSet}
+use Rattle.fb_fastq.specs.ByCylinder.{all_of_rows, AreRows, AreOccupied}
 use Rattle.fb_fastq.proofs.rows.reach.Given as goal
 
 abbrev pub invariant-loop-alloc : goal.invariant-loop-alloc
 invariant-loop-alloc l = record {
   same : all_of_rows l.rows.items ≡ all_of_rows l.fn.rows.items;
   rows : AreRows 0 l.fn.rows.items → AreRows 0 l.rows.items;
+  occupied : (occupied : BTreeSet ℕ) → AreOccupied occupied l.fn.rows.items → AreOccupied occupied l.rows.items;
 }
 
 abbrev pub decreases-loop-alloc : goal.decreases-loop-alloc

@@ -6,7 +6,7 @@ use Rattle.fb_fastq.specs.declared.soonest.Candidate.{Candidate}
 use Rattle.fb_fastq.specs.declared.rows.Place.{Place}
 use Rattle.fb_fastq.specs.Joining.{Waiting}
 use Rattle.fb_fastq.specs.Lanes.{IsAlong}
-use Rattle.fb_fastq.specs.ByCylinder.{Row, IsOnCylinder, Settles, SettlesAll}
+use Rattle.fb_fastq.specs.ByCylinder.{Row, Settles, SettlesAll}
 use Rattle.fb_fastq.proofs.Least.{some_injective}
 use Rattle.fb_fastq.proofs.Sweeps.{no_later_trans}
 use Rattle.fb_fastq.proofs.InRows.{all_at, held_in_row, held_on, same_row_of, settles_more, settles_own, picks_one, in_row}
@@ -22,21 +22,59 @@ loop-index-init c = record {
   seen = λ k w lt e. absurd (omega (arith, lt));
 }
 
+pub least_wait-requires-clause-along : goal.least_wait-requires-clause-along
+least_wait-requires-clause-along c =
+    let rows = c.args.rows.now in
+    let ws = c.as_slice-row.result.now in
+    let there = slice_get_read rows (length rows) c.args.arrival.now.cylinder c.index-rows-number.result refl (omega (arith, c.if-rows-number.false)) c.index-rows-number.is in
+    held_in_row (λ w. IsAlong c.args.disk.now w.1 w.0.0) rows c.args.arrival.now.cylinder c.index-rows-number.result ws c.loop-index.index _ c.requires.spots there c.as_slice-row.ensures.value (slice_get-get_or ws c.loop-index.index _ c.loop-index-test.true)
+
+pub least_wait-requires-clause-on : goal.least_wait-requires-clause-on
+least_wait-requires-clause-on c =
+    let rows = c.args.rows.now in
+    let ws = c.as_slice-row.result.now in
+    let there = slice_get_read rows (length rows) c.args.arrival.now.cylinder c.index-rows-number.result refl (omega (arith, c.if-rows-number.false)) c.index-rows-number.is in
+    let w = get_or ws c.loop-index.index blank in
+    (held_on rows c.args.arrival.now.cylinder c.index-rows-number.result ws c.loop-index.index w c.requires.rows there c.as_slice-row.ensures.value (slice_get-get_or ws c.loop-index.index blank c.loop-index-test.true))
+
 pub wait-wait-requires-clause-along : goal.wait-wait-requires-clause-along
 wait-wait-requires-clause-along c =
     let rows = c.args.rows.now in
     let ws = c.as_slice-row.result.now in
-    let there = slice_get_read rows (length rows) c.args.number c.index-rows-number.result refl c.requires.there c.index-rows-number.is in
-    held_in_row (λ w. IsAlong c.args.disk.now w.1 w.0.0) rows c.args.number c.index-rows-number.result ws c.loop-index.index _ c.requires.spots there c.as_slice-row.ensures.value (slice_get-get_or ws c.loop-index.index _ c.loop-index-test.true)
+    let there = slice_get_read rows (length rows) c.args.arrival.now.cylinder c.index-rows-number.result refl (omega (arith, c.if-rows-number.false)) c.index-rows-number.is in
+    held_in_row (λ w. IsAlong c.args.disk.now w.1 w.0.0) rows c.args.arrival.now.cylinder c.index-rows-number.result ws c.loop-index.index _ c.requires.spots there c.as_slice-row.ensures.value (slice_get-get_or ws c.loop-index.index _ c.loop-index-test.true)
 
 pub wait-wait-requires-clause-on : goal.wait-wait-requires-clause-on
 wait-wait-requires-clause-on c =
     let rows = c.args.rows.now in
     let ws = c.as_slice-row.result.now in
-    let there = slice_get_read rows (length rows) c.args.number c.index-rows-number.result refl c.requires.there c.index-rows-number.is in
+    let there = slice_get_read rows (length rows) c.args.arrival.now.cylinder c.index-rows-number.result refl (omega (arith, c.if-rows-number.false)) c.index-rows-number.is in
     let w = get_or ws c.loop-index.index blank in
-    subst (λ n. IsOnCylinder n w.0.0) (sym c.requires.cylinder)
-    (held_on rows c.args.number c.index-rows-number.result ws c.loop-index.index w c.requires.rows there c.as_slice-row.ensures.value (slice_get-get_or ws c.loop-index.index blank c.loop-index-test.true))
+    (held_on rows c.args.arrival.now.cylinder c.index-rows-number.result ws c.loop-index.index w c.requires.rows there c.as_slice-row.ensures.value (slice_get-get_or ws c.loop-index.index blank c.loop-index-test.true))
+
+pub loop-index-preserved-then-pick-least_wait : goal.loop-index-preserved-then-pick-least_wait
+loop-index-preserved-then-pick-least_wait c =
+    let disk = c.args.disk.now in
+    let head = c.args.from.now.track in
+    let now = c.args.from.now.instant in
+    let ws = c.as_slice-row.result.now in
+    let index = c.loop-index.index in
+    let best = c.loop-index.pick.best in
+    let w = get_or ws index blank in
+    let at = slice_get-get_or ws index blank c.loop-index-test.true in
+    let longer = c.if-pick-least_wait.true in
+    let least = c.least_wait.ensures.least in
+    let soon = c.least_wait.ensures.soon in record {
+      pick = c.loop-index.invariant.pick;
+      before = c.loop-index.invariant.before;
+      seen = λ k x lt e. elim (cases_lt k index) [
+        | inl less ↦ c.loop-index.invariant.seen k x less e
+        | inr ge ↦
+            let same : k ≡ index = omega (arith, lt, ge) in
+            let one : w ≡ x = some_injective w x (sym at ∙ (ap (slice_get ws) (sym same) ∙ e)) in
+            subst (Settles disk head now best) one (inl (omega (arith, longer, least)), omega (arith, longer, soon))
+      ];
+    }
 
 pub loop-index-preserved : goal.loop-index-preserved
 loop-index-preserved c =
@@ -52,8 +90,8 @@ loop-index-preserved c =
     let is = c.sooner-pick.ensures in
     let w = get_or ws index blank in
     let next : Candidate = record { key = w.0; wait = c.wait-wait.result } in
-    let place : Place = record { row = c.args.number; index = index } in
-    let there = slice_get_read rows (length rows) c.args.number row refl c.requires.there c.index-rows-number.is in
+    let place : Place = record { row = c.args.arrival.now.cylinder; index = index } in
+    let there = slice_get_read rows (length rows) c.args.arrival.now.cylinder row refl (omega (arith, c.if-rows-number.false)) c.index-rows-number.is in
     let at = slice_get-get_or ws index blank c.loop-index-test.true in
     let stands = in_row disk head now rows place row w there (subst (λ xs. slice_get xs index ≡ Some w) c.as_slice-row.ensures.value at) in record {
       pick = λ limit was. picks_one disk head now rows limit old new next place w (c.loop-index.invariant.pick limit was) stands refl c.wait-wait.ensures.value is.one is.first;
@@ -75,8 +113,8 @@ returns-clause-least c = λ row e.
     let rows = c.args.rows.now in
     let ws = c.as_slice-row.result.now in
     let best = c.loop-index.pick.best in
-    let there = slice_get_read rows (length rows) c.args.number c.index-rows-number.result refl c.requires.there c.index-rows-number.is in
-    let one = same_row_of rows c.args.number c.index-rows-number.result row there e in
+    let there = slice_get_read rows (length rows) c.args.arrival.now.cylinder c.index-rows-number.result refl (omega (arith, c.if-rows-number.false)) c.index-rows-number.is in
+    let one = same_row_of rows c.args.arrival.now.cylinder c.index-rows-number.result row there e in
     subst (λ (r : Row). SettlesAll disk head now best r.items) one
     (subst (SettlesAll disk head now best) c.as_slice-row.ensures.value
     (all_at (Settles disk head now best) ws (λ k w at. c.loop-index.invariant.seen k w (let within = slice_get_within ws k w at in omega (arith, within, c.loop-index-test.false)) at)))

@@ -8,12 +8,12 @@ use Rattle.fb_fastq.specs.Joining.{Waiting, pending_of, IsFirst}
 use Rattle.fb_fastq.specs.Lanes.{IsAlong}
 use Rattle.fb_fastq.specs.Candidates.{IsCandidate}
 use Rattle.fb_fastq.specs.More.{IsMore}
-use Rattle.fb_fastq.specs.ByCylinder.{Row, all_of_rows, IsAt, IsPick, SettlesAll}
+use Rattle.fb_fastq.specs.ByCylinder.{Row, all_of_rows, at_place, IsAt, IsPick, SettlesAll}
 use Rattle.fb_fastq.proofs.Least.{all_held, waits_there, held_is_in, some_injective}
 use Rattle.fb_fastq.proofs.InRows.{all_left, all_right}
 use Rattle.fb_fastq.proofs.OneMore.{remove_more, more_left, more_right, least_more, all_less, length_more}
 use Rattle.fb_fastq.proofs.Divided.{numbered_left, beats_map, first_of_both, some_of_map, rows_taken, map_taken}
-use Rattle.fb_fastq.proofs.sptf.SptfLanesQueue.take.Goals.{After-self, After-soonest_in_rows-pick}
+use Rattle.fb_fastq.proofs.sptf.SptfLanesQueue.take.Goals.{After-self, After-soonest_in_rows-pick, After-leave_if_empty}
 use Rattle.fb_fastq.proofs.sptf.SptfLanesQueue.take.Goals as goal
 
 -- each spot is its request's
@@ -45,7 +45,7 @@ beats_both c w key wait =
     let rows = c.self.inside.rows.items in
     let limit = c.soonest_in_map-limit.result in
     let best = c.soonest_in_rows-pick.result.best in
-    let apart = numbered_left map.entries (all_of_rows rows) c.self.invariant.index.numbered in
+    let apart = numbered_left map.entries (all_of_rows rows) c.self.invariant.0.index.numbered in
     first_of_both disk c.args.head c.args.now map rows best w key wait
     (beats_map disk c.args.head c.args.now map rows limit best apart c.soonest_in_map-limit.ensures.found c.soonest_in_map-limit.ensures.first (picked c).before)
     (settled c)
@@ -92,15 +92,24 @@ overflow_sub-self c =
     let new = c.take_from-request.new.rows.items in
     let less = subst (λ o. IfSome o (λ w. IsMore w (all_of_rows new) (all_of_rows c.self.inside.rows.items))) at.there c.take_from-request.ensures.less in
     let one = length_more at.waiting (all_of_rows new) (all_of_rows c.self.inside.rows.items) less in
-    let all = c.self.invariant.counted in omega (arith, one, all)
+    let all = c.self.invariant.0.counted in omega (arith, one, all)
+
+-- the rows have one request less
+one_less : (c : After-leave_if_empty) (w : Waiting) → at_place c.self.inside.rows.items c.in-Some.place ≡ Some w → IsMore w (all_of_rows c.leave_if_empty.new.rows.items) (all_of_rows c.self.inside.rows.items)
+one_less c w there =
+    subst (λ ws. IsMore w ws (all_of_rows c.self.inside.rows.items)) (sym c.leave_if_empty.ensures.same)
+    (subst (λ o. IfSome o (λ w. IsMore w (all_of_rows c.take_from-request.new.rows.items) (all_of_rows c.self.inside.rows.items))) there c.take_from-request.ensures.less)
 
 pub invariant_of-self : goal.invariant_of-self
 invariant_of-self c =
     let at = in_rows ((goal.at.invariant_of-self c).After-soonest_in_rows-pick) c.in-Some.place c.in-Some.is in
     let inside = c.self.inside in
-    let new = c.take_from-request.new.rows.items in
-    let less = subst (λ o. IfSome o (λ w. IsMore w (all_of_rows new) (all_of_rows inside.rows.items))) at.there c.take_from-request.ensures.less in
-    rows_taken inside.waiting.entries inside.rows.items new inside.in_rows inside.joined at.waiting c.self.invariant less (c.take_from-request.ensures.rows c.self.invariant.own_rows)
+    let new = c.leave_if_empty.new.rows.items in
+    let less = one_less ((goal.at.invariant_of-self c).After-leave_if_empty) at.waiting at.there in
+    let own = c.leave_if_empty.ensures.rows (c.take_from-request.ensures.rows c.self.invariant.0.own_rows) in (
+      rows_taken inside.waiting.entries inside.rows.items new inside.in_rows inside.joined at.waiting c.self.invariant.0 less own,
+      c.leave_if_empty.ensures.occupied (c.take_from-request.ensures.occupied inside.occupied c.self.invariant.1),
+    )
 
 pub take_out-requires : goal.take_out-requires
 take_out-requires c =
@@ -114,32 +123,32 @@ invariant_of-self-in-None c =
     let key = c.soonest_in_map-limit.result.key in
     let is = of_map ((goal.at.invariant_of-self-in-None c).After-soonest_in_rows-pick) c.in-None.is in
     let w : Waiting = (key, is.request) in
-    let apart = numbered_left map.entries (all_of_rows inside.rows.items) c.self.invariant.index.numbered in
+    let apart = numbered_left map.entries (all_of_rows inside.rows.items) c.self.invariant.0.index.numbered in
     let less = subst (λ es. IsMore w es map.entries) (sym c.take_out.ensures.entries) (remove_more w map.entries apart (held_is_in key.0 key.1 is.request map.entries is.waits)) in
-    map_taken map.entries c.take_out.new.waiting.entries inside.rows.items inside.in_rows inside.joined w c.self.invariant less
+    (map_taken map.entries c.take_out.new.waiting.entries inside.rows.items inside.in_rows inside.joined w c.self.invariant.0 less, c.self.invariant.1)
 
 pub returns-in-Some-clause-least : goal.returns-in-Some-clause-least
 returns-in-Some-clause-least c =
     let at = in_rows ((goal.at.returns-in-Some-clause-least c).After-soonest_in_rows-pick) c.in-Some.place c.in-Some.is in
     let inside = c.self.inside in
     let rank = sptf c.args.disk.now c.args.head c.args.now in
-    let new = c.take_from-request.new.rows.items in
+    let new = c.leave_if_empty.new.rows.items in
     let entries = inside.waiting.entries in
     let w = at.waiting in
-    let less = subst (λ o. IfSome o (λ w. IsMore w (all_of_rows new) (all_of_rows inside.rows.items))) at.there c.take_from-request.ensures.less in
+    let less = one_less ((goal.at.returns-in-Some-clause-least c).After-leave_if_empty) at.waiting at.there in
     let value = subst (λ o. IfSome o (λ w. c.take_from-request.result ≡ w.1)) at.there c.take_from-request.ensures.value in
     let first = beats_both ((goal.at.returns-in-Some-clause-least c).After-soonest_in_rows-pick) w at.key at.wait in
     subst (λ ws. first_least rank (pending_of ws) ≡ Some (c.take_from-request.result, pending_of (entries ++ all_of_rows new))) (ap (λ v. v.waiting) c.self.view_is)
     (subst (λ r. first_least rank (pending_of (entries ++ all_of_rows inside.rows.items)) ≡ Some (r, pending_of (entries ++ all_of_rows new))) (sym value)
-    (least_more w (entries ++ all_of_rows new) (entries ++ all_of_rows inside.rows.items) (more_left w (all_of_rows new) (all_of_rows inside.rows.items) less entries) rank c.self.invariant.index.numbered first))
+    (least_more w (entries ++ all_of_rows new) (entries ++ all_of_rows inside.rows.items) (more_left w (all_of_rows new) (all_of_rows inside.rows.items) less entries) rank c.self.invariant.0.index.numbered first))
 
 pub returns-in-Some-clause-serves : goal.returns-in-Some-clause-serves
 returns-in-Some-clause-serves c =
     let at = in_rows ((goal.at.returns-in-Some-clause-serves c).After-soonest_in_rows-pick) c.in-Some.place c.in-Some.is in
     let inside = c.self.inside in
-    let new = c.take_from-request.new.rows.items in
+    let new = c.leave_if_empty.new.rows.items in
     let entries = inside.waiting.entries in
-    let less = subst (λ o. IfSome o (λ w. IsMore w (all_of_rows new) (all_of_rows inside.rows.items))) at.there c.take_from-request.ensures.less in
+    let less = one_less ((goal.at.returns-in-Some-clause-serves c).After-leave_if_empty) at.waiting at.there in
     all_less at.waiting (entries ++ all_of_rows new) (entries ++ all_of_rows inside.rows.items) (more_left at.waiting (all_of_rows new) (all_of_rows inside.rows.items) less entries)
     (λ w. IsAlong c.args.disk.now w.1 w.0.0) (spots ((goal.at.returns-in-Some-clause-serves c).After-self))
 
@@ -154,13 +163,13 @@ returns-in-None-clause-least c =
     let same = in_map ((goal.at.returns-in-None-clause-least c).After-soonest_in_rows-pick) c.in-None.is in
     let is = of_map ((goal.at.returns-in-None-clause-least c).After-soonest_in_rows-pick) c.in-None.is in
     let w : Waiting = (limit.key, is.request) in
-    let apart = numbered_left map.entries rows c.self.invariant.index.numbered in
+    let apart = numbered_left map.entries rows c.self.invariant.0.index.numbered in
     let less = subst (λ es. IsMore w es map.entries) (sym c.take_out.ensures.entries) (remove_more w map.entries apart (held_is_in limit.key.0 limit.key.1 is.request map.entries is.waits)) in
     let value = some_injective is.request c.take_out.result (sym is.waits ∙ c.take_out.ensures.value) in
     let first = beats_both ((goal.at.returns-in-None-clause-least c).After-soonest_in_rows-pick) w (ap (λ (b : Candidate). b.key) same) (ap (λ (b : Candidate). b.wait) same ∙ is.wait) in
     subst (λ ws. first_least rank (pending_of ws) ≡ Some (c.take_out.result, pending_of (new ++ rows))) (ap (λ v. v.waiting) c.self.view_is)
     (subst (λ r. first_least rank (pending_of (map.entries ++ rows)) ≡ Some (r, pending_of (new ++ rows))) value
-    (least_more w (new ++ rows) (map.entries ++ rows) (more_right w new map.entries less rows) rank c.self.invariant.index.numbered first))
+    (least_more w (new ++ rows) (map.entries ++ rows) (more_right w new map.entries less rows) rank c.self.invariant.0.index.numbered first))
 
 pub returns-in-None-clause-serves : goal.returns-in-None-clause-serves
 returns-in-None-clause-serves c =
@@ -171,6 +180,6 @@ returns-in-None-clause-serves c =
     let key = c.soonest_in_map-limit.result.key in
     let is = of_map ((goal.at.returns-in-None-clause-serves c).After-soonest_in_rows-pick) c.in-None.is in
     let w : Waiting = (key, is.request) in
-    let apart = numbered_left map.entries rows c.self.invariant.index.numbered in
+    let apart = numbered_left map.entries rows c.self.invariant.0.index.numbered in
     let less = subst (λ es. IsMore w es map.entries) (sym c.take_out.ensures.entries) (remove_more w map.entries apart (held_is_in key.0 key.1 is.request map.entries is.waits)) in
     all_less w (new ++ rows) (map.entries ++ rows) (more_right w new map.entries less rows) (λ x. IsAlong c.args.disk.now x.1 x.0.0) (spots ((goal.at.returns-in-None-clause-serves c).After-self))

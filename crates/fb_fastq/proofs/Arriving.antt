@@ -1,0 +1,77 @@
+-- The head's arrival at a cylinder.
+use Rattle.std.proofs.Common.{◌≡◌, ℕ, ◌+◌, ◌-◌, ◌%◌, ◌*◌, ◌^◌, ◌<◌, ◌≤◌, sym, ap, ◌∙◌, arith, Bool, true, false}
+use Rattle.std.specs.Prelude.{if◌then◌else◌}
+use Rattle.fb_units.specs.declared.types.Request.{Request}
+use Rattle.fb_sectormap.specs.Lookup.{place_at, track_at}
+use Rattle.fb_seek.specs.Positioning.{seek, pos, distance_of}
+use Rattle.fb_service.specs.declared.disk.Disk.{Disk}
+use Rattle.fb_service.specs.declared.approach.Departure.{Departure}
+use Rattle.fb_service.specs.Passing.{begin_angle}
+use Rattle.fb_model.specs.PlainReplay.{sptf}
+use Rattle.fb_fastq.specs.declared.lanes.Lane.{Lane}
+use Rattle.fb_fastq.specs.declared.arrival.Arrival.{Arrival}
+use Rattle.fb_fastq.specs.Lanes.{IsLane, IsAlong}
+use Rattle.fb_fastq.specs.Turns.{turn}
+use Rattle.fb_fastq.specs.ByCylinder.{IsArrival, IsOnCylinder}
+use Rattle.fb_fastq.proofs.Far.{moves}
+use Rattle.fb_fastq.proofs.Turns.{ahead, round, no_sooner}
+use Rattle.fb_fastq.proofs.OnLanes.{on_cylinder, on_lane, waits_turn}
+
+-- a spot of a cylinder is one of a request on it
+same_cylinder : (disk : Disk) (r : Request) (spot cylinder : ℕ) → IsAlong disk r spot → IsOnCylinder cylinder spot → (track_at disk.map r.lbn).cylinder ≡ cylinder
+same_cylinder disk r spot cylinder along on =
+    let there = on_cylinder disk r spot along in
+    let a = there.0 in let b = there.1 in let x = on.0 in let y = on.1 in omega (arith, a, b, x, y)
+
+-- the cylinder of a spot is that of its lane
+pub lane_on_cylinder : (disk : Disk) (r : Request) (spot cylinder : ℕ) (lane : Lane) → IsAlong disk r spot → IsOnCylinder cylinder spot → IsLane lane → lane.start ≤ spot → spot < lane.start + 2 ^ 30 → lane.track.cylinder ≡ cylinder
+lane_on_cylinder disk r spot cylinder lane along on is start end =
+    let same = (on_lane disk r spot along lane is start end).0 in
+    ap (λ t. t.cylinder) (sym same) ∙ same_cylinder disk r spot cylinder along on
+
+-- how far a spot is from its lane's start
+along_lane : (c h b : ℕ) (w : Bool) → b < 2 ^ 30 → (c * 2 ^ 37 + h * 2 ^ 31 + (if w then 2 ^ 30 else 0) + b) % 2 ^ 30 ≡ b
+along_lane c h b true short = omega (arith, short)
+along_lane c h b false short = omega (arith, short)
+
+module _ (disk : Disk) (from : Departure) (arrival : Arrival) (is : IsArrival disk from arrival) (r : Request) (spot : ℕ) (along : IsAlong disk r spot) (on : IsOnCylinder arrival.cylinder spot) where
+  begins : spot % 2 ^ 30 ≡ begin_angle disk.map (place_at disk.map r.lbn)
+  begins =
+      let track = track_at disk.map r.lbn in
+      let b = begin_angle disk.map (place_at disk.map r.lbn) in
+      let short : b < 2 ^ 30 = (let within = along.within in let rotation = disk.short_rotation in omega (arith, within, rotation)) in
+      ap (λ s. s % 2 ^ 30) along.value ∙ along_lane track.cylinder track.head b r.write short
+
+  -- a head switch and a settle bring no first sector sooner
+  turns : arrival.seek + turn disk.map.rotation arrival.angle (begin_angle disk.map (place_at disk.map r.lbn)) ≤ sptf disk from.track from.instant r
+  turns =
+      let rotation = disk.map.rotation in
+      let b = begin_angle disk.map (place_at disk.map r.lbn) in
+      let track = track_at disk.map r.lbn in
+      let way = pos disk.mechanism from.track track r.write in
+      let arm = moves disk.mechanism from.track track r.write in
+      let same = ap (λ c. seek disk.mechanism (distance_of from.track.cylinder c)) (same_cylinder disk r spot arrival.cylinder along on) in
+      let seeks = is.seek_is in
+      let le : arrival.seek ≤ way = omega (arith, arm, same, seeks) in
+      let sooner = no_sooner rotation from.instant arrival.seek way b disk.some_rotation along.within le in
+      let wait = waits_turn disk r from.track from.instant in
+      let angle = ap (λ a. arrival.seek + turn rotation a b) is.angle_is in
+      omega (arith, sooner, wait, angle)
+
+  pub least_ahead : arrival.angle ≤ spot % 2 ^ 30 → arrival.seek + (spot % 2 ^ 30 - arrival.angle) ≤ sptf disk from.track from.instant r
+  least_ahead le =
+      let b = begin_angle disk.map (place_at disk.map r.lbn) in
+      let begin = begins in
+      let on_b : arrival.angle ≤ b = omega (arith, le, begin) in
+      let turned = ahead b arrival.angle disk.map.rotation on_b along.within in
+      let most = turns in omega (arith, begin, turned, most)
+
+  pub least_round : spot % 2 ^ 30 < arrival.angle → arrival.seek + (arrival.rotation - arrival.angle + spot % 2 ^ 30) ≤ sptf disk from.track from.instant r
+  least_round lt =
+      let b = begin_angle disk.map (place_at disk.map r.lbn) in
+      let begin = begins in
+      let on_b : b < arrival.angle = omega (arith, lt, begin) in
+      let inside = is.turned in
+      let turned = round b arrival.angle disk.map.rotation on_b inside in
+      let most = turns in
+      let whole = is.rotation_is in omega (arith, begin, turned, most, inside, whole)
