@@ -1,5 +1,5 @@
 -- The head's arrival at a cylinder.
-use Rattle.std.proofs.Common.{◌≡◌, ℕ, ◌+◌, ◌-◌, ◌%◌, ◌*◌, ◌^◌, ◌<◌, ◌≤◌, sym, ap, ◌∙◌, arith, Bool, true, false}
+use Rattle.std.proofs.Common.{◌≡◌, ℕ, ◌+◌, ◌-◌, ◌%◌, ◌*◌, ◌^◌, ◌<◌, ◌≤◌, ap, ◌∙◌, arith, Bool, true, false}
 use Rattle.std.specs.Prelude.{if◌then◌else◌}
 use Rattle.fb_units.specs.declared.types.Request.{Request}
 use Rattle.fb_sectormap.specs.Lookup.{place_at, track_at}
@@ -8,26 +8,19 @@ use Rattle.fb_service.specs.declared.disk.Disk.{Disk}
 use Rattle.fb_service.specs.declared.approach.Departure.{Departure}
 use Rattle.fb_service.specs.Passing.{begin_angle}
 use Rattle.fb_model.specs.PlainReplay.{sptf}
-use Rattle.fb_fastq.specs.declared.lanes.Lane.{Lane}
 use Rattle.fb_fastq.specs.declared.arrival.Arrival.{Arrival}
-use Rattle.fb_fastq.specs.Lanes.{IsLane, IsAlong}
+use Rattle.fb_fastq.specs.Lanes.{IsAlong}
 use Rattle.fb_fastq.specs.Turns.{turn}
 use Rattle.fb_fastq.specs.ByCylinder.{IsArrival, IsOnCylinder}
 use Rattle.fb_fastq.proofs.Far.{moves}
 use Rattle.fb_fastq.proofs.Turns.{ahead, round, no_sooner}
-use Rattle.fb_fastq.proofs.OnLanes.{on_cylinder, on_lane, waits_turn}
+use Rattle.fb_fastq.proofs.OnLanes.{on_cylinder, waits_turn}
 
 -- a spot of a cylinder is one of a request on it
 same_cylinder : (disk : Disk) (r : Request) (spot cylinder : ℕ) → IsAlong disk r spot → IsOnCylinder cylinder spot → (track_at disk.map r.lbn).cylinder ≡ cylinder
 same_cylinder disk r spot cylinder along on =
     let there = on_cylinder disk r spot along in
     let a = there.0 in let b = there.1 in let x = on.0 in let y = on.1 in omega (arith, a, b, x, y)
-
--- the cylinder of a spot is that of its lane
-pub lane_on_cylinder : (disk : Disk) (r : Request) (spot cylinder : ℕ) (lane : Lane) → IsAlong disk r spot → IsOnCylinder cylinder spot → IsLane lane → lane.start ≤ spot → spot < lane.start + 2 ^ 30 → lane.track.cylinder ≡ cylinder
-lane_on_cylinder disk r spot cylinder lane along on is start end =
-    let same = (on_lane disk r spot along lane is start end).0 in
-    ap (λ t. t.cylinder) (sym same) ∙ same_cylinder disk r spot cylinder along on
 
 -- how far a spot is from its lane's start
 along_lane : (c h b : ℕ) (w : Bool) → b < 2 ^ 30 → (c * 2 ^ 37 + h * 2 ^ 31 + (if w then 2 ^ 30 else 0) + b) % 2 ^ 30 ≡ b

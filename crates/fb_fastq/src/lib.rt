@@ -9,10 +9,11 @@
 //! once for reads and once for writes, since a write has to settle. The spot is how far along these
 //! lanes the request's first sector begins, which is all that its wait depends on.
 //!
-//! Where more than a few wait, `SptfLanes` keeps a row for each cylinder, whose requests are valued
-//! one after another, the head's own cylinder first and then outwards, until the seek alone takes
-//! longer than the shortest wait found. What a row has no room for waits in the index, where in each
-//! lane the next request from the angle of arrival on is found by a search.
+//! `SptfLanes` keeps a row for each cylinder, and a set of those whose rows have requests. Rows are
+//! looked at from the head's cylinder upwards and then downwards, until the seek alone takes longer
+//! than the shortest wait found, and of a row's requests only those are valued that could be sooner.
+//! What a row has no room for waits in the index, where in each lane the next request from the angle
+//! of arrival on is found by a search.
 #![tactic(auto)]
 
 mod arrival;
