@@ -1,5 +1,5 @@
 -- The head's arrival at a cylinder.
-use Rattle.std.proofs.Common.{◌≡◌, ℕ, ◌+◌, ◌-◌, ◌%◌, ◌*◌, ◌^◌, ◌<◌, ◌≤◌, ap, ◌∙◌, arith, Bool, true, false}
+use Rattle.std.proofs.Common.{◌≡◌, ℕ, ◌+◌, ◌-◌, ◌%◌, ◌*◌, ◌^◌, ◌<◌, ◌≤◌, sym, ap, ◌∙◌, arith, Bool, true, false}
 use Rattle.std.specs.Prelude.{if◌then◌else◌}
 use Rattle.fb_units.specs.declared.types.Request.{Request}
 use Rattle.fb_sectormap.specs.Lookup.{place_at, track_at}
@@ -68,3 +68,16 @@ module _ (disk : Disk) (from : Departure) (arrival : Arrival) (is : IsArrival di
       let turned = round b arrival.angle disk.map.rotation on_b inside in
       let most = turns in
       let whole = is.rotation_is in omega (arith, begin, turned, most, inside, whole)
+
+  -- it is the platter's turn to the spot, in one sum
+  pub value_ahead : arrival.angle ≤ spot % 2 ^ 30 → arrival.seek + (spot % 2 ^ 30 - arrival.angle) ≡ arrival.seek + turn disk.map.rotation arrival.angle (spot % 2 ^ 30)
+  value_ahead le =
+      let begin = begins in
+      let inside = along.within in
+      ap (λ x. arrival.seek + x) (sym (ahead (spot % 2 ^ 30) arrival.angle disk.map.rotation le (omega (arith, begin, inside))))
+
+  pub value_round : spot % 2 ^ 30 < arrival.angle → arrival.seek + (arrival.rotation - arrival.angle + spot % 2 ^ 30) ≡ arrival.seek + turn disk.map.rotation arrival.angle (spot % 2 ^ 30)
+  value_round lt =
+      let inside = is.turned in
+      let whole = is.rotation_is in
+      let turned = round (spot % 2 ^ 30) arrival.angle disk.map.rotation lt inside in omega (arith, turned, whole, inside)

@@ -1,9 +1,10 @@
 // The head's arrival at a cylinder.
-ghost use Rattle.std.specs.Prelude.{◌≡◌, ◌*◌, ◌<◌, ◌≤◌, ◌^◌};
+ghost use Rattle.std.specs.Prelude.{◌≡◌, ◌+◌, ◌*◌, ◌%◌, ◌<◌, ◌≤◌, ◌^◌};
 ghost use Rattle.fb_geometry.specs.Shape.{cylinders_of};
 ghost use Rattle.fb_service.specs.Approaching.{IsDeparture};
 ghost use Rattle.fb_model.specs.PlainReplay.{sptf};
 ghost use Rattle.fb_fastq.specs.Lanes.{IsAlong};
+ghost use Rattle.fb_fastq.specs.Turns.{turn};
 ghost use Rattle.fb_fastq.specs.ByCylinder.{IsArrival, IsOnCylinder};
 
 use crate::lanes::{LANE, lane_around};
@@ -29,6 +30,7 @@ impl Arrival {
         requires arrival { IsArrival disk.now from.now self.now }
         requires along { IsAlong disk.now waiting.now.1 waiting.now.0.0 }
         requires on { IsOnCylinder self.now.cylinder waiting.now.0.0 }
+        ensures value { result ≡ self.now.seek + turn disk.now.map.rotation self.now.angle (waiting.now.0.0 % 2 ^ 30) }
         ensures least { result ≤ sptf disk.now from.now.track from.now.instant waiting.now.1 }
         ensures soon { result ≤ 4 * 10 ^ 9 }
     {
