@@ -80,6 +80,9 @@ pub fn next_noted(list: &BTreeSet<u32>, from: u32) -> Option<u32>
     ensures first { IfSome result (λ task. (k : ℕ) → from ≤ k → k < task → contains nat_cmp list.now k ≡ false) }
     ensures none { IfNone result ((k : ℕ) → from ≤ k → contains nat_cmp list.now k ≡ false) }
 {
+    if list.is_empty() {
+        return None;
+    }
     match list.range(from..).next() {
         Some(task) => Some(*task),
         None => None,
