@@ -5,7 +5,7 @@ use Rattle.fb_tasks.proofs.Words.{Block, Entry, Wanted, is_wanted, BackRow, Deli
 use Rattle.fb_tasks.proofs.Words.{view, with_choices, test_rows, take_call, with_delivery, task_row, task_rows, by_deliveries, delivery_of}
 use Rattle.fb_tasks.proofs.Words.{Tells, MayTake, MaySettle, MayDeliver, IsSettled, settled_at, IsCalled, all_at, filter_to, some_same}
 use Rattle.fb_tasks.proofs.Calls.{may-take, called-more, called-tested, called-chosen, called-delivered, called-finished}
-use Rattle.std.specs.Prelude.{slice_get, Result, Ok, Err, OnOk}
+use Rattle.std.specs.Prelude.{slice_get}
 use Rattle.fb_tasks.specs.declared.session.Session.{Session}
 use Rattle.fb_tasked.specs.Following.{Follows}
 use Rattle.fb_rows.specs.Ranges.{AreRanges}
@@ -80,11 +80,6 @@ pub follows-may-deliver : {disk : Shape} {calls : List Call} {next : ℕ} {sessi
 follows-may-deliver h got place content_at at gives ranges =
     let there = wanted-at h.tells place (record { block = got.block; state = Wanted }) at refl in
     record { tells = h.tells; settled = h.tested refl; place = there.0; wanted = there.1; content_at = content_at; content = gives; ranges = ranges }
-
--- what a call says in two clauses, where it succeeds
-pub on_ok_both : {T E : Type 0} (P Q : Type 0) (r : Result T E) → OnOk r P → OnOk r Q → OnOk r (P × Q)
-on_ok_both P Q (Ok x) p q = (p, q)
-on_ok_both P Q (Err e) p q = tt
 
 -- each task has its row
 pub rows-there : {disk : Shape} {past : Past} {sessions : List Session} {held : List Entry} (tells : Tells disk past sessions held) → (rows : List BackRow) → rows ≡ task_rows past → length rows ≡ length sessions

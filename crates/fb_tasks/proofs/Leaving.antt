@@ -1,4 +1,5 @@
 -- Lists that only grow, and what a call leaves that ran out of memory.
+use Rattle.std.specs.Prelude.{Result, Ok, Err, OnOk}
 use Rattle.fb_tasks.proofs.Words.{◌≡◌, ◌≤◌, ◌+◌, ℕ, List, [], ◌∷◌, ◌++◌, true, false, Some, inl, inr, length, map, set, slice_get, take}
 use Rattle.fb_tasks.proofs.Words.{drop, append-nil, append_assoc, length-append, refl, ap, sym, ◌∙◌, subst, arith, AllByRecursion}
 use Rattle.fb_tasks.proofs.Words.{range_with_len, map-set_same, cases_Bool, map-append, append_cancel_left, length-map, take-append-drop}
@@ -124,3 +125,8 @@ cut_registered task index session before now cut cuts rest block first same is =
 pub one_counted : (task index : ℕ) (before now : List Entry) (entry : Entry) → now ≡ before ++ entry ∷ [] → entry.block.task ≡ task → index ≡ registered task (blocks_of before) → index + 1 ≡ registered task (blocks_of now)
 one_counted task index before now entry is own next =
     rw is (simp (map-append, filter-append, length-append, number_same entry.block.task task own) (omega (arith, next)))
+
+-- what a call says in two clauses, where it succeeds
+pub on_ok_both : {T E : Type 0} (P Q : Type 0) (r : Result T E) → OnOk r P → OnOk r Q → OnOk r (P × Q)
+on_ok_both P Q (Ok x) p q = (p, q)
+on_ok_both P Q (Err e) p q = tt

@@ -4,7 +4,7 @@ use Rattle.std.proofs.lemmas.Result.{on_ok_weaker}
 use Rattle.fb_rows.specs.declared.back.DeliveryRow.{DeliveryRow}
 use Rattle.fb_store.specs.Index.{content_in}
 use Rattle.fb_store.specs.Runs.{sectors_of}
-use Rattle.fb_tasks.proofs.Script.{on_ok_both}
+use Rattle.fb_tasks.proofs.Leaving.{on_ok_both}
 use Rattle.fb_decide.proofs.Delivering.{wanted-on_disk, may-deliver, delivered-one, row-is}
 use Rattle.fb_decide.proofs.background.Background.deliver.Goals as goal
 

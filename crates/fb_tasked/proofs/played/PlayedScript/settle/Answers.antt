@@ -1,5 +1,6 @@
 use Rattle.fb_tasks.proofs.Words.{on_ok_weaker}
-use Rattle.fb_tasked.proofs.Script.{follows-may-settle, follows-settled, on_ok_both}
+use Rattle.fb_tasks.proofs.Leaving.{on_ok_both}
+use Rattle.fb_tasked.proofs.Script.{follows-may-settle, follows-settled}
 use Rattle.fb_tasked.proofs.played.PlayedScript.settle.Goals as goal
 
 pub returns : goal.returns
