@@ -11,9 +11,9 @@ use Rattle.fb_tasks.proofs.Words.{kept_segment, IsSegmentOf, HoldsImage, IsQuiet
 use Rattle.fb_tasks.proofs.Words.{IsAtWork, IsCutFrom, Tells, MayTake, IsCall, all_weaker, some_same, number_other, one_or_other}
 use Rattle.fb_tasks.proofs.Words.{all_append, any_none, each_push, get_or_push, length-map, map-append, slice_get-get_or, slice_get_within}
 use Rattle.fb_tasks.proofs.Words.{places, is_clean, is_backup, Content, drop-append_seam, cutting, is_within, Wanted, is_delivered}
-use Rattle.fb_tasks.proofs.Words.{take_call, blocks_by, new_entries, entries_by, cuts_are, filter_none}
-use Rattle.fb_tasks.proofs.Asked.{opened_same, open_there, terms_there, segments_few}
-use Rattle.fb_tasks.proofs.Frames.{kept-entries, one-tells}
+use Rattle.fb_tasks.proofs.Words.{take_call, blocks_by, HasBegun, new_entries, entries_by, cuts_are, filter_none}
+use Rattle.fb_tasks.proofs.Asked.{opened_same, open_there, terms_there, given_few}
+use Rattle.fb_tasks.proofs.{Frames.kept-entries, Frames.one-tells, States.seen}
 use Rattle.fb_tasks.proofs.Registered.{named_same, indexed_append, fresh_wanted, registered-entries}
 use Rattle.fb_tasks.proofs.Cuts.{cuts_placed, cuts_ascend, cuts_indexed, cuts_own, cuts_count}
 use Rattle.fb_calls.specs.Allowed as allowed
@@ -108,8 +108,7 @@ opened-tells disk past call kind weight block items seen more session held is sa
 
 -- nothing was taken as yet for a segment that has just been added
 taken_same : (taken : List (List (ℕ × Option Content))) (i : ℕ) → slice_index_or (taken ++ [] ∷ []) i [] ≡ slice_index_or taken i []
-taken_same [] zero = refl
-taken_same [] (suc i) = refl
+taken_same [] i = grind arith
 taken_same (t ∷ taken) zero = refl
 taken_same (t ∷ taken) (suc i) = taken_same taken i
 
@@ -171,7 +170,7 @@ may_add disk past call task first blocks age live sessions session held is at h 
       few = asks.3;
       size = asks.5;
       log = subst (λ b. first + blocks * b ≤ length (places disk)) (sym (log.block ∙ ap (λ t. t.block) stands.terms)) on_disk;
-      room = omega (arith, ap length log.segments, length-map (view past task).segments (kept_segment (view past task).work), segments_few past task, h.few_calls);
+      room = omega (arith, ap length log.segments, length-map (view past task).segments (kept_segment (view past task).work), given_few past task, ap length (seen past task).segments, h.few_calls);
     }
 
 pub added-tells : (disk : Shape) (past : Past) (call : Call) (task first blocks age : ℕ) (live : List Bool) (seen : List Session) (session : Session) (log : clean.Cleaning) (held : List Entry) → IsCall task (Segment first blocks age live) call → task < length seen → session ≡ get_or seen task session
@@ -280,10 +279,11 @@ wanted-tells disk past call task first count seen touched session held now small
     (cuts_placed disk (length (tasks past)) task session.weight session.block next first (first + count) cuts may.opened may.stands.weight may.stands.block.1 may.on_disk (omega (arith, may.on_disk, small)) are)
     (pushed ∙ ap (λ bs. held ++ new_entries session bs) added_are) h.tells)
 
--- what a want registers are the blocks that the call gives, in their states
-pub wanted_due : (disk : Shape) (past : Past) (call : Call) (task first count : ℕ) (seen : List Session) (session : Session) (held : List Entry) → length (places disk) ≤ 10 ^ 12 → IsCall task (Want first count) call → task < length seen → session ≡ get_or seen task session
-    → MayTake disk past seen held call → new_entries session (numbered task session.weight (numbering.registered task (numbering.blocks_of held)) (cutting disk session.block first count)) ≡ entries_by disk past call
-wanted_due disk past call task first count seen session held small is within at h =
+-- what a want registers are the blocks that the call gives, in their states: so are the first of them
+pub wanted_begun : (disk : Shape) (past : Past) (call : Call) (task first count : ℕ) (seen : List Session) (session : Session) (held now : List Entry) → length (places disk) ≤ 10 ^ 12 → IsCall task (Want first count) call → task < length seen → session ≡ get_or seen task session
+    → MayTake disk past seen held call
+    → HasBegun held (new_entries session (numbered task session.weight (numbering.registered task (numbering.blocks_of held)) (cutting disk session.block first count))) now → HasBegun held (entries_by disk past call) now
+wanted_begun disk past call task first count seen session held now small is within at h begun =
     let there = slice_get-get_or seen task session within ∙ ap Some (sym at) in
     let added = new_entries session (numbered task session.weight (numbering.registered task (numbering.blocks_of held)) (cutting disk session.block first count)) in
     let entry = entry_of (take_call disk past call) in
@@ -291,4 +291,5 @@ wanted_due disk past call task first count seen session held small is within at 
     (λ s here. ap (λ (x : Session). set seen task (record x { touched = true })) (some_same session s (sym there ∙ here))) h in
     let all : held ++ added ≡ map entry (registered past) ++ entries_by disk past call = tells.entries ∙ map-append entry (registered past) (blocks_by disk past call.task call.action) in
     let size : length held ≡ length (map entry (registered past)) = rw h.tells.entries (simp length-map) in
-    sym (drop-append_seam held added) ∙ rw (all, size) (drop-append_seam (map entry (registered past)) (entries_by disk past call))
+    let same : added ≡ entries_by disk past call = sym (drop-append_seam held added) ∙ rw (all, size) (drop-append_seam (map entry (registered past)) (entries_by disk past call)) in
+    subst (λ due. HasBegun held due now) same begun

@@ -13,7 +13,7 @@ use Rattle.fb_tasks.proofs.Words.{some_at, map_at, each_set, flat_none, all_rang
 use Rattle.fb_tasks.proofs.{RowsOf.rows-given, RowsOf.seals_given, RowsOf.findings-mute, Tested.settled-tested, Tested.AreAllRows}
 use Rattle.fb_tasks.proofs.{Tested.tells-tested, Tested.still-stands, Tested.no-ends, States.flagged-stands, Deliveries.delivered-entries}
 use Rattle.fb_tasks.proofs.{Deliveries.WasWanted, Deliveries.was_wanted, Deliveries.delivered-holds, Deliveries.delivered-stands}
-use Rattle.fb_tasks.proofs.{Deliveries.at_work_now, Complete.done_is, Complete.was_is, Sealed.open_is, AllChoices.reported_rows}
+use Rattle.fb_tasks.proofs.{Deliveries.at_work_now, States.seen, RowsOf.reported_rows}
 use Rattle.fb_tasks.proofs.{Leaving.begun_after, Leaving.begun_longer, Leaving.begun_same}
 
 -- where one number alone gives anything
@@ -36,6 +36,9 @@ module _ {disk : Shape} {past : Past} {sessions : List Session} {held : List Ent
   pub opened : got.block.task < length (tasks past)
   opened = (all_at (IsBlockOf disk (length (tasks past))) (registered past) placed.place got.block may.tells.on_disk placed.registered_there).task
 
+  pub within_sessions : got.block.task < length sessions
+  within_sessions = omega (arith, opened, may.tells.as_many)
+
   module _ (task : ℕ) (other : got.block.task ≡ task → ⊥) (less : task < length (tasks past)) where
     silent : view (delivered got ∷ past) task ≡ view past task
     silent = delivered-silent past got task (number_other got.block.task task other)
@@ -47,13 +50,13 @@ module _ {disk : Shape} {past : Past} {sessions : List Session} {held : List Ent
     there = some_at sessions task (subst (λ n. task < n) (sym may.tells.as_many) less)
 
     done-other : (is_unsealed (view past task) && is_done (view past task).work) ≡ false
-    done-other = rw (open_is past task, done_is past task) (sym (seals_given by_deliveries past 0 task) ∙ ap (list_any (is_seal_of task)) (may.settled.no_rows by_deliveries 0))
+    done-other = rw ((seen past task).unsealed, (seen past task).done) (sym (seals_given by_deliveries past 0 task) ∙ ap (list_any (is_seal_of task)) (may.settled.no_rows by_deliveries 0))
 
     tested-other : (view past task).was_complete ≡ is_done (view past task).work
-    tested-other = rw (was_is past task, done_is past task) (may.settled.tested task)
+    tested-other = rw ((seen past task).was, (seen past task).done) (may.settled.tested task)
 
     no_segments : (now : ℕ) → segment_rows by_deliveries (delivered got ∷ past) now task ≡ []
-    no_segments now = reported_rows (delivered got ∷ past) now task (told-other there.0 there.1).reported
+    no_segments now = reported_rows by_deliveries (delivered got ∷ past) now task (told-other there.0 there.1).reported
 
     no_ends : (now : ℕ) → (seal_rows by_deliveries (delivered got ∷ past) now task ++ complete_rows (delivered got ∷ past) now task) ≡ []
     no_ends now = no-ends (delivered got ∷ past) now task (rw silent done-other) (rw silent tested-other)
@@ -96,23 +99,16 @@ module _ {disk : Shape} {past : Past} {sessions : List Session} {held : List Ent
         (λ task session other at untouched. let less : task < length (tasks past) = rw may.tells.as_many at (slice_get_within sessions task session at) in
         ((told-other task other less session at).quiet untouched).chosen))
 
-terms_is : (past : Past) (task : ℕ) → (terms_of past task).kind ≡ (view past task).terms.kind
-unfolding view
-terms_is past task = refl
-
 -- before the test each cleaned segment but the chosen one has its row
 module _ (v : TaskView) (got : DeliveryRow) (old mid : Session) (stands : Stands v old) (reported : AreReported v.work) (same : mid.log.unfinished ≡ old.log.unfinished) where
   abbrev IsSilent : Choice → Type 0
   IsSilent choice = (mid.log.unfinished ≡ Some choice.segment.number → ⊥) → is_newly_cleaned (delivered_view got v).work choice ≡ false
 
-  silent_one : (choice : Choice) → is_cleaned v.work choice ≡ true → is_newly_cleaned v.work choice ≡ false → IsSilent choice
-  silent_one choice cleaned none = λ _. grind (arith, none)
-
   chosen-silent : (done : List Choice) (current : Option Choice) → old.log.unfinished ≡ option_map (λ choice. choice.segment.number) current → AllByRecursion (λ choice. is_cleaned v.work choice ≡ true) done
       → AllByRecursion (λ choice. is_newly_cleaned v.work choice ≡ false) (done ++ choice_in current) → AllByRecursion IsSilent (done ++ choice_in current)
   chosen-silent [] None unfinished cleaned none = tt
   chosen-silent [] (Some current) unfinished cleaned none = ((λ not_it. absurd (not_it (same ∙ unfinished))), tt)
-  chosen-silent (c ∷ cs) current unfinished cleaned none = (silent_one c cleaned.0 none.0, chosen-silent cs current unfinished cleaned.1 none.1)
+  chosen-silent (c ∷ cs) current unfinished cleaned none = ((λ _. grind (arith, cleaned.0, none.0)), chosen-silent cs current unfinished cleaned.1 none.1)
 
   pub others-silent : AllByRecursion IsSilent v.choices
   others-silent = elim (cases_Bool (is_clean old.kind)) [
@@ -138,8 +134,7 @@ module _ {disk : Shape} {past : Past} {sessions : List Session} {held : List Ent
   pub delivers : {items : List Session} {now : List Entry} {old : Session} → items ≡ sessions → old ≡ get_or items got.block.task old
       → now ≡ after got.block.task (Deliver got.block.index) held → Delivers disk past sessions held got old now
   delivers {items} {now} {old} same says is =
-      let within : got.block.task < length sessions = rw may.tells.as_many (opened got may) in
-      record { may = may; at = slice_get-get_or sessions got.block.task old within ∙ ap Some (sym (rw same at says)); is = is }
+      record { may = may; at = slice_get-get_or sessions got.block.task old (within_sessions got may) ∙ ap Some (sym (rw same at says)); is = is }
 
 module _ {disk : Shape} {past : Past} {sessions : List Session} {held now : List Entry} {got : DeliveryRow} {old : Session} (t : Delivers disk past sessions held got old now) where
   told-own : Told (view past got.block.task) old
@@ -180,7 +175,7 @@ module _ {disk : Shape} {past : Past} {sessions : List Session} {held now : List
       findings_same : found ≡ findings past got
       findings_same =
           let kind : (terms_of past got.block.task).kind ≡ mid.kind =
-          terms_is past got.block.task ∙ (ap (λ t. t.kind) told-own.stands.terms ∙ sym (ap (λ (s : Session). s.kind) taken.same)) in
+          (seen past got.block.task).kind ∙ (ap (λ t. t.kind) told-own.stands.terms ∙ sym (ap (λ (s : Session). s.kind) taken.same)) in
           rw (kind, is) (either (is_scrub mid.kind)) where
             either : (b : Bool) → map (λ lbn. BadLine (record { task = got.block.task; lbn = lbn })) (if b then bad_sectors got.content else [])
                 ≡ (if b then map (λ lbn. BadLine (record { task = got.block.task; lbn = lbn })) (bad_sectors got.content) else [])
@@ -191,10 +186,7 @@ module _ {disk : Shape} {past : Past} {sessions : List Session} {held now : List
           ∙ ap (λ rows. GotLine got ∷ rows) (ap (λ rows. rows ++ (segments ++ ends)) (sym findings_same)
           ∙ sym (append_assoc found segments ends))
 
-      abbrev Begun : List BackRow → Type 0
-      Begun new = HasBegun rows (GotLine got ∷ rows_after past got) new
-
-      due : {new : List BackRow} → HasBegun rows (((GotLine got ∷ found) ++ segments) ++ ends) new → Begun new
+      due : {new : List BackRow} → HasBegun rows (((GotLine got ∷ found) ++ segments) ++ ends) new → HasBegun rows (GotLine got ∷ rows_after past got) new
       due {new} h = subst (λ due. HasBegun rows due new) (sym due_is) h
 
       pub begun-findings : {new : List BackRow} → HasBegun with_got found new → HasBegun rows (GotLine got ∷ rows_after past got) new

@@ -3,15 +3,15 @@ use Rattle.fb_tasks.proofs.Words.{◌≡◌, ℕ, zero, suc, ◌+◌, ◌-◌, �
 use Rattle.fb_tasks.proofs.Words.{append-nil, refl, ap, sym, ◌∙◌, arith, ◌∷◌, Bool, inl, inr, subst, ◌*◌, ◌^◌, ◌<◌, Some, set, slice_get}
 use Rattle.fb_tasks.proofs.Words.{and_parts, cases_Bool, true≢false, length-map, length-set, Shape, is_clean, Entry, BackRow, Past}
 use Rattle.fb_tasks.proofs.Words.{LogSegment, chose, tasks, task_numbers, registered, view, chosen_view, choose_once, choose_up_to}
-use Rattle.fb_tasks.proofs.Words.{choose_in, is_better, is_busy, is_chosen, unchosen, with_choices, segment_rows, is_newly_cleaned, Session}
+use Rattle.fb_tasks.proofs.Words.{choose_in, is_better, is_busy, is_chosen, unchosen, with_choices, segment_rows, Session}
 use Rattle.fb_tasks.proofs.Words.{by_deliveries, Stands, MayChoose, AreReported, IsSegmentOf, HasNoChoice, HoldsBlocks, IsQuiet, IsAtWork}
-use Rattle.fb_tasks.proofs.Words.{HaveChosen, choosable_by, filter_none, flat_same, some_at, number_other, each_set, step_to}
+use Rattle.fb_tasks.proofs.Words.{HaveChosen, choosable_by, flat_same, some_at, number_other, each_set, step_to}
 use Rattle.fb_tasks.proofs.Words.{AllByRecursion, sum_by, best_of, flat_map, fold, range_with_len, sum_by-cons, slice_get_within, Block}
 use Rattle.fb_tasks.proofs.Words.{chosen-silent, MaySettle, TaskView, nil_from_length, HasTurned, kept_segment}
 use Rattle.fb_tasks.proofs.{ChoiceSteps.best_left, ChoiceSteps.chosen_blocks, ChoiceSteps.chosen_for, ChoiceSteps.next_view}
-use Rattle.fb_tasks.proofs.{ChoiceSteps.numbered_is, ChoiceSteps.once_is, ChoiceSteps.left_less, ChoiceSteps.added_own}
+use Rattle.fb_tasks.proofs.{States.seen, Segmented.numbered_given, ChoiceSteps.once_is, ChoiceSteps.left_less, ChoiceSteps.added_own}
 use Rattle.fb_tasks.proofs.{ChoiceSteps.segment_rows_of, ChoiceSteps.segment_rows_is, ChoiceSteps.few_less, ChoiceSteps.best_of_left}
-use Rattle.fb_tasks.proofs.{Complete.filter-le, Cuts.range_next, Tested.rows_more, Frames.set_same}
+use Rattle.fb_tasks.proofs.{Complete.filter-le, RowsOf.reported_rows, Cuts.range_next, Tested.rows_more, Frames.set_same}
 use Rattle.std.proofs.lemmas.List.Sums.{fold-append}
 pub use Rattle.fb_tasks.proofs.Lists.{all_range}
 
@@ -20,12 +20,9 @@ up_to_still zero disk task past still = refl
 up_to_still (suc n) disk task past still = let e = still (omega arith) in ap (choose_up_to n disk task) e
     ∙ up_to_still n disk task past (λ _. e)
 
-up_to_split : (k m : ℕ) (disk : Shape) (task : ℕ) (past : Past) → choose_up_to (k + m) disk task past ≡ choose_up_to m disk task (choose_up_to k disk task past)
+pub up_to_split : (k m : ℕ) (disk : Shape) (task : ℕ) (past : Past) → choose_up_to (k + m) disk task past ≡ choose_up_to m disk task (choose_up_to k disk task past)
 up_to_split zero m disk task past = ap (λ n. choose_up_to n disk task past) (let e : 0 + m ≡ m = omega arith in e)
 up_to_split (suc k) m disk task past = ap (λ n. choose_up_to n disk task past) (let e : suc k + m ≡ suc (k + m) = omega arith in e) ∙ up_to_split k m disk task (choose_once disk task past)
-
-pub up_to_more : (n : ℕ) (disk : Shape) (task : ℕ) (past : Past) → choose_up_to (n + 1) disk task past ≡ choose_once disk task (choose_up_to n disk task past)
-up_to_more n disk task past = up_to_split n 1 disk task past
 
 pub in_is : (disk : Shape) (past : Past) (task : ℕ) → choose_in disk past task ≡ (if is_clean (view past task).terms.kind && not (view past task).closed then choose_up_to (length (view past task).segments) disk task past else past)
 unfolding view
@@ -35,11 +32,6 @@ in_is disk past task = refl
 in_by : (disk : Shape) (past : Past) (task : ℕ) (session : Session) (b : Bool) → Stands (view past task) session → (is_clean session.kind && not session.closed) ≡ b
     → choose_in disk past task ≡ (if b then choose_up_to (length (view past task).segments) disk task past else past)
 in_by disk past task session b stands is = rw (in_is disk past task, stands.terms, sym stands.closed, is) refl
-
--- where each segment has its row none is given
-pub reported_rows : (past : Past) (now task : ℕ) → AreReported (view past task).work → segment_rows by_deliveries past now task ≡ []
-unfolding view
-reported_rows past now task h = rw (filter_none (is_newly_cleaned (view past task).work) (view past task).choices h) refl
 
 -- a task that stays
 pub still-turned : {disk : Shape} {past new : Past} {task now : ℕ} {session : Session} {held : List Entry} {rows : List BackRow} → new
@@ -105,10 +97,10 @@ module _ (disk : Shape) (task : ℕ) where
         let best = best_of is_better s ss in
         let next = chose task best (chosen_blocks disk task (view past task) best) ∷ past in
         let once : choose_once disk task past ≡ next = once_is disk past task ∙ rw (free, are) refl in
-        let seen = next_view disk past task best in
-        let fewer = left_less (λ _. 1) disk task (view past task) best (best_left disk (view past task) s ss (numbered_is past task) on_disk are) in
-        let count : length (unchosen (view next task).work) + 1 ≤ length (unchosen (view past task).work) = rw seen (omega (arith, fewer, count_is (unchosen (view past task).work), count_is (unchosen (chosen_view task (chosen_for disk task (view past task) best) (view past task)).work))) in
-        subst (λ p. IsDone (choose_up_to n disk task p)) (sym once) (rest next (rw seen on_disk) (omega (arith, count, few)))
+        let now = next_view disk past task best in
+        let fewer = left_less (λ _. 1) disk task (view past task) best (best_left disk (view past task) s ss (rw (seen past task).segments (numbered_given past task)) on_disk are) in
+        let count : length (unchosen (view next task).work) + 1 ≤ length (unchosen (view past task).work) = rw now (omega (arith, fewer, count_is (unchosen (view past task).work), count_is (unchosen (chosen_view task (chosen_for disk task (view past task) best) (view past task)).work))) in
+        subst (λ p. IsDone (choose_up_to n disk task p)) (sym once) (rest next (rw now on_disk) (omega (arith, count, few)))
 
   pub no-choice-left : (past : Past) → AllByRecursion (IsSegmentOf disk (view past task).terms.block) (view past task).segments → HasNoChoice (view (choose_in disk past task) task)
   no-choice-left past on_disk = subst (λ p. HasNoChoice (view p task)) (sym (in_is disk past task)) (by (is_clean (view past task).terms.kind && not (view past task).closed) refl) where
@@ -167,7 +159,7 @@ pub in_fewer : (disk : Shape) (task : ℕ) (past : Past) → AllByRecursion (IsS
 in_fewer disk task past on_disk = (by_in (λ p. AllByRecursion (IsSegmentOf disk (view p task).terms.block) (view p task).segments
     × (length (registered p) + choosable_by disk p task ≤ length (registered past) + choosable_by disk past task)) disk task
     (λ p h s ss are. let best = best_of is_better s ss in
-    (rw (next_view disk p task best) h.0, omega (arith, h.1, few_less disk p task best (best_left disk (view p task) s ss (numbered_is p task) h.0 are)))) past (on_disk, omega arith)).1
+    (rw (next_view disk p task best) h.0, omega (arith, h.1, few_less disk p task best (best_left disk (view p task) s ss (rw (seen p task).segments (numbered_given p task)) h.0 are)))) past (on_disk, omega arith)).1
 
 -- a task that stays gives the same rows
 pub rows-same : (past new : Past) (task now : ℕ) → view new task ≡ view past task → segment_rows by_deliveries new now task ≡ segment_rows by_deliveries past now task
@@ -189,9 +181,6 @@ past_at disk past n = fold (choose_in disk) past (range_with_len 0 n)
 
 past_more : (disk : Shape) (past : Past) (n : ℕ) → past_at disk past (n + 1) ≡ choose_in disk (past_at disk past n) n
 past_more disk past n = ap (fold (choose_in disk) past) (range_next n) ∙ fold-append (choose_in disk) past (range_with_len 0 n) (n ∷ [])
-
-fold_tasks : (disk : Shape) (ns : List ℕ) (past : Past) → tasks (fold (choose_in disk) past ns) ≡ tasks past
-fold_tasks disk ns past = by_tasks (λ p. tasks p ≡ tasks past) disk (λ p chooser segment blocks same. same) ns past refl
 
 -- a session when the first n tasks have chosen
 pub record Begins (n task : ℕ) (view : TaskView) (session : Session) : Type 0 where
@@ -223,14 +212,9 @@ partly-start disk past sessions held instant rows h = let tells = h.tells in rec
   begun = record {
     as_many = tells.as_many;
     each = λ task session at. let told = tells.each task session at in
-        record {
-          stands = told.stands;
-          at_work = told.at_work;
-          later = λ _. told.reported;
-          chosen = λ less. absurd
-              (omega (arith, less));
-          quiet = told.quiet;
-        };
+        let later : 0 ≤ task → AreReported (view past task).work = λ _. told.reported in
+        let chosen : task < 0 → HasNoChoice (view past task) = λ less. absurd (omega (arith, less)) in
+        assumption (later, chosen, told);
     blocks = tells.blocks;
     few = subst (λ k. length (registered past) + sum_by (choosable_by disk past) (range_with_len 0 k) ≤ 16 * 10 ^ 6) (let e : length (tasks past) ≡ length (tasks past) - 0 = omega arith in e) h.few;
   };
@@ -266,7 +250,7 @@ module _ {disk : Shape} {past : Past} {instant : ℕ} {before : List BackRow} wh
       let kept = flat_same (segment_rows by_deliveries after instant) (segment_rows by_deliveries old instant) (range_with_len 0 n)
       (all_range (λ k. segment_rows by_deliveries after instant k ≡ segment_rows by_deliveries old instant k) 0 n
       (λ k le lt. rows-same old after k instant (same k (λ e. absurd (omega arith))))) in
-      let given = turned.rows rows (rw (reported_rows old instant n ((h.each n session at).later (omega arith))) (sym (append-nil rows))) in
+      let given = turned.rows rows (rw (reported_rows by_deliveries old instant n ((h.each n session at).later (omega arith))) (sym (append-nil rows))) in
       record {
         begun = rw (past_more disk past n) (record {
           as_many = length-set sessions n new ∙ h.as_many;
@@ -277,14 +261,9 @@ module _ {disk : Shape} {past : Past} {instant : ℕ} {before : List BackRow} wh
             chosen = λ _. no-choice-left disk n old (h.blocks.placed n).segments;
             quiet = λ untouched. let was = (h.each n session at).quiet (sym flag ∙ untouched) in rw (stays disk n old was.chosen) was;
           }) (λ t s differ there. let was = h.each t s there in
-              rw (same t differ) (record {
-                stands = was.stands;
-                at_work = was.at_work;
-                later = λ le. was.later (omega arith);
-                chosen =
-                    λ less. was.chosen (grind arith);
-                quiet = was.quiet;
-              }));
+              let later : n + 1 ≤ t → AreReported (view old t).work = λ le. was.later (omega arith) in
+              let chosen : t < n + 1 → HasNoChoice (view old t) = λ less. was.chosen (grind arith) in
+              rw (same t differ) (assumption (later, chosen, was)));
           blocks = turned.may.blocks;
           few = omega (arith, h.few, fewer, rest, left_split (choosable_by disk old) n (length (tasks past)) within);
         });
@@ -310,16 +289,14 @@ pub all-chosen : {disk : Shape} {past : Past} {sessions : List Session} {held : 
 unfolding with_choices
 all-chosen {disk} {past} {sessions} {held} {instant} {before} {rows} h =
     let new = past_at disk past (length (tasks past)) in
-    let count = ap length (fold_tasks disk (range_with_len 0 (length (tasks past))) past) in
+    let numbers = range_with_len 0 (length (tasks past)) in
+    let count = ap length (by_tasks (λ p. tasks p ≡ tasks past) disk (λ p chooser segment blocks same. same) numbers past refl) in
     let whole = subst (Partly disk past sessions held instant before rows) h.as_many h in (
       record {
         as_many = h.as_many ∙ sym count;
-        each = λ task session at. let is = whole.each task session at in record {
-          stands = is.stands;
-          at_work = is.at_work;
-          chosen = is.chosen (omega (arith, slice_get_within sessions task session at, h.as_many));
-          quiet = is.quiet;
-        };
+        each = λ task session at. let is = whole.each task session at in
+            let chosen = is.chosen (omega (arith, slice_get_within sessions task session at, h.as_many)) in
+            assumption (chosen, is);
         blocks = whole.blocks;
       },
       whole.rows_are ∙ ap (λ n. before ++ flat_map (segment_rows by_deliveries new instant) (range_with_len 0 n)) (sym count),

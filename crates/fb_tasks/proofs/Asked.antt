@@ -45,15 +45,11 @@ one_segment : (action : Action) (before : List LogSegment) → length (segment_b
 one_segment (Segment first blocks age live) before = omega (arith, length-append before (record { number = length before + 1; first = first; blocks = blocks; age = age; live = live } ∷ []))
 one_segment _ before = omega arith
 
-given_few : (past : Past) (task : ℕ) → length (segments past task) ≤ length (calls_of past)
+pub given_few : (past : Past) (task : ℕ) → length (segments past task) ≤ length (calls_of past)
 given_few [] task = omega arith
 given_few (called call blocks ∷ past) task =
     grind (arith, given_few past task, one_segment call.action (segments past task), length-append (calls_of past) (call ∷ []))
 given_few (_ ∷ past) task = given_few past task
-
-pub segments_few : (past : Past) (task : ℕ) → length (view past task).segments ≤ length (calls_of past)
-unfolding view
-segments_few past task = given_few past task
 
 pub room_for_one : (disk : Shape) (past : Past) (sessions : List Session) (held : List Entry) (call : Call) → MayTake disk past sessions held call → length sessions < 4294967295
 room_for_one disk past sessions held call h = omega (arith, h.few_calls, tasks_few past, h.tells.as_many)

@@ -88,9 +88,6 @@ module _ (disk : Shape) (past : Past) (call : Call) where
           | inr other ↦ rw (kept, other) refl
         ]
 
-  quiet : blocks_by disk past call.task call.action ≡ [] → opened_by call.action (tasks past) ≡ tasks past → ((before : List LogSegment) → segment_by call.action before ≡ before) → Grows
-  quiet none kept gives = omega (arith, grown [] none, still [] kept gives)
-
   want_grows : (first count : ℕ) → call.action ≡ Want first count → Grows
   want_grows first count is =
       let cuts = cutting disk (terms_of past call.task).block first count in
@@ -148,7 +145,9 @@ module _ (disk : Shape) (past : Past) (call : Call) where
   by_action (Open kind weight block) is asks unopened = open_grows kind weight block is (omega (arith, asks.0, ap length (opened_same past))) unopened
   by_action (Want first count) is asks unopened = want_grows first count is
   by_action (Segment first blocks age live) is asks unopened = segment_grows first blocks age live is (open_there past call.task asks.0).0
-  by_action _ is asks unopened = quiet (ap (blocks_by disk past call.task) is) (ap (λ a. opened_by a (tasks past)) is) (λ before. ap (λ a. segment_by a before) is)
+  by_action _ is asks unopened =
+      let kept = still [] (ap (λ a. opened_by a (tasks past)) is) (λ before. ap (λ a. segment_by a before) is) in
+      omega (arith, grown [] (ap (blocks_by disk past call.task) is), kept)
 
   -- a call that keeps the rules
   pub call_grows : MayAsk disk (calls_of past) call.task call.action → ((task : ℕ) → length (tasks past) ≤ task → IsUntouched (view past task)) → Grows

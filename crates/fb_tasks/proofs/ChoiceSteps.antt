@@ -13,11 +13,11 @@ use Rattle.fb_tasks.proofs.Words.{all_append, all_filter, all_pass, all_flat, al
 use Rattle.fb_tasks.proofs.Words.{filter_same, nat_tests, or-true, length-map, map-append, nil_from_length, filter-append, Kind, is_backup}
 use Rattle.fb_tasks.proofs.Words.{is_clean, ContentRun, runs_of, sectors_of, BackRow, SegmentLine, segment_rows, is_newly_cleaned}
 use Rattle.fb_tasks.proofs.Words.{found_for, by_deliveries, held_at, HasTurned}
-use Rattle.fb_tasks.proofs.Registered.{fresh_wanted, no_smaller, indexed_append, registered-entries, named_same, blocks_in}
+use Rattle.fb_tasks.proofs.Registered.{fresh_wanted, no_smaller, indexed_append, registered-entries, named_same}
 use Rattle.fb_tasks.proofs.Cuts.{cuts_own, cuts_indexed, cuts_count}
 use Rattle.fb_tasks.proofs.Segmented.{NumberedFrom, at_number, all_best, live_placed, live_cover, live_ascend, numbered_given, choice_kept}
 use Rattle.fb_tasks.proofs.Segmented.{live_there, live_some, cuts_of_live, sum_without}
-use Rattle.fb_tasks.proofs.Complete.{busy_by}
+use Rattle.fb_tasks.proofs.{Complete.busy_by, States.seen}
 use Rattle.fb_clean.specs.Segments as clean
 use Rattle.fb_clean.proofs.Live.{live_blocks-count, live_blocks-within}
 use Rattle.fb_wanted.specs.Numbering as numbering
@@ -175,11 +175,7 @@ pub record ChoiceStep (disk : Shape) (past : Past) (task number : ℕ) (session 
   pub once : choose_once disk task past ≡ chose task best (chosen_blocks disk task (view past task) best) ∷ past
 
 idle_of : (u : Option ℕ) (ss : List clean.LogSegment) (number : ℕ) → clean.choice_while u ss ≡ Some number → u ≡ None
-idle_of None ss number h = refl
-idle_of (Some n) ss number h = absurd (none-some number h)
-
-not_busy : (past : Past) (task : ℕ) (u : Option ℕ) → u ≡ None → is_none u ≡ not (is_busy (view past task).work) → is_busy (view past task).work ≡ false
-not_busy past task u idle work = not-true (is_busy (view past task).work) (sym work ∙ ap is_none idle)
+idle_of u ss number h = grind arith
 
 -- what a choice registers it could register before
 pub next_view : (disk : Shape) (past : Past) (task : ℕ) (best : LogSegment) → view (chose task best (chosen_blocks disk task (view past task) best) ∷ past) task ≡ chosen_view task (chosen_for disk task (view past task) best) (view past task)
@@ -213,10 +209,6 @@ pub segment_rows_is : (past : Past) (now task : ℕ) → segment_rows by_deliver
 unfolding view
 segment_rows_is past now task = refl
 
-pub numbered_is : (past : Past) (task : ℕ) → NumberedFrom 1 (view past task).segments
-unfolding view
-numbered_is past task = numbered_given past task
-
 abbrev pub best_of_left : Shape → ℕ → Past → List LogSegment → Past
 best_of_left disk task past [] = past
 best_of_left disk task past (s ∷ ss) = chose task (best_of is_better s ss) (chosen_blocks disk task (view past task) (best_of is_better s ss)) ∷ past
@@ -229,8 +221,7 @@ once_is disk past task = by_left (unchosen (view past task).work) where
   by_left (s ∷ ss) = refl
 
 none_of : (u : Option ℕ) → is_none u ≡ true → u ≡ None
-none_of None h = refl
-none_of (Some n) h = absurd (true≢false (sym h))
+none_of u h = grind arith
 
 live_left : (n : ℕ) (ss : List clean.LogSegment) → map (λ (s : clean.LogSegment). s.live) (clean.without n ss) ≡ map (λ (s : clean.LogSegment). s.live) ss
 live_left n [] = refl
@@ -263,13 +254,13 @@ module _ {disk : Shape} {past : Past} {task : ℕ} {session : Session} {held : L
     idle = idle_of session.log.unfinished session.log.segments number is
 
     free : is_busy (view past task).work ≡ false
-    free = not_busy past task session.log.unfinished idle (may.at_work cleans.0)
+    free = not-true (is_busy (view past task).work) (sym (may.at_work cleans.0) ∙ ap is_none idle)
 
     by_left : (left : List LogSegment) → unchosen v.work ≡ left → ChoiceStep disk past task number session
     by_left [] are = absurd (none-some number (sym (choice_kept v.work going session.log log_is.segments idle [] are) ∙ is))
     by_left (s ∷ ss) are = record {
       best = best_of is_better s ss;
-      left = best_left disk v s ss (numbered_is past task) (may.blocks.placed task).segments are;
+      left = best_left disk v s ss (rw (seen past task).segments (numbered_given past task)) (may.blocks.placed task).segments are;
       number_is = some_same (best_of is_better s ss).number number (sym (choice_kept v.work going session.log log_is.segments idle (s ∷ ss) are) ∙ is);
       idle = idle;
       once = rw (once_is disk past task, free, are) refl;
@@ -347,7 +338,7 @@ module _ {disk : Shape} {past : Past} {task : ℕ} {session : Session} {held : L
       -- what the wanted set registers are the history's blocks
       holds_now : HoldsBlocks disk (next step.best) now
       holds_now =
-          let many : numbering.registered task (numbering.blocks_of held) ≡ length v.blocks = rw (may.blocks.entries, named_same past (registered past), blocks_in past task) refl in
+          let many : numbering.registered task (numbering.blocks_of held) ≡ length v.blocks = rw (may.blocks.entries, named_same past (registered past), (seen past task).blocks) refl in
           let blocks : numbered task session.weight (numbering.registered task (numbering.blocks_of held)) (cuts_of disk session.block (clean.live_of log number)) ≡ added step.best =
           rw (cuts_now, many, may.stands.terms) refl in
           chosen-holds disk past task step.best session held now opened (rw may.stands.terms may.stands.weight) some_block (rw may.stands.terms may.stands.block.1) small

@@ -4,12 +4,12 @@ use Rattle.fb_tasks.proofs.Words.{◌<◌, ◌&&◌, not, nat_lt, ◌++◌, true
 use Rattle.fb_tasks.proofs.Words.{append_assoc, list_all, AllByRecursion, list_any, range_with_len, cases_Bool, true≢false, length-map}
 use Rattle.fb_tasks.proofs.Words.{Block, Counts, Entry, State, is_delivered, is_aborted, of_task, counts_of, Past, registered, LogSegment}
 use Rattle.fb_tasks.proofs.Words.{Work, TaskView, view, state_in, is_over, Choice, is_cleaned, is_through, is_choice_of, is_complete}
-use Rattle.fb_tasks.proofs.Words.{is_complete_as, is_done, was_complete, entry_by, entry_of, Stands, Cleans, IsAtWork, choice_in}
+use Rattle.fb_tasks.proofs.Words.{is_complete_as, is_done, entry_by, entry_of, Stands, Cleans, IsAtWork, choice_in}
 use Rattle.fb_tasks.proofs.Words.{kept_segment, CleansBy, same_number, some_same, all_flat, any_none, each_all, find_all, find_none}
 use Rattle.fb_tasks.proofs.Words.{all_any, all_weaker, nat_tests, and-false, list_any-append, Kind, Clean, is_clean, is_busy, number_same}
 use Rattle.fb_tasks.proofs.Words.{Session, is_none, is_worked_off, are_over, complete_as, complete_by, length-filter, BackRow, TaskLine}
 use Rattle.fb_tasks.proofs.Words.{task_row, map-range_with_len_more}
-use Rattle.fb_tasks.proofs.States.{shown, shown_delivered, shown_aborted}
+use Rattle.fb_tasks.proofs.States.{seen, shown, shown_delivered, shown_aborted}
 use Rattle.std.proofs.lemmas.List.Sums.{count_by-le-length}
 use Rattle.fb_model.specs.History.{blocks_of}
 use Rattle.fb_wanted.specs.Numbering as numbering
@@ -60,12 +60,6 @@ over_counts : (f : Block → State) (bs : List Block) → let done = length (fil
     (done + ended ≤ length bs) × ((done + ended == length bs) ≡ list_all (λ b. is_over (f b)) bs)
 over_counts f [] = (omega arith, refl)
 over_counts f (b ∷ bs) = grind (arith, nat_tests, over_counts f bs)
-
-pub counts_fit : (work : Work) → (counts_in work).delivered + (counts_in work).aborted ≤ (counts_in work).registered
-counts_fit work = (over_counts work.bare work.blocks).0
-
-pub over_same : (work : Work) → ((counts_in work).delivered + (counts_in work).aborted == (counts_in work).registered) ≡ list_all (λ b. is_over (work.bare b)) work.blocks
-over_same work = (over_counts work.bare work.blocks).1
 
 -- a task is busy where the segment that it cleans isn't cleaned yet
 none_busy : (w : Work) (cs : List Choice) → AllByRecursion (λ choice. is_cleaned w choice ≡ true) cs → list_any (λ choice. not (is_cleaned w choice)) cs ≡ false
@@ -136,17 +130,9 @@ module _ (w : Work) (log : clean.Cleaning) (h : Cleans w log) where
         | inr going ↦ rw (size, says, inner_same work going h.current h.by, going) refl
       ]
 
-pub done_is : (past : Past) (task : ℕ) → is_done (view past task).work ≡ is_complete past task
-unfolding view is_complete
-done_is past task = refl
-
-pub was_is : (past : Past) (task : ℕ) → (view past task).was_complete ≡ was_complete past task
-unfolding view
-was_is past task = refl
-
 module _ (past : Past) (task : ℕ) (session : Session) (held : List Entry) (stands : Stands (view past task) session) (work : IsAtWork (view past task).work session) (entries : held ≡ map (entry_of past) (registered past)) where
   over_now : are_over (counts_of task held) ≡ (nat_lt 0 (length (view past task).blocks) && list_all (λ b. is_over ((view past task).bare b)) (view past task).blocks)
-  over_now = ap are_over (counts_same past task held entries) ∙ rw (over_same (view past task).work) refl
+  over_now = ap are_over (counts_same past task held entries) ∙ rw (over_counts (view past task).bare (view past task).blocks).1 refl
 
   complete_as_same : (kind : Kind) → kind ≡ session.kind → complete_as kind session (counts_of task held) ≡ is_complete_as (view past task).work kind
   complete_as_same Clean e =
@@ -159,12 +145,12 @@ module _ (past : Past) (task : ℕ) (session : Session) (held : List Entry) (sta
   done_same = complete_as_same session.kind refl ∙ ap (λ t. is_complete_as (view past task).work t.kind) (sym stands.terms)
 
   pub complete_same : complete_by session (counts_of task held) ≡ is_complete past task
-  complete_same = done_same ∙ done_is past task
+  complete_same = done_same ∙ (seen past task).done
 
 pub counts_small : (past : Past) (task : ℕ) (held : List Entry) (counts : Counts) → counts ≡ counts_of task held → held ≡ map (entry_of past) (registered past) → counts.registered < 4294967296 → counts.delivered + counts.aborted < 4294967296
 counts_small past task held counts same entries fits =
     let e = same ∙ counts_same past task held entries in
-    omega (arith, counts_fit (view past task).work, ap (λ c. c.delivered) e, ap (λ c. c.aborted) e, ap (λ c. c.registered) e)
+    omega (arith, (over_counts (view past task).bare (view past task).blocks).0, ap (λ c. c.delivered) e, ap (λ c. c.aborted) e, ap (λ c. c.registered) e)
 
 -- and one more element of a list that goes by numbers
 pub map_more : {X : Type 0} (f : ℕ → X) (before rows more : List X) (n : ℕ) (x : X) → rows ≡ before ++ map f (range_with_len 0 n) → x ≡ f n → more ≡ rows ++ x ∷ [] → more ≡ before ++ map f (range_with_len 0 (n + 1))

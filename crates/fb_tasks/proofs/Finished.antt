@@ -3,11 +3,11 @@ use Rattle.fb_tasks.proofs.Words.{◌≡◌, ℕ, suc, ◌==◌, not, if◌then�
 use Rattle.fb_tasks.proofs.Words.{inr, length, filter, append-nil, refl, ap, sym, ◌∙◌, arith, AllByRecursion, flat_map, list_any}
 use Rattle.fb_tasks.proofs.Words.{range_with_len, option_map, cases_Bool, true≢false, filter-append, none-some, Shape, is_clean, BackRow}
 use Rattle.fb_tasks.proofs.Words.{SegmentLine, ContentRun, held_sector, held_in, runs_of, sectors_of, Block, Counts, Entry, is_delivered}
-use Rattle.fb_tasks.proofs.Words.{counts_of, Past, bare_state, content_of, Choice, Work, view, is_cleaned, segment_rows, is_newly_cleaned}
+use Rattle.fb_tasks.proofs.Words.{counts_of, Past, Choice, Work, view, is_cleaned, segment_rows, is_newly_cleaned}
 use Rattle.fb_tasks.proofs.Words.{Session, is_none, found_for, by_deliveries, Stands, Cleans, MayFinish, IsAtWork, IsCutFrom, HoldsBlock}
 use Rattle.fb_tasks.proofs.Words.{choice_in, CleansBy, all_weaker, all_with, all_append, all_left, all_right, all_flat, flat_all, flat_same}
 use Rattle.fb_tasks.proofs.Words.{some_same, filter_none, each_all, list_all_each, other_number}
-use Rattle.fb_tasks.proofs.{Complete.counts_same, Complete.filter-le, Complete.busy_by, Segmented.live_there}
+use Rattle.fb_tasks.proofs.{Complete.counts_same, Complete.filter-le, Complete.busy_by, Segmented.live_there, RowsOf.reported_rows}
 use Rattle.std.proofs.lemmas.Grind.{flat_map-append}
 use Rattle.fb_clean.specs.Segments as clean
 use Rattle.fb_clean.proofs.Live.{live_blocks-count}
@@ -45,16 +45,12 @@ pub record IsSegmentTested (past : Past) (task now : ℕ) (session : Session) (a
 abbrev not_newly : Work → Choice → Type 0
 not_newly w choice = is_newly_cleaned w choice ≡ false
 
-no_rows : (past : Past) (task now : ℕ) → AllByRecursion (not_newly (view past task).work) (view past task).choices → [] ≡ segment_rows by_deliveries past now task
-unfolding view bare_state content_of
-no_rows past task now h = rw (filter_none (is_newly_cleaned (view past task).work) (view past task).choices h) refl
-
 module _ {disk : Shape} {past : Past} {task : ℕ} {held : List Entry} (session : Session) (h : MayFinish disk past task session held) (now : ℕ) where
   other_tested : is_clean session.kind ≡ false → IsSegmentTested past task now session []
   other_tested other = record {
     stands = h.stands;
     at_work = λ cleans. absurd (true≢false (sym cleans ∙ other));
-    rows = no_rows past task now (rw (h.stands.unchosen other) tt);
+    rows = sym (reported_rows by_deliveries past now task (rw (h.stands.unchosen other) tt));
   }
 
   -- the row of a finished segment
@@ -83,8 +79,8 @@ module _ {disk : Shape} {past : Past} {task : ℕ} {held : List Entry} (session 
     unfinished_tested current by not_yet = record {
       stands = h.stands;
       at_work = λ _. rw (by.unfinished, busy_by by) (at_work current not_yet);
-      rows = no_rows past task now (rw by.chosen (all_append (not_newly w) log.done (choice_in current) (done_silent current by)
-          (all_weaker (λ choice. is_cleaned w choice ≡ false) (not_newly w) (λ choice e. rw e refl) (choice_in current) not_yet)));
+      rows = sym (reported_rows by_deliveries past now task (rw by.chosen (all_append (not_newly w) log.done (choice_in current) (done_silent current by)
+          (all_weaker (λ choice. is_cleaned w choice ≡ false) (not_newly w) (λ choice e. rw e refl) (choice_in current) not_yet))));
     } where
       at_work : (current : Option Choice) → AllByRecursion (λ choice. is_cleaned w choice ≡ false) (choice_in current)
           → is_none (option_map (λ choice. choice.segment.number) current) ≡ not (list_any (λ choice. not (is_cleaned w choice)) (choice_in current))

@@ -13,31 +13,34 @@ the_other : {P Q : Type 0} → P ⊎ Q → (P → ⊥) → Q
 the_other either none = elim either [ inl p ↦ absurd (none p) | inr q ↦ q ]
 
 module _ {sessions : List Session} {touched asked : BTreeSet ℕ} (h : AreListed sessions touched asked) where
-  -- a session that is listed changes
-  pub listed_set : (task : ℕ) (new : Session) → contains nat_cmp touched task ≡ true → AreListed (set sessions task new) touched asked
-  listed_set task new there = record {
+  -- a session changes, and is listed where it has to be
+  listed_changed : (task : ℕ) (new : Session) → IsTouchedIn touched task new → IsAskedIn asked task new → AreListed (set sessions task new) touched asked
+  listed_changed task new there asked_there = record {
     room = omega (arith, h.room, length-set sessions task new);
-    listed = each_set (IsTouchedIn touched) sessions task new (λ _. there) (λ k session differ at. h.listed k session at);
+    listed = each_set (IsTouchedIn touched) sessions task new there (λ k session differ at. h.listed k session at);
     covered = h.covered;
-    backups = each_set (IsAskedIn asked) sessions task new (λ _. h.covered task there) (λ k session differ at. h.backups k session at);
+    backups = each_set (IsAskedIn asked) sessions task new asked_there (λ k session differ at. h.backups k session at);
     within = λ k is. omega (arith, h.within k is, length-set sessions task new);
   }
 
-  -- a session changes, but stays as touched and as open as it was
+module _ {sessions : List Session} {touched asked : BTreeSet ℕ} (h : AreListed sessions touched asked) where
+  -- it is listed already
+  pub listed_set : (task : ℕ) (new : Session) → contains nat_cmp touched task ≡ true → AreListed (set sessions task new) touched asked
+  listed_set task new there = listed_changed h task new (λ _. there) (λ _. h.covered task there)
+
+  -- or stays as touched and as open as it was
   pub listed_kept : (task : ℕ) (old new : Session) → task < length sessions → old ≡ get_or sessions task old → new.touched ≡ old.touched → (is_backup new.kind && not new.sealed) ≡ (is_backup old.kind && not old.sealed) → AreListed (set sessions task new) touched asked
   listed_kept task old new within at same open_same =
       let there = slice_get-get_or sessions task old within ∙ ap Some (sym at) in
-      record {
-        room = omega (arith, h.room, length-set sessions task new);
-        listed = each_set (IsTouchedIn touched) sessions task new (λ is. h.listed task old there (sym same ∙ is)) (λ k session differ at. h.listed k session at);
-        covered = h.covered;
-        backups = each_set (IsAskedIn asked) sessions task new (λ is. h.backups task old there (sym open_same ∙ is)) (λ k session differ at. h.backups k session at);
-        within = λ k is. omega (arith, h.within k is, length-set sessions task new);
-      }
+      listed_changed h task new (λ is. h.listed task old there (sym same ∙ is)) (λ is. h.backups task old there (sym open_same ∙ is))
 
-  -- the session of a listed task
+  -- a listed task has a session
+  pub listed_within : (task : ℕ) → contains nat_cmp touched task ≡ true → task < length sessions
+  listed_within task is = h.within task (h.covered task is)
+
+  -- which is
   pub listed_there : (task : ℕ) (session : Session) → contains nat_cmp touched task ≡ true → session ≡ get_or sessions task session → slice_get sessions task ≡ Some session
-  listed_there task session is at = slice_get-get_or sessions task session (h.within task (h.covered task is)) ∙ ap Some (sym at)
+  listed_there task session is at = slice_get-get_or sessions task session (listed_within task is) ∙ ap Some (sym at)
 
   -- a task is noted
   module _ {task : ℕ} {more more_asked : BTreeSet ℕ} (less : task < length sessions) (is : IsNoted task touched asked more more_asked) where
@@ -52,13 +55,7 @@ module _ {sessions : List Session} {touched asked : BTreeSet ℕ} (h : AreListed
 
     -- and its session changes
     pub listed_noted : contains nat_cmp more task ≡ true → contains nat_cmp more_asked task ≡ true → (new : Session) → AreListed (set sessions task new) more more_asked
-    listed_noted noted asked_noted new = let all = listed_more in record {
-      room = omega (arith, h.room, length-set sessions task new);
-      listed = each_set (IsTouchedIn more) sessions task new (λ _. noted) (λ k session differ at. all.listed k session at);
-      covered = all.covered;
-      backups = each_set (IsAskedIn more_asked) sessions task new (λ _. asked_noted) (λ k session differ at. all.backups k session at);
-      within = λ k now. omega (arith, all.within k now, length-set sessions task new);
-    }
+    listed_noted noted asked_noted new = listed_changed listed_more task new (λ _. noted) (λ _. asked_noted)
 
   -- a session that isn't touched is opened, and asked if it is a backup
   pub listed_push : (new : Session) (more_asked : BTreeSet ℕ) (task : ℕ) → task ≡ length sessions → new.touched ≡ false → length sessions < 4294967295 → ((k : ℕ) → contains nat_cmp asked k ≡ true → contains nat_cmp more_asked k ≡ true)

@@ -4,6 +4,7 @@ use Rattle.fb_tasks.proofs.Words.{filter, map, refl, ap, sym, ◌∙◌, arith, 
 use Rattle.fb_tasks.proofs.Words.{Block, Entry, Wanted, wanted_unless, Past, registered, same_block, view, own_of, state_in, number_same}
 use Rattle.fb_tasks.proofs.Words.{Session, new_entries, entry_of, AreIndexed, entry_in, all_weaker, all_pass, all_with, map_same}
 use Rattle.fb_tasks.proofs.Words.{same_number, other_number, one_or_other, nat_tests}
+use Rattle.fb_tasks.proofs.States.{seen}
 use Rattle.fb_model.specs.History.{blocks_of}
 use Rattle.fb_wanted.specs.Numbering as numbering
 
@@ -45,10 +46,6 @@ none_again past task added before after own =
       | inr other ↦ no_own block task added (other_number block.task task other) own
     ]) (registered past) (indexed_below task 0 (length (blocks_of past task)) (registered past) (omega arith) before)
 
-pub blocks_in : (past : Past) (task : ℕ) → (view past task).blocks ≡ blocks_of past task
-unfolding view
-blocks_in past task = refl
-
 -- the blocks of a task are its own
 pub own : (past : Past) (task : ℕ) → AllByRecursion (λ block. block.task ≡ task) (view past task).blocks
 unfolding view
@@ -82,7 +79,7 @@ module _ (past new : Past) (task : ℕ) (added : List Block)
     (before : AreIndexed 0 (view past task).blocks) (after : AreIndexed (length (view past task).blocks) added) (own : AllByRecursion (λ b. b.task ≡ task) added) where
   pub old_bare : AllByRecursion (λ block. block.task ≡ task → (view new task).bare block ≡ (view past task).bare block) (registered past)
   old_bare = all_weaker (λ block. list_any (same_block block) added ≡ false) (λ block. block.task ≡ task → (view new task).bare block ≡ (view past task).bare block)
-      (λ block none mine. bare block ∙ rw (ap (λ t. list_any (same_block (own_of t block)) added) (sym mine) ∙ none) refl) (registered past) (none_again past task added (rw (sym (blocks_in past task)) before) (rw (sym (blocks_in past task)) after) own)
+      (λ block none mine. bare block ∙ rw (ap (λ t. list_any (same_block (own_of t block)) added) (sym mine) ∙ none) refl) (registered past) (none_again past task added (rw (sym (seen past task).blocks) before) (rw (sym (seen past task).blocks) after) own)
 
   pub registered-entries : (session : Session) (held now : List Entry) → session.suspended ≡ (view past task).suspended
       → held ≡ map (entry_of past) (registered past) → now ≡ held ++ new_entries session added → now ≡ map (entry_of new) (registered past ++ added)

@@ -7,6 +7,7 @@ use Rattle.fb_tasks.proofs.Words.{take_more, get_or_past, slice_get_within, get_
 use Rattle.fb_tasks.proofs.Words.{cases_Bool, nat_tests, list_any-append, BackRow, BadLine, SealLine, SegmentLine, CompleteLine}
 use Rattle.fb_tasks.proofs.Words.{DeliveryRow, Past, tasks, task_numbers, terms_of, is_seal_of, is_open_backup, Choice, view, work, choices}
 use Rattle.fb_tasks.proofs.Words.{is_complete, was_complete, is_segment_of, live_count, AreRowsOf, all_any, any_same, any_none, Plain}
+use Rattle.fb_tasks.proofs.Words.{AreReported, filter_none}
 use Rattle.fb_tasks.proofs.Cuts.{range_more}
 use Rattle.fb_rows.specs.declared.back.CompleteRow.{CompleteRow}
 use Rattle.fb_rows.specs.declared.back.SealRow.{SealRow}
@@ -101,6 +102,11 @@ module _ (sources : Sources) (past : Past) (now : ℕ) where
       rw (list_any-append, no_tasks past (is_segment_of task number) (λ t. seal_rows sources past now t ++ complete_rows past now t) (no_segments task number), or-false)
       (any_tasks past (is_segment_of task number) (segment_rows sources past now) (λ t. list_any (λ choice. (choice.segment.number == number) && is_newly_cleaned (work past t) choice) (choices past t)) task
       (λ t. segments_by task t number (is_newly_cleaned (work past t)) (choices past t)) (λ beyond. rw (unopened beyond) refl))
+
+-- where each segment has its row none is given
+pub reported_rows : (sources : Sources) (past : Past) (now task : ℕ) → AreReported (view past task).work → segment_rows sources past now task ≡ []
+unfolding view
+reported_rows sources past now task h = rw (filter_none (is_newly_cleaned (view past task).work) (view past task).choices h) refl
 
 -- rows that neither seal a task nor report a segment
 pub record AreMute (rows : List BackRow) : Type 0 where

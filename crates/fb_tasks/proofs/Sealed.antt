@@ -7,10 +7,10 @@ use Rattle.fb_tasks.proofs.Words.{HoldsBlock, HoldsBlocks, HoldsImage, Stands, a
 use Rattle.fb_tasks.proofs.Words.{filter_from, map_at, some_at, list_all_each, and-false, and_comm, and-true, or-false, slice_get_within}
 use Rattle.fb_tasks.proofs.Words.{get_or_from_slice_get, take_more, and_parts, cases_Bool, Shape, Kind, Backup, is_backup, ContentRun}
 use Rattle.fb_tasks.proofs.Words.{held_at, runs_of, sectors_of, Entry, is_delivered, is_aborted, is_block, counts_of, Past, tasks}
-use Rattle.fb_tasks.proofs.Words.{registered, is_open_backup, Work, TaskView, view, is_unsealed, is_over, is_complete, is_complete_as}
+use Rattle.fb_tasks.proofs.Words.{registered, Work, TaskView, view, is_unsealed, is_over, is_complete, is_complete_as}
 use Rattle.fb_tasks.proofs.Words.{is_done, number_same, without_aborted, SealLine, seal_rows, BackRow, found_for, by_deliveries, Session}
 use Rattle.fb_tasks.proofs.Words.{take-length, all_both, list_any-append}
-use Rattle.fb_tasks.proofs.{Complete.counts_same, Registered.blocks_in, Registered.own, States.shown_aborted, Changes.open_by}
+use Rattle.fb_tasks.proofs.{Complete.counts_same, States.seen, Registered.own, States.shown_aborted, Changes.open_by}
 use Rattle.std.proofs.lemmas.Grind.{flat_map-append}
 use Rattle.fb_geometry.proofs.Turns.{range-append}
 
@@ -37,12 +37,9 @@ before_it a n lbn lt = grind (arith, nat_tests)
 pub behind_it : (a n lbn : ℕ) → a + n ≤ lbn → is_within a n lbn ≡ false
 behind_it a n lbn le = grind (arith, nat_tests)
 
-nothing_in : (lbns : List ℕ) → held_in (λ lbn. None) lbns ≡ []
-nothing_in [] = refl
-nothing_in (lbn ∷ lbns) = nothing_in lbns
-
 held_none : (now : ℕ → Option Content) (a n : ℕ) → ((k : ℕ) → a ≤ k → k < a + n → now k ≡ None) → held_in now (range_with_len a n) ≡ []
-held_none now a n none = held_same now (λ lbn. None) a n none ∙ nothing_in (range_with_len a n)
+held_none now a zero none = refl
+held_none now a (suc n) none = rw (none a (omega arith) (omega arith)) (held_none now (a + 1) n (λ k le lt. none k (omega arith) (omega arith)))
 
 -- a sector lies in an aborted block
 abbrev pub is_hit : TaskView → ℕ → Block → Bool
@@ -155,7 +152,7 @@ pub record HasEntry (held : List Entry) (task index : ℕ) (entry : Entry) : Typ
 module _ {disk : Shape} {past : Past} {held : List Entry} (h : HoldsBlocks disk past held) (task : ℕ) where
   pub entry_at : (index : ℕ) (block : Block) → slice_get (view past task).blocks index ≡ Some block → HasEntry held task index (entry_in (view past task) block)
   entry_at index block at =
-      let place = filter_from (λ (b : Block). b.task == task) (registered past) index block (rw (sym (blocks_in past task)) at) in
+      let place = filter_from (λ (b : Block). b.task == task) (registered past) index block (rw (sym (seen past task).blocks) at) in
       let mine = all_at (λ (b : Block). b.task ≡ task) (view past task).blocks index block (own past task) at in
       subst (HasEntry held task index) (ap (λ t. entry_in (view past t) block) mine) (record {
         place = place.0;
@@ -178,13 +175,9 @@ module _ {disk : Shape} {past : Past} {held : List Entry} (h : HoldsBlocks disk 
   sealed_content session now content stands is_open complete drops ends gives =
       let backup : is_backup session.kind ≡ true = ap (λ t. is_backup t.kind) (sym stands.terms) ∙ (and_parts (is_backup (view past task).terms.kind) (not (view past task).sealed) is_open).0 in
       let within = all_weaker (IsBlockOf disk (length (tasks past))) (λ (block : Block). block.lbn + block.count ≤ 10 ^ 12) (λ block on_disk. on_disk.within) (view past task).blocks
-      (rw (blocks_in past task) (all_filter (IsBlockOf disk (length (tasks past))) (λ (b : Block). b.task == task) (registered past) h.on_disk)) in
+      (rw (seen past task).blocks (all_filter (IsBlockOf disk (length (tasks past))) (λ (b : Block). b.task == task) (registered past) h.on_disk)) in
       gives (10 ^ 12) ends ∙ ap runs_of (sealed_held (view past task) (stands.ascend backup) (backup_over (view past task).work (ap (λ t. is_backup t.kind) stands.terms ∙ backup) complete)
       (held_at session.image) now (stands.image is_open) drops (10 ^ 12) within)
-
-pub open_is : (past : Past) (task : ℕ) → is_unsealed (view past task) ≡ is_open_backup past task
-unfolding view
-open_is past task = refl
 
 seal_rows_is : (past : Past) (now task : ℕ) → seal_rows by_deliveries past now task ≡ (if is_unsealed (view past task) && is_done (view past task).work
     then SealLine (record { task = task; instant = now; content = found_for (view past task).work (filter (λ block. is_delivered ((view past task).bare block)) (view past task).blocks) }) ∷ [] else [])

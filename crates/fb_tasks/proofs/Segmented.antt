@@ -51,8 +51,7 @@ best_map f p q same x [] = refl
 best_map f p q same x (y ∷ ys) =
     ap (λ z. best_of q z (map f ys)) (ap (λ t. if t then f y else f x) (same y x) ∙ pushed (p y x)) ∙ best_map f p q same (if p y x then y else x) ys where
       pushed : (b : Bool) → (if b then f y else f x) ≡ f (if b then y else x)
-      pushed true = refl
-      pushed false = refl
+      pushed b = grind arith
 
 -- what holds of all holds of the best one
 pub all_best : {X : Type 0} (P : X → Type 0) (p : X → X → Bool) (x : X) (xs : List X) → P x → AllByRecursion P xs → P (best_of p x xs)

@@ -3,7 +3,9 @@ use Rattle.fb_tasks.proofs.Words.{◌≡◌, ℕ, ◌&&◌, not, if◌then◌els
 use Rattle.fb_tasks.proofs.Words.{AllByRecursion, true≢false, Block, State, Wanted, Suspended, Aborted, is_wanted, is_delivered}
 use Rattle.fb_tasks.proofs.Words.{is_suspended, is_open, is_aborted, wanted_unless, Past, bare_state, Work, TaskView, view, own_of, ended}
 use Rattle.fb_tasks.proofs.Words.{with_states, is_unsealed, Content, HoldsBlock, Stands, Told, IsQuiet, HoldsImage, AreReported, Cleans}
-use Rattle.fb_tasks.proofs.Words.{IsAtWork, Session, is_clean, held_at, all_weaker}
+use Rattle.fb_tasks.proofs.Words.{IsAtWork, Session, is_clean, held_at, all_weaker, is_done, is_complete, was_complete, is_open_backup}
+use Rattle.fb_tasks.proofs.Words.{terms_of, segments}
+use Rattle.fb_model.specs.History.{blocks_of}
 
 -- a block of a task that is held back is suspended where it would be wanted
 abbrev pub shown : State → Bool → State
@@ -37,6 +39,19 @@ never_suspended (event ∷ past) block = grind (arith, never_suspended past bloc
 pub never_held_back : (past : Past) (task : ℕ) (block : Block) → is_suspended ((view past task).bare block) ≡ false
 unfolding view
 never_held_back past task block = never_suspended past (own_of task block)
+
+-- what the history itself says of a task
+pub record IsSeen (past : Past) (task : ℕ) : Type 0 where
+  pub done : is_done (view past task).work ≡ is_complete past task
+  pub was : (view past task).was_complete ≡ was_complete past task
+  pub unsealed : is_unsealed (view past task) ≡ is_open_backup past task
+  pub kind : (terms_of past task).kind ≡ (view past task).terms.kind
+  pub blocks : (view past task).blocks ≡ blocks_of past task
+  pub segments : (view past task).segments ≡ segments past task
+
+pub seen : (past : Past) (task : ℕ) → IsSeen past task
+unfolding view is_complete
+seen past task = record { done = refl; was = refl; unsealed = refl; kind = refl; blocks = refl; segments = refl }
 
 -- what is aborted was not delivered
 pub ended-done : (hit : Bool) (before : State) → is_delivered (ended hit before) ≡ is_delivered before

@@ -6,11 +6,11 @@ use Rattle.fb_tasks.proofs.Words.{BackRow, SealLine, CompleteLine, Content, held
 use Rattle.fb_tasks.proofs.Words.{content_of, is_open_backup, registered, Choice, TaskView, view, tested_view, is_unsealed, is_cleaned}
 use Rattle.fb_tasks.proofs.Words.{is_done, is_complete, is_segment_of, work, is_busy, Sources, test_rows, segment_rows, seal_rows}
 use Rattle.fb_tasks.proofs.Words.{complete_rows, is_newly_cleaned, number_same, tested-view, Session, is_none, IsSealed, AreRowsOf}
-use Rattle.fb_tasks.proofs.Words.{AreReported, IsAtWork, Stands, Cleans, HoldsBlock, HoldsImage, choice_in, CleansBy, IsUntouched, IsQuiet}
-use Rattle.fb_tasks.proofs.Words.{HasNoChoice, HoldsBlocks, HasChosen, HaveChosen, IsSettled, Tells, all_weaker, filter_none, flat_none}
+use Rattle.fb_tasks.proofs.Words.{AreReported, IsAtWork, Stands, Cleans, HoldsBlock, HoldsImage, choice_in, CleansBy, IsUntouched}
+use Rattle.fb_tasks.proofs.Words.{HasNoChoice, HoldsBlocks, HasChosen, HaveChosen, IsSettled, Tells, all_weaker, flat_none}
 use Rattle.fb_tasks.proofs.Words.{all_range, some_at, each_set, step_to, get_or_past, length-set, Shape, Entry, by_deliveries, Plain}
 use Rattle.fb_tasks.proofs.Words.{is_clean, subst, IsTested, ends_of, slice_get_within}
-use Rattle.fb_tasks.proofs.{RowsOf.rows-given, RowsOf.nothing-mute, Sealed.held_same, Complete.busy_by, Frames.kept-entries}
+use Rattle.fb_tasks.proofs.{RowsOf.reported_rows, RowsOf.rows-given, RowsOf.nothing-mute, Sealed.held_same, Complete.busy_by, Frames.kept-entries}
 use Rattle.fb_tasks.proofs.{Frames.get_other, Frames.set_same, Additions.none-yet, States.flagged-stands, Cuts.range_next}
 use Rattle.std.proofs.lemmas.Grind.{flat_map-append}
 use Rattle.fb_clean.specs.Segments as clean
@@ -78,10 +78,6 @@ is_done_after : (past : Past) (rows : List BackRow) (task : ℕ) → is_complete
 unfolding is_complete bare_state content_of
 is_done_after past rows task = refl
 
-no_segments : (past : Past) (rows : List BackRow) (task : ℕ) → AreReported (tested_view task rows (view past task)).work → (sources : Sources) (now : ℕ) → segment_rows sources (tested rows ∷ past) now task ≡ []
-unfolding view bare_state content_of
-no_segments past rows task reported sources now = rw (filter_none (is_newly_cleaned (tested_view task rows (view past task)).work) (view past task).choices reported) refl
-
 seals-after : (past : Past) (rows : List BackRow) (task : ℕ) → (is_open_backup (tested rows ∷ past) task && is_complete (tested rows ∷ past) task) ≡ (is_unsealed (tested_view task rows (view past task)) && is_done (view past task).work)
 unfolding view bare_state content_of is_complete
 seals-after past rows task = refl
@@ -97,7 +93,8 @@ settled-tested past rows given = record {
   no_rows = λ sources now. rw (
     flat_none (segment_rows sources (tested rows ∷ past) now) (task_numbers past)
         (all_range (λ task. segment_rows sources (tested rows ∷ past) now task ≡ []) 0 (length (tasks past))
-        (λ task from less. no_segments past rows task (reported-tested task (view past task) rows (given task (omega (arith, less)))) sources now)),
+        (λ task from less. reported_rows sources (tested rows ∷ past) now task (rw (tested-view past rows task)
+        (reported-tested task (view past task) rows (given task (omega (arith, less))))))),
     flat_none (λ task. seal_rows sources (tested rows ∷ past) now task ++ complete_rows (tested rows ∷ past) now task) (task_numbers past)
         (all_range (λ task. (seal_rows sources (tested rows ∷ past) now task ++ complete_rows (tested rows ∷ past) now task) ≡ []) 0 (length (tasks past))
         (λ task from less. no_others past rows task (unsealed-tested task (view past task) rows (given task (omega (arith, less)))) sources now)),
@@ -207,10 +204,6 @@ untouched-tested disk past held h task beyond rows given =
     let reported : (number : ℕ) → (tested_view task rows (view past task)).reported number ≡ false = λ number. rw (given.segments number, was.choices) (was.reported number) in
     assumption (never, sealed, reported, was)
 
--- a task that was tested is quiet, if it has no segment to choose
-quiet-tested : (task : ℕ) (v : TaskView) (rows : List BackRow) → AreRowsOf task v rows → HasNoChoice v → IsQuiet (tested_view task rows v)
-quiet-tested task v rows given none = record { tested = refl; sealed = unsealed-tested task v rows given; chosen = none }
-
 -- after a test of each task the sessions tell the history again
 pub tells-tested : {disk : Shape} {past : Past} {held : List Entry} (rows : List BackRow) (sessions : List Session) → HoldsBlocks disk past held → length sessions ≡ length (tasks past) → AreAllRows past rows
     → ((task : ℕ) (session : Session) → slice_get sessions task ≡ Some session → (Stands (view (tested rows ∷ past) task) session) × (IsAtWork (view (tested rows ∷ past) task).work session))
@@ -222,7 +215,11 @@ tells-tested {disk} {past} {held} rows sessions h as_many given each chosen = re
     stands = (each task session at).0;
     at_work = (each task session at).1;
     reported = rw (tested-view past rows task) (reported-tested task (view past task) rows (given task));
-    quiet = λ untouched. rw (tested-view past rows task) (quiet-tested task (view past task) rows (given task) (chosen task session at untouched));
+    quiet = λ untouched. rw (tested-view past rows task) (record {
+      tested = refl;
+      sealed = unsealed-tested task (view past task) rows (given task);
+      chosen = chosen task session at untouched;
+    });
   };
   blocks = record {
     entries = h.entries ∙ kept-entries (view past) (view (tested rows ∷ past)) (λ t b. rw (tested-view past rows t) refl) (registered past);

@@ -95,6 +95,7 @@ fn bad_sectors(alloc: Global, content: &Contents) -> Result<Vec<u64>, NoMemory>
 }
 
 // Adds the sectors of a run.
+#[tactic(auto, using(crate::proofs::RowsOf::range_pushed))]
 fn push_range(lbns: &mut Vec<u64>, first: u64, count: u64) -> Result<(), NoMemory>
     requires { first + count ≤ 10 ^ 12 }
     ensures { OnOk result (lbns.new.items ≡ lbns.old.items ++ range_with_len first count) }

@@ -62,6 +62,7 @@ impl Model for Sessions {
 
 impl Sessions {
     /// No session.
+    #[tactic(auto, unfolding(fb_model::specs::Completion::view))]
     pub fn new(alloc: Global) -> Self
         ensures { (disk : Shape) → Tells disk [] result [] }
     {
@@ -239,6 +240,7 @@ impl Sessions {
     }
 
     // Wants the blocks of a range.
+    #[tactic(auto, using(crate::proofs::Additions::wanted_begun))]
     fn want(
         &mut self,
         map: &SectorMap,
@@ -334,7 +336,7 @@ impl Sessions {
     }
 
     // Lets each touched session choose, in order of opening: no other would choose anything.
-    #[tactic(auto, using(crate::proofs::Listed::listed_set))]
+    #[tactic(auto, using(crate::proofs::Listed::listed_set, crate::proofs::Listed::listed_within))]
     fn choose_all(
         &mut self,
         map: &SectorMap,
@@ -358,7 +360,7 @@ impl Sessions {
     }
 
     // Tests each touched session, in order of opening: no other would give a row.
-    #[tactic(auto, using(crate::proofs::Listed::listed_set, crate::proofs::Leaving::grown_more))]
+    #[tactic(auto, using(crate::proofs::Listed::listed_set, crate::proofs::Leaving::grown_more, crate::proofs::Listed::listed_within))]
     fn test_all(&mut self, wanted: &Wanted, now: Ns, rows: &mut BackRows) -> Result<(), NoMemory>
         requires { (disk : Shape) × (past : Past) × HaveChosen disk past self.old wanted.now }
         ensures tested { OnOk result ((disk : Shape) (past : Past) → HaveChosen disk past self.old wanted.now

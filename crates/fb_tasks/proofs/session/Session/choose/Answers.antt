@@ -1,18 +1,10 @@
 use Rattle.fb_tasks.proofs.Words.{◌≡◌, not, refl, ap, sym, ◌∙◌, arith, and_parts, is_clean, choose_up_to, not-true}
 use Rattle.fb_tasks.proofs.Leaving.{grown_not, grown_more, registers_none, registers_more}
-use Rattle.fb_tasks.proofs.AllChoices.{up_to_more, still-turned, idle-turned, turned-on, turns_in}
+use Rattle.fb_tasks.proofs.AllChoices.{up_to_split, still-turned, idle-turned, turned-on, turns_in}
 use Rattle.fb_tasks.proofs.session.Session.choose.Goals as goal
 
 pub returns-then-not-may_choose-clause-chosen : goal.returns-then-not-may_choose-clause-chosen
 returns-then-not-may_choose-clause-chosen c = λ past may. idle-turned (sym c.may_choose.ensures ∙ c.if-not-may_choose.true) may
-
-pub returns-in_err-choose_one-clause-own : goal.returns-in_err-choose_one-clause-own
-returns-in_err-choose_one-clause-own c =
-    registers_more (λ other. other ≡ c.args.task) c.args.wanted.now c.loop-turn.wanted c.choose_one.new.wanted c.loop-turn.invariant.own c.choose_one.ensures.own
-
-pub returns-then-not-branch-clause-own : goal.returns-then-not-branch-clause-own
-returns-then-not-branch-clause-own c =
-    registers_more (λ other. other ≡ c.args.task) c.args.wanted.now c.loop-turn.wanted c.choose_one.new.wanted c.loop-turn.invariant.own c.choose_one.ensures.own
 
 pub choose_one-requires-clause-may : goal.choose_one-requires-clause-may
 choose_one-requires-clause-may c = (choose_up_to c.loop-turn._turn c.args.map.now c.args.task c.requires.0, (c.loop-turn.invariant.turned c.requires.0 c.requires.1).may)
@@ -36,7 +28,7 @@ loop-turn-preserved c =
       same = (c.choose_one.ensures.same.0 ∙ inv.same.0, c.choose_one.ensures.same.1 ∙ inv.same.1);
       own = registers_more (λ other. other ≡ c.args.task) c.args.wanted.now c.loop-turn.wanted c.choose_one.new.wanted inv.own c.choose_one.ensures.own;
       grown = grown_more c.args.rows.now c.loop-turn.rows c.choose_one.new.rows inv.grown c.choose_one.ensures.grown;
-      turned = λ past may. rw (up_to_more c.loop-turn._turn c.args.map.now c.args.task past)
+      turned = λ past may. rw (up_to_split c.loop-turn._turn 1 c.args.map.now c.args.task past)
           (turned-on (inv.turned past may) (c.in_ok-choose_one.ensures.chosen _ (inv.turned past may).may));
     }
 
@@ -54,3 +46,11 @@ pub returns-clause-chosen : goal.returns-clause-chosen
 returns-clause-chosen c = λ past may.
     rw (turns_in c.loop-turn._turn c.len-turn-end.result (sym c.may_choose.ensures ∙ c.if-not-may_choose.false) c.len-turn-end.ensures may
     c.loop-turn.auto._turn-end (λ more. absurd (omega (arith, c.loop-turn-test.false, more)))) (c.loop-turn.invariant.turned past may)
+
+pub returns-in_err-choose_one-clause-own : goal.returns-in_err-choose_one-clause-own
+returns-in_err-choose_one-clause-own c =
+    registers_more (λ other. other ≡ c.args.task) c.args.wanted.now c.loop-turn.wanted c.choose_one.new.wanted c.loop-turn.invariant.own c.choose_one.ensures.own
+
+pub returns-then-not-branch-clause-own : goal.returns-then-not-branch-clause-own
+returns-then-not-branch-clause-own c =
+    registers_more (λ other. other ≡ c.args.task) c.args.wanted.now c.loop-turn.wanted c.choose_one.new.wanted c.loop-turn.invariant.own c.choose_one.ensures.own

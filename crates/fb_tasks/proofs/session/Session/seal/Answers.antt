@@ -1,8 +1,8 @@
 use Rattle.fb_tasks.proofs.Words.{ap, ◌∙◌, arith, ◌≡◌, true, ℕ, filter, true≢false, IfOk-weaker, held_at, range_with_len, Shape, held_in}
 use Rattle.fb_tasks.proofs.Words.{EndsBy, runs_of, is_delivered, Past, is_open_backup, view, is_complete, found_for, without_aborted}
 use Rattle.fb_tasks.proofs.Words.{entry_in, HoldsBlocks, Stands, Session}
-use Rattle.fb_tasks.proofs.Complete.{done_is}
-use Rattle.fb_tasks.proofs.Sealed.{entry_at, open_is, block_at, all_blocks, dropped, dropped_next, sealed_content}
+use Rattle.fb_tasks.proofs.States.{seen}
+use Rattle.fb_tasks.proofs.Sealed.{entry_at, block_at, all_blocks, dropped, dropped_next, sealed_content}
 use Rattle.fb_tasks.proofs.session.Session.seal.Goals as goal
 
 pub drop_aborted-requires : goal.drop_aborted-requires
@@ -34,6 +34,6 @@ returns-clause-content c = IfOk-weaker c.contents.result
     → content ≡ found_for (view past c.args.task).work (filter (λ block. is_delivered ((view past c.args.task).bare block)) (view past c.args.task).blocks))
     (λ content gives disk past holds stands is_open complete.
     let whole : c.loop-index.index ≡ c.args.registered = omega (arith, c.loop-index-test.false, c.loop-index.auto.index-end) in
-    sealed_content holds c.args.task c.args.self.now (held_at c.loop-index.self.image) content stands (open_is past c.args.task ∙ is_open) (done_is past c.args.task ∙ complete)
+    sealed_content holds c.args.task c.args.self.now (held_at c.loop-index.self.image) content stands ((seen past c.args.task).unsealed ∙ is_open) ((seen past c.args.task).done ∙ complete)
     (λ lbn. c.loop-index.invariant.image disk past holds lbn ∙ ap (dropped (view past c.args.task) lbn (held_at c.args.self.now.image lbn)) (all_blocks holds c.args.task c.loop-index.index (whole ∙ c.requires.registered)))
     c.contents.ensures.ends gives) c.contents.ensures.fewest

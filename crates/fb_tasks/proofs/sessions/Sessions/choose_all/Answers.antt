@@ -1,6 +1,6 @@
 use Rattle.fb_tasks.proofs.Words.{◌<◌, length, sym, subst, arith, length-set, MaySettle, OnlyTouched, MayClean}
 use Rattle.fb_tasks.proofs.Leaving.{grown_not, grown_more, registers_none, touched_none, touched_set, chosen_own}
-use Rattle.fb_tasks.proofs.Listed.{listed_set, listed_there}
+use Rattle.fb_tasks.proofs.Listed.{listed_set, listed_there, listed_within}
 use Rattle.fb_tasks.proofs.AllChoices.{partly-start, partly-may, partly-more, partly-to, all-chosen, past_at}
 use Rattle.fb_tasks.proofs.sessions.Sessions.choose_all.Goals as goal
 
@@ -18,16 +18,13 @@ loop-task-init c = record {
 pub next_touched-requires : goal.next_touched-requires
 next_touched-requires c = (c.loop-task.self-inside.asked, rw c.deref.ensures.value c.loop-task.invariant.kept)
 
-pub index_mut-requires : goal.index_mut-requires
-index_mut-requires c = omega (arith, c.loop-task.invariant.kept.within c.in-Some.task (c.loop-task.invariant.kept.covered c.in-Some.task c.in-Some.ensures.found), c.loop-task.self-inside.sessions.ok.0)
-
 pub choose-requires : goal.choose-requires
 choose-requires c =
     let inv = c.loop-task.invariant in
     let n = c.in-Some.task in
     let there = listed_there inv.kept n c.index_mut.result.now c.in-Some.ensures.found c.index_mut.ensures.value in
     let to = partly-to c.loop-task.from n c.in-Some.ensures.from
-    (omega (arith, inv.kept.within n (inv.kept.covered n c.in-Some.ensures.found)))
+    (omega (arith, listed_within inv.kept n c.in-Some.ensures.found))
     (rw c.deref.ensures.value at c.in-Some.ensures.first) (inv.partly c.requires.0 c.requires.1) in
     (past_at c.args.map.now c.requires.0 n, partly-may there to)
 
@@ -37,7 +34,7 @@ loop-task-preserved c =
     let items = c.loop-task.self-inside.sessions.items in
     let n = c.in-Some.task in
     let session = c.index_mut.result.now in
-    let within : n < length items = inv.kept.within n (inv.kept.covered n c.in-Some.ensures.found) in
+    let within : n < length items = listed_within inv.kept n c.in-Some.ensures.found in
     let there = listed_there inv.kept n session c.in-Some.ensures.found c.index_mut.ensures.value in
     let touched = (rw c.deref.ensures.value at c.in-Some.ensures.touched) session there in
     record {

@@ -1,14 +1,14 @@
-use Rattle.fb_tasks.proofs.Words.{on_err, ◌<◌, length, sym, ◌∙◌, arith, ap, some_at}
+use Rattle.fb_tasks.proofs.Words.{on_err, length, sym, ◌∙◌, arith, ap, some_at}
 use Rattle.fb_tasks.proofs.Listed.{listed_more, listed_noted}
 use Rattle.fb_tasks.proofs.Frames.{set_same}
-use Rattle.fb_tasks.proofs.AfterDelivery.{opened, delivers, wanted-entry, held-now, tells-delivered, settled-delivered}
+use Rattle.fb_tasks.proofs.AfterDelivery.{within_sessions, delivers, wanted-entry, held-now, tells-delivered, settled-delivered}
 use Rattle.fb_tasks.proofs.sessions.Sessions.delivered.Goals as goal
 
 pub deliver-requires : goal.deliver-requires
 deliver-requires c = wanted-entry c.args.got c.requires.2
 
 pub index_mut-session-requires : goal.index_mut-session-requires
-index_mut-session-requires c = omega (arith, opened c.args.got c.requires.2, c.requires.2.tells.as_many, ap length c.self.view_is, c.self.inside.sessions.ok.0)
+index_mut-session-requires c = omega (arith, within_sessions c.args.got c.requires.2, ap length c.self.view_is, c.self.inside.sessions.ok.0)
 
 pub deliver-requires-2 : goal.deliver-requires-2
 deliver-requires-2 c = (
@@ -19,22 +19,9 @@ deliver-requires-2 c = (
   delivers c.args.got c.requires.2 c.self.view_is c.index_mut-session.ensures.value c.deliver.ensures,
 )
 
-pub invariant_of-self : goal.invariant_of-self
-invariant_of-self c = listed_more c.self.invariant
-    (omega (arith, opened c.args.got c.requires.2, c.requires.2.tells.as_many, ap length c.self.view_is)) c.note_touch.ensures.stay
-
-pub invariant_of-self-in_err-deliver : goal.invariant_of-self-in_err-deliver
-invariant_of-self-in_err-deliver c = listed_noted c.self.invariant (omega (arith, opened c.args.got c.requires.2, c.requires.2.tells.as_many, ap length c.self.view_is))
-    c.note_touch.ensures.stay c.in_ok-note_touch.ensures.noted c.in_ok-note_touch.ensures.asked_noted _
-
-pub invariant_of-self-2 : goal.invariant_of-self-2
-invariant_of-self-2 c = listed_noted c.self.invariant (omega (arith, opened c.args.got c.requires.2, c.requires.2.tells.as_many, ap length c.self.view_is))
-    c.note_touch.ensures.stay c.in_ok-note_touch.ensures.noted c.in_ok-note_touch.ensures.asked_noted _
-
 pub returns-in_err-note_touch-clause-stay_sessions : goal.returns-in_err-note_touch-clause-stay_sessions
 returns-in_err-note_touch-clause-stay_sessions c =
-    let within : c.args.got.block.task < length c.args.self.now = omega (arith, opened c.args.got c.requires.2, c.requires.2.tells.as_many) in
-    let own = some_at c.args.self.now c.args.got.block.task within in
+    let own = some_at c.args.self.now c.args.got.block.task (within_sessions c.args.got c.requires.2) in
     (own.0, c.self.view_is ∙ sym (set_same c.args.self.now c.args.got.block.task own.0 own.1))
 
 pub returns-clause-tells : goal.returns-clause-tells
@@ -55,3 +42,14 @@ pub returns-in_err-deliver-clause-err_rows : goal.returns-in_err-deliver-clause-
 returns-in_err-deliver-clause-err_rows c = on_err c.from_residual-in_err-deliver.result (λ disk past may.
     c.in_err-deliver.ensures.err_rows disk past c.args.self.now c.args.wanted.now
     (delivers c.args.got may c.self.view_is c.index_mut-session.ensures.value c.deliver.ensures))
+
+pub invariant_of-self : goal.invariant_of-self
+invariant_of-self c = listed_more c.self.invariant (rw c.self.view_is (within_sessions c.args.got c.requires.2)) c.note_touch.ensures.stay
+
+pub invariant_of-self-in_err-deliver : goal.invariant_of-self-in_err-deliver
+invariant_of-self-in_err-deliver c = listed_noted c.self.invariant (rw c.self.view_is (within_sessions c.args.got c.requires.2))
+    c.note_touch.ensures.stay c.in_ok-note_touch.ensures.noted c.in_ok-note_touch.ensures.asked_noted _
+
+pub invariant_of-self-2 : goal.invariant_of-self-2
+invariant_of-self-2 c = listed_noted c.self.invariant (rw c.self.view_is (within_sessions c.args.got c.requires.2))
+    c.note_touch.ensures.stay c.in_ok-note_touch.ensures.noted c.in_ok-note_touch.ensures.asked_noted _

@@ -1,7 +1,7 @@
 use Rattle.fb_tasks.proofs.Words.{◌<◌, false, length, ap, sym, ◌∙◌, subst, arith, refl, contains, nat_cmp, length-set, HaveChosen}
 use Rattle.fb_tasks.proofs.Words.{OnlyTouched}
 use Rattle.fb_tasks.proofs.Leaving.{grown_not, grown_more, touched_none, touched_set}
-use Rattle.fb_tasks.proofs.Listed.{listed_less, listed_there}
+use Rattle.fb_tasks.proofs.Listed.{listed_less, listed_there, listed_within}
 use Rattle.fb_tasks.proofs.Tested.{none_tested, chosen_at, one_tested, tested-to, all-tested}
 use Rattle.fb_tasks.proofs.sessions.Sessions.test_all.Goals as goal
 
@@ -17,9 +17,6 @@ loop-task-init c = record {
 pub next_touched-requires : goal.next_touched-requires
 next_touched-requires c = (c.loop-task.self-inside.asked, rw c.deref.ensures.value c.loop-task.invariant.kept)
 
-pub index_mut-session-requires : goal.index_mut-session-requires
-index_mut-session-requires c = omega (arith, c.loop-task.invariant.kept.within c.in-Some.task (c.loop-task.invariant.kept.covered c.in-Some.task c.in-Some.ensures.found), c.loop-task.self-inside.sessions.ok.0)
-
 pub test-requires : goal.test-requires
 test-requires c =
     let inv = c.loop-task.invariant in
@@ -27,7 +24,7 @@ test-requires c =
     let chosen : HaveChosen c.requires.0 c.requires.1 c.self.inside.sessions.items c.args.wanted.now = rw c.self.view_is c.requires.2 in
     let there = listed_there inv.kept n c.index_mut-session.result.now c.in-Some.ensures.found c.index_mut-session.ensures.value in
     let to = tested-to c.loop-task.from n c.in-Some.ensures.from
-    (omega (arith, inv.kept.within n (inv.kept.covered n c.in-Some.ensures.found)))
+    (omega (arith, listed_within inv.kept n c.in-Some.ensures.found))
     (rw c.deref.ensures.value at c.in-Some.ensures.first) chosen (inv.tested c.requires.0 c.requires.1 chosen) in
     (c.requires.0, c.requires.1, chosen_at chosen n c.index_mut-session.result.now (sym (to.later n (omega arith)) ∙ there))
 
@@ -37,7 +34,7 @@ loop-task-preserved c =
     let items = c.loop-task.self-inside.sessions.items in
     let n = c.in-Some.task in
     let session = c.index_mut-session.result.now in
-    let within : n < length items = inv.kept.within n (inv.kept.covered n c.in-Some.ensures.found) in
+    let within : n < length items = listed_within inv.kept n c.in-Some.ensures.found in
     let there = listed_there inv.kept n session c.in-Some.ensures.found c.index_mut-session.ensures.value in
     let touched = (rw c.deref.ensures.value at c.in-Some.ensures.touched) session there in
     let cleared = record c.test.new.self { touched = false } in
