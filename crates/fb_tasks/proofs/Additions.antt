@@ -244,13 +244,11 @@ may_want disk past call task first count sessions session held is at h =
     }
 
 module _ (disk : Shape) (past : Past) (call : Call) (task first count : ℕ) (is : IsCall task (Want first count) call) (added : List Block) (own : AllByRecursion (λ b. b.task ≡ task) added) where
-  mine : AllByRecursion (λ b. b.task ≡ call.task) added
-  mine = rw is.task own
-
   pub wanting-tells : (sessions : List Session) (session : Session) (held now : List Entry) → slice_get sessions task ≡ Some session → task < length (tasks past) → is_clean session.kind ≡ false → is_backup session.kind && (view past task).wants ≡ false
       → Ascend 0 added → AreIndexed (length (view past task).blocks) added → AllByRecursion (IsBlockOf disk (length (tasks past))) added
       → now ≡ held ++ new_entries session added → Tells disk past sessions held → Tells disk (called call added ∷ past) (set sessions task (record session { touched = true })) now
   wanting-tells sessions session held now there opened other once ascends after on_disk pushed h =
+      let mine : AllByRecursion (λ b. b.task ≡ call.task) added = rw is.task own in
       let kept : tasks (called call added ∷ past) ≡ tasks past = ap (λ a. opened_by a (tasks past)) is.action in
       let own_now = wanted-view past call first count is.action added mine task is.task in
       let others = λ (t : ℕ) (far : (task == t) ≡ false). wanted-silent past call first count is.action added mine t (ap (λ k. k == t) is.task ∙ far) in
@@ -282,7 +280,8 @@ wanted-tells disk past call task first count seen touched session held now small
 -- what a want registers are the blocks that the call gives, in their states: so are the first of them
 pub wanted_begun : (disk : Shape) (past : Past) (call : Call) (task first count : ℕ) (seen : List Session) (session : Session) (held now : List Entry) → length (places disk) ≤ 10 ^ 12 → IsCall task (Want first count) call → task < length seen → session ≡ get_or seen task session
     → MayTake disk past seen held call
-    → HasBegun held (new_entries session (numbered task session.weight (numbering.registered task (numbering.blocks_of held)) (cutting disk session.block first count))) now → HasBegun held (entries_by disk past call) now
+    → HasBegun held (new_entries session (numbered task session.weight (numbering.registered task (numbering.blocks_of held)) (cutting disk session.block first count))) now
+    → HasBegun held (entries_by disk past call) now
 wanted_begun disk past call task first count seen session held now small is within at h begun =
     let there = slice_get-get_or seen task session within ∙ ap Some (sym at) in
     let added = new_entries session (numbered task session.weight (numbering.registered task (numbering.blocks_of held)) (cutting disk session.block first count)) in
@@ -291,5 +290,6 @@ wanted_begun disk past call task first count seen session held now small is with
     (λ s here. ap (λ (x : Session). set seen task (record x { touched = true })) (some_same session s (sym there ∙ here))) h in
     let all : held ++ added ≡ map entry (registered past) ++ entries_by disk past call = tells.entries ∙ map-append entry (registered past) (blocks_by disk past call.task call.action) in
     let size : length held ≡ length (map entry (registered past)) = rw h.tells.entries (simp length-map) in
-    let same : added ≡ entries_by disk past call = sym (drop-append_seam held added) ∙ rw (all, size) (drop-append_seam (map entry (registered past)) (entries_by disk past call)) in
+    let same : added ≡ entries_by disk past call = sym (drop-append_seam held added)
+    ∙ rw (all, size) (drop-append_seam (map entry (registered past)) (entries_by disk past call)) in
     subst (λ due. HasBegun held due now) same begun

@@ -134,7 +134,8 @@ module _ {disk : Shape} {past : Past} {sessions : List Session} {held : List Ent
   pub delivers : {items : List Session} {now : List Entry} {old : Session} → items ≡ sessions → old ≡ get_or items got.block.task old
       → now ≡ after got.block.task (Deliver got.block.index) held → Delivers disk past sessions held got old now
   delivers {items} {now} {old} same says is =
-      record { may = may; at = slice_get-get_or sessions got.block.task old (within_sessions got may) ∙ ap Some (sym (rw same at says)); is = is }
+      let there = slice_get-get_or sessions got.block.task old (within_sessions got may) in
+      record { may = may; at = there ∙ ap Some (sym (rw same at says)); is = is }
 
 module _ {disk : Shape} {past : Past} {sessions : List Session} {held now : List Entry} {got : DeliveryRow} {old : Session} (t : Delivers disk past sessions held got old now) where
   told-own : Told (view past got.block.task) old
@@ -186,7 +187,8 @@ module _ {disk : Shape} {past : Past} {sessions : List Session} {held now : List
           ∙ ap (λ rows. GotLine got ∷ rows) (ap (λ rows. rows ++ (segments ++ ends)) (sym findings_same)
           ∙ sym (append_assoc found segments ends))
 
-      due : {new : List BackRow} → HasBegun rows (((GotLine got ∷ found) ++ segments) ++ ends) new → HasBegun rows (GotLine got ∷ rows_after past got) new
+      due : {new : List BackRow} → HasBegun rows (((GotLine got ∷ found) ++ segments) ++ ends) new
+          → HasBegun rows (GotLine got ∷ rows_after past got) new
       due {new} h = subst (λ due. HasBegun rows due new) (sym due_is) h
 
       pub begun-findings : {new : List BackRow} → HasBegun with_got found new → HasBegun rows (GotLine got ∷ rows_after past got) new

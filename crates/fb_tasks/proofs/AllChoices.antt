@@ -250,7 +250,8 @@ module _ {disk : Shape} {past : Past} {instant : ℕ} {before : List BackRow} wh
       let kept = flat_same (segment_rows by_deliveries after instant) (segment_rows by_deliveries old instant) (range_with_len 0 n)
       (all_range (λ k. segment_rows by_deliveries after instant k ≡ segment_rows by_deliveries old instant k) 0 n
       (λ k le lt. rows-same old after k instant (same k (λ e. absurd (omega arith))))) in
-      let given = turned.rows rows (rw (reported_rows by_deliveries old instant n ((h.each n session at).later (omega arith))) (sym (append-nil rows))) in
+      let given = turned.rows rows
+      (rw (reported_rows by_deliveries old instant n ((h.each n session at).later (omega arith))) (sym (append-nil rows))) in
       record {
         begun = rw (past_more disk past n) (record {
           as_many = length-set sessions n new ∙ h.as_many;

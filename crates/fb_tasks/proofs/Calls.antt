@@ -141,6 +141,7 @@ module _ (disk : Shape) (past : Past) (call : Call) where
             let sum : choosable_by disk (called call [] ∷ past) call.task ≡ sum_by cuts (filter p ((view past call.task).segments ++ added ∷ [])) = rw (added-view past call kept call.task first blocks age live refl is) refl in
             omega (arith, sum, ap (sum_by cuts) (filter-append p (view past call.task).segments (added ∷ [])), sum_by-append cuts (filter p (view past call.task).segments) (filter p (added ∷ [])), at_most cuts p added)
 
+  -- a call that keeps the rules
   by_action : (action : Action) → call.action ≡ action → MayAsk disk (calls_of past) call.task action → ((task : ℕ) → length (tasks past) ≤ task → IsUntouched (view past task)) → Grows
   by_action (Open kind weight block) is asks unopened = open_grows kind weight block is (omega (arith, asks.0, ap length (opened_same past))) unopened
   by_action (Want first count) is asks unopened = want_grows first count is
@@ -148,10 +149,6 @@ module _ (disk : Shape) (past : Past) (call : Call) where
   by_action _ is asks unopened =
       let kept = still [] (ap (λ a. opened_by a (tasks past)) is) (λ before. ap (λ a. segment_by a before) is) in
       omega (arith, grown [] (ap (blocks_by disk past call.task) is), kept)
-
-  -- a call that keeps the rules
-  pub call_grows : MayAsk disk (calls_of past) call.task call.action → ((task : ℕ) → length (tasks past) ≤ task → IsUntouched (view past task)) → Grows
-  call_grows asks unopened = by_action call.action refl asks unopened
 
   -- what it registers alone
   pub call_registers : length (blocks_by disk past call.task call.action) ≤ blocks_in disk (allowed.terms_of (calls_of past) call.task).block call.action
@@ -202,7 +199,7 @@ module _ (disk : Shape) (calls : List Call) (rules : AreAllowed disk [] calls) (
   called-more sessions held tells = record {
     within = omega (arith, within_next);
     taken = ap (λ cs. cs ++ call ∷ []) h.taken ∙ sym front_is;
-    few = omega (arith, call_grows disk past call may_ask tells.unopened, left_split, h.few);
+    few = omega (arith, by_action disk past call call.action refl may_ask tells.unopened, left_split, h.few);
   }
 
 -- events that are no calls

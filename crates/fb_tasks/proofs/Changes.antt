@@ -64,9 +64,6 @@ asked-aborts disk past call first count sessions touched held now is is_after fl
     (view past call.task) session true (λ untouched. absurd (true≢false untouched)) other)
     (λ block on. show_aborted ((view past call.task).bare block) (view past call.task).suspended (shares first count block)) h)
 
-ended_over : (before : State) → is_over (ended true before) ≡ true
-ended_over before = grind arith
-
 -- the whole disk shares a sector with each of its blocks
 all_shared : (n lbn count : ℕ) → 0 < count → lbn + count ≤ n → nat_lt (max lbn 0) (min (lbn + count) (0 + n)) ≡ true
 all_shared n lbn count some within = grind (arith, nat_tests)
@@ -84,7 +81,7 @@ closed-cleans v log h =
     let taken = all_weaker (HoldsChoice v.work log) (HoldsChoice (closed_view v).work log)
     (λ choice. holds-fewer v.work (λ _. ended true) fewer (clean.taken_for log choice.segment.number) choice.blocks) (choice_in h.current) h.taken in
     let over : true ≡ true → AllByRecursion (λ block. is_over ((closed_view v).bare block) ≡ true) v.blocks =
-    λ _. all_any (λ block. is_over (ended true (v.bare block)) ≡ true) (λ block. ended_over (v.bare block)) v.blocks in
+    λ _. all_any (λ block. is_over (ended true (v.bare block)) ≡ true) (λ block. grind arith) v.blocks in
     let segments = ap (map clean.left_out) h.segments ∙ left_all v v.segments in
     record { done = h.done; current = h.current; by = assumption (cleaned, taken, over, segments, h.by) }
 
@@ -108,10 +105,6 @@ closed-tells disk past call items seen task n session log held now is same opene
     (λ block on. let shared : shares 0 n block ≡ true = rw count (all_shared (length (places disk)) block.lbn block.count on.some on.on_disk) in
     show_aborted ((view past task).bare block) (view past task).suspended (shares 0 n block) ∙ rw shared refl) h)
 
--- what a delivered block was before
-rewanted_done : (hit : Bool) (before : State) → is_delivered (rewanted hit before) ≡ true → is_delivered before ≡ true
-rewanted_done hit before h = grind arith
-
 backup_other : (k : Kind) → is_backup k ≡ true → is_clean k ≡ false
 backup_other k e = grind arith
 
@@ -120,13 +113,10 @@ pub open_by : (v : TaskView) (session : Session) → Stands v session → is_uns
 open_by v session h = rw (h.terms, h.sealed) refl
 
 -- what is over was over before
-rewanted_over : (hit : Bool) (before : State) → is_over (rewanted hit before) ≡ true → is_over before ≡ true
-rewanted_over hit before h = grind arith
-
 done_before : (request : Request) (v : TaskView) (kind : Kind) → is_backup kind ≡ true → is_complete_as (written_view request v).work kind ≡ true → is_complete_as v.work kind ≡ true
 done_before request v Backup backup h = let parts = and_parts (nat_lt 0 (length v.blocks)) (list_all (λ block. is_over ((written_view request v).bare block)) v.blocks) h in rw parts.0 (each_all (λ block. is_over (v.bare block)) v.blocks
     (all_weaker (λ block. is_over ((written_view request v).bare block) ≡ true) (λ block. is_over (v.bare block) ≡ true)
-    (λ block. rewanted_over (shares request.lbn request.count block) (v.bare block)) v.blocks (list_all_each (λ block. is_over ((written_view request v).bare block)) v.blocks parts.1)))
+    (λ block over. grind arith) v.blocks (list_all_each (λ block. is_over ((written_view request v).bare block)) v.blocks parts.1)))
 done_before request v _ backup h = absurd (grind arith)
 
 -- a write completes nothing: a backup that isn't sealed wasn't complete, and still isn't
@@ -143,7 +133,7 @@ written-quiet request v is_open h =
 
 -- an open backup's image holds less, if anything else
 written-told : (request : Request) (v : TaskView) (session : Session) → is_unsealed v ≡ true → Told v session → Told (written_view request v) session
-written-told request v session is_open = λ h. states-told (λ block. rewanted (shares request.lbn request.count block)) (λ block. rewanted_done (shares request.lbn request.count block)) v session session.touched (λ untouched. written-quiet request v is_open (h.quiet untouched))
+written-told request v session is_open = λ h. states-told (λ block. rewanted (shares request.lbn request.count block)) (λ block before done. grind arith) v session session.touched (λ untouched. written-quiet request v is_open (h.quiet untouched))
     (backup_other session.kind (and_parts (is_backup session.kind) (not session.sealed) (sym (open_by v session h.stands) ∙ is_open)).0) h
 
 module _ (disk : Shape) (past : Past) (request : Request) (write : request.write ≡ true) where

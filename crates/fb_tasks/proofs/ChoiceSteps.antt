@@ -174,9 +174,6 @@ pub record ChoiceStep (disk : Shape) (past : Past) (task number : ℕ) (session 
   pub idle : session.log.unfinished ≡ None
   pub once : choose_once disk task past ≡ chose task best (chosen_blocks disk task (view past task) best) ∷ past
 
-idle_of : (u : Option ℕ) (ss : List clean.LogSegment) (number : ℕ) → clean.choice_while u ss ≡ Some number → u ≡ None
-idle_of u ss number h = grind arith
-
 -- what a choice registers it could register before
 pub next_view : (disk : Shape) (past : Past) (task : ℕ) (best : LogSegment) → view (chose task best (chosen_blocks disk task (view past task) best) ∷ past) task ≡ chosen_view task (chosen_for disk task (view past task) best) (view past task)
 next_view disk past task best = chosen-view past task best (chosen_blocks disk task (view past task) best) (added_own disk task (view past task) best) task refl
@@ -220,9 +217,6 @@ once_is disk past task = by_left (unchosen (view past task).work) where
   by_left [] = refl
   by_left (s ∷ ss) = refl
 
-none_of : (u : Option ℕ) → is_none u ≡ true → u ≡ None
-none_of u h = grind arith
-
 live_left : (n : ℕ) (ss : List clean.LogSegment) → map (λ (s : clean.LogSegment). s.live) (clean.without n ss) ≡ map (λ (s : clean.LogSegment). s.live) ss
 live_left n [] = refl
 live_left n (s ∷ ss) = grind (arith, live_left n ss)
@@ -251,7 +245,7 @@ module _ {disk : Shape} {past : Past} {task : ℕ} {session : Session} {held : L
   pub choice-step : (number : ℕ) → clean.choice_of session.log ≡ Some number → ChoiceStep disk past task number session
   choice-step number is = by_left (unchosen v.work) refl where
     idle : session.log.unfinished ≡ None
-    idle = idle_of session.log.unfinished session.log.segments number is
+    idle = grind (arith, is)
 
     free : is_busy (view past task).work ≡ false
     free = not-true (is_busy (view past task).work) (sym (may.at_work cleans.0) ∙ ap is_none idle)
@@ -272,7 +266,7 @@ module _ {disk : Shape} {past : Past} {task : ℕ} {session : Session} {held : L
     by_left : is_busy v.work ≡ false → (left : List LogSegment) → unchosen v.work ≡ left → best_of_left disk task past (unchosen v.work) ≡ past
     by_left free [] are = rw are refl
     by_left free (s ∷ ss) are = absurd (none-some (best_of is_better s ss).number
-        (sym is ∙ choice_kept v.work going session.log log_is.segments (none_of session.log.unfinished (may.at_work cleans.0 ∙ ap not free)) (s ∷ ss) are))
+        (sym is ∙ choice_kept v.work going session.log log_is.segments (grind (arith, may.at_work cleans.0, free)) (s ∷ ss) are))
 
   pub none-turned : (log : clean.Cleaning) (now : ℕ) (rows : List BackRow) → clean.choice_of session.log ≡ None → log ≡ session.log
       → HasTurned disk past (choose_once disk task past) task now (record session { log = log }) held rows rows

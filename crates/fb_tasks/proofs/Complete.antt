@@ -131,14 +131,11 @@ module _ (w : Work) (log : clean.Cleaning) (h : Cleans w log) where
       ]
 
 module _ (past : Past) (task : ℕ) (session : Session) (held : List Entry) (stands : Stands (view past task) session) (work : IsAtWork (view past task).work session) (entries : held ≡ map (entry_of past) (registered past)) where
-  over_now : are_over (counts_of task held) ≡ (nat_lt 0 (length (view past task).blocks) && list_all (λ b. is_over ((view past task).bare b)) (view past task).blocks)
-  over_now = ap are_over (counts_same past task held entries) ∙ rw (over_counts (view past task).bare (view past task).blocks).1 refl
-
   complete_as_same : (kind : Kind) → kind ≡ session.kind → complete_as kind session (counts_of task held) ≡ is_complete_as (view past task).work kind
   complete_as_same Clean e =
       let cleans : is_clean session.kind ≡ true = ap is_clean (sym e) in
       worked_off_same (view past task).work session.log (stands.log cleans) session.closed stands.closed (work cleans)
-  complete_as_same _ e = over_now
+  complete_as_same _ e = ap are_over (counts_same past task held entries) ∙ rw (over_counts (view past task).bare (view past task).blocks).1 refl
 
   -- a session tells whether its task is complete
   pub done_same : complete_by session (counts_of task held) ≡ is_done (view past task).work
@@ -150,7 +147,8 @@ module _ (past : Past) (task : ℕ) (session : Session) (held : List Entry) (sta
 pub counts_small : (past : Past) (task : ℕ) (held : List Entry) (counts : Counts) → counts ≡ counts_of task held → held ≡ map (entry_of past) (registered past) → counts.registered < 4294967296 → counts.delivered + counts.aborted < 4294967296
 counts_small past task held counts same entries fits =
     let e = same ∙ counts_same past task held entries in
-    omega (arith, (over_counts (view past task).bare (view past task).blocks).0, ap (λ c. c.delivered) e, ap (λ c. c.aborted) e, ap (λ c. c.registered) e)
+    let fit = (over_counts (view past task).bare (view past task).blocks).0 in
+    omega (arith, fit, ap (λ c. c.delivered) e, ap (λ c. c.aborted) e, ap (λ c. c.registered) e)
 
 -- and one more element of a list that goes by numbers
 pub map_more : {X : Type 0} (f : ℕ → X) (before rows more : List X) (n : ℕ) (x : X) → rows ≡ before ++ map f (range_with_len 0 n) → x ≡ f n → more ≡ rows ++ x ∷ [] → more ≡ before ++ map f (range_with_len 0 (n + 1))

@@ -49,11 +49,8 @@ cuts_count task weight n [] = refl
 cuts_count task weight n (cut ∷ cuts) = rw (cuts_count task weight (n + 1) cuts) refl
 
 -- one more number
-pub range_more : (a n : ℕ) → range_with_len a (n + 1) ≡ range_with_len a n ++ (a + n) ∷ []
-range_more a n = range-append a n 1
-
 pub range_next : (n : ℕ) → range_with_len 0 (n + 1) ≡ range_with_len 0 n ++ n ∷ []
-range_next n = let e : 0 + n ≡ n = omega arith in rw e at (range_more 0 n)
+range_next n = let e : 0 + n ≡ n = omega arith in rw e at (range-append 0 n 1)
 
 -- laid end to end they are the range
 pub cuts_cover : (disk : Shape) (task weight block n from end : ℕ) (cuts : List Cut) → AreCuts disk block from end cuts → flat_map (λ part. range_with_len part.lbn part.count) (numbered task weight n cuts) ≡ range_with_len from (end - from)

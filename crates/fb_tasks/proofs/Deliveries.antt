@@ -48,9 +48,6 @@ module _ (v : TaskView) (got : DeliveryRow) where
   pub still_done : (block : Block) → is_delivered (v.bare block) ≡ true → is_delivered ((delivered_view got v).bare block) ≡ true
   still_done block done = grind arith
 
-  pub still_over : (block : Block) → is_over (v.bare block) ≡ true → is_over ((delivered_view got v).bare block) ≡ true
-  still_over block over = grind arith
-
   -- the blocks hold what was taken of them
   pub taken-holds : (held now : ℕ → Option Content) (content_at : ℕ → Content) (low i : ℕ) (bs : List Block) → ((lbn : ℕ) → now lbn ≡ after_take content_at got.block.lbn got.block.count lbn (held lbn)) → Gives got.content content_at got.block.lbn got.block.count
       → Ascend low bs → slice_get bs i ≡ Some got.block → AllByRecursion (λ b. b.index ≡ got.block.index → b ≡ got.block) bs → AllByRecursion (HoldsBlock v.work held) bs → AllByRecursion (HoldsBlock (delivered_view got v).work now) bs
@@ -114,9 +111,6 @@ pub record WasWanted (past : Past) (block : Block) : Type 0 where
   pub own_place : ℕ
   pub own_there : slice_get (view past block.task).blocks own_place ≡ Some block
 
-bare_of : (s : State) (held_back : Bool) → is_wanted (shown s held_back) ≡ true → s ≡ Wanted
-bare_of s held_back h = grind arith
-
 pub was_wanted : (past : Past) (block : Block) (i : ℕ) → slice_get (wanted past) i ≡ Some block → WasWanted past block
 unfolding wanted view
 was_wanted past block i at =
@@ -126,7 +120,7 @@ was_wanted past block i at =
       place = found.0;
       registered_there = found.1;
       shown_wanted = grind (arith, found.2);
-      bare = bare_of ((view past block.task).bare block) (view past block.task).suspended found.2;
+      bare = grind (arith, found.2);
       own_place = mine.0;
       own_there = mine.1;
     }
@@ -165,7 +159,7 @@ module _ (v : TaskView) (got : DeliveryRow) (place : ℕ) (there : slice_get v.b
       let cleaned = cleaned_still h.done h.cleaned in
       let taken = taken_now h.current h.by in
       let over : v.closed ≡ true → AllByRecursion (λ b. is_over ((delivered_view got v).bare b) ≡ true) v.blocks = λ closed.
-      all_weaker (λ b. is_over (v.bare b) ≡ true) (λ b. is_over ((delivered_view got v).bare b) ≡ true) (still_over v got) v.blocks (h.over closed) in
+      all_weaker (λ b. is_over (v.bare b) ≡ true) (λ b. is_over ((delivered_view got v).bare b) ≡ true) (λ b over. grind arith) v.blocks (h.over closed) in
       record { done = h.done; current = h.current; by = assumption (cleaned, taken, over, h.by) } where
         taken_now : (current : Option Choice) → CleansBy v.work old h.done current → AllByRecursion (HoldsChoice (delivered_view got v).work (record old { taken = now })) (choice_in current)
         taken_now None by = tt

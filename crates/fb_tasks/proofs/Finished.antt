@@ -79,7 +79,8 @@ module _ {disk : Shape} {past : Past} {task : ℕ} {held : List Entry} (session 
     unfinished_tested current by not_yet = record {
       stands = h.stands;
       at_work = λ _. rw (by.unfinished, busy_by by) (at_work current not_yet);
-      rows = sym (reported_rows by_deliveries past now task (rw by.chosen (all_append (not_newly w) log.done (choice_in current) (done_silent current by)
+      rows = sym (reported_rows by_deliveries past now task
+          (rw by.chosen (all_append (not_newly w) log.done (choice_in current) (done_silent current by)
           (all_weaker (λ choice. is_cleaned w choice ≡ false) (not_newly w) (λ choice e. rw e refl) (choice_in current) not_yet))));
     } where
       at_work : (current : Option Choice) → AllByRecursion (λ choice. is_cleaned w choice ≡ false) (choice_in current)

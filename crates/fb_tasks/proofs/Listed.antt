@@ -14,7 +14,8 @@ the_other either none = elim either [ inl p ↦ absurd (none p) | inr q ↦ q ]
 
 module _ {sessions : List Session} {touched asked : BTreeSet ℕ} (h : AreListed sessions touched asked) where
   -- a session changes, and is listed where it has to be
-  listed_changed : (task : ℕ) (new : Session) → IsTouchedIn touched task new → IsAskedIn asked task new → AreListed (set sessions task new) touched asked
+  listed_changed : (task : ℕ) (new : Session) → IsTouchedIn touched task new → IsAskedIn asked task new
+      → AreListed (set sessions task new) touched asked
   listed_changed task new there asked_there = record {
     room = omega (arith, h.room, length-set sessions task new);
     listed = each_set (IsTouchedIn touched) sessions task new there (λ k session differ at. h.listed k session at);

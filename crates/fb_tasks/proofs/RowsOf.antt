@@ -8,7 +8,7 @@ use Rattle.fb_tasks.proofs.Words.{cases_Bool, nat_tests, list_any-append, BackRo
 use Rattle.fb_tasks.proofs.Words.{DeliveryRow, Past, tasks, task_numbers, terms_of, is_seal_of, is_open_backup, Choice, view, work, choices}
 use Rattle.fb_tasks.proofs.Words.{is_complete, was_complete, is_segment_of, live_count, AreRowsOf, all_any, any_same, any_none, Plain}
 use Rattle.fb_tasks.proofs.Words.{AreReported, filter_none}
-use Rattle.fb_tasks.proofs.Cuts.{range_more}
+use Rattle.fb_geometry.proofs.Turns.{range-append}
 use Rattle.fb_rows.specs.declared.back.CompleteRow.{CompleteRow}
 use Rattle.fb_rows.specs.declared.back.SealRow.{SealRow}
 
@@ -16,7 +16,7 @@ pub range_pushed : (before now : List ℕ) (first lbn : ℕ) → first ≤ lbn �
 range_pushed before now first lbn from so_far =
     let more : lbn + 1 - first ≡ (lbn - first) + 1 = omega arith in
     let same : first + (lbn - first) ≡ lbn = omega arith in
-    rw (so_far, more, range_more, same, append_assoc) refl
+    rw (so_far, more, range-append first (lbn - first) 1, same, append_assoc) refl
 
 -- one more run
 pub bad_more : (runs : List ContentRun) (i : ℕ) (run : ContentRun) → slice_get runs i ≡ Some run
@@ -104,7 +104,8 @@ module _ (sources : Sources) (past : Past) (now : ℕ) where
       (λ t. segments_by task t number (is_newly_cleaned (work past t)) (choices past t)) (λ beyond. rw (unopened beyond) refl))
 
 -- where each segment has its row none is given
-pub reported_rows : (sources : Sources) (past : Past) (now task : ℕ) → AreReported (view past task).work → segment_rows sources past now task ≡ []
+pub reported_rows : (sources : Sources) (past : Past) (now task : ℕ) → AreReported (view past task).work
+    → segment_rows sources past now task ≡ []
 unfolding view
 reported_rows sources past now task h = rw (filter_none (is_newly_cleaned (view past task).work) (view past task).choices h) refl
 

@@ -39,7 +39,8 @@ behind_it a n lbn le = grind (arith, nat_tests)
 
 held_none : (now : ℕ → Option Content) (a n : ℕ) → ((k : ℕ) → a ≤ k → k < a + n → now k ≡ None) → held_in now (range_with_len a n) ≡ []
 held_none now a zero none = refl
-held_none now a (suc n) none = rw (none a (omega arith) (omega arith)) (held_none now (a + 1) n (λ k le lt. none k (omega arith) (omega arith)))
+held_none now a (suc n) none = rw (none a (omega arith) (omega arith))
+    (held_none now (a + 1) n (λ k le lt. none k (omega arith) (omega arith)))
 
 -- a sector lies in an aborted block
 abbrev pub is_hit : TaskView → ℕ → Block → Bool
@@ -119,9 +120,7 @@ module _ (v : TaskView) (ascend : Ascend 0 v.blocks) (over : AllByRecursion (λ 
             ]
 
   nothing_beside : (lbn : ℕ) → 0 ≤ lbn → list_any (λ block. is_within block.lbn block.count lbn) v.blocks ≡ false → now lbn ≡ None
-  nothing_beside lbn from other = rw (drops lbn, holds.only lbn other) (none_either (list_any (is_hit v lbn) v.blocks)) where
-    none_either : (b : Bool) → (let n : Option Content = None in if b then n else None) ≡ None
-    none_either b = grind arith
+  nothing_beside lbn from other = rw (drops lbn, holds.only lbn other) (grind arith)
 
   -- the image has what the last deliveries of the delivered blocks found
   pub sealed_held : (end : ℕ) → AllByRecursion (λ block. block.lbn + block.count ≤ end) v.blocks → held_in now (range_with_len 0 end) ≡ flat_map (λ block. sectors_of (v.found block)) (filter (λ block. is_delivered (v.bare block)) v.blocks)

@@ -80,15 +80,12 @@ module _ (w : Work) (going : w.closed ≡ false) where
       let y : length (kept_segment w b).live ≡ live_count b = live_blocks-count w.terms.block b.first b.live in
       rw (x, y) refl
 
-  pub best_kept : (s : LogSegment) (ss : List LogSegment) → best_of clean.is_better (kept_segment w s) (map (kept_segment w) ss) ≡ kept_segment w (best_of is_better s ss)
-  best_kept s ss = best_map (kept_segment w) is_better clean.is_better better_same s ss
-
   -- the session's choice is the history's
   pub choice_kept : (log : clean.Cleaning) → log.segments ≡ map (kept_segment w) w.segments → log.unfinished ≡ None → (left : List LogSegment) → unchosen w ≡ left → clean.choice_of log ≡ number_of_best left
   choice_kept log all idle left is_left = rw (idle, all, waiting_kept w.segments, is_left) (of_left left) where
     of_left : (xs : List LogSegment) → clean.number_of (clean.first_best (map (kept_segment w) xs)) ≡ number_of_best xs
     of_left [] = refl
-    of_left (s ∷ ss) = ap (λ (x : clean.LogSegment). Some x.number) (best_kept s ss)
+    of_left (s ∷ ss) = ap (λ (x : clean.LogSegment). Some x.number) (best_map (kept_segment w) is_better clean.is_better better_same s ss)
 
 -- the cuttings of live blocks, by either list of them
 pub cuts_of_live : (disk : Shape) (block first : ℕ) (live : List Bool) → cuts_of disk block (clean.live_blocks block first live) ≡ live_cuts disk block first live

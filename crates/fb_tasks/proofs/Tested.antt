@@ -10,7 +10,8 @@ use Rattle.fb_tasks.proofs.Words.{AreReported, IsAtWork, Stands, Cleans, HoldsBl
 use Rattle.fb_tasks.proofs.Words.{HasNoChoice, HoldsBlocks, HasChosen, HaveChosen, IsSettled, Tells, all_weaker, flat_none}
 use Rattle.fb_tasks.proofs.Words.{all_range, some_at, each_set, step_to, get_or_past, length-set, Shape, Entry, by_deliveries, Plain}
 use Rattle.fb_tasks.proofs.Words.{is_clean, subst, IsTested, ends_of, slice_get_within}
-use Rattle.fb_tasks.proofs.{RowsOf.reported_rows, RowsOf.rows-given, RowsOf.nothing-mute, Sealed.held_same, Complete.busy_by, Frames.kept-entries}
+use Rattle.fb_tasks.proofs.RowsOf.{reported_rows, rows-given, nothing-mute}
+use Rattle.fb_tasks.proofs.{Sealed.held_same, Complete.busy_by, Frames.kept-entries}
 use Rattle.fb_tasks.proofs.{Frames.get_other, Frames.set_same, Additions.none-yet, States.flagged-stands, Cuts.range_next}
 use Rattle.std.proofs.lemmas.Grind.{flat_map-append}
 use Rattle.fb_clean.specs.Segments as clean
@@ -40,9 +41,7 @@ module _ (task : ℕ) (v : TaskView) (rows : List BackRow) (given : AreRowsOf ta
         newly_after done before now h = grind (arith, h)
 
   pub unsealed-tested : (is_unsealed (tested_view task rows v) && is_done v.work) ≡ false
-  unsealed-tested = rw given.seals (open_after (is_backup v.terms.kind) v.sealed (is_done v.work)) where
-    open_after : (backup sealed complete : Bool) → ((backup && not (((backup && not sealed) && complete) || sealed)) && complete) ≡ false
-    open_after backup sealed complete = grind arith
+  unsealed-tested = rw given.seals (grind arith)
 
   -- the segment that is unfinished has no row
   unfinished-unreported : (log : clean.Cleaning) (h : Cleans v.work log) → is_none log.unfinished ≡ not (is_busy v.work)
