@@ -11,7 +11,7 @@ use Rattle.fb_tasks.proofs.Words.{kept_segment, IsSegmentOf, HoldsImage, IsQuiet
 use Rattle.fb_tasks.proofs.Words.{IsAtWork, IsCutFrom, Tells, MayTake, IsCall, all_weaker, some_same, number_other, one_or_other}
 use Rattle.fb_tasks.proofs.Words.{all_append, any_none, each_push, get_or_push, length-map, map-append, slice_get-get_or, slice_get_within}
 use Rattle.fb_tasks.proofs.Words.{places, is_clean, is_backup, Content, drop-append_seam, cutting, is_within, Wanted, is_delivered}
-use Rattle.fb_tasks.proofs.Words.{take_call, blocks_by, HasBegun, new_entries, entries_by, cuts_are, filter_none}
+use Rattle.fb_tasks.proofs.Words.{take_call, blocks_by, HasBegun, is_done, new_entries, entries_by, cuts_are, filter_none}
 use Rattle.fb_tasks.proofs.Asked.{opened_same, open_there, terms_there, given_few}
 use Rattle.fb_tasks.proofs.{Frames.kept-entries, Frames.one-tells, States.seen}
 use Rattle.fb_tasks.proofs.Registered.{named_same, indexed_append, fresh_wanted, registered-entries}
@@ -40,11 +40,6 @@ fresh-cleans v block size now none =
     let segments : [] ≡ map (kept_segment v.work) v.segments = rw now.segments refl in
     record { done = []; current = None; by = assumption (sym size, blocks, cut, numbers, reported, over, segments, now.choices) }
 
--- a task with neither blocks nor segments is not complete
-undone : (w : Work) (kind : Kind) → w.blocks ≡ [] → w.segments ≡ [] → is_complete_as w kind ≡ false
-undone w Clean none given = rw given refl
-undone w _ none given = rw none refl
-
 fresh-told : (v : TaskView) (kind : Kind) (weight block : ℕ) (session : Session) → v.terms ≡ record { kind = kind; weight = weight; block = block } → IsFresh kind weight block session → weight ≤ 1000 → (0 < block) × (block ≤ 2048) → IsUntouched v → v.blocks ≡ [] → Told v session
 fresh-told v kind weight block session terms fresh light size now none = record {
   stands = record {
@@ -63,7 +58,7 @@ fresh-told v kind weight block session terms fresh light size now none = record 
   };
   at_work = λ cleans. rw (fresh.log, now.choices) refl;
   reported = rw now.choices tt;
-  quiet = λ _. let never = undone v.work v.terms.kind none now.segments in record {
+  quiet = λ _. let never : is_done v.work ≡ false = grind (arith, none, now.segments) in record {
     tested = now.complete ∙ sym never;
     sealed = rw never (and-false (is_unsealed v));
     chosen = λ chooses free. ap (filter (λ s. not (is_chosen v.choices s))) now.segments;

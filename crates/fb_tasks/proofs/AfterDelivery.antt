@@ -177,10 +177,7 @@ module _ {disk : Shape} {past : Past} {sessions : List Session} {held now : List
       findings_same =
           let kind : (terms_of past got.block.task).kind ≡ mid.kind =
           (seen past got.block.task).kind ∙ (ap (λ t. t.kind) told-own.stands.terms ∙ sym (ap (λ (s : Session). s.kind) taken.same)) in
-          rw (kind, is) (either (is_scrub mid.kind)) where
-            either : (b : Bool) → map (λ lbn. BadLine (record { task = got.block.task; lbn = lbn })) (if b then bad_sectors got.content else [])
-                ≡ (if b then map (λ lbn. BadLine (record { task = got.block.task; lbn = lbn })) (bad_sectors got.content) else [])
-            either b = grind arith
+          rw (kind, is) (grind arith)
 
       due_is : GotLine got ∷ rows_after past got ≡ ((GotLine got ∷ found) ++ segments) ++ ends
       due_is = ap (λ more. GotLine got ∷ findings past got ++ more) (own-rows got t.may got.end)

@@ -64,10 +64,6 @@ asked-aborts disk past call first count sessions touched held now is is_after fl
     (view past call.task) session true (λ untouched. absurd (true≢false untouched)) other)
     (λ block on. show_aborted ((view past call.task).bare block) (view past call.task).suspended (shares first count block)) h)
 
--- the whole disk shares a sector with each of its blocks
-all_shared : (n lbn count : ℕ) → 0 < count → lbn + count ≤ n → nat_lt (max lbn 0) (min (lbn + count) (0 + n)) ≡ true
-all_shared n lbn count some within = grind (arith, nat_tests)
-
 fewer : (block : Block) (before : State) → is_delivered (ended true before) ≡ true → is_delivered before ≡ true
 fewer block before done = grind arith
 
@@ -102,7 +98,7 @@ closed-tells disk past call items seen task n session log held now is same opene
     let kept : tasks (called call [] ∷ past) ≡ tasks past = ap (λ a. opened_by a (tasks past)) is.action in
     rw dropped (call-tells disk past call items seen task session (record session { closed = true; touched = true; log = clean.after_drop session.log }) held now (AbortRange 0 n) (closed_view (view past task)) kept is.task
     (closed-view past call kept task is.task is.action) same opened at is_after (λ placed. assumption placed) (closed-told (view past task) session)
-    (λ block on. let shared : shares 0 n block ≡ true = rw count (all_shared (length (places disk)) block.lbn block.count on.some on.on_disk) in
+    (λ block on. let shared : shares 0 n block ≡ true = rw count (grind (arith, nat_tests, on.some, on.on_disk)) in
     show_aborted ((view past task).bare block) (view past task).suspended (shares 0 n block) ∙ rw shared refl) h)
 
 backup_other : (k : Kind) → is_backup k ≡ true → is_clean k ≡ false

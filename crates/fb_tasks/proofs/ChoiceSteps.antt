@@ -69,12 +69,9 @@ module _ (disk : Shape) (task : ℕ) (v : TaskView) (best : LogSegment) where
   added_indexed = cuts_indexed task v.terms.weight (length v.blocks) (live_cuts disk v.terms.block best.first best.live)
 
   -- the segment is kept as chosen
-  kept_now : (s : LogSegment) → (if s.number == best.number then clean.left_out (kept_segment v.work s) else kept_segment v.work s) ≡ kept_segment new.work s
-  kept_now s = grind (arith, nat_tests, list_any-append (is_choice_of s) v.choices (choice ∷ []))
-
   kept_all : (ss : List LogSegment) → clean.without best.number (map (kept_segment v.work) ss) ≡ map (kept_segment new.work) ss
   kept_all [] = refl
-  kept_all (s ∷ ss) = rw (kept_now s, kept_all ss) refl
+  kept_all (s ∷ ss) = grind (arith, nat_tests, kept_all ss, list_any-append (is_choice_of s) v.choices (choice ∷ []))
 
   -- the blocks before stay, and the new ones are wanted
   pub old_bare : AreIndexed 0 v.blocks → AllByRecursion (λ block. (chosen_view task (chosen_for disk task v best) v).bare block ≡ v.bare block) v.blocks
@@ -180,12 +177,10 @@ next_view disk past task best = chosen-view past task best (chosen_blocks disk t
 
 -- of what is left to choose the choice takes its segment
 pub left_less : (f : LogSegment → ℕ) (disk : Shape) (task : ℕ) (v : TaskView) (best : LogSegment) → IsLeft disk v best → sum_by f (unchosen (chosen_view task (chosen_for disk task v best) v).work) + f best ≤ sum_by f (unchosen v.work)
-left_less f disk task v best left = sum_without f (λ s. not (is_chosen v.choices s)) (λ s. not (is_chosen (v.choices ++ chosen_for disk task v best ∷ []) s)) still_left v.segments (best.number - 1) best left.there (ap not left.left) (ap not chosen_now) where
-  chosen_now : is_chosen (v.choices ++ chosen_for disk task v best ∷ []) best ≡ true
-  chosen_now = rw (list_any-append (is_choice_of best) v.choices (chosen_for disk task v best ∷ []), number_same best.number best.number refl) (or-true (is_chosen v.choices best))
-
-  still_left : (s : LogSegment) → not (is_chosen (v.choices ++ chosen_for disk task v best ∷ []) s) ≡ true → not (is_chosen v.choices s) ≡ true
-  still_left s h = grind (arith, list_any-append (is_choice_of s) v.choices (chosen_for disk task v best ∷ []))
+left_less f disk task v best left = sum_without f (λ s. not (is_chosen v.choices s)) (λ s. not (is_chosen (v.choices ++ chosen_for disk task v best ∷ []) s)) (λ s h.
+    grind (arith, list_any-append (is_choice_of s) v.choices (chosen_for disk task v best ∷ []))) v.segments (best.number - 1) best left.there (ap not left.left) (ap not chosen_now) where
+      chosen_now : is_chosen (v.choices ++ chosen_for disk task v best ∷ []) best ≡ true
+      chosen_now = rw (list_any-append (is_choice_of best) v.choices (chosen_for disk task v best ∷ []), number_same best.number best.number refl) (or-true (is_chosen v.choices best))
 
 pub few_less : (disk : Shape) (past : Past) (task : ℕ) (best : LogSegment) → IsLeft disk (view past task) best
     → length (registered past ++ chosen_blocks disk task (view past task) best) + choosable_by disk (chose task best (chosen_blocks disk task (view past task) best) ∷ past) task ≤ length (registered past) + choosable_by disk past task

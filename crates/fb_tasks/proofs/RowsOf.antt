@@ -51,12 +51,6 @@ any_one g k a (suc n) from out = elim (cases_Bool (a == k)) [
   | inr other ↦ rw other (any_one g k (a + 1) n (grind (arith, nat_tests)) (λ past. out (omega arith)))
 ]
 
-seal_parts : (task : ℕ) (a b : Bool) (row : SealRow) (end : CompleteRow) → list_any (is_seal_of task) ((if a then SealLine row ∷ [] else []) ++ (if b then CompleteLine end ∷ [] else [])) ≡ ((row.task == task) && a)
-seal_parts task a b row end = grind arith
-
-segment_none : (task number : ℕ) (a b : Bool) (row : SealRow) (end : CompleteRow) → list_any (is_segment_of task number) ((if a then SealLine row ∷ [] else []) ++ (if b then CompleteLine end ∷ [] else [])) ≡ false
-segment_none task number a b row end = grind arith
-
 -- what one task alone can give
 module _ (past : Past) (p : BackRow → Bool) (f : ℕ → List BackRow) where
   any_tasks : (g : ℕ → Bool) (task : ℕ) → ((t : ℕ) → list_any p (f t) ≡ ((t == task) && g t)) → (length (tasks past) ≤ task → g task ≡ false)
@@ -70,8 +64,7 @@ module _ (past : Past) (p : BackRow → Bool) (f : ℕ → List BackRow) where
 
 module _ (sources : Sources) (past : Past) (now : ℕ) where
   seals_by : (task t : ℕ) → list_any (is_seal_of task) (seal_rows sources past now t ++ complete_rows past now t) ≡ ((t == task) && (is_open_backup past t && is_complete past t))
-  seals_by task t = seal_parts task (is_open_backup past t && is_complete past t) (is_complete past t && not (was_complete past t))
-      (record { task = t; instant = now; content = sources.image_at past t now }) (record { task = t; instant = now })
+  seals_by task t = grind arith
 
   no_seals : (task t : ℕ) → list_any (is_seal_of task) (segment_rows sources past now t) ≡ false
   no_seals task t = any_mapped_none (is_seal_of task) (λ (choice : Choice). SegmentLine (record { task = t; segment = choice.segment.number; instant = now; live = live_count choice.segment; content = sources.packed_for past t choice })) (λ choice. refl) (filter (is_newly_cleaned (work past t)) (choices past t))
@@ -92,7 +85,7 @@ module _ (sources : Sources) (past : Past) (now : ℕ) where
   segments_by task t number p (c ∷ cs) = grind (arith, segments_by task t number p cs)
 
   no_segments : (task number t : ℕ) → list_any (is_segment_of task number) (seal_rows sources past now t ++ complete_rows past now t) ≡ false
-  no_segments task number t = segment_none task number (is_open_backup past t && is_complete past t) (is_complete past t && not (was_complete past t)) (record { task = t; instant = now; content = sources.image_at past t now }) (record { task = t; instant = now })
+  no_segments task number t = grind arith
 
   -- a test reports the segments that are newly cleaned
   pub segments_given : (task number : ℕ) → (length (tasks past) ≤ task → choices past task ≡ [])

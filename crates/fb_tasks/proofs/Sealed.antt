@@ -53,9 +53,7 @@ dropped v lbn held blocks = if list_any (is_hit v lbn) blocks then None else hel
 pub dropped_next : (v : TaskView) (lbn : ℕ) (held : Option Content) (blocks : List Block) (i : ℕ) (block : Block) → slice_get blocks i ≡ Some block → without_aborted (entry_in v block) lbn (dropped v lbn held (take i blocks)) ≡ dropped v lbn held (take (i + 1) blocks)
 dropped_next v lbn held blocks i block at =
     rw (take_more blocks i block (slice_get_within blocks i block at), get_or_from_slice_get blocks i block block at, list_any-append, shown_aborted (v.bare block) v.suspended)
-    (either (is_hit v lbn block) (list_any (is_hit v lbn) (take i blocks))) where
-      either : (one more : Bool) → (if one then None else (if more then None else held)) ≡ (if more || (one || false) then None else held)
-      either one more = grind arith
+    (grind arith)
 
 module _ (p : Block → Bool) where
   abbrev pub has_it : ℕ → Block → Bool
@@ -92,15 +90,11 @@ held_parts v held from end (b ∷ bs) ascend within parts none =
     let gap = held_none held from (b.lbn - from) (λ k at_least less. let gap : k < b.lbn = omega arith in none k at_least (gap_none k gap)) in
     let rest = held_parts v held (b.lbn + b.count) end bs ascend.1 within.1 parts.1 (λ lbn from_it other. none lbn (omega arith) (rw (behind_it b.lbn b.count lbn from_it) other)) in
     rw (whole, range-append from (b.lbn - from) (b.count + (end - (b.lbn + b.count))), start, range-append b.lbn b.count (end - (b.lbn + b.count)), flat_map-append, flat_map-append, gap, parts.0, rest)
-    (by_state (is_delivered (v.bare b))) where
+    (grind arith) where
       gap_none : (k : ℕ) → k < b.lbn → list_any (λ (block : Block). is_within block.lbn block.count k) (b ∷ bs) ≡ false
       gap_none k less =
           let follow : k < b.lbn + b.count = omega arith in
           rw (before_it b.lbn b.count k less) (before_all (λ block. true) (b.lbn + b.count) k bs follow (ascend_from (b.lbn + b.count) bs ascend.1))
-
-      by_state : (done : Bool) → (if done then sectors_of (v.found b) else []) ++ flat_map (λ block. sectors_of (v.found block)) (filter (λ block. is_delivered (v.bare block)) bs)
-          ≡ flat_map (λ block. sectors_of (v.found block)) (if done then b ∷ filter (λ block. is_delivered (v.bare block)) bs else filter (λ block. is_delivered (v.bare block)) bs)
-      by_state done = grind arith
 
 module _ (v : TaskView) (ascend : Ascend 0 v.blocks) (over : AllByRecursion (λ block. is_over (v.bare block) ≡ true) v.blocks)
     (held now : ℕ → Option Content) (holds : HoldsImage v.work held) (drops : (lbn : ℕ) → now lbn ≡ dropped v lbn (held lbn) v.blocks) where

@@ -35,10 +35,7 @@ module _ (task : ℕ) (v : TaskView) (rows : List BackRow) (given : AreRowsOf ta
   reported-tested =
       all_weaker (λ choice. is_newly_cleaned v.work choice ≡ true → list_any (λ other. (other.segment.number == choice.segment.number) && is_newly_cleaned v.work other) v.choices ≡ true)
       (λ choice. is_newly_cleaned (tested_view task rows v).work choice ≡ false)
-      (λ choice found. newly_after (is_cleaned v.work choice) (v.reported choice.segment.number) (list_any (is_segment_of task choice.segment.number) rows) (λ newly. given.segments choice.segment.number ∙ found newly))
-      v.choices (found_by_number (is_newly_cleaned v.work) v.choices) where
-        newly_after : (done before now : Bool) → ((done && not before) ≡ true → now ≡ true) → (done && not (now || before)) ≡ false
-        newly_after done before now h = grind (arith, h)
+      (λ choice found. grind (arith, given.segments choice.segment.number, found)) v.choices (found_by_number (is_newly_cleaned v.work) v.choices)
 
   pub unsealed-tested : (is_unsealed (tested_view task rows v) && is_done v.work) ≡ false
   unsealed-tested = rw given.seals (grind arith)
@@ -77,13 +74,10 @@ is_done_after : (past : Past) (rows : List BackRow) (task : ℕ) → is_complete
 unfolding is_complete bare_state content_of
 is_done_after past rows task = refl
 
-seals-after : (past : Past) (rows : List BackRow) (task : ℕ) → (is_open_backup (tested rows ∷ past) task && is_complete (tested rows ∷ past) task) ≡ (is_unsealed (tested_view task rows (view past task)) && is_done (view past task).work)
-unfolding view bare_state content_of is_complete
-seals-after past rows task = refl
-
 no_others : (past : Past) (rows : List BackRow) (task : ℕ) → (is_unsealed (tested_view task rows (view past task)) && is_done (view past task).work) ≡ false → (sources : Sources) (now : ℕ) → (seal_rows sources (tested rows ∷ past) now task ++ complete_rows (tested rows ∷ past) now task) ≡ []
+unfolding view bare_state content_of is_complete
 no_others past rows task sealed sources now = ap₂ (λ a b. (if a then SealLine (record { task = task; instant = now; content = sources.image_at (tested rows ∷ past) task now }) ∷ [] else []) ++ (if b then CompleteLine (record { task = task; instant = now }) ∷ [] else []))
-    (seals-after past rows task ∙ sealed) (ap (λ b. b && not (is_complete past task)) (is_done_after past rows task) ∙ once (is_complete past task))
+    sealed (once (is_complete past task))
 
 pub settled-tested : (past : Past) (rows : List BackRow) → ((task : ℕ) → task < length (tasks past) → AreRowsOf task (view past task) rows) → IsSettled (tested rows ∷ past)
 unfolding test_rows
