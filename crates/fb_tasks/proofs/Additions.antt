@@ -1,10 +1,10 @@
 -- A session is opened, a log segment is added to one, or a range is wanted for one.
-use Rattle.fb_tasks.proofs.Words.{◌≡◌, ℕ, zero, suc, ◌+◌, ◌<◌, ◌≤◌, ◌==◌, not, List, [], ◌∷◌, ◌++◌, false, None, Some, length, slice_get}
+use Rattle.fb_tasks.proofs.Words.{◌≡◌, ℕ, suc, ◌+◌, ◌<◌, ◌≤◌, ◌==◌, not, List, [], ◌∷◌, ◌++◌, false, None, Some, length, slice_get}
 use Rattle.fb_tasks.proofs.Words.{filter, append-nil, length-append, refl, ap, sym, ◌∙◌, arith, subst, ◌-◌, ◌*◌, ◌^◌, Bool, true, Option}
 use Rattle.fb_tasks.proofs.Words.{map, set, get_or, ◌&&◌, and-false, AllByRecursion, slice_index_or, list_any, flat_map, true≢false}
-use Rattle.fb_tasks.proofs.Words.{and_parts, Shape, Open, Segment, Want, Call, Kind, Plain, Clean, MayAsk, has_want, held_at, Block, Entry}
-use Rattle.fb_tasks.proofs.Words.{Past, Terms, called, calls_of, tasks, terms_of, opened_by, registered, LogSegment, Work, TaskView, view}
-use Rattle.fb_tasks.proofs.Words.{is_complete_as, is_unsealed, state_in, Choice, added_view, is_over, is_choice_of, wanted_view, is_chosen}
+use Rattle.fb_tasks.proofs.Words.{and_parts, Shape, Open, Segment, Want, Call, Kind, Plain, MayAsk, has_want, held_at, Block, Entry}
+use Rattle.fb_tasks.proofs.Words.{Past, Terms, called, calls_of, tasks, terms_of, opened_by, registered, LogSegment, TaskView, view}
+use Rattle.fb_tasks.proofs.Words.{is_unsealed, state_in, Choice, added_view, is_over, is_choice_of, wanted_view, is_chosen}
 use Rattle.fb_tasks.proofs.Words.{numbered, opened-silent, opened-view, called-silent, added-view, wanted-silent, wanted-view, Session}
 use Rattle.fb_tasks.proofs.Words.{Told, Cleans, IsUntouched, IsPlaced, IsBlockOf, IsAtNumber, HoldsBlock, HoldsChoice, choice_in}
 use Rattle.fb_tasks.proofs.Words.{kept_segment, IsSegmentOf, HoldsImage, IsQuiet, entry_of, Stands, AreIndexed, Ascend, AreReported}
@@ -103,9 +103,8 @@ opened-tells disk past call kind weight block items seen more session held is sa
 
 -- nothing was taken as yet for a segment that has just been added
 taken_same : (taken : List (List (ℕ × Option Content))) (i : ℕ) → slice_index_or (taken ++ [] ∷ []) i [] ≡ slice_index_or taken i []
-taken_same [] i = grind arith
-taken_same (t ∷ taken) zero = refl
 taken_same (t ∷ taken) (suc i) = taken_same taken i
+taken_same _ _ = grind arith
 
 -- the next segment of a task
 abbrev pub next_segment : TaskView → ℕ → ℕ → ℕ → List Bool → LogSegment

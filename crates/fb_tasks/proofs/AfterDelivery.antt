@@ -1,5 +1,5 @@
 -- The rows that follow a delivery, and the sessions after them.
-use Rattle.fb_tasks.proofs.Words.{◌≡◌, ℕ, zero, suc, ◌+◌, ◌<◌, ◌≤◌, ◌==◌, ◌&&◌, if◌then◌else◌, List, [], ◌∷◌, ◌++◌, Bool, true, false, Some}
+use Rattle.fb_tasks.proofs.Words.{◌≡◌, ℕ, zero, suc, ◌+◌, ◌<◌, ◌≤◌, ◌==◌, ◌&&◌, if◌then◌else◌, List, [], ◌∷◌, ◌++◌, true, false, Some}
 use Rattle.fb_tasks.proofs.Words.{None, Option, inl, inr, length, map, set, get_or, slice_get, append-nil, append_assoc, refl, ap, ap₂, sym}
 use Rattle.fb_tasks.proofs.Words.{◌∙◌, arith, subst, AllByRecursion, flat_map, list_any, range_with_len, cases_Bool, true≢false, nat_tests}
 use Rattle.fb_tasks.proofs.Words.{length-set, slice_get_within, slice_get-get_or, Shape, is_clean, option_map, BackRow, BadLine, GotLine}
@@ -176,7 +176,7 @@ module _ {disk : Shape} {past : Past} {sessions : List Session} {held now : List
       findings_same : found ≡ findings past got
       findings_same =
           let kind : (terms_of past got.block.task).kind ≡ mid.kind =
-          (seen past got.block.task).kind ∙ (ap (λ t. t.kind) told-own.stands.terms ∙ sym (ap (λ (s : Session). s.kind) taken.same)) in
+          ap (λ t. t.kind) (sym (seen past got.block.task).terms ∙ told-own.stands.terms) ∙ sym (ap (λ (s : Session). s.kind) taken.same) in
           rw (kind, is) (grind arith)
 
       due_is : GotLine got ∷ rows_after past got ≡ ((GotLine got ∷ found) ++ segments) ++ ends

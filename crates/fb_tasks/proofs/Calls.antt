@@ -12,6 +12,7 @@ use Rattle.fb_tasks.proofs.Words.{get_or_from_slice_get, Entry, Session, deliver
 use Rattle.fb_tasks.proofs.{Asked.opened_same, Asked.open_there, Asked.terms_there, Cuts.cuts_count, Cuts.range_next}
 use Rattle.fb_tasks.proofs.{Additions.next_segment, AllChoices.in_same, AllChoices.in_tasks, AllChoices.in_fewer, AllChoices.by_task}
 use Rattle.fb_tasks.proofs.{AllChoices.all_range, AllChoices.sum_range, AllChoices.choosable-same, AllChoices.by_all}
+use Rattle.fb_tasks.proofs.States.{seen}
 use Rattle.fb_model.specs.History.{blocks_of}
 use Rattle.fb_tasks.specs.Telling.{calls_of}
 use Rattle.fb_calls.specs.Allowed as allowed
@@ -71,8 +72,7 @@ module _ (disk : Shape) (past : Past) (call : Call) where
   Grows = in_all disk (take_call disk past call) ≤ in_all disk past + blocks_in disk (allowed.terms_of (calls_of past) call.task).block call.action
 
   block_there : (allowed.terms_of (calls_of past) call.task).block ≡ (terms_of past call.task).block
-  unfolding view
-  block_there = ap (λ t. t.block) (terms_there past call.task)
+  block_there = ap (λ t. t.block) (terms_there past call.task ∙ (seen past call.task).terms)
 
   grown : (blocks : List Block) → blocks_by disk past call.task call.action ≡ blocks → in_all disk (take_call disk past call) ≡ length (registered past) + length blocks + choosable disk (called call blocks ∷ past)
   grown blocks is = rw (is, length-append) refl

@@ -1,6 +1,6 @@
 -- Calls and writes that change the states of blocks alone.
 use Rattle.fb_tasks.proofs.Words.{◌≡◌, ℕ, ◌<◌, List, [], ◌∷◌, Bool, true, false, length, set, get_or, ap, arith, subst, Some, slice_get}
-use Rattle.fb_tasks.proofs.Words.{append-nil, refl, sym, ◌∙◌, ◌+◌, ◌≤◌, min, max, nat_lt, map, ◌==◌, ◌&&◌, not, if◌then◌else◌, inl, inr}
+use Rattle.fb_tasks.proofs.Words.{append-nil, refl, sym, ◌∙◌, ◌+◌, ◌≤◌, nat_lt, map, ◌==◌, ◌&&◌, not, if◌then◌else◌, inl, inr}
 use Rattle.fb_tasks.proofs.Words.{Shape, Suspend, Resume, Abort, Promote, Close, Call, SuspendAll, ResumeAll, AbortRange, Rewant, Entry}
 use Rattle.fb_tasks.proofs.Words.{after, shares, is_delivered, Past, called, tasks, opened_by, calls_of, registered, LogSegment, finished}
 use Rattle.fb_tasks.proofs.Words.{TaskView, view, ended, aborted_view, closed_view, is_over, is_unsealed, is_cleaned, is_complete_as}

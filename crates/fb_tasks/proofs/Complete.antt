@@ -1,6 +1,6 @@
 -- How many blocks of a task there are in each state, whether it is complete by what its session keeps, and its row.
 use Rattle.fb_tasks.proofs.Words.{◌≡◌, ℕ, ◌+◌, ◌≤◌, ◌==◌, List, [], ◌∷◌, Bool, inl, inr, length, filter, map, refl, arith, zero, suc, ◌-◌}
-use Rattle.fb_tasks.proofs.Words.{◌<◌, ◌&&◌, not, nat_lt, ◌++◌, true, false, Some, None, Option, slice_get, find, append-nil, ap, sym, ◌∙◌}
+use Rattle.fb_tasks.proofs.Words.{◌<◌, ◌&&◌, not, ◌++◌, true, false, Some, None, Option, slice_get, find, append-nil, ap, sym, ◌∙◌}
 use Rattle.fb_tasks.proofs.Words.{append_assoc, list_all, AllByRecursion, list_any, range_with_len, cases_Bool, true≢false, length-map}
 use Rattle.fb_tasks.proofs.Words.{Block, Counts, Entry, State, is_delivered, is_aborted, of_task, counts_of, Past, registered, LogSegment}
 use Rattle.fb_tasks.proofs.Words.{Work, TaskView, view, state_in, is_over, Choice, is_cleaned, is_through, is_choice_of, is_complete}

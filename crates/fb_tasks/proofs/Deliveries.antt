@@ -1,6 +1,6 @@
 -- A block has been delivered, and its session stands as its task does.
 use Rattle.fb_tasks.proofs.Words.{◌≡◌, ℕ, zero, suc, ◌+◌, ◌<◌, ◌≤◌, ◌==◌, if◌then◌else◌, List, [], ◌∷◌, ◌++◌, true, false, Some, None}
-use Rattle.fb_tasks.proofs.Words.{Option, inl, inr, ◌⊎◌, map, slice_get, refl, ap, sym, ◌∙◌, arith, subst, not, Bool, append-nil}
+use Rattle.fb_tasks.proofs.Words.{Option, inl, inr, ◌⊎◌, map, slice_get, refl, ap, sym, ◌∙◌, arith, subst, not, append-nil}
 use Rattle.fb_tasks.proofs.Words.{AllByRecursion, list_any, flat_map, range_with_len, list_all, cases_Bool, and_parts, nat_tests, Content}
 use Rattle.fb_tasks.proofs.Words.{Gives, after_take, held_in, sectors_of, is_within, Block, Deliver, Entry, Wanted, Delivered, after}
 use Rattle.fb_tasks.proofs.Words.{is_delivered, is_wanted, DeliveryRow, Past, delivered, registered, wanted, state, Choice, TaskView, view}
@@ -8,9 +8,9 @@ use Rattle.fb_tasks.proofs.Words.{state_in, delivered_view, is_cleaned, is_over,
 use Rattle.fb_tasks.proofs.Words.{HoldsBlock, AreIndexed, Ascend, Stands, Cleans, IsUntouched, IsPlaced, HoldsBlocks, HoldsChoice}
 use Rattle.fb_tasks.proofs.Words.{choice_in, CleansBy, some_same, all_any, all_at, all_weaker, all_with, same_number, other_number}
 use Rattle.fb_tasks.proofs.Words.{list_all_each, none_pass, all_right, all_flat, filter_from, filter_to, all_both, none-some, Shape}
-use Rattle.fb_tasks.proofs.Words.{is_backup, held_at, State, Session, HasTaken, is_unsealed, HoldsImage, is_clean}
+use Rattle.fb_tasks.proofs.Words.{is_backup, held_at, Session, HasTaken, is_unsealed, HoldsImage, is_clean}
 use Rattle.fb_tasks.proofs.{Frames.changed-entries, Sealed.held_same, Sealed.held_all, Sealed.within, Sealed.before_it, Sealed.behind_it}
-use Rattle.fb_tasks.proofs.{Sealed.ascend_from, States.shown}
+use Rattle.fb_tasks.proofs.{Sealed.ascend_from}
 use Rattle.fb_clean.specs.Segments as clean
 
 get_append : {X : Type 0} (xs ys : List X) (i : ℕ) (x : X) → slice_get (xs ++ ys) i ≡ Some x → (slice_get xs i ≡ Some x) ⊎ ((j : ℕ) × (slice_get ys j ≡ Some x))

@@ -1,5 +1,5 @@
 -- One task changes, and the others stay.
-use Rattle.fb_tasks.proofs.Words.{◌≡◌, ℕ, zero, suc, ◌<◌, ◌≤◌, ◌==◌, if◌then◌else◌, List, [], ◌∷◌, false, Some, length, map, set, get_or}
+use Rattle.fb_tasks.proofs.Words.{◌≡◌, ℕ, suc, ◌<◌, ◌≤◌, ◌==◌, if◌then◌else◌, List, [], ◌∷◌, false, Some, length, map, set, get_or}
 use Rattle.fb_tasks.proofs.Words.{slice_get, append-nil, refl, ap, sym, ◌∙◌, arith, subst, AllByRecursion, length-set, slice_get-get_or}
 use Rattle.fb_tasks.proofs.Words.{Shape, Call, Block, Entry, after, state_after, Event, Past, called, tasks, registered, TaskView, view}
 use Rattle.fb_tasks.proofs.Words.{state_in, called-silent, number_same, Session, entry_by, entry_of, Told, IsPlaced, IsBlockOf, Tells}
@@ -9,10 +9,8 @@ use Rattle.fb_wanted.specs.declared.block.Change.{Change}
 use Rattle.std.proofs.lemmas.List.{set-get_or}
 
 pub get_other : {X : Type 0} (xs : List X) (i k : ℕ) (y : X) → (i ≡ k → ⊥) → slice_get (set xs i y) k ≡ slice_get xs k
-get_other [] i k y other = refl
-get_other (x ∷ xs) zero zero y other = absurd (other refl)
 get_other (x ∷ xs) (suc i) (suc k) y other = get_other xs i k y (λ e. other (ap suc e))
-get_other (x ∷ xs) _ _ y other = grind arith
+get_other _ _ _ y other = grind arith
 
 pub set_same : {X : Type 0} (xs : List X) (i : ℕ) (x : X) → slice_get xs i ≡ Some x → set xs i x ≡ xs
 set_same xs i x h = ap (set xs i) (sym (get_or_from_slice_get xs i x x h)) ∙ set-get_or xs i x

@@ -1,16 +1,14 @@
 -- The sectors that can't be read, and what the rows of a test say of each task.
 use Rattle.fb_tasks.proofs.Words.{◌≡◌, ℕ, ◌+◌, ◌-◌, ◌≤◌, List, [], ◌∷◌, ◌++◌, true, false, Some, if◌then◌else◌, take, slice_get, append-nil}
-use Rattle.fb_tasks.proofs.Words.{append_assoc, sym, arith, refl, zero, suc, ◌<◌, ◌==◌, ◌&&◌, ◌||◌, not, Bool, inl, inr, length, filter}
+use Rattle.fb_tasks.proofs.Words.{append_assoc, sym, arith, refl, zero, suc, ◌<◌, ◌==◌, ◌&&◌, ◌||◌, Bool, inl, inr, length, filter}
 use Rattle.fb_tasks.proofs.Words.{map, ap, ◌∙◌, range_with_len, flat_map, list_any, Unreadable, ContentRun, same_content, bad_sectors}
 use Rattle.fb_tasks.proofs.Words.{Sources, test_rows, segment_rows, seal_rows, complete_rows, is_newly_cleaned, findings, is_scrub}
 use Rattle.fb_tasks.proofs.Words.{take_more, get_or_past, slice_get_within, get_or_from_slice_get, flat_map-append, and-false, or-false}
-use Rattle.fb_tasks.proofs.Words.{cases_Bool, nat_tests, list_any-append, BackRow, BadLine, SealLine, SegmentLine, CompleteLine}
+use Rattle.fb_tasks.proofs.Words.{cases_Bool, nat_tests, list_any-append, BackRow, BadLine, SegmentLine}
 use Rattle.fb_tasks.proofs.Words.{DeliveryRow, Past, tasks, task_numbers, terms_of, is_seal_of, is_open_backup, Choice, view, work, choices}
-use Rattle.fb_tasks.proofs.Words.{is_complete, was_complete, is_segment_of, live_count, AreRowsOf, all_any, any_same, any_none, Plain}
+use Rattle.fb_tasks.proofs.Words.{is_complete, is_segment_of, live_count, AreRowsOf, all_any, any_same, any_none, Plain}
 use Rattle.fb_tasks.proofs.Words.{AreReported, filter_none}
 use Rattle.fb_geometry.proofs.Turns.{range-append}
-use Rattle.fb_rows.specs.declared.back.CompleteRow.{CompleteRow}
-use Rattle.fb_rows.specs.declared.back.SealRow.{SealRow}
 
 pub range_pushed : (before now : List ℕ) (first lbn : ℕ) → first ≤ lbn → now ≡ before ++ range_with_len first (lbn - first) → now ++ lbn ∷ [] ≡ before ++ range_with_len first (lbn + 1 - first)
 range_pushed before now first lbn from so_far =

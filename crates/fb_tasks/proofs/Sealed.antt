@@ -1,6 +1,6 @@
 -- What is held of sectors and of blocks that ascend; a backup is sealed: its image has the delivered blocks alone.
 use Rattle.fb_tasks.proofs.Words.{◌≡◌, ℕ, zero, suc, ◌+◌, ◌<◌, ◌≤◌, List, [], ◌∷◌, true, false, Some, Option, map, refl, arith, append-nil}
-use Rattle.fb_tasks.proofs.Words.{◌-◌, ◌==◌, ◌&&◌, ◌||◌, ◌^◌, not, nat_lt, if◌then◌else◌, ◌++◌, Bool, None, length, filter, take, slice_get}
+use Rattle.fb_tasks.proofs.Words.{◌-◌, ◌==◌, ◌&&◌, ◌^◌, not, nat_lt, if◌then◌else◌, ◌++◌, Bool, None, length, filter, take, slice_get}
 use Rattle.fb_tasks.proofs.Words.{ap, ap₂, sym, ◌∙◌, subst, inl, inr, AllByRecursion, range_with_len, flat_map, list_any, list_all}
 use Rattle.fb_tasks.proofs.Words.{nat_tests, Content, held_in, EndsBy, is_within, Block, Ascend, entry_of, entry_in, AreIndexed, IsBlockOf}
 use Rattle.fb_tasks.proofs.Words.{HoldsBlock, HoldsBlocks, HoldsImage, Stands, all_weaker, all_with, all_filter, all_at, some_same}

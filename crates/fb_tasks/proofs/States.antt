@@ -45,13 +45,13 @@ pub record IsSeen (past : Past) (task : ℕ) : Type 0 where
   pub done : is_done (view past task).work ≡ is_complete past task
   pub was : (view past task).was_complete ≡ was_complete past task
   pub unsealed : is_unsealed (view past task) ≡ is_open_backup past task
-  pub kind : (terms_of past task).kind ≡ (view past task).terms.kind
+  pub terms : (view past task).terms ≡ terms_of past task
   pub blocks : (view past task).blocks ≡ blocks_of past task
   pub segments : (view past task).segments ≡ segments past task
 
 pub seen : (past : Past) (task : ℕ) → IsSeen past task
 unfolding view is_complete
-seen past task = record { done = refl; was = refl; unsealed = refl; kind = refl; blocks = refl; segments = refl }
+seen past task = record { done = refl; was = refl; unsealed = refl; terms = refl; blocks = refl; segments = refl }
 
 -- what is aborted was not delivered
 pub ended-done : (hit : Bool) (before : State) → is_delivered (ended hit before) ≡ is_delivered before

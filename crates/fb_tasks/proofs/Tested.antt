@@ -3,13 +3,15 @@ use Rattle.fb_tasks.proofs.Words.{◌≡◌, ℕ, ◌<◌, ◌==◌, ◌&&◌, �
 use Rattle.fb_tasks.proofs.Words.{Option, length, refl, ap, ap₂, sym, ◌∙◌, arith, ◌+◌, ◌≤◌, set, slice_get, append-nil, append_assoc}
 use Rattle.fb_tasks.proofs.Words.{and-false, or-true, AllByRecursion, list_any, flat_map, range_with_len, list_any-append, is_backup}
 use Rattle.fb_tasks.proofs.Words.{BackRow, SealLine, CompleteLine, Content, held_at, Past, tested, tasks, task_numbers, bare_state}
-use Rattle.fb_tasks.proofs.Words.{content_of, is_open_backup, registered, Choice, TaskView, view, tested_view, is_unsealed, is_cleaned}
+use Rattle.fb_tasks.proofs.Words.{content_of, registered, Choice, TaskView, view, tested_view, is_unsealed, is_cleaned}
 use Rattle.fb_tasks.proofs.Words.{is_done, is_complete, is_segment_of, work, is_busy, Sources, test_rows, segment_rows, seal_rows}
 use Rattle.fb_tasks.proofs.Words.{complete_rows, is_newly_cleaned, number_same, tested-view, Session, is_none, IsSealed, AreRowsOf}
 use Rattle.fb_tasks.proofs.Words.{AreReported, IsAtWork, Stands, Cleans, HoldsBlock, HoldsImage, choice_in, CleansBy, IsUntouched}
 use Rattle.fb_tasks.proofs.Words.{HasNoChoice, HoldsBlocks, HasChosen, HaveChosen, IsSettled, Tells, all_weaker, flat_none}
 use Rattle.fb_tasks.proofs.Words.{all_range, some_at, each_set, step_to, get_or_past, length-set, Shape, Entry, by_deliveries, Plain}
 use Rattle.fb_tasks.proofs.Words.{is_clean, subst, IsTested, ends_of, slice_get_within}
+use Rattle.fb_tasks.proofs.Words.{Terms}
+use Rattle.fb_tasks.proofs.States.{seen}
 use Rattle.fb_tasks.proofs.RowsOf.{reported_rows, rows-given, nothing-mute}
 use Rattle.fb_tasks.proofs.{Sealed.held_same, Complete.busy_by, Frames.kept-entries}
 use Rattle.fb_tasks.proofs.{Frames.get_other, Frames.set_same, Additions.none-yet, States.flagged-stands, Cuts.range_next}
@@ -70,19 +72,15 @@ module _ (task : ℕ) (v : TaskView) (rows : List BackRow) (given : AreRowsOf ta
       record { done = h.done; current = h.current; by = assumption (unreported, reported, h.by) }
 
 -- all was tested
-is_done_after : (past : Past) (rows : List BackRow) (task : ℕ) → is_complete (tested rows ∷ past) task ≡ is_complete past task
-unfolding is_complete bare_state content_of
-is_done_after past rows task = refl
-
 no_others : (past : Past) (rows : List BackRow) (task : ℕ) → (is_unsealed (tested_view task rows (view past task)) && is_done (view past task).work) ≡ false → (sources : Sources) (now : ℕ) → (seal_rows sources (tested rows ∷ past) now task ++ complete_rows (tested rows ∷ past) now task) ≡ []
 unfolding view bare_state content_of is_complete
 no_others past rows task sealed sources now = ap₂ (λ a b. (if a then SealLine (record { task = task; instant = now; content = sources.image_at (tested rows ∷ past) task now }) ∷ [] else []) ++ (if b then CompleteLine (record { task = task; instant = now }) ∷ [] else []))
     sealed (once (is_complete past task))
 
 pub settled-tested : (past : Past) (rows : List BackRow) → ((task : ℕ) → task < length (tasks past) → AreRowsOf task (view past task) rows) → IsSettled (tested rows ∷ past)
-unfolding test_rows
+unfolding test_rows is_complete bare_state content_of
 settled-tested past rows given = record {
-  tested = λ task. sym (is_done_after past rows task);
+  tested = λ task. refl;
   no_rows = λ sources now. rw (
     flat_none (segment_rows sources (tested rows ∷ past) now) (task_numbers past)
         (all_range (λ task. segment_rows sources (tested rows ∷ past) now task ≡ []) 0 (length (tasks past))
@@ -183,15 +181,11 @@ module _ {past : Past} {old now : List Session} {instant : ℕ} {before rows : L
       (ap (λ b. set now k (record found.0 { touched = b })) (sym flag) ∙ set_same now k found.0 found.1)
       (one_tested is test))
 
--- a task that is not opened has neither blocks nor terms
-no_terms : (past : Past) (task : ℕ) → length (tasks past) ≤ task → (view past task).terms ≡ record { kind = Plain; weight = 1; block = 1 }
-unfolding view
-no_terms past task beyond = get_or_past (tasks past) task (record { kind = Plain; weight = 1; block = 1 }) beyond
-
 pub untouched-tested : (disk : Shape) (past : Past) (held : List Entry) (h : HoldsBlocks disk past held) (task : ℕ) → length (tasks past) ≤ task → (rows : List BackRow) → AreRowsOf task (view past task) rows → IsUntouched (tested_view task rows (view past task))
 untouched-tested disk past held h task beyond rows given =
     let was = h.unopened task beyond in
-    let terms = no_terms past task beyond in
+    let plain : Terms = record { kind = Plain; weight = 1; block = 1 } in
+    let terms : (view past task).terms ≡ plain = (seen past task).terms ∙ get_or_past (tasks past) task plain beyond in
     let never : is_done (view past task).work ≡ false = rw (terms, none-yet disk past task beyond h.on_disk) refl in
     let sealed : (tested_view task rows (view past task)).sealed ≡ false = rw (given.seals, terms) was.sealed in
     let reported : (number : ℕ) → (tested_view task rows (view past task)).reported number ≡ false = λ number. rw (given.segments number, was.choices) (was.reported number) in
