@@ -43,33 +43,16 @@ impl Model for Geometry {
 }
 
 impl Geometry {
-    /// The geometry of an outline, with the rotation in nanoseconds; or the outline's first fault,
-    /// or `NoMemory`.
-    pub fn new(
-        alloc: Global,
-        layout: Layout,
-        rotation: Ns,
-        heads: u32,
-        zones: Vec<Zone>,
-        defects: Vec<Place>,
-        grown: Vec<Place>,
-    ) -> Result<Geometry, GeometryError>
-        requires fits { FitsLayout layout (record { layout = layout; rotation = rotation; heads = heads; zones = zones.items; defects = defects.items; grown = grown.items }) }
-        ensures { Judges (record { layout = layout; rotation = rotation; heads = heads; zones = zones.items; defects = defects.items; grown = grown.items }) result }
+    /// The geometry of an outline; or the outline's first fault, or `NoMemory`.
+    pub fn new(alloc: Global, outline: Outline) -> Result<Geometry, GeometryError>
+        requires fits { FitsLayout outline.layout outline }
+        ensures { Judges outline result }
     {
-        let outline = Outline {
-            layout,
-            rotation,
-            heads,
-            zones,
-            defects,
-            grown,
-        };
         if let Some(fault) = outline.zone_fault() {
             return Err(GeometryError::Fault(fault));
         }
         let defects = outline.judged_defects(alloc)?;
-        match layout {
+        match outline.layout {
             Layout::PerTrack => Geometry::per_track(alloc, outline, defects),
             Layout::PerCylinder => Geometry::per_cylinder(alloc, outline),
         }

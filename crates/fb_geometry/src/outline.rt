@@ -25,20 +25,20 @@ const LAST_CYLINDER: u32 = 999_999;
 
 const MOST_SECTORS: u32 = 10_000;
 
-// The numbers, zones and bad slots that a disk is made from.
+/// The numbers, zones and bad slots that a disk is made from.
 #[derive(Drop)]
 pub struct Outline {
-    // Where the spare slots are.
+    /// Where the spare slots are.
     pub layout: Layout,
-    // The time of one rotation, in nanoseconds.
+    /// The time of one rotation, in nanoseconds: from 1 to a second.
     pub rotation: Ns,
-    // The number of heads.
+    /// The number of heads, from 1 to 64.
     pub heads: u32,
-    // The zones, in the order of cylinders.
+    /// The zones, in the order of cylinders: from 1 to 64.
     pub zones: Vec<Zone>,
-    // The slots that are bad from the first.
+    /// The slots that are bad from the first, in any order.
     pub defects: Vec<Place>,
-    // The slots that went bad later.
+    /// The slots that went bad later, in any order.
     pub grown: Vec<Place>,
 }
 
@@ -52,7 +52,7 @@ impl Model for Outline {
 
 impl Outline {
     // The first fault of the numbers and zones.
-    pub fn zone_fault(&self) -> Option<GeometryFault>
+    pub(crate) fn zone_fault(&self) -> Option<GeometryFault>
         ensures { result ≡ zone_fault self.now }
     {
         if self.is_out_of_range() {
@@ -137,7 +137,7 @@ impl Outline {
     }
 
     // The number of cylinders.
-    pub fn cylinders(&self) -> u32
+    pub(crate) fn cylinders(&self) -> u32
         requires { HasZones self.now }
         ensures value { result ≡ cylinders_of self.now.zones }
         ensures some { 0 < result }
@@ -147,7 +147,7 @@ impl Outline {
     }
 
     // The zone of a cylinder.
-    pub fn zone_of(&self, cylinder: u32) -> Zone
+    pub(crate) fn zone_of(&self, cylinder: u32) -> Zone
         requires zones { HasZones self.now }
         requires on_disk { cylinder < cylinders_of self.now.zones }
         ensures zone { IsZoneOf self.now cylinder result }
@@ -157,7 +157,7 @@ impl Outline {
     }
 
     // The index of the zone of each cylinder, in the order of cylinders.
-    pub fn zone_numbers(&self, alloc: Global) -> Result<Vec<u8>, NoMemory>
+    pub(crate) fn zone_numbers(&self, alloc: Global) -> Result<Vec<u8>, NoMemory>
         requires { HasZones self.now }
         ensures { IfOk result (λ numbers. AreZoneNumbers self.now.zones numbers.items) }
     {
@@ -171,7 +171,7 @@ impl Outline {
     }
 
     // The zone of a cylinder, looked up by these numbers.
-    pub fn zone_numbered(&self, numbers: &[u8], cylinder: u32) -> Zone
+    pub(crate) fn zone_numbered(&self, numbers: &[u8], cylinder: u32) -> Zone
         requires numbers { AreZoneNumbers self.now.zones numbers.now }
         requires on_disk { cylinder < cylinders_of self.now.zones }
         ensures { zone_at self.now.zones cylinder ≡ Some result }
@@ -204,7 +204,7 @@ impl Outline {
     }
 
     // The defects in order, or their first fault.
-    pub fn judged_defects(&self, alloc: Global) -> Result<Vec<Place>, GeometryError>
+    pub(crate) fn judged_defects(&self, alloc: Global) -> Result<Vec<Place>, GeometryError>
         requires { HasZones self.now }
         ensures sorted { IfOk result (λ sorted. AreJudged (defect_fault self.now) self.now.defects sorted.items) }
         ensures fault { IfErr result (Answers (defect_fault self.now)) }
@@ -221,7 +221,7 @@ impl Outline {
     }
 
     // The defects and the grown defects together in order, or the first fault of the grown ones.
-    pub fn judged_grown(&self, alloc: Global) -> Result<Vec<Place>, GeometryError>
+    pub(crate) fn judged_grown(&self, alloc: Global) -> Result<Vec<Place>, GeometryError>
         requires zones { HasZones self.now }
         requires defects { defect_fault self.now ≡ None }
         ensures sorted { IfOk result (λ sorted. AreJudged (grown_fault self.now) (self.now.defects ++ self.now.grown) sorted.items) }
@@ -239,7 +239,7 @@ impl Outline {
     }
 
     // The marks, in ascending order, of places on the disk that are there once.
-    pub fn marks(&self, alloc: Global, places: &[Place]) -> Result<Vec<Mark>, NoMemory>
+    pub(crate) fn marks(&self, alloc: Global, places: &[Place]) -> Result<Vec<Mark>, NoMemory>
         requires zones { HasZones self.now }
         requires inside { find (is_outside self.now) places.now ≡ None }
         requires once { repeated places.now ≡ [] }
@@ -275,7 +275,7 @@ impl Outline {
     }
 
     // The first of the defects in order whose track has more of them than spares.
-    pub fn first_on_full_track(&self, defects: &[Place]) -> Option<Place>
+    pub(crate) fn first_on_full_track(&self, defects: &[Place]) -> Option<Place>
         requires zones { HasZones self.now }
         requires sorted { AreSorted self.now.defects defects.now }
         requires inside { All (λ place. is_outside self.now place ≡ false) defects.now }
@@ -303,7 +303,7 @@ impl Outline {
     }
 
     // The first of all bad places in order whose cylinder has more of them than spares.
-    pub fn first_on_full_cylinder(&self, bad: &[Place]) -> Option<Place>
+    pub(crate) fn first_on_full_cylinder(&self, bad: &[Place]) -> Option<Place>
         requires zones { HasZones self.now }
         requires sorted { AreSorted (self.now.defects ++ self.now.grown) bad.now }
         requires inside { All (λ place. is_outside self.now place ≡ false) bad.now }

@@ -2,10 +2,10 @@
 use Rattle.std.proofs.Common.{◌≡◌, ℕ, false, not, ◌==◌, List, [], ◌∷◌, map, refl}
 use Rattle.std.specs.List.{list_any}
 use Rattle.toml.specs.Data.{Members}
-use Rattle.fb_units.specs.declared.types.Place.{Place}
 use Rattle.fb_geometry.specs.declared.layout.Layout.{Layout}
 use Rattle.fb_geometry.specs.declared.layout.Layout.TheVariants.{PerTrack, PerCylinder}
 use Rattle.fb_geometry.specs.declared.zone.Zone.{Zone}
+use Rattle.fb_geometry.specs.Shape.{Shape}
 use Rattle.fb_geometry.specs.Faults.{FitsLayout}
 use Rattle.fb_params.specs.ParamsValue.{zone_of, grown_of}
 
@@ -17,8 +17,7 @@ no_spares : (tables : List Members) → list_any (λ zone. not (zone.spares == 0
 no_spares [] = refl
 no_spares (table ∷ tables) = no_spares tables
 
-pub fits_layout : (layout : Layout) (rotation heads : ℕ) (zones : List Zone) (defects grown : List Place) (tables : List Members) (table : Members)
-    → zones ≡ map (zone_of layout) tables → grown ≡ grown_of layout table
-    → FitsLayout layout (record { layout = layout; rotation = rotation; heads = heads; zones = zones; defects = defects; grown = grown })
-fits_layout PerTrack rotation heads zones defects grown tables table is none = (none, rw is (no_cylinder_spares tables))
-fits_layout PerCylinder rotation heads zones defects grown tables table is found = rw is (no_spares tables)
+pub fits_layout : (layout : Layout) (disk : Shape) (tables : List Members) (table : Members)
+    → disk.zones ≡ map (zone_of layout) tables → disk.grown ≡ grown_of layout table → FitsLayout layout disk
+fits_layout PerTrack disk tables table is none = (none, rw is (no_cylinder_spares tables))
+fits_layout PerCylinder disk tables table is found = rw is (no_spares tables)

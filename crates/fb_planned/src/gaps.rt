@@ -5,7 +5,7 @@ ghost use Rattle.fb_geometry.specs.Places.{places};
 ghost use Rattle.fb_plan.specs.Ways.{IsGap, FitsDisk, AreOnDisk};
 
 use fb_detour::IndexedPlanner;
-use fb_geometry::{Geometry, Layout, Zone};
+use fb_geometry::{Geometry, Layout, Outline, Zone};
 use fb_plan::{Planner, SlowPlanner, caught, dwells};
 use fb_rows::{Gap, Plan};
 use fb_sectormap::SectorMap;
@@ -94,16 +94,15 @@ fn disk_of(alloc: Global, setting: &Setting) -> Result<Option<Disk>, NoMemory> {
     };
     let mut zones = Vec::new(alloc);
     zones.push(zone)?;
-    let none = Vec::new(alloc);
-    let map = match Geometry::new(
-        alloc,
-        Layout::PerTrack,
-        1200,
-        2,
+    let outline = Outline {
+        layout: Layout::PerTrack,
+        rotation: 1200,
+        heads: 2,
         zones,
-        none,
-        Vec::new(alloc),
-    ) {
+        defects: Vec::new(alloc),
+        grown: Vec::new(alloc),
+    };
+    let map = match Geometry::new(alloc, outline) {
         Ok(geometry) => SectorMap::new(alloc, geometry)?,
         Err(_) => return Ok(None),
     };

@@ -6,7 +6,7 @@ ghost use Rattle.fb_geometry.specs.Places.{places};
 ghost use Rattle.fb_model.specs.Accepted.{IsRequestOf};
 
 use fb_fastq::{ClookMap, FcfsRing, SptfLanes, SstfMap};
-use fb_geometry::{Geometry, Layout, Zone};
+use fb_geometry::{Geometry, Layout, Outline, Zone};
 use fb_queue::{Clook, Fcfs, Queue, Sptf, Sstf};
 use fb_sectormap::SectorMap;
 use fb_seek::{Mechanism, SeekPoint};
@@ -34,9 +34,15 @@ const STEPS: u64 = 2000;
 fn small_disk(alloc: Global) -> Result<Disk, Fail> {
     let mut zones = Vec::new(alloc);
     zones.push(ZONE)?;
-    let none = Vec::new(alloc);
-    let grown = Vec::new(alloc);
-    let geometry = Geometry::new(alloc, Layout::PerTrack, 1200, 2, zones, none, grown)?;
+    let outline = Outline {
+        layout: Layout::PerTrack,
+        rotation: 1200,
+        heads: 2,
+        zones,
+        defects: Vec::new(alloc),
+        grown: Vec::new(alloc),
+    };
+    let geometry = Geometry::new(alloc, outline)?;
     let map = SectorMap::new(alloc, geometry)?;
     let _sectors = map.count();
     let geometry = map.geometry();

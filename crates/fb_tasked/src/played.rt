@@ -4,7 +4,7 @@ ghost use Rattle.fb_tasked.specs.Following.{Follows};
 
 use crate::lines::lines;
 use fb_calls::{Calls, read_calls};
-use fb_geometry::{Geometry, Layout, Zone};
+use fb_geometry::{Geometry, Layout, Outline, Zone};
 use fb_rows::{BackRow, BackRows, DeliveryRow, How};
 use fb_sectormap::SectorMap;
 use fb_store::{Store, runs_are_fewest};
@@ -29,15 +29,15 @@ const ZONE: Zone = Zone {
 fn disk(alloc: Global) -> Result<SectorMap, Fail> {
     let mut zones = Vec::new(alloc);
     zones.push(ZONE)?;
-    let geometry = Geometry::new(
-        alloc,
-        Layout::PerTrack,
-        1200,
-        2,
+    let outline = Outline {
+        layout: Layout::PerTrack,
+        rotation: 1200,
+        heads: 2,
         zones,
-        Vec::new(alloc),
-        Vec::new(alloc),
-    )?;
+        defects: Vec::new(alloc),
+        grown: Vec::new(alloc),
+    };
+    let geometry = Geometry::new(alloc, outline)?;
     Ok(SectorMap::new(alloc, geometry)?)
 }
 

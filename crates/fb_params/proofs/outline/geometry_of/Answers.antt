@@ -18,6 +18,5 @@ places-requires c = rw c.elements_at-2.ensures (defects-within c.args.layout (ta
 
 pub new-requires : goal.new-requires
 new-requires c = record {
-  fits = fits_layout c.args.layout c.number_at-rotation.result c.small_number_at-heads.result c.in_ok-zones.zones.items c.in_ok-defects.defects.items c.in_ok-grown.grown.items
-      (filter_map as_table (map view c.elements_at.result.now)) (table_view c.args.table.now) c.in_ok-zones.ensures c.in_ok-grown.ensures;
+  fits = fits_layout c.args.layout _ (filter_map as_table (map view c.elements_at.result.now)) (table_view c.args.table.now) c.in_ok-zones.ensures c.in_ok-grown.ensures;
 }

@@ -19,22 +19,15 @@ refused disk (Fault fault) e h = fault_of_defects disk fault e h
 refused disk NoMemory e h = tt
 
 pub returns-in-Some : goal.returns-in-Some
-returns-in-Some c =
-    fault_of_zones (record { layout = c.args.layout; rotation = c.args.rotation; heads = c.args.heads; zones = c.args.zones.items; defects = c.args.defects.items; grown = c.args.grown.items }) c.in-Some.fault
-    (sym c.zone_fault.ensures ∙ c.in-Some.is)
+returns-in-Some c = fault_of_zones c.args.outline c.in-Some.fault (sym c.zone_fault.ensures ∙ c.in-Some.is)
 
 pub returns-in_err-defects : goal.returns-in_err-defects
 returns-in_err-defects c =
-    let disk : Shape = record { layout = c.args.layout; rotation = c.args.rotation; heads = c.args.heads; zones = c.args.zones.items; defects = c.args.defects.items; grown = c.args.grown.items } in
     let p = err_from_is_err_and c.from_residual.result c.from_residual.ensures.1 in
-    rw (p.1, p.2) (refused disk c.in_err-defects.field-0.0 (sym c.zone_fault.ensures ∙ c.in_default.is) c.in_err-defects.ensures.fault)
+    rw (p.1, p.2) (refused c.args.outline c.in_err-defects.field-0.0 (sym c.zone_fault.ensures ∙ c.in_default.is) c.in_err-defects.ensures.fault)
 
 pub returns-in-PerTrack : goal.returns-in-PerTrack
-returns-in-PerTrack c =
-    let disk : Shape = record { layout = c.args.layout; rotation = c.args.rotation; heads = c.args.heads; zones = c.args.zones.items; defects = c.args.defects.items; grown = c.args.grown.items } in
-    judged disk c.per_track.result (sym c.zone_fault.ensures ∙ c.in_default.is) c.in_ok-defects.ensures.sorted.faultless c.per_track.ensures
+returns-in-PerTrack c = judged c.args.outline c.per_track.result (sym c.zone_fault.ensures ∙ c.in_default.is) c.in_ok-defects.ensures.sorted.faultless c.per_track.ensures
 
 pub returns-in-PerCylinder : goal.returns-in-PerCylinder
-returns-in-PerCylinder c =
-    let disk : Shape = record { layout = c.args.layout; rotation = c.args.rotation; heads = c.args.heads; zones = c.args.zones.items; defects = c.args.defects.items; grown = c.args.grown.items } in
-    judged disk c.per_cylinder.result (sym c.zone_fault.ensures ∙ c.in_default.is) c.in_ok-defects.ensures.sorted.faultless c.per_cylinder.ensures
+returns-in-PerCylinder c = judged c.args.outline c.per_cylinder.result (sym c.zone_fault.ensures ∙ c.in_default.is) c.in_ok-defects.ensures.sorted.faultless c.per_cylinder.ensures

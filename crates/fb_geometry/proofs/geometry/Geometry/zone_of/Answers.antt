@@ -1,4 +1,4 @@
-use Rattle.std.proofs.Common.{◌≡◌, subst, sym, ap, ◌∙◌, Some}
+use Rattle.std.proofs.Common.{◌≡◌, subst, Some}
 use Rattle.fb_geometry.specs.Shape.{slots_at}
 use Rattle.fb_geometry.specs.Turns.{IsZoneAt, zone_at}
 use Rattle.fb_geometry.proofs.Faultless.{zone_by_search, list_among-zone, slots_at-zone}
