@@ -21,7 +21,7 @@ use crate::background::Background;
 use crate::turn::Turn;
 use fb_plan::{Planner, dwells};
 use fb_rows::{BackRow, ForeRow, Gap, GapRow, How};
-use fb_service::{Disk, serve};
+use fb_service::{Access, Disk, serve};
 use fb_store::{Contents, Store};
 use fb_tasks::reads_change_nothing;
 use fb_units::{Name, NoMemory, Request, Track};
@@ -61,15 +61,12 @@ pub fn serve_request<P: Planner>(
         → HasServed disk.now store.old past (served_in disk.now turn) background.old.rows background.new) }
 {
     let request = turn.request;
-    let service = serve(
-        alloc,
-        disk,
-        turn.head,
-        turn.start,
-        request.lbn,
-        request.count,
-        request.write,
-    )?;
+    let access = Access {
+        lbn: request.lbn,
+        count: request.count,
+        write: request.write,
+    };
+    let service = serve(alloc, disk, turn.head, turn.start, access)?;
     let gap = Gap {
         source: turn.head,
         target: disk.map.place(request.lbn).track,

@@ -1,14 +1,14 @@
 // Services worked out by hand, for small disks of four cylinders with two heads.
-ghost use Rattle.std.specs.Prelude.{◌≡◌, ◌+◌, ◌<◌, ◌≤◌, length, true};
-ghost use Rattle.fb_geometry.specs.Places.{places};
+ghost use Rattle.std.specs.Prelude.{◌≡◌, true};
+ghost use Rattle.fb_service.specs.Service.{IsAccess};
 
 use crate::disks::{BAD, ZONE, per_cylinder, per_track};
 use fb_geometry::{Geometry, Layout, Zone};
 use fb_sectormap::SectorMap;
 use fb_seek::{Mechanism, SeekPoint};
 use fb_service::{
-    Disk, Extent, Passage, approach_on, approach_to, departure_from, first_pass, nth_passage,
-    serve, wait_on,
+    Access, Disk, Extent, Passage, approach_on, approach_to, departure_from, first_pass,
+    nth_passage, serve, wait_on,
 };
 use fb_units::{NoMemory, Ns, Place, Track};
 use std::alloc::Global;
@@ -140,29 +140,29 @@ fn small_disk(alloc: Global, small: &Small) -> Result<Disk, Fail> {
     disk_of(alloc, geometry?)
 }
 
-// Whether a request lies on the disk and has some sectors, but not too many.
-fn is_request(disk: &Disk, lbn: u64, count: u32) -> bool
-    ensures some { result ≡ true → 0 < count }
-    ensures few { result ≡ true → count ≤ 2048 }
-    ensures blocks { result ≡ true → lbn + count ≤ length (places disk.now.map) }
+// Whether these sectors lie on the disk and are some, but not too many.
+fn is_access(disk: &Disk, access: Access) -> bool
+    ensures { result ≡ true → IsAccess disk.now.map access }
 {
     let sectors = disk.map.count();
-    0 < count && count <= 2048 && lbn <= sectors && count as u64 <= sectors - lbn
+    0 < access.count
+        && access.count <= 2048
+        && access.lbn <= sectors
+        && access.count as u64 <= sectors - access.lbn
 }
 
-// When a read's first sector begins to pass, when its last one has passed, and in how many extents;
-// `None` where the disk can't serve it.
+// When the first of these sectors begins to pass, when the last one has passed, and in how many
+// extents; `None` where the disk can't serve them.
 fn times_of(
     alloc: Global,
     disk: &Disk,
     now: Ns,
-    lbn: u64,
-    count: u32,
+    access: Access,
 ) -> Result<Option<(Ns, Ns, usize)>, Fail> {
-    if !is_request(disk, lbn, count) || now > LATE {
+    if !is_access(disk, access) || now > LATE {
         return Ok(None);
     }
-    let service = serve(alloc, disk, SOURCE, now, lbn, count, false)?;
+    let service = serve(alloc, disk, SOURCE, now, access)?;
     Ok(Some((service.media, service.finish, service.extents.len())))
 }
 
@@ -257,7 +257,12 @@ const WAITS: &[Wait] = &[
 ];
 
 fn check_times(rt: &impl Abort, alloc: Global, disk: &Disk, wait: &Wait) -> Result<(), Fail> {
-    let times = times_of(alloc, disk, wait.now, wait.lbn, wait.count)?;
+    let access = Access {
+        lbn: wait.lbn,
+        count: wait.count,
+        write: false,
+    };
+    let times = times_of(alloc, disk, wait.now, access)?;
     assert_eq!(rt; times, Some(wait.times));
     Ok(())
 }
@@ -281,7 +286,12 @@ fn push_passages(
     extent: &Extent,
     passages: &mut Vec<Passage>,
 ) -> Result<(), NoMemory> {
-    if is_request(disk, extent.first, extent.count) && extent.begin <= LATE {
+    let access = Access {
+        lbn: extent.first,
+        count: extent.count,
+        write: false,
+    };
+    if is_access(disk, access) && extent.begin <= LATE {
         for i in 0..extent.count {
             passages.push(nth_passage(disk, extent, i))?;
         }
@@ -297,19 +307,11 @@ fn push_all(disk: &Disk, extents: &[Extent], passages: &mut Vec<Passage>) -> Res
     Ok(())
 }
 
-// The passages of a request, by its extents.
-fn by_extents(
-    alloc: Global,
-    disk: &Disk,
-    lbn: u64,
-    count: u32,
-    write: bool,
-) -> Result<Vec<Passage>, Fail>
-    requires some { 0 < count }
-    requires few { count ≤ 2048 }
-    requires blocks { lbn + count ≤ length (places disk.now.map) }
+// The passages of these sectors, by their extents.
+fn by_extents(alloc: Global, disk: &Disk, access: Access) -> Result<Vec<Passage>, Fail>
+    requires { IsAccess disk.now.map access }
 {
-    let service = serve(alloc, disk, SOURCE, 0, lbn, count, write)?;
+    let service = serve(alloc, disk, SOURCE, 0, access)?;
     let mut passages = Vec::new(alloc);
     push_all(disk, service.extents.as_slice(), &mut passages)?;
     Ok(passages)
@@ -317,25 +319,24 @@ fn by_extents(
 
 // The passages of the same sectors, each served as a request of its own as soon as the one before
 // has passed.
-fn one_by_one(
-    alloc: Global,
-    disk: &Disk,
-    lbn: u64,
-    count: u32,
-    write: bool,
-) -> Result<Vec<Passage>, Fail>
-    requires blocks { lbn + count ≤ length (places disk.now.map) }
+fn one_by_one(alloc: Global, disk: &Disk, access: Access) -> Result<Vec<Passage>, Fail>
+    requires { IsAccess disk.now.map access }
 {
     let mut passages = Vec::new(alloc);
     let mut source = SOURCE;
     let mut now = 0;
-    for next in lbn..lbn + count as u64 {
+    for lbn in access.lbn..access.lbn + access.count as u64 {
         if now > LATE {
             break;
         }
-        let service = serve(alloc, disk, source, now, next, 1, write)?;
+        let one = Access {
+            lbn,
+            count: 1,
+            write: access.write,
+        };
+        let service = serve(alloc, disk, source, now, one)?;
         passages.push(Passage {
-            lbn: next,
+            lbn,
             begin: service.media,
             end: service.finish,
         })?;
@@ -345,14 +346,14 @@ fn one_by_one(
     Ok(passages)
 }
 
-// Whether a request's extents stand for the passages of its single sectors.
-fn agrees(alloc: Global, disk: &Disk, lbn: u64, count: u32, write: bool) -> Result<bool, Fail> {
-    if !is_request(disk, lbn, count) {
+// Whether the extents stand for the passages of the single sectors.
+fn agrees(alloc: Global, disk: &Disk, access: Access) -> Result<bool, Fail> {
+    if !is_access(disk, access) {
         return Ok(false);
     }
-    let whole = by_extents(alloc, disk, lbn, count, write)?;
-    let single = one_by_one(alloc, disk, lbn, count, write)?;
-    Ok(whole.len() == count as usize && whole.as_slice() == single.as_slice())
+    let whole = by_extents(alloc, disk, access)?;
+    let single = one_by_one(alloc, disk, access)?;
+    Ok(whole.len() == access.count as usize && whole.as_slice() == single.as_slice())
 }
 
 // A request on a small disk.
@@ -422,10 +423,12 @@ const SERVED: &[Served] = &[
 
 fn check_served(rt: &impl Abort, alloc: Global, served: &Served) -> Result<(), Fail> {
     let disk = small_disk(alloc, &served.small)?;
-    check_agrees(
-        rt,
-        agrees(alloc, &disk, served.lbn, served.count, served.write),
-    )
+    let access = Access {
+        lbn: served.lbn,
+        count: served.count,
+        write: served.write,
+    };
+    check_agrees(rt, agrees(alloc, &disk, access))
 }
 
 fn check_agrees(rt: &impl Abort, agrees: Result<bool, Fail>) -> Result<(), Fail> {
