@@ -14,7 +14,7 @@ use crate::parts::EARLY;
 use crate::stop::stop_at;
 use fb_plan::{
     Scored, Sides, Way, blocks_on, is_same, is_wanted, move_on, plan_by, sides_of, stay_of,
-    try_entry, try_plan,
+    try_plan,
 };
 use fb_rows::{Gap, Plan};
 use fb_units::Ns;
@@ -89,15 +89,8 @@ fn try_leave(
     if is_beaten(best, ceiling, way, end) {
         return best;
     }
-    try_entry(
-        search.disk,
-        search.wanted,
-        search.gap,
-        way,
-        sides,
-        entry,
-        best,
-    )
+    let plan = plan_by(way, end);
+    try_plan(search.disk, search.wanted, search.gap, sides, plan, best)
 }
 
 // Into how many parts the time on a track is divided to note which leaves were tried.

@@ -1,16 +1,16 @@
 // The search over tracks and over the instants at which the head leaves. At each step the best plan
 // so far is at least as good as every plan behind it.
-ghost use Rattle.std.specs.Prelude.{◌≡◌, ◌+◌, ◌*◌, ◌≤◌, ◌<◌, ◌^◌, ℕ, true};
+ghost use Rattle.std.specs.Prelude.{◌≡◌, ◌+◌, ◌*◌, ◌≤◌, ◌<◌, ◌^◌, ℕ, true, IfSome, IfNone};
 ghost use Rattle.fb_geometry.specs.Shape.{IsTrackOf};
 ghost use Rattle.fb_model.specs.Plans.{IsPlan, block_end, early_dwell};
 ghost use Rattle.fb_wanted.specs.States.{is_wanted, wanted_of};
 ghost use Rattle.fb_plan.specs.Ways.{FitsDisk, AreOnDisk, IsGap, IsWay, IsScored, Beats, plan_by, early_track, arrival, move_on};
-ghost use Rattle.fb_plan.specs.Turns.{AreSides, stay_of};
+ghost use Rattle.fb_plan.specs.Turns.{IsTurning, AreSides, stay_of};
 
 use crate::choice::choose;
 use crate::sides::{Sides, sides_of};
 use crate::sums::{is_same, is_wanted, plan_value, value_by};
-use crate::{Scored, Way};
+use crate::{Scored, Turning, Way};
 use fb_rows::{Dwell, Gap, Plan};
 use fb_service::Disk;
 use fb_units::{Ns, Track};
@@ -114,37 +114,25 @@ pub fn try_plan(
     choose(best, scored_by(disk, wanted, gap, sides, plan))
 }
 
-/// Tries the plan that leaves as a block's passage ends, if the block is wanted and there is time.
-pub fn try_entry(
-    disk: &Disk,
-    wanted: &Wanted,
-    gap: &Gap,
-    way: Way,
-    sides: &Sides,
-    entry: Entry,
-    best: Scored,
-) -> Scored
-    requires way { IsWay disk.now gap.now way }
+// The instant, in ns, at which a block's passage on the way ends, if the block is wanted and there is
+// time to get from there to the target.
+fn end_in_time(disk: &Disk, gap: &Gap, way: Way, passing: &Turning, entry: Entry) -> Option<Ns>
     requires track { IsTrackOf disk.now.map (early_track gap.now way) }
     requires fits { FitsDisk disk.now entry.block }
     requires gap { IsGap disk.now gap.now }
-    requires sides { AreSides disk.now gap.now.target wanted.now (stay_of disk.now gap.now way) sides.now }
-    requires early { AreOnDisk disk.now sides.now.early }
-    requires late { AreOnDisk disk.now sides.now.late }
-    requires best { IsScored disk.now gap.now (wanted_of wanted.now) best }
-    ensures scored { IsScored disk.now gap.entry.now (wanted_of wanted.now) result }
-    ensures keeps { Beats disk.now gap.entry.now (wanted_of wanted.now) result.plan best.plan }
-    ensures tried { is_wanted entry.state ≡ true → block_end disk.now.map entry.block (arrival disk.now gap.entry.now way) + move_on disk.now gap.entry.now way ≤ gap.entry.now.deadline
-        → Beats disk.now gap.entry.now (wanted_of wanted.now) result.plan (plan_by way (block_end disk.now.map entry.block (arrival disk.now gap.entry.now way))) }
+    requires passing { IsTurning disk.now passing.now }
+    requires from { passing.now.from ≡ arrival disk.now gap.now way }
+    ensures some { IfSome result (λ end. (end ≡ block_end disk.now.map entry.block (arrival disk.now gap.entry.now way)) × (end + move_on disk.now gap.entry.now way ≤ gap.entry.now.deadline)) }
+    ensures none { IfNone result (is_wanted entry.state ≡ true → gap.entry.now.deadline < block_end disk.now.map entry.block (arrival disk.now gap.entry.now way) + move_on disk.now gap.entry.now way) }
 {
     if !is_wanted(entry.state) {
-        return best;
+        return None;
     }
-    let end = sides.passing.end(disk, entry.block);
+    let end = passing.end(disk, entry.block);
     if gap.deadline < end + move_on(disk, gap, way) {
-        return best;
+        return None;
     }
-    try_plan(disk, wanted, gap, sides, plan_by(way, end), best)
+    Some(end)
 }
 
 /// The longest early dwell of this way: from the arrival to the deadline.
@@ -182,7 +170,11 @@ pub fn try_way(disk: &Disk, wanted: &Wanted, gap: &Gap, way: Way, start: Scored)
     let both = sides_of(disk, wanted, gap.target, stay);
     let mut best = try_plan(disk, wanted, gap, &both, plan_by(way, stay.begin), start);
     for i in 0..both.early.len() {
-        best = try_entry(disk, wanted, gap, way, &both, both.early.get(i), best);
+        let entry = both.early.get(i);
+        best = match end_in_time(disk, gap, way, &both.passing, entry) {
+            Some(end) => try_plan(disk, wanted, gap, &both, plan_by(way, end), best),
+            None => best,
+        };
     }
     best
 }
