@@ -6,13 +6,13 @@ ghost use Rattle.fb_model.specs.Segments.{choose_once, choose_in};
 ghost use Rattle.fb_tasks.specs.Leaving.{HasGrown, OnlyRegisters, by_calls};
 ghost use Rattle.fb_tasks.specs.Standing.{MayChoose, HasTurned};
 
-use crate::session::Session;
+use crate::session::{Session, Stamp};
 use crate::wanting::want_live;
 use fb_calls::Kind;
 use fb_rows::BackRows;
 use fb_sectormap::SectorMap;
 use fb_store::Contents;
-use fb_units::{NoMemory, Ns};
+use fb_units::NoMemory;
 use fb_wanted::Wanted;
 use std::alloc::Global;
 
@@ -24,14 +24,13 @@ impl Session {
         alloc: Global,
         map: &SectorMap,
         wanted: &mut Wanted,
-        task: u32,
-        now: Ns,
+        stamp: Stamp,
         rows: &mut BackRows,
     ) -> Result<(), NoMemory>
-        requires { (past : Past) × MayChoose map.now past task self.old wanted.old }
-        ensures chosen { OnOk result ((past : Past) → MayChoose map.now past task self.old wanted.old → HasTurned map.now past (choose_in map.now past task) task now self.new wanted.new rows.old rows.new) }
+        requires { (past : Past) × MayChoose map.now past stamp.task self.old wanted.old }
+        ensures chosen { OnOk result ((past : Past) → MayChoose map.now past stamp.task self.old wanted.old → HasTurned map.now past (choose_in map.now past stamp.task) stamp.task stamp.instant self.new wanted.new rows.old rows.new) }
         ensures same { (by_calls self.new ≡ by_calls self.old) × (self.new.touched ≡ self.old.touched) }
-        ensures own { OnlyRegisters (λ other. other ≡ task) wanted.old wanted.new }
+        ensures own { OnlyRegisters (λ other. other ≡ stamp.task) wanted.old wanted.new }
         ensures idle { (is_clean self.old.kind && not self.old.closed) ≡ false → wanted.new ≡ wanted.old }
         ensures grown { HasGrown rows.old rows.new }
     {
@@ -39,7 +38,7 @@ impl Session {
             return Ok(());
         }
         for _turn in 0..self.log.len() {
-            if !self.choose_one(alloc, map, wanted, task, now, rows)? {
+            if !self.choose_one(alloc, map, wanted, stamp, rows)? {
                 return Ok(());
             }
         }
@@ -63,24 +62,29 @@ impl Session {
         alloc: Global,
         map: &SectorMap,
         wanted: &mut Wanted,
-        task: u32,
-        now: Ns,
+        stamp: Stamp,
         rows: &mut BackRows,
     ) -> Result<bool, NoMemory>
         requires cleans { (is_clean self.old.kind ≡ true) × (self.old.closed ≡ false) }
-        requires may { (past : Past) × MayChoose map.now past task self.old wanted.old }
-        ensures chosen { IfOk result (λ some. (past : Past) → MayChoose map.now past task self.old wanted.old → HasTurned map.now past (choose_once map.now task past) task now self.new wanted.new rows.old rows.new) }
+        requires may { (past : Past) × MayChoose map.now past stamp.task self.old wanted.old }
+        ensures chosen { IfOk result (λ some. (past : Past) → MayChoose map.now past stamp.task self.old wanted.old → HasTurned map.now past (choose_once map.now stamp.task past) stamp.task stamp.instant self.new wanted.new rows.old rows.new) }
         ensures same { (by_calls self.new ≡ by_calls self.old) × (self.new.touched ≡ self.old.touched) }
-        ensures own { OnlyRegisters (λ other. other ≡ task) wanted.old wanted.new }
+        ensures own { OnlyRegisters (λ other. other ≡ stamp.task) wanted.old wanted.new }
         ensures grown { HasGrown rows.old rows.new }
-        ensures none { IfOk result (λ some. some ≡ false → (past : Past) → MayChoose map.now past task self.old wanted.old → choose_once map.now task past ≡ past) }
+        ensures none { IfOk result (λ some. some ≡ false → (past : Past) → MayChoose map.now past stamp.task self.old wanted.old → choose_once map.now stamp.task past ≡ past) }
     {
         let _sectors = map.count();
         match self.log.choose() {
             Some(segment) => {
-                want_live(map, wanted, self, task, segment)?;
+                want_live(map, wanted, self, stamp.task, segment)?;
                 if self.log.live_count(segment) == 0 {
-                    self.finish(task, segment, now, Contents::new(alloc), rows)?;
+                    self.finish(
+                        stamp.task,
+                        segment,
+                        stamp.instant,
+                        Contents::new(alloc),
+                        rows,
+                    )?;
                 }
                 Ok(true)
             }

@@ -7,6 +7,7 @@ ghost use Rattle.fb_tasks.specs.Keeping.{complete_by};
 use fb_backup::Image;
 use fb_calls::Kind;
 use fb_clean::Segments;
+use fb_units::Ns;
 use fb_wanted::Counts;
 use std::alloc::Global;
 
@@ -29,6 +30,15 @@ pub struct Session {
     pub image: Image,
     /// The segments that a clean session was given.
     pub log: Segments,
+}
+
+/// Of which task, and of which instant, a row of the background tells.
+#[derive(Clone, Copy)]
+pub struct Stamp {
+    /// The task.
+    pub task: u32,
+    /// The instant, in ns.
+    pub instant: Ns,
 }
 
 impl Session {

@@ -21,7 +21,7 @@ ghost use Rattle.fb_tasks.specs.Standing.{HaveChosen, ends_of};
 ghost use Rattle.fb_tasks.specs.Leaving.{HasGrown, HasBegun, entries_by, OnlyRegisters, MayClean, OnlyTouched};
 ghost use Rattle.fb_tasks.specs.Telling.{Tells, MayTake, MaySettle, MayDeliver, IsSettled, IsCall, settled_at};
 
-use crate::session::Session;
+use crate::session::{Session, Stamp};
 use crate::touched::{forget, next_noted, next_touched, note, note_touch};
 use crate::wanting::want_range;
 use fb_calls::{Action, Call, Kind, Live};
@@ -353,7 +353,8 @@ impl Sessions {
     {
         let mut from = 0;
         while let Some(task) = next_touched(&self.touched, &self.sessions, from) {
-            self.sessions[task as usize].choose(self.alloc, map, wanted, task, now, rows)?;
+            let stamp = Stamp { task, instant: now };
+            self.sessions[task as usize].choose(self.alloc, map, wanted, stamp, rows)?;
             from = task + 1;
         }
         Ok(())

@@ -16,7 +16,7 @@ ghost use Rattle.fb_tasks.specs.Taken.{by_deliveries, found_for};
 ghost use Rattle.fb_tasks.specs.Leaving.{HasGrown, HasBegun, by_calls};
 ghost use Rattle.fb_tasks.specs.Standing.{Stands, HoldsBlocks, IsAtWork, HasChosen, MayFinish, IsTested, ends_of};
 
-use crate::session::Session;
+use crate::session::{Session, Stamp};
 use fb_calls::Kind;
 use fb_rows::{BackRow, BackRows, CompleteRow, SealRow, SegmentRow};
 use fb_store::Contents;
@@ -106,8 +106,9 @@ impl Session {
         ensures same { by_calls self.new ≡ by_calls self.old }
     {
         let complete = self.is_complete(wanted.counts(task));
-        self.add_seal(alloc, wanted, task, now, complete, rows)?;
-        self.add_completion(task, now, complete, rows)
+        let stamp = Stamp { task, instant: now };
+        self.add_seal(alloc, wanted, stamp, complete, rows)?;
+        self.add_completion(stamp, complete, rows)
     }
 
     // Seals the backup if it is complete and was not sealed before, and adds the seal's row.
@@ -115,26 +116,25 @@ impl Session {
         &mut self,
         alloc: Global,
         wanted: &Wanted,
-        task: u32,
-        now: Ns,
+        stamp: Stamp,
         complete: bool,
         rows: &mut BackRows,
     ) -> Result<(), NoMemory>
         requires { (disk : Shape) × (past : Past) × HoldsBlocks disk past wanted.now }
         ensures session { IsSealed (complete && (is_backup self.old.kind && not self.old.sealed)) self.old self.new }
-        ensures rows { OnOk result ((disk : Shape) (past : Past) → HoldsBlocks disk past wanted.now → Stands (view past task) self.old → complete ≡ is_complete past task
-            → rows.new ≡ rows.old ++ seal_rows by_deliveries past now task) }
+        ensures rows { OnOk result ((disk : Shape) (past : Past) → HoldsBlocks disk past wanted.now → Stands (view past stamp.task) self.old → complete ≡ is_complete past stamp.task
+            → rows.new ≡ rows.old ++ seal_rows by_deliveries past stamp.instant stamp.task) }
         ensures grown { HasGrown rows.old rows.new }
         ensures err { OnErr result (rows.new ≡ rows.old) }
     {
         if !complete || !self.is_open_backup() {
             return Ok(());
         }
-        let registered = wanted.counts(task).registered;
-        let content = self.seal(alloc, wanted, task, registered)?;
+        let registered = wanted.counts(stamp.task).registered;
+        let content = self.seal(alloc, wanted, stamp.task, registered)?;
         rows.push(BackRow::Seal(SealRow {
-            task,
-            instant: now,
+            task: stamp.task,
+            instant: stamp.instant,
             content,
         }))
     }
@@ -142,13 +142,12 @@ impl Session {
     // Notes whether the task is complete, and adds the row of its completion if it wasn't at the test before.
     fn add_completion(
         &mut self,
-        task: u32,
-        now: Ns,
+        stamp: Stamp,
         complete: bool,
         rows: &mut BackRows,
     ) -> Result<(), NoMemory>
         ensures session { self.new ≡ record self.old { complete = complete } }
-        ensures rows { OnOk result (rows.new ≡ rows.old ++ (if complete && not self.old.complete then CompleteLine (record { task = task; instant = now }) ∷ [] else [])) }
+        ensures rows { OnOk result (rows.new ≡ rows.old ++ (if complete && not self.old.complete then CompleteLine (record { task = stamp.task; instant = stamp.instant }) ∷ [] else [])) }
         ensures grown { HasGrown rows.old rows.new }
         ensures err { OnErr result (rows.new ≡ rows.old) }
     {
@@ -157,7 +156,10 @@ impl Session {
         if !complete || was_complete {
             return Ok(());
         }
-        rows.push(BackRow::Complete(CompleteRow { task, instant: now }))
+        rows.push(BackRow::Complete(CompleteRow {
+            task: stamp.task,
+            instant: stamp.instant,
+        }))
     }
 
     // Seals the backup, and gives its image.

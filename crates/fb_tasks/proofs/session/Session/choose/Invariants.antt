@@ -6,8 +6,8 @@ abbrev pub invariant-loop-turn : goal.invariant-loop-turn
 invariant-loop-turn l = record {
   cleans : (is_clean l.self.kind ≡ true) × (l.self.closed ≡ false);
   same : (by_calls l.self ≡ by_calls l.initial.self) × (l.self.touched ≡ l.initial.self.touched);
-  own : OnlyRegisters (λ other. other ≡ l.task) l.initial.wanted l.wanted;
+  own : OnlyRegisters (λ other. other ≡ l.stamp.task) l.initial.wanted l.wanted;
   grown : HasGrown l.initial.rows l.rows;
-  turned : (past : Past) → MayChoose l.map past l.task l.initial.self l.initial.wanted
-      → HasTurned l.map past (choose_up_to l._turn l.map l.task past) l.task l.now l.self l.wanted l.initial.rows l.rows;
+  turned : (past : Past) → MayChoose l.map past l.stamp.task l.initial.self l.initial.wanted
+      → HasTurned l.map past (choose_up_to l._turn l.map l.stamp.task past) l.stamp.task l.stamp.instant l.self l.wanted l.initial.rows l.rows;
 }
