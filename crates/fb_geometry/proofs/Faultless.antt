@@ -15,6 +15,7 @@ use Rattle.fb_geometry.specs.Places.{list_among, data_list}
 use Rattle.fb_geometry.specs.Sound.{IsCylinderOf}
 use Rattle.fb_geometry.specs.Index.{IsFaultless, HasZones}
 use Rattle.fb_geometry.specs.Turns.{IsZone, IsZoneOf, IsZoneAt, zone_at}
+pub use Rattle.fb_geometry.proofs.Grid.{all_get}
 
 -- ---- chains
 
@@ -27,11 +28,6 @@ fault_at-none fault None h = refl
 fault_at-none fault (Some a) h = absurd (none-some (fault a) (sym h))
 
 -- ---- searches that find nothing
-
-pub all_get : {X : Type 0} (P : X → Type 0) (xs : List X) (i : ℕ) (x : X) → AllByRecursion P xs → slice_get xs i ≡ Some x → P x
-all_get P [] i x all at = absurd (none-some x at)
-all_get P (y ∷ xs) zero x all at = subst P (same_Some y x at) all.0
-all_get P (y ∷ xs) (suc i) x all at = all_get P xs i x all.1 at
 
 pub find-none : {X : Type 0} (test : X → Bool) (xs : List X) → find test xs ≡ None → AllByRecursion (λ x. test x ≡ false) xs
 find-none test [] h = tt
@@ -180,41 +176,30 @@ found_from index begin cylinder (other ∷ zones) zone h from at =
       | inr here ↦ let same : Some other ≡ Some zone = rw (le-leb cylinder other.last here) at at in omega (arith, parts.0, ap (λ zone. zone.first) (same_Some other zone same))
     ]
 
--- what is said of a cylinder by its zone
+-- what is said of a cylinder is what its zone says of it
+module _ {A : Type 0} (said : List Zone → A) (says : Zone → A) (cylinder : ℕ)
+    (by_first : (zone : Zone) (zones : List Zone) → said (zone ∷ zones) ≡ cond (nat_le cylinder zone.last) (says zone) (said zones)) where
+  said_by_zone : (zones : List Zone) (zone : Zone) → zone_at zones cylinder ≡ Some zone → said zones ≡ says zone
+  said_by_zone [] zone h = absurd (none-some zone h)
+  said_by_zone (other ∷ zones) zone h = elim (cases_Bool (nat_le cylinder other.last)) [
+    | inl here ↦ rw (by_first other zones, here) (ap says (same_Some other zone (rw here at h)))
+    | inr on ↦ rw (by_first other zones, on) (said_by_zone zones zone (rw on at h))
+  ]
+
 pub slots_at-zone : (zones : List Zone) (cylinder : ℕ) (zone : Zone) → zone_at zones cylinder ≡ Some zone → slots_at zones cylinder ≡ zone.sectors
-slots_at-zone [] cylinder zone h = absurd (none-some zone h)
-slots_at-zone (other ∷ zones) cylinder zone h = elim (cases_Bool (nat_le cylinder other.last)) [
-  | inl here ↦ rw here (ap (λ zone. zone.sectors) (same_Some other zone (rw here at h)))
-  | inr on ↦ rw on (slots_at-zone zones cylinder zone (rw on at h))
-]
+slots_at-zone zones cylinder = said_by_zone (λ zones. slots_at zones cylinder) (λ zone. zone.sectors) cylinder (λ zone zones. refl) zones
 
 pub spares_at-zone : (zones : List Zone) (cylinder : ℕ) (zone : Zone) → zone_at zones cylinder ≡ Some zone → spares_at zones cylinder ≡ zone.spares
-spares_at-zone [] cylinder zone h = absurd (none-some zone h)
-spares_at-zone (other ∷ zones) cylinder zone h = elim (cases_Bool (nat_le cylinder other.last)) [
-  | inl here ↦ rw here (ap (λ zone. zone.spares) (same_Some other zone (rw here at h)))
-  | inr on ↦ rw on (spares_at-zone zones cylinder zone (rw on at h))
-]
+spares_at-zone zones cylinder = said_by_zone (λ zones. spares_at zones cylinder) (λ zone. zone.spares) cylinder (λ zone zones. refl) zones
 
 pub cylinder_spares_at-zone : (zones : List Zone) (cylinder : ℕ) (zone : Zone) → zone_at zones cylinder ≡ Some zone → cylinder_spares_at zones cylinder ≡ zone.cylinder_spares
-cylinder_spares_at-zone [] cylinder zone h = absurd (none-some zone h)
-cylinder_spares_at-zone (other ∷ zones) cylinder zone h = elim (cases_Bool (nat_le cylinder other.last)) [
-  | inl here ↦ rw here (ap (λ zone. zone.cylinder_spares) (same_Some other zone (rw here at h)))
-  | inr on ↦ rw on (cylinder_spares_at-zone zones cylinder zone (rw on at h))
-]
+cylinder_spares_at-zone zones cylinder = said_by_zone (λ zones. cylinder_spares_at zones cylinder) (λ zone. zone.cylinder_spares) cylinder (λ zone zones. refl) zones
 
 pub offset_at-zone : (zones : List Zone) (heads : ℕ) (track : Track) (zone : Zone) → zone_at zones track.cylinder ≡ Some zone → offset_at zones heads track ≡ offset_in zone heads track
-offset_at-zone [] heads track zone h = absurd (none-some zone h)
-offset_at-zone (other ∷ zones) heads track zone h = elim (cases_Bool (nat_le track.cylinder other.last)) [
-  | inl here ↦ rw here (ap (λ zone. offset_in zone heads track) (same_Some other zone (rw here at h)))
-  | inr on ↦ rw on (offset_at-zone zones heads track zone (rw on at h))
-]
+offset_at-zone zones heads track = said_by_zone (λ zones. offset_at zones heads track) (λ zone. offset_in zone heads track) track.cylinder (λ zone zones. refl) zones
 
 pub list_among-zone : (disk : Shape) (zones : List Zone) (cylinder : ℕ) (zone : Zone) → zone_at zones cylinder ≡ Some zone → list_among disk zones cylinder ≡ data_list disk zone cylinder
-list_among-zone disk [] cylinder zone h = absurd (none-some zone h)
-list_among-zone disk (other ∷ zones) cylinder zone h = elim (cases_Bool (nat_le cylinder other.last)) [
-  | inl here ↦ rw here (ap (λ zone. data_list disk zone cylinder) (same_Some other zone (rw here at h)))
-  | inr on ↦ rw on (list_among-zone disk zones cylinder zone (rw on at h))
-]
+list_among-zone disk zones cylinder = said_by_zone (λ zones. list_among disk zones cylinder) (λ zone. data_list disk zone cylinder) cylinder (λ zone zones. refl) zones
 
 -- a cylinder of the disk has a zone
 pub some_zone : (index begin cylinder : ℕ) (zones : List Zone) → first_apart index begin zones ≡ None → begin ≤ cylinder → cylinder < cylinders_of zones → (zone : Zone) × (zone_at zones cylinder ≡ Some zone)

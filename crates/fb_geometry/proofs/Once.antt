@@ -14,6 +14,7 @@ use Rattle.fb_geometry.specs.Turns.{cylinder_slots}
 use Rattle.fb_geometry.specs.Slips.{indexes}
 use Rattle.fb_geometry.specs.Sound.{IsCylinderOf, LiesOn, HasOwnPlaces, IsSound}
 use Rattle.fb_geometry.specs.Index.{IsFaultless}
+use Rattle.fb_geometry.proofs.Grid.{all_weaker}
 use Rattle.fb_geometry.proofs.Faultless.{all_get, next, zones_from, zone_by_bounds, ranges_of, some_rotation, short_rotation, some_heads, few_heads, some_zones, few_zones, few_cylinders, data_of, short_slots}
 use Rattle.fb_geometry.proofs.Lookups.{index_by_track, index_by_cylinder, spares_by, some_by_track, lies_on, one_index_on}
 use Rattle.fb_geometry.proofs.Laws.{all-append, all-parts, has_spares, length-data_list, some_size}
@@ -31,10 +32,6 @@ one_index (y ∷ xs) zero zero x apart at again = refl
 one_index (y ∷ xs) zero (suc j) x apart at again = absurd (all_get (λ z. y ≢ z) xs j x apart.0 again (same_Some y x at))
 one_index (y ∷ xs) (suc i) zero x apart at again = absurd (all_get (λ z. y ≢ z) xs i x apart.0 at (same_Some y x again))
 one_index (y ∷ xs) (suc i) (suc j) x apart at again = ap suc (one_index xs i j x apart.1 at again)
-
-all_weaker : {A : Type 0} (P Q : A → Type 0) → ((x : A) → P x → Q x) → (xs : List A) → AllByRecursion P xs → AllByRecursion Q xs
-all_weaker P Q f [] h = tt
-all_weaker P Q f (x ∷ xs) h = (f x h.0, all_weaker P Q f xs h.1)
 
 -- lists that have nothing in common
 distinct-append : {A : Type 0} (xs ys : List A) → Distinct xs → Distinct ys → AllByRecursion (λ x. AllByRecursion (λ y. x ≢ y) ys) xs → Distinct (xs ++ ys)

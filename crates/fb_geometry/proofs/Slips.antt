@@ -1,27 +1,34 @@
 -- What is left of a list when the elements that pass a test are dropped.
-use Rattle.std.proofs.Common.{◌≡◌, ℕ, zero, suc, ◌+◌, ◌-◌, ◌<◌, ◌≤◌, List, [], ◌∷◌, length, refl, ap, sym, ◌∙◌, arith, Bool, true, false, not, cond, Some, take, inl, inr}
+use Rattle.std.proofs.Common.{◌≡◌, ℕ, zero, suc, ◌+◌, ◌-◌, ◌<◌, ◌≤◌, List, [], ◌∷◌, length, refl, ap, sym, ◌∙◌, arith, Bool, true, false, not, cond, Some, take, inl, inr, get_or}
 use Rattle.std.specs.Prelude.{filter, slice_get, ◌==◌, nat_lt}
 use Rattle.std.specs.List.{list_any, AllByRecursion}
 use Rattle.std.proofs.lemmas.Bool.{cases_Bool, cases_lt, true≢false, lt-ltb, le-ltb, cases_order, ne_eqb, eq-eqb, eqb-false, or_left, or_right, or_parts}
 use Rattle.std.proofs.lemmas.Bool.Decides.{nat_tests}
-use Rattle.std.proofs.lemmas.Option.{same_Some, none-some}
+use Rattle.std.proofs.lemmas.Option.{same_Some, none-some, slice_get_within, get_or_from_slice_get}
+use Rattle.std.proofs.lemmas.List.Sums.{length-filter, count_by-le-length, sum_by-le-sum_by}
+use Rattle.std.proofs.lemmas.List.Folds.{list_any_at}
 use Rattle.fb_geometry.specs.Slips.{IsAscending, slipped, rank, indexes, with_index}
-use Rattle.fb_geometry.proofs.Grid.{count_cons, add_zero}
+use Rattle.fb_geometry.proofs.Grid.{count_cons, add_zero, all_weaker, all_get}
 
 -- ---- ascending numbers
 
 pub all_over : (a b : ℕ) (numbers : List ℕ) → a ≤ b → AllByRecursion (λ later. b < later) numbers → AllByRecursion (λ later. a < later) numbers
-all_over a b [] h all = tt
-all_over a b (x ∷ numbers) h all = (omega (arith, all.0), all_over a b numbers h all.1)
+all_over a b numbers h = all_weaker (λ later. b < later) (λ later. a < later) (λ later over. omega arith) numbers
 
-with_index-over : (b : Bool) (a index : ℕ) (numbers : List ℕ) → a < index → AllByRecursion (λ later. a < later) numbers → AllByRecursion (λ later. a < later) (with_index b index numbers)
-with_index-over true a index numbers h all = (h, all)
-with_index-over false a index numbers h all = all
+all_from : (a b : ℕ) (numbers : List ℕ) → a ≤ b → AllByRecursion (λ later. b < later) numbers → AllByRecursion (λ later. a ≤ later) numbers
+all_from a b numbers h = all_weaker (λ later. b < later) (λ later. a ≤ later) (λ later over. omega arith) numbers
 
--- indexes from one on are behind all below it
+with_index-from : (b : Bool) (a index : ℕ) (numbers : List ℕ) → a ≤ index → AllByRecursion (λ later. a ≤ later) numbers → AllByRecursion (λ later. a ≤ later) (with_index b index numbers)
+with_index-from true a index numbers h all = (h, all)
+with_index-from false a index numbers h all = all
+
+-- indexes from one on are not before it, and behind all below it
+pub indexes-from : {A : Type 0} (test : A → Bool) (a index : ℕ) (xs : List A) → a ≤ index → AllByRecursion (λ later. a ≤ later) (indexes test index xs)
+indexes-from test a index [] h = tt
+indexes-from test a index (x ∷ xs) h = with_index-from (test x) a index (indexes test (index + 1) xs) h (indexes-from test a (index + 1) xs (omega arith))
+
 pub indexes-over : {A : Type 0} (test : A → Bool) (a index : ℕ) (xs : List A) → a < index → AllByRecursion (λ later. a < later) (indexes test index xs)
-indexes-over test a index [] h = tt
-indexes-over test a index (x ∷ xs) h = with_index-over (test x) a index (indexes test (index + 1) xs) h (indexes-over test a (index + 1) xs (omega arith))
+indexes-over test a index xs h = all_weaker (λ later. a + 1 ≤ later) (λ later. a < later) (λ later from. omega arith) (indexes test index xs) (indexes-from test (a + 1) index xs (omega arith))
 
 with_index-ascends : (b : Bool) (index : ℕ) (numbers : List ℕ) → AllByRecursion (λ later. index < later) numbers → IsAscending numbers → IsAscending (with_index b index numbers)
 with_index-ascends true index numbers all up = (all, up)
@@ -85,21 +92,13 @@ pub rank_none : (number : ℕ) (numbers : List ℕ) → AllByRecursion (λ later
 rank_none number [] all = refl
 rank_none number (x ∷ numbers) all = rw (le-ltb x number all.0) (rank_none number numbers all.1)
 
-all_from : (a b : ℕ) (numbers : List ℕ) → a ≤ b → AllByRecursion (λ later. b < later) numbers → AllByRecursion (λ later. a ≤ later) numbers
-all_from a b [] h all = tt
-all_from a b (x ∷ numbers) h all = (omega (arith, all.0), all_from a b numbers h all.1)
-
 -- no more stand between two numbers than there are numbers between
 pub rank_between : (a b : ℕ) (numbers : List ℕ) → IsAscending numbers → AllByRecursion (λ later. a ≤ later) numbers → rank b numbers ≤ b - a
 rank_between a b [] up all = omega arith
 rank_between a b (x ∷ numbers) up all = elim (cases_lt x b) [
-  | inl before ↦ omega (arith, rank_cons b x numbers, ap {B = ℕ} (λ t. cond t 1 0) (lt-ltb x b before), rank_between (x + 1) b numbers up.1 (above x numbers up.0), all.0)
+  | inl before ↦ omega (arith, rank_cons b x numbers, ap {B = ℕ} (λ t. cond t 1 0) (lt-ltb x b before), rank_between (x + 1) b numbers up.1 (all_weaker (λ later. x < later) (λ later. x + 1 ≤ later) (λ later over. omega arith) numbers up.0), all.0)
   | inr behind ↦ omega (arith, rank_none b (x ∷ numbers) (behind, all_from b x numbers behind up.0))
 ]
-  where
-    above : (x : ℕ) (numbers : List ℕ) → AllByRecursion (λ later. x < later) numbers → AllByRecursion (λ later. x + 1 ≤ later) numbers
-    above x [] all = tt
-    above x (y ∷ numbers) all = (omega (arith, all.0), above x numbers all.1)
 
 pub rank-step : (a b : ℕ) (numbers : List ℕ) → IsAscending numbers → a ≤ b → rank b numbers ≤ rank a numbers + (b - a)
 rank-step a b [] up h = omega arith
@@ -109,63 +108,47 @@ rank-step a b (x ∷ numbers) up h = elim (cases_lt x a) [
 ]
 
 pub rank-mono : (a b : ℕ) (numbers : List ℕ) → a ≤ b → rank a numbers ≤ rank b numbers
-rank-mono a b [] h = omega arith
-rank-mono a b (x ∷ numbers) h = elim (cases_lt x a) [
-  | inl before ↦ omega (arith, rank_cons b x numbers, ap {B = ℕ} (λ t. cond t 1 0) (lt-ltb x b (omega arith)), rank_cons a x numbers, ap {B = ℕ} (λ t. cond t 1 0) (lt-ltb x a before), rank-mono a b numbers h)
-  | inr behind ↦ omega (arith, rank_cons b x numbers, rank_cons a x numbers, ap {B = ℕ} (λ t. cond t 1 0) (le-ltb x a behind), rank-mono a b numbers h)
-]
+rank-mono a b numbers h = omega (arith, length-filter (λ passed. nat_lt passed a) numbers, length-filter (λ passed. nat_lt passed b) numbers,
+    sum_by-le-sum_by (λ passed. cond (nat_lt passed a) 1 0) (λ passed. cond (nat_lt passed b) 1 0) numbers (λ passed. one passed))
+  where
+    one : (passed : ℕ) → cond (nat_lt passed a) 1 0 ≤ cond (nat_lt passed b) 1 0
+    one passed = elim (cases_lt passed a) [ inl less ↦ rw (lt-ltb passed a less, lt-ltb passed b (omega arith)) (omega arith) | inr more ↦ rw (le-ltb passed a more) (omega arith) ]
 
 -- one that isn't among them adds nothing
 pub rank_unmarked : (number : ℕ) (numbers : List ℕ) → list_any (λ other. other == number) numbers ≡ false → rank (number + 1) numbers ≡ rank number numbers
 rank_unmarked number [] h = refl
 rank_unmarked number (x ∷ numbers) h =
     let parts = or_parts (x == number) (list_any (λ other. other == number) numbers) h in
-    let off = eqb-false x number parts.0 in
-    elim (cases_lt x number) [
-      | inl before ↦ omega (arith, rank_cons (number + 1) x numbers, ap {B = ℕ} (λ t. cond t 1 0) (lt-ltb x (number + 1) (omega arith)), rank_cons number x numbers, ap {B = ℕ} (λ t. cond t 1 0) (lt-ltb x number before), rank_unmarked number numbers parts.1)
-      | inr behind ↦ omega (arith, rank_cons (number + 1) x numbers, ap {B = ℕ} (λ t. cond t 1 0) (le-ltb x (number + 1) (above behind off)), rank_cons number x numbers, ap {B = ℕ} (λ t. cond t 1 0) (le-ltb x number behind), rank_unmarked number numbers parts.1)
-    ]
-  where
-    above : number ≤ x → (x ≡ number → ⊥) → number + 1 ≤ x
-    above h k = elim (cases_order x number) [
-      | inl same ↦ absurd (k same)
-      | inr apart ↦ elim apart [
-        | inl less ↦ absurd (omega arith)
-        | inr more ↦ omega arith
-      ]
-    ]
+    let same : nat_lt x (number + 1) ≡ nat_lt x number = elim (cases_lt x number) [
+      | inl before ↦ lt-ltb x (number + 1) (omega arith) ∙ sym (lt-ltb x number before)
+      | inr behind ↦ le-ltb x (number + 1) (omega (arith, eqb-false x number parts.0)) ∙ sym (le-ltb x number behind)
+    ] in
+    omega (arith, rank_cons (number + 1) x numbers, rank_cons number x numbers, ap {B = ℕ} (λ t. cond t 1 0) same, rank_unmarked number numbers parts.1)
 
 pub rank-below : (number : ℕ) (numbers : List ℕ) → IsAscending numbers → rank number numbers ≤ number
-rank-below number numbers up = omega (arith, rank_between 0 number numbers up (all_any numbers))
+rank-below number numbers up = omega (arith, rank-step 0 number numbers up (omega arith), rank_zero numbers)
   where
-    all_any : (numbers : List ℕ) → AllByRecursion (λ later. 0 ≤ later) numbers
-    all_any [] = tt
-    all_any (x ∷ numbers) = (omega arith, all_any numbers)
+    rank_zero : (numbers : List ℕ) → rank 0 numbers ≡ 0
+    rank_zero [] = refl
+    rank_zero (x ∷ numbers) = rw (le-ltb x 0 (omega arith)) (rank_zero numbers)
 
 -- a number among them has as many before it as its index says
 pub rank-at : (i : ℕ) (numbers : List ℕ) (q : ℕ) → IsAscending numbers → slice_get numbers i ≡ Some q → rank q numbers ≡ i
 rank-at i [] q up at = absurd (none-some q at)
 rank-at zero (x ∷ numbers) q up at = let same : x ≡ q = same_Some x q at in omega (arith, rank_none q (x ∷ numbers) (omega arith, all_from q x numbers (omega arith) up.0))
 rank-at (suc i) (x ∷ numbers) q up at =
-    omega (arith, rank_cons q x numbers, ap {B = ℕ} (λ t. cond t 1 0) (lt-ltb x q (later numbers i up.0 at)), rank-at i numbers q up.1 at)
-  where
-    later : (numbers : List ℕ) (i : ℕ) → AllByRecursion (λ later. x < later) numbers → slice_get numbers i ≡ Some q → x < q
-    later [] i all at = absurd (none-some q at)
-    later (y ∷ numbers) zero all at = omega (arith, all.0, same_Some y q at)
-    later (y ∷ numbers) (suc i) all at = later numbers i all.1 at
+    omega (arith, rank_cons q x numbers, ap {B = ℕ} (λ t. cond t 1 0) (lt-ltb x q (all_get (λ later. x < later) numbers i q up.0 at)), rank-at i numbers q up.1 at)
 
 pub rank-le_length : (number : ℕ) (numbers : List ℕ) → rank number numbers ≤ length numbers
-rank-le_length number [] = omega arith
-rank-le_length number (x ∷ numbers) = elim (cases_lt x number) [
-  | inl before ↦ omega (arith, rank_cons number x numbers, ap {B = ℕ} (λ t. cond t 1 0) (lt-ltb x number before), rank-le_length number numbers)
-  | inr behind ↦ omega (arith, rank_cons number x numbers, ap {B = ℕ} (λ t. cond t 1 0) (le-ltb x number behind), rank-le_length number numbers)
-]
+rank-le_length number numbers = omega (arith, length-filter (λ passed. nat_lt passed number) numbers, count_by-le-length (λ passed. nat_lt passed number) numbers)
 
 -- an entry is among them
 pub among_at : (i q : ℕ) (numbers : List ℕ) → slice_get numbers i ≡ Some q → list_any (λ other. other == q) numbers ≡ true
-among_at i q [] at = absurd (none-some q at)
-among_at zero q (x ∷ numbers) at = or_left (x == q) (list_any (λ other. other == q) numbers) (eq-eqb x q (same_Some x q at))
-among_at (suc i) q (x ∷ numbers) at = or_right (x == q) (list_any (λ other. other == q) numbers) (among_at i q numbers at)
+among_at i q numbers at = list_any_at (λ other. other == q) numbers i q (slice_get_within numbers i q at) (eq-eqb (get_or numbers i q) q (get_or_from_slice_get numbers i q q at))
+
+pub not_among_later : (number : ℕ) (numbers : List ℕ) → AllByRecursion (λ later. number < later) numbers → list_any (λ other. other == number) numbers ≡ false
+not_among_later number [] all = refl
+not_among_later number (x ∷ numbers) all = rw (ne_eqb x number (λ e. omega (arith, all.0))) (not_among_later number numbers all.1)
 
 -- a number among them stands before one that is behind it
 pub rank_marked : (q b : ℕ) (numbers : List ℕ) → IsAscending numbers → list_any (λ other. other == q) numbers ≡ true → q < b → rank q numbers < rank b numbers
@@ -181,13 +164,9 @@ rank_marked q b (x ∷ numbers) up among h = elim (cases_order x q) [
       ap {B = ℕ} (λ t. cond t 1 0) (lt-ltb x q before),
       rank_marked q b numbers up.1 (rw (ne_eqb x q (λ e. omega arith)) at among) h,
     )
-    | inr behind ↦ absurd (true≢false (sym among ∙ later q (x ∷ numbers) (behind, all_over q x numbers (omega arith) up.0)))
+    | inr behind ↦ absurd (true≢false (sym among ∙ not_among_later q (x ∷ numbers) (behind, all_over q x numbers (omega arith) up.0)))
   ]
 ]
-  where
-    later : (number : ℕ) (numbers : List ℕ) → AllByRecursion (λ later. number < later) numbers → list_any (λ other. other == number) numbers ≡ false
-    later number [] all = refl
-    later number (y ∷ numbers) all = rw (ne_eqb y number (λ e. omega (arith, all.0))) (later number numbers all.1)
 
 slipped_here : (number x : ℕ) (numbers : List ℕ) → number < x → slipped number (x ∷ numbers) ≡ number
 slipped_here number x numbers h = rw (lt-ltb number x h) refl
@@ -205,10 +184,6 @@ rank-slipped number q (x ∷ numbers) up e = elim (cases_lt number x) [
       omega (arith, rank_cons q x numbers, ap {B = ℕ} (λ b. cond b 1 0) (lt-ltb x q before), rank-slipped (number + 1) q numbers up.1 after)
 ]
 
-pub not_among_later : (number : ℕ) (numbers : List ℕ) → AllByRecursion (λ later. number < later) numbers → list_any (λ other. other == number) numbers ≡ false
-not_among_later number [] all = refl
-not_among_later number (x ∷ numbers) all = let off : (x == number) ≡ false = grind (arith, nat_tests, all.0) in rw off (not_among_later number numbers all.1)
-
 -- a number doesn't slip to one of those that are passed over
 pub slipped-free : (number q : ℕ) (numbers : List ℕ) → IsAscending numbers → slipped number numbers ≡ q → list_any (λ other. other == q) numbers ≡ false
 slipped-free number q [] up e = refl
@@ -219,14 +194,6 @@ slipped-free number q (x ∷ numbers) up e = elim (cases_lt number x) [
 ]
 
 -- ---- where an element that is kept goes
-
-with_index-from : (b : Bool) (a index : ℕ) (numbers : List ℕ) → a ≤ index → AllByRecursion (λ later. a ≤ later) numbers → AllByRecursion (λ later. a ≤ later) (with_index b index numbers)
-with_index-from true a index numbers h all = (h, all)
-with_index-from false a index numbers h all = all
-
-pub indexes-from : {A : Type 0} (test : A → Bool) (a index : ℕ) (xs : List A) → a ≤ index → AllByRecursion (λ later. a ≤ later) (indexes test index xs)
-indexes-from test a index [] h = tt
-indexes-from test a index (x ∷ xs) h = with_index-from (test x) a index (indexes test (index + 1) xs) h (indexes-from test a (index + 1) xs (omega arith))
 
 rank-with_index : (b : Bool) (number index : ℕ) (numbers : List ℕ) → index < number → rank number (with_index b index numbers) ≡ cond b 1 0 + rank number numbers
 rank-with_index true number index numbers h = rw (lt-ltb index number h) (omega arith)
