@@ -4,6 +4,7 @@ use Rattle.std.specs.Prelude.{filter, ◌==◌, ◌||◌}
 use Rattle.std.specs.List.{list_any, range_with_len}
 use Rattle.std.proofs.lemmas.Bool.{cases_Bool, true≢false, and_parts, eqb-true, eq-eqb}
 use Rattle.std.proofs.lemmas.List.{length-map}
+use Rattle.std.proofs.lemmas.List.Filters.{length-filter_both}
 use Rattle.std.proofs.lemmas.List.FromFn.{length-map-range_with_len}
 use Rattle.fb_units.specs.declared.types.Place.{Place}
 use Rattle.fb_units.specs.declared.types.Track.{Track}
@@ -14,28 +15,20 @@ use Rattle.fb_geometry.specs.Places.{turn, good_track}
 use Rattle.fb_geometry.specs.Turns.{position_in, slot_at, cylinder_slots}
 use Rattle.fb_geometry.proofs.Turns.{turn-is, round-back, offset_below, position_in-slot_at, length-cylinder_slots}
 use Rattle.fb_geometry.proofs.Order.{length-filter-map}
-use Rattle.fb_geometry.proofs.Grid.{add_zero, add_one}
+use Rattle.fb_geometry.proofs.Grid.{add_zero, add_one, count_cons}
 
 -- the elements that pass a test and those that don't are all together
-pub kept_and_dropped : {A : Type 0} (bad : A → Bool) (xs : List A) → length (filter (λ x. not (bad x)) xs) + length (filter bad xs) ≡ length xs
-kept_and_dropped bad [] = refl
-kept_and_dropped bad (x ∷ xs) = step (bad x) x (filter (λ y. not (bad y)) xs) (filter bad xs) (length xs) (kept_and_dropped bad xs)
-  where
-    step : {A : Type 0} (b : Bool) (x : A) (kept dropped : List A) (n : ℕ) → length kept + length dropped ≡ n → length (cond (not b) (x ∷ kept) kept) + length (cond b (x ∷ dropped) dropped) ≡ suc n
-    step true x kept dropped n h = omega arith
-    step false x kept dropped n h = omega arith
+pub kept_and_dropped : {A : Type 0} (bad : A → Bool) (xs : List A) → length (filter bad xs) + length (filter (λ x. not (bad x)) xs) ≡ length xs
+kept_and_dropped bad xs = length-filter_both bad (λ x. not (bad x)) (λ x. refl) xs
 
 -- one test or another
 either : {A : Type 0} (p q : A → Bool) (xs : List A) → length (filter (λ x. p x || q x) xs) ≤ length (filter p xs) + length (filter q xs)
 either p q [] = omega arith
-either p q (x ∷ xs) = step (p x) (q x) x (filter (λ y. p y || q y) xs) (filter p xs) (filter q xs) (either p q xs)
+either p q (x ∷ xs) = omega (arith, count_cons (λ x. p x || q x) x xs, count_cons p x xs, count_cons q x xs, one (p x) (q x), either p q xs)
   where
-    step : {A : Type 0} (a b : Bool) (x : A) (both left right : List A) → length both ≤ length left + length right
-        → length (cond (a || b) (x ∷ both) both) ≤ length (cond a (x ∷ left) left) + length (cond b (x ∷ right) right)
-    step true true x both left right h = omega arith
-    step true false x both left right h = omega arith
-    step false true x both left right h = omega arith
-    step false false x both left right h = omega arith
+    one : (a b : Bool) → cond (a || b) 1 0 ≤ cond a 1 0 + cond b 1 0
+    one true b = omega arith
+    one false b = omega arith
 
 nothing : {A : Type 0} (xs : List A) → length (filter (λ _. false) xs) ≡ 0
 nothing [] = refl
@@ -46,29 +39,16 @@ pub at_most_each : {A B : Type 0} (same : A → B → Bool) (can : B → Bool) (
     → ((d : B) → length (filter (λ x. same x d) xs) ≤ cond (can d) 1 0)
     → length (filter (λ x. list_any (same x) ds) xs) ≤ length (filter can ds)
 at_most_each same can xs [] each = omega (arith, nothing xs)
-at_most_each same can xs (d ∷ ds) each = step (can d) d (filter can ds) (length (filter (λ x. same x d) xs)) (length (filter (λ x. list_any (same x) ds) xs)) (length (filter (λ x. same x d || list_any (same x) ds) xs))
-    (each d) (at_most_each same can xs ds each) (either (λ x. same x d) (λ x. list_any (same x) ds) xs)
-  where
-    step : {B : Type 0} (b : Bool) (d : B) (can : List B) (one rest all : ℕ) → one ≤ cond b 1 0 → rest ≤ length can → all ≤ one + rest → all ≤ length (cond b (d ∷ can) can)
-    step true d can one rest all h k e = omega arith
-    step false d can one rest all h k e = omega arith
+at_most_each same can xs (d ∷ ds) each =
+    omega (arith, each d, count_cons can d ds, either (λ x. same x d) (λ x. list_any (same x) ds) xs, at_most_each same can xs ds each)
 
 -- fewer pass two tests than the one
 pub fewer : {A : Type 0} (p q : A → Bool) (xs : List A) → length (filter p (filter q xs)) ≤ length (filter p xs)
 fewer p q [] = omega arith
-fewer {A = A} p q (x ∷ xs) = step (q x) refl (fewer p q xs)
-  where
-    more : (b : Bool) (kept all : List A) → length kept ≤ length all → length kept ≤ length (cond b (x ∷ all) all)
-    more true kept all h = omega arith
-    more false kept all h = h
-
-    both : (b : Bool) (kept all : List A) → length kept ≤ length all → length (cond b (x ∷ kept) kept) ≤ length (cond b (x ∷ all) all)
-    both true kept all h = omega arith
-    both false kept all h = h
-
-    step : (b : Bool) → q x ≡ b → length (filter p (filter q xs)) ≤ length (filter p xs) → length (filter p (cond b (x ∷ filter q xs) (filter q xs))) ≤ length (filter p (x ∷ xs))
-    step true e h = both (p x) (filter p (filter q xs)) (filter p xs) h
-    step false e h = more (p x) (filter p (filter q xs)) (filter p xs) h
+fewer p q (x ∷ xs) = elim (cases_Bool (q x)) [
+  | inl in_ ↦ rw in_ (omega (arith, count_cons p x (filter q xs), count_cons p x xs, fewer p q xs))
+  | inr out ↦ rw out (omega (arith, count_cons p x xs, fewer p q xs))
+]
 
 none_in : (test : ℕ → Bool) (a n : ℕ) → ((i : ℕ) → i < n → test (a + i) ≡ false) → length (filter test (range_with_len a n)) ≡ 0
 none_in test a zero h = refl

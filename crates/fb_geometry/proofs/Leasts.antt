@@ -1,15 +1,16 @@
 -- Orders of places and tracks, and the least of a list.
-use Rattle.std.proofs.Common.{◌≡◌, ℕ, zero, suc, List, [], ◌∷◌, ◌++◌, refl, ap, sym, ◌∙◌, arith, Bool, true, false, cond, Option, Some, None, ◌⊎◌, inl, inr, map}
-use Rattle.std.specs.Prelude.{filter, nat_lt, slice_get}
+use Rattle.std.proofs.Common.{◌≡◌, ℕ, zero, suc, ◌+◌, ◌-◌, List, length, [], ◌∷◌, ◌++◌, refl, ap, sym, ◌∙◌, arith, Bool, true, false, cond, Option, Some, None, ◌⊎◌, inl, inr, map}
+use Rattle.std.specs.Prelude.{filter, nat_lt, slice_get, option_map}
 use Rattle.std.specs.List.{list_any}
 use Rattle.std.specs.Cmp.{IsStrictWeakOrder}
-use Rattle.std.proofs.lemmas.Bool.{cases_Bool, true≢false, or_cases, or_left, or_right}
+use Rattle.std.proofs.lemmas.Bool.{cases_Bool, cases_lt, true≢false, or_cases}
 use Rattle.std.proofs.lemmas.Bool.Decides.{nat_tests}
-use Rattle.std.proofs.lemmas.Option.{same_Some, none-some}
+use Rattle.std.proofs.lemmas.Option.{same_Some, none-some, slice_get-map, slice_get_within, get_or_from_slice_get}
+use Rattle.std.proofs.lemmas.List.Folds.{list_any_at}
 use Rattle.fb_geometry.specs.Marks.{is_mark_before}
 use Rattle.fb_geometry.specs.Slips.{Pairwise}
 use Rattle.fb_geometry.specs.Faults.{is_place_before, is_track_before, least, lesser}
-use Rattle.fb_geometry.proofs.Faultless.{all_get}
+use Rattle.fb_geometry.proofs.Grid.{all_get, get_left, get_right}
 use Rattle.fb_geometry.proofs.Counting.{same_places, same_tracks}
 
 -- what a test of an order keeps
@@ -87,22 +88,16 @@ least-head {A = A} before order xs (y ∷ ys) to from up = least-is before order
 -- ---- what is among a list that is made of others
 
 pub among-left : {A : Type 0} (xs ys : List A) (x : A) → Among xs x → Among (xs ++ ys) x
-among-left [] ys x one = absurd (none-some x one.1)
-among-left (y ∷ xs) ys x (zero, at) = (0, at)
-among-left (y ∷ xs) ys x (suc k, at) = among-tail y x (xs ++ ys) (among-left xs ys x (k, at))
+among-left xs ys x one = (one.0, get_left xs ys one.0 (slice_get_within xs one.0 x one.1) ∙ one.1)
 
 pub among-right : {A : Type 0} (xs ys : List A) (x : A) → Among ys x → Among (xs ++ ys) x
-among-right [] ys x one = one
-among-right (y ∷ xs) ys x one = among-tail y x (xs ++ ys) (among-right xs ys x one)
-
-either_side : {A : Type 0} (x : A) (xs ys : List A) (y : A) → Among xs y ⊎ Among ys y → Among (x ∷ xs) y ⊎ Among ys y
-either_side x xs ys y (inl one) = inl (among-tail x y xs one)
-either_side x xs ys y (inr one) = inr one
+among-right xs ys x one = (length xs + one.0, get_right xs ys one.0 (length xs + one.0) refl ∙ one.1)
 
 pub among-append : {A : Type 0} (xs ys : List A) (x : A) → Among (xs ++ ys) x → Among xs x ⊎ Among ys x
-among-append [] ys x one = inr one
-among-append (y ∷ xs) ys x (zero, at) = inl (0, at)
-among-append (y ∷ xs) ys x (suc k, at) = either_side y xs ys x (among-append xs ys x (k, at))
+among-append xs ys x one = elim (cases_lt one.0 (length xs)) [
+  | inl front ↦ inl (one.0, sym (get_left xs ys one.0 front) ∙ one.1)
+  | inr behind ↦ inr (one.0 - length xs, sym (get_right xs ys (one.0 - length xs) one.0 (omega arith)) ∙ one.1)
+]
 
 pub among-filter : {A : Type 0} (test : A → Bool) (xs : List A) (x : A) → Among xs x → test x ≡ true → Among (filter test xs) x
 among-filter test [] x one e = absurd (none-some x one.1)
@@ -112,25 +107,22 @@ among-filter test (y ∷ xs) x (suc k, at) e = elim (cases_Bool (test y)) [
   | inr out ↦ rw out (among-filter test xs x (k, at) e)
 ]
 
+among-cons : {A : Type 0} (x y : A) (xs : List A) → Among (y ∷ xs) x → (y ≡ x) ⊎ Among xs x
+among-cons x y xs (zero, at) = inl (same_Some y x at)
+among-cons x y xs (suc k, at) = inr (k, at)
+
 pub among-filtered : {A : Type 0} (test : A → Bool) (xs : List A) (x : A) → Among (filter test xs) x → Among xs x × (test x ≡ true)
 among-filtered test [] x one = absurd (none-some x one.1)
-among-filtered test (y ∷ xs) x one = step (test y) refl one (λ one. among-filtered test xs x one)
-  where
-    head : {A : Type 0} (x y : A) (k : ℕ) (xs : List A) → slice_get (y ∷ xs) k ≡ Some x → (y ≡ x) ⊎ Among xs x
-    head x y zero xs at = inl (same_Some y x at)
-    head x y (suc k) xs at = inr (k, at)
-
-    step : (b : Bool) → test y ≡ b → Among (cond b (y ∷ filter test xs) (filter test xs)) x → (Among (filter test xs) x → Among xs x × (test x ≡ true)) → Among (y ∷ xs) x × (test x ≡ true)
-    step false e one rest = let found = rest one in (among-tail y x xs found.0, found.1)
-    step true e one rest = elim (head x y one.0 (filter test xs) one.1) [
-      | inl here ↦ ((0, ap Some here), sym (ap test here) ∙ e)
-      | inr later ↦ let found = rest later in (among-tail y x xs found.0, found.1)
-    ]
+among-filtered test (y ∷ xs) x one = elim (cases_Bool (test y)) [
+  | inl in_ ↦ elim (among-cons x y (filter test xs) (rw in_ at one)) [
+    | inl here ↦ ((0, ap Some here), sym (ap test here) ∙ in_)
+    | inr later ↦ let found = among-filtered test xs x later in (among-tail y x xs found.0, found.1)
+  ]
+  | inr out ↦ let found = among-filtered test xs x (rw out at one) in (among-tail y x xs found.0, found.1)
+]
 
 pub among-map : {A B : Type 0} (f : A → B) (xs : List A) (x : A) → Among xs x → Among (map f xs) (f x)
-among-map f [] x one = absurd (none-some x one.1)
-among-map f (y ∷ xs) x (zero, at) = (0, ap Some (ap f (same_Some y x at)))
-among-map f (y ∷ xs) x (suc k, at) = among-tail (f y) (f x) (map f xs) (among-map f xs x (k, at))
+among-map f xs x one = (one.0, slice_get-map f xs one.0 ∙ ap (option_map f) one.1)
 
 pub among-mapped : {A B : Type 0} (f : A → B) (xs : List A) (y : B) → Among (map f xs) y → (x : A) × Among xs x × (f x ≡ y)
 among-mapped f [] y one = absurd (none-some y one.1)
@@ -138,9 +130,7 @@ among-mapped f (x ∷ xs) y (zero, at) = (x, (0, refl), same_Some (f x) y at)
 among-mapped f (x ∷ xs) y (suc k, at) = let found = among-mapped f xs y (k, at) in (found.0, among-tail x found.0 xs found.1, found.2)
 
 pub among-any : {A : Type 0} (test : A → Bool) (xs : List A) (x : A) → Among xs x → test x ≡ true → list_any test xs ≡ true
-among-any test [] x one e = absurd (none-some x one.1)
-among-any test (y ∷ xs) x (zero, at) e = or_left (test y) (list_any test xs) (ap test (same_Some y x at) ∙ e)
-among-any test (y ∷ xs) x (suc k, at) e = or_right (test y) (list_any test xs) (among-any test xs x (k, at) e)
+among-any test xs x one e = list_any_at test xs one.0 x (slice_get_within xs one.0 x one.1) (ap test (get_or_from_slice_get xs one.0 x x one.1) ∙ e)
 
 pub any-among : {A : Type 0} (test : A → Bool) (xs : List A) → list_any test xs ≡ true → (x : A) × Among xs x × (test x ≡ true)
 any-among test [] h = absurd (true≢false (sym h))

@@ -7,15 +7,17 @@ use Rattle.std.proofs.lemmas.Bool.{cases_Bool, lt-ltb, le-ltb, and_parts, or_cas
 use Rattle.std.proofs.lemmas.Bool.Decides.{nat_tests}
 use Rattle.std.proofs.lemmas.List.Sorted.{IsNonDecreasingBy-drop}
 use Rattle.std.proofs.lemmas.Option.{slice_get-map, slice_get-get_or}
-use Rattle.std.proofs.lemmas.List.{get_or-map}
+use Rattle.std.proofs.lemmas.List.{get_or-map, length-map}
+use Rattle.fb_geometry.proofs.Grid.{all_get}
 use Rattle.fb_geometry.specs.declared.marks.Mark.{Mark}
 use Rattle.fb_geometry.specs.Slips.{IsAscending, rank, slipped}
 use Rattle.fb_geometry.specs.Marks.{AreInOrder, is_mark_before, positions, marks_on}
 
 pub all_at : {X : Type 0} (P : X → Type 0) (xs : List X) (j : ℕ) (d : X) → AllByRecursion P xs → j < length xs → P (get_or xs j d)
-all_at P [] j d all h = absurd (omega arith)
-all_at P (x ∷ xs) zero d all h = all.0
-all_at P (x ∷ xs) (suc j) d all h = all_at P xs j d all.1 (omega arith)
+all_at P xs j d all h = all_get P xs j (get_or xs j d) all (slice_get-get_or xs j d h)
+
+pub position_at : (marks : List Mark) (i : ℕ) (d : Mark) → i < length marks → get_or (positions marks) i 0 ≡ (get_or marks i d).position
+position_at marks i d h = get_or-map (λ mark. mark.position) marks i d 0 h
 
 -- what a mark before another says
 before_cylinder : (a b : Mark) → is_mark_before a b ≡ true → a.cylinder ≤ b.cylinder
@@ -42,12 +44,8 @@ cylinders-rise (mark ∷ marks) up (suc i) (suc j) d le h = cylinders-rise marks
 pub positions-rise : (marks : List Mark) → IsAscending (positions marks) → IsNonDecreasingBy (λ mark. mark.position) marks
 positions-rise [] up i j d le h = absurd (omega arith)
 positions-rise (mark ∷ marks) up zero zero d le h = omega arith
-positions-rise (mark ∷ marks) up zero (suc j) d le h = omega (arith, later marks j up.0 (omega arith))
-  where
-    later : (marks : List Mark) (j : ℕ) → AllByRecursion (λ later. mark.position < later) (positions marks) → j < length marks → mark.position < (get_or marks j d).position
-    later [] j all h = absurd (omega arith)
-    later (other ∷ marks) zero all h = all.0
-    later (other ∷ marks) (suc j) all h = later marks j all.1 (omega arith)
+positions-rise (mark ∷ marks) up zero (suc j) d le h =
+    omega (arith, all_at (λ later. mark.position < later) (positions marks) j 0 up.0 (omega (arith, length-map marks (λ mark. mark.position))), position_at marks j d (omega arith))
 positions-rise (mark ∷ marks) up (suc i) zero d le h = absurd (omega arith)
 positions-rise (mark ∷ marks) up (suc i) (suc j) d le h = positions-rise marks up.1 i j d (omega arith) (omega arith)
 
@@ -142,9 +140,6 @@ slipped-is number (x ∷ numbers) zero h low high = let here : number < x = omeg
 slipped-is number (x ∷ numbers) (suc r) h low high =
     let on : x ≤ number = omega (arith, low 0 (omega arith)) in
     rw (le-ltb number x on) (slipped-is (number + 1) numbers r (omega arith) (λ i l. omega (arith, low (suc i) (omega arith))) (λ i l m. omega (arith, high (suc i) (omega arith) (omega arith))) ∙ omega arith)
-
-pub position_at : (marks : List Mark) (i : ℕ) (d : Mark) → i < length marks → get_or (positions marks) i 0 ≡ (get_or marks i d).position
-position_at marks i d h = get_or-map (λ mark. mark.position) marks i d 0 h
 
 -- the steps of a search for where a number comes to stand
 pub slips_upto : (number middle : ℕ) (numbers : List ℕ) → IsAscending numbers → middle < length numbers → get_or numbers middle 0 ≤ number + middle
