@@ -4,11 +4,11 @@ use Rattle.std.specs.Prelude.{filter, ◌==◌, slice_get, MatchOption, IfNone, 
 use Rattle.std.specs.List.{AllByRecursion, range_with_len, list_any}
 use Rattle.std.proofs.Math.Nat.{mod-lt}
 use Rattle.std.proofs.lemmas.Nat.{div_below, mul-le, div-add-mod'}
-use Rattle.std.proofs.lemmas.Bool.{cases_Bool, cases_lt, true≢false}
+use Rattle.std.proofs.lemmas.Bool.{cases_Bool, cases_lt, true≢false, not-true}
 use Rattle.std.proofs.lemmas.Bool.Decides.{nat_tests}
 use Rattle.std.proofs.lemmas.Option.{same_Some, none-some, slice_get_within}
 use Rattle.std.proofs.lemmas.List.{length-take, length-take-le, length-append, map-append, take-append-drop, take-take}
-use Rattle.std.proofs.lemmas.List.Elements.{filter-append}
+use Rattle.std.proofs.lemmas.List.Elements.{filter-append, filter_passes, recursion_from_All}
 use Rattle.std.proofs.lemmas.List.FromFn.{take-map-range_with_len}
 use Rattle.fb_units.specs.declared.types.Place.{Place}
 use Rattle.fb_geometry.specs.declared.layout.Layout.{Layout}
@@ -21,7 +21,7 @@ use Rattle.fb_geometry.specs.Faults.{spare_fault, has_no_data}
 use Rattle.fb_geometry.specs.Turns.{IsZone, IsZoneAt, slot_at, cylinder_slots, position_in}
 use Rattle.fb_geometry.specs.Slips.{IsAscending, slipped, rank, indexes, entry_of_sector, HoldsNone, HoldsSector}
 use Rattle.fb_geometry.specs.Index.{IsGoodOf, good_before}
-use Rattle.fb_geometry.proofs.Grid.{get_left, get_right, get_part, get_range, zero_add}
+use Rattle.fb_geometry.proofs.Grid.{all_weaker, get_left, get_right, get_part, get_range, zero_add}
 use Rattle.fb_geometry.proofs.Slips.{kept_at, kept_to, marked, rank-le, rank-slipped, slipped-free, rank-at, rank-mono, rank-step, rank_marked, rank_unmarked, rank-below, among_at, indexes-ascend, length-kept, length-kept_front}
 use Rattle.fb_geometry.proofs.Turns.{good_track-is, good_cylinder-is, range-append, length-cylinder_slots, get-cylinder_slots, position_in-slot_at, slot_at-position_in, position_below}
 use Rattle.fb_geometry.proofs.Faultless.{all_get, slots_at-zone, list_among-zone}
@@ -77,12 +77,8 @@ module _ {A : Type 0} (test : A → Bool) (xs : List A) (numbers : List ℕ) (ar
 -- ---- spares at the end of each track
 
 all_good : {A : Type 0} (test : A → Bool) (xs : List A) → AllByRecursion (λ x. test x ≡ false) (filter (λ x. not (test x)) xs)
-all_good test [] = tt
-all_good test (x ∷ xs) = keep (test x) refl (all_good test xs)
-  where
-    keep : (b : Bool) → test x ≡ b → AllByRecursion (λ x. test x ≡ false) (filter (λ x. not (test x)) xs) → AllByRecursion (λ x. test x ≡ false) (cond (not b) (x ∷ filter (λ x. not (test x)) xs) (filter (λ x. not (test x)) xs))
-    keep true e all = all
-    keep false e all = (e, all)
+all_good test xs = all_weaker (λ x. not (test x) ≡ true) (λ x. test x ≡ false) (λ x. not-true (test x)) (filter (λ x. not (test x)) xs)
+    (recursion_from_All (λ x. not (test x) ≡ true) (filter (λ x. not (test x)) xs) (filter_passes (λ x. not (test x)) xs))
 
 all_map : {A B : Type 0} (P : B → Type 0) (f : A → B) → ((x : A) → P (f x)) → (xs : List A) → AllByRecursion P (map f xs)
 all_map P f each [] = tt
@@ -254,12 +250,6 @@ module _ (disk : Shape) where
     | inr stays ↦ rw stays (replaced-moves places (first ∷ spares) j place spare at moves (rw stays at stand))
   ]
 
-length-indexes : {A : Type 0} (test : A → Bool) (xs : List A) → length (indexes test 0 xs) ≡ length (filter test xs)
-length-indexes test xs = omega (arith, length-kept test 0 xs, kept_and_dropped test xs)
-
-pub get-append_length : {A : Type 0} (xs ys : List A) (i n : ℕ) → length xs ≡ n → slice_get (xs ++ ys) (n + i) ≡ slice_get ys i
-get-append_length xs ys i n e = get_right xs ys i (n + i) (omega arith)
-
 module _ (disk : Shape) (zone : Zone) (cylinder : ℕ) (at : IsZoneAt disk cylinder zone) (h : HasSpares disk) (numbers : List ℕ)
     (are : numbers ≡ indexes (is_among disk.defects) 0 (cylinder_slots zone disk.heads cylinder)) (grown : List ℕ)
     (those : grown ≡ indexes (is_among disk.grown) 0 (by_head disk cylinder (good_track disk zone))) where
@@ -291,7 +281,8 @@ module _ (disk : Shape) (zone : Zone) (cylinder : ℕ) (at : IsZoneAt disk cylin
   few_grown = omega (
     arith,
     ap length those,
-    length-indexes (is_among disk.grown) whole,
+    length-kept (is_among disk.grown) 0 whole,
+    kept_and_dropped (is_among disk.grown) whole,
     at_most_each same_place (λ place. place.track.cylinder == cylinder) whole disk.grown
         (λ d. omega (arith, ap (λ xs. length (filter (λ place. same_place place d) xs)) whole-is, fewer (λ place. same_place place d) (λ place. not (is_among disk.defects place)) (cylinder_slots zone disk.heads cylinder), once_on_cylinder zone some_slots disk.heads cylinder d)),
   )
@@ -309,15 +300,11 @@ module _ (disk : Shape) (zone : Zone) (cylinder : ℕ) (at : IsZoneAt disk cylin
 
   -- the spares among all that are not grown
   spare_in_clean : (m : ℕ) → slice_get (filter clean whole) (base - rank base grown + m) ≡ slice_get spares m
-  spare_in_clean m = ap (λ xs. slice_get xs (base - rank base grown + m)) clean_parts ∙ get-append_length (filter clean (take base whole)) spares m (base - rank base grown) clean_front
+  spare_in_clean m = ap (λ xs. slice_get xs (base - rank base grown + m)) clean_parts ∙ get_right (filter clean (take base whole)) spares m (base - rank base grown + m) (omega (arith, clean_front))
 
   -- a spare, by its index among all that are not grown
   spare_at : (m k : ℕ) (place : Place) → base - rank base grown + m ≡ k → slice_get (filter clean whole) k ≡ Some place → slice_get spares m ≡ Some place
   spare_at m k place e at = subst (λ k. slice_get (filter clean whole) k ≡ Some place → slice_get spares m ≡ Some place) e (λ at. sym (spare_in_clean m) ∙ at) at
-
-  -- the same, where its index is known by an equation
-  spare_for : (m n : ℕ) (place : Place) → m ≡ n → slice_get spares n ≡ Some place → slice_get spares m ≡ Some place
-  spare_for m n place e at = subst (λ n. slice_get spares n ≡ Some place) (sym e) at
 
   -- how many grown entries come before one of the base list
   grown_before : (j : ℕ) → j ≤ base → length (filter (is_among disk.grown) (take j (take base whole))) ≡ rank j grown
@@ -383,11 +370,12 @@ module _ (disk : Shape) (zone : Zone) (cylinder : ℕ) (at : IsZoneAt disk cylin
   ]
 
   -- a sector's place is no defect, not grown, and comes early enough among those that are neither
-  pub index_by_cylinder : (j : ℕ) (place : Place) → slice_get (per_cylinder disk zone cylinder) j ≡ Some place
-      → (is_among disk.defects place ≡ false) × (is_among disk.grown place ≡ false)
-      × (slice_get whole (position_in zone disk.heads place - rank (position_in zone disk.heads place) numbers) ≡ Some place)
-      × (position_in zone disk.heads place - rank (position_in zone disk.heads place) numbers - rank (position_in zone disk.heads place - rank (position_in zone disk.heads place) numbers) grown < base)
-      × IsSectorOf (position_in zone disk.heads place - rank (position_in zone disk.heads place) numbers) j × LiesOn disk cylinder place
+  abbrev pub HasSector : Place → ℕ → Type 0
+  HasSector place j = let k = position_in zone disk.heads place - rank (position_in zone disk.heads place) numbers in
+      (is_among disk.defects place ≡ false) × (is_among disk.grown place ≡ false) × (slice_get (by_head disk cylinder (good_track disk zone)) k ≡ Some place)
+      × (k - rank k grown < disk.heads * zone.sectors - zone.cylinder_spares) × IsSectorOf k j × LiesOn disk cylinder place
+
+  pub index_by_cylinder : (j : ℕ) (place : Place) → slice_get (per_cylinder disk zone cylinder) j ≡ Some place → HasSector place j
   index_by_cylinder j place found =
       let below : j < base = omega (arith, slice_get_within (per_cylinder disk zone cylinder) j place found, length-per_cylinder disk zone cylinder at h) in
       let one = base_entry j below in
@@ -414,11 +402,7 @@ module _ (disk : Shape) (zone : Zone) (cylinder : ℕ) (at : IsZoneAt disk cylin
             from_whole j place (one.1 ∙ ap Some same) (sym (ap (is_among disk.grown) same) ∙ stays) (omega arith) (inl (below, refl))
       ]
     where
-      from_whole : (k : ℕ) (place : Place) → slice_get whole k ≡ Some place → is_among disk.grown place ≡ false → k - rank k grown < base → IsSectorOf k j
-          → (is_among disk.defects place ≡ false) × (is_among disk.grown place ≡ false)
-          × (slice_get whole (position_in zone disk.heads place - rank (position_in zone disk.heads place) numbers) ≡ Some place)
-          × (position_in zone disk.heads place - rank (position_in zone disk.heads place) numbers - rank (position_in zone disk.heads place - rank (position_in zone disk.heads place) numbers) grown < base)
-          × IsSectorOf (position_in zone disk.heads place - rank (position_in zone disk.heads place) numbers) j × LiesOn disk cylinder place
+      from_whole : (k : ℕ) (place : Place) → slice_get whole k ≡ Some place → is_among disk.grown place ≡ false → k - rank k grown < base → IsSectorOf k j → HasSector place j
       from_whole k place here stays early of =
           let in_good : slice_get (filter (λ place. not (is_among disk.defects place)) (cylinder_slots zone disk.heads cylinder)) k ≡ Some place = ap (λ xs. slice_get xs k) (sym whole-is) ∙ here in
           let index = good_index disk zone cylinder at numbers are k place in_good in (
@@ -435,9 +419,6 @@ module _ (disk : Shape) (zone : Zone) (cylinder : ℕ) (at : IsZoneAt disk cylin
       → slice_get whole (position_in zone disk.heads place - rank (position_in zone disk.heads place) numbers) ≡ Some place
   in_whole place c hd l stays = ap (λ xs. slice_get xs (position_in zone disk.heads place - rank (position_in zone disk.heads place) numbers)) whole-is
       ∙ goes (is_among disk.defects) (cylinder_slots zone disk.heads cylinder) numbers are (position_in zone disk.heads place) place (slot_of disk zone cylinder at numbers are place c hd l) stays
-
-  moved_by : (g s : ℕ) (old place : Place) → g < base → slice_get whole g ≡ Some old → slice_get grown s ≡ Some g → rank g grown ≡ s → slice_get spares s ≡ Some place → slice_get (per_cylinder disk zone cylinder) g ≡ Some place
-  moved_by g s old place below here entry_ index stand = moved g old place below here (sym (is_marked_at (is_among disk.grown) whole grown those g old here) ∙ among_at s g grown entry_) (spare_for (rank g grown) s place index stand)
 
   -- a spare holds the sector of the grown one that it stands in for
   pub holds_moving : (k g : ℕ) (place : Place) → slice_get whole k ≡ Some place → is_among disk.grown place ≡ false → base ≤ k → k - rank k grown < base
@@ -456,7 +437,8 @@ module _ (disk : Shape) (zone : Zone) (cylinder : ℕ) (at : IsZoneAt disk cylin
       ] in
       let one = base_entry g below in
       let left : slice_get (filter clean whole) (k - rank k grown) ≡ Some place = goes (is_among disk.grown) whole grown those k place here stays in
-      moved_by g s one.0 place below one.1 entry_ index (spare_at s (k - rank k grown) place free left)
+      moved g one.0 place below one.1 (sym (is_marked_at (is_among disk.grown) whole grown those g one.0 one.1) ∙ among_at s g grown entry_)
+      (ap (slice_get spares) index ∙ spare_at s (k - rank k grown) place free left)
 
 -- ---- by the layout
 
@@ -470,14 +452,18 @@ some_by_track disk zone cylinder at layout = let kept : has_no_data PerTrack dis
 pub spares_by : (disk : Shape) (zone : Zone) (cylinder : ℕ) (layout : Layout) → IsZoneAt disk cylinder zone → disk.layout ≡ layout → spare_fault layout disk ≡ None
 spares_by disk zone cylinder layout at e = subst (λ layout. spare_fault layout disk ≡ None) e at.enough_spares
 
--- the places of a list are slots of the cylinder, and none is there twice
-pub lies_on : (disk : Shape) (zone : Zone) (cylinder : ℕ) (layout : Layout) → IsZoneAt disk cylinder zone → disk.layout ≡ layout → (j : ℕ) (place : Place) → slice_get (data_list_by layout disk zone cylinder) j ≡ Some place → LiesOn disk cylinder place
-lies_on disk zone cylinder PerTrack at e j place found =
-    (index_by_track disk zone cylinder at (indexes (is_among disk.defects) 0 (cylinder_slots zone disk.heads cylinder)) refl (spares_by disk zone cylinder PerTrack at e) j place (some_by_track disk zone cylinder at e) found).5
-lies_on disk zone cylinder PerCylinder at e j place found =
-    (index_by_cylinder disk zone cylinder at (has_spares disk (spares_by disk zone cylinder PerCylinder at e)) (indexes (is_among disk.defects) 0 (cylinder_slots zone disk.heads cylinder)) refl
-    (indexes (is_among disk.grown) 0 (by_head disk cylinder (good_track disk zone))) refl j place found).5
+-- the places of a list are no bad slots, and lie on the cylinder
+pub entry_of : (disk : Shape) (zone : Zone) (cylinder : ℕ) (layout : Layout) → IsZoneAt disk cylinder zone → disk.layout ≡ layout → (j : ℕ) (place : Place) → slice_get (data_list_by layout disk zone cylinder) j ≡ Some place
+    → (is_among disk.defects place ≡ false) × (layout ≡ PerCylinder → is_among disk.grown place ≡ false) × LiesOn disk cylinder place
+entry_of disk zone cylinder PerTrack at e j place found =
+    let one = index_by_track disk zone cylinder at (indexes (is_among disk.defects) 0 (cylinder_slots zone disk.heads cylinder)) refl (spares_by disk zone cylinder PerTrack at e) j place (some_by_track disk zone cylinder at e) found in
+    (one.0, λ layout. cc, one.5)
+entry_of disk zone cylinder PerCylinder at e j place found =
+    let one = index_by_cylinder disk zone cylinder at (has_spares disk (spares_by disk zone cylinder PerCylinder at e)) (indexes (is_among disk.defects) 0 (cylinder_slots zone disk.heads cylinder)) refl
+    (indexes (is_among disk.grown) 0 (by_head disk cylinder (good_track disk zone))) refl j place found in
+    (one.0, λ layout. one.1, one.5)
 
+-- and none is there twice
 pub one_index_on : (disk : Shape) (zone : Zone) (cylinder : ℕ) (layout : Layout) → IsZoneAt disk cylinder zone → disk.layout ≡ layout → (i j : ℕ) (place : Place)
     → slice_get (data_list_by layout disk zone cylinder) i ≡ Some place → slice_get (data_list_by layout disk zone cylinder) j ≡ Some place → i ≡ j
 one_index_on disk zone cylinder PerTrack at e i j place found again =
@@ -545,15 +531,10 @@ module _ (disk : Shape) (zone : Zone) (place : Place) (at : IsZoneAt disk place.
   abbrev defects : List ℕ
   defects = indexes (is_among disk.defects) 0 (cylinder_slots zone disk.heads place.track.cylinder)
 
-  holds_no_defect : (layout : Layout) → disk.layout ≡ layout → (j : ℕ) → slice_get (data_list_by layout disk zone place.track.cylinder) j ≡ Some place → is_among disk.defects place ≡ false
-  holds_no_defect PerTrack e j found = (index_by_track disk zone place.track.cylinder at defects refl (spares_by disk zone place.track.cylinder PerTrack at e) j place (some_by_track disk zone place.track.cylinder at e) found).0
-  holds_no_defect PerCylinder e j found =
-      (index_by_cylinder disk zone place.track.cylinder at (has_spares disk (spares_by disk zone place.track.cylinder PerCylinder at e)) defects refl (indexes (is_among disk.grown) 0 (by_head disk place.track.cylinder (good_track disk zone))) refl j place found).0
-
   -- a defect holds no sector
   pub none_on_defect : is_among disk.defects place ≡ true → Holds None
   none_on_defect bad = λ j found.
-      true≢false (sym bad ∙ holds_no_defect disk.layout refl j (sym (ap (λ xs. slice_get xs j) (list_by disk zone place.track.cylinder disk.layout at refl)) ∙ found))
+      true≢false (sym bad ∙ (entry_of disk zone place.track.cylinder disk.layout at refl j place (sym (ap (λ xs. slice_get xs j) (list_by disk zone place.track.cylinder disk.layout at refl)) ∙ found)).0)
 
   module _ (stays : is_among disk.defects place ≡ false) (good : ℕ) (is : good ≡ good_before disk zone place) where
     -- no more good slots come before the track than before the place

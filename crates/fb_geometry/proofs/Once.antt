@@ -16,7 +16,7 @@ use Rattle.fb_geometry.specs.Sound.{IsCylinderOf, LiesOn, HasOwnPlaces, IsSound}
 use Rattle.fb_geometry.specs.Index.{IsFaultless}
 use Rattle.fb_geometry.proofs.Grid.{all_weaker}
 use Rattle.fb_geometry.proofs.Faultless.{all_get, next, zones_from, zone_by_bounds, ranges_of, some_rotation, short_rotation, some_heads, few_heads, some_zones, few_zones, few_cylinders, data_of, short_slots}
-use Rattle.fb_geometry.proofs.Lookups.{index_by_track, index_by_cylinder, spares_by, some_by_track, lies_on, one_index_on}
+use Rattle.fb_geometry.proofs.Lookups.{entry_of, one_index_on}
 use Rattle.fb_geometry.proofs.Laws.{all-append, all-parts, has_spares, length-data_list, some_size}
 use Rattle.fb_geometry.proofs.Grid.{add_zero, add_one}
 
@@ -82,13 +82,13 @@ module _ (disk : Shape) (h : IsFaultless disk) where
   zone_cylinders i zone at = all-parts (λ place. (zone.first ≤ place.track.cylinder) × (place.track.cylinder ≤ zone.last)) (data_list disk zone) zone.first (zone.last + 1 - zone.first)
       (λ k l. all_weaker (LiesOn disk (zone.first + k)) (λ place. (zone.first ≤ place.track.cylinder) × (place.track.cylinder ≤ zone.last))
       (λ place on. (omega (arith, on.cylinder_is), omega (arith, on.cylinder_is))) (data_list disk zone (zone.first + k))
-      (all_from_index (LiesOn disk (zone.first + k)) (data_list disk zone (zone.first + k)) (lies_on disk zone (zone.first + k) disk.layout (zone_by_bounds disk h i zone (zone.first + k) (of_cylinder i zone k at l)) refl)))
+      (all_from_index (LiesOn disk (zone.first + k)) (data_list disk zone (zone.first + k)) (λ j place found. (entry_of disk zone (zone.first + k) disk.layout (zone_by_bounds disk h i zone (zone.first + k) (of_cylinder i zone k at l)) refl j place found).2)))
 
   distinct_zone : (i : ℕ) (zone : Zone) → slice_get disk.zones i ≡ Some zone → Distinct (zone_places disk zone)
   distinct_zone i zone at = distinct-parts (λ place. place.track.cylinder) (data_list disk zone) zone.first (zone.last + 1 - zone.first)
       (λ k l. let here = zone_by_bounds disk h i zone (zone.first + k) (of_cylinder i zone k at l) in (
         distinct_from (data_list disk zone (zone.first + k)) (one_index_on disk zone (zone.first + k) disk.layout here refl),
-        all_from_index (λ place. place.track.cylinder ≡ zone.first + k) (data_list disk zone (zone.first + k)) (λ j place found. (lies_on disk zone (zone.first + k) disk.layout here refl j place found).cylinder_is),
+        all_from_index (λ place. place.track.cylinder ≡ zone.first + k) (data_list disk zone (zone.first + k)) (λ j place found. (entry_of disk zone (zone.first + k) disk.layout here refl j place found).2.cylinder_is),
       ))
 
   distinct_zones : (index begin : ℕ) (zones : List Zone) → first_apart index begin zones ≡ None
@@ -113,18 +113,13 @@ module _ (disk : Shape) (h : IsFaultless disk) where
   -- no entry is a defect, or a grown one
   clean_list : (i : ℕ) (zone : Zone) (cylinder : ℕ) (layout : Layout) → disk.layout ≡ layout → (layout ≡ PerTrack → disk.grown ≡ []) → IsCylinderOf disk i zone cylinder
       → AllByRecursion (λ place. (is_among disk.defects place ≡ false) × (is_among disk.grown place ≡ false)) (data_list_by layout disk zone cylinder)
-  clean_list i zone cylinder PerTrack e fits at =
-      let here = zone_by_bounds disk h i zone cylinder at in
-      all_from_index (λ place. (is_among disk.defects place ≡ false) × (is_among disk.grown place ≡ false)) (per_track disk zone cylinder)
-      (λ j place found. (
-        (index_by_track disk zone cylinder here (indexes (is_among disk.defects) 0 (cylinder_slots zone disk.heads cylinder)) refl (spares_by disk zone cylinder PerTrack here e) j place (some_by_track disk zone cylinder here e) found).0,
-        ap (λ grown. is_among grown place) (fits refl),
-      ))
-  clean_list i zone cylinder PerCylinder e fits at =
-      let here = zone_by_bounds disk h i zone cylinder at in
-      all_from_index (λ place. (is_among disk.defects place ≡ false) × (is_among disk.grown place ≡ false)) (per_cylinder disk zone cylinder)
-      (λ j place found. let one = index_by_cylinder disk zone cylinder here (has_spares disk (spares_by disk zone cylinder PerCylinder here e)) (indexes (is_among disk.defects) 0 (cylinder_slots zone disk.heads cylinder)) refl
-      (indexes (is_among disk.grown) 0 (by_head disk cylinder (good_track disk zone))) refl j place found in (one.0, one.1))
+  clean_list i zone cylinder layout e fits at =
+      all_from_index (λ place. (is_among disk.defects place ≡ false) × (is_among disk.grown place ≡ false)) (data_list_by layout disk zone cylinder)
+      (λ j place found. let one = entry_of disk zone cylinder layout (zone_by_bounds disk h i zone cylinder at) e j place found in (one.0, not_grown layout fits place one.1))
+    where
+      not_grown : (layout : Layout) → (layout ≡ PerTrack → disk.grown ≡ []) → (place : Place) → (layout ≡ PerCylinder → is_among disk.grown place ≡ false) → is_among disk.grown place ≡ false
+      not_grown PerTrack fits place clean = ap (λ grown. is_among grown place) (fits refl)
+      not_grown PerCylinder fits place clean = clean refl
 
   pub clean_places : (disk.layout ≡ PerTrack → disk.grown ≡ []) → AllByRecursion (λ place. (is_among disk.defects place ≡ false) × (is_among disk.grown place ≡ false)) (places disk)
   clean_places fits = all_places (λ place. (is_among disk.defects place ≡ false) × (is_among disk.grown place ≡ false)) (λ i zone cylinder at. clean_list i zone cylinder disk.layout refl fits at)
@@ -151,5 +146,5 @@ sound disk h = record {
   some_data = λ i zone at. some_size disk.layout disk zone (some_heads disk h.zones_hold) (data_of disk h.zones_hold i zone at);
   few_slots = λ i zone at. (ranges_of disk h.zones_hold i zone at).few_sectors;
   short_slots = short_slots disk h.zones_hold;
-  own = λ i zone cylinder j place at found. lies_on disk zone cylinder disk.layout (zone_by_bounds disk h i zone cylinder at) refl j place found;
+  own = λ i zone cylinder j place at found. (entry_of disk zone cylinder disk.layout (zone_by_bounds disk h i zone cylinder at) refl j place found).2;
 }
