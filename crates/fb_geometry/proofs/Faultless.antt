@@ -1,5 +1,5 @@
 -- What holds of an outline without a fault.
-use Rattle.std.proofs.Common.{◌≡◌, ℕ, zero, suc, ◌+◌, ◌^◌, ◌<◌, ◌≤◌, List, [], ◌∷◌, length, refl, ap, sym, arith, Bool, true, false, cond, Option, Some, None, inl, inr, subst, get_or}
+use Rattle.std.proofs.Common.{◌≡◌, ℕ, zero, suc, ◌+◌, ◌^◌, ◌<◌, ◌≤◌, List, [], ◌∷◌, length, refl, ap, sym, ◌∙◌, arith, Bool, true, false, cond, Option, Some, None, inl, inr, subst, get_or}
 use Rattle.std.specs.Prelude.{filter, find, position, nat_lt, nat_le, ◌==◌, ◌||◌, slice_get}
 use Rattle.std.specs.List.{list_any, AllByRecursion, position_or_len}
 use Rattle.std.specs.List.Sorted.{IsPartitionPoint, IsNonDecreasingBy}
@@ -15,6 +15,10 @@ use Rattle.fb_geometry.specs.Places.{list_among, data_list}
 use Rattle.fb_geometry.specs.Sound.{IsCylinderOf}
 use Rattle.fb_geometry.specs.Index.{IsFaultless, HasZones}
 use Rattle.fb_geometry.specs.Turns.{IsZone, IsZoneOf, IsZoneAt, zone_at}
+use Rattle.std.proofs.lemmas.List.Elements.{recursion_from_All}
+use Rattle.std.proofs.lemmas.List.Sums.{fails_before_first}
+use Rattle.std.proofs.lemmas.List.Folds.{find_at}
+use Rattle.fb_geometry.proofs.Grid.{within}
 pub use Rattle.fb_geometry.proofs.Grid.{all_get}
 
 -- ---- chains
@@ -29,32 +33,21 @@ fault_at-none fault (Some a) h = absurd (none-some (fault a) (sym h))
 
 -- ---- searches that find nothing
 
+none_found : {X : Type 0} (test : X → Bool) (xs : List X) → (position_or_len test xs < length xs → ⊥) → AllByRecursion (λ x. test x ≡ false) xs
+none_found test xs never = recursion_from_All (λ x. test x ≡ false) xs (λ k d inside. elim (cases_lt (position_or_len test xs) (length xs)) [
+  | inl found ↦ absurd (never found)
+  | inr behind ↦ fails_before_first test xs k d (omega arith)
+])
+
 pub find-none : {X : Type 0} (test : X → Bool) (xs : List X) → find test xs ≡ None → AllByRecursion (λ x. test x ≡ false) xs
-find-none test [] h = tt
-find-none test (x ∷ xs) h = elim (cases_Bool (test x)) [
-  | inl hit ↦ absurd (none-some x (sym (rw hit at h)))
-  | inr miss ↦ (miss, find-none test xs (rw miss at h))
-]
+find-none test xs h = none_found test xs (λ found. let one = within xs (position_or_len test xs) found in none-some one.0 (sym h ∙ (find_at test xs ∙ one.1)))
 
 pub list_any-none : {X : Type 0} (test : X → Bool) (xs : List X) → list_any test xs ≡ false → AllByRecursion (λ x. test x ≡ false) xs
 list_any-none test [] h = tt
 list_any-none test (x ∷ xs) h = let parts = or_parts (test x) (list_any test xs) h in (parts.0, list_any-none test xs parts.1)
 
 pub position-none : {X : Type 0} (test : X → Bool) (xs : List X) → position test xs ≡ None → AllByRecursion (λ x. test x ≡ false) xs
-position-none test xs h = missing test xs (not_below (position_or_len test xs) (length xs) h)
-  where
-    not_below : (a b : ℕ) → cond (nat_lt a b) (Some a) None ≡ None → b ≤ a
-    not_below a b h = elim (cases_lt a b) [
-      | inl less ↦ absurd (none-some a (sym (rw (lt-ltb a b less) at h)))
-      | inr more ↦ more
-    ]
-
-    missing : {X : Type 0} (test : X → Bool) (xs : List X) → length xs ≤ position_or_len test xs → AllByRecursion (λ x. test x ≡ false) xs
-    missing test [] h = tt
-    missing test (x ∷ xs) h = elim (cases_Bool (test x)) [
-      | inl hit ↦ absurd (omega (arith, rw hit at h))
-      | inr miss ↦ (miss, missing test xs (omega (arith, rw miss at h)))
-    ]
+position-none test xs h = none_found test xs (λ found. none-some (position_or_len test xs) (sym (rw (lt-ltb (position_or_len test xs) (length xs) found) at h)))
 
 pub least-none : {X : Type 0} (is_before : X → X → Bool) (xs : List X) → least is_before xs ≡ None → xs ≡ []
 least-none is_before [] h = refl

@@ -29,6 +29,12 @@ all_get P [] i x all at = absurd (none-some x at)
 all_get P (y ∷ xs) zero x all at = subst P (same_Some y x at) all.0
 all_get P (y ∷ xs) (suc i) x all at = all_get P xs i x all.1 at
 
+-- an index of the list has an element
+pub within : {X : Type 0} (xs : List X) (i : ℕ) → i < length xs → (x : X) × (slice_get xs i ≡ Some x)
+within [] i h = absurd (omega arith)
+within (x ∷ xs) zero h = (x, refl)
+within (x ∷ xs) (suc i) h = within xs i (omega arith)
+
 pub get_left : {X : Type 0} (xs ys : List X) (i : ℕ) → i < length xs → slice_get (xs ++ ys) i ≡ slice_get xs i
 get_left [] ys i h = absurd (omega arith)
 get_left (x ∷ xs) ys zero h = refl

@@ -21,9 +21,9 @@ use Rattle.fb_geometry.proofs.Counting.{same_places}
 use Rattle.fb_geometry.proofs.Marking.{position_is, mark_of-slot_at, on_disk, among-on, same_marks, same_mark-refl}
 use Rattle.fb_geometry.proofs.Leasts.{Among, among-map, among-mapped, among-any, any-among}
 use Rattle.fb_geometry.proofs.Clashes.{same_place-refl, mark_among, place_among, inside_of, among_others}
-use Rattle.fb_geometry.proofs.Lookups.{within, goes, slot_of, good_index, good_at}
+use Rattle.fb_geometry.proofs.Lookups.{goes, slot_of, good_index, good_at}
 use Rattle.fb_geometry.proofs.Faultless.{slots_at-zone, all_get, filter-none}
-use Rattle.fb_geometry.proofs.Grid.{zero_add}
+use Rattle.fb_geometry.proofs.Grid.{zero_add, within}
 
 -- ---- ascending numbers that have the same members
 

@@ -21,7 +21,7 @@ use Rattle.fb_geometry.specs.Faults.{spare_fault, has_no_data}
 use Rattle.fb_geometry.specs.Turns.{IsZone, IsZoneAt, slot_at, cylinder_slots, position_in}
 use Rattle.fb_geometry.specs.Slips.{IsAscending, slipped, rank, indexes, entry_of_sector, HoldsNone, HoldsSector}
 use Rattle.fb_geometry.specs.Index.{IsGoodOf, good_before}
-use Rattle.fb_geometry.proofs.Grid.{all_weaker, get_left, get_right, get_part, get_range, zero_add}
+use Rattle.fb_geometry.proofs.Grid.{all_weaker, within, get_left, get_right, get_part, get_range, zero_add}
 use Rattle.fb_geometry.proofs.Slips.{kept_at, kept_to, marked, rank-le, rank-slipped, slipped-free, rank-at, rank-mono, rank-step, rank_marked, rank_unmarked, rank-below, among_at, indexes-ascend, length-kept, length-kept_front}
 use Rattle.fb_geometry.proofs.Turns.{good_track-is, good_cylinder-is, range-append, length-cylinder_slots, get-cylinder_slots, position_in-slot_at, slot_at-position_in, position_below}
 use Rattle.fb_geometry.proofs.Faultless.{all_get, slots_at-zone, list_among-zone}
@@ -41,11 +41,6 @@ get_drop (suc n) (x ∷ xs) i = get_drop n xs i ∙ ap (slice_get (x ∷ xs)) (n
   where
     next : (n i : ℕ) → suc (n + i) ≡ suc n + i
     next n i = omega arith
-
-pub within : {X : Type 0} (xs : List X) (i : ℕ) → i < length xs → (x : X) × (slice_get xs i ≡ Some x)
-within [] i h = absurd (omega arith)
-within (x ∷ xs) zero h = (x, refl)
-within (x ∷ xs) (suc i) h = within xs i (omega arith)
 
 -- ---- a list and what is left of it
 
