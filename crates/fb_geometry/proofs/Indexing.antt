@@ -21,7 +21,7 @@ use Rattle.fb_geometry.proofs.Counting.{same_places}
 use Rattle.fb_geometry.proofs.Marking.{position_is, mark_of-slot_at, on_disk, among-on, same_marks, same_mark-refl}
 use Rattle.fb_geometry.proofs.Leasts.{Among, among-map, among-mapped, among-any, any-among}
 use Rattle.fb_geometry.proofs.Clashes.{same_place-refl, mark_among, place_among, inside_of, among_others}
-use Rattle.fb_geometry.proofs.Lookups.{goes, slot_of, good_index, good_at}
+use Rattle.fb_geometry.proofs.Lookups.{goes, slot_of, good_index, good_lies}
 use Rattle.fb_geometry.proofs.Faultless.{slots_at-zone, all_get, filter-none}
 use Rattle.fb_geometry.proofs.Grid.{zero_add, within}
 
@@ -74,19 +74,17 @@ module _ {A : Type 0} (test : A → Bool) where
     | inr out ↦ absurd (true≢false (sym h ∙ beyond 0 q xs (omega arith)))
   ]
 
-  has_index : (xs : List A) (q : ℕ) (x : A) → slice_get xs q ≡ Some x → test x ≡ true → list_any (λ other. other == q) (indexes test 0 xs) ≡ true
-  has_index xs q x at e = ap (λ n. list_any (λ other. other == n) (indexes test 0 xs)) (sym (zero_add q)) ∙ (marked test 0 xs q x at ∙ e)
-
-on_cylinder : (cylinder q : ℕ) (marks : List Mark) → list_any (λ other. other == q) (positions (marks_on cylinder marks)) ≡ true → Among marks (record { cylinder = cylinder; position = q })
-on_cylinder cylinder q marks h =
-    let mark : Mark = record { cylinder = cylinder; position = q } in
-    let one = any-among (same_mark mark) marks (sym (among-on mark marks) ∙ h) in
-    (one.1.0, one.1.1 ∙ ap Some (sym (same_marks mark one.0 one.2)))
-
-of_cylinder : (cylinder q : ℕ) (marks : List Mark) → Among marks (record { cylinder = cylinder; position = q }) → list_any (λ other. other == q) (positions (marks_on cylinder marks)) ≡ true
-of_cylinder cylinder q marks one =
-    let mark : Mark = record { cylinder = cylinder; position = q } in
-    among-on mark marks ∙ among-any (same_mark mark) marks mark one (same_mark-refl mark)
+  -- marks in order are the indexes of the elements that pass, if each is the index of one, and each of them has its mark
+  marks_indexed : (cylinder : ℕ) (marks : List Mark) (xs : List A) → AreInOrder marks
+      → ((q : ℕ) → Among marks (record { cylinder = cylinder; position = q }) → (x : A) × (slice_get xs q ≡ Some x) × (test x ≡ true))
+      → ((q : ℕ) (x : A) → slice_get xs q ≡ Some x → test x ≡ true → Among marks (record { cylinder = cylinder; position = q })) → positions (marks_on cylinder marks) ≡ indexes test 0 xs
+  marks_indexed cylinder marks xs ordered to from = ascending_same (positions (marks_on cylinder marks)) (indexes test 0 xs) (marks_on-ascend cylinder marks ordered) (indexes-ascend test 0 xs)
+      (λ q. let mark : Mark = record { cylinder = cylinder; position = q } in
+      iff_same (list_any (λ other. other == q) (positions (marks_on cylinder marks))) (list_any (λ other. other == q) (indexes test 0 xs))
+      (λ on. let one = any-among (same_mark mark) marks (sym (among-on mark marks) ∙ on) in
+      let found = to q (one.1.0, one.1.1 ∙ ap Some (sym (same_marks mark one.0 one.2))) in
+      ap (λ n. list_any (λ other. other == n) (indexes test 0 xs)) (sym (zero_add q)) ∙ (marked test 0 xs q found.0 found.1 ∙ found.2))
+      (λ on. let found = index_of xs q on in among-on mark marks ∙ among-any (same_mark mark) marks mark (from q found.0 found.1 found.2) (same_mark-refl mark)))
 
 mark_by : (mark : Mark) (cylinder position : ℕ) → mark.cylinder ≡ cylinder → mark.position ≡ position → mark ≡ record { cylinder = cylinder; position = position }
 mark_by mark cylinder position c p = ap (λ c. record { cylinder = c; position = mark.position }) c ∙ ap (λ p. record { cylinder = cylinder; position = p }) p
@@ -100,9 +98,7 @@ module _ (disk : Shape) (zones : HasZones disk) (defects : List Mark) (are : Are
       (on.1, omega (arith, on.2, slots_at-zone disk.zones place.track.cylinder zone found), position_is disk zone place found)
 
   pub defects_indexed : (zone : Zone) (cylinder : ℕ) → IsZoneAt disk cylinder zone → positions (marks_on cylinder defects) ≡ indexes (is_among disk.defects) 0 (cylinder_slots zone disk.heads cylinder)
-  defects_indexed zone cylinder at = ascending_same (positions (marks_on cylinder defects)) (indexes (is_among disk.defects) 0 (cylinder_slots zone disk.heads cylinder))
-      (marks_on-ascend cylinder defects are.ordered) (indexes-ascend (is_among disk.defects) 0 (cylinder_slots zone disk.heads cylinder))
-      (λ q. iff_same (list_any (λ other. other == q) (positions (marks_on cylinder defects))) (list_any (λ other. other == q) (indexes (is_among disk.defects) 0 (cylinder_slots zone disk.heads cylinder))) (to q) (from q))
+  defects_indexed zone cylinder at = marks_indexed (is_among disk.defects) cylinder defects (cylinder_slots zone disk.heads cylinder) are.ordered to from
     where
       some : 0 < zone.sectors
       some = at.ranges.some_sectors
@@ -111,28 +107,24 @@ module _ (disk : Shape) (zones : HasZones disk) (defects : List Mark) (are : Are
       of = record { found = at.found; ranges = at.ranges; from = at.from; upto = at.upto }
 
       -- any numbers will do for the search of a slot
-      to : (q : ℕ) → list_any (λ other. other == q) (positions (marks_on cylinder defects)) ≡ true → list_any (λ other. other == q) (indexes (is_among disk.defects) 0 (cylinder_slots zone disk.heads cylinder)) ≡ true
+      to : (q : ℕ) → Among defects (record { cylinder = cylinder; position = q }) → (place : Place) × (slice_get (cylinder_slots zone disk.heads cylinder) q ≡ Some place) × (is_among disk.defects place ≡ true)
       to q h =
-          let one = place_among disk zones disk.defects defects are.inside are.same (record { cylinder = cylinder; position = q }) (on_cylinder cylinder q defects h) in
+          let one = place_among disk zones disk.defects defects are.inside are.same (record { cylinder = cylinder; position = q }) h in
           let place = one.0 in
           let inside = inside_of disk zones disk.defects defects are.inside are.same place one.1 in
           let c : place.track.cylinder ≡ cylinder = ap (λ mark. mark.cylinder) one.2 in
           let slot = place_slot zone cylinder place at c inside in
           let here = slot_of disk zone cylinder at (indexes (is_among disk.defects) 0 (cylinder_slots zone disk.heads cylinder)) refl place c slot.0 slot.1 in
           let position : position_in zone disk.heads place ≡ q = sym slot.2 ∙ ap (λ mark. mark.position) one.2 in
-          has_index (is_among disk.defects) (cylinder_slots zone disk.heads cylinder) q place (ap (slice_get (cylinder_slots zone disk.heads cylinder)) (sym position) ∙ here)
-          (among-any (same_place place) disk.defects place one.1 (same_place-refl place))
+          (place, ap (slice_get (cylinder_slots zone disk.heads cylinder)) (sym position) ∙ here, among-any (same_place place) disk.defects place one.1 (same_place-refl place))
 
-      from : (q : ℕ) → list_any (λ other. other == q) (indexes (is_among disk.defects) 0 (cylinder_slots zone disk.heads cylinder)) ≡ true → list_any (λ other. other == q) (positions (marks_on cylinder defects)) ≡ true
-      from q h =
-          let one = index_of (is_among disk.defects) (cylinder_slots zone disk.heads cylinder) q h in
-          let inside : q < disk.heads * zone.sectors = omega (arith, slice_get_within (cylinder_slots zone disk.heads cylinder) q one.0 one.1, length-cylinder_slots zone disk.heads some cylinder) in
-          let is : slot_at zone disk.heads cylinder q ≡ one.0 = same_Some (slot_at zone disk.heads cylinder q) one.0 (sym (get-cylinder_slots zone disk.heads some cylinder q inside) ∙ one.1) in
-          let defect = any-among (same_place one.0) disk.defects one.2 in
-          let same : one.0 ≡ defect.0 = same_places one.0 defect.0 defect.2 in
+      from : (q : ℕ) (place : Place) → slice_get (cylinder_slots zone disk.heads cylinder) q ≡ Some place → is_among disk.defects place ≡ true → Among defects (record { cylinder = cylinder; position = q })
+      from q place at_q bad =
+          let inside : q < disk.heads * zone.sectors = omega (arith, slice_get_within (cylinder_slots zone disk.heads cylinder) q place at_q, length-cylinder_slots zone disk.heads some cylinder) in
+          let is : slot_at zone disk.heads cylinder q ≡ place = same_Some (slot_at zone disk.heads cylinder q) place (sym (get-cylinder_slots zone disk.heads some cylinder q inside) ∙ at_q) in
+          let defect = any-among (same_place place) disk.defects bad in
           let found = mark_among disk zones disk.defects defects are.inside are.same defect.0 defect.1 in
-          let mark : mark_of disk defect.0 ≡ record { cylinder = cylinder; position = q } = ap (mark_of disk) (sym (is ∙ same)) ∙ mark_of-slot_at disk zone cylinder q of in
-          of_cylinder cylinder q defects (found.0, found.1 ∙ ap Some mark)
+          (found.0, found.1 ∙ ap Some (ap (mark_of disk) (sym (is ∙ same_places place defect.0 defect.2)) ∙ mark_of-slot_at disk zone cylinder q of))
 
 -- ---- grown defects
 
@@ -180,15 +172,11 @@ module _ (disk : Shape) (zones : HasZones disk) (defects grown : List Mark) (are
 
   pub grown_indexed : (zone : Zone) (cylinder : ℕ) → IsZoneAt disk cylinder zone
       → positions (marks_on cylinder (map (among_unmarked defects) grown)) ≡ indexes (is_among disk.grown) 0 (by_head disk cylinder (good_track disk zone))
-  grown_indexed zone cylinder at = ascending_same (positions (marks_on cylinder (map (among_unmarked defects) grown))) (indexes (is_among disk.grown) 0 (by_head disk cylinder (good_track disk zone)))
-      (marks_on-ascend cylinder (map (among_unmarked defects) grown) grown_in_order) (indexes-ascend (is_among disk.grown) 0 (by_head disk cylinder (good_track disk zone)))
-      (λ q. iff_same (list_any (λ other. other == q) (positions (marks_on cylinder (map (among_unmarked defects) grown)))) (list_any (λ other. other == q) (indexes (is_among disk.grown) 0 (by_head disk cylinder (good_track disk zone)))) (to q) (from q))
+  grown_indexed zone cylinder at =
+      marks_indexed (is_among disk.grown) cylinder (map (among_unmarked defects) grown) (by_head disk cylinder (good_track disk zone)) grown_in_order to from
     where
       some : 0 < zone.sectors
       some = at.ranges.some_sectors
-
-      numbers : List ℕ
-      numbers = positions (marks_on cylinder defects)
 
       indexed : positions (marks_on cylinder defects) ≡ indexes (is_among disk.defects) 0 (cylinder_slots zone disk.heads cylinder)
       indexed = defects_indexed disk zones defects are zone cylinder at
@@ -202,9 +190,10 @@ module _ (disk : Shape) (zones : HasZones disk) (defects grown : List Mark) (are
       index_is place c e = ap (λ c. (mark_of disk place).position - rank (mark_of disk place).position (positions (marks_on c defects))) c
           ∙ ap (λ p. p - rank p (positions (marks_on cylinder defects))) e
 
-      to : (q : ℕ) → list_any (λ other. other == q) (positions (marks_on cylinder (map (among_unmarked defects) grown))) ≡ true → list_any (λ other. other == q) (indexes (is_among disk.grown) 0 (by_head disk cylinder (good_track disk zone))) ≡ true
+      to : (q : ℕ) → Among (map (among_unmarked defects) grown) (record { cylinder = cylinder; position = q })
+          → (place : Place) × (slice_get (by_head disk cylinder (good_track disk zone)) q ≡ Some place) × (is_among disk.grown place ≡ true)
       to q h =
-          let found = among-mapped (among_unmarked defects) grown (record { cylinder = cylinder; position = q }) (on_cylinder cylinder q (map (among_unmarked defects) grown) h) in
+          let found = among-mapped (among_unmarked defects) grown (record { cylinder = cylinder; position = q }) h in
           let one = place_among disk zones disk.grown grown those.inside those.same found.0 found.1 in
           let place = one.0 in
           let inside = inside_of disk zones disk.grown grown those.inside those.same place one.1 in
@@ -213,28 +202,24 @@ module _ (disk : Shape) (zones : HasZones disk) (defects grown : List Mark) (are
           let index : position_in zone disk.heads place - rank (position_in zone disk.heads place) (positions (marks_on cylinder defects)) ≡ q =
           sym (index_is place c slot.2) ∙ (ap (λ mark. (among_unmarked defects mark).position) one.2 ∙ ap (λ mark. mark.position) found.2) in
           let here = goes (is_among disk.defects) (cylinder_slots zone disk.heads cylinder) (positions (marks_on cylinder defects)) indexed (position_in zone disk.heads place) place
-          (slot_of disk zone cylinder at (positions (marks_on cylinder defects)) indexed place c slot.0 slot.1) (good_place place one.1) in
-          has_index (is_among disk.grown) (by_head disk cylinder (good_track disk zone)) q place
-          (ap (slice_get (by_head disk cylinder (good_track disk zone))) (sym index) ∙ (ap (λ xs. slice_get xs (position_in zone disk.heads place - rank (position_in zone disk.heads place) (positions (marks_on cylinder defects)))) whole-is ∙ here))
-          (among-any (same_place place) disk.grown place one.1 (same_place-refl place))
+          (slot_of disk zone cylinder at (positions (marks_on cylinder defects)) indexed place c slot.0 slot.1) (good_place place one.1) in (
+            place,
+            ap (slice_get (by_head disk cylinder (good_track disk zone))) (sym index) ∙ (ap (λ xs. slice_get xs (position_in zone disk.heads place - rank (position_in zone disk.heads place) (positions (marks_on cylinder defects)))) whole-is ∙ here),
+            among-any (same_place place) disk.grown place one.1 (same_place-refl place),
+          )
 
-      from : (q : ℕ) → list_any (λ other. other == q) (indexes (is_among disk.grown) 0 (by_head disk cylinder (good_track disk zone))) ≡ true → list_any (λ other. other == q) (positions (marks_on cylinder (map (among_unmarked defects) grown))) ≡ true
-      from q h =
-          let one = index_of (is_among disk.grown) (by_head disk cylinder (good_track disk zone)) q h in
-          let place = one.0 in
-          let in_good : slice_get (filter (λ place. not (is_among disk.defects place)) (cylinder_slots zone disk.heads cylinder)) q ≡ Some place = ap (λ xs. slice_get xs q) (sym whole-is) ∙ one.1 in
-          let spot = good_at disk zone cylinder at (positions (marks_on cylinder defects)) indexed q (slice_get_within (filter (λ place. not (is_among disk.defects place)) (cylinder_slots zone disk.heads cylinder)) q place in_good) in
-          let is : slot_at zone disk.heads cylinder (slipped q (positions (marks_on cylinder defects))) ≡ place = same_Some (slot_at zone disk.heads cylinder (slipped q (positions (marks_on cylinder defects)))) place (sym spot.1 ∙ in_good) in
-          let c : place.track.cylinder ≡ cylinder = ap (λ place. place.track.cylinder) (sym is) in
-          let gone = any-among (same_place place) disk.grown one.2 in
-          let same : place ≡ gone.0 = same_places place gone.0 gone.2 in
-          let listed : Among disk.grown place = (gone.1.0, gone.1.1 ∙ ap Some (sym same)) in
+      from : (q : ℕ) (place : Place) → slice_get (by_head disk cylinder (good_track disk zone)) q ≡ Some place → is_among disk.grown place ≡ true
+          → Among (map (among_unmarked defects) grown) (record { cylinder = cylinder; position = q })
+      from q place at_q bad =
+          let in_good : slice_get (filter (λ place. not (is_among disk.defects place)) (cylinder_slots zone disk.heads cylinder)) q ≡ Some place = ap (λ xs. slice_get xs q) (sym whole-is) ∙ at_q in
+          let on = good_lies disk zone cylinder at (positions (marks_on cylinder defects)) indexed q place in_good in
+          let gone = any-among (same_place place) disk.grown bad in
+          let listed : Among disk.grown place = (gone.1.0, gone.1.1 ∙ ap Some (sym (same_places place gone.0 gone.2))) in
           let inside = inside_of disk zones disk.grown grown those.inside those.same place listed in
-          let slot = place_slot disk zones defects are zone cylinder place at c inside in
-          let index : (among_unmarked defects (mark_of disk place)).position ≡ q = index_is place c slot.2 ∙ sym (good_index disk zone cylinder at (positions (marks_on cylinder defects)) indexed q place in_good) in
-          let mark : among_unmarked defects (mark_of disk place) ≡ record { cylinder = cylinder; position = q } = mark_by (among_unmarked defects (mark_of disk place)) cylinder q c index in
+          let slot = place_slot disk zones defects are zone cylinder place at on.cylinder_is inside in
+          let index : (among_unmarked defects (mark_of disk place)).position ≡ q = index_is place on.cylinder_is slot.2 ∙ sym (good_index disk zone cylinder at (positions (marks_on cylinder defects)) indexed q place in_good) in
           let marked_ = among-map (among_unmarked defects) grown (mark_of disk place) (mark_among disk zones disk.grown grown those.inside those.same place listed) in
-          of_cylinder cylinder q (map (among_unmarked defects) grown) (marked_.0, marked_.1 ∙ ap Some mark)
+          (marked_.0, marked_.1 ∙ ap Some (mark_by (among_unmarked defects (mark_of disk place)) cylinder q on.cylinder_is index))
 
   pub indexed : IsIndexed disk defects (map (among_unmarked defects) grown)
   indexed = record { defects_at = defects_indexed disk zones defects are; grown_at = grown_indexed }

@@ -113,7 +113,7 @@ module _ (disk : Shape) (zone : Zone) (cylinder : ℕ) (at : IsZoneAt disk cylin
       omega (arith, rank-slipped k (position_in zone disk.heads place) numbers (ascends (is_among disk.defects) (cylinder_slots zone disk.heads cylinder) numbers are) position)
 
   -- a good slot is one of the cylinder's
-  good_lies : (k : ℕ) (place : Place) → slice_get (filter (λ place. not (is_among disk.defects place)) (cylinder_slots zone disk.heads cylinder)) k ≡ Some place → LiesOn disk cylinder place
+  pub good_lies : (k : ℕ) (place : Place) → slice_get (filter (λ place. not (is_among disk.defects place)) (cylinder_slots zone disk.heads cylinder)) k ≡ Some place → LiesOn disk cylinder place
   good_lies k place found =
       let one = good_at k (slice_get_within good k place found) in
       let position = slipped k numbers in
