@@ -18,25 +18,19 @@ all_over a b numbers h = all_weaker (λ later. b < later) (λ later. a < later) 
 all_from : (a b : ℕ) (numbers : List ℕ) → a ≤ b → AllByRecursion (λ later. b < later) numbers → AllByRecursion (λ later. a ≤ later) numbers
 all_from a b numbers h = all_weaker (λ later. b < later) (λ later. a ≤ later) (λ later over. omega arith) numbers
 
-with_index-from : (b : Bool) (a index : ℕ) (numbers : List ℕ) → a ≤ index → AllByRecursion (λ later. a ≤ later) numbers → AllByRecursion (λ later. a ≤ later) (with_index b index numbers)
-with_index-from true a index numbers h all = (h, all)
-with_index-from false a index numbers h all = all
-
 -- indexes from one on are not before it, and behind all below it
 pub indexes-from : {A : Type 0} (test : A → Bool) (a index : ℕ) (xs : List A) → a ≤ index → AllByRecursion (λ later. a ≤ later) (indexes test index xs)
 indexes-from test a index [] h = tt
-indexes-from test a index (x ∷ xs) h = with_index-from (test x) a index (indexes test (index + 1) xs) h (indexes-from test a (index + 1) xs (omega arith))
+indexes-from test a index (x ∷ xs) h = let rest = indexes-from test a (index + 1) xs (omega arith) in
+    elim (cases_Bool (test x)) [ inl in_ ↦ rw in_ (h, rest) | inr out ↦ rw out rest ]
 
 pub indexes-over : {A : Type 0} (test : A → Bool) (a index : ℕ) (xs : List A) → a < index → AllByRecursion (λ later. a < later) (indexes test index xs)
 indexes-over test a index xs h = all_weaker (λ later. a + 1 ≤ later) (λ later. a < later) (λ later from. omega arith) (indexes test index xs) (indexes-from test (a + 1) index xs (omega arith))
 
-with_index-ascends : (b : Bool) (index : ℕ) (numbers : List ℕ) → AllByRecursion (λ later. index < later) numbers → IsAscending numbers → IsAscending (with_index b index numbers)
-with_index-ascends true index numbers all up = (all, up)
-with_index-ascends false index numbers all up = up
-
 pub indexes-ascend : {A : Type 0} (test : A → Bool) (index : ℕ) (xs : List A) → IsAscending (indexes test index xs)
 indexes-ascend test index [] = tt
-indexes-ascend test index (x ∷ xs) = with_index-ascends (test x) index (indexes test (index + 1) xs) (indexes-over test index (index + 1) xs (omega arith)) (indexes-ascend test (index + 1) xs)
+indexes-ascend test index (x ∷ xs) = let rest = indexes-ascend test (index + 1) xs in
+    elim (cases_Bool (test x)) [ inl in_ ↦ rw in_ (indexes-over test index (index + 1) xs (omega arith), rest) | inr out ↦ rw out rest ]
 
 -- ---- slipping
 
@@ -233,39 +227,38 @@ kept_to test a (y ∷ xs) (suc i) k x at stays e = elim (cases_Bool (test y)) [
     on zero e rest = absurd (omega (arith, rank-le test (a + 1) i xs))
     on (suc k) e rest = rest k (omega arith)
 
-marked_step : (b : Bool) (a q : ℕ) (numbers : List ℕ) → a < q → list_any (λ other. other == q) (with_index b a numbers) ≡ list_any (λ other. other == q) numbers
-marked_step true a q numbers h = let off : (a == q) ≡ false = grind (arith, nat_tests) in rw off refl
-marked_step false a q numbers h = refl
-
-marked_here : (b : Bool) (a : ℕ) (numbers : List ℕ) → AllByRecursion (λ later. a < later) numbers → list_any (λ other. other == a) (with_index b a numbers) ≡ b
-marked_here true a numbers all = let here : (a == a) ≡ true = grind (arith, nat_tests) in rw here refl
-marked_here false a numbers all = not_among_later a numbers all
-
 -- an index is among them just where its element passes
 pub marked : {A : Type 0} (test : A → Bool) (a : ℕ) (xs : List A) (i : ℕ) (x : A) → slice_get xs i ≡ Some x → list_any (λ other. other == a + i) (indexes test a xs) ≡ test x
 marked test a [] i x at = absurd (none-some x at)
-marked test a (y ∷ xs) zero x at = ap (λ n. list_any (λ other. other == n) (indexes test a (y ∷ xs))) (add_zero a)
-    ∙ marked_here (test y) a (indexes test (a + 1) xs) (indexes-over test a (a + 1) xs (omega arith)) ∙ ap test (same_Some y x at)
-marked test a (y ∷ xs) (suc i) x at = marked_step (test y) a (a + suc i) (indexes test (a + 1) xs) (omega arith)
-    ∙ ap (λ n. list_any (λ other. other == n) (indexes test (a + 1) xs)) (omega arith) ∙ marked test (a + 1) xs i x at
+marked test a (y ∷ xs) zero x at = ap (λ n. list_any (λ other. other == n) (indexes test a (y ∷ xs))) (add_zero a) ∙ elim (cases_Bool (test y)) [
+  | inl in_ ↦ rw (in_, eq-eqb a a refl) (sym in_ ∙ ap test (same_Some y x at))
+  | inr out ↦ rw out (not_among_later a (indexes test (a + 1) xs) (indexes-over test a (a + 1) xs (omega arith)) ∙ (sym out ∙ ap test (same_Some y x at)))
+]
+marked test a (y ∷ xs) (suc i) x at =
+    let next : a + suc i ≡ a + 1 + i = omega arith in
+    let rest = ap (λ n. list_any (λ other. other == n) (indexes test (a + 1) xs)) next ∙ marked test (a + 1) xs i x at in
+    elim (cases_Bool (test y)) [ inl in_ ↦ rw (in_, ne_eqb a (a + suc i) (λ e. omega arith)) rest | inr out ↦ rw out rest ]
 
 -- the elements that are kept and those that are dropped are all together
-length_step : {A : Type 0} (b : Bool) (x : A) (a : ℕ) (kept : List A) (numbers : List ℕ) (n : ℕ) → length kept + length numbers ≡ n
-    → length (cond (not b) (x ∷ kept) kept) + length (with_index b a numbers) ≡ suc n
-length_step true x a kept numbers n h = omega arith
-length_step false x a kept numbers n h = omega arith
-
 pub length-kept : {A : Type 0} (test : A → Bool) (a : ℕ) (xs : List A) → length (filter (λ x. not (test x)) xs) + length (indexes test a xs) ≡ length xs
 length-kept test a [] = refl
-length-kept test a (x ∷ xs) = length_step (test x) x a (filter (λ y. not (test y)) xs) (indexes test (a + 1) xs) (length xs) (length-kept test (a + 1) xs)
+length-kept test a (x ∷ xs) = elim (cases_Bool (test x)) [
+  | inl out ↦ rw out (omega (arith, length-kept test (a + 1) xs))
+  | inr stays ↦ rw stays (omega (arith, length-kept test (a + 1) xs))
+]
 
 -- and so before each place
-front_step : {A : Type 0} (b : Bool) (x : A) (kept : List A) (r n m : ℕ) → length kept + r ≡ n → m ≡ cond b 1 0 + r → length (cond (not b) (x ∷ kept) kept) + m ≡ suc n
-front_step true x kept r n m h e = omega arith
-front_step false x kept r n m h e = omega arith
-
 pub length-kept_front : {A : Type 0} (test : A → Bool) (a p : ℕ) (xs : List A) → p ≤ length xs → length (filter (λ x. not (test x)) (take p xs)) + rank (a + p) (indexes test a xs) ≡ p
 length-kept_front test a zero xs h = omega (arith, rank_none (a + 0) (indexes test a xs) (indexes-from test (a + 0) a xs (omega arith)))
 length-kept_front test a (suc p) [] h = absurd (omega arith)
-length-kept_front test a (suc p) (x ∷ xs) h = front_step (test x) x (filter (λ y. not (test y)) (take p xs)) (rank (a + 1 + p) (indexes test (a + 1) xs)) p
-    (rank (a + suc p) (indexes test a (x ∷ xs))) (length-kept_front test (a + 1) p xs (omega arith)) (rank_next test a p x xs)
+length-kept_front test a (suc p) (x ∷ xs) h = omega (
+  arith,
+  count_cons (λ y. not (test y)) x (take p xs),
+  rank_next test a p x xs,
+  length-kept_front test (a + 1) p xs (omega arith),
+  one (test x),
+)
+  where
+    one : (b : Bool) → cond {A = ℕ} (not b) 1 0 + cond b 1 0 ≡ 1
+    one true = refl
+    one false = refl
