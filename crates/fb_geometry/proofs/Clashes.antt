@@ -1,30 +1,20 @@
 -- Places that are given twice, and the marks of places that are given once.
-use Rattle.std.proofs.Common.{◌≡◌, ℕ, zero, suc, ◌+◌, ◌<◌, ◌≤◌, List, [], ◌∷◌, ◌++◌, length, refl, ap, sym, ◌∙◌, arith, Bool, true, false, cond, Some, ◌⊎◌, inl, inr, map, subst, drop, get_or}
-use Rattle.std.specs.Prelude.{filter, nat_lt, slice_get}
-use Rattle.std.specs.List.{list_any, AllByRecursion}
-use Rattle.std.specs.List.Sorted.{IsPermutation, IsSortedBy}
-use Rattle.std.specs.Cmp.{IsStrictWeakOrder}
-use Rattle.std.proofs.lemmas.Bool.{cases_Bool, cases_lt, true≢false, lt-ltb, ltb-true}
-use Rattle.std.proofs.lemmas.Bool.Decides.{nat_tests}
-use Rattle.std.proofs.lemmas.Option.{same_Some, none-some, slice_get-get_or, slice_get_within, get_or_from_slice_get}
-use Rattle.std.proofs.lemmas.List.{length-append}
-use Rattle.std.proofs.lemmas.List.Sums.{length-filter}
-use Rattle.std.proofs.lemmas.List.Sorted.{IsPermutation-sym, sum_by-IsPermutation, Contains-permutation, sorted_far}
-use Rattle.std.proofs.lemmas.List.Elements.{recursion_from_All, All-from_get_or, filter-append}
-use Rattle.fb_units.specs.declared.types.Place.{Place}
-use Rattle.fb_geometry.specs.declared.marks.Mark.{Mark}
-use Rattle.fb_geometry.specs.Shape.{Shape, same_place, is_among}
-use Rattle.fb_geometry.specs.Faults.{is_outside, is_place_before, least, repeated, with_repeated}
-use Rattle.fb_geometry.specs.Slips.{Pairwise}
-use Rattle.fb_geometry.specs.Marks.{mark_of, is_mark_before, same_mark, AreInOrder, AreSorted}
-use Rattle.fb_geometry.specs.Index.{HasZones}
-use Rattle.fb_geometry.proofs.Grid.{count_cons}
-use Rattle.fb_geometry.proofs.Counting.{same_places}
-use Rattle.fb_geometry.proofs.Order.{length-filter-map, all_at}
-use Rattle.fb_geometry.proofs.Faultless.{all_get}
-use Rattle.fb_geometry.proofs.Laws.{all-filter}
-use Rattle.fb_geometry.proofs.Marking.{mark_of-same, same_marks, same_mark-refl}
-use Rattle.fb_geometry.proofs.Leasts.{place_order, Among, among-tail, among-left, among-right, among-append, among-filter, among-filtered, among-mapped, among-map, among-any, any-among, least-head}
+use Rattle.fb_geometry.proofs.Words.{All-from_get_or, AllByRecursion, AreInOrder, AreSorted, Bool}
+use Rattle.fb_geometry.proofs.Words.{Contains-permutation, HasZones, IsPermutation, IsPermutation-sym, IsSortedBy}
+use Rattle.fb_geometry.proofs.Words.{IsStrictWeakOrder, List, Mark, Pairwise, Place, Shape, Some, [], ap, arith}
+use Rattle.fb_geometry.proofs.Words.{cases_Bool, cases_lt, cond, drop, false, filter, filter-append, get_or}
+use Rattle.fb_geometry.proofs.Words.{get_or_from_slice_get, inl, inr, is_among, is_mark_before, is_outside}
+use Rattle.fb_geometry.proofs.Words.{is_place_before, least, length, length-append, length-filter, list_any, lt-ltb}
+use Rattle.fb_geometry.proofs.Words.{ltb-true, map, mark_of, nat_lt, nat_tests, none-some, recursion_from_All, refl}
+use Rattle.fb_geometry.proofs.Words.{repeated, same_Some, same_mark, same_place, slice_get, slice_get-get_or}
+use Rattle.fb_geometry.proofs.Words.{slice_get_within, sorted_far, subst, suc, sum_by-IsPermutation, sym, true}
+use Rattle.fb_geometry.proofs.Words.{true≢false, with_repeated, zero, ℕ, ◌++◌, ◌+◌, ◌<◌, ◌∙◌, ◌∷◌, ◌≡◌, ◌≤◌, ◌⊎◌}
+use Rattle.fb_geometry.proofs.{Grid.count_cons, Counting.same_places, Order.length-filter-map, Order.all_at}
+use Rattle.fb_geometry.proofs.{Faultless.all_get, Laws.all-filter, Marking.mark_of-same, Marking.same_marks}
+use Rattle.fb_geometry.proofs.{Marking.same_mark-refl, Leasts.place_order, Leasts.Among, Leasts.among-tail}
+use Rattle.fb_geometry.proofs.{Leasts.among-left, Leasts.among-right, Leasts.among-append, Leasts.among-filter}
+use Rattle.fb_geometry.proofs.{Leasts.among-filtered, Leasts.among-mapped, Leasts.among-map, Leasts.among-any}
+use Rattle.fb_geometry.proofs.{Leasts.any-among, Leasts.least-head}
 
 -- ---- pairs
 

@@ -1,21 +1,13 @@
 -- How many slots are good.
-use Rattle.std.proofs.Common.{◌≡◌, ℕ, zero, suc, ◌+◌, ◌-◌, ◌*◌, ◌%◌, ◌<◌, ◌≤◌, List, [], ◌∷◌, length, refl, ap, sym, ◌∙◌, arith, Bool, true, false, not, cond, inl, inr, map}
-use Rattle.std.specs.Prelude.{filter, ◌==◌, ◌||◌}
-use Rattle.std.specs.List.{list_any, range_with_len}
-use Rattle.std.proofs.lemmas.Bool.{cases_Bool, true≢false, and_parts, eqb-true, eq-eqb}
-use Rattle.std.proofs.lemmas.List.{length-map}
-use Rattle.std.proofs.lemmas.List.Filters.{length-filter_both}
-use Rattle.std.proofs.lemmas.List.FromFn.{length-map-range_with_len}
-use Rattle.fb_units.specs.declared.types.Place.{Place}
-use Rattle.fb_units.specs.declared.types.Track.{Track}
-use Rattle.fb_units.specs.Tracks.{same_track}
-use Rattle.fb_geometry.specs.declared.zone.Zone.{Zone}
-use Rattle.fb_geometry.specs.Shape.{Shape, offset_in, same_place, is_among}
-use Rattle.fb_geometry.specs.Places.{turn, good_track}
-use Rattle.fb_geometry.specs.Turns.{position_in, slot_at, cylinder_slots}
-use Rattle.fb_geometry.proofs.Turns.{turn-is, round-back, offset_below, position_in-slot_at, length-cylinder_slots}
-use Rattle.fb_geometry.proofs.Order.{length-filter-map}
-use Rattle.fb_geometry.proofs.Grid.{add_zero, add_one, count_cons}
+use Rattle.fb_geometry.proofs.Words.{Bool, List, Place, Shape, Track, Zone, [], and_parts, ap, arith, cases_Bool}
+use Rattle.fb_geometry.proofs.Words.{cond, cylinder_slots, eq-eqb, eqb-true, false, filter, good_track, inl, inr}
+use Rattle.fb_geometry.proofs.Words.{is_among, length, length-filter_both, length-map, length-map-range_with_len}
+use Rattle.fb_geometry.proofs.Words.{list_any, map, not, offset_in, position_in, range_with_len, refl, same_place}
+use Rattle.fb_geometry.proofs.Words.{same_track, slot_at, suc, sym, true, true≢false, turn, zero, ℕ, ◌%◌, ◌*◌, ◌+◌}
+use Rattle.fb_geometry.proofs.Words.{◌-◌, ◌<◌, ◌==◌, ◌||◌, ◌∙◌, ◌∷◌, ◌≡◌, ◌≤◌}
+use Rattle.fb_geometry.proofs.{Turns.turn-is, Turns.round-back, Turns.offset_below, Turns.position_in-slot_at}
+use Rattle.fb_geometry.proofs.{Turns.length-cylinder_slots, Order.length-filter-map, Grid.add_zero, Grid.add_one}
+use Rattle.fb_geometry.proofs.{Grid.count_cons}
 
 -- the elements that pass a test and those that don't are all together
 pub kept_and_dropped : {A : Type 0} (bad : A → Bool) (xs : List A) → length (filter bad xs) + length (filter (λ x. not (bad x)) xs) ≡ length xs

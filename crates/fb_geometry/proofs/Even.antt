@@ -1,20 +1,12 @@
 -- The sectors of a cylinder of which no slot is bad.
-use Rattle.std.proofs.Common.{◌≡◌, ℕ, ◌+◌, ◌-◌, ◌*◌, ◌/◌, ◌%◌, ◌<◌, ◌≤◌, [], length, refl, ap, sym, ◌∙◌, arith, Bool, Some}
-use Rattle.std.specs.Prelude.{slice_get}
-use Rattle.std.proofs.Math.Nat.{mod-lt, mod-add-mod}
-use Rattle.std.proofs.lemmas.Nat.{div_below, div-add-mod'}
-use Rattle.fb_units.specs.declared.types.Track.{Track}
-use Rattle.fb_geometry.specs.declared.layout.Layout.{Layout}
-use Rattle.fb_geometry.specs.declared.layout.Layout.TheVariants.{PerTrack, PerCylinder}
-use Rattle.fb_geometry.specs.declared.zone.Zone.{Zone}
-use Rattle.fb_geometry.specs.declared.cylinder.Cylinder.{Cylinder}
-use Rattle.fb_geometry.specs.Shape.{Shape, offset_in}
-use Rattle.fb_geometry.specs.Places.{per_track, per_cylinder, data_list, data_list_by, data_list_at}
-use Rattle.fb_geometry.specs.Turns.{IsZoneAt, slot_at}
-use Rattle.fb_geometry.specs.Even.{even_place, IsEven, HasNoBad, sectors_by}
-use Rattle.fb_geometry.proofs.Turns.{slot_on}
-use Rattle.fb_geometry.proofs.Laws.{has_spares, length-per_cylinder}
-use Rattle.fb_geometry.proofs.Lookups.{place_by_track, split_by_track, place_staying, some_by_track, spares_by}
+use Rattle.fb_geometry.proofs.Words.{Bool, Cylinder, HasNoBad, IsEven, IsZoneAt, Layout, PerCylinder, PerTrack, Shape}
+use Rattle.fb_geometry.proofs.Words.{Some, Track, Zone, [], ap, arith, data_list, data_list_at, data_list_by}
+use Rattle.fb_geometry.proofs.Words.{div-add-mod', div_below, even_place, length, mod-add-mod, mod-lt, offset_in}
+use Rattle.fb_geometry.proofs.Words.{per_cylinder, per_track, refl, sectors_by, slice_get, slot_at, sym, ℕ, ◌%◌, ◌*◌}
+use Rattle.fb_geometry.proofs.Words.{◌+◌, ◌-◌, ◌/◌, ◌<◌, ◌∙◌, ◌≡◌, ◌≤◌}
+use Rattle.fb_geometry.proofs.{Turns.slot_on, Laws.has_spares, Laws.length-per_cylinder, Lookups.place_by_track}
+use Rattle.fb_geometry.proofs.{Lookups.split_by_track, Lookups.place_staying, Lookups.some_by_track}
+use Rattle.fb_geometry.proofs.{Lookups.spares_by}
 
 -- from the first track's offset on to that of another
 turned : (a s h i n : ℕ) → ((a + 0 * s) % n + h * s + i) % n ≡ ((a + h * s) % n + i) % n

@@ -1,24 +1,16 @@
 -- What holds of an outline without a fault.
-use Rattle.std.proofs.Common.{◌≡◌, ℕ, zero, suc, ◌+◌, ◌^◌, ◌<◌, ◌≤◌, List, [], ◌∷◌, length, refl, ap, sym, ◌∙◌, arith, Bool, true, false, cond, Option, Some, None, inl, inr, subst, get_or}
-use Rattle.std.specs.Prelude.{filter, find, position, nat_lt, nat_le, ◌==◌, ◌||◌, slice_get}
-use Rattle.std.specs.List.{list_any, AllByRecursion, position_or_len}
-use Rattle.std.specs.List.Sorted.{IsPartitionPoint, IsNonDecreasingBy}
-use Rattle.std.proofs.lemmas.Bool.{cases_Bool, cases_lt, or_parts, lt-ltb, eqb-true, le-leb, lt-leb, leb-true, ltb-true, ltb-false}
-use Rattle.std.proofs.lemmas.Bool.Decides.{nat_tests}
-use Rattle.std.proofs.lemmas.Option.{same_Some, none-some, slice_get-get_or}
-use Rattle.fb_units.specs.declared.types.Track.{Track}
-use Rattle.fb_geometry.specs.declared.zone.Zone.{Zone}
-use Rattle.fb_geometry.specs.declared.fault.GeometryFault.{GeometryFault}
-use Rattle.fb_geometry.specs.Shape.{Shape, slots_at, cylinders_of, offset_at, offset_in}
-use Rattle.fb_geometry.specs.Faults.{or_else, fault_at, is_bad_zone, has_no_data, first_apart, is_too_skewed, least, lesser, spares_at, cylinder_spares_at}
-use Rattle.fb_geometry.specs.Places.{list_among, data_list}
-use Rattle.fb_geometry.specs.Sound.{IsCylinderOf}
-use Rattle.fb_geometry.specs.Index.{IsFaultless, HasZones}
-use Rattle.fb_geometry.specs.Turns.{IsZone, IsZoneOf, IsZoneAt, zone_at}
-use Rattle.std.proofs.lemmas.List.Elements.{recursion_from_All}
-use Rattle.std.proofs.lemmas.List.Sums.{fails_before_first}
-use Rattle.std.proofs.lemmas.List.Folds.{find_at}
-use Rattle.fb_geometry.proofs.Grid.{within}
+use Rattle.fb_geometry.proofs.Words.{AllByRecursion, Bool, GeometryFault, HasZones, IsCylinderOf, IsFaultless}
+use Rattle.fb_geometry.proofs.Words.{IsNonDecreasingBy, IsPartitionPoint, IsZone, IsZoneAt, IsZoneOf, List, None}
+use Rattle.fb_geometry.proofs.Words.{Option, Shape, Some, Track, Zone, [], ap, arith, cases_Bool, cases_lt, cond}
+use Rattle.fb_geometry.proofs.Words.{cylinder_spares_at, cylinders_of, data_list, eqb-true, fails_before_first, false}
+use Rattle.fb_geometry.proofs.Words.{fault_at, filter, find, find_at, first_apart, get_or, has_no_data, inl, inr}
+use Rattle.fb_geometry.proofs.Words.{is_bad_zone, is_too_skewed, le-leb, least, leb-true, length, lesser, list_among}
+use Rattle.fb_geometry.proofs.Words.{list_any, lt-leb, lt-ltb, ltb-false, ltb-true, nat_le, nat_lt, nat_tests}
+use Rattle.fb_geometry.proofs.Words.{none-some, offset_at, offset_in, or_else, or_parts, position, position_or_len}
+use Rattle.fb_geometry.proofs.Words.{recursion_from_All, refl, same_Some, slice_get, slice_get-get_or, slots_at}
+use Rattle.fb_geometry.proofs.Words.{spares_at, subst, suc, sym, true, zero, zone_at, ℕ, ◌+◌, ◌<◌, ◌==◌, ◌^◌, ◌||◌}
+use Rattle.fb_geometry.proofs.Words.{◌∙◌, ◌∷◌, ◌≡◌, ◌≤◌}
+use Rattle.fb_geometry.proofs.{Grid.within}
 pub use Rattle.fb_geometry.proofs.Grid.{all_get}
 
 -- ---- chains

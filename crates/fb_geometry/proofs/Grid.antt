@@ -1,10 +1,7 @@
 -- Reading a list that is made of parts of one length.
-use Rattle.std.proofs.Common.{◌≡◌, ℕ, zero, suc, ◌+◌, ◌*◌, ◌<◌, List, [], ◌∷◌, ◌++◌, length, refl, ap, ◌∙◌, arith, Some, None, Bool, cond, inl, inr, subst}
-use Rattle.std.specs.Prelude.{slice_get, filter}
-use Rattle.std.proofs.lemmas.Option.{same_Some, none-some}
-use Rattle.std.specs.List.{AllByRecursion, flat_map, range_with_len}
-use Rattle.std.proofs.lemmas.List.{length-append}
-use Rattle.std.proofs.lemmas.Bool.{cases_Bool}
+use Rattle.fb_geometry.proofs.Words.{AllByRecursion, Bool, List, Some, [], ap, arith, cases_Bool, cond, filter}
+use Rattle.fb_geometry.proofs.Words.{flat_map, inl, inr, length, length-append, none-some, range_with_len, refl}
+use Rattle.fb_geometry.proofs.Words.{same_Some, slice_get, subst, suc, zero, ℕ, ◌*◌, ◌++◌, ◌+◌, ◌<◌, ◌∙◌, ◌∷◌, ◌≡◌}
 
 pub zero_add : (a : ℕ) → 0 + a ≡ a
 zero_add a = omega arith

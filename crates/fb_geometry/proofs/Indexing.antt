@@ -1,29 +1,23 @@
 -- The marks of an accepted outline are its index of bad slots.
-use Rattle.std.proofs.Common.{◌≡◌, ℕ, suc, ◌+◌, ◌-◌, ◌*◌, ◌<◌, ◌≤◌, List, [], ◌∷◌, length, refl, ap, sym, ◌∙◌, arith, Bool, true, false, not, Some, inl, inr, map, subst}
-use Rattle.std.specs.Prelude.{filter, nat_lt, ◌==◌, ◌&&◌, ◌||◌, slice_get}
-use Rattle.std.specs.List.{list_any, AllByRecursion}
-use Rattle.std.proofs.lemmas.Bool.{cases_lt, cases_order, cases_eq, true≢false, eq-eqb, ne_eqb, eqb-true, ltb-true, lt-ltb, or_cases, or_left, or_right, and_parts, and_from}
-use Rattle.std.proofs.lemmas.Option.{same_Some, slice_get_within}
-use Rattle.fb_units.specs.declared.types.Place.{Place}
-use Rattle.fb_geometry.specs.declared.zone.Zone.{Zone}
-use Rattle.fb_geometry.specs.declared.marks.Mark.{Mark}
-use Rattle.fb_geometry.specs.Shape.{Shape, same_place, is_among}
-use Rattle.fb_geometry.specs.Places.{by_head, good_track}
-use Rattle.fb_geometry.specs.Faults.{is_outside}
-use Rattle.fb_geometry.specs.Turns.{IsZoneOf, IsZoneAt, zone_at, position_in, slot_at, cylinder_slots}
-use Rattle.fb_geometry.specs.Slips.{IsAscending, rank, slipped, indexes, with_index}
-use Rattle.fb_geometry.specs.Marks.{mark_of, is_mark_before, same_mark, positions, marks_on, among_unmarked, AreMarksOf, AreInOrder}
-use Rattle.fb_geometry.specs.Index.{HasZones, IsIndexed}
-use Rattle.fb_geometry.proofs.Slips.{all_over, not_among_later, indexes-ascend, marked, rank-step, rank-below, rank_unmarked}
-use Rattle.fb_geometry.proofs.Order.{marks_on-ascend}
-use Rattle.fb_geometry.proofs.Turns.{get-cylinder_slots, length-cylinder_slots, good_cylinder-is}
-use Rattle.fb_geometry.proofs.Counting.{same_places}
-use Rattle.fb_geometry.proofs.Marking.{position_is, mark_of-slot_at, on_disk, among-on, same_marks, same_mark-refl}
-use Rattle.fb_geometry.proofs.Leasts.{Among, among-map, among-mapped, among-any, any-among}
-use Rattle.fb_geometry.proofs.Clashes.{same_place-refl, mark_among, place_among, inside_of, among_others}
-use Rattle.fb_geometry.proofs.Lookups.{goes, slot_of, good_index, good_lies}
-use Rattle.fb_geometry.proofs.Faultless.{slots_at-zone, all_get, filter-none}
-use Rattle.fb_geometry.proofs.Grid.{zero_add, within}
+use Rattle.fb_geometry.proofs.Words.{AllByRecursion, AreInOrder, AreMarksOf, Bool, HasZones, IsAscending, IsIndexed}
+use Rattle.fb_geometry.proofs.Words.{IsZoneAt, IsZoneOf, List, Mark, Place, Shape, Some, Zone, [], among_unmarked}
+use Rattle.fb_geometry.proofs.Words.{and_from, and_parts, ap, arith, by_head, cases_eq, cases_lt, cases_order}
+use Rattle.fb_geometry.proofs.Words.{cylinder_slots, eq-eqb, eqb-true, false, filter, good_track, indexes, inl, inr}
+use Rattle.fb_geometry.proofs.Words.{is_among, is_mark_before, is_outside, length, list_any, lt-ltb, ltb-true, map}
+use Rattle.fb_geometry.proofs.Words.{mark_of, marks_on, nat_lt, ne_eqb, not, or_cases, or_left, or_right, position_in}
+use Rattle.fb_geometry.proofs.Words.{positions, rank, refl, same_Some, same_mark, same_place, slice_get}
+use Rattle.fb_geometry.proofs.Words.{slice_get_within, slot_at, subst, suc, sym, true, true≢false, with_index}
+use Rattle.fb_geometry.proofs.Words.{zone_at, ℕ, ◌&&◌, ◌*◌, ◌+◌, ◌-◌, ◌<◌, ◌==◌, ◌||◌, ◌∙◌, ◌∷◌, ◌≡◌, ◌≤◌}
+use Rattle.fb_geometry.proofs.{Slips.all_over, Slips.not_among_later, Slips.indexes-ascend, Slips.marked}
+use Rattle.fb_geometry.proofs.{Slips.rank-step, Slips.rank-below, Slips.rank_unmarked, Order.marks_on-ascend}
+use Rattle.fb_geometry.proofs.{Turns.get-cylinder_slots, Turns.length-cylinder_slots, Turns.good_cylinder-is}
+use Rattle.fb_geometry.proofs.{Counting.same_places, Marking.position_is, Marking.mark_of-slot_at, Marking.on_disk}
+use Rattle.fb_geometry.proofs.{Marking.among-on, Marking.same_marks, Marking.same_mark-refl, Leasts.Among}
+use Rattle.fb_geometry.proofs.{Leasts.among-map, Leasts.among-mapped, Leasts.among-any, Leasts.any-among}
+use Rattle.fb_geometry.proofs.{Clashes.same_place-refl, Clashes.mark_among, Clashes.place_among, Clashes.inside_of}
+use Rattle.fb_geometry.proofs.{Clashes.among_others, Lookups.goes, Lookups.slot_of, Lookups.good_index}
+use Rattle.fb_geometry.proofs.{Lookups.good_lies, Faultless.slots_at-zone, Faultless.all_get, Faultless.filter-none}
+use Rattle.fb_geometry.proofs.{Grid.zero_add, Grid.within}
 
 -- ---- ascending numbers that have the same members
 

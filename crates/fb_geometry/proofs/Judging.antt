@@ -1,24 +1,17 @@
 -- What the parts of a judgement say of the whole.
-use Rattle.std.proofs.Common.{◌≡◌, List, [], ◌∷◌, ◌++◌, length, refl, ap, sym, ◌∙◌, arith, Bool, true, false, Option, Some, None, subst}
-use Rattle.std.specs.Prelude.{filter, find, position, nat_lt, slice_get, option_map, if◌then◌else◌, All}
-use Rattle.std.proofs.lemmas.List.Elements.{All-from_recursion, All-append}
-use Rattle.std.proofs.lemmas.List.Sorted.{All-permutation}
-use Rattle.std.proofs.lemmas.Option.{none-some}
-use Rattle.std.proofs.lemmas.List.{append-nil}
-use Rattle.fb_units.specs.declared.types.Place.{Place}
-use Rattle.fb_geometry.specs.declared.layout.Layout.{Layout}
-use Rattle.fb_geometry.specs.declared.layout.Layout.TheVariants.{PerTrack, PerCylinder}
-use Rattle.fb_geometry.specs.declared.fault.GeometryFault.{GeometryFault}
-use Rattle.fb_geometry.specs.declared.fault.GeometryFault.TheVariants.{OutOfRange, ZonesNotContiguous, SkewTooLarge, DefectOutside, DefectTwice, GrownOutside, GrownTwice, TooManyInCylinder, TooManyDefects}
-use Rattle.fb_geometry.specs.Shape.{Shape, is_among}
-use Rattle.fb_geometry.specs.Faults.{first_fault, range_fault, spare_fault, or_else, fault_at, is_out_of_range, first_apart, is_too_skewed, is_outside, least, is_place_before, repeated, is_full_cylinder, is_full_track, is_track_before}
-use Rattle.fb_geometry.specs.Marks.{AreSorted}
-use Rattle.fb_geometry.specs.Index.{HasZones, IsFaultless, zone_fault, defect_fault, grown_fault}
-use Rattle.fb_geometry.proofs.Faultless.{or_else-none, fault_at-none, least-none, find-none}
-use Rattle.fb_geometry.proofs.Leasts.{track_order, number_order}
-use Rattle.fb_geometry.proofs.Spares.{least_full}
-use Rattle.std.proofs.lemmas.Bool.Decides.{nat_tests}
-use Rattle.fb_geometry.proofs.Clashes.{least_repeated, least_clash}
+use Rattle.fb_geometry.proofs.Words.{All, All-append, All-from_recursion, All-permutation, AreSorted, Bool}
+use Rattle.fb_geometry.proofs.Words.{DefectOutside, DefectTwice, GeometryFault, GrownOutside, GrownTwice, HasZones}
+use Rattle.fb_geometry.proofs.Words.{IsFaultless, Layout, List, None, Option, OutOfRange, PerCylinder, PerTrack}
+use Rattle.fb_geometry.proofs.Words.{Place, Shape, SkewTooLarge, Some, TooManyDefects, TooManyInCylinder}
+use Rattle.fb_geometry.proofs.Words.{ZonesNotContiguous, [], ap, append-nil, arith, defect_fault, false, fault_at}
+use Rattle.fb_geometry.proofs.Words.{filter, find, first_apart, first_fault, grown_fault, if◌then◌else◌, is_among}
+use Rattle.fb_geometry.proofs.Words.{is_full_cylinder, is_full_track, is_out_of_range, is_outside, is_place_before}
+use Rattle.fb_geometry.proofs.Words.{is_too_skewed, is_track_before, least, length, nat_lt, nat_tests, none-some}
+use Rattle.fb_geometry.proofs.Words.{option_map, or_else, position, range_fault, refl, repeated, slice_get}
+use Rattle.fb_geometry.proofs.Words.{spare_fault, subst, sym, true, zone_fault, ◌++◌, ◌∙◌, ◌∷◌, ◌≡◌}
+use Rattle.fb_geometry.proofs.{Faultless.or_else-none, Faultless.fault_at-none, Faultless.least-none}
+use Rattle.fb_geometry.proofs.{Faultless.find-none, Leasts.track_order, Leasts.number_order, Spares.least_full}
+use Rattle.fb_geometry.proofs.{Clashes.least_repeated, Clashes.least_clash}
 
 -- ---- what holds where there is no fault
 

@@ -1,29 +1,19 @@
 -- An outline without a fault is sound.
-use Rattle.std.proofs.Common.{◌≡◌, ℕ, zero, suc, ◌+◌, ◌-◌, ◌*◌, ◌<◌, ◌≤◌, List, [], ◌∷◌, ◌++◌, length, refl, ap, sym, ◌∙◌, arith, Bool, true, false, not, cond, None, ◌⊎◌, inl, inr, map, subst, take, drop}
-use Rattle.std.specs.Prelude.{filter, find, nat_lt, ◌==◌}
-use Rattle.std.specs.List.{AllByRecursion, flat_map, range_with_len}
-use Rattle.std.proofs.lemmas.Nat.{mul-le}
-use Rattle.std.proofs.lemmas.Bool.{cases_Bool, eqb-true}
-use Rattle.std.proofs.lemmas.Bool.Decides.{nat_tests}
-use Rattle.std.proofs.lemmas.List.{length-take-le, length-append}
-use Rattle.std.proofs.lemmas.List.Elements.{filter-append, recursion_from_All, All-from_recursion, All-append, All-filter}
-use Rattle.std.proofs.lemmas.List.FromFn.{length-range_with_len}
-use Rattle.fb_units.specs.declared.types.Place.{Place}
-use Rattle.fb_units.specs.declared.types.Track.{Track}
-use Rattle.fb_units.specs.Tracks.{same_track}
-use Rattle.fb_geometry.specs.declared.layout.Layout.{Layout}
-use Rattle.fb_geometry.specs.declared.layout.Layout.TheVariants.{PerTrack, PerCylinder}
-use Rattle.fb_geometry.specs.declared.zone.Zone.{Zone}
-use Rattle.fb_geometry.specs.declared.fault.GeometryFault.TheVariants.{TooManyDefects, GrownOutside, GrownTwice, TooManyInCylinder}
-use Rattle.fb_geometry.specs.Shape.{Shape, is_among}
-use Rattle.fb_geometry.specs.Places.{data_list_by, per_track, per_cylinder, good_track, by_head, replaced, stand_in}
-use Rattle.fb_geometry.specs.Faults.{spare_fault, or_else, fault_at, has_no_data, is_outside, least, is_place_before, is_track_before, repeated, is_full_track, is_full_cylinder, spares_at, cylinder_spares_at}
-use Rattle.fb_geometry.specs.Sound.{cylinder_size_by}
-use Rattle.fb_geometry.specs.Turns.{IsZoneAt}
-use Rattle.fb_geometry.proofs.Grid.{length-parts, add_zero, add_one}
-use Rattle.fb_geometry.proofs.Turns.{good_cylinder-is}
-use Rattle.fb_geometry.proofs.Counting.{same_tracks, length-good_track, length-good_cylinder}
-use Rattle.fb_geometry.proofs.Faultless.{fault_at-none, or_else-none, least-none, filter-none, spares_at-zone, cylinder_spares_at-zone}
+use Rattle.fb_geometry.proofs.Words.{All-append, All-filter, All-from_recursion, AllByRecursion, Bool, GrownOutside}
+use Rattle.fb_geometry.proofs.Words.{GrownTwice, IsZoneAt, Layout, List, None, PerCylinder, PerTrack, Place, Shape}
+use Rattle.fb_geometry.proofs.Words.{TooManyDefects, TooManyInCylinder, Track, Zone, [], ap, arith, by_head}
+use Rattle.fb_geometry.proofs.Words.{cases_Bool, cylinder_size_by, cylinder_spares_at, data_list_by, drop, eqb-true}
+use Rattle.fb_geometry.proofs.Words.{false, fault_at, filter, filter-append, find, flat_map, good_track, has_no_data}
+use Rattle.fb_geometry.proofs.Words.{inl, inr, is_among, is_full_cylinder, is_full_track, is_outside, is_place_before}
+use Rattle.fb_geometry.proofs.Words.{is_track_before, least, length, length-append, length-range_with_len}
+use Rattle.fb_geometry.proofs.Words.{length-take-le, map, mul-le, nat_lt, nat_tests, not, or_else, per_cylinder}
+use Rattle.fb_geometry.proofs.Words.{per_track, range_with_len, recursion_from_All, refl, repeated, replaced}
+use Rattle.fb_geometry.proofs.Words.{same_track, spare_fault, spares_at, stand_in, subst, suc, sym, take, true, zero}
+use Rattle.fb_geometry.proofs.Words.{ℕ, ◌*◌, ◌++◌, ◌+◌, ◌-◌, ◌<◌, ◌==◌, ◌∙◌, ◌∷◌, ◌≡◌, ◌≤◌, ◌⊎◌}
+use Rattle.fb_geometry.proofs.{Grid.length-parts, Grid.add_zero, Grid.add_one, Turns.good_cylinder-is}
+use Rattle.fb_geometry.proofs.{Counting.same_tracks, Counting.length-good_track, Counting.length-good_cylinder}
+use Rattle.fb_geometry.proofs.{Faultless.fault_at-none, Faultless.or_else-none, Faultless.least-none}
+use Rattle.fb_geometry.proofs.{Faultless.filter-none, Faultless.spares_at-zone, Faultless.cylinder_spares_at-zone}
 
 -- ---- spares are enough
 

@@ -1,17 +1,12 @@
 -- Orders of places and tracks, and the least of a list.
-use Rattle.std.proofs.Common.{◌≡◌, ℕ, zero, suc, ◌+◌, ◌-◌, List, length, [], ◌∷◌, ◌++◌, refl, ap, sym, ◌∙◌, arith, Bool, true, false, cond, Option, Some, None, ◌⊎◌, inl, inr, map}
-use Rattle.std.specs.Prelude.{filter, nat_lt, slice_get, option_map}
-use Rattle.std.specs.List.{list_any}
-use Rattle.std.specs.Cmp.{IsStrictWeakOrder}
-use Rattle.std.proofs.lemmas.Bool.{cases_Bool, cases_lt, true≢false, or_cases}
-use Rattle.std.proofs.lemmas.Bool.Decides.{nat_tests}
-use Rattle.std.proofs.lemmas.Option.{same_Some, none-some, slice_get-map, slice_get_within, get_or_from_slice_get}
-use Rattle.std.proofs.lemmas.List.Folds.{list_any_at}
-use Rattle.fb_geometry.specs.Marks.{is_mark_before}
-use Rattle.fb_geometry.specs.Slips.{Pairwise}
-use Rattle.fb_geometry.specs.Faults.{is_place_before, is_track_before, least, lesser}
-use Rattle.fb_geometry.proofs.Grid.{all_get, get_left, get_right}
-use Rattle.fb_geometry.proofs.Counting.{same_places, same_tracks}
+use Rattle.fb_geometry.proofs.Words.{Bool, IsStrictWeakOrder, List, None, Option, Pairwise, Some, [], ap, arith}
+use Rattle.fb_geometry.proofs.Words.{cases_Bool, cases_lt, false, filter, get_or_from_slice_get, inl, inr}
+use Rattle.fb_geometry.proofs.Words.{is_mark_before, is_place_before, is_track_before, least, length, lesser}
+use Rattle.fb_geometry.proofs.Words.{list_any, list_any_at, map, nat_lt, nat_tests, none-some, option_map, or_cases}
+use Rattle.fb_geometry.proofs.Words.{refl, same_Some, slice_get, slice_get-map, slice_get_within, suc, sym, true}
+use Rattle.fb_geometry.proofs.Words.{true≢false, zero, ℕ, ◌++◌, ◌+◌, ◌-◌, ◌∙◌, ◌∷◌, ◌≡◌, ◌⊎◌}
+use Rattle.fb_geometry.proofs.{Grid.all_get, Grid.get_left, Grid.get_right, Counting.same_places}
+use Rattle.fb_geometry.proofs.{Counting.same_tracks}
 
 -- what a test of an order keeps
 pub record IsOrder {A : Type 0} (before : A → A → Bool) : Type 0 where

@@ -1,32 +1,29 @@
 -- Where the sectors of a cylinder are.
-use Rattle.std.proofs.Common.{◌≡◌, ℕ, zero, suc, ◌+◌, ◌-◌, ◌*◌, ◌/◌, ◌%◌, ◌<◌, ◌≤◌, List, [], ◌∷◌, ◌++◌, length, refl, ap, sym, ◌∙◌, arith, Bool, true, false, not, cond, Option, Some, None, inl, inr, ◌⊎◌, map, subst, take, drop}
-use Rattle.std.specs.Prelude.{filter, ◌==◌, slice_get, MatchOption, IfNone, IfSome}
-use Rattle.std.specs.List.{AllByRecursion, range_with_len, list_any}
-use Rattle.std.proofs.Math.Nat.{mod-lt}
-use Rattle.std.proofs.lemmas.Nat.{div_below, mul-le, div-add-mod'}
-use Rattle.std.proofs.lemmas.Bool.{cases_Bool, cases_lt, true≢false, not-true}
-use Rattle.std.proofs.lemmas.Bool.Decides.{nat_tests}
-use Rattle.std.proofs.lemmas.Option.{same_Some, none-some, slice_get_within}
-use Rattle.std.proofs.lemmas.List.{length-take, length-take-le, length-append, map-append, take-append-drop, take-take}
-use Rattle.std.proofs.lemmas.List.Elements.{filter-append, filter_passes, recursion_from_All}
-use Rattle.std.proofs.lemmas.List.FromFn.{take-map-range_with_len}
-use Rattle.fb_units.specs.declared.types.Place.{Place}
-use Rattle.fb_geometry.specs.declared.layout.Layout.{Layout}
-use Rattle.fb_geometry.specs.declared.layout.Layout.TheVariants.{PerTrack, PerCylinder}
-use Rattle.fb_geometry.specs.declared.zone.Zone.{Zone}
-use Rattle.fb_geometry.specs.Shape.{Shape, same_place, is_among, offset_in, slots_at}
-use Rattle.fb_geometry.specs.Sound.{LiesOn}
-use Rattle.fb_geometry.specs.Places.{turn, per_track, per_cylinder, data_list_by, data_list_at, good_track, by_head, replaced, stand_in}
-use Rattle.fb_geometry.specs.Faults.{spare_fault, has_no_data}
-use Rattle.fb_geometry.specs.Turns.{IsZone, IsZoneAt, slot_at, cylinder_slots, position_in}
-use Rattle.fb_geometry.specs.Slips.{IsAscending, slipped, rank, indexes, entry_of_sector, HoldsNone, HoldsSector}
-use Rattle.fb_geometry.specs.Index.{IsGoodOf, good_before}
-use Rattle.fb_geometry.proofs.Grid.{all_weaker, within, get_left, get_right, get_part, get_range, zero_add}
-use Rattle.fb_geometry.proofs.Slips.{kept_at, kept_to, marked, rank-le, rank-slipped, slipped-free, rank-at, rank-mono, rank-step, rank_marked, rank_unmarked, rank-below, among_at, indexes-ascend, length-kept, length-kept_front}
-use Rattle.fb_geometry.proofs.Turns.{good_track-is, good_cylinder-is, range-append, length-cylinder_slots, get-cylinder_slots, position_in-slot_at, slot_at-position_in, position_below}
-use Rattle.fb_geometry.proofs.Faultless.{all_get, slots_at-zone, list_among-zone}
-use Rattle.fb_geometry.proofs.Laws.{HasSpares, has_spares, length-track, length-per_track, length-good, few_flaws, length-per_cylinder, all-filter}
-use Rattle.fb_geometry.proofs.Counting.{kept_and_dropped, at_most_each, fewer, once_on_cylinder}
+use Rattle.fb_geometry.proofs.Words.{AllByRecursion, Bool, HoldsNone, HoldsSector, IfNone, IfSome, IsAscending}
+use Rattle.fb_geometry.proofs.Words.{IsGoodOf, IsZone, IsZoneAt, Layout, LiesOn, List, MatchOption, None, Option}
+use Rattle.fb_geometry.proofs.Words.{PerCylinder, PerTrack, Place, Shape, Some, Zone, [], ap, arith, by_head}
+use Rattle.fb_geometry.proofs.Words.{cases_Bool, cases_lt, cylinder_slots, data_list_at, data_list_by, div-add-mod'}
+use Rattle.fb_geometry.proofs.Words.{div_below, drop, entry_of_sector, false, filter, filter-append, filter_passes}
+use Rattle.fb_geometry.proofs.Words.{good_before, good_track, has_no_data, indexes, inl, inr, is_among, length}
+use Rattle.fb_geometry.proofs.Words.{length-append, length-take, length-take-le, list_any, map, map-append, mod-lt}
+use Rattle.fb_geometry.proofs.Words.{mul-le, nat_tests, none-some, not, not-true, offset_in, per_cylinder, per_track}
+use Rattle.fb_geometry.proofs.Words.{position_in, range_with_len, rank, recursion_from_All, refl, replaced, same_Some}
+use Rattle.fb_geometry.proofs.Words.{same_place, slice_get, slice_get_within, slipped, slot_at, slots_at, spare_fault}
+use Rattle.fb_geometry.proofs.Words.{stand_in, subst, suc, sym, take, take-append-drop, take-map-range_with_len}
+use Rattle.fb_geometry.proofs.Words.{take-take, true, true≢false, turn, zero, ℕ, ◌%◌, ◌*◌, ◌++◌, ◌+◌, ◌-◌, ◌/◌, ◌<◌}
+use Rattle.fb_geometry.proofs.Words.{◌==◌, ◌∙◌, ◌∷◌, ◌≡◌, ◌≤◌, ◌⊎◌}
+use Rattle.fb_geometry.proofs.{Grid.all_weaker, Grid.within, Grid.get_left, Grid.get_right, Grid.get_part}
+use Rattle.fb_geometry.proofs.{Grid.get_range, Grid.zero_add, Slips.kept_at, Slips.kept_to, Slips.marked}
+use Rattle.fb_geometry.proofs.{Slips.rank-le, Slips.rank-slipped, Slips.slipped-free, Slips.rank-at, Slips.rank-mono}
+use Rattle.fb_geometry.proofs.{Slips.rank-step, Slips.rank_marked, Slips.rank_unmarked, Slips.rank-below}
+use Rattle.fb_geometry.proofs.{Slips.among_at, Slips.indexes-ascend, Slips.length-kept, Slips.length-kept_front}
+use Rattle.fb_geometry.proofs.{Turns.good_track-is, Turns.good_cylinder-is, Turns.range-append}
+use Rattle.fb_geometry.proofs.{Turns.length-cylinder_slots, Turns.get-cylinder_slots, Turns.position_in-slot_at}
+use Rattle.fb_geometry.proofs.{Turns.slot_at-position_in, Turns.position_below, Faultless.all_get}
+use Rattle.fb_geometry.proofs.{Faultless.slots_at-zone, Faultless.list_among-zone, Laws.HasSpares, Laws.has_spares}
+use Rattle.fb_geometry.proofs.{Laws.length-track, Laws.length-per_track, Laws.length-good, Laws.few_flaws}
+use Rattle.fb_geometry.proofs.{Laws.length-per_cylinder, Laws.all-filter, Counting.kept_and_dropped}
+use Rattle.fb_geometry.proofs.{Counting.at_most_each, Counting.fewer, Counting.once_on_cylinder}
 
 pub get_take : {X : Type 0} (n : ℕ) (xs : List X) (i : ℕ) → i < n → slice_get (take n xs) i ≡ slice_get xs i
 get_take zero xs i h = absurd (omega arith)

@@ -1,21 +1,13 @@
 -- The marks of places.
-use Rattle.std.proofs.Common.{◌≡◌, ℕ, ◌+◌, ◌-◌, ◌*◌, ◌%◌, ◌<◌, List, [], ◌∷◌, length, refl, ap, sym, ◌∙◌, arith, true, false, Some, None, inl, inr, subst, get_or}
-use Rattle.std.specs.Prelude.{find, nat_lt, ◌==◌, ◌&&◌, ◌||◌}
-use Rattle.std.specs.List.{list_any}
-use Rattle.std.specs.Ordering.{nat_cmp, is_lt, ordering_then}
-use Rattle.std.proofs.lemmas.Bool.{cases_Bool, and_parts, not-false, ltb-true, eqb-true}
-use Rattle.std.proofs.lemmas.Bool.Decides.{nat_tests}
-use Rattle.fb_units.specs.declared.types.Place.{Place}
-use Rattle.fb_geometry.specs.declared.zone.Zone.{Zone}
-use Rattle.fb_geometry.specs.declared.marks.Mark.{Mark}
-use Rattle.fb_geometry.specs.Shape.{Shape, slots_at, cylinders_of, offset_at}
-use Rattle.fb_geometry.specs.Faults.{is_outside}
-use Rattle.fb_geometry.specs.Turns.{IsZoneOf, zone_at, position_in, slot_at}
-use Rattle.fb_geometry.specs.Marks.{mark_of, is_mark_before, same_mark, positions, marks_on}
-use Rattle.fb_geometry.specs.Index.{HasZones}
-use Rattle.fb_geometry.proofs.Faultless.{slots_at-zone, offset_at-zone, find-none, found_zone, some_zone}
-use Rattle.fb_geometry.proofs.Turns.{position_in-slot_at, slot_at-position_in}
-use Rattle.fb_geometry.proofs.Order.{all_at}
+use Rattle.fb_geometry.proofs.Words.{HasZones, IsZoneOf, List, Mark, None, Place, Shape, Some, Zone, [], and_parts}
+use Rattle.fb_geometry.proofs.Words.{ap, arith, cases_Bool, cylinders_of, eqb-true, false, find, get_or, inl, inr}
+use Rattle.fb_geometry.proofs.Words.{is_lt, is_mark_before, is_outside, length, list_any, ltb-true, mark_of, marks_on}
+use Rattle.fb_geometry.proofs.Words.{nat_cmp, nat_lt, nat_tests, not-false, offset_at, ordering_then, position_in}
+use Rattle.fb_geometry.proofs.Words.{positions, refl, same_mark, slot_at, slots_at, subst, sym, true, zone_at, ℕ, ◌%◌}
+use Rattle.fb_geometry.proofs.Words.{◌&&◌, ◌*◌, ◌+◌, ◌-◌, ◌<◌, ◌==◌, ◌||◌, ◌∙◌, ◌∷◌, ◌≡◌}
+use Rattle.fb_geometry.proofs.{Faultless.slots_at-zone, Faultless.offset_at-zone, Faultless.find-none}
+use Rattle.fb_geometry.proofs.{Faultless.found_zone, Faultless.some_zone, Turns.position_in-slot_at}
+use Rattle.fb_geometry.proofs.{Turns.slot_at-position_in, Order.all_at}
 
 -- the position of a mark is counted in its zone
 pub position_is : (disk : Shape) (zone : Zone) (place : Place) → zone_at disk.zones place.track.cylinder ≡ Some zone → (mark_of disk place).position ≡ position_in zone disk.heads place

@@ -1,24 +1,15 @@
 -- An accepted outline is sound: no place is twice among its places, and no bad one is among them.
-use Rattle.std.proofs.Common.{◌≡◌, ◌≢◌, ℕ, zero, suc, ◌+◌, ◌-◌, ◌<◌, ◌≤◌, List, [], ◌∷◌, ◌++◌, refl, ap, sym, ◌∙◌, arith, false, Some, None, subst}
-use Rattle.std.specs.Prelude.{slice_get}
-use Rattle.std.specs.List.{AllByRecursion, flat_map, range_with_len}
-use Rattle.std.proofs.lemmas.Option.{same_Some, none-some}
-use Rattle.fb_units.specs.declared.types.Place.{Place}
-use Rattle.fb_geometry.specs.declared.layout.Layout.{Layout}
-use Rattle.fb_geometry.specs.declared.layout.Layout.TheVariants.{PerTrack, PerCylinder}
-use Rattle.fb_geometry.specs.declared.zone.Zone.{Zone}
-use Rattle.fb_geometry.specs.Shape.{Shape, is_among}
-use Rattle.fb_geometry.specs.Places.{places, zone_places, data_list, data_list_by, per_track, per_cylinder, good_track, by_head}
-use Rattle.fb_geometry.specs.Faults.{first_apart}
-use Rattle.fb_geometry.specs.Turns.{cylinder_slots}
-use Rattle.fb_geometry.specs.Slips.{indexes}
-use Rattle.fb_geometry.specs.Sound.{IsCylinderOf, LiesOn, HasOwnPlaces, IsSound}
-use Rattle.fb_geometry.specs.Index.{IsFaultless}
-use Rattle.fb_geometry.proofs.Grid.{all_weaker}
-use Rattle.fb_geometry.proofs.Faultless.{all_get, next, zones_from, zone_by_bounds, ranges_of, some_rotation, short_rotation, some_heads, few_heads, some_zones, few_zones, few_cylinders, data_of, short_slots}
-use Rattle.fb_geometry.proofs.Lookups.{entry_of, one_index_on}
-use Rattle.fb_geometry.proofs.Laws.{all-append, all-parts, has_spares, length-data_list, some_size}
-use Rattle.fb_geometry.proofs.Grid.{add_zero, add_one}
+use Rattle.fb_geometry.proofs.Words.{AllByRecursion, HasOwnPlaces, IsCylinderOf, IsFaultless, IsSound, Layout, LiesOn}
+use Rattle.fb_geometry.proofs.Words.{List, None, PerCylinder, PerTrack, Place, Shape, Some, Zone, [], ap, arith}
+use Rattle.fb_geometry.proofs.Words.{data_list, data_list_by, false, first_apart, flat_map, is_among, none-some}
+use Rattle.fb_geometry.proofs.Words.{places, range_with_len, refl, same_Some, slice_get, subst, suc, sym, zero}
+use Rattle.fb_geometry.proofs.Words.{zone_places, ℕ, ◌++◌, ◌+◌, ◌-◌, ◌<◌, ◌∙◌, ◌∷◌, ◌≡◌, ◌≢◌, ◌≤◌}
+use Rattle.fb_geometry.proofs.{Grid.all_weaker, Faultless.all_get, Faultless.next, Faultless.zones_from}
+use Rattle.fb_geometry.proofs.{Faultless.zone_by_bounds, Faultless.ranges_of, Faultless.some_rotation}
+use Rattle.fb_geometry.proofs.{Faultless.short_rotation, Faultless.some_heads, Faultless.few_heads}
+use Rattle.fb_geometry.proofs.{Faultless.some_zones, Faultless.few_zones, Faultless.few_cylinders, Faultless.data_of}
+use Rattle.fb_geometry.proofs.{Faultless.short_slots, Lookups.entry_of, Lookups.one_index_on, Laws.all-append}
+use Rattle.fb_geometry.proofs.{Laws.all-parts, Laws.length-data_list, Laws.some_size, Grid.add_zero, Grid.add_one}
 
 -- each element differs from all that follow
 abbrev pub Distinct : {A : Type 0} → List A → Type 0

@@ -1,17 +1,12 @@
 -- Marks in order: what binary searches find among them.
-use Rattle.std.proofs.Common.{◌≡◌, ℕ, zero, suc, ◌+◌, ◌-◌, ◌<◌, ◌≤◌, List, [], ◌∷◌, length, refl, ap, sym, ◌∙◌, arith, Bool, true, false, cond, take, drop, inl, inr, map, get_or, subst}
-use Rattle.std.specs.Prelude.{filter, slice_get, option_map, Some, nat_lt, nat_le, ◌==◌, ◌&&◌}
-use Rattle.std.specs.List.{AllByRecursion}
-use Rattle.std.specs.List.Sorted.{IsNonDecreasingBy, IsPartitionPoint}
-use Rattle.std.proofs.lemmas.Bool.{cases_Bool, lt-ltb, le-ltb, and_parts, or_cases, ltb-true, eqb-true}
-use Rattle.std.proofs.lemmas.Bool.Decides.{nat_tests}
-use Rattle.std.proofs.lemmas.List.Sorted.{IsNonDecreasingBy-drop}
-use Rattle.std.proofs.lemmas.Option.{slice_get-map, slice_get-get_or}
-use Rattle.std.proofs.lemmas.List.{get_or-map, length-map}
-use Rattle.fb_geometry.proofs.Grid.{all_get}
-use Rattle.fb_geometry.specs.declared.marks.Mark.{Mark}
-use Rattle.fb_geometry.specs.Slips.{IsAscending, rank, slipped}
-use Rattle.fb_geometry.specs.Marks.{AreInOrder, is_mark_before, positions, marks_on}
+use Rattle.fb_geometry.proofs.Words.{AllByRecursion, AreInOrder, Bool, IsAscending, IsNonDecreasingBy}
+use Rattle.fb_geometry.proofs.Words.{IsNonDecreasingBy-drop, IsPartitionPoint, List, Mark, Some, [], and_parts, ap}
+use Rattle.fb_geometry.proofs.Words.{arith, cases_Bool, cond, drop, eqb-true, false, filter, get_or, get_or-map, inl}
+use Rattle.fb_geometry.proofs.Words.{inr, is_mark_before, le-ltb, length, length-map, lt-ltb, ltb-true, map, marks_on}
+use Rattle.fb_geometry.proofs.Words.{nat_le, nat_lt, nat_tests, option_map, or_cases, positions, rank, refl}
+use Rattle.fb_geometry.proofs.Words.{slice_get, slice_get-get_or, slice_get-map, slipped, subst, suc, sym, take, true}
+use Rattle.fb_geometry.proofs.Words.{zero, ℕ, ◌&&◌, ◌+◌, ◌-◌, ◌<◌, ◌==◌, ◌∙◌, ◌∷◌, ◌≡◌, ◌≤◌}
+use Rattle.fb_geometry.proofs.{Grid.all_get}
 
 pub all_at : {X : Type 0} (P : X → Type 0) (xs : List X) (j : ℕ) (d : X) → AllByRecursion P xs → j < length xs → P (get_or xs j d)
 all_at P xs j d all h = all_get P xs j (get_or xs j d) all (slice_get-get_or xs j d h)

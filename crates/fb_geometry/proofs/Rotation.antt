@@ -1,7 +1,6 @@
 -- The angles of the slots of a track.
-use Rattle.std.proofs.Common.{◌≡◌, ℕ, ◌+◌, ◌*◌, ◌/◌, ◌<◌, ◌≤◌, ap, ◌∙◌, arith}
-use Rattle.std.proofs.lemmas.Nat.{le-div, div-add-mod', div-mul-add}
-use Rattle.fb_geometry.specs.Angles.{CoverRotation}
+use Rattle.fb_geometry.proofs.Words.{CoverRotation, ap, arith, div-add-mod', div-mul-add, le-div, ℕ, ◌*◌, ◌+◌, ◌/◌}
+use Rattle.fb_geometry.proofs.Words.{◌<◌, ◌∙◌, ◌≡◌, ◌≤◌}
 
 pub cover : (rotation n : ℕ) → 0 < n → n ≤ rotation → CoverRotation rotation n
 cover rotation n some short = record {

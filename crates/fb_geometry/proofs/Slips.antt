@@ -1,14 +1,12 @@
 -- What is left of a list when the elements that pass a test are dropped.
-use Rattle.std.proofs.Common.{◌≡◌, ℕ, zero, suc, ◌+◌, ◌-◌, ◌<◌, ◌≤◌, List, [], ◌∷◌, length, refl, ap, sym, ◌∙◌, arith, Bool, true, false, not, cond, Some, take, inl, inr, get_or}
-use Rattle.std.specs.Prelude.{filter, slice_get, ◌==◌, nat_lt}
-use Rattle.std.specs.List.{list_any, AllByRecursion}
-use Rattle.std.proofs.lemmas.Bool.{cases_Bool, cases_lt, true≢false, lt-ltb, le-ltb, cases_order, ne_eqb, eq-eqb, eqb-false, or_left, or_right, or_parts}
-use Rattle.std.proofs.lemmas.Bool.Decides.{nat_tests}
-use Rattle.std.proofs.lemmas.Option.{same_Some, none-some, slice_get_within, get_or_from_slice_get}
-use Rattle.std.proofs.lemmas.List.Sums.{length-filter, count_by-le-length, sum_by-le-sum_by}
-use Rattle.std.proofs.lemmas.List.Folds.{list_any_at}
-use Rattle.fb_geometry.specs.Slips.{IsAscending, slipped, rank, indexes, with_index}
-use Rattle.fb_geometry.proofs.Grid.{count_cons, add_zero, all_weaker, all_get}
+use Rattle.fb_geometry.proofs.Words.{AllByRecursion, Bool, IsAscending, List, Some, [], ap, arith, cases_Bool}
+use Rattle.fb_geometry.proofs.Words.{cases_lt, cases_order, cond, count_by-le-length, eq-eqb, eqb-false, false}
+use Rattle.fb_geometry.proofs.Words.{filter, get_or, get_or_from_slice_get, indexes, inl, inr, le-ltb, length}
+use Rattle.fb_geometry.proofs.Words.{length-filter, list_any, list_any_at, lt-ltb, nat_lt, nat_tests, ne_eqb}
+use Rattle.fb_geometry.proofs.Words.{none-some, not, or_parts, rank, refl, same_Some, slice_get, slice_get_within}
+use Rattle.fb_geometry.proofs.Words.{slipped, suc, sum_by-le-sum_by, sym, take, true, true≢false, with_index, zero, ℕ}
+use Rattle.fb_geometry.proofs.Words.{◌+◌, ◌-◌, ◌<◌, ◌==◌, ◌∙◌, ◌∷◌, ◌≡◌, ◌≤◌}
+use Rattle.fb_geometry.proofs.{Grid.count_cons, Grid.add_zero, Grid.all_weaker, Grid.all_get}
 
 -- ---- ascending numbers
 
@@ -102,8 +100,12 @@ rank-step a b (x ∷ numbers) up h = elim (cases_lt x a) [
 ]
 
 pub rank-mono : (a b : ℕ) (numbers : List ℕ) → a ≤ b → rank a numbers ≤ rank b numbers
-rank-mono a b numbers h = omega (arith, length-filter (λ passed. nat_lt passed a) numbers, length-filter (λ passed. nat_lt passed b) numbers,
-    sum_by-le-sum_by (λ passed. cond (nat_lt passed a) 1 0) (λ passed. cond (nat_lt passed b) 1 0) numbers (λ passed. one passed))
+rank-mono a b numbers h = omega (
+  arith,
+  length-filter (λ passed. nat_lt passed a) numbers,
+  length-filter (λ passed. nat_lt passed b) numbers,
+  sum_by-le-sum_by (λ passed. cond (nat_lt passed a) 1 0) (λ passed. cond (nat_lt passed b) 1 0) numbers (λ passed. one passed),
+)
   where
     one : (passed : ℕ) → cond (nat_lt passed a) 1 0 ≤ cond (nat_lt passed b) 1 0
     one passed = elim (cases_lt passed a) [ inl less ↦ rw (lt-ltb passed a less, lt-ltb passed b (omega arith)) (omega arith) | inr more ↦ rw (le-ltb passed a more) (omega arith) ]

@@ -1,17 +1,12 @@
 -- Tracks and cylinders with more bad places than spares, by places in order.
-use Rattle.std.proofs.Common.{◌≡◌, ℕ, ◌+◌, ◌≤◌, List, [], ◌∷◌, length, refl, sym, ◌∙◌, arith, Bool, true, false, cond, inl, inr, map, get_or, subst}
-use Rattle.std.specs.Prelude.{filter, find, slice_get, option_map}
-use Rattle.std.specs.List.Sorted.{IsPermutation, IsPartitionedBy, IsPartitionPoint}
-use Rattle.std.proofs.lemmas.Bool.{cases_Bool, cases_lt}
-use Rattle.std.proofs.lemmas.List.Sorted.{IsPermutation-map, IsPermutation-sym}
-use Rattle.fb_units.specs.declared.types.Place.{Place}
-use Rattle.fb_geometry.specs.Faults.{is_place_before, least}
-use Rattle.fb_geometry.specs.Slips.{Pairwise}
-use Rattle.fb_geometry.specs.Marks.{AreSorted}
-use Rattle.fb_geometry.proofs.Grid.{count_cons}
-use Rattle.fb_geometry.proofs.Order.{point-is}
-use Rattle.fb_geometry.proofs.Leasts.{IsOrder, Among, among-filter, among-filtered, least-head}
-use Rattle.fb_geometry.proofs.Clashes.{pairwise_at, pairwise-filter, pairwise-map, same_count, permuted}
+use Rattle.fb_geometry.proofs.Words.{AreSorted, Bool, IsPartitionPoint, IsPartitionedBy, IsPermutation}
+use Rattle.fb_geometry.proofs.Words.{IsPermutation-map, IsPermutation-sym, List, Pairwise, Place, [], arith}
+use Rattle.fb_geometry.proofs.Words.{cases_Bool, cases_lt, cond, false, filter, find, get_or, inl, inr}
+use Rattle.fb_geometry.proofs.Words.{is_place_before, least, length, map, option_map, refl, slice_get, subst, sym}
+use Rattle.fb_geometry.proofs.Words.{true, ℕ, ◌+◌, ◌∙◌, ◌∷◌, ◌≡◌, ◌≤◌}
+use Rattle.fb_geometry.proofs.{Grid.count_cons, Order.point-is, Leasts.IsOrder, Leasts.Among, Leasts.among-filter}
+use Rattle.fb_geometry.proofs.{Leasts.among-filtered, Leasts.least-head, Clashes.pairwise_at, Clashes.pairwise-filter}
+use Rattle.fb_geometry.proofs.{Clashes.pairwise-map, Clashes.same_count, Clashes.permuted}
 
 -- ---- the first that is full
 

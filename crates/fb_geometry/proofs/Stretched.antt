@@ -1,24 +1,18 @@
 -- Slots that follow one another.
-use Rattle.std.proofs.Common.{◌≡◌, ℕ, zero, suc, ◌+◌, ◌-◌, ◌*◌, ◌/◌, ◌%◌, ◌<◌, ◌≤◌, List, length, refl, ap, sym, ◌∙◌, arith, true, false, Some, inl, inr, max, ◌⊎◌}
-use Rattle.std.specs.Prelude.{◌==◌, slice_get}
-use Rattle.std.specs.List.{list_any}
-use Rattle.std.proofs.Math.Nat.{mod-lt, mod-add-mod}
-use Rattle.std.proofs.lemmas.Nat.{div-add-mod', div_below}
-use Rattle.std.proofs.lemmas.Bool.{cases_Bool, cases_lt, true≢false, ne_eqb, eq-eqb}
-use Rattle.std.proofs.lemmas.Option.{same_Some}
-use Rattle.fb_units.specs.declared.types.Place.{Place}
-use Rattle.fb_geometry.specs.declared.zone.Zone.{Zone}
-use Rattle.fb_geometry.specs.declared.layout.Layout.TheVariants.{PerTrack, PerCylinder}
-use Rattle.fb_geometry.specs.Shape.{Shape, offset_in, offset_at, slots_at, turn_position, is_among}
-use Rattle.fb_geometry.specs.Places.{data_list_at, by_head, good_track}
-use Rattle.fb_geometry.specs.Stretches.{IsStretch, KeepsOrder}
-use Rattle.fb_geometry.specs.Turns.{IsZoneAt, zone_at, slot_at, cylinder_slots, position_in}
-use Rattle.fb_geometry.specs.Slips.{IsAscending, slipped, rank, indexes}
-use Rattle.fb_geometry.proofs.Slips.{rank-at, rank-mono, rank-step, rank_marked, rank_unmarked, rank-le_length, rank-slipped, slipped-free, among_at}
-use Rattle.fb_geometry.proofs.Turns.{slot_on, round-back, offset_below, position_in-slot_at}
-use Rattle.fb_geometry.proofs.Faultless.{slots_at-zone, offset_at-zone}
-use Rattle.fb_geometry.proofs.Laws.{has_spares, length-per_cylinder}
-use Rattle.fb_geometry.proofs.Lookups.{list_by, place_by_track, split_by_track, some_by_track, spares_by, place_staying, place_moving, ascends}
+use Rattle.fb_geometry.proofs.Words.{IsAscending, IsStretch, IsZoneAt, KeepsOrder, List, PerCylinder, PerTrack, Place}
+use Rattle.fb_geometry.proofs.Words.{Shape, Some, Zone, ap, arith, by_head, cases_Bool, cases_lt, cylinder_slots}
+use Rattle.fb_geometry.proofs.Words.{data_list_at, div-add-mod', div_below, eq-eqb, false, good_track, indexes, inl}
+use Rattle.fb_geometry.proofs.Words.{inr, is_among, length, list_any, max, mod-add-mod, mod-lt, ne_eqb, offset_at}
+use Rattle.fb_geometry.proofs.Words.{offset_in, position_in, rank, refl, same_Some, slice_get, slipped, slot_at}
+use Rattle.fb_geometry.proofs.Words.{slots_at, suc, sym, true, true≢false, turn_position, zero, zone_at, ℕ, ◌%◌, ◌*◌}
+use Rattle.fb_geometry.proofs.Words.{◌+◌, ◌-◌, ◌/◌, ◌<◌, ◌==◌, ◌∙◌, ◌≡◌, ◌≤◌, ◌⊎◌}
+use Rattle.fb_geometry.proofs.{Slips.rank-at, Slips.rank-mono, Slips.rank-step, Slips.rank_marked}
+use Rattle.fb_geometry.proofs.{Slips.rank_unmarked, Slips.rank-le_length, Slips.rank-slipped, Slips.slipped-free}
+use Rattle.fb_geometry.proofs.{Slips.among_at, Turns.slot_on, Turns.round-back, Turns.offset_below}
+use Rattle.fb_geometry.proofs.{Turns.position_in-slot_at, Faultless.slots_at-zone, Faultless.offset_at-zone}
+use Rattle.fb_geometry.proofs.{Laws.has_spares, Laws.length-per_cylinder, Lookups.list_by, Lookups.place_by_track}
+use Rattle.fb_geometry.proofs.{Lookups.split_by_track, Lookups.some_by_track, Lookups.spares_by}
+use Rattle.fb_geometry.proofs.{Lookups.place_staying, Lookups.place_moving, Lookups.ascends}
 
 -- ---- before the next marked number
 

@@ -1,21 +1,12 @@
 -- The slots of a cylinder in the order of their turns, as one list.
-use Rattle.std.proofs.Common.{◌≡◌, ℕ, zero, suc, ◌+◌, ◌-◌, ◌*◌, ◌/◌, ◌%◌, ◌<◌, ◌≤◌, List, [], ◌∷◌, ◌++◌, length, refl, ap, sym, ◌∙◌, arith, Bool, not, Some, inl, inr, map}
-use Rattle.std.specs.Prelude.{filter, slice_get, option_map}
-use Rattle.std.specs.List.{flat_map, range_with_len}
-use Rattle.std.proofs.Math.Nat.{mod-lt, mod-eq_of_lt, add-mod_left}
-use Rattle.std.proofs.lemmas.Nat.{mul-add-lt, div-mul-add, mod-mul-add, div-add-mod'}
-use Rattle.std.proofs.lemmas.Bool.{cases_lt}
-use Rattle.std.proofs.lemmas.List.{map-append}
-use Rattle.std.proofs.lemmas.List.Elements.{filter-append}
-use Rattle.std.proofs.lemmas.Option.{slice_get-map}
-use Rattle.std.proofs.lemmas.List.FromFn.{length-map-range_with_len}
-use Rattle.fb_units.specs.declared.types.Place.{Place}
-use Rattle.fb_units.specs.declared.types.Track.{Track}
-use Rattle.fb_geometry.specs.declared.zone.Zone.{Zone}
-use Rattle.fb_geometry.specs.Shape.{Shape, offset_in, is_among}
-use Rattle.fb_geometry.specs.Places.{turn, good_track, by_head}
-use Rattle.fb_geometry.specs.Turns.{position_in, slot_at, cylinder_slots}
-use Rattle.fb_geometry.proofs.Grid.{get_range, zero_add, add_zero, add_one}
+use Rattle.fb_geometry.proofs.Words.{Bool, List, Place, Shape, Some, Track, Zone, [], add-mod_left, ap, arith}
+use Rattle.fb_geometry.proofs.Words.{by_head, cases_lt, cylinder_slots, div-add-mod', div-mul-add, filter}
+use Rattle.fb_geometry.proofs.Words.{filter-append, flat_map, good_track, inl, inr, is_among, length}
+use Rattle.fb_geometry.proofs.Words.{length-map-range_with_len, map, map-append, mod-eq_of_lt, mod-lt, mod-mul-add}
+use Rattle.fb_geometry.proofs.Words.{mul-add-lt, not, offset_in, option_map, position_in, range_with_len, refl}
+use Rattle.fb_geometry.proofs.Words.{slice_get, slice_get-map, slot_at, suc, sym, turn, zero, ℕ, ◌%◌, ◌*◌, ◌++◌, ◌+◌}
+use Rattle.fb_geometry.proofs.Words.{◌-◌, ◌/◌, ◌<◌, ◌∙◌, ◌∷◌, ◌≡◌, ◌≤◌}
+use Rattle.fb_geometry.proofs.{Grid.get_range, Grid.zero_add, Grid.add_zero, Grid.add_one}
 
 -- ---- once round
 

@@ -1,5 +1,4 @@
-use Rattle.std.proofs.Common.{◌≡◌, take, map}
-use Rattle.fb_geometry.specs.Marks.{among_unmarked}
+use Rattle.fb_geometry.proofs.Words.{among_unmarked, map, take, ◌≡◌}
 use Rattle.fb_geometry.proofs.marks.among_unmarked.Given as goal
 
 abbrev pub invariant-loop-mark : goal.invariant-loop-mark

@@ -1,9 +1,6 @@
-use Rattle.std.proofs.Common.{◌≡◌, ◌<◌, ◌^◌, ◌+◌, ◌-◌, arith, true, subst, sym, ◌∙◌}
-use Rattle.std.specs.Prelude.{if◌then◌else◌, ◌==◌}
-use Rattle.std.specs.List.{list_any}
-use Rattle.fb_geometry.specs.Marks.{positions}
-use Rattle.fb_geometry.specs.Slips.{slipped, rank}
-use Rattle.fb_geometry.proofs.Slips.{slipped-le}
+use Rattle.fb_geometry.proofs.Words.{arith, if◌then◌else◌, list_any, positions, rank, slipped, subst, sym, true, ◌+◌}
+use Rattle.fb_geometry.proofs.Words.{◌-◌, ◌<◌, ◌==◌, ◌^◌, ◌∙◌, ◌≡◌}
+use Rattle.fb_geometry.proofs.{Slips.slipped-le}
 use Rattle.fb_geometry.proofs.marks.entry_of_sector.Goals as goal
 
 pub overflow_add-unmarked_before : goal.overflow_add-unmarked_before

@@ -1,11 +1,5 @@
-use Rattle.std.proofs.Common.{◌<◌, sym, ◌∙◌, ap, arith, length, get_or}
-use Rattle.std.specs.Prelude.{slice_get}
-use Rattle.std.proofs.lemmas.List.{length-map}
-use Rattle.fb_geometry.specs.declared.marks.Mark.{Mark}
-use Rattle.fb_geometry.specs.Marks.{positions}
-use Rattle.fb_geometry.proofs.Slips.{rank-le_length}
-use Rattle.fb_geometry.proofs.Order.{position_get}
-use Rattle.fb_geometry.proofs.Stretched.{free_behind, next_is}
+use Rattle.fb_geometry.proofs.Words.{Mark, ap, arith, get_or, length, length-map, positions, slice_get, sym, ◌<◌, ◌∙◌}
+use Rattle.fb_geometry.proofs.{Slips.rank-le_length, Order.position_get, Stretched.free_behind, Stretched.next_is}
 use Rattle.fb_geometry.proofs.marks.is_marked.Goals as goal
 
 pub returns-then-next-marks : goal.returns-then-next-marks

@@ -1,9 +1,7 @@
-use Rattle.std.proofs.Common.{◌≡◌, rules, drop, sym, ◌∙◌, subst}
-use Rattle.std.specs.Prelude.{nat_lt, nat_le}
-use Rattle.std.proofs.lemmas.List.Sorted.{IsPartitionPoint-from_clause, IsPartitionedBy-ltb, IsPartitionedBy-leb}
-use Rattle.fb_geometry.specs.Slips.{IsAscending}
-use Rattle.fb_geometry.specs.Marks.{positions, marks_on}
-use Rattle.fb_geometry.proofs.Order.{part-of, rest-rises, cylinders-rise, marks_on-ascend}
+use Rattle.fb_geometry.proofs.Words.{IsAscending, IsPartitionPoint-from_clause, IsPartitionedBy-leb}
+use Rattle.fb_geometry.proofs.Words.{IsPartitionedBy-ltb, drop, marks_on, nat_le, nat_lt, positions, rules, subst}
+use Rattle.fb_geometry.proofs.Words.{sym, ◌∙◌, ◌≡◌}
+use Rattle.fb_geometry.proofs.{Order.part-of, Order.rest-rises, Order.cylinders-rise, Order.marks_on-ascend}
 use Rattle.fb_geometry.proofs.marks.part.Goals as goal
 
 found : (c : goal.After-on-1) → c.split_at-2.result.0.now ≡ marks_on c.args.cylinder c.args.marks.now

@@ -1,10 +1,6 @@
-use Rattle.std.proofs.Common.{◌≡◌, rules, arith}
-use Rattle.std.specs.Prelude.{nat_lt}
-use Rattle.std.proofs.lemmas.List.Sorted.{IsPartitionPoint-from_clause, IsPartitionedBy-ltb}
-use Rattle.fb_geometry.specs.Marks.{positions}
-use Rattle.fb_geometry.specs.Slips.{rank}
-use Rattle.fb_geometry.proofs.Slips.{rank-below}
-use Rattle.fb_geometry.proofs.Order.{rank-is, positions-rise}
+use Rattle.fb_geometry.proofs.Words.{IsPartitionPoint-from_clause, IsPartitionedBy-ltb, arith, nat_lt, positions}
+use Rattle.fb_geometry.proofs.Words.{rank, rules, ◌≡◌}
+use Rattle.fb_geometry.proofs.{Slips.rank-below, Order.rank-is, Order.positions-rise}
 use Rattle.fb_geometry.proofs.marks.rank.Goals as goal
 
 found : (c : goal.After-partition_point) → c.partition_point.result ≡ rank c.args.position (positions c.args.marks.now)

@@ -1,10 +1,6 @@
-use Rattle.std.proofs.Common.{◌≡◌, ◌-◌, ◌<◌, length, arith, inr, ap, ◌∙◌, sym}
-use Rattle.std.specs.Prelude.{slice_get}
-use Rattle.std.proofs.lemmas.List.{length-map}
-use Rattle.fb_geometry.specs.Marks.{positions}
-use Rattle.fb_geometry.specs.Slips.{rank}
-use Rattle.fb_geometry.proofs.Slips.{rank-step, rank-below, rank-le_length}
-use Rattle.fb_geometry.proofs.Order.{position_get}
+use Rattle.fb_geometry.proofs.Words.{ap, arith, inr, length, length-map, positions, rank, slice_get, sym, ◌-◌, ◌<◌}
+use Rattle.fb_geometry.proofs.Words.{◌∙◌, ◌≡◌}
+use Rattle.fb_geometry.proofs.{Slips.rank-step, Slips.rank-below, Slips.rank-le_length, Order.position_get}
 use Rattle.fb_geometry.proofs.marks.sector_of_entry.Goals as goal
 
 pub overflow_sub-spare : goal.overflow_sub-spare

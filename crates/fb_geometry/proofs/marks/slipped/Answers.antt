@@ -1,8 +1,5 @@
-use Rattle.std.proofs.Common.{◌≡◌, sym, arith, ◌+◌, ◌-◌, ◌/◌, ◌<◌, length}
-use Rattle.std.proofs.lemmas.List.{length-map}
-use Rattle.fb_geometry.specs.Marks.{positions}
-use Rattle.fb_geometry.specs.Slips.{slipped}
-use Rattle.fb_geometry.proofs.Order.{slipped-is, slips_upto, slips_before, position_at}
+use Rattle.fb_geometry.proofs.Words.{arith, length, length-map, positions, slipped, sym, ◌+◌, ◌-◌, ◌/◌, ◌<◌, ◌≡◌}
+use Rattle.fb_geometry.proofs.{Order.slipped-is, Order.slips_upto, Order.slips_before, Order.position_at}
 use Rattle.fb_geometry.proofs.marks.slipped.Goals as goal
 
 pub loop-low-preserved-then-marks-middle : goal.loop-low-preserved-then-marks-middle

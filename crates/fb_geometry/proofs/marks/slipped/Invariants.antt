@@ -1,5 +1,4 @@
-use Rattle.std.proofs.Common.{◌-◌, ◌+◌, ◌<◌, ◌≤◌, ℕ, length, get_or}
-use Rattle.fb_geometry.specs.Marks.{positions}
+use Rattle.fb_geometry.proofs.Words.{get_or, length, positions, ℕ, ◌+◌, ◌-◌, ◌<◌, ◌≤◌}
 use Rattle.fb_geometry.proofs.marks.slipped.Given as goal
 
 abbrev pub invariant-loop-low : goal.invariant-loop-low

@@ -1,13 +1,7 @@
-use Rattle.std.proofs.Common.{◌≡◌, ◌<◌, ◌+◌, ◌-◌, ◌∙◌, Some, arith, length, get_or, sym, ap}
-use Rattle.std.specs.Prelude.{slice_get, ◌==◌}
-use Rattle.std.specs.List.{list_any}
-use Rattle.std.proofs.lemmas.List.{length-map}
-use Rattle.fb_geometry.specs.declared.marks.Mark.{Mark}
-use Rattle.fb_geometry.specs.Marks.{positions}
-use Rattle.fb_geometry.specs.Slips.{rank}
-use Rattle.fb_geometry.proofs.Slips.{rank-le_length, among_at}
-use Rattle.fb_geometry.proofs.Order.{position_get}
-use Rattle.fb_geometry.proofs.Stretched.{free_before, free_behind, next_from}
+use Rattle.fb_geometry.proofs.Words.{Mark, Some, ap, arith, get_or, length, length-map, list_any, positions, rank}
+use Rattle.fb_geometry.proofs.Words.{slice_get, sym, ◌+◌, ◌-◌, ◌<◌, ◌==◌, ◌∙◌, ◌≡◌}
+use Rattle.fb_geometry.proofs.{Slips.rank-le_length, Slips.among_at, Order.position_get, Stretched.free_before}
+use Rattle.fb_geometry.proofs.{Stretched.free_behind, Stretched.next_from}
 use Rattle.fb_geometry.proofs.marks.unmarked_from.Goals as goal
 
 pub returns-then-next-marks-clause-free : goal.returns-then-next-marks-clause-free

@@ -1,9 +1,6 @@
-use Rattle.std.proofs.Common.{◌≡◌, ◌+◌, ◌-◌, suc, sym, ◌∙◌, ap, arith, drop, get_or}
-use Rattle.std.specs.Prelude.{slice_get}
-use Rattle.fb_units.specs.declared.types.Place.{Place}
-use Rattle.fb_geometry.specs.Shape.{same_place}
-use Rattle.fb_geometry.specs.Faults.{repeated}
-use Rattle.fb_geometry.proofs.Clashes.{twin_step, twin_found, twin_none}
+use Rattle.fb_geometry.proofs.Words.{Place, ap, arith, drop, get_or, repeated, same_place, slice_get, suc, sym, ◌+◌}
+use Rattle.fb_geometry.proofs.Words.{◌-◌, ◌∙◌, ◌≡◌}
+use Rattle.fb_geometry.proofs.{Clashes.twin_step, Clashes.twin_found, Clashes.twin_none}
 use Rattle.fb_geometry.proofs.outline.first_twin.Goals as goal
 
 pub loop-i-preserved : goal.loop-i-preserved

@@ -1,5 +1,4 @@
-use Rattle.std.proofs.Common.{◌≡◌, ◌-◌, drop}
-use Rattle.fb_geometry.specs.Faults.{repeated}
+use Rattle.fb_geometry.proofs.Words.{drop, repeated, ◌-◌, ◌≡◌}
 use Rattle.fb_geometry.proofs.outline.first_twin.Given as goal
 
 abbrev pub invariant-loop-i : goal.invariant-loop-i

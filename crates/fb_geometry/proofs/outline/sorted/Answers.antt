@@ -1,9 +1,5 @@
-use Rattle.std.proofs.Common.{◌∙◌, ap, subst, arith, ◌++◌}
-use Rattle.std.specs.List.Sorted.{IsPermutation}
-use Rattle.std.proofs.lemmas.Bool.Decides.{nat_tests}
-use Rattle.fb_geometry.specs.Faults.{is_place_before}
-use Rattle.fb_geometry.proofs.Leasts.{places_rank}
-use Rattle.fb_geometry.proofs.Clashes.{sorted-rise}
+use Rattle.fb_geometry.proofs.Words.{IsPermutation, ap, arith, is_place_before, nat_tests, subst, ◌++◌, ◌∙◌}
+use Rattle.fb_geometry.proofs.{Leasts.places_rank, Clashes.sorted-rise}
 use Rattle.fb_geometry.proofs.outline.sorted.Goals as goal
 
 pub returns : goal.returns

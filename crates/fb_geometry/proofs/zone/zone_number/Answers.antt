@@ -1,9 +1,6 @@
-use Rattle.std.proofs.Common.{rules, sym, ◌∙◌}
-use Rattle.std.specs.Prelude.{nat_lt}
-use Rattle.std.proofs.lemmas.List.Sorted.{IsPartitionPoint-from_clause, IsPartitionedBy-ltb}
-use Rattle.std.proofs.lemmas.Option.{slice_get-get_or}
-use Rattle.fb_geometry.specs.declared.zone.Zone.{Zone}
-use Rattle.fb_geometry.proofs.Faultless.{point-zone}
+use Rattle.fb_geometry.proofs.Words.{IsPartitionPoint-from_clause, IsPartitionedBy-ltb, Zone, nat_lt, rules}
+use Rattle.fb_geometry.proofs.Words.{slice_get-get_or, sym, ◌∙◌}
+use Rattle.fb_geometry.proofs.{Faultless.point-zone}
 use Rattle.fb_geometry.proofs.zone.zone_number.Goals as goal
 
 blank : Zone

@@ -1,6 +1,5 @@
-use Rattle.std.proofs.Common.{arith}
-use Rattle.fb_geometry.specs.Shape.{slots_at}
-use Rattle.fb_geometry.proofs.Rotation.{cover}
+use Rattle.fb_geometry.proofs.Words.{arith, slots_at}
+use Rattle.fb_geometry.proofs.{Rotation.cover}
 use Rattle.fb_geometry.proofs.geometry.Geometry.angles.Goals as goal
 
 pub returns : goal.returns

@@ -1,6 +1,5 @@
-use Rattle.std.proofs.Common.{◌≤◌, ap, sym, ◌∙◌, arith}
-use Rattle.fb_geometry.specs.Shape.{offset_in}
-use Rattle.fb_geometry.proofs.Even.{is_even}
+use Rattle.fb_geometry.proofs.Words.{ap, arith, offset_in, sym, ◌∙◌, ◌≤◌}
+use Rattle.fb_geometry.proofs.{Even.is_even}
 use Rattle.fb_geometry.proofs.geometry.Geometry.cylinder.Goals as goal
 
 pub returns-clause-looked_up : goal.returns-clause-looked_up

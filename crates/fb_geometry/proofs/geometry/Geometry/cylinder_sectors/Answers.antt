@@ -1,5 +1,5 @@
-use Rattle.std.proofs.Common.{sym, ap, ◌∙◌, length}
-use Rattle.fb_geometry.proofs.Laws.{length-data_list}
+use Rattle.fb_geometry.proofs.Words.{ap, length, sym, ◌∙◌}
+use Rattle.fb_geometry.proofs.{Laws.length-data_list}
 use Rattle.fb_geometry.proofs.geometry.Geometry.cylinder_sectors.Goals as goal
 
 pub returns-clause-value : goal.returns-clause-value

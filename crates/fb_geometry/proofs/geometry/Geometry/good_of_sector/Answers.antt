@@ -1,11 +1,7 @@
-use Rattle.std.proofs.Common.{◌*◌, ◌-◌, arith, sym, subst, refl}
-use Rattle.fb_geometry.specs.Index.{IsGoodOf}
-use Rattle.fb_geometry.specs.Marks.{positions}
-use Rattle.fb_geometry.specs.Shape.{is_among}
-use Rattle.fb_geometry.specs.Slips.{entry_of_sector, indexes}
-use Rattle.fb_geometry.specs.Turns.{cylinder_slots}
-use Rattle.fb_geometry.proofs.Slips.{slipped-le}
-use Rattle.fb_geometry.proofs.Lookups.{few_slots, split_of, good_by_track, good_by_cylinder}
+use Rattle.fb_geometry.proofs.Words.{IsGoodOf, arith, cylinder_slots, entry_of_sector, indexes, is_among, positions}
+use Rattle.fb_geometry.proofs.Words.{refl, subst, sym, ◌*◌, ◌-◌}
+use Rattle.fb_geometry.proofs.{Slips.slipped-le, Lookups.few_slots, Lookups.split_of, Lookups.good_by_track}
+use Rattle.fb_geometry.proofs.{Lookups.good_by_cylinder}
 use Rattle.fb_geometry.proofs.geometry.Geometry.good_of_sector.Goals as goal
 
 pub overflow_mul-first : goal.overflow_mul-first

@@ -1,11 +1,6 @@
-use Rattle.std.proofs.Common.{arith, ap, length, ◌*◌, subst, sym}
-use Rattle.fb_geometry.specs.Marks.{positions}
-use Rattle.fb_geometry.specs.Stretches.{KeepsOrder}
-use Rattle.fb_geometry.proofs.Laws.{has_spares, length-per_cylinder}
-use Rattle.fb_geometry.proofs.Lookups.{spares_by}
-use Rattle.fb_geometry.specs.declared.layout.Layout.TheVariants.{PerCylinder}
-use Rattle.fb_geometry.proofs.Lookups.{list_by}
-use Rattle.fb_geometry.proofs.Stretched.{order_by_track, order_by_cylinder}
+use Rattle.fb_geometry.proofs.Words.{KeepsOrder, PerCylinder, ap, arith, length, positions, subst, sym, ◌*◌}
+use Rattle.fb_geometry.proofs.{Laws.has_spares, Laws.length-per_cylinder, Lookups.spares_by, Lookups.list_by}
+use Rattle.fb_geometry.proofs.{Stretched.order_by_track, Stretched.order_by_cylinder}
 use Rattle.fb_geometry.proofs.geometry.Geometry.in_order.Goals as goal
 
 pub unmarked_from-requires-clause-order : goal.unmarked_from-requires-clause-order

@@ -1,11 +1,6 @@
-use Rattle.std.proofs.Common.{◌≡◌, sym, ◌∙◌, None, Result, Ok, Err}
-use Rattle.std.proofs.lemmas.Result.{err_from_is_err_and}
-use Rattle.fb_geometry.specs.Shape.{Shape}
-use Rattle.fb_geometry.specs.Faults.{Judges}
-use Rattle.fb_geometry.specs.declared.fault.GeometryError.{GeometryError}
-use Rattle.fb_geometry.specs.declared.fault.GeometryError.TheVariants.{Fault, NoMemory}
-use Rattle.fb_geometry.specs.Index.{JudgesSpares, zone_fault, defect_fault, Answers}
-use Rattle.fb_geometry.proofs.Judging.{fault_of_zones, fault_of_defects, fault_of_spares}
+use Rattle.fb_geometry.proofs.Words.{Answers, Err, Fault, GeometryError, Judges, JudgesSpares, NoMemory, None, Ok}
+use Rattle.fb_geometry.proofs.Words.{Result, Shape, defect_fault, err_from_is_err_and, sym, zone_fault, ◌∙◌, ◌≡◌}
+use Rattle.fb_geometry.proofs.{Judging.fault_of_zones, Judging.fault_of_defects, Judging.fault_of_spares}
 use Rattle.fb_geometry.proofs.geometry.Geometry.new.Goals as goal
 
 -- what is said of the spares is so of the whole, once the zones and the defects are judged

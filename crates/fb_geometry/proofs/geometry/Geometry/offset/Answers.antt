@@ -1,6 +1,5 @@
-use Rattle.std.proofs.Common.{sym, ap, ◌∙◌}
-use Rattle.fb_geometry.specs.Shape.{offset_in}
-use Rattle.fb_geometry.proofs.Faultless.{offset_at-zone}
+use Rattle.fb_geometry.proofs.Words.{ap, offset_in, sym, ◌∙◌}
+use Rattle.fb_geometry.proofs.{Faultless.offset_at-zone}
 use Rattle.fb_geometry.proofs.geometry.Geometry.offset.Goals as goal
 
 pub returns-clause-value : goal.returns-clause-value

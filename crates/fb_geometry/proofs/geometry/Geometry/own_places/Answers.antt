@@ -1,6 +1,5 @@
-use Rattle.std.proofs.Common.{subst}
-use Rattle.fb_geometry.specs.Sound.{HasOwnPlaces}
-use Rattle.fb_geometry.proofs.Once.{own_places}
+use Rattle.fb_geometry.proofs.Words.{HasOwnPlaces, subst}
+use Rattle.fb_geometry.proofs.{Once.own_places}
 use Rattle.fb_geometry.proofs.geometry.Geometry.own_places.Goals as goal
 
 pub returns : goal.returns

@@ -1,13 +1,9 @@
-use Rattle.std.proofs.Common.{◌≡◌, sym, ◌∙◌, ap, subst, None, map, refl}
-use Rattle.std.specs.Prelude.{All, false, option_map}
-use Rattle.fb_units.specs.declared.types.Place.{Place}
-use Rattle.fb_geometry.specs.declared.fault.GeometryFault.TheVariants.{TooManyInCylinder}
-use Rattle.fb_geometry.specs.Faults.{is_outside, repeated, fault_at, spare_fault}
-use Rattle.fb_geometry.specs.Marks.{AreMarksOf, AreInOrder, among_unmarked}
-use Rattle.fb_geometry.specs.Index.{IsKept, IsFaultless}
-use Rattle.fb_geometry.proofs.Judging.{bad_inside, good_defects, good_grown, faultless, cylinder_spares, fits_per_cylinder}
-use Rattle.fb_geometry.proofs.Once.{sound}
-use Rattle.fb_geometry.proofs.Indexing.{indexed, grown_in_order}
+use Rattle.fb_geometry.proofs.Words.{All, AreInOrder, AreMarksOf, IsFaultless, IsKept, None, Place, TooManyInCylinder}
+use Rattle.fb_geometry.proofs.Words.{among_unmarked, ap, false, fault_at, is_outside, map, option_map, refl, repeated}
+use Rattle.fb_geometry.proofs.Words.{spare_fault, subst, sym, ◌∙◌, ◌≡◌}
+use Rattle.fb_geometry.proofs.{Judging.bad_inside, Judging.good_defects, Judging.good_grown, Judging.faultless}
+use Rattle.fb_geometry.proofs.{Judging.cylinder_spares, Judging.fits_per_cylinder, Once.sound, Indexing.indexed}
+use Rattle.fb_geometry.proofs.{Indexing.grown_in_order}
 use Rattle.fb_geometry.proofs.geometry.Geometry.per_cylinder.Goals as goal
 
 pub first_on_full_cylinder-requires-clause-inside : goal.first_on_full_cylinder-requires-clause-inside

@@ -1,13 +1,8 @@
-use Rattle.std.proofs.Common.{◌≡◌, sym, ◌∙◌, ap, subst, None, refl}
-use Rattle.std.specs.Prelude.{All, false, option_map}
-use Rattle.fb_units.specs.declared.types.Place.{Place}
-use Rattle.fb_geometry.specs.declared.fault.GeometryFault.TheVariants.{TooManyDefects}
-use Rattle.fb_geometry.specs.Faults.{is_outside, repeated, fault_at, spare_fault}
-use Rattle.fb_geometry.specs.Marks.{AreMarksOf}
-use Rattle.fb_geometry.specs.Index.{IsKept, IsFaultless}
-use Rattle.fb_geometry.proofs.Judging.{defects_inside, good_defects, faultless, track_spares}
-use Rattle.fb_geometry.proofs.Once.{sound}
-use Rattle.fb_geometry.proofs.Indexing.{indexed_alone}
+use Rattle.fb_geometry.proofs.Words.{All, AreMarksOf, IsFaultless, IsKept, None, Place, TooManyDefects, ap, false}
+use Rattle.fb_geometry.proofs.Words.{fault_at, is_outside, option_map, refl, repeated, spare_fault, subst, sym, ◌∙◌}
+use Rattle.fb_geometry.proofs.Words.{◌≡◌}
+use Rattle.fb_geometry.proofs.{Judging.defects_inside, Judging.good_defects, Judging.faultless, Judging.track_spares}
+use Rattle.fb_geometry.proofs.{Once.sound, Indexing.indexed_alone}
 use Rattle.fb_geometry.proofs.geometry.Geometry.per_track.Goals as goal
 
 pub first_on_full_track-requires-clause-inside : goal.first_on_full_track-requires-clause-inside

@@ -1,7 +1,5 @@
-use Rattle.std.proofs.Common.{◌-◌, arith, sym}
-use Rattle.std.proofs.lemmas.Nat.{mul-le}
-use Rattle.fb_geometry.specs.Marks.{positions}
-use Rattle.fb_geometry.proofs.Lookups.{before_good, none_by_track, some_by_head, judged_entry}
+use Rattle.fb_geometry.proofs.Words.{arith, mul-le, positions, sym, ◌-◌}
+use Rattle.fb_geometry.proofs.{Lookups.before_good, Lookups.none_by_track, Lookups.some_by_head, Lookups.judged_entry}
 use Rattle.fb_geometry.proofs.geometry.Geometry.sector_of_good.Goals as goal
 
 pub overflow_mul-place : goal.overflow_mul-place

@@ -1,7 +1,5 @@
-use Rattle.std.proofs.Common.{arith, sym, ◌∙◌, true, false}
-use Rattle.fb_units.specs.declared.types.Place.{Place}
-use Rattle.fb_geometry.specs.Marks.{positions}
-use Rattle.fb_geometry.proofs.Lookups.{defect_at, none_on_defect}
+use Rattle.fb_geometry.proofs.Words.{Place, arith, false, positions, sym, true, ◌∙◌}
+use Rattle.fb_geometry.proofs.{Lookups.defect_at, Lookups.none_on_defect}
 use Rattle.fb_geometry.proofs.geometry.Geometry.sector_of_slot.Goals as goal
 
 pub returns-then-is_marked : goal.returns-then-is_marked

@@ -1,7 +1,5 @@
-use Rattle.std.proofs.Common.{refl, inl, inr, arith, ap, ◌∙◌}
-use Rattle.fb_geometry.specs.Marks.{positions}
-use Rattle.fb_geometry.specs.Turns.{position_in}
-use Rattle.fb_geometry.proofs.Stretched.{stretched-by, head-below}
+use Rattle.fb_geometry.proofs.Words.{ap, arith, inl, inr, position_in, positions, refl, ◌∙◌}
+use Rattle.fb_geometry.proofs.{Stretched.stretched-by, Stretched.head-below}
 use Rattle.fb_geometry.proofs.geometry.Geometry.stretch.Goals as goal
 
 pub position-position-requires-clause-head : goal.position-position-requires-clause-head

@@ -1,6 +1,5 @@
-use Rattle.std.proofs.Common.{◌-◌, ◌+◌, ap, ◌∙◌, arith, length}
-use Rattle.fb_geometry.specs.Shape.{cylinders_of}
-use Rattle.fb_geometry.proofs.Faultless.{last-cylinder, some_zones}
+use Rattle.fb_geometry.proofs.Words.{ap, arith, cylinders_of, length, ◌+◌, ◌-◌, ◌∙◌}
+use Rattle.fb_geometry.proofs.{Faultless.last-cylinder, Faultless.some_zones}
 use Rattle.fb_geometry.proofs.outline.Outline.cylinders.Goals as goal
 
 pub returns-clause-value : goal.returns-clause-value

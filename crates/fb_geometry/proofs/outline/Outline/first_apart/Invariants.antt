@@ -1,5 +1,4 @@
-use Rattle.std.proofs.Common.{◌≡◌, drop}
-use Rattle.fb_geometry.specs.Faults.{first_apart}
+use Rattle.fb_geometry.proofs.Words.{drop, first_apart, ◌≡◌}
 use Rattle.fb_geometry.proofs.outline.Outline.first_apart.Given as goal
 
 abbrev pub invariant-loop-index : goal.invariant-loop-index

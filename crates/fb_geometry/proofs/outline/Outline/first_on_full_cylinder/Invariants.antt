@@ -1,6 +1,4 @@
-use Rattle.std.proofs.Common.{◌≡◌, drop}
-use Rattle.std.specs.Prelude.{find}
-use Rattle.fb_geometry.specs.Faults.{is_full_cylinder}
+use Rattle.fb_geometry.proofs.Words.{drop, find, is_full_cylinder, ◌≡◌}
 use Rattle.fb_geometry.proofs.outline.Outline.first_on_full_cylinder.Given as goal
 
 abbrev pub invariant-loop-place : goal.invariant-loop-place

@@ -1,7 +1,5 @@
-use Rattle.std.proofs.Common.{sym, ◌∙◌, rules, tests}
-use Rattle.std.proofs.lemmas.Iterator.{YieldsList-from_slice}
-use Rattle.std.proofs.lemmas.Iterator.Search.{position_from_yields_List}
-use Rattle.fb_geometry.specs.Faults.{is_too_skewed}
+use Rattle.fb_geometry.proofs.Words.{YieldsList-from_slice, is_too_skewed, position_from_yields_List, rules, sym}
+use Rattle.fb_geometry.proofs.Words.{tests, ◌∙◌}
 use Rattle.fb_geometry.proofs.outline.Outline.first_skewed.Goals as goal
 
 pub returns-in-Some : goal.returns-in-Some

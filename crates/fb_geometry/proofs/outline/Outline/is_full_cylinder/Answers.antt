@@ -1,10 +1,6 @@
-use Rattle.std.proofs.Common.{◌≡◌, ◌+◌, ◌-◌, length, arith, rules, ap, sym, ◌∙◌, ◌++◌}
-use Rattle.std.specs.Prelude.{filter, nat_lt, nat_le, ◌==◌}
-use Rattle.std.proofs.lemmas.Bool.Decides.{nat_tests}
-use Rattle.std.proofs.lemmas.List.Sorted.{IsPartitionPoint-from_clause}
-use Rattle.fb_units.specs.declared.types.Place.{Place}
-use Rattle.fb_geometry.proofs.Faultless.{cylinder_spares_at-zone}
-use Rattle.fb_geometry.proofs.Spares.{between, partitioned}
+use Rattle.fb_geometry.proofs.Words.{IsPartitionPoint-from_clause, Place, ap, arith, filter, length, nat_le, nat_lt}
+use Rattle.fb_geometry.proofs.Words.{nat_tests, rules, sym, ◌++◌, ◌+◌, ◌-◌, ◌==◌, ◌∙◌, ◌≡◌}
+use Rattle.fb_geometry.proofs.{Faultless.cylinder_spares_at-zone, Spares.between, Spares.partitioned}
 use Rattle.fb_geometry.proofs.outline.Outline.is_full_cylinder.Goals as goal
 
 counted : (c : goal.After-partition_point-behind)

@@ -1,12 +1,6 @@
-use Rattle.std.proofs.Common.{◌≡◌, ◌+◌, ◌-◌, length, arith, rules, ap, sym, ◌∙◌}
-use Rattle.std.specs.Prelude.{filter, not, nat_lt}
-use Rattle.std.proofs.lemmas.Bool.Decides.{nat_tests}
-use Rattle.std.proofs.lemmas.List.Sorted.{IsPartitionPoint-from_clause}
-use Rattle.fb_units.specs.Tracks.{same_track}
-use Rattle.fb_units.specs.declared.types.Place.{Place}
-use Rattle.fb_geometry.specs.Faults.{is_track_before}
-use Rattle.fb_geometry.proofs.Faultless.{spares_at-zone}
-use Rattle.fb_geometry.proofs.Spares.{between, partitioned}
+use Rattle.fb_geometry.proofs.Words.{IsPartitionPoint-from_clause, Place, ap, arith, filter, is_track_before, length}
+use Rattle.fb_geometry.proofs.Words.{nat_lt, nat_tests, not, rules, same_track, sym, ◌+◌, ◌-◌, ◌∙◌, ◌≡◌}
+use Rattle.fb_geometry.proofs.{Faultless.spares_at-zone, Spares.between, Spares.partitioned}
 use Rattle.fb_geometry.proofs.outline.Outline.is_full_track.Goals as goal
 
 counted : (c : goal.After-partition_point-behind) → c.partition_point-behind.result ≡ c.partition_point-first.result + length (filter (λ (place : Place). same_track c.args.place.track place.track) c.args.self.now.defects)

@@ -1,7 +1,5 @@
-use Rattle.std.proofs.Common.{sym, ◌∙◌, ap}
-use Rattle.fb_geometry.specs.declared.fault.GeometryFault.TheVariants.{GrownTwice}
-use Rattle.fb_geometry.specs.Faults.{fault_at}
-use Rattle.fb_geometry.proofs.Judging.{grown_judged}
+use Rattle.fb_geometry.proofs.Words.{GrownTwice, ap, fault_at, sym, ◌∙◌}
+use Rattle.fb_geometry.proofs.{Judging.grown_judged}
 use Rattle.fb_geometry.proofs.outline.Outline.judged_grown.Goals as goal
 
 pub returns-in-Some-first_twin-clause-fault : goal.returns-in-Some-first_twin-clause-fault

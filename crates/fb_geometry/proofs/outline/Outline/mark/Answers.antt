@@ -1,6 +1,5 @@
-use Rattle.std.proofs.Common.{ap, sym, ◌∙◌}
-use Rattle.fb_geometry.specs.Turns.{position_in}
-use Rattle.fb_geometry.proofs.Marking.{position_is}
+use Rattle.fb_geometry.proofs.Words.{ap, position_in, sym, ◌∙◌}
+use Rattle.fb_geometry.proofs.{Marking.position_is}
 use Rattle.fb_geometry.proofs.outline.Outline.mark.Goals as goal
 
 pub returns : goal.returns

@@ -1,11 +1,6 @@
-use Rattle.std.proofs.Common.{◌+◌, sym, ◌∙◌, subst, get_or}
-use Rattle.std.specs.List.Sorted.{IsPermutation}
-use Rattle.fb_geometry.specs.Faults.{is_outside}
-use Rattle.fb_geometry.specs.Marks.{is_mark_before}
-use Rattle.fb_geometry.proofs.Faultless.{find-none}
-use Rattle.fb_geometry.proofs.Marking.{sorted_by}
-use Rattle.fb_geometry.proofs.Leasts.{marks_rank}
-use Rattle.fb_geometry.proofs.Clashes.{sorted-rise, marks_in_order}
+use Rattle.fb_geometry.proofs.Words.{IsPermutation, get_or, is_mark_before, is_outside, subst, sym, ◌+◌, ◌∙◌}
+use Rattle.fb_geometry.proofs.{Faultless.find-none, Marking.sorted_by, Leasts.marks_rank, Clashes.sorted-rise}
+use Rattle.fb_geometry.proofs.{Clashes.marks_in_order}
 use Rattle.fb_geometry.proofs.outline.Outline.marks.Goals as goal
 
 pub returns : goal.returns

@@ -1,4 +1,4 @@
-use Rattle.fb_geometry.proofs.Marking.{inside_at}
+use Rattle.fb_geometry.proofs.{Marking.inside_at}
 use Rattle.fb_geometry.proofs.outline.Outline.unsorted_marks.Goals as goal
 
 pub mark-requires-clause-inside : goal.mark-requires-clause-inside

@@ -1,5 +1,4 @@
-use Rattle.std.proofs.Common.{◌≡◌, take, map}
-use Rattle.fb_geometry.specs.Marks.{mark_of}
+use Rattle.fb_geometry.proofs.Words.{map, mark_of, take, ◌≡◌}
 use Rattle.fb_geometry.proofs.outline.Outline.unsorted_marks.Given as goal
 
 abbrev pub invariant-loop-place : goal.invariant-loop-place

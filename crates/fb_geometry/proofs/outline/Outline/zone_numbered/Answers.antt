@@ -1,10 +1,5 @@
-use Rattle.std.proofs.Common.{◌≡◌, ◌<◌, ℕ, List, subst, sym, ap, ◌∙◌, length, arith}
-use Rattle.std.specs.Prelude.{Some}
-use Rattle.std.specs.List.{slice_index_or}
-use Rattle.std.proofs.lemmas.Option.{slice_get-get_or}
-use Rattle.fb_geometry.specs.declared.zone.Zone.{Zone}
-use Rattle.fb_geometry.specs.Shape.{cylinders_of}
-use Rattle.fb_geometry.specs.Turns.{AreZoneNumbers, NumbersZone, zone_at}
+use Rattle.fb_geometry.proofs.Words.{AreZoneNumbers, List, NumbersZone, Some, Zone, ap, arith, cylinders_of, length}
+use Rattle.fb_geometry.proofs.Words.{slice_get-get_or, slice_index_or, subst, sym, zone_at, ℕ, ◌<◌, ◌∙◌, ◌≡◌}
 use Rattle.fb_geometry.proofs.outline.Outline.zone_numbered.Goals as goal
 
 -- a number that is looked up is that of the cylinder's zone

@@ -1,6 +1,5 @@
-use Rattle.std.proofs.Common.{subst, sym, ap, ◌∙◌}
-use Rattle.std.specs.List.Sorted.{IsNonDecreasingBy}
-use Rattle.fb_geometry.proofs.Faultless.{zones-rise}
+use Rattle.fb_geometry.proofs.Words.{IsNonDecreasingBy, ap, subst, sym, ◌∙◌}
+use Rattle.fb_geometry.proofs.{Faultless.zones-rise}
 use Rattle.fb_geometry.proofs.outline.Outline.zone_numbers.Goals as goal
 
 pub zone_number-requires-clause-rise : goal.zone_number-requires-clause-rise

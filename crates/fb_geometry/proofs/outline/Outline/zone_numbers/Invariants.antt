@@ -1,6 +1,4 @@
-use Rattle.std.proofs.Common.{◌≡◌, ℕ, ◌<◌, length}
-use Rattle.std.specs.List.{slice_index_or}
-use Rattle.fb_geometry.specs.Turns.{NumbersZone}
+use Rattle.fb_geometry.proofs.Words.{NumbersZone, length, slice_index_or, ℕ, ◌<◌, ◌≡◌}
 use Rattle.fb_geometry.proofs.outline.Outline.zone_numbers.Given as goal
 
 abbrev pub invariant-loop-cylinder : goal.invariant-loop-cylinder

@@ -1,9 +1,6 @@
-use Rattle.std.proofs.Common.{◌≡◌, subst, sym, ap, ◌∙◌, length, ◌<◌}
-use Rattle.std.specs.Prelude.{Some, slice_get}
-use Rattle.std.specs.List.Sorted.{IsNonDecreasingBy}
-use Rattle.std.proofs.lemmas.Option.{slice_get-get_or}
-use Rattle.fb_geometry.specs.Turns.{zone_at}
-use Rattle.fb_geometry.proofs.Faultless.{found_zone, zones-rise, slots_at-zone}
+use Rattle.fb_geometry.proofs.Words.{IsNonDecreasingBy, Some, ap, length, slice_get, slice_get-get_or, subst, sym}
+use Rattle.fb_geometry.proofs.Words.{zone_at, ◌<◌, ◌∙◌, ◌≡◌}
+use Rattle.fb_geometry.proofs.{Faultless.found_zone, Faultless.zones-rise, Faultless.slots_at-zone}
 use Rattle.fb_geometry.proofs.outline.Outline.zone_of.Goals as goal
 
 pub zone_number-requires-clause-rise : goal.zone_number-requires-clause-rise

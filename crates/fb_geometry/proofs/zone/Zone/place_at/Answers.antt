@@ -1,8 +1,5 @@
-use Rattle.std.proofs.Common.{◌+◌, ◌%◌, ◌/◌, ◌<◌, ◌≤◌, ap, sym, ◌∙◌, arith}
-use Rattle.std.proofs.Math.Nat.{mod-lt}
-use Rattle.std.proofs.lemmas.Bool.Decides.{nat_tests}
-use Rattle.fb_units.specs.declared.types.Track.{Track}
-use Rattle.fb_geometry.proofs.Turns.{round-behind}
+use Rattle.fb_geometry.proofs.Words.{Track, ap, arith, mod-lt, nat_tests, sym, ◌%◌, ◌+◌, ◌/◌, ◌<◌, ◌∙◌, ◌≤◌}
+use Rattle.fb_geometry.proofs.{Turns.round-behind}
 use Rattle.fb_geometry.proofs.zone.Zone.place_at.Goals as goal
 
 pub returns-else-slot-self : goal.returns-else-slot-self
