@@ -27,11 +27,11 @@ use Rattle.fb_model.specs.Decisions.{Decision, serves, idles, ends, instant_of}
 use Rattle.fb_model.specs.History.{Past, LogSegment, chose, calls_of, opened_by, tasks, task_numbers, terms_of, registered, blocks_of}
 use Rattle.fb_model.specs.Completion.{view, work, segments, is_closed}
 use Rattle.fb_model.specs.Segments.{numbered, next_blocks, is_better, is_busy, unchosen, choose_best, choose_once, choose_up_to, choose_in, with_choices}
-use Rattle.fb_model.specs.Steps.{Delivery, Part, blocks_by, take_call, calls_taken, calls_due, settled_past, with_delivery, with_finish, tested_past, past_after}
+use Rattle.fb_model.specs.Steps.{Delivery, Part, blocks_by, take_call, calls_due, settled_past, with_delivery, with_finish, tested_past, past_after}
 use Rattle.fb_model.proofs.Views.{number_same}
+use Rattle.fb_model.proofs.HistoriesUpTo.{due_first}
 use Rattle.fb_tasks.proofs.Asked.{open_there, terms_there}
 use Rattle.fb_tasks.proofs.Lists.{all_append, same_number, number_other}
-use Rattle.fb_decide.proofs.Calling.{come_by}
 use Rattle.fb_check.proofs.PrintingSectors.{HasSector, IsSome, sectors, own, some_cut, some_live, some_numbered, numbered_have, none_other, some_have, cuts_have}
 
 -- the terms of a task
@@ -51,7 +51,7 @@ pub record HoldBlocks (disk : Shape) (calls : List Call) (blocks : List Block) (
   pub left : AreAllowed disk taken (drop count calls)
 
 abbrev pub Holds : Shape → List Call → Past → Type 0
-Holds disk calls past = HoldBlocks disk calls (registered past) (tasks past) (calls_of past) (calls_taken past)
+Holds disk calls past = HoldBlocks disk calls (registered past) (tasks past) (calls_of past) (length (calls_of past))
 
 -- ---- lists
 
@@ -61,14 +61,10 @@ after_first zero (y ∷ xs) x rest h = cc
 after_first (suc n) [] x rest h = cc
 after_first (suc n) (y ∷ xs) x rest h = after_first n xs x rest h
 
-abbrev Begins : {X : Type 0} → List X → List X → Type 0
-Begins {X} front xs = (rest : List X) × (xs ≡ front ++ rest)
-
-begins_dropped : {X : Type 0} (n : ℕ) (front xs : List X) → Begins front xs → Begins (drop n front) (drop n xs)
-begins_dropped zero front xs begins = begins
-begins_dropped (suc n) [] xs begins = (drop (suc n) xs, refl)
-begins_dropped (suc n) (x ∷ front) [] begins = ([], cc)
-begins_dropped (suc n) (x ∷ front) (y ∷ xs) begins = begins_dropped n front xs (begins.0, cc)
+after_taken : (calls taken : List Call) (call : Call) (rest : List Call) → drop (length taken) calls ≡ call ∷ rest → drop (length (taken ++ call ∷ [])) calls ≡ rest
+after_taken calls taken call rest next =
+    let count : length (taken ++ call ∷ []) ≡ suc (length taken) = omega (arith, length-append taken (call ∷ [])) in
+    ap (λ n. drop n calls) count ∙ after_first (length taken) calls call rest next
 
 terms_before : (tasks more : List Terms) (task : ℕ) → task < length tasks → terms_at (tasks ++ more) task ≡ terms_at tasks task
 terms_before [] more task less = absurd (omega arith)
@@ -91,22 +87,6 @@ not_both Clean cleans backup = true≢false (sym backup)
 other_same : (owner task weight n : ℕ) (cuts : List Cut) (blocks : List Block) → (owner == task) ≡ false → own task (blocks ++ numbered owner weight n cuts) ≡ own task blocks
 other_same owner task weight n cuts blocks other =
     filter-append (λ (block : Block). block.task == task) blocks (numbered owner weight n cuts) ∙ (ap (λ more. own task blocks ++ more) (none_other owner task weight n cuts other) ∙ append-nil (own task blocks))
-
--- ---- the calls that are due stand next
-
-none_come : (now instant : ℕ) (calls : List Call) → now < instant → AllByRecursion (λ later. instant ≤ later) (map (λ call. call.instant) calls) → filter (come_by now) calls ≡ []
-none_come now instant [] late all = refl
-none_come now instant (call ∷ calls) late all =
-    let before = all.0 in
-    let not_come : come_by now call ≡ false = grind (arith, nat_tests) in
-    rw not_come (none_come now instant calls late all.1)
-
-come_first : (now : ℕ) (calls : List Call) → IsRising (map (λ call. call.instant) calls) → Begins (filter (come_by now) calls) calls
-come_first now [] rising = ([], refl)
-come_first now (call ∷ calls) rising = elim (cases_Bool (come_by now call)) [
-  | inl come ↦ rw come (let rest = come_first now calls rising.1 in (rest.0, ap (λ calls. call ∷ calls) rest.1))
-  | inr late ↦ rw (late, none_come now call.instant calls (grind (arith, nat_tests)) rising.0) (call ∷ calls, refl)
-]
 
 -- ---- a call
 
@@ -175,20 +155,20 @@ module _ (disk : Shape) (calls : List Call) where
         ]
     backups_now _ is may task backup = kept task (registered past ++ []) (ap (own task) (append-nil (registered past))) backup
 
-  call_holds : (past : Past) (call : Call) (rest : List Call) → drop (calls_taken past) calls ≡ call ∷ rest → Holds disk calls past → Holds disk calls (take_call disk past call)
+  call_holds : (past : Past) (call : Call) (rest : List Call) → drop (length (calls_of past)) calls ≡ call ∷ rest → Holds disk calls past → Holds disk calls (take_call disk past call)
   call_holds past call rest next h =
       let may = subst (AreAllowed disk (calls_of past)) next h.left in
       record {
         some = some_now past call h call.action;
         unopened = unopened_now past call h call.action may.1;
         backups = backups_now past call h call.action refl may.1;
-        left = subst (AreAllowed disk (calls_of past ++ call ∷ [])) (sym (after_first (calls_taken past) calls call rest next)) may.2;
+        left = subst (AreAllowed disk (calls_of past ++ call ∷ [])) (sym (after_taken calls (calls_of past) call rest next)) may.2;
       }
 
-  calls_hold : (due rest : List Call) (past : Past) → drop (calls_taken past) calls ≡ due ++ rest → Holds disk calls past → Holds disk calls (fold (take_call disk) past due)
+  calls_hold : (due rest : List Call) (past : Past) → drop (length (calls_of past)) calls ≡ due ++ rest → Holds disk calls past → Holds disk calls (fold (take_call disk) past due)
   calls_hold [] rest past next h = h
   calls_hold (call ∷ due) rest past next h =
-      calls_hold due rest (take_call disk past call) (after_first (calls_taken past) calls call (due ++ rest) next) (call_holds past call (due ++ rest) next h)
+      calls_hold due rest (take_call disk past call) (after_taken calls (calls_of past) call (due ++ rest) next) (call_holds past call (due ++ rest) next h)
 
   -- ---- choices
 
@@ -269,7 +249,7 @@ unfolding settled_past with_choices
 settled_holds inputs accepted past decision h =
     let now = instant_of decision in
     let due = calls_due inputs.calls past now in
-    let rest = begins_dropped (calls_taken past) (filter (come_by now) inputs.calls) inputs.calls (come_first now inputs.calls accepted.instants) in
+    let rest = due_first inputs.calls past now accepted.instants in
     let called = fold (take_call inputs.disk.map) past due in
     choices_hold inputs.disk.map inputs.calls (task_numbers called) called (calls_hold inputs.disk.map inputs.calls due rest.0 past rest.1 h)
 

@@ -16,7 +16,7 @@ use Rattle.fb_model.specs.Rides.{due}
 use Rattle.fb_model.specs.Decisions.{Decision, serves, idles, ends, instant_of}
 use Rattle.fb_model.specs.History.{delivered, Past, task_numbers, terms_of, blocks_of, registered, wanted, state, is_sealed, is_open_backup}
 use Rattle.fb_model.specs.Completion.{work, choices, is_complete, was_complete}
-use Rattle.fb_model.specs.Images.{findings, is_scrub, bad_sectors, is_newly_cleaned, segment_rows, seal_rows, complete_rows, test_rows, on_disk}
+use Rattle.fb_model.specs.Images.{findings, is_scrub, bad_sectors, is_newly_cleaned, segment_rows, seal_rows, complete_rows, test_rows, packed, image}
 use Rattle.fb_model.specs.Steps.{Delivery, Part, settled_past, with_delivery, tested_past, past_after, AtEach, opening, part_rows, task_row, task_rows, history, steps}
 use Rattle.fb_model.specs.SoundRun.{AreFollowed, IsTested}
 use Rattle.fb_model.specs.FullRun.{IsAllDelivered}
@@ -64,7 +64,7 @@ module _ (inputs : Inputs) where
       (due_true medium step.0 step.1.plan IsSome (wanted settled) (wanted_some settled h)))
 
   module _ (past : Past) (now : ℕ) (h : HoldsOf inputs past) where
-    seals_count : (task : ℕ) → AllByRecursion CountsSectors (seal_rows (on_disk medium) past now task)
+    seals_count : (task : ℕ) → AllByRecursion CountsSectors (seal_rows (image medium past task now) past now task)
     seals_count task = elim (cases_Bool (is_open_backup past task && is_complete past task)) [
       | inr unsealed ↦ rw unsealed tt
       | inl sealed ↦
@@ -91,13 +91,13 @@ module _ (inputs : Inputs) where
       | inr old ↦ rw old tt
     ]
 
-    tests_count : AllByRecursion CountsSectors (test_rows (on_disk medium) past now)
+    tests_count : AllByRecursion CountsSectors (test_rows medium past now)
     unfolding test_rows
-    tests_count = all_append CountsSectors (flat_map (segment_rows (on_disk medium) past now) (task_numbers past)) (flat_map (λ task. seal_rows (on_disk medium) past now task ++ complete_rows past now task) (task_numbers past))
-        (flat_all CountsSectors (segment_rows (on_disk medium) past now) (task_numbers past)
+    tests_count = all_append CountsSectors (flat_map (segment_rows (packed medium past) past now) (task_numbers past)) (flat_map (λ task. seal_rows (image medium past task now) past now task ++ complete_rows past now task) (task_numbers past))
+        (flat_all CountsSectors (segment_rows (packed medium past) past now) (task_numbers past)
         (all_any _ (λ task. all_map CountsSectors _ (filter (is_newly_cleaned (work past task)) (choices past task)) (all_any _ (λ choice. tt) (filter (is_newly_cleaned (work past task)) (choices past task)))) (task_numbers past)))
-        (flat_all CountsSectors (λ task. seal_rows (on_disk medium) past now task ++ complete_rows past now task) (task_numbers past)
-        (all_any _ (λ task. all_append CountsSectors (seal_rows (on_disk medium) past now task) (complete_rows past now task) (seals_count task) (completes_count task)) (task_numbers past)))
+        (flat_all CountsSectors (λ task. seal_rows (image medium past task now) past now task ++ complete_rows past now task) (task_numbers past)
+        (all_any _ (λ task. all_append CountsSectors (seal_rows (image medium past task now) past now task) (complete_rows past now task) (seals_count task) (completes_count task)) (task_numbers past)))
 
   findings_count : (past : Past) (got : DeliveryRow) → AllByRecursion CountsSectors (findings past got)
   findings_count past got = elim (cases_Bool (is_scrub (terms_of past got.block.task).kind)) [
@@ -113,7 +113,7 @@ module _ (inputs : Inputs) where
   followed_count past (delivery ∷ deliveries) h gots follows = (
     gots.0,
     all_append CountsSectors delivery.after (flat_map (λ (delivery : Delivery). GotLine delivery.got ∷ delivery.after) deliveries)
-        (subst (AllByRecursion CountsSectors) (sym follows.0) (all_append CountsSectors (findings past delivery.got) (test_rows (on_disk medium) (delivered delivery.got ∷ past) delivery.got.end)
+        (subst (AllByRecursion CountsSectors) (sym follows.0) (all_append CountsSectors (findings past delivery.got) (test_rows medium (delivered delivery.got ∷ past) delivery.got.end)
         (findings_count past delivery.got) (tests_count (delivered delivery.got ∷ past) delivery.got.end h)))
         (followed_count (with_delivery past delivery) deliveries h gots.1 follows.1),
   )

@@ -1,16 +1,15 @@
 -- Calls take effect one after another, and other events leave them as they are.
-use Rattle.std.proofs.Common.{◌≡◌, ℕ, zero, suc, ◌+◌, ◌*◌, ◌^◌, ◌<◌, ◌≤◌, nat_le, Bool, List, [], ◌∷◌, Some, inl, inr, length, length-append, drop, filter, map, refl, ap, sym, ◌∙◌, arith, subst}
+use Rattle.std.proofs.Common.{◌≡◌, ℕ, zero, suc, ◌+◌, ◌*◌, ◌^◌, ◌<◌, ◌≤◌, List, [], ◌∷◌, Some, length, drop, filter, map, refl, ap, sym, ◌∙◌, arith, subst}
 use Rattle.std.specs.Prelude.{slice_get, IfSome}
 use Rattle.std.specs.List.{AllByRecursion, fold}
-use Rattle.std.proofs.lemmas.Bool.{cases_lt}
 use Rattle.fb_units.specs.Rising.{IsRising}
 use Rattle.fb_geometry.specs.Shape.{Shape}
 use Rattle.fb_calls.specs.declared.call.Call.{Call}
 use Rattle.fb_calls.specs.Allowed.{blocks_from}
 use Rattle.fb_wanted.specs.declared.block.Entry.{Entry}
 use Rattle.fb_rows.specs.declared.back.DeliveryRow.{DeliveryRow}
-use Rattle.fb_model.specs.History.{Past, calls_of, called}
-use Rattle.fb_model.specs.Steps.{take_call, calls_taken, calls_due, with_delivery}
+use Rattle.fb_model.specs.History.{Past, calls_of}
+use Rattle.fb_model.specs.Steps.{take_call, calls_due, with_delivery}
 use Rattle.fb_tasks.specs.declared.session.Session.{Session}
 use Rattle.fb_tasks.specs.Taken.{delivery_of}
 use Rattle.fb_tasks.specs.Telling.{Tells, MayTake, MaySettle}
@@ -18,42 +17,18 @@ use Rattle.fb_tasks.proofs.Calls.{count-is, left-is, may-take, called-more, call
 use Rattle.fb_decide.specs.Calls.{IsScriptOf, IsCalled}
 use Rattle.fb_decide.specs.Deliveries.{past_with}
 use Rattle.fb_model.proofs.Lists.{by_is, after_is}
+use Rattle.fb_model.proofs.HistoriesUpTo.{calls_by, none_come}
 use Rattle.std.proofs.lemmas.List.{drop_all}
 
--- the calls of a history are those that have taken effect
-pub taken_count : (past : Past) → calls_taken past ≡ length (calls_of past)
-taken_count [] = refl
-taken_count (called call blocks ∷ past) = omega (arith, taken_count past, length-append (calls_of past) (call ∷ []))
-taken_count (_ ∷ past) = taken_count past
-
--- calls by their instants
-abbrev pub come_by : ℕ → Call → Bool
-come_by now call = nat_le call.instant now
-
-none_come : (now instant : ℕ) (calls : List Call) → now < instant → AllByRecursion (λ later. instant ≤ later) (map (λ call. call.instant) calls) → filter (come_by now) calls ≡ []
-none_come now instant [] late h = refl
-none_come now instant (call ∷ calls) late h = rw (after_is call.instant now (omega (arith, h.0))) (none_come now instant calls late h.1)
-
--- of calls in order, those that have come and are not yet taken are those of the rest
-filter_dropped : (now n : ℕ) (calls : List Call) → IsRising (map (λ call. call.instant) calls) → drop n (filter (come_by now) calls) ≡ filter (come_by now) (drop n calls)
-filter_dropped now zero calls rising = refl
-filter_dropped now (suc n) [] rising = refl
-filter_dropped now (suc n) (call ∷ calls) rising = elim (cases_lt now call.instant) [
-  | inl late ↦
-      let none = none_come now call.instant calls late rising.0 in
-      rw (after_is call.instant now late) (ap (drop (suc n)) none ∙ (sym (drop_all n [] (omega arith)) ∙ (ap (drop n) (sym none) ∙ filter_dropped now n calls rising.1)))
-  | inr here ↦ rw (by_is call.instant now here) (filter_dropped now n calls rising.1)
-]
-
-none_ahead : (now n : ℕ) (calls : List Call) → IsRising (map (λ call. call.instant) calls) → IfSome (slice_get calls n) (λ call. now < call.instant) → filter (come_by now) (drop n calls) ≡ []
-none_ahead now n [] rising ahead = ap (filter (come_by now)) (drop_all n [] (omega arith))
+none_ahead : (now n : ℕ) (calls : List Call) → IsRising (map (λ call. call.instant) calls) → IfSome (slice_get calls n) (λ call. now < call.instant) → filter (calls_by now) (drop n calls) ≡ []
+none_ahead now n [] rising ahead = ap (filter (calls_by now)) (drop_all n [] (omega arith))
 none_ahead now zero (call ∷ calls) rising ahead = rw (after_is call.instant now ahead) (none_come now call.instant calls ahead rising.0)
 none_ahead now (suc n) (call ∷ calls) rising ahead = none_ahead now n calls rising.1 ahead
 
 module _ (disk : Shape) (calls : List Call) (script : IsScriptOf disk calls) where
   -- the calls that are due stand next
-  due_is : (past : Past) (next now : ℕ) → IsCalled disk calls past next → calls_due calls past now ≡ filter (come_by now) (drop next calls)
-  due_is past next now h = ap (λ n. drop n (filter (come_by now) calls)) (taken_count past ∙ count-is disk calls past next h) ∙ filter_dropped now next calls script.instants
+  due_is : (past : Past) (next now : ℕ) → IsCalled disk calls past next → calls_due calls past now ≡ filter (calls_by now) (drop next calls)
+  due_is past next now h = ap (λ n. filter (calls_by now) (drop n calls)) (count-is disk calls past next h)
 
   pub none_due : (past : Past) (next now : ℕ) → IsCalled disk calls past next → IfSome (slice_get calls next) (λ call. now < call.instant) → calls_due calls past now ≡ []
   none_due past next now h ahead = due_is past next now h ∙ none_ahead now next calls script.instants ahead

@@ -14,8 +14,8 @@ use Rattle.fb_model.specs.Content.{Medium, content, contents_at}
 use Rattle.fb_model.specs.History.{Past, task_numbers, registered, blocks_of, bare_state, content_of, is_open_backup}
 use Rattle.fb_model.specs.Completion.{Choice, choices, view, work, own_of, is_cleaned, is_complete}
 use Rattle.fb_model.specs.Segments.{live_count}
-use Rattle.fb_model.specs.Images.{delivery_begin, image, packed, is_newly_cleaned, segment_rows, seal_rows, complete_rows, test_rows, on_disk}
-use Rattle.fb_tasks.specs.Taken.{found_for, by_deliveries}
+use Rattle.fb_model.specs.Images.{held_at_delivery, image, packed, is_newly_cleaned, segment_rows, seal_rows, complete_rows, test_rows}
+use Rattle.fb_tasks.specs.Taken.{found_for, segment_rows_found, seal_rows_found, test_rows_found}
 use Rattle.fb_decide.specs.Deliveries.{IsRegistered}
 use Rattle.fb_decide.specs.Standing.{Mirrors, IsTrue}
 use Rattle.fb_tasks.proofs.Lists.{all_any, all_with, all_filter, all_pass, map_same, flat_same, list_all_each}
@@ -41,20 +41,20 @@ module _ (medium : Medium) (holding : Holding) (past : Past) (true_so_far : IsTr
 
   -- a delivered block of a choice was found as it was when its delivery began
   packed_block : (task : ℕ) (block : Block) → IsBlockHere task block → is_delivered ((work past task).bare block) ≡ true
-      → sectors_of ((work past task).found block) ≡ contents_at medium block.lbn block.count (delivery_begin past block)
+      → sectors_of ((work past task).found block) ≡ held_at_delivery medium past block
   packed_block task block here done = ap (λ b. sectors_of (content_of past b)) (as_own task block here)
-      ∙ (ap sectors_of (true_so_far.found block here.0 (was_delivered task block here done)) ∙ sectors_of-runs_of (contents_at medium block.lbn block.count (delivery_begin past block)))
+      ∙ (ap sectors_of (true_so_far.found block here.0 (was_delivered task block here done)) ∙ sectors_of-runs_of (held_at_delivery medium past block))
 
   packed-true : (task : ℕ) (choice : Choice) → is_newly_cleaned (work past task) choice ≡ true → AllByRecursion (IsBlockHere task) choice.blocks → found_for (work past task) choice.blocks ≡ packed medium past choice
-  packed-true task choice newly here = ap runs_of (flat_same (λ block. sectors_of ((work past task).found block)) (λ block. contents_at medium block.lbn block.count (delivery_begin past block)) choice.blocks
-      (all_with (IsBlockHere task) (λ block. is_delivered ((work past task).bare block) ≡ true) (λ block. sectors_of ((work past task).found block) ≡ contents_at medium block.lbn block.count (delivery_begin past block)) (packed_block task) choice.blocks here
+  packed-true task choice newly here = ap runs_of (flat_same (λ block. sectors_of ((work past task).found block)) (held_at_delivery medium past) choice.blocks
+      (all_with (IsBlockHere task) (λ block. is_delivered ((work past task).bare block) ≡ true) (λ block. sectors_of ((work past task).found block) ≡ held_at_delivery medium past block) (packed_block task) choice.blocks here
       (list_all_each (λ block. is_delivered ((work past task).bare block)) choice.blocks (and_parts (is_cleaned (work past task) choice) _ newly).0)))
 
   chosen_here : (task : ℕ) → AllByRecursion (λ (choice : Choice). AllByRecursion (IsBlockHere task) choice.blocks) (choices past task)
   chosen_here task = all_with (λ (choice : Choice). AllByRecursion (IsRegistered past) choice.blocks) (λ choice. AllByRecursion (λ block. block.task ≡ task) choice.blocks) (λ choice. AllByRecursion (IsBlockHere task) choice.blocks)
       (λ choice there mine. all_with (IsRegistered past) (λ block. block.task ≡ task) (IsBlockHere task) (λ block a b. (a, b)) choice.blocks there mine) (choices past task) (chosen_there past task) (chosen_own task)
 
-  segments-true : (now task : ℕ) → segment_rows by_deliveries past now task ≡ segment_rows (on_disk medium) past now task
+  segments-true : (now task : ℕ) → segment_rows_found past now task ≡ segment_rows (packed medium past) past now task
   segments-true now task = map_same
       (λ (choice : Choice). SegmentLine (record { task = task; segment = choice.segment.number; instant = now; live = live_count choice.segment; content = found_for (work past task) choice.blocks }))
       (λ (choice : Choice). SegmentLine (record { task = task; segment = choice.segment.number; instant = now; live = live_count choice.segment; content = packed medium past choice }))
@@ -92,15 +92,15 @@ module _ (medium : Medium) (holding : Holding) (past : Past) (true_so_far : IsTr
     seal_if task true a b h = ap (λ content. SealLine (record { task = task; instant = now; content = content }) ∷ []) (h refl)
     seal_if task false a b h = refl
 
-    seals-true : (task : ℕ) → seal_rows by_deliveries past now task ≡ seal_rows (on_disk medium) past now task
+    seals-true : (task : ℕ) → seal_rows_found past now task ≡ seal_rows (image medium past task now) past now task
     seals-true task = seal_if task (is_open_backup past task && is_complete past task) (found_for (work past task) (filter (λ block. is_delivered ((work past task).bare block)) (blocks_of past task))) (image medium past task now)
         (λ seals. image-true task (and_parts (is_open_backup past task) (is_complete past task) seals).0)
 
     -- the rows of a test are those that the disk gives
-    pub rows-true : test_rows by_deliveries past now ≡ test_rows (on_disk medium) past now
-    unfolding test_rows
+    pub rows-true : test_rows_found past now ≡ test_rows medium past now
+    unfolding test_rows test_rows_found
     rows-true = ap₂ (λ a b. a ++ b)
-        (flat_same (segment_rows by_deliveries past now) (segment_rows (on_disk medium) past now) (task_numbers past)
-        (all_any (λ task. segment_rows by_deliveries past now task ≡ segment_rows (on_disk medium) past now task) (segments-true now) (task_numbers past)))
-        (flat_same (λ task. seal_rows by_deliveries past now task ++ complete_rows past now task) (λ task. seal_rows (on_disk medium) past now task ++ complete_rows past now task) (task_numbers past)
-        (all_any (λ task. seal_rows by_deliveries past now task ++ complete_rows past now task ≡ seal_rows (on_disk medium) past now task ++ complete_rows past now task) (λ task. ap (λ rows. rows ++ complete_rows past now task) (seals-true task)) (task_numbers past)))
+        (flat_same (segment_rows_found past now) (segment_rows (packed medium past) past now) (task_numbers past)
+        (all_any (λ task. segment_rows_found past now task ≡ segment_rows (packed medium past) past now task) (segments-true now) (task_numbers past)))
+        (flat_same (λ task. seal_rows_found past now task ++ complete_rows past now task) (λ task. seal_rows (image medium past task now) past now task ++ complete_rows past now task) (task_numbers past)
+        (all_any (λ task. seal_rows_found past now task ++ complete_rows past now task ≡ seal_rows (image medium past task now) past now task ++ complete_rows past now task) (λ task. ap (λ rows. rows ++ complete_rows past now task) (seals-true task)) (task_numbers past)))

@@ -28,9 +28,9 @@ use Rattle.fb_model.specs.Content.{Medium, medium_of, content, contents_at}
 use Rattle.fb_model.specs.Plans.{catches, early_dwell, late_dwell}
 use Rattle.fb_model.specs.Rides.{delivery, caught, rides, missed, lies_in, gap_of, due}
 use Rattle.fb_model.specs.Decisions.{Decision, serves, idles, ends, instant_of}
-use Rattle.fb_model.specs.History.{Event, delivered, tested, Past, tasks, task_numbers, terms_of, registered, registered_by, blocks_of, wanted, state, is_open_backup}
+use Rattle.fb_model.specs.History.{Event, delivered, tested, same_block, Past, tasks, task_numbers, terms_of, registered, registered_by, blocks_of, wanted, state, is_open_backup}
 use Rattle.fb_model.specs.Completion.{Choice, choices, work, is_complete, was_complete}
-use Rattle.fb_model.specs.Images.{findings, is_scrub, bad_sectors, segment_rows, seal_rows, complete_rows, is_newly_cleaned, image, on_disk, test_rows, delivery_begin}
+use Rattle.fb_model.specs.Images.{findings, is_scrub, bad_sectors, segment_rows, seal_rows, complete_rows, is_newly_cleaned, image, packed, test_rows, held_at_delivery}
 use Rattle.fb_model.specs.Steps.{Delivery, Part, take_call, calls_due, with_delivery, with_finish, settled_past, past_after, opening, part_rows, task_row, task_rows}
 use Rattle.fb_model.specs.SoundRun.{AreFollowed}
 use Rattle.fb_model.proofs.Lists.{all_append, all_left, all_map}
@@ -65,11 +65,18 @@ contents_within : (medium : Medium) (lbn n t : ℕ) → lbn + n ≤ 10 ^ 12 → 
 contents_within medium lbn n t h = all_map IsOnDisk (λ sector. (sector, content medium sector t)) (range_with_len lbn n)
     (all_range (λ sector. sector + 1 ≤ 10 ^ 12) lbn n (λ k from below. omega (arith, h, below)))
 
-blocks_within : (medium : Medium) (when : Block → ℕ) (blocks : List Block) → AllByRecursion (λ (block : Block). block.lbn + block.count ≤ 10 ^ 12) blocks
-    → AllByRecursion IsOnDisk (flat_map (λ block. contents_at medium block.lbn block.count (when block)) blocks)
-blocks_within medium when blocks all = flat_all IsOnDisk (λ block. contents_at medium block.lbn block.count (when block)) blocks
-    (all_weaker (λ (block : Block). block.lbn + block.count ≤ 10 ^ 12) (λ block. AllByRecursion IsOnDisk (contents_at medium block.lbn block.count (when block)))
-    (λ block h. contents_within medium block.lbn block.count (when block) h) blocks all)
+held_within : (medium : Medium) (past : Past) (block : Block) → block.lbn + block.count ≤ 10 ^ 12 → AllByRecursion IsOnDisk (held_at_delivery medium past block)
+held_within medium [] block h = tt
+held_within medium (delivered row ∷ past) block h = elim (cases_Bool (same_block row.block block)) [
+  | inl own ↦ rw own (contents_within medium block.lbn block.count row.begin h)
+  | inr other ↦ rw other (held_within medium past block h)
+]
+held_within medium (_ ∷ past) block h = held_within medium past block h
+
+blocks_within : (sectors : Block → List (ℕ × Content)) → ((block : Block) → block.lbn + block.count ≤ 10 ^ 12 → AllByRecursion IsOnDisk (sectors block)) → (blocks : List Block)
+    → AllByRecursion (λ (block : Block). block.lbn + block.count ≤ 10 ^ 12) blocks → AllByRecursion IsOnDisk (flat_map sectors blocks)
+blocks_within sectors each blocks all = flat_all IsOnDisk sectors blocks
+    (all_weaker (λ (block : Block). block.lbn + block.count ≤ 10 ^ 12) (λ block. AllByRecursion IsOnDisk (sectors block)) each blocks all)
 
 -- ---- rows and histories
 
@@ -128,34 +135,34 @@ module _ (n : ℕ) where
     chosen_fits task = all_weaker (λ (choice : Choice). AllByRecursion (IsRegistered past) choice.blocks) (λ choice. AllByRecursion (BlockFits n) choice.blocks)
         (λ choice all. all_weaker (IsRegistered past) (BlockFits n) (λ block there. all_in (BlockFits n) (registered past) block fits.blocks there) choice.blocks all) (choices past task) (chosen_there past task)
 
-    segments_fit : (task : ℕ) → task < n → AllByRecursion (RowFits n) (segment_rows (on_disk medium) past now task)
+    segments_fit : (task : ℕ) → task < n → AllByRecursion (RowFits n) (segment_rows (packed medium past) past now task)
     segments_fit task below = all_map (RowFits n) _ (filter (is_newly_cleaned (work past task)) (choices past task))
         (all_weaker (λ (choice : Choice). AllByRecursion (BlockFits n) choice.blocks) _
         (λ choice all. record {
-          ranges = runs_within _ (blocks_within medium (delivery_begin past) choice.blocks (all_weaker (BlockFits n) (λ block. block.lbn + block.count ≤ 10 ^ 12) (λ block h. h.within) choice.blocks all));
+          ranges = runs_within _ (blocks_within (held_at_delivery medium past) (held_within medium past) choice.blocks (all_weaker (BlockFits n) (λ block. block.lbn + block.count ≤ 10 ^ 12) (λ block h. h.within) choice.blocks all));
           named = λ names e. omega (arith, e, below);
         })
         (filter (is_newly_cleaned (work past task)) (choices past task)) (all_filter _ (is_newly_cleaned (work past task)) (choices past task) (chosen_fits task)))
 
     image_within : (task : ℕ) → AreRanges (image medium past task now)
-    image_within task = runs_within _ (blocks_within medium (λ block. now) (filter (λ block. is_delivered ((work past task).bare block)) (blocks_of past task))
+    image_within task = runs_within _ (blocks_within (λ block. contents_at medium block.lbn block.count now) (λ block. contents_within medium block.lbn block.count now) (filter (λ block. is_delivered ((work past task).bare block)) (blocks_of past task))
         (all_weaker (BlockFits n) (λ block. block.lbn + block.count ≤ 10 ^ 12) (λ block h. h.within) (filter (λ block. is_delivered ((work past task).bare block)) (blocks_of past task))
         (all_filter (BlockFits n) (λ block. is_delivered ((work past task).bare block)) (blocks_of past task) (all_filter (BlockFits n) (λ block. block.task == task) (registered past) fits.blocks))))
 
-    seals_fit : (task : ℕ) → task < n → AllByRecursion (RowFits n) (seal_rows (on_disk medium) past now task)
+    seals_fit : (task : ℕ) → task < n → AllByRecursion (RowFits n) (seal_rows (image medium past task now) past now task)
     seals_fit task below = one_fits (is_open_backup past task && is_complete past task) _ (record { ranges = image_within task; named = λ names e. omega (arith, e, below) })
 
     completes_fit : (task : ℕ) → task < n → AllByRecursion (RowFits n) (complete_rows past now task)
     completes_fit task below = one_fits (is_complete past task && not (was_complete past task)) _ (record { ranges = tt; named = λ names e. omega (arith, e, below) })
 
-    tests_fit : AllByRecursion (RowFits n) (test_rows (on_disk medium) past now)
+    tests_fit : AllByRecursion (RowFits n) (test_rows medium past now)
     unfolding test_rows
-    tests_fit = all_append (RowFits n) (flat_map (segment_rows (on_disk medium) past now) (task_numbers past)) (flat_map (λ task. seal_rows (on_disk medium) past now task ++ complete_rows past now task) (task_numbers past))
-        (flat_all (RowFits n) (segment_rows (on_disk medium) past now) (task_numbers past)
-        (all_weaker (λ task. task < n) (λ task. AllByRecursion (RowFits n) (segment_rows (on_disk medium) past now task)) segments_fit (task_numbers past) (in_range past fits)))
-        (flat_all (RowFits n) (λ task. seal_rows (on_disk medium) past now task ++ complete_rows past now task) (task_numbers past)
-        (all_weaker (λ task. task < n) (λ task. AllByRecursion (RowFits n) (seal_rows (on_disk medium) past now task ++ complete_rows past now task))
-        (λ task below. all_append (RowFits n) (seal_rows (on_disk medium) past now task) (complete_rows past now task) (seals_fit task below) (completes_fit task below)) (task_numbers past) (in_range past fits)))
+    tests_fit = all_append (RowFits n) (flat_map (segment_rows (packed medium past) past now) (task_numbers past)) (flat_map (λ task. seal_rows (image medium past task now) past now task ++ complete_rows past now task) (task_numbers past))
+        (flat_all (RowFits n) (segment_rows (packed medium past) past now) (task_numbers past)
+        (all_weaker (λ task. task < n) (λ task. AllByRecursion (RowFits n) (segment_rows (packed medium past) past now task)) segments_fit (task_numbers past) (in_range past fits)))
+        (flat_all (RowFits n) (λ task. seal_rows (image medium past task now) past now task ++ complete_rows past now task) (task_numbers past)
+        (all_weaker (λ task. task < n) (λ task. AllByRecursion (RowFits n) (seal_rows (image medium past task now) past now task ++ complete_rows past now task))
+        (λ task below. all_append (RowFits n) (seal_rows (image medium past task now) past now task) (complete_rows past now task) (seals_fit task below) (completes_fit task below)) (task_numbers past) (in_range past fits)))
 
   -- ---- deliveries and what follows them
 
@@ -208,7 +215,7 @@ module _ (n : ℕ) where
       let now : PastFits n (delivered delivery.got ∷ past) = record { blocks = fits.blocks; few = fits.few } in (
         record { ranges = got.ranges; named = λ names e. (let below = got.task in omega (arith, e, below)) },
         all_append (RowFits n) delivery.after (flat_map (λ (delivery : Delivery). GotLine delivery.got ∷ delivery.after) deliveries)
-            (subst (AllByRecursion (RowFits n)) (sym follows.0) (all_append (RowFits n) (findings past delivery.got) (test_rows (on_disk medium) (delivered delivery.got ∷ past) delivery.got.end)
+            (subst (AllByRecursion (RowFits n)) (sym follows.0) (all_append (RowFits n) (findings past delivery.got) (test_rows medium (delivered delivery.got ∷ past) delivery.got.end)
             (findings_fit past delivery.got got) (tests_fit medium (delivered delivery.got ∷ past) delivery.got.end now)))
             (followed_fit medium (with_delivery past delivery) deliveries (record { blocks = fits.blocks; few = fits.few }) gots.1 follows.1),
       )

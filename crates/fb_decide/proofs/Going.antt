@@ -6,7 +6,7 @@ use Rattle.fb_model.specs.PlainReplay.{Served, service, finish, last_track, plai
 use Rattle.fb_model.specs.Inputs.{Inputs, served, requests}
 use Rattle.fb_model.specs.Content.{medium_of, Written, fore_row}
 use Rattle.fb_model.specs.Decisions.{Decision, end_of, run_end, serves, idles, ends, instants_of, decisions_from, decisions, last_decision}
-use Rattle.fb_model.specs.Steps.{past_after, history, take_call, calls_due}
+use Rattle.fb_model.specs.Steps.{past_after, history, take_call, calls_left, calls_due}
 use Rattle.fb_model.proofs.Steps.{history-append}
 use Rattle.fb_tasks.specs.Telling.{Tells, calls_of}
 use Rattle.fb_decide.specs.declared.deciding.Course.{Course}
@@ -78,11 +78,6 @@ calls_settled disk calls past now =
     let called = fold (take_call disk) past (calls_due calls past now) in
     by_all (λ p. calls_of p ≡ calls_of called) disk (λ p task segment blocks e. e) called refl
     ∙ calls_after disk past (calls_due calls past now)
-
-all_dropped : {X : Type 0} (P : X → Type 0) (n : ℕ) (xs : List X) → AllByRecursion P xs → AllByRecursion P (drop n xs)
-all_dropped P zero xs all = all
-all_dropped P (suc n) [] all = tt
-all_dropped P (suc n) (x ∷ xs) all = all_dropped P n xs all.1
 
 all_come : (now : ℕ) (calls : List Call) → AllByRecursion (λ c. c.instant ≤ now) (filter (λ call. nat_le call.instant now) calls)
 all_come now calls = all_weaker _ _ (λ (c : Call) by. is_by c.instant now by) _ (all_pass (λ call. nat_le call.instant now) calls)
@@ -164,7 +159,7 @@ module _ (inputs : Inputs) (known : AreKnown inputs) (before : Course) (pending 
       subst (AllByRecursion (λ c. c.instant ≤ before.now)) (sym (calls_settled inputs.disk.map inputs.calls past before.now) ∙ ready.settled.called.taken)
       (all_append (λ c. c.instant ≤ before.now) (calls_of past) (calls_due inputs.calls past before.now)
       (subst (AllByRecursion (λ c. c.instant ≤ before.now)) (sym so_far.called.taken) so_far.calls_taken)
-      (all_dropped (λ c. c.instant ≤ before.now) _ (filter (λ call. nat_le call.instant before.now) inputs.calls) (all_come before.now inputs.calls)))
+      (all_come before.now (calls_left inputs.calls past)))
 
   come : HasCome inputs before.now joined called
   come = record { rising = known.rising; instants = known.accepted.instants; arrivals = ready.come; calls = calls_taken; no_arrival = ready.ahead; no_call = ready.settled.ahead }

@@ -13,7 +13,7 @@ use Rattle.fb_model.specs.Timeline.{timeline}
 use Rattle.fb_model.specs.Decisions.{Decision, instant_of}
 use Rattle.fb_model.specs.History.{Past, delivered, task_numbers, terms_of, is_open_backup}
 use Rattle.fb_model.specs.Completion.{choices, work, is_complete, was_complete}
-use Rattle.fb_model.specs.Images.{Sources, bad_sectors, is_scrub, findings, is_newly_cleaned, on_disk, segment_rows, seal_rows, complete_rows, test_rows}
+use Rattle.fb_model.specs.Images.{bad_sectors, is_scrub, findings, is_newly_cleaned, image, packed, segment_rows, seal_rows, complete_rows, test_rows}
 use Rattle.fb_model.specs.Steps.{Delivery, Part, with_delivery, tested_past, settled_past, task_row, task_rows}
 use Rattle.fb_model.specs.SoundRun.{AreFollowed, IsTested}
 use Rattle.fb_model.proofs.RowsUpTo.{delivered_rows}
@@ -47,14 +47,14 @@ one_quiet : (b : Bool) (row : BackRow) → IsQuiet row → AllByRecursion IsQuie
 one_quiet true row quiet = (quiet, tt)
 one_quiet false row quiet = tt
 
-pub test_quiet : (sources : Sources) (past : Past) (now : ℕ) → AllByRecursion IsQuiet (test_rows sources past now)
+pub test_quiet : (medium : Medium) (past : Past) (now : ℕ) → AllByRecursion IsQuiet (test_rows medium past now)
 unfolding test_rows
-test_quiet sources past now =
-    all_append IsQuiet (flat_map (segment_rows sources past now) (task_numbers past)) (flat_map (λ task. seal_rows sources past now task ++ complete_rows past now task) (task_numbers past))
-    (all_flat_map IsQuiet (segment_rows sources past now) (λ task. all_map IsQuiet _ (filter (is_newly_cleaned (work past task)) (choices past task)) (all_any _ (λ choice. tt) _)) (task_numbers past))
-    (all_flat_map IsQuiet (λ task. seal_rows sources past now task ++ complete_rows past now task) (λ task.
-    all_append IsQuiet (seal_rows sources past now task) (complete_rows past now task)
-    (one_quiet (is_open_backup past task && is_complete past task) (SealLine (record { task = task; instant = now; content = sources.image_at past task now })) tt)
+test_quiet medium past now =
+    all_append IsQuiet (flat_map (segment_rows (packed medium past) past now) (task_numbers past)) (flat_map (λ task. seal_rows (image medium past task now) past now task ++ complete_rows past now task) (task_numbers past))
+    (all_flat_map IsQuiet (segment_rows (packed medium past) past now) (λ task. all_map IsQuiet _ (filter (is_newly_cleaned (work past task)) (choices past task)) (all_any _ (λ choice. tt) _)) (task_numbers past))
+    (all_flat_map IsQuiet (λ task. seal_rows (image medium past task now) past now task ++ complete_rows past now task) (λ task.
+    all_append IsQuiet (seal_rows (image medium past task now) past now task) (complete_rows past now task)
+    (one_quiet (is_open_backup past task && is_complete past task) (SealLine (record { task = task; instant = now; content = image medium past task now })) tt)
     (one_quiet (is_complete past task && not (was_complete past task)) (CompleteLine (record { task = task; instant = now })) tt)) (task_numbers past))
 
 found_quiet : (b : Bool) (task : ℕ) (lbns : List ℕ) → AllByRecursion IsQuiet (if b then map (λ lbn. BadLine (record { task = task; lbn = lbn })) lbns else [])
@@ -79,13 +79,13 @@ followed_quiet medium past [] followed = tt
 followed_quiet medium past (delivery ∷ deliveries) followed = (
   tt,
   all_append IsQuiet delivery.after (delivered_rows deliveries)
-      (subst (AllByRecursion IsQuiet) (sym followed.0) (all_append IsQuiet (findings past delivery.got) (test_rows (on_disk medium) (delivered delivery.got ∷ past) delivery.got.end)
-      (findings_quiet past delivery.got) (test_quiet (on_disk medium) (delivered delivery.got ∷ past) delivery.got.end)))
+      (subst (AllByRecursion IsQuiet) (sym followed.0) (all_append IsQuiet (findings past delivery.got) (test_rows medium (delivered delivery.got ∷ past) delivery.got.end)
+      (findings_quiet past delivery.got) (test_quiet medium (delivered delivery.got ∷ past) delivery.got.end)))
       (followed_quiet medium (with_delivery past delivery) deliveries followed.1),
 )
 
 pub quiet_part : (inputs : Inputs) (medium : Medium) (past : Past) (step : Decision × Part) → IsTested inputs medium past step → IsQuietPart step.1
 quiet_part inputs medium past step tested = record {
-  settled = subst (AllByRecursion IsQuiet) (sym tested.settled) (test_quiet (on_disk medium) (settled_past inputs past step.0) (instant_of step.0));
+  settled = subst (AllByRecursion IsQuiet) (sym tested.settled) (test_quiet medium (settled_past inputs past step.0) (instant_of step.0));
   delivered = followed_quiet medium (tested_past inputs past step) step.1.deliveries tested.followed;
 }

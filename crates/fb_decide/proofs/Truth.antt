@@ -19,7 +19,7 @@ use Rattle.fb_model.specs.Content.{Medium, contents_at, number_of}
 use Rattle.fb_model.specs.History.{Event, called, chose, tested, Past, LogSegment, Terms, tasks, terms_of, registered, bare_state, content_of, is_sealed, is_seal_of, is_open_backup, ends_block, same_block, opened_by, delivered, finished}
 use Rattle.fb_model.specs.Segments.{with_choices}
 use Rattle.fb_model.specs.Steps.{take_call, calls_due, with_delivery, settled_past, past_after}
-use Rattle.fb_model.specs.Images.{delivery_begin, test_rows, on_disk, findings}
+use Rattle.fb_model.specs.Images.{held_at_delivery, test_rows, findings}
 use Rattle.fb_decide.specs.Calls.{settled_by, settling_rows, past_settled, part_by}
 use Rattle.fb_decide.specs.Deliveries.{IsRegistered, followed, past_with}
 use Rattle.fb_decide.specs.Standing.{IsTrue, Mirrors, IsFoundIn}
@@ -54,7 +54,7 @@ if_delivered false there rest none done = (refl, done)
 pub record IsStill (past new : Past) : Type 0 where
   pub delivered : (block : Block) → IsRegistered new block → is_delivered (bare_state new block) ≡ true → IsRegistered past block × (is_delivered (bare_state past block) ≡ true)
   pub content : (block : Block) → content_of new block ≡ content_of past block
-  pub begin : (block : Block) → delivery_begin new block ≡ delivery_begin past block
+  pub held : (medium : Medium) (block : Block) → held_at_delivery medium new block ≡ held_at_delivery medium past block
   pub more : length (tasks past) ≤ length (tasks new)
   pub backup : (task : ℕ) → task < length (tasks past) → is_open_backup new task ≡ true → is_open_backup past task ≡ true
 
@@ -62,7 +62,7 @@ pub still-true : (medium : Medium) (holding : Holding) (past new : Past) → IsS
 still-true medium holding past new still opened before = record {
   found = λ block there done.
       let known = still.delivered block there done in
-      still.content block ∙ (before.found block known.0 known.1 ∙ ap (λ begin. runs_of (contents_at medium block.lbn block.count begin)) (sym (still.begin block)));
+      still.content block ∙ (before.found block known.0 known.1 ∙ ap runs_of (sym (still.held medium block)));
   kept = λ block there done is_open.
       let known = still.delivered block there done in
       still.content block ∙ before.kept block known.0 known.1 (still.backup block.task (all_in (λ (b : Block). b.task < length (tasks past)) (registered past) block opened known.0) is_open);
@@ -72,7 +72,7 @@ pub still-same : (past : Past) → IsStill past past
 still-same past = record {
   delivered = λ block there done. (there, done);
   content = λ block. refl;
-  begin = λ block. refl;
+  held = λ medium block. refl;
   more = omega arith;
   backup = λ task less is_open. is_open;
 }
@@ -81,7 +81,7 @@ pub still-then : (past mid new : Past) → IsStill past mid → IsStill mid new 
 still-then past mid new first second = record {
   delivered = λ block there done. let known = second.delivered block there done in first.delivered block known.0 known.1;
   content = λ block. second.content block ∙ first.content block;
-  begin = λ block. second.begin block ∙ first.begin block;
+  held = λ medium block. second.held medium block ∙ first.held medium block;
   more = let a = first.more in let b = second.more in omega (arith, a, b);
   backup = λ task less is_open. first.backup task less (second.backup task (let a = first.more in omega (arith, a, less)) is_open);
 }
@@ -110,8 +110,8 @@ open_before past (tested rows) task less is_open = unsealed (is_backup (terms_of
 open_before past (_) task less is_open = is_open
 
 still-by : (past : Past) (event : Event) → ((block : Block) → IsRegistered (event ∷ past) block → is_delivered (bare_state (event ∷ past) block) ≡ true → IsRegistered past block × (is_delivered (bare_state past block) ≡ true))
-    → ((block : Block) → content_of (event ∷ past) block ≡ content_of past block) → ((block : Block) → delivery_begin (event ∷ past) block ≡ delivery_begin past block) → IsStill past (event ∷ past)
-still-by past event lasts content begin = record { delivered = lasts; content = content; begin = begin; more = tasks_more past event; backup = open_before past event }
+    → ((block : Block) → content_of (event ∷ past) block ≡ content_of past block) → ((medium : Medium) (block : Block) → held_at_delivery medium (event ∷ past) block ≡ held_at_delivery medium past block) → IsStill past (event ∷ past)
+still-by past event lasts content held = record { delivered = lasts; content = content; held = held; more = tasks_more past event; backup = open_before past event }
 
 pub called-still : (past : Past) (call : Call) (blocks : List Block) → IsStill past (called call blocks ∷ past)
 unfolding bare_state content_of
@@ -120,7 +120,7 @@ called-still past call blocks = still-by past (called call blocks)
     let fresh = if_delivered (list_any (same_block block) blocks) Wanted _ refl done in
     let ended = if_delivered ((call.task == block.task) && ends_block call.action block && not (is_delivered (bare_state past block))) Aborted _ refl fresh.1 in
     (there_before past (called call blocks) block fresh.0 there, ended.1))
-    (λ block. refl) (λ block. refl)
+    (λ block. refl) (λ medium block. refl)
 
 pub chosen-still : (past : Past) (task : ℕ) (segment : LogSegment) (blocks : List Block) → IsStill past (chose task segment blocks ∷ past)
 unfolding bare_state content_of
@@ -128,11 +128,11 @@ chosen-still past task segment blocks = still-by past (chose task segment blocks
     (λ block there done.
     let fresh = if_delivered (list_any (same_block block) blocks) Wanted (bare_state past block) refl done in
     (there_before past (chose task segment blocks) block fresh.0 there, fresh.1))
-    (λ block. refl) (λ block. refl)
+    (λ block. refl) (λ medium block. refl)
 
 pub tested-still : (past : Past) (rows : List BackRow) → IsStill past (tested rows ∷ past)
 unfolding bare_state content_of
-tested-still past rows = still-by past (tested rows) (λ block there done. (there_before past (tested rows) block refl there, done)) (λ block. refl) (λ block. refl)
+tested-still past rows = still-by past (tested rows) (λ block there done. (there_before past (tested rows) block refl there, done)) (λ block. refl) (λ medium block. refl)
 
 pub calls-still : (disk : Shape) (past : Past) (calls : List Call) → IsStill past (fold (take_call disk) past calls)
 calls-still disk past [] = still-same past
@@ -165,7 +165,7 @@ mirrors_within medium holding from to begin end mirrors after before lbn t late 
 -- after calls and choices of an instant and their test
 pub settled_true : (medium : Medium) (holding : Holding) (disk : Shape) (calls : List Call) (past : Past) (now end : ℕ)
     → IsTrue medium holding past → Mirrors medium holding now end → now ≤ end → AreOpened past → AreOwn (settled_by disk calls past now)
-    → (settling_rows disk calls past now ≡ test_rows (on_disk medium) (settled_by disk calls past now) now) × IsTrue medium holding (past_settled disk calls past now)
+    → (settling_rows disk calls past now ≡ test_rows medium (settled_by disk calls past now) now) × IsTrue medium holding (past_settled disk calls past now)
 settled_true medium holding disk calls past now end before mirrors order opened own =
     let settled = settled_by disk calls past now in
     let still = settled-still disk calls past now in (
@@ -198,7 +198,7 @@ module _ (medium : Medium) (holding : Holding) (from to : ℕ) (mirrors : Mirror
     }
 
     -- the rows behind a delivery are the disk's own
-    pub delivery_rows : AreOwn past → IsTrue medium holding past → rows_after past got ≡ findings past got ++ test_rows (on_disk medium) (delivered got ∷ past) got.end
+    pub delivery_rows : AreOwn past → IsTrue medium holding past → rows_after past got ≡ findings past got ++ test_rows medium (delivered got ∷ past) got.end
     delivery_rows own before =
         let begin = found.begin in let order = found.order in let end = found.end in
         ap (λ rows. findings past got ++ rows) (rows-true medium holding (delivered got ∷ past) (delivered_true before) own got.end

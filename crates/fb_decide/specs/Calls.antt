@@ -11,8 +11,7 @@ use Rattle.fb_rows.specs.declared.back.BackRow.{BackRow}
 use Rattle.fb_model.specs.History.{Past, tested}
 use Rattle.fb_model.specs.Steps.{Part, take_call, calls_due}
 use Rattle.fb_model.specs.Segments.{with_choices}
-use Rattle.fb_model.specs.Images.{test_rows}
-use Rattle.fb_tasks.specs.Taken.{by_deliveries}
+use Rattle.fb_tasks.specs.Taken.{test_rows_found}
 pub use Rattle.fb_tasks.specs.Script.{IsCalled}
 use Rattle.fb_decide.specs.declared.background.Background.{Background}
 use Rattle.fb_decide.specs.Deliveries.{IsCurrent, followed}
@@ -29,7 +28,7 @@ settled_by disk calls past now = with_choices disk (fold (take_call disk) past (
 
 -- the rows of its test
 abbrev pub settling_rows : Shape → List Call → Past → ℕ → List BackRow
-settling_rows disk calls past now = test_rows by_deliveries (settled_by disk calls past now) now
+settling_rows disk calls past now = test_rows_found (settled_by disk calls past now) now
 
 -- after its test
 abbrev pub past_settled : Shape → List Call → Past → ℕ → Past

@@ -6,9 +6,9 @@ use Rattle.fb_store.specs.Index.{Holding, content_in}
 use Rattle.fb_wanted.specs.declared.block.Block.{Block}
 use Rattle.fb_wanted.specs.States.{is_delivered}
 use Rattle.fb_rows.specs.declared.back.DeliveryRow.{DeliveryRow}
-use Rattle.fb_model.specs.Content.{Medium, content, contents_at}
+use Rattle.fb_model.specs.Content.{Medium, content}
 use Rattle.fb_model.specs.History.{Past, bare_state, content_of, is_open_backup}
-use Rattle.fb_model.specs.Images.{delivery_begin}
+use Rattle.fb_model.specs.Images.{held_at_delivery}
 use Rattle.fb_decide.specs.Deliveries.{IsRegistered, delivery_in}
 
 -- between these instants each sector holds what the disk holds now
@@ -25,6 +25,6 @@ pub record IsFoundIn (holding : Holding) (from to : ℕ) (got : DeliveryRow) : T
 -- each delivered block was found as it was when its passage began, and a block of an open backup is still the same
 pub record IsTrue (medium : Medium) (holding : Holding) (past : Past) : Type 0 where
   pub found : (block : Block) → IsRegistered past block → is_delivered (bare_state past block) ≡ true
-      → content_of past block ≡ runs_of (contents_at medium block.lbn block.count (delivery_begin past block))
+      → content_of past block ≡ runs_of (held_at_delivery medium past block)
   pub kept : (block : Block) → IsRegistered past block → is_delivered (bare_state past block) ≡ true → is_open_backup past block.task ≡ true
       → content_of past block ≡ runs_of (map (λ lbn. (lbn, content_in holding lbn)) (range_with_len block.lbn block.count))

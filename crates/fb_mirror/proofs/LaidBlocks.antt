@@ -30,8 +30,10 @@ use Rattle.fb_model.specs.Decisions.{Decision, serves, idles, ends, instant_of}
 use Rattle.fb_model.specs.History.{called, chose, tested, delivered, finished, LogSegment, Past, blocks_of, calls_of, opened_by, registered, state, task_numbers, tasks, terms_of, wanted}
 use Rattle.fb_model.specs.Completion.{is_closed, segment_by, segments, work}
 use Rattle.fb_model.specs.Segments.{choose_best, choose_in, choose_once, choose_up_to, is_better, is_busy, is_chosen, next_blocks, numbered, unchosen, with_choices}
-use Rattle.fb_model.specs.Steps.{Delivery, Part, blocks_by, calls_due, calls_taken, past_after, settled_past, take_call, tested_past, with_delivery, with_finish}
-use Rattle.fb_model.proofs.Lists.{all_append, all_filter, after_is, is_after}
+use Rattle.fb_model.specs.Steps.{Delivery, Part, blocks_by, calls_due, past_after, settled_past, take_call, tested_past, with_delivery, with_finish}
+use Rattle.std.proofs.Math.Seq.{drop-append_seam}
+use Rattle.fb_model.proofs.Lists.{all_append, all_filter}
+use Rattle.fb_model.proofs.HistoriesUpTo.{due_first}
 use Rattle.fb_mirror.proofs.CutCover.{EndsBy, cuts_end}
 
 -- the block ends by the end of the disk
@@ -79,14 +81,6 @@ tasks_called (chose task segment blocks ∷ past) = tasks_called past
 tasks_called (tested rows ∷ past) = tasks_called past
 tasks_called (delivered row ∷ past) = tasks_called past
 tasks_called (finished request ∷ past) = tasks_called past
-
-taken_called : (past : Past) → calls_taken past ≡ length (calls_of past)
-taken_called [] = refl
-taken_called (called call blocks ∷ past) = omega (arith, taken_called past, length-append (calls_of past) (call ∷ []))
-taken_called (chose task segment blocks ∷ past) = taken_called past
-taken_called (tested rows ∷ past) = taken_called past
-taken_called (delivered row ∷ past) = taken_called past
-taken_called (finished request ∷ past) = taken_called past
 
 -- ---- what has happened so far
 
@@ -225,30 +219,6 @@ laid_called disk calls past laid call more is =
 
 -- ---- the calls of a decision are the next ones
 
-abbrev is_due : ℕ → Call → Bool
-is_due now call = nat_le call.instant now
-
-none_due : (now first : ℕ) (calls : List Call) → now < first → AllByRecursion (λ later. first ≤ later) (map (λ (call : Call). call.instant) calls) → filter (is_due now) calls ≡ []
-none_due now first [] less all = refl
-none_due now first (call ∷ calls) less all =
-    let late : is_due now call ≡ false = after_is call.instant now (let from = all.0 in omega arith) in
-    rw late (none_due now first calls less all.1)
-
--- those that are due of calls in order stand first
-first_due : (now : ℕ) (calls : List Call) → IsRising (map (λ (call : Call). call.instant) calls) → (more : List Call) × (filter (is_due now) calls ++ more ≡ calls)
-first_due now [] rising = ([], refl)
-first_due now (call ∷ calls) rising = elim (cases_Bool (is_due now call)) [
-  | inl due ↦ let rest = first_due now calls rising.1 in (rest.0, rw due (ap (λ cs. call ∷ cs) rest.1))
-  | inr late ↦ (call ∷ calls, rw late (ap (λ cs. cs ++ call ∷ calls) (none_due now call.instant calls (is_after call.instant now late) rising.0)))
-]
-
-next_due : (now : ℕ) (before rest : List Call) → IsRising (map (λ (call : Call). call.instant) (before ++ rest)) → (more : List Call) × (drop (length before) (filter (is_due now) (before ++ rest)) ++ more ≡ rest)
-next_due now [] rest rising = first_due now rest rising
-next_due now (call ∷ before) rest rising = elim (cases_Bool (is_due now call)) [
-  | inl due ↦ let later = next_due now before rest rising.1 in (later.0, rw due later.1)
-  | inr late ↦ (rest, rw late (ap (λ cs. drop (length (call ∷ before)) cs ++ rest) (none_due now call.instant (before ++ rest) (is_after call.instant now late) rising.0)))
-]
-
 all_called : (disk : Shape) (calls due : List Call) (past : Past) (laid : IsLaid disk calls past) (more : List Call) → due ++ more ≡ laid.rest → IsLaid disk calls (fold (take_call disk) past due)
 unfolding laid_called
 all_called disk calls [] past laid more is = laid
@@ -312,10 +282,8 @@ module _ (inputs : Inputs) (rising : IsRising (map (λ (call : Call). call.insta
   laid_settled past decision laid =
       let now = instant_of decision in
       let due = calls_due inputs.calls past now in
-      let next = next_due now (calls_of past) laid.rest (subst (λ (calls : List Call). IsRising (map (λ (call : Call). call.instant) calls)) (sym laid.whole) rising) in
-      let is : due ++ next.0 ≡ laid.rest =
-      ap (λ n. drop n (filter (is_due now) inputs.calls) ++ next.0) (taken_called past)
-      ∙ ap (λ calls. drop (length (calls_of past)) (filter (is_due now) calls) ++ next.0) (sym laid.whole) ∙ next.1 in
+      let next = due_first inputs.calls past now rising in
+      let is : due ++ next.0 ≡ laid.rest = sym next.1 ∙ ap (drop (length (calls_of past))) (sym laid.whole) ∙ drop-append_seam (calls_of past) laid.rest in
       let after = fold (take_call inputs.disk.map) past due in
       laid_choices inputs.disk.map inputs.calls (task_numbers after) after (all_called inputs.disk.map inputs.calls due past laid next.0 is)
 

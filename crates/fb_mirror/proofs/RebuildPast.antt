@@ -20,10 +20,10 @@ use Rattle.fb_wanted.specs.States.{is_delivered, is_wanted}
 use Rattle.fb_rows.specs.declared.back.DeliveryRow.{DeliveryRow}
 use Rattle.fb_model.specs.Inputs.{Inputs}
 use Rattle.fb_model.specs.Decisions.{Decision, serves, idles, ends, instant_of}
-use Rattle.fb_model.specs.History.{Event, called, chose, tested, delivered, finished, Past, aborts, bare_state, blocks_of, is_open_backup, is_sealed, overwrites, registered, registers, same_block, state, state_after_event, tasks, terms_of, wanted}
+use Rattle.fb_model.specs.History.{Event, called, chose, tested, delivered, finished, Past, aborts, bare_state, blocks_of, calls_of, is_open_backup, is_sealed, overwrites, registered, registers, same_block, state, state_after_event, tasks, terms_of, wanted}
 use Rattle.fb_model.specs.Completion.{is_complete, is_complete_as, is_closed, is_over, own_of, segments, work}
 use Rattle.fb_model.specs.Segments.{choose_in, choose_up_to, numbered, with_choices}
-use Rattle.fb_model.specs.Steps.{Delivery, Part, calls_due, calls_taken, past_after, settled_past, take_call, tested_past, with_delivery, with_finish}
+use Rattle.fb_model.specs.Steps.{Delivery, Part, calls_due, past_after, settled_past, take_call, tested_past, with_delivery, with_finish}
 use Rattle.fb_model.proofs.Lists.{all_filter, by_is}
 use Rattle.fb_mirror.specs.Script.{rebuild_calls}
 use Rattle.fb_mirror.proofs.CutCover.{HasSectors, cuts_some}
@@ -94,7 +94,7 @@ module _ (P : DeliveryRow → Type 0) (disk : Shape) where
   registered_then (delivered row ∷ events) quiet = registered_then events quiet.1
   registered_then (finished request ∷ events) quiet = registered_then events quiet.1
 
-  taken_then : (events : Past) → AreQuiet P events → calls_taken (events ++ begun disk) ≡ 2
+  taken_then : (events : Past) → AreQuiet P events → length (calls_of (events ++ begun disk)) ≡ 2
   taken_then [] quiet = refl
   taken_then (called call blocks ∷ events) quiet = absurd quiet.0
   taken_then (chose task segment blocks ∷ events) quiet = absurd quiet.0
@@ -109,8 +109,8 @@ module _ (P : DeliveryRow → Type 0) (disk : Shape) where
     blocks_are : registered past ≡ disk_blocks disk
     blocks_are = ap registered is.is ∙ registered_then is.events is.quiet
 
-    taken_are : calls_taken past ≡ 2
-    taken_are = ap calls_taken is.is ∙ taken_then is.events is.quiet
+    taken_are : length (calls_of past) ≡ 2
+    taken_are = ap (λ past. length (calls_of past)) is.is ∙ taken_then is.events is.quiet
 
 -- ---- decisions
 
@@ -131,8 +131,8 @@ first_settled inputs decision calls =
     ∙ ap (λ calls. with_choices inputs.disk.map (fold (take_call inputs.disk.map) [] calls)) (both_due inputs.disk.map (instant_of decision))
     ∙ no_choice inputs.disk.map (begun inputs.disk.map) refl
 
-none_due : (disk : Shape) (past : Past) (now : ℕ) → calls_taken past ≡ 2 → calls_due (rebuild_calls disk) past now ≡ []
-none_due disk past now taken = ap (λ n. drop n (filter (λ (call : Call). nat_le call.instant now) (rebuild_calls disk))) taken ∙ ap (drop 2) (both_due disk now)
+none_due : (disk : Shape) (past : Past) (now : ℕ) → length (calls_of past) ≡ 2 → calls_due (rebuild_calls disk) past now ≡ []
+none_due disk past now taken = ap (λ n. filter (λ (call : Call). nat_le call.instant now) (drop n (rebuild_calls disk))) taken
 
 module _ (P : DeliveryRow → Type 0) (inputs : Inputs) (calls : inputs.calls ≡ rebuild_calls inputs.disk.map) where
   still_settled : (past : Past) (decision : Decision) → IsRebuilding P inputs.disk.map past → settled_past inputs past decision ≡ past

@@ -16,7 +16,7 @@ use Rattle.fb_model.specs.Decisions.{Decision, serves, idles, ends, instant_of}
 use Rattle.fb_model.specs.History.{Past, delivered, is_open_backup, task_numbers, terms_of, tested}
 use Rattle.fb_model.specs.Completion.{Choice, choices, is_complete, was_complete, work}
 use Rattle.fb_model.specs.Segments.{live_count}
-use Rattle.fb_model.specs.Images.{Sources, bad_sectors, complete_rows, findings, is_newly_cleaned, is_scrub, on_disk, seal_rows, segment_rows, test_rows}
+use Rattle.fb_model.specs.Images.{bad_sectors, complete_rows, findings, image, is_newly_cleaned, is_scrub, packed, seal_rows, segment_rows, test_rows}
 use Rattle.fb_model.specs.Steps.{AtEach, Delivery, Part, history, opening, part_rows, past_after, settled_past, steps, task_row, task_rows, tested_past, with_delivery}
 use Rattle.fb_model.specs.SoundRun.{AreFollowed, IsSoundBy, IsTested}
 use Rattle.fb_model.proofs.Lists.{all_append, all_flat_map, all_left, all_right}
@@ -99,23 +99,23 @@ module _ (P : DeliveryRow → Type 0) (C : ℕ → Type 0) where
   tasks_fit past = all_any (RowFits P C) (task_row past) (λ task. tt) (task_numbers past)
 
   module _ (I : ℕ → Past → Type 0) (R : ℕ → ℕ → Type 0) (kept : IsKept P C I R) where
-    seal_fits : (sources : Sources) (past : Past) (now task : ℕ) → I now past → RowsFit P C (seal_rows sources past now task)
-    seal_fits sources past now task holds = by (is_open_backup past task && is_complete past task) refl
+    seal_fits : (medium : Medium) (past : Past) (now task : ℕ) → I now past → RowsFit P C (seal_rows (image medium past task now) past now task)
+    seal_fits medium past now task holds = by (is_open_backup past task && is_complete past task) refl
       where
-        by : (b : Bool) → (is_open_backup past task && is_complete past task) ≡ b → RowsFit P C (if b then SealLine (record { task = task; instant = now; content = sources.image_at past task now }) ∷ [] else [])
+        by : (b : Bool) → (is_open_backup past task && is_complete past task) ≡ b → RowsFit P C (if b then SealLine (record { task = task; instant = now; content = image medium past task now }) ∷ [] else [])
         by true is = let both = and_parts (is_open_backup past task) (is_complete past task) is in (kept.seals now past task holds both.0 both.1, tt)
         by false is = tt
 
-    test_fits : (sources : Sources) (past : Past) (now : ℕ) → I now past → RowsFit P C (test_rows sources past now)
+    test_fits : (medium : Medium) (past : Past) (now : ℕ) → I now past → RowsFit P C (test_rows medium past now)
     unfolding test_rows
-    test_fits sources past now holds =
-        all_append (RowFits P C) (flat_map (segment_rows sources past now) (task_numbers past)) (flat_map (λ task. seal_rows sources past now task ++ complete_rows past now task) (task_numbers past))
-        (all_flat_map (RowFits P C) (segment_rows sources past now)
+    test_fits medium past now holds =
+        all_append (RowFits P C) (flat_map (segment_rows (packed medium past) past now) (task_numbers past)) (flat_map (λ task. seal_rows (image medium past task now) past now task ++ complete_rows past now task) (task_numbers past))
+        (all_flat_map (RowFits P C) (segment_rows (packed medium past) past now)
         (λ task. all_any (RowFits P C)
-        (λ (choice : Choice). SegmentLine (record { task = task; segment = choice.segment.number; instant = now; live = live_count choice.segment; content = sources.packed_for past task choice })) (λ choice. tt)
+        (λ (choice : Choice). SegmentLine (record { task = task; segment = choice.segment.number; instant = now; live = live_count choice.segment; content = packed medium past choice })) (λ choice. tt)
         (filter (is_newly_cleaned (work past task)) (choices past task))) (task_numbers past))
-        (all_flat_map (RowFits P C) (λ task. seal_rows sources past now task ++ complete_rows past now task)
-        (λ task. all_append (RowFits P C) (seal_rows sources past now task) (complete_rows past now task) (seal_fits sources past now task holds) (complete_fits past now task)) (task_numbers past))
+        (all_flat_map (RowFits P C) (λ task. seal_rows (image medium past task now) past now task ++ complete_rows past now task)
+        (λ task. all_append (RowFits P C) (seal_rows (image medium past task now) past now task) (complete_rows past now task) (seal_fits medium past now task holds) (complete_fits past now task)) (task_numbers past))
 
     followed_fit : (medium : Medium) (now : ℕ) (past : Past) (deliveries : List Delivery) → I now past → AreFollowed medium past deliveries → AllByRecursion P (map (λ (delivery : Delivery). delivery.got) deliveries)
         → AreLinked R now (map (λ (delivery : Delivery). delivery.got) deliveries) → RowsFit P C (flat_map (λ (delivery : Delivery). GotLine delivery.got ∷ delivery.after) deliveries)
@@ -125,8 +125,8 @@ module _ (P : DeliveryRow → Type 0) (C : ℕ → Type 0) where
         all_append (RowFits P C) (GotLine delivery.got ∷ delivery.after) (flat_map (λ (delivery : Delivery). GotLine delivery.got ∷ delivery.after) deliveries) (
           each.0,
           subst (RowsFit P C) (sym followed.0)
-              (all_append (RowFits P C) (findings past delivery.got) (test_rows (on_disk medium) (delivered delivery.got ∷ past) delivery.got.end)
-              (findings_fit past delivery.got) (test_fits (on_disk medium) (delivered delivery.got ∷ past) delivery.got.end next)),
+              (all_append (RowFits P C) (findings past delivery.got) (test_rows medium (delivered delivery.got ∷ past) delivery.got.end)
+              (findings_fit past delivery.got) (test_fits medium (delivered delivery.got ∷ past) delivery.got.end next)),
         )
         (followed_fit medium delivery.got.end (with_delivery past delivery) deliveries (kept.tests delivery.got.end (delivered delivery.got ∷ past) delivery.after next) followed.1 each.1 linked.1)
 
@@ -136,7 +136,7 @@ module _ (P : DeliveryRow → Type 0) (C : ℕ → Type 0) where
     part_fits inputs medium past step holds is each linked =
         all_append (RowFits P C) (step.1.settled ++ opening inputs.disk step.0 step.1.plan) (flat_map (λ (delivery : Delivery). GotLine delivery.got ∷ delivery.after) step.1.deliveries)
         (all_append (RowFits P C) step.1.settled (opening inputs.disk step.0 step.1.plan)
-        (subst (RowsFit P C) (sym is.settled) (test_fits (on_disk medium) (settled_past inputs past step.0) (instant_of step.0) holds))
+        (subst (RowsFit P C) (sym is.settled) (test_fits medium (settled_past inputs past step.0) (instant_of step.0) holds))
         (opening_fits inputs.disk step.0 step.1.plan))
         (followed_fit medium (instant_of step.0) (tested_past inputs past step) step.1.deliveries (kept.tests (instant_of step.0) (settled_past inputs past step.0) step.1.settled holds) is.followed each linked)
 

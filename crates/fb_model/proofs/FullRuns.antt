@@ -17,7 +17,7 @@ use Rattle.fb_model.specs.Plans.{value, IsTrackBefore, IsNoLater, IsBest}
 use Rattle.fb_model.specs.Decisions.{Decision, serves, idles, ends, decisions}
 use Rattle.fb_model.specs.History.{Past, tested, delivered, wanted}
 use Rattle.fb_model.specs.Rides.{gap_of, due}
-use Rattle.fb_model.specs.Images.{findings, test_rows, on_disk}
+use Rattle.fb_model.specs.Images.{findings, test_rows}
 use Rattle.fb_model.specs.Steps.{Delivery, Part, settled_past, with_delivery, with_finish, past_after, steps, AtEach, opening, part_rows, task_rows}
 use Rattle.fb_model.specs.SoundRun.{AreFollowed, IsTested}
 use Rattle.fb_model.specs.FullRun.{HasBestPlan, IsBestPlanned, IsAllDelivered, IsFull}
@@ -63,7 +63,7 @@ one_following medium past [] (y ∷ ys) h k e = absurd (not_none y.got (gots ys)
 one_following medium past (x ∷ xs) [] h k e = absurd (not_none x.got (gots xs) e)
 one_following medium past (x ∷ xs) (y ∷ ys) h k e =
     let got : x.got ≡ y.got = same_first x.got y.got (gots xs) (gots ys) e in
-    let after : x.after ≡ y.after = h.0 ∙ ap (λ got. findings past got ++ test_rows (on_disk medium) (delivered got ∷ past) got.end) got ∙ sym k.0 in
+    let after : x.after ≡ y.after = h.0 ∙ ap (λ got. findings past got ++ test_rows medium (delivered got ∷ past) got.end) got ∙ sym k.0 in
     let same : x ≡ y = ap (λ g. record { got = g; after = x.after }) got ∙ ap (λ rows. record { got = y.got; after = rows }) after in
     ap (λ d. d ∷ xs) same
     ∙ ap (λ ds. y ∷ ds) (one_following medium (with_delivery past y) xs ys (subst (λ d. AreFollowed medium (with_delivery past d) xs) same h.1) k.1 (same_rest x.got y.got (gots xs) (gots ys) e))

@@ -1,8 +1,9 @@
 -- What a history holds: blocks that were cut, and deliveries that a test can look back at.
-use Rattle.std.proofs.Common.{◌≡◌, ℕ, zero, suc, ◌+◌, ◌<◌, ◌≤◌, List, [], ◌∷◌, length, ap, ap₂, sym, subst, ◌∙◌, arith, Bool, true, false, inl, inr, nat_le}
+use Rattle.std.proofs.Common.{◌≡◌, ℕ, zero, suc, ◌+◌, ◌<◌, ◌≤◌, List, [], ◌∷◌, ◌++◌, length, map, refl, ap, ap₂, sym, subst, ◌∙◌, arith, Bool, true, false, inl, inr, nat_le}
 use Rattle.std.specs.Prelude.{filter, drop, ◌&&◌, not, if◌then◌else◌}
 use Rattle.std.specs.List.{AllByRecursion, fold, best_of}
 use Rattle.std.proofs.lemmas.Bool.{cases_Bool}
+use Rattle.std.proofs.lemmas.List.{drop_all}
 use Rattle.fb_geometry.specs.Shape.{Shape}
 use Rattle.fb_sectormap.specs.declared.cut.Cut.{Cut}
 use Rattle.fb_sectormap.specs.Cutting.{cutting, with_sector, is_cut_before}
@@ -17,12 +18,12 @@ use Rattle.fb_wanted.specs.States.{is_wanted}
 use Rattle.fb_rows.specs.declared.back.DeliveryRow.{DeliveryRow}
 use Rattle.fb_model.specs.Inputs.{Inputs}
 use Rattle.fb_model.specs.Decisions.{Decision, serves, idles, ends, instant_of}
-use Rattle.fb_model.specs.History.{Event, called, chose, tested, delivered, finished, Past, LogSegment, task_numbers, terms_of, blocks_of, registered, wanted, state, same_block}
+use Rattle.fb_model.specs.History.{Event, called, chose, tested, delivered, finished, Past, LogSegment, task_numbers, terms_of, blocks_of, registered, wanted, state, calls_of}
 use Rattle.fb_model.specs.Completion.{work, segments, is_closed}
 use Rattle.fb_model.specs.Segments.{numbered, is_better, is_busy, unchosen, choose_best, choose_once, choose_up_to, choose_in, with_choices}
-use Rattle.fb_model.specs.Images.{delivery_begin}
-use Rattle.fb_model.specs.Steps.{Delivery, Part, blocks_by, take_call, calls_due, calls_taken, settled_past, with_delivery, with_finish, tested_past, past_after}
-use Rattle.fb_model.proofs.Lists.{all_append, all_filter, kept_twice, by_later}
+use Rattle.fb_model.specs.Steps.{Delivery, Part, blocks_by, take_call, calls_left, calls_due, settled_past, with_delivery, with_finish, tested_past, past_after}
+use Rattle.fb_model.specs.Accepted.{IsRising}
+use Rattle.fb_model.proofs.Lists.{all_append, all_filter, kept_twice, by_later, is_after, after_is}
 
 -- ---- each block has a sector
 
@@ -146,29 +147,52 @@ module _ (P : DeliveryRow → Type 0) where
 abbrev pub HasBegun : ℕ → DeliveryRow → Type 0
 HasBegun done row = row.begin ≤ done
 
-begun_if : (done begin before : ℕ) (b : Bool) → begin ≤ done → before ≤ done → (if b then begin else before) ≤ done
-begun_if done begin before true h k = h
-begun_if done begin before false h k = k
-
-pub has_begun : (done : ℕ) (past : Past) (block : Block) → AreFine (HasBegun done) past → delivery_begin past block ≤ done
-has_begun done [] block all = omega arith
-has_begun done (called call blocks ∷ past) block all = has_begun done past block all.1
-has_begun done (chose task segment blocks ∷ past) block all = has_begun done past block all.1
-has_begun done (tested rows ∷ past) block all = has_begun done past block all.1
-has_begun done (delivered row ∷ past) block all = begun_if done row.begin (delivery_begin past block) (same_block row.block block) all.0 (has_begun done past block all.1)
-has_begun done (finished request ∷ past) block all = has_begun done past block all.1
-
 -- ---- the calls and choices of a decision by t depend only on the calls by t
 
 abbrev pub calls_by : ℕ → Call → Bool
 calls_by t call = nat_le call.instant t
 
-pub same_settled : (a b : Inputs) (t : ℕ) (past : Past) (decision other : Decision) → a.disk ≡ b.disk → filter (calls_by t) a.calls ≡ filter (calls_by t) b.calls → instant_of decision ≤ t
+-- none has come by then where the first of them comes later
+pub none_come : (t instant : ℕ) (calls : List Call) → t < instant → AllByRecursion (λ later. instant ≤ later) (map (λ (call : Call). call.instant) calls) → filter (calls_by t) calls ≡ []
+none_come t instant [] late h = refl
+none_come t instant (call ∷ calls) late h = rw (after_is call.instant t (omega (arith, h.0))) (none_come t instant calls late h.1)
+
+-- of calls in order, those that have come behind the first n are those of the rest
+come_behind : (t n : ℕ) (calls : List Call) → IsRising (map (λ (call : Call). call.instant) calls) → filter (calls_by t) (drop n calls) ≡ drop n (filter (calls_by t) calls)
+come_behind t zero calls rising = refl
+come_behind t (suc n) [] rising = refl
+come_behind t (suc n) (call ∷ calls) rising = elim (cases_Bool (calls_by t call)) [
+  | inl here ↦ rw here (come_behind t n calls rising.1)
+  | inr late ↦
+      let none = none_come t call.instant calls (is_after call.instant t late) rising.0 in
+      rw late (come_behind t n calls rising.1 ∙ (ap (drop n) none ∙ (drop_all n [] (omega arith) ∙ sym (ap (drop (suc n)) none))))
+]
+
+-- of calls in order, those that have come stand first
+come_first : (t : ℕ) (calls : List Call) → IsRising (map (λ (call : Call). call.instant) calls) → (rest : List Call) × (calls ≡ filter (calls_by t) calls ++ rest)
+come_first t [] rising = ([], refl)
+come_first t (call ∷ calls) rising = elim (cases_Bool (calls_by t call)) [
+  | inl here ↦ rw here (let rest = come_first t calls rising.1 in (rest.0, ap (λ calls. call ∷ calls) rest.1))
+  | inr late ↦ rw (late, none_come t call.instant calls (is_after call.instant t late) rising.0) (call ∷ calls, refl)
+]
+
+rising_behind : (n : ℕ) (calls : List Call) → IsRising (map (λ (call : Call). call.instant) calls) → IsRising (map (λ (call : Call). call.instant) (drop n calls))
+rising_behind zero calls rising = rising
+rising_behind (suc n) [] rising = tt
+rising_behind (suc n) (call ∷ calls) rising = rising_behind n calls rising.1
+
+-- the calls that are due stand first among those left
+pub due_first : (calls : List Call) (past : Past) (now : ℕ) → IsRising (map (λ (call : Call). call.instant) calls) → (rest : List Call) × (calls_left calls past ≡ calls_due calls past now ++ rest)
+due_first calls past now rising = come_first now (calls_left calls past) (rising_behind (length (calls_of past)) calls rising)
+
+pub same_settled : (a b : Inputs) (t : ℕ) (past : Past) (decision other : Decision) → a.disk ≡ b.disk
+    → IsRising (map (λ (call : Call). call.instant) a.calls) → IsRising (map (λ (call : Call). call.instant) b.calls) → filter (calls_by t) a.calls ≡ filter (calls_by t) b.calls → instant_of decision ≤ t
     → instant_of decision ≡ instant_of other → settled_past a past decision ≡ settled_past b past other
 unfolding settled_past
-same_settled a b t past decision other disk calls h at =
+same_settled a b t past decision other disk rising_a rising_b calls h at =
     let now = instant_of decision in
     let twice = λ (calls : List Call). kept_twice (calls_by now) (calls_by t) (λ call by. by_later now t call.instant h by) calls in
     let due : filter (calls_by now) a.calls ≡ filter (calls_by now) b.calls = sym (twice a.calls) ∙ (ap (filter (calls_by now)) calls ∙ twice b.calls) in
-    ap₂ (λ disk due. with_choices disk.map (fold (take_call disk.map) past (drop (calls_taken past) due))) disk due
+    let n = length (calls_of past) in
+    ap₂ (λ disk due. with_choices disk.map (fold (take_call disk.map) past due)) disk (come_behind now n a.calls rising_a ∙ (ap (drop n) due ∙ sym (come_behind now n b.calls rising_b)))
     ∙ ap (λ now. with_choices b.disk.map (fold (take_call b.disk.map) past (calls_due b.calls past now))) at

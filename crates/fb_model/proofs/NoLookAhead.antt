@@ -20,10 +20,10 @@ use Rattle.fb_model.specs.Inputs.{Inputs, requests, served}
 use Rattle.fb_model.specs.Content.{Medium, Written, medium_of, fore_row, fore_rows}
 use Rattle.fb_model.specs.Decisions.{Decision, serves, idles, ends, instant_of, end_of, decisions_from, decisions, among}
 use Rattle.fb_model.specs.History.{Past, tested, wanted}
-use Rattle.fb_model.specs.Images.{test_rows, on_disk}
+use Rattle.fb_model.specs.Images.{test_rows}
 use Rattle.fb_model.specs.Rides.{due}
 use Rattle.fb_model.specs.Steps.{Delivery, Part, settled_past, with_delivery, with_finish, tested_past, past_after, AtEach, opening, part_rows}
-use Rattle.fb_model.specs.Accepted.{IsAccepted}
+use Rattle.fb_model.specs.Accepted.{IsAccepted, IsRising}
 use Rattle.fb_model.specs.SoundRun.{HasPlan, AreFollowed}
 use Rattle.fb_model.specs.FullRun.{HasBestPlan, IsFull}
 use Rattle.fb_model.specs.Known.{only_if, known_from, fore_known, AgreeUpTo, SameKnown, without_line}
@@ -91,7 +91,7 @@ module _ (disk : Disk) (latent : List ℕ) (key : Key) (trace : List Request) (p
       (after_fine P inputs past (d, part) (gots_all P part.deliveries (all_weaker (LiesBetween (instant_of d) (end_of d)) P (λ row h. any row) (gots part.deliveries) between)) fine) unknown in
       subst (AreUnknown t) (sym (regroup part.settled (opening disk d part.plan) (delivered_rows part.deliveries) rest more))
       (unknown_before t part.settled (opening disk d part.plan ++ (delivered_rows part.deliveries ++ (rest ++ more)))
-      (subst (AllByRecursion (IsUnknown t)) (sym full.0.tests.settled) (tests_unknown t (on_disk medium) (settled_past inputs past d) (instant_of d) instant))
+      (subst (AllByRecursion (IsUnknown t)) (sym full.0.tests.settled) (tests_unknown t medium (settled_past inputs past d) (instant_of d) instant))
       (unknown_before t (opening disk d part.plan) (delivered_rows part.deliveries ++ (rest ++ more)) (opening_unknown t disk d part.plan late.0)
       (deliveries_unknown t medium (tested_past inputs past (d, part)) part.deliveries (rest ++ more) full.0.tests.followed
       (all_weaker (LiesBetween (instant_of d) (end_of d)) (λ (row : DeliveryRow). t < row.end) (λ row h. let begins = h.begins in let in_turn = h.in_turn in omega (arith, begins, in_turn, instant)) (gots part.deliveries) between)
@@ -103,6 +103,7 @@ any_delivery : DeliveryRow → Type 0
 any_delivery row = Unit {0}
 
 module _ (disk : Disk) (latent : List ℕ) (key : Key) (trace_a trace_b : List Request) (over_a over_b : ℕ) (calls_a calls_b : List Call) (until_a until_b : ℕ) (writes_a writes_b : List Written)
+    (rising_a : IsRising (map (λ (call : Call). call.instant) calls_a)) (rising_b : IsRising (map (λ (call : Call). call.instant) calls_b))
     (t done : ℕ) (since : t ≤ done) (come : filter (calls_by t) calls_a ≡ filter (calls_by t) calls_b)
     (hold : HoldSame done (record { disk = disk; latent = latent; writes = writes_a }) (record { disk = disk; latent = latent; writes = writes_b })) where
   abbrev inputs_a : Inputs
@@ -118,7 +119,7 @@ module _ (disk : Disk) (latent : List ℕ) (key : Key) (trace_a trace_b : List R
   medium_b = record { disk = disk; latent = latent; writes = writes_b }
 
   settles : (past : Past) (d e : Decision) → instant_of d ≤ t → instant_of d ≡ instant_of e → settled_past inputs_a past d ≡ settled_past inputs_b past e
-  settles past d e h at = same_settled inputs_a inputs_b t past d e refl come h at
+  settles past d e h at = same_settled inputs_a inputs_b t past d e refl rising_a rising_b come h at
 
   -- a part of the one run's would do in the other
   as_well : (past : Past) (d : Decision) (part : Part) → instant_of d ≤ t → end_of d ≤ done → IsMade disk d → AreFine (HasBegun done) past
@@ -131,7 +132,7 @@ module _ (disk : Disk) (latent : List ℕ) (key : Key) (trace_a trace_b : List R
       let between = part_between disk latent key trace_b over_b calls_b until_b writes_b (HasBegun done) past (d, part) full made fine in
       record {
         tests = record {
-          settled = full.tests.settled ∙ (ap (λ past. test_rows (on_disk medium_b) past (instant_of d)) (sym settled) ∙ sym (same_tests done medium_a medium_b hold settled_a (instant_of d) fine_a (omega arith)));
+          settled = full.tests.settled ∙ (ap (λ past. test_rows medium_b past (instant_of d)) (sym settled) ∙ sym (same_tests done medium_a medium_b hold settled_a (instant_of d) fine_a (omega arith)));
           followed = same_followed done medium_a medium_b hold (tested part.settled ∷ settled_a) part.deliveries (tt, fine_a)
               (all_weaker (LiesBetween (instant_of d) (end_of d)) (λ (row : DeliveryRow). (row.begin ≤ done) × (row.end ≤ done)) (λ row lies. let in_turn = lies.in_turn in let over = lies.ends in (omega (arith, in_turn, over, ended), omega (arith, over, ended))) (gots part.deliveries) between)
               (subst (λ past. AreFollowed medium_b (tested part.settled ∷ past) part.deliveries) (sym settled) full.tests.followed);
@@ -159,7 +160,7 @@ module _ (disk : Disk) (latent : List ℕ) (key : Key) (trace_a trace_b : List R
       let settled : settled_a ≡ settled_b = settles past d_a d_b h refl in
       let fine_a = settled_fine (HasBegun done) inputs_a past d_a fine in
       let rows : x.settled ≡ y.settled = full_a.tests.settled ∙ (same_tests done medium_a medium_b hold settled_a now fine_a (omega arith)
-      ∙ (ap (λ past. test_rows (on_disk medium_b) past now) settled ∙ sym full_b.tests.settled)) in
+      ∙ (ap (λ past. test_rows medium_b past now) settled ∙ sym full_b.tests.settled)) in
       let pasts : tested x.settled ∷ settled_a ≡ tested y.settled ∷ settled_b = ap₂ (λ rows past. tested rows ∷ past) rows settled in
       let between = part_between disk latent key trace_a over_a calls_a until_a writes_a (HasBegun done) past (d_a, x) full_a tt fine in
       let kept : filter (ends_by_then t) (gots x.deliveries) ≡ filter (ends_by_then t) (gots y.deliveries) =
@@ -289,12 +290,12 @@ list_of : (inputs : Inputs) → IsAccepted inputs → IsListOf inputs.disk (requ
 list_of inputs accepted = record { rises = (in_order inputs accepted).ascend; lie = requests_lie inputs accepted }
 
 runs_alike : (t : ℕ) (disk : Disk) (latent : List ℕ) (key : Key) (trace_a trace_b : List Request) (over_a over_b : ℕ) (calls_a calls_b : List Call) (until_a until_b : ℕ) (list_a list_b : List Request) (run_a run_b : Run)
-    → IsSound disk.map → IsListOf disk list_a → IsListOf disk list_b
+    → IsSound disk.map → IsListOf disk list_a → IsListOf disk list_b → IsRising (map (λ (call : Call). call.instant) calls_a) → IsRising (map (λ (call : Call). call.instant) calls_b)
     → IsRunOf t (record { disk = disk; latent = latent; trace = trace_a; passed_over = over_a; calls = calls_a; key = key; until = until_a }) list_a (instants_from list_a calls_a) run_a
     → IsRunOf t (record { disk = disk; latent = latent; trace = trace_b; passed_over = over_b; calls = calls_b; key = key; until = until_b }) list_b (instants_from list_b calls_b) run_b
     → t < run_a.end → t < run_b.end → filter (has_arrived t) list_a ≡ filter (has_arrived t) list_b → filter (calls_by t) calls_a ≡ filter (calls_by t) calls_b
     → SameKnown t run_a run_b
-runs_alike t disk latent key trace_a trace_b over_a over_b calls_a calls_b until_a until_b list_a list_b run_a run_b sound accepted_a accepted_b full_a full_b long_a long_b arrived come =
+runs_alike t disk latent key trace_a trace_b over_a over_b calls_a calls_b until_a until_b list_a list_b run_a run_b sound accepted_a accepted_b rising_a rising_b full_a full_b long_a long_b arrived come =
     let replay_a = plain_replay disk key list_a in
     let replay_b = plain_replay disk key list_b in
     let turns_a = plain_turns (length list_a) disk key first_track 0 list_a (omega arith) in
@@ -315,7 +316,7 @@ runs_alike t disk latent key trace_a trace_b over_a over_b calls_a calls_b until
     record {
       fore = ap (fore_known t) full_a.fore ∙ (same_fore t alike.done medium_a medium_b hold disk alike.alike (are_services disk key first_track 0 list_a replay_a turns_a) ∙ sym (ap (fore_known t) full_b.fore));
       back = ap (known_from t false) full_a.back
-          ∙ (steps_alike disk latent key trace_a trace_b over_a over_b calls_a calls_b until_a until_b medium_a.writes medium_b.writes t alike.done alike.from come hold
+          ∙ (steps_alike disk latent key trace_a trace_b over_a over_b calls_a calls_b until_a until_b medium_a.writes medium_b.writes rising_a rising_b t alike.done alike.from come hold
           [] decided full_a.parts full_b.parts full_a.tasks full_b.tasks full_a.long full_b.long full_a.each full_b.each tt full_a.unknown full_b.unknown false
           ∙ sym (ap (known_from t false) full_b.back));
     }
@@ -330,11 +331,15 @@ same_unlined : (t : ℕ) (calls_a calls_b : List Call) → map without_line (fil
     → filter (calls_by t) (map without_line calls_a) ≡ filter (calls_by t) (map without_line calls_b)
 same_unlined t calls_a calls_b e = kept_map (calls_by t) without_line calls_a ∙ (e ∙ sym (kept_map (calls_by t) without_line calls_b))
 
+unlined_rising : (calls : List Call) → IsRising (map (λ (call : Call). call.instant) calls) → IsRising (map (λ (call : Call). call.instant) (map without_line calls))
+unlined_rising calls rising = subst IsRising (sym (instants_same calls)) rising
+
 pub no_look_ahead : (a b : Inputs) (run_a run_b : Run) (t : ℕ) → IsSound a.disk.map → IsAccepted a → IsAccepted b → IsFull a run_a → IsFull b run_b → t < run_a.end → t < run_b.end → AgreeUpTo t a b → SameKnown t run_a run_b
 no_look_ahead a b run_a run_b t sound accepted_a accepted_b full_a full_b long_a long_b agree =
     let is = same_inputs a b agree.disk agree.latent agree.key in
     let like_a = record b { disk = a.disk; latent = a.latent; key = a.key } in
     runs_alike t a.disk a.latent a.key a.trace b.trace a.passed_over b.passed_over (map without_line a.calls) (map without_line b.calls) a.until b.until (requests a) (requests b) run_a run_b sound
     (list_of a accepted_a) (list_of like_a (subst IsAccepted is accepted_b))
+    (unlined_rising a.calls accepted_a.instants) (unlined_rising b.calls accepted_b.instants)
     (unlined_run t a (requests a) run_a (run_of t a run_a full_a)) (unlined_run t like_a (requests b) run_b (run_of t like_a run_b (subst (λ inputs. IsFull inputs run_b) is full_b)))
     long_a long_b agree.requests (same_unlined t a.calls b.calls agree.calls)

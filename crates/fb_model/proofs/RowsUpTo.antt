@@ -11,17 +11,17 @@ use Rattle.fb_rows.specs.declared.back.BackRow.{BackRow}
 use Rattle.fb_rows.specs.declared.back.BackRow.TheVariants.{Got as GotLine, Bad as BadLine, Seal as SealLine, Segment as SegmentLine, Complete as CompleteLine}
 use Rattle.fb_rows.specs.declared.back.DeliveryRow.{DeliveryRow}
 use Rattle.fb_model.specs.Content.{Medium, contents_at}
-use Rattle.fb_model.specs.History.{Past, delivered, task_numbers, terms_of, blocks_of, is_open_backup}
+use Rattle.fb_model.specs.History.{Past, called, chose, tested, delivered, finished, task_numbers, terms_of, blocks_of, same_block, is_open_backup}
 use Rattle.fb_model.specs.Completion.{Choice, choices, work, is_complete, was_complete}
 use Rattle.fb_model.specs.Segments.{live_count}
-use Rattle.fb_model.specs.Images.{Sources, bad_sectors, is_scrub, findings, delivery_begin, packed, is_newly_cleaned, segment_rows, image, seal_rows, complete_rows, test_rows, on_disk}
+use Rattle.fb_model.specs.Images.{bad_sectors, is_scrub, findings, held_at_delivery, packed, is_newly_cleaned, segment_rows, image, seal_rows, complete_rows, test_rows}
 use Rattle.fb_model.specs.Steps.{Delivery, with_delivery, task_row, task_rows}
 use Rattle.fb_model.specs.SoundRun.{AreFollowed}
 use Rattle.fb_model.specs.Known.{is_known, follows_known, only_if, known_from}
 use Rattle.fb_model.proofs.Lists.{all_append, all_map, all_flat_map, all_dropped, same_map, same_flat_map, is_by, is_after, after_is, same_first, same_rest, not_none}
 use Rattle.fb_model.proofs.FullRuns.{gots}
 use Rattle.fb_model.proofs.ContentsUpTo.{HoldSame, same_contents}
-use Rattle.fb_model.proofs.HistoriesUpTo.{AreFine, HasBegun, has_begun}
+use Rattle.fb_model.proofs.HistoriesUpTo.{AreFine, HasBegun}
 
 -- ---- rows that are known
 
@@ -56,18 +56,18 @@ module _ (t : ℕ) where
   all_of P each (x ∷ xs) = (each x, all_of P each xs)
 
   -- a test after t
-  pub tests_unknown : (sources : Sources) (past : Past) (now : ℕ) → t < now → AllByRecursion (IsUnknown t) (test_rows sources past now)
+  pub tests_unknown : (medium : Medium) (past : Past) (now : ℕ) → t < now → AllByRecursion (IsUnknown t) (test_rows medium past now)
   unfolding test_rows
-  tests_unknown sources past now h =
+  tests_unknown medium past now h =
       let late : nat_le now t ≡ false = after_is now t h in
-      all_append (IsUnknown t) (flat_map (segment_rows sources past now) (task_numbers past)) (flat_map (λ task. seal_rows sources past now task ++ complete_rows past now task) (task_numbers past))
-      (all_flat_map (IsUnknown t) (segment_rows sources past now) (λ task.
-      all_map (IsUnknown t) (λ choice. SegmentLine (record { task = task; segment = choice.segment.number; instant = now; live = live_count choice.segment; content = sources.packed_for past task choice }))
+      all_append (IsUnknown t) (flat_map (segment_rows (packed medium past) past now) (task_numbers past)) (flat_map (λ task. seal_rows (image medium past task now) past now task ++ complete_rows past now task) (task_numbers past))
+      (all_flat_map (IsUnknown t) (segment_rows (packed medium past) past now) (λ task.
+      all_map (IsUnknown t) (λ choice. SegmentLine (record { task = task; segment = choice.segment.number; instant = now; live = live_count choice.segment; content = packed medium past choice }))
       (filter (is_newly_cleaned (work past task)) (choices past task))
       (all_of (λ (choice : Choice). (follows : Bool) → nat_le now t ≡ false) (λ choice follows. late) (filter (is_newly_cleaned (work past task)) (choices past task)))) (task_numbers past))
-      (all_flat_map (IsUnknown t) (λ task. seal_rows sources past now task ++ complete_rows past now task) (λ task.
-      all_append (IsUnknown t) (seal_rows sources past now task) (complete_rows past now task)
-      (one_unknown (is_open_backup past task && is_complete past task) (SealLine (record { task = task; instant = now; content = sources.image_at past task now })) (λ follows. late))
+      (all_flat_map (IsUnknown t) (λ task. seal_rows (image medium past task now) past now task ++ complete_rows past now task) (λ task.
+      all_append (IsUnknown t) (seal_rows (image medium past task now) past now task) (complete_rows past now task)
+      (one_unknown (is_open_backup past task && is_complete past task) (SealLine (record { task = task; instant = now; content = image medium past task now })) (λ follows. late))
       (one_unknown (is_complete past task && not (was_complete past task)) (CompleteLine (record { task = task; instant = now })) (λ follows. late))) (task_numbers past))
 
   pub tasks_unknown : (past : Past) → AreUnknown t (task_rows past)
@@ -89,14 +89,14 @@ module _ (t : ℕ) where
   findings_unknown false task lbns more h = h false
 
   -- a delivery after t, and what follows it
-  delivery_unknown : (sources : Sources) (past next : Past) (got : DeliveryRow) (more : List BackRow) → t < got.end → AreUnknown t more
-      → AreUnknown t (GotLine got ∷ (findings past got ++ test_rows sources next got.end) ++ more)
-  delivery_unknown sources past next got more h unknown = λ follows.
+  delivery_unknown : (medium : Medium) (past next : Past) (got : DeliveryRow) (more : List BackRow) → t < got.end → AreUnknown t more
+      → AreUnknown t (GotLine got ∷ (findings past got ++ test_rows medium next got.end) ++ more)
+  delivery_unknown medium past next got more h unknown = λ follows.
       let late : nat_le got.end t ≡ false = after_is got.end t h in
-      ap (λ b. only_if b (GotLine got) (known_from t b ((findings past got ++ test_rows sources next got.end) ++ more))) late
-      ∙ (ap (known_from t false) (append_assoc (findings past got) (test_rows sources next got.end) more)
-      ∙ findings_unknown (is_scrub (terms_of past got.block.task).kind) got.block.task (bad_sectors got.content) (test_rows sources next got.end ++ more)
-      (unknown_before (test_rows sources next got.end) more (tests_unknown sources next got.end h) unknown))
+      ap (λ b. only_if b (GotLine got) (known_from t b ((findings past got ++ test_rows medium next got.end) ++ more))) late
+      ∙ (ap (known_from t false) (append_assoc (findings past got) (test_rows medium next got.end) more)
+      ∙ findings_unknown (is_scrub (terms_of past got.block.task).kind) got.block.task (bad_sectors got.content) (test_rows medium next got.end ++ more)
+      (unknown_before (test_rows medium next got.end) more (tests_unknown medium next got.end h) unknown))
 
 -- the rows of deliveries with what follows each
 abbrev pub delivered_rows : List Delivery → List BackRow
@@ -109,7 +109,7 @@ module _ (t : ℕ) (medium : Medium) where
   deliveries_unknown past (d ∷ ds) more followed late h =
       subst (AreUnknown t) (sym (append_assoc (GotLine d.got ∷ d.after) (delivered_rows ds) more))
       (subst (λ after. AreUnknown t (GotLine d.got ∷ after ++ (delivered_rows ds ++ more))) (sym followed.0)
-      (delivery_unknown t (on_disk medium) past (delivered d.got ∷ past) d.got (delivered_rows ds ++ more) late.0
+      (delivery_unknown t medium past (delivered d.got ∷ past) d.got (delivered_rows ds ++ more) late.0
       (deliveries_unknown (with_delivery past d) ds more followed.1 late.1 h)))
 
 -- ---- tests by then give the same rows where the disk holds the same
@@ -119,33 +119,40 @@ abbrev pub IsOver : ℕ → DeliveryRow → Type 0
 IsOver done row = (row.begin ≤ done) × (row.end ≤ done)
 
 module _ (done : ℕ) (a b : Medium) (same : HoldSame done a b) where
+  same_held : (past : Past) (block : Block) → AreFine (HasBegun done) past → held_at_delivery a past block ≡ held_at_delivery b past block
+  same_held [] block fine = refl
+  same_held (delivered row ∷ past) block fine = ap₂ (λ x y. if same_block row.block block then x else y) (same_contents done a b same block.lbn block.count row.begin fine.0) (same_held past block fine.1)
+  same_held (called call blocks ∷ past) block fine = same_held past block fine.1
+  same_held (chose task segment blocks ∷ past) block fine = same_held past block fine.1
+  same_held (tested rows ∷ past) block fine = same_held past block fine.1
+  same_held (finished request ∷ past) block fine = same_held past block fine.1
+
   same_packed : (past : Past) (choice : Choice) → AreFine (HasBegun done) past → packed a past choice ≡ packed b past choice
-  same_packed past choice fine = ap runs_of (same_flat_map (λ (block : Block). contents_at a block.lbn block.count (delivery_begin past block)) (λ (block : Block). contents_at b block.lbn block.count (delivery_begin past block))
-      (λ block. same_contents done a b same block.lbn block.count (delivery_begin past block) (has_begun done past block fine)) choice.blocks)
+  same_packed past choice fine = ap runs_of (same_flat_map (held_at_delivery a past) (held_at_delivery b past) (λ block. same_held past block fine) choice.blocks)
 
   same_image : (past : Past) (task now : ℕ) → now ≤ done → image a past task now ≡ image b past task now
   same_image past task now h = ap runs_of (same_flat_map (λ (block : Block). contents_at a block.lbn block.count now) (λ (block : Block). contents_at b block.lbn block.count now)
       (λ block. same_contents done a b same block.lbn block.count now h) (filter (λ block. is_delivered ((work past task).bare block)) (blocks_of past task)))
 
-  same_segments : (past : Past) (now task : ℕ) → AreFine (HasBegun done) past → segment_rows (on_disk a) past now task ≡ segment_rows (on_disk b) past now task
+  same_segments : (past : Past) (now task : ℕ) → AreFine (HasBegun done) past → segment_rows (packed a past) past now task ≡ segment_rows (packed b past) past now task
   same_segments past now task fine = same_map
       (λ (choice : Choice). SegmentLine (record { task = task; segment = choice.segment.number; instant = now; live = live_count choice.segment; content = packed a past choice }))
       (λ (choice : Choice). SegmentLine (record { task = task; segment = choice.segment.number; instant = now; live = live_count choice.segment; content = packed b past choice }))
       (λ choice. ap (λ content. SegmentLine (record { task = task; segment = choice.segment.number; instant = now; live = live_count choice.segment; content = content })) (same_packed past choice fine))
       (filter (is_newly_cleaned (work past task)) (choices past task))
 
-  same_seals : (past : Past) (now task : ℕ) → now ≤ done → seal_rows (on_disk a) past now task ≡ seal_rows (on_disk b) past now task
+  same_seals : (past : Past) (now task : ℕ) → now ≤ done → seal_rows (image a past task now) past now task ≡ seal_rows (image b past task now) past now task
   same_seals past now task h = ap (λ content. if is_open_backup past task && is_complete past task then SealLine (record { task = task; instant = now; content = content }) ∷ [] else []) (same_image past task now h)
 
-  pub same_tests : (past : Past) (now : ℕ) → AreFine (HasBegun done) past → now ≤ done → test_rows (on_disk a) past now ≡ test_rows (on_disk b) past now
+  pub same_tests : (past : Past) (now : ℕ) → AreFine (HasBegun done) past → now ≤ done → test_rows a past now ≡ test_rows b past now
   unfolding test_rows
   same_tests past now fine h = ap₂ (λ segments others. segments ++ others)
-      (same_flat_map (segment_rows (on_disk a) past now) (segment_rows (on_disk b) past now) (λ task. same_segments past now task fine) (task_numbers past))
-      (same_flat_map (λ task. seal_rows (on_disk a) past now task ++ complete_rows past now task) (λ task. seal_rows (on_disk b) past now task ++ complete_rows past now task)
+      (same_flat_map (segment_rows (packed a past) past now) (segment_rows (packed b past) past now) (λ task. same_segments past now task fine) (task_numbers past))
+      (same_flat_map (λ task. seal_rows (image a past task now) past now task ++ complete_rows past now task) (λ task. seal_rows (image b past task now) past now task ++ complete_rows past now task)
       (λ task. ap (λ rows. rows ++ complete_rows past now task) (same_seals past now task h)) (task_numbers past))
 
   same_after : (past : Past) (got : DeliveryRow) → AreFine (HasBegun done) past → IsOver done got
-      → findings past got ++ test_rows (on_disk a) (delivered got ∷ past) got.end ≡ findings past got ++ test_rows (on_disk b) (delivered got ∷ past) got.end
+      → findings past got ++ test_rows a (delivered got ∷ past) got.end ≡ findings past got ++ test_rows b (delivered got ∷ past) got.end
   same_after past got fine over = ap (λ rows. findings past got ++ rows) (same_tests (delivered got ∷ past) got.end (over.0, fine) over.1)
 
   pub same_followed : (past : Past) (deliveries : List Delivery) → AreFine (HasBegun done) past → AllByRecursion (IsOver done) (gots deliveries) → AreFollowed b past deliveries → AreFollowed a past deliveries
@@ -196,7 +203,7 @@ module _ (t done : ℕ) (since : t ≤ done) (a b : Medium) (same : HoldSame don
               let end : x.got.end ≤ t = is_by x.got.end t by_x in
               let over : IsOver done x.got = (let from = order.0 in omega arith, omega arith) in
               let after : x.after ≡ y.after = follow_x.0 ∙ (same_after done a b same past x.got fine over
-              ∙ (ap (λ got. findings past got ++ test_rows (on_disk b) (delivered got ∷ past) got.end) got ∙ sym follow_y.0)) in
+              ∙ (ap (λ got. findings past got ++ test_rows b (delivered got ∷ past) got.end) got ∙ sym follow_y.0)) in
               let one : x ≡ y = ap₂ (λ got after. record { got = got; after = after }) got after in
               subst (λ d. AreKnownAlike t (delivered_rows (x ∷ xs) ++ more_x) (delivered_rows (d ∷ ys) ++ more_y)) one
               (λ follows. ap (known_from t follows) (append_assoc (GotLine x.got ∷ x.after) (delivered_rows xs) more_x)

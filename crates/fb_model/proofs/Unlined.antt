@@ -1,8 +1,8 @@
 -- Nothing looks at the number of a call's line: without it the history says the same.
-use Rattle.std.proofs.Common.{◌≡◌, ℕ, zero, suc, List, [], ◌∷◌, ◌++◌, length, map, drop, refl, ap, ap₂, sym, subst, ◌∙◌, Bool, true, false, nat_le}
+use Rattle.std.proofs.Common.{◌≡◌, ℕ, zero, suc, List, [], ◌∷◌, ◌++◌, length, length-append, map, drop, refl, ap, ap₂, sym, subst, ◌∙◌, arith, Bool, true, false, nat_le}
 use Rattle.std.specs.Prelude.{filter, ◌&&◌, ◌||◌, ◌==◌, not, if◌then◌else◌}
 use Rattle.std.specs.List.{fold, flat_map, list_any, range_with_len, best_of}
-use Rattle.std.proofs.lemmas.List.{length-map, drop-map}
+use Rattle.std.proofs.lemmas.List.{drop-map}
 use Rattle.std.proofs.lemmas.List.Elements.{filter_agree}
 use Rattle.fb_geometry.specs.Shape.{Shape}
 use Rattle.fb_calls.specs.declared.call.Action.{Action}
@@ -24,12 +24,12 @@ use Rattle.fb_rows.specs.declared.back.DeliveryRow.{DeliveryRow}
 use Rattle.fb_model.specs.Inputs.{Inputs}
 use Rattle.fb_model.specs.Content.{Medium, contents_at}
 use Rattle.fb_model.specs.Decisions.{Decision, serves, idles, ends, instant_of}
-use Rattle.fb_model.specs.History.{Event, called, chose, tested, delivered, finished, Past, LogSegment, opened_by, tasks, task_numbers, terms_of, registered, blocks_of, same_block, registers, delivers, aborts, overwrites, is_seal_of, is_sealed, is_open_backup, bare_state, content_of, suspended_after, is_suspended, state, wanted}
+use Rattle.fb_model.specs.History.{Event, called, chose, tested, delivered, finished, Past, LogSegment, calls_of, opened_by, tasks, task_numbers, terms_of, registered, blocks_of, same_block, registers, delivers, aborts, overwrites, is_seal_of, is_sealed, is_open_backup, bare_state, content_of, suspended_after, is_suspended, state, wanted}
 use Rattle.fb_model.specs.Completion.{segment_by, segments, Choice, choices, is_close, is_closed, is_segment_of, is_reported, own_of, Work, work, is_done, is_complete, was_complete}
 use Rattle.fb_model.specs.Segments.{numbered, next_blocks, live_count, is_better, unchosen, is_busy, choose_best, choose_once, choose_up_to, choose_in, with_choices}
-use Rattle.fb_model.specs.Images.{bad_sectors, is_scrub, findings, begin_by, delivery_begin, packed, is_newly_cleaned, segment_rows, image, seal_rows, complete_rows, test_rows, on_disk}
+use Rattle.fb_model.specs.Images.{bad_sectors, is_scrub, findings, held_at_delivery, packed, is_newly_cleaned, segment_rows, image, seal_rows, complete_rows, test_rows}
 use Rattle.fb_model.specs.Rides.{due}
-use Rattle.fb_model.specs.Steps.{Delivery, Part, blocks_by, take_call, is_call, calls_taken, calls_due, settled_past, with_delivery, with_finish, tested_past, past_after, AtEach}
+use Rattle.fb_model.specs.Steps.{Delivery, Part, blocks_by, take_call, calls_due, settled_past, with_delivery, with_finish, tested_past, past_after, AtEach}
 use Rattle.fb_model.specs.SoundRun.{AreFollowed}
 use Rattle.fb_model.specs.FullRun.{HasBestPlan}
 use Rattle.fb_model.specs.Known.{without_line}
@@ -165,13 +165,13 @@ same_was (chose chooser segment blocks ∷ past) task = same_was past task
 same_was (delivered row ∷ past) task = same_was past task
 same_was (finished request ∷ past) task = same_was past task
 
-same_begin : (past : Past) (block : Block) → delivery_begin (unlined_past past) block ≡ delivery_begin past block
-same_begin [] block = refl
-same_begin (delivered row ∷ past) block = ap (begin_by (delivered row) block) (same_begin past block)
-same_begin (called call blocks ∷ past) block = same_begin past block
-same_begin (chose task segment blocks ∷ past) block = same_begin past block
-same_begin (tested rows ∷ past) block = same_begin past block
-same_begin (finished request ∷ past) block = same_begin past block
+same_held : (medium : Medium) (past : Past) (block : Block) → held_at_delivery medium (unlined_past past) block ≡ held_at_delivery medium past block
+same_held medium [] block = refl
+same_held medium (delivered row ∷ past) block = ap (λ held. if same_block row.block block then contents_at medium block.lbn block.count row.begin else held) (same_held medium past block)
+same_held medium (called call blocks ∷ past) block = same_held medium past block
+same_held medium (chose task segment blocks ∷ past) block = same_held medium past block
+same_held medium (tested rows ∷ past) block = same_held medium past block
+same_held medium (finished request ∷ past) block = same_held medium past block
 
 -- ---- calls and choices
 
@@ -188,20 +188,16 @@ take_all disk (call ∷ calls) past =
     ap (λ blocks. fold (take_call disk) (called (without_line call) blocks ∷ unlined_past past) (map without_line calls)) (same_by disk past call.task call.action)
     ∙ take_all disk calls (take_call disk past call)
 
-same_call : (event : Event) → is_call (unlined event) ≡ is_call event
-same_call (called call blocks) = refl
-same_call (chose task segment blocks) = refl
-same_call (tested rows) = refl
-same_call (delivered row) = refl
-same_call (finished request) = refl
-
-same_taken : (past : Past) → calls_taken (unlined_past past) ≡ calls_taken past
-same_taken past = ap length (kept_map is_call unlined past) ∙ (length-map (filter (λ event. is_call (unlined event)) past) unlined ∙ ap length (filter_agree (λ event. is_call (unlined event)) is_call same_call past))
+same_taken : (past : Past) → length (calls_of (unlined_past past)) ≡ length (calls_of past)
+same_taken [] = refl
+same_taken (called call blocks ∷ past) = omega (arith, same_taken past, length-append (calls_of (unlined_past past)) (without_line call ∷ []), length-append (calls_of past) (call ∷ []))
+same_taken (_ ∷ past) = same_taken past
 
 same_calls : (calls : List Call) (past : Past) (now : ℕ) → calls_due (map without_line calls) (unlined_past past) now ≡ map without_line (calls_due calls past now)
 same_calls calls past now =
-    ap₂ drop (same_taken past) (kept_map (λ (call : Call). nat_le call.instant now) without_line calls)
-    ∙ drop-map without_line (calls_taken past) (filter (λ (call : Call). nat_le call.instant now) calls)
+    let come = λ (call : Call). nat_le call.instant now in
+    ap (λ n. filter come (drop n (map without_line calls))) (same_taken past)
+    ∙ (ap (filter come) (drop-map without_line (length (calls_of past)) calls) ∙ kept_map come without_line (drop (length (calls_of past)) calls))
 
 either : (b : Bool) (x y x' y' : Past) → x' ≡ unlined_past x → y' ≡ unlined_past y → (if b then x' else y') ≡ unlined_past (if b then x else y)
 either true x y x' y' e f = e
@@ -269,10 +265,9 @@ findings_same past row = ap (λ (terms : Terms). if is_scrub terms.kind then map
 
 module _ (medium : Medium) where
   packed_same : (past : Past) (choice : Choice) → packed medium (unlined_past past) choice ≡ packed medium past choice
-  packed_same past choice = ap runs_of (same_flat_map (λ (block : Block). contents_at medium block.lbn block.count (delivery_begin (unlined_past past) block)) (λ (block : Block). contents_at medium block.lbn block.count (delivery_begin past block))
-      (λ block. ap (contents_at medium block.lbn block.count) (same_begin past block)) choice.blocks)
+  packed_same past choice = ap runs_of (same_flat_map (held_at_delivery medium (unlined_past past)) (held_at_delivery medium past) (same_held medium past) choice.blocks)
 
-  segments_same : (past : Past) (now task : ℕ) → segment_rows (on_disk medium) (unlined_past past) now task ≡ segment_rows (on_disk medium) past now task
+  segments_same : (past : Past) (now task : ℕ) → segment_rows (packed medium (unlined_past past)) (unlined_past past) now task ≡ segment_rows (packed medium past) past now task
   segments_same past now task =
       let line = λ (content : List ContentRun) (choice : Choice). SegmentLine (record { task = task; segment = choice.segment.number; instant = now; live = live_count choice.segment; content = content }) in
       ap₂ (λ (w : Work) (found : List Choice). map (λ choice. line (packed medium (unlined_past past) choice) choice) (filter (is_newly_cleaned w) found)) (same_work past task) (same_choices past task)
@@ -282,20 +277,20 @@ module _ (medium : Medium) where
   image_same : (past : Past) (task now : ℕ) → image medium (unlined_past past) task now ≡ image medium past task now
   image_same past task now = ap₂ (λ (w : Work) (blocks : List Block). runs_of (flat_map (λ block. contents_at medium block.lbn block.count now) (filter (λ block. is_delivered (w.bare block)) blocks))) (same_work past task) (same_blocks past task)
 
-  seals_same : (past : Past) (now task : ℕ) → seal_rows (on_disk medium) (unlined_past past) now task ≡ seal_rows (on_disk medium) past now task
+  seals_same : (past : Past) (now task : ℕ) → seal_rows (image medium (unlined_past past) task now) (unlined_past past) now task ≡ seal_rows (image medium past task now) past now task
   seals_same past now task =
       ap₂ (λ b content. if b then SealLine (record { task = task; instant = now; content = content }) ∷ [] else []) (ap₂ (λ b c. b && c) (same_open past task) (same_complete past task)) (image_same past task now)
 
   completes_same : (past : Past) (now task : ℕ) → complete_rows (unlined_past past) now task ≡ complete_rows past now task
   completes_same past now task = ap (λ b. if b then CompleteLine (record { task = task; instant = now }) ∷ [] else []) (ap₂ (λ b c. b && not c) (same_complete past task) (same_was past task))
 
-  tests_same : (past : Past) (now : ℕ) → test_rows (on_disk medium) (unlined_past past) now ≡ test_rows (on_disk medium) past now
+  tests_same : (past : Past) (now : ℕ) → test_rows medium (unlined_past past) now ≡ test_rows medium past now
   unfolding test_rows
   tests_same past now =
-      ap (λ numbers. flat_map (segment_rows (on_disk medium) (unlined_past past) now) numbers ++ flat_map (λ task. seal_rows (on_disk medium) (unlined_past past) now task ++ complete_rows (unlined_past past) now task) numbers) (same_numbers past)
+      ap (λ numbers. flat_map (segment_rows (packed medium (unlined_past past)) (unlined_past past) now) numbers ++ flat_map (λ task. seal_rows (image medium (unlined_past past) task now) (unlined_past past) now task ++ complete_rows (unlined_past past) now task) numbers) (same_numbers past)
       ∙ ap₂ (λ rows more. rows ++ more)
-      (same_flat_map (segment_rows (on_disk medium) (unlined_past past) now) (segment_rows (on_disk medium) past now) (segments_same past now) (task_numbers past))
-      (same_flat_map (λ task. seal_rows (on_disk medium) (unlined_past past) now task ++ complete_rows (unlined_past past) now task) (λ task. seal_rows (on_disk medium) past now task ++ complete_rows past now task)
+      (same_flat_map (segment_rows (packed medium (unlined_past past)) (unlined_past past) now) (segment_rows (packed medium past) past now) (segments_same past now) (task_numbers past))
+      (same_flat_map (λ task. seal_rows (image medium (unlined_past past) task now) (unlined_past past) now task ++ complete_rows (unlined_past past) now task) (λ task. seal_rows (image medium past task now) past now task ++ complete_rows past now task)
       (λ task. ap₂ (λ rows more. rows ++ more) (seals_same past now task) (completes_same past now task)) (task_numbers past))
 
   followed_same : (past : Past) (deliveries : List Delivery) → AreFollowed medium past deliveries → AreFollowed medium (unlined_past past) deliveries
@@ -314,7 +309,7 @@ module _ (medium : Medium) where
       let blocks : wanted settled ≡ wanted (settled_past (unlined_inputs inputs) (unlined_past past) step.0) = sym (ap wanted is ∙ same_wanted settled) in
       record {
         tests = record {
-          settled = full.tests.settled ∙ sym (ap (λ past. test_rows (on_disk medium) past (instant_of step.0)) is ∙ tests_same settled (instant_of step.0));
+          settled = full.tests.settled ∙ sym (ap (λ past. test_rows medium past (instant_of step.0)) is ∙ tests_same settled (instant_of step.0));
           followed = subst (λ past. AreFollowed medium (tested step.1.settled ∷ past) step.1.deliveries) (sym is) (followed_same (tested step.1.settled ∷ settled) step.1.deliveries full.tests.followed);
         };
         best = subst (λ blocks. HasBestPlan inputs.disk step.0 blocks step.1.plan) blocks full.best;

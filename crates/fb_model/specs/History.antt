@@ -133,13 +133,16 @@ state_after_event past event block before =
     else if overwrites event block && is_delivered before && is_open_backup past block.task then Wanted
     else before
 
--- the state of a registered block, leaving suspension aside; only registered blocks are asked, so what stands for the beginning doesn't
--- matter
-unfoldable pub bare_state : Past → Block → State
-bare_state [] block = Wanted
-bare_state (event ∷ past) block = state_after_event past event block (bare_state past block)
+-- what events make of the state that a block had before them
+abbrev pub state_from : State → Past → Block → State
+state_from before [] block = before
+state_from before (event ∷ past) block = state_after_event past event block (state_from before past block)
 
--- what the last delivery of a block found; only delivered blocks are asked
+-- the state of a registered block, leaving suspension aside: wanted once it is registered, whatever is taken for its state before that
+unfoldable pub bare_state : Past → Block → State
+bare_state past block = state_from Wanted past block
+
+-- what the last delivery of a block found; nothing before the first
 unfoldable pub content_of : Past → Block → List ContentRun
 content_of [] block = []
 content_of (delivered row ∷ past) block = if same_block row.block block then row.content else content_of past block

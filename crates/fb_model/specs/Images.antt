@@ -3,6 +3,7 @@ use Rattle.std.specs.Prelude.{ℕ, List, [], ◌∷◌, ◌++◌, Bool, true, fa
 use Rattle.std.specs.List.{flat_map, range_with_len}
 use Rattle.fb_calls.specs.declared.call.Kind.{Kind}
 use Rattle.fb_calls.specs.declared.call.Kind.TheVariants.{Scrub}
+use Rattle.fb_store.specs.declared.content.Content.{Content}
 use Rattle.fb_store.specs.declared.content.Content.TheVariants.{Unreadable}
 use Rattle.fb_store.specs.declared.content.ContentRun.{ContentRun}
 use Rattle.fb_store.specs.Runs.{runs_of, same_content}
@@ -35,43 +36,30 @@ abbrev pub image : Medium → Past → ℕ → ℕ → List ContentRun
 image medium past task now = runs_of (flat_map (λ block. contents_at medium block.lbn block.count now)
     (filter (λ block. is_delivered ((work past task).bare block)) (blocks_of past task)))
 
--- a delivery of the block begins
-abbrev pub begin_by : Event → Block → ℕ → ℕ
-begin_by (delivered row) block before = if same_block row.block block then row.begin else before
-begin_by _ block before = before
-
--- when the last delivery of a block began; only delivered blocks are asked, so what stands for the beginning doesn't matter
-abbrev pub delivery_begin : Past → Block → ℕ
-delivery_begin [] block = 0
-delivery_begin (event ∷ past) block = begin_by event block (delivery_begin past block)
+-- what a block held as its last delivery began; nothing before the first
+abbrev pub held_at_delivery : Medium → Past → Block → List (ℕ × Content)
+held_at_delivery medium [] block = []
+held_at_delivery medium (delivered row ∷ past) block = if same_block row.block block then contents_at medium block.lbn block.count row.begin else held_at_delivery medium past block
+held_at_delivery medium (_ ∷ past) block = held_at_delivery medium past block
 
 -- a segment's live blocks, each with what it held as its delivery began
 abbrev pub packed : Medium → Past → Choice → List ContentRun
-packed medium past choice = runs_of (flat_map (λ block. contents_at medium block.lbn block.count (delivery_begin past block)) choice.blocks)
-
--- where the contents of seal and segment rows come from: the disk in a sound run, or what the deliveries found, which is the same
-pub record Sources : Type 0 where
-  pub image_at : Past → ℕ → ℕ → List ContentRun
-  pub packed_for : Past → ℕ → Choice → List ContentRun
-
--- a sound run takes them from the disk
-abbrev pub on_disk : Medium → Sources
-on_disk medium = record { image_at = image medium; packed_for = λ past task. packed medium past }
+packed medium past choice = runs_of (flat_map (held_at_delivery medium past) choice.blocks)
 
 -- cleaned, and its row hasn't been given
 abbrev pub is_newly_cleaned : Work → Choice → Bool
 is_newly_cleaned work choice = is_cleaned work choice && not (work.reported choice.segment.number)
 
--- a segment's row stands at the first test at which it is cleaned
-abbrev pub segment_rows : Sources → Past → ℕ → ℕ → List BackRow
-segment_rows sources past now task = map
-    (λ choice. SegmentLine (record { task = task; segment = choice.segment.number; instant = now; live = live_count choice.segment; content = sources.packed_for past task choice }))
+-- a segment's row stands at the first test at which it is cleaned; it has these contents
+abbrev pub segment_rows : (Choice → List ContentRun) → Past → ℕ → ℕ → List BackRow
+segment_rows content past now task = map
+    (λ choice. SegmentLine (record { task = task; segment = choice.segment.number; instant = now; live = live_count choice.segment; content = content choice }))
     (filter (is_newly_cleaned (work past task)) (choices past task))
 
--- a backup is sealed at the first test at which it is complete
-abbrev pub seal_rows : Sources → Past → ℕ → ℕ → List BackRow
-seal_rows sources past now task = if is_open_backup past task && is_complete past task
-    then SealLine (record { task = task; instant = now; content = sources.image_at past task now }) ∷ []
+-- a backup is sealed, with this image, at the first test at which it is complete
+abbrev pub seal_rows : List ContentRun → Past → ℕ → ℕ → List BackRow
+seal_rows image past now task = if is_open_backup past task && is_complete past task
+    then SealLine (record { task = task; instant = now; content = image }) ∷ []
     else []
 
 -- a completion row stands where a task is complete and wasn't at the test before
@@ -81,6 +69,6 @@ complete_rows past now task = if is_complete past task && not (was_complete past
     else []
 
 -- the rows of a test of completion: all segment rows, and then task by task its seal and its completion
-unfoldable pub test_rows : Sources → Past → ℕ → List BackRow
-test_rows sources past now = flat_map (segment_rows sources past now) (task_numbers past)
-    ++ flat_map (λ task. seal_rows sources past now task ++ complete_rows past now task) (task_numbers past)
+unfoldable pub test_rows : Medium → Past → ℕ → List BackRow
+test_rows medium past now = flat_map (segment_rows (packed medium past) past now) (task_numbers past)
+    ++ flat_map (λ task. seal_rows (image medium past task now) past now task ++ complete_rows past now task) (task_numbers past)

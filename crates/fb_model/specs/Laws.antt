@@ -15,6 +15,7 @@ use Rattle.fb_sectormap.specs.Lookup.{place_at}
 use Rattle.fb_service.specs.declared.disk.Disk.{Disk}
 use Rattle.fb_service.specs.Passing.{begin_angle, begin_from}
 use Rattle.fb_wanted.specs.declared.block.Block.{Block}
+use Rattle.fb_wanted.specs.declared.block.State.{State}
 use Rattle.fb_rows.specs.declared.fore.ForeRow.{ForeRow}
 use Rattle.fb_rows.specs.declared.run.Run.{Run}
 use Rattle.fb_rows.specs.declared.gap.Gap.{Gap}
@@ -23,6 +24,7 @@ use Rattle.fb_model.specs.Plans.{IsBest}
 use Rattle.fb_model.specs.Foreground.{promoted}
 use Rattle.fb_model.specs.Inputs.{Inputs, requests}
 use Rattle.fb_model.specs.Content.{fore_rows}
+use Rattle.fb_model.specs.History.{Past, registered, same_block, state_from, bare_state}
 use Rattle.fb_model.specs.SoundRun.{IsSound}
 use Rattle.fb_model.specs.Accepted.{IsAccepted}
 use Rattle.fb_model.specs.PlainReplay.{Key, Served, finish, last_track, service, has_arrived, first_least, first_ready, first_track, plain_replay}
@@ -203,6 +205,10 @@ abbrev pub OneBestPlan : Type 0
 OneBestPlan = (disk : Disk) (gap : Gap) (wanted : List Block) (a b : Plan) → IsBest disk gap wanted a → IsBest disk gap wanted b → a ≡ b
 
 -- ---- the background
+
+-- the state of a registered block begins with its registration: it is the same, whatever is taken for its state before
+abbrev pub StatesBeginWithRegistration : Type 0
+StatesBeginWithRegistration = (past : Past) (block : Block) (before : State) → list_any (same_block block) (registered past) ≡ true → state_from before past block ≡ bare_state past block
 
 -- inputs that ask for the same foreground, whatever else their calls ask for
 pub record HaveOneForeground (a b : Inputs) : Type 0 where

@@ -12,7 +12,7 @@ use Rattle.fb_model.specs.Timeline.{timeline, IsPossible}
 use Rattle.fb_model.specs.Plans.{IsPlan}
 use Rattle.fb_model.specs.Decisions.{Decision, serves, idles, ends, instant_of, decisions, run_end}
 use Rattle.fb_model.specs.History.{Past, delivered, wanted}
-use Rattle.fb_model.specs.Images.{findings, test_rows, on_disk}
+use Rattle.fb_model.specs.Images.{findings, test_rows}
 use Rattle.fb_model.specs.Rides.{gap_of, due}
 use Rattle.fb_model.specs.Steps.{Delivery, Part, settled_past, tested_past, with_delivery, history, steps, AtEach, part_rows, task_rows}
 
@@ -43,12 +43,12 @@ IsDelivered inputs medium past step = IsSublist (map (λ delivery. delivery.got)
 abbrev pub AreFollowed : Medium → Past → List Delivery → Type 0
 AreFollowed medium past [] = Unit {0}
 AreFollowed medium past (delivery ∷ deliveries) =
-    (delivery.after ≡ findings past delivery.got ++ test_rows (on_disk medium) (delivered delivery.got ∷ past) delivery.got.end)
+    (delivery.after ≡ findings past delivery.got ++ test_rows medium (delivered delivery.got ∷ past) delivery.got.end)
     × AreFollowed medium (with_delivery past delivery) deliveries
 
 -- a decision's test gives its rows, and each delivery's
 pub record IsTested (inputs : Inputs) (medium : Medium) (past : Past) (step : Decision × Part) : Type 0 where
-  pub settled : step.1.settled ≡ test_rows (on_disk medium) (settled_past inputs past step.0) (instant_of step.0)
+  pub settled : step.1.settled ≡ test_rows medium (settled_past inputs past step.0) (instant_of step.0)
   pub followed : AreFollowed medium (tested_past inputs past step) step.1.deliveries
 
 -- each decision with its part meets the condition

@@ -1,5 +1,5 @@
 -- The history of a run, decision by decision, and the rows that it gives.
-use Rattle.std.specs.Prelude.{ℕ, List, [], ◌∷◌, ◌++◌, length, drop, Bool, true, false, nat_le, map, filter}
+use Rattle.std.specs.Prelude.{ℕ, List, [], ◌∷◌, ◌++◌, length, drop, nat_le, map, filter}
 use Rattle.std.specs.List.{flat_map, fold, count_by, zip}
 use Rattle.fb_calls.specs.declared.call.Action.{Action}
 use Rattle.fb_calls.specs.declared.call.Action.TheVariants.{Want}
@@ -15,7 +15,7 @@ use Rattle.fb_rows.specs.declared.back.BackRow.{BackRow}
 use Rattle.fb_rows.specs.declared.back.BackRow.TheVariants.{Gap as GapLine, Idle as IdleLine, Got as GotLine, Task as TaskLine}
 use Rattle.fb_model.specs.Inputs.{Inputs}
 use Rattle.fb_model.specs.Decisions.{Decision, serves, idles, ends, instant_of, decisions}
-use Rattle.fb_model.specs.History.{Event, called, tested, delivered, finished, Past, task_numbers, terms_of, is_aborted}
+use Rattle.fb_model.specs.History.{called, tested, delivered, finished, Past, calls_of, task_numbers, terms_of, is_aborted}
 use Rattle.fb_model.specs.Completion.{work, is_complete}
 use Rattle.fb_model.specs.Segments.{next_blocks, with_choices}
 use Rattle.fb_model.specs.Rides.{gap_of}
@@ -40,18 +40,13 @@ blocks_by disk past task _ = []
 abbrev pub take_call : Shape → Past → Call → Past
 take_call disk past call = called call (blocks_by disk past call.task call.action) ∷ past
 
--- the event is a call
-abbrev pub is_call : Event → Bool
-is_call (called call blocks) = true
-is_call _ = false
+-- the calls that haven't taken effect: calls take effect in the order of their lines, so they stand behind those that have
+abbrev pub calls_left : List Call → Past → List Call
+calls_left calls past = drop (length (calls_of past)) calls
 
--- how many calls have taken effect
-abbrev pub calls_taken : Past → ℕ
-calls_taken past = length (filter is_call past)
-
--- the calls that take effect at this decision: their instants have come, and they haven't taken effect yet
+-- the calls that take effect at this decision: those left whose instants have come
 abbrev pub calls_due : List Call → Past → ℕ → List Call
-calls_due calls past now = drop (calls_taken past) (filter (λ call. nat_le call.instant now) calls)
+calls_due calls past now = filter (λ call. nat_le call.instant now) (calls_left calls past)
 
 -- after the calls and choices of a decision
 unfoldable pub settled_past : Inputs → Past → Decision → Past

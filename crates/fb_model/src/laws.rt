@@ -1,5 +1,5 @@
 // Laws of the definitions.
-ghost use Rattle.fb_model.specs.Laws.{WaitsAreLeast, SlotsCoverRotation, AnglesHaveOneSlot, PassagesBeginFirst, PlacesAreOwn, SectorsByZone, PicksAreFirstLeast, ReadyPicksAreFirstLeast, OnePick, OneReadyPick, ForegroundListsAscend, ReplaysServeEachOnce, RequestsHaveOneRow, OnePlainReplay, OneBestPlan, ForegroundIsUntouched};
+ghost use Rattle.fb_model.specs.Laws.{WaitsAreLeast, SlotsCoverRotation, AnglesHaveOneSlot, PassagesBeginFirst, PlacesAreOwn, SectorsByZone, PicksAreFirstLeast, ReadyPicksAreFirstLeast, OnePick, OneReadyPick, ForegroundListsAscend, ReplaysServeEachOnce, RequestsHaveOneRow, OnePlainReplay, OneBestPlan, StatesBeginWithRegistration, ForegroundIsUntouched};
 ghost use Rattle.fb_model.specs.Known.{OneFullRun, NoLookAhead};
 
 /// The wait for an angle is the shortest after which the platter stands at it.
@@ -60,6 +60,12 @@ pub fn one_plain_replay()
 /// A gap has at most one best plan.
 pub fn one_best_plan()
     ensures { OneBestPlan }
+{}
+
+/// The state of a registered block begins with its registration: nothing that may be taken for its
+/// state before that changes it.
+pub fn states_begin_with_registration()
+    ensures { StatesBeginWithRegistration }
 {}
 
 /// Accepted inputs have at most one full run: they determine it to its last row.

@@ -2,7 +2,7 @@
 use Rattle.fb_tasks.proofs.Words.{◌≡◌, ℕ, zero, suc, ◌+◌, ◌^◌, ◌≤◌, List, [], ◌∷◌, Bool, true, false, Some, length, map, refl, ap, sym, ◌∙◌}
 use Rattle.fb_tasks.proofs.Words.{arith, subst, length-map-range_with_len, true≢false, Request, Shape, Call, IsScript, Content, Gives}
 use Rattle.fb_tasks.proofs.Words.{Block, Entry, Wanted, is_wanted, BackRow, DeliveryRow, Past, finished, registered, state, tasks, wanted}
-use Rattle.fb_tasks.proofs.Words.{view, with_choices, test_rows, take_call, with_delivery, task_row, task_rows, by_deliveries, delivery_of}
+use Rattle.fb_tasks.proofs.Words.{view, with_choices, test_rows_found, take_call, with_delivery, task_row, task_rows, delivery_of}
 use Rattle.fb_tasks.proofs.Words.{Tells, MayTake, MaySettle, MayDeliver, IsSettled, settled_at, IsCalled, all_at, filter_to, some_same}
 use Rattle.fb_tasks.proofs.Calls.{may-take, called-more, called-tested, called-chosen, called-delivered, called-finished}
 use Rattle.std.specs.Prelude.{slice_get}
@@ -31,7 +31,7 @@ module _ {settled : Bool} {disk : Shape} {calls : List Call} {next : ℕ} {sessi
 
   pub follows-settled : (instant : ℕ) (now : List Session) (after : List Entry) → Tells disk (settled_at disk h.past instant) now after → IsSettled (settled_at disk h.past instant) → Follows true disk calls next now after
   follows-settled instant now after tells all = follows-on true (settled_at disk h.past instant) now after next
-      (called-tested disk calls (with_choices disk h.past) next (called-chosen disk calls h.past next h.called sessions held h.tells) (test_rows by_deliveries (with_choices disk h.past) instant)) tells (λ _. all)
+      (called-tested disk calls (with_choices disk h.past) next (called-chosen disk calls h.past next h.called sessions held h.tells) (test_rows_found (with_choices disk h.past) instant)) tells (λ _. all)
 
   -- a block is delivered
   pub follows-delivered : (got : DeliveryRow) (now : List Session) (after : List Entry) → Tells disk (with_delivery h.past (delivery_of h.past got)) now after → IsSettled (with_delivery h.past (delivery_of h.past got)) → (b : Bool) → Follows b disk calls next now after

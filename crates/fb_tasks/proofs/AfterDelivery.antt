@@ -5,8 +5,8 @@ use Rattle.fb_tasks.proofs.Words.{◌∙◌, arith, subst, AllByRecursion, flat_
 use Rattle.fb_tasks.proofs.Words.{length-set, slice_get_within, slice_get-get_or, Shape, is_clean, option_map, BackRow, BadLine, GotLine}
 use Rattle.fb_tasks.proofs.Words.{DeliveryRow, Deliver, Entry, Wanted, after, is_block, Content, Gives, Past, tested, delivered, tasks}
 use Rattle.fb_tasks.proofs.Words.{terms_of, registered, is_seal_of, Choice, TaskView, view, delivered_view, is_unsealed, is_done}
-use Rattle.fb_tasks.proofs.Words.{is_cleaned, delivered-silent, delivered-view, tested-view, number_same, test_rows, segment_rows}
-use Rattle.fb_tasks.proofs.Words.{seal_rows, complete_rows, is_newly_cleaned, findings, is_scrub, bad_sectors, Session, by_deliveries}
+use Rattle.fb_tasks.proofs.Words.{is_cleaned, delivered-silent, delivered-view, tested-view, number_same, test_rows_found, segment_rows_found}
+use Rattle.fb_tasks.proofs.Words.{seal_rows_found, complete_rows, is_newly_cleaned, findings, is_scrub, bad_sectors, Session}
 use Rattle.fb_tasks.proofs.Words.{rows_after, HasTaken, entry_of, choice_in, AreReported, MayFinish, IsBlockOf, IsAtWork, HoldsBlocks}
 use Rattle.fb_tasks.proofs.Words.{Stands, Told, HasNoChoice, Tells, IsSettled, MayDeliver, all_at, number_other, same_number, other_number}
 use Rattle.fb_tasks.proofs.Words.{some_at, map_at, each_set, flat_none, all_range, HasBegun, Delivers, HasChosen, ends_of, IsTested}
@@ -50,28 +50,28 @@ module _ {disk : Shape} {past : Past} {sessions : List Session} {held : List Ent
     there = some_at sessions task (subst (λ n. task < n) (sym may.tells.as_many) less)
 
     done-other : (is_unsealed (view past task) && is_done (view past task).work) ≡ false
-    done-other = rw ((seen past task).unsealed, (seen past task).done) (sym (seals_given by_deliveries past 0 task) ∙ ap (list_any (is_seal_of task)) (may.settled.no_rows by_deliveries 0))
+    done-other = rw ((seen past task).unsealed, (seen past task).done) (sym (seals_given past 0 task) ∙ ap (list_any (is_seal_of task)) (may.settled.no_rows 0))
 
     tested-other : (view past task).was_complete ≡ is_done (view past task).work
     tested-other = rw ((seen past task).was, (seen past task).done) (may.settled.tested task)
 
-    no_segments : (now : ℕ) → segment_rows by_deliveries (delivered got ∷ past) now task ≡ []
-    no_segments now = reported_rows by_deliveries (delivered got ∷ past) now task (told-other there.0 there.1).reported
+    no_segments : (now : ℕ) → segment_rows_found (delivered got ∷ past) now task ≡ []
+    no_segments now = reported_rows (delivered got ∷ past) now task (told-other there.0 there.1).reported
 
-    no_ends : (now : ℕ) → (seal_rows by_deliveries (delivered got ∷ past) now task ++ complete_rows (delivered got ∷ past) now task) ≡ []
+    no_ends : (now : ℕ) → (seal_rows_found (delivered got ∷ past) now task ++ complete_rows (delivered got ∷ past) now task) ≡ []
     no_ends now = no-ends (delivered got ∷ past) now task (rw silent done-other) (rw silent tested-other)
 
   -- the block's own task alone gives rows
-  pub own-rows : (now : ℕ) → test_rows by_deliveries (delivered got ∷ past) now
-      ≡ segment_rows by_deliveries (delivered got ∷ past) now got.block.task ++ (seal_rows by_deliveries (delivered got ∷ past) now got.block.task ++ complete_rows (delivered got ∷ past) now got.block.task)
-  unfolding test_rows
+  pub own-rows : (now : ℕ) → test_rows_found (delivered got ∷ past) now
+      ≡ segment_rows_found (delivered got ∷ past) now got.block.task ++ (seal_rows_found (delivered got ∷ past) now got.block.task ++ complete_rows (delivered got ∷ past) now got.block.task)
+  unfolding test_rows_found
   own-rows now = ap₂ (λ a b. a ++ b)
-      (flat_one (segment_rows by_deliveries (delivered got ∷ past) now) got.block.task 0 (length (tasks past)) (omega arith) (omega (arith, opened)) (λ j from less differ. no_segments j (λ e. differ (sym e)) (omega (arith, less)) now))
-      (flat_one (λ task. seal_rows by_deliveries (delivered got ∷ past) now task ++ complete_rows (delivered got ∷ past) now task) got.block.task 0 (length (tasks past)) (omega arith) (omega (arith, opened)) (λ j from less differ. no_ends j (λ e. differ (sym e)) (omega (arith, less)) now))
+      (flat_one (segment_rows_found (delivered got ∷ past) now) got.block.task 0 (length (tasks past)) (omega arith) (omega (arith, opened)) (λ j from less differ. no_segments j (λ e. differ (sym e)) (omega (arith, less)) now))
+      (flat_one (λ task. seal_rows_found (delivered got ∷ past) now task ++ complete_rows (delivered got ∷ past) now task) got.block.task 0 (length (tasks past)) (omega arith) (omega (arith, opened)) (λ j from less differ. no_ends j (λ e. differ (sym e)) (omega (arith, less)) now))
 
   module _ (now : List Entry) (h : HoldsBlocks disk (delivered got ∷ past) now) where
     pub all-given : AreAllRows (delivered got ∷ past) (rows_after past got)
-    all-given task = rows-given by_deliveries (delivered got ∷ past) got.end (findings past got) (findings-mute past got) task (λ more. (h.unopened task more).choices)
+    all-given task = rows-given (delivered got ∷ past) got.end (findings past got) (findings-mute past got) task (λ more. (h.unopened task more).choices)
 
     pub settled-delivered : IsSettled (tested (rows_after past got) ∷ delivered got ∷ past)
     settled-delivered = settled-tested (delivered got ∷ past) (rows_after past got) (λ task less. all-given task)
@@ -167,7 +167,7 @@ module _ {disk : Shape} {past : Past} {sessions : List Session} {held now : List
       found = map (λ lbn. BadLine (record { task = got.block.task; lbn = lbn })) lbns
 
       abbrev segments : List BackRow
-      segments = segment_rows by_deliveries (delivered got ∷ past) got.end got.block.task
+      segments = segment_rows_found (delivered got ∷ past) got.end got.block.task
 
       abbrev ends : List BackRow
       ends = ends_of (delivered got ∷ past) got.end got.block.task
@@ -201,7 +201,7 @@ module _ {disk : Shape} {past : Past} {sessions : List Session} {held now : List
         module _ {with_segment : List BackRow} {finished : Session}
             (finishes : (disk : Shape) (past : Past) → MayFinish disk past got.block.task mid now
             → (Stands (view past got.block.task) finished) × (IsAtWork (view past got.block.task).work finished)
-            × (with_segment ≡ with_findings ++ segment_rows by_deliveries past got.end got.block.task)) where
+            × (with_segment ≡ with_findings ++ segment_rows_found past got.end got.block.task)) where
           pub has-chosen : HasChosen disk (delivered got ∷ past) got.block.task finished now
           has-chosen =
               let is = finishes disk (delivered got ∷ past) may-finish in

@@ -3,8 +3,8 @@ use Rattle.fb_tasks.proofs.Words.{◌≡◌, ℕ, zero, suc, ◌+◌, ◌-◌, �
 use Rattle.fb_tasks.proofs.Words.{append-nil, refl, ap, sym, ◌∙◌, arith, ◌∷◌, Bool, inl, inr, subst, ◌*◌, ◌^◌, ◌<◌, Some, set, slice_get}
 use Rattle.fb_tasks.proofs.Words.{and_parts, cases_Bool, true≢false, length-map, length-set, Shape, is_clean, Entry, BackRow, Past}
 use Rattle.fb_tasks.proofs.Words.{LogSegment, chose, tasks, task_numbers, registered, view, chosen_view, choose_once, choose_up_to}
-use Rattle.fb_tasks.proofs.Words.{choose_in, is_better, is_busy, is_chosen, unchosen, with_choices, segment_rows, Session}
-use Rattle.fb_tasks.proofs.Words.{by_deliveries, Stands, MayChoose, AreReported, IsSegmentOf, HasNoChoice, HoldsBlocks, IsQuiet, IsAtWork}
+use Rattle.fb_tasks.proofs.Words.{choose_in, is_better, is_busy, is_chosen, unchosen, with_choices, segment_rows_found, Session}
+use Rattle.fb_tasks.proofs.Words.{Stands, MayChoose, AreReported, IsSegmentOf, HasNoChoice, HoldsBlocks, IsQuiet, IsAtWork}
 use Rattle.fb_tasks.proofs.Words.{HaveChosen, choosable_by, flat_same, some_at, number_other, each_set, step_to}
 use Rattle.fb_tasks.proofs.Words.{AllByRecursion, sum_by, best_of, flat_map, fold, range_with_len, sum_by-cons, slice_get_within, Block}
 use Rattle.fb_tasks.proofs.Words.{chosen-silent, MaySettle, TaskView, nil_from_length, HasTurned, kept_segment}
@@ -162,7 +162,7 @@ in_fewer disk task past on_disk = (by_in (λ p. AllByRecursion (IsSegmentOf disk
     (rw (next_view disk p task best) h.0, omega (arith, h.1, few_less disk p task best (best_left disk (view p task) s ss (rw (seen p task).segments (numbered_given p task)) h.0 are)))) past (on_disk, omega arith)).1
 
 -- a task that stays gives the same rows
-pub rows-same : (past new : Past) (task now : ℕ) → view new task ≡ view past task → segment_rows by_deliveries new now task ≡ segment_rows by_deliveries past now task
+pub rows-same : (past new : Past) (task now : ℕ) → view new task ≡ view past task → segment_rows_found new now task ≡ segment_rows_found past now task
 rows-same past new task now same = segment_rows_is new now task ∙ (ap (λ v. segment_rows_of v.work now task) same ∙ sym (segment_rows_is past now task))
 
 -- and it can choose the same
@@ -201,7 +201,7 @@ pub record HaveBegun (disk : Shape) (count : ℕ) (past : Past) (sessions : List
 pub record Partly (disk : Shape) (past : Past) (sessions : List Session) (held : List Entry) (instant : ℕ) (before rows : List BackRow) (n : ℕ) : Type 0 where
   pub begun : HaveBegun disk (length (tasks past)) (past_at disk past n) sessions held n
   pub open begun use *
-  pub rows_are : rows ≡ before ++ flat_map (segment_rows by_deliveries (past_at disk past n) instant) (range_with_len 0 n)
+  pub rows_are : rows ≡ before ++ flat_map (segment_rows_found (past_at disk past n) instant) (range_with_len 0 n)
 
 -- the sum over the tasks that are left, and without the first of them
 left_split : (f : ℕ → ℕ) (n count : ℕ) → n < count → sum_by f (range_with_len n (count - n)) ≡ f n + sum_by f (range_with_len (n + 1) (count - (n + 1)))
@@ -247,11 +247,11 @@ module _ {disk : Shape} {past : Past} {instant : ℕ} {before : List BackRow} wh
       let within : n < length (tasks past) = omega (arith, slice_get_within sessions n session at, h.as_many) in
       let fewer = in_fewer disk n old (h.blocks.placed n).segments in
       let rest = sum_range (choosable_by disk after) (choosable_by disk old) (n + 1) (length (tasks past) - (n + 1)) (λ k from to. choosable-same disk old after k (same k (λ e. absurd (omega arith)))) in
-      let kept = flat_same (segment_rows by_deliveries after instant) (segment_rows by_deliveries old instant) (range_with_len 0 n)
-      (all_range (λ k. segment_rows by_deliveries after instant k ≡ segment_rows by_deliveries old instant k) 0 n
+      let kept = flat_same (segment_rows_found after instant) (segment_rows_found old instant) (range_with_len 0 n)
+      (all_range (λ k. segment_rows_found after instant k ≡ segment_rows_found old instant k) 0 n
       (λ k le lt. rows-same old after k instant (same k (λ e. absurd (omega arith))))) in
       let given = turned.rows rows
-      (rw (reported_rows by_deliveries old instant n ((h.each n session at).later (omega arith))) (sym (append-nil rows))) in
+      (rw (reported_rows old instant n ((h.each n session at).later (omega arith))) (sym (append-nil rows))) in
       record {
         begun = rw (past_more disk past n) (record {
           as_many = length-set sessions n new ∙ h.as_many;
@@ -268,7 +268,7 @@ module _ {disk : Shape} {past : Past} {instant : ℕ} {before : List BackRow} wh
           blocks = turned.may.blocks;
           few = omega (arith, h.few, fewer, rest, left_split (choosable_by disk old) n (length (tasks past)) within);
         });
-        rows_are = rw (past_more disk past n) (rows_more (segment_rows by_deliveries after instant) before rows more (segment_rows by_deliveries after instant n) n (h.rows_are ∙ ap (λ rs. before ++ rs) (sym kept)) given refl);
+        rows_are = rw (past_more disk past n) (rows_more (segment_rows_found after instant) before rows more (segment_rows_found after instant n) n (h.rows_are ∙ ap (λ rs. before ++ rs) (sym kept)) given refl);
       }
 
   -- sessions that were not touched have nothing to choose
@@ -286,7 +286,7 @@ module _ {disk : Shape} {past : Past} {instant : ℕ} {before : List BackRow} wh
 pub all-chosen : {disk : Shape} {past : Past} {sessions : List Session} {held : List Entry} {instant : ℕ} {before rows : List BackRow}
     → Partly disk past sessions held instant before rows (length sessions)
     → HaveChosen disk (with_choices disk past) sessions held ×
-    (rows ≡ before ++ flat_map (segment_rows by_deliveries (with_choices disk past) instant) (task_numbers (with_choices disk past)))
+    (rows ≡ before ++ flat_map (segment_rows_found (with_choices disk past) instant) (task_numbers (with_choices disk past)))
 unfolding with_choices
 all-chosen {disk} {past} {sessions} {held} {instant} {before} {rows} h =
     let new = past_at disk past (length (tasks past)) in
@@ -300,5 +300,5 @@ all-chosen {disk} {past} {sessions} {held} {instant} {before} {rows} h =
             assumption (chosen, is);
         blocks = whole.blocks;
       },
-      whole.rows_are ∙ ap (λ n. before ++ flat_map (segment_rows by_deliveries new instant) (range_with_len 0 n)) (sym count),
+      whole.rows_are ∙ ap (λ n. before ++ flat_map (segment_rows_found new instant) (range_with_len 0 n)) (sym count),
     )

@@ -11,8 +11,8 @@ use Rattle.fb_tasks.proofs.Words.{IsPlaced, IsCutFrom, IsBlockOf, IsSegmentOf, A
 use Rattle.fb_tasks.proofs.Words.{Ascend, IsAtNumber, entry_of, Stands, MayChoose, choosable_by, HoldsImage, all_weaker, all_with}
 use Rattle.fb_tasks.proofs.Words.{all_append, all_filter, all_pass, all_flat, all_same, number_other, none_pass, one_or_other, some_same}
 use Rattle.fb_tasks.proofs.Words.{filter_same, nat_tests, or-true, length-map, map-append, nil_from_length, filter-append, Kind, is_backup}
-use Rattle.fb_tasks.proofs.Words.{is_clean, ContentRun, runs_of, sectors_of, BackRow, SegmentLine, segment_rows, is_newly_cleaned}
-use Rattle.fb_tasks.proofs.Words.{found_for, by_deliveries, held_at, HasTurned}
+use Rattle.fb_tasks.proofs.Words.{is_clean, ContentRun, runs_of, sectors_of, BackRow, SegmentLine, segment_rows_found, is_newly_cleaned}
+use Rattle.fb_tasks.proofs.Words.{found_for, held_at, HasTurned}
 use Rattle.fb_tasks.proofs.Registered.{fresh_wanted, no_smaller, indexed_append, registered-entries, named_same}
 use Rattle.fb_tasks.proofs.Cuts.{cuts_own, cuts_indexed, cuts_count}
 use Rattle.fb_tasks.proofs.Segmented.{NumberedFrom, at_number, all_best, live_placed, live_cover, live_ascend, numbered_given, choice_kept}
@@ -197,7 +197,7 @@ segment_row_of w now task choice = SegmentLine (record { task = task; segment = 
 abbrev pub segment_rows_of : Work → ℕ → ℕ → List BackRow
 segment_rows_of w now task = map (segment_row_of w now task) (filter (is_newly_cleaned w) w.choices)
 
-pub segment_rows_is : (past : Past) (now task : ℕ) → segment_rows by_deliveries past now task ≡ segment_rows_of (view past task).work now task
+pub segment_rows_is : (past : Past) (now task : ℕ) → segment_rows_found past now task ≡ segment_rows_of (view past task).work now task
 unfolding view
 segment_rows_is past now task = refl
 
@@ -287,8 +287,8 @@ module _ {disk : Shape} {past : Past} {task : ℕ} {session : Session} {held : L
     first_wanted (b ∷ bs) h all = rw all.0 refl
 
   -- the choices before it give the rows that they gave
-  rows_now : (best : LogSegment) (now : ℕ) → segment_rows by_deliveries (next best) now task
-      ≡ segment_rows by_deliveries past now task ++ map (segment_row_of (after best).work now task) (filter (is_newly_cleaned (after best).work) (chosen_for disk task v best ∷ []))
+  rows_now : (best : LogSegment) (now : ℕ) → segment_rows_found (next best) now task
+      ≡ segment_rows_found past now task ++ map (segment_row_of (after best).work now task) (filter (is_newly_cleaned (after best).work) (chosen_for disk task v best ∷ []))
   rows_now best now =
       let same = filter_same (is_newly_cleaned (after best).work) (is_newly_cleaned v.work) v.choices
       (all_weaker (λ choice. is_cleaned (after best).work choice ≡ is_cleaned v.work choice) (λ choice. is_newly_cleaned (after best).work choice ≡ is_newly_cleaned v.work choice)

@@ -3,8 +3,8 @@ use Rattle.fb_tasks.proofs.Words.{◌≡◌, ℕ, suc, ◌==◌, not, if◌then�
 use Rattle.fb_tasks.proofs.Words.{inr, length, filter, append-nil, refl, ap, sym, ◌∙◌, arith, AllByRecursion, flat_map, list_any}
 use Rattle.fb_tasks.proofs.Words.{range_with_len, option_map, cases_Bool, true≢false, filter-append, none-some, Shape, is_clean, BackRow}
 use Rattle.fb_tasks.proofs.Words.{SegmentLine, ContentRun, held_sector, held_in, runs_of, sectors_of, Block, Counts, Entry, is_delivered}
-use Rattle.fb_tasks.proofs.Words.{counts_of, Past, Choice, Work, view, is_cleaned, segment_rows, is_newly_cleaned}
-use Rattle.fb_tasks.proofs.Words.{Session, is_none, found_for, by_deliveries, Stands, Cleans, MayFinish, IsAtWork, IsCutFrom, HoldsBlock}
+use Rattle.fb_tasks.proofs.Words.{counts_of, Past, Choice, Work, view, is_cleaned, segment_rows_found, is_newly_cleaned}
+use Rattle.fb_tasks.proofs.Words.{Session, is_none, found_for, Stands, Cleans, MayFinish, IsAtWork, IsCutFrom, HoldsBlock}
 use Rattle.fb_tasks.proofs.Words.{choice_in, CleansBy, all_weaker, all_with, all_append, all_left, all_right, all_flat, flat_all, flat_same}
 use Rattle.fb_tasks.proofs.Words.{some_same, filter_none, each_all, list_all_each, other_number}
 use Rattle.fb_tasks.proofs.{Complete.counts_same, Complete.filter-le, Complete.busy_by, Segmented.live_there, RowsOf.reported_rows}
@@ -40,7 +40,7 @@ cleaned_all w cs h = flat_all (λ block. is_delivered (w.bare block) ≡ true) (
 pub record IsSegmentTested (past : Past) (task now : ℕ) (session : Session) (added : List BackRow) : Type 0 where
   pub stands : Stands (view past task) session
   pub at_work : IsAtWork (view past task).work session
-  pub rows : added ≡ segment_rows by_deliveries past now task
+  pub rows : added ≡ segment_rows_found past now task
 
 abbrev not_newly : Work → Choice → Type 0
 not_newly w choice = is_newly_cleaned w choice ≡ false
@@ -50,7 +50,7 @@ module _ {disk : Shape} {past : Past} {task : ℕ} {held : List Entry} (session 
   other_tested other = record {
     stands = h.stands;
     at_work = λ cleans. absurd (true≢false (sym cleans ∙ other));
-    rows = sym (reported_rows by_deliveries past now task (rw (h.stands.unchosen other) tt));
+    rows = sym (reported_rows past now task (rw (h.stands.unchosen other) tt));
   }
 
   -- the row of a finished segment
@@ -79,7 +79,7 @@ module _ {disk : Shape} {past : Past} {task : ℕ} {held : List Entry} (session 
     unfinished_tested current by not_yet = record {
       stands = h.stands;
       at_work = λ _. rw (by.unfinished, busy_by by) (at_work current not_yet);
-      rows = sym (reported_rows by_deliveries past now task
+      rows = sym (reported_rows past now task
           (rw by.chosen (all_append (not_newly w) log.done (choice_in current) (done_silent current by)
           (all_weaker (λ choice. is_cleaned w choice ≡ false) (not_newly w) (λ choice e. rw e refl) (choice_in current) not_yet))));
     } where

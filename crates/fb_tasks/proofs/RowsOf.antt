@@ -2,12 +2,12 @@
 use Rattle.fb_tasks.proofs.Words.{◌≡◌, ℕ, ◌+◌, ◌-◌, ◌≤◌, List, [], ◌∷◌, ◌++◌, true, false, Some, if◌then◌else◌, take, slice_get, append-nil}
 use Rattle.fb_tasks.proofs.Words.{append_assoc, sym, arith, refl, zero, suc, ◌<◌, ◌==◌, ◌&&◌, ◌||◌, Bool, inl, inr, length, filter}
 use Rattle.fb_tasks.proofs.Words.{map, ap, ◌∙◌, range_with_len, flat_map, list_any, Unreadable, ContentRun, same_content, bad_sectors}
-use Rattle.fb_tasks.proofs.Words.{Sources, test_rows, segment_rows, seal_rows, complete_rows, is_newly_cleaned, findings, is_scrub}
+use Rattle.fb_tasks.proofs.Words.{test_rows_found, segment_rows_found, seal_rows_found, complete_rows, is_newly_cleaned, findings, is_scrub}
 use Rattle.fb_tasks.proofs.Words.{take_more, get_or_past, slice_get_within, get_or_from_slice_get, flat_map-append, and-false, or-false}
 use Rattle.fb_tasks.proofs.Words.{cases_Bool, nat_tests, list_any-append, BackRow, BadLine, SegmentLine}
 use Rattle.fb_tasks.proofs.Words.{DeliveryRow, Past, tasks, task_numbers, terms_of, is_seal_of, is_open_backup, Choice, view, work, choices}
 use Rattle.fb_tasks.proofs.Words.{is_complete, is_segment_of, live_count, AreRowsOf, all_any, any_same, any_none, Plain}
-use Rattle.fb_tasks.proofs.Words.{AreReported, filter_none}
+use Rattle.fb_tasks.proofs.Words.{AreReported, filter_none, found_for}
 use Rattle.fb_geometry.proofs.Turns.{range-append}
 
 pub range_pushed : (before now : List ℕ) (first lbn : ℕ) → first ≤ lbn → now ≡ before ++ range_with_len first (lbn - first) → now ++ lbn ∷ [] ≡ before ++ range_with_len first (lbn + 1 - first)
@@ -60,45 +60,45 @@ module _ (past : Past) (p : BackRow → Bool) (f : ℕ → List BackRow) where
   no_tasks : ((t : ℕ) → list_any p (f t) ≡ false) → list_any p (flat_map f (task_numbers past)) ≡ false
   no_tasks none = any_flat p f (task_numbers past) ∙ any_none (λ t. list_any p (f t)) (task_numbers past) (all_any (λ t. list_any p (f t) ≡ false) none (task_numbers past))
 
-module _ (sources : Sources) (past : Past) (now : ℕ) where
-  seals_by : (task t : ℕ) → list_any (is_seal_of task) (seal_rows sources past now t ++ complete_rows past now t) ≡ ((t == task) && (is_open_backup past t && is_complete past t))
+module _ (past : Past) (now : ℕ) where
+  seals_by : (task t : ℕ) → list_any (is_seal_of task) (seal_rows_found past now t ++ complete_rows past now t) ≡ ((t == task) && (is_open_backup past t && is_complete past t))
   seals_by task t = grind arith
 
-  no_seals : (task t : ℕ) → list_any (is_seal_of task) (segment_rows sources past now t) ≡ false
-  no_seals task t = any_mapped_none (is_seal_of task) (λ (choice : Choice). SegmentLine (record { task = t; segment = choice.segment.number; instant = now; live = live_count choice.segment; content = sources.packed_for past t choice })) (λ choice. refl) (filter (is_newly_cleaned (work past t)) (choices past t))
+  no_seals : (task t : ℕ) → list_any (is_seal_of task) (segment_rows_found past now t) ≡ false
+  no_seals task t = any_mapped_none (is_seal_of task) (λ (choice : Choice). SegmentLine (record { task = t; segment = choice.segment.number; instant = now; live = live_count choice.segment; content = found_for (work past t) choice.blocks })) (λ choice. refl) (filter (is_newly_cleaned (work past t)) (choices past t))
 
   -- a test seals a backup that is complete
-  pub seals_given : (task : ℕ) → list_any (is_seal_of task) (test_rows sources past now) ≡ (is_open_backup past task && is_complete past task)
-  unfolding test_rows
+  pub seals_given : (task : ℕ) → list_any (is_seal_of task) (test_rows_found past now) ≡ (is_open_backup past task && is_complete past task)
+  unfolding test_rows_found
   seals_given task =
-      rw (list_any-append, no_tasks past (is_seal_of task) (segment_rows sources past now) (no_seals task))
-      (any_tasks past (is_seal_of task) (λ t. seal_rows sources past now t ++ complete_rows past now t) (λ t. is_open_backup past t && is_complete past t) task (seals_by task)
+      rw (list_any-append, no_tasks past (is_seal_of task) (segment_rows_found past now) (no_seals task))
+      (any_tasks past (is_seal_of task) (λ t. seal_rows_found past now t ++ complete_rows past now t) (λ t. is_open_backup past t && is_complete past t) task (seals_by task)
       (λ beyond. rw (get_or_past (tasks past) task (record { kind = Plain; weight = 1; block = 1 }) beyond) refl))
 
   -- segments
   segments_by : (task t number : ℕ) (p : Choice → Bool) (cs : List Choice)
-      → list_any (is_segment_of task number) (map (λ (choice : Choice). SegmentLine (record { task = t; segment = choice.segment.number; instant = now; live = live_count choice.segment; content = sources.packed_for past t choice })) (filter p cs))
+      → list_any (is_segment_of task number) (map (λ (choice : Choice). SegmentLine (record { task = t; segment = choice.segment.number; instant = now; live = live_count choice.segment; content = found_for (work past t) choice.blocks })) (filter p cs))
       ≡ ((t == task) && list_any (λ choice. (choice.segment.number == number) && p choice) cs)
   segments_by task t number p [] = sym (and-false (t == task))
   segments_by task t number p (c ∷ cs) = grind (arith, segments_by task t number p cs)
 
-  no_segments : (task number t : ℕ) → list_any (is_segment_of task number) (seal_rows sources past now t ++ complete_rows past now t) ≡ false
+  no_segments : (task number t : ℕ) → list_any (is_segment_of task number) (seal_rows_found past now t ++ complete_rows past now t) ≡ false
   no_segments task number t = grind arith
 
   -- a test reports the segments that are newly cleaned
   pub segments_given : (task number : ℕ) → (length (tasks past) ≤ task → choices past task ≡ [])
-      → list_any (is_segment_of task number) (test_rows sources past now) ≡ list_any (λ choice. (choice.segment.number == number) && is_newly_cleaned (work past task) choice) (choices past task)
-  unfolding test_rows
+      → list_any (is_segment_of task number) (test_rows_found past now) ≡ list_any (λ choice. (choice.segment.number == number) && is_newly_cleaned (work past task) choice) (choices past task)
+  unfolding test_rows_found
   segments_given task number unopened =
-      rw (list_any-append, no_tasks past (is_segment_of task number) (λ t. seal_rows sources past now t ++ complete_rows past now t) (no_segments task number), or-false)
-      (any_tasks past (is_segment_of task number) (segment_rows sources past now) (λ t. list_any (λ choice. (choice.segment.number == number) && is_newly_cleaned (work past t) choice) (choices past t)) task
+      rw (list_any-append, no_tasks past (is_segment_of task number) (λ t. seal_rows_found past now t ++ complete_rows past now t) (no_segments task number), or-false)
+      (any_tasks past (is_segment_of task number) (segment_rows_found past now) (λ t. list_any (λ choice. (choice.segment.number == number) && is_newly_cleaned (work past t) choice) (choices past t)) task
       (λ t. segments_by task t number (is_newly_cleaned (work past t)) (choices past t)) (λ beyond. rw (unopened beyond) refl))
 
 -- where each segment has its row none is given
-pub reported_rows : (sources : Sources) (past : Past) (now task : ℕ) → AreReported (view past task).work
-    → segment_rows sources past now task ≡ []
+pub reported_rows : (past : Past) (now task : ℕ) → AreReported (view past task).work
+    → segment_rows_found past now task ≡ []
 unfolding view
-reported_rows sources past now task h = rw (filter_none (is_newly_cleaned (view past task).work) (view past task).choices h) refl
+reported_rows past now task h = rw (filter_none (is_newly_cleaned (view past task).work) (view past task).choices h) refl
 
 -- rows that neither seal a task nor report a segment
 pub record AreMute (rows : List BackRow) : Type 0 where
@@ -118,9 +118,9 @@ findings-mute past got = for (is_scrub (terms_of past got.block.task).kind) wher
   for false = nothing-mute
 
 -- a test's rows are such as a test has to give
-pub rows-given : (sources : Sources) (past : Past) (now : ℕ) (before : List BackRow) → AreMute before → (task : ℕ) → (length (tasks past) ≤ task → (view past task).choices ≡ []) → AreRowsOf task (view past task) (before ++ test_rows sources past now)
+pub rows-given : (past : Past) (now : ℕ) (before : List BackRow) → AreMute before → (task : ℕ) → (length (tasks past) ≤ task → (view past task).choices ≡ []) → AreRowsOf task (view past task) (before ++ test_rows_found past now)
 unfolding view is_complete
-rows-given sources past now before mute task unopened = record {
-  seals = rw (list_any-append, mute.seals task) (seals_given sources past now task);
-  segments = λ number. rw (list_any-append, mute.segments task number) (segments_given sources past now task number unopened);
+rows-given past now before mute task unopened = record {
+  seals = rw (list_any-append, mute.seals task) (seals_given past now task);
+  segments = λ number. rw (list_any-append, mute.segments task number) (segments_given past now task number unopened);
 }

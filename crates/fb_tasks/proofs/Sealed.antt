@@ -8,7 +8,7 @@ use Rattle.fb_tasks.proofs.Words.{filter_from, map_at, some_at, list_all_each, a
 use Rattle.fb_tasks.proofs.Words.{get_or_from_slice_get, take_more, and_parts, cases_Bool, Shape, Kind, Backup, is_backup, ContentRun}
 use Rattle.fb_tasks.proofs.Words.{held_at, runs_of, sectors_of, Entry, is_delivered, is_aborted, is_block, counts_of, Past, tasks}
 use Rattle.fb_tasks.proofs.Words.{registered, Work, TaskView, view, is_unsealed, is_over, is_complete, is_complete_as}
-use Rattle.fb_tasks.proofs.Words.{is_done, number_same, without_aborted, SealLine, seal_rows, BackRow, found_for, by_deliveries, Session}
+use Rattle.fb_tasks.proofs.Words.{is_done, number_same, without_aborted, SealLine, seal_rows_found, BackRow, found_for, Session}
 use Rattle.fb_tasks.proofs.Words.{take-length, all_both, list_any-append}
 use Rattle.fb_tasks.proofs.{Complete.counts_same, States.seen, Registered.own, States.shown_aborted, Changes.open_by}
 use Rattle.std.proofs.lemmas.Grind.{flat_map-append}
@@ -172,18 +172,18 @@ module _ {disk : Shape} {past : Past} {held : List Entry} (h : HoldsBlocks disk 
       gives (10 ^ 12) ends ∙ ap runs_of (sealed_held (view past task) (stands.ascend backup) (backup_over (view past task).work (ap (λ t. is_backup t.kind) stands.terms ∙ backup) complete)
       (held_at session.image) now (stands.image is_open) drops (10 ^ 12) within)
 
-seal_rows_is : (past : Past) (now task : ℕ) → seal_rows by_deliveries past now task ≡ (if is_unsealed (view past task) && is_done (view past task).work
+seal_rows_is : (past : Past) (now task : ℕ) → seal_rows_found past now task ≡ (if is_unsealed (view past task) && is_done (view past task).work
     then SealLine (record { task = task; instant = now; content = found_for (view past task).work (filter (λ block. is_delivered ((view past task).bare block)) (view past task).blocks) }) ∷ [] else [])
 unfolding view is_complete
 seal_rows_is past now task = refl
 
 pub seal_row : (past : Past) (now task : ℕ) (content : List ContentRun) → is_unsealed (view past task) ≡ true → is_done (view past task).work ≡ true
-    → content ≡ found_for (view past task).work (filter (λ block. is_delivered ((view past task).bare block)) (view past task).blocks) → SealLine (record { task = task; instant = now; content = content }) ∷ [] ≡ seal_rows by_deliveries past now task
+    → content ≡ found_for (view past task).work (filter (λ block. is_delivered ((view past task).bare block)) (view past task).blocks) → SealLine (record { task = task; instant = now; content = content }) ∷ [] ≡ seal_rows_found past now task
 seal_row past now task content is_open complete is = rw is (sym (seal_rows_is past now task ∙ rw (is_open, complete) refl))
 
 -- the seal of a session is that of its task
 pub seals_same : {v : TaskView} (session : Session) (complete : Bool) → Stands v session → complete ≡ is_done v.work → (complete && (is_backup session.kind && not session.sealed)) ≡ (is_unsealed v && is_done v.work)
 seals_same {v} session complete stands says = ap₂ (λ a b. a && b) says (sym (open_by v session stands)) ∙ and_comm (is_done v.work) (is_unsealed v)
 
-pub no-seal : (past : Past) (now task : ℕ) (rows : List BackRow) → (is_unsealed (view past task) && is_done (view past task).work) ≡ false → rows ≡ rows ++ seal_rows by_deliveries past now task
+pub no-seal : (past : Past) (now task : ℕ) (rows : List BackRow) → (is_unsealed (view past task) && is_done (view past task).work) ≡ false → rows ≡ rows ++ seal_rows_found past now task
 no-seal past now task rows none = rw (seal_rows_is past now task, none) (sym (append-nil rows))

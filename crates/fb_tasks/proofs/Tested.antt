@@ -4,13 +4,13 @@ use Rattle.fb_tasks.proofs.Words.{Option, length, refl, ap, ap₂, sym, ◌∙�
 use Rattle.fb_tasks.proofs.Words.{and-false, or-true, AllByRecursion, list_any, flat_map, range_with_len, list_any-append, is_backup}
 use Rattle.fb_tasks.proofs.Words.{BackRow, SealLine, CompleteLine, Content, held_at, Past, tested, tasks, task_numbers, bare_state}
 use Rattle.fb_tasks.proofs.Words.{content_of, registered, Choice, TaskView, view, tested_view, is_unsealed, is_cleaned}
-use Rattle.fb_tasks.proofs.Words.{is_done, is_complete, is_segment_of, work, is_busy, Sources, test_rows, segment_rows, seal_rows}
+use Rattle.fb_tasks.proofs.Words.{is_done, is_complete, is_segment_of, work, is_busy, test_rows_found, segment_rows_found, seal_rows_found}
 use Rattle.fb_tasks.proofs.Words.{complete_rows, is_newly_cleaned, number_same, tested-view, Session, is_none, IsSealed, AreRowsOf}
 use Rattle.fb_tasks.proofs.Words.{AreReported, IsAtWork, Stands, Cleans, HoldsBlock, HoldsImage, choice_in, CleansBy, IsUntouched}
 use Rattle.fb_tasks.proofs.Words.{HasNoChoice, HoldsBlocks, HasChosen, HaveChosen, IsSettled, Tells, all_weaker, flat_none}
-use Rattle.fb_tasks.proofs.Words.{all_range, some_at, each_set, step_to, get_or_past, length-set, Shape, Entry, by_deliveries, Plain}
+use Rattle.fb_tasks.proofs.Words.{all_range, some_at, each_set, step_to, get_or_past, length-set, Shape, Entry, Plain}
 use Rattle.fb_tasks.proofs.Words.{is_clean, subst, IsTested, ends_of, slice_get_within}
-use Rattle.fb_tasks.proofs.Words.{Terms}
+use Rattle.fb_tasks.proofs.Words.{Terms, found_for, filter, is_delivered}
 use Rattle.fb_tasks.proofs.States.{seen}
 use Rattle.fb_tasks.proofs.RowsOf.{reported_rows, rows-given, nothing-mute}
 use Rattle.fb_tasks.proofs.{Sealed.held_same, Complete.busy_by, Frames.kept-entries}
@@ -72,23 +72,23 @@ module _ (task : ℕ) (v : TaskView) (rows : List BackRow) (given : AreRowsOf ta
       record { done = h.done; current = h.current; by = assumption (unreported, reported, h.by) }
 
 -- all was tested
-no_others : (past : Past) (rows : List BackRow) (task : ℕ) → (is_unsealed (tested_view task rows (view past task)) && is_done (view past task).work) ≡ false → (sources : Sources) (now : ℕ) → (seal_rows sources (tested rows ∷ past) now task ++ complete_rows (tested rows ∷ past) now task) ≡ []
+no_others : (past : Past) (rows : List BackRow) (task : ℕ) → (is_unsealed (tested_view task rows (view past task)) && is_done (view past task).work) ≡ false → (now : ℕ) → (seal_rows_found (tested rows ∷ past) now task ++ complete_rows (tested rows ∷ past) now task) ≡ []
 unfolding view bare_state content_of is_complete
-no_others past rows task sealed sources now = ap₂ (λ a b. (if a then SealLine (record { task = task; instant = now; content = sources.image_at (tested rows ∷ past) task now }) ∷ [] else []) ++ (if b then CompleteLine (record { task = task; instant = now }) ∷ [] else []))
+no_others past rows task sealed now = ap₂ (λ a b. (if a then SealLine (record { task = task; instant = now; content = found_for (work (tested rows ∷ past) task) (filter (λ block. is_delivered ((work (tested rows ∷ past) task).bare block)) (work (tested rows ∷ past) task).blocks) }) ∷ [] else []) ++ (if b then CompleteLine (record { task = task; instant = now }) ∷ [] else []))
     sealed (once (is_complete past task))
 
 pub settled-tested : (past : Past) (rows : List BackRow) → ((task : ℕ) → task < length (tasks past) → AreRowsOf task (view past task) rows) → IsSettled (tested rows ∷ past)
-unfolding test_rows is_complete bare_state content_of
+unfolding test_rows_found is_complete bare_state content_of
 settled-tested past rows given = record {
   tested = λ task. refl;
-  no_rows = λ sources now. rw (
-    flat_none (segment_rows sources (tested rows ∷ past) now) (task_numbers past)
-        (all_range (λ task. segment_rows sources (tested rows ∷ past) now task ≡ []) 0 (length (tasks past))
-        (λ task from less. reported_rows sources (tested rows ∷ past) now task (rw (tested-view past rows task)
+  no_rows = λ now. rw (
+    flat_none (segment_rows_found (tested rows ∷ past) now) (task_numbers past)
+        (all_range (λ task. segment_rows_found (tested rows ∷ past) now task ≡ []) 0 (length (tasks past))
+        (λ task from less. reported_rows (tested rows ∷ past) now task (rw (tested-view past rows task)
         (reported-tested task (view past task) rows (given task (omega (arith, less))))))),
-    flat_none (λ task. seal_rows sources (tested rows ∷ past) now task ++ complete_rows (tested rows ∷ past) now task) (task_numbers past)
-        (all_range (λ task. (seal_rows sources (tested rows ∷ past) now task ++ complete_rows (tested rows ∷ past) now task) ≡ []) 0 (length (tasks past))
-        (λ task from less. no_others past rows task (unsealed-tested task (view past task) rows (given task (omega (arith, less)))) sources now)),
+    flat_none (λ task. seal_rows_found (tested rows ∷ past) now task ++ complete_rows (tested rows ∷ past) now task) (task_numbers past)
+        (all_range (λ task. (seal_rows_found (tested rows ∷ past) now task ++ complete_rows (tested rows ∷ past) now task) ≡ []) 0 (length (tasks past))
+        (λ task from less. no_others past rows task (unsealed-tested task (view past task) rows (given task (omega (arith, less)))) now)),
   ) refl;
 }
 
@@ -129,7 +129,7 @@ module _ (task : ℕ) (v : TaskView) (rows : List BackRow) (given : AreRowsOf ta
       (stands-tested task v rows given session session (record { same = rw none refl; image = λ _ lbn. refl }) stands at_work)
 
 pub no-ends : (past : Past) (now task : ℕ) → (is_unsealed (view past task) && is_done (view past task).work) ≡ false → (view past task).was_complete ≡ is_done (view past task).work
-    → (seal_rows by_deliveries past now task ++ complete_rows past now task) ≡ []
+    → (seal_rows_found past now task ++ complete_rows past now task) ≡ []
 unfolding view is_complete
 no-ends past now task none same = rw (none, same, once (is_done (work past task))) refl
 
@@ -219,11 +219,11 @@ tells-tested {disk} {past} {held} rows sessions h as_many given each chosen = re
 pub all-tested : {disk : Shape} {past : Past} {old now : List Session} {held : List Entry} {instant : ℕ} {before rows : List BackRow}
     → HaveChosen disk past old held
     → AreTested past old now instant before rows (length now)
-    → Tells disk (tested (test_rows by_deliveries past instant) ∷ past) now held
+    → Tells disk (tested (test_rows_found past instant) ∷ past) now held
     × (rows ≡ before ++ flat_map (ends_of past instant) (task_numbers past))
 all-tested {disk} {past} {old} {now} {held} {instant} {before} chosen is =
-    let all = test_rows by_deliveries past instant in
-    let given : AreAllRows past all = λ task. rows-given by_deliveries past instant [] nothing-mute task (λ more. (chosen.blocks.unopened task more).choices) in (
+    let all = test_rows_found past instant in
+    let given : AreAllRows past all = λ task. rows-given past instant [] nothing-mute task (λ more. (chosen.blocks.unopened task more).choices) in (
       tells-tested all now chosen.blocks (is.as_many ∙ chosen.as_many) given
           (λ task session at. is.earlier all given task session (slice_get_within now task session at) at)
           (λ task session at untouched. let found = some_at old task (omega (arith, slice_get_within now task session at, is.as_many)) in

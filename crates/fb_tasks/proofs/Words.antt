@@ -66,8 +66,7 @@ unfoldable pub use Rattle.fb_model.specs.Completion.{is_complete, view}
 pub use Rattle.fb_model.specs.History.{Event, LogSegment, Past, Terms, called, calls_of, chose, delivered, finished, is_open_backup}
 pub use Rattle.fb_model.specs.History.{is_seal_of, opened_by, registered, same_block, state, task_numbers, tasks, terms_of, tested}
 unfoldable pub use Rattle.fb_model.specs.History.{bare_state, content_of, wanted}
-pub use Rattle.fb_model.specs.Images.{Sources, bad_sectors, complete_rows, findings, is_newly_cleaned, is_scrub, seal_rows, segment_rows}
-unfoldable pub use Rattle.fb_model.specs.Images.{test_rows}
+pub use Rattle.fb_model.specs.Images.{bad_sectors, complete_rows, findings, is_newly_cleaned, is_scrub}
 pub use Rattle.fb_model.specs.Segments.{choose_best, choose_in, choose_once, choose_up_to, is_better, is_busy, is_chosen, live_count}
 pub use Rattle.fb_model.specs.Segments.{next_blocks, numbered, unchosen}
 unfoldable pub use Rattle.fb_model.specs.Segments.{with_choices}
@@ -87,7 +86,8 @@ pub use Rattle.fb_tasks.specs.Standing.{AreIndexed, AreReported, AreRowsOf, Asce
 pub use Rattle.fb_tasks.specs.Standing.{HoldsBlock, HoldsBlocks, HoldsChoice, HoldsImage, IsAtNumber, IsAtWork, IsBlockOf, IsCutFrom}
 pub use Rattle.fb_tasks.specs.Standing.{IsPlaced, IsQuiet, IsReady, IsSegmentOf, IsTested, IsUntouched, MayChoose, MayFinish, Stands, Told, choice_in}
 pub use Rattle.fb_tasks.specs.Standing.{choosable_by, ends_of, entry_by, entry_in, entry_of, kept_segment}
-pub use Rattle.fb_tasks.specs.Taken.{by_deliveries, delivery_of, found_for, rows_after}
+pub use Rattle.fb_tasks.specs.Taken.{delivery_of, found_for, rows_after, seal_rows_found, segment_rows_found}
+unfoldable pub use Rattle.fb_tasks.specs.Taken.{test_rows_found}
 pub use Rattle.fb_tasks.specs.Telling.{Delivers, IsCall, IsSettled, MayDeliver, MaySettle, MayTake, Tells, choosable, settled_at}
 pub use Rattle.fb_tasks.specs.declared.session.Session.{Session}
 pub use Rattle.fb_tasks.proofs.Lists.{all_any, all_append, all_at, all_filter, all_flat, all_left, all_map, all_pass, all_range}

@@ -20,10 +20,10 @@ use Rattle.fb_rows.specs.declared.back.BackRow.{BackRow}
 use Rattle.fb_model.specs.History.{Past, LogSegment, tasks, registered, tested, is_seal_of}
 use Rattle.fb_model.specs.Completion.{Choice, Work, work, TaskView, view, state_in, is_cleaned, is_over, is_done, is_segment_of, is_unsealed}
 use Rattle.fb_model.specs.Segments.{is_chosen, is_busy, unchosen}
-use Rattle.fb_model.specs.Images.{is_newly_cleaned, segment_rows, seal_rows, complete_rows}
+use Rattle.fb_model.specs.Images.{is_newly_cleaned, complete_rows}
 use Rattle.fb_tasks.specs.declared.session.Session.{Session}
 use Rattle.fb_tasks.specs.Keeping.{is_none}
-use Rattle.fb_tasks.specs.Taken.{by_deliveries}
+use Rattle.fb_tasks.specs.Taken.{segment_rows_found, seal_rows_found}
 
 -- a registered block with its state
 abbrev pub entry_in : TaskView → Block → Entry
@@ -194,7 +194,7 @@ pub record AreRowsOf (task : ℕ) (view : TaskView) (rows : List BackRow) : Type
 
 -- the rows of a task's seal and of its completion
 abbrev pub ends_of : Past → ℕ → ℕ → List BackRow
-ends_of past now task = seal_rows by_deliveries past now task ++ complete_rows past now task
+ends_of past now task = seal_rows_found past now task ++ complete_rows past now task
 
 -- a session is tested: it is as its task stands after a test that gives these rows and any of other tasks
 pub record IsTested (past : Past) (task now : ℕ) (new : Session) (old more : List BackRow) : Type 0 where
@@ -222,8 +222,8 @@ pub record MayChoose (disk : Shape) (past : Past) (task : ℕ) (session : Sessio
 -- choices were made up to a later history: the session may choose on, and the rows of what they cleaned at once follow
 pub record HasTurned (disk : Shape) (past new : Past) (task now : ℕ) (session : Session) (held : List Entry) (old more : List BackRow) : Type 0 where
   pub may : MayChoose disk new task session held
-  pub rows : (before : List BackRow) → old ≡ before ++ segment_rows by_deliveries past now task → more
-      ≡ before ++ segment_rows by_deliveries new now task
+  pub rows : (before : List BackRow) → old ≡ before ++ segment_rows_found past now task → more
+      ≡ before ++ segment_rows_found new now task
 
 -- a session has chosen
 pub record HasChosen (disk : Shape) (past : Past) (task : ℕ) (session : Session) (held : List Entry) : Type 0 where

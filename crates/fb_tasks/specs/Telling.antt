@@ -16,12 +16,11 @@ use Rattle.fb_model.specs.History.{tested, Past, tasks, task_numbers, registered
 use Rattle.fb_model.specs.Completion.{is_complete, was_complete, view}
 use Rattle.fb_model.specs.Segments.{with_choices}
 use Rattle.fb_model.specs.Steps.{blocks_by}
-use Rattle.fb_model.specs.Images.{Sources, test_rows}
 use Rattle.fb_tasks.specs.declared.session.Session.{Session}
 pub use Rattle.fb_model.specs.History.{calls_of}
 pub use Rattle.fb_tasks.specs.Standing.{entry_of, IsBlockOf}
 use Rattle.fb_tasks.specs.Standing.{HoldsBlocks, Told, choosable_by}
-use Rattle.fb_tasks.specs.Taken.{by_deliveries}
+use Rattle.fb_tasks.specs.Taken.{test_rows_found}
 
 -- one session for each task, in order of opening, and each registered block in its state, in order of registration
 pub record Tells (disk : Shape) (past : Past) (sessions : List Session) (held : List Entry) : Type 0 where
@@ -49,11 +48,11 @@ pub record MaySettle (disk : Shape) (past : Past) (sessions : List Session) (ent
 -- all was tested after the last event that could complete something: one more test would give no row
 pub record IsSettled (past : Past) : Type 0 where
   pub tested : (task : ℕ) → was_complete past task ≡ is_complete past task
-  pub no_rows : (sources : Sources) (now : ℕ) → test_rows sources past now ≡ []
+  pub no_rows : (now : ℕ) → test_rows_found past now ≡ []
 
 -- after the choices and their test
 abbrev pub settled_at : Shape → Past → ℕ → Past
-settled_at disk past now = tested (test_rows by_deliveries (with_choices disk past) now) ∷ with_choices disk past
+settled_at disk past now = tested (test_rows_found (with_choices disk past) now) ∷ with_choices disk past
 
 -- a delivery of a wanted block, with the contents of its sectors, after a test
 pub record MayDeliver (disk : Shape) (past : Past) (sessions : List Session) (entries : List Entry) (got : DeliveryRow) : Type 0 where

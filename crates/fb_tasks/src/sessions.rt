@@ -13,10 +13,9 @@ ghost use Rattle.fb_rows.specs.declared.back.BackRow.TheVariants.{Got as GotLine
 ghost use Rattle.fb_model.specs.History.{Past, called, tested, finished, task_numbers};
 ghost use Rattle.fb_model.specs.Completion.{is_complete};
 ghost use Rattle.fb_model.specs.Steps.{take_call, with_delivery, task_rows};
-ghost use Rattle.fb_model.specs.Images.{test_rows, segment_rows};
 ghost use Rattle.fb_model.specs.Segments.{with_choices};
 ghost use Rattle.fb_tasks.specs.declared.session.Session.{Session};
-ghost use Rattle.fb_tasks.specs.Taken.{by_deliveries, rows_after, delivery_of};
+ghost use Rattle.fb_tasks.specs.Taken.{segment_rows_found, test_rows_found, rows_after, delivery_of};
 ghost use Rattle.fb_tasks.specs.Standing.{HaveChosen, ends_of};
 ghost use Rattle.fb_tasks.specs.Leaving.{HasGrown, HasBegun, entries_by, OnlyRegisters, MayClean, OnlyTouched};
 ghost use Rattle.fb_tasks.specs.Telling.{Tells, MayTake, MaySettle, MayDeliver, IsSettled, IsCall, settled_at};
@@ -140,7 +139,7 @@ impl Sessions {
         requires { (past : Past) × MaySettle map.now past self.old wanted.old }
         ensures tells { OnOk result ((past : Past) → MaySettle map.now past self.old wanted.old → Tells map.now (settled_at map.now past now) self.new wanted.new) }
         ensures settled { OnOk result ((past : Past) → MaySettle map.now past self.old wanted.old → IsSettled (settled_at map.now past now)) }
-        ensures rows { OnOk result ((past : Past) → MaySettle map.now past self.old wanted.old → rows.new ≡ rows.old ++ test_rows by_deliveries (with_choices map.now past) now) }
+        ensures rows { OnOk result ((past : Past) → MaySettle map.now past self.old wanted.old → rows.new ≡ rows.old ++ test_rows_found (with_choices map.now past) now) }
         ensures stay_sessions { OnlyTouched self.old self.new }
         ensures stay_blocks { OnlyRegisters (MayClean self.old) wanted.old wanted.new }
         ensures stay_rows { HasGrown rows.old rows.new }
@@ -346,7 +345,7 @@ impl Sessions {
     ) -> Result<(), NoMemory>
         requires { (past : Past) × MaySettle map.now past self.old wanted.old }
         ensures chosen { OnOk result ((past : Past) → MaySettle map.now past self.old wanted.old → HaveChosen map.now (with_choices map.now past) self.new wanted.new
-            × (rows.new ≡ rows.old ++ flat_map (segment_rows by_deliveries (with_choices map.now past) now) (task_numbers (with_choices map.now past)))) }
+            × (rows.new ≡ rows.old ++ flat_map (segment_rows_found (with_choices map.now past) now) (task_numbers (with_choices map.now past)))) }
         ensures stay_sessions { OnlyTouched self.old self.new }
         ensures stay_blocks { OnlyRegisters (MayClean self.old) wanted.old wanted.new }
         ensures stay_rows { HasGrown rows.old rows.new }
@@ -365,7 +364,7 @@ impl Sessions {
     fn test_all(&mut self, wanted: &Wanted, now: Ns, rows: &mut BackRows) -> Result<(), NoMemory>
         requires { (disk : Shape) × (past : Past) × HaveChosen disk past self.old wanted.now }
         ensures tested { OnOk result ((disk : Shape) (past : Past) → HaveChosen disk past self.old wanted.now
-            → Tells disk (tested (test_rows by_deliveries past now) ∷ past) self.new wanted.now × (rows.new ≡ rows.old ++ flat_map (ends_of past now) (task_numbers past))) }
+            → Tells disk (tested (test_rows_found past now) ∷ past) self.new wanted.now × (rows.new ≡ rows.old ++ flat_map (ends_of past now) (task_numbers past))) }
         ensures stay_sessions { OnlyTouched self.old self.new }
         ensures stay_rows { HasGrown rows.old rows.new }
     {

@@ -10,9 +10,9 @@ ghost use Rattle.fb_clean.specs.Segments.{live_of};
 ghost use Rattle.fb_rows.specs.declared.back.BackRow.TheVariants.{Segment as SegmentLine, Complete as CompleteLine};
 ghost use Rattle.fb_model.specs.History.{Past, tested, is_open_backup};
 ghost use Rattle.fb_model.specs.Completion.{view, is_complete};
-ghost use Rattle.fb_model.specs.Images.{segment_rows, seal_rows, complete_rows};
+ghost use Rattle.fb_model.specs.Images.{complete_rows};
 ghost use Rattle.fb_tasks.specs.Keeping.{IsSealed, without_aborted};
-ghost use Rattle.fb_tasks.specs.Taken.{by_deliveries, found_for};
+ghost use Rattle.fb_tasks.specs.Taken.{found_for, segment_rows_found, seal_rows_found};
 ghost use Rattle.fb_tasks.specs.Leaving.{HasGrown, HasBegun, by_calls};
 ghost use Rattle.fb_tasks.specs.Standing.{Stands, HoldsBlocks, IsAtWork, HasChosen, MayFinish, IsTested, ends_of};
 
@@ -35,7 +35,7 @@ impl Session {
         rows: &mut BackRows,
     ) -> Result<(), NoMemory>
         ensures ok { OnOk result ((disk : Shape) (past : Past) → MayFinish disk past task self.old wanted.now
-            → (Stands (view past task) self.new) × (IsAtWork (view past task).work self.new) × (rows.new ≡ rows.old ++ segment_rows by_deliveries past now task)) }
+            → (Stands (view past task) self.new) × (IsAtWork (view past task).work self.new) × (rows.new ≡ rows.old ++ segment_rows_found past now task)) }
         ensures err { OnErr result (rows.new ≡ rows.old) }
     {
         let counts = wanted.counts(task);
@@ -123,7 +123,7 @@ impl Session {
         requires { (disk : Shape) × (past : Past) × HoldsBlocks disk past wanted.now }
         ensures session { IsSealed (complete && (is_backup self.old.kind && not self.old.sealed)) self.old self.new }
         ensures rows { OnOk result ((disk : Shape) (past : Past) → HoldsBlocks disk past wanted.now → Stands (view past stamp.task) self.old → complete ≡ is_complete past stamp.task
-            → rows.new ≡ rows.old ++ seal_rows by_deliveries past stamp.instant stamp.task) }
+            → rows.new ≡ rows.old ++ seal_rows_found past stamp.instant stamp.task) }
         ensures grown { HasGrown rows.old rows.new }
         ensures err { OnErr result (rows.new ≡ rows.old) }
     {

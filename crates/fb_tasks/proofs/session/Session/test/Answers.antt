@@ -1,5 +1,5 @@
 use Rattle.fb_tasks.proofs.Words.{append_assoc, complete_rows, ap, ◌∙◌, ◌++◌, ◌∷◌, [], ◌&&◌, not, if◌then◌else◌, subst, rules, on_ok_weaker}
-use Rattle.fb_tasks.proofs.Words.{on_err_weaker, CompleteLine, view, tested-view, seal_rows, complete_by, IsSealed, by_deliveries, on_err}
+use Rattle.fb_tasks.proofs.Words.{on_err_weaker, CompleteLine, view, tested-view, seal_rows_found, complete_by, IsSealed, on_err}
 use Rattle.fb_tasks.proofs.Words.{Session, ◌≡◌, is_done}
 use Rattle.fb_tasks.proofs.{Complete.done_same, States.seen, Complete.counts_small, Leaving.begun_after}
 use Rattle.fb_tasks.proofs.{Leaving.begun_same, Sealed.seals_same, Tested.stands-tested}
@@ -26,13 +26,13 @@ returns-clause-tested c = on_ok_weaker c.add_completion.result (λ pushed disk p
           (record { task = task; instant = c.args.now }) ∷ [] else []))
           (c.in_ok-add_seal.ensures.rows disk past may.blocks may.stands (says ∙ (seen past task).done))
           ∙ rw (says, (seen past task).done, was, (seen past task).was)
-          (append_assoc c.args.rows.now (seal_rows by_deliveries past c.args.now task) (complete_rows past c.args.now task)));
+          (append_assoc c.args.rows.now (seal_rows_found past c.args.now task) (complete_rows past c.args.now task)));
     }) c.add_completion.ensures.rows
 
 pub returns-clause-err_rows : goal.returns-clause-err_rows
 returns-clause-err_rows c = on_err_weaker c.add_completion.result (λ same disk past may.
     let says = c.is_complete-complete.ensures ∙ (ap (complete_by c.args.self.now) c.counts.ensures ∙ done_same past c.args.task c.args.self.now c.args.wanted.now may.stands may.at_work may.blocks.entries) in
-    begun_after (seal_rows by_deliveries past c.args.now c.args.task) (c.in_ok-add_seal.ensures.rows disk past may.blocks may.stands (says ∙ (seen past c.args.task).done)) (begun_same same)) c.add_completion.ensures.err
+    begun_after (seal_rows_found past c.args.now c.args.task) (c.in_ok-add_seal.ensures.rows disk past may.blocks may.stands (says ∙ (seen past c.args.task).done)) (begun_same same)) c.add_completion.ensures.err
 
 pub returns-in_err-add_seal-clause-err_rows : goal.returns-in_err-add_seal-clause-err_rows
 returns-in_err-add_seal-clause-err_rows c = on_err c.from_residual.result (λ disk past may. begun_same c.in_err-add_seal.ensures.err)

@@ -1,5 +1,5 @@
-use Rattle.fb_tasks.proofs.Words.{◌++◌, [], ap, ◌∙◌, append_assoc, on_ok_weaker, flat_map, task_numbers, test_rows, segment_rows, ends_of}
-use Rattle.fb_tasks.proofs.Words.{with_choices, by_deliveries}
+use Rattle.fb_tasks.proofs.Words.{◌++◌, [], ap, ◌∙◌, append_assoc, on_ok_weaker, flat_map, task_numbers, test_rows_found, segment_rows_found, ends_of}
+use Rattle.fb_tasks.proofs.Words.{with_choices}
 use Rattle.fb_tasks.proofs.{RowsOf.rows-given, RowsOf.nothing-mute, Tested.settled-tested}
 use Rattle.fb_tasks.proofs.sessions.Sessions.settle.Goals as goal
 
@@ -12,14 +12,14 @@ returns-clause-tells c = on_ok_weaker c.test_all.result (λ tested past may. (te
 pub returns-clause-settled : goal.returns-clause-settled
 returns-clause-settled c = on_ok_weaker c.test_all.result (λ _ past may.
     let chosen = (c.in_ok-choose_all.ensures.chosen past may).0 in
-    settled-tested (with_choices c.args.map.now past) (test_rows by_deliveries (with_choices c.args.map.now past) c.args.now)
-    (λ task less. rows-given by_deliveries (with_choices c.args.map.now past) c.args.now [] nothing-mute task (λ more. (chosen.blocks.unopened task more).choices))) c.test_all.ensures.tested
+    settled-tested (with_choices c.args.map.now past) (test_rows_found (with_choices c.args.map.now past) c.args.now)
+    (λ task less. rows-given (with_choices c.args.map.now past) c.args.now [] nothing-mute task (λ more. (chosen.blocks.unopened task more).choices))) c.test_all.ensures.tested
 
 pub returns-clause-rows : goal.returns-clause-rows
-unfolding test_rows
+unfolding test_rows_found
 returns-clause-rows c = on_ok_weaker c.test_all.result (λ tested past may.
     let new = with_choices c.args.map.now past in
     let chosen = c.in_ok-choose_all.ensures.chosen past may in
     (tested c.args.map.now new chosen.0).1
     ∙ (ap (λ rows. rows ++ flat_map (ends_of new c.args.now) (task_numbers new)) chosen.1
-    ∙ append_assoc c.args.rows.now (flat_map (segment_rows by_deliveries new c.args.now) (task_numbers new)) (flat_map (ends_of new c.args.now) (task_numbers new)))) c.test_all.ensures.tested
+    ∙ append_assoc c.args.rows.now (flat_map (segment_rows_found new c.args.now) (task_numbers new)) (flat_map (ends_of new c.args.now) (task_numbers new)))) c.test_all.ensures.tested
