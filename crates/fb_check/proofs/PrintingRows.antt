@@ -30,11 +30,11 @@ use Rattle.fb_check.proofs.PrintingReads.{reads_have}
 
 -- ---- deliveries
 
-bytes_some : (medium : Medium) (got : DeliveryRow) → HasBytes medium got → IsSome got.block → HasSectors got.content
+bytes_some : (medium : Medium) (got : DeliveryRow) → HasBytes (contents_at medium) got → IsSome got.block → HasSectors got.content
 bytes_some medium got bytes some =
     subst HasSectors (sym bytes.content) (omega (arith, some, runs_have (contents_at medium got.block.lbn got.block.count got.begin), contents_have medium got.block.lbn got.block.count got.begin))
 
-due_some : (medium : Medium) (decision : Decision) (plan : Plan) (got : DeliveryRow) → IsDueRow medium decision plan IsSome got → HasSectors got.content
+due_some : (medium : Medium) (decision : Decision) (plan : Plan) (got : DeliveryRow) → IsDueRow medium.disk (contents_at medium) decision plan IsSome got → HasSectors got.content
 due_some medium (serves served) plan got is_due = elim is_due [
   | inl early ↦ bytes_some medium got early.bytes early.one_of
   | inr later ↦ elim later [
@@ -60,8 +60,8 @@ module _ (inputs : Inputs) where
   gots_some past step h all =
       let settled = settled_past inputs past step.0 in
       subst (AllByRecursion (λ (got : DeliveryRow). HasSectors got.content)) (sym all)
-      (all_weaker (IsDueRow medium step.0 step.1.plan IsSome) (λ got. HasSectors got.content) (due_some medium step.0 step.1.plan) (due medium step.0 step.1.plan (wanted settled))
-      (due_true medium step.0 step.1.plan IsSome (wanted settled) (wanted_some settled h)))
+      (all_weaker (IsDueRow medium.disk (contents_at medium) step.0 step.1.plan IsSome) (λ got. HasSectors got.content) (due_some medium step.0 step.1.plan) (due medium.disk (contents_at medium) step.0 step.1.plan (wanted settled))
+      (due_true medium.disk (contents_at medium) step.0 step.1.plan IsSome (wanted settled) (wanted_some settled h)))
 
   module _ (past : Past) (now : ℕ) (h : HoldsOf inputs past) where
     seals_count : (task : ℕ) → AllByRecursion CountsSectors (seal_rows (image medium past task now) past now task)

@@ -8,7 +8,7 @@ use Rattle.fb_model.specs.History.{same_block, Past, registered, wanted}
 use Rattle.fb_plan.specs.declared.catching.Catch.{Catch}
 use Rattle.fb_plan.specs.Order.{is_before, place_in}
 use Rattle.fb_plan.proofs.Sorted.{put_front, put_behind}
-use Rattle.fb_decide.specs.Deliveries.{AreDistinct, AreDue, row_in, delivery_in, rides_in}
+use Rattle.fb_decide.specs.Deliveries.{AreDistinct, AreDue, row_in, held_now}
 use Rattle.std.specs.Prelude.{slice_get, nat_le, nat_lt}
 use Rattle.std.proofs.lemmas.List.{drop_more, drop_all}
 use Rattle.std.proofs.lemmas.Option.{slice_get-get_or}
@@ -21,7 +21,7 @@ use Rattle.fb_service.specs.declared.passage.Extent.{Extent}
 use Rattle.fb_service.specs.declared.passage.Passage.{Passage}
 use Rattle.fb_wanted.specs.declared.block.Entry.{Entry}
 use Rattle.fb_wanted.specs.States.{on_track, wanted_of}
-use Rattle.fb_model.specs.Rides.{lies_in, begin_at, end_at, in_order}
+use Rattle.fb_model.specs.Rides.{lies_in, begin_at, end_at, in_order, rides, delivery}
 use Rattle.fb_decide.specs.Carried.{ride_of, begins_in, begun_in, carried_of, with_ride, AreLaid, AreExtents, IsWholeBlock, AreWholeBlocks}
 use Rattle.fb_wanted.proofs.Kept.{same_itself as track_itself}
 use Rattle.fb_tasks.proofs.Lists.{filter_none, filter_same, all_any, all_at, all_weaker, all_map}
@@ -227,7 +227,7 @@ extent_at P extents all i d within = all_at P extents i (get_or extents i d) all
 -- ---- what a read carries is due: its blocks are wanted, and each is another than the others
 
 abbrev pub ride_row : Holding → Served → Block → DeliveryRow
-ride_row holding served block = delivery_in holding ByRide block (begin_at served.passages block.lbn) (end_at served.passages (block.lbn + block.count - 1))
+ride_row holding served block = delivery (held_now holding) ByRide block (begin_at served.passages block.lbn) (end_at served.passages (block.lbn + block.count - 1))
 
 rows_by : (holding : Holding) (served : Served) (bs : List Block) → map (row_in holding ByRide) (map (ride_of served.passages) bs) ≡ map (ride_row holding served) bs
 rows_by holding served [] = refl
@@ -235,15 +235,15 @@ rows_by holding served (b ∷ bs) = ap (λ rs. ride_row holding served b ∷ rs)
 
 -- the deliveries of what is carried
 pub rows-carried : (holding : Holding) (served : Served) (blocks : List Block) → served.request.write ≡ false
-    → map (row_in holding ByRide) (carried_of served.passages served.request blocks) ≡ rides_in holding served blocks
+    → map (row_in holding ByRide) (carried_of served.passages served.request blocks) ≡ rides (held_now holding) served blocks
 unfolding carried_of
 rows-carried holding served blocks reads = rw reads
     (rows-in_order holding ByRide (map (ride_of served.passages) (filter (lies_in served.request) blocks)) ∙ ap in_order (rows_by holding served (filter (lies_in served.request) blocks)))
 
-pub due-carried : (holding : Holding) (served : Served) (past : Past) → served.request.write ≡ false → AreDistinct (wanted past) → AreDue past (rides_in holding served (wanted past))
+pub due-carried : (holding : Holding) (served : Served) (past : Past) → served.request.write ≡ false → AreDistinct (wanted past) → AreDue past (rides (held_now holding) served (wanted past))
 due-carried holding served past reads distinct = rw reads (due-filtered past (lies_in served.request) (ride_row holding served) (λ b. refl) distinct)
 
-pub none-carried : (holding : Holding) (served : Served) (blocks : List Block) → served.request.write ≡ true → rides_in holding served blocks ≡ []
+pub none-carried : (holding : Holding) (served : Served) (blocks : List Block) → served.request.write ≡ true → rides (held_now holding) served blocks ≡ []
 none-carried holding served blocks writes = rw writes refl
 
 -- registered blocks have sectors, and lie on their tracks

@@ -3,6 +3,7 @@ use Rattle.std.proofs.Common.{◌≡◌, ℕ, zero, suc, ◌+◌, ◌^◌, ◌�
 use Rattle.std.specs.Prelude.{Result, Ok, Err, IfOk}
 use Rattle.std.specs.List.{AllByRecursion, list_any, range_with_len}
 use Rattle.std.proofs.lemmas.List.Concat.{flat_map-append}
+use Rattle.fb_model.specs.Rides.{delivery}
 use Rattle.fb_geometry.specs.Shape.{Shape}
 use Rattle.fb_wanted.specs.declared.block.Block.{Block}
 use Rattle.fb_wanted.specs.declared.block.Entry.{Entry}
@@ -30,7 +31,7 @@ use Rattle.fb_tasks.specs.Telling.{Tells, MayDeliver, IsSettled, IsBlockOf, entr
 use Rattle.fb_tasks.proofs.Lists.{all_append, all_at, all_map, all_weaker, filter_from, filter_to, map_at}
 use Rattle.fb_tasks.proofs.States.{shown}
 use Rattle.fb_decide.specs.declared.background.Background.{Background}
-use Rattle.fb_decide.specs.Deliveries.{IsCurrent, HasDelivered, IsRegistered, AreDistinct, AreDue, IsOneOf, block_in, delivery_in, followed, past_with, rows_of}
+use Rattle.fb_decide.specs.Deliveries.{IsCurrent, HasDelivered, IsRegistered, AreDistinct, AreDue, IsOneOf, block_in, followed, past_with, rows_of, held_now}
 
 -- the wanted set gives the blocks that are wanted
 wanted_by : (past : Past) (bs : List Block) → wanted_of (map (entry_of past) bs) ≡ filter (λ b. is_wanted (state past b)) bs
@@ -143,7 +144,7 @@ abbrev made : How → Block → ℕ → ℕ → ℕ → List ContentRun → Deli
 made how block begin end bad content = record { block = block; begin = begin; end = end; how = how; bad = bad; content = content }
 
 pub row-is : (holding : Holding) (how : How) (block : Block) (begin end bad : ℕ) (content : List ContentRun) → content ≡ runs_of (map (λ lbn. (lbn, content_in holding lbn)) (range_with_len block.lbn block.count)) → bad ≡ bad_of content
-    → made how block begin end bad content ≡ delivery_in holding how block begin end
+    → made how block begin end bad content ≡ delivery (held_now holding) how block begin end
 row-is holding how block begin end bad content is counted =
     ap₂ (made how block begin end) (counted ∙ ap bad_of is) is
 

@@ -171,14 +171,14 @@ module _ (n : ℕ) where
     pub ranges : AreRanges got.content
     pub task : got.block.task < n
 
-  delivery_fits : (medium : Medium) (how : How) (block : Block) (begin end : ℕ) → BlockFits n block → GotFits (delivery medium how block begin end)
+  delivery_fits : (medium : Medium) (how : How) (block : Block) (begin end : ℕ) → BlockFits n block → GotFits (delivery (contents_at medium) how block begin end)
   delivery_fits medium how block begin end fits = record { ranges = runs_within _ (contents_within medium block.lbn block.count begin fits.within); task = fits.task }
 
-  caught_fits : (medium : Medium) (how : How) (dwell : _) (blocks : List Block) → AllByRecursion (BlockFits n) blocks → AllByRecursion GotFits (caught medium how dwell blocks)
+  caught_fits : (medium : Medium) (how : How) (dwell : _) (blocks : List Block) → AllByRecursion (BlockFits n) blocks → AllByRecursion GotFits (caught medium.disk (contents_at medium) how dwell blocks)
   caught_fits medium how dwell blocks all = in_order-each GotFits _ (all_map GotFits _ (filter (catches medium.disk dwell) blocks)
       (all_weaker (BlockFits n) _ (λ block fits. delivery_fits medium how block _ _ fits) (filter (catches medium.disk dwell) blocks) (all_filter (BlockFits n) (catches medium.disk dwell) blocks all)))
 
-  rides_fit : (medium : Medium) (served : Served) (blocks : List Block) → AllByRecursion (BlockFits n) blocks → AllByRecursion GotFits (rides medium served blocks)
+  rides_fit : (medium : Medium) (served : Served) (blocks : List Block) → AllByRecursion (BlockFits n) blocks → AllByRecursion GotFits (rides (contents_at medium) served blocks)
   rides_fit medium served blocks all = elim (cases_Bool served.request.write) [
     | inl writes ↦ rw writes tt
     | inr reads ↦ rw reads (in_order-each GotFits _ (all_map GotFits _ (filter (lies_in served.request) blocks)
@@ -188,15 +188,15 @@ module _ (n : ℕ) where
   missed_fit : (disk : Disk) (dwell : _) (blocks : List Block) → AllByRecursion (BlockFits n) blocks → AllByRecursion (BlockFits n) (missed disk dwell blocks)
   missed_fit disk dwell blocks all = all_filter (BlockFits n) (λ block. not (catches disk dwell block)) blocks all
 
-  due_fits : (medium : Medium) (decision : Decision) (plan : Plan) (blocks : List Block) → AllByRecursion (BlockFits n) blocks → AllByRecursion GotFits (due medium decision plan blocks)
+  due_fits : (medium : Medium) (decision : Decision) (plan : Plan) (blocks : List Block) → AllByRecursion (BlockFits n) blocks → AllByRecursion GotFits (due medium.disk (contents_at medium) decision plan blocks)
   unfolding due
   due_fits medium (serves served) plan blocks all =
       let early = early_dwell medium.disk (gap_of medium.disk served) plan in
       let late = late_dwell medium.disk (gap_of medium.disk served) plan in
       let left = missed medium.disk early blocks in
       let left_fit = missed_fit medium.disk early blocks all in
-      all_append GotFits _ (rides medium served (missed medium.disk late left))
-      (all_append GotFits (caught medium _ early blocks) (caught medium _ late left) (caught_fits medium _ early blocks all) (caught_fits medium _ late left left_fit))
+      all_append GotFits _ (rides (contents_at medium) served (missed medium.disk late left))
+      (all_append GotFits (caught medium.disk (contents_at medium) _ early blocks) (caught medium.disk (contents_at medium) _ late left) (caught_fits medium _ early blocks all) (caught_fits medium _ late left left_fit))
       (rides_fit medium served (missed medium.disk late left) (missed_fit medium.disk late left left_fit))
   due_fits medium (idles dwell) plan blocks all = caught_fits medium _ dwell blocks all
   due_fits medium (ends now) plan blocks all = tt

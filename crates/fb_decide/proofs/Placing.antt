@@ -14,14 +14,14 @@ use Rattle.fb_tasks.specs.Standing.{AreIndexed}
 use Rattle.fb_tasks.specs.Telling.{Tells}
 use Rattle.fb_tasks.proofs.Lists.{all_weaker, all_filter, all_map, filter_same, all_any, all_with, map_at}
 use Rattle.fb_tasks.proofs.Deliveries.{indexed_from}
-use Rattle.fb_decide.specs.Deliveries.{AreDistinct, AreDue, IsOneOf, block_in, row_in, delivery_in, caught_in, past_with, IsCurrent, HasDelivered}
+use Rattle.fb_decide.specs.Deliveries.{AreDistinct, AreDue, IsOneOf, block_in, row_in, past_with, IsCurrent, HasDelivered, held_now}
 use Rattle.fb_rows.specs.declared.gap.Dwell.{Dwell}
 use Rattle.fb_rows.specs.declared.gap.How.{How}
 use Rattle.fb_rows.specs.declared.back.DeliveryRow.{DeliveryRow}
 use Rattle.fb_service.specs.declared.disk.Disk.{Disk}
 use Rattle.fb_store.specs.Index.{Holding}
 use Rattle.fb_model.specs.Plans.{catches, block_begin, block_end}
-use Rattle.fb_model.specs.Rides.{placed, in_order, missed}
+use Rattle.fb_model.specs.Rides.{placed, in_order, missed, delivery, caught}
 use Rattle.fb_plan.specs.declared.catching.Catch.{Catch}
 use Rattle.fb_plan.specs.Order.{is_before, place_in, catch_of, caught_of}
 use Rattle.fb_plan.proofs.Sorted.{put_front, put_behind}
@@ -99,14 +99,14 @@ pub rows-in_order : (holding : Holding) (how : How) (cs : List Catch) → map (r
 rows-in_order holding how cs = rows-placed holding how [] cs
 
 abbrev pub delivery_by : Disk → Holding → How → Dwell → Block → DeliveryRow
-delivery_by disk holding how dwell block = delivery_in holding how block (block_begin disk.map block dwell.begin) (block_end disk.map block dwell.begin)
+delivery_by disk holding how dwell block = delivery (held_now holding) how block (block_begin disk.map block dwell.begin) (block_end disk.map block dwell.begin)
 
 rows_by : (disk : Disk) (holding : Holding) (how : How) (dwell : Dwell) (bs : List Block) → map (row_in holding how) (map (catch_of disk dwell) bs) ≡ map (delivery_by disk holding how dwell) bs
 rows_by disk holding how dwell [] = refl
 rows_by disk holding how dwell (b ∷ bs) = ap (λ rs. delivery_by disk holding how dwell b ∷ rs) (rows_by disk holding how dwell bs)
 
 -- those of a dwell's catches
-pub rows-caught : (disk : Disk) (holding : Holding) (how : How) (dwell : Dwell) (bs : List Block) → map (row_in holding how) (caught_of disk dwell bs) ≡ caught_in disk holding how dwell bs
+pub rows-caught : (disk : Disk) (holding : Holding) (how : How) (dwell : Dwell) (bs : List Block) → map (row_in holding how) (caught_of disk dwell bs) ≡ caught disk (held_now holding) how dwell bs
 unfolding caught_of
 rows-caught disk holding how dwell bs = rows-in_order holding how (map (catch_of disk dwell) (filter (catches disk dwell) bs)) ∙ ap in_order (rows_by disk holding how dwell (filter (catches disk dwell) bs))
 
@@ -212,11 +212,11 @@ left-filtered past p f own distinct =
     (λ b e. ap not (any-fold (λ got. same_block got.block b) [] (map f (filter p (wanted past))) ∙ (any_by f own b (filter p (wanted past)) ∙ e))) (wanted past) (passes p (wanted past) distinct))
 
 -- what a dwell catches, and what it misses
-pub due-caught : (disk : Disk) (holding : Holding) (how : How) (dwell : Dwell) (past : Past) → AreDistinct (wanted past) → AreDue past (caught_in disk holding how dwell (wanted past))
+pub due-caught : (disk : Disk) (holding : Holding) (how : How) (dwell : Dwell) (past : Past) → AreDistinct (wanted past) → AreDue past (caught disk (held_now holding) how dwell (wanted past))
 due-caught disk holding how dwell past distinct = due-filtered past (catches disk dwell) (delivery_by disk holding how dwell) (λ b. refl) distinct
 
 pub left-caught : (disk : Disk) (holding : Holding) (how : How) (dwell : Dwell) (past : Past) → AreDistinct (wanted past)
-    → wanted (past_with past (caught_in disk holding how dwell (wanted past))) ≡ missed disk dwell (wanted past)
+    → wanted (past_with past (caught disk (held_now holding) how dwell (wanted past))) ≡ missed disk dwell (wanted past)
 left-caught disk holding how dwell past distinct = left-filtered past (catches disk dwell) (delivery_by disk holding how dwell) (λ b. refl) distinct
 
 -- ---- the catches of a dwell are delivered one after another
@@ -243,24 +243,24 @@ all-taken holding how cs n enough = take_all n (map (row_in holding how) cs) (om
 
 -- the catches of a dwell are its deliveries
 pub rows-of_catches : (disk : Disk) (holding : Holding) (how : How) (dwell : Dwell) (past : Past) (before : Background) → IsCurrent disk.map past before → (cs : List Catch) → cs ≡ caught_of disk dwell (wanted_of before.wanted)
-    → map (row_in holding how) cs ≡ caught_in disk holding how dwell (wanted past)
+    → map (row_in holding how) cs ≡ caught disk (held_now holding) how dwell (wanted past)
 rows-of_catches disk holding how dwell past before current cs all = ap (map (row_in holding how)) (all ∙ ap (caught_of disk dwell) (wanted-told current.tells)) ∙ rows-caught disk holding how dwell (wanted past)
 
 -- what one dwell catches, and then what another one catches of what is left
 module _ (disk : Disk) (holding : Holding) (how : How) (early late : Dwell) (past : Past) where
   abbrev first_caught : List DeliveryRow
-  first_caught = caught_in disk holding how early (wanted past)
+  first_caught = caught disk (held_now holding) how early (wanted past)
 
   pub delivered-both : (rows : List BackRow) (middle after : Background) → wanted (past_with past first_caught) ≡ missed disk early (wanted past) → HasDelivered disk.map past first_caught rows middle
-      → ((later : Past) → IsCurrent disk.map later middle → HasDelivered disk.map later (caught_in disk holding how late (wanted later)) middle.rows after)
-      → HasDelivered disk.map past (first_caught ++ caught_in disk holding how late (missed disk early (wanted past))) rows after
+      → ((later : Past) → IsCurrent disk.map later middle → HasDelivered disk.map later (caught disk (held_now holding) how late (wanted later)) middle.rows after)
+      → HasDelivered disk.map past (first_caught ++ caught disk (held_now holding) how late (missed disk early (wanted past))) rows after
   delivered-both rows middle after left first next =
-      delivered-join first (subst (λ bs. HasDelivered disk.map (past_with past first_caught) (caught_in disk holding how late bs) middle.rows after) left (next (past_with past first_caught) first.current))
+      delivered-join first (subst (λ bs. HasDelivered disk.map (past_with past first_caught) (caught disk (held_now holding) how late bs) middle.rows after) left (next (past_with past first_caught) first.current))
 
   pub left-both : wanted (past_with past first_caught) ≡ missed disk early (wanted past)
-      → wanted (past_with (past_with past first_caught) (caught_in disk holding how late (wanted (past_with past first_caught)))) ≡ missed disk late (wanted (past_with past first_caught))
-      → wanted (past_with past (first_caught ++ caught_in disk holding how late (missed disk early (wanted past)))) ≡ missed disk late (missed disk early (wanted past))
+      → wanted (past_with (past_with past first_caught) (caught disk (held_now holding) how late (wanted (past_with past first_caught)))) ≡ missed disk late (wanted (past_with past first_caught))
+      → wanted (past_with past (first_caught ++ caught disk (held_now holding) how late (missed disk early (wanted past)))) ≡ missed disk late (missed disk early (wanted past))
   left-both left next =
-      ap wanted (past_with-append past first_caught (caught_in disk holding how late (missed disk early (wanted past))))
-      ∙ (ap (λ bs. wanted (past_with (past_with past first_caught) (caught_in disk holding how late bs))) (sym left)
+      ap wanted (past_with-append past first_caught (caught disk (held_now holding) how late (missed disk early (wanted past))))
+      ∙ (ap (λ bs. wanted (past_with (past_with past first_caught) (caught disk (held_now holding) how late bs))) (sym left)
       ∙ (next ∙ ap (missed disk late) left))

@@ -19,16 +19,17 @@ use Rattle.fb_rows.specs.declared.gap.Plan.{Plan}
 use Rattle.fb_rows.specs.declared.back.BackRow.{BackRow}
 use Rattle.fb_rows.specs.declared.back.BackRow.TheVariants.{Gap as GapLine}
 use Rattle.fb_rows.specs.declared.back.DeliveryRow.{DeliveryRow}
+use Rattle.fb_model.specs.Decisions.{serves}
 use Rattle.fb_model.specs.History.{Past, finished, wanted}
 use Rattle.fb_model.specs.PlainReplay.{Served, service, target}
 use Rattle.fb_model.specs.Plans.{IsBest}
-use Rattle.fb_model.specs.Rides.{gap_of}
+use Rattle.fb_model.specs.Rides.{gap_of, missed_in_gap, due, rides, caught_in_gap}
 use Rattle.fb_model.proofs.Passages.{from_on, passed_between}
 use Rattle.fb_model.proofs.Lists.{all_left, all_right}
 use Rattle.fb_plan.specs.Ways.{IsGap}
 use Rattle.fb_tasks.specs.Telling.{Tells}
 use Rattle.fb_decide.specs.declared.background.Background.{Background}
-use Rattle.fb_decide.specs.Deliveries.{IsCurrent, HasDelivered, HasServed, gap_caught_in, gap_missed, rides_in, due_in, followed, past_with, rows_of}
+use Rattle.fb_decide.specs.Deliveries.{IsCurrent, HasDelivered, HasServed, followed, past_with, rows_of, held_now}
 use Rattle.fb_decide.proofs.Delivering.{delivered-join}
 
 abbrev pub gap_from : Track → ℕ → Bool → Track → ℕ → Gap
@@ -80,23 +81,24 @@ extents-begin disk head start write lbn n extents end most unbroken same ends so
 -- the gap's deliveries, then those of the ride
 module _ (disk : Disk) (holding : Holding) (served : Served) (plan : Plan) (past : Past) where
   abbrev in_gap : Gap → List DeliveryRow
-  in_gap gap = gap_caught_in disk holding gap plan (wanted past)
+  in_gap gap = caught_in_gap disk (held_now holding) gap plan (wanted past)
 
   abbrev left : Gap → List Block
-  left gap = gap_missed disk gap plan (wanted past)
+  left gap = missed_in_gap disk gap plan (wanted past)
 
   abbrev opening : Gap → BackRow
   opening gap = GapLine (record { name = served.request.name; gap = gap; plan = plan })
 
   all-delivered : (rows : List BackRow) (middle after : Background) → HasDelivered disk.map past (in_gap (gap_of disk served)) rows middle → wanted (past_with past (in_gap (gap_of disk served))) ≡ left (gap_of disk served)
-      → ((later : Past) → IsCurrent disk.map later middle → HasDelivered disk.map later (rides_in holding served (wanted later)) middle.rows after)
-      → HasDelivered disk.map past (due_in disk holding served plan (wanted past)) rows after
+      → ((later : Past) → IsCurrent disk.map later middle → HasDelivered disk.map later (rides (held_now holding) served (wanted later)) middle.rows after)
+      → HasDelivered disk.map past (due disk (held_now holding) (serves served) plan (wanted past)) rows after
+  unfolding due
   all-delivered rows middle after first are_left next =
-      delivered-join first (subst (λ bs. HasDelivered disk.map (past_with past (in_gap (gap_of disk served))) (rides_in holding served bs) middle.rows after) are_left (next (past_with past (in_gap (gap_of disk served))) first.current))
+      delivered-join first (subst (λ bs. HasDelivered disk.map (past_with past (in_gap (gap_of disk served))) (rides (held_now holding) served bs) middle.rows after) are_left (next (past_with past (in_gap (gap_of disk served))) first.current))
 
   pub has-served : (gap : Gap) (rows : List BackRow) (middle carried after : Background) → gap ≡ gap_of disk served → IsBest disk gap (wanted past) plan
       → HasDelivered disk.map past (in_gap gap) (rows ++ opening gap ∷ []) middle → wanted (past_with past (in_gap gap)) ≡ left gap
-      → ((later : Past) → IsCurrent disk.map later middle → HasDelivered disk.map later (rides_in holding served (wanted later)) middle.rows carried)
+      → ((later : Past) → IsCurrent disk.map later middle → HasDelivered disk.map later (rides (held_now holding) served (wanted later)) middle.rows carried)
       → ((later : Past) → Tells disk.map later carried.sessions carried.wanted → Tells disk.map (finished served.request ∷ later) after.sessions after.wanted)
       → after.rows ≡ carried.rows
       → HasServed disk holding past served rows after
@@ -107,7 +109,7 @@ module _ (disk : Disk) (holding : Holding) (served : Served) (plan : Plan) (past
       record {
         plan = plan;
         best = subst (λ g. IsBest disk g (wanted past) plan) its_own best;
-        tells = ends (past_with past (due_in disk holding served plan (wanted past))) all.current.tells;
-        rows_after = same ∙ (all.rows_after ∙ append_assoc rows (opening (gap_of disk served) ∷ []) (rows_of (followed past (due_in disk holding served plan (wanted past)))));
+        tells = ends (past_with past (due disk (held_now holding) (serves served) plan (wanted past))) all.current.tells;
+        rows_after = same ∙ (all.rows_after ∙ append_assoc rows (opening (gap_of disk served) ∷ []) (rows_of (followed past (due disk (held_now holding) (serves served) plan (wanted past)))));
         registered = all.registered;
       }

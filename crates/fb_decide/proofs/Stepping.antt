@@ -12,10 +12,10 @@ use Rattle.fb_rows.specs.declared.back.DeliveryRow.{DeliveryRow}
 use Rattle.fb_rows.specs.declared.back.BackRow.{BackRow}
 use Rattle.fb_model.specs.Inputs.{Inputs}
 use Rattle.fb_model.specs.Accepted.{IsRequestOf}
-use Rattle.fb_model.specs.Content.{medium_of}
+use Rattle.fb_model.specs.Content.{contents_at, medium_of}
 use Rattle.fb_model.specs.PlainReplay.{Served, service}
 use Rattle.fb_model.specs.Decisions.{Decision, serves, idles, ends, instant_of, end_of}
-use Rattle.fb_model.specs.Rides.{due}
+use Rattle.fb_model.specs.Rides.{due, caught}
 use Rattle.fb_model.specs.History.{Past, tested, tasks, registered, wanted, state, bare_state}
 use Rattle.fb_model.specs.Steps.{Delivery, Part, settled_past, past_after, with_delivery, with_finish, opening, part_rows}
 use Rattle.fb_model.specs.SoundRun.{HasPlan, IsTested}
@@ -26,7 +26,7 @@ use Rattle.fb_tasks.specs.Telling.{Tells, IsBlockOf}
 use Rattle.fb_decide.specs.declared.background.Background.{Background}
 use Rattle.fb_decide.specs.declared.deciding.Course.{Course}
 use Rattle.fb_decide.specs.Calls.{IsCalled, HasSettled, past_settled, settled_by, settling_rows, part_by}
-use Rattle.fb_decide.specs.Deliveries.{HasDelivered, HasServed, IsRegistered, followed, past_with, rows_of, due_in, caught_in}
+use Rattle.fb_decide.specs.Deliveries.{HasDelivered, HasServed, IsRegistered, followed, past_with, rows_of, held_now}
 use Rattle.fb_decide.specs.Standing.{Mirrors, IsFoundIn, IsTrue}
 use Rattle.fb_decide.specs.Deciding.{HasServedNext, HasStayed, stay_of, prepared}
 use Rattle.fb_decide.specs.Making.{IsMade}
@@ -35,7 +35,8 @@ use Rattle.fb_tasks.proofs.Calls.{called-finished}
 use Rattle.fb_decide.proofs.Calling.{called_delivered}
 use Rattle.fb_decide.proofs.Truth.{LeftBy, decision_true, after_true}
 use Rattle.fb_decide.proofs.Mirroring.{held_until, held_between, media_held, media_before, finish_held}
-use Rattle.fb_decide.proofs.Due.{due_found, due_same, caught_found, caught_same}
+use Rattle.fb_model.proofs.DueUpTo.{DeliversBy}
+use Rattle.fb_decide.proofs.Due.{due_found, due_same}
 
 -- the best plan is one of the plans
 plan_of_best : (disk : Disk) (decision : Decision) (blocks : List Block) (plan : Plan) → HasBestPlan disk decision blocks plan → HasPlan disk decision plan
@@ -92,7 +93,7 @@ module _ (inputs : Inputs) (past : Past) (before : Course) (background : Backgro
     pub found : AllByRecursion (IsFoundIn before.store (instant_of decision) end) gots
     pub there : AllByRecursion (λ got. IsRegistered then got.block) gots
     pub best : HasBestPlan inputs.disk decision (wanted then) plan
-    pub all : gots ≡ due (medium_of inputs) decision plan (wanted then)
+    pub all : gots ≡ due (medium_of inputs).disk (contents_at (medium_of inputs)) decision plan (wanted then)
     pub rows_behind : after.background.rows ≡ (background.rows ++ opening inputs.disk decision plan) ++ rows_of (followed then gots)
     pub tells_after : Tells inputs.disk.map (with_finish (past_with then gots) decision) after.background.sessions after.background.wanted
     pub leaves : LeftBy decision before.store after.store
@@ -125,7 +126,7 @@ module _ (inputs : Inputs) (past : Past) (before : Course) (background : Backgro
       is_made = record {
         planned = plan_of_best inputs.disk decision (wanted then) plan h.best;
         best = subst (λ blocks. HasBestPlan inputs.disk decision blocks plan) same_wanted h.best;
-        all = gots_followed then gots ∙ (h.all ∙ ap (due (medium_of inputs) decision plan) same_wanted);
+        all = gots_followed then gots ∙ (h.all ∙ ap (due (medium_of inputs).disk (contents_at (medium_of inputs)) decision plan) same_wanted);
         tested = truths.0;
       };
       finds = after_true inputs (medium_of inputs) before.store after.store past decision plan gots h.leaves truths.1;
@@ -167,19 +168,20 @@ module _ (inputs : Inputs) (past : Past) (before : Course) (background : Backgro
     has_served = now_served.served settled_now settled.current
 
     abbrev served_gots : List DeliveryRow
-    served_gots = due_in inputs.disk before.store served has_served.plan (wanted settled_now)
+    served_gots = due inputs.disk (held_now before.store) (serves served) has_served.plan (wanted settled_now)
+
+    over : DeliversBy (held_until served) (serves served)
+    over = (media_held served (media_before inputs.disk before.head before.now request inside.range.some), finish_held served)
 
     pub serves_step : StepsBy inputs past before (serves served) after
     unfolding due medium_of
     serves_step = stepped_by (serves served) refl has_served.plan served_gots after (held_until served) (record {
       order = (held_between inputs.disk before.head before.now request inside.range.some).0;
       mirrors = mirrors;
-      found = due_found (medium_of inputs) before.store before.head before.now request has_served.plan (held_until served) (wanted settled_now) all_some has_served.best.is_plan
-          (media_held served (media_before inputs.disk before.head before.now request inside.range.some)) (finish_held served);
+      found = due_found inputs.disk before.store (serves served) has_served.plan (held_until served) (wanted settled_now) refl has_served.best.is_plan over all_some;
       there = has_served.registered;
       best = has_served.best;
-      all = due_same (medium_of inputs) before.store before.head before.now request has_served.plan (held_until served) (wanted settled_now) all_some has_served.best.is_plan
-          (media_held served (media_before inputs.disk before.head before.now request inside.range.some)) (finish_held served) mirrors;
+      all = due_same (medium_of inputs) before.store (serves served) has_served.plan (held_until served) (wanted settled_now) refl has_served.best.is_plan over all_some mirrors;
       rows_behind = has_served.rows_after ∙ sym (append_assoc background.rows (opening inputs.disk (serves served) has_served.plan) (rows_of (followed settled_now served_gots)));
       tells_after = has_served.tells;
       leaves = now_served.leaves;
@@ -190,21 +192,21 @@ module _ (inputs : Inputs) (past : Past) (before : Course) (background : Backgro
   -- the head stays
   module _ (instant : ℕ) (later : before.now ≤ instant) (after : Course) (stayed : HasStayed inputs.disk instant ready after)
       (mirrors : Mirrors (medium_of inputs) before.store before.now instant) where
-    has_delivered : HasDelivered inputs.disk.map settled_now (caught_in inputs.disk before.store ByIdle (stay_of ready instant) (wanted settled_now)) (background.rows ++ opening inputs.disk (idles (stay_of ready instant)) (Direct 0)) after.background
+    has_delivered : HasDelivered inputs.disk.map settled_now (caught inputs.disk (held_now before.store) ByIdle (stay_of ready instant) (wanted settled_now)) (background.rows ++ opening inputs.disk (idles (stay_of ready instant)) (Direct 0)) after.background
     has_delivered = stayed.delivered settled_now settled.current
 
     abbrev stayed_gots : List DeliveryRow
-    stayed_gots = caught_in inputs.disk before.store ByIdle (stay_of ready instant) (wanted settled_now)
+    stayed_gots = caught inputs.disk (held_now before.store) ByIdle (stay_of ready instant) (wanted settled_now)
 
     pub stays_step : StepsBy inputs past before (idles (stay_of ready instant)) after
     unfolding due medium_of
     stays_step = stepped_by (idles (stay_of ready instant)) refl (Direct 0) stayed_gots after instant (record {
       order = later;
       mirrors = mirrors;
-      found = caught_found inputs.disk before.store ByIdle (stay_of ready instant) before.now instant (omega arith) (omega arith) (wanted settled_now);
+      found = due_found inputs.disk before.store (idles (stay_of ready instant)) (Direct 0) instant (wanted settled_now) tt tt (omega arith) all_some;
       there = has_delivered.registered;
       best = tt;
-      all = caught_same (medium_of inputs) before.store ByIdle (stay_of ready instant) before.now instant mirrors (omega arith) (omega arith) (wanted settled_now);
+      all = due_same (medium_of inputs) before.store (idles (stay_of ready instant)) (Direct 0) instant (wanted settled_now) tt tt (omega arith) all_some mirrors;
       rows_behind = has_delivered.rows_after;
       tells_after = has_delivered.current.tells;
       leaves = stayed.same_store;

@@ -19,11 +19,12 @@ use Rattle.fb_rows.specs.declared.back.BackRow.TheVariants.{Idle as IdleLine}
 use Rattle.fb_rows.specs.Ranges.{HasRanges}
 use Rattle.fb_model.specs.PlainReplay.{Key, first_track, service, last_track, finish, first_least}
 use Rattle.fb_model.specs.History.{Past, wanted}
+use Rattle.fb_model.specs.Rides.{caught}
 use Rattle.fb_decide.specs.declared.background.Background.{Background}
 use Rattle.fb_decide.specs.declared.deciding.Course.{Course}
 use Rattle.fb_decide.specs.Contents.{left_by, IsRowOf}
 use Rattle.fb_decide.specs.Waiting.{left, IsWaiting, IsForegroundOf}
-use Rattle.fb_decide.specs.Deliveries.{IsCurrent, HasDelivered, HasServed, caught_in}
+use Rattle.fb_decide.specs.Deliveries.{IsCurrent, HasDelivered, HasServed, held_now}
 use Rattle.fb_decide.specs.Calls.{HasSettled, IsScriptOf}
 
 -- each sector of the disk takes some time to pass
@@ -72,7 +73,7 @@ stay_of course instant = record { track = course.head; begin = course.now; end =
 -- the head stayed until an instant
 pub record HasStayed (disk : Disk) (instant : ℕ) (before after : Course) : Type 0 where
   pub delivered : (past : Past) → IsCurrent disk.map past before.background
-      → HasDelivered disk.map past (caught_in disk before.store ByIdle (stay_of before instant) (wanted past)) (before.background.rows ++ IdleLine (stay_of before instant) ∷ []) after.background
+      → HasDelivered disk.map past (caught disk (held_now before.store) ByIdle (stay_of before instant) (wanted past)) (before.background.rows ++ IdleLine (stay_of before instant) ∷ []) after.background
   pub until : after.now ≡ instant
   pub same_store : after.store ≡ before.store
   pub same_fore : after.fore ≡ before.fore

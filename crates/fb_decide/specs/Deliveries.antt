@@ -1,22 +1,20 @@
--- What dwells and reads deliver from a disk as it is, and what the deliveries make of a history.
-use Rattle.std.specs.Prelude.{◌≡◌, ℕ, ◌+◌, ◌-◌, List, [], ◌∷◌, ◌++◌, false, filter, map, Some, slice_get, if◌then◌else◌}
+-- What is delivered from a disk as it is, and what the deliveries make of a history.
+use Rattle.std.specs.Prelude.{◌≡◌, ℕ, List, [], ◌∷◌, ◌++◌, false, map, Some, slice_get}
 use Rattle.std.specs.List.{AllByRecursion, flat_map, fold, range_with_len}
 use Rattle.fb_geometry.specs.Shape.{Shape}
 use Rattle.fb_service.specs.declared.disk.Disk.{Disk}
-use Rattle.fb_store.specs.Runs.{runs_of, bad_of}
 use Rattle.fb_store.specs.Index.{Holding, content_in}
 use Rattle.fb_wanted.specs.declared.block.Block.{Block}
-use Rattle.fb_rows.specs.declared.gap.Dwell.{Dwell}
-use Rattle.fb_rows.specs.declared.gap.Gap.{Gap}
 use Rattle.fb_rows.specs.declared.gap.Plan.{Plan}
 use Rattle.fb_rows.specs.declared.gap.How.{How}
-use Rattle.fb_rows.specs.declared.gap.How.TheVariants.{Gap as ByGap, Ride as ByRide}
 use Rattle.fb_rows.specs.declared.back.DeliveryRow.{DeliveryRow}
 use Rattle.fb_rows.specs.declared.back.BackRow.{BackRow}
 use Rattle.fb_rows.specs.declared.back.BackRow.TheVariants.{Got as GotLine, Gap as GapLine}
-use Rattle.fb_model.specs.Plans.{IsBest, block_begin, block_end, catches, early_dwell, late_dwell}
+use Rattle.fb_model.specs.Content.{ContentsAt}
+use Rattle.fb_model.specs.Plans.{IsBest}
 use Rattle.fb_model.specs.PlainReplay.{Served}
-use Rattle.fb_model.specs.Rides.{in_order, lies_in, begin_at, end_at, missed, gap_of}
+use Rattle.fb_model.specs.Decisions.{serves}
+use Rattle.fb_model.specs.Rides.{delivery, due, gap_of}
 use Rattle.fb_model.specs.History.{Past, finished, registered, same_block, wanted}
 use Rattle.fb_model.specs.Steps.{Delivery, with_delivery}
 use Rattle.fb_tasks.specs.Taken.{delivery_of}
@@ -24,40 +22,13 @@ use Rattle.fb_tasks.specs.Telling.{Tells, IsSettled}
 use Rattle.fb_plan.specs.declared.catching.Catch.{Catch}
 use Rattle.fb_decide.specs.declared.background.Background.{Background}
 
--- the delivery of a block, with what its sectors hold now
-abbrev pub delivery_in : Holding → How → Block → ℕ → ℕ → DeliveryRow
-delivery_in holding how block begin end =
-    let runs = runs_of (map (λ lbn. (lbn, content_in holding lbn)) (range_with_len block.lbn block.count)) in
-    record { block = block; begin = begin; end = end; how = how; bad = bad_of runs; content = runs }
+-- the contents of n sectors from an LBN on as the disk is now, whatever the instant
+abbrev pub held_now : Holding → ContentsAt
+held_now holding lbn n t = map (λ sector. (sector, content_in holding sector)) (range_with_len lbn n)
 
 -- the delivery of a block that was caught
 abbrev pub row_in : Holding → How → Catch → DeliveryRow
-row_in holding how catch = delivery_in holding how catch.block catch.begin catch.end
-
--- what a dwell catches of these blocks
-abbrev pub caught_in : Disk → Holding → How → Dwell → List Block → List DeliveryRow
-caught_in disk holding how dwell blocks = in_order (map
-    (λ block. delivery_in holding how block (block_begin disk.map block dwell.begin) (block_end disk.map block dwell.begin))
-    (filter (catches disk dwell) blocks))
-
--- what a read carries of these blocks
-abbrev pub rides_in : Holding → Served → List Block → List DeliveryRow
-rides_in holding served blocks = if served.request.write then [] else in_order (map
-    (λ block. delivery_in holding ByRide block (begin_at served.passages block.lbn) (end_at served.passages (block.lbn + block.count - 1)))
-    (filter (lies_in served.request) blocks))
-
--- what the early dwell of a gap catches, and then the late one of the blocks that are left
-abbrev pub gap_caught_in : Disk → Holding → Gap → Plan → List Block → List DeliveryRow
-gap_caught_in disk holding gap plan wanted =
-    caught_in disk holding ByGap (early_dwell disk gap plan) wanted ++ caught_in disk holding ByGap (late_dwell disk gap plan) (missed disk (early_dwell disk gap plan) wanted)
-
--- those that are left then
-abbrev pub gap_missed : Disk → Gap → Plan → List Block → List Block
-gap_missed disk gap plan wanted = missed disk (late_dwell disk gap plan) (missed disk (early_dwell disk gap plan) wanted)
-
--- what the gap catches, and then what the ride carries of the blocks that are left
-abbrev pub due_in : Disk → Holding → Served → Plan → List Block → List DeliveryRow
-due_in disk holding served plan wanted = gap_caught_in disk holding (gap_of disk served) plan wanted ++ rides_in holding served (gap_missed disk (gap_of disk served) plan wanted)
+row_in holding how catch = delivery (held_now holding) how catch.block catch.begin catch.end
 
 -- these deliveries one after another, each with its findings and what its test gives
 abbrev pub followed : Past → List DeliveryRow → List Delivery
@@ -104,6 +75,6 @@ pub record HasDelivered (disk : Shape) (past : Past) (gots : List DeliveryRow) (
 pub record HasServed (disk : Disk) (holding : Holding) (past : Past) (served : Served) (rows : List BackRow) (after : Background) : Type 0 where
   pub plan : Plan
   pub best : IsBest disk (gap_of disk served) (wanted past) plan
-  pub tells : Tells disk.map (finished served.request ∷ past_with past (due_in disk holding served plan (wanted past))) after.sessions after.wanted
-  pub rows_after : after.rows ≡ rows ++ GapLine (record { name = served.request.name; gap = gap_of disk served; plan = plan }) ∷ rows_of (followed past (due_in disk holding served plan (wanted past)))
-  pub registered : AllByRecursion (λ got. IsRegistered past got.block) (due_in disk holding served plan (wanted past))
+  pub tells : Tells disk.map (finished served.request ∷ past_with past (due disk (held_now holding) (serves served) plan (wanted past))) after.sessions after.wanted
+  pub rows_after : after.rows ≡ rows ++ GapLine (record { name = served.request.name; gap = gap_of disk served; plan = plan }) ∷ rows_of (followed past (due disk (held_now holding) (serves served) plan (wanted past)))
+  pub registered : AllByRecursion (λ got. IsRegistered past got.block) (due disk (held_now holding) (serves served) plan (wanted past))

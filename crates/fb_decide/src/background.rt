@@ -2,8 +2,8 @@
 ghost use Rattle.std.specs.Prelude.{◌≡◌, ◌+◌, ◌*◌, ◌≤◌, ◌^◌, ℕ, [], ◌∷◌, ◌++◌, Some, map, slice_get, OnOk};
 ghost use Rattle.fb_geometry.specs.Shape.{Shape};
 ghost use Rattle.fb_model.specs.History.{Past, wanted};
-ghost use Rattle.fb_model.specs.Rides.{missed};
-ghost use Rattle.fb_decide.specs.Deliveries.{IsCurrent, HasDelivered, AreDue, row_in, delivery_in, caught_in, past_with};
+ghost use Rattle.fb_model.specs.Rides.{delivery, caught, missed};
+ghost use Rattle.fb_decide.specs.Deliveries.{IsCurrent, HasDelivered, AreDue, row_in, held_now, past_with};
 
 use fb_plan::{Catch, caught};
 use fb_rows::{BackRow, BackRows, DeliveryRow, Dwell, How};
@@ -38,7 +38,7 @@ impl Background {
     ) -> Result<(), NoMemory>
         requires wanted { (disk : Shape) × (past : Past) × (place : ℕ) × IsCurrent disk past self.old × (slice_get (wanted past) place ≡ Some catch.block) }
         ensures { OnOk result ((disk : Shape) (past : Past) (place : ℕ) → IsCurrent disk past self.old → slice_get (wanted past) place ≡ Some catch.block
-            → HasDelivered disk past (delivery_in store.now how catch.block catch.begin catch.end ∷ []) self.old.rows self.new) }
+            → HasDelivered disk past (delivery (held_now store.now) how catch.block catch.begin catch.end ∷ []) self.old.rows self.new) }
     {
         runs_are_fewest();
         let content = store.runs(alloc, catch.block.lbn, catch.block.count)?;
@@ -88,9 +88,9 @@ impl Background {
         requires current { (past : Past) × IsCurrent disk.now.map past self.old }
         requires early { dwell.begin ≤ 9 * 10 ^ 18 }
         ensures delivered { OnOk result ((past : Past) → IsCurrent disk.now.map past self.old
-            → HasDelivered disk.now.map past (caught_in disk.now store.now how dwell (wanted past)) self.old.rows self.new) }
+            → HasDelivered disk.now.map past (caught disk.now (held_now store.now) how dwell (wanted past)) self.old.rows self.new) }
         ensures left { OnOk result ((past : Past) → IsCurrent disk.now.map past self.old
-            → wanted (past_with past (caught_in disk.now store.now how dwell (wanted past))) ≡ missed disk.now dwell (wanted past)) }
+            → wanted (past_with past (caught disk.now (held_now store.now) how dwell (wanted past))) ≡ missed disk.now dwell (wanted past)) }
     {
         let catches = caught(alloc, disk, &self.wanted, dwell)?;
         self.deliver_all(alloc, store, how, catches.as_slice())
@@ -109,7 +109,7 @@ impl Background {
         requires current { (past : Past) × IsCurrent disk.now.map past self.old }
         requires early { dwell.begin ≤ 9 * 10 ^ 18 }
         ensures { OnOk result ((past : Past) → IsCurrent disk.now.map past self.old
-            → HasDelivered disk.now.map past (caught_in disk.now store.now How.Idle dwell (wanted past)) (self.old.rows ++ BackRow.Idle dwell ∷ []) self.new) }
+            → HasDelivered disk.now.map past (caught disk.now (held_now store.now) How.Idle dwell (wanted past)) (self.old.rows ++ BackRow.Idle dwell ∷ []) self.new) }
     {
         self.rows.push(BackRow::Idle(dwell))?;
         self.stay(alloc, disk, store, How::Idle, dwell)

@@ -3,11 +3,11 @@ ghost use Rattle.std.specs.Prelude.{◌≡◌, ◌==◌, ◌+◌, ◌*◌, ◌�
 ghost use Rattle.std.specs.List.{AllByRecursion, fold};
 ghost use Rattle.fb_service.specs.Extents.{all_passages_of, IsUnbroken};
 ghost use Rattle.fb_model.specs.History.{Past, wanted};
-ghost use Rattle.fb_model.specs.Rides.{lies_in};
+ghost use Rattle.fb_model.specs.Rides.{lies_in, rides};
 ghost use Rattle.fb_wanted.specs.States.{on_track, wanted_of};
 ghost use Rattle.fb_plan.specs.Order.{place_in};
 ghost use Rattle.fb_decide.specs.Carried.{carried_of, ride_of, begins_in, begun_in, AreExtents, with_ride, AreLaid, AreWholeBlocks, IsWholeBlock};
-ghost use Rattle.fb_decide.specs.Deliveries.{IsCurrent, HasDelivered, AreDistinct, rides_in};
+ghost use Rattle.fb_decide.specs.Deliveries.{IsCurrent, HasDelivered, AreDistinct, held_now};
 ghost use Rattle.fb_decide.specs.Turn.{IsTurnOn, served_in};
 
 use crate::background::Background;
@@ -38,7 +38,7 @@ impl Background {
         requires unbroken { AllByRecursion (IsUnbroken disk.now.map) extents.now }
         requires early { AllByRecursion (λ extent. extent.begin ≤ 10 ^ 19) extents.now }
         ensures { OnOk result ((past : Past) → IsCurrent disk.now.map past self.old
-            → HasDelivered disk.now.map past (rides_in store.now (served_in disk.now turn) (wanted past)) self.old.rows self.new) }
+            → HasDelivered disk.now.map past (rides (held_now store.now) (served_in disk.now turn) (wanted past)) self.old.rows self.new) }
     {
         if turn.request.write {
             return Ok(());

@@ -11,10 +11,11 @@ ghost use Rattle.fb_model.specs.Content.{number_of};
 ghost use Rattle.fb_model.specs.History.{Past, finished, wanted};
 ghost use Rattle.fb_model.specs.PlainReplay.{last_track};
 ghost use Rattle.fb_model.specs.Plans.{IsPlan};
+ghost use Rattle.fb_model.specs.Rides.{caught_in_gap, missed_in_gap};
 ghost use Rattle.fb_plan.specs.Ways.{IsGap};
 ghost use Rattle.fb_tasks.specs.Telling.{Tells};
 ghost use Rattle.fb_decide.specs.Contents.{found_in, left_by, IsRowOf};
-ghost use Rattle.fb_decide.specs.Deliveries.{IsCurrent, HasDelivered, HasServed, gap_caught_in, gap_missed, past_with};
+ghost use Rattle.fb_decide.specs.Deliveries.{IsCurrent, HasDelivered, HasServed, held_now, past_with};
 ghost use Rattle.fb_decide.specs.Turn.{IsTurnOn, served_in};
 
 use crate::background::Background;
@@ -108,9 +109,9 @@ impl Background {
         requires gap { IsGap disk.now row.gap }
         requires plan { IsPlan disk.now row.gap row.plan }
         ensures delivered { OnOk result ((past : Past) → IsCurrent disk.now.map past self.old
-            → HasDelivered disk.now.map past (gap_caught_in disk.now store.now row.gap row.plan (wanted past)) (self.old.rows ++ BackRow.Gap row ∷ []) self.new) }
+            → HasDelivered disk.now.map past (caught_in_gap disk.now (held_now store.now) row.gap row.plan (wanted past)) (self.old.rows ++ BackRow.Gap row ∷ []) self.new) }
         ensures left { OnOk result ((past : Past) → IsCurrent disk.now.map past self.old
-            → wanted (past_with past (gap_caught_in disk.now store.now row.gap row.plan (wanted past))) ≡ gap_missed disk.now row.gap row.plan (wanted past)) }
+            → wanted (past_with past (caught_in_gap disk.now (held_now store.now) row.gap row.plan (wanted past))) ≡ missed_in_gap disk.now row.gap row.plan (wanted past)) }
     {
         self.rows.push(BackRow::Gap(row))?;
         let pair = dwells(disk, row.plan, &row.gap);

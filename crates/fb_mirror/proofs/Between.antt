@@ -15,7 +15,7 @@ use Rattle.fb_rows.specs.declared.gap.Plan.{Plan}
 use Rattle.fb_rows.specs.declared.gap.Plan.TheVariants.{Direct, Detour}
 use Rattle.fb_rows.specs.declared.back.DeliveryRow.{DeliveryRow}
 use Rattle.fb_model.specs.PlainReplay.{Served, finish, last_track, media}
-use Rattle.fb_model.specs.Content.{Medium, Written, writes_of}
+use Rattle.fb_model.specs.Content.{contents_at, Medium, Written, writes_of}
 use Rattle.fb_model.specs.Plans.{IsPlan, early_dwell, late_dwell}
 use Rattle.fb_model.specs.Decisions.{Decision, serves, idles, ends, instant_of, idle_until, last_decision, decisions_from}
 use Rattle.fb_model.specs.Rides.{gap_of}
@@ -157,7 +157,7 @@ pub record LiesBetween (medium : Medium) (from to : ℕ) (row : DeliveryRow) : T
   pub begins : from ≤ row.begin
   pub in_turn : row.begin ≤ row.end
   pub ends_by : row.end ≤ to
-  pub bytes : HasBytes medium row
+  pub bytes : HasBytes (contents_at medium) row
 
 dwells_within : (disk : Disk) (served : Served) (plan : Plan) → IsPlan disk (gap_of disk served) plan
     → (served.start ≤ (early_dwell disk (gap_of disk served) plan).begin) × ((early_dwell disk (gap_of disk served) plan).end ≤ media served) × (served.start ≤ (late_dwell disk (gap_of disk served) plan).begin)
@@ -165,7 +165,7 @@ dwells_within : (disk : Disk) (served : Served) (plan : Plan) → IsPlan disk (g
 dwells_within disk served (Direct leave) is = let now = is.0 in let in_time = is.1 in (omega arith, omega arith, omega arith, omega arith)
 dwells_within disk served (Detour track leave) is = let after = is.after_arrival in let in_time = is.in_time in (omega arith, omega arith, omega arith, omega arith)
 
-caught_between : (medium : Medium) (how : How) (dwell : Dwell) (from to : ℕ) (Q : Block → Type 0) (row : DeliveryRow) → from ≤ dwell.begin → dwell.end ≤ to → IsCaughtIn medium how dwell Q row → LiesBetween medium from to row
+caught_between : (medium : Medium) (how : How) (dwell : Dwell) (from to : ℕ) (Q : Block → Type 0) (row : DeliveryRow) → from ≤ dwell.begin → dwell.end ≤ to → IsCaughtIn medium.disk (contents_at medium) how dwell Q row → LiesBetween medium from to row
 caught_between medium how dwell from to Q row after before is =
     let begin = is.begin in
     let end = is.end in
@@ -187,7 +187,7 @@ read_free served reads = rw reads (omega arith)
 
 -- what is due at a decision is delivered before the decision writes
 pub due_between : (medium : Medium) (decision : Decision) (plan : Plan) (Q : Block → Type 0) → IsOfDisk medium.disk decision → HasPlan medium.disk decision plan → (row : DeliveryRow) → 0 < row.block.count
-    → IsDueRow medium decision plan Q row → LiesBetween medium (instant_of decision) (quiet_until decision) row
+    → IsDueRow medium.disk (contents_at medium) decision plan Q row → LiesBetween medium (instant_of decision) (quiet_until decision) row
 due_between medium (serves served) plan Q of_disk is row some due_row =
     let dwell = dwells_within medium.disk served plan is in
     let free = media_free served (media_by medium.disk served of_disk.0) in

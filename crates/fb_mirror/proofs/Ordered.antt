@@ -19,7 +19,7 @@ use Rattle.fb_rows.specs.declared.gap.Plan.{Plan}
 use Rattle.fb_rows.specs.declared.gap.Plan.TheVariants.{Direct, Detour}
 use Rattle.fb_rows.specs.declared.back.DeliveryRow.{DeliveryRow}
 use Rattle.fb_model.specs.PlainReplay.{Served, finish, last_track, media}
-use Rattle.fb_model.specs.Content.{Medium}
+use Rattle.fb_model.specs.Content.{contents_at, Medium}
 use Rattle.fb_model.specs.Plans.{IsPlan, block_begin, block_end, catches, early_dwell, late_dwell}
 use Rattle.fb_model.specs.Decisions.{Decision, serves, idles, ends, decisions_from, end_of, idle_until, instant_of, last_decision}
 use Rattle.fb_model.specs.Rides.{begin_at, caught, delivery, due, end_at, gap_of, in_order, is_before, lies_in, missed, placed, rides}
@@ -111,16 +111,16 @@ all_made P Q test f each (block ∷ blocks) all = elim (cases_Bool (test block))
   | inr dropped ↦ rw dropped (all_made P Q test f each blocks all.1)
 ]
 
-caught_ascend : (medium : Medium) (how : How) (dwell : Dwell) (blocks : List Block) → AllByRecursion HasSector blocks → Ascend dwell.begin (caught medium how dwell blocks)
+caught_ascend : (medium : Medium) (how : How) (dwell : Dwell) (blocks : List Block) → AllByRecursion HasSector blocks → Ascend dwell.begin (caught medium.disk (contents_at medium) how dwell blocks)
 caught_ascend medium how dwell blocks all = ascend_ordered dwell.begin
-    (map (λ block. delivery medium how block (block_begin medium.disk.map block dwell.begin) (block_end medium.disk.map block dwell.begin)) (filter (catches medium.disk dwell) blocks)) []
-    (all_made (λ (row : DeliveryRow). dwell.begin ≤ row.end) HasSector (catches medium.disk dwell) (λ block. delivery medium how block (block_begin medium.disk.map block dwell.begin) (block_end medium.disk.map block dwell.begin))
+    (map (λ block. delivery (contents_at medium) how block (block_begin medium.disk.map block dwell.begin) (block_end medium.disk.map block dwell.begin)) (filter (catches medium.disk dwell) blocks)) []
+    (all_made (λ (row : DeliveryRow). dwell.begin ≤ row.end) HasSector (catches medium.disk dwell) (λ block. delivery (contents_at medium) how block (block_begin medium.disk.map block dwell.begin) (block_end medium.disk.map block dwell.begin))
     (λ block some is. let later = begins_later medium.disk block dwell.begin in let behind = ends_behind medium.disk block dwell.begin in omega (arith, later, behind)) blocks all) tt
 
-caught_by : (medium : Medium) (how : How) (dwell : Dwell) (blocks : List Block) → AllByRecursion HasSector blocks → EndBy dwell.end (caught medium how dwell blocks)
-caught_by medium how dwell blocks all = all_weaker (IsCaughtIn medium how dwell HasSector) (λ (row : DeliveryRow). row.end ≤ dwell.end)
+caught_by : (medium : Medium) (how : How) (dwell : Dwell) (blocks : List Block) → AllByRecursion HasSector blocks → EndBy dwell.end (caught medium.disk (contents_at medium) how dwell blocks)
+caught_by medium how dwell blocks all = all_weaker (IsCaughtIn medium.disk (contents_at medium) how dwell HasSector) (λ (row : DeliveryRow). row.end ≤ dwell.end)
     (λ row is. let end = is.end in let in_time = ends_in_time medium.disk dwell row.block is.caught in omega (arith, end, in_time))
-    (caught medium how dwell blocks) (caught_true medium how dwell HasSector blocks all)
+    (caught medium.disk (contents_at medium) how dwell blocks) (caught_true medium.disk (contents_at medium) how dwell HasSector blocks all)
 
 -- no sector of a service has passed before the service's media
 sector_end : (disk : Disk) (source : Track) (now : ℕ) (write : Bool) (lbn n m x : ℕ) → lbn ≤ x → x < lbn + n → AllByRecursion (λ (p : Passage). m ≤ p.end) (passages disk source now write lbn n) → m ≤ end_at (passages disk source now write lbn n) x
@@ -141,13 +141,13 @@ ride_end disk served block is some lies =
     (all_weaker _ _ (λ (p : Passage) h. omega (arith, h.0, h.1.1)) ps (all_both _ _ ps (begun_after disk served.source served.start served.request.write served.request.lbn served.request.count)
     (passed_between disk served.source served.start served.request.write served.request.lbn served.request.count).1)))
 
-rides_ascend : (medium : Medium) (served : Served) (blocks : List Block) → IsServiceOf medium.disk served → AllByRecursion HasSector blocks → Ascend (media served) (rides medium served blocks)
+rides_ascend : (medium : Medium) (served : Served) (blocks : List Block) → IsServiceOf medium.disk served → AllByRecursion HasSector blocks → Ascend (media served) (rides (contents_at medium) served blocks)
 rides_ascend medium served blocks is all = by served.request.write
   where
-    by : (write : Bool) → Ascend (media served) (if write then [] else in_order (map (λ block. delivery medium ByRide block (begin_at served.passages block.lbn) (end_at served.passages (block.lbn + block.count - 1))) (filter (lies_in served.request) blocks)))
+    by : (write : Bool) → Ascend (media served) (if write then [] else in_order (map (λ block. delivery (contents_at medium) ByRide block (begin_at served.passages block.lbn) (end_at served.passages (block.lbn + block.count - 1))) (filter (lies_in served.request) blocks)))
     by true = tt
-    by false = ascend_ordered (media served) (map (λ block. delivery medium ByRide block (begin_at served.passages block.lbn) (end_at served.passages (block.lbn + block.count - 1))) (filter (lies_in served.request) blocks)) []
-        (all_made (λ (row : DeliveryRow). media served ≤ row.end) HasSector (lies_in served.request) (λ block. delivery medium ByRide block (begin_at served.passages block.lbn) (end_at served.passages (block.lbn + block.count - 1)))
+    by false = ascend_ordered (media served) (map (λ block. delivery (contents_at medium) ByRide block (begin_at served.passages block.lbn) (end_at served.passages (block.lbn + block.count - 1))) (filter (lies_in served.request) blocks)) []
+        (all_made (λ (row : DeliveryRow). media served ≤ row.end) HasSector (lies_in served.request) (λ block. delivery (contents_at medium) ByRide block (begin_at served.passages block.lbn) (end_at served.passages (block.lbn + block.count - 1)))
         (λ block some lies. ride_end medium.disk served block is some lies) blocks all) tt
 
 -- the early dwell, then the late one
@@ -158,7 +158,7 @@ dwells_in_turn disk served (Direct leave) is = let now = is.0 in let in_time = i
 dwells_in_turn disk served (Detour track leave) is = let after = is.after_arrival in let in_time = is.in_time in (omega arith, omega arith, omega arith, omega arith, omega arith)
 
 -- what is due at a decision is delivered one after another
-pub due_ascends : (medium : Medium) (decision : Decision) (plan : Plan) (wanted : List Block) → IsOfDisk medium.disk decision → HasPlan medium.disk decision plan → AllByRecursion HasSector wanted → Ascend (instant_of decision) (due medium decision plan wanted)
+pub due_ascends : (medium : Medium) (decision : Decision) (plan : Plan) (wanted : List Block) → IsOfDisk medium.disk decision → HasPlan medium.disk decision plan → AllByRecursion HasSector wanted → Ascend (instant_of decision) (due medium.disk (contents_at medium) decision plan wanted)
 unfolding due
 due_ascends medium (serves served) plan wanted of_disk is all =
     let early = early_dwell medium.disk (gap_of medium.disk served) plan in
@@ -170,13 +170,13 @@ due_ascends medium (serves served) plan wanted of_disk is all =
     let turns = dwells_in_turn medium.disk served plan is in
     let first_by = caught_by medium ByGap early wanted all in
     let second_by = caught_by medium ByGap late left left_all in
-    let first = ascend_from served.start early.begin (caught medium ByGap early wanted) turns.0 (caught_ascend medium ByGap early wanted all) in
-    let second = ascend_from early.end late.begin (caught medium ByGap late left) turns.2 (caught_ascend medium ByGap late left left_all) in
-    ascend_append served.start (media served) (caught medium ByGap early wanted ++ caught medium ByGap late left) (rides medium served last)
-    (ascend_append served.start early.end (caught medium ByGap early wanted) (caught medium ByGap late left) first first_by (omega (arith, turns.0, turns.1)) second)
-    (all_append (λ (row : DeliveryRow). row.end ≤ media served) (caught medium ByGap early wanted) (caught medium ByGap late left)
-    (all_weaker _ _ (λ (row : DeliveryRow) h. omega (arith, h, turns.2, turns.3)) (caught medium ByGap early wanted) first_by)
-    (all_weaker _ _ (λ (row : DeliveryRow) h. omega (arith, h, turns.4)) (caught medium ByGap late left) second_by))
+    let first = ascend_from served.start early.begin (caught medium.disk (contents_at medium) ByGap early wanted) turns.0 (caught_ascend medium ByGap early wanted all) in
+    let second = ascend_from early.end late.begin (caught medium.disk (contents_at medium) ByGap late left) turns.2 (caught_ascend medium ByGap late left left_all) in
+    ascend_append served.start (media served) (caught medium.disk (contents_at medium) ByGap early wanted ++ caught medium.disk (contents_at medium) ByGap late left) (rides (contents_at medium) served last)
+    (ascend_append served.start early.end (caught medium.disk (contents_at medium) ByGap early wanted) (caught medium.disk (contents_at medium) ByGap late left) first first_by (omega (arith, turns.0, turns.1)) second)
+    (all_append (λ (row : DeliveryRow). row.end ≤ media served) (caught medium.disk (contents_at medium) ByGap early wanted) (caught medium.disk (contents_at medium) ByGap late left)
+    (all_weaker _ _ (λ (row : DeliveryRow) h. omega (arith, h, turns.2, turns.3)) (caught medium.disk (contents_at medium) ByGap early wanted) first_by)
+    (all_weaker _ _ (λ (row : DeliveryRow) h. omega (arith, h, turns.4)) (caught medium.disk (contents_at medium) ByGap late left) second_by))
     (omega (arith, turns.0, turns.1, turns.2, turns.3))
     (rides_ascend medium served last of_disk.0 last_all)
 due_ascends medium (idles dwell) plan wanted of_disk is all = caught_ascend medium _ dwell wanted all

@@ -75,7 +75,7 @@ some_behind (Some a) (Some b) h = some_first a (Some b)
 
 -- a row with bytes
 abbrev HasItsBytes : DeliveryRow → Type 0
-HasItsBytes row = (medium : Medium) × HasBytes medium row
+HasItsBytes row = (medium : Medium) × HasBytes (contents_at medium) row
 
 row_covers : (keep : Event → Bool) (row : DeliveryRow) (rows : List BackRow) → HasItsBytes row → CoversIn keep (Got row ∷ rows) row
 row_covers keep row rows has is_kept lbn within =
@@ -191,10 +191,10 @@ module _ (inputs : Inputs) (replay : List Served) (rows : List BackRow) (calls :
         let One = IsOneOf (disk_blocks inputs.disk.map) in
         let due = delivery_true inputs survivor past step One some (wanted_have (IsCopiedBy (instant_of step.0)) inputs.disk.map (settled_past inputs past step.0) One settled_then (disk_ones inputs.disk.map)) in
         all_both (λ row. One row.block) (CoversIn keep rows) (gots step.1)
-        (all_weaker (IsDueRow survivor step.0 step.1.plan One) (λ row. One row.block) (λ row due_row. due_block survivor step.0 step.1.plan One row due_row) (gots step.1) due) cover
+        (all_weaker (IsDueRow survivor.disk (contents_at survivor) step.0 step.1.plan One) (λ row. One row.block) (λ row due_row. due_block survivor step.0 step.1.plan One row due_row) (gots step.1) due) cover
 
     got_by : (bound : ℕ) → quiet_until step.0 ≤ bound → AllByRecursion (λ (row : DeliveryRow). row.end ≤ bound) (gots step.1)
-    got_by bound order = all_weaker (IsDueRow survivor step.0 step.1.plan HasSector) (λ (row : DeliveryRow). row.end ≤ bound)
+    got_by bound order = all_weaker (IsDueRow survivor.disk (contents_at survivor) step.0 step.1.plan HasSector) (λ (row : DeliveryRow). row.end ≤ bound)
         (λ row due_row. let over = (due_between survivor step.0 step.1.plan HasSector placed.of_disk planned row (due_block survivor step.0 step.1.plan HasSector row due_row) due_row).ends_by in omega arith)
         (gots step.1) (delivery_true inputs survivor past step HasSector some wanted_some)
 

@@ -34,7 +34,7 @@ use Rattle.fb_model.specs.SoundRun.{HasPlan, IsDelivered, IsPlanned, IsTested}
 use Rattle.fb_model.specs.Laws.{ForegroundListsAscend, OnePlainReplay}
 use Rattle.fb_model.specs.FullRun.{IsFull}
 use Rattle.fb_model.proofs.Lists.{all_append, all_left, all_right}
-use Rattle.fb_model.proofs.Due.{HasBytes, IsDueRow, delivery_true}
+use Rattle.fb_model.proofs.Due.{HasBytes, IsDueRow, due_bytes, delivery_true}
 use Rattle.fb_model.proofs.Passages.{served_between}
 use Rattle.fb_model.proofs.DecisionsUpTo.{greatest_from, end_from}
 use Rattle.fb_mirror.specs.Replacement.{Event, decided, deliveries_in, events, given, held_after, later, writes_in}
@@ -233,7 +233,7 @@ module _ (disk : Disk) (medium : Medium) (latent : List ℕ) (lbn : ℕ) where
 
 -- a row has the bytes of its beginning, and nothing is written from then to its end
 pub record IsFound (medium : Medium) (replay : List Served) (row : DeliveryRow) : Type 0 where
-  pub bytes : HasBytes medium row
+  pub bytes : HasBytes (contents_at medium) row
   pub order : 0 < row.block.count → row.begin ≤ row.end
   pub between : 0 < row.block.count → IsBetween replay row.begin row.end
 
@@ -288,19 +288,8 @@ module _ (disk : Disk) (latent : List ℕ) (replay : List Served) where
 
 -- ---- decision by decision
 
-pub due_bytes : (medium : Medium) (decision : Decision) (plan : Plan) (Q : Block → Type 0) (row : DeliveryRow) → IsDueRow medium decision plan Q row → HasBytes medium row
-due_bytes medium (serves served) plan Q row due_row = elim due_row [
-  | inl early ↦ early.bytes
-  | inr others ↦ elim others [
-    | inl late ↦ late.bytes
-    | inr ride ↦ ride.bytes
-  ]
-]
-due_bytes medium (idles dwell) plan Q row due_row = due_row.bytes
-due_bytes medium (ends now) plan Q row due_row = absurd due_row
-
 -- of a block of which the wanted blocks' property holds
-pub due_block : (medium : Medium) (decision : Decision) (plan : Plan) (Q : Block → Type 0) (row : DeliveryRow) → IsDueRow medium decision plan Q row → Q row.block
+pub due_block : (medium : Medium) (decision : Decision) (plan : Plan) (Q : Block → Type 0) (row : DeliveryRow) → IsDueRow medium.disk (contents_at medium) decision plan Q row → Q row.block
 due_block medium (serves served) plan Q row due_row = elim due_row [
   | inl early ↦ early.one_of
   | inr others ↦ elim others [
@@ -322,10 +311,10 @@ module _ (inputs : Inputs) (medium : Medium) (replay : List Served) (same_disk :
   got_found : (past : Past) (step : Decision × Part) → IsPlaced medium.disk 0 replay step.0 → IsPlanned inputs medium past step → IsDelivered inputs medium past step
       → AllByRecursion (IsFound medium replay) (map (λ (delivery : Delivery). delivery.got) step.1.deliveries)
   got_found past step placed planned some =
-      all_weaker (IsDueRow medium step.0 step.1.plan AnyBlock) (IsFound medium replay) (λ row due_row.
+      all_weaker (IsDueRow medium.disk (contents_at medium) step.0 step.1.plan AnyBlock) (IsFound medium replay) (λ row due_row.
       let lies = λ (some : 0 < row.block.count). due_between medium step.0 step.1.plan AnyBlock placed.of_disk (subst (λ disk. HasPlan disk step.0 step.1.plan) (sym same_disk) planned) row some due_row in
       record {
-        bytes = due_bytes medium step.0 step.1.plan AnyBlock row due_row;
+        bytes = due_bytes medium.disk (contents_at medium) step.0 step.1.plan AnyBlock row due_row;
         order = λ some. (lies some).in_turn;
         between = λ some. between_within replay (instant_of step.0) (quiet_until step.0) row.begin row.end (lies some).begins (lies some).ends_by placed.between;
       })

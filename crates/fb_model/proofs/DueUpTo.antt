@@ -18,15 +18,14 @@ use Rattle.fb_rows.specs.declared.gap.Plan.{Plan}
 use Rattle.fb_rows.specs.declared.gap.Plan.TheVariants.{Direct, Detour}
 use Rattle.fb_rows.specs.declared.back.DeliveryRow.{DeliveryRow}
 use Rattle.fb_model.specs.PlainReplay.{Served, media, finish}
-use Rattle.fb_model.specs.Content.{Medium, Written}
+use Rattle.fb_model.specs.Content.{ContentsAt}
 use Rattle.fb_model.specs.Plans.{IsPlan, block_begin, block_end, catches, early_dwell, late_dwell}
 use Rattle.fb_model.specs.Decisions.{Decision, serves, idles, ends, instant_of, end_of}
 use Rattle.fb_model.specs.Rides.{gap_of, due, delivery, is_before, placed, in_order, caught, missed, lies_in, rides, begin_at, end_at}
 use Rattle.fb_model.specs.SoundRun.{HasPlan}
-use Rattle.fb_model.proofs.Lists.{same_kept, by_is}
+use Rattle.fb_model.proofs.Lists.{all_filter, same_kept, by_is}
 use Rattle.fb_model.proofs.Due.{IsCaughtIn, IsDueRow, all_placed}
-use Rattle.fb_model.proofs.Passages.{IsServiceOf, block_passes, begins_by, media_by}
-use Rattle.fb_model.proofs.ContentsUpTo.{HoldSame, same_contents}
+use Rattle.fb_model.proofs.Passages.{IsServiceOf, block_passes, media_by}
 use Rattle.fb_model.proofs.DecisionsUpTo.{IsMade}
 use Rattle.fb_model.proofs.HistoriesUpTo.{HasSector}
 use Rattle.fb_model.proofs.RowsUpTo.{ends_by_then, RisingEnds}
@@ -58,73 +57,98 @@ late_end : (disk : Disk) (served : Served) (plan : Plan) → (late_dwell disk (g
 late_end disk served (Direct leave) = refl
 late_end disk served (Detour track leave) = refl
 
-caught_between : (medium : Medium) (how : How) (dwell : Dwell) (from to : ℕ) (row : DeliveryRow) → from ≤ dwell.begin → dwell.end ≤ to → IsCaughtIn medium how dwell HasSector row → LiesBetween from to row
-caught_between medium how dwell from to row after before is =
+caught_between : (disk : Disk) (contents : ContentsAt) (how : How) (dwell : Dwell) (from to : ℕ) (row : DeliveryRow) → from ≤ dwell.begin → dwell.end ≤ to → IsCaughtIn disk contents how dwell HasSector row → LiesBetween from to row
+caught_between disk contents how dwell from to row after before is =
     let begin = is.begin in
     let end = is.end in
-    let later = begins_later medium.disk row.block dwell.begin in
-    let behind = ends_behind medium.disk row.block dwell.begin in
-    let in_time = ends_in_time medium.disk dwell row.block is.caught in
+    let later = begins_later disk row.block dwell.begin in
+    let behind = ends_behind disk row.block dwell.begin in
+    let in_time = ends_in_time disk dwell row.block is.caught in
     record { begins = omega (arith, begin, later, after); in_turn = omega (arith, begin, end, behind); ends = omega (arith, end, in_time, before) }
 
-pub due_between : (medium : Medium) (decision : Decision) (plan : Plan) → IsMade medium.disk decision → HasPlan medium.disk decision plan → (row : DeliveryRow)
-    → IsDueRow medium decision plan HasSector row → LiesBetween (instant_of decision) (end_of decision) row
-due_between medium (serves served) plan made is row due_row =
-    let dwell = dwell_plan medium.disk served plan is in
-    let media = media_by medium.disk served made in
+-- the deliveries of a decision are over by then; those of a write are over with its gap
+abbrev pub DeliversBy : ℕ → Decision → Type 0
+DeliversBy to (serves served) = (media served ≤ to) × (served.request.write ≡ false → finish served ≤ to)
+DeliversBy to (idles dwell) = dwell.end ≤ to
+DeliversBy to (ends now) = Unit {0}
+
+pub delivers_by : (disk : Disk) (decision : Decision) (to : ℕ) → IsMade disk decision → end_of decision ≤ to → DeliversBy to decision
+delivers_by disk (serves served) to made over = (omega (arith, media_by disk served made, over), λ reads. over)
+delivers_by disk (idles dwell) to made over = over
+delivers_by disk (ends now) to made over = tt
+
+pub due_between : (disk : Disk) (contents : ContentsAt) (decision : Decision) (plan : Plan) (to : ℕ) → IsMade disk decision → HasPlan disk decision plan → DeliversBy to decision → (row : DeliveryRow)
+    → IsDueRow disk contents decision plan HasSector row → LiesBetween (instant_of decision) to row
+due_between disk contents (serves served) plan to made is over row due_row =
+    let dwell = dwell_plan disk served plan is in
+    let media = over.0 in
     elim due_row [
-      | inl early ↦ caught_between medium ByGap (early_dwell medium.disk (gap_of medium.disk served) plan) served.start (finish served) row dwell.0 (omega (arith, dwell.1, media)) early
+      | inl early ↦ caught_between disk contents ByGap (early_dwell disk (gap_of disk served) plan) served.start to row dwell.0 (omega (arith, dwell.1, media)) early
       | inr others ↦ elim others [
-        | inl late ↦ caught_between medium ByGap (late_dwell medium.disk (gap_of medium.disk served) plan) served.start (finish served) row dwell.2 (omega (arith, late_end medium.disk served plan, media)) late
+        | inl late ↦ caught_between disk contents ByGap (late_dwell disk (gap_of disk served) plan) served.start to row dwell.2 (omega (arith, late_end disk served plan, media)) late
         | inr ride ↦
-            let passes = block_passes medium.disk served row.block made ride.one_of ride.inside in
-            record { begins = omega (arith, passes.0, ride.begin); in_turn = omega (arith, passes.1, ride.begin, ride.end); ends = omega (arith, passes.2, ride.end) }
+            let passes = block_passes disk served row.block made ride.one_of ride.inside in
+            let finishes = over.1 ride.read in
+            record { begins = omega (arith, passes.0, ride.begin); in_turn = omega (arith, passes.1, ride.begin, ride.end); ends = omega (arith, passes.2, ride.end, finishes) }
       ]
     ]
-due_between medium (idles dwell) plan made is row due_row = caught_between medium ByIdle dwell dwell.begin dwell.end row (omega arith) (omega arith) due_row
-due_between medium (ends now) plan made is row due_row = absurd due_row
+due_between disk contents (idles dwell) plan to made is over row due_row = caught_between disk contents ByIdle dwell dwell.begin to row (omega arith) over due_row
+due_between disk contents (ends now) plan to made is over row due_row = absurd due_row
 
--- ---- the same where the disk holds the same
+-- ---- the same where sectors hold the same
 
-module _ (disk : Disk) (latent : List ℕ) (writes_a writes_b : List Written) where
-  abbrev a : Medium
-  a = record { disk = disk; latent = latent; writes = writes_a }
+-- they do between two instants
+abbrev pub AgreeBetween : ℕ → ℕ → ContentsAt → ContentsAt → Type 0
+AgreeBetween from to x y = (lbn n t : ℕ) → from ≤ t → t ≤ to → x lbn n t ≡ y lbn n t
 
-  abbrev b : Medium
-  b = record { disk = disk; latent = latent; writes = writes_b }
+module _ (disk : Disk) (x y : ContentsAt) (from to : ℕ) (same : AgreeBetween from to x y) where
+  pub same_delivery : (how : How) (block : Block) (begin end : ℕ) → from ≤ begin → begin ≤ to → delivery x how block begin end ≡ delivery y how block begin end
+  same_delivery how block begin end after before =
+      ap (λ sectors. let runs = runs_of sectors in record { block = block; begin = begin; end = end; how = how; bad = bad_of runs; content = runs }) (same block.lbn block.count begin after before)
 
-  module _ (done : ℕ) (same : HoldSame done a b) where
-    same_delivery : (how : How) (block : Block) (begin end : ℕ) → begin ≤ done → delivery a how block begin end ≡ delivery b how block begin end
-    same_delivery how block begin end h =
-        ap (λ sectors. let runs = runs_of sectors in record { block = block; begin = begin; end = end; how = how; bad = bad_of runs; content = runs }) (same_contents done a b same block.lbn block.count begin h)
+  same_caught : (how : How) (dwell : Dwell) (blocks : List Block) → from ≤ dwell.begin → dwell.end ≤ to → caught disk x how dwell blocks ≡ caught disk y how dwell blocks
+  same_caught how dwell blocks after before = ap in_order (same_kept (catches disk dwell)
+      (λ (block : Block). delivery x how block (block_begin disk.map block dwell.begin) (block_end disk.map block dwell.begin))
+      (λ (block : Block). delivery y how block (block_begin disk.map block dwell.begin) (block_end disk.map block dwell.begin))
+      (λ block is.
+      let later = begins_later disk block dwell.begin in
+      same_delivery how block (block_begin disk.map block dwell.begin) (block_end disk.map block dwell.begin)
+      (omega (arith, later, after)) (omega (arith, ends_in_time disk dwell block is, ends_behind disk block dwell.begin, before))) blocks)
 
-    same_caught : (how : How) (dwell : Dwell) (blocks : List Block) → dwell.end ≤ done → caught a how dwell blocks ≡ caught b how dwell blocks
-    same_caught how dwell blocks h = ap in_order (same_kept (catches disk dwell)
-        (λ (block : Block). delivery a how block (block_begin disk.map block dwell.begin) (block_end disk.map block dwell.begin))
-        (λ (block : Block). delivery b how block (block_begin disk.map block dwell.begin) (block_end disk.map block dwell.begin))
-        (λ block is. same_delivery how block (block_begin disk.map block dwell.begin) (block_end disk.map block dwell.begin)
-        (omega (arith, ends_in_time disk dwell block is, ends_behind disk block dwell.begin, h))) blocks)
+  same_ride : (served : Served) (blocks : List Block) → IsServiceOf disk served → from ≤ served.start → finish served ≤ to → AllByRecursion HasSector blocks
+      → map (λ block. delivery x ByRide block (begin_at served.passages block.lbn) (end_at served.passages (block.lbn + block.count - 1))) (filter (lies_in served.request) blocks)
+      ≡ map (λ block. delivery y ByRide block (begin_at served.passages block.lbn) (end_at served.passages (block.lbn + block.count - 1))) (filter (lies_in served.request) blocks)
+  same_ride served [] made after before some = refl
+  same_ride served (block ∷ blocks) made after before some = elim (cases_Bool (lies_in served.request block)) [
+    | inl lies ↦
+        let passes = block_passes disk served block made some.0 lies in
+        rw lies (ap₂ (λ row rows. row ∷ rows)
+        (same_delivery ByRide block (begin_at served.passages block.lbn) (end_at served.passages (block.lbn + block.count - 1)) (omega (arith, after, passes.0)) (omega (arith, passes.1, passes.2, before)))
+        (same_ride served blocks made after before some.1))
+    | inr other ↦ rw other (same_ride served blocks made after before some.1)
+  ]
 
-    same_rides : (served : Served) (blocks : List Block) → IsServiceOf disk served → finish served ≤ done → rides a served blocks ≡ rides b served blocks
-    same_rides served blocks made h = ap (λ rows. if served.request.write then [] else in_order rows) (same_kept (lies_in served.request)
-        (λ (block : Block). delivery a ByRide block (begin_at served.passages block.lbn) (end_at served.passages (block.lbn + block.count - 1)))
-        (λ (block : Block). delivery b ByRide block (begin_at served.passages block.lbn) (end_at served.passages (block.lbn + block.count - 1)))
-        (λ block is. same_delivery ByRide block (begin_at served.passages block.lbn) (end_at served.passages (block.lbn + block.count - 1)) (omega (arith, begins_by disk served made block.lbn, h))) blocks)
-
-    pub same_due : (decision : Decision) (plan : Plan) (wanted : List Block) → IsMade disk decision → HasPlan disk decision plan → end_of decision ≤ done → due a decision plan wanted ≡ due b decision plan wanted
-    unfolding due
-    same_due (serves served) plan wanted made is h =
-        let early = early_dwell disk (gap_of disk served) plan in
-        let late = late_dwell disk (gap_of disk served) plan in
-        let left = missed disk early wanted in
-        let last = missed disk late left in
-        let dwell = dwell_plan disk served plan is in
-        let media = media_by disk served made in
-        ap₂ (λ before rest. before ++ rest)
-        (ap₂ (λ before rest. before ++ rest) (same_caught ByGap early wanted (omega (arith, dwell.1, media, h))) (same_caught ByGap late left (omega (arith, late_end disk served plan, media, h))))
-        (same_rides served last made h)
-    same_due (idles dwell) plan wanted made is h = same_caught ByIdle dwell wanted h
-    same_due (ends now) plan wanted made is h = refl
+  pub same_due : (decision : Decision) (plan : Plan) (wanted : List Block) → IsMade disk decision → HasPlan disk decision plan → from ≤ instant_of decision → DeliversBy to decision → AllByRecursion HasSector wanted
+      → due disk x decision plan wanted ≡ due disk y decision plan wanted
+  unfolding due
+  same_due (serves served) plan wanted made is after over some =
+      let early = early_dwell disk (gap_of disk served) plan in
+      let late = late_dwell disk (gap_of disk served) plan in
+      let left = missed disk early wanted in
+      let last = missed disk late left in
+      let dwell = dwell_plan disk served plan is in
+      let some_last = all_filter HasSector (λ block. not (catches disk late block)) left (all_filter HasSector (λ block. not (catches disk early block)) wanted some) in
+      ap₂ (λ before rest. before ++ rest)
+      (ap₂ (λ before rest. before ++ rest)
+      (same_caught ByGap early wanted (omega (arith, after, dwell.0)) (omega (arith, dwell.1, over.0)))
+      (same_caught ByGap late left (omega (arith, after, dwell.2)) (omega (arith, late_end disk served plan, over.0))))
+      (if_reads served.request.write (λ reads. ap in_order (same_ride served last made after (over.1 reads) some_last)))
+    where
+      if_reads : (write : Bool) {rows others : List DeliveryRow} → (write ≡ false → rows ≡ others) → (if write then [] else rows) ≡ (if write then [] else others)
+      if_reads true h = refl
+      if_reads false h = h refl
+  same_due (idles dwell) plan wanted made is after over some = same_caught ByIdle dwell wanted after over
+  same_due (ends now) plan wanted made is after over some = refl
 
 -- ---- in the order of their ends
 
@@ -158,9 +182,9 @@ rising_fold : (rows before : List DeliveryRow) → RisingEnds before → RisingE
 rising_fold [] before rising = rising
 rising_fold (row ∷ rows) before rising = rising_fold rows (placed before row) (rising_placed before row rising)
 
-pub rising_caught : (medium : Medium) (how : How) (dwell : Dwell) (blocks : List Block) → RisingEnds (caught medium how dwell blocks)
-rising_caught medium how dwell blocks = rising_fold
-    (map (λ block. delivery medium how block (block_begin medium.disk.map block dwell.begin) (block_end medium.disk.map block dwell.begin)) (filter (catches medium.disk dwell) blocks)) [] tt
+pub rising_caught : (disk : Disk) (contents : ContentsAt) (how : How) (dwell : Dwell) (blocks : List Block) → RisingEnds (caught disk contents how dwell blocks)
+rising_caught disk contents how dwell blocks = rising_fold
+    (map (λ block. delivery contents how block (block_begin disk.map block dwell.begin) (block_end disk.map block dwell.begin)) (filter (catches disk dwell) blocks)) [] tt
 
 module _ (t : ℕ) where
   none_behind : (first : DeliveryRow) (rows : List DeliveryRow) → ends_by_then t first ≡ false → AllByRecursion (λ (later : DeliveryRow). first.end ≤ later.end) rows → filter (ends_by_then t) rows ≡ []
@@ -201,14 +225,13 @@ module _ (t : ℕ) where
 
 -- ---- of a dwell that is under way
 
-module _ (disk : Disk) (latent : List ℕ) (writes_a writes_b : List Written) (t done : ℕ) (since : t ≤ done)
-    (same : HoldSame done (record { disk = disk; latent = latent; writes = writes_a }) (record { disk = disk; latent = latent; writes = writes_b }))
+module _ (disk : Disk) (a b : ContentsAt) (t done : ℕ) (since : t ≤ done) (same : AgreeBetween 0 done a b)
     (how : How) (head : Track) (now until_a until_b : ℕ) (late_a : t < until_a) (late_b : t < until_b) where
   abbrev row_a : Block → DeliveryRow
-  row_a block = delivery (record { disk = disk; latent = latent; writes = writes_a }) how block (block_begin disk.map block now) (block_end disk.map block now)
+  row_a block = delivery a how block (block_begin disk.map block now) (block_end disk.map block now)
 
   abbrev row_b : Block → DeliveryRow
-  row_b block = delivery (record { disk = disk; latent = latent; writes = writes_b }) how block (block_begin disk.map block now) (block_end disk.map block now)
+  row_b block = delivery b how block (block_begin disk.map block now) (block_end disk.map block now)
 
   abbrev dwell_until : ℕ → Dwell
   dwell_until until = record { track = head; begin = now; end = until }
@@ -238,7 +261,7 @@ module _ (disk : Disk) (latent : List ℕ) (writes_a writes_b : List Written) (t
         let is_a = caught_by_then until_a block late_a in_time in
         let is_b = caught_by_then until_b block late_b in_time in
         kept_both (catches disk (dwell_until until_a) block) (catches disk (dwell_until until_b) block) (is_a ∙ sym is_b) block blocks by
-        (same_delivery disk latent writes_a writes_b done same how block (block_begin disk.map block now) (block_end disk.map block now) (let behind = ends_behind disk block now in omega arith)) (rows_by_then blocks)
+        (same_delivery disk a b 0 done same how block (block_begin disk.map block now) (block_end disk.map block now) (omega arith) (let behind = ends_behind disk block now in omega arith)) (rows_by_then blocks)
     | inr late ↦
         dropped_either (catches disk (dwell_until until_a)) row_a block blocks late
         ∙ (rows_by_then blocks ∙ sym (dropped_either (catches disk (dwell_until until_b)) row_b block blocks late))
@@ -254,8 +277,8 @@ module _ (disk : Disk) (latent : List ℕ) (writes_a writes_b : List Written) (t
       kept_both false false e block blocks by row rows = rows
 
   pub same_by_then : (blocks : List Block)
-      → filter (ends_by_then t) (caught (record { disk = disk; latent = latent; writes = writes_a }) how (dwell_until until_a) blocks)
-      ≡ filter (ends_by_then t) (caught (record { disk = disk; latent = latent; writes = writes_b }) how (dwell_until until_b) blocks)
+      → filter (ends_by_then t) (caught disk a how (dwell_until until_a) blocks)
+      ≡ filter (ends_by_then t) (caught disk b how (dwell_until until_b) blocks)
   same_by_then blocks =
       fold_kept t (map row_a (filter (catches disk (dwell_until until_a)) blocks)) [] tt
       ∙ (ap in_order (rows_by_then blocks) ∙ sym (fold_kept t (map row_b (filter (catches disk (dwell_until until_b)) blocks)) [] tt))

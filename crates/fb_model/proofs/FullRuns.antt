@@ -12,7 +12,7 @@ use Rattle.fb_rows.specs.declared.back.DeliveryRow.{DeliveryRow}
 use Rattle.fb_rows.specs.declared.run.Run.{Run}
 use Rattle.fb_model.specs.Inputs.{Inputs}
 use Rattle.fb_model.specs.Accepted.{IsAccepted}
-use Rattle.fb_model.specs.Content.{Medium, medium_of}
+use Rattle.fb_model.specs.Content.{Medium, contents_at, medium_of}
 use Rattle.fb_model.specs.Plans.{value, IsTrackBefore, IsNoLater, IsBest}
 use Rattle.fb_model.specs.Decisions.{Decision, serves, idles, ends, decisions}
 use Rattle.fb_model.specs.History.{Past, tested, delivered, wanted}
@@ -79,9 +79,9 @@ one_plan disk (serves served) wanted a b h k = one_best disk (gap_of disk served
 one_plan disk (idles dwell) wanted a b h k = tt
 one_plan disk (ends now) wanted a b h k = tt
 
-same_due : (medium : Medium) (decision : Decision) (wanted : List Block) (a b : Plan) → SamePlan decision a b → due medium decision a wanted ≡ due medium decision b wanted
+same_due : (medium : Medium) (decision : Decision) (wanted : List Block) (a b : Plan) → SamePlan decision a b → due medium.disk (contents_at medium) decision a wanted ≡ due medium.disk (contents_at medium) decision b wanted
 unfolding due
-same_due medium (serves served) wanted a b e = ap (λ plan. due medium (serves served) plan wanted) e
+same_due medium (serves served) wanted a b e = ap (λ plan. due medium.disk (contents_at medium) (serves served) plan wanted) e
 same_due medium (idles dwell) wanted a b e = refl
 same_due medium (ends now) wanted a b e = refl
 

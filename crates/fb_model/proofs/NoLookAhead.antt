@@ -17,7 +17,7 @@ use Rattle.fb_rows.specs.declared.back.DeliveryRow.{DeliveryRow}
 use Rattle.fb_rows.specs.declared.run.Run.{Run}
 use Rattle.fb_model.specs.PlainReplay.{Key, has_arrived, first_track, plain_replay}
 use Rattle.fb_model.specs.Inputs.{Inputs, requests, served}
-use Rattle.fb_model.specs.Content.{Medium, Written, medium_of, fore_row, fore_rows}
+use Rattle.fb_model.specs.Content.{Medium, Written, contents_at, medium_of, fore_row, fore_rows}
 use Rattle.fb_model.specs.Decisions.{Decision, serves, idles, ends, instant_of, end_of, decisions_from, decisions, among}
 use Rattle.fb_model.specs.History.{Past, tested, wanted}
 use Rattle.fb_model.specs.Images.{test_rows}
@@ -34,13 +34,13 @@ use Rattle.fb_model.proofs.Replays.{Rises, plain_turns}
 use Rattle.fb_model.proofs.FullRuns.{gots, IsFullPart, one_part, same_rows, same_after, full_parts}
 use Rattle.fb_model.proofs.ReplaysUpTo.{alike_turns}
 use Rattle.fb_model.proofs.Passages.{LiesOnDisk, are_services, requests_lie, write_late}
-use Rattle.fb_model.proofs.ContentsUpTo.{medium_with, HoldSame, hold_same, same_fore}
+use Rattle.fb_model.proofs.ContentsUpTo.{medium_with, HoldSame, same_contents, hold_same, same_fore}
 use Rattle.fb_model.proofs.Instants.{instants_from, rising_all_among, all_come, same_instants}
 use Rattle.fb_model.proofs.DecisionsUpTo.{IsMade, IsLater, AlikeDecisions, same, dwelling, later, end_from, alike_decisions}
 use Rattle.fb_model.proofs.HistoriesUpTo.{HasSector, AreFine, HasBegun, wanted_fine, settled_fine, after_fine, all_fine_weaker, calls_by, same_settled}
 use Rattle.fb_model.proofs.RowsUpTo.{AreUnknown, AreKnownAlike, IsUnknown, unknown_before, alike_behind, tests_unknown, tasks_unknown, delivered_rows, deliveries_unknown, same_tests, same_followed, ends_by_then, RisingEnds, alike_deliveries}
 use Rattle.fb_model.proofs.Unlined.{unlined_inputs, parts_same, instants_same}
-use Rattle.fb_model.proofs.DueUpTo.{LiesBetween, due_between, same_due, rising_caught, same_by_then}
+use Rattle.fb_model.proofs.DueUpTo.{LiesBetween, AgreeBetween, delivers_by, due_between, same_due, rising_caught, same_by_then}
 
 -- ---- one decision
 
@@ -74,9 +74,9 @@ module _ (disk : Disk) (latent : List ℕ) (key : Key) (trace : List Request) (p
   part_between P past step full made fine =
       let blocks = wanted (settled_past inputs past step.0) in
       subst (AllByRecursion (LiesBetween (instant_of step.0) (end_of step.0))) (sym full.all)
-      (all_weaker (IsDueRow medium step.0 step.1.plan HasSector) (LiesBetween (instant_of step.0) (end_of step.0))
-      (due_between medium step.0 step.1.plan made (plan_of disk step.0 blocks step.1.plan full.best)) (due medium step.0 step.1.plan blocks)
-      (due_true medium step.0 step.1.plan HasSector blocks (wanted_fine P (settled_past inputs past step.0) (settled_fine P inputs past step.0 fine))))
+      (all_weaker (IsDueRow disk (contents_at medium) step.0 step.1.plan HasSector) (LiesBetween (instant_of step.0) (end_of step.0))
+      (due_between disk (contents_at medium) step.0 step.1.plan (end_of step.0) made (plan_of disk step.0 blocks step.1.plan full.best) (delivers_by disk step.0 (end_of step.0) made (omega arith))) (due disk (contents_at medium) step.0 step.1.plan blocks)
+      (due_true disk (contents_at medium) step.0 step.1.plan HasSector blocks (wanted_fine P (settled_past inputs past step.0) (settled_fine P inputs past step.0 fine))))
 
   -- nothing of decisions after t is known
   steps_unknown : (t : ℕ) (P : DeliveryRow → Type 0) → ((row : DeliveryRow) → P row) → (past : Past) (ds : List Decision) (parts : List Part) (more : List BackRow) → AllByRecursion (IsLater t disk) ds
@@ -118,6 +118,9 @@ module _ (disk : Disk) (latent : List ℕ) (key : Key) (trace_a trace_b : List R
   abbrev medium_b : Medium
   medium_b = record { disk = disk; latent = latent; writes = writes_b }
 
+  agree : AgreeBetween 0 done (contents_at medium_a) (contents_at medium_b)
+  agree lbn n u after before = same_contents done medium_a medium_b hold lbn n u before
+
   settles : (past : Past) (d e : Decision) → instant_of d ≤ t → instant_of d ≡ instant_of e → settled_past inputs_a past d ≡ settled_past inputs_b past e
   settles past d e h at = same_settled inputs_a inputs_b t past d e refl rising_a rising_b come h at
 
@@ -138,8 +141,8 @@ module _ (disk : Disk) (latent : List ℕ) (key : Key) (trace_a trace_b : List R
               (subst (λ past. AreFollowed medium_b (tested part.settled ∷ past) part.deliveries) (sym settled) full.tests.followed);
         };
         best = subst (λ past. HasBestPlan disk d (wanted past) part.plan) (sym settled) full.best;
-        all = full.all ∙ (ap (λ past. due medium_b d part.plan (wanted past)) (sym settled)
-            ∙ sym (same_due disk latent writes_a writes_b done hold d part.plan (wanted settled_a) made (plan_of disk d blocks part.plan full.best) ended));
+        all = full.all ∙ (ap (λ past. due disk (contents_at medium_b) d part.plan (wanted past)) (sym settled)
+            ∙ sym (same_due disk (contents_at medium_a) (contents_at medium_b) 0 done agree d part.plan (wanted settled_a) made (plan_of disk d blocks part.plan full.best) (omega arith) (delivers_by disk d done made ended) (wanted_fine (HasBegun done) settled_a fine_a)));
       }
 
   goes_on : (past : Past) (d : Decision) (part : Part) → instant_of d ≤ t → past_after inputs_a past (d, part) ≡ past_after inputs_b past (d, part)
@@ -164,12 +167,12 @@ module _ (disk : Disk) (latent : List ℕ) (key : Key) (trace_a trace_b : List R
       let pasts : tested x.settled ∷ settled_a ≡ tested y.settled ∷ settled_b = ap₂ (λ rows past. tested rows ∷ past) rows settled in
       let between = part_between disk latent key trace_a over_a calls_a until_a writes_a (HasBegun done) past (d_a, x) full_a tt fine in
       let kept : filter (ends_by_then t) (gots x.deliveries) ≡ filter (ends_by_then t) (gots y.deliveries) =
-      ap (filter (ends_by_then t)) full_a.all ∙ (same_by_then disk latent writes_a writes_b t done since hold ByIdle head now end_a end_b late_a late_b (wanted settled_a)
-      ∙ (ap (λ past. filter (ends_by_then t) (due medium_b d_b y.plan (wanted past))) settled ∙ sym (ap (filter (ends_by_then t)) full_b.all))) in
+      ap (filter (ends_by_then t)) full_a.all ∙ (same_by_then disk (contents_at medium_a) (contents_at medium_b) t done since agree ByIdle head now end_a end_b late_a late_b (wanted settled_a)
+      ∙ (ap (λ past. filter (ends_by_then t) (due disk (contents_at medium_b) d_b y.plan (wanted past))) settled ∙ sym (ap (filter (ends_by_then t)) full_b.all))) in
       let alike = alike_deliveries t done since medium_a medium_b hold (tested x.settled ∷ settled_a) x.deliveries y.deliveries (rest_a ++ more_a) (rest_b ++ more_b) (tt, fine_a) full_a.tests.followed
       (subst (λ past. AreFollowed medium_b past y.deliveries) (sym pasts) full_b.tests.followed)
-      (subst RisingEnds (sym full_a.all) (rising_caught medium_a ByIdle (record { track = head; begin = now; end = end_a }) (wanted settled_a)))
-      (subst RisingEnds (sym full_b.all) (rising_caught medium_b ByIdle (record { track = head; begin = now; end = end_b }) (wanted settled_b)))
+      (subst RisingEnds (sym full_a.all) (rising_caught disk (contents_at medium_a) ByIdle (record { track = head; begin = now; end = end_a }) (wanted settled_a)))
+      (subst RisingEnds (sym full_b.all) (rising_caught disk (contents_at medium_b) ByIdle (record { track = head; begin = now; end = end_b }) (wanted settled_b)))
       (all_weaker (LiesBetween now end_a) (λ (row : DeliveryRow). row.begin ≤ row.end) (λ row lies. lies.in_turn) (gots x.deliveries) between)
       kept unknown_a unknown_b in
       let got_a = delivered_rows x.deliveries ++ (rest_a ++ more_a) in

@@ -313,7 +313,7 @@ module _ (medium : Medium) where
           followed = subst (λ past. AreFollowed medium (tested step.1.settled ∷ past) step.1.deliveries) (sym is) (followed_same (tested step.1.settled ∷ settled) step.1.deliveries full.tests.followed);
         };
         best = subst (λ blocks. HasBestPlan inputs.disk step.0 blocks step.1.plan) blocks full.best;
-        all = full.all ∙ ap (due medium step.0 step.1.plan) blocks;
+        all = full.all ∙ ap (due medium.disk (contents_at medium) step.0 step.1.plan) blocks;
       }
 
   pub parts_same : (inputs : Inputs) (past : Past) (steps : List (Decision × Part)) → AtEach (IsFullPart inputs medium) inputs past steps → AtEach (IsFullPart (unlined_inputs inputs) medium) (unlined_inputs inputs) (unlined_past past) steps

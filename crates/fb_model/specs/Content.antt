@@ -48,8 +48,12 @@ content medium lbn t = content_by
     (last_or None (filter (λ write. (write.passage.lbn == lbn) && nat_le write.passage.end t) medium.writes))
     (unwritten medium.latent lbn)
 
--- n sectors from lbn on, each with its content at one instant
-abbrev pub contents_at : Medium → ℕ → ℕ → ℕ → List (ℕ × Content)
+-- the contents of n sectors from an LBN on at an instant, each with the sector's LBN
+abbrev pub ContentsAt : Type 0
+ContentsAt = ℕ → ℕ → ℕ → List (ℕ × Content)
+
+-- those of the disk
+abbrev pub contents_at : Medium → ContentsAt
 contents_at medium lbn n t = map (λ sector. (sector, content medium sector t)) (range_with_len lbn n)
 
 -- what a read finds: of each sector what it holds as its passage begins; a write finds nothing

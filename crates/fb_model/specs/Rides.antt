@@ -14,7 +14,7 @@ use Rattle.fb_rows.specs.declared.gap.How.TheVariants.{Gap as ByGap, Idle as ByI
 use Rattle.fb_rows.specs.declared.gap.Plan.{Plan}
 use Rattle.fb_rows.specs.declared.back.DeliveryRow.{DeliveryRow}
 use Rattle.fb_model.specs.PlainReplay.{Served, media, target}
-use Rattle.fb_model.specs.Content.{Medium, contents_at}
+use Rattle.fb_model.specs.Content.{ContentsAt}
 use Rattle.fb_model.specs.Plans.{block_begin, block_end, catches, early_dwell, late_dwell}
 use Rattle.fb_model.specs.Decisions.{Decision, serves, idles, ends}
 
@@ -23,9 +23,9 @@ abbrev pub gap_of : Disk → Served → Gap
 gap_of disk served = record { source = served.source; target = target disk served; now = served.start; deadline = media served; write = served.request.write }
 
 -- the delivery of a block, with what its sectors hold as its passage begins
-abbrev pub delivery : Medium → How → Block → ℕ → ℕ → DeliveryRow
-delivery medium how block begin end =
-    let runs = runs_of (contents_at medium block.lbn block.count begin) in
+abbrev pub delivery : ContentsAt → How → Block → ℕ → ℕ → DeliveryRow
+delivery contents how block begin end =
+    let runs = runs_of (contents block.lbn block.count begin) in
     record { block = block; begin = begin; end = end; how = how; bad = bad_of runs; content = runs }
 
 -- a block is delivered before another one: by end, then by task, then by index
@@ -43,10 +43,10 @@ abbrev pub in_order : List DeliveryRow → List DeliveryRow
 in_order rows = fold placed [] rows
 
 -- what a dwell catches of these blocks
-abbrev pub caught : Medium → How → Dwell → List Block → List DeliveryRow
-caught medium how dwell blocks = in_order (map
-    (λ block. delivery medium how block (block_begin medium.disk.map block dwell.begin) (block_end medium.disk.map block dwell.begin))
-    (filter (catches medium.disk dwell) blocks))
+abbrev pub caught : Disk → ContentsAt → How → Dwell → List Block → List DeliveryRow
+caught disk contents how dwell blocks = in_order (map
+    (λ block. delivery contents how block (block_begin disk.map block dwell.begin) (block_end disk.map block dwell.begin))
+    (filter (catches disk dwell) blocks))
 
 abbrev pub missed : Disk → Dwell → List Block → List Block
 missed disk dwell blocks = filter (λ block. not (catches disk dwell block)) blocks
@@ -63,21 +63,25 @@ abbrev pub end_at : List Passage → ℕ → ℕ
 end_at passages lbn = option_map_or (λ passage. passage.end) (find (λ passage. passage.lbn == lbn) passages) 0
 
 -- what a read carries of these blocks
-abbrev pub rides : Medium → Served → List Block → List DeliveryRow
-rides medium served blocks = if served.request.write then [] else in_order (map
-    (λ block. delivery medium ByRide block (begin_at served.passages block.lbn) (end_at served.passages (block.lbn + block.count - 1)))
+abbrev pub rides : ContentsAt → Served → List Block → List DeliveryRow
+rides contents served blocks = if served.request.write then [] else in_order (map
+    (λ block. delivery contents ByRide block (begin_at served.passages block.lbn) (end_at served.passages (block.lbn + block.count - 1)))
     (filter (lies_in served.request) blocks))
 
--- what the early dwell catches, then the late dwell, then the ride, each from the blocks that are left
-abbrev pub due_in_gap : Medium → Served → Gap → Plan → List Block → List DeliveryRow
-due_in_gap medium served gap plan wanted =
-    let early = early_dwell medium.disk gap plan in
-    let late = late_dwell medium.disk gap plan in
-    let left = missed medium.disk early wanted in
-    caught medium ByGap early wanted ++ caught medium ByGap late left ++ rides medium served (missed medium.disk late left)
+-- what the early dwell of a gap catches, and then the late dwell of the blocks that are left
+abbrev pub caught_in_gap : Disk → ContentsAt → Gap → Plan → List Block → List DeliveryRow
+caught_in_gap disk contents gap plan wanted = caught disk contents ByGap (early_dwell disk gap plan) wanted
+    ++ caught disk contents ByGap (late_dwell disk gap plan) (missed disk (early_dwell disk gap plan) wanted)
 
--- the deliveries that are due at a decision, given the blocks that are wanted there
-unfoldable pub due : Medium → Decision → Plan → List Block → List DeliveryRow
-due medium (serves served) plan wanted = due_in_gap medium served (gap_of medium.disk served) plan wanted
-due medium (idles dwell) plan wanted = caught medium ByIdle dwell wanted
-due medium (ends now) plan wanted = []
+-- the blocks that are left then
+abbrev pub missed_in_gap : Disk → Gap → Plan → List Block → List Block
+missed_in_gap disk gap plan wanted = missed disk (late_dwell disk gap plan) (missed disk (early_dwell disk gap plan) wanted)
+
+-- the deliveries that are due at a decision, given the blocks that are wanted there: what the gap's dwells catch, and then what the ride
+-- carries of the blocks that are left; or what the idle dwell catches
+unfoldable pub due : Disk → ContentsAt → Decision → Plan → List Block → List DeliveryRow
+due disk contents (serves served) plan wanted =
+    let gap = gap_of disk served in
+    caught_in_gap disk contents gap plan wanted ++ rides contents served (missed_in_gap disk gap plan wanted)
+due disk contents (idles dwell) plan wanted = caught disk contents ByIdle dwell wanted
+due disk contents (ends now) plan wanted = []

@@ -7,7 +7,7 @@ use Rattle.fb_rows.specs.declared.gap.Plan.{Plan}
 use Rattle.fb_rows.specs.declared.back.BackRow.{BackRow}
 use Rattle.fb_rows.specs.declared.back.DeliveryRow.{DeliveryRow}
 use Rattle.fb_model.specs.Inputs.{Inputs}
-use Rattle.fb_model.specs.Content.{Medium, medium_of, fore_rows}
+use Rattle.fb_model.specs.Content.{Medium, medium_of, contents_at, fore_rows}
 use Rattle.fb_model.specs.Timeline.{timeline, IsPossible}
 use Rattle.fb_model.specs.Plans.{IsPlan}
 use Rattle.fb_model.specs.Decisions.{Decision, serves, idles, ends, instant_of, decisions, run_end}
@@ -33,7 +33,7 @@ IsPlanned inputs medium past step = HasPlan inputs.disk step.0 step.1.plan
 
 -- all deliveries that are due at a decision for its plan
 abbrev pub due_at : Inputs → Medium → Past → Decision × Part → List DeliveryRow
-due_at inputs medium past step = due medium step.0 step.1.plan (wanted (settled_past inputs past step.0))
+due_at inputs medium past step = due medium.disk (contents_at medium) step.0 step.1.plan (wanted (settled_past inputs past step.0))
 
 -- the deliveries are some of those that are due, in their order
 abbrev pub IsDelivered : Inputs → Medium → Past → Decision × Part → Type 0

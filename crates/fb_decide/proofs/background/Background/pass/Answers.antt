@@ -2,8 +2,8 @@ use Rattle.std.proofs.Common.{◌≡◌, ◌++◌, subst, subst₂}
 use Rattle.std.proofs.lemmas.Result.{on_ok_weaker}
 use Rattle.fb_rows.specs.declared.gap.How.TheVariants.{Gap as ByGap}
 use Rattle.fb_model.specs.History.{wanted}
-use Rattle.fb_model.specs.Rides.{missed}
-use Rattle.fb_decide.specs.Deliveries.{IsCurrent, HasDelivered, caught_in, gap_caught_in, past_with}
+use Rattle.fb_model.specs.Rides.{missed, caught_in_gap, caught}
+use Rattle.fb_decide.specs.Deliveries.{IsCurrent, HasDelivered, past_with, held_now}
 use Rattle.fb_decide.proofs.Placing.{delivered-both, left-both}
 use Rattle.fb_decide.proofs.background.Background.pass.Goals as goal
 
@@ -13,8 +13,8 @@ returns-clause-delivered c = on_ok_weaker c.stay-2.result (λ next past current.
     let holding = c.args.store.now in
     let pushed : IsCurrent disk.map past (record { sessions = c.args.self.now.sessions; wanted = c.args.self.now.wanted; rows = c.push.new.self }) = record { tells = current.tells; settled = current.settled } in
     subst (λ rows. HasDelivered disk.map past
-    (gap_caught_in disk holding c.args.row.gap c.args.row.plan (wanted past)) rows c.stay-2.new.self) c.in_ok-push.ensures.ok
-    (subst₂ (λ early late. HasDelivered disk.map past (caught_in disk holding ByGap early (wanted past) ++ caught_in disk holding ByGap late (missed disk early (wanted past))) c.push.new.self c.stay-2.new.self)
+    (caught_in_gap disk (held_now holding) c.args.row.gap c.args.row.plan (wanted past)) rows c.stay-2.new.self) c.in_ok-push.ensures.ok
+    (subst₂ (λ early late. HasDelivered disk.map past (caught disk (held_now holding) ByGap early (wanted past) ++ caught disk (held_now holding) ByGap late (missed disk early (wanted past))) c.push.new.self c.stay-2.new.self)
     c.dwells-pair.ensures.early c.dwells-pair.ensures.late
     (delivered-both disk holding ByGap c.dwells-pair.result.early c.dwells-pair.result.late past c.push.new.self c.stay.new.self c.stay-2.new.self
     (c.in_ok-stay.ensures.left past pushed) (c.in_ok-stay.ensures.delivered past pushed) next))) c.stay-2.ensures.delivered
@@ -25,6 +25,6 @@ returns-clause-left c = on_ok_weaker c.stay-2.result (λ next past current.
     let holding = c.args.store.now in
     let pushed : IsCurrent disk.map past (record { sessions = c.args.self.now.sessions; wanted = c.args.self.now.wanted; rows = c.push.new.self }) = record { tells = current.tells; settled = current.settled } in
     let first = c.in_ok-stay.ensures.delivered past pushed in
-    subst₂ (λ early late. wanted (past_with past (caught_in disk holding ByGap early (wanted past) ++ caught_in disk holding ByGap late (missed disk early (wanted past)))) ≡ missed disk late (missed disk early (wanted past)))
+    subst₂ (λ early late. wanted (past_with past (caught disk (held_now holding) ByGap early (wanted past) ++ caught disk (held_now holding) ByGap late (missed disk early (wanted past)))) ≡ missed disk late (missed disk early (wanted past)))
     c.dwells-pair.ensures.early c.dwells-pair.ensures.late
     (left-both disk holding ByGap c.dwells-pair.result.early c.dwells-pair.result.late past (c.in_ok-stay.ensures.left past pushed) (next _ first.current))) c.stay-2.ensures.left

@@ -1,10 +1,11 @@
 use Rattle.std.proofs.Common.{◌∙◌, ◌≡◌, ap, sym, subst, map}
 use Rattle.std.proofs.lemmas.Result.{on_ok_weaker}
+use Rattle.fb_model.specs.Rides.{rides}
 use Rattle.fb_rows.specs.declared.gap.How.TheVariants.{Ride as ByRide}
 use Rattle.fb_wanted.specs.States.{wanted_of}
 use Rattle.fb_model.specs.History.{wanted}
 use Rattle.fb_decide.specs.Carried.{carried_of}
-use Rattle.fb_decide.specs.Deliveries.{HasDelivered, AreDistinct, AreDue, row_in, rides_in}
+use Rattle.fb_decide.specs.Deliveries.{HasDelivered, AreDistinct, AreDue, row_in, held_now}
 use Rattle.fb_decide.specs.Turn.{served_in}
 use Rattle.fb_decide.proofs.Placing.{wanted-distinct}
 use Rattle.fb_decide.proofs.Delivering.{wanted-told}
@@ -35,7 +36,7 @@ deliver_all-requires c =
     let past = c.requires.current.0 in
     let current = c.requires.current.1 in
     let served = served_in c.args.disk.now c.args.turn in
-    let rows : map (row_in c.args.store.now ByRide) c.as_slice.result.now ≡ rides_in c.args.store.now served (wanted past) =
+    let rows : map (row_in c.args.store.now ByRide) c.as_slice.result.now ≡ rides (held_now c.args.store.now) served (wanted past) =
     ap (map (row_in c.args.store.now ByRide)) (c.as_slice.ensures.value ∙ c.in_ok-catches.ensures ∙ ap (λ ps. carried_of ps c.args.turn.request (wanted_of c.args.self.now.wanted)) c.requires.passages
     ∙ ap (carried_of served.passages c.args.turn.request) (wanted-told current.tells))
     ∙ rows-carried c.args.store.now served (wanted past) c.if-turn.false in
@@ -44,7 +45,7 @@ deliver_all-requires c =
 pub returns : goal.returns
 returns c = on_ok_weaker c.deliver_all.result (λ all past current.
     let served = served_in c.args.disk.now c.args.turn in
-    let rows : map (row_in c.args.store.now ByRide) c.as_slice.result.now ≡ rides_in c.args.store.now served (wanted past) =
+    let rows : map (row_in c.args.store.now ByRide) c.as_slice.result.now ≡ rides (held_now c.args.store.now) served (wanted past) =
     ap (map (row_in c.args.store.now ByRide)) (c.as_slice.ensures.value ∙ c.in_ok-catches.ensures ∙ ap (λ ps. carried_of ps c.args.turn.request (wanted_of c.args.self.now.wanted)) c.requires.passages
     ∙ ap (carried_of served.passages c.args.turn.request) (wanted-told current.tells))
     ∙ rows-carried c.args.store.now served (wanted past) c.if-turn.false in
