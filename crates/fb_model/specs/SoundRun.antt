@@ -3,6 +3,7 @@ use Rattle.std.specs.Prelude.{◌≡◌, List, [], ◌∷◌, ◌++◌, length, 
 use Rattle.std.specs.List.{flat_map}
 use Rattle.fb_service.specs.declared.disk.Disk.{Disk}
 use Rattle.fb_rows.specs.declared.run.Run.{Run}
+use Rattle.fb_rows.specs.declared.gap.Gap.{Gap}
 use Rattle.fb_rows.specs.declared.gap.Plan.{Plan}
 use Rattle.fb_rows.specs.declared.back.BackRow.{BackRow}
 use Rattle.fb_rows.specs.declared.back.DeliveryRow.{DeliveryRow}
@@ -10,7 +11,7 @@ use Rattle.fb_model.specs.Inputs.{Inputs}
 use Rattle.fb_model.specs.Content.{Medium, medium_of, contents_at, fore_rows}
 use Rattle.fb_model.specs.Timeline.{timeline, IsPossible}
 use Rattle.fb_model.specs.Plans.{IsPlan}
-use Rattle.fb_model.specs.Decisions.{Decision, serves, idles, ends, instant_of, decisions, run_end}
+use Rattle.fb_model.specs.Decisions.{Decision, serves, instant_of, decisions, run_end}
 use Rattle.fb_model.specs.History.{Past, delivered, wanted}
 use Rattle.fb_model.specs.Images.{findings, test_rows}
 use Rattle.fb_model.specs.Rides.{gap_of, due}
@@ -22,11 +23,14 @@ pub data IsSublist {A : Type 0} : List A → List A → Type 0 where
   left_out : {x : A} {xs ys : List A} → IsSublist xs ys → IsSublist xs (x ∷ ys)
   taken : {x : A} {xs ys : List A} → IsSublist xs ys → IsSublist (x ∷ xs) (x ∷ ys)
 
+-- where a request is served, its gap and the plan are so; elsewhere there is no gap, and nothing looks at the plan
+abbrev pub WhereServed : (Gap → Plan → Type 0) → Disk → Decision → Plan → Type 0
+WhereServed P disk (serves served) plan = P (gap_of disk served) plan
+WhereServed P disk _ plan = Unit {0}
+
 -- a request that is served has one of its gap's plans
 abbrev pub HasPlan : Disk → Decision → Plan → Type 0
-HasPlan disk (serves served) plan = IsPlan disk (gap_of disk served) plan
-HasPlan disk (idles dwell) plan = Unit {0}
-HasPlan disk (ends now) plan = Unit {0}
+HasPlan disk = WhereServed (IsPlan disk) disk
 
 abbrev pub IsPlanned : Inputs → Medium → Past → Decision × Part → Type 0
 IsPlanned inputs medium past step = HasPlan inputs.disk step.0 step.1.plan
