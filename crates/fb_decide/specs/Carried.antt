@@ -1,6 +1,6 @@
 -- What a read carries, extent by extent.
 use Rattle.std.specs.Prelude.{◌≡◌, ℕ, ◌+◌, ◌-◌, ◌^◌, ◌≤◌, ◌<◌, List, [], ◌∷◌, Bool, ◌&&◌, Some, nat_le, nat_lt, filter, map, length, slice_get, if◌then◌else◌}
-use Rattle.std.specs.List.{AllByRecursion, fold}
+use Rattle.std.specs.List.{AllByRecursion}
 use Rattle.fb_units.specs.declared.types.Request.{Request}
 use Rattle.fb_geometry.specs.Shape.{Shape}
 use Rattle.fb_geometry.specs.Places.{places}
@@ -13,7 +13,7 @@ use Rattle.fb_wanted.specs.declared.block.Entry.{Entry}
 use Rattle.fb_wanted.specs.States.{is_wanted}
 use Rattle.fb_model.specs.Rides.{lies_in, begin_at, end_at}
 use Rattle.fb_plan.specs.declared.catching.Catch.{Catch}
-use Rattle.fb_plan.specs.Order.{place_in}
+use Rattle.fb_plan.specs.Order.{in_order}
 
 -- the passage of a block, from the passages of its sectors
 abbrev pub ride_of : List Passage → Block → Catch
@@ -21,7 +21,7 @@ ride_of passages block = record { block = block; begin = begin_at passages block
 
 -- the blocks that a read carries, in the order of delivery
 unfoldable pub carried_of : List Passage → Request → List Block → List Catch
-carried_of passages request blocks = fold place_in [] (map (ride_of passages) (filter (lies_in request) blocks))
+carried_of passages request blocks = in_order (map (ride_of passages) (filter (lies_in request) blocks))
 
 -- the block's first sector passes in the extent
 abbrev pub begins_in : Extent → Block → Bool
@@ -31,9 +31,9 @@ begins_in extent block = nat_le extent.first block.lbn && nat_lt block.lbn (exte
 abbrev pub begun_in : Extent → Request → List Block → List Block
 begun_in extent request blocks = filter (λ block. begins_in extent block && lies_in request block) blocks
 
--- what a registered block adds, where it begins in an extent
-abbrev pub with_ride : List Passage → Extent → Request → List Catch → Entry → List Catch
-with_ride passages extent request found entry = if is_wanted entry.state && (begins_in extent entry.block && lies_in request entry.block) then place_in found (ride_of passages entry.block) else found
+-- what a read carries of one registered block, where that begins in an extent
+abbrev pub ride_alone : List Passage → Extent → Request → Entry → List Catch
+ride_alone passages extent request entry = if is_wanted entry.state && (begins_in extent entry.block && lies_in request entry.block) then ride_of passages entry.block ∷ [] else []
 
 -- an extent of sectors of the disk
 pub record IsExtentOf (disk : Shape) (extent : Extent) : Type 0 where

@@ -1,18 +1,17 @@
 // The background blocks that a foreground read carries along.
-ghost use Rattle.std.specs.Prelude.{◌≡◌, ◌==◌, ◌+◌, ◌*◌, ◌≤◌, ◌<◌, ◌^◌, find, map, OnOk, IfOk};
-ghost use Rattle.std.specs.List.{AllByRecursion, fold};
+ghost use Rattle.std.specs.Prelude.{◌≡◌, ◌==◌, ◌++◌, ◌+◌, ◌*◌, ◌≤◌, ◌<◌, ◌^◌, find, map, OnOk, IfOk};
+ghost use Rattle.std.specs.List.{AllByRecursion};
 ghost use Rattle.fb_service.specs.Extents.{all_passages_of, IsUnbroken};
 ghost use Rattle.fb_model.specs.History.{Past, wanted};
 ghost use Rattle.fb_model.specs.Rides.{lies_in, rides};
 ghost use Rattle.fb_wanted.specs.States.{on_track, wanted_of};
-ghost use Rattle.fb_plan.specs.Order.{place_in};
-ghost use Rattle.fb_decide.specs.Carried.{carried_of, ride_of, begins_in, begun_in, AreExtents, with_ride, AreLaid, AreWholeBlocks, IsWholeBlock};
+ghost use Rattle.fb_decide.specs.Carried.{carried_of, ride_of, begins_in, begun_in, AreExtents, ride_alone, AreLaid, AreWholeBlocks, IsWholeBlock};
 ghost use Rattle.fb_decide.specs.Deliveries.{IsCurrent, HasDelivered, AreDistinct, held_now};
 ghost use Rattle.fb_decide.specs.Turn.{IsTurnOn, served_in};
 
 use crate::background::Background;
 use crate::turn::Turn;
-use fb_plan::{Catch, is_wanted, place_in};
+use fb_plan::{Catch, is_wanted, put_in_order};
 use fb_rows::How;
 use fb_service::{Disk, Extent, Passage, nth_passage};
 use fb_store::Store;
@@ -67,6 +66,7 @@ fn carried(
     for extent in extents {
         add_carried(disk, wanted, request, extents, extent, &mut found)?;
     }
+    put_in_order(&mut found)?;
     Ok(found)
 }
 
@@ -83,7 +83,7 @@ fn add_carried(
     requires extent { extent.now.first + extent.now.count ≤ 10 ^ 12 }
     requires request { request.lbn + request.count ≤ 10 ^ 12 }
     requires registered { AreWholeBlocks disk.now.map wanted.now }
-    ensures { OnOk result (found.new.items ≡ fold place_in found.old.items (map (ride_of (all_passages_of disk.now.map extents.now)) (begun_in extent.now request (wanted_of (on_track extent.now.track wanted.now))))) }
+    ensures { OnOk result (found.new.items ≡ found.old.items ++ map (ride_of (all_passages_of disk.now.map extents.now)) (begun_in extent.now request (wanted_of (on_track extent.now.track wanted.now)))) }
 {
     let blocks = wanted.on(extent.track);
     for i in 0..blocks.len() {
@@ -105,14 +105,14 @@ fn add_ride(
     requires extent { extent.now.first + extent.now.count ≤ 10 ^ 12 }
     requires request { request.lbn + request.count ≤ 10 ^ 12 }
     requires block { IsWholeBlock disk.now.map entry.block }
-    ensures { OnOk result (found.new.items ≡ with_ride (all_passages_of disk.now.map extents.now) extent.now request found.old.items entry) }
+    ensures { OnOk result (found.new.items ≡ found.old.items ++ ride_alone (all_passages_of disk.now.map extents.now) extent.now request entry) }
 {
     let block = entry.block;
     if !is_wanted(entry.state) {
         return Ok(());
     }
     if begins_in(extent, block) && lies_in(request, block) {
-        place_in(found, ride_of(disk, extents, block))?;
+        found.push(ride_of(disk, extents, block))?;
     }
     Ok(())
 }

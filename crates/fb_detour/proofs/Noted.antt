@@ -16,7 +16,7 @@ use Rattle.fb_plan.proofs.Ties.{beats-trans}
 module _ (disk : Disk) (gap : Gap) (way : Way) (wanted : List Block) where
   -- a note is blank, or the plan that leaves then was tried
   abbrev Are : Plan → List ℕ → Type 0
-  Are best leaves = (k : ℕ) → k < 64 → (get_or leaves k 0 ≡ 0) ⊎ IsBeaten disk gap wanted way best (get_or leaves k 0)
+  Are best leaves = (k : ℕ) → k < 1024 → (get_or leaves k 0 ≡ 0) ⊎ IsBeaten disk gap wanted way best (get_or leaves k 0)
 
   pub notes-kept : (new old : Plan) (leaves : List ℕ) → Beats disk gap wanted new old → Are old leaves → Are new leaves
   notes-kept new old leaves keeps notes k less = elim (notes k less) [

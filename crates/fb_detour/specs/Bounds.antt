@@ -109,7 +109,7 @@ IsBeaten disk gap wanted way best leave = leave + move_on disk gap way ≤ gap.d
 
 -- each leave that is noted was tried
 abbrev pub AreNotes : Disk → Gap → List Block → Way → Tried → Type 0
-AreNotes disk gap wanted way tried = (k : ℕ) → k < 64 → (get_or tried.leaves k 0 ≡ 0) ⊎ IsBeaten disk gap wanted way tried.best.plan (get_or tried.leaves k 0)
+AreNotes disk gap wanted way tried = (k : ℕ) → k < 1024 → (get_or tried.leaves k 0 ≡ 0) ⊎ IsBeaten disk gap wanted way tried.best.plan (get_or tried.leaves k 0)
 
 -- the blocks of a track, and how they pass from the arrival on
 pub record IsStop (disk : Disk) (entries : List Entry) (stop : Stop) : Type 0 where

@@ -10,13 +10,13 @@ ghost use Rattle.fb_detour.specs.Bounds.{AreCeilings, AreNotes, IsSearch, IsFoun
 
 use crate::given::Search;
 use crate::intervals::{Ceilings, ceiling_at, ceilings_of};
-use crate::parts::EARLY;
 use crate::stop::stop_at;
 use fb_plan::{
     Scored, Sides, Way, blocks_on, is_same, is_wanted, move_on, plan_by, sides_of, stay_of,
     try_plan,
 };
 use fb_rows::{Gap, Plan};
+use fb_service::Disk;
 use fb_units::Ns;
 use fb_wanted::{Entry, Wanted};
 
@@ -93,19 +93,24 @@ fn try_leave(
     try_plan(search.disk, search.wanted, search.gap, sides, plan, best)
 }
 
-// Into how many parts the time on a track is divided to note which leaves were tried.
-const NOTED: usize = 64;
+// Into how many parts a rotation is divided to note which leaves were tried.
+const NOTED: usize = 1_024;
 
-// The number of the part of the time on a track that the instant lies in.
-fn part_of(ceilings: &Ceilings, instant: Ns) -> usize
-    ensures { result < 64 }
+// The number of the part of a rotation in which the head leaves, counted from its arrival.
+fn part_of(disk: &Disk, ceilings: &Ceilings, leave: Ns) -> usize
+    ensures { result < 1024 }
 {
-    let part = ceilings.step / (NOTED / EARLY) as u64 + 1;
-    (instant.saturating_sub(ceilings.begin) / part).min(NOTED as u64 - 1) as usize
+    let rotation = disk.map.geometry().rotation();
+    let mut angle = leave.saturating_sub(ceilings.begin);
+    if angle >= rotation {
+        angle -= rotation;
+    }
+    let part = rotation / NOTED as u64 + 1;
+    (angle / part).min(NOTED as u64 - 1) as usize
 }
 
-// The best plan so far, and for each part of the time on a track the leave that was tried there last;
-// 0 where there is none.
+// The best plan so far, and for each part of a rotation the leave that was tried there last; 0 where there
+// is none. Blocks of many tasks that end in one slot share a leave.
 #[derive(Clone, Copy)]
 struct Tried {
     best: Scored,
@@ -141,7 +146,7 @@ fn try_once(
         return;
     }
     let end = sides.passing.end(search.disk, entry.block);
-    let part = part_of(ceilings, end);
+    let part = part_of(search.disk, ceilings, end);
     if tried.leaves[part] == end {
         return;
     }

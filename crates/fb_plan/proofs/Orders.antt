@@ -1,9 +1,8 @@
 -- What a dwell catches is caught on its track.
-use Rattle.std.proofs.Common.{◌≡◌, inl, inr, ℕ, ◌+◌, List, [], ◌∷◌, false, Some, slice_get, filter, map, length, take, refl, sym, ap, ◌∙◌}
-use Rattle.std.specs.List.{fold}
+use Rattle.std.proofs.Common.{◌≡◌, inl, inr, ℕ, ◌+◌, List, [], ◌∷◌, ◌++◌, false, Some, slice_get, filter, map, length, take, refl, sym, ap, ◌∙◌}
 use Rattle.std.proofs.Math.Seq.{take-length}
 use Rattle.std.proofs.lemmas.Bool.{cases_Bool}
-use Rattle.std.proofs.lemmas.List.Sums.{fold_more}
+use Rattle.std.proofs.lemmas.List.{take_more}
 use Rattle.std.proofs.lemmas.Option.{slice_get_within, get_or_from_slice_get}
 use Rattle.fb_units.specs.Tracks.{same_track}
 use Rattle.fb_service.specs.declared.disk.Disk.{Disk}
@@ -12,54 +11,58 @@ use Rattle.fb_wanted.specs.States.{is_wanted, on_track, wanted_of}
 use Rattle.fb_rows.specs.declared.gap.Dwell.{Dwell}
 use Rattle.fb_model.specs.Plans.{catches}
 use Rattle.fb_plan.specs.declared.catching.Catch.{Catch}
-use Rattle.fb_plan.specs.Order.{place_in, catch_of, caught_of, with_entry}
+use Rattle.fb_plan.specs.Order.{in_order, catch_of, caught_alone, caught_of}
 
-abbrev all : Disk → Dwell → List Catch → List Entry → List Catch
-all disk dwell acc es = fold place_in acc (map (catch_of disk dwell) (filter (catches disk dwell) (wanted_of es)))
+-- what a dwell catches of registered blocks, in their order
+abbrev pub caught_among : Disk → Dwell → List Entry → List Catch
+caught_among disk dwell es = map (catch_of disk dwell) (filter (catches disk dwell) (wanted_of es))
 
-by_entries : (disk : Disk) (dwell : Dwell) (acc : List Catch) (es : List Entry)
-    → fold place_in acc (map (catch_of disk dwell) (filter (catches disk dwell) (wanted_of es))) ≡ fold (with_entry disk dwell) acc (on_track dwell.track es)
-by_entries disk dwell acc [] = refl
-by_entries disk dwell acc (e ∷ es) = elim (cases_Bool (same_track dwell.track e.block.track)) [
-  | inl on ↦
-      let front : on_track dwell.track (e ∷ es) ≡ e ∷ on_track dwell.track es = rw on refl in
-      let right : fold (with_entry disk dwell) acc (on_track dwell.track (e ∷ es)) ≡ fold (with_entry disk dwell) (with_entry disk dwell acc e) (on_track dwell.track es) = ap (fold (with_entry disk dwell) acc) front in
-      elim (cases_Bool (is_wanted e.state)) [
-        | inl w ↦ elim (cases_Bool (catches disk dwell e.block)) [
-          | inl y ↦
-              let one : with_entry disk dwell acc e ≡ place_in acc (catch_of disk dwell e.block) = rw (w, y) refl in
-              let left : all disk dwell acc (e ∷ es) ≡ all disk dwell (place_in acc (catch_of disk dwell e.block)) es = rw (w, y) refl in
-              left ∙ (by_entries disk dwell (place_in acc (catch_of disk dwell e.block)) es ∙ (ap (λ a. fold (with_entry disk dwell) a (on_track dwell.track es)) (sym one) ∙ sym right))
-          | inr n ↦
-              let one : with_entry disk dwell acc e ≡ acc = rw (w, n) refl in
-              let left : all disk dwell acc (e ∷ es) ≡ all disk dwell acc es = rw (w, n) refl in
-              left ∙ (by_entries disk dwell acc es ∙ (ap (λ a. fold (with_entry disk dwell) a (on_track dwell.track es)) (sym one) ∙ sym right))
-        ]
-        | inr n ↦
-            let one : with_entry disk dwell acc e ≡ acc = rw n refl in
-            let left : all disk dwell acc (e ∷ es) ≡ all disk dwell acc es = rw n refl in
-            left ∙ (by_entries disk dwell acc es ∙ (ap (λ a. fold (with_entry disk dwell) a (on_track dwell.track es)) (sym one) ∙ sym right))
-      ]
+one_more : (disk : Disk) (dwell : Dwell) (es : List Entry) (e : Entry) → caught_among disk dwell (es ++ e ∷ []) ≡ caught_among disk dwell es ++ caught_among disk dwell (e ∷ [])
+one_more disk dwell [] e = refl
+one_more disk dwell (x ∷ es) e = elim (cases_Bool (is_wanted x.state)) [
+  | inl w ↦ elim (cases_Bool (catches disk dwell x.block)) [
+    | inl y ↦ rw (w, y) (ap (λ cs. catch_of disk dwell x.block ∷ cs) (one_more disk dwell es e))
+    | inr n ↦ rw (w, n) (one_more disk dwell es e)
+  ]
+  | inr n ↦ rw n (one_more disk dwell es e)
+]
+
+alone : (disk : Disk) (dwell : Dwell) (e : Entry) → caught_among disk dwell (e ∷ []) ≡ caught_alone disk dwell e
+alone disk dwell e = elim (cases_Bool (is_wanted e.state)) [
+  | inl w ↦ elim (cases_Bool (catches disk dwell e.block)) [
+    | inl y ↦ rw (w, y) refl
+    | inr n ↦ rw (w, n) refl
+  ]
+  | inr n ↦ rw n refl
+]
+
+pub caught_more : (disk : Disk) (dwell : Dwell) (xs : List Entry) (i : ℕ) (e : Entry) (old new : List Catch) → slice_get xs i ≡ Some e
+    → new ≡ old ++ caught_alone disk dwell e → old ≡ caught_among disk dwell (take i xs) → new ≡ caught_among disk dwell (take (i + 1) xs)
+caught_more disk dwell xs i e old new at added so_far =
+    let next : take (i + 1) xs ≡ take i xs ++ e ∷ [] = take_more xs i e (slice_get_within xs i e at) ∙ ap (λ x. take i xs ++ x ∷ []) (get_or_from_slice_get xs i e e at) in
+    added ∙ ap (λ cs. cs ++ caught_alone disk dwell e) so_far ∙ sym (ap (caught_among disk dwell) next ∙ one_more disk dwell (take i xs) e ∙ ap (λ cs. caught_among disk dwell (take i xs) ++ cs) (alone disk dwell e))
+
+on_its_track : (disk : Disk) (dwell : Dwell) (es : List Entry) → caught_among disk dwell (on_track dwell.track es) ≡ caught_among disk dwell es
+on_its_track disk dwell [] = refl
+on_its_track disk dwell (e ∷ es) = elim (cases_Bool (same_track dwell.track e.block.track)) [
+  | inl on ↦ elim (cases_Bool (is_wanted e.state)) [
+    | inl w ↦ elim (cases_Bool (catches disk dwell e.block)) [
+      | inl y ↦ rw (on, w, y) (ap (λ cs. catch_of disk dwell e.block ∷ cs) (on_its_track disk dwell es))
+      | inr n ↦ rw (on, w, n) (on_its_track disk dwell es)
+    ]
+    | inr n ↦ rw (on, n) (on_its_track disk dwell es)
+  ]
   | inr off ↦
-      let right : fold (with_entry disk dwell) acc (on_track dwell.track (e ∷ es)) ≡ fold (with_entry disk dwell) acc (on_track dwell.track es) = rw off refl in
       let miss : catches disk dwell e.block ≡ false = rw off refl in
       elim (cases_Bool (is_wanted e.state)) [
-        | inl w ↦ let left : all disk dwell acc (e ∷ es) ≡ all disk dwell acc es = rw (w, miss) refl in left ∙ (by_entries disk dwell acc es ∙ sym right)
-        | inr n ↦ let left : all disk dwell acc (e ∷ es) ≡ all disk dwell acc es = rw n refl in left ∙ (by_entries disk dwell acc es ∙ sym right)
+        | inl w ↦ rw (off, w, miss) (on_its_track disk dwell es)
+        | inr n ↦ rw (off, n) (on_its_track disk dwell es)
       ]
 ]
 
-pub on_its_track : (disk : Disk) (dwell : Dwell) (es : List Entry) → caught_of disk dwell (wanted_of es) ≡ fold (with_entry disk dwell) [] (on_track dwell.track es)
+pub caught_whole : (disk : Disk) (dwell : Dwell) (es xs : List Entry) (found : List Catch) (n : ℕ) → xs ≡ on_track dwell.track es → n ≡ length xs
+    → found ≡ caught_among disk dwell (take n xs) → in_order found ≡ caught_of disk dwell (wanted_of es)
 unfolding caught_of
-on_its_track disk dwell es = by_entries disk dwell [] es
-
-pub entry-more : (disk : Disk) (dwell : Dwell) (xs : List Entry) (i : ℕ) (e : Entry) (old new : List Catch) → slice_get xs i ≡ Some e → new ≡ with_entry disk dwell old e
-    → old ≡ fold (with_entry disk dwell) [] (take i xs) → new ≡ fold (with_entry disk dwell) [] (take (i + 1) xs)
-entry-more disk dwell xs i e old new at n o =
-    n ∙ (ap (λ a. with_entry disk dwell a e) o ∙ (ap (with_entry disk dwell (fold (with_entry disk dwell) [] (take i xs))) (sym (get_or_from_slice_get xs i e e at))
-    ∙ sym (fold_more (with_entry disk dwell) [] xs i e (slice_get_within xs i e at))))
-
-pub entries-all : (disk : Disk) (dwell : Dwell) (es xs : List Entry) (found : List Catch) (n : ℕ) → xs ≡ on_track dwell.track es → n ≡ length xs
-    → found ≡ fold (with_entry disk dwell) [] (take n xs) → found ≡ caught_of disk dwell (wanted_of es)
-entries-all disk dwell es xs found n same e f = f ∙ (ap (λ k. fold (with_entry disk dwell) [] (take k xs)) e
-    ∙ (ap (fold (with_entry disk dwell) []) (take-length xs ∙ same) ∙ sym (on_its_track disk dwell es)))
+caught_whole disk dwell es xs found n same e f =
+    let all : found ≡ caught_among disk dwell es = f ∙ ap (λ k. caught_among disk dwell (take k xs)) e ∙ ap (caught_among disk dwell) (take-length xs ∙ same) ∙ on_its_track disk dwell es in
+    ap in_order all

@@ -2,6 +2,7 @@ use Rattle.std.proofs.Common.{◌∙◌, ◌≡◌, ◌<◌, sym}
 use Rattle.fb_sectormap.specs.Lookup.{track_at}
 use Rattle.fb_service.specs.Extents.{all_passages_of}
 use Rattle.fb_wanted.specs.States.{wanted_of}
+use Rattle.fb_plan.specs.Order.{in_order}
 use Rattle.fb_decide.specs.Carried.{IsExtentOf}
 use Rattle.fb_decide.proofs.Carrying.{next_added, none_added, carried_whole, each_entry, each_wanted, extent_at}
 use Rattle.fb_decide.proofs.riding.carried.Goals as goal
@@ -17,7 +18,8 @@ loop-extent-preserved c =
 pub returns : goal.returns
 returns c =
     let blocks = wanted_of c.args.wanted.now in
-    sym (none_added (all_passages_of c.args.disk.now.map c.args.extents.now) c.args.extents.now c.loop-extent.extent-index c.args.request c.loop-extent.found.items blocks c.loop-extent-test.false)
+    c.in_ok-put_in_order.ensures.ordered
+    ∙ sym (none_added (all_passages_of c.args.disk.now.map c.args.extents.now) c.args.extents.now c.loop-extent.extent-index c.args.request (in_order c.loop-extent.found.items) blocks c.loop-extent-test.false)
     ∙ sym c.loop-extent.invariant
     ∙ carried_whole (all_passages_of c.args.disk.now.map c.args.extents.now) c.args.extents.now c.args.request blocks c.requires.covers c.requires.distinct
     (each_wanted (λ block. 0 < block.count) c.args.wanted.now (each_entry (λ entry. 0 < entry.block.count) c.args.wanted.now (λ i entry at. (c.requires.registered i entry at).some)))

@@ -44,5 +44,5 @@ loop-i-init c = (
   c.try_arrival-best.ensures.scored,
   beats-self c.args.search.now.disk.now c.args.search.now.gap.now (wanted_of c.args.search.now.wanted.now) c.try_arrival-best.result.plan,
   λ k e less. absurd (omega (arith, less)),
-  λ k less. inl (zeros (replicate 64 0) refl k),
+  λ k less. inl (zeros (replicate 1024 0) refl k),
 )
