@@ -18,8 +18,8 @@ pub enum Kind {
 /// What a call asks for. A range is `count` sectors from the LBN `first` on.
 #[derive(Drop)]
 pub enum Action {
-    /// Opens a task of a kind, with the weight of its blocks (1 to 1,000) and its block size (1 to
-    /// 2,048 sectors).
+    /// Opens a task of a kind, with the weight of each sector of its blocks (1 to 1,000) and its block
+    /// size (1 to 2,048 sectors).
     Open {
         kind: Kind,
         weight: u32,

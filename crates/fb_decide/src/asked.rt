@@ -15,7 +15,7 @@ pub struct Asked<'a> {
     pub trace: &'a Trace,
     /// The call script.
     pub calls: &'a Calls,
-    /// The instant, in ns, up to which the head goes on reading background when nothing else is
-    /// left to do.
+    /// The instant, in ns, at most 10^15, up to which the head goes on reading background when nothing
+    /// else is left to do.
     pub until: Ns,
 }

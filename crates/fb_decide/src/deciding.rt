@@ -45,10 +45,13 @@ struct Course {
     store: Store,
     background: Background,
     fore: ForeRows,
-    // How many requests have joined the queue, and how many calls have taken effect.
+    // How many requests have joined the queue.
     joined: usize,
+    // How many calls have taken effect.
     called: usize,
+    // The track on which the head is.
     head: Track,
+    // The instant of the next decision, in ns.
     now: Ns,
 }
 
@@ -96,8 +99,8 @@ impl<'a, Q: Queue> Decider<'a, Q> {
     /// Makes the next decision and adds its rows; returns whether another decision follows.
     ///
     /// A request that is served has the best plan for its gap. What is asked must be the same at
-    /// each call, and what `new` was given. Once the answer was `false` it isn't called again. The
-    /// only error is out of memory, after which nothing is promised of the decider.
+    /// each call, and what `new` was given. After it has returned `false` it must not be called
+    /// again. The only error is out of memory, after which nothing is promised of the decider.
     pub fn decide<P: Planner>(
         &mut self,
         alloc: Global,
@@ -149,7 +152,7 @@ impl<'a, Q: Queue> Decider<'a, Q> {
         self.course.now
     }
 
-    /// Takes out the rows that were added since the last time.
+    /// Takes out the rows that were added since the last call, or since `new`.
     pub fn take_rows(&mut self, alloc: Global) -> Rows
         ensures fore { result.fore ≡ self.old.course.fore }
         ensures back { result.back ≡ self.old.course.background.rows }

@@ -28,8 +28,8 @@ impl IndexedPlanner {
     }
 }
 
-// Whether no track has a wanted block that weighs anything: then the direct plan that leaves at once is the best, as the
-// first in the order of ties.
+// True only if no block is wanted. Then the direct plan that leaves at once is the best, as the first in the
+// order of ties.
 fn wants_nothing(disk: &Disk, wanted: &Wanted, gap: &Gap) -> bool
     requires gap { IsGap disk.now gap.now }
     ensures { result ≡ true → IsBest disk.now gap.entry.now (wanted_of wanted.now) (Plan.Direct gap.entry.now.now) }

@@ -18,15 +18,18 @@ pub const LATE: usize = 32;
 // How many limits there are: one for each part, and one behind the last.
 const LIMITS: usize = 33;
 
-// What the target can still give to a head that comes there later and later: one entry for each
-// step. From the limit of a part on it is no more than that part, and from the last limit on it is
-// nothing. A limit lies right behind the last instant at which some block of the part before can be
-// caught, so that bounds that change at limits lose nothing.
+// Upper bounds on what the target still gives to a head that arrives there late in the gap.
 #[derive(Clone, Copy)]
 pub struct LateParts {
+    // When the gap begins, in ns.
     pub begin: Ns,
+    // How long each part of the gap is, in ns.
     pub step: Ns,
+    // Part `k` bounds what the target gives to a head that arrives at `begin + k * step` or later.
     pub parts: [u64; LATE],
+    // Part `k` also bounds what it gives to one that arrives at `limits[k]` or later. From the last limit on
+    // it gives nothing. A limit lies right behind the last instant at which some block of the part before
+    // can be caught, so that bounds which change at limits lose nothing.
     pub limits: [Ns; LIMITS],
 }
 
@@ -135,7 +138,7 @@ fn add_late(
     }
 }
 
-// What the target can still give from the beginning of each part of the gap on.
+// Upper bounds on what the target can still give from the beginning of each part of the gap on.
 pub fn late_parts(disk: &Disk, wanted: &Wanted, gap: &Gap) -> LateParts
     requires gap { IsGap disk.now gap.now }
     requires blocks { AreOnDisk disk.now wanted.now }

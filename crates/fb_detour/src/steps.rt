@@ -19,21 +19,22 @@ use fb_wanted::{BAND, Wanted};
 // The unit of rates: one for each ns.
 const UNIT: u64 = 1 << 24;
 
-// A rate from this one on, or a time from that one on, bounds nothing: their product could be more
-// than a number holds.
+// At this rate or more the product of a rate and a time may overflow a `u64`: then it bounds nothing.
 const FAST: u64 = 1 << 31;
 
+// In this time or more, in ns, it may overflow as well.
 const LONG: Ns = 1 << 32;
 
-// When a detour reaches the target at the earliest, and how much passes in each ns on its track at
-// most, in units of 2^-24.
+// What bounds a detour.
 #[derive(Clone, Copy)]
 pub struct Reach {
+    // When it reaches the target at the earliest, in ns.
     pub back: Ns,
+    // An upper bound on what passes in each ns on its track, in units of 2^-24.
     pub rate: u64,
 }
 
-// The most that passes in each ns on a track of these cylinders, in units of 2^-24: one sector for
+// An upper bound on what passes in each ns on a track of these cylinders, in units of 2^-24: one sector for
 // each least length of a slot, with the most weight that is wanted of one sector.
 pub fn rate_over(disk: &Disk, wanted: &Wanted, from: u32, end: u32) -> u64
     requires some { from < end }

@@ -273,6 +273,7 @@ impl Turning {
         ensures latest { result.latest ≡ latest }
     {
         let _ = disk;
+        // The next passage of any block ends within two rotations.
         let left = (latest - self.from).min(2 * self.rotation - 1);
         Until {
             passing: *self,

@@ -14,11 +14,15 @@ use std::alloc::Global;
 /// What a task was opened with, and how far it has come.
 #[derive(Drop)]
 pub struct Session {
+    /// What the task is for.
     pub kind: Kind,
+    /// The weight of each sector of its blocks, 1 to 1,000.
     pub weight: u32,
+    /// The block size in sectors, 1 to 2,048.
     pub block: u32,
     /// Whether its blocks are held back.
     pub suspended: bool,
+    /// Whether a close has taken effect.
     pub closed: bool,
     /// Whether it was complete at the last test.
     pub complete: bool,

@@ -75,8 +75,8 @@ impl Sessions {
 
     /// A call takes effect.
     ///
-    /// Out of memory all sessions and blocks are as before, but the first blocks of a want may be
-    /// registered.
+    /// If memory runs out, all sessions and blocks are as before, except that the first blocks of a want
+    /// may be registered.
     #[tactic(auto, using(crate::proofs::Asked::session_there, crate::proofs::Leaving::begun_not))]
     pub fn apply(
         &mut self,
@@ -126,7 +126,7 @@ impl Sessions {
     /// Lets sessions choose segments and tests what is complete; adds the rows that a decision has
     /// before its plan.
     ///
-    /// Also out of memory, all rows and blocks that stood are as before, and so is each session that
+    /// If memory runs out, all rows and blocks that stood before are unchanged, and so is each session that
     /// was not touched; what was registered are blocks of open clean tasks.
     #[tactic(auto, using(crate::proofs::Leaving::grown_more, crate::proofs::Leaving::touched_more))]
     pub fn settle(
@@ -150,8 +150,8 @@ impl Sessions {
 
     /// A wanted block is delivered: adds its row, then its findings and the rows of its test.
     ///
-    /// Out of memory the block is delivered, no other block and no other task's session has changed,
-    /// and at most the first of these rows were added.
+    /// If memory runs out, the block is still delivered, no other block and no other task's session has
+    /// changed, and at most the first of these rows were added. What its own session then holds isn't said.
     pub fn delivered(
         &mut self,
         wanted: &mut Wanted,
@@ -200,7 +200,7 @@ impl Sessions {
         self.sessions[task as usize].is_complete(wanted.counts(task))
     }
 
-    /// How each task stands, in order of opening. Out of memory at most the first of the rows were
+    /// How each task stands, in order of opening. If memory runs out, at most the first of the rows were
     /// added.
     pub fn task_rows(&self, wanted: &Wanted, rows: &mut BackRows) -> Result<(), NoMemory>
         requires { (disk : Shape) × (past : Past) × Tells disk past self.now wanted.now }

@@ -71,7 +71,8 @@ pub struct ReplayFiles {
 }
 
 impl ReplayFiles {
-    /// What a run of these files is asked that goes on up to an instant, in ns.
+    /// The inputs of a replay of these files. `until` is how long the head may go on reading when no request
+    /// and no call is left, in ns, at most 10^15.
     pub fn asked(&self, until: Ns) -> Asked<'_>
         ensures inputs { (key : Key) → asked_inputs result key ≡ inputs_of (files_of self.now) key until }
         ensures calls { result.calls.now ≡ self.now.calls }

@@ -31,8 +31,8 @@ use fb_units::NoMemory;
 use fb_words::ReplayWords;
 use std::alloc::Global;
 
-/// Replays the trace and the script of their files on the disk of another, and writes the puts, if
-/// there are any, in the free gaps of the run.
+/// Reads the inputs, replays the trace and the call script on the disk of the parameter file, and writes
+/// the reports. If the words name puts, it also writes these in the free gaps of the run.
 pub fn run_replay<D: Desk>(alloc: Global, desk: &mut D, words: &ReplayWords) -> Outcome
     requires unused { IsUnused (D.seen desk.old) }
     requires until { words.now.until ≤ 10 ^ 15 }

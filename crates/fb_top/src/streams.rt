@@ -44,7 +44,10 @@ impl From<AllocError> for InputError {
 // How many bytes a call asks for at most.
 const PIECE: usize = 4096;
 
-/// Opens an input and reads it to its end; at most `limit` bytes are accepted.
+/// Opens an input and reads it to its end.
+///
+/// The error is `Failed` if a call failed, `TooLong` if there are more than `limit` bytes, and `NoMemory`
+/// if memory ran out.
 pub fn read_whole<D: Desk>(
     alloc: Global,
     desk: &mut D,
