@@ -39,7 +39,7 @@ const WIDE: u32 = 2_048;
 const FEW: u32 = 32;
 
 // At least so many cylinders of those on one side of a gap are looked at first, if little time is left.
-const NEAR: u32 = 1_024;
+const NEAR: u32 = 512;
 
 // The cylinders from one up to another, the least time of a slot there, in ns, an upper bound on what a
 // spill writes on a track there, and whether less than a turn is left beside the moves, of which the
