@@ -6,6 +6,7 @@ use Rattle.std.specs.BTreeMap.{BTreeMap, get, is_at}
 use Rattle.std.proofs.lemmas.Bool.{cases_Bool}
 use Rattle.std.proofs.lemmas.Bool.Decides.{nat_tests}
 use Rattle.fb_units.specs.Rising.{IsRising}
+use Rattle.fb_model.proofs.Lists.{all_left, all_right}
 use Rattle.fb_bgwrite.specs.declared.range.SectorRange.{SectorRange}
 use Rattle.fb_bgwrite.specs.Ranges.{share, AreApart}
 use Rattle.fb_bgwrite.specs.Taken.{AreTaken}
@@ -19,6 +20,14 @@ rising_push (y ∷ ys) x rising all = (all_push (λ later. y ≤ later) ys x ris
 pub apart_push : (ranges : List SectorRange) (range : SectorRange) → AreApart ranges → AllByRecursion (λ other. share range other ≡ false) ranges → AreApart (ranges ++ range ∷ [])
 apart_push [] range apart off = (tt, tt)
 apart_push (r ∷ rs) range apart off = (all_push (λ other. share r other ≡ false) rs range apart.0 (share_either range r off.0), apart_push rs range apart.1 off.1)
+
+pub apart_pop : (ranges : List SectorRange) (range : SectorRange) → AreApart (ranges ++ range ∷ []) → AreApart ranges × (list_any (share range) ranges ≡ false)
+apart_pop [] range apart = (tt, refl)
+apart_pop (r ∷ rs) range apart =
+    let last = all_right (λ other. share r other ≡ false) rs (range ∷ []) apart.0 in
+    let rest = apart_pop rs range apart.1 in
+    let off : share range r ≡ false = share_either r range last.0 in
+    ((all_left (λ other. share r other ≡ false) rs (range ∷ []) apart.0, rest.0), rw off rest.1)
 
 pub at_append : {X : Type 0} (xs ys : List X) (i : ℕ) (x : X) → slice_get xs i ≡ Some x → slice_get (xs ++ ys) i ≡ Some x
 at_append [] ys i x at = absurd (grind arith)

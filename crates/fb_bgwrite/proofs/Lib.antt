@@ -3,6 +3,7 @@ pub mod TakenRanges
 pub mod Asking
 pub mod Appending
 pub mod LinesRead
+pub mod Shuffled
 pub mod Sums
 pub mod Values
 pub mod Choices

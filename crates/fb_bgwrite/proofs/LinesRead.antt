@@ -4,7 +4,8 @@ use Rattle.std.specs.List.{AllByRecursion}
 use Rattle.std.proofs.lemmas.List.{map_push, length_push}
 use Rattle.std.proofs.lemmas.Bool.{and_parts, leb-true}
 use Rattle.std.specs.Prelude.{nat_le}
-use Rattle.fb_units.specs.Judging.{◌>>=◌}
+use Rattle.fb_units.specs.Judging.{◌>>=◌, refused_as}
+use Rattle.fb_units.specs.Lines.{fields_of}
 use Rattle.fb_units.specs.Rising.{IsRising}
 use Rattle.fb_calls.proofs.Lists.{all_weaker}
 use Rattle.fb_bgwrite.specs.declared.fault.PutsFault.{PutsFault}
@@ -14,13 +15,18 @@ use Rattle.fb_bgwrite.specs.declared.puts.Put.{Put}
 use Rattle.fb_bgwrite.specs.declared.puts.Puts.{Puts}
 use Rattle.fb_bgwrite.specs.declared.range.SectorRange.{SectorRange}
 use Rattle.fb_bgwrite.specs.declared.reader.Reader.{Reader}
-use Rattle.fb_bgwrite.specs.Reading.{Accepted, Progress, Terms, at_end, lines_from, next_progress, range_of, reserve_or_none}
-use Rattle.fb_bgwrite.specs.Reader.{progress, IsNextPut, IsNextReserve, IsReader}
+use Rattle.fb_bgwrite.specs.declared.reader.Step.{Step}
+use Rattle.fb_bgwrite.specs.declared.reader.Step.TheVariants.{Blank, Reserve, Put as PutStep}
+use Rattle.fb_bgwrite.specs.declared.taken.Taken.{Taken}
+use Rattle.fb_bgwrite.specs.declared.taken.Taken.TheVariants.{Known, Unknown}
+use Rattle.fb_bgwrite.specs.Ranges.{AreApart}
+use Rattle.fb_bgwrite.specs.Reading.{Accepted, Progress, Terms, at_end, fault_at, lines_from, next_progress, next_read, range_of, reserve_or_none}
+use Rattle.fb_bgwrite.specs.Reader.{progress, with_step, IsApart, IsNextPut, IsNextReserve, IsReader}
 use Rattle.fb_bgwrite.specs.Rules.{IsPutOf, ArePuts}
-use Rattle.fb_bgwrite.specs.Taken.{AreTaken}
+use Rattle.fb_bgwrite.specs.Taken.{HasTaken, IsKnown}
 use Rattle.fb_bgwrite.specs.Verdict.{accepted, Answers}
 use Rattle.fb_bgwrite.proofs.Lists.{all_push}
-use Rattle.fb_bgwrite.proofs.Appending.{rising_push}
+use Rattle.fb_bgwrite.proofs.Appending.{apart_pop, rising_push}
 
 module _ (terms : Terms) (number : ℕ) (so_far : Progress) (lines : List (List ℕ)) (whole : Result Accepted PutsFault) where
   -- after one more line, the rest of the text gives the same result
@@ -60,8 +66,8 @@ none_in : (reserve : Option SectorRange) (put : Put) → reserve ≡ None → Is
 none_in reserve put none is = nowhere put (subst (λ r. IsPutOf (reserve_or_none r) put) none is)
 
 -- one more put
-pub put_kept : (terms : Terms) (old new : Reader) (put : Put) → IsReader terms old → IsNextPut terms (progress old) put → new.reserve ≡ old.reserve → new.instant ≡ put.instant
-    → new.puts.items ≡ old.puts.items ++ put ∷ [] → AreTaken new.ends (map range_of old.puts.items ++ range_of put ∷ []) → IsReader terms new
+pub put_kept : (terms : Terms) (old new : Reader) (put : Put) → IsReader terms old → IsNextPut terms old put → new.reserve ≡ old.reserve → new.instant ≡ put.instant
+    → new.puts.items ≡ old.puts.items ++ put ∷ [] → HasTaken new.taken (map range_of old.puts.items ++ range_of put ∷ []) → IsReader terms new
 put_kept terms old new put is next same_reserve instant puts taken =
     let old_puts = old.puts.items in
     let reserve = reserve_or_none old.reserve in
@@ -77,16 +83,37 @@ put_kept terms old new put is next same_reserve instant puts taken =
           (all_weaker (λ i. i ≤ old.instant) (λ i. i ≤ put.instant) (λ i le. omega (arith, le, later)) (map (λ (p : Put). p.instant) old_puts) is.last));
       last = subst (AllByRecursion (λ i. i ≤ new.instant)) (sym instants) (all_push (λ i. i ≤ new.instant) (map (λ (p : Put). p.instant) old_puts) put.instant last (omega (arith, instant)));
       few = omega (arith, next.few, ap length puts, length_push old_puts put);
-      taken = subst (AreTaken new.ends) (sym (ap (map range_of) puts ∙ map_push range_of old_puts put)) taken;
+      taken = subst (HasTaken new.taken) (sym (ap (map range_of) puts ∙ map_push range_of old_puts put)) taken;
     }
 
 -- what was read obeys the rules
-pub rules_kept : (terms : Terms) (reader : Reader) (puts : Puts) → IsReader terms reader → accepted puts ≡ at_end (progress reader) → ArePuts terms.sectors (accepted puts)
-rules_kept terms reader puts is end = subst (ArePuts terms.sectors) (sym end) (record {
+pub rules_kept : (terms : Terms) (reader : Reader) (puts : Puts) → IsReader terms reader → AreApart (map range_of reader.puts.items) → accepted puts ≡ at_end (progress reader) → ArePuts terms.sectors (accepted puts)
+rules_kept terms reader puts is apart end = subst (ArePuts terms.sectors) (sym end) (record {
   on_disk = is.reserve.on_disk;
   few_sectors = is.reserve.few;
   each = is.each;
   rising = is.rising;
-  apart = is.taken.apart;
+  apart = apart;
   few = is.few;
 })
+
+-- known ranges are apart
+pub known_apart : (taken : Taken) (ranges : List SectorRange) → IsKnown taken → HasTaken taken ranges → AreApart ranges
+known_apart (Known ends) ranges known has = has.apart
+known_apart Unknown ranges known has = absurd known
+
+-- if the puts are apart with what a line adds, it shares no sector with those before
+step_apart : (old new : Progress) (step : Step) → new ≡ with_step old step → AreApart (map range_of new.puts) → AreApart (map range_of old.puts) × IsApart old.puts step
+step_apart old new Blank is apart = (subst (λ (p : Progress). AreApart (map range_of p.puts)) is apart, tt)
+step_apart old new (Reserve reserve) is apart = (subst (λ (p : Progress). AreApart (map range_of p.puts)) is apart, tt)
+step_apart old new (PutStep put) is apart =
+    let all = subst (λ (p : Progress). AreApart (map range_of p.puts)) is apart in
+    apart_pop (map range_of old.puts) (range_of put) (subst AreApart (map_push range_of old.puts put) all)
+
+-- so it is read as if it were judged at once
+pub line_apart : (terms : Terms) (number : ℕ) (old new : Progress) (line : List ℕ) (step : Step) → new ≡ with_step old step
+    → (IsApart old.puts step → next_read terms old (fields_of line) ≡ Ok (with_step old step)) → AreApart (map range_of new.puts)
+    → AreApart (map range_of old.puts) × (next_progress terms number old line ≡ Ok new)
+line_apart terms number old new line step is read apart =
+    let both = step_apart old new step is apart in
+    (both.0, ap (refused_as (fault_at number)) (read both.1) ∙ ap Ok (sym is))

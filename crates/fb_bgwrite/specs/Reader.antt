@@ -1,5 +1,5 @@
 -- What the reader holds of the lines so far, as the values of the definitions.
-use Rattle.std.specs.Prelude.{◌≡◌, ◌+◌, ◌*◌, ◌^◌, ◌<◌, ◌≤◌, [], length, map, false, None}
+use Rattle.std.specs.Prelude.{◌≡◌, ◌+◌, ◌*◌, ◌^◌, ◌<◌, ◌≤◌, List, [], length, map, false, None}
 use Rattle.std.specs.List.{AllByRecursion, list_any}
 use Rattle.fb_units.specs.Rising.{IsRising}
 use Rattle.fb_calls.specs.Allowed.{tasks}
@@ -14,7 +14,7 @@ use Rattle.fb_bgwrite.specs.Ranges.{share}
 use Rattle.fb_bgwrite.specs.Reading as reading
 use Rattle.fb_bgwrite.specs.Reading.{Progress, range_of, reserve_or_none, with_put, with_reserve}
 use Rattle.fb_bgwrite.specs.Rules.{IsPutOf}
-use Rattle.fb_bgwrite.specs.Taken.{AreTaken}
+use Rattle.fb_bgwrite.specs.Taken.{HasTaken, IsKnown}
 
 -- what puts are judged by
 abbrev pub terms_of : Terms → reading.Terms
@@ -47,20 +47,26 @@ pub record IsNextReserve (terms : reading.Terms) (reserve : SectorRange) : Type 
   pub untouched : AllByRecursion (λ range. share reserve range ≡ false) terms.asked
 
 -- the put may follow those so far
-pub record IsNextPut (terms : reading.Terms) (so_far : Progress) (put : Put) : Type 0 where
-  pub is : IsPutOf (reserve_or_none so_far.reserve) put
+pub record IsNextPut (terms : reading.Terms) (reader : Reader) (put : Put) : Type 0 where
+  pub is : IsPutOf (reserve_or_none reader.reserve) put
   pub on_disk : put.first + put.count ≤ terms.sectors
-  pub later : so_far.instant ≤ put.instant
-  pub apart : list_any (share (range_of put)) (map range_of so_far.puts) ≡ false
-  pub few : length so_far.puts < 10 ^ 5
+  pub later : reader.instant ≤ put.instant
+  pub apart : IsKnown reader.taken → list_any (share (range_of put)) (map range_of reader.puts.items) ≡ false
+  pub few : length reader.puts.items < 10 ^ 5
 
 -- what a line adds may come next
-abbrev pub MayFollow : reading.Terms → Progress → Step → Type 0
-MayFollow terms so_far Blank = Unit {0}
-MayFollow terms so_far (Reserve reserve) = (so_far.reserve ≡ None) × IsNextReserve terms reserve
-MayFollow terms so_far (PutStep put) = IsNextPut terms so_far put
+abbrev pub MayFollow : reading.Terms → Reader → Step → Type 0
+MayFollow terms reader Blank = Unit {0}
+MayFollow terms reader (Reserve reserve) = (reader.reserve ≡ None) × IsNextReserve terms reserve
+MayFollow terms reader (PutStep put) = IsNextPut terms reader put
 
--- the reserve may be one, the puts lie in it, in order and apart, and are kept by their ends
+-- what a line adds shares no sector with these puts
+abbrev pub IsApart : List Put → Step → Type 0
+IsApart puts Blank = Unit {0}
+IsApart puts (Reserve reserve) = Unit {0}
+IsApart puts (PutStep put) = list_any (share (range_of put)) (map range_of puts) ≡ false
+
+-- the reserve may be one, the puts lie in it, in order, and if their sectors are known, apart
 pub record IsReader (terms : reading.Terms) (reader : Reader) : Type 0 where
   pub reserve : IsNextReserve terms (reserve_or_none reader.reserve)
   pub none : reader.reserve ≡ None → reader.puts.items ≡ []
@@ -68,4 +74,4 @@ pub record IsReader (terms : reading.Terms) (reader : Reader) : Type 0 where
   pub rising : IsRising (map (λ put. put.instant) reader.puts.items)
   pub last : AllByRecursion (λ instant. instant ≤ reader.instant) (map (λ put. put.instant) reader.puts.items)
   pub few : length reader.puts.items ≤ 10 ^ 5
-  pub taken : AreTaken reader.ends (map range_of reader.puts.items)
+  pub taken : HasTaken reader.taken (map range_of reader.puts.items)

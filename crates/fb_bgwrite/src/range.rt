@@ -1,5 +1,5 @@
 // Ranges of sectors.
-ghost use Rattle.std.specs.Prelude.{◌≡◌, ◌+◌, ◌≤◌, ◌^◌};
+ghost use Rattle.std.specs.Prelude.{◌≡◌, ◌+◌, ◌≤◌, ◌^◌, true};
 ghost use Rattle.fb_bgwrite.specs.Ranges.{lies_in, share};
 
 /// Sectors that follow one another.
@@ -21,6 +21,13 @@ impl SectorRange {
         } else {
             self.count > 0 && self.first - other.first < other.count
         }
+    }
+
+    /// Whether this range ends before the other one begins.
+    pub fn ends_before(self, other: SectorRange) -> bool
+        ensures { result ≡ true → self.first + self.count ≤ other.first }
+    {
+        self.first <= other.first && self.count <= other.first - self.first
     }
 
     /// Whether all sectors of this range are in another one.

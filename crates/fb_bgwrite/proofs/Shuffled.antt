@@ -1,0 +1,100 @@
+-- Ranges that share no sector, in another order.
+use Rattle.std.proofs.Common.{◌≡◌, ℕ, ◌+◌, ◌<◌, ◌≤◌, List, [], ◌∷◌, true, false, max, if◌then◌else◌, inl, inr, refl, sym, ap, ◌∙◌, arith}
+use Rattle.std.specs.Prelude.{IsPermutation}
+use Rattle.std.specs.List.{AllByRecursion, sum_by}
+use Rattle.std.proofs.lemmas.Bool.{cases_Bool, true≢false}
+use Rattle.std.proofs.lemmas.List.Sorted.{sum_by-IsPermutation}
+use Rattle.std.proofs.lemmas.List.Sums.{sum_by-cons}
+use Rattle.fb_calls.proofs.Lists.{all_weaker}
+use Rattle.fb_bgwrite.specs.declared.range.SectorRange.{SectorRange}
+use Rattle.fb_bgwrite.specs.Ranges.{share, AreApart}
+use Rattle.fb_bgwrite.proofs.Lists.{all_of, at_all}
+use Rattle.fb_bgwrite.proofs.TakenRanges.{is_shares, not_share, shares_is}
+
+abbrev sector : ℕ → SectorRange
+sector lbn = record { first = lbn; count = 1 }
+
+-- 1 for a range that has the sector
+abbrev has : ℕ → SectorRange → ℕ
+has lbn range = if share (sector lbn) range then 1 else 0
+
+has_it : (lbn : ℕ) (range : SectorRange) → range.first ≤ lbn → lbn < range.first + range.count → share (sector lbn) range ≡ true
+has_it lbn range from before = is_shares (sector lbn) range before (omega arith) (omega arith) (omega arith)
+
+one_more : (lbn : ℕ) (range : SectorRange) (others : List SectorRange) → share (sector lbn) range ≡ true → sum_by (has lbn) (range ∷ others) ≡ 1 + sum_by (has lbn) others
+one_more lbn range others its = sum_by-cons (has lbn) range others ∙ ap (λ b. (if b then 1 else 0) + sum_by (has lbn) others) its
+
+as_many : (lbn : ℕ) (range : SectorRange) (others : List SectorRange) → share (sector lbn) range ≡ false → sum_by (has lbn) (range ∷ others) ≡ sum_by (has lbn) others
+as_many lbn range others off =
+    let none : sum_by (has lbn) (range ∷ others) ≡ 0 + sum_by (has lbn) others = sum_by-cons (has lbn) range others ∙ ap (λ b. (if b then 1 else 0) + sum_by (has lbn) others) off in
+    omega (arith, none)
+
+-- the others don't have a sector of a range that shares none with them
+none_has : (lbn : ℕ) (range : SectorRange) (others : List SectorRange) → share (sector lbn) range ≡ true → AllByRecursion (λ other. share range other ≡ false) others
+    → sum_by (has lbn) others ≡ 0
+none_has lbn range [] its apart = refl
+none_has lbn range (other ∷ others) its apart =
+    let is = shares_is (sector lbn) range its in
+    as_many lbn other others (not_share (sector lbn) other (λ has.
+    let both = is_shares range other (omega (arith, is.behind, has.before)) (omega (arith, has.behind, is.before)) is.some_other has.some_other in
+    true≢false (sym both ∙ apart.0)))
+    ∙ none_has lbn range others its apart.1
+
+-- no sector is in two of them
+once : (lbn : ℕ) (ranges : List SectorRange) → AreApart ranges → sum_by (has lbn) ranges ≤ 1
+once lbn [] apart = omega arith
+once lbn (range ∷ ranges) apart = elim (cases_Bool (share (sector lbn) range)) [
+  | inl its ↦ let none = none_has lbn range ranges its apart.0 in let more = one_more lbn range ranges its in omega (arith, none, more)
+  | inr off ↦ let same = as_many lbn range ranges off in let few = once lbn ranges apart.1 in omega (arith, same, few)
+]
+
+all_off : (lbn : ℕ) (ranges : List SectorRange) → sum_by (has lbn) ranges ≡ 0 → AllByRecursion (λ range. share (sector lbn) range ≡ false) ranges
+all_off lbn [] none = tt
+all_off lbn (range ∷ ranges) none = elim (cases_Bool (share (sector lbn) range)) [
+  | inl its ↦ let more = one_more lbn range ranges its in absurd (omega (arith, none, more))
+  | inr off ↦ (off, all_off lbn ranges (sym (as_many lbn range ranges off) ∙ none))
+]
+
+-- a range that has a sector with another one has the one where the later of them begins
+off_others : (range : SectorRange) (ranges : List SectorRange) → ((lbn : ℕ) → sum_by (has lbn) (range ∷ ranges) ≤ 1) → AllByRecursion (λ other. share range other ≡ false) ranges
+off_others range ranges few = all_of (λ other. share range other ≡ false) ranges (λ k other at. not_share range other (λ shares.
+    let lbn = max range.first other.first in
+    let more = one_more lbn range ranges (has_it lbn range (omega arith) (omega (arith, shares.behind, shares.some))) in
+    let one = few lbn in
+    let off = at_all (λ other. share (sector lbn) other ≡ false) ranges k other (all_off lbn ranges (omega (arith, more, one))) at in
+    true≢false (sym (has_it lbn other (omega arith) (omega (arith, shares.before, shares.some_other))) ∙ off)))
+
+apart_if_once : (ranges : List SectorRange) → ((lbn : ℕ) → sum_by (has lbn) ranges ≤ 1) → AreApart ranges
+apart_if_once [] few = tt
+apart_if_once (range ∷ ranges) few = (
+  off_others range ranges few,
+  apart_if_once ranges (λ lbn.
+      let one = few lbn in
+      let sum = sum_by-cons (has lbn) range ranges in
+      omega (arith, one, sum)),
+)
+
+-- in another order they are apart too
+pub apart_shuffled : (xs ys : List SectorRange) → IsPermutation xs ys → AreApart ys → AreApart xs
+apart_shuffled xs ys moved apart = apart_if_once xs (λ lbn.
+    let same = sum_by-IsPermutation (has lbn) xs ys moved in
+    let few = once lbn ys apart in
+    omega (arith, same, few))
+
+-- the first of the ranges begins behind this one, and each other one behind the one before it
+abbrev pub AreBehind : SectorRange → List SectorRange → Type 0
+AreBehind last [] = Unit {0}
+AreBehind last (range ∷ ranges) = (last.first + last.count ≤ range.first) × AreBehind range ranges
+
+all_behind : (end : ℕ) (last : SectorRange) (ranges : List SectorRange) → end ≤ last.first + last.count → AreBehind last ranges → AllByRecursion (λ range. end ≤ range.first) ranges
+all_behind end last [] upto behind = tt
+all_behind end last (range ∷ ranges) upto behind = let first = behind.0 in (omega (arith, upto, first), all_behind end range ranges (omega (arith, upto, first)) behind.1)
+
+-- so they are apart
+pub behind_apart : (last : SectorRange) (ranges : List SectorRange) → AreBehind last ranges → AreApart ranges
+behind_apart last [] behind = tt
+behind_apart last (range ∷ ranges) behind = (
+  all_weaker (λ (other : SectorRange). range.first + range.count ≤ other.first) (λ other. share range other ≡ false) (λ other later. not_share range other (λ shares. let over = shares.behind in omega (arith, later, over)))
+      ranges (all_behind (range.first + range.count) range ranges (omega arith) behind.1),
+  behind_apart range ranges behind.1,
+)

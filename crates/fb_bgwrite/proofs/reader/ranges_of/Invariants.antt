@@ -1,0 +1,6 @@
+use Rattle.std.proofs.Common.{◌≡◌, map, take}
+use Rattle.fb_bgwrite.specs.Reading.{range_of}
+use Rattle.fb_bgwrite.proofs.reader.ranges_of.Given as goal
+
+abbrev pub invariant-loop-put : goal.invariant-loop-put
+invariant-loop-put l = l.ranges.items ≡ map range_of (take l.put-index l.puts)
