@@ -1,13 +1,11 @@
 -- What a history has registered: blocks that have sectors, and for a backup those of one range.
-use Rattle.std.proofs.Common.{◌≡◌, ℕ, zero, suc, ◌<◌, ◌≤◌, ◌==◌, List, [], ◌∷◌, ◌++◌, Bool, true, false, inl, inr, length, length-append, drop, filter, map, append-nil, refl, ap, sym, ◌∙◌, subst, arith}
+use Rattle.std.proofs.Common.{◌≡◌, ℕ, zero, suc, ◌<◌, ◌≤◌, ◌==◌, List, [], ◌∷◌, ◌++◌, Bool, true, false, inl, inr, length, length-append, drop, append-nil, refl, ap, sym, ◌∙◌, subst, arith}
 use Rattle.std.specs.Prelude.{◌&&◌, not, if◌then◌else◌}
 use Rattle.std.specs.List.{AllByRecursion, fold, best_of, slice_index_or}
 use Rattle.std.proofs.Math.Bool.{or-true}
 use Rattle.std.proofs.lemmas.Bool.{cases_Bool, cases_lt, true≢false, and_parts, or_parts}
-use Rattle.std.proofs.lemmas.Bool.Decides.{nat_tests}
 use Rattle.std.proofs.lemmas.List.Elements.{filter-append}
 use Rattle.std.proofs.lemmas.List.Folds.{list_any-append}
-use Rattle.fb_units.specs.Rising.{IsRising}
 use Rattle.fb_geometry.specs.Shape.{Shape}
 use Rattle.fb_geometry.specs.Places.{places}
 use Rattle.fb_sectormap.specs.declared.cut.Cut.{Cut}
@@ -61,7 +59,8 @@ after_first zero (y ∷ xs) x rest h = cc
 after_first (suc n) [] x rest h = cc
 after_first (suc n) (y ∷ xs) x rest h = after_first n xs x rest h
 
-after_taken : (calls taken : List Call) (call : Call) (rest : List Call) → drop (length taken) calls ≡ call ∷ rest → drop (length (taken ++ call ∷ [])) calls ≡ rest
+after_taken : (calls taken : List Call) (call : Call) (rest : List Call) → drop (length taken) calls ≡ call ∷ rest
+    → drop (length (taken ++ call ∷ [])) calls ≡ rest
 after_taken calls taken call rest next =
     let count : length (taken ++ call ∷ []) ≡ suc (length taken) = omega (arith, length-append taken (call ∷ [])) in
     ap (λ n. drop n calls) count ∙ after_first (length taken) calls call rest next

@@ -1,14 +1,14 @@
 -- Calls take effect one after another, and other events leave them as they are.
-use Rattle.std.proofs.Common.{◌≡◌, ℕ, zero, suc, ◌+◌, ◌*◌, ◌^◌, ◌<◌, ◌≤◌, List, [], ◌∷◌, Some, length, drop, filter, map, refl, ap, sym, ◌∙◌, arith, subst}
+use Rattle.std.proofs.Common.{◌≡◌, ℕ, zero, suc, ◌+◌, ◌*◌, ◌^◌, ◌<◌, ◌≤◌, List, [], ◌∷◌, Some, drop, filter, map, refl, ap, sym, ◌∙◌, arith, subst}
 use Rattle.std.specs.Prelude.{slice_get, IfSome}
-use Rattle.std.specs.List.{AllByRecursion, fold}
+use Rattle.std.specs.List.{fold}
 use Rattle.fb_units.specs.Rising.{IsRising}
 use Rattle.fb_geometry.specs.Shape.{Shape}
 use Rattle.fb_calls.specs.declared.call.Call.{Call}
 use Rattle.fb_calls.specs.Allowed.{blocks_from}
 use Rattle.fb_wanted.specs.declared.block.Entry.{Entry}
 use Rattle.fb_rows.specs.declared.back.DeliveryRow.{DeliveryRow}
-use Rattle.fb_model.specs.History.{Past, calls_of}
+use Rattle.fb_model.specs.History.{Past}
 use Rattle.fb_model.specs.Steps.{take_call, calls_due, with_delivery}
 use Rattle.fb_tasks.specs.declared.session.Session.{Session}
 use Rattle.fb_tasks.specs.Taken.{delivery_of}

@@ -9,7 +9,7 @@ use Rattle.fb_model.specs.Content.{Medium, contents_at}
 use Rattle.fb_model.specs.Decisions.{Decision, instant_of}
 use Rattle.fb_model.specs.Rides.{due}
 use Rattle.fb_model.specs.SoundRun.{HasPlan}
-use Rattle.fb_model.proofs.Due.{IsDueRow, due_bytes, due_true}
+use Rattle.fb_model.proofs.Due.{IsDueRow, due_block, due_bytes, due_true}
 use Rattle.fb_model.proofs.DecisionsUpTo.{IsMade}
 use Rattle.fb_model.proofs.HistoriesUpTo.{HasSector}
 use Rattle.fb_model.proofs.DueUpTo.{DeliversBy, due_between, same_due}
@@ -20,18 +20,30 @@ use Rattle.fb_decide.proofs.Delivering.{row-is}
 use Rattle.fb_tasks.proofs.Lists.{all_weaker}
 
 -- the deliveries that are due are those that the disk gives as it is
-pub due_same : (medium : Medium) (holding : Holding) (decision : Decision) (plan : Plan) (to : ℕ) (blocks : List Block) → IsMade medium.disk decision → HasPlan medium.disk decision plan → DeliversBy to decision
+pub due_same : (medium : Medium) (holding : Holding) (decision : Decision) (plan : Plan) (to : ℕ) (blocks : List Block)
+    → IsMade medium.disk decision → HasPlan medium.disk decision plan → DeliversBy to decision
     → AllByRecursion HasSector blocks → Mirrors medium holding (instant_of decision) to
     → due medium.disk (held_now holding) decision plan blocks ≡ due medium.disk (contents_at medium) decision plan blocks
 due_same medium holding decision plan to blocks made is over some mirrors =
-    same_due medium.disk (held_now holding) (contents_at medium) (instant_of decision) to (mirrored medium holding (instant_of decision) to mirrors) decision plan blocks made is (omega arith) over some
+    let agree = mirrored medium holding (instant_of decision) to mirrors in
+    same_due medium.disk (held_now holding) (contents_at medium) (instant_of decision) to agree decision plan blocks made is (omega arith) over some
 
 -- and each lies within the decision
-pub due_found : (disk : Disk) (holding : Holding) (decision : Decision) (plan : Plan) (to : ℕ) (blocks : List Block) → IsMade disk decision → HasPlan disk decision plan → DeliversBy to decision
-    → AllByRecursion HasSector blocks → AllByRecursion (IsFoundIn holding (instant_of decision) to) (due disk (held_now holding) decision plan blocks)
-due_found disk holding decision plan to blocks made is over some = all_weaker (IsDueRow disk (held_now holding) decision plan HasSector) (IsFoundIn holding (instant_of decision) to)
+pub due_found : (disk : Disk) (holding : Holding) (decision : Decision) (plan : Plan) (to : ℕ) (blocks : List Block)
+    → IsMade disk decision → HasPlan disk decision plan → DeliversBy to decision
+    → AllByRecursion HasSector blocks
+    → AllByRecursion (IsFoundIn holding (instant_of decision) to) (due disk (held_now holding) decision plan blocks)
+due_found disk holding decision plan to blocks made is over some =
+    let held = held_now holding in
+    all_weaker (IsDueRow disk held decision plan HasSector) (IsFoundIn holding (instant_of decision) to)
     (λ row due_row.
-    let lies = due_between disk (held_now holding) decision plan to made is over row due_row in
-    let bytes = due_bytes disk (held_now holding) decision plan HasSector row due_row in
-    record { row = row-is holding row.how row.block row.begin row.end row.bad row.content bytes.content bytes.bad; begin = lies.begins; order = lies.in_turn; end = lies.ends })
-    (due disk (held_now holding) decision plan blocks) (due_true disk (held_now holding) decision plan HasSector blocks some)
+    let block = due_block disk held decision plan HasSector row due_row in
+    let lies = due_between disk held decision plan HasSector to made is over row block due_row in
+    let bytes = due_bytes disk held decision plan HasSector row due_row in
+    record {
+      row = row-is holding row.how row.block row.begin row.end row.bad row.content bytes.content bytes.bad;
+      begin = lies.begins;
+      order = lies.in_turn;
+      end = lies.ends;
+    })
+    (due disk held decision plan blocks) (due_true disk held decision plan HasSector blocks some)

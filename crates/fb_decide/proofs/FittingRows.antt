@@ -65,7 +65,8 @@ contents_within : (medium : Medium) (lbn n t : ℕ) → lbn + n ≤ 10 ^ 12 → 
 contents_within medium lbn n t h = all_map IsOnDisk (λ sector. (sector, content medium sector t)) (range_with_len lbn n)
     (all_range (λ sector. sector + 1 ≤ 10 ^ 12) lbn n (λ k from below. omega (arith, h, below)))
 
-held_within : (medium : Medium) (past : Past) (block : Block) → block.lbn + block.count ≤ 10 ^ 12 → AllByRecursion IsOnDisk (held_at_delivery medium past block)
+held_within : (medium : Medium) (past : Past) (block : Block) → block.lbn + block.count ≤ 10 ^ 12
+    → AllByRecursion IsOnDisk (held_at_delivery medium past block)
 held_within medium [] block h = tt
 held_within medium (delivered row ∷ past) block h = elim (cases_Bool (same_block row.block block)) [
   | inl own ↦ rw own (contents_within medium block.lbn block.count row.begin h)
@@ -73,8 +74,11 @@ held_within medium (delivered row ∷ past) block h = elim (cases_Bool (same_blo
 ]
 held_within medium (_ ∷ past) block h = held_within medium past block h
 
-blocks_within : (sectors : Block → List (ℕ × Content)) → ((block : Block) → block.lbn + block.count ≤ 10 ^ 12 → AllByRecursion IsOnDisk (sectors block)) → (blocks : List Block)
-    → AllByRecursion (λ (block : Block). block.lbn + block.count ≤ 10 ^ 12) blocks → AllByRecursion IsOnDisk (flat_map sectors blocks)
+blocks_within : (sectors : Block → List (ℕ × Content))
+    → ((block : Block) → block.lbn + block.count ≤ 10 ^ 12 → AllByRecursion IsOnDisk (sectors block))
+    → (blocks : List Block)
+    → AllByRecursion (λ (block : Block). block.lbn + block.count ≤ 10 ^ 12) blocks
+    → AllByRecursion IsOnDisk (flat_map sectors blocks)
 blocks_within sectors each blocks all = flat_all IsOnDisk sectors blocks
     (all_weaker (λ (block : Block). block.lbn + block.count ≤ 10 ^ 12) (λ block. AllByRecursion IsOnDisk (sectors block)) each blocks all)
 

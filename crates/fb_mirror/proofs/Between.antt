@@ -9,22 +9,17 @@ use Rattle.fb_geometry.specs.Sound.{IsSound}
 use Rattle.fb_service.specs.declared.disk.Disk.{Disk}
 use Rattle.fb_calls.proofs.Lists.{all_weaker}
 use Rattle.fb_wanted.specs.declared.block.Block.{Block}
-use Rattle.fb_rows.specs.declared.gap.Dwell.{Dwell}
-use Rattle.fb_rows.specs.declared.gap.How.{How}
 use Rattle.fb_rows.specs.declared.gap.Plan.{Plan}
-use Rattle.fb_rows.specs.declared.gap.Plan.TheVariants.{Direct, Detour}
 use Rattle.fb_rows.specs.declared.back.DeliveryRow.{DeliveryRow}
 use Rattle.fb_model.specs.PlainReplay.{Served, finish, last_track, media}
 use Rattle.fb_model.specs.Content.{contents_at, Medium, Written, writes_of}
-use Rattle.fb_model.specs.Plans.{IsPlan, early_dwell, late_dwell}
 use Rattle.fb_model.specs.Decisions.{Decision, serves, idles, ends, instant_of, idle_until, last_decision, decisions_from}
-use Rattle.fb_model.specs.Rides.{gap_of}
 use Rattle.fb_model.specs.SoundRun.{HasPlan}
 use Rattle.fb_model.proofs.Lists.{all_append, is_by}
-use Rattle.fb_model.proofs.Due.{HasBytes, IsCaughtIn, IsDueRow}
-use Rattle.fb_model.proofs.Passages.{IsServiceOf, LiesOnDisk, block_passes, media_by}
-use Rattle.fb_model.proofs.DecisionsUpTo.{greatest_from}
-use Rattle.fb_model.proofs.DueUpTo.{begins_later, ends_behind, ends_in_time}
+use Rattle.fb_model.proofs.Due.{IsDueRow}
+use Rattle.fb_model.proofs.Passages.{IsServiceOf, LiesOnDisk, media_by}
+use Rattle.fb_model.proofs.DecisionsUpTo.{IsMade, greatest_from}
+use Rattle.fb_model.proofs.DueUpTo.{LiesBetween, DeliversBy, due_between}
 use Rattle.fb_mirror.proofs.Writing.{AreServed, all_late, all_writes, ended, free_until, free_within, late}
 
 -- from one instant to another nothing is written: what the first services write has passed by then, and what the others write passes later
@@ -152,28 +147,6 @@ module _ (disk : Disk) (sound : IsSound disk.map) where
 
 -- ---- deliveries
 
--- a delivery from one instant to another, with the bytes of its beginning
-pub record LiesBetween (medium : Medium) (from to : ℕ) (row : DeliveryRow) : Type 0 where
-  pub begins : from ≤ row.begin
-  pub in_turn : row.begin ≤ row.end
-  pub ends_by : row.end ≤ to
-  pub bytes : HasBytes (contents_at medium) row
-
-dwells_within : (disk : Disk) (served : Served) (plan : Plan) → IsPlan disk (gap_of disk served) plan
-    → (served.start ≤ (early_dwell disk (gap_of disk served) plan).begin) × ((early_dwell disk (gap_of disk served) plan).end ≤ media served) × (served.start ≤ (late_dwell disk (gap_of disk served) plan).begin)
-    × ((late_dwell disk (gap_of disk served) plan).end ≤ media served)
-dwells_within disk served (Direct leave) is = let now = is.0 in let in_time = is.1 in (omega arith, omega arith, omega arith, omega arith)
-dwells_within disk served (Detour track leave) is = let after = is.after_arrival in let in_time = is.in_time in (omega arith, omega arith, omega arith, omega arith)
-
-caught_between : (medium : Medium) (how : How) (dwell : Dwell) (from to : ℕ) (Q : Block → Type 0) (row : DeliveryRow) → from ≤ dwell.begin → dwell.end ≤ to → IsCaughtIn medium.disk (contents_at medium) how dwell Q row → LiesBetween medium from to row
-caught_between medium how dwell from to Q row after before is =
-    let begin = is.begin in
-    let end = is.end in
-    let later = begins_later medium.disk row.block dwell.begin in
-    let behind = ends_behind medium.disk row.block dwell.begin in
-    let in_time = ends_in_time medium.disk dwell row.block is.caught in
-    record { begins = omega (arith, begin, later, after); in_turn = omega (arith, begin, end, behind); ends_by = omega (arith, end, in_time, before); bytes = is.bytes }
-
 -- a read is over at its finish, and a write begins to pass at its media
 media_free : (served : Served) → media served ≤ finish served → media served ≤ free_until served
 media_free served order = by served.request.write
@@ -185,21 +158,21 @@ media_free served order = by served.request.write
 read_free : (served : Served) → served.request.write ≡ false → finish served ≤ free_until served
 read_free served reads = rw reads (omega arith)
 
+quiet_delivers : (disk : Disk) (decision : Decision) → IsOfDisk disk decision → DeliversBy (quiet_until decision) decision
+quiet_delivers disk (serves served) of_disk = (media_free served (media_by disk served of_disk.0), read_free served)
+quiet_delivers disk (idles dwell) of_disk = omega arith
+quiet_delivers disk (ends now) of_disk = tt
+
+made_of : (disk : Disk) (decision : Decision) → IsOfDisk disk decision → IsMade disk decision
+made_of disk (serves served) of_disk = of_disk.0
+made_of disk (idles dwell) of_disk = tt
+made_of disk (ends now) of_disk = tt
+
 -- what is due at a decision is delivered before the decision writes
-pub due_between : (medium : Medium) (decision : Decision) (plan : Plan) (Q : Block → Type 0) → IsOfDisk medium.disk decision → HasPlan medium.disk decision plan → (row : DeliveryRow) → 0 < row.block.count
-    → IsDueRow medium.disk (contents_at medium) decision plan Q row → LiesBetween medium (instant_of decision) (quiet_until decision) row
-due_between medium (serves served) plan Q of_disk is row some due_row =
-    let dwell = dwells_within medium.disk served plan is in
-    let free = media_free served (media_by medium.disk served of_disk.0) in
-    elim due_row [
-      | inl early ↦ caught_between medium _ (early_dwell medium.disk (gap_of medium.disk served) plan) served.start (free_until served) Q row dwell.0 (omega (arith, dwell.1, free)) early
-      | inr others ↦ elim others [
-        | inl late ↦ caught_between medium _ (late_dwell medium.disk (gap_of medium.disk served) plan) served.start (free_until served) Q row dwell.2 (omega (arith, dwell.3, free)) late
-        | inr ride ↦
-            let passes = block_passes medium.disk served row.block of_disk.0 some ride.inside in
-            let over = read_free served ride.read in
-            record { begins = omega (arith, passes.0, ride.begin); in_turn = omega (arith, passes.1, ride.begin, ride.end); ends_by = omega (arith, passes.2, ride.end, over); bytes = ride.bytes }
-      ]
-    ]
-due_between medium (idles dwell) plan Q of_disk is row some due_row = caught_between medium _ dwell dwell.begin dwell.end Q row (omega arith) (omega arith) due_row
-due_between medium (ends now) plan Q of_disk is row some due_row = absurd due_row
+pub due_quiet : (medium : Medium) (decision : Decision) (plan : Plan) (Q : Block → Type 0)
+    → IsOfDisk medium.disk decision → HasPlan medium.disk decision plan → (row : DeliveryRow) → 0 < row.block.count
+    → IsDueRow medium.disk (contents_at medium) decision plan Q row
+    → LiesBetween (instant_of decision) (quiet_until decision) row
+due_quiet medium decision plan Q of_disk is row some due_row =
+    due_between medium.disk (contents_at medium) decision plan Q (quiet_until decision)
+    (made_of medium.disk decision of_disk) is (quiet_delivers medium.disk decision of_disk) row some due_row

@@ -1,6 +1,6 @@
 -- Whatever blocks a run registers are sectors of its disk.
 use Rattle.std.proofs.Common.{◌≡◌, ℕ, zero, suc, ◌+◌, ◌*◌, ◌<◌, ◌≤◌, List, [], ◌∷◌, ◌++◌, length, map, drop, Bool, true, false, refl, ap, sym, subst, ◌∙◌, arith, inl, inr, append-nil, append_assoc, nat_le}
-use Rattle.std.specs.Prelude.{filter, ◌&&◌, ◌==◌, not, if◌then◌else◌}
+use Rattle.std.specs.Prelude.{◌&&◌, ◌==◌, not, if◌then◌else◌}
 use Rattle.std.specs.List.{AllByRecursion, best_of, fold, slice_index_or}
 use Rattle.std.proofs.lemmas.Bool.{cases_Bool, eqb-true}
 use Rattle.std.proofs.lemmas.Bool.Decides.{nat_tests}

@@ -24,13 +24,12 @@ use Rattle.fb_model.specs.Laws.{ForegroundListsAscend, OnePlainReplay}
 use Rattle.fb_model.specs.PlainReplay.{Served, finish}
 use Rattle.fb_model.specs.SoundRun.{IsDelivered, IsTested}
 use Rattle.fb_model.specs.Steps.{AtEach, Delivery, Part, part_rows, past_after, settled_past, steps}
-use Rattle.fb_model.proofs.Due.{HasBytes, IsDueRow, due_bytes, delivery_true}
+use Rattle.fb_model.proofs.Due.{HasBytes, IsDueRow, due_block, due_bytes, delivery_true}
 use Rattle.fb_model.proofs.Lists.{all_append}
 use Rattle.fb_mirror.specs.Replacement.{IsWithin, deliveries_in, events, writes_in}
 use Rattle.fb_mirror.specs.Survivor.{sectors}
 use Rattle.fb_mirror.proofs.LaidBlocks.{AreLaid, LiesOn, laid_after, laid_first, laid_settled, wanted_lies}
 use Rattle.fb_mirror.proofs.RunRows.{NoFact, RowsFit, back_fits, gots_fit_part}
-use Rattle.fb_mirror.proofs.Survival.{due_block}
 use Rattle.fb_mirror.proofs.Writing.{AreServed, are_served}
 
 -- ---- writes
@@ -76,7 +75,7 @@ steps_within inputs medium rising past [] laid some tests = tt
 steps_within inputs medium rising past (step ∷ steps) laid some tests = (
   gots_fit_part (EndsOn (sectors inputs)) inputs medium past step tests.0
       (all_weaker (IsDueRow medium.disk (contents_at medium) step.0 step.1.plan (LiesOn inputs.disk.map)) (EndsOn (sectors inputs))
-      (λ row due_row. ends_on medium (sectors inputs) row (due_bytes medium.disk (contents_at medium) step.0 step.1.plan (LiesOn inputs.disk.map) row due_row) (due_block medium step.0 step.1.plan (LiesOn inputs.disk.map) row due_row))
+      (λ row due_row. ends_on medium (sectors inputs) row (due_bytes medium.disk (contents_at medium) step.0 step.1.plan (LiesOn inputs.disk.map) row due_row) (due_block medium.disk (contents_at medium) step.0 step.1.plan (LiesOn inputs.disk.map) row due_row))
       (map (λ (delivery : Delivery). delivery.got) step.1.deliveries)
       (delivery_true inputs medium past step (LiesOn inputs.disk.map) some.0 (wanted_lies inputs rising (settled_past inputs past step.0) (laid_settled inputs rising past step.0 laid)))),
   steps_within inputs medium rising (past_after inputs past step) steps (laid_after inputs rising past step laid) some.1 tests.1,

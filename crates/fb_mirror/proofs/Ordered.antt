@@ -111,13 +111,15 @@ all_made P Q test f each (block ∷ blocks) all = elim (cases_Bool (test block))
   | inr dropped ↦ rw dropped (all_made P Q test f each blocks all.1)
 ]
 
-caught_ascend : (medium : Medium) (how : How) (dwell : Dwell) (blocks : List Block) → AllByRecursion HasSector blocks → Ascend dwell.begin (caught medium.disk (contents_at medium) how dwell blocks)
+caught_ascend : (medium : Medium) (how : How) (dwell : Dwell) (blocks : List Block) → AllByRecursion HasSector blocks
+    → Ascend dwell.begin (caught medium.disk (contents_at medium) how dwell blocks)
 caught_ascend medium how dwell blocks all = ascend_ordered dwell.begin
     (map (λ block. delivery (contents_at medium) how block (block_begin medium.disk.map block dwell.begin) (block_end medium.disk.map block dwell.begin)) (filter (catches medium.disk dwell) blocks)) []
     (all_made (λ (row : DeliveryRow). dwell.begin ≤ row.end) HasSector (catches medium.disk dwell) (λ block. delivery (contents_at medium) how block (block_begin medium.disk.map block dwell.begin) (block_end medium.disk.map block dwell.begin))
     (λ block some is. let later = begins_later medium.disk block dwell.begin in let behind = ends_behind medium.disk block dwell.begin in omega (arith, later, behind)) blocks all) tt
 
-caught_by : (medium : Medium) (how : How) (dwell : Dwell) (blocks : List Block) → AllByRecursion HasSector blocks → EndBy dwell.end (caught medium.disk (contents_at medium) how dwell blocks)
+caught_by : (medium : Medium) (how : How) (dwell : Dwell) (blocks : List Block) → AllByRecursion HasSector blocks
+    → EndBy dwell.end (caught medium.disk (contents_at medium) how dwell blocks)
 caught_by medium how dwell blocks all = all_weaker (IsCaughtIn medium.disk (contents_at medium) how dwell HasSector) (λ (row : DeliveryRow). row.end ≤ dwell.end)
     (λ row is. let end = is.end in let in_time = ends_in_time medium.disk dwell row.block is.caught in omega (arith, end, in_time))
     (caught medium.disk (contents_at medium) how dwell blocks) (caught_true medium.disk (contents_at medium) how dwell HasSector blocks all)
@@ -141,7 +143,8 @@ ride_end disk served block is some lies =
     (all_weaker _ _ (λ (p : Passage) h. omega (arith, h.0, h.1.1)) ps (all_both _ _ ps (begun_after disk served.source served.start served.request.write served.request.lbn served.request.count)
     (passed_between disk served.source served.start served.request.write served.request.lbn served.request.count).1)))
 
-rides_ascend : (medium : Medium) (served : Served) (blocks : List Block) → IsServiceOf medium.disk served → AllByRecursion HasSector blocks → Ascend (media served) (rides (contents_at medium) served blocks)
+rides_ascend : (medium : Medium) (served : Served) (blocks : List Block) → IsServiceOf medium.disk served
+    → AllByRecursion HasSector blocks → Ascend (media served) (rides (contents_at medium) served blocks)
 rides_ascend medium served blocks is all = by served.request.write
   where
     by : (write : Bool) → Ascend (media served) (if write then [] else in_order (map (λ block. delivery (contents_at medium) ByRide block (begin_at served.passages block.lbn) (end_at served.passages (block.lbn + block.count - 1))) (filter (lies_in served.request) blocks)))

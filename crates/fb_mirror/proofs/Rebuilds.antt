@@ -33,21 +33,21 @@ use Rattle.fb_model.specs.PlainReplay.{Served, first_track}
 use Rattle.fb_model.specs.Segments.{numbered}
 use Rattle.fb_model.specs.SoundRun.{IsDelivered, IsPlanned, IsTested}
 use Rattle.fb_model.specs.Steps.{AtEach, Part, part_rows, past_after, settled_past}
-use Rattle.fb_model.proofs.Due.{HasBytes, IsDueRow, delivery_true}
+use Rattle.fb_model.proofs.Due.{HasBytes, IsDueRow, due_block, delivery_true}
 use Rattle.fb_model.proofs.Lists.{all_both, by_is, same_map_where}
 use Rattle.fb_model.proofs.HistoriesUpTo.{HasSector}
 use Rattle.fb_mirror.specs.Replacement.{Event, decided, deliveries_in, events, given, held_after, later, sealed_in, writes_in}
 use Rattle.fb_mirror.specs.Script.{rebuild_calls}
 use Rattle.fb_mirror.specs.Survivor.{CoveredSectorsAreTheSurvivors, CoveredSectorsAreTheSurvivorsAtRest, IsAtRest, IsWhole, events_by, sectors, survives}
 use Rattle.fb_mirror.proofs.AtRest.{by_then}
-use Rattle.fb_mirror.proofs.Between.{IsPlaced, decisions_placed, due_between, quiet_until}
+use Rattle.fb_mirror.proofs.Between.{IsPlaced, decisions_placed, due_quiet, quiet_until}
 use Rattle.fb_mirror.proofs.Covering.{range_long}
 use Rattle.fb_mirror.proofs.CutCover.{HoldsIn, cuts_hold}
 use Rattle.fb_mirror.proofs.EventLaws.{none_some, same_one}
 use Rattle.fb_mirror.proofs.Ordered.{AreInTurn, NoEarlier, decisions_in_turn, due_ascends}
 use Rattle.fb_mirror.proofs.RebuildPast.{IsOneOf, IsRebuilding, IsUnderWay, after_rebuilds, complete_delivered, disk_blocks, disk_ones, disk_some, rebuilding_more, rebuilding_weaker, settled_rebuilds, wanted_have}
 use Rattle.fb_mirror.proofs.RunRows.{AreLinked, IsKept, NoFact, RowsFit, back_fits, gots, gots_of_back, part_fits, rows_weaker}
-use Rattle.fb_mirror.proofs.Survival.{IsFoundIn, back_found, decided-append, due_block, event_of}
+use Rattle.fb_mirror.proofs.Survival.{IsFoundIn, back_found, decided-append, event_of}
 use Rattle.fb_mirror.proofs.Writing.{are_served, medium_with}
 
 -- ---- what deliveries cover
@@ -191,11 +191,11 @@ module _ (inputs : Inputs) (replay : List Served) (rows : List BackRow) (calls :
         let One = IsOneOf (disk_blocks inputs.disk.map) in
         let due = delivery_true inputs survivor past step One some (wanted_have (IsCopiedBy (instant_of step.0)) inputs.disk.map (settled_past inputs past step.0) One settled_then (disk_ones inputs.disk.map)) in
         all_both (λ row. One row.block) (CoversIn keep rows) (gots step.1)
-        (all_weaker (IsDueRow survivor.disk (contents_at survivor) step.0 step.1.plan One) (λ row. One row.block) (λ row due_row. due_block survivor step.0 step.1.plan One row due_row) (gots step.1) due) cover
+        (all_weaker (IsDueRow survivor.disk (contents_at survivor) step.0 step.1.plan One) (λ row. One row.block) (λ row due_row. due_block survivor.disk (contents_at survivor) step.0 step.1.plan One row due_row) (gots step.1) due) cover
 
     got_by : (bound : ℕ) → quiet_until step.0 ≤ bound → AllByRecursion (λ (row : DeliveryRow). row.end ≤ bound) (gots step.1)
     got_by bound order = all_weaker (IsDueRow survivor.disk (contents_at survivor) step.0 step.1.plan HasSector) (λ (row : DeliveryRow). row.end ≤ bound)
-        (λ row due_row. let over = (due_between survivor step.0 step.1.plan HasSector placed.of_disk planned row (due_block survivor step.0 step.1.plan HasSector row due_row) due_row).ends_by in omega arith)
+        (λ row due_row. let over = (due_quiet survivor step.0 step.1.plan HasSector placed.of_disk planned row (due_block survivor.disk (contents_at survivor) step.0 step.1.plan HasSector row due_row) due_row).ends in omega arith)
         (gots step.1) (delivery_true inputs survivor past step HasSector some wanted_some)
 
     got_linked : IsAllDelivered inputs survivor past step → AreLinked NoEarlier (instant_of step.0) (gots step.1)

@@ -21,13 +21,12 @@ use Rattle.fb_rows.specs.declared.fore.ForeRow.{ForeRow}
 use Rattle.fb_rows.specs.declared.back.BackRow.{BackRow}
 use Rattle.fb_rows.specs.declared.back.BackRow.TheVariants.{Gap, Idle, Got, Bad, Seal, Segment, Complete, Task}
 use Rattle.fb_rows.specs.declared.back.DeliveryRow.{DeliveryRow}
-use Rattle.fb_rows.specs.declared.gap.Plan.{Plan}
 use Rattle.fb_rows.specs.declared.run.Run.{Run}
 use Rattle.fb_model.specs.PlainReplay.{Served, finish, first_track, last_track}
 use Rattle.fb_model.specs.Inputs.{Inputs, served}
 use Rattle.fb_model.specs.Accepted.{IsAccepted}
 use Rattle.fb_model.specs.Content.{Medium, Written, content, content_by, contents_at, fore_row, fore_rows, medium_of, number_of, writes_of}
-use Rattle.fb_model.specs.Decisions.{Decision, serves, idles, ends, decisions, decisions_from, end_of, idle_until, instant_of, instants_of, last_decision, run_end}
+use Rattle.fb_model.specs.Decisions.{Decision, serves, decisions, decisions_from, end_of, idle_until, instant_of, instants_of, last_decision, run_end}
 use Rattle.fb_model.specs.History.{Past, wanted}
 use Rattle.fb_model.specs.Steps.{AtEach, Delivery, Part, part_rows, past_after, settled_past}
 use Rattle.fb_model.specs.SoundRun.{HasPlan, IsDelivered, IsPlanned, IsTested}
@@ -41,7 +40,7 @@ use Rattle.fb_mirror.specs.Replacement.{Event, decided, deliveries_in, events, g
 use Rattle.fb_mirror.specs.Survivor.{survives}
 use Rattle.fb_mirror.proofs.Deciding.{later-assoc}
 use Rattle.fb_mirror.proofs.EventLaws.{none_some, same_one, write_gives}
-use Rattle.fb_mirror.proofs.Between.{IsBetween, IsPlaced, between_within, decisions_placed, due_between, quiet_until}
+use Rattle.fb_mirror.proofs.Between.{IsBetween, IsPlaced, between_within, decisions_placed, due_quiet, quiet_until}
 use Rattle.fb_mirror.proofs.RunRows.{NoFact, RowsFit, back_fits, gots_fit_part}
 use Rattle.fb_mirror.proofs.Writing.{AreServed, all_writes, are_served, content_then, ended, finishes_late, last_of, last_of-append, last_of-more, left_after, left_by, medium_with}
 
@@ -288,18 +287,6 @@ module _ (disk : Disk) (latent : List ℕ) (replay : List Served) where
 
 -- ---- decision by decision
 
--- of a block of which the wanted blocks' property holds
-pub due_block : (medium : Medium) (decision : Decision) (plan : Plan) (Q : Block → Type 0) (row : DeliveryRow) → IsDueRow medium.disk (contents_at medium) decision plan Q row → Q row.block
-due_block medium (serves served) plan Q row due_row = elim due_row [
-  | inl early ↦ early.one_of
-  | inr others ↦ elim others [
-    | inl late ↦ late.one_of
-    | inr ride ↦ ride.one_of
-  ]
-]
-due_block medium (idles dwell) plan Q row due_row = due_row.one_of
-due_block medium (ends now) plan Q row due_row = absurd due_row
-
 abbrev AnyBlock : Block → Type 0
 AnyBlock block = Unit {0}
 
@@ -312,11 +299,11 @@ module _ (inputs : Inputs) (medium : Medium) (replay : List Served) (same_disk :
       → AllByRecursion (IsFound medium replay) (map (λ (delivery : Delivery). delivery.got) step.1.deliveries)
   got_found past step placed planned some =
       all_weaker (IsDueRow medium.disk (contents_at medium) step.0 step.1.plan AnyBlock) (IsFound medium replay) (λ row due_row.
-      let lies = λ (some : 0 < row.block.count). due_between medium step.0 step.1.plan AnyBlock placed.of_disk (subst (λ disk. HasPlan disk step.0 step.1.plan) (sym same_disk) planned) row some due_row in
+      let lies = λ (some : 0 < row.block.count). due_quiet medium step.0 step.1.plan AnyBlock placed.of_disk (subst (λ disk. HasPlan disk step.0 step.1.plan) (sym same_disk) planned) row some due_row in
       record {
         bytes = due_bytes medium.disk (contents_at medium) step.0 step.1.plan AnyBlock row due_row;
         order = λ some. (lies some).in_turn;
-        between = λ some. between_within replay (instant_of step.0) (quiet_until step.0) row.begin row.end (lies some).begins (lies some).ends_by placed.between;
+        between = λ some. between_within replay (instant_of step.0) (quiet_until step.0) row.begin row.end (lies some).begins (lies some).ends placed.between;
       })
       (map (λ (delivery : Delivery). delivery.got) step.1.deliveries)
       (delivery_true inputs medium past step AnyBlock some (any_blocks (wanted (settled_past inputs past step.0))))

@@ -1,10 +1,9 @@
 -- What is due at a decision: each row is of a wanted block, passes whole, and has the bytes of its beginning; none stands twice.
-use Rattle.std.proofs.Common.{◌≡◌, ℕ, ◌+◌, ◌≤◌, List, [], ◌∷◌, ◌++◌, refl, lit≤, true, false, map, filter, Bool, cond, if◌then◌else◌, ◌-◌, not, arith, ap, ◌⊎◌, inl, inr}
+use Rattle.std.proofs.Common.{◌≡◌, ◌+◌, List, [], ◌∷◌, ◌++◌, refl, true, false, map, filter, Bool, cond, if◌then◌else◌, ◌-◌, not, ◌⊎◌, inl, inr}
 use Rattle.std.specs.List.{AllByRecursion, fold}
 use Rattle.fb_store.specs.Runs.{runs_of, bad_of}
 use Rattle.fb_calls.proofs.Lists.{all_weaker}
 use Rattle.fb_wanted.specs.declared.block.Block.{Block}
-use Rattle.fb_rows.specs.declared.gap.Gap.{Gap}
 use Rattle.fb_rows.specs.declared.gap.Plan.{Plan}
 use Rattle.fb_rows.specs.declared.gap.Dwell.{Dwell}
 use Rattle.fb_rows.specs.declared.gap.How.{How}
@@ -16,8 +15,7 @@ use Rattle.fb_model.specs.Content.{ContentsAt, Medium, contents_at}
 use Rattle.fb_model.specs.Plans.{block_begin, block_end, catches, early_dwell, late_dwell}
 use Rattle.fb_model.specs.Inputs.{Inputs}
 use Rattle.fb_model.specs.Decisions.{Decision, serves, idles, ends}
-use Rattle.fb_wanted.specs.States.{is_wanted}
-use Rattle.fb_model.specs.History.{Past, wanted, state, registered}
+use Rattle.fb_model.specs.History.{Past, wanted}
 use Rattle.fb_model.specs.Steps.{Part, settled_past}
 use Rattle.fb_model.specs.Rides.{gap_of, due, delivery, is_before, placed, in_order, caught, missed, lies_in, rides, begin_at, end_at}
 use Rattle.fb_model.specs.SoundRun.{IsSublist, none, left_out, taken, IsDelivered}
@@ -79,7 +77,7 @@ pub record IsCarriedBy (contents : ContentsAt) (served : Served) (Q : Block → 
   pub end : row.end ≡ end_at served.passages (row.block.lbn + row.block.count - 1)
   pub bytes : HasBytes contents row
 
-abbrev ride_of : ContentsAt → Served → Block → DeliveryRow
+abbrev pub ride_of : ContentsAt → Served → Block → DeliveryRow
 ride_of contents served block = delivery contents ByRide block (begin_at served.passages block.lbn) (end_at served.passages (block.lbn + block.count - 1))
 
 abbrev rides_if : Bool → ContentsAt → Served → List Block → List DeliveryRow
@@ -104,7 +102,8 @@ IsDueRow disk contents (serves served) plan Q row = IsCaughtIn disk contents ByG
 IsDueRow disk contents (idles dwell) plan Q row = IsCaughtIn disk contents ByIdle dwell Q row
 IsDueRow disk contents (ends now) plan Q row = ⊥
 
-pub due_bytes : (disk : Disk) (contents : ContentsAt) (decision : Decision) (plan : Plan) (Q : Block → Type 0) (row : DeliveryRow) → IsDueRow disk contents decision plan Q row → HasBytes contents row
+pub due_bytes : (disk : Disk) (contents : ContentsAt) (decision : Decision) (plan : Plan) (Q : Block → Type 0) (row : DeliveryRow)
+    → IsDueRow disk contents decision plan Q row → HasBytes contents row
 due_bytes disk contents (serves served) plan Q row due_row = elim due_row [
   | inl early ↦ early.bytes
   | inr others ↦ elim others [
@@ -114,6 +113,19 @@ due_bytes disk contents (serves served) plan Q row due_row = elim due_row [
 ]
 due_bytes disk contents (idles dwell) plan Q row due_row = due_row.bytes
 due_bytes disk contents (ends now) plan Q row due_row = absurd due_row
+
+-- of a block of which the wanted blocks' property holds
+pub due_block : (disk : Disk) (contents : ContentsAt) (decision : Decision) (plan : Plan) (Q : Block → Type 0) (row : DeliveryRow)
+    → IsDueRow disk contents decision plan Q row → Q row.block
+due_block disk contents (serves served) plan Q row due_row = elim due_row [
+  | inl early ↦ early.one_of
+  | inr others ↦ elim others [
+    | inl late ↦ late.one_of
+    | inr ride ↦ ride.one_of
+  ]
+]
+due_block disk contents (idles dwell) plan Q row due_row = due_row.one_of
+due_block disk contents (ends now) plan Q row due_row = absurd due_row
 
 all_some : (P : DeliveryRow → Type 0) {xs ys : List DeliveryRow} → IsSublist xs ys → AllByRecursion P ys → AllByRecursion P xs
 all_some P none ps = ps

@@ -21,10 +21,10 @@ use Rattle.fb_model.specs.PlainReplay.{Served, media, finish}
 use Rattle.fb_model.specs.Content.{ContentsAt}
 use Rattle.fb_model.specs.Plans.{IsPlan, block_begin, block_end, catches, early_dwell, late_dwell}
 use Rattle.fb_model.specs.Decisions.{Decision, serves, idles, ends, instant_of, end_of}
-use Rattle.fb_model.specs.Rides.{gap_of, due, delivery, is_before, placed, in_order, caught, missed, lies_in, rides, begin_at, end_at}
+use Rattle.fb_model.specs.Rides.{gap_of, due, delivery, is_before, placed, in_order, caught, missed, lies_in, begin_at, end_at}
 use Rattle.fb_model.specs.SoundRun.{HasPlan}
 use Rattle.fb_model.proofs.Lists.{all_filter, same_kept, by_is}
-use Rattle.fb_model.proofs.Due.{IsCaughtIn, IsDueRow, all_placed}
+use Rattle.fb_model.proofs.Due.{IsCaughtIn, IsDueRow, all_placed, ride_of}
 use Rattle.fb_model.proofs.Passages.{IsServiceOf, block_passes, media_by}
 use Rattle.fb_model.proofs.DecisionsUpTo.{IsMade}
 use Rattle.fb_model.proofs.HistoriesUpTo.{HasSector}
@@ -57,8 +57,9 @@ late_end : (disk : Disk) (served : Served) (plan : Plan) → (late_dwell disk (g
 late_end disk served (Direct leave) = refl
 late_end disk served (Detour track leave) = refl
 
-caught_between : (disk : Disk) (contents : ContentsAt) (how : How) (dwell : Dwell) (from to : ℕ) (row : DeliveryRow) → from ≤ dwell.begin → dwell.end ≤ to → IsCaughtIn disk contents how dwell HasSector row → LiesBetween from to row
-caught_between disk contents how dwell from to row after before is =
+caught_between : (disk : Disk) (contents : ContentsAt) (how : How) (dwell : Dwell) (Q : Block → Type 0) (from to : ℕ) (row : DeliveryRow)
+    → from ≤ dwell.begin → dwell.end ≤ to → IsCaughtIn disk contents how dwell Q row → LiesBetween from to row
+caught_between disk contents how dwell Q from to row after before is =
     let begin = is.begin in
     let end = is.end in
     let later = begins_later disk row.block dwell.begin in
@@ -77,23 +78,32 @@ delivers_by disk (serves served) to made over = (omega (arith, media_by disk ser
 delivers_by disk (idles dwell) to made over = over
 delivers_by disk (ends now) to made over = tt
 
-pub due_between : (disk : Disk) (contents : ContentsAt) (decision : Decision) (plan : Plan) (to : ℕ) → IsMade disk decision → HasPlan disk decision plan → DeliversBy to decision → (row : DeliveryRow)
-    → IsDueRow disk contents decision plan HasSector row → LiesBetween (instant_of decision) to row
-due_between disk contents (serves served) plan to made is over row due_row =
+pub due_between : (disk : Disk) (contents : ContentsAt) (decision : Decision) (plan : Plan) (Q : Block → Type 0) (to : ℕ)
+    → IsMade disk decision → HasPlan disk decision plan → DeliversBy to decision → (row : DeliveryRow)
+    → HasSector row.block → IsDueRow disk contents decision plan Q row → LiesBetween (instant_of decision) to row
+due_between disk contents (serves served) plan Q to made is over row some due_row =
+    let first = early_dwell disk (gap_of disk served) plan in
+    let last = late_dwell disk (gap_of disk served) plan in
     let dwell = dwell_plan disk served plan is in
     let media = over.0 in
+    let by_last : last.end ≤ to = omega (arith, late_end disk served plan, media) in
     elim due_row [
-      | inl early ↦ caught_between disk contents ByGap (early_dwell disk (gap_of disk served) plan) served.start to row dwell.0 (omega (arith, dwell.1, media)) early
+      | inl early ↦ caught_between disk contents ByGap first Q served.start to row dwell.0 (omega (arith, dwell.1, media)) early
       | inr others ↦ elim others [
-        | inl late ↦ caught_between disk contents ByGap (late_dwell disk (gap_of disk served) plan) served.start to row dwell.2 (omega (arith, late_end disk served plan, media)) late
+        | inl late ↦ caught_between disk contents ByGap last Q served.start to row dwell.2 by_last late
         | inr ride ↦
-            let passes = block_passes disk served row.block made ride.one_of ride.inside in
+            let passes = block_passes disk served row.block made some ride.inside in
             let finishes = over.1 ride.read in
-            record { begins = omega (arith, passes.0, ride.begin); in_turn = omega (arith, passes.1, ride.begin, ride.end); ends = omega (arith, passes.2, ride.end, finishes) }
+            record {
+              begins = omega (arith, passes.0, ride.begin);
+              in_turn = omega (arith, passes.1, ride.begin, ride.end);
+              ends = omega (arith, passes.2, ride.end, finishes);
+            }
       ]
     ]
-due_between disk contents (idles dwell) plan to made is over row due_row = caught_between disk contents ByIdle dwell dwell.begin to row (omega arith) over due_row
-due_between disk contents (ends now) plan to made is over row due_row = absurd due_row
+due_between disk contents (idles dwell) plan Q to made is over row some due_row =
+    caught_between disk contents ByIdle dwell Q dwell.begin to row (omega arith) over due_row
+due_between disk contents (ends now) plan Q to made is over row some due_row = absurd due_row
 
 -- ---- the same where sectors hold the same
 
@@ -102,11 +112,13 @@ abbrev pub AgreeBetween : ℕ → ℕ → ContentsAt → ContentsAt → Type 0
 AgreeBetween from to x y = (lbn n t : ℕ) → from ≤ t → t ≤ to → x lbn n t ≡ y lbn n t
 
 module _ (disk : Disk) (x y : ContentsAt) (from to : ℕ) (same : AgreeBetween from to x y) where
-  pub same_delivery : (how : How) (block : Block) (begin end : ℕ) → from ≤ begin → begin ≤ to → delivery x how block begin end ≡ delivery y how block begin end
+  pub same_delivery : (how : How) (block : Block) (begin end : ℕ) → from ≤ begin → begin ≤ to
+      → delivery x how block begin end ≡ delivery y how block begin end
   same_delivery how block begin end after before =
       ap (λ sectors. let runs = runs_of sectors in record { block = block; begin = begin; end = end; how = how; bad = bad_of runs; content = runs }) (same block.lbn block.count begin after before)
 
-  same_caught : (how : How) (dwell : Dwell) (blocks : List Block) → from ≤ dwell.begin → dwell.end ≤ to → caught disk x how dwell blocks ≡ caught disk y how dwell blocks
+  same_caught : (how : How) (dwell : Dwell) (blocks : List Block) → from ≤ dwell.begin → dwell.end ≤ to
+      → caught disk x how dwell blocks ≡ caught disk y how dwell blocks
   same_caught how dwell blocks after before = ap in_order (same_kept (catches disk dwell)
       (λ (block : Block). delivery x how block (block_begin disk.map block dwell.begin) (block_end disk.map block dwell.begin))
       (λ (block : Block). delivery y how block (block_begin disk.map block dwell.begin) (block_end disk.map block dwell.begin))
@@ -115,20 +127,23 @@ module _ (disk : Disk) (x y : ContentsAt) (from to : ℕ) (same : AgreeBetween f
       same_delivery how block (block_begin disk.map block dwell.begin) (block_end disk.map block dwell.begin)
       (omega (arith, later, after)) (omega (arith, ends_in_time disk dwell block is, ends_behind disk block dwell.begin, before))) blocks)
 
-  same_ride : (served : Served) (blocks : List Block) → IsServiceOf disk served → from ≤ served.start → finish served ≤ to → AllByRecursion HasSector blocks
-      → map (λ block. delivery x ByRide block (begin_at served.passages block.lbn) (end_at served.passages (block.lbn + block.count - 1))) (filter (lies_in served.request) blocks)
-      ≡ map (λ block. delivery y ByRide block (begin_at served.passages block.lbn) (end_at served.passages (block.lbn + block.count - 1))) (filter (lies_in served.request) blocks)
+  same_ride : (served : Served) (blocks : List Block) → IsServiceOf disk served → from ≤ served.start
+      → finish served ≤ to → AllByRecursion HasSector blocks
+      → map (ride_of x served) (filter (lies_in served.request) blocks) ≡ map (ride_of y served) (filter (lies_in served.request) blocks)
   same_ride served [] made after before some = refl
   same_ride served (block ∷ blocks) made after before some = elim (cases_Bool (lies_in served.request block)) [
     | inl lies ↦
         let passes = block_passes disk served block made some.0 lies in
-        rw lies (ap₂ (λ row rows. row ∷ rows)
-        (same_delivery ByRide block (begin_at served.passages block.lbn) (end_at served.passages (block.lbn + block.count - 1)) (omega (arith, after, passes.0)) (omega (arith, passes.1, passes.2, before)))
-        (same_ride served blocks made after before some.1))
+        let end = end_at served.passages (block.lbn + block.count - 1) in
+        let row : ride_of x served block ≡ ride_of y served block =
+        same_delivery ByRide block (begin_at served.passages block.lbn) end (omega (arith, after, passes.0)) (omega (arith, passes.1, passes.2, before)) in
+        rw lies (ap₂ (λ row rows. row ∷ rows) row (same_ride served blocks made after before some.1))
     | inr other ↦ rw other (same_ride served blocks made after before some.1)
   ]
 
-  pub same_due : (decision : Decision) (plan : Plan) (wanted : List Block) → IsMade disk decision → HasPlan disk decision plan → from ≤ instant_of decision → DeliversBy to decision → AllByRecursion HasSector wanted
+  pub same_due : (decision : Decision) (plan : Plan) (wanted : List Block) → IsMade disk decision
+      → HasPlan disk decision plan → from ≤ instant_of decision → DeliversBy to decision
+      → AllByRecursion HasSector wanted
       → due disk x decision plan wanted ≡ due disk y decision plan wanted
   unfolding due
   same_due (serves served) plan wanted made is after over some =
@@ -137,7 +152,8 @@ module _ (disk : Disk) (x y : ContentsAt) (from to : ℕ) (same : AgreeBetween f
       let left = missed disk early wanted in
       let last = missed disk late left in
       let dwell = dwell_plan disk served plan is in
-      let some_last = all_filter HasSector (λ block. not (catches disk late block)) left (all_filter HasSector (λ block. not (catches disk early block)) wanted some) in
+      let some_left = all_filter HasSector (λ block. not (catches disk early block)) wanted some in
+      let some_last = all_filter HasSector (λ block. not (catches disk late block)) left some_left in
       ap₂ (λ before rest. before ++ rest)
       (ap₂ (λ before rest. before ++ rest)
       (same_caught ByGap early wanted (omega (arith, after, dwell.0)) (omega (arith, dwell.1, over.0)))
@@ -182,7 +198,8 @@ rising_fold : (rows before : List DeliveryRow) → RisingEnds before → RisingE
 rising_fold [] before rising = rising
 rising_fold (row ∷ rows) before rising = rising_fold rows (placed before row) (rising_placed before row rising)
 
-pub rising_caught : (disk : Disk) (contents : ContentsAt) (how : How) (dwell : Dwell) (blocks : List Block) → RisingEnds (caught disk contents how dwell blocks)
+pub rising_caught : (disk : Disk) (contents : ContentsAt) (how : How) (dwell : Dwell) (blocks : List Block)
+    → RisingEnds (caught disk contents how dwell blocks)
 rising_caught disk contents how dwell blocks = rising_fold
     (map (λ block. delivery contents how block (block_begin disk.map block dwell.begin) (block_end disk.map block dwell.begin)) (filter (catches disk dwell) blocks)) [] tt
 

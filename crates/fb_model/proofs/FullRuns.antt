@@ -79,7 +79,8 @@ one_plan disk (serves served) wanted a b h k = one_best disk (gap_of disk served
 one_plan disk (idles dwell) wanted a b h k = tt
 one_plan disk (ends now) wanted a b h k = tt
 
-same_due : (medium : Medium) (decision : Decision) (wanted : List Block) (a b : Plan) → SamePlan decision a b → due medium.disk (contents_at medium) decision a wanted ≡ due medium.disk (contents_at medium) decision b wanted
+same_due : (medium : Medium) (decision : Decision) (wanted : List Block) (a b : Plan) → SamePlan decision a b
+    → due medium.disk (contents_at medium) decision a wanted ≡ due medium.disk (contents_at medium) decision b wanted
 unfolding due
 same_due medium (serves served) wanted a b e = ap (λ plan. due medium.disk (contents_at medium) (serves served) plan wanted) e
 same_due medium (idles dwell) wanted a b e = refl

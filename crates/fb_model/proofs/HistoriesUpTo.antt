@@ -152,13 +152,20 @@ HasBegun done row = row.begin ≤ done
 abbrev pub calls_by : ℕ → Call → Bool
 calls_by t call = nat_le call.instant t
 
+-- the instants of calls ascend
+abbrev pub RiseInTime : List Call → Type 0
+RiseInTime calls = IsRising (map (λ call. call.instant) calls)
+
 -- none has come by then where the first of them comes later
-pub none_come : (t instant : ℕ) (calls : List Call) → t < instant → AllByRecursion (λ later. instant ≤ later) (map (λ (call : Call). call.instant) calls) → filter (calls_by t) calls ≡ []
+pub none_come : (t instant : ℕ) (calls : List Call) → t < instant
+    → AllByRecursion (λ later. instant ≤ later) (map (λ (call : Call). call.instant) calls)
+    → filter (calls_by t) calls ≡ []
 none_come t instant [] late h = refl
 none_come t instant (call ∷ calls) late h = rw (after_is call.instant t (omega (arith, h.0))) (none_come t instant calls late h.1)
 
 -- of calls in order, those that have come behind the first n are those of the rest
-come_behind : (t n : ℕ) (calls : List Call) → IsRising (map (λ (call : Call). call.instant) calls) → filter (calls_by t) (drop n calls) ≡ drop n (filter (calls_by t) calls)
+come_behind : (t n : ℕ) (calls : List Call) → RiseInTime calls
+    → filter (calls_by t) (drop n calls) ≡ drop n (filter (calls_by t) calls)
 come_behind t zero calls rising = refl
 come_behind t (suc n) [] rising = refl
 come_behind t (suc n) (call ∷ calls) rising = elim (cases_Bool (calls_by t call)) [
@@ -169,24 +176,27 @@ come_behind t (suc n) (call ∷ calls) rising = elim (cases_Bool (calls_by t cal
 ]
 
 -- of calls in order, those that have come stand first
-come_first : (t : ℕ) (calls : List Call) → IsRising (map (λ (call : Call). call.instant) calls) → (rest : List Call) × (calls ≡ filter (calls_by t) calls ++ rest)
+come_first : (t : ℕ) (calls : List Call) → RiseInTime calls
+    → (rest : List Call) × (calls ≡ filter (calls_by t) calls ++ rest)
 come_first t [] rising = ([], refl)
 come_first t (call ∷ calls) rising = elim (cases_Bool (calls_by t call)) [
   | inl here ↦ rw here (let rest = come_first t calls rising.1 in (rest.0, ap (λ calls. call ∷ calls) rest.1))
   | inr late ↦ rw (late, none_come t call.instant calls (is_after call.instant t late) rising.0) (call ∷ calls, refl)
 ]
 
-rising_behind : (n : ℕ) (calls : List Call) → IsRising (map (λ (call : Call). call.instant) calls) → IsRising (map (λ (call : Call). call.instant) (drop n calls))
+rising_behind : (n : ℕ) (calls : List Call) → RiseInTime calls → RiseInTime (drop n calls)
 rising_behind zero calls rising = rising
 rising_behind (suc n) [] rising = tt
 rising_behind (suc n) (call ∷ calls) rising = rising_behind n calls rising.1
 
 -- the calls that are due stand first among those left
-pub due_first : (calls : List Call) (past : Past) (now : ℕ) → IsRising (map (λ (call : Call). call.instant) calls) → (rest : List Call) × (calls_left calls past ≡ calls_due calls past now ++ rest)
+pub due_first : (calls : List Call) (past : Past) (now : ℕ) → RiseInTime calls
+    → (rest : List Call) × (calls_left calls past ≡ calls_due calls past now ++ rest)
 due_first calls past now rising = come_first now (calls_left calls past) (rising_behind (length (calls_of past)) calls rising)
 
 pub same_settled : (a b : Inputs) (t : ℕ) (past : Past) (decision other : Decision) → a.disk ≡ b.disk
-    → IsRising (map (λ (call : Call). call.instant) a.calls) → IsRising (map (λ (call : Call). call.instant) b.calls) → filter (calls_by t) a.calls ≡ filter (calls_by t) b.calls → instant_of decision ≤ t
+    → RiseInTime a.calls → RiseInTime b.calls → filter (calls_by t) a.calls ≡ filter (calls_by t) b.calls
+    → instant_of decision ≤ t
     → instant_of decision ≡ instant_of other → settled_past a past decision ≡ settled_past b past other
 unfolding settled_past
 same_settled a b t past decision other disk rising_a rising_b calls h at =
@@ -194,5 +204,6 @@ same_settled a b t past decision other disk rising_a rising_b calls h at =
     let twice = λ (calls : List Call). kept_twice (calls_by now) (calls_by t) (λ call by. by_later now t call.instant h by) calls in
     let due : filter (calls_by now) a.calls ≡ filter (calls_by now) b.calls = sym (twice a.calls) ∙ (ap (filter (calls_by now)) calls ∙ twice b.calls) in
     let n = length (calls_of past) in
-    ap₂ (λ disk due. with_choices disk.map (fold (take_call disk.map) past due)) disk (come_behind now n a.calls rising_a ∙ (ap (drop n) due ∙ sym (come_behind now n b.calls rising_b)))
+    let left = come_behind now n a.calls rising_a ∙ (ap (drop n) due ∙ sym (come_behind now n b.calls rising_b)) in
+    ap₂ (λ disk due. with_choices disk.map (fold (take_call disk.map) past due)) disk left
     ∙ ap (λ now. with_choices b.disk.map (fold (take_call b.disk.map) past (calls_due b.calls past now))) at

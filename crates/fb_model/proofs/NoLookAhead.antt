@@ -29,7 +29,7 @@ use Rattle.fb_model.specs.FullRun.{HasBestPlan, IsFull}
 use Rattle.fb_model.specs.Known.{only_if, known_from, fore_known, AgreeUpTo, SameKnown, without_line}
 use Rattle.fb_model.proofs.Lists.{after_is, kept_map}
 use Rattle.fb_model.proofs.Joined.{in_order}
-use Rattle.fb_model.proofs.Due.{IsDueRow, due_true}
+use Rattle.fb_model.proofs.Due.{IsDueRow, due_block, due_true}
 use Rattle.fb_model.proofs.Replays.{Rises, plain_turns}
 use Rattle.fb_model.proofs.FullRuns.{gots, IsFullPart, one_part, same_rows, same_after, full_parts}
 use Rattle.fb_model.proofs.ReplaysUpTo.{alike_turns}
@@ -37,7 +37,7 @@ use Rattle.fb_model.proofs.Passages.{LiesOnDisk, are_services, requests_lie, wri
 use Rattle.fb_model.proofs.ContentsUpTo.{medium_with, HoldSame, same_contents, hold_same, same_fore}
 use Rattle.fb_model.proofs.Instants.{instants_from, rising_all_among, all_come, same_instants}
 use Rattle.fb_model.proofs.DecisionsUpTo.{IsMade, IsLater, AlikeDecisions, same, dwelling, later, end_from, alike_decisions}
-use Rattle.fb_model.proofs.HistoriesUpTo.{HasSector, AreFine, HasBegun, wanted_fine, settled_fine, after_fine, all_fine_weaker, calls_by, same_settled}
+use Rattle.fb_model.proofs.HistoriesUpTo.{HasSector, AreFine, HasBegun, wanted_fine, settled_fine, after_fine, all_fine_weaker, calls_by, RiseInTime, same_settled}
 use Rattle.fb_model.proofs.RowsUpTo.{AreUnknown, AreKnownAlike, IsUnknown, unknown_before, alike_behind, tests_unknown, tasks_unknown, delivered_rows, deliveries_unknown, same_tests, same_followed, ends_by_then, RisingEnds, alike_deliveries}
 use Rattle.fb_model.proofs.Unlined.{unlined_inputs, parts_same, instants_same}
 use Rattle.fb_model.proofs.DueUpTo.{LiesBetween, AgreeBetween, delivers_by, due_between, same_due, rising_caught, same_by_then}
@@ -75,7 +75,12 @@ module _ (disk : Disk) (latent : List ℕ) (key : Key) (trace : List Request) (p
       let blocks = wanted (settled_past inputs past step.0) in
       subst (AllByRecursion (LiesBetween (instant_of step.0) (end_of step.0))) (sym full.all)
       (all_weaker (IsDueRow disk (contents_at medium) step.0 step.1.plan HasSector) (LiesBetween (instant_of step.0) (end_of step.0))
-      (due_between disk (contents_at medium) step.0 step.1.plan (end_of step.0) made (plan_of disk step.0 blocks step.1.plan full.best) (delivers_by disk step.0 (end_of step.0) made (omega arith))) (due disk (contents_at medium) step.0 step.1.plan blocks)
+      (λ row due_row.
+      let over = delivers_by disk step.0 (end_of step.0) made (omega arith) in
+      let block = due_block disk (contents_at medium) step.0 step.1.plan HasSector row due_row in
+      due_between disk (contents_at medium) step.0 step.1.plan HasSector (end_of step.0) made
+      (plan_of disk step.0 blocks step.1.plan full.best) over row block due_row)
+      (due disk (contents_at medium) step.0 step.1.plan blocks)
       (due_true disk (contents_at medium) step.0 step.1.plan HasSector blocks (wanted_fine P (settled_past inputs past step.0) (settled_fine P inputs past step.0 fine))))
 
   -- nothing of decisions after t is known
@@ -103,7 +108,7 @@ any_delivery : DeliveryRow → Type 0
 any_delivery row = Unit {0}
 
 module _ (disk : Disk) (latent : List ℕ) (key : Key) (trace_a trace_b : List Request) (over_a over_b : ℕ) (calls_a calls_b : List Call) (until_a until_b : ℕ) (writes_a writes_b : List Written)
-    (rising_a : IsRising (map (λ (call : Call). call.instant) calls_a)) (rising_b : IsRising (map (λ (call : Call). call.instant) calls_b))
+    (rising_a : RiseInTime calls_a) (rising_b : RiseInTime calls_b)
     (t done : ℕ) (since : t ≤ done) (come : filter (calls_by t) calls_a ≡ filter (calls_by t) calls_b)
     (hold : HoldSame done (record { disk = disk; latent = latent; writes = writes_a }) (record { disk = disk; latent = latent; writes = writes_b })) where
   abbrev inputs_a : Inputs
@@ -293,7 +298,7 @@ list_of : (inputs : Inputs) → IsAccepted inputs → IsListOf inputs.disk (requ
 list_of inputs accepted = record { rises = (in_order inputs accepted).ascend; lie = requests_lie inputs accepted }
 
 runs_alike : (t : ℕ) (disk : Disk) (latent : List ℕ) (key : Key) (trace_a trace_b : List Request) (over_a over_b : ℕ) (calls_a calls_b : List Call) (until_a until_b : ℕ) (list_a list_b : List Request) (run_a run_b : Run)
-    → IsSound disk.map → IsListOf disk list_a → IsListOf disk list_b → IsRising (map (λ (call : Call). call.instant) calls_a) → IsRising (map (λ (call : Call). call.instant) calls_b)
+    → IsSound disk.map → IsListOf disk list_a → IsListOf disk list_b → RiseInTime calls_a → RiseInTime calls_b
     → IsRunOf t (record { disk = disk; latent = latent; trace = trace_a; passed_over = over_a; calls = calls_a; key = key; until = until_a }) list_a (instants_from list_a calls_a) run_a
     → IsRunOf t (record { disk = disk; latent = latent; trace = trace_b; passed_over = over_b; calls = calls_b; key = key; until = until_b }) list_b (instants_from list_b calls_b) run_b
     → t < run_a.end → t < run_b.end → filter (has_arrived t) list_a ≡ filter (has_arrived t) list_b → filter (calls_by t) calls_a ≡ filter (calls_by t) calls_b
@@ -334,7 +339,7 @@ same_unlined : (t : ℕ) (calls_a calls_b : List Call) → map without_line (fil
     → filter (calls_by t) (map without_line calls_a) ≡ filter (calls_by t) (map without_line calls_b)
 same_unlined t calls_a calls_b e = kept_map (calls_by t) without_line calls_a ∙ (e ∙ sym (kept_map (calls_by t) without_line calls_b))
 
-unlined_rising : (calls : List Call) → IsRising (map (λ (call : Call). call.instant) calls) → IsRising (map (λ (call : Call). call.instant) (map without_line calls))
+unlined_rising : (calls : List Call) → RiseInTime calls → RiseInTime (map without_line calls)
 unlined_rising calls rising = subst IsRising (sym (instants_same calls)) rising
 
 pub no_look_ahead : (a b : Inputs) (run_a run_b : Run) (t : ℕ) → IsSound a.disk.map → IsAccepted a → IsAccepted b → IsFull a run_a → IsFull b run_b → t < run_a.end → t < run_b.end → AgreeUpTo t a b → SameKnown t run_a run_b

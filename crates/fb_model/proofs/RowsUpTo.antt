@@ -119,9 +119,11 @@ abbrev pub IsOver : ℕ → DeliveryRow → Type 0
 IsOver done row = (row.begin ≤ done) × (row.end ≤ done)
 
 module _ (done : ℕ) (a b : Medium) (same : HoldSame done a b) where
-  same_held : (past : Past) (block : Block) → AreFine (HasBegun done) past → held_at_delivery a past block ≡ held_at_delivery b past block
+  same_held : (past : Past) (block : Block) → AreFine (HasBegun done) past
+      → held_at_delivery a past block ≡ held_at_delivery b past block
   same_held [] block fine = refl
-  same_held (delivered row ∷ past) block fine = ap₂ (λ x y. if same_block row.block block then x else y) (same_contents done a b same block.lbn block.count row.begin fine.0) (same_held past block fine.1)
+  same_held (delivered row ∷ past) block fine = ap₂ (λ x y. if same_block row.block block then x else y)
+      (same_contents done a b same block.lbn block.count row.begin fine.0) (same_held past block fine.1)
   same_held (called call blocks ∷ past) block fine = same_held past block fine.1
   same_held (chose task segment blocks ∷ past) block fine = same_held past block fine.1
   same_held (tested rows ∷ past) block fine = same_held past block fine.1

@@ -165,9 +165,12 @@ same_was (chose chooser segment blocks ∷ past) task = same_was past task
 same_was (delivered row ∷ past) task = same_was past task
 same_was (finished request ∷ past) task = same_was past task
 
-same_held : (medium : Medium) (past : Past) (block : Block) → held_at_delivery medium (unlined_past past) block ≡ held_at_delivery medium past block
+same_held : (medium : Medium) (past : Past) (block : Block)
+    → held_at_delivery medium (unlined_past past) block ≡ held_at_delivery medium past block
 same_held medium [] block = refl
-same_held medium (delivered row ∷ past) block = ap (λ held. if same_block row.block block then contents_at medium block.lbn block.count row.begin else held) (same_held medium past block)
+same_held medium (delivered row ∷ past) block =
+    ap (λ held. if same_block row.block block then contents_at medium block.lbn block.count row.begin else held)
+    (same_held medium past block)
 same_held medium (called call blocks ∷ past) block = same_held medium past block
 same_held medium (chose task segment blocks ∷ past) block = same_held medium past block
 same_held medium (tested rows ∷ past) block = same_held medium past block
@@ -190,7 +193,12 @@ take_all disk (call ∷ calls) past =
 
 same_taken : (past : Past) → length (calls_of (unlined_past past)) ≡ length (calls_of past)
 same_taken [] = refl
-same_taken (called call blocks ∷ past) = omega (arith, same_taken past, length-append (calls_of (unlined_past past)) (without_line call ∷ []), length-append (calls_of past) (call ∷ []))
+same_taken (called call blocks ∷ past) = omega (
+  arith,
+  same_taken past,
+  length-append (calls_of (unlined_past past)) (without_line call ∷ []),
+  length-append (calls_of past) (call ∷ []),
+)
 same_taken (_ ∷ past) = same_taken past
 
 same_calls : (calls : List Call) (past : Past) (now : ℕ) → calls_due (map without_line calls) (unlined_past past) now ≡ map without_line (calls_due calls past now)

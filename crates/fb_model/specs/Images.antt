@@ -13,7 +13,7 @@ use Rattle.fb_rows.specs.declared.back.BackRow.{BackRow}
 use Rattle.fb_rows.specs.declared.back.BackRow.TheVariants.{Bad as BadLine, Seal as SealLine, Segment as SegmentLine, Complete as CompleteLine}
 use Rattle.fb_model.specs.Content.{Medium, contents_at}
 use Rattle.fb_wanted.specs.States.{is_delivered}
-use Rattle.fb_model.specs.History.{Event, delivered, Past, terms_of, task_numbers, blocks_of, same_block, is_open_backup}
+use Rattle.fb_model.specs.History.{delivered, Past, terms_of, task_numbers, blocks_of, same_block, is_open_backup}
 use Rattle.fb_model.specs.Completion.{Choice, choices, Work, work, is_cleaned, is_complete, was_complete}
 use Rattle.fb_model.specs.Segments.{live_count}
 
@@ -39,7 +39,9 @@ image medium past task now = runs_of (flat_map (λ block. contents_at medium blo
 -- what a block held as its last delivery began; nothing before the first
 abbrev pub held_at_delivery : Medium → Past → Block → List (ℕ × Content)
 held_at_delivery medium [] block = []
-held_at_delivery medium (delivered row ∷ past) block = if same_block row.block block then contents_at medium block.lbn block.count row.begin else held_at_delivery medium past block
+held_at_delivery medium (delivered row ∷ past) block = if same_block row.block block
+    then contents_at medium block.lbn block.count row.begin
+    else held_at_delivery medium past block
 held_at_delivery medium (_ ∷ past) block = held_at_delivery medium past block
 
 -- a segment's live blocks, each with what it held as its delivery began

@@ -208,7 +208,8 @@ OneBestPlan = (disk : Disk) (gap : Gap) (wanted : List Block) (a b : Plan) → I
 
 -- the state of a registered block begins with its registration: it is the same, whatever is taken for its state before
 abbrev pub StatesBeginWithRegistration : Type 0
-StatesBeginWithRegistration = (past : Past) (block : Block) (before : State) → list_any (same_block block) (registered past) ≡ true → state_from before past block ≡ bare_state past block
+StatesBeginWithRegistration = (past : Past) (block : Block) (before : State)
+    → list_any (same_block block) (registered past) ≡ true → state_from before past block ≡ bare_state past block
 
 -- inputs that ask for the same foreground, whatever else their calls ask for
 pub record HaveOneForeground (a b : Inputs) : Type 0 where

@@ -40,7 +40,7 @@ blocks_by disk past task _ = []
 abbrev pub take_call : Shape → Past → Call → Past
 take_call disk past call = called call (blocks_by disk past call.task call.action) ∷ past
 
--- the calls that haven't taken effect: calls take effect in the order of their lines, so they stand behind those that have
+-- the calls that haven't taken effect: in a script instants don't fall (`instants` of `IsAccepted`), so those that have are its first
 abbrev pub calls_left : List Call → Past → List Call
 calls_left calls past = drop (length (calls_of past)) calls
 

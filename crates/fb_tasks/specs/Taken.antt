@@ -22,7 +22,9 @@ segment_rows_found past now task = segment_rows (λ choice. found_for (work past
 
 -- a seal row with what was found of the task's delivered blocks
 abbrev pub seal_rows_found : Past → ℕ → ℕ → List BackRow
-seal_rows_found past now task = seal_rows (found_for (work past task) (filter (λ block. is_delivered ((work past task).bare block)) (work past task).blocks)) past now task
+seal_rows_found past now task =
+    let so_far = work past task in
+    seal_rows (found_for so_far (filter (λ block. is_delivered (so_far.bare block)) so_far.blocks)) past now task
 
 -- the rows of a test as a sound run has them, but with what the deliveries found in place of what the disk holds
 unfoldable pub test_rows_found : Past → ℕ → List BackRow
