@@ -1,8 +1,10 @@
 // Requests that wait in a row for each cylinder.
-ghost use Rattle.std.specs.Prelude.{◌≡◌, ◌⊎◌, ℕ, ◌<◌, ◌≤◌, Some, true, length, slice_get, IfSome, IsSome, OnOk, OnErr};
+ghost use Rattle.std.specs.Prelude.{◌≡◌, ◌⊎◌, ℕ, ◌<◌, ◌≤◌, ◌^◌, Some, true, length, slice_get, IfSome, IsSome, OnOk, OnErr};
 ghost use Rattle.std.specs.List.{AllByRecursion};
 ghost use Rattle.std.specs.Ordering.{nat_cmp};
 ghost use Rattle.std.specs.BTreeSet.{contains};
+ghost use Rattle.fb_seek.specs.Positioning.{seek};
+ghost use Rattle.fb_seek.specs.Rising.{SeeksRise};
 ghost use Rattle.fb_service.specs.Approaching.{IsDeparture};
 ghost use Rattle.fb_fastq.specs.declared.soonest.Candidate.{Candidate};
 ghost use Rattle.fb_fastq.specs.Joining.{Waiting};
@@ -14,7 +16,7 @@ ghost use Rattle.fb_fastq.specs.ByCylinder.{Row, all_of_rows, at_place, IsOnCyli
 use crate::arrival::{Arrival, arrival_at};
 use crate::soonest::Candidate;
 use fb_service::{Departure, Disk};
-use fb_units::{NoMemory, Request};
+use fb_units::{NoMemory, Ns, Request};
 use std::alloc::Global;
 use std::collections::BTreeSet;
 
@@ -148,6 +150,16 @@ fn walk_down(
     pick
 }
 
+// Whether the arm's way to the nearest other cylinder alone takes longer than this wait, in ns.
+fn is_too_far(disk: &Disk, wait: Ns) -> bool
+    ensures far { result ≡ true → wait < seek disk.now.mechanism 1 }
+    ensures short { result ≡ true → seek disk.now.mechanism 1 ≤ 10 ^ 9 }
+    ensures rise { SeeksRise disk.now.mechanism }
+{
+    disk.mechanism.seeks_rise();
+    disk.map.geometry().cylinders() > 1 && wait < disk.mechanism.seek(1)
+}
+
 /// The soonest of the requests of all rows, and a limit.
 ///
 /// Of two with the same wait it is the one that joined first.
@@ -170,6 +182,9 @@ pub fn soonest_in_rows(
         place: None,
     };
     let above = walk_up(rows, occupied, disk, from, pick);
+    if is_too_far(disk, above.best.wait) {
+        return above;
+    }
     walk_down(rows, occupied, disk, from, above)
 }
 
@@ -188,6 +203,26 @@ pub fn reach(
 {
     while rows.len() <= number as usize {
         rows.push(Vec::new(alloc))?;
+    }
+    Ok(())
+}
+
+/// Notes that a row is to get a request, if it has none yet.
+///
+/// The only error is out of memory, after which nothing has changed.
+pub fn occupy(
+    rows: &[Vec<((u64, u64), Request)>],
+    occupied: &mut BTreeSet<u32>,
+    number: u32,
+) -> Result<(), NoMemory>
+    requires there { number < length rows.now }
+    requires occupied { AreOccupied occupied.old rows.now }
+    ensures has { OnOk result (contains nat_cmp occupied.new number ≡ true) }
+    ensures occupied { AreOccupied occupied.new rows.now }
+    ensures err { OnErr result (occupied.new ≡ occupied.old) }
+{
+    if rows[number as usize].is_empty() {
+        occupied.insert(number)?;
     }
     Ok(())
 }

@@ -3,8 +3,8 @@ use Rattle.std.specs.List.{AllByRecursion}
 use Rattle.fb_fastq.specs.Joining.{Waiting, pending_of}
 use Rattle.fb_fastq.specs.Lanes.{IsAlong}
 use Rattle.fb_fastq.specs.More.{IsMore}
-use Rattle.fb_fastq.specs.ByCylinder.{all_of_rows}
-use Rattle.fb_fastq.proofs.OneMore.{insert_more, more_left, more_right, pending_more, all_more, occupied_more}
+use Rattle.fb_fastq.specs.ByCylinder.{all_of_rows, AreOccupied}
+use Rattle.fb_fastq.proofs.OneMore.{insert_more, more_left, more_right, pending_more, all_more}
 use Rattle.fb_fastq.proofs.Divided.{index_left, map_joined, rows_joined, rows_same}
 use Rattle.fb_fastq.proofs.sptf.SptfLanesQueue.add.Goals.{After-self}
 use Rattle.fb_fastq.proofs.sptf.SptfLanesQueue.add.Goals as goal
@@ -56,11 +56,10 @@ invariant_of-self-2 c =
     let grown = c.reach.new.rows.items in
     let spot = c.along-spot.result in
     let row = c.cylinder_around-row.result in
-    let own = c.in_ok-reach.ensures.rows c.self.invariant.0.own_rows in
-    let noted = occupied_more inside.occupied c.insert.new.self grown row c.in_ok-insert.ensures.updates.0 (c.in_ok-reach.ensures.occupied inside.occupied c.self.invariant.1) in (
+    let own = c.in_ok-reach.ensures.rows c.self.invariant.0.own_rows in (
       rows_joined entries grown c.put.new.rows.items inside.in_rows spot inside.joined c.args.request
           (rows_same entries inside.rows.items grown inside.in_rows inside.joined c.self.invariant.0 c.in_ok-reach.ensures.same own) c.in_ok-put.ensures.more (c.in_ok-put.ensures.rows own),
-      c.in_ok-put.ensures.occupied c.insert.new.self c.in_ok-insert.ensures.updates.1 noted,
+      c.in_ok-put.ensures.occupied c.occupy.new.occupied c.in_ok-occupy.ensures.has (subst (AreOccupied c.occupy.new.occupied) c.as_slice.ensures.value c.in_ok-occupy.ensures.occupied),
     )
 
 pub returns-clause-ok : goal.returns-clause-ok

@@ -1,0 +1,11 @@
+use Rattle.std.proofs.Common.{◌<◌, length, refl, arith}
+use Rattle.std.proofs.lemmas.Bool.Decides.{nat_tests}
+use Rattle.std.proofs.lemmas.Option.{slice_get_read}
+use Rattle.fb_fastq.proofs.rows.occupy.Goals as goal
+
+pub returns-else-is_empty-clause-has : goal.returns-else-is_empty-clause-has
+returns-else-is_empty-clause-has c =
+    let rows = c.args.rows.now in
+    let row = c.index-rows-number.result in
+    let there = slice_get_read rows (length rows) c.args.number row refl c.requires.there c.index-rows-number.is in
+    let some : 0 < length row.items = grind (arith, nat_tests) in c.requires.occupied c.args.number row there some
