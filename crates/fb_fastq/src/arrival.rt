@@ -34,11 +34,12 @@ impl Arrival {
         ensures least { result ≤ sptf disk.now from.now.track from.now.instant waiting.now.1 }
         ensures soon { result ≤ 4 * 10 ^ 9 }
     {
-        let angle = waiting.0.0 % LANE;
-        if self.angle <= angle {
-            self.seek + (angle - self.angle)
+        let ahead = self.rotation - self.angle + waiting.0.0 % LANE;
+        // Either way all is read, so that the processor has no branch to foretell.
+        if ahead < self.rotation {
+            self.seek + ahead
         } else {
-            self.seek + (self.rotation - self.angle + angle)
+            self.seek + (ahead - self.rotation)
         }
     }
 
