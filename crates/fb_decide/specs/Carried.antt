@@ -42,6 +42,7 @@ pub record IsExtentOf (disk : Shape) (extent : Extent) : Type 0 where
   pub early : extent.begin ≤ 10 ^ 19
   pub unbroken : IsUnbroken disk extent
 
+-- each is an extent of sectors of the disk
 abbrev pub AreExtents : Shape → List Extent → Type 0
 AreExtents disk extents = AllByRecursion (IsExtentOf disk) extents
 
@@ -56,5 +57,6 @@ pub record IsWholeBlock (disk : Shape) (block : Block) : Type 0 where
   pub within : block.lbn + block.count ≤ 10 ^ 12
   pub track : block.track ≡ track_at disk block.lbn
 
+-- each registered block has sectors, and lies on the track of its first one
 abbrev pub AreWholeBlocks : Shape → List Entry → Type 0
 AreWholeBlocks disk entries = (i : ℕ) (entry : Entry) → slice_get entries i ≡ Some entry → IsWholeBlock disk entry.block

@@ -35,12 +35,15 @@ abbrev pub followed : Past → List DeliveryRow → List Delivery
 followed past [] = []
 followed past (got ∷ gots) = delivery_of past got ∷ followed (with_delivery past (delivery_of past got)) gots
 
+-- the history after these deliveries, each with its test
 abbrev pub past_with : Past → List DeliveryRow → Past
 past_with past gots = fold with_delivery past (followed past gots)
 
+-- the rows of deliveries, each with those that follow it
 abbrev pub rows_of : List Delivery → List BackRow
 rows_of deliveries = flat_map (λ delivery. GotLine delivery.got ∷ delivery.after) deliveries
 
+-- the block is registered
 abbrev pub IsRegistered : Past → Block → Type 0
 IsRegistered past block = (place : ℕ) × (slice_get (registered past) place ≡ Some block)
 
@@ -54,9 +57,11 @@ abbrev pub AreDistinct : List Block → Type 0
 AreDistinct [] = Unit {0}
 AreDistinct (block ∷ blocks) = AllByRecursion (λ other. same_block block other ≡ false) blocks × AreDistinct blocks
 
+-- the block stands in the list
 abbrev pub IsOneOf : List Block → Block → Type 0
 IsOneOf blocks block = (place : ℕ) × (slice_get blocks place ≡ Some block)
 
+-- the block that is delivered
 abbrev pub block_in : DeliveryRow → Block
 block_in got = got.block
 

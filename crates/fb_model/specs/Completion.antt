@@ -40,6 +40,7 @@ choices [] task = []
 choices (chose chooser segment blocks ∷ past) task = if chooser == task then choices past task ++ record { segment = segment; blocks = blocks } ∷ [] else choices past task
 choices (_ ∷ past) task = choices past task
 
+-- the action is a close
 abbrev pub is_close : Action → Bool
 is_close Close = true
 is_close _ = false

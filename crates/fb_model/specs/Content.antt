@@ -24,6 +24,7 @@ abbrev pub number_of : Name → ℕ
 number_of (Traced number) = number
 number_of (Promoted number) = 0
 
+-- the passages in which a service writes, each with the number that it leaves; a read writes nothing
 abbrev pub writes_of : Served → List Written
 writes_of served = if served.request.write
     then map (λ passage. record { writer = number_of served.request.name; passage = passage }) served.passages
@@ -35,9 +36,11 @@ pub record Medium : Type 0 where
   pub latent : List ℕ
   pub writes : List Written
 
+-- the disk of a run, its latent sectors, and all that its plain replay writes
 unfoldable pub medium_of : Inputs → Medium
 medium_of inputs = record { disk = inputs.disk; latent = inputs.latent; writes = flat_map writes_of (served inputs) }
 
+-- what a sector holds: what its last write left, or what it held before any write
 abbrev pub content_by : Option Written → Content → Content
 content_by None before = before
 content_by (Some write) before = Filled write.writer
@@ -48,11 +51,11 @@ content medium lbn t = content_by
     (last_or None (filter (λ write. (write.passage.lbn == lbn) && nat_le write.passage.end t) medium.writes))
     (unwritten medium.latent lbn)
 
--- the contents of n sectors from an LBN on at an instant, each with the sector's LBN
+-- what sectors hold: from an LBN on, so many, at an instant, each with its LBN
 abbrev pub ContentsAt : Type 0
 ContentsAt = ℕ → ℕ → ℕ → List (ℕ × Content)
 
--- those of the disk
+-- what n sectors from an LBN on hold on the disk at an instant
 abbrev pub contents_at : Medium → ContentsAt
 contents_at medium lbn n t = map (λ sector. (sector, content medium sector t)) (range_with_len lbn n)
 
@@ -61,10 +64,12 @@ abbrev pub found : Medium → Served → List ContentRun
 found medium served = if served.request.write then []
     else runs_of (map (λ passage. (passage.lbn, content medium passage.lbn passage.begin)) served.passages)
 
+-- the foreground row of a service, with what it found
 abbrev pub fore_row : Medium → Served → ForeRow
 fore_row medium served =
     let runs = found medium served in
     record { request = served.request; start = served.start; media = media served; finish = finish served; bad = bad_of runs; content = runs }
 
+-- the foreground rows of the plain replay, in order
 unfoldable pub fore_rows : Inputs → List ForeRow
 fore_rows inputs = map (fore_row (medium_of inputs)) (served inputs)

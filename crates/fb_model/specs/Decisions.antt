@@ -13,6 +13,7 @@ pub data Decision : Type 0 where
   idles : Dwell → Decision
   ends : ℕ → Decision
 
+-- when a decision is made
 abbrev pub instant_of : Decision → ℕ
 instant_of (serves served) = served.start
 instant_of (idles dwell) = dwell.begin
@@ -51,6 +52,7 @@ decisions_from disk instants until head now (served ∷ later) =
     idle_until head now (filter (λ instant. nat_le instant served.start) instants)
     ++ serves served ∷ decisions_from disk instants until (last_track disk served) (finish served) later
 
+-- all decisions of a run, from instant 0 and the first track on
 unfoldable pub decisions : Inputs → List Decision
 decisions inputs = decisions_from inputs.disk (instants_of inputs) inputs.until first_track 0 (served inputs)
 

@@ -35,6 +35,7 @@ pub data Event : Type 0 where
   delivered : DeliveryRow → Event
   finished : Request → Event
 
+-- what has happened, the latest event first
 abbrev pub Past : Type 0
 Past = List Event
 
@@ -138,7 +139,7 @@ abbrev pub state_from : State → Past → Block → State
 state_from before [] block = before
 state_from before (event ∷ past) block = state_after_event past event block (state_from before past block)
 
--- the state of a registered block, leaving suspension aside: wanted once it is registered, whatever is taken for its state before that
+-- the state of a registered block, leaving suspension aside; what stands for the state before the first event doesn't matter (StatesBeginWithRegistration)
 unfoldable pub bare_state : Past → Block → State
 bare_state past block = state_from Wanted past block
 

@@ -21,6 +21,7 @@ use Rattle.fb_model.specs.Segments.{live_count}
 abbrev pub bad_sectors : List ContentRun → List ℕ
 bad_sectors runs = flat_map (λ run. if same_content run.content Unreadable then range_with_len run.first run.count else []) runs
 
+-- the kind is scrub
 abbrev pub is_scrub : Kind → Bool
 is_scrub Scrub = true
 is_scrub _ = false
@@ -36,7 +37,7 @@ abbrev pub image : Medium → Past → ℕ → ℕ → List ContentRun
 image medium past task now = runs_of (flat_map (λ block. contents_at medium block.lbn block.count now)
     (filter (λ block. is_delivered ((work past task).bare block)) (blocks_of past task)))
 
--- what a block held as its last delivery began; nothing before the first
+-- what a block's sectors held as its last delivery began; nothing if it was never delivered
 abbrev pub held_at_delivery : Medium → Past → Block → List (ℕ × Content)
 held_at_delivery medium [] block = []
 held_at_delivery medium (delivered row ∷ past) block = if same_block row.block block
@@ -44,7 +45,7 @@ held_at_delivery medium (delivered row ∷ past) block = if same_block row.block
     else held_at_delivery medium past block
 held_at_delivery medium (_ ∷ past) block = held_at_delivery medium past block
 
--- a segment's live blocks, each with what it held as its delivery began
+-- what the blocks that were registered for a chosen segment held, each as its last delivery began, as the fewest runs
 abbrev pub packed : Medium → Past → Choice → List ContentRun
 packed medium past choice = runs_of (flat_map (held_at_delivery medium past) choice.blocks)
 
@@ -52,16 +53,16 @@ packed medium past choice = runs_of (flat_map (held_at_delivery medium past) cho
 abbrev pub is_newly_cleaned : Work → Choice → Bool
 is_newly_cleaned work choice = is_cleaned work choice && not (work.reported choice.segment.number)
 
--- a segment's row stands at the first test at which it is cleaned; it has these contents
+-- the rows of the segments that are cleaned and have none yet, each with the contents given for it
 abbrev pub segment_rows : (Choice → List ContentRun) → Past → ℕ → ℕ → List BackRow
 segment_rows content past now task = map
     (λ choice. SegmentLine (record { task = task; segment = choice.segment.number; instant = now; live = live_count choice.segment; content = content choice }))
     (filter (is_newly_cleaned (work past task)) (choices past task))
 
--- a backup is sealed, with this image, at the first test at which it is complete
+-- a backup is sealed, with these contents, at the first test at which it is complete
 abbrev pub seal_rows : List ContentRun → Past → ℕ → ℕ → List BackRow
-seal_rows image past now task = if is_open_backup past task && is_complete past task
-    then SealLine (record { task = task; instant = now; content = image }) ∷ []
+seal_rows content past now task = if is_open_backup past task && is_complete past task
+    then SealLine (record { task = task; instant = now; content = content }) ∷ []
     else []
 
 -- a completion row stands where a task is complete and wasn't at the test before

@@ -51,6 +51,7 @@ pub record HasOneSlot (rotation n angle : ℕ) : Type 0 where
   pub lies : IsInSlot rotation n angle slot
   pub only : (other : ℕ) → IsInSlot rotation n angle other → other ≡ slot
 
+-- each angle of a rotation lies in exactly one slot
 abbrev pub AnglesHaveOneSlot : Type 0
 AnglesHaveOneSlot = (rotation n angle : ℕ) → 0 < n → angle < rotation → HasOneSlot rotation n angle
 
@@ -100,6 +101,7 @@ abbrev pub IsPickOf : (Request → ℕ) → List Request → Option (Request × 
 IsPickOf key requests None = requests ≡ []
 IsPickOf key requests (Some pick) = IsFirstLeast key requests pick.0 pick.1
 
+-- what is picked is the first request of least key
 abbrev pub PicksAreFirstLeast : Type 0
 PicksAreFirstLeast = (key : Request → ℕ) (requests : List Request) → IsPickOf key requests (first_least key requests)
 
@@ -118,6 +120,7 @@ abbrev pub IsReadyPickOf : (Request → ℕ) → ℕ → List Request → Option
 IsReadyPickOf key now requests None = AllByRecursion (λ request. now < request.arrival) requests
 IsReadyPickOf key now requests (Some pick) = IsFirstReady key now requests pick.0 pick.1
 
+-- the same among the requests that have arrived
 abbrev pub ReadyPicksAreFirstLeast : Type 0
 ReadyPicksAreFirstLeast = (key : Request → ℕ) (now : ℕ) (requests : List Request) → IsReadyPickOf key now requests (first_ready key now requests)
 
@@ -126,6 +129,7 @@ abbrev pub OnePick : Type 0
 OnePick = (key : Request → ℕ) (requests : List Request) (pick : Request) (others : List Request)
     → IsFirstLeast key requests pick others → first_least key requests ≡ Some (pick, others)
 
+-- nor is there another pick among those that have arrived
 abbrev pub OneReadyPick : Type 0
 OneReadyPick = (key : Request → ℕ) (now : ℕ) (requests : List Request) (pick : Request) (others : List Request)
     → IsFirstReady key now requests pick others → first_ready key now requests ≡ Some (pick, others)
@@ -137,6 +141,7 @@ pub record IsInOrder (inputs : Inputs) : Type 0 where
   pub once : IsPermutation (inputs.trace ++ promoted inputs.calls) (requests inputs)
   pub ascend : IsRising (map (λ request. request.arrival) (requests inputs))
 
+-- the foreground list of accepted inputs has each request once, by arrival
 abbrev pub ForegroundListsAscend : Type 0
 ForegroundListsAscend = (inputs : Inputs) → IsAccepted inputs → IsInOrder inputs
 
@@ -155,6 +160,7 @@ pub record ServesEachOnce (disk : Disk) (requests : List Request) (replay : List
   pub in_turn : AreInTurn disk first_track 0 replay
   pub ascend : IsRising (map (λ served. served.start) replay)
 
+-- a plain replay serves each request once, one after another
 abbrev pub ReplaysServeEachOnce : Type 0
 ReplaysServeEachOnce = (disk : Disk) (key : Key) (requests : List Request) → ServesEachOnce disk requests (plain_replay disk key requests)
 
@@ -169,6 +175,7 @@ pub record HaveOneRow (requests : List Request) (rows : List ForeRow) : Type 0 w
   pub arrived : AllByRecursion (λ row. row.request.arrival ≤ row.start) rows
   pub one_by_one : AreOneByOne 0 rows
 
+-- each request of the foreground list has one foreground row
 abbrev pub RequestsHaveOneRow : Type 0
 RequestsHaveOneRow = (inputs : Inputs) → HaveOneRow (requests inputs) (fore_rows inputs)
 
@@ -195,6 +202,7 @@ pub record IsOnlyReplay (disk : Disk) (key : Key) (requests : List Request) : Ty
   pub follows : FollowsRules disk key first_track 0 requests (plain_replay disk key requests)
   pub only : (other : List Served) → FollowsRules disk key first_track 0 requests other → other ≡ plain_replay disk key requests
 
+-- where requests stand by arrival, only the plain replay follows the rules
 abbrev pub OnePlainReplay : Type 0
 OnePlainReplay = (disk : Disk) (key : Key) (requests : List Request) → IsRising (map (λ request. request.arrival) requests) → IsOnlyReplay disk key requests
 
@@ -206,7 +214,7 @@ OneBestPlan = (disk : Disk) (gap : Gap) (wanted : List Block) (a b : Plan) → I
 
 -- ---- the background
 
--- the state of a registered block begins with its registration: it is the same, whatever is taken for its state before
+-- the state of a registered block is the same, whatever state it is taken to have had before the first event
 abbrev pub StatesBeginWithRegistration : Type 0
 StatesBeginWithRegistration = (past : Past) (block : Block) (before : State)
     → list_any (same_block block) (registered past) ≡ true → state_from before past block ≡ bare_state past block

@@ -41,18 +41,23 @@ pub record Served : Type 0 where
   pub start : ℕ
   pub passages : List Passage
 
+-- when the first sector begins to pass
 abbrev pub media : Served → ℕ
 media served = media_of served.passages
 
+-- when the last sector has passed
 abbrev pub finish : Served → ℕ
 finish served = finish_of served.start served.passages
 
+-- the track of the request's first sector
 abbrev pub target : Disk → Served → Track
 target disk served = track_at disk.map served.request.lbn
 
+-- the track of its last sector, on which the head then stands
 abbrev pub last_track : Disk → Served → Track
 last_track disk served = track_at disk.map (served.request.lbn + served.request.count - 1)
 
+-- the service of a request from a track and an instant on
 abbrev pub service : Disk → Track → ℕ → Request → Served
 service disk source start request = record {
   request = request;
@@ -61,6 +66,7 @@ service disk source start request = record {
   passages = passages disk source start request.write request.lbn request.count;
 }
 
+-- the request has arrived by now
 abbrev pub has_arrived : ℕ → Request → Bool
 has_arrived now request = nat_le request.arrival now
 
@@ -74,6 +80,7 @@ abbrev pub kept : Request → Option (Request × List Request) → Option (Reque
 kept request None = None
 kept request (Some best) = Some (best.0, request ∷ best.1)
 
+-- the pick, given whether the first request has arrived
 abbrev pub pick_with : Bool → (Request → ℕ) → Request → List Request → Option (Request × List Request) → Option (Request × List Request)
 pick_with true key request others best = better key request others best
 pick_with false key request others best = kept request best
@@ -103,6 +110,7 @@ plain (suc n) disk key head now left =
     served ∷ plain n disk key (last_track disk served) (finish served) pick.1)
     (first_ready (key disk head start) start left)) []
 
+-- where the head stands at instant 0
 abbrev pub first_track : Track
 first_track = record { cylinder = 0; head = 0 }
 

@@ -43,6 +43,7 @@ late_dwell disk gap (Detour track leave) = record { track = gap.target; begin = 
 abbrev pub block_begin : Shape → Block → ℕ → ℕ
 block_begin disk block t = begin_from disk (place_at disk block.lbn) t
 
+-- when that passage ends
 abbrev pub block_end : Shape → Block → ℕ → ℕ
 block_end disk block t =
     let after = block_begin disk block t + 1 in
@@ -52,6 +53,7 @@ block_end disk block t =
 abbrev pub catches : Disk → Dwell → Block → Bool
 catches disk dwell block = same_track dwell.track block.track && nat_le (block_end disk.map block dwell.begin) dwell.end
 
+-- one of the plan's two dwells catches the block
 abbrev pub is_caught : Disk → Gap → Plan → Block → Bool
 is_caught disk gap plan block = catches disk (early_dwell disk gap plan) block || catches disk (late_dwell disk gap plan) block
 
@@ -59,6 +61,7 @@ is_caught disk gap plan block = catches disk (early_dwell disk gap plan) block |
 unfoldable pub value : Disk → Gap → List Block → Plan → ℕ
 value disk gap wanted plan = sum_by (λ block. block.weight * block.count) (filter (is_caught disk gap plan) wanted)
 
+-- tracks come by cylinder, then by head
 abbrev pub IsTrackBefore : Track → Track → Type 0
 IsTrackBefore a b = (a.cylinder < b.cylinder) ⊎ ((a.cylinder ≡ b.cylinder) × (a.head < b.head))
 

@@ -48,6 +48,7 @@ caught disk contents how dwell blocks = in_order (map
     (λ block. delivery contents how block (block_begin disk.map block dwell.begin) (block_end disk.map block dwell.begin))
     (filter (catches disk dwell) blocks))
 
+-- those of these blocks that a dwell doesn't catch
 abbrev pub missed : Disk → Dwell → List Block → List Block
 missed disk dwell blocks = filter (λ block. not (catches disk dwell block)) blocks
 
@@ -55,10 +56,11 @@ missed disk dwell blocks = filter (λ block. not (catches disk dwell block)) blo
 abbrev pub lies_in : Request → Block → Bool
 lies_in request block = nat_le request.lbn block.lbn && nat_le (block.lbn + block.count) (request.lbn + request.count)
 
--- when a sector's passage begins, and when it ends
+-- when a sector's passage begins; 0 for a sector that isn't passed, which is never asked
 abbrev pub begin_at : List Passage → ℕ → ℕ
 begin_at passages lbn = option_map_or (λ passage. passage.begin) (find (λ passage. passage.lbn == lbn) passages) 0
 
+-- when a sector's passage ends; 0 for a sector that isn't passed, which is never asked
 abbrev pub end_at : List Passage → ℕ → ℕ
 end_at passages lbn = option_map_or (λ passage. passage.end) (find (λ passage. passage.lbn == lbn) passages) 0
 
@@ -68,12 +70,12 @@ rides contents served blocks = if served.request.write then [] else in_order (ma
     (λ block. delivery contents ByRide block (begin_at served.passages block.lbn) (end_at served.passages (block.lbn + block.count - 1)))
     (filter (lies_in served.request) blocks))
 
--- what the early dwell of a gap catches, and then the late dwell of the blocks that are left
+-- what the early dwell of a gap catches, and then what the late dwell catches of the blocks that are left
 abbrev pub caught_in_gap : Disk → ContentsAt → Gap → Plan → List Block → List DeliveryRow
 caught_in_gap disk contents gap plan wanted = caught disk contents ByGap (early_dwell disk gap plan) wanted
     ++ caught disk contents ByGap (late_dwell disk gap plan) (missed disk (early_dwell disk gap plan) wanted)
 
--- the blocks that are left then
+-- the blocks that neither dwell of the gap catches
 abbrev pub missed_in_gap : Disk → Gap → Plan → List Block → List Block
 missed_in_gap disk gap plan wanted = missed disk (late_dwell disk gap plan) (missed disk (early_dwell disk gap plan) wanted)
 

@@ -23,7 +23,7 @@ pub data IsSublist {A : Type 0} : List A → List A → Type 0 where
   left_out : {x : A} {xs ys : List A} → IsSublist xs ys → IsSublist xs (x ∷ ys)
   taken : {x : A} {xs ys : List A} → IsSublist xs ys → IsSublist (x ∷ xs) (x ∷ ys)
 
--- where a request is served, its gap and the plan are so; elsewhere there is no gap, and nothing looks at the plan
+-- the gap and the plan meet a condition, if a request is served; else nothing is asked, since there is no gap
 abbrev pub WhereServed : (Gap → Plan → Type 0) → Disk → Decision → Plan → Type 0
 WhereServed P disk (serves served) plan = P (gap_of disk served) plan
 WhereServed P disk _ plan = Unit {0}
@@ -32,6 +32,7 @@ WhereServed P disk _ plan = Unit {0}
 abbrev pub HasPlan : Disk → Decision → Plan → Type 0
 HasPlan disk = WhereServed (IsPlan disk) disk
 
+-- a decision that serves a request has one of its gap's plans
 abbrev pub IsPlanned : Inputs → Medium → Past → Decision × Part → Type 0
 IsPlanned inputs medium past step = HasPlan inputs.disk step.0 step.1.plan
 

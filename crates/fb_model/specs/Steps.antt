@@ -40,7 +40,7 @@ blocks_by disk past task _ = []
 abbrev pub take_call : Shape → Past → Call → Past
 take_call disk past call = called call (blocks_by disk past call.task call.action) ∷ past
 
--- the calls that haven't taken effect: in a script instants don't fall (`instants` of `IsAccepted`), so those that have are its first
+-- the calls of a script that haven't taken effect; its instants don't fall, so those that have are always its first calls
 abbrev pub calls_left : List Call → Past → List Call
 calls_left calls past = drop (length (calls_of past)) calls
 
@@ -107,5 +107,6 @@ task_row past task =
       complete = is_complete past task;
     })
 
+-- the rows of all tasks, in order of opening
 unfoldable pub task_rows : Past → List BackRow
 task_rows past = map (task_row past) (task_numbers past)

@@ -62,8 +62,8 @@ pub fn one_best_plan()
     ensures { OneBestPlan }
 {}
 
-/// The state of a registered block begins with its registration: nothing that may be taken for its
-/// state before that changes it.
+/// The state of a registered block doesn't depend on the state that it is taken to have before the first
+/// event.
 pub fn states_begin_with_registration()
     ensures { StatesBeginWithRegistration }
 {}
