@@ -35,7 +35,7 @@ impl Arrival {
         ensures soon { result ≤ 4 * 10 ^ 9 }
     {
         let ahead = self.rotation - self.angle + waiting.0.0 % LANE;
-        // Either way all is read, so that the processor has no branch to foretell.
+        // Which it is, is as good as random. Both sums read the same numbers, so that no branch is needed.
         if ahead < self.rotation {
             self.seek + ahead
         } else {
