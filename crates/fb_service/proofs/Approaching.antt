@@ -1,5 +1,5 @@
 -- The time until a slot begins to pass.
-use Rattle.std.proofs.Common.{◌≡◌, ℕ, ◌+◌, ◌-◌, ◌%◌, ◌<◌, ◌≤◌, ap, sym, ◌∙◌, arith}
+use Rattle.std.proofs.Common.{◌≡◌, ℕ, ◌+◌, ◌-◌, ◌%◌, ◌<◌, ◌≤◌, ap, ◌∙◌, arith}
 use Rattle.std.proofs.Math.Nat.{mod-add-mod}
 use Rattle.fb_units.specs.Wait.{wait}
 use Rattle.fb_units.specs.declared.types.Place.{Place}
