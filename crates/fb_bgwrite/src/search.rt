@@ -526,11 +526,15 @@ fn try_first(disk: &Disk, pending: &Pending, gap: &Gap, part: Part, start: Optio
     }
 }
 
-// Whether the best so far is at least as good as each spill on a track of this cylinder, by its weights.
+// Whether there is a best so far, and it is at least as good as each spill on a track of this cylinder, by
+// its weights.
 fn is_light(pending: &Pending, cylinder: u32, start: Option<Valued>) -> bool
     requires { cylinder < 2 ^ 32 - 1 }
     ensures { result ≡ true → (disk : Disk) (gap : Gap) → ArePending disk pending.now → BeatsRange disk gap (wanted_of pending.now) start cylinder (cylinder + 1) }
 {
+    if start.is_none() {
+        return false;
+    }
     let weight = pending.greatest_weight_in(cylinder, cylinder + 1);
     is_enough(start, weight, cylinder)
 }
