@@ -183,9 +183,9 @@ fn try_arrival(
     try_plan(search.disk, search.wanted, search.gap, sides, plan, best)
 }
 
-// Tries all plans of a way. Of leaves at one instant, as many blocks may pass at once, most are
-// tried once.
-pub fn try_leaves(search: &Search, way: Way, ceilings: &Ceilings, start: Scored) -> Scored
+// Tries all plans of a way whose track has many blocks. Of leaves at one instant, as many of them may
+// pass at once, most are tried once.
+fn try_noted(search: &Search, way: Way, ceilings: &Ceilings, start: Scored) -> Scored
     requires way { IsWay search.now.disk.now search.now.gap.now way }
     requires track { IsTrackOf search.now.disk.now.map (early_track search.now.gap.now way) }
     requires search { IsSearch search.now }
@@ -208,6 +208,50 @@ pub fn try_leaves(search: &Search, way: Way, ceilings: &Ceilings, start: Scored)
         try_once(search, way, &both, ceilings, entry, &mut tried);
     }
     tried.best
+}
+
+// Tries all plans of a way, for each block the leave at its end.
+fn try_each(search: &Search, way: Way, ceilings: &Ceilings, start: Scored) -> Scored
+    requires way { IsWay search.now.disk.now search.now.gap.now way }
+    requires track { IsTrackOf search.now.disk.now.map (early_track search.now.gap.now way) }
+    requires search { IsSearch search.now }
+    requires ceilings { AreCeilings search.now.disk.now search.now.gap.now search.now.wanted.now way ceilings.now }
+    requires in_time { ceilings.now.begin + ceilings.now.move_on ≤ search.now.gap.now.deadline }
+    requires best { IsFound search.now start }
+    ensures scored { IsFound search.now result }
+    ensures keeps { IsNoWorse search.now result.plan start.plan }
+    ensures tried { (leave : ℕ) → IsPlan search.now.disk.now search.now.gap.now (plan_by way leave) → IsNoWorse search.now result.plan (plan_by way leave) }
+{
+    let stay = stay_of(search.disk, search.gap, way);
+    let both = sides_of(search.disk, search.wanted, search.gap.target, stay);
+    let mut best = try_arrival(search, way, &both, ceilings, start);
+    for i in 0..both.early.len() {
+        let entry = both.early.get(i);
+        best = try_leave(search, way, &both, ceilings, entry, best);
+    }
+    best
+}
+
+// So many blocks of a track are tried without notes, which take longer to clear than they spare.
+const FEW: u32 = 16;
+
+// Tries all plans of a way.
+pub fn try_leaves(search: &Search, way: Way, ceilings: &Ceilings, start: Scored) -> Scored
+    requires way { IsWay search.now.disk.now search.now.gap.now way }
+    requires track { IsTrackOf search.now.disk.now.map (early_track search.now.gap.now way) }
+    requires search { IsSearch search.now }
+    requires ceilings { AreCeilings search.now.disk.now search.now.gap.now search.now.wanted.now way ceilings.now }
+    requires in_time { ceilings.now.begin + ceilings.now.move_on ≤ search.now.gap.now.deadline }
+    requires best { IsFound search.now start }
+    ensures scored { IsFound search.now result }
+    ensures keeps { IsNoWorse search.now result.plan start.plan }
+    ensures tried { (leave : ℕ) → IsPlan search.now.disk.now search.now.gap.now (plan_by way leave) → IsNoWorse search.now result.plan (plan_by way leave) }
+{
+    let track = stay_of(search.disk, search.gap, way).track;
+    if blocks_on(search.disk, search.wanted, track).len() <= FEW {
+        return try_each(search, way, ceilings, start);
+    }
+    try_noted(search, way, ceilings, start)
 }
 
 // Tries all plans that wait at the source.

@@ -7,7 +7,7 @@ use Rattle.fb_plan.proofs.Ties.{beats-self, beats-trans}
 use Rattle.fb_plan.proofs.Passed.{entries-more, way_done}
 use Rattle.std.proofs.Math.ListN.{replicate}
 use Rattle.fb_detour.proofs.Arrays.{zeros}
-use Rattle.fb_detour.proofs.candidates.try_leaves.Goals as goal
+use Rattle.fb_detour.proofs.candidates.try_noted.Goals as goal
 
 pub try_arrival-best-requires-clause-sides : goal.try_arrival-best-requires-clause-sides
 try_arrival-best-requires-clause-sides c =

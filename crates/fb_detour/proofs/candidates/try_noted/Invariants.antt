@@ -4,7 +4,7 @@ use Rattle.fb_wanted.specs.States.{on_track, is_wanted, wanted_of}
 use Rattle.fb_model.specs.Plans.{block_end}
 use Rattle.fb_plan.specs.Ways.{IsScored, Beats, plan_by, early_track, arrival, move_on}
 use Rattle.fb_detour.specs.Bounds.{AreNotes}
-use Rattle.fb_detour.proofs.candidates.try_leaves.Given as goal
+use Rattle.fb_detour.proofs.candidates.try_noted.Given as goal
 
 abbrev pub invariant-loop-i : goal.invariant-loop-i
 invariant-loop-i l = IsScored l.search.disk.now l.search.gap.now (wanted_of l.search.wanted.now) l.tried.best
