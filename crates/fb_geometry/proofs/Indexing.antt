@@ -1,23 +1,21 @@
 -- The marks of an accepted outline are its index of bad slots.
 use Rattle.fb_geometry.proofs.Words.{AllByRecursion, AreInOrder, AreMarksOf, Bool, HasZones, IsAscending, IsIndexed}
 use Rattle.fb_geometry.proofs.Words.{IsZoneAt, IsZoneOf, List, Mark, Place, Shape, Some, Zone, [], among_unmarked}
-use Rattle.fb_geometry.proofs.Words.{and_from, and_parts, ap, arith, by_head, cases_eq, cases_lt, cases_order}
+use Rattle.fb_geometry.proofs.Words.{and_from, and_parts, ap, arith, by_head, cases_order}
 use Rattle.fb_geometry.proofs.Words.{cylinder_slots, eq-eqb, eqb-true, false, filter, good_track, indexes, inl, inr}
-use Rattle.fb_geometry.proofs.Words.{is_among, is_mark_before, is_outside, length, list_any, lt-ltb, ltb-true, map}
-use Rattle.fb_geometry.proofs.Words.{mark_of, marks_on, nat_lt, ne_eqb, not, or_cases, or_left, or_right, position_in}
+use Rattle.fb_geometry.proofs.Words.{is_among, is_mark_before, is_outside, list_any, lt-ltb, ltb-true, map}
+use Rattle.fb_geometry.proofs.Words.{mark_of, marks_on, nat_lt, not, or_cases, or_left, or_right, position_in}
 use Rattle.fb_geometry.proofs.Words.{positions, rank, refl, same_Some, same_mark, same_place, slice_get}
-use Rattle.fb_geometry.proofs.Words.{slice_get_within, slot_at, subst, suc, sym, true, true≢false, with_index}
-use Rattle.fb_geometry.proofs.Words.{zone_at, ℕ, ◌&&◌, ◌*◌, ◌+◌, ◌-◌, ◌<◌, ◌==◌, ◌||◌, ◌∙◌, ◌∷◌, ◌≡◌, ◌≤◌}
-use Rattle.fb_geometry.proofs.{Slips.all_over, Slips.not_among_later, Slips.indexes-ascend, Slips.marked}
-use Rattle.fb_geometry.proofs.{Slips.rank-step, Slips.rank-below, Slips.rank_unmarked, Order.marks_on-ascend}
+use Rattle.fb_geometry.proofs.Words.{slice_get_within, slot_at, subst, suc, sym, true, true≢false}
+use Rattle.fb_geometry.proofs.Words.{zone_at, ℕ, ◌&&◌, ◌*◌, ◌+◌, ◌-◌, ◌<◌, ◌==◌, ◌∙◌, ◌∷◌, ◌≡◌}
 use Rattle.fb_geometry.proofs.{Turns.get-cylinder_slots, Turns.length-cylinder_slots, Turns.good_cylinder-is}
 use Rattle.fb_geometry.proofs.{Counting.same_places, Marking.position_is, Marking.mark_of-slot_at, Marking.on_disk}
 use Rattle.fb_geometry.proofs.{Marking.among-on, Marking.same_marks, Marking.same_mark-refl, Leasts.Among}
 use Rattle.fb_geometry.proofs.{Leasts.among-map, Leasts.among-mapped, Leasts.among-any, Leasts.any-among}
 use Rattle.fb_geometry.proofs.{Clashes.same_place-refl, Clashes.mark_among, Clashes.place_among, Clashes.inside_of}
-use Rattle.fb_geometry.proofs.{Clashes.among_others, Lookups.goes, Lookups.slot_of, Lookups.good_index}
-use Rattle.fb_geometry.proofs.{Lookups.good_lies, Faultless.slots_at-zone, Faultless.all_get, Faultless.filter-none}
-use Rattle.fb_geometry.proofs.{Grid.zero_add, Grid.within}
+use Rattle.fb_geometry.proofs.Words.{nat_tests}
+use Rattle.fb_geometry.proofs.{Slips.all_over, Slips.not_among_later, Slips.indexes-ascend, Slips.is_marked_at, Slips.index_of, Slips.goes, Slips.rank_free, Slips.rank-below, Order.marks_on-ascend}
+use Rattle.fb_geometry.proofs.{Clashes.among_others, Lookups.slot_of, Lookups.good_lies, Lookups.defects_of, Lookups.good_of, Faultless.slots_at-zone, Faultless.all_get, Faultless.filter-none}
 
 -- ---- ascending numbers that have the same members
 
@@ -42,32 +40,14 @@ ascending_same (x ∷ xs) (y ∷ ys) a b same = elim (cases_order x y) [
 ]
   where
     rest : (q : ℕ) → x ≡ y → list_any (λ other. other == q) xs ≡ list_any (λ other. other == q) ys
-    rest q here = elim (cases_eq x q) [
-      | inl at ↦ subst (λ q. list_any (λ other. other == q) xs ≡ list_any (λ other. other == q) ys) at (not_among_later x xs a.0 ∙ sym (subst (λ x. list_any (λ other. other == x) ys ≡ false) (sym here) (not_among_later y ys b.0)))
-      | inr off ↦
-          let off_y : y ≡ q → ⊥ = λ e. off (here ∙ e) in
-          sym (ap (λ b. b || list_any (λ other. other == q) xs) (ne_eqb x q off)) ∙ (same q ∙ ap (λ b. b || list_any (λ other. other == q) ys) (ne_eqb y q off_y))
-    ]
+    rest q here =
+        let apart : x ≡ q → list_any (λ other. other == q) xs ≡ false = λ at. not_among_later q xs (all_over q x xs (omega arith) a.0) in
+        let off : y ≡ q → list_any (λ other. other == q) ys ≡ false = λ at. not_among_later q ys (all_over q y ys (omega arith) b.0) in
+        grind (arith, nat_tests, same q, apart, off)
 
 -- ---- members
 
 module _ {A : Type 0} (test : A → Bool) where
-  beyond : (a q : ℕ) (xs : List A) → a + length xs ≤ q → list_any (λ other. other == q) (indexes test a xs) ≡ false
-  beyond a q [] h = refl
-  beyond a q (x ∷ xs) h = step (test x) (indexes test (a + 1) xs) (beyond (a + 1) q xs (omega arith))
-    where
-      step : (b : Bool) (numbers : List ℕ) → list_any (λ other. other == q) numbers ≡ false → list_any (λ other. other == q) (with_index b a numbers) ≡ false
-      step true numbers e = rw (ne_eqb a q (λ e. omega arith)) e
-      step false numbers e = e
-
-  index_of : (xs : List A) (q : ℕ) → list_any (λ other. other == q) (indexes test 0 xs) ≡ true → (x : A) × (slice_get xs q ≡ Some x) × (test x ≡ true)
-  index_of xs q h = elim (cases_lt q (length xs)) [
-    | inl inside ↦
-        let one = within xs q inside in
-        (one.0, one.1, sym (marked test 0 xs q one.0 one.1) ∙ (ap (λ n. list_any (λ other. other == n) (indexes test 0 xs)) (zero_add q) ∙ h))
-    | inr out ↦ absurd (true≢false (sym h ∙ beyond 0 q xs (omega arith)))
-  ]
-
   -- marks in order are the indexes of the elements that pass, if each is the index of one, and each of them has its mark
   marks_indexed : (cylinder : ℕ) (marks : List Mark) (xs : List A) → AreInOrder marks
       → ((q : ℕ) → Among marks (record { cylinder = cylinder; position = q }) → (x : A) × (slice_get xs q ≡ Some x) × (test x ≡ true))
@@ -77,8 +57,8 @@ module _ {A : Type 0} (test : A → Bool) where
       iff_same (list_any (λ other. other == q) (positions (marks_on cylinder marks))) (list_any (λ other. other == q) (indexes test 0 xs))
       (λ on. let one = any-among (same_mark mark) marks (sym (among-on mark marks) ∙ on) in
       let found = to q (one.1.0, one.1.1 ∙ ap Some (sym (same_marks mark one.0 one.2))) in
-      ap (λ n. list_any (λ other. other == n) (indexes test 0 xs)) (sym (zero_add q)) ∙ (marked test 0 xs q found.0 found.1 ∙ found.2))
-      (λ on. let found = index_of xs q on in among-on mark marks ∙ among-any (same_mark mark) marks mark (from q found.0 found.1 found.2) (same_mark-refl mark)))
+      is_marked_at test xs q found.0 found.1 ∙ found.2)
+      (λ on. let found = index_of test xs q on in among-on mark marks ∙ among-any (same_mark mark) marks mark (from q found.0 found.1 found.2) (same_mark-refl mark)))
 
 mark_by : (mark : Mark) (cylinder position : ℕ) → mark.cylinder ≡ cylinder → mark.position ≡ position → mark ≡ record { cylinder = cylinder; position = position }
 mark_by mark cylinder position c p = ap (λ c. record { cylinder = c; position = mark.position }) c ∙ ap (λ p. record { cylinder = cylinder; position = p }) p
@@ -108,7 +88,7 @@ module _ (disk : Shape) (zones : HasZones disk) (defects : List Mark) (are : Are
           let inside = inside_of disk zones disk.defects defects are.inside are.same place one.1 in
           let c : place.track.cylinder ≡ cylinder = ap (λ mark. mark.cylinder) one.2 in
           let slot = place_slot zone cylinder place at c inside in
-          let here = slot_of disk zone cylinder at (indexes (is_among disk.defects) 0 (cylinder_slots zone disk.heads cylinder)) refl place c slot.0 slot.1 in
+          let here = (slot_of disk zone cylinder at place c slot.0 slot.1).1 in
           let position : position_in zone disk.heads place ≡ q = sym slot.2 ∙ ap (λ mark. mark.position) one.2 in
           (place, ap (slice_get (cylinder_slots zone disk.heads cylinder)) (sym position) ∙ here, among-any (same_place place) disk.defects place one.1 (same_place-refl place))
 
@@ -145,8 +125,7 @@ module _ (disk : Shape) (zones : HasZones disk) (defects grown : List Mark) (are
         let ascend = marks_on-ascend a.cylinder defects are.ordered in
         let less : a.position < b.position = ltb-true a.position b.position parts.1 in
         let free : list_any (λ other. other == a.position) numbers ≡ false = among-on a defects ∙ good_mark a one in
-        let here : rank (a.position + 1) numbers ≡ rank a.position numbers = rank_unmarked a.position numbers free in
-        let step = rank-step (a.position + 1) b.position numbers ascend (omega arith) in
+        let step = rank_free numbers ascend a.position b.position free less in
         let there : rank b.position (positions (marks_on b.cylinder defects)) ≡ rank b.position numbers = ap (λ c. rank b.position (positions (marks_on c defects))) (sym cylinder) in
         or_right (nat_lt a.cylinder b.cylinder) ((a.cylinder == b.cylinder) && nat_lt (among_unmarked defects a).position (among_unmarked defects b).position)
         (and_from (a.cylinder == b.cylinder) (nat_lt (among_unmarked defects a).position (among_unmarked defects b).position) parts.0
@@ -172,17 +151,14 @@ module _ (disk : Shape) (zones : HasZones disk) (defects grown : List Mark) (are
       some : 0 < zone.sectors
       some = at.ranges.some_sectors
 
-      indexed : positions (marks_on cylinder defects) ≡ indexes (is_among disk.defects) 0 (cylinder_slots zone disk.heads cylinder)
-      indexed = defects_indexed disk zones defects are zone cylinder at
-
       whole-is : by_head disk cylinder (good_track disk zone) ≡ filter (λ place. not (is_among disk.defects place)) (cylinder_slots zone disk.heads cylinder)
       whole-is = good_cylinder-is zone disk.heads some disk cylinder refl
 
       -- the index of a good place, by its mark
       index_is : (place : Place) → place.track.cylinder ≡ cylinder → (mark_of disk place).position ≡ position_in zone disk.heads place
-          → (among_unmarked defects (mark_of disk place)).position ≡ position_in zone disk.heads place - rank (position_in zone disk.heads place) (positions (marks_on cylinder defects))
+          → (among_unmarked defects (mark_of disk place)).position ≡ position_in zone disk.heads place - rank (position_in zone disk.heads place) (defects_of disk zone cylinder)
       index_is place c e = ap (λ c. (mark_of disk place).position - rank (mark_of disk place).position (positions (marks_on c defects))) c
-          ∙ ap (λ p. p - rank p (positions (marks_on cylinder defects))) e
+          ∙ (ap (λ p. p - rank p (positions (marks_on cylinder defects))) e ∙ ap (λ ns. position_in zone disk.heads place - rank (position_in zone disk.heads place) ns) (defects_indexed disk zones defects are zone cylinder at))
 
       to : (q : ℕ) → Among (map (among_unmarked defects) grown) (record { cylinder = cylinder; position = q })
           → (place : Place) × (slice_get (by_head disk cylinder (good_track disk zone)) q ≡ Some place) × (is_among disk.grown place ≡ true)
@@ -193,25 +169,23 @@ module _ (disk : Shape) (zones : HasZones disk) (defects grown : List Mark) (are
           let inside = inside_of disk zones disk.grown grown those.inside those.same place one.1 in
           let c : place.track.cylinder ≡ cylinder = ap (λ mark. mark.cylinder) one.2 ∙ ap (λ mark. mark.cylinder) found.2 in
           let slot = place_slot disk zones defects are zone cylinder place at c inside in
-          let index : position_in zone disk.heads place - rank (position_in zone disk.heads place) (positions (marks_on cylinder defects)) ≡ q =
-          sym (index_is place c slot.2) ∙ (ap (λ mark. (among_unmarked defects mark).position) one.2 ∙ ap (λ mark. mark.position) found.2) in
-          let here = goes (is_among disk.defects) (cylinder_slots zone disk.heads cylinder) (positions (marks_on cylinder defects)) indexed (position_in zone disk.heads place) place
-          (slot_of disk zone cylinder at (positions (marks_on cylinder defects)) indexed place c slot.0 slot.1) (good_place place one.1) in (
+          let index = sym (index_is place c slot.2) ∙ (ap (λ mark. (among_unmarked defects mark).position) one.2 ∙ ap (λ mark. mark.position) found.2) in
+          let here = goes (is_among disk.defects) (cylinder_slots zone disk.heads cylinder) (position_in zone disk.heads place) place (slot_of disk zone cylinder at place c slot.0 slot.1).1 (good_place place one.1) in (
             place,
-            ap (slice_get (by_head disk cylinder (good_track disk zone))) (sym index) ∙ (ap (λ xs. slice_get xs (position_in zone disk.heads place - rank (position_in zone disk.heads place) (positions (marks_on cylinder defects)))) whole-is ∙ here),
+            ap (λ xs. slice_get xs q) whole-is ∙ subst (λ k. slice_get (good_of disk zone cylinder) k ≡ Some place) index here,
             among-any (same_place place) disk.grown place one.1 (same_place-refl place),
           )
 
       from : (q : ℕ) (place : Place) → slice_get (by_head disk cylinder (good_track disk zone)) q ≡ Some place → is_among disk.grown place ≡ true
           → Among (map (among_unmarked defects) grown) (record { cylinder = cylinder; position = q })
       from q place at_q bad =
-          let in_good : slice_get (filter (λ place. not (is_among disk.defects place)) (cylinder_slots zone disk.heads cylinder)) q ≡ Some place = ap (λ xs. slice_get xs q) (sym whole-is) ∙ at_q in
-          let on = good_lies disk zone cylinder at (positions (marks_on cylinder defects)) indexed q place in_good in
+          let good = good_lies disk zone cylinder at q place (ap (λ xs. slice_get xs q) (sym whole-is) ∙ at_q) in
+          let on = good.lies in
           let gone = any-among (same_place place) disk.grown bad in
           let listed : Among disk.grown place = (gone.1.0, gone.1.1 ∙ ap Some (sym (same_places place gone.0 gone.2))) in
           let inside = inside_of disk zones disk.grown grown those.inside those.same place listed in
           let slot = place_slot disk zones defects are zone cylinder place at on.cylinder_is inside in
-          let index : (among_unmarked defects (mark_of disk place)).position ≡ q = index_is place on.cylinder_is slot.2 ∙ sym (good_index disk zone cylinder at (positions (marks_on cylinder defects)) indexed q place in_good) in
+          let index : (among_unmarked defects (mark_of disk place)).position ≡ q = index_is place on.cylinder_is slot.2 ∙ sym good.index in
           let marked_ = among-map (among_unmarked defects) grown (mark_of disk place) (mark_among disk zones disk.grown grown those.inside those.same place listed) in
           (marked_.0, marked_.1 ∙ ap Some (mark_by (among_unmarked defects (mark_of disk place)) cylinder q on.cylinder_is index))
 

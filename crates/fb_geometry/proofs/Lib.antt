@@ -16,4 +16,3 @@ pub mod Judging
 pub mod Once
 pub mod Rotation
 pub mod Stretched
-pub mod Even

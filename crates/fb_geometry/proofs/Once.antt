@@ -1,7 +1,7 @@
 -- An accepted outline is sound: no place is twice among its places, and no bad one is among them.
-use Rattle.fb_geometry.proofs.Words.{AllByRecursion, HasOwnPlaces, IsCylinderOf, IsFaultless, IsSound, Layout, LiesOn}
-use Rattle.fb_geometry.proofs.Words.{List, None, PerCylinder, PerTrack, Place, Shape, Some, Zone, [], ap, arith}
-use Rattle.fb_geometry.proofs.Words.{data_list, data_list_by, false, first_apart, flat_map, is_among, none-some}
+use Rattle.fb_geometry.proofs.Words.{AllByRecursion, HasOwnPlaces, IsCylinderOf, IsFaultless, IsSound, LiesOn}
+use Rattle.fb_geometry.proofs.Words.{List, None, PerTrack, Place, Shape, Some, Zone, [], ap, arith}
+use Rattle.fb_geometry.proofs.Words.{data_list, false, first_apart, flat_map, is_among, none-some}
 use Rattle.fb_geometry.proofs.Words.{places, range_with_len, refl, same_Some, slice_get, subst, suc, sym, zero}
 use Rattle.fb_geometry.proofs.Words.{zone_places, ℕ, ◌++◌, ◌+◌, ◌-◌, ◌<◌, ◌∙◌, ◌∷◌, ◌≡◌, ◌≢◌, ◌≤◌}
 use Rattle.fb_geometry.proofs.{Grid.all_weaker, Faultless.all_get, Faultless.next, Faultless.zones_from}
@@ -73,13 +73,13 @@ module _ (disk : Shape) (h : IsFaultless disk) where
   zone_cylinders i zone at = all-parts (λ place. (zone.first ≤ place.track.cylinder) × (place.track.cylinder ≤ zone.last)) (data_list disk zone) zone.first (zone.last + 1 - zone.first)
       (λ k l. all_weaker (LiesOn disk (zone.first + k)) (λ place. (zone.first ≤ place.track.cylinder) × (place.track.cylinder ≤ zone.last))
       (λ place on. (omega (arith, on.cylinder_is), omega (arith, on.cylinder_is))) (data_list disk zone (zone.first + k))
-      (all_from_index (LiesOn disk (zone.first + k)) (data_list disk zone (zone.first + k)) (λ j place found. (entry_of disk zone (zone.first + k) disk.layout (zone_by_bounds disk h i zone (zone.first + k) (of_cylinder i zone k at l)) refl j place found).2)))
+      (all_from_index (LiesOn disk (zone.first + k)) (data_list disk zone (zone.first + k)) (λ j place found. (entry_of disk zone (zone.first + k) (zone_by_bounds disk h i zone (zone.first + k) (of_cylinder i zone k at l)) j place found).0)))
 
   distinct_zone : (i : ℕ) (zone : Zone) → slice_get disk.zones i ≡ Some zone → Distinct (zone_places disk zone)
   distinct_zone i zone at = distinct-parts (λ place. place.track.cylinder) (data_list disk zone) zone.first (zone.last + 1 - zone.first)
       (λ k l. let here = zone_by_bounds disk h i zone (zone.first + k) (of_cylinder i zone k at l) in (
-        distinct_from (data_list disk zone (zone.first + k)) (one_index_on disk zone (zone.first + k) disk.layout here refl),
-        all_from_index (λ place. place.track.cylinder ≡ zone.first + k) (data_list disk zone (zone.first + k)) (λ j place found. (entry_of disk zone (zone.first + k) disk.layout here refl j place found).2.cylinder_is),
+        distinct_from (data_list disk zone (zone.first + k)) (one_index_on disk zone (zone.first + k) here),
+        all_from_index (λ place. place.track.cylinder ≡ zone.first + k) (data_list disk zone (zone.first + k)) (λ j place found. (entry_of disk zone (zone.first + k) here j place found).0.cylinder_is),
       ))
 
   distinct_zones : (index begin : ℕ) (zones : List Zone) → first_apart index begin zones ≡ None
@@ -102,18 +102,10 @@ module _ (disk : Shape) (h : IsFaultless disk) where
   distinct_places = distinct_zones 0 0 disk.zones h.zones_hold.contiguous (λ i zone at. ((ranges_of disk h.zones_hold i zone at).some_cylinders, distinct_zone i zone at, zone_cylinders i zone at))
 
   -- no entry is a defect, or a grown one
-  clean_list : (i : ℕ) (zone : Zone) (cylinder : ℕ) (layout : Layout) → disk.layout ≡ layout → (layout ≡ PerTrack → disk.grown ≡ []) → IsCylinderOf disk i zone cylinder
-      → AllByRecursion (λ place. (is_among disk.defects place ≡ false) × (is_among disk.grown place ≡ false)) (data_list_by layout disk zone cylinder)
-  clean_list i zone cylinder layout e fits at =
-      all_from_index (λ place. (is_among disk.defects place ≡ false) × (is_among disk.grown place ≡ false)) (data_list_by layout disk zone cylinder)
-      (λ j place found. let one = entry_of disk zone cylinder layout (zone_by_bounds disk h i zone cylinder at) e j place found in (one.0, not_grown layout fits place one.1))
-    where
-      not_grown : (layout : Layout) → (layout ≡ PerTrack → disk.grown ≡ []) → (place : Place) → (layout ≡ PerCylinder → is_among disk.grown place ≡ false) → is_among disk.grown place ≡ false
-      not_grown PerTrack fits place clean = ap (λ grown. is_among grown place) (fits refl)
-      not_grown PerCylinder fits place clean = clean refl
-
-  pub clean_places : (disk.layout ≡ PerTrack → disk.grown ≡ []) → AllByRecursion (λ place. (is_among disk.defects place ≡ false) × (is_among disk.grown place ≡ false)) (places disk)
-  clean_places fits = all_places (λ place. (is_among disk.defects place ≡ false) × (is_among disk.grown place ≡ false)) (λ i zone cylinder at. clean_list i zone cylinder disk.layout refl fits at)
+  clean_places : (disk.layout ≡ PerTrack → disk.grown ≡ []) → AllByRecursion (λ place. (is_among disk.defects place ≡ false) × (is_among disk.grown place ≡ false)) (places disk)
+  clean_places fits = all_places (λ place. (is_among disk.defects place ≡ false) × (is_among disk.grown place ≡ false))
+      (λ i zone cylinder at. all_from_index (λ place. (is_among disk.defects place ≡ false) × (is_among disk.grown place ≡ false)) (data_list disk zone cylinder)
+      (λ j place found. let one = entry_of disk zone cylinder (zone_by_bounds disk h i zone cylinder at) j place found in (one.1, one.2 fits)))
 
 pub own_places : (disk : Shape) → IsFaultless disk → (disk.layout ≡ PerTrack → disk.grown ≡ []) → HasOwnPlaces disk
 own_places disk h fits = record {
@@ -137,5 +129,5 @@ sound disk h = record {
   some_data = λ i zone at. some_size disk.layout disk zone (some_heads disk h.zones_hold) (data_of disk h.zones_hold i zone at);
   few_slots = λ i zone at. (ranges_of disk h.zones_hold i zone at).few_sectors;
   short_slots = short_slots disk h.zones_hold;
-  own = λ i zone cylinder j place at found. (entry_of disk zone cylinder disk.layout (zone_by_bounds disk h i zone cylinder at) refl j place found).2;
+  own = λ i zone cylinder j place at found. (entry_of disk zone cylinder (zone_by_bounds disk h i zone cylinder at) j place found).0;
 }

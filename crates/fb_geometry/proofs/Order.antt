@@ -7,6 +7,7 @@ use Rattle.fb_geometry.proofs.Words.{nat_le, nat_lt, nat_tests, option_map, or_c
 use Rattle.fb_geometry.proofs.Words.{slice_get, slice_get-get_or, slice_get-map, slipped, subst, suc, sym, take, true}
 use Rattle.fb_geometry.proofs.Words.{zero, ℕ, ◌&&◌, ◌+◌, ◌-◌, ◌<◌, ◌==◌, ◌∙◌, ◌∷◌, ◌≡◌, ◌≤◌}
 use Rattle.fb_geometry.proofs.{Grid.all_get}
+use Rattle.fb_geometry.proofs.{Slips.has, Slips.rank-le_length, Slips.free_behind, Slips.next_marked}
 
 pub all_at : {X : Type 0} (P : X → Type 0) (xs : List X) (j : ℕ) (d : X) → AllByRecursion P xs → j < length xs → P (get_or xs j d)
 all_at P xs j d all h = all_get P xs j (get_or xs j d) all (slice_get-get_or xs j d h)
@@ -148,3 +149,18 @@ slips_before number middle numbers up here i l h = omega (arith, gaps numbers mi
 -- the position at an index
 pub position_get : (marks : List Mark) (i : ℕ) (d : Mark) → i < length marks → slice_get (positions marks) i ≡ Some (get_or marks i d).position
 position_get marks i d h = slice_get-map (λ mark. mark.position) marks i ∙ ap (option_map (λ mark. mark.position)) (slice_get-get_or marks i d h)
+
+-- the next mark, by how many come before a position
+module _ (marks : List Mark) (up : IsAscending (positions marks)) (start next : ℕ) (e : next ≡ rank start (positions marks)) where
+  many : length (positions marks) ≡ length marks
+  many = length-map marks (λ mark. mark.position)
+
+  pub next_upto : next ≤ length marks
+  next_upto = omega (arith, many, rank-le_length start (positions marks))
+
+  pub none_next : next ≡ length marks → (q : ℕ) → start ≤ q → has (positions marks) q ≡ false
+  none_next none q from = free_behind (positions marks) up start q (omega (arith, many)) from
+
+  pub next_mark : (d : Mark) → next < length marks → (start ≤ (get_or marks next d).position) × ((q : ℕ) → start ≤ q → q < (get_or marks next d).position → has (positions marks) q ≡ false)
+      × (has (positions marks) start ≡ ((get_or marks next d).position == start)) × (has (positions marks) (get_or marks next d).position ≡ true)
+  next_mark d inside = next_marked (positions marks) up start (get_or marks next d).position (ap (slice_get (positions marks)) (sym e) ∙ position_get marks next d inside)

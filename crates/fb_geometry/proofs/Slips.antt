@@ -1,266 +1,311 @@
--- What is left of a list when the elements that pass a test are dropped.
+-- Ascending numbers, and what is left of a list when the elements that pass a test are dropped.
 use Rattle.fb_geometry.proofs.Words.{AllByRecursion, Bool, IsAscending, List, Some, [], ap, arith, cases_Bool}
-use Rattle.fb_geometry.proofs.Words.{cases_lt, cases_order, cond, count_by-le-length, eq-eqb, eqb-false, false}
+use Rattle.fb_geometry.proofs.Words.{cases_lt, cases_order, cond, count_by-le-length, eq-eqb, false}
 use Rattle.fb_geometry.proofs.Words.{filter, get_or, get_or_from_slice_get, indexes, inl, inr, le-ltb, length}
-use Rattle.fb_geometry.proofs.Words.{length-filter, list_any, list_any_at, lt-ltb, nat_lt, nat_tests, ne_eqb}
-use Rattle.fb_geometry.proofs.Words.{none-some, not, or_parts, rank, refl, same_Some, slice_get, slice_get_within}
-use Rattle.fb_geometry.proofs.Words.{slipped, suc, sum_by-le-sum_by, sym, take, true, true≢false, with_index, zero, ℕ}
+use Rattle.fb_geometry.proofs.Words.{length-filter, list_any, lt-ltb, nat_lt, nat_tests, ne_eqb}
+use Rattle.fb_geometry.proofs.Words.{none-some, not, rank, refl, same_Some, slice_get, slice_get_within}
+use Rattle.fb_geometry.proofs.Words.{slipped, suc, sym, take, true, true≢false, zero, ℕ}
 use Rattle.fb_geometry.proofs.Words.{◌+◌, ◌-◌, ◌<◌, ◌==◌, ◌∙◌, ◌∷◌, ◌≡◌, ◌≤◌}
 use Rattle.fb_geometry.proofs.{Grid.count_cons, Grid.add_zero, Grid.all_weaker, Grid.all_get}
+use Rattle.fb_geometry.proofs.Words.{subst, entry_of_sector, HoldsSector, count_by_more_no, count_by_more_yes, map, option_map, slice_get-map}
+use Rattle.fb_geometry.proofs.{Grid.zero_add, Grid.within}
 
 -- ---- ascending numbers
+
+-- a number is one of these
+abbrev pub has : List ℕ → ℕ → Bool
+has numbers number = list_any (λ other. other == number) numbers
 
 pub all_over : (a b : ℕ) (numbers : List ℕ) → a ≤ b → AllByRecursion (λ later. b < later) numbers → AllByRecursion (λ later. a < later) numbers
 all_over a b numbers h = all_weaker (λ later. b < later) (λ later. a < later) (λ later over. omega arith) numbers
 
-all_from : (a b : ℕ) (numbers : List ℕ) → a ≤ b → AllByRecursion (λ later. b < later) numbers → AllByRecursion (λ later. a ≤ later) numbers
-all_from a b numbers h = all_weaker (λ later. b < later) (λ later. a ≤ later) (λ later over. omega arith) numbers
-
--- indexes from one on are not before it, and behind all below it
-pub indexes-from : {A : Type 0} (test : A → Bool) (a index : ℕ) (xs : List A) → a ≤ index → AllByRecursion (λ later. a ≤ later) (indexes test index xs)
-indexes-from test a index [] h = tt
-indexes-from test a index (x ∷ xs) h = let rest = indexes-from test a (index + 1) xs (omega arith) in
-    elim (cases_Bool (test x)) [ inl in_ ↦ rw in_ (h, rest) | inr out ↦ rw out rest ]
-
-pub indexes-over : {A : Type 0} (test : A → Bool) (a index : ℕ) (xs : List A) → a < index → AllByRecursion (λ later. a < later) (indexes test index xs)
-indexes-over test a index xs h = all_weaker (λ later. a + 1 ≤ later) (λ later. a < later) (λ later from. omega arith) (indexes test index xs) (indexes-from test (a + 1) index xs (omega arith))
-
-pub indexes-ascend : {A : Type 0} (test : A → Bool) (index : ℕ) (xs : List A) → IsAscending (indexes test index xs)
-indexes-ascend test index [] = tt
-indexes-ascend test index (x ∷ xs) = let rest = indexes-ascend test (index + 1) xs in
-    elim (cases_Bool (test x)) [ inl in_ ↦ rw in_ (indexes-over test index (index + 1) xs (omega arith), rest) | inr out ↦ rw out rest ]
-
--- ---- slipping
-
-slip_here : (number : ℕ) (numbers : List ℕ) → AllByRecursion (λ later. number < later) numbers → slipped number numbers ≡ number
-slip_here number [] all = refl
-slip_here number (x ∷ numbers) all = rw (lt-ltb number x all.0) refl
-
--- a number slips no further back
-pub slipped-le : (number : ℕ) (numbers : List ℕ) → number ≤ slipped number numbers
-slipped-le number [] = omega arith
-slipped-le number (x ∷ numbers) = elim (cases_lt number x) [
-  | inl h ↦ rw (lt-ltb number x h) (omega arith)
-  | inr h ↦ rw (le-ltb number x h) (omega (arith, slipped-le (number + 1) numbers))
-]
-
--- one that is dropped
-dropped_first : {A : Type 0} (a : ℕ) (x : A) (xs kept : List A) (numbers : List ℕ) (k i : ℕ) → slipped (a + k) (a ∷ numbers) ≡ a + i
-    → ((j : ℕ) → slipped (a + 1 + k) numbers ≡ a + 1 + j → slice_get kept k ≡ slice_get xs j) → slice_get kept k ≡ slice_get (x ∷ xs) i
-dropped_first a x xs kept numbers k i e rest =
-    let here : nat_lt (a + k) a ≡ false = le-ltb (a + k) a (omega arith) in
-    let on : slipped (a + k + 1) numbers ≡ a + i = rw here at e in
-    let after : slipped (a + 1 + k) numbers ≡ a + i = ap (λ n. slipped n numbers) (omega arith) ∙ on in
-    behind i after
-  where
-    behind : (i : ℕ) → slipped (a + 1 + k) numbers ≡ a + i → slice_get kept k ≡ slice_get (x ∷ xs) i
-    behind zero e = absurd (omega (arith, slipped-le (a + 1 + k) numbers))
-    behind (suc j) e = rest j (e ∙ omega arith)
-
--- one that is kept
-kept_first : {A : Type 0} (a : ℕ) (x : A) (xs kept : List A) (numbers : List ℕ) (k i : ℕ) → AllByRecursion (λ later. a < later) numbers → slipped (a + k) numbers ≡ a + i
-    → ((k j : ℕ) → slipped (a + 1 + k) numbers ≡ a + 1 + j → slice_get kept k ≡ slice_get xs j) → slice_get (x ∷ kept) k ≡ slice_get (x ∷ xs) i
-kept_first a x xs kept numbers zero zero all e rest = refl
-kept_first a x xs kept numbers zero (suc i) all e rest = absurd (omega (arith, slip_here a numbers all, ap (λ n. slipped n numbers) (add_zero a)))
-kept_first a x xs kept numbers (suc k) zero all e rest = absurd (omega (arith, slipped-le (a + suc k) numbers))
-kept_first a x xs kept numbers (suc k) (suc i) all e rest = rest k i (ap (λ n. slipped n numbers) (omega arith) ∙ e ∙ omega arith)
-
--- the element that becomes the k-th where those that pass are dropped
-pub kept_at : {A : Type 0} (test : A → Bool) (a : ℕ) (xs : List A) (k i : ℕ) → slipped (a + k) (indexes test a xs) ≡ a + i
-    → slice_get (filter (λ x. not (test x)) xs) k ≡ slice_get xs i
-kept_at test a [] k i e = refl
-kept_at test a (x ∷ xs) k i e = elim (cases_Bool (test x)) [
-  | inl out ↦ rw out (dropped_first a x xs (filter (λ y. not (test y)) xs) (indexes test (a + 1) xs) k i (rw out at e) (λ j. kept_at test (a + 1) xs k j))
-  | inr stays ↦ rw stays (kept_first a x xs (filter (λ y. not (test y)) xs) (indexes test (a + 1) xs) k i (indexes-over test a (a + 1) xs (omega arith)) (rw stays at e) (λ k j. kept_at test (a + 1) xs k j))
-]
-
--- ---- ranks
+pub not_among_later : (number : ℕ) (numbers : List ℕ) → AllByRecursion (λ later. number < later) numbers → has numbers number ≡ false
+not_among_later number [] all = refl
+not_among_later number (x ∷ numbers) all = rw (ne_eqb x number (λ e. omega (arith, all.0))) (not_among_later number numbers all.1)
 
 rank_cons : (number x : ℕ) (numbers : List ℕ) → rank number (x ∷ numbers) ≡ cond (nat_lt x number) 1 0 + rank number numbers
 rank_cons number x numbers = count_cons (λ passed. nat_lt passed number) x numbers
 
 -- no number is before one that all are behind
-pub rank_none : (number : ℕ) (numbers : List ℕ) → AllByRecursion (λ later. number ≤ later) numbers → rank number numbers ≡ 0
-rank_none number [] all = refl
-rank_none number (x ∷ numbers) all = rw (le-ltb x number all.0) (rank_none number numbers all.1)
+rank_none : (number : ℕ) (numbers : List ℕ) → AllByRecursion (λ later. number < later) numbers → (rank number numbers ≡ 0) × (rank (number + 1) numbers ≡ 0)
+rank_none number [] all = (refl, refl)
+rank_none number (x ∷ numbers) all = rw (le-ltb x number (omega (arith, all.0)), le-ltb x (number + 1) (omega (arith, all.0))) (rank_none number numbers all.1)
 
--- no more stand between two numbers than there are numbers between
-pub rank_between : (a b : ℕ) (numbers : List ℕ) → IsAscending numbers → AllByRecursion (λ later. a ≤ later) numbers → rank b numbers ≤ b - a
-rank_between a b [] up all = omega arith
-rank_between a b (x ∷ numbers) up all = elim (cases_lt x b) [
-  | inl before ↦ omega (arith, rank_cons b x numbers, ap {B = ℕ} (λ t. cond t 1 0) (lt-ltb x b before), rank_between (x + 1) b numbers up.1 (all_weaker (λ later. x < later) (λ later. x + 1 ≤ later) (λ later over. omega arith) numbers up.0), all.0)
-  | inr behind ↦ omega (arith, rank_none b (x ∷ numbers) (behind, all_from b x numbers behind up.0))
-]
+pub rank-le_length : (number : ℕ) (numbers : List ℕ) → rank number numbers ≤ length numbers
+rank-le_length number numbers = omega (arith, length-filter (λ passed. nat_lt passed number) numbers, count_by-le-length (λ passed. nat_lt passed number) numbers)
 
-pub rank-step : (a b : ℕ) (numbers : List ℕ) → IsAscending numbers → a ≤ b → rank b numbers ≤ rank a numbers + (b - a)
-rank-step a b [] up h = omega arith
-rank-step a b (x ∷ numbers) up h = elim (cases_lt x a) [
-  | inl before ↦ omega (arith, rank_cons b x numbers, ap {B = ℕ} (λ t. cond t 1 0) (lt-ltb x b (omega arith)), rank_cons a x numbers, ap {B = ℕ} (λ t. cond t 1 0) (lt-ltb x a before), rank-step a b numbers up.1 h)
-  | inr behind ↦ omega (arith, rank_between a b (x ∷ numbers) up (behind, all_from a x numbers behind up.0))
-]
+-- one number further a rank is greater by one where the number is among them
+pub rank_next : (number : ℕ) (numbers : List ℕ) → IsAscending numbers → rank (number + 1) numbers ≡ rank number numbers + cond (has numbers number) 1 0
+rank_next number [] up = refl
+rank_next number (x ∷ numbers) up =
+    let once : x ≡ number → has numbers number ≡ false = λ same. not_among_later number numbers (all_over number x numbers (omega arith) up.0) in
+    grind (arith, nat_tests, rank_cons number x numbers, rank_cons (number + 1) x numbers, rank_next number numbers up.1)
 
-pub rank-mono : (a b : ℕ) (numbers : List ℕ) → a ≤ b → rank a numbers ≤ rank b numbers
-rank-mono a b numbers h = omega (
-  arith,
-  length-filter (λ passed. nat_lt passed a) numbers,
-  length-filter (λ passed. nat_lt passed b) numbers,
-  sum_by-le-sum_by (λ passed. cond (nat_lt passed a) 1 0) (λ passed. cond (nat_lt passed b) 1 0) numbers (λ passed. one passed),
-)
-  where
-    one : (passed : ℕ) → cond (nat_lt passed a) 1 0 ≤ cond (nat_lt passed b) 1 0
-    one passed = elim (cases_lt passed a) [ inl less ↦ rw (lt-ltb passed a less, lt-ltb passed b (omega arith)) (omega arith) | inr more ↦ rw (le-ltb passed a more) (omega arith) ]
+-- between two numbers a rank grows by no more than there are numbers between
+rank_on : (a n : ℕ) (numbers : List ℕ) → IsAscending numbers → (rank a numbers ≤ rank (a + n) numbers) × (rank (a + n) numbers ≤ rank a numbers + n)
+rank_on a zero numbers up = let same : rank (a + 0) numbers ≡ rank a numbers = ap (λ b. rank b numbers) (add_zero a) in (omega arith, omega arith)
+rank_on a (suc n) numbers up =
+    let next : rank (a + suc n) numbers ≡ rank (a + n + 1) numbers = ap (λ b. rank b numbers) (omega arith) in
+    let one = rank_next (a + n) numbers up in
+    let rest = rank_on a n numbers up in
+    elim (cases_Bool (has numbers (a + n))) [
+      | inl in_ ↦ let more = rw in_ at one in (omega arith, omega arith)
+      | inr out ↦ let more = rw out at one in (omega arith, omega arith)
+    ]
 
--- one that isn't among them adds nothing
-pub rank_unmarked : (number : ℕ) (numbers : List ℕ) → list_any (λ other. other == number) numbers ≡ false → rank (number + 1) numbers ≡ rank number numbers
-rank_unmarked number [] h = refl
-rank_unmarked number (x ∷ numbers) h =
-    let parts = or_parts (x == number) (list_any (λ other. other == number) numbers) h in
-    let same : nat_lt x (number + 1) ≡ nat_lt x number = elim (cases_lt x number) [
-      | inl before ↦ lt-ltb x (number + 1) (omega arith) ∙ sym (lt-ltb x number before)
-      | inr behind ↦ le-ltb x (number + 1) (omega (arith, eqb-false x number parts.0)) ∙ sym (le-ltb x number behind)
-    ] in
-    omega (arith, rank_cons (number + 1) x numbers, rank_cons number x numbers, ap {B = ℕ} (λ t. cond t 1 0) same, rank_unmarked number numbers parts.1)
+pub rank-step : (a b : ℕ) (numbers : List ℕ) → IsAscending numbers → a ≤ b → (rank a numbers ≤ rank b numbers) × (rank b numbers ≤ rank a numbers + (b - a))
+rank-step a b numbers up h = subst (λ c. (rank a numbers ≤ rank c numbers) × (rank c numbers ≤ rank a numbers + (b - a))) (omega arith) (rank_on a (b - a) numbers up)
 
 pub rank-below : (number : ℕ) (numbers : List ℕ) → IsAscending numbers → rank number numbers ≤ number
-rank-below number numbers up = omega (arith, rank-step 0 number numbers up (omega arith), rank_zero numbers)
+rank-below number numbers up = omega (arith, (rank-step 0 number numbers up (omega arith)).1, rank_zero numbers)
   where
     rank_zero : (numbers : List ℕ) → rank 0 numbers ≡ 0
     rank_zero [] = refl
     rank_zero (x ∷ numbers) = rw (le-ltb x 0 (omega arith)) (rank_zero numbers)
 
 -- a number among them has as many before it as its index says
-pub rank-at : (i : ℕ) (numbers : List ℕ) (q : ℕ) → IsAscending numbers → slice_get numbers i ≡ Some q → rank q numbers ≡ i
+pub rank-at : (i : ℕ) (numbers : List ℕ) (q : ℕ) → IsAscending numbers → slice_get numbers i ≡ Some q → (rank q numbers ≡ i) × (has numbers q ≡ true)
 rank-at i [] q up at = absurd (none-some q at)
-rank-at zero (x ∷ numbers) q up at = let same : x ≡ q = same_Some x q at in omega (arith, rank_none q (x ∷ numbers) (omega arith, all_from q x numbers (omega arith) up.0))
+rank-at zero (x ∷ numbers) q up at =
+    subst (λ q. (rank q (x ∷ numbers) ≡ 0) × (has (x ∷ numbers) q ≡ true)) (same_Some x q at) (rw (le-ltb x x (omega arith)) (rank_none x numbers up.0).0, rw (eq-eqb x x refl) refl)
 rank-at (suc i) (x ∷ numbers) q up at =
-    omega (arith, rank_cons q x numbers, ap {B = ℕ} (λ t. cond t 1 0) (lt-ltb x q (all_get (λ later. x < later) numbers i q up.0 at)), rank-at i numbers q up.1 at)
+    let rest = rank-at i numbers q up.1 at in
+    let less = all_get (λ later. x < later) numbers i q up.0 at in
+    (rw (lt-ltb x q less) (ap suc rest.0), rw (ne_eqb x q (λ e. omega arith)) rest.1)
 
-pub rank-le_length : (number : ℕ) (numbers : List ℕ) → rank number numbers ≤ length numbers
-rank-le_length number numbers = omega (arith, length-filter (λ passed. nat_lt passed number) numbers, count_by-le-length (λ passed. nat_lt passed number) numbers)
+-- one that is among them stands before any behind it, and one that isn't leaves the rank as it is
+module _ (numbers : List ℕ) (up : IsAscending numbers) where
+  pub rank_marked : (q b : ℕ) → has numbers q ≡ true → q < b → rank q numbers < rank b numbers
+  rank_marked q b among h = let one = rw among at (rank_next q numbers up) in omega (arith, one, (rank-step (q + 1) b numbers up (omega arith)).0)
 
--- an entry is among them
-pub among_at : (i q : ℕ) (numbers : List ℕ) → slice_get numbers i ≡ Some q → list_any (λ other. other == q) numbers ≡ true
-among_at i q numbers at = list_any_at (λ other. other == q) numbers i q (slice_get_within numbers i q at) (eq-eqb (get_or numbers i q) q (get_or_from_slice_get numbers i q q at))
+  pub rank_free : (q b : ℕ) → has numbers q ≡ false → q < b → rank b numbers + q < rank q numbers + b
+  rank_free q b free h = let one = rw free at (rank_next q numbers up) in omega (arith, one, (rank-step (q + 1) b numbers up (omega arith)).1)
 
-pub not_among_later : (number : ℕ) (numbers : List ℕ) → AllByRecursion (λ later. number < later) numbers → list_any (λ other. other == number) numbers ≡ false
-not_among_later number [] all = refl
-not_among_later number (x ∷ numbers) all = rw (ne_eqb x number (λ e. omega (arith, all.0))) (not_among_later number numbers all.1)
+  -- the next one that is marked is not before the position, and none is marked up to it
+  pub next_marked : (start next : ℕ) → slice_get numbers (rank start numbers) ≡ Some next
+      → (start ≤ next) × ((q : ℕ) → start ≤ q → q < next → has numbers q ≡ false) × (has numbers start ≡ (next == start)) × (has numbers next ≡ true)
+  next_marked start next at = (
+    upto,
+    free,
+    elim (cases_lt start next) [
+      | inl less ↦ free start (omega arith) less ∙ sym (ne_eqb next start (λ e. omega arith))
+      | inr from ↦ let same : next ≡ start = omega (arith, upto) in ap (has numbers) (sym same) ∙ (one.1 ∙ sym (eq-eqb next start same))
+    ],
+    one.1,
+  )
+    where
+      one : (rank next numbers ≡ rank start numbers) × (has numbers next ≡ true)
+      one = rank-at (rank start numbers) numbers next up at
 
--- a number among them stands before one that is behind it
-pub rank_marked : (q b : ℕ) (numbers : List ℕ) → IsAscending numbers → list_any (λ other. other == q) numbers ≡ true → q < b → rank q numbers < rank b numbers
-rank_marked q b [] up among h = absurd (true≢false (sym among))
-rank_marked q b (x ∷ numbers) up among h = elim (cases_order x q) [
-  | inl here ↦ omega (arith, rank_none q (x ∷ numbers) (omega arith, all_from q x numbers (omega arith) up.0), rank_cons b x numbers, ap {B = ℕ} (λ t. cond t 1 0) (lt-ltb x b (omega arith)))
-  | inr apart ↦ elim apart [
-    | inl before ↦ omega (
-      arith,
-      rank_cons b x numbers,
-      ap {B = ℕ} (λ t. cond t 1 0) (lt-ltb x b (omega arith)),
-      rank_cons q x numbers,
-      ap {B = ℕ} (λ t. cond t 1 0) (lt-ltb x q before),
-      rank_marked q b numbers up.1 (rw (ne_eqb x q (λ e. omega arith)) at among) h,
-    )
-    | inr behind ↦ absurd (true≢false (sym among ∙ not_among_later q (x ∷ numbers) (behind, all_over q x numbers (omega arith) up.0)))
+      upto : start ≤ next
+      upto = elim (cases_lt next start) [ inl less ↦ absurd (omega (arith, rank_marked next start one.1 less, one.0)) | inr more ↦ more ]
+
+      free : (q : ℕ) → start ≤ q → q < next → has numbers q ≡ false
+      free q from below = elim (cases_Bool (has numbers q)) [
+        | inl among ↦ absurd (omega (arith, rank_marked q next among below, one.0, (rank-step start q numbers up from).0))
+        | inr off ↦ off
+      ]
+
+  -- none is marked behind the last one
+  pub free_behind : (position q : ℕ) → length numbers ≤ rank position numbers → position ≤ q → has numbers q ≡ false
+  free_behind position q none from = elim (cases_Bool (has numbers q)) [
+    | inl among ↦ absurd (omega (arith, rank_marked q (q + 1) among (omega arith), rank-le_length (q + 1) numbers, (rank-step position q numbers up from).0))
+    | inr free ↦ free
   ]
+
+-- ---- slipping
+
+-- a number slips on by as many as are before the place that it gets to, and to none of them
+slips_to : (number q : ℕ) (numbers : List ℕ) → IsAscending numbers → slipped number numbers ≡ q → (rank q numbers + number ≡ q) × (has numbers q ≡ false)
+slips_to number q [] up e = (omega arith, refl)
+slips_to number q (x ∷ numbers) up e = elim (cases_lt number x) [
+  | inl h ↦
+      let same : number ≡ q = rw (lt-ltb number x h) at e in
+      let over = all_over q x numbers (omega arith) up.0 in
+      (rw (le-ltb x q (omega arith)) (omega (arith, (rank_none q numbers over).0)), not_among_later q (x ∷ numbers) (omega arith, over))
+  | inr h ↦
+      let rest = slips_to (number + 1) q numbers up.1 (rw (le-ltb number x h) at e) in
+      (rw (lt-ltb x q (omega (arith, rest.0))) (omega (arith, rest.0)), rw (ne_eqb x q (λ e. omega (arith, rest.0))) rest.1)
 ]
 
-slipped_here : (number x : ℕ) (numbers : List ℕ) → number < x → slipped number (x ∷ numbers) ≡ number
-slipped_here number x numbers h = rw (lt-ltb number x h) refl
+pub slipped_to : (number : ℕ) (numbers : List ℕ) → IsAscending numbers → (rank (slipped number numbers) numbers + number ≡ slipped number numbers) × (has numbers (slipped number numbers) ≡ false)
+slipped_to number numbers up = slips_to number (slipped number numbers) numbers up refl
 
-slipped_on : (number x : ℕ) (numbers : List ℕ) → x ≤ number → slipped number (x ∷ numbers) ≡ slipped (number + 1) numbers
-slipped_on number x numbers h = rw (le-ltb number x h) refl
+module _ (numbers : List ℕ) (up : IsAscending numbers) where
+  -- there is one such place
+  pub slipped_only : (k q : ℕ) → rank q numbers + k ≡ q → has numbers q ≡ false → slipped k numbers ≡ q
+  slipped_only k q e free =
+      let other = slipped_to k numbers up in
+      elim (cases_order (slipped k numbers) q) [
+        | inl same ↦ same
+        | inr apart ↦ elim apart [
+          | inl less ↦ absurd (omega (arith, other.0, rank_free numbers up (slipped k numbers) q other.1 less))
+          | inr more ↦ absurd (omega (arith, other.0, rank_free numbers up q (slipped k numbers) free more))
+        ]
+      ]
 
--- a number has slipped on by as many as are before the place that it got to
-pub rank-slipped : (number q : ℕ) (numbers : List ℕ) → IsAscending numbers → slipped number numbers ≡ q → rank q numbers + number ≡ q
-rank-slipped number q [] up e = omega arith
-rank-slipped number q (x ∷ numbers) up e = elim (cases_lt number x) [
-  | inl h ↦ let same : number ≡ q = sym (slipped_here number x numbers h) ∙ e in omega (arith, rank_none q (x ∷ numbers) (omega arith, all_from q x numbers (omega arith) up.0))
-  | inr h ↦ let after : slipped (number + 1) numbers ≡ q = sym (slipped_on number x numbers h) ∙ e in
-      let before : x < q = omega (arith, slipped-le (number + 1) numbers) in
-      omega (arith, rank_cons q x numbers, ap {B = ℕ} (λ b. cond b 1 0) (lt-ltb x q before), rank-slipped (number + 1) q numbers up.1 after)
-]
+  -- numbers go on with the positions as long as none is marked
+  pub slipped_on : (k i : ℕ) → ((q : ℕ) → slipped k numbers ≤ q → q < slipped k numbers + i + 1 → has numbers q ≡ false) → slipped (k + i) numbers ≡ slipped k numbers + i
+  slipped_on k i free = slipped_only (k + i) (slipped k numbers + i) (omega (arith, (slipped_to k numbers up).0, flat i (omega arith))) (free (slipped k numbers + i) (omega arith) (omega arith))
+    where
+      flat : (n : ℕ) → n ≤ i → rank (slipped k numbers + n) numbers ≡ rank (slipped k numbers) numbers
+      flat zero h = ap (λ b. rank b numbers) (add_zero (slipped k numbers))
+      flat (suc n) h = ap (λ b. rank b numbers) (omega arith) ∙ (rw (free (slipped k numbers + n) (omega arith) (omega arith)) at (rank_next (slipped k numbers + n) numbers up) ∙ (add_zero (rank (slipped k numbers + n) numbers) ∙ flat n (omega arith)))
 
--- a number doesn't slip to one of those that are passed over
-pub slipped-free : (number q : ℕ) (numbers : List ℕ) → IsAscending numbers → slipped number numbers ≡ q → list_any (λ other. other == q) numbers ≡ false
-slipped-free number q [] up e = refl
-slipped-free number q (x ∷ numbers) up e = elim (cases_lt number x) [
-  | inl h ↦ let same : number ≡ q = sym (slipped_here number x numbers h) ∙ e in not_among_later q (x ∷ numbers) (omega arith, all_over q x numbers (omega arith) up.0)
-  | inr h ↦ let after : slipped (number + 1) numbers ≡ q = sym (slipped_on number x numbers h) ∙ e in
-      let off : (x == q) ≡ false = grind (arith, nat_tests, slipped-le (number + 1) numbers) in rw off (slipped-free (number + 1) q numbers up.1 after)
-]
+-- ---- the entry of a sector
 
--- ---- where an element that is kept goes
+module _ (marked : List ℕ) (up : IsAscending marked) (sectors : ℕ) where
+  -- where a marked sector moves to: behind all that are in use, to an entry that isn't marked
+  moves_to : (sector : ℕ) → sector < sectors → has marked sector ≡ true → (entry : ℕ) × (entry_of_sector marked sectors sector ≡ entry)
+      × (has marked entry ≡ false) × (entry - rank entry marked ≡ sectors - rank sectors marked + rank sector marked) × (rank sector marked < rank sectors marked) × (sectors ≤ entry)
+  moves_to sector h among =
+      let start = sectors - rank sectors marked + rank sector marked in
+      let to = slipped_to start marked up in
+      let few = rank_marked marked up sector sectors among h in (
+        slipped start marked,
+        rw among refl,
+        to.1,
+        omega arith,
+        few,
+        elim (cases_lt (slipped start marked) sectors) [
+          | inl less ↦ absurd (omega (arith, rank_free marked up (slipped start marked) sectors to.1 less, rank-below sectors marked up))
+          | inr from ↦ from
+        ],
+      )
 
-rank-with_index : (b : Bool) (number index : ℕ) (numbers : List ℕ) → index < number → rank number (with_index b index numbers) ≡ cond b 1 0 + rank number numbers
-rank-with_index true number index numbers h = rw (lt-ltb index number h) (omega arith)
-rank-with_index false number index numbers h = omega arith
+  pub stays_at : (sector : ℕ) → has marked sector ≡ false → entry_of_sector marked sectors sector ≡ sector
+  stays_at sector stays = rw stays refl
 
-rank_next : {A : Type 0} (test : A → Bool) (a i : ℕ) (x : A) (xs : List A) → rank (a + suc i) (indexes test a (x ∷ xs)) ≡ cond (test x) 1 0 + rank (a + 1 + i) (indexes test (a + 1) xs)
-rank_next test a i x xs = rank-with_index (test x) (a + suc i) a (indexes test (a + 1) xs) (omega arith)
-    ∙ ap (λ n. cond (test x) 1 0 + rank n (indexes test (a + 1) xs)) (omega arith)
+  -- the entry of a sector holds it
+  pub entry_holds : (sector : ℕ) → sector < sectors → (has marked (entry_of_sector marked sectors sector) ≡ false)
+      × (entry_of_sector marked sectors sector - rank (entry_of_sector marked sectors sector) marked < sectors)
+  entry_holds sector h = elim (cases_Bool (has marked sector)) [
+    | inl among ↦ let to = moves_to sector h among in
+        subst (λ entry. (has marked entry ≡ false) × (entry - rank entry marked < sectors)) (sym to.1) (to.2, omega (arith, rank-below sectors marked up))
+    | inr stays ↦ subst (λ entry. (has marked entry ≡ false) × (entry - rank entry marked < sectors)) (sym (stays_at sector stays)) (stays, omega arith)
+  ]
 
--- no more indexes stand before a place than there are places before it
-pub rank-le : {A : Type 0} (test : A → Bool) (a i : ℕ) (xs : List A) → rank (a + i) (indexes test a xs) ≤ i
-rank-le test a zero xs = omega (arith, rank_none (a + 0) (indexes test a xs) (indexes-from test (a + 0) a xs (omega arith)))
-rank-le test a (suc i) [] = omega arith
-rank-le test a (suc i) (x ∷ xs) = elim (cases_Bool (test x)) [
-  | inl out ↦ omega (arith, rank_next test a i x xs, ap {B = ℕ} (λ b. cond b 1 0) out, rank-le test (a + 1) i xs)
-  | inr stays ↦ omega (arith, rank_next test a i x xs, ap {B = ℕ} (λ b. cond b 1 0) stays, rank-le test (a + 1) i xs)
-]
+  -- no two sectors have one entry
+  one_moved : (i j : ℕ) → i < sectors → j < sectors → has marked i ≡ true → entry_of_sector marked sectors i ≡ entry_of_sector marked sectors j → i ≡ j
+  one_moved i j h k gone same = let to = moves_to i h gone in elim (cases_Bool (has marked j)) [
+    | inl moves ↦
+        let other = moves_to j k moves in
+        let ranks : rank i marked ≡ rank j marked = omega (arith, ap (λ entry. entry - rank entry marked) (sym to.1 ∙ (same ∙ other.1))) in
+        elim (cases_order i j) [
+          | inl is ↦ is
+          | inr apart ↦ elim apart [
+            | inl less ↦ absurd (omega (arith, rank_marked marked up i j gone less))
+            | inr more ↦ absurd (omega (arith, rank_marked marked up j i moves more))
+          ]
+        ]
+    | inr stays ↦ absurd (omega (arith, to.5, to.1, stays_at j stays))
+  ]
 
--- an element that is kept goes back by one for each that is dropped before it
-pub kept_to : {A : Type 0} (test : A → Bool) (a : ℕ) (xs : List A) (i k : ℕ) (x : A) → slice_get xs i ≡ Some x → test x ≡ false → k + rank (a + i) (indexes test a xs) ≡ i
-    → slice_get (filter (λ y. not (test y)) xs) k ≡ Some x
-kept_to test a [] i k x at stays e = at
-kept_to test a (y ∷ xs) zero k x at stays e =
-    let same : y ≡ x = same_Some y x at in
-    rw (ap test same ∙ stays) (ap (slice_get (y ∷ filter (λ z. not (test z)) xs)) (k_zero k (rank (a + 0) (indexes test a (y ∷ xs))) e) ∙ at)
-  where
-    k_zero : (k r : ℕ) → k + r ≡ 0 → k ≡ 0
-    k_zero k r e = omega arith
-kept_to test a (y ∷ xs) (suc i) k x at stays e = elim (cases_Bool (test y)) [
-  | inl out ↦ rw out (kept_to test (a + 1) xs i k x at stays (omega (arith, rank_next test a i y xs, ap {B = ℕ} (λ b. cond b 1 0) out)))
-  | inr in_ ↦ rw in_ (on k (omega (arith, rank_next test a i y xs, ap {B = ℕ} (λ b. cond b 1 0) in_)) (λ k'. kept_to test (a + 1) xs i k' x at stays))
-]
-  where
-    on : (k : ℕ) → k + rank (a + 1 + i) (indexes test (a + 1) xs) ≡ suc i
-        → ((k' : ℕ) → k' + rank (a + 1 + i) (indexes test (a + 1) xs) ≡ i → slice_get (filter (λ z. not (test z)) xs) k' ≡ Some x)
-        → slice_get (y ∷ filter (λ z. not (test z)) xs) k ≡ Some x
-    on zero e rest = absurd (omega (arith, rank-le test (a + 1) i xs))
-    on (suc k) e rest = rest k (omega arith)
+  pub one_entry : (i j : ℕ) → i < sectors → j < sectors → entry_of_sector marked sectors i ≡ entry_of_sector marked sectors j → i ≡ j
+  one_entry i j h k same = elim (cases_Bool (has marked i)) [
+    | inl gone ↦ one_moved i j h k gone same
+    | inr rests ↦ elim (cases_Bool (has marked j)) [
+      | inl moves ↦ sym (one_moved j i k h moves (sym same))
+      | inr stays ↦ sym (stays_at i rests) ∙ (same ∙ stays_at j stays)
+    ]
+  ]
+
+  -- what an entry holds has that entry
+  pub held : (entry sector : ℕ) → HoldsSector marked sectors entry sector → (sector < sectors) × (entry_of_sector marked sectors sector ≡ entry)
+  held entry sector (free, inl own) = (omega (arith, own.0, own.1), subst (λ s. entry_of_sector marked sectors s ≡ entry) (sym own.1) (rw free refl))
+  held entry sector (free, inr stead) =
+      let at = rank-at (entry - rank entry marked - (sectors - rank sectors marked)) marked sector up stead.2 in
+      let low = rank-below sectors marked up in
+      let more = rank-step sectors entry marked up stead.0 in
+      let below : sector < sectors = elim (cases_lt sector sectors) [ inl l ↦ l | inr back ↦ absurd (omega (arith, (rank-step sectors sector marked up back).0, at.0, stead.1)) ] in
+      (below, rw at.1 (slipped_only marked up (sectors - rank sectors marked + rank sector marked) entry (omega (arith, at.0, rank-below entry marked up)) free))
+
+-- ---- what is left of a list where the elements that pass a test are dropped
+
+-- indexes from one on are behind all below it
+pub indexes-over : {A : Type 0} (test : A → Bool) (a index : ℕ) (xs : List A) → a < index → AllByRecursion (λ later. a < later) (indexes test index xs)
+indexes-over test a index [] h = tt
+indexes-over test a index (x ∷ xs) h = let rest = indexes-over test a (index + 1) xs (omega arith) in
+    elim (cases_Bool (test x)) [ inl in_ ↦ rw in_ (h, rest) | inr out ↦ rw out rest ]
+
+pub indexes-ascend : {A : Type 0} (test : A → Bool) (index : ℕ) (xs : List A) → IsAscending (indexes test index xs)
+indexes-ascend test index [] = tt
+indexes-ascend test index (x ∷ xs) = let rest = indexes-ascend test (index + 1) xs in
+    elim (cases_Bool (test x)) [ inl in_ ↦ rw in_ (indexes-over test index (index + 1) xs (omega arith), rest) | inr out ↦ rw out rest ]
 
 -- an index is among them just where its element passes
-pub marked : {A : Type 0} (test : A → Bool) (a : ℕ) (xs : List A) (i : ℕ) (x : A) → slice_get xs i ≡ Some x → list_any (λ other. other == a + i) (indexes test a xs) ≡ test x
-marked test a [] i x at = absurd (none-some x at)
-marked test a (y ∷ xs) zero x at = ap (λ n. list_any (λ other. other == n) (indexes test a (y ∷ xs))) (add_zero a) ∙ elim (cases_Bool (test y)) [
-  | inl in_ ↦ rw (in_, eq-eqb a a refl) (sym in_ ∙ ap test (same_Some y x at))
-  | inr out ↦ rw out (not_among_later a (indexes test (a + 1) xs) (indexes-over test a (a + 1) xs (omega arith)) ∙ (sym out ∙ ap test (same_Some y x at)))
+index_passes : {A : Type 0} (test : A → Bool) (a i : ℕ) (xs : List A) → has (indexes test a xs) (a + i) ≡ get_or (map test xs) i false
+index_passes test a i [] = refl
+index_passes test a zero (x ∷ xs) = ap (has (indexes test a (x ∷ xs))) (add_zero a) ∙ elim (cases_Bool (test x)) [
+  | inl in_ ↦ rw (in_, eq-eqb a a refl) refl
+  | inr out ↦ rw out (not_among_later a (indexes test (a + 1) xs) (indexes-over test a (a + 1) xs (omega arith)))
 ]
-marked test a (y ∷ xs) (suc i) x at =
-    let next : a + suc i ≡ a + 1 + i = omega arith in
-    let rest = ap (λ n. list_any (λ other. other == n) (indexes test (a + 1) xs)) next ∙ marked test (a + 1) xs i x at in
-    elim (cases_Bool (test y)) [ inl in_ ↦ rw (in_, ne_eqb a (a + suc i) (λ e. omega arith)) rest | inr out ↦ rw out rest ]
+index_passes test a (suc i) (x ∷ xs) =
+    let rest : has (indexes test (a + 1) xs) (a + suc i) ≡ get_or (map test xs) i false = ap (has (indexes test (a + 1) xs)) (omega arith) ∙ index_passes test (a + 1) i xs in
+    elim (cases_Bool (test x)) [ inl in_ ↦ rw (in_, ne_eqb a (a + suc i) (λ e. omega arith)) rest | inr out ↦ rw out rest ]
+
+passes_at : {A : Type 0} (test : A → Bool) (i : ℕ) (xs : List A) → get_or (map test xs) i false ≡ true → (x : A) × (slice_get xs i ≡ Some x) × (test x ≡ true)
+passes_at test i [] h = absurd (true≢false (sym h))
+passes_at test zero (x ∷ xs) h = (x, refl, h)
+passes_at test (suc i) (x ∷ xs) h = passes_at test i xs h
+
+-- an element that is kept goes behind those that are kept before it
+kept_to : {A : Type 0} (keep : A → Bool) (i : ℕ) (xs : List A) (x : A) → slice_get xs i ≡ Some x → keep x ≡ true → slice_get (filter keep xs) (length (filter keep (take i xs))) ≡ Some x
+kept_to keep i [] x at stays = absurd (none-some x at)
+kept_to keep zero (y ∷ xs) x at stays = rw (ap keep (same_Some y x at) ∙ stays) at
+kept_to keep (suc i) (y ∷ xs) x at stays = let rest = kept_to keep i xs x at stays in elim (cases_Bool (keep y)) [ inl in_ ↦ rw in_ rest | inr out ↦ rw out rest ]
 
 -- the elements that are kept and those that are dropped are all together
 pub length-kept : {A : Type 0} (test : A → Bool) (a : ℕ) (xs : List A) → length (filter (λ x. not (test x)) xs) + length (indexes test a xs) ≡ length xs
 length-kept test a [] = refl
-length-kept test a (x ∷ xs) = elim (cases_Bool (test x)) [
-  | inl out ↦ rw out (omega (arith, length-kept test (a + 1) xs))
-  | inr stays ↦ rw stays (omega (arith, length-kept test (a + 1) xs))
-]
+length-kept test a (x ∷ xs) = let rest = length-kept test (a + 1) xs in elim (cases_Bool (test x)) [ inl out ↦ rw out (omega arith) | inr stays ↦ rw stays (omega arith) ]
 
--- and so before each place
-pub length-kept_front : {A : Type 0} (test : A → Bool) (a p : ℕ) (xs : List A) → p ≤ length xs → length (filter (λ x. not (test x)) (take p xs)) + rank (a + p) (indexes test a xs) ≡ p
-length-kept_front test a zero xs h = omega (arith, rank_none (a + 0) (indexes test a xs) (indexes-from test (a + 0) a xs (omega arith)))
-length-kept_front test a (suc p) [] h = absurd (omega arith)
-length-kept_front test a (suc p) (x ∷ xs) h = omega (
-  arith,
-  count_cons (λ y. not (test y)) x (take p xs),
-  rank_next test a p x xs,
-  length-kept_front test (a + 1) p xs (omega arith),
-  one (test x),
-)
-  where
-    one : (b : Bool) → cond {A = ℕ} (not b) 1 0 + cond b 1 0 ≡ 1
-    one true = refl
-    one false = refl
+module _ {A : Type 0} (test : A → Bool) (xs : List A) where
+  pub is_marked_at : (i : ℕ) (x : A) → slice_get xs i ≡ Some x → has (indexes test 0 xs) i ≡ test x
+  is_marked_at i x at = ap (has (indexes test 0 xs)) (sym (zero_add i)) ∙ (index_passes test 0 i xs ∙ get_or_from_slice_get (map test xs) i (test x) false (slice_get-map test xs i ∙ ap (option_map test) at))
+
+  pub index_of : (i : ℕ) → has (indexes test 0 xs) i ≡ true → (x : A) × (slice_get xs i ≡ Some x) × (test x ≡ true)
+  index_of i h = passes_at test i xs (sym (index_passes test 0 i xs) ∙ (ap (has (indexes test 0 xs)) (zero_add i) ∙ h))
+
+  up : IsAscending (indexes test 0 xs)
+  up = indexes-ascend test 0 xs
+
+  -- what is left of the front
+  pub length_front : (i : ℕ) → i ≤ length xs → length (filter (λ x. not (test x)) (take i xs)) + rank i (indexes test 0 xs) ≡ i
+  length_front zero h = omega (arith, rank-below 0 (indexes test 0 xs) up)
+  length_front (suc i) h =
+      let one = within xs i (omega arith) in
+      let same : get_or xs i one.0 ≡ one.0 = get_or_from_slice_get xs i one.0 one.0 one.1 in
+      let next : suc i ≡ i + 1 = omega arith in
+      let keep : A → Bool = λ x. not (test x) in
+      rw next (elim (cases_Bool (test one.0)) [
+        | inl out ↦ omega (
+          arith,
+          length-filter keep (take (i + 1) xs),
+          length-filter keep (take i xs),
+          count_by_more_no keep xs i one.0 (omega arith) (rw (same, out) refl),
+          rw (is_marked_at i one.0 one.1, out) at (rank_next i (indexes test 0 xs) up),
+          length_front i (omega arith),
+        )
+        | inr stays ↦ omega (
+          arith,
+          length-filter keep (take (i + 1) xs),
+          length-filter keep (take i xs),
+          count_by_more_yes keep xs i one.0 (omega arith) (rw (same, stays) refl),
+          rw (is_marked_at i one.0 one.1, stays) at (rank_next i (indexes test 0 xs) up),
+          length_front i (omega arith),
+        )
+      ])
+
+  -- where one that is left goes
+  pub goes : (i : ℕ) (x : A) → slice_get xs i ≡ Some x → test x ≡ false → slice_get (filter (λ x. not (test x)) xs) (i - rank i (indexes test 0 xs)) ≡ Some x
+  goes i x at stays = subst (λ k. slice_get (filter (λ x. not (test x)) xs) k ≡ Some x) (omega (arith, length_front i (omega (arith, slice_get_within xs i x at)))) (kept_to (λ x. not (test x)) i xs x at (rw stays refl))
+
+  -- the k-th that is left
+  pub kth : (k : ℕ) → k < length (filter (λ x. not (test x)) xs) → (slipped k (indexes test 0 xs) < length xs) × (slice_get (filter (λ x. not (test x)) xs) k ≡ slice_get xs (slipped k (indexes test 0 xs)))
+  kth k h =
+      let numbers = indexes test 0 xs in
+      let to = slipped_to k numbers up in
+      let inside : slipped k numbers < length xs = omega (arith, to.0, rank-le_length (slipped k numbers) numbers, length-kept test 0 xs) in
+      let one = within xs (slipped k numbers) inside in
+      (inside, ap (slice_get (filter (λ x. not (test x)) xs)) (omega (arith, to.0)) ∙ (goes (slipped k numbers) one.0 one.1 (sym (is_marked_at (slipped k numbers) one.0 one.1) ∙ to.1) ∙ sym one.1))

@@ -1,4 +1,4 @@
-use Rattle.fb_geometry.proofs.Words.{arith, mul-le, positions, sym, ◌-◌}
+use Rattle.fb_geometry.proofs.Words.{ap, arith, mul-le, rank, sym, ◌*◌, ◌-◌}
 use Rattle.fb_geometry.proofs.{Lookups.before_good, Lookups.none_by_track, Lookups.some_by_head, Lookups.judged_entry}
 use Rattle.fb_geometry.proofs.geometry.Geometry.sector_of_good.Goals as goal
 
@@ -6,14 +6,10 @@ pub overflow_mul-place : goal.overflow_mul-place
 overflow_mul-place c = omega (arith, mul-le c.args.place.track.head c.args.zone.sectors 64 10000 (omega arith) c.requires.zone.ranges.few_sectors)
 
 pub overflow_sub-sector : goal.overflow_sub-sector
-overflow_sub-sector c = omega (
-  arith,
-  before_good c.args.self.now c.args.zone c.args.place c.requires.zone c.requires.head c.requires.slot c.requires.good c.args.good c.requires.index (positions c.defects_on-defects.result.now) c.defects_on-defects.ensures.marks,
-)
+overflow_sub-sector c = omega (arith, ap (rank (c.args.place.track.head * c.args.zone.sectors)) c.defects_on-defects.ensures.marks, before_good c.args.self.now c.args.zone c.args.place c.requires.zone c.requires.head c.requires.slot c.requires.good c.args.good c.requires.index)
 
 pub returns-then-sector-sectors : goal.returns-then-sector-sectors
-returns-then-sector-sectors c = none_by_track c.args.self.now c.args.zone c.args.place c.requires.zone c.requires.head c.requires.slot c.requires.good c.args.good c.requires.index (sym c.in-PerTrack.ensures)
-    (positions c.defects_on-defects.result.now) c.defects_on-defects.ensures.marks c.unmarked_before.result c.unmarked_before.ensures c.if-sector-sectors.true
+returns-then-sector-sectors c = none_by_track c.args.self.now c.args.zone c.args.place c.requires.zone c.requires.head c.requires.slot c.requires.good c.args.good c.requires.index (sym c.in-PerTrack.ensures) (omega (arith, ap (rank (c.args.place.track.head * c.args.zone.sectors)) c.defects_on-defects.ensures.marks))
 
 pub overflow_mul-result : goal.overflow_mul-result
 overflow_mul-result c = omega (arith, mul-le c.args.place.track.head (c.args.zone.sectors - c.args.zone.spares) 64 10000 (omega arith) (omega (arith, c.requires.zone.ranges.few_sectors)))
@@ -23,12 +19,10 @@ overflow_add-result c = omega (arith, c.requires.zone.ranges.few_sectors, mul-le
 
 pub returns-else-sector-sectors : goal.returns-else-sector-sectors
 returns-else-sector-sectors c =
-    let numbers = positions c.defects_on-defects.result.now in
+    let fewer = before_good c.args.self.now c.args.zone c.args.place c.requires.zone c.requires.head c.requires.slot c.requires.good c.args.good c.requires.index in
     some_by_head c.args.self.now c.args.zone c.args.place c.requires.zone c.requires.head c.requires.slot c.requires.good c.args.good c.requires.index (sym c.in-PerTrack.ensures)
-    numbers c.defects_on-defects.ensures.marks c.unmarked_before.result c.unmarked_before.ensures
-    (omega (arith, before_good c.args.self.now c.args.zone c.args.place c.requires.zone c.requires.head c.requires.slot c.requires.good c.args.good c.requires.index numbers c.defects_on-defects.ensures.marks))
-    (omega arith)
+    (c.args.good - c.unmarked_before.result) (omega (arith, ap (rank (c.args.place.track.head * c.args.zone.sectors)) c.defects_on-defects.ensures.marks, fewer)) (omega arith)
 
 pub returns-in-PerCylinder : goal.returns-in-PerCylinder
-returns-in-PerCylinder c = judged_entry c.args.self.now c.args.zone c.args.place c.requires.zone c.requires.head c.requires.slot c.requires.good c.args.good c.requires.index (sym c.in-PerCylinder.ensures)
-    (positions c.grown_on.result.now) c.grown_on.ensures.marks c.heads-heads.result c.sector_of_entry.result c.heads-heads.ensures.value c.sector_of_entry.ensures.none c.sector_of_entry.ensures.some
+returns-in-PerCylinder c = judged_entry c.args.self.now c.args.zone c.args.place c.requires.zone c.requires.head c.requires.slot c.requires.good c.args.good c.requires.index (sym c.in-PerCylinder.ensures) c.sector_of_entry.result
+    (rw (c.grown_on.ensures.marks, c.heads-heads.ensures.value) at c.sector_of_entry.ensures.none) (rw (c.grown_on.ensures.marks, c.heads-heads.ensures.value) at c.sector_of_entry.ensures.some)
