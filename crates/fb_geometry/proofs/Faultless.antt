@@ -180,11 +180,14 @@ spares_at-zone zones cylinder = said_by_zone (λ zones. spares_at zones cylinder
 pub cylinder_spares_at-zone : (zones : List Zone) (cylinder : ℕ) (zone : Zone) → zone_at zones cylinder ≡ Some zone → cylinder_spares_at zones cylinder ≡ zone.cylinder_spares
 cylinder_spares_at-zone zones cylinder = said_by_zone (λ zones. cylinder_spares_at zones cylinder) (λ zone. zone.cylinder_spares) cylinder (λ zone zones. refl) zones
 
-pub offset_at-zone : (zones : List Zone) (heads : ℕ) (track : Track) (zone : Zone) → zone_at zones track.cylinder ≡ Some zone → offset_at zones heads track ≡ offset_in zone heads track
-offset_at-zone zones heads track = said_by_zone (λ zones. offset_at zones heads track) (λ zone. offset_in zone heads track) track.cylinder (λ zone zones. refl) zones
+pub offset_at_zone : (zones : List Zone) (heads : ℕ) (track : Track) (zone : Zone) → zone_at zones track.cylinder ≡ Some zone → offset_at zones heads track ≡ offset_in zone heads track
+offset_at_zone zones heads track = said_by_zone (λ zones. offset_at zones heads track) (λ zone. offset_in zone heads track) track.cylinder (λ zone zones. refl) zones
 
 pub list_among-zone : (disk : Shape) (zones : List Zone) (cylinder : ℕ) (zone : Zone) → zone_at zones cylinder ≡ Some zone → list_among disk zones cylinder ≡ data_list disk zone cylinder
 list_among-zone disk zones cylinder = said_by_zone (λ zones. list_among disk zones cylinder) (λ zone. data_list disk zone cylinder) cylinder (λ zone zones. refl) zones
+
+-- what is said of a cylinder, by its zone
+pub ruleset by_zone = (slots_at-zone, spares_at-zone, cylinder_spares_at-zone, offset_at_zone, list_among-zone)
 
 -- a cylinder of the disk has a zone
 pub some_zone : (index begin cylinder : ℕ) (zones : List Zone) → first_apart index begin zones ≡ None → begin ≤ cylinder → cylinder < cylinders_of zones → (zone : Zone) × (zone_at zones cylinder ≡ Some zone)
@@ -207,8 +210,8 @@ module _ (disk : Shape) (sound : HasZones disk) where
   pub few_cylinders : cylinders_of disk.zones ≤ 10 ^ 6
   few_cylinders = cylinders-le (10 ^ 6) disk.zones (λ i zone at. (ranges_of disk sound i zone at).few_cylinders) (some_zones disk sound)
 
-  pub zones-rise : IsNonDecreasingBy (λ zone. zone.last) disk.zones
-  zones-rise i j d le h = lasts-rise 0 0 i j disk.zones (get_or disk.zones i d) (get_or disk.zones j d) sound.contiguous ascends (slice_get-get_or disk.zones i d (omega arith)) (slice_get-get_or disk.zones j d h) le
+  pub zones_rise : IsNonDecreasingBy (λ zone. zone.last) disk.zones
+  zones_rise i j d le h = lasts-rise 0 0 i j disk.zones (get_or disk.zones i d) (get_or disk.zones j d) sound.contiguous ascends (slice_get-get_or disk.zones i d (omega arith)) (slice_get-get_or disk.zones j d h) le
 
   -- the zone that a cylinder has by its bounds
   by_bounds : (i : ℕ) (zone : Zone) (cylinder : ℕ) → IsCylinderOf disk i zone cylinder → zone_at disk.zones cylinder ≡ Some zone
@@ -244,21 +247,21 @@ zone_by_bounds disk h i zone cylinder at = zone_by_search disk h cylinder zone (
 
 -- ---- a search by the last cylinders
 
-pub point-zone : (cylinder : ℕ) (zones : List Zone) (i : ℕ) (d : Zone) → IsPartitionPoint (λ zone. nat_lt zone.last cylinder ≡ true) (λ zone. nat_lt zone.last cylinder ≡ false) zones i
+pub point_zone : (cylinder : ℕ) (zones : List Zone) (i : ℕ) (d : Zone) → IsPartitionPoint (λ zone. nat_lt zone.last cylinder ≡ true) (λ zone. nat_lt zone.last cylinder ≡ false) zones i
     → i ≤ length zones → cylinder < cylinders_of zones → (i < length zones) × (zone_at zones cylinder ≡ Some (get_or zones i d))
-point-zone cylinder [] i d at h below = absurd (omega arith)
-point-zone cylinder (zone ∷ zones) zero d at h below = (omega arith, rw (le-leb cylinder zone.last (ltb-false zone.last cylinder (at.1 0 d (omega arith) (omega arith)))) refl)
-point-zone cylinder (zone ∷ []) (suc i) d at h below = absurd (omega (arith, ltb-true zone.last cylinder (at.0 0 d (omega arith) (omega arith))))
-point-zone cylinder (zone ∷ other ∷ zones) (suc i) d at h below =
-    let rest = point-zone cylinder (other ∷ zones) i d (λ k e l m. at.0 (suc k) e (omega arith) (omega arith), λ k e l m. at.1 (suc k) e (omega arith) (omega arith)) (omega arith) below in
+point_zone cylinder [] i d at h below = absurd (omega arith)
+point_zone cylinder (zone ∷ zones) zero d at h below = (omega arith, rw (le-leb cylinder zone.last (ltb-false zone.last cylinder (at.1 0 d (omega arith) (omega arith)))) refl)
+point_zone cylinder (zone ∷ []) (suc i) d at h below = absurd (omega (arith, ltb-true zone.last cylinder (at.0 0 d (omega arith) (omega arith))))
+point_zone cylinder (zone ∷ other ∷ zones) (suc i) d at h below =
+    let rest = point_zone cylinder (other ∷ zones) i d (λ k e l m. at.0 (suc k) e (omega arith) (omega arith), λ k e l m. at.1 (suc k) e (omega arith) (omega arith)) (omega arith) below in
     (omega (arith, rest.0), rw (lt-leb cylinder zone.last (ltb-true zone.last cylinder (at.0 0 d (omega arith) (omega arith)))) rest.1)
 
 -- the disk ends where the last zone ends
-pub last-cylinder : (zones : List Zone) (n : ℕ) (d : Zone) → n + 1 ≡ length zones → (get_or zones n d).last + 1 ≡ cylinders_of zones
-last-cylinder [] n d h = absurd (omega arith)
-last-cylinder (zone ∷ []) n d h = ap (λ k. (get_or (zone ∷ []) k d).last + 1) (only n h)
+pub last_cylinder : (zones : List Zone) (n : ℕ) (d : Zone) → n + 1 ≡ length zones → (get_or zones n d).last + 1 ≡ cylinders_of zones
+last_cylinder [] n d h = absurd (omega arith)
+last_cylinder (zone ∷ []) n d h = ap (λ k. (get_or (zone ∷ []) k d).last + 1) (only n h)
   where
     only : (n : ℕ) → n + 1 ≡ length (zone ∷ []) → n ≡ 0
     only n h = omega arith
-last-cylinder (zone ∷ other ∷ zones) zero d h = absurd (omega arith)
-last-cylinder (zone ∷ other ∷ zones) (suc n) d h = last-cylinder (other ∷ zones) n d (omega arith)
+last_cylinder (zone ∷ other ∷ zones) zero d h = absurd (omega arith)
+last_cylinder (zone ∷ other ∷ zones) (suc n) d h = last_cylinder (other ∷ zones) n d (omega arith)

@@ -94,9 +94,9 @@ module _ (disk : Shape) (zone : Zone) (cylinder : ℕ) (at : IsZoneAt disk cylin
       let base = disk.heads * zone.sectors - zone.cylinder_spares in
       length-replaced disk (take base good) (filter (λ place. not (is_among disk.grown place)) (drop base good)) ∙ length-base h
 
-  pub length-data_list : (layout : Layout) → spare_fault layout disk ≡ None → length (data_list_by layout disk zone cylinder) ≡ cylinder_size_by layout disk zone
-  length-data_list PerTrack h = length-per_track h
-  length-data_list PerCylinder h = length-per_cylinder (has_spares disk h)
+  pub length_data_list : (layout : Layout) → spare_fault layout disk ≡ None → length (data_list_by layout disk zone cylinder) ≡ cylinder_size_by layout disk zone
+  length_data_list PerTrack h = length-per_track h
+  length_data_list PerCylinder h = length-per_cylinder (has_spares disk h)
 
 pub some_size : (layout : Layout) (disk : Shape) (zone : Zone) → 0 < disk.heads → has_no_data layout disk zone ≡ false → 0 < cylinder_size_by layout disk zone
 some_size PerTrack disk zone some h = let left : zone.spares < zone.sectors = grind (arith, nat_tests) in omega (arith, mul-le 1 1 disk.heads (zone.sectors - zone.spares) (omega arith) (omega arith))

@@ -5,7 +5,7 @@ use Rattle.fb_geometry.proofs.Words.{is_lt, is_mark_before, is_outside, length, 
 use Rattle.fb_geometry.proofs.Words.{nat_cmp, nat_lt, nat_tests, not-false, offset_at, ordering_then, position_in}
 use Rattle.fb_geometry.proofs.Words.{positions, refl, same_mark, slot_at, slots_at, subst, sym, true, zone_at, ℕ, ◌%◌}
 use Rattle.fb_geometry.proofs.Words.{◌&&◌, ◌*◌, ◌+◌, ◌-◌, ◌<◌, ◌==◌, ◌||◌, ◌∙◌, ◌∷◌, ◌≡◌}
-use Rattle.fb_geometry.proofs.{Faultless.slots_at-zone, Faultless.offset_at-zone, Faultless.find-none}
+use Rattle.fb_geometry.proofs.{Faultless.slots_at-zone, Faultless.offset_at_zone, Faultless.find-none}
 use Rattle.fb_geometry.proofs.{Faultless.found_zone, Faultless.some_zone, Turns.position_in-slot_at}
 use Rattle.fb_geometry.proofs.{Turns.slot_at-position_in, Order.all_at}
 
@@ -13,7 +13,7 @@ use Rattle.fb_geometry.proofs.{Turns.slot_at-position_in, Order.all_at}
 pub position_is : (disk : Shape) (zone : Zone) (place : Place) → zone_at disk.zones place.track.cylinder ≡ Some zone → (mark_of disk place).position ≡ position_in zone disk.heads place
 position_is disk zone place at =
     ap (λ n. place.track.head * n + (place.slot + n - offset_at disk.zones disk.heads place.track) % n) (slots_at-zone disk.zones place.track.cylinder zone at)
-    ∙ ap (λ offset. place.track.head * zone.sectors + (place.slot + zone.sectors - offset) % zone.sectors) (offset_at-zone disk.zones disk.heads place.track zone at)
+    ∙ ap (λ offset. place.track.head * zone.sectors + (place.slot + zone.sectors - offset) % zone.sectors) (offset_at_zone disk.zones disk.heads place.track zone at)
 
 pub inside_at : (disk : Shape) (places : List Place) (i : ℕ) (d : Place) → find (is_outside disk) places ≡ None → i < length places → is_outside disk (get_or places i d) ≡ false
 inside_at disk places i d h l = all_at (λ place. is_outside disk place ≡ false) places i d (find-none (is_outside disk) places h) l

@@ -9,7 +9,7 @@ use Rattle.fb_geometry.proofs.{Faultless.zone_by_bounds, Faultless.ranges_of, Fa
 use Rattle.fb_geometry.proofs.{Faultless.short_rotation, Faultless.some_heads, Faultless.few_heads}
 use Rattle.fb_geometry.proofs.{Faultless.some_zones, Faultless.few_zones, Faultless.few_cylinders, Faultless.data_of}
 use Rattle.fb_geometry.proofs.{Faultless.short_slots, Lookups.entry_of, Lookups.one_index_on, Laws.all-append}
-use Rattle.fb_geometry.proofs.{Laws.all-parts, Laws.length-data_list, Laws.some_size, Grid.add_zero, Grid.add_one}
+use Rattle.fb_geometry.proofs.{Laws.all-parts, Laws.length_data_list, Laws.some_size, Grid.add_zero, Grid.add_one}
 
 -- each element differs from all that follow
 abbrev pub Distinct : {A : Type 0} → List A → Type 0
@@ -125,7 +125,7 @@ sound disk h = record {
   contiguous = h.zones_hold.contiguous;
   some_cylinders = λ i zone at. (ranges_of disk h.zones_hold i zone at).some_cylinders;
   few_cylinders = few_cylinders disk h.zones_hold;
-  equal = λ i zone cylinder at. length-data_list disk zone cylinder (zone_by_bounds disk h i zone cylinder at) disk.layout h.spares;
+  equal = λ i zone cylinder at. length_data_list disk zone cylinder (zone_by_bounds disk h i zone cylinder at) disk.layout h.spares;
   some_data = λ i zone at. some_size disk.layout disk zone (some_heads disk h.zones_hold) (data_of disk h.zones_hold i zone at);
   few_slots = λ i zone at. (ranges_of disk h.zones_hold i zone at).few_sectors;
   short_slots = short_slots disk h.zones_hold;

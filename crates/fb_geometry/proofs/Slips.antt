@@ -113,6 +113,9 @@ module _ (numbers : List ℕ) (up : IsAscending numbers) where
     | inr free ↦ free
   ]
 
+-- what is known of ranks
+pub ruleset ranks = (rank-step, rank-below, rank-le_length)
+
 -- ---- slipping
 
 -- a number slips on by as many as are before the place that it gets to, and to none of them

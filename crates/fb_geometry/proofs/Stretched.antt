@@ -12,7 +12,7 @@ use Rattle.fb_geometry.proofs.Words.{div-add-mod', div_below, even_place, length
 use Rattle.fb_geometry.proofs.Words.{refl, sectors_by, slice_get, slot_at, sym, ℕ, ◌%◌, ◌*◌}
 use Rattle.fb_geometry.proofs.Words.{◌+◌, ◌-◌, ◌/◌, ◌<◌, ◌∙◌, ◌≡◌, ◌≤◌}
 use Rattle.fb_geometry.proofs.Words.{IsGoodOf, LiesOn, entry_of_sector, subst}
-use Rattle.fb_geometry.proofs.{Grid.add_zero, Slips.has, Slips.stays_at, Slips.slipped_to, Slips.slipped_on, Turns.slot_on, Turns.round-back, Turns.offset_below, Turns.position_in-slot_at, Faultless.slots_at-zone, Faultless.offset_at-zone}
+use Rattle.fb_geometry.proofs.{Grid.add_zero, Slips.has, Slips.stays_at, Slips.slipped_to, Slips.slipped_on, Turns.slot_on, Turns.round-back, Turns.offset_below, Turns.position_in-slot_at, Faultless.slots_at-zone, Faultless.offset_at_zone}
 use Rattle.fb_geometry.proofs.{Lookups.defects_of, Lookups.grown_of, Lookups.grown_ascend, Lookups.defects_ascend, Lookups.split_by_track, Lookups.place_by_track, Lookups.place_by_cylinder, Lookups.length_by, Lookups.placed, Lookups.is_good, Lookups.some_by_track}
 
 -- ---- slots at positions that follow one another
@@ -94,17 +94,17 @@ module _ (disk : Shape) (zone : Zone) (cylinder : ℕ) (at : IsZoneAt disk cylin
 
   turned-by : turn_position disk place ≡ position % zone.sectors
   turned-by =
-      let offset = offset_at-zone disk.zones disk.heads place.track zone (ap (zone_at disk.zones) lies.cylinder_is ∙ at.found) in
+      let offset = offset_at_zone disk.zones disk.heads place.track zone (ap (zone_at disk.zones) lies.cylinder_is ∙ at.found) in
       ap (λ n. (place.slot + n - offset_at disk.zones disk.heads place.track) % n) (ap (slots_at disk.zones) lies.cylinder_is ∙ slots_at-zone disk.zones cylinder zone at.found)
       ∙ (ap (λ o. (place.slot + zone.sectors - o) % zone.sectors) offset
       ∙ (ap (λ (p : Place). (p.slot + zone.sectors - offset_in zone disk.heads p.track) % zone.sectors) place-is
       ∙ turned zone disk.heads some_slots cylinder position))
 
   -- the slots before the next defect and the end of the turn, and no more than the sectors in order
-  pub stretched-by : (pos good n : ℕ) → pos ≡ position_in zone disk.heads place → ((q : ℕ) → pos ≤ q → q < pos + good → has (defects_of disk zone cylinder) q ≡ false)
+  pub stretched_by : (pos good n : ℕ) → pos ≡ position_in zone disk.heads place → ((q : ℕ) → pos ≤ q → q < pos + good → has (defects_of disk zone cylinder) q ≡ false)
       → (pos + good < (place.track.head + 1) * zone.sectors → has (defects_of disk zone cylinder) (pos + good) ≡ true)
       → pos + good ≤ (place.track.head + 1) * zone.sectors → n ≤ count → n ≤ good → (n ≡ good) ⊎ (n ≡ count) → IsStretch disk cylinder j (record { place = place; count = n })
-  stretched-by pos good n e free ends bound few within either =
+  stretched_by pos good n e free ends bound few within either =
       let defects = defects_of disk zone cylinder in
       let up = defects_ascend disk zone cylinder at in
       let slots = slots_at-zone disk.zones cylinder zone at.found in

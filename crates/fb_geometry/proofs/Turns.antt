@@ -13,8 +13,8 @@ use Rattle.fb_geometry.proofs.{Grid.get_range, Grid.zero_add, Grid.add_zero, Gri
 pub round-here : (a n : ℕ) → a < n → a % n ≡ a
 round-here a n h = mod-eq_of_lt h
 
-pub round-behind : (a n : ℕ) → n ≤ a → a < n + n → a % n ≡ a - n
-round-behind a n from upto = ap (λ x. x % n) (turned a n from) ∙ (add-mod_left n (a - n) ∙ mod-eq_of_lt (omega arith))
+pub round_behind : (a n : ℕ) → n ≤ a → a < n + n → a % n ≡ a - n
+round_behind a n from upto = ap (λ x. x % n) (turned a n from) ∙ (add-mod_left n (a - n) ∙ mod-eq_of_lt (omega arith))
   where
     turned : (a n : ℕ) → n ≤ a → a ≡ n + (a - n)
     turned a n h = omega arith
@@ -22,14 +22,14 @@ round-behind a n from upto = ap (λ x. x % n) (turned a n from) ∙ (add-mod_lef
 -- forward by an offset, and back again
 pub round-back : (offset i n : ℕ) → offset < n → i < n → ((offset + i) % n + n - offset) % n ≡ i
 round-back offset i n o h = elim (cases_lt (offset + i) n) [
-  | inl near ↦ ap (λ x. (x + n - offset) % n) (round-here (offset + i) n near) ∙ (round-behind (offset + i + n - offset) n (omega arith) (omega arith) ∙ omega arith)
-  | inr far ↦ ap (λ x. (x + n - offset) % n) (round-behind (offset + i) n far (omega arith)) ∙ (ap (λ x. x % n) (omega arith) ∙ round-here i n h)
+  | inl near ↦ ap (λ x. (x + n - offset) % n) (round-here (offset + i) n near) ∙ (round_behind (offset + i + n - offset) n (omega arith) (omega arith) ∙ omega arith)
+  | inr far ↦ ap (λ x. (x + n - offset) % n) (round_behind (offset + i) n far (omega arith)) ∙ (ap (λ x. x % n) (omega arith) ∙ round-here i n h)
 ]
 
 pub round-forward : (offset slot n : ℕ) → offset < n → slot < n → (offset + (slot + n - offset) % n) % n ≡ slot
 round-forward offset slot n o h = elim (cases_lt slot offset) [
-  | inl before ↦ ap (λ x. (offset + x) % n) (round-here (slot + n - offset) n (omega arith)) ∙ (round-behind (offset + (slot + n - offset)) n (omega arith) (omega arith) ∙ omega arith)
-  | inr after ↦ ap (λ x. (offset + x) % n) (round-behind (slot + n - offset) n (omega arith) (omega arith)) ∙ (ap (λ x. x % n) (omega arith) ∙ round-here slot n h)
+  | inl before ↦ ap (λ x. (offset + x) % n) (round-here (slot + n - offset) n (omega arith)) ∙ (round_behind (offset + (slot + n - offset)) n (omega arith) (omega arith) ∙ omega arith)
+  | inr after ↦ ap (λ x. (offset + x) % n) (round_behind (slot + n - offset) n (omega arith) (omega arith)) ∙ (ap (λ x. x % n) (omega arith) ∙ round-here slot n h)
 ]
 
 -- ---- ranges
@@ -60,7 +60,7 @@ ranged f a b (suc n) same =
 pub turn-is : (n offset : ℕ) → offset < n → turn n offset ≡ map (λ i. (offset + i) % n) (range_with_len 0 n)
 turn-is n offset h =
     ap (λ xs. xs ++ range_with_len 0 offset) (ranged (λ i. (offset + i) % n) 0 offset (n - offset) (λ i l. sym (ap (λ x. (offset + x) % n) (zero_add i) ∙ round-here (offset + i) n (omega arith))))
-    ∙ (ap (λ xs. map (λ i. (offset + i) % n) (range_with_len 0 (n - offset)) ++ xs) (ranged (λ i. (offset + i) % n) (n - offset) 0 offset (λ i l. sym (round-behind (offset + (n - offset + i)) n (omega arith) (omega arith) ∙ omega arith)))
+    ∙ (ap (λ xs. map (λ i. (offset + i) % n) (range_with_len 0 (n - offset)) ++ xs) (ranged (λ i. (offset + i) % n) (n - offset) 0 offset (λ i l. sym (round_behind (offset + (n - offset + i)) n (omega arith) (omega arith) ∙ omega arith)))
     ∙ (sym (map-append (λ i. (offset + i) % n) (range_with_len 0 (n - offset)) (range_with_len (n - offset) offset))
     ∙ ap (map (λ i. (offset + i) % n)) (ap (λ x. range_with_len 0 (n - offset) ++ range_with_len x offset) (sym (zero_add (n - offset))) ∙ (sym (range-append 0 (n - offset) offset) ∙ ap (range_with_len 0) (omega arith)))))
 

@@ -117,6 +117,7 @@ impl Geometry {
     }
 
     /// Each sector has a place of its own, which is not a bad slot.
+    #[tactic(auto, using(crate::proofs::Once::own_places))]
     pub fn own_places(&self)
         ensures { HasOwnPlaces self.now }
     {
@@ -124,6 +125,7 @@ impl Geometry {
     }
 
     /// The slots of a track follow one another around the whole rotation.
+    #[tactic(auto, using(crate::proofs::Rotation::cover))]
     pub fn angles(&self, track: Track)
         requires { track.cylinder < cylinders_of self.now.zones }
         ensures { CoverRotation self.now.rotation (slots_at self.now.zones track.cylinder) }
@@ -183,6 +185,7 @@ impl Geometry {
     }
 
     // The zone of a cylinder.
+    #[tactic(auto, using(crate::proofs::Faultless::by_zone))]
     pub(crate) fn zone_of(&self, cylinder: u32) -> Zone
         requires { cylinder < cylinders_of self.now.zones }
         ensures zone { IsZoneAt self.now cylinder result }
@@ -206,6 +209,7 @@ impl Geometry {
     }
 
     /// The slot from which the sectors of a track are counted.
+    #[tactic(auto, using(crate::proofs::Faultless::offset_at_zone))]
     pub fn offset(&self, track: Track) -> u32
         requires cylinder { track.cylinder < cylinders_of self.now.zones }
         requires head { track.head < self.now.heads }
@@ -238,6 +242,7 @@ impl Geometry {
     }
 
     /// The number of sectors of a cylinder.
+    #[tactic(auto, using(crate::proofs::Laws::length_data_list))]
     pub fn cylinder_sectors(&self, cylinder: u32) -> u32
         requires { cylinder < cylinders_of self.now.zones }
         ensures value { result ≡ length (data_list_at self.now cylinder) }
@@ -314,6 +319,7 @@ impl Geometry {
     }
 
     // Which sector a slot holds that is no defect, by its index among such slots of its cylinder.
+    #[tactic(auto, using(crate::proofs::Lookups::before_good, crate::proofs::Lookups::none_by_track, crate::proofs::Lookups::judged_entry))]
     fn sector_of_good(&self, zone: Zone, place: Place, good: u32) -> Option<u32>
         requires zone { IsZoneAt self.now place.track.cylinder zone }
         requires head { place.track.head < self.now.heads }

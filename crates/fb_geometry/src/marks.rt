@@ -91,6 +91,7 @@ pub fn unmarked_before(marks: &[Mark], position: u32) -> u32
 }
 
 // How many positions, from this one on, come before the next marked one or before the end.
+#[tactic(auto, using(crate::proofs::Order::next_upto, crate::proofs::Order::none_next))]
 pub fn unmarked_from(marks: &[Mark], position: u32, end: u32) -> u32
     requires ascending { IsAscending (positions marks.now) }
     requires order { position ≤ end }
@@ -106,6 +107,7 @@ pub fn unmarked_from(marks: &[Mark], position: u32, end: u32) -> u32
 }
 
 // Whether a position of the cylinder is marked.
+#[tactic(auto, using(crate::proofs::Order::next_upto, crate::proofs::Order::none_next, crate::proofs::Order::next_mark))]
 pub fn is_marked(marks: &[Mark], position: u32) -> bool
     requires ascending { IsAscending (positions marks.now) }
     ensures { result ≡ list_any (λ other. other == position) (positions marks.now) }

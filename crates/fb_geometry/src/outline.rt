@@ -137,6 +137,7 @@ impl Outline {
     }
 
     // The number of cylinders.
+    #[tactic(auto, using(crate::proofs::Faultless::last_cylinder, crate::proofs::Faultless::some_zones))]
     pub(crate) fn cylinders(&self) -> u32
         requires { HasZones self.now }
         ensures value { result ≡ cylinders_of self.now.zones }
@@ -147,6 +148,7 @@ impl Outline {
     }
 
     // The zone of a cylinder.
+    #[tactic(auto, using(crate::proofs::Faultless::zones_rise))]
     pub(crate) fn zone_of(&self, cylinder: u32) -> Zone
         requires zones { HasZones self.now }
         requires on_disk { cylinder < cylinders_of self.now.zones }
@@ -157,6 +159,7 @@ impl Outline {
     }
 
     // The index of the zone of each cylinder, in the order of cylinders.
+    #[tactic(auto, using(crate::proofs::Faultless::zones_rise))]
     pub(crate) fn zone_numbers(&self, alloc: Global) -> Result<Vec<u8>, NoMemory>
         requires { HasZones self.now }
         ensures { IfOk result (λ numbers. AreZoneNumbers self.now.zones numbers.items) }
@@ -250,6 +253,7 @@ impl Outline {
         Ok(marks)
     }
 
+    #[tactic(auto, using(crate::proofs::Marking::inside_at))]
     fn unsorted_marks(&self, alloc: Global, places: &[Place]) -> Result<Vec<Mark>, NoMemory>
         requires zones { HasZones self.now }
         requires inside { find (is_outside self.now) places.now ≡ None }
@@ -262,6 +266,7 @@ impl Outline {
         Ok(marks)
     }
 
+    #[tactic(auto, using(crate::proofs::Marking::position_is))]
     fn mark(&self, place: Place) -> Mark
         requires zones { HasZones self.now }
         requires inside { is_outside self.now place ≡ false }

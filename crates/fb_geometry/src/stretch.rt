@@ -43,6 +43,7 @@ impl Geometry {
 
     // A number of sectors, from the j-th on, that are on good slots in their order, with no good
     // slot left out between them.
+    #[tactic(auto, using(crate::proofs::Stretched::order_by_track, crate::proofs::Stretched::order_by_cylinder))]
     fn in_order(&self, zone: Zone, cylinder: u32, j: u32) -> u32
         requires zone { IsZoneAt self.now cylinder zone }
         requires sector { j < length (data_list_at self.now cylinder) }

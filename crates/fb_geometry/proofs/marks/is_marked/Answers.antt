@@ -4,10 +4,3 @@ use Rattle.fb_geometry.proofs.marks.is_marked.Goals as goal
 
 pub returns-then-next-marks : goal.returns-then-next-marks
 returns-then-next-marks c = sym (none_next c.args.marks.now c.requires.ascending c.args.position c.rank-next.result c.rank-next.ensures.value (omega arith) c.args.position (omega arith))
-
-pub bounds-marks-next : goal.bounds-marks-next
-bounds-marks-next c = omega (arith, next_upto c.args.marks.now c.requires.ascending c.args.position c.rank-next.result c.rank-next.ensures.value)
-
-pub returns : goal.returns
-returns c = let upto = next_upto c.args.marks.now c.requires.ascending c.args.position c.rank-next.result c.rank-next.ensures.value in
-    sym (next_mark c.args.marks.now c.requires.ascending c.args.position c.rank-next.result c.rank-next.ensures.value (record { cylinder = 0; position = 0 }) (omega arith)).2

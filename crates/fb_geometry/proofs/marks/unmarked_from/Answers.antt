@@ -2,12 +2,6 @@ use Rattle.fb_geometry.proofs.Words.{ap, arith, get_or, positions, ◌+◌, ◌-
 use Rattle.fb_geometry.proofs.{Slips.has, Order.next_upto, Order.none_next, Order.next_mark}
 use Rattle.fb_geometry.proofs.marks.unmarked_from.Goals as goal
 
-pub returns-then-next-marks-clause-free : goal.returns-then-next-marks-clause-free
-returns-then-next-marks-clause-free c = λ q from below. none_next c.args.marks.now c.requires.ascending c.args.position c.rank-next.result c.rank-next.ensures.value (omega arith) q from
-
-pub bounds-marks-next : goal.bounds-marks-next
-bounds-marks-next c = omega (arith, next_upto c.args.marks.now c.requires.ascending c.args.position c.rank-next.result c.rank-next.ensures.value)
-
 pub overflow_sub-result-2 : goal.overflow_sub-result-2
 overflow_sub-result-2 c = let upto = next_upto c.args.marks.now c.requires.ascending c.args.position c.rank-next.result c.rank-next.ensures.value in
     omega (arith, (next_mark c.args.marks.now c.requires.ascending c.args.position c.rank-next.result c.rank-next.ensures.value (record { cylinder = 0; position = 0 }) (omega arith)).0)

@@ -1,10 +1,7 @@
 use Rattle.fb_geometry.proofs.Words.{IsNonDecreasingBy, Some, ap, length, slice_get, slice_get-get_or, subst, sym}
 use Rattle.fb_geometry.proofs.Words.{zone_at, ◌<◌, ◌∙◌, ◌≡◌}
-use Rattle.fb_geometry.proofs.{Faultless.found_zone, Faultless.zones-rise, Faultless.slots_at-zone}
+use Rattle.fb_geometry.proofs.{Faultless.found_zone, Faultless.zones_rise, Faultless.slots_at-zone}
 use Rattle.fb_geometry.proofs.outline.Outline.zone_of.Goals as goal
-
-pub zone_number-requires-clause-rise : goal.zone_number-requires-clause-rise
-zone_number-requires-clause-rise c = subst (IsNonDecreasingBy (λ zone. zone.last)) (ap (λ disk. disk.zones) (sym c.self.view_is) ∙ sym c.as_slice.ensures.value) (zones-rise c.args.self.now c.requires.zones)
 
 found : (c : goal.After-result-1) → zone_at c.args.self.now.zones c.args.cylinder ≡ Some c.index.result.now
 found c =
