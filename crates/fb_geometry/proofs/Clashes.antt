@@ -9,7 +9,7 @@ use Rattle.fb_geometry.proofs.Words.{ltb-true, map, mark_of, nat_lt, nat_tests, 
 use Rattle.fb_geometry.proofs.Words.{repeated, same_Some, same_mark, same_place, slice_get, slice_get-get_or}
 use Rattle.fb_geometry.proofs.Words.{slice_get_within, sorted_far, subst, suc, sum_by-IsPermutation, sym, true}
 use Rattle.fb_geometry.proofs.Words.{true≢false, with_repeated, zero, ℕ, ◌++◌, ◌+◌, ◌<◌, ◌∙◌, ◌∷◌, ◌≡◌, ◌≤◌, ◌⊎◌}
-use Rattle.fb_geometry.proofs.{Grid.count_cons, Counting.same_places, Order.length-filter-map, Order.all_at}
+use Rattle.fb_geometry.proofs.{Grid.count_cons, Laws.same_places, Order.length-filter-map}
 use Rattle.fb_geometry.proofs.{Faultless.all_get, Laws.all-filter, Marking.mark_of-same, Marking.same_marks}
 use Rattle.fb_geometry.proofs.{Marking.same_mark-refl, Leasts.place_order, Leasts.Among, Leasts.among-tail}
 use Rattle.fb_geometry.proofs.{Leasts.among-left, Leasts.among-right, Leasts.among-append, Leasts.among-filter}
@@ -24,12 +24,6 @@ pairwise_from R (x ∷ xs) d h = (
   recursion_from_All (R x) xs (All-from_get_or (R x) xs d (λ j l. h 0 (suc j) (omega arith) (omega arith))),
   pairwise_from R xs d (λ i j l m. h (suc i) (suc j) (omega arith) (omega arith)),
 )
-
-pub pairwise_at : {A : Type 0} (R : A → A → Type 0) (xs : List A) (i j : ℕ) (d : A) → Pairwise R xs → i < j → j < length xs → R (get_or xs i d) (get_or xs j d)
-pairwise_at R [] i j d up l m = absurd (omega arith)
-pairwise_at R (x ∷ xs) i zero d up l m = absurd (omega arith)
-pairwise_at R (x ∷ xs) zero (suc j) d up l m = all_at (R x) xs j d up.0 (omega arith)
-pairwise_at R (x ∷ xs) (suc i) (suc j) d up l m = pairwise_at R xs i j d up.1 (omega arith) (omega arith)
 
 pub pairwise-filter : {A : Type 0} (R : A → A → Type 0) (test : A → Bool) (xs : List A) → Pairwise R xs → Pairwise R (filter test xs)
 pairwise-filter R test [] h = tt

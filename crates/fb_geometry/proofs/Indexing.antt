@@ -1,15 +1,15 @@
 -- The marks of an accepted outline are its index of bad slots.
 use Rattle.fb_geometry.proofs.Words.{AllByRecursion, AreInOrder, AreMarksOf, Bool, HasZones, IsAscending, IsIndexed}
 use Rattle.fb_geometry.proofs.Words.{IsZoneAt, IsZoneOf, List, Mark, Place, Shape, Some, Zone, [], among_unmarked}
-use Rattle.fb_geometry.proofs.Words.{and_from, and_parts, ap, arith, by_head, cases_order}
-use Rattle.fb_geometry.proofs.Words.{cylinder_slots, eq-eqb, eqb-true, false, filter, good_track, indexes, inl, inr}
-use Rattle.fb_geometry.proofs.Words.{is_among, is_mark_before, is_outside, list_any, lt-ltb, ltb-true, map}
-use Rattle.fb_geometry.proofs.Words.{mark_of, marks_on, nat_lt, not, or_cases, or_left, or_right, position_in}
+use Rattle.fb_geometry.proofs.Words.{ap, arith, by_head, cases_order}
+use Rattle.fb_geometry.proofs.Words.{cylinder_slots, eq-eqb, false, filter, good_track, indexes, inl, inr}
+use Rattle.fb_geometry.proofs.Words.{is_among, is_mark_before, is_outside, list_any, map}
+use Rattle.fb_geometry.proofs.Words.{mark_of, marks_on, not, or_left, position_in}
 use Rattle.fb_geometry.proofs.Words.{positions, rank, refl, same_Some, same_mark, same_place, slice_get}
 use Rattle.fb_geometry.proofs.Words.{slice_get_within, slot_at, subst, suc, sym, true, true≢false}
-use Rattle.fb_geometry.proofs.Words.{zone_at, ℕ, ◌&&◌, ◌*◌, ◌+◌, ◌-◌, ◌<◌, ◌==◌, ◌∙◌, ◌∷◌, ◌≡◌}
+use Rattle.fb_geometry.proofs.Words.{zone_at, ℕ, ◌*◌, ◌+◌, ◌-◌, ◌<◌, ◌==◌, ◌∙◌, ◌∷◌, ◌≡◌}
 use Rattle.fb_geometry.proofs.{Turns.get-cylinder_slots, Turns.length-cylinder_slots, Turns.good_cylinder-is}
-use Rattle.fb_geometry.proofs.{Counting.same_places, Marking.position_is, Marking.mark_of-slot_at, Marking.on_disk}
+use Rattle.fb_geometry.proofs.{Laws.same_places, Marking.position_is, Marking.mark_of-slot_at, Marking.on_disk}
 use Rattle.fb_geometry.proofs.{Marking.among-on, Marking.same_marks, Marking.same_mark-refl, Leasts.Among}
 use Rattle.fb_geometry.proofs.{Leasts.among-map, Leasts.among-mapped, Leasts.among-any, Leasts.any-among}
 use Rattle.fb_geometry.proofs.{Clashes.same_place-refl, Clashes.mark_among, Clashes.place_among, Clashes.inside_of}
@@ -116,21 +116,12 @@ module _ (disk : Shape) (zones : HasZones disk) (defects grown : List Mark) (are
 
   -- marks stay in order
   unmarked_before : (a b : Mark) → Among grown a → is_mark_before a b ≡ true → is_mark_before (among_unmarked defects a) (among_unmarked defects b) ≡ true
-  unmarked_before a b one h = elim (or_cases (nat_lt a.cylinder b.cylinder) ((a.cylinder == b.cylinder) && nat_lt a.position b.position) h) [
-    | inl less ↦ or_left (nat_lt a.cylinder b.cylinder) ((a.cylinder == b.cylinder) && nat_lt (among_unmarked defects a).position (among_unmarked defects b).position) less
-    | inr same ↦
-        let parts = and_parts (a.cylinder == b.cylinder) (nat_lt a.position b.position) same in
-        let cylinder : a.cylinder ≡ b.cylinder = eqb-true a.cylinder b.cylinder parts.0 in
-        let numbers = positions (marks_on a.cylinder defects) in
-        let ascend = marks_on-ascend a.cylinder defects are.ordered in
-        let less : a.position < b.position = ltb-true a.position b.position parts.1 in
-        let free : list_any (λ other. other == a.position) numbers ≡ false = among-on a defects ∙ good_mark a one in
-        let step = rank_free numbers ascend a.position b.position free less in
-        let there : rank b.position (positions (marks_on b.cylinder defects)) ≡ rank b.position numbers = ap (λ c. rank b.position (positions (marks_on c defects))) (sym cylinder) in
-        or_right (nat_lt a.cylinder b.cylinder) ((a.cylinder == b.cylinder) && nat_lt (among_unmarked defects a).position (among_unmarked defects b).position)
-        (and_from (a.cylinder == b.cylinder) (nat_lt (among_unmarked defects a).position (among_unmarked defects b).position) parts.0
-        (lt-ltb (among_unmarked defects a).position (among_unmarked defects b).position (omega (arith, rank-below a.position numbers ascend, rank-below b.position numbers ascend))))
-  ]
+  unmarked_before a b one h =
+      let numbers = positions (marks_on a.cylinder defects) in
+      let ascend = marks_on-ascend a.cylinder defects are.ordered in
+      let step : a.position < b.position → rank b.position numbers + a.position < rank a.position numbers + b.position = rank_free numbers ascend a.position b.position (among-on a defects ∙ good_mark a one) in
+      let same : a.cylinder ≡ b.cylinder → rank b.position (positions (marks_on b.cylinder defects)) ≡ rank b.position numbers = λ e. ap (λ c. rank b.position (positions (marks_on c defects))) (sym e) in
+      grind (arith, nat_tests, h, step, same, rank-below a.position numbers ascend, rank-below b.position numbers ascend)
 
   in_order_on : (marks : List Mark) → AreInOrder marks → ((mark : Mark) → Among marks mark → Among grown mark) → AreInOrder (map (among_unmarked defects) marks)
   in_order_on [] h within_ = tt

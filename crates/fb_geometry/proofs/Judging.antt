@@ -34,27 +34,17 @@ good_grown disk h =
 
 -- ---- places that are listed twice
 
-second_fault : {A B : Type 0} (f : A → GeometryFault) (g : B → GeometryFault) (a : Option A) (b o : Option B) → a ≡ None → b ≡ o → or_else (fault_at f a) (fault_at g b) ≡ fault_at g o
-second_fault f g a b o e h = rw (e, h) refl
-
 -- the fault of the defects, or of the grown ones, where none is outside
-pub defects_judged : (disk : Shape) (places items sorted : List Place) → places ≡ disk.defects → find (is_outside disk) places ≡ None → AreSorted (places ++ []) items → sorted ≡ items
-    → (defect_fault disk ≡ fault_at DefectTwice (slice_get (repeated sorted) 0)) × AreSorted disk.defects items
-defects_judged disk places items sorted e none are f =
-    let same : AreSorted disk.defects items = subst (λ places. AreSorted places items) (append-nil places ∙ e) are in (
-      second_fault DefectOutside DefectTwice (find (is_outside disk) disk.defects) (least is_place_before (repeated disk.defects)) (slice_get (repeated sorted) 0)
-          (ap (find (is_outside disk)) (sym e) ∙ none) (least_repeated disk.defects items same ∙ ap (λ items. slice_get (repeated items) 0) (sym f)),
-      same,
-    )
+pub defects_sorted : (places sorted : List Place) → AreSorted (places ++ []) sorted → AreSorted places sorted
+defects_sorted places sorted are = subst (λ places. AreSorted places sorted) (append-nil places) are
 
-pub grown_judged : (disk : Shape) (defects grown items sorted : List Place) → defect_fault disk ≡ None → defects ≡ disk.defects → grown ≡ disk.grown → find (is_outside disk) grown ≡ None
-    → AreSorted (defects ++ grown) items → sorted ≡ items → (grown_fault disk ≡ fault_at GrownTwice (slice_get (repeated sorted) 0)) × AreSorted (disk.defects ++ disk.grown) items
-grown_judged disk defects grown items sorted good d e none are f =
-    let same : AreSorted (disk.defects ++ disk.grown) items = subst (λ places. AreSorted places items) (ap (λ defects. defects ++ grown) d ∙ ap (λ grown. disk.defects ++ grown) e) are in (
-      second_fault GrownOutside GrownTwice (find (is_outside disk) disk.grown) (least is_place_before (repeated disk.grown ++ filter (is_among disk.defects) disk.grown)) (slice_get (repeated sorted) 0)
-          (ap (find (is_outside disk)) (sym e) ∙ none) (least_clash disk.defects disk.grown items (good_defects disk good).1 same ∙ ap (λ items. slice_get (repeated items) 0) (sym f)),
-      same,
-    )
+pub defects_judged : (disk : Shape) (sorted : List Place) → find (is_outside disk) disk.defects ≡ None → AreSorted (disk.defects ++ []) sorted
+    → defect_fault disk ≡ fault_at DefectTwice (slice_get (repeated sorted) 0)
+defects_judged disk sorted none are = rw (none, least_repeated disk.defects sorted (defects_sorted disk.defects sorted are)) refl
+
+pub grown_judged : (disk : Shape) (sorted : List Place) → defect_fault disk ≡ None → find (is_outside disk) disk.grown ≡ None → AreSorted (disk.defects ++ disk.grown) sorted
+    → grown_fault disk ≡ fault_at GrownTwice (slice_get (repeated sorted) 0)
+grown_judged disk sorted good none are = rw (none, least_clash disk.defects disk.grown sorted (good_defects disk good).1 are) refl
 
 -- the places in order are on the disk if they are
 inside : (disk : Shape) (places : List Place) → find (is_outside disk) places ≡ None → All (λ place. is_outside disk place ≡ false) places
@@ -115,22 +105,19 @@ faultless disk zones h k =
     record { zones_hold = zones; defects_inside = good.0; defects_once = ap (least is_place_before) good.1; spares = k }
 
 -- the fault of the spares, by the first place in order whose track or cylinder has too few
-pub track_spares : (disk : Shape) (items sorted : List Place) (found : Option Place) → disk.layout ≡ PerTrack → AreSorted disk.defects items → sorted ≡ items → found ≡ find (λ place. is_full_track disk place.track) sorted
-    → spare_fault disk.layout disk ≡ fault_at TooManyDefects (option_map (λ place. place.track) found)
-track_spares disk items sorted found layout are e f =
-    ap (λ layout. spare_fault layout disk) layout ∙ ap (fault_at TooManyDefects)
-    (least_full is_track_before track_order (λ place. place.track) (λ a b h. grind (arith, nat_tests)) (is_full_track disk) disk.defects items are
-    ∙ ap (option_map (λ place. place.track)) (sym (f ∙ ap (find (λ place. is_full_track disk place.track)) e)))
+pub track_spares : (disk : Shape) (sorted : List Place) → disk.layout ≡ PerTrack → AreSorted disk.defects sorted
+    → spare_fault disk.layout disk ≡ fault_at TooManyDefects (option_map (λ place. place.track) (find (λ place. is_full_track disk place.track) sorted))
+track_spares disk sorted layout are =
+    rw layout (ap (fault_at TooManyDefects) (least_full is_track_before track_order (λ place. place.track) (λ a b h. grind (arith, nat_tests)) (is_full_track disk) disk.defects sorted are))
 
-pub cylinder_spares : (disk : Shape) (items sorted : List Place) (found : Option Place) → disk.layout ≡ PerCylinder → grown_fault disk ≡ None → AreSorted (disk.defects ++ disk.grown) items → sorted ≡ items
-    → found ≡ find (λ place. is_full_cylinder disk place.track.cylinder) sorted → spare_fault disk.layout disk ≡ fault_at TooManyInCylinder (option_map (λ place. place.track.cylinder) found)
-cylinder_spares disk items sorted found layout h are e f =
+pub cylinder_spares : (disk : Shape) (sorted : List Place) → disk.layout ≡ PerCylinder → grown_fault disk ≡ None → AreSorted (disk.defects ++ disk.grown) sorted
+    → spare_fault disk.layout disk ≡ fault_at TooManyInCylinder (option_map (λ place. place.track.cylinder) (find (λ place. is_full_cylinder disk place.track.cylinder) sorted))
+cylinder_spares disk sorted layout h are =
     let outside = fault_at GrownOutside (find (is_outside disk) disk.grown) in
     let twice = fault_at GrownTwice (least is_place_before (repeated disk.grown ++ filter (is_among disk.defects) disk.grown)) in
     let parts = or_else-none outside twice h in
-    ap (λ layout. spare_fault layout disk) layout ∙ rw (parts.0, parts.1) (ap (fault_at TooManyInCylinder)
-    (least_full nat_lt number_order (λ place. place.track.cylinder) (λ a b h. grind (arith, nat_tests)) (is_full_cylinder disk) (disk.defects ++ disk.grown) items are
-    ∙ ap (option_map (λ place. place.track.cylinder)) (sym (f ∙ ap (find (λ place. is_full_cylinder disk place.track.cylinder)) e))))
+    rw (layout, parts.0, parts.1) (ap (fault_at TooManyInCylinder)
+    (least_full nat_lt number_order (λ place. place.track.cylinder) (λ a b h. grind (arith, nat_tests)) (is_full_cylinder disk) (disk.defects ++ disk.grown) sorted are))
 
 pub fits_per_cylinder : (layout : Layout) (grown : List Place) → layout ≡ PerCylinder → layout ≡ PerTrack → grown ≡ []
 fits_per_cylinder layout grown h k = cc

@@ -1,4 +1,4 @@
--- An outline without a fault is sound.
+-- How many slots are good, and how many sectors a cylinder has.
 use Rattle.fb_geometry.proofs.Words.{All-append, All-filter, All-from_recursion, AllByRecursion, Bool, GrownOutside}
 use Rattle.fb_geometry.proofs.Words.{GrownTwice, IsZoneAt, Layout, List, None, PerCylinder, PerTrack, Place, Shape}
 use Rattle.fb_geometry.proofs.Words.{TooManyDefects, TooManyInCylinder, Track, Zone, [], ap, arith, by_head}
@@ -11,9 +11,121 @@ use Rattle.fb_geometry.proofs.Words.{per_track, range_with_len, recursion_from_A
 use Rattle.fb_geometry.proofs.Words.{same_track, spare_fault, spares_at, stand_in, subst, suc, sym, take, true, zero}
 use Rattle.fb_geometry.proofs.Words.{ℕ, ◌*◌, ◌++◌, ◌+◌, ◌-◌, ◌<◌, ◌==◌, ◌∙◌, ◌∷◌, ◌≡◌, ◌≤◌, ◌⊎◌}
 use Rattle.fb_geometry.proofs.{Grid.length-parts, Grid.add_zero, Grid.add_one, Turns.good_cylinder-is}
-use Rattle.fb_geometry.proofs.{Counting.same_tracks, Counting.length-good_track, Counting.length-good_cylinder}
 use Rattle.fb_geometry.proofs.{Faultless.fault_at-none, Faultless.or_else-none, Faultless.least-none}
 use Rattle.fb_geometry.proofs.{Faultless.filter-none, Faultless.spares_at-zone, Faultless.cylinder_spares_at-zone}
+use Rattle.fb_geometry.proofs.Words.{Bool, List, Place, Shape, Track, Zone, [], and_parts, ap, arith, cases_Bool}
+use Rattle.fb_geometry.proofs.Words.{cond, cylinder_slots, eq-eqb, eqb-true, false, filter, good_track, inl, inr}
+use Rattle.fb_geometry.proofs.Words.{is_among, length, length-filter_both, length-map-range_with_len}
+use Rattle.fb_geometry.proofs.Words.{list_any, map, not, position_in, range_with_len, refl, same_place}
+use Rattle.fb_geometry.proofs.Words.{same_track, slot_at, suc, sym, true, zero, ℕ, ◌*◌, ◌+◌}
+use Rattle.fb_geometry.proofs.Words.{◌-◌, ◌<◌, ◌==◌, ◌||◌, ◌∙◌, ◌∷◌, ◌≡◌, ◌≤◌}
+use Rattle.fb_geometry.proofs.{Turns.position_in-slot_at}
+use Rattle.fb_geometry.proofs.{Turns.length-cylinder_slots, Order.length-filter-map, Grid.add_zero, Grid.add_one}
+use Rattle.fb_geometry.proofs.{Grid.count_cons}
+use Rattle.fb_geometry.proofs.Words.{nat_tests, subst}
+use Rattle.fb_geometry.proofs.{Turns.good_track-is, Turns.slot_on}
+
+-- ---- counts
+
+-- the elements that pass a test and those that don't are all together
+pub kept_and_dropped : {A : Type 0} (bad : A → Bool) (xs : List A) → length (filter bad xs) + length (filter (λ x. not (bad x)) xs) ≡ length xs
+kept_and_dropped bad xs = length-filter_both bad (λ x. not (bad x)) (λ x. refl) xs
+
+-- one test or another
+either : {A : Type 0} (p q : A → Bool) (xs : List A) → length (filter (λ x. p x || q x) xs) ≤ length (filter p xs) + length (filter q xs)
+either p q [] = omega arith
+either p q (x ∷ xs) = omega (arith, count_cons (λ x. p x || q x) x xs, count_cons p x xs, count_cons q x xs, one (p x) (q x), either p q xs)
+  where
+    one : (a b : Bool) → cond (a || b) 1 0 ≤ cond a 1 0 + cond b 1 0
+    one true b = omega arith
+    one false b = omega arith
+
+nothing : {A : Type 0} (xs : List A) → length (filter (λ _. false) xs) ≡ 0
+nothing [] = refl
+nothing (x ∷ xs) = nothing xs
+
+-- no more pass one of these tests than there are tests that one can pass
+pub at_most_each : {A B : Type 0} (same : A → B → Bool) (can : B → Bool) (xs : List A) (ds : List B)
+    → ((d : B) → length (filter (λ x. same x d) xs) ≤ cond (can d) 1 0)
+    → length (filter (λ x. list_any (same x) ds) xs) ≤ length (filter can ds)
+at_most_each same can xs [] each = omega (arith, nothing xs)
+at_most_each same can xs (d ∷ ds) each =
+    omega (arith, each d, count_cons can d ds, either (λ x. same x d) (λ x. list_any (same x) ds) xs, at_most_each same can xs ds each)
+
+-- fewer pass two tests than the one
+pub fewer : {A : Type 0} (p q : A → Bool) (xs : List A) → length (filter p (filter q xs)) ≤ length (filter p xs)
+fewer p q [] = omega arith
+fewer p q (x ∷ xs) = elim (cases_Bool (q x)) [
+  | inl in_ ↦ rw in_ (omega (arith, count_cons p x (filter q xs), count_cons p x xs, fewer p q xs))
+  | inr out ↦ rw out (omega (arith, count_cons p x xs, fewer p q xs))
+]
+
+-- a test that one number alone passes, or none where it can't be passed
+once_in : (test : ℕ → Bool) (can : Bool) (q a n : ℕ) → ((i : ℕ) → i < n → test (a + i) ≡ true → (can ≡ true) × (a + i ≡ q)) → length (filter test (range_with_len a n)) ≤ cond can 1 0
+once_in test can q a zero h = omega arith
+once_in test can q a (suc n) h =
+    let later = λ (i : ℕ) (l : i < n) (t : test (a + 1 + i) ≡ true). h (i + 1) (omega arith) (ap test (add_one a i) ∙ t) in
+    elim (cases_Bool (test a)) [
+      | inl here ↦
+          let first = h 0 (omega arith) (ap test (add_zero a) ∙ here) in
+          rw (here, first.0) (omega (arith, once_in test false q (a + 1) n (λ i l t. absurd (omega (arith, first.1, (later i l t).1)))))
+      | inr off ↦ rw off (once_in test can q (a + 1) n (λ i l t. ((later i l t).0, omega (arith, (later i l t).1))))
+    ]
+
+same_slot : (a b : Place) → same_place a b ≡ true → (same_track a.track b.track ≡ true) × (a.slot ≡ b.slot)
+same_slot a b h = let parts = and_parts (same_track a.track b.track) (a.slot == b.slot) h in (parts.0, eqb-true a.slot b.slot parts.1)
+
+-- tracks and places are the same if their numbers are
+pub same_tracks : (a b : Track) → same_track a b ≡ true → a ≡ b
+same_tracks a b h =
+    let parts = and_parts (a.cylinder == b.cylinder) (a.head == b.head) h in
+    ap (λ c. record { cylinder = c; head = a.head }) (eqb-true a.cylinder b.cylinder parts.0) ∙ ap (λ k. record { cylinder = b.cylinder; head = k }) (eqb-true a.head b.head parts.1)
+
+pub same_places : (a b : Place) → same_place a b ≡ true → a ≡ b
+same_places a b h =
+    let parts = same_slot a b h in
+    ap (λ track. record { track = track; slot = a.slot }) (same_tracks a.track b.track parts.0) ∙ ap (λ slot. record { track = b.track; slot = slot }) parts.1
+
+module _ (zone : Zone) (some : 0 < zone.sectors) where
+  -- a place is no more than once among slots that follow one another, and only where it can be
+  once_among : (heads cylinder a n : ℕ) (d : Place) (can : Bool) → ((i : ℕ) → i < n → slot_at zone heads cylinder (a + i) ≡ d → can ≡ true)
+      → length (filter (λ place. same_place place d) (map (slot_at zone heads cylinder) (range_with_len a n))) ≤ cond can 1 0
+  once_among heads cylinder a n d can so =
+      let slot = slot_at zone heads cylinder in
+      omega (
+        arith,
+        length-filter-map (λ place. same_place place d) slot (range_with_len a n),
+        once_in (λ p. same_place (slot p) d) can (position_in zone heads d) a n
+            (λ i l t. let same = same_places (slot (a + i)) d t in (so i l same, sym (position_in-slot_at zone heads some cylinder (a + i)) ∙ ap (position_in zone heads) same)),
+      )
+
+  pub length-good_track : (disk : Shape) (track : Track) → length (filter (λ place. same_track track place.track) disk.defects) ≤ zone.spares → zone.sectors - zone.spares ≤ length (good_track disk zone track)
+  length-good_track disk track few =
+      let first = track.head * zone.sectors in
+      let slots = map (slot_at zone disk.heads track.cylinder) (range_with_len first zone.sectors) in
+      let own : same_track track track ≡ true = grind (arith, nat_tests) in
+      omega (
+        arith,
+        ap length (good_track-is zone disk.heads some disk track refl),
+        length-map-range_with_len (slot_at zone disk.heads track.cylinder) first zone.sectors,
+        kept_and_dropped (is_among disk.defects) slots,
+        at_most_each same_place (λ place. same_track track place.track) slots disk.defects (λ d. once_among disk.heads track.cylinder first zone.sectors d (same_track track d.track)
+            (λ i l same. subst (λ d. same_track track d.track ≡ true) (sym (slot_on zone disk.heads some track.cylinder track.head i l) ∙ same) own)),
+      )
+
+  -- one slot of a cylinder
+  pub once_on_cylinder : (heads cylinder : ℕ) (d : Place) → length (filter (λ place. same_place place d) (cylinder_slots zone heads cylinder)) ≤ cond (d.track.cylinder == cylinder) 1 0
+  once_on_cylinder heads cylinder d = once_among heads cylinder 0 (heads * zone.sectors) d (d.track.cylinder == cylinder) (λ i l same. eq-eqb d.track.cylinder cylinder (sym (ap (λ place. place.track.cylinder) same)))
+
+  pub length-good_cylinder : (disk : Shape) (heads cylinder : ℕ)
+      → heads * zone.sectors ≤ length (filter (λ place. not (is_among disk.defects place)) (cylinder_slots zone heads cylinder)) + length (filter (λ place. place.track.cylinder == cylinder) disk.defects)
+  length-good_cylinder disk heads cylinder =
+      omega (
+        arith,
+        length-cylinder_slots zone heads some cylinder,
+        kept_and_dropped (is_among disk.defects) (cylinder_slots zone heads cylinder),
+        at_most_each same_place (λ place. place.track.cylinder == cylinder) (cylinder_slots zone heads cylinder) disk.defects (once_on_cylinder heads cylinder),
+      )
 
 -- ---- spares are enough
 

@@ -17,7 +17,7 @@ use Rattle.fb_geometry.proofs.Words.{data_list, good_before, Track}
 use Rattle.fb_geometry.proofs.{Grid.within, Grid.get_left, Grid.get_right, Grid.get_part, Grid.get_range, Grid.zero_add}
 use Rattle.fb_geometry.proofs.{Slips.has, Slips.indexes-ascend, Slips.slipped_to, Slips.is_marked_at, Slips.length_front, Slips.goes, Slips.kth, Slips.rank_marked, Slips.rank-below, Slips.rank-step, Slips.length-kept, Slips.entry_holds, Slips.one_entry, Slips.held}
 use Rattle.fb_geometry.proofs.{Turns.good_track-is, Turns.good_cylinder-is, Turns.range-append, Turns.length-cylinder_slots, Turns.get-cylinder_slots, Turns.position_in-slot_at, Turns.slot_at-position_in, Turns.position_below, Faultless.all_get, Faultless.slots_at-zone, Faultless.list_among-zone}
-use Rattle.fb_geometry.proofs.{Laws.HasSpares, Laws.has_spares, Laws.length-track, Laws.length-good, Laws.few_flaws, Laws.length_data_list, Laws.all-filter, Counting.kept_and_dropped, Counting.at_most_each, Counting.fewer, Counting.once_on_cylinder}
+use Rattle.fb_geometry.proofs.{Laws.HasSpares, Laws.has_spares, Laws.length-track, Laws.length-good, Laws.few_flaws, Laws.length_data_list, Laws.all-filter, Laws.kept_and_dropped, Laws.at_most_each, Laws.fewer, Laws.once_on_cylinder}
 
 -- the bad slots of a cylinder by their positions, its good slots, and the grown defects by their indexes among these
 abbrev pub defects_of : Shape → Zone → ℕ → List ℕ

@@ -1,11 +1,13 @@
 -- Marks in order: what binary searches find among them.
 use Rattle.fb_geometry.proofs.Words.{AllByRecursion, AreInOrder, Bool, IsAscending, IsNonDecreasingBy}
-use Rattle.fb_geometry.proofs.Words.{IsNonDecreasingBy-drop, IsPartitionPoint, List, Mark, Some, [], and_parts, ap}
-use Rattle.fb_geometry.proofs.Words.{arith, cases_Bool, cond, drop, eqb-true, false, filter, get_or, get_or-map, inl}
-use Rattle.fb_geometry.proofs.Words.{inr, is_mark_before, le-ltb, length, length-map, lt-ltb, ltb-true, map, marks_on}
-use Rattle.fb_geometry.proofs.Words.{nat_le, nat_lt, nat_tests, option_map, or_cases, positions, rank, refl}
+use Rattle.fb_geometry.proofs.Words.{IsNonDecreasingBy-drop, IsPartitionPoint, List, Mark, Some, [], ap}
+use Rattle.fb_geometry.proofs.Words.{arith, cases_Bool, drop, eqb-true, false, filter, get_or, get_or-map, inl}
+use Rattle.fb_geometry.proofs.Words.{inr, is_mark_before, le-ltb, length, length-map, lt-ltb, map, marks_on}
+use Rattle.fb_geometry.proofs.Words.{nat_le, nat_lt, nat_tests, option_map, positions, rank, refl}
 use Rattle.fb_geometry.proofs.Words.{slice_get, slice_get-get_or, slice_get-map, slipped, subst, suc, sym, take, true}
-use Rattle.fb_geometry.proofs.Words.{zero, ℕ, ◌&&◌, ◌+◌, ◌-◌, ◌<◌, ◌==◌, ◌∙◌, ◌∷◌, ◌≡◌, ◌≤◌}
+use Rattle.fb_geometry.proofs.Words.{zero, ℕ, ◌+◌, ◌-◌, ◌<◌, ◌==◌, ◌∙◌, ◌∷◌, ◌≡◌, ◌≤◌}
+use Rattle.fb_geometry.proofs.Words.{Pairwise, cases_lt}
+use Rattle.fb_geometry.proofs.{Slips.rank-at, Slips.rank_marked, Slips.rank-step}
 use Rattle.fb_geometry.proofs.{Grid.all_get}
 use Rattle.fb_geometry.proofs.{Slips.has, Slips.rank-le_length, Slips.free_behind, Slips.next_marked}
 
@@ -15,57 +17,42 @@ all_at P xs j d all h = all_get P xs j (get_or xs j d) all (slice_get-get_or xs 
 pub position_at : (marks : List Mark) (i : ℕ) (d : Mark) → i < length marks → get_or (positions marks) i 0 ≡ (get_or marks i d).position
 position_at marks i d h = get_or-map (λ mark. mark.position) marks i d 0 h
 
--- what a mark before another says
-before_cylinder : (a b : Mark) → is_mark_before a b ≡ true → a.cylinder ≤ b.cylinder
-before_cylinder a b h = elim (or_cases (nat_lt a.cylinder b.cylinder) ((a.cylinder == b.cylinder) && nat_lt a.position b.position) h) [
-  | inl less ↦ omega (arith, ltb-true a.cylinder b.cylinder less)
-  | inr same ↦ omega (arith, eqb-true a.cylinder b.cylinder (and_parts (a.cylinder == b.cylinder) (nat_lt a.position b.position) same).0)
+pub pairwise_at : {A : Type 0} (R : A → A → Type 0) (xs : List A) (i j : ℕ) (d : A) → Pairwise R xs → i < j → j < length xs → R (get_or xs i d) (get_or xs j d)
+pairwise_at R [] i j d up l m = absurd (omega arith)
+pairwise_at R (x ∷ xs) i zero d up l m = absurd (omega arith)
+pairwise_at R (x ∷ xs) zero (suc j) d up l m = all_at (R x) xs j d up.0 (omega arith)
+pairwise_at R (x ∷ xs) (suc i) (suc j) d up l m = pairwise_at R xs i j d up.1 (omega arith) (omega arith)
+
+-- elements that stand so to all that follow don't fall
+rises : {A : Type 0} (R : A → A → Type 0) (key : A → ℕ) → ((a b : A) → R a b → key a ≤ key b) → (xs : List A) → Pairwise R xs → IsNonDecreasingBy key xs
+rises R key so xs up i j d le h = elim (cases_lt i j) [
+  | inl less ↦ so (get_or xs i d) (get_or xs j d) (pairwise_at R xs i j d up less h)
+  | inr upto ↦ let same : i ≡ j = omega arith in omega (arith, ap (λ k. key (get_or xs k d)) same)
 ]
 
-before_position : (a b : Mark) → is_mark_before a b ≡ true → (b.cylinder == a.cylinder) ≡ true → a.position < b.position
-before_position a b h e = elim (or_cases (nat_lt a.cylinder b.cylinder) ((a.cylinder == b.cylinder) && nat_lt a.position b.position) h) [
-  | inl less ↦ absurd (omega (arith, ltb-true a.cylinder b.cylinder less, eqb-true b.cylinder a.cylinder e))
-  | inr same ↦ ltb-true a.position b.position (and_parts (a.cylinder == b.cylinder) (nat_lt a.position b.position) same).1
-]
-
--- cylinders don't fall
 pub cylinders-rise : (marks : List Mark) → AreInOrder marks → IsNonDecreasingBy (λ mark. mark.cylinder) marks
-cylinders-rise [] up i j d le h = absurd (omega arith)
-cylinders-rise (mark ∷ marks) up zero zero d le h = omega arith
-cylinders-rise (mark ∷ marks) up zero (suc j) d le h = before_cylinder mark (get_or marks j d) (all_at (λ later. is_mark_before mark later ≡ true) marks j d up.0 (omega arith))
-cylinders-rise (mark ∷ marks) up (suc i) zero d le h = absurd (omega arith)
-cylinders-rise (mark ∷ marks) up (suc i) (suc j) d le h = cylinders-rise marks up.1 i j d (omega arith) (omega arith)
+cylinders-rise = rises (λ mark later. is_mark_before mark later ≡ true) (λ mark. mark.cylinder) (λ a b h. grind (arith, nat_tests))
 
--- positions on a cylinder rise
 pub positions-rise : (marks : List Mark) → IsAscending (positions marks) → IsNonDecreasingBy (λ mark. mark.position) marks
-positions-rise [] up i j d le h = absurd (omega arith)
-positions-rise (mark ∷ marks) up zero zero d le h = omega arith
-positions-rise (mark ∷ marks) up zero (suc j) d le h =
-    omega (arith, all_at (λ later. mark.position < later) (positions marks) j 0 up.0 (omega (arith, length-map marks (λ mark. mark.position))), position_at marks j d (omega arith))
-positions-rise (mark ∷ marks) up (suc i) zero d le h = absurd (omega arith)
-positions-rise (mark ∷ marks) up (suc i) (suc j) d le h = positions-rise marks up.1 i j d (omega arith) (omega arith)
+positions-rise marks up i j d le h =
+    omega (arith, rises (λ a b. a < b) (λ a. a) (λ a b less. omega arith) (positions marks) up i j 0 le (omega (arith, length-map marks (λ mark. mark.position))), position_at marks i d (omega arith), position_at marks j d h)
 
 -- ---- the marks of one cylinder
 
-kept_later : (b : Bool) (mark other : Mark) (rest : List Mark) → (b ≡ true → mark.position < other.position) → AllByRecursion (λ later. mark.position < later) (positions rest)
-    → AllByRecursion (λ later. mark.position < later) (positions (cond b (other ∷ rest) rest))
-kept_later true mark other rest one all = (one refl, all)
-kept_later false mark other rest one all = all
-
-later_on : (mark : Mark) (cylinder : ℕ) (marks : List Mark) → (mark.cylinder == cylinder) ≡ true → AllByRecursion (λ later. is_mark_before mark later ≡ true) marks
-    → AllByRecursion (λ later. mark.position < later) (positions (marks_on cylinder marks))
-later_on mark cylinder [] e all = tt
-later_on mark cylinder (other ∷ marks) e all = kept_later (other.cylinder == cylinder) mark other (marks_on cylinder marks)
-    (λ here. before_position mark other all.0 (grind (arith, nat_tests))) (later_on mark cylinder marks e all.1)
-
-ascends_step : (b : Bool) (mark : Mark) (rest : List Mark) → (b ≡ true → AllByRecursion (λ later. mark.position < later) (positions rest)) → IsAscending (positions rest)
-    → IsAscending (positions (cond b (mark ∷ rest) rest))
-ascends_step true mark rest all up = (all refl, up)
-ascends_step false mark rest all up = up
+later_on : (mark : Mark) (marks : List Mark) → AllByRecursion (λ later. is_mark_before mark later ≡ true) marks
+    → AllByRecursion (λ later. mark.position < later) (positions (marks_on mark.cylinder marks))
+later_on mark [] all = tt
+later_on mark (other ∷ marks) all = let rest = later_on mark marks all.1 in elim (cases_Bool (other.cylinder == mark.cylinder)) [
+  | inl here ↦ let less : mark.position < other.position = grind (arith, nat_tests, all.0) in rw here (less, rest)
+  | inr off ↦ rw off rest
+]
 
 pub marks_on-ascend : (cylinder : ℕ) (marks : List Mark) → AreInOrder marks → IsAscending (positions (marks_on cylinder marks))
 marks_on-ascend cylinder [] up = tt
-marks_on-ascend cylinder (mark ∷ marks) up = ascends_step (mark.cylinder == cylinder) mark (marks_on cylinder marks) (λ e. later_on mark cylinder marks e up.0) (marks_on-ascend cylinder marks up.1)
+marks_on-ascend cylinder (mark ∷ marks) up = let rest = marks_on-ascend cylinder marks up.1 in elim (cases_Bool (mark.cylinder == cylinder)) [
+  | inl here ↦ rw here (subst (λ c. AllByRecursion (λ later. mark.position < later) (positions (marks_on c marks))) (eqb-true mark.cylinder cylinder here) (later_on mark marks up.0), rest)
+  | inr off ↦ rw off rest
+]
 
 -- ---- what searches find
 
@@ -122,12 +109,13 @@ rest-rises marks rest from up e = subst (λ rest. IsNonDecreasingBy (λ mark. ma
 -- ---- slipping
 
 pub gaps : (numbers : List ℕ) (i j : ℕ) → IsAscending numbers → i ≤ j → j < length numbers → get_or numbers i 0 + (j - i) ≤ get_or numbers j 0
-gaps [] i j up le h = absurd (omega arith)
-gaps (x ∷ numbers) zero zero up le h = omega arith
-gaps (x ∷ []) zero (suc j) up le h = absurd (omega arith)
-gaps (x ∷ y ∷ numbers) zero (suc j) up le h = omega (arith, gaps (y ∷ numbers) 0 j up.1 (omega arith) (omega arith), up.0.0)
-gaps (x ∷ numbers) (suc i) zero up le h = absurd (omega arith)
-gaps (x ∷ numbers) (suc i) (suc j) up le h = omega (arith, gaps numbers i j up.1 (omega arith) (omega arith))
+gaps numbers i j up le h =
+    let first = rank-at i numbers (get_or numbers i 0) up (slice_get-get_or numbers i 0 (omega arith)) in
+    let last = rank-at j numbers (get_or numbers j 0) up (slice_get-get_or numbers j 0 h) in
+    elim (cases_lt (get_or numbers j 0) (get_or numbers i 0)) [
+      | inl less ↦ absurd (omega (arith, first.0, last.0, rank_marked numbers up (get_or numbers j 0) (get_or numbers i 0) last.1 less))
+      | inr from ↦ omega (arith, first.0, last.0, (rank-step (get_or numbers i 0) (get_or numbers j 0) numbers up from).1)
+    ]
 
 pub slipped-is : (number : ℕ) (numbers : List ℕ) (r : ℕ) → r ≤ length numbers → ((i : ℕ) → i < r → get_or numbers i 0 ≤ number + i) → ((i : ℕ) → r ≤ i → i < length numbers → number + i < get_or numbers i 0)
     → slipped number numbers ≡ number + r

@@ -7,7 +7,7 @@ use Rattle.fb_geometry.proofs.Words.{none-some, not, rank, refl, same_Some, slic
 use Rattle.fb_geometry.proofs.Words.{slipped, suc, sym, take, true, true≢false, zero, ℕ}
 use Rattle.fb_geometry.proofs.Words.{◌+◌, ◌-◌, ◌<◌, ◌==◌, ◌∙◌, ◌∷◌, ◌≡◌, ◌≤◌}
 use Rattle.fb_geometry.proofs.{Grid.count_cons, Grid.add_zero, Grid.all_weaker, Grid.all_get}
-use Rattle.fb_geometry.proofs.Words.{subst, entry_of_sector, HoldsSector, count_by_more_no, count_by_more_yes, map, option_map, slice_get-map}
+use Rattle.fb_geometry.proofs.Words.{subst, entry_of_sector, HoldsSector, length-filter_more, map, option_map, slice_get-map}
 use Rattle.fb_geometry.proofs.{Grid.zero_add, Grid.within}
 
 -- ---- ascending numbers
@@ -280,24 +280,11 @@ module _ {A : Type 0} (test : A → Bool) (xs : List A) where
       let one = within xs i (omega arith) in
       let same : get_or xs i one.0 ≡ one.0 = get_or_from_slice_get xs i one.0 one.0 one.1 in
       let next : suc i ≡ i + 1 = omega arith in
-      let keep : A → Bool = λ x. not (test x) in
+      let more = length-filter_more (λ x. not (test x)) xs i one.0 (omega arith) in
+      let ranks = rw (is_marked_at i one.0 one.1) at (rank_next i (indexes test 0 xs) up) in
       rw next (elim (cases_Bool (test one.0)) [
-        | inl out ↦ omega (
-          arith,
-          length-filter keep (take (i + 1) xs),
-          length-filter keep (take i xs),
-          count_by_more_no keep xs i one.0 (omega arith) (rw (same, out) refl),
-          rw (is_marked_at i one.0 one.1, out) at (rank_next i (indexes test 0 xs) up),
-          length_front i (omega arith),
-        )
-        | inr stays ↦ omega (
-          arith,
-          length-filter keep (take (i + 1) xs),
-          length-filter keep (take i xs),
-          count_by_more_yes keep xs i one.0 (omega arith) (rw (same, stays) refl),
-          rw (is_marked_at i one.0 one.1, stays) at (rank_next i (indexes test 0 xs) up),
-          length_front i (omega arith),
-        )
+        | inl out ↦ omega (arith, rw (same, out) at more, rw out at ranks, length_front i (omega arith))
+        | inr stays ↦ omega (arith, rw (same, stays) at more, rw stays at ranks, length_front i (omega arith))
       ])
 
   -- where one that is left goes

@@ -5,7 +5,7 @@ use Rattle.fb_geometry.proofs.Words.{cases_Bool, cases_lt, cond, false, filter, 
 use Rattle.fb_geometry.proofs.Words.{is_place_before, least, length, map, option_map, refl, slice_get, subst, sym}
 use Rattle.fb_geometry.proofs.Words.{true, ℕ, ◌+◌, ◌∙◌, ◌∷◌, ◌≡◌, ◌≤◌}
 use Rattle.fb_geometry.proofs.{Grid.count_cons, Order.point-is, Leasts.IsOrder, Leasts.Among, Leasts.among-filter}
-use Rattle.fb_geometry.proofs.{Leasts.among-filtered, Leasts.least-head, Clashes.pairwise_at, Clashes.pairwise-filter}
+use Rattle.fb_geometry.proofs.{Leasts.among-filtered, Leasts.least-head, Order.pairwise_at, Clashes.pairwise-filter}
 use Rattle.fb_geometry.proofs.{Clashes.pairwise-map, Clashes.same_count, Clashes.permuted}
 
 -- ---- the first that is full

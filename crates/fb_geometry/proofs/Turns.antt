@@ -10,9 +10,6 @@ use Rattle.fb_geometry.proofs.{Grid.get_range, Grid.zero_add, Grid.add_zero, Gri
 
 -- ---- once round
 
-pub round-here : (a n : ℕ) → a < n → a % n ≡ a
-round-here a n h = mod-eq_of_lt h
-
 pub round_behind : (a n : ℕ) → n ≤ a → a < n + n → a % n ≡ a - n
 round_behind a n from upto = ap (λ x. x % n) (turned a n from) ∙ (add-mod_left n (a - n) ∙ mod-eq_of_lt (omega arith))
   where
@@ -22,14 +19,14 @@ round_behind a n from upto = ap (λ x. x % n) (turned a n from) ∙ (add-mod_lef
 -- forward by an offset, and back again
 pub round-back : (offset i n : ℕ) → offset < n → i < n → ((offset + i) % n + n - offset) % n ≡ i
 round-back offset i n o h = elim (cases_lt (offset + i) n) [
-  | inl near ↦ ap (λ x. (x + n - offset) % n) (round-here (offset + i) n near) ∙ (round_behind (offset + i + n - offset) n (omega arith) (omega arith) ∙ omega arith)
-  | inr far ↦ ap (λ x. (x + n - offset) % n) (round_behind (offset + i) n far (omega arith)) ∙ (ap (λ x. x % n) (omega arith) ∙ round-here i n h)
+  | inl near ↦ ap (λ x. (x + n - offset) % n) (mod-eq_of_lt near) ∙ (round_behind (offset + i + n - offset) n (omega arith) (omega arith) ∙ omega arith)
+  | inr far ↦ ap (λ x. (x + n - offset) % n) (round_behind (offset + i) n far (omega arith)) ∙ (ap (λ x. x % n) (omega arith) ∙ mod-eq_of_lt h)
 ]
 
 pub round-forward : (offset slot n : ℕ) → offset < n → slot < n → (offset + (slot + n - offset) % n) % n ≡ slot
 round-forward offset slot n o h = elim (cases_lt slot offset) [
-  | inl before ↦ ap (λ x. (offset + x) % n) (round-here (slot + n - offset) n (omega arith)) ∙ (round_behind (offset + (slot + n - offset)) n (omega arith) (omega arith) ∙ omega arith)
-  | inr after ↦ ap (λ x. (offset + x) % n) (round_behind (slot + n - offset) n (omega arith) (omega arith)) ∙ (ap (λ x. x % n) (omega arith) ∙ round-here slot n h)
+  | inl before ↦ ap (λ x. (offset + x) % n) (mod-eq_of_lt (omega arith)) ∙ (round_behind (offset + (slot + n - offset)) n (omega arith) (omega arith) ∙ omega arith)
+  | inr after ↦ ap (λ x. (offset + x) % n) (round_behind (slot + n - offset) n (omega arith) (omega arith)) ∙ (ap (λ x. x % n) (omega arith) ∙ mod-eq_of_lt h)
 ]
 
 -- ---- ranges
@@ -49,26 +46,7 @@ range-append a (suc m) n = ap (range_with_len a) (suc_add m n) ∙ ap (λ xs. a 
     suc_add : (m n : ℕ) → suc m + n ≡ suc (m + n)
     suc_add m n = omega arith
 
-ranged : (f : ℕ → ℕ) (a b n : ℕ) → ((i : ℕ) → i < n → b + i ≡ f (a + i)) → range_with_len b n ≡ map f (range_with_len a n)
-ranged f a b zero same = refl
-ranged f a b (suc n) same =
-    let head : b ≡ f a = sym (add_zero b) ∙ (same 0 (omega arith) ∙ ap f (add_zero a)) in
-    let tail : range_with_len (b + 1) n ≡ map f (range_with_len (a + 1) n) = ranged f (a + 1) (b + 1) n (λ i h. sym (add_one b i) ∙ (same (i + 1) (omega arith) ∙ ap f (add_one a i))) in
-    ap (λ x. x ∷ range_with_len (b + 1) n) head ∙ ap (λ xs. f a ∷ xs) tail
-
--- the turn, slot by slot
-pub turn-is : (n offset : ℕ) → offset < n → turn n offset ≡ map (λ i. (offset + i) % n) (range_with_len 0 n)
-turn-is n offset h =
-    ap (λ xs. xs ++ range_with_len 0 offset) (ranged (λ i. (offset + i) % n) 0 offset (n - offset) (λ i l. sym (ap (λ x. (offset + x) % n) (zero_add i) ∙ round-here (offset + i) n (omega arith))))
-    ∙ (ap (λ xs. map (λ i. (offset + i) % n) (range_with_len 0 (n - offset)) ++ xs) (ranged (λ i. (offset + i) % n) (n - offset) 0 offset (λ i l. sym (round_behind (offset + (n - offset + i)) n (omega arith) (omega arith) ∙ omega arith)))
-    ∙ (sym (map-append (λ i. (offset + i) % n) (range_with_len 0 (n - offset)) (range_with_len (n - offset) offset))
-    ∙ ap (map (λ i. (offset + i) % n)) (ap (λ x. range_with_len 0 (n - offset) ++ range_with_len x offset) (sym (zero_add (n - offset))) ∙ (sym (range-append 0 (n - offset) offset) ∙ ap (range_with_len 0) (omega arith)))))
-
 -- ---- positions and places
-
-map-map : {X Y Z : Type 0} (f : Y → Z) (g : X → Y) (xs : List X) → map f (map g xs) ≡ map (λ x. f (g x)) xs
-map-map f g [] = refl
-map-map f g (x ∷ xs) = ap (λ ys. f (g x) ∷ ys) (map-map f g xs)
 
 pub filter-flat_map : {X A : Type 0} (p : A → Bool) (f : X → List A) (xs : List X) → flat_map (λ x. filter p (f x)) xs ≡ filter p (flat_map f xs)
 filter-flat_map p f [] = refl
@@ -80,20 +58,12 @@ flat_map-same f g same (x ∷ xs) = ap (λ ys. ys ++ flat_map f xs) (same x) ∙
 
 -- parts of one length, one after another
 flat-ranges : {A : Type 0} (g : ℕ → A) (n a h : ℕ) → flat_map (λ k. map g (range_with_len (k * n) n)) (range_with_len a h) ≡ map g (range_with_len (a * n) (h * n))
-flat-ranges g n a zero = ap (λ m. map g (range_with_len (a * n) m)) (none n)
-  where
-    none : (n : ℕ) → 0 ≡ 0 * n
-    none n = omega arith
+flat-ranges g n a zero = let none : 0 ≡ 0 * n = omega arith in ap (λ m. map g (range_with_len (a * n) m)) none
 flat-ranges g n a (suc h) =
-    ap (λ xs. map g (range_with_len (a * n) n) ++ xs) (flat-ranges g n (a + 1) h ∙ ap (λ b. map g (range_with_len b (h * n))) (next a n))
-    ∙ (sym (map-append g (range_with_len (a * n) n) (range_with_len (a * n + n) (h * n)))
-    ∙ ap (map g) (sym (range-append (a * n) n (h * n)) ∙ ap (range_with_len (a * n)) (more h n)))
-  where
-    next : (a n : ℕ) → (a + 1) * n ≡ a * n + n
-    next a n = omega arith
-
-    more : (h n : ℕ) → n + h * n ≡ suc h * n
-    more h n = omega arith
+    let next : (a + 1) * n ≡ a * n + n = omega arith in
+    let more : n + h * n ≡ suc h * n = omega arith in
+    ap (λ xs. map g (range_with_len (a * n) n) ++ xs) (flat-ranges g n (a + 1) h ∙ ap (λ b. map g (range_with_len b (h * n))) next)
+    ∙ (sym (map-append g (range_with_len (a * n) n) (range_with_len (a * n + n) (h * n))) ∙ ap (map g) (sym (range-append (a * n) n (h * n)) ∙ ap (range_with_len (a * n)) more))
 
 module _ (zone : Zone) (heads : ℕ) (some : 0 < zone.sectors) where
   -- the place at a position of a track
@@ -124,10 +94,19 @@ module _ (zone : Zone) (heads : ℕ) (some : 0 < zone.sectors) where
   -- the turn of a track
   turn_slots : (track : Track) → map (λ slot. record { track = track; slot = slot }) (turn zone.sectors (offset_in zone heads track)) ≡ map (slot_at zone heads track.cylinder) (range_with_len (track.head * zone.sectors) zone.sectors)
   turn_slots track =
-      ap (map (λ slot. record { track = track; slot = slot })) (turn-is zone.sectors (offset_in zone heads track) (offset_below track))
-      ∙ (map-map (λ slot. record { track = track; slot = slot }) (λ i. (offset_in zone heads track + i) % zone.sectors) (range_with_len 0 zone.sectors)
-      ∙ map-ranges (λ i. record { track = track; slot = (offset_in zone heads track + i) % zone.sectors }) (slot_at zone heads track.cylinder) 0 (track.head * zone.sectors) zone.sectors
-      (λ i h. ap (λ j. record { track = track; slot = (offset_in zone heads track + j) % zone.sectors }) (zero_add i) ∙ sym (slot_on track.cylinder track.head i h)))
+      let n = zone.sectors in
+      let offset = offset_in zone heads track in
+      let first = track.head * n in
+      let below : offset < n = offset_below track in
+      let of = λ (slot : ℕ). let place : Place = record { track = track; slot = slot } in place in
+      let slot = slot_at zone heads track.cylinder in
+      let whole : n ≡ n - offset + offset = omega arith in
+      let near = map-ranges of slot offset first (n - offset) (λ i l. sym (slot_on track.cylinder track.head i (omega arith) ∙ ap of (mod-eq_of_lt (omega arith)))) in
+      let far = map-ranges of slot 0 (first + (n - offset)) offset (λ i l.
+      sym (ap slot (let sum : first + (n - offset) + i ≡ first + (n - offset + i) = omega arith in sum)
+      ∙ (slot_on track.cylinder track.head (n - offset + i) (omega arith) ∙ ap of (round_behind (offset + (n - offset + i)) n (omega arith) (omega arith) ∙ omega arith)))) in
+      map-append of (range_with_len offset (n - offset)) (range_with_len 0 offset) ∙ (ap (λ xs. xs ++ map of (range_with_len 0 offset)) near ∙ (ap (λ xs. map slot (range_with_len first (n - offset)) ++ xs) far
+      ∙ sym (ap (λ m. map slot (range_with_len first m)) whole ∙ (ap (map slot) (range-append first (n - offset) offset) ∙ map-append slot (range_with_len first (n - offset)) (range_with_len (first + (n - offset)) offset)))))
 
   -- the good slots of a track are those of its part of the cylinder
   pub good_track-is : (disk : Shape) (track : Track) → disk.heads ≡ heads → good_track disk zone track
@@ -144,10 +123,7 @@ module _ (zone : Zone) (heads : ℕ) (some : 0 < zone.sectors) where
       (λ head. good_track-is disk (record { cylinder = cylinder; head = head }) e) (range_with_len 0 disk.heads)
       ∙ (filter-flat_map (λ place. not (is_among disk.defects place)) (λ head. map (slot_at zone heads cylinder) (range_with_len (head * zone.sectors) zone.sectors)) (range_with_len 0 disk.heads)
       ∙ ap (filter (λ place. not (is_among disk.defects place))) (flat-ranges (slot_at zone heads cylinder) zone.sectors 0 disk.heads
-      ∙ (ap (λ h. map (slot_at zone heads cylinder) (range_with_len (0 * zone.sectors) (h * zone.sectors))) e ∙ ap (λ a. map (slot_at zone heads cylinder) (range_with_len a (heads * zone.sectors))) (zero_mul zone.sectors))))
-    where
-      zero_mul : (n : ℕ) → 0 * n ≡ 0
-      zero_mul n = omega arith
+      ∙ (ap (λ h. map (slot_at zone heads cylinder) (range_with_len (0 * zone.sectors) (h * zone.sectors))) e ∙ ap (λ a. map (slot_at zone heads cylinder) (range_with_len a (heads * zone.sectors))) (let zero_mul : 0 * zone.sectors ≡ 0 = omega arith in zero_mul))))
 
   pub length-cylinder_slots : (cylinder : ℕ) → length (cylinder_slots zone heads cylinder) ≡ heads * zone.sectors
   length-cylinder_slots cylinder = length-map-range_with_len (slot_at zone heads cylinder) 0 (heads * zone.sectors)

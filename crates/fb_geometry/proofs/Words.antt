@@ -15,14 +15,14 @@ pub use Rattle.std.proofs.lemmas.List.{append-nil, get_or-map, length-append, le
 pub use Rattle.std.proofs.lemmas.List.{map-append, take-append-drop, take-take}
 pub use Rattle.std.proofs.lemmas.List.Elements.{All-append, All-filter, All-from_get_or, All-from_recursion}
 pub use Rattle.std.proofs.lemmas.List.Elements.{filter-append, filter_passes, recursion_from_All}
-pub use Rattle.std.proofs.lemmas.List.Filters.{length-filter_both}
+pub use Rattle.std.proofs.lemmas.List.Filters.{length-filter_both, length-filter_more}
 pub use Rattle.std.proofs.lemmas.List.Folds.{find_at, list_any_at}
 pub use Rattle.std.proofs.lemmas.List.FromFn.{length-map-range_with_len, length-range_with_len}
 pub use Rattle.std.proofs.lemmas.List.FromFn.{take-map-range_with_len}
 pub use Rattle.std.proofs.lemmas.List.Sorted.{All-permutation, Contains-permutation, IsNonDecreasingBy-drop}
 pub use Rattle.std.proofs.lemmas.List.Sorted.{IsPartitionPoint-from_clause, IsPartitionedBy-leb, IsPartitionedBy-ltb}
 pub use Rattle.std.proofs.lemmas.List.Sorted.{IsPermutation-map, IsPermutation-sym, sorted_far, sum_by-IsPermutation}
-pub use Rattle.std.proofs.lemmas.List.Sums.{count_by_more_no, count_by_more_yes, count_by-le-length, fails_before_first, length-filter, sum_by-le-sum_by}
+pub use Rattle.std.proofs.lemmas.List.Sums.{count_by-le-length, fails_before_first, length-filter, sum_by-le-sum_by}
 pub use Rattle.std.proofs.lemmas.Nat.{div-add-mod', div-mul-add, div_below, le-div, mod-mul-add, mul-add-lt, mul-le}
 pub use Rattle.std.proofs.lemmas.Option.{get_or_from_slice_get, none-some, same_Some, slice_get-get_or, slice_get-map}
 pub use Rattle.std.proofs.lemmas.Option.{slice_get_within}

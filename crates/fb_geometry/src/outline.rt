@@ -207,6 +207,7 @@ impl Outline {
     }
 
     // The defects in order, or their first fault.
+    #[tactic(auto, using(crate::proofs::Judging::defects_judged, crate::proofs::Judging::defects_sorted))]
     pub(crate) fn judged_defects(&self, alloc: Global) -> Result<Vec<Place>, GeometryError>
         requires { HasZones self.now }
         ensures sorted { IfOk result (λ sorted. AreJudged (defect_fault self.now) self.now.defects sorted.items) }
@@ -224,6 +225,7 @@ impl Outline {
     }
 
     // The defects and the grown defects together in order, or the first fault of the grown ones.
+    #[tactic(auto, using(crate::proofs::Judging::grown_judged))]
     pub(crate) fn judged_grown(&self, alloc: Global) -> Result<Vec<Place>, GeometryError>
         requires zones { HasZones self.now }
         requires defects { defect_fault self.now ≡ None }

@@ -1,5 +1,5 @@
 use Rattle.fb_geometry.proofs.Words.{PerCylinder, ap, arith, sym, ◌*◌}
-use Rattle.fb_geometry.proofs.{Lookups.length_by, Stretched.order_by_track, Stretched.order_by_cylinder}
+use Rattle.fb_geometry.proofs.{Lookups.length_by}
 use Rattle.fb_geometry.proofs.geometry.Geometry.in_order.Goals as goal
 
 pub unmarked_from-requires-clause-order : goal.unmarked_from-requires-clause-order

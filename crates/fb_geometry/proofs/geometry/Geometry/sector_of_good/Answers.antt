@@ -1,5 +1,5 @@
 use Rattle.fb_geometry.proofs.Words.{ap, arith, mul-le, rank, sym, ◌*◌, ◌-◌}
-use Rattle.fb_geometry.proofs.{Lookups.before_good, Lookups.none_by_track, Lookups.some_by_head, Lookups.judged_entry}
+use Rattle.fb_geometry.proofs.{Lookups.before_good, Lookups.some_by_head}
 use Rattle.fb_geometry.proofs.geometry.Geometry.sector_of_good.Goals as goal
 
 pub overflow_mul-place : goal.overflow_mul-place

@@ -1,5 +1,5 @@
-use Rattle.fb_geometry.proofs.Words.{IsZoneAt, Some, slots_at, subst, zone_at, ◌≡◌}
-use Rattle.fb_geometry.proofs.{Faultless.zone_by_search, Faultless.list_among-zone, Faultless.slots_at-zone}
+use Rattle.fb_geometry.proofs.Words.{IsZoneAt, subst}
+use Rattle.fb_geometry.proofs.{Faultless.zone_by_search}
 use Rattle.fb_geometry.proofs.geometry.Geometry.zone_of.Goals as goal
 
 pub returns-clause-zone : goal.returns-clause-zone

@@ -1,6 +1,6 @@
-use Rattle.fb_geometry.proofs.Words.{IsNonDecreasingBy, Some, ap, length, slice_get, slice_get-get_or, subst, sym}
+use Rattle.fb_geometry.proofs.Words.{Some, ap, length, slice_get, slice_get-get_or, subst, sym}
 use Rattle.fb_geometry.proofs.Words.{zone_at, ◌<◌, ◌∙◌, ◌≡◌}
-use Rattle.fb_geometry.proofs.{Faultless.found_zone, Faultless.zones_rise, Faultless.slots_at-zone}
+use Rattle.fb_geometry.proofs.{Faultless.found_zone, Faultless.slots_at-zone}
 use Rattle.fb_geometry.proofs.outline.Outline.zone_of.Goals as goal
 
 found : (c : goal.After-result-1) → zone_at c.args.self.now.zones c.args.cylinder ≡ Some c.index.result.now
