@@ -1,15 +1,15 @@
 -- What holds of an outline without a fault.
-use Rattle.fb_geometry.proofs.Words.{AllByRecursion, Bool, GeometryFault, HasZones, IsCylinderOf, IsFaultless}
-use Rattle.fb_geometry.proofs.Words.{IsNonDecreasingBy, IsPartitionPoint, IsZone, IsZoneAt, IsZoneOf, List, None}
-use Rattle.fb_geometry.proofs.Words.{Option, Shape, Some, Track, Zone, [], ap, arith, cases_Bool, cases_lt, cond}
-use Rattle.fb_geometry.proofs.Words.{cylinder_spares_at, cylinders_of, data_list, eqb-true, fails_before_first, false}
-use Rattle.fb_geometry.proofs.Words.{fault_at, filter, find, find_at, first_apart, get_or, has_no_data, inl, inr}
-use Rattle.fb_geometry.proofs.Words.{is_bad_zone, is_too_skewed, le-leb, least, leb-true, length, lesser, list_among}
-use Rattle.fb_geometry.proofs.Words.{list_any, lt-leb, lt-ltb, ltb-false, ltb-true, nat_le, nat_lt, nat_tests}
-use Rattle.fb_geometry.proofs.Words.{none-some, offset_at, offset_in, or_else, or_parts, position, position_or_len}
-use Rattle.fb_geometry.proofs.Words.{recursion_from_All, refl, same_Some, slice_get, slice_get-get_or, slots_at}
-use Rattle.fb_geometry.proofs.Words.{spares_at, subst, suc, sym, true, zero, zone_at, ℕ, ◌+◌, ◌<◌, ◌==◌, ◌^◌, ◌||◌}
-use Rattle.fb_geometry.proofs.Words.{◌∙◌, ◌∷◌, ◌≡◌, ◌≤◌}
+use Rattle.fb_geometry.proofs.Words.{AllByRecursion, AreZoneNumbers, Bool, GeometryFault, HasZones, IsCylinderOf}
+use Rattle.fb_geometry.proofs.Words.{IsFaultless, IsNonDecreasingBy, IsPartitionPoint, IsZone, IsZoneAt, IsZoneOf}
+use Rattle.fb_geometry.proofs.Words.{List, None, Option, Shape, Some, Track, Zone, [], ap, arith, cases_Bool}
+use Rattle.fb_geometry.proofs.Words.{cases_lt, cond, cylinder_spares_at, cylinders_of, data_list, eqb-true}
+use Rattle.fb_geometry.proofs.Words.{fails_before_first, false, fault_at, filter, find, find_at, first_apart, get_or}
+use Rattle.fb_geometry.proofs.Words.{has_no_data, inl, inr, is_bad_zone, is_too_skewed, le-leb, least, leb-true}
+use Rattle.fb_geometry.proofs.Words.{length, lesser, list_among, list_any, lt-leb, lt-ltb, ltb-false, ltb-true}
+use Rattle.fb_geometry.proofs.Words.{nat_le, nat_lt, nat_tests, none-some, offset_at, offset_in, or_else, or_parts}
+use Rattle.fb_geometry.proofs.Words.{position, position_or_len, recursion_from_All, refl, same_Some, slice_get}
+use Rattle.fb_geometry.proofs.Words.{slice_get-get_or, slice_index_or, slots_at, spares_at, subst, suc, sym, true}
+use Rattle.fb_geometry.proofs.Words.{zero, zone_at, ℕ, ◌+◌, ◌<◌, ◌==◌, ◌^◌, ◌||◌, ◌∙◌, ◌∷◌, ◌≡◌, ◌≤◌}
 use Rattle.fb_geometry.proofs.{Grid.within}
 pub use Rattle.fb_geometry.proofs.Grid.{all_get}
 
@@ -265,3 +265,13 @@ last_cylinder (zone ∷ []) n d h = ap (λ k. (get_or (zone ∷ []) k d).last + 
     only n h = omega arith
 last_cylinder (zone ∷ other ∷ zones) zero d h = absurd (omega arith)
 last_cylinder (zone ∷ other ∷ zones) (suc n) d h = last_cylinder (other ∷ zones) n d (omega arith)
+
+-- ---- a search by numbers
+
+pub number_inside : (zones : List Zone) (numbers : List ℕ) (cylinder : ℕ) → AreZoneNumbers zones numbers → cylinder < cylinders_of zones → slice_index_or numbers cylinder 0 < length zones
+number_inside zones numbers cylinder are below = (are.each cylinder 0 (omega (arith, are.all, below))).0
+
+pub numbered_zone : (zones : List Zone) (numbers : List ℕ) (cylinder : ℕ) (zone : Zone) → AreZoneNumbers zones numbers → cylinder < cylinders_of zones
+    → zone ≡ slice_index_or zones (slice_index_or numbers cylinder 0) zone → zone_at zones cylinder ≡ Some zone
+numbered_zone zones numbers cylinder zone are below at =
+    let is = are.each cylinder 0 (omega (arith, are.all, below)) in is.1 ∙ (slice_get-get_or zones (slice_index_or numbers cylinder 0) zone is.0 ∙ ap Some (sym at))

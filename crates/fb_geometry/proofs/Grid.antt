@@ -46,15 +46,12 @@ pub length-parts : {X A : Type 0} (f : X → List A) (n : ℕ) → ((x : X) → 
 length-parts f n each [] = omega arith
 length-parts f n each (x ∷ xs) = length-append (f x) (flat_map f xs) ∙ grind (arith, each x, length-parts f n each xs)
 
-some_same : {X : Type 0} (y x : X) → Some y ≡ Some x → y ≡ x
-some_same y x e = cc
-
 -- the r-th element of the q-th part
 pub get_part : {X A : Type 0} (f : X → List A) (n : ℕ) → ((x : X) → length (f x) ≡ n) → (xs : List X) (q r i : ℕ) (x : X)
     → slice_get xs q ≡ Some x → r < n → i ≡ q * n + r → slice_get (flat_map f xs) i ≡ slice_get (f x) r
 get_part f n each [] q r i x e h p = cc
 get_part f n each (y ∷ ys) zero r i x e h p =
-    get_left (f y) (flat_map f ys) i (omega (arith, each y)) ∙ ap (λ z. slice_get (f z) i) (some_same y x e) ∙ ap (slice_get (f x)) (omega arith)
+    get_left (f y) (flat_map f ys) i (omega (arith, each y)) ∙ ap (λ z. slice_get (f z) i) (same_Some y x e) ∙ ap (slice_get (f x)) (omega arith)
 get_part f n each (y ∷ ys) (suc q) r i x e h p =
     get_right (f y) (flat_map f ys) (q * n + r) i (omega (arith, each y)) ∙ get_part f n each ys q r (q * n + r) x e h refl
 

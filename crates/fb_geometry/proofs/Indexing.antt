@@ -1,21 +1,21 @@
 -- The marks of an accepted outline are its index of bad slots.
 use Rattle.fb_geometry.proofs.Words.{AllByRecursion, AreInOrder, AreMarksOf, Bool, HasZones, IsAscending, IsIndexed}
-use Rattle.fb_geometry.proofs.Words.{IsZoneAt, IsZoneOf, List, Mark, Place, Shape, Some, Zone, [], among_unmarked}
-use Rattle.fb_geometry.proofs.Words.{ap, arith, by_head, cases_order}
-use Rattle.fb_geometry.proofs.Words.{cylinder_slots, eq-eqb, false, filter, good_track, indexes, inl, inr}
-use Rattle.fb_geometry.proofs.Words.{is_among, is_mark_before, is_outside, list_any, map}
-use Rattle.fb_geometry.proofs.Words.{mark_of, marks_on, not, or_left, position_in}
-use Rattle.fb_geometry.proofs.Words.{positions, rank, refl, same_Some, same_mark, same_place, slice_get}
-use Rattle.fb_geometry.proofs.Words.{slice_get_within, slot_at, subst, suc, sym, true, true≢false}
-use Rattle.fb_geometry.proofs.Words.{zone_at, ℕ, ◌*◌, ◌+◌, ◌-◌, ◌<◌, ◌==◌, ◌∙◌, ◌∷◌, ◌≡◌}
+use Rattle.fb_geometry.proofs.Words.{IsZoneAt, IsZoneOf, List, Mark, Place, Shape, Some, Zone, [], among_unmarked, ap}
+use Rattle.fb_geometry.proofs.Words.{arith, by_head, cases_order, cylinder_slots, eq-eqb, false, filter, good_track}
+use Rattle.fb_geometry.proofs.Words.{indexes, inl, inr, is_among, is_mark_before, is_outside, list_any, map, mark_of}
+use Rattle.fb_geometry.proofs.Words.{marks_on, nat_tests, not, or_left, position_in, positions, rank, refl, same_Some}
+use Rattle.fb_geometry.proofs.Words.{same_mark, same_place, slice_get, slice_get_within, slot_at, subst, suc, sym}
+use Rattle.fb_geometry.proofs.Words.{true, true≢false, zone_at, ℕ, ◌*◌, ◌+◌, ◌-◌, ◌<◌, ◌==◌, ◌∙◌, ◌∷◌, ◌≡◌}
+use Rattle.fb_geometry.proofs.{Slips.all_over, Slips.not_among_later, Slips.indexes-ascend, Slips.is_marked_at}
+use Rattle.fb_geometry.proofs.{Slips.index_of, Slips.goes, Slips.rank_free, Slips.rank-below}
 use Rattle.fb_geometry.proofs.{Turns.get-cylinder_slots, Turns.length-cylinder_slots, Turns.good_cylinder-is}
-use Rattle.fb_geometry.proofs.{Laws.same_places, Marking.position_is, Marking.mark_of-slot_at, Marking.on_disk}
+use Rattle.fb_geometry.proofs.{Faultless.slots_at-zone, Faultless.all_get, Faultless.filter-none, Laws.same_places}
+use Rattle.fb_geometry.proofs.{Lookups.slot_of, Lookups.good_lies, Lookups.defects_of, Lookups.good_of}
+use Rattle.fb_geometry.proofs.{Marking.marks_on-ascend, Marking.position_is, Marking.mark_of-slot_at, Marking.on_disk}
 use Rattle.fb_geometry.proofs.{Marking.among-on, Marking.same_marks, Marking.same_mark-refl, Leasts.Among}
 use Rattle.fb_geometry.proofs.{Leasts.among-map, Leasts.among-mapped, Leasts.among-any, Leasts.any-among}
 use Rattle.fb_geometry.proofs.{Clashes.same_place-refl, Clashes.mark_among, Clashes.place_among, Clashes.inside_of}
-use Rattle.fb_geometry.proofs.Words.{nat_tests}
-use Rattle.fb_geometry.proofs.{Slips.all_over, Slips.not_among_later, Slips.indexes-ascend, Slips.is_marked_at, Slips.index_of, Slips.goes, Slips.rank_free, Slips.rank-below, Order.marks_on-ascend}
-use Rattle.fb_geometry.proofs.{Clashes.among_others, Lookups.slot_of, Lookups.good_lies, Lookups.defects_of, Lookups.good_of, Faultless.slots_at-zone, Faultless.all_get, Faultless.filter-none}
+use Rattle.fb_geometry.proofs.{Clashes.among_others}
 
 -- ---- ascending numbers that have the same members
 

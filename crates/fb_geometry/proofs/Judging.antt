@@ -10,8 +10,8 @@ use Rattle.fb_geometry.proofs.Words.{is_too_skewed, is_track_before, least, leng
 use Rattle.fb_geometry.proofs.Words.{option_map, or_else, position, range_fault, refl, repeated, slice_get}
 use Rattle.fb_geometry.proofs.Words.{spare_fault, subst, sym, true, zone_fault, ◌++◌, ◌∙◌, ◌∷◌, ◌≡◌}
 use Rattle.fb_geometry.proofs.{Faultless.or_else-none, Faultless.fault_at-none, Faultless.least-none}
-use Rattle.fb_geometry.proofs.{Faultless.find-none, Leasts.track_order, Leasts.number_order, Spares.least_full}
-use Rattle.fb_geometry.proofs.{Clashes.least_repeated, Clashes.least_clash}
+use Rattle.fb_geometry.proofs.{Faultless.find-none, Leasts.track_order, Leasts.number_order, Clashes.least_repeated}
+use Rattle.fb_geometry.proofs.{Clashes.least_clash, Clashes.least_full}
 
 -- ---- what holds where there is no fault
 

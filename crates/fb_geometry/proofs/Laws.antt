@@ -1,29 +1,22 @@
 -- How many slots are good, and how many sectors a cylinder has.
 use Rattle.fb_geometry.proofs.Words.{All-append, All-filter, All-from_recursion, AllByRecursion, Bool, GrownOutside}
 use Rattle.fb_geometry.proofs.Words.{GrownTwice, IsZoneAt, Layout, List, None, PerCylinder, PerTrack, Place, Shape}
-use Rattle.fb_geometry.proofs.Words.{TooManyDefects, TooManyInCylinder, Track, Zone, [], ap, arith, by_head}
-use Rattle.fb_geometry.proofs.Words.{cases_Bool, cylinder_size_by, cylinder_spares_at, data_list_by, drop, eqb-true}
-use Rattle.fb_geometry.proofs.Words.{false, fault_at, filter, filter-append, find, flat_map, good_track, has_no_data}
-use Rattle.fb_geometry.proofs.Words.{inl, inr, is_among, is_full_cylinder, is_full_track, is_outside, is_place_before}
-use Rattle.fb_geometry.proofs.Words.{is_track_before, least, length, length-append, length-range_with_len}
-use Rattle.fb_geometry.proofs.Words.{length-take-le, map, mul-le, nat_lt, nat_tests, not, or_else, per_cylinder}
-use Rattle.fb_geometry.proofs.Words.{per_track, range_with_len, recursion_from_All, refl, repeated, replaced}
-use Rattle.fb_geometry.proofs.Words.{same_track, spare_fault, spares_at, stand_in, subst, suc, sym, take, true, zero}
-use Rattle.fb_geometry.proofs.Words.{ℕ, ◌*◌, ◌++◌, ◌+◌, ◌-◌, ◌<◌, ◌==◌, ◌∙◌, ◌∷◌, ◌≡◌, ◌≤◌, ◌⊎◌}
-use Rattle.fb_geometry.proofs.{Grid.length-parts, Grid.add_zero, Grid.add_one, Turns.good_cylinder-is}
-use Rattle.fb_geometry.proofs.{Faultless.fault_at-none, Faultless.or_else-none, Faultless.least-none}
-use Rattle.fb_geometry.proofs.{Faultless.filter-none, Faultless.spares_at-zone, Faultless.cylinder_spares_at-zone}
-use Rattle.fb_geometry.proofs.Words.{Bool, List, Place, Shape, Track, Zone, [], and_parts, ap, arith, cases_Bool}
-use Rattle.fb_geometry.proofs.Words.{cond, cylinder_slots, eq-eqb, eqb-true, false, filter, good_track, inl, inr}
-use Rattle.fb_geometry.proofs.Words.{is_among, length, length-filter_both, length-map-range_with_len}
-use Rattle.fb_geometry.proofs.Words.{list_any, map, not, position_in, range_with_len, refl, same_place}
-use Rattle.fb_geometry.proofs.Words.{same_track, slot_at, suc, sym, true, zero, ℕ, ◌*◌, ◌+◌}
-use Rattle.fb_geometry.proofs.Words.{◌-◌, ◌<◌, ◌==◌, ◌||◌, ◌∙◌, ◌∷◌, ◌≡◌, ◌≤◌}
-use Rattle.fb_geometry.proofs.{Turns.position_in-slot_at}
-use Rattle.fb_geometry.proofs.{Turns.length-cylinder_slots, Order.length-filter-map, Grid.add_zero, Grid.add_one}
-use Rattle.fb_geometry.proofs.{Grid.count_cons}
-use Rattle.fb_geometry.proofs.Words.{nat_tests, subst}
-use Rattle.fb_geometry.proofs.{Turns.good_track-is, Turns.slot_on}
+use Rattle.fb_geometry.proofs.Words.{TooManyDefects, TooManyInCylinder, Track, Zone, [], and_parts, ap, arith}
+use Rattle.fb_geometry.proofs.Words.{by_head, cases_Bool, cond, cylinder_size_by, cylinder_slots, cylinder_spares_at}
+use Rattle.fb_geometry.proofs.Words.{data_list_by, drop, eq-eqb, eqb-true, false, fault_at, filter, filter-append}
+use Rattle.fb_geometry.proofs.Words.{find, flat_map, good_track, has_no_data, inl, inr, is_among, is_full_cylinder}
+use Rattle.fb_geometry.proofs.Words.{is_full_track, is_outside, is_place_before, is_track_before, least, length}
+use Rattle.fb_geometry.proofs.Words.{length-append, length-filter_both, length-map-range_with_len}
+use Rattle.fb_geometry.proofs.Words.{length-range_with_len, length-take-le, list_any, map, mul-le, nat_lt, nat_tests}
+use Rattle.fb_geometry.proofs.Words.{not, or_else, per_cylinder, per_track, position_in, range_with_len}
+use Rattle.fb_geometry.proofs.Words.{recursion_from_All, refl, repeated, replaced, same_place, same_track, slot_at}
+use Rattle.fb_geometry.proofs.Words.{spare_fault, spares_at, stand_in, subst, suc, sym, take, true, zero, ℕ, ◌*◌}
+use Rattle.fb_geometry.proofs.Words.{◌++◌, ◌+◌, ◌-◌, ◌<◌, ◌==◌, ◌||◌, ◌∙◌, ◌∷◌, ◌≡◌, ◌≤◌, ◌⊎◌}
+use Rattle.fb_geometry.proofs.{Grid.length-parts, Grid.add_zero, Grid.add_one, Grid.count_cons}
+use Rattle.fb_geometry.proofs.{Turns.good_cylinder-is, Turns.position_in-slot_at, Turns.length-cylinder_slots}
+use Rattle.fb_geometry.proofs.{Turns.good_track-is, Turns.slot_on, Faultless.fault_at-none, Faultless.or_else-none}
+use Rattle.fb_geometry.proofs.{Faultless.least-none, Faultless.filter-none, Faultless.spares_at-zone}
+use Rattle.fb_geometry.proofs.{Faultless.cylinder_spares_at-zone, Marking.length-filter-map}
 
 -- ---- counts
 

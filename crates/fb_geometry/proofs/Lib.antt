@@ -2,14 +2,12 @@ pub mod Words
 pub mod Grid
 pub mod Slips
 pub mod Turns
-pub mod Order
 pub mod Faultless
 pub mod Laws
 pub mod Lookups
 pub mod Marking
 pub mod Leasts
 pub mod Clashes
-pub mod Spares
 pub mod Indexing
 pub mod Judging
 pub mod Once

@@ -1,23 +1,27 @@
 -- Where the sectors of a cylinder are.
 use Rattle.fb_geometry.proofs.Words.{AllByRecursion, Bool, HoldsNone, HoldsSector, IfNone, IfSome, IsAscending}
 use Rattle.fb_geometry.proofs.Words.{IsGoodOf, IsZone, IsZoneAt, Layout, LiesOn, List, MatchOption, None, Option}
-use Rattle.fb_geometry.proofs.Words.{PerCylinder, PerTrack, Place, Shape, Some, Zone, [], ap, arith, by_head}
-use Rattle.fb_geometry.proofs.Words.{cases_Bool, cylinder_slots, data_list_at, data_list_by, div-add-mod'}
-use Rattle.fb_geometry.proofs.Words.{div_below, drop, entry_of_sector, false, filter, filter-append}
-use Rattle.fb_geometry.proofs.Words.{good_before, good_track, has_no_data, indexes, inl, inr, is_among, length}
-use Rattle.fb_geometry.proofs.Words.{length-append, length-take, length-take-le, map, map-append, mod-lt}
-use Rattle.fb_geometry.proofs.Words.{mul-le, nat_tests, none-some, not, offset_in}
-use Rattle.fb_geometry.proofs.Words.{position_in, range_with_len, rank, refl, replaced, same_Some}
-use Rattle.fb_geometry.proofs.Words.{same_place, slice_get, slice_get_within, slipped, slot_at, spare_fault}
-use Rattle.fb_geometry.proofs.Words.{stand_in, subst, suc, sym, take, take-append-drop, take-map-range_with_len}
-use Rattle.fb_geometry.proofs.Words.{take-take, true, true≢false, turn, zero, ℕ, ◌%◌, ◌*◌, ◌++◌, ◌+◌, ◌-◌, ◌/◌, ◌<◌}
-use Rattle.fb_geometry.proofs.Words.{◌==◌, ◌∙◌, ◌∷◌, ◌≡◌, ◌≤◌}
-use Rattle.fb_geometry.proofs.Words.{IsGoodOf, entry_of_sector, slipped, rank, cylinder_size_by, filter-append, map-append, take-map-range_with_len}
-use Rattle.fb_geometry.proofs.Words.{data_list, good_before, Track}
-use Rattle.fb_geometry.proofs.{Grid.within, Grid.get_left, Grid.get_right, Grid.get_part, Grid.get_range, Grid.zero_add}
-use Rattle.fb_geometry.proofs.{Slips.has, Slips.indexes-ascend, Slips.slipped_to, Slips.is_marked_at, Slips.length_front, Slips.goes, Slips.kth, Slips.rank_marked, Slips.rank-below, Slips.rank-step, Slips.length-kept, Slips.entry_holds, Slips.one_entry, Slips.held}
-use Rattle.fb_geometry.proofs.{Turns.good_track-is, Turns.good_cylinder-is, Turns.range-append, Turns.length-cylinder_slots, Turns.get-cylinder_slots, Turns.position_in-slot_at, Turns.slot_at-position_in, Turns.position_below, Faultless.all_get, Faultless.slots_at-zone, Faultless.list_among-zone}
-use Rattle.fb_geometry.proofs.{Laws.HasSpares, Laws.has_spares, Laws.length-track, Laws.length-good, Laws.few_flaws, Laws.length_data_list, Laws.all-filter, Laws.kept_and_dropped, Laws.at_most_each, Laws.fewer, Laws.once_on_cylinder}
+use Rattle.fb_geometry.proofs.Words.{PerCylinder, PerTrack, Place, Shape, Some, Track, Zone, [], ap, arith, by_head}
+use Rattle.fb_geometry.proofs.Words.{cases_Bool, cylinder_size_by, cylinder_slots, data_list, data_list_at}
+use Rattle.fb_geometry.proofs.Words.{data_list_by, div-add-mod', div_below, drop, entry_of_sector, false, filter}
+use Rattle.fb_geometry.proofs.Words.{filter-append, good_before, good_track, has_no_data, indexes, inl, inr, is_among}
+use Rattle.fb_geometry.proofs.Words.{length, length-append, length-take, length-take-le, map, map-append, mod-lt}
+use Rattle.fb_geometry.proofs.Words.{mul-le, nat_tests, none-some, not, offset_in, position_in, range_with_len, rank}
+use Rattle.fb_geometry.proofs.Words.{refl, replaced, same_Some, same_place, slice_get, slice_get_within, slipped}
+use Rattle.fb_geometry.proofs.Words.{slot_at, spare_fault, stand_in, subst, suc, sym, take, take-append-drop}
+use Rattle.fb_geometry.proofs.Words.{take-map-range_with_len, take-take, true, true≢false, turn, zero, ℕ, ◌%◌, ◌*◌}
+use Rattle.fb_geometry.proofs.Words.{◌++◌, ◌+◌, ◌-◌, ◌/◌, ◌<◌, ◌==◌, ◌∙◌, ◌∷◌, ◌≡◌, ◌≤◌}
+use Rattle.fb_geometry.proofs.{Grid.within, Grid.get_left, Grid.get_right, Grid.get_part, Grid.get_range}
+use Rattle.fb_geometry.proofs.{Grid.zero_add, Slips.has, Slips.indexes-ascend, Slips.slipped_to, Slips.is_marked_at}
+use Rattle.fb_geometry.proofs.{Slips.length_front, Slips.goes, Slips.kth, Slips.rank_marked, Slips.rank-below}
+use Rattle.fb_geometry.proofs.{Slips.rank-step, Slips.length-kept, Slips.entry_holds, Slips.one_entry, Slips.held}
+use Rattle.fb_geometry.proofs.{Turns.good_track-is, Turns.good_cylinder-is, Turns.range-append}
+use Rattle.fb_geometry.proofs.{Turns.length-cylinder_slots, Turns.get-cylinder_slots, Turns.position_in-slot_at}
+use Rattle.fb_geometry.proofs.{Turns.slot_at-position_in, Turns.position_below, Faultless.all_get}
+use Rattle.fb_geometry.proofs.{Faultless.slots_at-zone, Faultless.list_among-zone, Laws.HasSpares, Laws.has_spares}
+use Rattle.fb_geometry.proofs.{Laws.length-track, Laws.length-good, Laws.few_flaws, Laws.length_data_list}
+use Rattle.fb_geometry.proofs.{Laws.all-filter, Laws.kept_and_dropped, Laws.at_most_each, Laws.fewer}
+use Rattle.fb_geometry.proofs.{Laws.once_on_cylinder}
 
 -- the bad slots of a cylinder by their positions, its good slots, and the grown defects by their indexes among these
 abbrev pub defects_of : Shape → Zone → ℕ → List ℕ

@@ -1,13 +1,159 @@
--- The marks of places.
-use Rattle.fb_geometry.proofs.Words.{HasZones, IsZoneOf, List, Mark, None, Place, Shape, Some, Zone, [], and_parts}
-use Rattle.fb_geometry.proofs.Words.{ap, arith, cases_Bool, cylinders_of, eqb-true, false, find, get_or, inl, inr}
-use Rattle.fb_geometry.proofs.Words.{is_lt, is_mark_before, is_outside, length, list_any, ltb-true, mark_of, marks_on}
-use Rattle.fb_geometry.proofs.Words.{nat_cmp, nat_lt, nat_tests, not-false, offset_at, ordering_then, position_in}
-use Rattle.fb_geometry.proofs.Words.{positions, refl, same_mark, slot_at, slots_at, subst, sym, true, zone_at, ℕ, ◌%◌}
-use Rattle.fb_geometry.proofs.Words.{◌&&◌, ◌*◌, ◌+◌, ◌-◌, ◌<◌, ◌==◌, ◌||◌, ◌∙◌, ◌∷◌, ◌≡◌}
-use Rattle.fb_geometry.proofs.{Faultless.slots_at-zone, Faultless.offset_at_zone, Faultless.find-none}
-use Rattle.fb_geometry.proofs.{Faultless.found_zone, Faultless.some_zone, Turns.position_in-slot_at}
-use Rattle.fb_geometry.proofs.{Turns.slot_at-position_in, Order.all_at}
+-- Marks: what binary searches find among marks in order, and the marks of places.
+use Rattle.fb_geometry.proofs.Words.{AllByRecursion, AreInOrder, Bool, HasZones, IsAscending, IsNonDecreasingBy}
+use Rattle.fb_geometry.proofs.Words.{IsNonDecreasingBy-drop, IsPartitionPoint, IsZoneOf, List, Mark, None, Pairwise}
+use Rattle.fb_geometry.proofs.Words.{Place, Shape, Some, Zone, [], and_parts, ap, arith, cases_Bool, cases_lt}
+use Rattle.fb_geometry.proofs.Words.{cylinders_of, drop, eqb-true, false, filter, find, get_or, get_or-map, inl, inr}
+use Rattle.fb_geometry.proofs.Words.{is_lt, is_mark_before, is_outside, le-ltb, length, length-map, list_any, lt-ltb}
+use Rattle.fb_geometry.proofs.Words.{ltb-true, map, mark_of, marks_on, nat_cmp, nat_le, nat_lt, nat_tests, not-false}
+use Rattle.fb_geometry.proofs.Words.{offset_at, option_map, ordering_then, position_in, positions, rank, refl}
+use Rattle.fb_geometry.proofs.Words.{same_mark, slice_get, slice_get-get_or, slice_get-map, slipped, slot_at}
+use Rattle.fb_geometry.proofs.Words.{slots_at, subst, suc, sym, take, true, zero, zone_at, ℕ, ◌%◌, ◌&&◌, ◌*◌, ◌+◌}
+use Rattle.fb_geometry.proofs.Words.{◌-◌, ◌<◌, ◌==◌, ◌||◌, ◌∙◌, ◌∷◌, ◌≡◌, ◌≤◌}
+use Rattle.fb_geometry.proofs.{Grid.all_get, Slips.rank-at, Slips.rank_marked, Slips.rank-step, Slips.has}
+use Rattle.fb_geometry.proofs.{Slips.rank-le_length, Slips.free_behind, Slips.next_marked, Turns.position_in-slot_at}
+use Rattle.fb_geometry.proofs.{Turns.slot_at-position_in, Faultless.slots_at-zone, Faultless.offset_at_zone}
+use Rattle.fb_geometry.proofs.{Faultless.find-none, Faultless.found_zone, Faultless.some_zone}
+
+pub all_at : {X : Type 0} (P : X → Type 0) (xs : List X) (j : ℕ) (d : X) → AllByRecursion P xs → j < length xs → P (get_or xs j d)
+all_at P xs j d all h = all_get P xs j (get_or xs j d) all (slice_get-get_or xs j d h)
+
+pub position_at : (marks : List Mark) (i : ℕ) (d : Mark) → i < length marks → get_or (positions marks) i 0 ≡ (get_or marks i d).position
+position_at marks i d h = get_or-map (λ mark. mark.position) marks i d 0 h
+
+pub pairwise_at : {A : Type 0} (R : A → A → Type 0) (xs : List A) (i j : ℕ) (d : A) → Pairwise R xs → i < j → j < length xs → R (get_or xs i d) (get_or xs j d)
+pairwise_at R [] i j d up l m = absurd (omega arith)
+pairwise_at R (x ∷ xs) i zero d up l m = absurd (omega arith)
+pairwise_at R (x ∷ xs) zero (suc j) d up l m = all_at (R x) xs j d up.0 (omega arith)
+pairwise_at R (x ∷ xs) (suc i) (suc j) d up l m = pairwise_at R xs i j d up.1 (omega arith) (omega arith)
+
+-- elements that stand so to all that follow don't fall
+rises : {A : Type 0} (R : A → A → Type 0) (key : A → ℕ) → ((a b : A) → R a b → key a ≤ key b) → (xs : List A) → Pairwise R xs → IsNonDecreasingBy key xs
+rises R key so xs up i j d le h = elim (cases_lt i j) [
+  | inl less ↦ so (get_or xs i d) (get_or xs j d) (pairwise_at R xs i j d up less h)
+  | inr upto ↦ let same : i ≡ j = omega arith in omega (arith, ap (λ k. key (get_or xs k d)) same)
+]
+
+pub cylinders-rise : (marks : List Mark) → AreInOrder marks → IsNonDecreasingBy (λ mark. mark.cylinder) marks
+cylinders-rise = rises (λ mark later. is_mark_before mark later ≡ true) (λ mark. mark.cylinder) (λ a b h. grind (arith, nat_tests))
+
+pub positions-rise : (marks : List Mark) → IsAscending (positions marks) → IsNonDecreasingBy (λ mark. mark.position) marks
+positions-rise marks up i j d le h =
+    omega (arith, rises (λ a b. a < b) (λ a. a) (λ a b less. omega arith) (positions marks) up i j 0 le (omega (arith, length-map marks (λ mark. mark.position))), position_at marks i d (omega arith), position_at marks j d h)
+
+-- ---- the marks of one cylinder
+
+later_on : (mark : Mark) (marks : List Mark) → AllByRecursion (λ later. is_mark_before mark later ≡ true) marks
+    → AllByRecursion (λ later. mark.position < later) (positions (marks_on mark.cylinder marks))
+later_on mark [] all = tt
+later_on mark (other ∷ marks) all = let rest = later_on mark marks all.1 in elim (cases_Bool (other.cylinder == mark.cylinder)) [
+  | inl here ↦ let less : mark.position < other.position = grind (arith, nat_tests, all.0) in rw here (less, rest)
+  | inr off ↦ rw off rest
+]
+
+pub marks_on-ascend : (cylinder : ℕ) (marks : List Mark) → AreInOrder marks → IsAscending (positions (marks_on cylinder marks))
+marks_on-ascend cylinder [] up = tt
+marks_on-ascend cylinder (mark ∷ marks) up = let rest = marks_on-ascend cylinder marks up.1 in elim (cases_Bool (mark.cylinder == cylinder)) [
+  | inl here ↦ rw here (subst (λ c. AllByRecursion (λ later. mark.position < later) (positions (marks_on c marks))) (eqb-true mark.cylinder cylinder here) (later_on mark marks up.0), rest)
+  | inr off ↦ rw off rest
+]
+
+-- ---- what searches find
+
+-- as many as pass come before the point
+pub point-is : {X : Type 0} (p : X → Bool) (xs : List X) (i : ℕ) → i ≤ length xs → IsPartitionPoint (λ y. p y ≡ true) (λ y. p y ≡ false) xs i → length (filter p xs) ≡ i
+point-is p [] i h at = omega arith
+point-is p (x ∷ xs) zero h at =
+    let out : p x ≡ false = at.1 0 x (omega arith) (omega arith) in
+    rw out (point-is p xs 0 (omega arith) (λ k d low high. absurd (omega arith), λ k d low high. at.1 (suc k) d (omega arith) (omega arith)))
+point-is p (x ∷ xs) (suc i) h at =
+    let in_ : p x ≡ true = at.0 0 x (omega arith) (omega arith) in
+    rw in_ (ap suc (point-is p xs i (omega arith) (λ k d low high. at.0 (suc k) d (omega arith) (omega arith), λ k d low high. at.1 (suc k) d (omega arith) (omega arith))))
+
+pub length-filter-map : {X Y : Type 0} (p : Y → Bool) (f : X → Y) (xs : List X) → length (filter p (map f xs)) ≡ length (filter (λ x. p (f x)) xs)
+length-filter-map p f [] = refl
+length-filter-map p f (x ∷ xs) = elim (cases_Bool (p (f x))) [
+  | inl in_ ↦ rw in_ (ap suc (length-filter-map p f xs))
+  | inr out ↦ rw out (length-filter-map p f xs)
+]
+
+pub rank-is : (number : ℕ) (marks : List Mark) (i : ℕ) → i ≤ length marks → IsPartitionPoint (λ mark. nat_lt mark.position number ≡ true) (λ mark. nat_lt mark.position number ≡ false) marks i → i ≡ rank number (positions marks)
+rank-is number marks i h at = sym (length-filter-map (λ passed. nat_lt passed number) (λ mark. mark.position) marks ∙ point-is (λ mark. nat_lt mark.position number) marks i h at)
+
+-- the part of a cylinder, from the point before it to the point behind
+pub part-is : (cylinder : ℕ) (marks : List Mark) (from n : ℕ) → from ≤ length marks → n ≤ length (drop from marks)
+    → IsPartitionPoint (λ mark. nat_lt mark.cylinder cylinder ≡ true) (λ mark. nat_lt mark.cylinder cylinder ≡ false) marks from
+    → IsPartitionPoint (λ mark. nat_le mark.cylinder cylinder ≡ true) (λ mark. nat_le mark.cylinder cylinder ≡ false) (drop from marks) n
+    → take n (drop from marks) ≡ marks_on cylinder marks
+part-is cylinder [] zero zero h m low high = refl
+part-is cylinder [] (suc from) n h m low high = absurd (omega arith)
+part-is cylinder [] zero (suc n) h m low high = absurd (omega arith)
+part-is cylinder (mark ∷ marks) zero zero h m low high =
+    let off : (mark.cylinder == cylinder) ≡ false = grind (arith, nat_tests, high.1 0 mark (omega arith) (omega arith)) in
+    rw off (part-is cylinder marks zero zero (omega arith) (omega arith) (λ k d l m. absurd (omega arith), λ k d l m. low.1 (suc k) d (omega arith) (omega arith)) (λ k d l m. absurd (omega arith), λ k d l m. high.1 (suc k) d (omega arith) (omega arith)))
+part-is cylinder (mark ∷ marks) zero (suc n) h m low high =
+    let here : (mark.cylinder == cylinder) ≡ true = grind (arith, nat_tests, low.1 0 mark (omega arith) (omega arith), high.0 0 mark (omega arith) (omega arith)) in
+    rw here (ap (λ xs. mark ∷ xs) (part-is cylinder marks zero n (omega arith) (omega arith) (λ k d l m. absurd (omega arith), λ k d l m. low.1 (suc k) d (omega arith) (omega arith)) (λ k d l m. high.0 (suc k) d (omega arith) (omega arith), λ k d l m. high.1 (suc k) d (omega arith) (omega arith))))
+part-is cylinder (mark ∷ marks) (suc from) n h m low high =
+    let off : (mark.cylinder == cylinder) ≡ false = grind (arith, nat_tests, low.0 0 mark (omega arith) (omega arith)) in
+    rw off (part-is cylinder marks from n (omega arith) m (λ k d l m. low.0 (suc k) d (omega arith) (omega arith), λ k d l m. low.1 (suc k) d (omega arith) (omega arith)) high)
+
+-- the same, where the rest is known by an equation
+pub part-of : (cylinder : ℕ) (marks rest : List Mark) (from n : ℕ) → rest ≡ drop from marks → from ≤ length marks → n ≤ length rest
+    → IsPartitionPoint (λ mark. nat_lt mark.cylinder cylinder ≡ true) (λ mark. nat_lt mark.cylinder cylinder ≡ false) marks from
+    → IsPartitionPoint (λ mark. nat_le mark.cylinder cylinder ≡ true) (λ mark. nat_le mark.cylinder cylinder ≡ false) rest n
+    → take n rest ≡ marks_on cylinder marks
+part-of cylinder marks rest from n e h m low high = subst
+    (λ rest. n ≤ length rest → IsPartitionPoint (λ mark. nat_le mark.cylinder cylinder ≡ true) (λ mark. nat_le mark.cylinder cylinder ≡ false) rest n → take n rest ≡ marks_on cylinder marks)
+    (sym e) (λ m high. part-is cylinder marks from n h m low high) m high
+
+pub rest-rises : (marks rest : List Mark) (from : ℕ) → AreInOrder marks → rest ≡ drop from marks → IsNonDecreasingBy (λ mark. mark.cylinder) rest
+rest-rises marks rest from up e = subst (λ rest. IsNonDecreasingBy (λ mark. mark.cylinder) rest) (sym e) (IsNonDecreasingBy-drop (λ mark. mark.cylinder) from marks (cylinders-rise marks up))
+
+-- ---- slipping
+
+pub gaps : (numbers : List ℕ) (i j : ℕ) → IsAscending numbers → i ≤ j → j < length numbers → get_or numbers i 0 + (j - i) ≤ get_or numbers j 0
+gaps numbers i j up le h =
+    let first = rank-at i numbers (get_or numbers i 0) up (slice_get-get_or numbers i 0 (omega arith)) in
+    let last = rank-at j numbers (get_or numbers j 0) up (slice_get-get_or numbers j 0 h) in
+    elim (cases_lt (get_or numbers j 0) (get_or numbers i 0)) [
+      | inl less ↦ absurd (omega (arith, first.0, last.0, rank_marked numbers up (get_or numbers j 0) (get_or numbers i 0) last.1 less))
+      | inr from ↦ omega (arith, first.0, last.0, (rank-step (get_or numbers i 0) (get_or numbers j 0) numbers up from).1)
+    ]
+
+pub slipped-is : (number : ℕ) (numbers : List ℕ) (r : ℕ) → r ≤ length numbers → ((i : ℕ) → i < r → get_or numbers i 0 ≤ number + i) → ((i : ℕ) → r ≤ i → i < length numbers → number + i < get_or numbers i 0)
+    → slipped number numbers ≡ number + r
+slipped-is number [] r h low high = omega arith
+slipped-is number (x ∷ numbers) zero h low high = let here : number < x = omega (arith, high 0 (omega arith) (omega arith)) in rw (lt-ltb number x here) (omega arith)
+slipped-is number (x ∷ numbers) (suc r) h low high =
+    let on : x ≤ number = omega (arith, low 0 (omega arith)) in
+    rw (le-ltb number x on) (slipped-is (number + 1) numbers r (omega arith) (λ i l. omega (arith, low (suc i) (omega arith))) (λ i l m. omega (arith, high (suc i) (omega arith) (omega arith))) ∙ omega arith)
+
+-- where a number comes to stand, by the passed one before and the one behind
+pub slipped_at : (number : ℕ) (marks : List Mark) (r : ℕ) → IsAscending (positions marks) → r ≤ length marks → ((i : ℕ) → i + 1 ≡ r → get_or (positions marks) i 0 ≤ number + i)
+    → (r < length marks → number + r < get_or (positions marks) r 0) → slipped number (positions marks) ≡ number + r
+slipped_at number marks r up h low high =
+    let numbers = positions marks in
+    let many : length numbers ≡ length marks = length-map marks (λ mark. mark.position) in
+    slipped-is number numbers r (omega arith) (λ i l. omega (arith, gaps numbers i (r - 1) up (omega arith) (omega arith), low (r - 1) (omega arith))) (λ i l m. omega (arith, gaps numbers r i up l m, high (omega arith)))
+
+-- the position at an index
+pub position_get : (marks : List Mark) (i : ℕ) (d : Mark) → i < length marks → slice_get (positions marks) i ≡ Some (get_or marks i d).position
+position_get marks i d h = slice_get-map (λ mark. mark.position) marks i ∙ ap (option_map (λ mark. mark.position)) (slice_get-get_or marks i d h)
+
+-- the next mark, by how many come before a position
+module _ (marks : List Mark) (up : IsAscending (positions marks)) (start next : ℕ) (e : next ≡ rank start (positions marks)) where
+  many : length (positions marks) ≡ length marks
+  many = length-map marks (λ mark. mark.position)
+
+  pub next_upto : next ≤ length marks
+  next_upto = omega (arith, many, rank-le_length start (positions marks))
+
+  pub none_next : next ≡ length marks → (q : ℕ) → start ≤ q → has (positions marks) q ≡ false
+  none_next none q from = free_behind (positions marks) up start q (omega (arith, many)) from
+
+  pub next_mark : (d : Mark) → next < length marks → (start ≤ (get_or marks next d).position) × ((q : ℕ) → start ≤ q → q < (get_or marks next d).position → has (positions marks) q ≡ false)
+      × (has (positions marks) start ≡ ((get_or marks next d).position == start)) × (has (positions marks) (get_or marks next d).position ≡ true)
+  next_mark d inside = next_marked (positions marks) up start (get_or marks next d).position (ap (slice_get (positions marks)) (sym e) ∙ position_get marks next d inside)
 
 -- the position of a mark is counted in its zone
 pub position_is : (disk : Shape) (zone : Zone) (place : Place) → zone_at disk.zones place.track.cylinder ≡ Some zone → (mark_of disk place).position ≡ position_in zone disk.heads place

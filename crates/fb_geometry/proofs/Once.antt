@@ -1,15 +1,16 @@
 -- An accepted outline is sound: no place is twice among its places, and no bad one is among them.
-use Rattle.fb_geometry.proofs.Words.{AllByRecursion, HasOwnPlaces, IsCylinderOf, IsFaultless, IsSound, LiesOn}
-use Rattle.fb_geometry.proofs.Words.{List, None, PerTrack, Place, Shape, Some, Zone, [], ap, arith}
-use Rattle.fb_geometry.proofs.Words.{data_list, false, first_apart, flat_map, is_among, none-some}
-use Rattle.fb_geometry.proofs.Words.{places, range_with_len, refl, same_Some, slice_get, subst, suc, sym, zero}
-use Rattle.fb_geometry.proofs.Words.{zone_places, ℕ, ◌++◌, ◌+◌, ◌-◌, ◌<◌, ◌∙◌, ◌∷◌, ◌≡◌, ◌≢◌, ◌≤◌}
-use Rattle.fb_geometry.proofs.{Grid.all_weaker, Faultless.all_get, Faultless.next, Faultless.zones_from}
-use Rattle.fb_geometry.proofs.{Faultless.zone_by_bounds, Faultless.ranges_of, Faultless.some_rotation}
-use Rattle.fb_geometry.proofs.{Faultless.short_rotation, Faultless.some_heads, Faultless.few_heads}
-use Rattle.fb_geometry.proofs.{Faultless.some_zones, Faultless.few_zones, Faultless.few_cylinders, Faultless.data_of}
-use Rattle.fb_geometry.proofs.{Faultless.short_slots, Lookups.entry_of, Lookups.one_index_on, Laws.all-append}
-use Rattle.fb_geometry.proofs.{Laws.all-parts, Laws.length_data_list, Laws.some_size, Grid.add_zero, Grid.add_one}
+use Rattle.fb_geometry.proofs.Words.{AllByRecursion, HasOwnPlaces, IsCylinderOf, IsFaultless, IsSound, LiesOn, List}
+use Rattle.fb_geometry.proofs.Words.{None, PerTrack, Place, Shape, Some, Zone, [], ap, arith, data_list, false}
+use Rattle.fb_geometry.proofs.Words.{first_apart, flat_map, is_among, none-some, places, range_with_len, refl}
+use Rattle.fb_geometry.proofs.Words.{same_Some, slice_get, subst, suc, sym, zero, zone_places, ℕ, ◌++◌, ◌+◌, ◌-◌, ◌<◌}
+use Rattle.fb_geometry.proofs.Words.{◌∙◌, ◌∷◌, ◌≡◌, ◌≢◌, ◌≤◌}
+use Rattle.fb_geometry.proofs.{Grid.all_weaker, Grid.add_zero, Grid.add_one, Faultless.all_get, Faultless.next}
+use Rattle.fb_geometry.proofs.{Faultless.zones_from, Faultless.zone_by_bounds, Faultless.ranges_of}
+use Rattle.fb_geometry.proofs.{Faultless.some_rotation, Faultless.short_rotation, Faultless.some_heads}
+use Rattle.fb_geometry.proofs.{Faultless.few_heads, Faultless.some_zones, Faultless.few_zones}
+use Rattle.fb_geometry.proofs.{Faultless.few_cylinders, Faultless.data_of, Faultless.short_slots, Laws.all-append}
+use Rattle.fb_geometry.proofs.{Laws.all-parts, Laws.length_data_list, Laws.some_size, Lookups.entry_of}
+use Rattle.fb_geometry.proofs.{Lookups.one_index_on}
 
 -- each element differs from all that follow
 abbrev pub Distinct : {A : Type 0} → List A → Type 0

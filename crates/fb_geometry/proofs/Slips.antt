@@ -1,14 +1,13 @@
 -- Ascending numbers, and what is left of a list when the elements that pass a test are dropped.
-use Rattle.fb_geometry.proofs.Words.{AllByRecursion, Bool, IsAscending, List, Some, [], ap, arith, cases_Bool}
-use Rattle.fb_geometry.proofs.Words.{cases_lt, cases_order, cond, count_by-le-length, eq-eqb, false}
-use Rattle.fb_geometry.proofs.Words.{filter, get_or, get_or_from_slice_get, indexes, inl, inr, le-ltb, length}
-use Rattle.fb_geometry.proofs.Words.{length-filter, list_any, lt-ltb, nat_lt, nat_tests, ne_eqb}
-use Rattle.fb_geometry.proofs.Words.{none-some, not, rank, refl, same_Some, slice_get, slice_get_within}
-use Rattle.fb_geometry.proofs.Words.{slipped, suc, sym, take, true, true≢false, zero, ℕ}
-use Rattle.fb_geometry.proofs.Words.{◌+◌, ◌-◌, ◌<◌, ◌==◌, ◌∙◌, ◌∷◌, ◌≡◌, ◌≤◌}
-use Rattle.fb_geometry.proofs.{Grid.count_cons, Grid.add_zero, Grid.all_weaker, Grid.all_get}
-use Rattle.fb_geometry.proofs.Words.{subst, entry_of_sector, HoldsSector, length-filter_more, map, option_map, slice_get-map}
-use Rattle.fb_geometry.proofs.{Grid.zero_add, Grid.within}
+use Rattle.fb_geometry.proofs.Words.{AllByRecursion, Bool, HoldsSector, IsAscending, List, Some, [], ap, arith}
+use Rattle.fb_geometry.proofs.Words.{cases_Bool, cases_lt, cases_order, cond, count_by-le-length, entry_of_sector}
+use Rattle.fb_geometry.proofs.Words.{eq-eqb, false, filter, get_or, get_or_from_slice_get, indexes, inl, inr, le-ltb}
+use Rattle.fb_geometry.proofs.Words.{length, length-filter, length-filter_more, list_any, lt-ltb, map, nat_lt}
+use Rattle.fb_geometry.proofs.Words.{nat_tests, ne_eqb, none-some, not, option_map, rank, refl, same_Some, slice_get}
+use Rattle.fb_geometry.proofs.Words.{slice_get-map, slice_get_within, slipped, subst, suc, sym, take, true}
+use Rattle.fb_geometry.proofs.Words.{true≢false, zero, ℕ, ◌+◌, ◌-◌, ◌<◌, ◌==◌, ◌∙◌, ◌∷◌, ◌≡◌, ◌≤◌}
+use Rattle.fb_geometry.proofs.{Grid.count_cons, Grid.add_zero, Grid.all_weaker, Grid.all_get, Grid.zero_add}
+use Rattle.fb_geometry.proofs.{Grid.within}
 
 -- ---- ascending numbers
 

@@ -281,6 +281,7 @@ impl Geometry {
     }
 
     // The index of a sector's slot among the slots of its cylinder that are no defects.
+    #[tactic(auto, using(crate::proofs::Lookups::split_by_track, crate::proofs::Lookups::few_slots))]
     fn good_of_sector(&self, zone: Zone, cylinder: u32, j: u32) -> u32
         requires zone { IsZoneAt self.now cylinder zone }
         requires sector { j < length (data_list_at self.now cylinder) }

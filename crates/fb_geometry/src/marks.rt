@@ -91,7 +91,7 @@ pub fn unmarked_before(marks: &[Mark], position: u32) -> u32
 }
 
 // How many positions, from this one on, come before the next marked one or before the end.
-#[tactic(auto, using(crate::proofs::Order::next_upto, crate::proofs::Order::none_next))]
+#[tactic(auto, using(crate::proofs::Marking::next_upto, crate::proofs::Marking::none_next))]
 pub fn unmarked_from(marks: &[Mark], position: u32, end: u32) -> u32
     requires ascending { IsAscending (positions marks.now) }
     requires order { position ≤ end }
@@ -107,7 +107,7 @@ pub fn unmarked_from(marks: &[Mark], position: u32, end: u32) -> u32
 }
 
 // Whether a position of the cylinder is marked.
-#[tactic(auto, using(crate::proofs::Order::next_upto, crate::proofs::Order::none_next, crate::proofs::Order::next_mark))]
+#[tactic(auto, using(crate::proofs::Marking::next_upto, crate::proofs::Marking::none_next, crate::proofs::Marking::next_mark))]
 pub fn is_marked(marks: &[Mark], position: u32) -> bool
     requires ascending { IsAscending (positions marks.now) }
     ensures { result ≡ list_any (λ other. other == position) (positions marks.now) }
@@ -121,6 +121,7 @@ pub fn is_marked(marks: &[Mark], position: u32) -> bool
 
 // The position of the `number`-th unmarked position, counted from 0: the number, and one more for
 // each marked position that is passed over.
+#[tactic(auto, using(crate::proofs::Marking::slipped_at, crate::proofs::Marking::position_at))]
 pub fn slipped(marks: &[Mark], number: u32) -> u32
     requires ascending { IsAscending (positions marks.now) }
     requires fits { slipped number (positions marks.now) < 2 ^ 32 }

@@ -174,6 +174,7 @@ impl Outline {
     }
 
     // The zone of a cylinder, looked up by these numbers.
+    #[tactic(auto, using(crate::proofs::Faultless::number_inside, crate::proofs::Faultless::numbered_zone))]
     pub(crate) fn zone_numbered(&self, numbers: &[u8], cylinder: u32) -> Zone
         requires numbers { AreZoneNumbers self.now.zones numbers.now }
         requires on_disk { cylinder < cylinders_of self.now.zones }

@@ -1,5 +1,5 @@
 use Rattle.fb_geometry.proofs.Words.{arith, sym}
-use Rattle.fb_geometry.proofs.{Order.none_next}
+use Rattle.fb_geometry.proofs.{Marking.none_next}
 use Rattle.fb_geometry.proofs.marks.is_marked.Goals as goal
 
 pub returns-then-next-marks : goal.returns-then-next-marks

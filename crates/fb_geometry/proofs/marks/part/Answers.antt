@@ -1,7 +1,7 @@
 use Rattle.fb_geometry.proofs.Words.{IsAscending, IsPartitionPoint-from_clause, IsPartitionedBy-leb}
 use Rattle.fb_geometry.proofs.Words.{IsPartitionedBy-ltb, drop, marks_on, nat_le, nat_lt, positions, rules, subst}
 use Rattle.fb_geometry.proofs.Words.{sym, ◌∙◌, ◌≡◌}
-use Rattle.fb_geometry.proofs.{Order.part-of, Order.rest-rises, Order.cylinders-rise, Order.marks_on-ascend}
+use Rattle.fb_geometry.proofs.{Marking.part-of, Marking.rest-rises, Marking.cylinders-rise, Marking.marks_on-ascend}
 use Rattle.fb_geometry.proofs.marks.part.Goals as goal
 
 found : (c : goal.After-on-1) → c.split_at-2.result.0.now ≡ marks_on c.args.cylinder c.args.marks.now

@@ -1,6 +1,6 @@
 use Rattle.fb_geometry.proofs.Words.{IsPartitionPoint-from_clause, IsPartitionedBy-ltb, arith, nat_lt, positions}
 use Rattle.fb_geometry.proofs.Words.{rank, rules, ◌≡◌}
-use Rattle.fb_geometry.proofs.{Slips.rank-below, Order.rank-is, Order.positions-rise}
+use Rattle.fb_geometry.proofs.{Slips.rank-below, Marking.rank-is, Marking.positions-rise}
 use Rattle.fb_geometry.proofs.marks.rank.Goals as goal
 
 found : (c : goal.After-partition_point) → c.partition_point.result ≡ rank c.args.position (positions c.args.marks.now)

@@ -1,6 +1,6 @@
 use Rattle.fb_geometry.proofs.Words.{ap, arith, inr, length, length-map, positions, rank, slice_get, sym, ◌-◌, ◌<◌}
 use Rattle.fb_geometry.proofs.Words.{◌∙◌, ◌≡◌}
-use Rattle.fb_geometry.proofs.{Slips.rank-step, Slips.rank-below, Slips.rank-le_length, Order.position_get}
+use Rattle.fb_geometry.proofs.{Slips.rank-step, Slips.rank-below, Slips.rank-le_length, Marking.position_get}
 use Rattle.fb_geometry.proofs.marks.sector_of_entry.Goals as goal
 
 pub overflow_sub-spare : goal.overflow_sub-spare

@@ -1,5 +1,5 @@
 use Rattle.fb_geometry.proofs.Words.{ap, arith, get_or, positions, ◌+◌, ◌-◌, ◌∙◌, ◌≡◌}
-use Rattle.fb_geometry.proofs.{Slips.has, Order.next_upto, Order.next_mark}
+use Rattle.fb_geometry.proofs.{Slips.has, Marking.next_upto, Marking.next_mark}
 use Rattle.fb_geometry.proofs.marks.unmarked_from.Goals as goal
 
 pub overflow_sub-result-2 : goal.overflow_sub-result-2

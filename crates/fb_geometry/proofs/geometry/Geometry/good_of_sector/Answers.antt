@@ -1,16 +1,13 @@
-use Rattle.fb_geometry.proofs.Words.{IsGoodOf, PerTrack, PerCylinder, ap, arith, rank, subst, sym, ◌+◌, ◌-◌, ◌/◌, ◌*◌, ◌%◌, ◌∙◌}
-use Rattle.fb_geometry.proofs.{Slips.slipped_to, Lookups.few_slots, Lookups.split_by_track, Lookups.placed, Lookups.defects_ascend, Lookups.good_number, Lookups.defects_of}
+use Rattle.fb_geometry.proofs.Words.{IsGoodOf, PerCylinder, PerTrack, ap, arith, rank, subst, sym, ◌%◌, ◌*◌, ◌+◌, ◌-◌}
+use Rattle.fb_geometry.proofs.Words.{◌/◌, ◌∙◌}
+use Rattle.fb_geometry.proofs.{Slips.slipped_to, Lookups.few_slots, Lookups.split_by_track, Lookups.placed}
+use Rattle.fb_geometry.proofs.{Lookups.defects_ascend, Lookups.good_number, Lookups.defects_of}
 use Rattle.fb_geometry.proofs.geometry.Geometry.good_of_sector.Goals as goal
 
 pub overflow_mul-first : goal.overflow_mul-first
 overflow_mul-first c =
     let split = split_by_track c.args.self.now c.args.zone c.args.cylinder c.requires.zone (sym c.in-PerTrack.ensures) c.args.j c.requires.sector in
     omega (arith, few_slots c.args.self.now c.args.zone (omega arith) c.requires.zone.ranges, split.3)
-
-pub overflow_add-result : goal.overflow_add-result
-overflow_add-result c =
-    let split = split_by_track c.args.self.now c.args.zone c.args.cylinder c.requires.zone (sym c.in-PerTrack.ensures) c.args.j c.requires.sector in
-    omega (arith, few_slots c.args.self.now c.args.zone (omega arith) c.requires.zone.ranges, split.1, split.3)
 
 pub returns-in-PerTrack : goal.returns-in-PerTrack
 returns-in-PerTrack c =

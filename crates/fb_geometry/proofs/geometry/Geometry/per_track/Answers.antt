@@ -1,5 +1,5 @@
 use Rattle.fb_geometry.proofs.Words.{AreMarksOf, IsFaultless, ap, refl, sym, ◌∙◌}
-use Rattle.fb_geometry.proofs.{Judging.faultless, Judging.track_spares, Once.sound, Indexing.indexed_alone}
+use Rattle.fb_geometry.proofs.{Indexing.indexed_alone, Judging.faultless, Judging.track_spares, Once.sound}
 use Rattle.fb_geometry.proofs.geometry.Geometry.per_track.Goals as goal
 
 pub returns-in-Some : goal.returns-in-Some

@@ -1,6 +1,6 @@
 use Rattle.fb_geometry.proofs.Words.{IsPartitionPoint-from_clause, Place, ap, arith, filter, length, nat_le, nat_lt}
 use Rattle.fb_geometry.proofs.Words.{nat_tests, rules, sym, ◌++◌, ◌+◌, ◌-◌, ◌==◌, ◌∙◌, ◌≡◌}
-use Rattle.fb_geometry.proofs.{Faultless.cylinder_spares_at-zone, Spares.between, Spares.partitioned}
+use Rattle.fb_geometry.proofs.{Faultless.cylinder_spares_at-zone, Clashes.between, Clashes.partitioned}
 use Rattle.fb_geometry.proofs.outline.Outline.is_full_cylinder.Goals as goal
 
 counted : (c : goal.After-partition_point-behind)

@@ -1,6 +1,6 @@
 use Rattle.fb_geometry.proofs.Words.{IsPartitionPoint-from_clause, Place, ap, arith, filter, is_track_before, length}
 use Rattle.fb_geometry.proofs.Words.{nat_lt, nat_tests, not, rules, same_track, sym, ◌+◌, ◌-◌, ◌∙◌, ◌≡◌}
-use Rattle.fb_geometry.proofs.{Faultless.spares_at-zone, Spares.between, Spares.partitioned}
+use Rattle.fb_geometry.proofs.{Faultless.spares_at-zone, Clashes.between, Clashes.partitioned}
 use Rattle.fb_geometry.proofs.outline.Outline.is_full_track.Goals as goal
 
 counted : (c : goal.After-partition_point-behind) → c.partition_point-behind.result ≡ c.partition_point-first.result + length (filter (λ (place : Place). same_track c.args.place.track place.track) c.args.self.now.defects)
