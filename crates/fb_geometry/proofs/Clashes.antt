@@ -9,7 +9,7 @@ use Rattle.fb_geometry.proofs.Words.{length-append, length-filter, list_any, lt-
 use Rattle.fb_geometry.proofs.Words.{nat_tests, none-some, option_map, recursion_from_All, refl, repeated, same_Some}
 use Rattle.fb_geometry.proofs.Words.{same_mark, same_place, slice_get, slice_get-get_or, slice_get_within, sorted_far}
 use Rattle.fb_geometry.proofs.Words.{subst, suc, sum_by-IsPermutation, sym, true, true≢false, with_repeated, zero, ℕ}
-use Rattle.fb_geometry.proofs.Words.{◌++◌, ◌+◌, ◌<◌, ◌∙◌, ◌∷◌, ◌≡◌, ◌≤◌, ◌⊎◌}
+use Rattle.fb_geometry.proofs.Words.{◌++◌, ◌+◌, ◌-◌, ◌<◌, ◌∙◌, ◌∷◌, ◌≡◌, ◌≤◌, ◌⊎◌}
 use Rattle.fb_geometry.proofs.{Grid.count_cons, Faultless.all_get, Laws.same_places, Laws.all-filter}
 use Rattle.fb_geometry.proofs.{Marking.length-filter-map, Marking.mark_of-same, Marking.same_marks}
 use Rattle.fb_geometry.proofs.{Marking.same_mark-refl, Marking.point-is, Marking.pairwise_at, Leasts.place_order}
@@ -175,6 +175,19 @@ twin_found [] i d h same = absurd (omega arith)
 twin_found (place ∷ []) i d h same = absurd (omega arith)
 twin_found (place ∷ next ∷ sorted) zero d h same = rw same refl
 twin_found (place ∷ next ∷ sorted) (suc i) d h same = twin_found (next ∷ sorted) i d (omega arith) same
+
+-- the same by the later index
+pub twin_on : (sorted : List Place) (i : ℕ) (d : Place) → Pairwise (λ place later. is_place_before later place ≡ false) sorted → 0 < i → i < length sorted
+    → same_place (get_or sorted (i - 1) d) (get_or sorted i d) ≡ false → repeated (drop (i + 1 - 1) sorted) ≡ repeated (drop (i - 1) sorted)
+twin_on sorted i d up some h apart =
+    let next : i + 1 - 1 ≡ suc (i - 1) = omega arith in
+    let same : i ≡ suc (i - 1) = omega arith in
+    rw next (twin_step sorted (i - 1) d up (omega arith) (ap (λ k. same_place (get_or sorted (i - 1) d) (get_or sorted k d)) (sym same) ∙ apart))
+
+pub twin_at : (sorted : List Place) (i : ℕ) (d : Place) → 0 < i → i < length sorted → same_place (get_or sorted (i - 1) d) (get_or sorted i d) ≡ true
+    → slice_get (repeated (drop (i - 1) sorted)) 0 ≡ Some (get_or sorted (i - 1) d)
+twin_at sorted i d some h same =
+    let next : i ≡ suc (i - 1) = omega arith in twin_found sorted (i - 1) d (omega arith) (ap (λ k. same_place (get_or sorted (i - 1) d) (get_or sorted k d)) (sym next) ∙ same)
 
 pub twin_none : (sorted : List Place) (i : ℕ) → length sorted ≤ i + 1 → repeated (drop i sorted) ≡ []
 twin_none [] zero h = refl

@@ -4,11 +4,11 @@ use Rattle.fb_geometry.proofs.Words.{IsGoodOf, IsZone, IsZoneAt, Layout, LiesOn,
 use Rattle.fb_geometry.proofs.Words.{PerCylinder, PerTrack, Place, Shape, Some, Track, Zone, [], ap, arith, by_head}
 use Rattle.fb_geometry.proofs.Words.{cases_Bool, cylinder_size_by, cylinder_slots, data_list, data_list_at}
 use Rattle.fb_geometry.proofs.Words.{data_list_by, div-add-mod', div_below, drop, entry_of_sector, false, filter}
-use Rattle.fb_geometry.proofs.Words.{filter-append, good_before, good_track, has_no_data, indexes, inl, inr, is_among}
-use Rattle.fb_geometry.proofs.Words.{length, length-append, length-take, length-take-le, map, map-append, mod-lt}
-use Rattle.fb_geometry.proofs.Words.{mul-le, nat_tests, none-some, not, offset_in, position_in, range_with_len, rank}
-use Rattle.fb_geometry.proofs.Words.{refl, replaced, same_Some, same_place, slice_get, slice_get_within, slipped}
-use Rattle.fb_geometry.proofs.Words.{slot_at, spare_fault, stand_in, subst, suc, sym, take, take-append-drop}
+use Rattle.fb_geometry.proofs.Words.{filter-append, good_track, has_no_data, indexes, inl, inr, is_among, length}
+use Rattle.fb_geometry.proofs.Words.{length-append, length-take, length-take-le, map, map-append, mod-lt, mul-le}
+use Rattle.fb_geometry.proofs.Words.{nat_tests, none-some, not, offset_in, position_in, range_with_len, rank, refl}
+use Rattle.fb_geometry.proofs.Words.{replaced, same_Some, same_place, slice_get, slice_get_within, slipped, slot_at}
+use Rattle.fb_geometry.proofs.Words.{spare_fault, stand_in, subst, suc, sym, take, take-append-drop}
 use Rattle.fb_geometry.proofs.Words.{take-map-range_with_len, take-take, true, true≢false, turn, zero, ℕ, ◌%◌, ◌*◌}
 use Rattle.fb_geometry.proofs.Words.{◌++◌, ◌+◌, ◌-◌, ◌/◌, ◌<◌, ◌==◌, ◌∙◌, ◌∷◌, ◌≡◌, ◌≤◌}
 use Rattle.fb_geometry.proofs.{Grid.within, Grid.get_left, Grid.get_right, Grid.get_part, Grid.get_range}
@@ -54,6 +54,9 @@ good_number PerTrack disk zone cylinder j =
     first - rank first (defects_of disk zone cylinder) + j % (zone.sectors - zone.spares)
 good_number PerCylinder disk zone cylinder j = entry_of_sector (grown_of disk zone cylinder) (disk.heads * zone.sectors - zone.cylinder_spares) j
 
+pub slots_upto : (head n : ℕ) → head ≤ 64 → n ≤ 10000 → head * n ≤ 640000
+slots_upto head n few short = mul-le head n 64 10000 few short
+
 -- the place is that of the k-th good slot of the cylinder
 pub record IsGood (disk : Shape) (zone : Zone) (cylinder k : ℕ) (place : Place) : Type 0 where
   pub clean : is_among disk.defects place ≡ false
@@ -84,29 +87,58 @@ module _ (disk : Shape) where
   ]
 
 module _ (disk : Shape) (zone : Zone) (cylinder : ℕ) (at : IsZoneAt disk cylinder zone) where
+  abbrev pub defects : List ℕ
+  defects = defects_of disk zone cylinder
+
+  abbrev pub good : List Place
+  good = good_of disk zone cylinder
+
+  abbrev pub grown : List ℕ
+  grown = grown_of disk zone cylinder
+
+  abbrev pub sectors : List Place
+  sectors = data_list_at disk cylinder
+
+  abbrev pub slots : List Place
+  slots = cylinder_slots zone disk.heads cylinder
+
+  abbrev pub slot : ℕ → Place
+  slot = slot_at zone disk.heads cylinder
+
+  abbrev pub position : Place → ℕ
+  position = position_in zone disk.heads
+
+  abbrev pub on_track : ℕ → List Place
+  on_track head = good_track disk zone (record { cylinder = cylinder; head = head })
+
+  -- how many sectors a track has, or the cylinder
+  abbrev pub size : ℕ
+  size = zone.sectors - zone.spares
+
+  abbrev pub base : ℕ
+  base = disk.heads * zone.sectors - zone.cylinder_spares
+
   some : 0 < zone.sectors
   some = at.ranges.some_sectors
 
   -- ---- good slots
 
-  pub defects_ascend : IsAscending (defects_of disk zone cylinder)
-  defects_ascend = indexes-ascend (is_among disk.defects) 0 (cylinder_slots zone disk.heads cylinder)
+  pub defects_ascend : IsAscending defects
+  defects_ascend = indexes-ascend (is_among disk.defects) 0 slots
 
   -- the slot at the position of a place
   pub slot_of : (place : Place) → place.track.cylinder ≡ cylinder → place.track.head < disk.heads → place.slot < zone.sectors
-      → (slot_at zone disk.heads cylinder (position_in zone disk.heads place) ≡ place) × (slice_get (cylinder_slots zone disk.heads cylinder) (position_in zone disk.heads place) ≡ Some place)
+      → (slot (position place) ≡ place) × (slice_get slots (position place) ≡ Some place)
   slot_of place c h l =
-      let same = ap (λ c. slot_at zone disk.heads c (position_in zone disk.heads place)) (sym c) ∙ slot_at-position_in zone disk.heads some place l in
-      (same, get-cylinder_slots zone disk.heads some cylinder (position_in zone disk.heads place) (position_below zone disk.heads some place h) ∙ ap Some same)
+      let same = ap (λ c. slot_at zone disk.heads c (position place)) (sym c) ∙ slot_at-position_in zone disk.heads some place l in
+      (same, get-cylinder_slots zone disk.heads some cylinder (position place) (position_below zone disk.heads some place h) ∙ ap Some same)
 
   -- what the slot that a number slips to is
-  good_facts : (k : ℕ) → slipped k (defects_of disk zone cylinder) < disk.heads * zone.sectors → IsGood disk zone cylinder k (slot_at zone disk.heads cylinder (slipped k (defects_of disk zone cylinder)))
+  good_facts : (k : ℕ) → slipped k defects < disk.heads * zone.sectors → IsGood disk zone cylinder k (slot (slipped k defects))
   good_facts k inside =
-      let defects = defects_of disk zone cylinder in
-      let slots = cylinder_slots zone disk.heads cylinder in
       let q = slipped k defects in
       let to = slipped_to k defects defects_ascend in
-      let place = slot_at zone disk.heads cylinder q in
+      let place = slot q in
       let here = get-cylinder_slots zone disk.heads some cylinder q inside in
       let clean : is_among disk.defects place ≡ false = sym (is_marked_at (is_among disk.defects) slots q place here) ∙ to.1 in
       let index : k ≡ q - rank q defects = omega (arith, to.0) in
@@ -118,115 +150,105 @@ module _ (disk : Shape) (zone : Zone) (cylinder : ℕ) (at : IsZoneAt disk cylin
           slot = omega (arith, slots_at-zone disk.zones cylinder zone at.found, mod-lt (offset_in zone disk.heads place.track + q % zone.sectors) some);
         };
         index = index ∙ ap (λ q. q - rank q defects) (sym (position_in-slot_at zone disk.heads some cylinder q));
-        listed = ap (slice_get (good_of disk zone cylinder)) index ∙ goes (is_among disk.defects) slots q place here clean;
+        listed = ap (slice_get good) index ∙ goes (is_among disk.defects) slots q place here clean;
       }
 
   -- what a good slot is
-  pub good_lies : (k : ℕ) (place : Place) → slice_get (good_of disk zone cylinder) k ≡ Some place → IsGood disk zone cylinder k place
+  pub good_lies : (k : ℕ) (place : Place) → slice_get good k ≡ Some place → IsGood disk zone cylinder k place
   good_lies k place found =
-      let slots = cylinder_slots zone disk.heads cylinder in
-      let one = kth (is_among disk.defects) slots k (slice_get_within (good_of disk zone cylinder) k place found) in
+      let one = kth (is_among disk.defects) slots k (slice_get_within good k place found) in
       let facts = good_facts k (omega (arith, one.0, length-cylinder_slots zone disk.heads some cylinder)) in
-      subst (IsGood disk zone cylinder k) (same_Some (slot_at zone disk.heads cylinder (slipped k (defects_of disk zone cylinder))) place (sym facts.listed ∙ found)) facts
+      subst (IsGood disk zone cylinder k) (same_Some (slot (slipped k defects)) place (sym facts.listed ∙ found)) facts
 
   -- a sector that is on the k-th good slot
-  pub is_good : (j k : ℕ) (place : Place) → IsGoodOf disk zone cylinder j k → slice_get (data_list_at disk cylinder) j ≡ Some place → IsGood disk zone cylinder k place
-  is_good j k place on found = subst (IsGood disk zone cylinder k) (same_Some (slot_at zone disk.heads cylinder (slipped k (defects_of disk zone cylinder))) place (sym on.is ∙ found)) (good_facts k on.inside)
+  pub is_good : (j k : ℕ) (place : Place) → IsGoodOf disk zone cylinder j k → slice_get sectors j ≡ Some place → IsGood disk zone cylinder k place
+  is_good j k place on found = subst (IsGood disk zone cylinder k) (same_Some (slot (slipped k defects)) place (sym on.is ∙ found)) (good_facts k on.inside)
 
-  pub on_good : (j k : ℕ) (place : Place) → slice_get (data_list_at disk cylinder) j ≡ Some place → slice_get (good_of disk zone cylinder) k ≡ Some place → IsGoodOf disk zone cylinder j k
+  pub on_good : (j k : ℕ) (place : Place) → slice_get sectors j ≡ Some place → slice_get good k ≡ Some place → IsGoodOf disk zone cylinder j k
   on_good j k place found listed =
-      let one = kth (is_among disk.defects) (cylinder_slots zone disk.heads cylinder) k (slice_get_within (good_of disk zone cylinder) k place listed) in
-      let below : slipped k (defects_of disk zone cylinder) < disk.heads * zone.sectors = omega (arith, one.0, length-cylinder_slots zone disk.heads some cylinder) in
+      let one = kth (is_among disk.defects) slots k (slice_get_within good k place listed) in
+      let below : slipped k defects < disk.heads * zone.sectors = omega (arith, one.0, length-cylinder_slots zone disk.heads some cylinder) in
       record { inside = below; is = found ∙ (sym listed ∙ (good_facts k below).listed) }
 
   -- a good slot has the sector that is on it
   pub holds : (j k : ℕ) (place : Place) → IsGoodOf disk zone cylinder j k → place.track.cylinder ≡ cylinder → place.track.head < disk.heads → place.slot < zone.sectors → is_among disk.defects place ≡ false
-      → k ≡ position_in zone disk.heads place - rank (position_in zone disk.heads place) (defects_of disk zone cylinder) → slice_get (data_list_at disk cylinder) j ≡ Some place
+      → k ≡ position place - rank (position place) defects → slice_get sectors j ≡ Some place
   holds j k place on c h l stays index =
-      let position = position_in zone disk.heads place in
-      let slot = slot_of place c h l in
-      on.is ∙ (sym (good_facts k on.inside).listed ∙ (ap (slice_get (good_of disk zone cylinder)) index ∙ goes (is_among disk.defects) (cylinder_slots zone disk.heads cylinder) position place slot.1 stays))
+      on.is ∙ (sym (good_facts k on.inside).listed ∙ (ap (slice_get good) index ∙ goes (is_among disk.defects) slots (position place) place (slot_of place c h l).1 stays))
 
   -- the slots of a track stand together
-  track_in_good : (head i : ℕ) → head < disk.heads → i < length (good_track disk zone (record { cylinder = cylinder; head = head }))
-      → slice_get (good_of disk zone cylinder) (head * zone.sectors - rank (head * zone.sectors) (defects_of disk zone cylinder) + i) ≡ slice_get (good_track disk zone (record { cylinder = cylinder; head = head })) i
+  track_in_good : (head i : ℕ) → head < disk.heads → i < length (on_track head)
+      → slice_get good (head * zone.sectors - rank (head * zone.sectors) defects + i) ≡ slice_get (on_track head) i
   track_in_good head i h l =
       let n = zone.sectors in
       let first = head * n in
-      let slot = slot_at zone disk.heads cylinder in
       let is_good : Place → Bool = λ place. not (is_among disk.defects place) in
       let fits : first + n ≤ disk.heads * n = omega (arith, mul-le (head + 1) n disk.heads n (omega arith) (omega arith)) in
       let front = filter is_good (map slot (range_with_len 0 first)) in
       let rest = filter is_good (map slot (range_with_len (first + n) (disk.heads * n - first - n))) in
       let own = good_track-is zone disk.heads some disk (record { cylinder = cylinder; head = head }) refl in
       let whole : disk.heads * n ≡ first + (n + (disk.heads * n - first - n)) = omega arith in
-      let cut : good_of disk zone cylinder ≡ front ++ (good_track disk zone (record { cylinder = cylinder; head = head }) ++ rest) =
+      let cut : good ≡ front ++ (on_track head ++ rest) =
       ap (λ m. filter is_good (map slot (range_with_len 0 m))) whole ∙ rw (own, range-append 0 first (n + (disk.heads * n - first - n)), zero_add first) (simp (range-append, map-append, filter-append)) in
-      let before : length front ≡ first - rank first (defects_of disk zone cylinder) = omega (
+      let before : length front ≡ first - rank first defects = omega (
         arith,
         ap (λ xs. length (filter is_good xs)) (take-map-range_with_len slot 0 (disk.heads * n) first (omega arith)),
-        length_front (is_among disk.defects) (cylinder_slots zone disk.heads cylinder) first (omega (arith, length-cylinder_slots zone disk.heads some cylinder)),
+        length_front (is_among disk.defects) slots first (omega (arith, length-cylinder_slots zone disk.heads some cylinder)),
       ) in
-      ap (λ xs. slice_get xs (first - rank first (defects_of disk zone cylinder) + i)) cut
-      ∙ (get_right front (good_track disk zone (record { cylinder = cylinder; head = head }) ++ rest) i (first - rank first (defects_of disk zone cylinder) + i) (omega (arith, before))
-      ∙ get_left (good_track disk zone (record { cylinder = cylinder; head = head })) rest i l)
+      ap (λ xs. slice_get xs (first - rank first defects + i)) cut
+      ∙ (get_right front (on_track head ++ rest) i (first - rank first defects + i) (omega (arith, before))
+      ∙ get_left (on_track head) rest i l)
 
   -- ---- the list of the disk
 
-  list_by : (layout : Layout) → disk.layout ≡ layout → data_list_at disk cylinder ≡ data_list_by layout disk zone cylinder
+  list_by : (layout : Layout) → disk.layout ≡ layout → sectors ≡ data_list_by layout disk zone cylinder
   list_by layout e = list_among-zone disk disk.zones cylinder zone at.found ∙ ap (λ l. data_list_by l disk zone cylinder) e
 
   spares_by : (layout : Layout) → disk.layout ≡ layout → spare_fault layout disk ≡ None
   spares_by layout e = subst (λ layout. spare_fault layout disk ≡ None) e at.enough_spares
 
-  pub length_by : (layout : Layout) → disk.layout ≡ layout → length (data_list_at disk cylinder) ≡ cylinder_size_by layout disk zone
+  pub length_by : (layout : Layout) → disk.layout ≡ layout → length sectors ≡ cylinder_size_by layout disk zone
   length_by layout e = ap length (list_by layout e) ∙ length_data_list disk zone cylinder at layout (spares_by layout e)
 
   -- ---- spares at the end of each track
 
   module _ (layout : disk.layout ≡ PerTrack) where
-    pub some_by_track : 0 < zone.sectors - zone.spares
+    pub some_by_track : 0 < size
     some_by_track = let kept : has_no_data PerTrack disk zone ≡ false = subst (λ layout. has_no_data layout disk zone ≡ false) layout at.holds_data in grind (arith, nat_tests)
 
     -- the i-th sector of a track is its i-th good slot
-    entry : (head i : ℕ) → head < disk.heads → i < zone.sectors - zone.spares
-        → slice_get (data_list_at disk cylinder) (head * (zone.sectors - zone.spares) + i) ≡ slice_get (good_track disk zone (record { cylinder = cylinder; head = head })) i
+    entry : (head i : ℕ) → head < disk.heads → i < size → slice_get sectors (head * size + i) ≡ slice_get (on_track head) i
     entry head i h l =
-        let size = zone.sectors - zone.spares in
         let few = spares_by PerTrack layout in
         ap (λ xs. slice_get xs (head * size + i)) (list_by PerTrack layout)
-        ∙ (get_part (λ head. take size (good_track disk zone (record { cylinder = cylinder; head = head }))) size (λ head. length-track disk zone cylinder at head few)
+        ∙ (get_part (λ head. take size (on_track head)) size (λ head. length-track disk zone cylinder at head few)
         (range_with_len 0 disk.heads) head i (head * size + i) head (get_range 0 disk.heads head h ∙ ap Some (zero_add head)) l refl
-        ∙ get_take size (good_track disk zone (record { cylinder = cylinder; head = head })) i l)
+        ∙ get_take size (on_track head) i l)
 
-    pub place_by_track : (j head i : ℕ) → head * (zone.sectors - zone.spares) + i ≡ j → head < disk.heads → i < zone.sectors - zone.spares
-        → IsGoodOf disk zone cylinder j (head * zone.sectors - rank (head * zone.sectors) (defects_of disk zone cylinder) + i)
+    pub place_by_track : (j head i : ℕ) → head * size + i ≡ j → head < disk.heads → i < size
+        → IsGoodOf disk zone cylinder j (head * zone.sectors - rank (head * zone.sectors) defects + i)
     place_by_track j head i e h l =
-        let slots = good_track disk zone (record { cylinder = cylinder; head = head }) in
-        let inside : i < length slots = omega (arith, length-track disk zone cylinder at head (spares_by PerTrack layout), length-take (zone.sectors - zone.spares) slots) in
+        let slots = on_track head in
+        let inside : i < length slots = omega (arith, length-track disk zone cylinder at head (spares_by PerTrack layout), length-take size slots) in
         let one = within slots i inside in
-        on_good j (head * zone.sectors - rank (head * zone.sectors) (defects_of disk zone cylinder) + i) one.0
-        (ap (slice_get (data_list_at disk cylinder)) (sym e) ∙ (entry head i h l ∙ one.1)) (track_in_good head i h inside ∙ one.1)
+        on_good j (head * zone.sectors - rank (head * zone.sectors) defects + i) one.0
+        (ap (slice_get sectors) (sym e) ∙ (entry head i h l ∙ one.1)) (track_in_good head i h inside ∙ one.1)
 
     -- the track of a sector, and its index there
-    pub split_by_track : (j : ℕ) → j < length (data_list_at disk cylinder)
-        → (j / (zone.sectors - zone.spares) < disk.heads) × (j % (zone.sectors - zone.spares) < zone.sectors - zone.spares)
-        × (j / (zone.sectors - zone.spares) * (zone.sectors - zone.spares) + j % (zone.sectors - zone.spares) ≡ j)
-        × (j / (zone.sectors - zone.spares) * zone.sectors + zone.sectors ≤ disk.heads * zone.sectors)
+    pub split_by_track : (j : ℕ) → j < length sectors → (j / size < disk.heads) × (j % size < size) × (j / size * size + j % size ≡ j)
+        × (j / size * zone.sectors + zone.sectors ≤ disk.heads * zone.sectors)
     split_by_track j h =
-        let d = zone.sectors - zone.spares in
-        let on : j / d < disk.heads = div_below j d disk.heads some_by_track (omega (arith, length_by PerTrack layout)) in
-        (on, mod-lt j some_by_track, div-add-mod' j d, omega (arith, mul-le (j / d + 1) zone.sectors disk.heads zone.sectors (omega arith) (omega arith)))
+        let on : j / size < disk.heads = div_below j size disk.heads some_by_track (omega (arith, length_by PerTrack layout)) in
+        (on, mod-lt j some_by_track, div-add-mod' j size, omega (arith, mul-le (j / size + 1) zone.sectors disk.heads zone.sectors (omega arith) (omega arith)))
 
-    pub head_by_track : (j : ℕ) (place : Place) → slice_get (data_list_at disk cylinder) j ≡ Some place → place.track.head ≡ j / (zone.sectors - zone.spares)
+    pub head_by_track : (j : ℕ) (place : Place) → slice_get sectors j ≡ Some place → place.track.head ≡ j / size
     head_by_track j place found =
-        let size = zone.sectors - zone.spares in
-        let split = split_by_track j (slice_get_within (data_list_at disk cylinder) j place found) in
+        let split = split_by_track j (slice_get_within sectors j place found) in
         let track : Track = record { cylinder = cylinder; head = j / size } in
         let slots = map (λ slot. record { track = track; slot = slot }) (turn zone.sectors (offset_in zone disk.heads track)) in
         let on = all-filter (λ place. place.track ≡ track) (λ place. not (is_among disk.defects place)) slots (all_map (λ place. place.track ≡ track) (λ slot. record { track = track; slot = slot }) (λ slot. refl) (turn zone.sectors (offset_in zone disk.heads track))) in
         ap (λ track. track.head) (all_get (λ place. place.track ≡ track) (good_track disk zone track) (j % size) place on
-        (sym (entry (j / size) (j % size) split.0 split.1) ∙ (ap (slice_get (data_list_at disk cylinder)) split.2 ∙ found)))
+        (sym (entry (j / size) (j % size) split.0 split.1) ∙ (ap (slice_get sectors) split.2 ∙ found)))
 
   -- ---- spares at the end of the cylinder
 
@@ -234,42 +256,39 @@ module _ (disk : Shape) (zone : Zone) (cylinder : ℕ) (at : IsZoneAt disk cylin
     abbrev whole : List Place
     whole = by_head disk cylinder (good_track disk zone)
 
-    abbrev base : ℕ
-    base = disk.heads * zone.sectors - zone.cylinder_spares
-
     abbrev clean : Place → Bool
     clean place = not (is_among disk.grown place)
 
     abbrev spares : List Place
-    spares = filter (λ place. not (is_among disk.grown place)) (drop (disk.heads * zone.sectors - zone.cylinder_spares) (by_head disk cylinder (good_track disk zone)))
+    spares = filter (λ place. not (is_among disk.grown place)) (drop base (by_head disk cylinder (good_track disk zone)))
 
-    whole-is : whole ≡ good_of disk zone cylinder
+    whole-is : whole ≡ good
     whole-is = good_cylinder-is zone disk.heads some disk cylinder refl
 
     enough_slots : HasSpares disk
     enough_slots = has_spares disk (spares_by PerCylinder layout)
 
-    pub grown_ascend : IsAscending (grown_of disk zone cylinder)
+    pub grown_ascend : IsAscending grown
     grown_ascend = indexes-ascend (is_among disk.grown) 0 whole
 
     base_inside : base ≤ length whole
     base_inside = omega (arith, length-good disk zone cylinder at enough_slots, few_flaws disk zone cylinder at enough_slots)
 
-    few_grown : length (grown_of disk zone cylinder) ≤ length (filter (λ place. place.track.cylinder == cylinder) disk.grown)
+    few_grown : length grown ≤ length (filter (λ place. place.track.cylinder == cylinder) disk.grown)
     few_grown = omega (
       arith,
       length-kept (is_among disk.grown) 0 whole,
       kept_and_dropped (is_among disk.grown) whole,
       at_most_each same_place (λ place. place.track.cylinder == cylinder) whole disk.grown
-          (λ d. omega (arith, ap (λ xs. length (filter (λ place. same_place place d) xs)) whole-is, fewer (λ place. same_place place d) (λ place. not (is_among disk.defects place)) (cylinder_slots zone disk.heads cylinder), once_on_cylinder zone some disk.heads cylinder d)),
+          (λ d. omega (arith, ap (λ xs. length (filter (λ place. same_place place d) xs)) whole-is, fewer (λ place. same_place place d) (λ place. not (is_among disk.defects place)) slots, once_on_cylinder zone some disk.heads cylinder d)),
     )
 
     -- what is left of the base list, before the spares
-    clean_parts : (filter clean whole ≡ filter clean (take base whole) ++ spares) × (length (filter clean (take base whole)) + rank base (grown_of disk zone cylinder) ≡ base)
+    clean_parts : (filter clean whole ≡ filter clean (take base whole) ++ spares) × (length (filter clean (take base whole)) + rank base grown ≡ base)
     clean_parts = (ap (filter clean) (sym (take-append-drop base whole)) ∙ filter-append clean (take base whole) (drop base whole), length_front (is_among disk.grown) whole base base_inside)
 
     -- there are as many spares as there are grown entries
-    enough : rank base (grown_of disk zone cylinder) ≤ length spares
+    enough : rank base grown ≤ length spares
     enough = omega (
       arith,
       ap length clean_parts.0,
@@ -282,14 +301,13 @@ module _ (disk : Shape) (zone : Zone) (cylinder : ℕ) (at : IsZoneAt disk cylin
     )
 
     -- how many grown entries come before one of the base list
-    grown_before : (j : ℕ) → j ≤ base → length (filter (is_among disk.grown) (take j (take base whole))) ≡ rank j (grown_of disk zone cylinder)
+    grown_before : (j : ℕ) → j ≤ base → length (filter (is_among disk.grown) (take j (take base whole))) ≡ rank j grown
     grown_before j l = ap (λ xs. length (filter (is_among disk.grown) xs)) (take-take j base whole l)
         ∙ omega (arith, length_front (is_among disk.grown) whole j (omega (arith, base_inside)), kept_and_dropped (is_among disk.grown) (take j whole), length-take-le j whole (omega (arith, base_inside)))
 
     -- a sector stays, or moves to the spare that stands in for it
-    pub place_by_cylinder : (j : ℕ) → j < length (data_list_at disk cylinder) → IsGoodOf disk zone cylinder j (entry_of_sector (grown_of disk zone cylinder) (disk.heads * zone.sectors - zone.cylinder_spares) j)
+    pub place_by_cylinder : (j : ℕ) → j < length sectors → IsGoodOf disk zone cylinder j (entry_of_sector grown base j)
     place_by_cylinder j h =
-        let grown = grown_of disk zone cylinder in
         let below : j < base = omega (arith, length_by PerCylinder layout) in
         let one = within whole j (omega (arith, base_inside)) in
         let here : slice_get (take base whole) j ≡ Some one.0 = get_take base whole j below ∙ one.1 in
@@ -309,41 +327,40 @@ module _ (disk : Shape) (zone : Zone) (cylinder : ℕ) (at : IsZoneAt disk cylin
         ]
 
     -- a slot of an entry that is not marked is not grown
-    pub not_grown : (k : ℕ) (place : Place) → IsGood disk zone cylinder k place → has (grown_of disk zone cylinder) k ≡ is_among disk.grown place
+    pub not_grown : (k : ℕ) (place : Place) → IsGood disk zone cylinder k place → has grown k ≡ is_among disk.grown place
     not_grown k place good = is_marked_at (is_among disk.grown) whole k place (ap (λ xs. slice_get xs k) whole-is ∙ good.listed)
 
   -- ---- by the layout
 
   -- the index among the good slots of a sector
-  pub placed : (layout : Layout) → disk.layout ≡ layout → (j : ℕ) → j < length (data_list_at disk cylinder) → IsGoodOf disk zone cylinder j (good_number layout disk zone cylinder j)
-  placed PerTrack e j h = let split = split_by_track e j h in place_by_track e j (j / (zone.sectors - zone.spares)) (j % (zone.sectors - zone.spares)) split.2 split.0 split.1
+  pub placed : (layout : Layout) → disk.layout ≡ layout → (j : ℕ) → j < length sectors → IsGoodOf disk zone cylinder j (good_number layout disk zone cylinder j)
+  placed PerTrack e j h = let split = split_by_track e j h in place_by_track e j (j / size) (j % size) split.2 split.0 split.1
   placed PerCylinder e j h = place_by_cylinder e j h
 
-  found_at : (layout : Layout) → disk.layout ≡ layout → (j : ℕ) (place : Place) → slice_get (data_list_at disk cylinder) j ≡ Some place → IsGood disk zone cylinder (good_number layout disk zone cylinder j) place
-  found_at layout e j place found = is_good j (good_number layout disk zone cylinder j) place (placed layout e j (slice_get_within (data_list_at disk cylinder) j place found)) found
+  found_at : (layout : Layout) → disk.layout ≡ layout → (j : ℕ) (place : Place) → slice_get sectors j ≡ Some place → IsGood disk zone cylinder (good_number layout disk zone cylinder j) place
+  found_at layout e j place found = is_good j (good_number layout disk zone cylinder j) place (placed layout e j (slice_get_within sectors j place found)) found
 
-  base_of : disk.layout ≡ PerCylinder → (j : ℕ) (place : Place) → slice_get (data_list_at disk cylinder) j ≡ Some place → j < disk.heads * zone.sectors - zone.cylinder_spares
-  base_of e j place found = omega (arith, slice_get_within (data_list_at disk cylinder) j place found, length_by PerCylinder e)
+  base_of : disk.layout ≡ PerCylinder → (j : ℕ) (place : Place) → slice_get sectors j ≡ Some place → j < base
+  base_of e j place found = omega (arith, slice_get_within sectors j place found, length_by PerCylinder e)
 
   -- no place is there twice
-  one_index : (layout : Layout) → disk.layout ≡ layout → (i j : ℕ) (place : Place) → slice_get (data_list_at disk cylinder) i ≡ Some place → slice_get (data_list_at disk cylinder) j ≡ Some place → i ≡ j
+  one_index : (layout : Layout) → disk.layout ≡ layout → (i j : ℕ) (place : Place) → slice_get sectors i ≡ Some place → slice_get sectors j ≡ Some place → i ≡ j
   one_index PerTrack e i j place found again =
-      let size = zone.sectors - zone.spares in
       let same : i / size ≡ j / size = sym (head_by_track e i place found) ∙ head_by_track e j place again in
       let index = (found_at PerTrack e i place found).index ∙ sym (found_at PerTrack e j place again).index in
-      omega (arith, index, div-add-mod' i size, div-add-mod' j size, ap (λ q. q * size) same, ap (λ q. q * zone.sectors - rank (q * zone.sectors) (defects_of disk zone cylinder)) same)
+      omega (arith, index, div-add-mod' i size, div-add-mod' j size, ap (λ q. q * size) same, ap (λ q. q * zone.sectors - rank (q * zone.sectors) defects) same)
   one_index PerCylinder e i j place found again =
-      one_entry (grown_of disk zone cylinder) (grown_ascend e) (disk.heads * zone.sectors - zone.cylinder_spares) i j (base_of e i place found) (base_of e j place again)
+      one_entry grown (grown_ascend e) base i j (base_of e i place found) (base_of e j place again)
       ((found_at PerCylinder e i place found).index ∙ sym (found_at PerCylinder e j place again).index)
 
   pub one_index_on : (i j : ℕ) (place : Place) → slice_get (data_list disk zone cylinder) i ≡ Some place → slice_get (data_list disk zone cylinder) j ≡ Some place → i ≡ j
   one_index_on i j place found again = let list = list_by disk.layout refl in one_index disk.layout refl i j place (ap (λ xs. slice_get xs i) list ∙ found) (ap (λ xs. slice_get xs j) list ∙ again)
 
   -- and none is a bad slot
-  clean_entry : (layout : Layout) → disk.layout ≡ layout → (layout ≡ PerTrack → disk.grown ≡ []) → (j : ℕ) (place : Place) → slice_get (data_list_at disk cylinder) j ≡ Some place → is_among disk.grown place ≡ false
+  clean_entry : (layout : Layout) → disk.layout ≡ layout → (layout ≡ PerTrack → disk.grown ≡ []) → (j : ℕ) (place : Place) → slice_get sectors j ≡ Some place → is_among disk.grown place ≡ false
   clean_entry PerTrack e fits j place found = ap (λ grown. is_among grown place) (fits refl)
   clean_entry PerCylinder e fits j place found = sym (not_grown e (good_number PerCylinder disk zone cylinder j) place (found_at PerCylinder e j place found))
-      ∙ (entry_holds (grown_of disk zone cylinder) (grown_ascend e) (disk.heads * zone.sectors - zone.cylinder_spares) j (base_of e j place found)).0
+      ∙ (entry_holds grown (grown_ascend e) base j (base_of e j place found)).0
 
   pub entry_of : (j : ℕ) (place : Place) → slice_get (data_list disk zone cylinder) j ≡ Some place
       → LiesOn disk cylinder place × (is_among disk.defects place ≡ false) × ((disk.layout ≡ PerTrack → disk.grown ≡ []) → is_among disk.grown place ≡ false)
@@ -352,59 +369,51 @@ module _ (disk : Shape) (zone : Zone) (cylinder : ℕ) (at : IsZoneAt disk cylin
       let good = found_at disk.layout refl j place there in
       (good.lies, good.clean, λ fits. clean_entry disk.layout refl fits j place there)
 
--- ---- what a slot holds
+  -- ---- what a slot holds
 
-module _ (disk : Shape) (zone : Zone) (place : Place) (at : IsZoneAt disk place.track.cylinder zone) (h : place.track.head < disk.heads) (l : place.slot < zone.sectors) where
-  abbrev pub Holds : Option ℕ → Type 0
-  Holds result = MatchOption result ((j : ℕ) → slice_get (data_list_at disk place.track.cylinder) j ≡ Some place → ⊥) (λ j. slice_get (data_list_at disk place.track.cylinder) j ≡ Some place)
+  module _ (place : Place) (c : place.track.cylinder ≡ cylinder) (h : place.track.head < disk.heads) (l : place.slot < zone.sectors) where
+    abbrev pub Holds : Option ℕ → Type 0
+    Holds result = MatchOption result ((j : ℕ) → slice_get sectors j ≡ Some place → ⊥) (λ j. slice_get sectors j ≡ Some place)
 
-  -- a slot is marked if it is a defect, and then holds no sector
-  pub defect_at : has (defects_of disk zone place.track.cylinder) (position_in zone disk.heads place) ≡ is_among disk.defects place
-  defect_at = is_marked_at (is_among disk.defects) (cylinder_slots zone disk.heads place.track.cylinder) (position_in zone disk.heads place) place (slot_of disk zone place.track.cylinder at place refl h l).1
+    -- a slot is marked if it is a defect, and then holds no sector
+    pub defect_at : has defects (position place) ≡ is_among disk.defects place
+    defect_at = is_marked_at (is_among disk.defects) slots (position place) place (slot_of place c h l).1
 
-  pub none_on_defect : is_among disk.defects place ≡ true → Holds None
-  none_on_defect bad = λ j found. true≢false (sym bad ∙ (found_at disk zone place.track.cylinder at disk.layout refl j place found).clean)
+    pub none_on_defect : is_among disk.defects place ≡ true → Holds None
+    none_on_defect bad = λ j found. true≢false (sym bad ∙ (found_at disk.layout refl j place found).clean)
 
-  module _ (stays : is_among disk.defects place ≡ false) (good : ℕ) (is : good ≡ good_before disk zone place) where
-    on_slot : (j k : ℕ) → k ≡ good → IsGoodOf disk zone place.track.cylinder j k → slice_get (data_list_at disk place.track.cylinder) j ≡ Some place
-    on_slot j k e on = holds disk zone place.track.cylinder at j k place on refl h l stays (e ∙ is)
+    module _ (stays : is_among disk.defects place ≡ false) (k : ℕ) (is : k ≡ position place - rank (position place) defects) where
+      -- how many good slots come before the track, which are no more than before the place
+      abbrev pub before : ℕ
+      before = place.track.head * zone.sectors - rank (place.track.head * zone.sectors) defects
 
-    pub none_by_track : disk.layout ≡ PerTrack → zone.sectors - zone.spares ≤ good - (place.track.head * zone.sectors - rank (place.track.head * zone.sectors) (defects_of disk zone place.track.cylinder)) → Holds None
-    none_by_track layout late = λ j found.
-        let head = head_by_track disk zone place.track.cylinder at layout j place found in
-        let split = split_by_track disk zone place.track.cylinder at layout j (slice_get_within (data_list_at disk place.track.cylinder) j place found) in
-        absurd (omega (
-          arith,
-          (found_at disk zone place.track.cylinder at PerTrack layout j place found).index,
-          split.1,
-          ap (λ q. q * zone.sectors - rank (q * zone.sectors) (defects_of disk zone place.track.cylinder)) head,
-        ))
+      pub before_good : before ≤ k
+      before_good =
+          let first = place.track.head * zone.sectors in
+          omega (arith, rank-step first (position place) defects defects_ascend (omega arith), rank-below first defects defects_ascend)
 
-    -- no more good slots come before the track than before the place
-    pub before_good : place.track.head * zone.sectors - rank (place.track.head * zone.sectors) (defects_of disk zone place.track.cylinder) ≤ good
-    before_good =
-        let up = defects_ascend disk zone place.track.cylinder at in
-        let first = place.track.head * zone.sectors in
-        omega (arith, rank-step first (position_in zone disk.heads place) (defects_of disk zone place.track.cylinder) up (omega arith), rank-below first (defects_of disk zone place.track.cylinder) up)
+      pub none_by_track : disk.layout ≡ PerTrack → size ≤ k - before → Holds None
+      none_by_track layout late = λ j found.
+          let head = head_by_track layout j place found in
+          let split = split_by_track layout j (slice_get_within sectors j place found) in
+          absurd (omega (arith, (found_at PerTrack layout j place found).index, split.1, ap (λ q. q * zone.sectors - rank (q * zone.sectors) defects) head))
 
-    pub some_by_head : disk.layout ≡ PerTrack → (i : ℕ) → place.track.head * zone.sectors - rank (place.track.head * zone.sectors) (defects_of disk zone place.track.cylinder) + i ≡ good → i < zone.sectors - zone.spares
-        → Holds (Some (place.track.head * (zone.sectors - zone.spares) + i))
-    some_by_head layout i e early = let j = place.track.head * (zone.sectors - zone.spares) + i in
-        on_slot j (place.track.head * zone.sectors - rank (place.track.head * zone.sectors) (defects_of disk zone place.track.cylinder) + i) e (place_by_track disk zone place.track.cylinder at layout j place.track.head i refl h early)
+      on_slot : (j i : ℕ) → i ≡ k → IsGoodOf disk zone cylinder j i → slice_get sectors j ≡ Some place
+      on_slot j i e on = holds j i place on c h l stays (e ∙ is)
 
-    -- what is said of the entry in the good list is so of the place
-    pub judged_entry : disk.layout ≡ PerCylinder → (result : Option ℕ) → IfNone result (HoldsNone (grown_of disk zone place.track.cylinder) (disk.heads * zone.sectors - zone.cylinder_spares) good)
-        → IfSome result (HoldsSector (grown_of disk zone place.track.cylinder) (disk.heads * zone.sectors - zone.cylinder_spares) good) → Holds result
-    judged_entry layout None none some = λ j found.
-        let grown = grown_of disk zone place.track.cylinder in
-        let facts = found_at disk zone place.track.cylinder at PerCylinder layout j place found in
-        let holds = entry_holds grown (grown_ascend disk zone place.track.cylinder at layout) (disk.heads * zone.sectors - zone.cylinder_spares) j (base_of disk zone place.track.cylinder at layout j place found) in
-        let same : entry_of_sector grown (disk.heads * zone.sectors - zone.cylinder_spares) j ≡ good = facts.index ∙ sym is in
-        elim none [
-          | inl marks ↦ true≢false (sym marks ∙ (ap (has grown) (sym same) ∙ holds.0))
-          | inr late ↦ absurd (omega (arith, holds.1, ap (λ k. k - rank k grown) same))
-        ]
-    judged_entry layout (Some j) none some =
-        let own = held (grown_of disk zone place.track.cylinder) (grown_ascend disk zone place.track.cylinder at layout) (disk.heads * zone.sectors - zone.cylinder_spares) good j some in
-        on_slot j (entry_of_sector (grown_of disk zone place.track.cylinder) (disk.heads * zone.sectors - zone.cylinder_spares) j) own.1
-        (place_by_cylinder disk zone place.track.cylinder at layout j (omega (arith, length_by disk zone place.track.cylinder at PerCylinder layout)))
+      pub some_by_head : disk.layout ≡ PerTrack → (i : ℕ) → before + i ≡ k → i < size → Holds (Some (place.track.head * size + i))
+      some_by_head layout i e early =
+          let j = place.track.head * size + i in on_slot j (before + i) e (place_by_track layout j place.track.head i refl h early)
+
+      -- what is said of the entry in the good list is so of the place
+      pub judged_entry : disk.layout ≡ PerCylinder → (result : Option ℕ) → IfNone result (HoldsNone grown base k) → IfSome result (HoldsSector grown base k) → Holds result
+      judged_entry layout None none found_ = λ j found.
+          let same = (found_at PerCylinder layout j place found).index ∙ sym is in
+          let held_there = entry_holds grown (grown_ascend layout) base j (base_of layout j place found) in
+          elim none [
+            | inl marks ↦ true≢false (sym marks ∙ (ap (has grown) (sym same) ∙ held_there.0))
+            | inr late ↦ absurd (omega (arith, held_there.1, ap (λ k. k - rank k grown) same))
+          ]
+      judged_entry layout (Some j) none found_ =
+          let own = held grown (grown_ascend layout) base k j found_ in
+          on_slot j (entry_of_sector grown base j) own.1 (place_by_cylinder layout j (omega (arith, own.0, length_by PerCylinder layout)))

@@ -9,10 +9,11 @@ use Rattle.fb_geometry.proofs.Words.{offset_at, option_map, ordering_then, posit
 use Rattle.fb_geometry.proofs.Words.{same_mark, slice_get, slice_get-get_or, slice_get-map, slipped, slot_at}
 use Rattle.fb_geometry.proofs.Words.{slots_at, subst, suc, sym, take, true, zero, zone_at, ℕ, ◌%◌, ◌&&◌, ◌*◌, ◌+◌}
 use Rattle.fb_geometry.proofs.Words.{◌-◌, ◌<◌, ◌==◌, ◌||◌, ◌∙◌, ◌∷◌, ◌≡◌, ◌≤◌}
-use Rattle.fb_geometry.proofs.{Grid.all_get, Slips.rank-at, Slips.rank_marked, Slips.rank-step, Slips.has}
-use Rattle.fb_geometry.proofs.{Slips.rank-le_length, Slips.free_behind, Slips.next_marked, Turns.position_in-slot_at}
-use Rattle.fb_geometry.proofs.{Turns.slot_at-position_in, Faultless.slots_at-zone, Faultless.offset_at_zone}
-use Rattle.fb_geometry.proofs.{Faultless.find-none, Faultless.found_zone, Faultless.some_zone}
+use Rattle.fb_geometry.proofs.{Grid.all_get, Slips.rank-at, Slips.rank_marked, Slips.rank-step, Slips.rank-below}
+use Rattle.fb_geometry.proofs.{Slips.has, Slips.rank-le_length, Slips.free_behind, Slips.next_marked}
+use Rattle.fb_geometry.proofs.{Turns.position_in-slot_at, Turns.slot_at-position_in, Faultless.slots_at-zone}
+use Rattle.fb_geometry.proofs.{Faultless.offset_at_zone, Faultless.find-none, Faultless.found_zone}
+use Rattle.fb_geometry.proofs.{Faultless.some_zone}
 
 pub all_at : {X : Type 0} (P : X → Type 0) (xs : List X) (j : ℕ) (d : X) → AllByRecursion P xs → j < length xs → P (get_or xs j d)
 all_at P xs j d all h = all_get P xs j (get_or xs j d) all (slice_get-get_or xs j d h)
@@ -139,6 +140,14 @@ slipped_at number marks r up h low high =
 -- the position at an index
 pub position_get : (marks : List Mark) (i : ℕ) (d : Mark) → i < length marks → slice_get (positions marks) i ≡ Some (get_or marks i d).position
 position_get marks i d h = slice_get-map (λ mark. mark.position) marks i ∙ ap (option_map (λ mark. mark.position)) (slice_get-get_or marks i d h)
+
+-- the unmarked entries behind the sectors are no more than the marked ones among them
+module _ (marks : List Mark) (up : IsAscending (positions marks)) (sectors entry : ℕ) where
+  pub fewer_unmarked : sectors ≤ entry → sectors - rank sectors (positions marks) ≤ entry - rank entry (positions marks)
+  fewer_unmarked h = omega (arith, (rank-step sectors entry (positions marks) up h).1, rank-below sectors (positions marks) up)
+
+  pub few_spares : sectors ≤ entry → entry - rank entry (positions marks) < sectors → entry - rank entry (positions marks) - (sectors - rank sectors (positions marks)) < length marks
+  few_spares h few = omega (arith, fewer_unmarked h, rank-le_length sectors (positions marks), rank-below sectors (positions marks) up, length-map marks (λ mark. mark.position))
 
 -- the next mark, by how many come before a position
 module _ (marks : List Mark) (up : IsAscending (positions marks)) (start next : ℕ) (e : next ≡ rank start (positions marks)) where

@@ -44,6 +44,7 @@ impl Model for Geometry {
 
 impl Geometry {
     /// The geometry of an outline; or the outline's first fault, or `NoMemory`.
+    #[tactic(auto, using(crate::proofs::Judging::judged))]
     pub fn new(alloc: Global, outline: Outline) -> Result<Geometry, GeometryError>
         requires fits { FitsLayout outline.layout outline }
         ensures { Judges outline result }
@@ -322,7 +323,7 @@ impl Geometry {
     }
 
     // Which sector a slot holds that is no defect, by its index among such slots of its cylinder.
-    #[tactic(auto, using(crate::proofs::Lookups::before_good, crate::proofs::Lookups::none_by_track, crate::proofs::Lookups::judged_entry))]
+    #[tactic(auto, using(crate::proofs::Lookups::slots_upto, crate::proofs::Lookups::before_good, crate::proofs::Lookups::none_by_track))]
     fn sector_of_good(&self, zone: Zone, place: Place, good: u32) -> Option<u32>
         requires zone { IsZoneAt self.now place.track.cylinder zone }
         requires head { place.track.head < self.now.heads }

@@ -155,6 +155,7 @@ pub fn entry_of_sector(marks: &[Mark], sectors: u32, sector: u32) -> u32
 }
 
 // The sector that an entry of such a list holds. None if it holds none.
+#[tactic(auto, using(crate::proofs::Marking::fewer_unmarked, crate::proofs::Marking::few_spares))]
 pub fn sector_of_entry(marks: &[Mark], sectors: u32, entry: u32) -> Option<u32>
     requires ascending { IsAscending (positions marks.now) }
     ensures none { IfNone result (HoldsNone (positions marks.now) sectors entry) }

@@ -357,6 +357,7 @@ fn sorted(alloc: Global, places: &[Place], others: &[Place]) -> Result<Vec<Place
 }
 
 // The first of these places in order that is there twice.
+#[tactic(auto, using(crate::proofs::Clashes::twin_on, crate::proofs::Clashes::twin_at, crate::proofs::Clashes::twin_none))]
 fn first_twin(sorted: &[Place]) -> Option<Place>
     requires { Pairwise (λ place later. is_place_before later place ≡ false) sorted.now }
     ensures { result ≡ slice_get (repeated sorted.now) 0 }
