@@ -1,5 +1,5 @@
-use Rattle.fb_geometry.proofs.Words.{IsPartitionPoint-from_clause, Place, ap, arith, filter, length, nat_le, nat_lt}
-use Rattle.fb_geometry.proofs.Words.{nat_tests, rules, sym, ◌++◌, ◌+◌, ◌-◌, ◌==◌, ◌∙◌, ◌≡◌}
+use Rattle.fb_geometry.proofs.Words.{IsPartitionPoint-from_clause, Place, arith, filter, length, nat_le, nat_lt}
+use Rattle.fb_geometry.proofs.Words.{nat_tests, refl, rules, ◌++◌, ◌+◌, ◌-◌, ◌==◌, ◌≡◌}
 use Rattle.fb_geometry.proofs.{Faultless.cylinder_spares_at-zone, Clashes.between, Clashes.partitioned}
 use Rattle.fb_geometry.proofs.outline.Outline.is_full_cylinder.Goals as goal
 
@@ -21,8 +21,6 @@ overflow_sub-result c = omega (arith, counted c)
 pub returns : goal.returns
 returns c =
     let cylinder = c.args.place.track.cylinder in
-    let disk = c.args.self.now in
-    let zone = c.zone_of-spares.result in
-    let count = length (filter (λ (place : Place). place.track.cylinder == cylinder) (disk.defects ++ disk.grown)) in
-    let between : c.partition_point-behind.result - c.partition_point-first.result ≡ count = omega (arith, counted c) in
-    ap (nat_lt zone.cylinder_spares) between ∙ ap (λ spares. nat_lt spares count) (sym (cylinder_spares_at-zone disk.zones cylinder zone c.zone_of-spares.ensures.zone.found))
+    let bad = c.args.self.now.defects ++ c.args.self.now.grown in
+    let between : c.partition_point-behind.result - c.partition_point-first.result ≡ length (filter (λ (place : Place). place.track.cylinder == cylinder) bad) = omega (arith, counted c) in
+    rw (between, cylinder_spares_at-zone c.args.self.now.zones cylinder c.zone_of-spares.result c.zone_of-spares.ensures.zone.found) refl

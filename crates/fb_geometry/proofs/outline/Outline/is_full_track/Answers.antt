@@ -1,5 +1,5 @@
-use Rattle.fb_geometry.proofs.Words.{IsPartitionPoint-from_clause, Place, ap, arith, filter, is_track_before, length}
-use Rattle.fb_geometry.proofs.Words.{nat_lt, nat_tests, not, rules, same_track, sym, ◌+◌, ◌-◌, ◌∙◌, ◌≡◌}
+use Rattle.fb_geometry.proofs.Words.{IsPartitionPoint-from_clause, Place, arith, filter, is_track_before, length}
+use Rattle.fb_geometry.proofs.Words.{nat_tests, not, refl, rules, same_track, ◌+◌, ◌-◌, ◌≡◌}
 use Rattle.fb_geometry.proofs.{Faultless.spares_at-zone, Clashes.between, Clashes.partitioned}
 use Rattle.fb_geometry.proofs.outline.Outline.is_full_track.Goals as goal
 
@@ -20,8 +20,5 @@ overflow_sub-result c = omega (arith, counted c)
 pub returns : goal.returns
 returns c =
     let track = c.args.place.track in
-    let disk = c.args.self.now in
-    let zone = c.zone_of-spares.result in
-    let count = length (filter (λ (place : Place). same_track track place.track) disk.defects) in
-    let between : c.partition_point-behind.result - c.partition_point-first.result ≡ count = omega (arith, counted c) in
-    ap (nat_lt zone.spares) between ∙ ap (λ spares. nat_lt spares count) (sym (spares_at-zone disk.zones track.cylinder zone c.zone_of-spares.ensures.zone.found))
+    let between : c.partition_point-behind.result - c.partition_point-first.result ≡ length (filter (λ (place : Place). same_track track place.track) c.args.self.now.defects) = omega (arith, counted c) in
+    rw (between, spares_at-zone c.args.self.now.zones track.cylinder c.zone_of-spares.result c.zone_of-spares.ensures.zone.found) refl
