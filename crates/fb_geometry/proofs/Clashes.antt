@@ -1,22 +1,22 @@
 -- Places that are given twice, the marks of places that are given once, and tracks with more of them than spares.
 use Rattle.fb_geometry.proofs.Words.{All-from_get_or, AllByRecursion, AreInOrder, AreSorted, Bool}
-use Rattle.fb_geometry.proofs.Words.{Contains-permutation, HasZones, IsPartitionPoint, IsPartitionedBy, IsPermutation}
-use Rattle.fb_geometry.proofs.Words.{IsPermutation-map, IsPermutation-sym, IsSortedBy, IsStrictWeakOrder, List, Mark}
-use Rattle.fb_geometry.proofs.Words.{Pairwise, Place, Shape, Some, [], ap, arith, cases_Bool, cases_lt, cond, drop}
-use Rattle.fb_geometry.proofs.Words.{false, filter, filter-append, find, get_or, get_or_from_slice_get, inl, inr}
-use Rattle.fb_geometry.proofs.Words.{is_among, is_mark_before, is_outside, is_place_before, least, length}
-use Rattle.fb_geometry.proofs.Words.{length-append, length-filter, list_any, lt-ltb, ltb-true, map, mark_of, nat_lt}
-use Rattle.fb_geometry.proofs.Words.{nat_tests, none-some, option_map, recursion_from_All, refl, repeated, same_Some}
-use Rattle.fb_geometry.proofs.Words.{same_mark, same_place, slice_get, slice_get-get_or, slice_get_within, sorted_far}
-use Rattle.fb_geometry.proofs.Words.{subst, suc, sum_by-IsPermutation, sym, true, true≢false, with_repeated, zero, ℕ}
-use Rattle.fb_geometry.proofs.Words.{◌++◌, ◌+◌, ◌-◌, ◌<◌, ◌∙◌, ◌∷◌, ◌≡◌, ◌≤◌, ◌⊎◌}
-use Rattle.fb_geometry.proofs.{Grid.count_cons, Faultless.all_get, Laws.same_places, Laws.all-filter}
-use Rattle.fb_geometry.proofs.{Marking.length-filter-map, Marking.mark_of-same, Marking.same_marks}
-use Rattle.fb_geometry.proofs.{Marking.same_mark-refl, Marking.point-is, Marking.pairwise_at, Leasts.place_order}
-use Rattle.fb_geometry.proofs.{Leasts.Among, Leasts.among-tail, Leasts.among-left, Leasts.among-right}
-use Rattle.fb_geometry.proofs.{Leasts.among-append, Leasts.among-filter, Leasts.among-filtered, Leasts.among-mapped}
-use Rattle.fb_geometry.proofs.{Leasts.among-map, Leasts.among-any, Leasts.any-among, Leasts.least-head}
-use Rattle.fb_geometry.proofs.{Leasts.IsOrder}
+use Rattle.fb_geometry.proofs.Words.{Contains-permutation, HasZones, IsDistinct, IsDistinct-IsPermutation}
+use Rattle.fb_geometry.proofs.Words.{IsPartitionPoint, IsPartitionedBy, IsPermutation, IsPermutation-map}
+use Rattle.fb_geometry.proofs.Words.{IsPermutation-sym, IsSortedBy, IsStrictWeakOrder, List, Mark, Pairwise, Place}
+use Rattle.fb_geometry.proofs.Words.{Shape, Some, [], ap, arith, cases_Bool, cases_lt, cond, drop, false, filter}
+use Rattle.fb_geometry.proofs.Words.{filter-append, find, get_or, get_or_from_slice_get, inl, inr, is_among}
+use Rattle.fb_geometry.proofs.Words.{is_mark_before, is_outside, is_place_before, least, length, length-append}
+use Rattle.fb_geometry.proofs.Words.{length-filter, list_any, list_any-IsPermutation, lt-ltb, ltb-true, map, mark_of}
+use Rattle.fb_geometry.proofs.Words.{nat_lt, nat_tests, none-some, option_map, recursion_from_All, refl, repeated}
+use Rattle.fb_geometry.proofs.Words.{same_Some, same_mark, same_place, slice_get, slice_get-get_or, slice_get_within}
+use Rattle.fb_geometry.proofs.Words.{sorted_far, subst, suc, sum_by-IsPermutation, sym, true, true≢false}
+use Rattle.fb_geometry.proofs.Words.{with_repeated, zero, ℕ, ◌++◌, ◌+◌, ◌-◌, ◌<◌, ◌∙◌, ◌∷◌, ◌≡◌, ◌≤◌, ◌⊎◌}
+use Rattle.fb_geometry.proofs.{Grid.count_cons, Faultless.list_any-none, Faultless.all_get, Laws.same_places}
+use Rattle.fb_geometry.proofs.{Laws.all-filter, Marking.mark_of-same, Marking.same_marks, Marking.same_mark-refl}
+use Rattle.fb_geometry.proofs.{Marking.point-is, Marking.pairwise_at, Leasts.place_order, Leasts.Among}
+use Rattle.fb_geometry.proofs.{Leasts.among-tail, Leasts.among-left, Leasts.among-right, Leasts.among-append}
+use Rattle.fb_geometry.proofs.{Leasts.among-filter, Leasts.among-filtered, Leasts.among-mapped, Leasts.among-map}
+use Rattle.fb_geometry.proofs.{Leasts.among-any, Leasts.any-among, Leasts.least-head, Leasts.IsOrder}
 
 -- ---- pairs
 
@@ -218,51 +218,41 @@ module _ (disk : Shape) (zones : HasZones disk) (xs : List Place) (marks : List 
   pub place_among : (mark : Mark) → Among marks mark → (place : Place) × Among xs place × (mark_of disk place ≡ mark)
   place_among mark one = among-mapped (mark_of disk) xs mark (permuted marks (map (mark_of disk) xs) mark (IsPermutation-sym (map (mark_of disk) xs) marks same) one)
 
-  -- a mark is there as often as its place
-  counted : (place : Place) → is_outside disk place ≡ false → length (filter (same_mark (mark_of disk place)) marks) ≡ count place xs
-  counted place in_ = same_count (same_mark (mark_of disk place)) (map (mark_of disk) xs) marks same ∙ (length-filter-map (same_mark (mark_of disk place)) (mark_of disk) xs ∙ agree xs inside)
-    where
-      agree : (xs : List Place) → AllByRecursion (λ place. is_outside disk place ≡ false) xs → length (filter (λ other. same_mark (mark_of disk place) (mark_of disk other)) xs) ≡ count place xs
-      agree [] all = refl
-      agree (other ∷ xs) all = omega (
-        arith,
-        count_cons (λ other. same_mark (mark_of disk place) (mark_of disk other)) other xs,
-        count_cons (same_place place) other xs,
-        ap {B = ℕ} (λ b. cond b 1 0) (marks_same disk zones place other in_ all.0),
-        agree xs all.1,
-      )
-
   -- whether a place's mark is one of them
   pub among_others : (place : Place) → is_outside disk place ≡ false → list_any (same_mark (mark_of disk place)) marks ≡ is_among xs place
-  among_others place in_ = any_count (same_mark (mark_of disk place)) marks ∙ (ap (nat_lt 0) (counted place in_) ∙ sym (any_count (same_place place) xs))
+  among_others place in_ = sym (list_any-IsPermutation (same_mark (mark_of disk place)) (map (mark_of disk) xs) marks same) ∙ agree xs inside
+    where
+      agree : (xs : List Place) → AllByRecursion (λ place. is_outside disk place ≡ false) xs → list_any (same_mark (mark_of disk place)) (map (mark_of disk) xs) ≡ is_among xs place
+      agree [] all = refl
+      agree (other ∷ xs) all = rw (marks_same disk zones place other in_ all.0, agree xs all.1) refl
+
+  -- marks of places that are there once are there once
+  apart : (xs : List Place) → AllByRecursion (λ place. is_outside disk place ≡ false) xs → repeated xs ≡ [] → IsDistinct same_mark (map (mark_of disk) xs)
+  unfolding IsDistinct
+  apart [] all none = tt
+  apart (place ∷ xs) all none = elim (cases_Bool (is_among xs place)) [
+    | inl again ↦ absurd (omega (arith, ap length (rw again at none)))
+    | inr once ↦ (each xs all.1 (list_any-none (same_place place) xs once), apart xs all.1 (rw once at none))
+  ]
+    where
+      each : (xs : List Place) → AllByRecursion (λ place. is_outside disk place ≡ false) xs → AllByRecursion (λ other. same_place place other ≡ false) xs
+          → AllByRecursion (λ mark. same_mark (mark_of disk place) mark ≡ false) (map (mark_of disk) xs)
+      each [] in_ off = tt
+      each (other ∷ xs) in_ off = (marks_same disk zones place other all.0 in_.0 ∙ off.0, each xs in_.1 off.1)
 
   -- sorted marks of places that are there once are in order
   pub marks_in_order : repeated xs ≡ [] → Pairwise (λ mark later. is_mark_before later mark ≡ false) marks → AreInOrder marks
-  marks_in_order none up = strictly marks up (λ mark one. once mark (place_among mark one))
+  unfolding IsDistinct
+  marks_in_order none up = strictly marks (IsDistinct-IsPermutation same_mark (λ a b. grind (arith, nat_tests)) (map (mark_of disk) xs) marks same (apart xs inside none)) up
     where
-      once : (mark : Mark) → (place : Place) × Among xs place × (mark_of disk place ≡ mark) → length (filter (same_mark mark) marks) ≤ 1
-      once mark (place, one, is) = elim (cases_lt 1 (count place xs)) [
-        | inl two ↦ absurd (none-some place (ap (λ ys. slice_get ys (counted_repeated xs place two).0) (sym none) ∙ (counted_repeated xs place two).1))
-        | inr few ↦ omega (arith, counted place (inside_of place one), ap (λ mark. length (filter (same_mark mark) marks)) is)
-      ]
-
-      behind : (mark : Mark) (marks : List Mark) → AllByRecursion (λ later. is_mark_before later mark ≡ false) marks → length (filter (same_mark mark) marks) ≤ 0
+      behind : (mark : Mark) (marks : List Mark) → AllByRecursion (λ later. same_mark mark later ≡ false) marks → AllByRecursion (λ later. is_mark_before later mark ≡ false) marks
           → AllByRecursion (λ later. is_mark_before mark later ≡ true) marks
-      behind mark [] all none = tt
-      behind mark (later ∷ marks) all none = (
-        elim (cases_Bool (same_mark mark later)) [
-          | inl again ↦ absurd (omega (arith, none, rw again at none))
-          | inr apart ↦ grind (arith, nat_tests, all.0)
-        ],
-        behind mark marks all.1 (omega (arith, count_cons (same_mark mark) later marks)),
-      )
+      behind mark [] off all = tt
+      behind mark (later ∷ marks) off all = (grind (arith, nat_tests, off.0, all.0), behind mark marks off.1 all.1)
 
-      strictly : (marks : List Mark) → Pairwise (λ mark later. is_mark_before later mark ≡ false) marks → ((mark : Mark) → Among marks mark → length (filter (same_mark mark) marks) ≤ 1) → AreInOrder marks
-      strictly [] up one = tt
-      strictly (mark ∷ marks) up one = (
-        behind mark marks up.0 (omega (arith, one mark (0, refl), count_cons (same_mark mark) mark marks, ap {B = ℕ} (λ b. cond b 1 0) (same_mark-refl mark))),
-        strictly marks up.1 (λ other here. omega (arith, one other (among-tail mark other marks here), count_cons (same_mark other) mark marks)),
-      )
+      strictly : (marks : List Mark) → IsDistinct same_mark marks → Pairwise (λ mark later. is_mark_before later mark ≡ false) marks → AreInOrder marks
+      strictly [] off up = tt
+      strictly (mark ∷ marks) off up = (behind mark marks off.0 up.0, strictly marks off.1 up.1)
 
 -- ---- the first that is full
 

@@ -26,9 +26,9 @@ rank_cons : (number x : ℕ) (numbers : List ℕ) → rank number (x ∷ numbers
 rank_cons number x numbers = count_cons (λ passed. nat_lt passed number) x numbers
 
 -- no number is before one that all are behind
-rank_none : (number : ℕ) (numbers : List ℕ) → AllByRecursion (λ later. number < later) numbers → (rank number numbers ≡ 0) × (rank (number + 1) numbers ≡ 0)
-rank_none number [] all = (refl, refl)
-rank_none number (x ∷ numbers) all = rw (le-ltb x number (omega (arith, all.0)), le-ltb x (number + 1) (omega (arith, all.0))) (rank_none number numbers all.1)
+rank_none : (number : ℕ) (numbers : List ℕ) → AllByRecursion (λ later. number < later) numbers → rank number numbers ≡ 0
+rank_none number [] all = refl
+rank_none number (x ∷ numbers) all = rw (le-ltb x number (omega (arith, all.0))) (rank_none number numbers all.1)
 
 pub rank-le_length : (number : ℕ) (numbers : List ℕ) → rank number numbers ≤ length numbers
 rank-le_length number numbers = omega (arith, length-filter (λ passed. nat_lt passed number) numbers, count_by-le-length (λ passed. nat_lt passed number) numbers)
@@ -45,11 +45,10 @@ rank_on : (a n : ℕ) (numbers : List ℕ) → IsAscending numbers → (rank a n
 rank_on a zero numbers up = let same : rank (a + 0) numbers ≡ rank a numbers = ap (λ b. rank b numbers) (add_zero a) in (omega arith, omega arith)
 rank_on a (suc n) numbers up =
     let next : rank (a + suc n) numbers ≡ rank (a + n + 1) numbers = ap (λ b. rank b numbers) (omega arith) in
-    let one = rank_next (a + n) numbers up in
     let rest = rank_on a n numbers up in
     elim (cases_Bool (has numbers (a + n))) [
-      | inl in_ ↦ let more = rw in_ at one in (omega arith, omega arith)
-      | inr out ↦ let more = rw out at one in (omega arith, omega arith)
+      | inl in_ ↦ let more = rw in_ at (rank_next (a + n) numbers up) in (omega arith, omega arith)
+      | inr out ↦ let more = rw out at (rank_next (a + n) numbers up) in (omega arith, omega arith)
     ]
 
 pub rank-step : (a b : ℕ) (numbers : List ℕ) → IsAscending numbers → a ≤ b → (rank a numbers ≤ rank b numbers) × (rank b numbers ≤ rank a numbers + (b - a))
@@ -66,7 +65,7 @@ rank-below number numbers up = omega (arith, (rank-step 0 number numbers up (ome
 pub rank-at : (i : ℕ) (numbers : List ℕ) (q : ℕ) → IsAscending numbers → slice_get numbers i ≡ Some q → (rank q numbers ≡ i) × (has numbers q ≡ true)
 rank-at i [] q up at = absurd (none-some q at)
 rank-at zero (x ∷ numbers) q up at =
-    subst (λ q. (rank q (x ∷ numbers) ≡ 0) × (has (x ∷ numbers) q ≡ true)) (same_Some x q at) (rw (le-ltb x x (omega arith)) (rank_none x numbers up.0).0, rw (eq-eqb x x refl) refl)
+    subst (λ q. (rank q (x ∷ numbers) ≡ 0) × (has (x ∷ numbers) q ≡ true)) (same_Some x q at) (rw (le-ltb x x (omega arith)) (rank_none x numbers up.0), rw (eq-eqb x x refl) refl)
 rank-at (suc i) (x ∷ numbers) q up at =
     let rest = rank-at i numbers q up.1 at in
     let less = all_get (λ later. x < later) numbers i q up.0 at in
@@ -112,9 +111,6 @@ module _ (numbers : List ℕ) (up : IsAscending numbers) where
     | inr free ↦ free
   ]
 
--- what is known of ranks
-pub ruleset ranks = (rank-step, rank-below, rank-le_length)
-
 -- ---- slipping
 
 -- a number slips on by as many as are before the place that it gets to, and to none of them
@@ -124,7 +120,7 @@ slips_to number q (x ∷ numbers) up e = elim (cases_lt number x) [
   | inl h ↦
       let same : number ≡ q = rw (lt-ltb number x h) at e in
       let over = all_over q x numbers (omega arith) up.0 in
-      (rw (le-ltb x q (omega arith)) (omega (arith, (rank_none q numbers over).0)), not_among_later q (x ∷ numbers) (omega arith, over))
+      (rw (le-ltb x q (omega arith)) (omega (arith, rank_none q numbers over)), not_among_later q (x ∷ numbers) (omega arith, over))
   | inr h ↦
       let rest = slips_to (number + 1) q numbers up.1 (rw (le-ltb number x h) at e) in
       (rw (lt-ltb x q (omega (arith, rest.0))) (omega (arith, rest.0)), rw (ne_eqb x q (λ e. omega (arith, rest.0))) rest.1)
@@ -263,38 +259,43 @@ length-kept test a [] = refl
 length-kept test a (x ∷ xs) = let rest = length-kept test (a + 1) xs in elim (cases_Bool (test x)) [ inl out ↦ rw out (omega arith) | inr stays ↦ rw stays (omega arith) ]
 
 module _ {A : Type 0} (test : A → Bool) (xs : List A) where
-  pub is_marked_at : (i : ℕ) (x : A) → slice_get xs i ≡ Some x → has (indexes test 0 xs) i ≡ test x
-  is_marked_at i x at = ap (has (indexes test 0 xs)) (sym (zero_add i)) ∙ (index_passes test 0 i xs ∙ get_or_from_slice_get (map test xs) i (test x) false (slice_get-map test xs i ∙ ap (option_map test) at))
+  abbrev pub numbers : List ℕ
+  numbers = indexes test 0 xs
 
-  pub index_of : (i : ℕ) → has (indexes test 0 xs) i ≡ true → (x : A) × (slice_get xs i ≡ Some x) × (test x ≡ true)
-  index_of i h = passes_at test i xs (sym (index_passes test 0 i xs) ∙ (ap (has (indexes test 0 xs)) (zero_add i) ∙ h))
+  abbrev pub left : List A
+  left = filter (λ x. not (test x)) xs
 
-  up : IsAscending (indexes test 0 xs)
+  pub is_marked_at : (i : ℕ) (x : A) → slice_get xs i ≡ Some x → has numbers i ≡ test x
+  is_marked_at i x at = ap (has numbers) (sym (zero_add i)) ∙ (index_passes test 0 i xs ∙ get_or_from_slice_get (map test xs) i (test x) false (slice_get-map test xs i ∙ ap (option_map test) at))
+
+  pub index_of : (i : ℕ) → has numbers i ≡ true → (x : A) × (slice_get xs i ≡ Some x) × (test x ≡ true)
+  index_of i h = passes_at test i xs (sym (index_passes test 0 i xs) ∙ (ap (has numbers) (zero_add i) ∙ h))
+
+  up : IsAscending numbers
   up = indexes-ascend test 0 xs
 
   -- what is left of the front
-  pub length_front : (i : ℕ) → i ≤ length xs → length (filter (λ x. not (test x)) (take i xs)) + rank i (indexes test 0 xs) ≡ i
-  length_front zero h = omega (arith, rank-below 0 (indexes test 0 xs) up)
+  pub length_front : (i : ℕ) → i ≤ length xs → length (filter (λ x. not (test x)) (take i xs)) + rank i numbers ≡ i
+  length_front zero h = omega (arith, rank-below 0 numbers up)
   length_front (suc i) h =
       let one = within xs i (omega arith) in
       let same : get_or xs i one.0 ≡ one.0 = get_or_from_slice_get xs i one.0 one.0 one.1 in
       let next : suc i ≡ i + 1 = omega arith in
       let more = length-filter_more (λ x. not (test x)) xs i one.0 (omega arith) in
-      let ranks = rw (is_marked_at i one.0 one.1) at (rank_next i (indexes test 0 xs) up) in
+      let ranks = rw (is_marked_at i one.0 one.1) at (rank_next i numbers up) in
       rw next (elim (cases_Bool (test one.0)) [
         | inl out ↦ omega (arith, rw (same, out) at more, rw out at ranks, length_front i (omega arith))
         | inr stays ↦ omega (arith, rw (same, stays) at more, rw stays at ranks, length_front i (omega arith))
       ])
 
   -- where one that is left goes
-  pub goes : (i : ℕ) (x : A) → slice_get xs i ≡ Some x → test x ≡ false → slice_get (filter (λ x. not (test x)) xs) (i - rank i (indexes test 0 xs)) ≡ Some x
-  goes i x at stays = subst (λ k. slice_get (filter (λ x. not (test x)) xs) k ≡ Some x) (omega (arith, length_front i (omega (arith, slice_get_within xs i x at)))) (kept_to (λ x. not (test x)) i xs x at (rw stays refl))
+  pub goes : (i : ℕ) (x : A) → slice_get xs i ≡ Some x → test x ≡ false → slice_get left (i - rank i numbers) ≡ Some x
+  goes i x at stays = subst (λ k. slice_get left k ≡ Some x) (omega (arith, length_front i (omega (arith, slice_get_within xs i x at)))) (kept_to (λ x. not (test x)) i xs x at (rw stays refl))
 
   -- the k-th that is left
-  pub kth : (k : ℕ) → k < length (filter (λ x. not (test x)) xs) → (slipped k (indexes test 0 xs) < length xs) × (slice_get (filter (λ x. not (test x)) xs) k ≡ slice_get xs (slipped k (indexes test 0 xs)))
+  pub kth : (k : ℕ) → k < length left → (slipped k numbers < length xs) × (slice_get left k ≡ slice_get xs (slipped k numbers))
   kth k h =
-      let numbers = indexes test 0 xs in
       let to = slipped_to k numbers up in
       let inside : slipped k numbers < length xs = omega (arith, to.0, rank-le_length (slipped k numbers) numbers, length-kept test 0 xs) in
       let one = within xs (slipped k numbers) inside in
-      (inside, ap (slice_get (filter (λ x. not (test x)) xs)) (omega (arith, to.0)) ∙ (goes (slipped k numbers) one.0 one.1 (sym (is_marked_at (slipped k numbers) one.0 one.1) ∙ to.1) ∙ sym one.1))
+      (inside, ap (slice_get left) (omega (arith, to.0)) ∙ (goes (slipped k numbers) one.0 one.1 (sym (is_marked_at (slipped k numbers) one.0 one.1) ∙ to.1) ∙ sym one.1))
