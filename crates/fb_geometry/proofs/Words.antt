@@ -4,25 +4,25 @@ pub use Rattle.std.proofs.Common.{get_or, inl, inr, length, map, max, not, refl,
 pub use Rattle.std.proofs.Common.{true, zero, ℕ, ◌%◌, ◌*◌, ◌++◌, ◌+◌, ◌-◌, ◌/◌, ◌<◌, ◌^◌, ◌∙◌, ◌∷◌, ◌≡◌, ◌≢◌, ◌≤◌}
 pub use Rattle.std.proofs.Common.{◌⊎◌}
 pub use Rattle.std.proofs.Math.Nat.{add-mod_left, mod-add-mod, mod-eq_of_lt, mod-lt}
-pub use Rattle.std.proofs.lemmas.Bool.{and_from, and_parts, cases_Bool, cases_eq, cases_lt, cases_order, eq-eqb}
-pub use Rattle.std.proofs.lemmas.Bool.{eqb-false, eqb-true, le-leb, le-ltb, leb-true, lt-leb, lt-ltb, ltb-false}
-pub use Rattle.std.proofs.lemmas.Bool.{ltb-true, ne_eqb, not-false, not-true, or_cases, or_left, or_parts, or_right}
-pub use Rattle.std.proofs.lemmas.Bool.{true≢false}
+pub use Rattle.std.proofs.lemmas.Bool.{and_parts, cases_Bool, cases_lt, cases_order, eq-eqb, eqb-true, le-leb, le-ltb}
+pub use Rattle.std.proofs.lemmas.Bool.{leb-true, lt-leb, lt-ltb, ltb-false, ltb-true, ne_eqb, not-false, or_cases}
+pub use Rattle.std.proofs.lemmas.Bool.{or_left, or_parts, true≢false}
 pub use Rattle.std.proofs.lemmas.Bool.Decides.{nat_tests}
 pub use Rattle.std.proofs.lemmas.Iterator.{YieldsList-from_slice}
 pub use Rattle.std.proofs.lemmas.Iterator.Search.{any_from_yields_List, position_from_yields_List}
 pub use Rattle.std.proofs.lemmas.List.{append-nil, get_or-map, length-append, length-map, length-take, length-take-le}
 pub use Rattle.std.proofs.lemmas.List.{map-append, take-append-drop, take-take}
 pub use Rattle.std.proofs.lemmas.List.Elements.{All-append, All-filter, All-from_get_or, All-from_recursion}
-pub use Rattle.std.proofs.lemmas.List.Elements.{filter-append, filter_passes, recursion_from_All}
+pub use Rattle.std.proofs.lemmas.List.Elements.{filter-append, recursion_from_All}
 pub use Rattle.std.proofs.lemmas.List.Filters.{length-filter_both, length-filter_more}
 pub use Rattle.std.proofs.lemmas.List.Folds.{find_at, list_any_at}
 pub use Rattle.std.proofs.lemmas.List.FromFn.{length-map-range_with_len, length-range_with_len}
 pub use Rattle.std.proofs.lemmas.List.FromFn.{take-map-range_with_len}
 pub use Rattle.std.proofs.lemmas.List.Sorted.{All-permutation, Contains-permutation, IsNonDecreasingBy-drop}
 pub use Rattle.std.proofs.lemmas.List.Sorted.{IsPartitionPoint-from_clause, IsPartitionedBy-leb, IsPartitionedBy-ltb}
-pub use Rattle.std.proofs.lemmas.List.Sorted.{list_any-IsPermutation, IsPermutation-map, IsPermutation-sym, sorted_far, sum_by-IsPermutation}
-pub use Rattle.std.proofs.lemmas.List.Sums.{count_by-le-length, fails_before_first, length-filter, sum_by-le-sum_by}
+pub use Rattle.std.proofs.lemmas.List.Sorted.{IsPermutation-map, IsPermutation-sym, list_any-IsPermutation}
+pub use Rattle.std.proofs.lemmas.List.Sorted.{sorted_far, sum_by-IsPermutation}
+pub use Rattle.std.proofs.lemmas.List.Sums.{count_by-le-length, fails_before_first, length-filter}
 pub use Rattle.std.proofs.lemmas.Map.Keys.{IsDistinct-IsPermutation}
 pub use Rattle.std.proofs.lemmas.Nat.{div-add-mod', div-mul-add, div_below, le-div, mod-mul-add, mul-add-lt, mul-le}
 pub use Rattle.std.proofs.lemmas.Option.{get_or_from_slice_get, none-some, same_Some, slice_get-get_or, slice_get-map}
@@ -45,8 +45,8 @@ unfoldable pub use Rattle.fb_geometry.specs.Faults.{first_fault}
 pub use Rattle.fb_geometry.specs.Faults.{is_bad_zone, is_full_cylinder, is_full_track, is_out_of_range, is_outside}
 pub use Rattle.fb_geometry.specs.Faults.{is_place_before, is_too_skewed, is_track_before, least, lesser, or_else}
 pub use Rattle.fb_geometry.specs.Faults.{range_fault, repeated, spare_fault, spares_at, with_repeated}
-pub use Rattle.fb_geometry.specs.Index.{Answers, HasZones, IsFaultless, IsGoodOf, IsIndexed, IsKept, JudgesSpares}
-pub use Rattle.fb_geometry.specs.Index.{defect_fault, good_before, grown_fault, zone_fault}
+pub use Rattle.fb_geometry.specs.Index.{Answers, HasZones, IsFaultless, IsGoodOf, IsIndexed, JudgesSpares}
+pub use Rattle.fb_geometry.specs.Index.{defect_fault, grown_fault, zone_fault}
 pub use Rattle.fb_geometry.specs.Marks.{AreInOrder, AreMarksOf, AreSorted, among_unmarked, is_mark_before, mark_of}
 pub use Rattle.fb_geometry.specs.Marks.{marks_on, positions, same_mark}
 pub use Rattle.fb_geometry.specs.Places.{by_head, data_list, data_list_at, data_list_by, good_track, list_among}
@@ -55,7 +55,7 @@ unfoldable pub use Rattle.fb_geometry.specs.Places.{places}
 pub use Rattle.fb_geometry.specs.Shape.{Shape, cylinders_of, is_among, offset_at, offset_in, same_place, slots_at}
 pub use Rattle.fb_geometry.specs.Shape.{turn_position}
 pub use Rattle.fb_geometry.specs.Slips.{HoldsNone, HoldsSector, IsAscending, Pairwise, entry_of_sector, indexes, rank}
-pub use Rattle.fb_geometry.specs.Slips.{slipped, with_index}
+pub use Rattle.fb_geometry.specs.Slips.{slipped}
 pub use Rattle.fb_geometry.specs.Sound.{HasOwnPlaces, IsCylinderOf, IsSound, LiesOn, cylinder_size_by}
 pub use Rattle.fb_geometry.specs.Stretches.{IsStretch, KeepsOrder}
 pub use Rattle.fb_geometry.specs.Turns.{AreZoneNumbers, IsZone, IsZoneAt, IsZoneOf, NumbersZone, cylinder_slots}
