@@ -212,7 +212,6 @@ impl Geometry {
     }
 
     /// The slot from which the sectors of a track are counted.
-    #[tactic(auto, using(crate::proofs::Faultless::offset_at_zone))]
     pub fn offset(&self, track: Track) -> u32
         requires cylinder { track.cylinder < cylinders_of self.now.zones }
         requires head { track.head < self.now.heads }
