@@ -1,5 +1,6 @@
 -- A run behind the fewest runs joins the last of them, or becomes a run of its own.
-use Rattle.std.proofs.Common.{◌≡◌, ℕ, ◌+◌, ◌<◌, List, [], ◌∷◌, ◌++◌, refl, true, false, true≢false, Bool, cond, arith, sym, ap, ap₂, ◌∙◌, ◌&&◌, ◌==◌, suc, zero, eqb→eq, length, get_or, set}
+use Rattle.std.proofs.Common.{◌≡◌, ℕ, ◌+◌, ◌<◌, List, [], ◌∷◌, ◌++◌, refl, true, false, true≢false, Bool, cond, arith, sym, ap, ap₂, ◌∙◌, ◌&&◌, ◌==◌, suc, zero, eqb→eq, length, get_or, set, Some, slice_get}
+use Rattle.std.proofs.lemmas.Option.{get_or_from_slice_get}
 use Rattle.fb_store.specs.declared.content.Content.{Content}
 use Rattle.fb_store.specs.declared.content.ContentRun.{ContentRun}
 use Rattle.fb_store.specs.Runs.{same_content, with_content, runs_of, sectors_of, sectors_in, joins, last_joins}
@@ -87,8 +88,13 @@ pub pushed_last : (runs : List ContentRun) (run : ContentRun) → 0 < run.count 
     → runs ++ run ∷ [] ≡ runs_of (sectors_of runs ++ sectors_in run)
 pushed_last runs run some fewest apart = push_last runs run apart ∙ (ap (λ rs. glued rs run) fewest ∙ sym (glue (sectors_of runs) run some))
 
-pub joins-first : (a b : ContentRun) → joins a b ≡ true → b.first ≡ a.first + a.count
+joins-first : (a b : ContentRun) → joins a b ≡ true → b.first ≡ a.first + a.count
 joins-first a b joined = eqb→eq b.first (a.first + a.count) (so (b.first == a.first + a.count) (left (b.first == a.first + a.count) (same_content a.content b.content) joined))
+
+-- a run that continues the last one begins where that ends
+pub joined-first : (runs : List ContentRun) (n : ℕ) (last run : ContentRun) → length runs ≡ n + 1 → slice_get runs n ≡ Some last → last_joins runs run ≡ true → run.first ≡ last.first + last.count
+joined-first runs n last run size at joined =
+    joins-first last run (sym (last_joins-at runs n last run size ∙ ap (λ r. joins r run) (get_or_from_slice_get runs n last last at)) ∙ joined)
 
 -- the fewest runs of some sectors are the fewest runs of the sectors that they have
 pub fewest-again : (sectors : List (ℕ × Content)) (runs : List ContentRun) → runs ≡ runs_of sectors → (sectors_of runs ≡ sectors) × (runs ≡ runs_of (sectors_of runs))

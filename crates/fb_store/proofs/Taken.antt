@@ -151,11 +151,6 @@ added_more content_of start runs more first lbn next from to so_far added =
 some_one : {X : Type 0} (x y : X) → Some x ≡ Some y → x ≡ y
 some_one x y e = grind arith
 
-pub all_at : (P : ContentRun → Type 0) (runs : List ContentRun) (i : ℕ) (run : ContentRun) → AllByRecursion P runs → slice_get runs i ≡ Some run → P run
-all_at P [] i run all at = absurd (grind arith)
-all_at P (first ∷ runs) zero run all at = subst P (some_one first run at) all.0
-all_at P (first ∷ runs) (suc i) run all at = all_at P runs i run all.1 at
-
 -- the first i + 1 elements of a list are the first i and the one behind them
 pub take_one : (runs : List ContentRun) (i : ℕ) (run : ContentRun) → slice_get runs i ≡ Some run → take (i + 1) runs ≡ take i runs ++ run ∷ []
 take_one [] i run at = absurd (grind arith)

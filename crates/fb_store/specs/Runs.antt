@@ -1,9 +1,13 @@
 -- The contents of sectors as runs.
-use Rattle.std.specs.Prelude.{◌≡◌, ◌≤◌, ◌<◌, ℕ, ◌+◌, List, [], ◌∷◌, Bool, true, false, ◌&&◌, ◌==◌, map, if◌then◌else◌}
+use Rattle.std.specs.Prelude.{◌≡◌, ◌≤◌, ◌<◌, ℕ, ◌+◌, ◌^◌, List, [], ◌∷◌, Bool, true, false, ◌&&◌, ◌==◌, map, if◌then◌else◌}
 use Rattle.std.specs.List.{sum_by, flat_map, range_with_len}
 use Rattle.fb_store.specs.declared.content.Content.{Content}
 use Rattle.fb_store.specs.declared.content.Content.TheVariants.{Filled, Unreadable}
 use Rattle.fb_store.specs.declared.content.ContentRun.{ContentRun}
+
+-- the sectors of the run lie below 10^12
+abbrev pub IsInRange : ContentRun → Type 0
+IsInRange run = run.first + run.count ≤ 10 ^ 12
 
 -- two contents are the same
 abbrev pub same_content : Content → Content → Bool

@@ -2,7 +2,7 @@
 ghost use Rattle.std.specs.Prelude.{◌≡◌, ℕ, List, [], ◌+◌, ◌-◌, ◌<◌, ◌≤◌, ◌^◌, ◌++◌, None, IfOk, OnOk, OnErr};
 ghost use Rattle.std.specs.Ordering.{nat_cmp};
 ghost use Rattle.std.specs.BTreeMap.{get};
-ghost use Rattle.std.specs.List.{AllByRecursion, range_with_len};
+ghost use Rattle.std.specs.List.{range_with_len};
 ghost use Rattle.fb_store.specs.declared.content.Content.{Content};
 ghost use Rattle.fb_store.specs.Index.{held_of, held_at, AreCut};
 ghost use Rattle.fb_store.specs.Sparse.{after_taking, Gives, EndsBy, after_take, after_dropping, held_in};
@@ -51,7 +51,6 @@ impl SparseContents {
     /// Each sector of the runs holds from now on what the last run that has it says, and all other
     /// sectors stay as they are. Out of memory, it returns `NoMemory` and no content has changed.
     pub fn take(&mut self, contents: &Contents) -> Result<(), NoMemory>
-        requires { AllByRecursion (λ run. run.first + run.count ≤ 10 ^ 12) contents.now }
         ensures ok { OnOk result ((lbn : ℕ) → held_at self.new lbn ≡ after_taking (sectors_of contents.now) lbn (held_at self.old lbn)) }
         ensures given { OnOk result ((content_of : ℕ → Content) (first n lbn : ℕ) → Gives contents.now content_of first n → held_at self.new lbn ≡ after_take content_of first n lbn (held_at self.old lbn)) }
         ensures err { OnErr result ((lbn : ℕ) → held_at self.new lbn ≡ held_at self.old lbn) }
@@ -137,7 +136,6 @@ fn cut_runs(
     ranges: &mut BTreeMap<u64, Option<Content>>,
     contents: &Contents,
 ) -> Result<(), NoMemory>
-    requires { AllByRecursion (λ run. run.first + run.count ≤ 10 ^ 12) contents.now }
     ensures same { (lbn : ℕ) → held_of (get nat_cmp ranges.new) lbn ≡ held_of (get nat_cmp ranges.old) lbn }
     ensures begins { OnOk result (AreCut (get nat_cmp ranges.new) contents.now) }
 {
@@ -151,9 +149,9 @@ fn cut_runs(
 
 // Gives the sectors of each run the content of that run.
 fn assign_runs(ranges: &mut BTreeMap<u64, Option<Content>>, contents: &Contents)
-    requires runs { AllByRecursion (λ run. run.first + run.count ≤ 10 ^ 12) contents.now }
-    requires begins { AreCut (get nat_cmp ranges.old) contents.now }
-    ensures { (lbn : ℕ) → held_of (get nat_cmp ranges.new) lbn ≡ after_taking (sectors_of contents.now) lbn (held_of (get nat_cmp ranges.old) lbn) }
+    requires { AreCut (get nat_cmp ranges.old) contents.now }
+    ensures past { EndsBy (held_of (get nat_cmp ranges.old)) (10 ^ 12) → EndsBy (held_of (get nat_cmp ranges.new)) (10 ^ 12) }
+    ensures value { (lbn : ℕ) → held_of (get nat_cmp ranges.new) lbn ≡ after_taking (sectors_of contents.now) lbn (held_of (get nat_cmp ranges.old) lbn) }
 {
     for i in 0..contents.len() {
         let run = contents.get(i);

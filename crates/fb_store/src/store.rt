@@ -2,7 +2,7 @@
 ghost use Rattle.std.specs.Prelude.{◌≡◌, ℕ, List, ◌+◌, ◌<◌, ◌≤◌, ◌^◌, true, false, map, IfOk, OnOk, OnErr};
 ghost use Rattle.std.specs.Ordering.{nat_cmp};
 ghost use Rattle.std.specs.BTreeSet.{contains, IsFromIterResult};
-ghost use Rattle.std.specs.List.{range_with_len, sum_by, AllByRecursion};
+ghost use Rattle.std.specs.List.{range_with_len, sum_by};
 ghost use Rattle.fb_store.specs.declared.content.Content.{Content};
 ghost use Rattle.fb_store.specs.Writes.{unwritten, after_write};
 ghost use Rattle.fb_store.specs.Index.{content_in};
@@ -73,7 +73,6 @@ impl Store {
         requires { first + count ≤ 10 ^ 12 }
         ensures fewest { IfOk result (λ runs. runs ≡ runs_of (map (λ lbn. (lbn, content_in self.now lbn)) (range_with_len first count))) }
         ensures whole { IfOk result (λ runs. sum_by (λ run. run.count) runs ≡ count) }
-        ensures ranges { IfOk result (λ runs. AllByRecursion (λ run. run.first + run.count ≤ 10 ^ 12) runs) }
     {
         let end = first + count as u64;
         let mut runs = Contents::new(alloc);

@@ -1,4 +1,4 @@
-use Rattle.std.proofs.Common.{◌+◌}
+use Rattle.std.proofs.Common.{◌+◌, ◌∙◌, arith}
 use Rattle.std.specs.Ordering.{nat_cmp}
 use Rattle.std.specs.BTreeMap.{get}
 use Rattle.fb_store.specs.Index.{held_of}
@@ -6,12 +6,13 @@ use Rattle.fb_store.proofs.Taken.{taken_more, take_one}
 use Rattle.fb_store.proofs.sparse.assign_runs.Goals as goal
 
 pub assign-requires-clause-ends : goal.assign-requires-clause-ends
-assign-requires-clause-ends c = (c.loop-i.invariant.begins c.loop-i.i c.get-run.result c.get-run.ensures).1
+assign-requires-clause-ends c = (c.loop-i.invariant.begins c.loop-i.i c.get-run.result c.get-run.ensures.value).1
 
 pub loop-i-preserved : goal.loop-i-preserved
 loop-i-preserved c = record {
+  past = λ ends lbn le. let range = c.get-run.ensures.range in c.assign.ensures.after lbn (omega arith) ∙ c.loop-i.invariant.past ends lbn le;
   begins = λ i run at. let before = c.loop-i.invariant.begins i run at in (c.assign.ensures.keeps run.first before.0, c.assign.ensures.keeps (run.first + run.count) before.1);
   so_far = λ lbn. taken_more c.args.contents.now c.loop-i.i c.get-run.result lbn (held_of (get nat_cmp c.args.ranges.now) lbn) (held_of (get nat_cmp c.loop-i.ranges) lbn) (held_of (get nat_cmp c.assign.new.ranges) lbn)
-      (take_one c.args.contents.now c.loop-i.i c.get-run.result c.get-run.ensures) (c.loop-i.invariant.so_far lbn)
+      (take_one c.args.contents.now c.loop-i.i c.get-run.result c.get-run.ensures.value) (c.loop-i.invariant.so_far lbn)
       (c.assign.ensures.inside lbn) (c.assign.ensures.before lbn) (c.assign.ensures.after lbn);
 }

@@ -26,13 +26,13 @@ next runs i run there = sum_by_more bad_in runs i run (slice_get_within runs i r
 pub overflow_add-bad : goal.overflow_add-bad
 overflow_add-bad c =
     let so_far : c.loop-i.bad ≡ sum_by bad_in (take c.loop-i.i c.args.self.now) = c.loop-i.invariant in
-    omega (arith, c.requires, so_far, c.unreadable-bad.ensures, one_more c.args.self.now c.loop-i.i c.get.result c.get.ensures)
+    omega (arith, c.requires, so_far, c.unreadable-bad.ensures, one_more c.args.self.now c.loop-i.i c.get.result c.get.ensures.value)
 
 pub loop-i-preserved : goal.loop-i-preserved
 loop-i-preserved c =
     let so_far : c.loop-i.bad ≡ sum_by bad_in (take c.loop-i.i c.args.self.now) = c.loop-i.invariant in
     let more : c.loop-i.bad + c.unreadable-bad.result ≡ sum_by bad_in (take (c.loop-i.i + 1) c.args.self.now) =
-    omega (arith, so_far, c.unreadable-bad.ensures, next c.args.self.now c.loop-i.i c.get.result c.get.ensures) in
+    omega (arith, so_far, c.unreadable-bad.ensures, next c.args.self.now c.loop-i.i c.get.result c.get.ensures.value) in
     more
 
 pub returns-clause-most : goal.returns-clause-most

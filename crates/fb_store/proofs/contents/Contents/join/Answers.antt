@@ -1,17 +1,22 @@
 use Rattle.std.proofs.Common.{sym, ap, ◌∙◌, ◌-◌, arith, set}
 use Rattle.std.proofs.lemmas.Option.{get_or_from_slice_get}
 use Rattle.std.proofs.lemmas.Result.{on_ok_weaker}
-use Rattle.fb_store.specs.Runs.{joins}
-use Rattle.fb_store.proofs.Joined.{joined_last, pushed_last, last_joins-at, joins-first, longer, some_run}
+use Rattle.fb_store.proofs.Joined.{joined_last, pushed_last, joined-first, longer, some_run}
 use Rattle.fb_store.proofs.contents.Contents.join.Goals as goal
 
 pub overflow_add-longer : goal.overflow_add-longer
 overflow_add-longer c =
     let goes_on = sym c.goes_on.ensures ∙ c.if-not-goes_on.false in
     let size = some_run c.args.self.now c.args.run goes_on in
-    let last = get_or_from_slice_get c.args.self.now (c.len-last.result - 1) c.get-longer.result c.get-longer.result c.get-longer.ensures in
-    let joined = sym (last_joins-at c.args.self.now (c.len-last.result - 1) c.get-longer.result c.args.run (omega arith) ∙ ap (λ run. joins run c.args.run) last) ∙ goes_on in
-    let first = joins-first c.get-longer.result c.args.run joined in
+    let first = joined-first c.args.self.now (c.len-last.result - 1) c.get-longer.result c.args.run (omega arith) c.get-longer.ensures.value goes_on in
+    let range = c.requires.range in
+    omega arith
+
+pub set-requires-clause-range : goal.set-requires-clause-range
+set-requires-clause-range c =
+    let goes_on = sym c.goes_on.ensures ∙ c.if-not-goes_on.false in
+    let size = some_run c.args.self.now c.args.run goes_on in
+    let first = joined-first c.args.self.now (c.len-last.result - 1) c.get-longer.result c.args.run (omega arith) c.get-longer.ensures.value goes_on in
     let range = c.requires.range in
     omega arith
 
@@ -19,7 +24,7 @@ pub returns-clause-ok : goal.returns-clause-ok
 returns-clause-ok c =
     let goes_on = sym c.goes_on.ensures ∙ c.if-not-goes_on.false in
     let size = some_run c.args.self.now c.args.run goes_on in
-    let last = get_or_from_slice_get c.args.self.now (c.len-last.result - 1) c.get-longer.result c.get-longer.result c.get-longer.ensures in
+    let last = get_or_from_slice_get c.args.self.now (c.len-last.result - 1) c.get-longer.result c.get-longer.result c.get-longer.ensures.value in
     on_ok_weaker c.set.result
     (λ set_to. set_to ∙ (ap (λ run. set c.args.self.now (c.len-last.result - 1) (longer run c.args.run)) (sym last)
     ∙ joined_last c.args.self.now (c.len-last.result - 1) c.get-longer.result c.args.run (omega arith) c.requires.some c.requires.fewest goes_on))

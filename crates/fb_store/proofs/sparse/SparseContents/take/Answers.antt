@@ -1,8 +1,8 @@
-use Rattle.std.proofs.Common.{ap, ◌∙◌, ◌^◌, Result, Ok, Err, OnErr}
+use Rattle.std.proofs.Common.{ap, ◌∙◌, Result, Ok, Err, OnErr}
 use Rattle.fb_store.specs.Sparse.{after_taking}
 use Rattle.fb_store.specs.Index.{held_at}
 use Rattle.fb_store.specs.Runs.{sectors_of}
-use Rattle.fb_store.proofs.Taken.{taken_block, taken_past}
+use Rattle.fb_store.proofs.Taken.{taken_block}
 use Rattle.fb_store.proofs.sparse.SparseContents.take.Goals as goal
 
 on_err : {T E P : Type 0} (r : Result T E) → P → OnErr r P
@@ -10,7 +10,7 @@ on_err (Ok x) p = tt
 on_err (Err e) p = p
 
 pub returns-clause-ok : goal.returns-clause-ok
-returns-clause-ok c lbn = c.assign_runs.ensures lbn
+returns-clause-ok c lbn = c.assign_runs.ensures.value lbn
     ∙ ap (after_taking (sectors_of c.args.contents.now) lbn) (c.in_ok-cut_runs.ensures.same lbn ∙ ap (λ ranges. held_at ranges lbn) c.self.view_is)
 
 pub returns-in_err-cut_runs-clause-err : goal.returns-in_err-cut_runs-clause-err
@@ -23,5 +23,4 @@ pub invariant_of-self : goal.invariant_of-self
 invariant_of-self c lbn past = c.cut_runs.ensures.same lbn ∙ c.self.invariant lbn past
 
 pub invariant_of-self-2 : goal.invariant_of-self-2
-invariant_of-self-2 c lbn past = c.assign_runs.ensures lbn
-    ∙ (taken_past (10 ^ 12) lbn c.args.contents.now (held_at c.cut_runs.new.ranges.entries lbn) c.requires past ∙ (c.cut_runs.ensures.same lbn ∙ c.self.invariant lbn past))
+invariant_of-self-2 c = c.assign_runs.ensures.past (λ lbn past. c.cut_runs.ensures.same lbn ∙ c.self.invariant lbn past)

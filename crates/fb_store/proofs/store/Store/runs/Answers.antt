@@ -1,8 +1,8 @@
-use Rattle.std.proofs.Common.{◌≤◌, ◌+◌, sym, ap, ◌∙◌, arith, ◌^◌, subst}
-use Rattle.std.specs.List.{sum_by, AllByRecursion}
+use Rattle.std.proofs.Common.{◌+◌, ap, ◌∙◌, arith}
+use Rattle.std.specs.List.{sum_by}
 use Rattle.fb_store.specs.declared.content.ContentRun.{ContentRun}
 use Rattle.fb_store.specs.Index.{content_in}
-use Rattle.fb_store.proofs.Longest.{one_more, all_runs, sum_by-runs_of-held, ends-runs_of-held}
+use Rattle.fb_store.proofs.Longest.{one_more, all_runs, sum_by-runs_of-held}
 use Rattle.fb_store.proofs.store.Store.runs.Goals as goal
 
 pub loop-lbn-preserved : goal.loop-lbn-preserved
@@ -19,7 +19,3 @@ loop-lbn-preserved c =
 pub returns-clause-whole : goal.returns-clause-whole
 returns-clause-whole c = ap (sum_by (λ (run : ContentRun). run.count)) (all_runs (content_in c.args.self.now) c.loop-lbn.lbn (c.args.first + c.args.count) c.loop-lbn.runs (c.loop-lbn-test.false) ∙ c.loop-lbn.invariant.so_far)
     ∙ sum_by-runs_of-held (content_in c.args.self.now) c.args.first c.args.count
-
-pub returns-clause-ranges : goal.returns-clause-ranges
-returns-clause-ranges c = subst (AllByRecursion (λ (run : ContentRun). run.first + run.count ≤ 10 ^ 12)) (sym (all_runs (content_in c.args.self.now) c.loop-lbn.lbn (c.args.first + c.args.count) c.loop-lbn.runs (c.loop-lbn-test.false) ∙ c.loop-lbn.invariant.so_far))
-    (ends-runs_of-held (content_in c.args.self.now) c.args.first c.args.count (10 ^ 12) c.requires)
