@@ -1,6 +1,6 @@
 // The image of a backup: the contents that it has taken.
 ghost use Rattle.std.specs.Prelude.{◌≡◌, ℕ, ◌+◌, ◌≤◌, ◌^◌, None, IfOk, OnOk, OnErr};
-ghost use Rattle.std.specs.List.{AllByRecursion, range_with_len};
+ghost use Rattle.std.specs.List.{range_with_len};
 ghost use Rattle.fb_store.specs.declared.content.Content.{Content};
 ghost use Rattle.fb_store.specs.Index.{held_at};
 ghost use Rattle.fb_store.specs.Sparse.{Gives, EndsBy, after_take, after_dropping, held_in};
@@ -43,7 +43,6 @@ impl Image {
     ///
     /// The only error is out of memory; the image then holds what it held before.
     pub fn take(&mut self, block: Block, content: &Contents) -> Result<(), NoMemory>
-        requires ranges { AllByRecursion (λ run. run.first + run.count ≤ 10 ^ 12) content.now }
         requires covers { (content_of : ℕ → Content) × Gives content.now content_of block.lbn block.count }
         ensures ok { OnOk result ((content_of : ℕ → Content) (lbn : ℕ) → Gives content.now content_of block.lbn block.count → held_at self.new lbn ≡ after_take content_of block.lbn block.count lbn (held_at self.old lbn)) }
         ensures err { OnErr result ((lbn : ℕ) → held_at self.new lbn ≡ held_at self.old lbn) }

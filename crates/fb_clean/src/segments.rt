@@ -133,7 +133,6 @@ impl Segments {
     ///
     /// The only error is out of memory; what was kept before then stays as it was.
     pub fn take(&mut self, block: Block, content: &Contents) -> Result<(), NoMemory>
-        requires ranges { AllByRecursion (λ run. run.first + run.count ≤ 10 ^ 12) content.now }
         requires covers { (content_of : ℕ → Content) × Gives content.now content_of block.lbn block.count }
         requires chosen { self.old.unfinished ≢ None }
         ensures same { (self.new.block ≡ self.old.block) × (self.new.segments ≡ self.old.segments) × (self.new.unfinished ≡ self.old.unfinished) }

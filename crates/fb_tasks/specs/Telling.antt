@@ -9,7 +9,6 @@ use Rattle.fb_wanted.specs.declared.block.Entry.{Entry}
 use Rattle.fb_wanted.specs.declared.block.Change.TheVariants.{Deliver}
 use Rattle.fb_wanted.specs.States.{after}
 use Rattle.fb_rows.specs.declared.back.DeliveryRow.{DeliveryRow}
-use Rattle.fb_rows.specs.Ranges.{AreRanges}
 use Rattle.fb_store.specs.declared.content.Content.{Content}
 use Rattle.fb_store.specs.Sparse.{Gives}
 use Rattle.fb_model.specs.History.{tested, Past, tasks, task_numbers, registered, wanted}
@@ -62,7 +61,6 @@ pub record MayDeliver (disk : Shape) (past : Past) (sessions : List Session) (en
   pub wanted : slice_get (wanted past) place ≡ Some got.block
   pub content_at : ℕ → Content
   pub content : Gives got.content content_at got.block.lbn got.block.count
-  pub ranges : AreRanges got.content
 
 -- this is the session of the delivered block's task, and the wanted set has the block delivered
 pub record Delivers (disk : Shape) (past : Past) (sessions : List Session) (held : List Entry) (got : DeliveryRow) (session : Session) (now : List Entry) : Type 0 where

@@ -1,6 +1,6 @@
 // What a delivery leaves in a session, and its findings.
 ghost use Rattle.std.specs.Prelude.{◌≡◌, ◌≢◌, ℕ, List, [], ◌∷◌, ◌++◌, ◌+◌, ◌≤◌, ◌^◌, None, map, true, IfOk, OnOk, OnErr, if◌then◌else◌};
-ghost use Rattle.std.specs.List.{AllByRecursion, range_with_len};
+ghost use Rattle.std.specs.List.{range_with_len};
 ghost use Rattle.fb_calls.specs.Sessions.{is_backup, is_clean};
 ghost use Rattle.fb_store.specs.declared.content.Content.{Content};
 ghost use Rattle.fb_store.specs.Sparse.{Gives};
@@ -54,7 +54,6 @@ impl Session {
 
     // Keeps what a delivered block holds, where the session's rows will give it.
     fn take(&mut self, block: Block, content: &Contents) -> Result<(), NoMemory>
-        requires ranges { AllByRecursion (λ run. run.first + run.count ≤ 10 ^ 12) content.now }
         requires covers { (content_at : ℕ → Content) × Gives content.now content_at block.lbn block.count }
         requires chosen { is_clean self.old.kind ≡ true → self.old.log.unfinished ≢ None }
         ensures { OnOk result ((content_at : ℕ → Content) → Gives content.now content_at block.lbn block.count → HasTaken content_at block self.old self.new) }
@@ -68,7 +67,6 @@ impl Session {
 
     // The sectors of a scrub's delivery that can't be read, ascending.
     fn findings(&self, alloc: Global, got: &DeliveryRow) -> Result<Vec<u64>, NoMemory>
-        requires { AllByRecursion (λ run. run.first + run.count ≤ 10 ^ 12) got.now.content }
         ensures { IfOk result (λ lbns. lbns.items ≡ if is_scrub self.now.kind then bad_sectors got.now.content else []) }
     {
         match self.kind {
@@ -80,7 +78,6 @@ impl Session {
 
 // The sectors that can't be read.
 fn bad_sectors(alloc: Global, content: &Contents) -> Result<Vec<u64>, NoMemory>
-    requires { AllByRecursion (λ run. run.first + run.count ≤ 10 ^ 12) content.now }
     ensures { IfOk result (λ lbns. lbns.items ≡ bad_sectors content.now) }
 {
     let mut lbns = Vec::new(alloc);
