@@ -5,7 +5,6 @@ ghost use Rattle.fb_report.specs.declared.bytes.Bytes.{Bytes};
 ghost use Rattle.fb_report.specs.Back.{back_first, back_last, back_lines, back_text};
 ghost use Rattle.fb_report.specs.Grammar.{back_grammar};
 ghost use Rattle.fb_report.specs.Printed.{AreNames, CountsSectors, IsLine, IsReadBack, is_first, is_in_place, is_last};
-ghost use Rattle.fb_rows.specs.Ranges.{HasBackRanges};
 ghost use Rattle.fb_rows.specs.Tasks.{HasNamedTask};
 
 use crate::Bytes;
@@ -36,7 +35,6 @@ pub fn back_piece(
     k: u64,
 ) -> Result<Vec<u8>, NoMemory>
     requires whole { sector_bytes % 16 ≡ 0 }
-    requires ranges { AllByRecursion HasBackRanges run.now.back }
     requires named { AllByRecursion (HasNamedTask names.now) run.now.back }
     requires piece { k < length run.now.back + 2 }
     ensures value { IfOk result (λ line. slice_get (back_lines names.now sector_bytes bytes run.now) k ≡ Some line.items) }
@@ -62,7 +60,6 @@ pub fn back_text(
     bytes: Bytes,
 ) -> Result<Vec<u8>, NoMemory>
     requires whole { sector_bytes % 16 ≡ 0 }
-    requires ranges { AllByRecursion HasBackRanges run.now.back }
     requires named { AllByRecursion (HasNamedTask names.now) run.now.back }
     ensures value { IfOk result (λ text. text.items ≡ back_text names.now sector_bytes bytes run.now) }
     ensures read { OnOk result (0 < sector_bytes → AreNames names.now → AllByRecursion CountsSectors run.now.back → IsReadBack back_grammar (back_lines names.now sector_bytes bytes run.now)) }

@@ -5,7 +5,6 @@ ghost use Rattle.fb_report.specs.Lines.{with_fields};
 ghost use Rattle.fb_report.specs.Back.{back_line, bad_line, complete_line, gap_fields, gap_line, got_fields, got_line, how_text, idle_line, is_complete_text, plan_fields, seal_line, segment_fields, segment_line, task_fields, task_kind_text, task_line};
 ghost use Rattle.fb_report.specs.Grammar.{are_bytes, back_grammar, is_number, is_track, is_word};
 ghost use Rattle.fb_report.specs.Printed.{AreNames, AreOneOf, CountsSectors, HasSectors, IsField, IsLine, is_row};
-ghost use Rattle.fb_rows.specs.Ranges.{AreRanges, HasBackRanges};
 ghost use Rattle.fb_rows.specs.Tasks.{HasNamedTask};
 
 use crate::Bytes;
@@ -30,7 +29,6 @@ pub fn back_line(
     bytes: Bytes,
 ) -> Result<Vec<u8>, NoMemory>
     requires whole { sector_bytes % 16 ≡ 0 }
-    requires ranges { HasBackRanges row.now }
     requires named { HasNamedTask names.now row.now }
     ensures value { IfOk result (λ line. line.items ≡ back_line names.now sector_bytes bytes row.now) }
     ensures form { IfOk result (λ line. 0 < sector_bytes → AreNames names.now → CountsSectors row.now → IsLine (is_row back_grammar) line.items) }
@@ -104,7 +102,6 @@ fn got_line(
     bytes: Bytes,
 ) -> Result<Vec<u8>, NoMemory>
     requires whole { sector_bytes % 16 ≡ 0 }
-    requires ranges { AreRanges row.now.content }
     requires named { row.now.block.task < length names.now }
     ensures value { IfOk result (λ line. line.items ≡ got_line names.now sector_bytes bytes row.now) }
     ensures form { IfOk result (λ line. 0 < sector_bytes → AreNames names.now → HasSectors row.now.content → IsLine (is_row back_grammar) line.items) }
@@ -166,7 +163,6 @@ fn seal_line(
     bytes: Bytes,
 ) -> Result<Vec<u8>, NoMemory>
     requires whole { sector_bytes % 16 ≡ 0 }
-    requires ranges { AreRanges row.now.content }
     requires named { row.now.task < length names.now }
     ensures value { IfOk result (λ line. line.items ≡ seal_line names.now sector_bytes bytes row.now) }
     ensures form { IfOk result (λ line. AreNames names.now → sum_by (λ run. run.count) row.now.content < 2 ^ 64 → IsLine (is_row back_grammar) line.items) }
@@ -188,7 +184,6 @@ fn segment_line(
     bytes: Bytes,
 ) -> Result<Vec<u8>, NoMemory>
     requires whole { sector_bytes % 16 ≡ 0 }
-    requires ranges { AreRanges row.now.content }
     requires named { row.now.task < length names.now }
     ensures value { IfOk result (λ line. line.items ≡ segment_line names.now sector_bytes bytes row.now) }
     ensures form { IfOk result (λ line. AreNames names.now → IsLine (is_row back_grammar) line.items) }

@@ -4,7 +4,6 @@ ghost use Rattle.std.specs.List.{sum_by};
 ghost use Rattle.fb_report.specs.declared.bytes.Bytes.{Bytes};
 ghost use Rattle.fb_report.specs.Shown.{shown};
 ghost use Rattle.fb_report.specs.Back.{digest_text};
-ghost use Rattle.fb_rows.specs.Ranges.{AreRanges};
 
 use crate::Bytes;
 use crate::sectors::pour;
@@ -25,7 +24,6 @@ pub fn shown(
     bytes: Bytes,
 ) -> Result<Vec<u8>, NoMemory>
     requires whole { sector_bytes % 16 ≡ 0 }
-    requires ranges { AreRanges contents.now }
     ensures { IfOk result (λ field. field.items ≡ shown bytes sector_bytes contents.now) }
 {
     match bytes {
@@ -43,7 +41,6 @@ pub fn shown_digest(
     bytes: Bytes,
 ) -> Result<Vec<u8>, NoMemory>
     requires whole { sector_bytes % 16 ≡ 0 }
-    requires ranges { AreRanges contents.now }
     ensures { IfOk result (λ field. field.items ≡ digest_text bytes sector_bytes contents.now) }
 {
     match bytes {
@@ -54,7 +51,6 @@ pub fn shown_digest(
 
 /// How many sectors there are.
 pub fn sectors(contents: &Contents) -> u128
-    requires ranges { AreRanges contents.now }
     ensures { result ≡ sum_by (λ run. run.count) contents.now }
 {
     let mut sectors = 0;
@@ -66,7 +62,6 @@ pub fn sectors(contents: &Contents) -> u128
 
 fn digest(alloc: Global, contents: &Contents, sector_bytes: u32) -> Result<Vec<u8>, NoMemory>
     requires whole { sector_bytes % 16 ≡ 0 }
-    requires ranges { AreRanges contents.now }
     ensures { IfOk result (λ field. field.items ≡ shown Bytes.Digest sector_bytes contents.now) }
 {
     let mut hasher = Sha256::new();
@@ -78,7 +73,6 @@ fn digest(alloc: Global, contents: &Contents, sector_bytes: u32) -> Result<Vec<u
 
 fn dump(alloc: Global, contents: &Contents, sector_bytes: u32) -> Result<Vec<u8>, NoMemory>
     requires whole { sector_bytes % 16 ≡ 0 }
-    requires ranges { AreRanges contents.now }
     ensures { IfOk result (λ field. field.items ≡ shown Bytes.Dump sector_bytes contents.now) }
 {
     let mut dump = HexDump::new(alloc);

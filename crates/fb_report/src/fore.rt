@@ -6,7 +6,6 @@ ghost use Rattle.fb_report.specs.Lines.{with_fields};
 ghost use Rattle.fb_report.specs.Fore.{bad_count, kind_text, row_bytes, row_fields, fore_first, fore_line, fore_last, fore_lines, fore_text};
 ghost use Rattle.fb_report.specs.Grammar.{are_bytes, fore_grammar, is_one_of, numbers};
 ghost use Rattle.fb_report.specs.Printed.{AreFields, IsField, IsLine, IsReadBack, ReadsSectors, is_first, is_in_place, is_last, is_row};
-ghost use Rattle.fb_rows.specs.Ranges.{HasRanges};
 
 use crate::Bytes;
 use crate::contents::shown;
@@ -34,7 +33,6 @@ pub fn fore_piece(
     k: u64,
 ) -> Result<Vec<u8>, NoMemory>
     requires whole { sector_bytes % 16 ≡ 0 }
-    requires ranges { AllByRecursion HasRanges run.now.fore }
     requires piece { k < length run.now.fore + 2 }
     ensures value { IfOk result (λ line. slice_get (fore_lines sector_bytes bytes run.now) k ≡ Some line.items) }
     ensures form { IfOk result (λ line. 0 < sector_bytes → AllByRecursion ReadsSectors run.now.fore → IsLine (is_in_place fore_grammar (length run.now.fore + 2) k) line.items) }
@@ -58,7 +56,6 @@ pub fn fore_text(
     bytes: Bytes,
 ) -> Result<Vec<u8>, NoMemory>
     requires whole { sector_bytes % 16 ≡ 0 }
-    requires ranges { AllByRecursion HasRanges run.now.fore }
     ensures value { IfOk result (λ text. text.items ≡ fore_text sector_bytes bytes run.now) }
     ensures read { OnOk result (0 < sector_bytes → AllByRecursion ReadsSectors run.now.fore → IsReadBack fore_grammar (fore_lines sector_bytes bytes run.now)) }
 {
@@ -103,7 +100,6 @@ pub fn fore_line(
     bytes: Bytes,
 ) -> Result<Vec<u8>, NoMemory>
     requires whole { sector_bytes % 16 ≡ 0 }
-    requires ranges { HasRanges row.now }
     ensures value { IfOk result (λ line. line.items ≡ fore_line sector_bytes bytes row.now) }
     ensures form { IfOk result (λ line. 0 < sector_bytes → ReadsSectors row.now → IsLine (is_row fore_grammar) line.items) }
 {
@@ -152,7 +148,6 @@ fn row_bytes(
     bytes: Bytes,
 ) -> Result<Vec<u8>, NoMemory>
     requires whole { sector_bytes % 16 ≡ 0 }
-    requires ranges { HasRanges row.now }
     ensures { IfOk result (λ field. field.items ≡ row_bytes sector_bytes bytes row.now) }
 {
     if row.request.write {

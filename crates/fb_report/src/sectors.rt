@@ -1,7 +1,7 @@
 // The bytes of contents.
-ghost use Rattle.std.specs.Prelude.{◌≡◌, ℕ, ◌+◌, ◌≤◌, ◌^◌, ◌%◌, ◌++◌, List, length, OnOk, IfOk};
-ghost use Rattle.std.specs.List.{AllByRecursion};
+ghost use Rattle.std.specs.Prelude.{◌≡◌, ℕ, ◌%◌, ◌++◌, List, length, OnOk, IfOk};
 ghost use Rattle.fb_store.specs.Fill.{sector_bytes as bytes_of};
+ghost use Rattle.fb_store.specs.Runs.{IsInRange};
 ghost use Rattle.fb_report.specs.Shown.{run_bytes, contents_bytes};
 
 use crate::sink::Sink;
@@ -17,7 +17,6 @@ pub fn pour<S: Sink>(
     sector_bytes: u32,
 ) -> Result<(), NoMemory>
     requires whole { sector_bytes % 16 ≡ 0 }
-    requires ranges { AllByRecursion (λ run. run.first + run.count ≤ 10 ^ 12) contents.now }
     ensures { OnOk result ((before : List ℕ) → S.took sink.old before → S.took sink.new (before ++ contents_bytes sector_bytes contents.now)) }
 {
     let mut buffer = vec![in alloc; 0; sector_bytes as usize]?;
@@ -31,7 +30,7 @@ pub fn pour<S: Sink>(
 // The bytes of a run's sectors; the buffer has the size of a sector.
 fn pour_run<S: Sink>(sink: &mut S, run: &ContentRun, sector: &mut [u8]) -> Result<(), NoMemory>
     requires whole { length sector.old % 16 ≡ 0 }
-    requires range { run.now.first + run.now.count ≤ 10 ^ 12 }
+    requires range { IsInRange run.now }
     ensures { OnOk result ((before : List ℕ) → S.took sink.old before → S.took sink.new (before ++ run_bytes (length sector.old) run.now)) }
 {
     for i in 0..run.count {
