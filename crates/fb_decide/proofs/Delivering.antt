@@ -10,7 +10,6 @@ use Rattle.fb_wanted.specs.declared.block.Entry.{Entry}
 use Rattle.fb_wanted.specs.declared.block.State.{State}
 use Rattle.fb_wanted.specs.declared.block.State.TheVariants.{Delivered}
 use Rattle.fb_wanted.specs.States.{is_wanted, wanted_of}
-use Rattle.fb_rows.specs.Ranges.{AreRanges}
 use Rattle.fb_rows.specs.declared.gap.How.{How}
 use Rattle.fb_rows.specs.declared.back.DeliveryRow.{DeliveryRow}
 use Rattle.fb_rows.specs.declared.back.BackRow.{BackRow}
@@ -119,15 +118,14 @@ wanted-on_disk disk past place block background current at =
     (all_at (IsBlockOf disk (length (tasks past))) (registered past) found.0 block current.tells.on_disk found.1).within
 
 pub may-deliver : (disk : Shape) (past : Past) (place : ℕ) (got : DeliveryRow) (background : Background) (content_at : ℕ → Content) → IsCurrent disk past background → slice_get (wanted past) place ≡ Some got.block
-    → Gives got.content content_at got.block.lbn got.block.count → AreRanges got.content → MayDeliver disk past background.sessions background.wanted got
-may-deliver disk past place got background content_at current at gives ranges = record {
+    → Gives got.content content_at got.block.lbn got.block.count → MayDeliver disk past background.sessions background.wanted got
+may-deliver disk past place got background content_at current at gives = record {
   tells = current.tells;
   settled = current.settled;
   place = place;
   wanted = at;
   content_at = content_at;
   content = gives;
-  ranges = ranges;
 }
 
 -- and is delivered then

@@ -1,36 +1,31 @@
--- The background rows of a run cover sectors of the disk, and their tasks are the script's.
-use Rattle.std.proofs.Common.{◌≡◌, ℕ, ◌+◌, ◌<◌, ◌≤◌, ◌^◌, List, [], ◌∷◌, ◌++◌, length, map, take, drop, ap, sym, subst, ◌∙◌, arith, inl, inr}
-use Rattle.std.specs.Prelude.{Bool, true, false, ◌&&◌, ◌==◌, not, filter, if◌then◌else◌}
-use Rattle.std.specs.List.{AllByRecursion, flat_map, fold, range_with_len}
+-- The tasks of a run's background rows are the script's.
+use Rattle.std.proofs.Common.{◌≡◌, ℕ, ◌<◌, ◌≤◌, List, [], ◌∷◌, ◌++◌, length, map, take, drop, ap, sym, subst, ◌∙◌, arith, inl, inr}
+use Rattle.std.specs.Prelude.{Bool, true, false, ◌&&◌, not, filter, if◌then◌else◌}
+use Rattle.std.specs.List.{AllByRecursion, flat_map, fold}
 use Rattle.std.proofs.lemmas.List.{length-append, take-append-drop}
 use Rattle.std.proofs.lemmas.List.Concat.{flat_map-append}
 use Rattle.std.proofs.lemmas.Bool.{cases_Bool}
-use Rattle.std.proofs.lemmas.Bool.Decides.{nat_tests}
 use Rattle.fb_geometry.specs.Shape.{Shape}
 use Rattle.fb_service.specs.declared.disk.Disk.{Disk}
 use Rattle.fb_calls.specs.declared.call.Call.{Call}
 use Rattle.fb_calls.specs.Allowed as allowed
-use Rattle.fb_store.specs.declared.content.Content.{Content}
-use Rattle.fb_store.specs.declared.content.ContentRun.{ContentRun}
-use Rattle.fb_store.specs.Runs.{runs_of, with_content, same_content}
 use Rattle.fb_calls.proofs.Lists.{all_weaker}
 use Rattle.fb_wanted.specs.declared.block.Block.{Block}
 use Rattle.fb_wanted.specs.declared.block.Entry.{Entry}
-use Rattle.fb_wanted.specs.States.{is_delivered, is_wanted}
-use Rattle.fb_rows.specs.Ranges.{AreRanges}
+use Rattle.fb_wanted.specs.States.{is_wanted}
 use Rattle.fb_rows.specs.declared.gap.Plan.{Plan}
 use Rattle.fb_rows.specs.declared.gap.How.{How}
 use Rattle.fb_rows.specs.declared.back.DeliveryRow.{DeliveryRow}
 use Rattle.fb_rows.specs.declared.back.BackRow.TheVariants.{Got as GotLine}
 use Rattle.fb_model.specs.Inputs.{Inputs}
 use Rattle.fb_model.specs.PlainReplay.{Served}
-use Rattle.fb_model.specs.Content.{Medium, medium_of, content, contents_at}
+use Rattle.fb_model.specs.Content.{Medium, medium_of, contents_at}
 use Rattle.fb_model.specs.Plans.{catches, early_dwell, late_dwell}
 use Rattle.fb_model.specs.Rides.{delivery, caught, rides, missed, lies_in, gap_of, due}
 use Rattle.fb_model.specs.Decisions.{Decision, serves, idles, ends, instant_of}
-use Rattle.fb_model.specs.History.{Event, delivered, tested, same_block, Past, tasks, task_numbers, terms_of, registered, registered_by, blocks_of, wanted, state, is_open_backup}
-use Rattle.fb_model.specs.Completion.{Choice, choices, work, is_complete, was_complete}
-use Rattle.fb_model.specs.Images.{findings, is_scrub, bad_sectors, segment_rows, seal_rows, complete_rows, is_newly_cleaned, image, packed, test_rows, held_at_delivery}
+use Rattle.fb_model.specs.History.{Event, delivered, tested, Past, tasks, task_numbers, terms_of, registered, registered_by, wanted, state, is_open_backup}
+use Rattle.fb_model.specs.Completion.{choices, work, is_complete, was_complete}
+use Rattle.fb_model.specs.Images.{findings, is_scrub, bad_sectors, segment_rows, seal_rows, complete_rows, is_newly_cleaned, image, packed, test_rows}
 use Rattle.fb_model.specs.Steps.{Delivery, Part, take_call, calls_due, with_delivery, with_finish, settled_past, past_after, opening, part_rows, task_row, task_rows}
 use Rattle.fb_model.specs.SoundRun.{AreFollowed}
 use Rattle.fb_model.proofs.Lists.{all_append, all_left, all_map}
@@ -39,57 +34,18 @@ use Rattle.fb_tasks.specs.Telling.{Tells, IsBlockOf, calls_of}
 use Rattle.fb_tasks.proofs.Asked.{opened_same}
 use Rattle.fb_tasks.proofs.Lists.{all_any, all_filter, flat_all}
 use Rattle.fb_tasks.proofs.AllChoices.{all_range, by_all}
-use Rattle.fb_decide.specs.Deliveries.{IsRegistered}
 use Rattle.fb_decide.proofs.Placing.{in_order-each}
-use Rattle.fb_decide.proofs.RegisteredBlocks.{all_in, registered_after, tasks_more, chosen_there}
+use Rattle.fb_decide.proofs.RegisteredBlocks.{registered_after, tasks_more}
 use Rattle.fb_decide.specs.Making.{IsMade, RowFits}
 use Rattle.fb_rows.specs.declared.back.BackRow.{BackRow}
 
--- ---- contents of sectors of the disk
-
-abbrev IsOnDisk : ℕ × Content → Type 0
-IsOnDisk sector = sector.0 + 1 ≤ 10 ^ 12
-
-joins_within : (lbn : ℕ) (content : Content) (runs : List ContentRun) → lbn + 1 ≤ 10 ^ 12 → AreRanges runs → AreRanges (with_content lbn content runs)
-joins_within lbn content [] h all = (h, tt)
-joins_within lbn content (run ∷ runs) h all = elim (cases_Bool ((run.first == lbn + 1) && same_content content run.content)) [
-  | inl joins ↦ rw joins (let next : run.first ≡ lbn + 1 = grind (arith, nat_tests) in let inside = all.0 in (omega (arith, next, inside), all.1))
-  | inr apart ↦ rw apart (h, all)
-]
-
-runs_within : (sectors : List (ℕ × Content)) → AllByRecursion IsOnDisk sectors → AreRanges (runs_of sectors)
-runs_within [] all = tt
-runs_within (sector ∷ sectors) all = joins_within sector.0 sector.1 (runs_of sectors) all.0 (runs_within sectors all.1)
-
-contents_within : (medium : Medium) (lbn n t : ℕ) → lbn + n ≤ 10 ^ 12 → AllByRecursion IsOnDisk (contents_at medium lbn n t)
-contents_within medium lbn n t h = all_map IsOnDisk (λ sector. (sector, content medium sector t)) (range_with_len lbn n)
-    (all_range (λ sector. sector + 1 ≤ 10 ^ 12) lbn n (λ k from below. omega (arith, h, below)))
-
-held_within : (medium : Medium) (past : Past) (block : Block) → block.lbn + block.count ≤ 10 ^ 12
-    → AllByRecursion IsOnDisk (held_at_delivery medium past block)
-held_within medium [] block h = tt
-held_within medium (delivered row ∷ past) block h = elim (cases_Bool (same_block row.block block)) [
-  | inl own ↦ rw own (contents_within medium block.lbn block.count row.begin h)
-  | inr other ↦ rw other (held_within medium past block h)
-]
-held_within medium (_ ∷ past) block h = held_within medium past block h
-
-blocks_within : (sectors : Block → List (ℕ × Content))
-    → ((block : Block) → block.lbn + block.count ≤ 10 ^ 12 → AllByRecursion IsOnDisk (sectors block))
-    → (blocks : List Block)
-    → AllByRecursion (λ (block : Block). block.lbn + block.count ≤ 10 ^ 12) blocks
-    → AllByRecursion IsOnDisk (flat_map sectors blocks)
-blocks_within sectors each blocks all = flat_all IsOnDisk sectors blocks
-    (all_weaker (λ (block : Block). block.lbn + block.count ≤ 10 ^ 12) (λ block. AllByRecursion IsOnDisk (sectors block)) each blocks all)
-
 -- ---- rows and histories
 
--- a block likewise
-pub record BlockFits (n : ℕ) (block : Block) : Type 0 where
-  pub within : block.lbn + block.count ≤ 10 ^ 12
-  pub task : block.task < n
+-- the task of a block is one of the first n
+abbrev pub BlockFits : ℕ → Block → Type 0
+BlockFits n block = block.task < n
 
--- the blocks of a history likewise, and no more tasks were opened
+-- so are those of a history's blocks, and no more tasks were opened
 pub record PastFits (n : ℕ) (past : Past) : Type 0 where
   pub blocks : AllByRecursion (BlockFits n) (registered past)
   pub few : length (tasks past) ≤ n
@@ -135,29 +91,15 @@ module _ (n : ℕ) where
   one_fits false row fits = tt
 
   module _ (medium : Medium) (past : Past) (now : ℕ) (fits : PastFits n past) where
-    chosen_fits : (task : ℕ) → AllByRecursion (λ (choice : Choice). AllByRecursion (BlockFits n) choice.blocks) (choices past task)
-    chosen_fits task = all_weaker (λ (choice : Choice). AllByRecursion (IsRegistered past) choice.blocks) (λ choice. AllByRecursion (BlockFits n) choice.blocks)
-        (λ choice all. all_weaker (IsRegistered past) (BlockFits n) (λ block there. all_in (BlockFits n) (registered past) block fits.blocks there) choice.blocks all) (choices past task) (chosen_there past task)
-
     segments_fit : (task : ℕ) → task < n → AllByRecursion (RowFits n) (segment_rows (packed medium past) past now task)
     segments_fit task below = all_map (RowFits n) _ (filter (is_newly_cleaned (work past task)) (choices past task))
-        (all_weaker (λ (choice : Choice). AllByRecursion (BlockFits n) choice.blocks) _
-        (λ choice all. record {
-          ranges = runs_within _ (blocks_within (held_at_delivery medium past) (held_within medium past) choice.blocks (all_weaker (BlockFits n) (λ block. block.lbn + block.count ≤ 10 ^ 12) (λ block h. h.within) choice.blocks all));
-          named = λ names e. omega (arith, e, below);
-        })
-        (filter (is_newly_cleaned (work past task)) (choices past task)) (all_filter _ (is_newly_cleaned (work past task)) (choices past task) (chosen_fits task)))
-
-    image_within : (task : ℕ) → AreRanges (image medium past task now)
-    image_within task = runs_within _ (blocks_within (λ block. contents_at medium block.lbn block.count now) (λ block. contents_within medium block.lbn block.count now) (filter (λ block. is_delivered ((work past task).bare block)) (blocks_of past task))
-        (all_weaker (BlockFits n) (λ block. block.lbn + block.count ≤ 10 ^ 12) (λ block h. h.within) (filter (λ block. is_delivered ((work past task).bare block)) (blocks_of past task))
-        (all_filter (BlockFits n) (λ block. is_delivered ((work past task).bare block)) (blocks_of past task) (all_filter (BlockFits n) (λ block. block.task == task) (registered past) fits.blocks))))
+        (all_any _ (λ choice names e. omega (arith, e, below)) (filter (is_newly_cleaned (work past task)) (choices past task)))
 
     seals_fit : (task : ℕ) → task < n → AllByRecursion (RowFits n) (seal_rows (image medium past task now) past now task)
-    seals_fit task below = one_fits (is_open_backup past task && is_complete past task) _ (record { ranges = image_within task; named = λ names e. omega (arith, e, below) })
+    seals_fit task below = one_fits (is_open_backup past task && is_complete past task) _ (λ names e. omega (arith, e, below))
 
     completes_fit : (task : ℕ) → task < n → AllByRecursion (RowFits n) (complete_rows past now task)
-    completes_fit task below = one_fits (is_complete past task && not (was_complete past task)) _ (record { ranges = tt; named = λ names e. omega (arith, e, below) })
+    completes_fit task below = one_fits (is_complete past task && not (was_complete past task)) _ (λ names e. omega (arith, e, below))
 
     tests_fit : AllByRecursion (RowFits n) (test_rows medium past now)
     unfolding test_rows
@@ -171,22 +113,18 @@ module _ (n : ℕ) where
   -- ---- deliveries and what follows them
 
   -- a delivery likewise
-  pub record GotFits (got : DeliveryRow) : Type 0 where
-    pub ranges : AreRanges got.content
-    pub task : got.block.task < n
-
-  delivery_fits : (medium : Medium) (how : How) (block : Block) (begin end : ℕ) → BlockFits n block → GotFits (delivery (contents_at medium) how block begin end)
-  delivery_fits medium how block begin end fits = record { ranges = runs_within _ (contents_within medium block.lbn block.count begin fits.within); task = fits.task }
+  abbrev pub GotFits : DeliveryRow → Type 0
+  GotFits got = got.block.task < n
 
   caught_fits : (medium : Medium) (how : How) (dwell : _) (blocks : List Block) → AllByRecursion (BlockFits n) blocks → AllByRecursion GotFits (caught medium.disk (contents_at medium) how dwell blocks)
   caught_fits medium how dwell blocks all = in_order-each GotFits _ (all_map GotFits _ (filter (catches medium.disk dwell) blocks)
-      (all_weaker (BlockFits n) _ (λ block fits. delivery_fits medium how block _ _ fits) (filter (catches medium.disk dwell) blocks) (all_filter (BlockFits n) (catches medium.disk dwell) blocks all)))
+      (all_filter (BlockFits n) (catches medium.disk dwell) blocks all))
 
   rides_fit : (medium : Medium) (served : Served) (blocks : List Block) → AllByRecursion (BlockFits n) blocks → AllByRecursion GotFits (rides (contents_at medium) served blocks)
   rides_fit medium served blocks all = elim (cases_Bool served.request.write) [
     | inl writes ↦ rw writes tt
     | inr reads ↦ rw reads (in_order-each GotFits _ (all_map GotFits _ (filter (lies_in served.request) blocks)
-        (all_weaker (BlockFits n) _ (λ block fits. delivery_fits medium _ block _ _ fits) (filter (lies_in served.request) blocks) (all_filter (BlockFits n) (lies_in served.request) blocks all))))
+        (all_filter (BlockFits n) (lies_in served.request) blocks all)))
   ]
 
   missed_fit : (disk : Disk) (dwell : _) (blocks : List Block) → AllByRecursion (BlockFits n) blocks → AllByRecursion (BlockFits n) (missed disk dwell blocks)
@@ -207,7 +145,7 @@ module _ (n : ℕ) where
 
   findings_fit : (past : Past) (got : DeliveryRow) → GotFits got → AllByRecursion (RowFits n) (findings past got)
   findings_fit past got fits = elim (cases_Bool (is_scrub (terms_of past got.block.task).kind)) [
-    | inl scrubs ↦ rw scrubs (all_map (RowFits n) _ (bad_sectors got.content) (all_any _ (λ lbn. record { ranges = tt; named = λ names e. (let below = fits.task in omega (arith, e, below)) }) (bad_sectors got.content)))
+    | inl scrubs ↦ rw scrubs (all_map (RowFits n) _ (bad_sectors got.content) (all_any _ (λ lbn names e. omega (arith, e, fits)) (bad_sectors got.content)))
     | inr other ↦ rw other tt
   ]
 
@@ -217,7 +155,7 @@ module _ (n : ℕ) where
   followed_fit medium past (delivery ∷ deliveries) fits gots follows =
       let got = gots.0 in
       let now : PastFits n (delivered delivery.got ∷ past) = record { blocks = fits.blocks; few = fits.few } in (
-        record { ranges = got.ranges; named = λ names e. (let below = got.task in omega (arith, e, below)) },
+        (λ names e. omega (arith, e, got)),
         all_append (RowFits n) delivery.after (flat_map (λ (delivery : Delivery). GotLine delivery.got ∷ delivery.after) deliveries)
             (subst (AllByRecursion (RowFits n)) (sym follows.0) (all_append (RowFits n) (findings past delivery.got) (test_rows medium (delivered delivery.got ∷ past) delivery.got.end)
             (findings_fit past delivery.got got) (tests_fit medium (delivered delivery.got ∷ past) delivery.got.end now)))
@@ -227,8 +165,8 @@ module _ (n : ℕ) where
   -- ---- the rows of decisions
 
   opening_fits : (disk : Disk) (decision : Decision) (plan : Plan) → AllByRecursion (RowFits n) (opening disk decision plan)
-  opening_fits disk (serves served) plan = (record { ranges = tt; named = λ names e. tt }, tt)
-  opening_fits disk (idles dwell) plan = (record { ranges = tt; named = λ names e. tt }, tt)
+  opening_fits disk (serves served) plan = (λ names e. tt, tt)
+  opening_fits disk (idles dwell) plan = (λ names e. tt, tt)
   opening_fits disk (ends now) plan = tt
 
   wanted_fit : (past : Past) → PastFits n past → AllByRecursion (BlockFits n) (wanted past)
@@ -249,7 +187,7 @@ module _ (n : ℕ) where
   pub tasks_fit : (past : Past) → PastFits n past → AllByRecursion (RowFits n) (task_rows past)
   unfolding task_rows
   tasks_fit past fits = all_map (RowFits n) (task_row past) (task_numbers past)
-      (all_weaker (λ task. task < n) (λ task. RowFits n (task_row past task)) (λ task below. record { ranges = tt; named = λ names e. omega (arith, e, below) }) (task_numbers past) (in_range past fits))
+      (all_weaker (λ task. task < n) (λ task. RowFits n (task_row past task)) (λ task below names e. omega (arith, e, below)) (task_numbers past) (in_range past fits))
 
 -- ---- of a history that is told
 
@@ -267,6 +205,6 @@ pub fits-told : (disk : Shape) (calls : List Call) (past : Past) (next : ℕ) (s
 fits-told disk calls past next sessions held tells taken =
     let few = few_tasks calls past next taken in
     record {
-      blocks = all_weaker (IsBlockOf disk (length (tasks past))) (BlockFits (length (allowed.tasks calls))) (λ block h. record { within = h.within; task = (let task = h.task in omega (arith, task, few)) }) (registered past) tells.on_disk;
+      blocks = all_weaker (IsBlockOf disk (length (tasks past))) (BlockFits (length (allowed.tasks calls))) (λ block h. let task = h.task in omega (arith, task, few)) (registered past) tells.on_disk;
       few = few;
     }

@@ -22,7 +22,6 @@ use Rattle.fb_calls.specs.declared.call.Call.{Call}
 use Rattle.fb_calls.specs.Allowed.{AreAllowed}
 use Rattle.fb_store.specs.Index.{Holding, content_in}
 use Rattle.fb_calls.proofs.Lists.{all_weaker}
-use Rattle.fb_rows.specs.Ranges.{HasRanges}
 use Rattle.fb_model.specs.Accepted.{IsRequestOf}
 use Rattle.fb_model.specs.History.{Past}
 use Rattle.fb_model.proofs.Instants.{IsAmong}
@@ -110,7 +109,6 @@ pub record LeadsOn (inputs : Inputs) (before : Course) (pending : List Request) 
   pub step : Step
   pub stepped : HasStepped inputs (history inputs steps) before step after
   pub fore : after.fore ≡ before.fore ++ fore_row_of (medium_of inputs) step.0
-  pub fore_ranges : AllByRecursion HasRanges (fore_row_of (medium_of inputs) step.0)
   pub come_to : HasComeTo inputs more after pending_after count_after (steps ++ step ∷ [])
   pub fewer : decisions_left inputs more after pending_after < decisions_left inputs true before pending
 
@@ -243,7 +241,6 @@ module _ (inputs : Inputs) (known : AreKnown inputs) (before : Course) (pending 
       step = step;
       stepped = made.stepped;
       fore = now_served.more ∙ ap (λ row. before.fore ++ row ∷ []) row_is;
-      fore_ranges = (subst HasRanges row_is now_served.ranges, tt);
       come_to = goes_on_serving;
       fewer = omega (arith, ap length next_decided, same_left);
     }
@@ -262,7 +259,6 @@ module _ (inputs : Inputs) (known : AreKnown inputs) (before : Course) (pending 
     step = (idles (stay_of before instant), made.part);
     stepped = made.stepped;
     fore = stayed.same_fore ∙ sym (append-nil before.fore);
-    fore_ranges = tt;
     come_to = come_to;
     fewer = omega (arith, fewer, same_left);
   }
@@ -395,7 +391,6 @@ module _ (inputs : Inputs) (known : AreKnown inputs) (before : Course) (pending 
         step = step_end;
         stepped = ends_now_by.stepped;
         fore = sym (append-nil before.fore);
-        fore_ranges = tt;
         come_to = ends_there;
         fewer = omega (arith, ap length last_is, same_left);
       }

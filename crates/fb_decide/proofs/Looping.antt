@@ -132,7 +132,6 @@ module _ (inputs : Inputs) (steps : List Step) (list : List Request) (course : C
       is_made = leads.stepped.is_made;
       fore = leads.fore;
       back = leads.stepped.rows_after;
-      fore_ranges = leads.fore_ranges;
       back_fits = step_fits (length (allowed.tasks inputs.calls)) inputs (history inputs steps) leads.step leads.stepped.is_made
           (fits-told inputs.disk.map inputs.calls (past_after inputs (history inputs steps) leads.step) after.called after.background.sessions after.background.wanted leads.stepped.tells leads.stepped.called.taken);
       made = record { known = made.known; list_is = made.list_is; come_to = leads.come_to };

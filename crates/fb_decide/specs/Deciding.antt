@@ -16,7 +16,6 @@ use Rattle.fb_rows.specs.declared.fore.ForeRow.{ForeRow}
 use Rattle.fb_rows.specs.declared.gap.Dwell.{Dwell}
 use Rattle.fb_rows.specs.declared.gap.How.TheVariants.{Idle as ByIdle}
 use Rattle.fb_rows.specs.declared.back.BackRow.TheVariants.{Idle as IdleLine}
-use Rattle.fb_rows.specs.Ranges.{HasRanges}
 use Rattle.fb_model.specs.PlainReplay.{Key, first_track, service, last_track, finish, first_least}
 use Rattle.fb_model.specs.History.{Past, wanted}
 use Rattle.fb_model.specs.Rides.{caught}
@@ -57,7 +56,6 @@ pub record HasServedNext (disk : Disk) (request : Request) (before after : Cours
   pub stands : after.head ≡ last_track disk (service disk before.head before.now request)
   pub finished : after.now ≡ finish (service disk before.head before.now request)
   pub on_disk : IsTrackOf disk.map after.head
-  pub ranges : HasRanges row
   pub each : AllByRecursion (λ passage. passage.begin < passage.end) (passages disk before.head before.now request.write request.lbn request.count)
   pub later : before.now < after.now
   pub soon : after.now ≤ before.now + 2048 * (4 * 10 ^ 9)

@@ -9,7 +9,6 @@ use Rattle.fb_calls.specs.Allowed as allowed
 use Rattle.fb_store.specs.declared.content.Content.{Content}
 use Rattle.fb_store.specs.Writes.{unwritten}
 use Rattle.fb_store.specs.Index.{Holding, content_in}
-use Rattle.fb_rows.specs.Ranges.{HasRanges, HasBackRanges}
 use Rattle.fb_rows.specs.Tasks.{HasNamedTask}
 use Rattle.fb_rows.specs.declared.fore.ForeRow.{ForeRow}
 use Rattle.fb_rows.specs.declared.back.BackRow.{BackRow}
@@ -47,10 +46,9 @@ abbrev pub fore_row_of : Medium → Decision → List ForeRow
 fore_row_of medium (serves served) = fore_row medium served ∷ []
 fore_row_of medium _ = []
 
--- the sectors of its contents lie below 10^12, and its task is one of the first n
-pub record RowFits (n : ℕ) (row : BackRow) : Type 0 where
-  pub ranges : HasBackRanges row
-  pub named : (names : List (List ℕ)) → length names ≡ n → HasNamedTask names row
+-- the row's task, if it has one, is one of the first n
+abbrev pub RowFits : ℕ → BackRow → Type 0
+RowFits n row = (names : List (List ℕ)) → length names ≡ n → HasNamedTask names row
 
 -- ---- what stands between two decisions
 
@@ -152,7 +150,6 @@ pub record HasMadeOne (inputs : Inputs) (steps : List Step) (more : Bool) (list 
   pub is_made : IsMade inputs (history inputs steps) step
   pub fore : after.fore ≡ before.fore ++ fore_row_of (medium_of inputs) step.0
   pub back : after.background.rows ≡ before.background.rows ++ part_rows inputs.disk step
-  pub fore_ranges : AllByRecursion HasRanges (fore_row_of (medium_of inputs) step.0)
   pub back_fits : AllByRecursion (RowFits (length (allowed.tasks inputs.calls))) (part_rows inputs.disk step)
   pub made : HasMade inputs more (steps ++ step ∷ []) list after pending_after count_after
   pub fewer : decisions_left inputs more after pending_after < decisions_left inputs true before pending

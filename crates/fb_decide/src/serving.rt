@@ -4,7 +4,6 @@ ghost use Rattle.std.specs.Prelude.{◌≡◌, ℕ, ◌+◌, ◌-◌, ◌*◌, �
 ghost use Rattle.std.specs.List.{AllByRecursion, sum_by};
 ghost use Rattle.fb_geometry.specs.Shape.{Shape, IsTrackOf};
 ghost use Rattle.fb_geometry.specs.Places.{places};
-ghost use Rattle.fb_rows.specs.Ranges.{HasRanges};
 ghost use Rattle.fb_store.specs.Index.{content_in};
 ghost use Rattle.fb_service.specs.Extents.{all_passages_of, IsUnbroken};
 ghost use Rattle.fb_model.specs.Content.{number_of};
@@ -54,7 +53,6 @@ pub fn serve_request<P: Planner>(
     ensures leaves { OnOk result ((lbn : ℕ) → content_in store.new lbn ≡ left_by turn.request lbn (content_in store.old lbn)) }
     ensures head { IfOk result (λ serving. serving.head ≡ last_track disk.now (served_in disk.now turn)) }
     ensures on_disk { IfOk result (λ serving. IsTrackOf disk.now.map serving.head) }
-    ensures ranges { IfOk result (λ serving. HasRanges serving.row) }
     ensures each { OnOk result (AllByRecursion (λ passage. passage.begin < passage.end) (served_in disk.now turn).passages) }
     ensures later { IfOk result (λ serving. turn.start < serving.row.finish) }
     ensures soon { IfOk result (λ serving. serving.row.finish ≤ turn.start + 2048 * (4 * 10 ^ 9)) }
@@ -139,7 +137,6 @@ fn found(alloc: Global, store: &Store, request: Request) -> Result<Contents, NoM
     requires range { request.lbn + request.count ≤ 10 ^ 12 }
     ensures content { IfOk result (λ content. content ≡ found_in store.now request) }
     ensures few { IfOk result (λ content. sum_by (λ run. run.count) content ≤ 2048) }
-    ensures ranges { IfOk result (λ content. AllByRecursion (λ run. run.first + run.count ≤ 10 ^ 12) content) }
 {
     if request.write {
         return Ok(Contents::new(alloc));
