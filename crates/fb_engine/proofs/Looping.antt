@@ -4,7 +4,6 @@ use Rattle.std.specs.List.{AllByRecursion}
 use Rattle.std.proofs.lemmas.List.{length-map}
 use Rattle.fb_units.specs.declared.types.Request.{Request}
 use Rattle.fb_calls.specs.Allowed as allowed
-use Rattle.fb_rows.specs.Ranges.{HasRanges}
 use Rattle.fb_rows.specs.declared.fore.ForeRow.{ForeRow}
 use Rattle.fb_rows.specs.declared.back.BackRow.{BackRow}
 use Rattle.fb_model.specs.Inputs.{Inputs, served}
@@ -17,17 +16,12 @@ use Rattle.fb_decide.specs.declared.deciding.Course.{Course}
 use Rattle.fb_decide.specs.Making.{Step, RowFits, HasMade, HasMadeOne, decisions_left}
 use Rattle.fb_decide.specs.FullRuns.{AreRowsOf, DecisionsMakeARun}
 
--- the rows that have been added so far are within their ranges
-pub record RowsFit (inputs : Inputs) (fore : List ForeRow) (back : List BackRow) : Type 0 where
-  pub ranges : AllByRecursion HasRanges fore
-  pub fits : AllByRecursion (RowFits (length (allowed.tasks inputs.calls))) back
-
 -- these decisions have been made, none of their rows has been taken, and perhaps more follow
 pub record HasGone (inputs : Inputs) (more : Bool) (list : List Request) (course : Course) (pending : List Request) (count : ℕ) : Type 0 where
   pub steps : List Step
   pub made : HasMade inputs more steps list course pending count
   pub rows : AreRowsOf inputs steps course.fore course.background.rows
-  pub fit : RowsFit inputs course.fore course.background.rows
+  pub fit : AllByRecursion (RowFits (length (allowed.tasks inputs.calls))) course.background.rows
 
 -- at first
 pub at_first : {inputs : Inputs} {list : List Request} {course : Course} {pending : List Request} {count : ℕ}
@@ -36,7 +30,7 @@ at_first {inputs} made no_fore no_back = record {
   steps = [];
   made = made;
   rows = record { each = tt; fore_so_far = no_fore; back_so_far = no_back };
-  fit = record { ranges = subst (AllByRecursion HasRanges) (sym no_fore) tt; fits = subst (AllByRecursion (RowFits (length (allowed.tasks inputs.calls)))) (sym no_back) tt };
+  fit = subst (AllByRecursion (RowFits (length (allowed.tasks inputs.calls)))) (sym no_back) tt;
 }
 
 -- where another decision follows, and where none does
@@ -51,10 +45,7 @@ one_on {inputs} {more} {list} {now_list} {before} {after} {pending} {pending_aft
   steps = gone.steps ++ one.step ∷ [];
   made = one.made;
   rows = rw (one.fore, one.back) (law.go_on inputs gone.steps one.step before.fore before.background.rows gone.rows one.is_made);
-  fit = record {
-    ranges = rw one.fore (all_append HasRanges before.fore _ gone.fit.ranges one.fore_ranges);
-    fits = rw one.back (all_append (RowFits (length (allowed.tasks inputs.calls))) before.background.rows _ gone.fit.fits one.back_fits);
-  };
+  fit = rw one.back (all_append (RowFits (length (allowed.tasks inputs.calls))) before.background.rows _ gone.fit one.back_fits);
 })
 
 -- and fewer are left
@@ -81,4 +72,4 @@ module _ {inputs : Inputs} {list : List Request} {course : Course} {pending : Li
 
   pub rows_fit : (back : List BackRow) → back ≡ course.background.rows ++ task_rows (history inputs gone.steps)
       → AllByRecursion (RowFits (length (allowed.tasks inputs.calls))) (task_rows (history inputs gone.steps)) → AllByRecursion (RowFits (length (allowed.tasks inputs.calls))) back
-  rows_fit back rows fits = rw rows (all_append (RowFits (length (allowed.tasks inputs.calls))) course.background.rows (task_rows (history inputs gone.steps)) gone.fit.fits fits)
+  rows_fit back rows fits = rw rows (all_append (RowFits (length (allowed.tasks inputs.calls))) course.background.rows (task_rows (history inputs gone.steps)) gone.fit fits)

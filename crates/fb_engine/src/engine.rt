@@ -1,7 +1,6 @@
 // The loop over decisions.
 ghost use Rattle.std.specs.Prelude.{◌≡◌, ◌*◌, ◌≤◌, ◌^◌, ℕ, List, [], length, IfOk};
 ghost use Rattle.std.specs.List.{AllByRecursion};
-ghost use Rattle.fb_rows.specs.Ranges.{HasRanges, HasBackRanges};
 ghost use Rattle.fb_rows.specs.Tasks.{HasNamedTask};
 ghost use Rattle.fb_calls.specs.Allowed.{tasks};
 ghost use Rattle.fb_model.specs.Accepted.{IsAccepted};
@@ -29,9 +28,7 @@ pub fn replay<Q: Queue, P: Planner>(
     requires fresh { Q.joined queue ≡ 0 }
     requires accepted { IsAccepted (inputs_of asked Q.key) }
     ensures full { IfOk result (λ run. IsFull (inputs_of asked.entry Q.key) run) }
-    ensures ranges { IfOk result (λ run. AllByRecursion HasRanges run.fore) }
     ensures few { IfOk result (λ run. length run.fore ≤ 10 ^ 6) }
-    ensures back_ranges { IfOk result (λ run. AllByRecursion HasBackRanges run.back) }
     ensures early { IfOk result (λ run. run.end ≤ 9 * 10 ^ 18) }
     ensures named { IfOk result (λ run. (names : List (List ℕ)) → length names ≡ length (tasks asked.entry.calls.now.calls.items) → AllByRecursion (HasNamedTask names) run.back) }
 {

@@ -1,7 +1,5 @@
-use Rattle.std.proofs.Common.{length, ◌∙◌, sym, subst}
-use Rattle.std.specs.List.{AllByRecursion}
+use Rattle.std.proofs.Common.{length, ◌∙◌}
 use Rattle.fb_calls.proofs.Lists.{all_weaker}
-use Rattle.fb_rows.specs.Ranges.{HasRanges, HasBackRanges}
 use Rattle.fb_rows.specs.Tasks.{HasNamedTask}
 use Rattle.fb_calls.specs.Allowed.{tasks}
 use Rattle.fb_decide.specs.Making.{RowFits}
@@ -45,9 +43,7 @@ returns g c =
     let fit = rows_fit gone rows.back back (c.in_ok-add_task_rows.ensures.fits _ gone.steps gone.made) in
     record {
       full = is_full gone rows.fore rows.back fore back c.instant-end.result law (c.instant-end.ensures.end _ gone.steps gone.made);
-      ranges = subst (AllByRecursion HasRanges) (sym fore) gone.fit.ranges;
       few = is_few gone rows.fore fore law;
-      back_ranges = all_weaker (RowFits n) HasBackRanges (λ row fits. fits.ranges) rows.back fit;
       early = c.instant-end.ensures.early _ gone.steps gone.made;
-      named = λ names e. all_weaker (RowFits n) (HasNamedTask names) (λ row fits. fits.named names e) rows.back fit;
+      named = λ names e. all_weaker (RowFits n) (HasNamedTask names) (λ row fits. fits names e) rows.back fit;
     }
