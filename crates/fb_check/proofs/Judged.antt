@@ -5,7 +5,6 @@ use Rattle.std.specs.List.{AllByRecursion}
 use Rattle.std.proofs.lemmas.List.{map-append, length-map}
 use Rattle.fb_units.specs.declared.types.Request.{Request}
 use Rattle.fb_calls.specs.Allowed as allowed
-use Rattle.fb_rows.specs.Ranges.{HasRanges, HasBackRanges}
 use Rattle.fb_rows.specs.Tasks.{HasNamedTask}
 use Rattle.fb_rows.specs.declared.fore.ForeRow.{ForeRow}
 use Rattle.fb_rows.specs.declared.back.BackRow.{BackRow}
@@ -140,14 +139,8 @@ module _ (inputs : Inputs) (printed : Reports) (more : Bool) (list : List Reques
   pub back_taken : (taken : List BackRow) → taken ≡ after.background.rows → taken ≡ part_rows inputs.disk one.step
   back_taken taken e = e ∙ (one.back ∙ ap (λ rows. rows ++ part_rows inputs.disk one.step) judged.no_back)
 
-  pub fore_ranges : (taken : List ForeRow) → taken ≡ after.fore → AllByRecursion HasRanges taken
-  fore_ranges taken e = subst (AllByRecursion HasRanges) (sym (fore_taken taken e)) one.fore_ranges
-
-  pub back_ranges : (taken : List BackRow) → taken ≡ after.background.rows → AllByRecursion HasBackRanges taken
-  back_ranges taken e = all_weaker (RowFits (length (allowed.tasks inputs.calls))) HasBackRanges (λ row fits. fits.ranges) taken (subst (AllByRecursion (RowFits (length (allowed.tasks inputs.calls)))) (sym (back_taken taken e)) one.back_fits)
-
   pub back_named : (names : List (List ℕ)) (taken : List BackRow) → length names ≡ length (allowed.tasks inputs.calls) → taken ≡ after.background.rows → AllByRecursion (HasNamedTask names) taken
-  back_named names taken n e = all_weaker (RowFits (length (allowed.tasks inputs.calls))) (HasNamedTask names) (λ row fits. fits.named names n) taken
+  back_named names taken n e = all_weaker (RowFits (length (allowed.tasks inputs.calls))) (HasNamedTask names) (λ row fits. fits names n) taken
       (subst (AllByRecursion (RowFits (length (allowed.tasks inputs.calls)))) (sym (back_taken taken e)) one.back_fits)
 
   pub less : (was : Bool) → was ≡ true → (now_list : List Request) (now : Course) (now_pending : List Request) (now_count : ℕ) → HasMade inputs more (judged.steps ++ one.step ∷ []) now_list now now_pending now_count
@@ -281,8 +274,5 @@ module _ (inputs : Inputs) (printed : Reports) (list : List Request) (course : C
           let both = back_mismatch mismatch wrong in
           (λ is_fore. absurd (apart mismatch.report is_fore both.1), λ is_back. record { run = full_run; full = is_full; fore = fore_right end_right; wrong = both.0 })
 
-pub tasks_ranges : (n : ℕ) (rows tasks : List BackRow) → rows ≡ tasks → AllByRecursion (RowFits n) tasks → AllByRecursion HasBackRanges rows
-tasks_ranges n rows tasks e fits = all_weaker (RowFits n) HasBackRanges (λ row fits. fits.ranges) rows (subst (AllByRecursion (RowFits n)) (sym e) fits)
-
 pub tasks_named : (n : ℕ) (names : List (List ℕ)) (rows tasks : List BackRow) → length names ≡ n → rows ≡ tasks → AllByRecursion (RowFits n) tasks → AllByRecursion (HasNamedTask names) rows
-tasks_named n names rows tasks few e fits = all_weaker (RowFits n) (HasNamedTask names) (λ row fits. fits.named names few) rows (subst (AllByRecursion (RowFits n)) (sym e) fits)
+tasks_named n names rows tasks few e fits = all_weaker (RowFits n) (HasNamedTask names) (λ row fits. fits names few) rows (subst (AllByRecursion (RowFits n)) (sym e) fits)

@@ -1,7 +1,6 @@
 // Compares printed lines with due ones.
 ghost use Rattle.std.specs.Prelude.{◌≡◌, ◌%◌, ◌<◌, ◌+◌, ◌-◌, ◌^◌, ℕ, List, [], ◌++◌, length, None, Some, IfNone, IfSome, IfOk, OnOk};
 ghost use Rattle.std.specs.List.{AllByRecursion};
-ghost use Rattle.fb_rows.specs.Ranges.{HasRanges, HasBackRanges};
 ghost use Rattle.fb_rows.specs.Tasks.{HasNamedTask};
 ghost use Rattle.fb_rows.specs.declared.fore.ForeRow.{ForeRow};
 ghost use Rattle.fb_rows.specs.declared.back.BackRow.{BackRow};
@@ -140,7 +139,6 @@ impl<'a> Comparison<'a> {
         bytes: Bytes,
     ) -> Result<(), NoMemory>
         requires whole { sector_bytes % 16 ≡ 0 }
-        requires ranges { AllByRecursion HasRanges rows.now }
         requires ready { IsReady self.old }
         ensures ready { OnOk result (IsReady self.new) }
         ensures compared { OnOk result ((printed : List (List ℕ)) (fore : List ForeRow) → HasComparedFore sector_bytes bytes printed self.old fore → HasComparedFore sector_bytes bytes printed self.new (fore ++ rows.now)) }
@@ -168,7 +166,6 @@ impl<'a> Comparison<'a> {
         bytes: Bytes,
     ) -> Result<(), NoMemory>
         requires whole { sector_bytes % 16 ≡ 0 }
-        requires ranges { AllByRecursion HasBackRanges rows.now }
         requires named { AllByRecursion (HasNamedTask names.now) rows.now }
         requires ready { IsReady self.old }
         ensures ready { OnOk result (IsReady self.new) }

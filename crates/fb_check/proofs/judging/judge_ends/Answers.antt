@@ -2,7 +2,7 @@ use Rattle.std.proofs.Common.{◌++◌, length, ap, ◌∙◌}
 use Rattle.fb_calls.specs.Allowed.{tasks}
 use Rattle.fb_model.specs.Steps.{history, task_rows}
 use Rattle.fb_decide.specs.Asked.{inputs_of}
-use Rattle.fb_check.proofs.Judged.{some_same, last_wrong, all_right, back_wrong, tasks_ranges, tasks_named, none_by}
+use Rattle.fb_check.proofs.Judged.{some_same, last_wrong, all_right, back_wrong, tasks_named, none_by}
 use Rattle.fb_check.proofs.judging.judge_ends.Goals as goal
 
 pub end_fore-requires : goal.end_fore-requires
@@ -10,13 +10,6 @@ end_fore-requires g c = record { ready = c.requires.judged.fore_ready; some = so
 
 pub returns-in-Some : goal.returns-in-Some
 returns-in-Some g c = last_wrong _ _ _ _ _ _ _ _ c.requires.judged c.decisions_make_a_run.ensures c.requires.right c.end_fore.new.self c.in_ok-end_fore.ensures c.in-Some.mismatch c.in-Some.is
-
-pub compare_back-requires-clause-ranges : goal.compare_back-requires-clause-ranges
-compare_back-requires-clause-ranges g c =
-    let judged = c.requires.judged in
-    tasks_ranges (length (tasks c.args.asked.calls.now.calls.items)) c.take_rows-rows.result.back (task_rows (history (inputs_of c.args.asked g.Q.Queue.key) judged.steps))
-    (c.take_rows-rows.ensures.back ∙ (c.in_ok-add_task_rows.ensures.rows _ judged.steps judged.made ∙ ap (λ rows. rows ++ task_rows (history (inputs_of c.args.asked g.Q.Queue.key) judged.steps)) judged.no_back))
-    (c.in_ok-add_task_rows.ensures.fits _ judged.steps judged.made)
 
 pub compare_back-requires-clause-named : goal.compare_back-requires-clause-named
 compare_back-requires-clause-named g c =

@@ -2,7 +2,7 @@ use Rattle.std.proofs.Common.{true, true≢false, inl, inr, refl, sym, subst}
 use Rattle.fb_report.specs.Grammar.{fore_grammar, back_grammar}
 use Rattle.fb_decide.specs.Asked.{inputs_of}
 use Rattle.fb_check.specs.Printed.{reports_of}
-use Rattle.fb_check.proofs.Judged.{at_first, going, kept, less, fore_ranges, back_ranges, back_named, wrong_now, next, none_by}
+use Rattle.fb_check.proofs.Judged.{at_first, going, kept, less, back_named, wrong_now, next, none_by}
 use Rattle.fb_check.proofs.judging.judge_over.Goals as goal
 
 pub begin_fore-requires : goal.begin_fore-requires
@@ -24,24 +24,12 @@ decide-requires-clause-made g c =
     let judged = going (inputs_of c.args.asked g.Q.Queue.key) (reports_of c.args.asked c.args.printed) true _ _ _ _ _ _ _ c.loop-goes_on-test.true c.loop-goes_on.invariant.judged in
     (judged.steps, judged.made)
 
-pub compare_fore-requires-clause-ranges : goal.compare_fore-requires-clause-ranges
-compare_fore-requires-clause-ranges g c =
-    let judged = going (inputs_of c.args.asked g.Q.Queue.key) (reports_of c.args.asked c.args.printed) true _ _ _ _ _ _ _ c.loop-goes_on-test.true c.loop-goes_on.invariant.judged in
-    let one = c.in_ok-goes_on.ensures.decided judged.steps judged.made in
-    fore_ranges _ _ _ _ _ _ _ _ _ _ _ _ judged one c.take_rows-rows.result.fore c.take_rows-rows.ensures.fore
-
 pub returns-in-Some : goal.returns-in-Some
 returns-in-Some g c =
     let judged = going (inputs_of c.args.asked g.Q.Queue.key) (reports_of c.args.asked c.args.printed) true _ _ _ _ _ _ _ c.loop-goes_on-test.true c.loop-goes_on.invariant.judged in
     let one = c.in_ok-goes_on.ensures.decided judged.steps judged.made in
     wrong_now _ _ _ _ _ _ _ _ _ _ _ _ judged one c.decisions_make_a_run.ensures c.take_rows-rows.result.fore c.compare_fore.new.self c.in-Some.mismatch c.take_rows-rows.ensures.fore
     (c.in_ok-compare_fore.ensures.compared _ judged.fore_rows judged.fore_compared) c.in-Some.is
-
-pub compare_back-requires-clause-ranges : goal.compare_back-requires-clause-ranges
-compare_back-requires-clause-ranges g c =
-    let judged = going (inputs_of c.args.asked g.Q.Queue.key) (reports_of c.args.asked c.args.printed) true _ _ _ _ _ _ _ c.loop-goes_on-test.true c.loop-goes_on.invariant.judged in
-    let one = c.in_ok-goes_on.ensures.decided judged.steps judged.made in
-    back_ranges _ _ _ _ _ _ _ _ _ _ _ _ judged one c.take_rows-rows.result.back c.take_rows-rows.ensures.back
 
 pub compare_back-requires-clause-named : goal.compare_back-requires-clause-named
 compare_back-requires-clause-named g c =

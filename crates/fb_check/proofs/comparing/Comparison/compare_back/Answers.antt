@@ -1,5 +1,4 @@
 use Rattle.std.proofs.Common.{sym, subst, ◌∙◌, arith}
-use Rattle.fb_rows.specs.Ranges.{HasBackRanges}
 use Rattle.fb_rows.specs.Tasks.{HasNamedTask}
 use Rattle.fb_tasks.proofs.Lists.{all_at}
 use Rattle.fb_report.specs.Reading.{BeginsLikeEnd}
@@ -9,9 +8,6 @@ use Rattle.fb_check.proofs.comparing.Comparison.compare_back.Goals as goal
 
 pub returns-then-is_some-clause-compared : goal.returns-then-is_some-clause-compared
 returns-then-is_some-clause-compared c = λ printed back h. more_rows _ _ _ _ _ printed c.loop-i.self back c.args.rows.now c.loop-i.i (sym c.is_some.ensures ∙ c.if-is_some.true) (c.loop-i.invariant.compared printed back h)
-
-pub back_line-requires-clause-ranges : goal.back_line-requires-clause-ranges
-back_line-requires-clause-ranges c = all_at HasBackRanges c.args.rows.now c.loop-i.i c.get-row.result.now c.requires.ranges c.get-row.ensures
 
 pub back_line-requires-clause-named : goal.back_line-requires-clause-named
 back_line-requires-clause-named c = all_at (HasNamedTask c.args.names.now) c.args.rows.now c.loop-i.i c.get-row.result.now c.requires.named c.get-row.ensures

@@ -1,6 +1,4 @@
 use Rattle.std.proofs.Common.{sym, subst, ◌∙◌, arith}
-use Rattle.fb_rows.specs.Ranges.{HasRanges}
-use Rattle.fb_tasks.proofs.Lists.{all_at}
 use Rattle.fb_report.specs.Reading.{BeginsLikeEnd}
 use Rattle.fb_check.proofs.Beginnings.{fore_not_end}
 use Rattle.fb_check.proofs.Comparisons.{one_more_row, more_rows, all_rows}
@@ -8,9 +6,6 @@ use Rattle.fb_check.proofs.comparing.Comparison.compare_fore.Goals as goal
 
 pub returns-then-is_some-clause-compared : goal.returns-then-is_some-clause-compared
 returns-then-is_some-clause-compared c = λ printed fore h. more_rows _ _ _ _ _ printed c.loop-i.self fore c.args.rows.now c.loop-i.i (sym c.is_some.ensures ∙ c.if-is_some.true) (c.loop-i.invariant.compared printed fore h)
-
-pub fore_line-requires-clause-ranges : goal.fore_line-requires-clause-ranges
-fore_line-requires-clause-ranges c = all_at HasRanges c.args.rows.now c.loop-i.i c.get.result.now c.requires.ranges c.get.ensures
 
 pub loop-i-preserved : goal.loop-i-preserved
 loop-i-preserved c =
