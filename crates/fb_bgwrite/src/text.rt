@@ -116,7 +116,8 @@ fn wrote_line(
 
 // What the sectors of a written block hold.
 fn content_of(alloc: Global, row: &WroteRow) -> Result<Contents, NoMemory>
-    requires { row.now.put ≤ 10 ^ 12 }
+    requires put { row.now.put ≤ 10 ^ 12 }
+    requires range { row.now.lbn + row.now.count ≤ 10 ^ 12 }
     ensures { IfOk result (λ content. content ≡ content_of row.now) }
 {
     let mut content = Contents::new(alloc);
