@@ -14,6 +14,8 @@ use Rattle.fb_store.specs.Sparse.{after_taking, held_sector, held_in, EndsBy}
 use Rattle.fb_store.proofs.Originals.{inside, after}
 use Rattle.fb_store.proofs.Runs.{sectors_of-runs_of}
 use Rattle.fb_store.proofs.Taken.{taken_block, taken_past}
+use Rattle.fb_calls.proofs.Lists.{all_weaker}
+use Rattle.fb_mirror.specs.Replacement.{Event, IsWithin}
 use Rattle.fb_mirror.proofs.Taking.{over, taken_over}
 
 -- what is held of some sectors, told by another function
@@ -117,6 +119,6 @@ few_runs (sector ∷ sectors) = omega (arith, with_long sector.0 sector.1 (runs_
 pub whole_few : (f : ℕ → ℕ × Content) (runs : List ContentRun) (count : ℕ) → runs ≡ runs_of (map f (range_with_len 0 count)) → length runs ≤ count
 whole_few f runs count are = omega (arith, ap length are, few_runs (map f (range_with_len 0 count)), map_long f (range_with_len 0 count), range_long 0 count)
 
-pub within_more : (end most : ℕ) (runs : List ContentRun) → end ≤ most → AllByRecursion (λ run. run.first + run.count ≤ end) runs → AllByRecursion (λ run. run.first + run.count ≤ most) runs
-within_more end most [] less within = tt
-within_more end most (run ∷ runs) less within = let here = within.0 in (omega arith, within_more end most runs less within.1)
+pub within_more : (end most : ℕ) (events : List Event) → end ≤ most → AllByRecursion (IsWithin end) events → AllByRecursion (IsWithin most) events
+within_more end most events less all = all_weaker (IsWithin end) (IsWithin most)
+    (λ event within. all_weaker (λ run. run.first + run.count ≤ end) (λ run. run.first + run.count ≤ most) (λ run here. omega (arith, less, here)) event.contents within) events all

@@ -145,7 +145,7 @@ pub sorted_decide : (lbn : ℕ) (xs ys : List Change) → IsStableByKey (λ chan
     → after_taking (sectors_of (map (λ change. change.run) ys)) lbn None ≡ option_map (λ last. last.1) (latest lbn xs)
 sorted_decide lbn xs ys stable up = last_decides lbn ys up ∙ ap (option_map (λ last. last.1)) (stable_latest lbn xs ys stable)
 
-abbrev Ends : ℕ → Change → Type 0
+abbrev pub Ends : ℕ → Change → Type 0
 Ends end change = change.run.first + change.run.count ≤ end
 
 ends_append : (end : ℕ) (xs ys : List Change) → AllByRecursion (Ends end) xs → AllByRecursion (Ends end) ys → AllByRecursion (Ends end) (xs ++ ys)
@@ -165,7 +165,10 @@ ends_runs end [] all = tt
 ends_runs end (change ∷ changes) all = (all.0, ends_runs end changes all.1)
 
 -- the runs of sorted changes end where those of the events do
+pub sorted_ends : (end : ℕ) (events : List Event) (ys : List Change) → IsPermutation (changes_of events) ys → AllByRecursion (IsWithin end) events → AllByRecursion (Ends end) ys
+sorted_ends end events ys moved all =
+    recursion_from_All (Ends end) ys (All-permutation (Ends end) (changes_of events) ys moved (All-from_recursion (Ends end) (changes_of events) (ends_changes end events all)))
+
 pub sorted_within : (end : ℕ) (events : List Event) (ys : List Change) → IsPermutation (changes_of events) ys → AllByRecursion (IsWithin end) events
     → AllByRecursion (λ run. run.first + run.count ≤ end) (map (λ change. change.run) ys)
-sorted_within end events ys moved all =
-    ends_runs end ys (recursion_from_All (Ends end) ys (All-permutation (Ends end) (changes_of events) ys moved (All-from_recursion (Ends end) (changes_of events) (ends_changes end events all))))
+sorted_within end events ys moved all = ends_runs end ys (sorted_ends end events ys moved all)

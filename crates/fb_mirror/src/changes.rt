@@ -1,7 +1,7 @@
 // The changes that a run makes to the replacement of a lost disk.
-ghost use Rattle.std.specs.Prelude.{◌≡◌, ℕ, ◌+◌, ◌≤◌, ◌++◌, map, None, IfOk, OnOk};
+ghost use Rattle.std.specs.Prelude.{◌≡◌, ℕ, ◌+◌, ◌≤◌, ◌^◌, ◌++◌, map, None, IfOk, OnOk};
 ghost use Rattle.std.specs.List.{AllByRecursion, flat_map};
-ghost use Rattle.fb_store.specs.Runs.{sectors_of};
+ghost use Rattle.fb_store.specs.Runs.{sectors_of, IsInRange};
 ghost use Rattle.fb_store.specs.Sparse.{after_taking};
 ghost use Rattle.fb_model.specs.Content.{number_of};
 ghost use Rattle.fb_mirror.specs.Changes.{changes_of};
@@ -21,8 +21,10 @@ pub struct Change {
     pub run: ContentRun,
 }
 
-// What the sectors of the replacement get, in the order in which it takes effect.
+// What the sectors of the replacement get, in the order in which it takes effect. All of them lie
+// below 10^12.
 pub fn contents_in_order(alloc: Global, run: &Run) -> Result<Contents, NoMemory>
+    requires { AllByRecursion (IsWithin (10 ^ 12)) (events run.now) }
     ensures held { IfOk result (λ contents. (lbn : ℕ) → after_taking (sectors_of contents) lbn None ≡ held_after (events run.now) lbn) }
     ensures within { IfOk result (λ contents. (end : ℕ) → AllByRecursion (IsWithin end) (events run.now) → AllByRecursion (λ run. run.first + run.count ≤ end) contents) }
 {
@@ -31,8 +33,9 @@ pub fn contents_in_order(alloc: Global, run: &Run) -> Result<Contents, NoMemory>
     contents_of(alloc, &changes)
 }
 
-// The contents of the changes, in their order.
+// The contents of the changes, in their order; their sectors lie below 10^12.
 fn contents_of(alloc: Global, changes: &[Change]) -> Result<Contents, NoMemory>
+    requires { AllByRecursion (λ change. IsInRange change.run) changes.now }
     ensures { IfOk result (λ contents. contents ≡ map (λ change. change.run) changes.now) }
 {
     let mut contents = Contents::new(alloc);

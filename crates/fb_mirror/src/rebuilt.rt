@@ -49,7 +49,6 @@ pub fn rebuild(alloc: Global, count: u64, run: &Run) -> Result<Rebuilt, NoMemory
 
 // The sectors that have contents, as the fewest runs.
 fn covered(alloc: Global, contents: &Contents) -> Result<Contents, NoMemory>
-    requires { AllByRecursion (λ run. run.first + run.count ≤ 10 ^ 12) contents.now }
     ensures { IfOk result (λ runs. (end : ℕ) → AllByRecursion (λ run. run.first + run.count ≤ end) contents.now → runs ≡ runs_of (held_in (λ lbn. after_taking (sectors_of contents.now) lbn None) (range_with_len 0 end))) }
 {
     let mut held = SparseContents::new(alloc);

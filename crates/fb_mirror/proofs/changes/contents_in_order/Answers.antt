@@ -1,4 +1,4 @@
-use Rattle.std.proofs.Common.{rules, ◌≡◌, ◌+◌, ◌≤◌, map, None, sym, ap, ◌∙◌, ℕ, List, subst}
+use Rattle.std.proofs.Common.{rules, ◌≡◌, ◌+◌, ◌≤◌, ◌^◌, map, None, sym, ap, ◌∙◌, ℕ, List, subst}
 use Rattle.std.specs.Option.{option_map}
 use Rattle.std.specs.List.{AllByRecursion}
 use Rattle.std.proofs.lemmas.Result.{IfOk-weaker}
@@ -9,8 +9,14 @@ use Rattle.fb_store.specs.Sparse.{after_taking}
 use Rattle.fb_mirror.specs.declared.changes.Change.{Change}
 use Rattle.fb_mirror.specs.Replacement.{IsWithin, events, held_after}
 use Rattle.fb_mirror.proofs.Deciding.{latest, latest_decides}
-use Rattle.fb_mirror.proofs.Order.{sorted_decide, sorted_within}
+use Rattle.fb_mirror.proofs.Order.{Ends, sorted_decide, sorted_ends, sorted_within}
 use Rattle.fb_mirror.proofs.changes.contents_in_order.Goals as goal
+
+pub contents_of-requires : goal.contents_of-requires
+contents_of-requires c =
+    let sorted = c.sort_by_key.new.self.items in
+    let moved = subst (λ changes. IsPermutation changes sorted) c.in_ok-changes.ensures c.sort_by_key.ensures.permutation in
+    subst (AllByRecursion (Ends (10 ^ 12))) (sym c.deref.ensures.value) (sorted_ends (10 ^ 12) (events c.args.run.now) sorted moved c.requires)
 
 pub returns-clause-held : goal.returns-clause-held
 returns-clause-held c =

@@ -9,8 +9,8 @@ use Rattle.fb_mirror.specs.Replacement.{events, held_after}
 use Rattle.fb_mirror.proofs.Covering.{held_sum, kept_few, whole_few, within_more}
 use Rattle.fb_mirror.proofs.rebuilt.rebuild.Goals as goal
 
-pub covered-requires : goal.covered-requires
-covered-requires c = within_more c.args.count (10 ^ 12) c.in_ok-contents.contents c.requires.disk (c.in_ok-contents.ensures.within c.args.count c.requires.ranges)
+pub contents_in_order-requires : goal.contents_in_order-requires
+contents_in_order-requires c = within_more c.args.count (10 ^ 12) (events c.args.run.now) c.requires.disk c.requires.ranges
 
 pub over_unreadable-requires-clause-ranges : goal.over_unreadable-requires-clause-ranges
 over_unreadable-requires-clause-ranges c = c.in_ok-contents.ensures.within c.args.count c.requires.ranges
