@@ -1,12 +1,10 @@
 -- What the replay of an array has written, and why.
 use Rattle.std.specs.Prelude.{◌≡◌, ◌≢◌, ◌⊎◌, ℕ, ◌+◌, ◌≤◌, ◌^◌, List, [], ◌∷◌, ◌++◌, length, decimal, codes, slice_get, Option, Some, option_and_then, true, is_some}
-use Rattle.std.specs.List.{AllByRecursion}
 use Rattle.std.specs.Option.{option_map}
 use Rattle.std.specs.String.{string_bytes}
 use Rattle.fb_geometry.specs.Places.{places}
 use Rattle.fb_geometry.specs.Sound.{IsSound}
 use Rattle.fb_rows.specs.declared.run.Run.{Run}
-use Rattle.fb_rows.specs.Ranges.{HasRanges}
 use Rattle.fb_trace.specs.Reading.{Accepted}
 use Rattle.fb_model.specs.Accepted.{IsAccepted}
 use Rattle.fb_model.specs.FullRun.{IsFull}
@@ -56,10 +54,9 @@ sections size bytes device (run ∷ runs) = section size bytes device run ++ sec
 unfoldable pub array_lines : ℕ → Bytes → List Run → List (List ℕ)
 array_lines size bytes runs = array_first ∷ (sections size bytes 0 runs ++ array_last (length runs) ∷ [])
 
--- a run whose foreground a report can show
-pub record CanTellFore (run : Run) : Type 0 where
-  pub ranges : AllByRecursion HasRanges run.fore
-  pub few : length run.fore ≤ 10 ^ 6
+-- a run whose foreground a report can show: its rows are few
+abbrev pub CanTellFore : Run → Type 0
+CanTellFore run = length run.fore ≤ 10 ^ 6
 
 -- the full run of a device
 pub record IsRunOfDevice (terms : ArrayTerms) (array : Array) (device : ℕ) (run : Run) : Type 0 where

@@ -3,7 +3,6 @@ use Rattle.std.specs.Prelude.{◌≡◌, ◌⊎◌, ℕ, ◌<◌, ◌≤◌, ◌
 use Rattle.std.specs.List.{AllByRecursion}
 use Rattle.fb_geometry.specs.Sound.{IsSound}
 use Rattle.fb_rows.specs.declared.run.Run.{Run}
-use Rattle.fb_rows.specs.Ranges.{HasRanges, HasBackRanges}
 use Rattle.fb_rows.specs.Tasks.{HasNamedTask}
 use Rattle.fb_model.specs.Accepted.{IsAccepted}
 use Rattle.fb_model.specs.FullRun.{IsFull}
@@ -30,11 +29,9 @@ pub record IsRunOf (desk : DeskView) (terms : ReplayTerms) (run : Run) : Type 0 
   pub accepted : IsAccepted (inputs_of files (key_of terms.policy) terms.until)
   pub full : IsFull (inputs_of files (key_of terms.policy) terms.until) run
 
--- rows whose contents and tasks a report can show
+-- rows that a report can show: few in the foreground, and each task of the background has a name
 pub record CanBeTold (names : List (List ℕ)) (run : Run) : Type 0 where
   pub few : length run.fore ≤ 10 ^ 6
-  pub fore : AllByRecursion HasRanges run.fore
-  pub back : AllByRecursion HasBackRanges run.back
   pub named : AllByRecursion (HasNamedTask names) run.back
 
 -- what the lines of both reports need to be in their places: bytes in a sector, names of tasks, and the sectors that rows must have

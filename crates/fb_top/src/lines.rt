@@ -53,14 +53,13 @@ pub struct ForeLines<'a> {
 impl Lines for ForeLines<'_> {
     ghost use Rattle.std.specs.Prelude.{◌≡◌, ◌%◌, ◌<◌};
     ghost use Rattle.std.specs.List.{AllByRecursion};
-    ghost use Rattle.fb_rows.specs.Ranges.{HasRanges};
     ghost use Rattle.fb_report.specs.Fore.{fore_lines};
     ghost use Rattle.fb_report.specs.Grammar.{fore_grammar};
     ghost use Rattle.fb_report.specs.Printed.{ReadsSectors};
 
     ghost lines = { λ t. fore_lines t.sector_bytes t.bytes t.run.now };
 
-    ghost can_be_told = { λ t. (t.sector_bytes % 16 ≡ 0) × AllByRecursion HasRanges t.run.now.fore };
+    ghost can_be_told = { λ t. t.sector_bytes % 16 ≡ 0 };
 
     ghost grammar = { λ t. fore_grammar };
 
@@ -91,7 +90,6 @@ pub struct BackLines<'a> {
 impl Lines for BackLines<'_> {
     ghost use Rattle.std.specs.Prelude.{◌≡◌, ◌%◌, ◌<◌};
     ghost use Rattle.std.specs.List.{AllByRecursion};
-    ghost use Rattle.fb_rows.specs.Ranges.{HasBackRanges};
     ghost use Rattle.fb_rows.specs.Tasks.{HasNamedTask};
     ghost use Rattle.fb_report.specs.Back.{back_lines};
     ghost use Rattle.fb_report.specs.Grammar.{back_grammar};
@@ -99,7 +97,7 @@ impl Lines for BackLines<'_> {
 
     ghost lines = { λ t. back_lines t.names.now t.sector_bytes t.bytes t.run.now };
 
-    ghost can_be_told = { λ t. (t.sector_bytes % 16 ≡ 0) × AllByRecursion HasBackRanges t.run.now.back × AllByRecursion (HasNamedTask t.names.now) t.run.now.back };
+    ghost can_be_told = { λ t. (t.sector_bytes % 16 ≡ 0) × AllByRecursion (HasNamedTask t.names.now) t.run.now.back };
 
     ghost grammar = { λ t. back_grammar };
 

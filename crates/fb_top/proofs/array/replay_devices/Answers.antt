@@ -57,7 +57,7 @@ loop-trace-preserved c =
     record {
       count = omega (arith, ap length more, length-append loop.runs (run ∷ []), loop.invariant.count);
       full = each_more (IsRunOfDevice terms array) loop.runs c.push.new.self run more loop.invariant.full (subst (λ (d : ℕ). IsRunOfDevice terms array d run) c.len.ensures.value mine);
-      told = subst (AllByRecursion CanTellFore) (sym more) (all_push CanTellFore loop.runs run loop.invariant.told (record { ranges = told.fore; few = told.few }));
+      told = subst (AllByRecursion CanTellFore) (sym more) (all_push CanTellFore loop.runs run loop.invariant.told told.few);
       back_told = each_more (λ d r. is_rebuilt_from terms.rebuild d ≡ true → CanBeTold files.calls.names r) loop.runs c.push.new.self run more loop.invariant.back_told
           (λ rebuilt. subst (λ (k : Calls). CanBeTold k.names run) (c.calls_of.ensures.rebuilt (subst (λ (d : ℕ). is_rebuilt_from terms.rebuild d ≡ true) (sym c.len.ensures.value) rebuilt)) told);
     }
