@@ -9,7 +9,7 @@ use Rattle.fb_check.specs.declared.verdict.Verdict.{Verdict}
 use Rattle.fb_desk.specs.Calls.{Rose, ChangesOutput}
 use Rattle.fb_desk.specs.View.{DeskView, InputView}
 use Rattle.fb_desk.specs.declared.desk.Input.{Input}
-use Rattle.fb_desk.specs.declared.desk.Input.TheVariants.{Params, Trace, Calls, Puts, ForeReport, BackReport}
+use Rattle.fb_desk.specs.declared.desk.Input.TheVariants.{Puts, ForeReport, BackReport}
 use Rattle.fb_desk.specs.declared.desk.Output.{Output}
 use Rattle.fb_desk.specs.declared.desk.Output.TheVariants.{Fore}
 use Rattle.fb_words.specs.Command.{CheckTerms}
@@ -18,7 +18,7 @@ use Rattle.fb_top.specs.declared.outcome.Outcome.TheVariants as outcomes
 use Rattle.fb_top.specs.Causes.{AcceptsBefore, AcceptsFiles, AcceptsFore, CheckHasCause, EndsAt, FaultsRose, IsTooLong, IsUnread, KeepsLater, RefusesReportInTurn, StopsInputs, StopsPrinted, StopsReport, input_of, limit_of}
 use Rattle.fb_top.specs.Checked.{ChangesPrinted, IsVerdictCut, IsVerdictOf, JudgesBy, verdict_line}
 use Rattle.fb_top.specs.Read.{Files, ReadsReport, RefusesReport}
-use Rattle.fb_top.specs.Sources.{SourceTerms, check_inputs, check_sources, files_alone, name_of}
+use Rattle.fb_top.specs.Sources.{check_inputs, check_sources, files_alone, name_of}
 use Rattle.fb_top.specs.Streams.{IsLonger}
 use Rattle.fb_top.specs.Written.{KeepsBut, KeepsReports, StopsText}
 use Rattle.fb_top.proofs.Moved.{fore_is_no_note, stops_text}

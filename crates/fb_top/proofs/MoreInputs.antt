@@ -14,7 +14,7 @@ use Rattle.fb_report.specs.declared.reading.Report.TheVariants as reports
 use Rattle.fb_top.specs.Calm.{AreInputsCalm}
 use Rattle.fb_top.specs.Causes.{AcceptsBefore, AcceptsFiles, EndsAt, StopsInputs, StopsPuts, StopsGivenPuts, input_of}
 use Rattle.fb_top.specs.Opened.{IsOpenedAs, OpensAsNamed}
-use Rattle.fb_top.specs.Read.{AcceptsPuts, Files, ReadsPuts}
+use Rattle.fb_top.specs.Read.{AcceptsPuts, Files}
 use Rattle.fb_top.specs.Sources.{InputTerms, SourceTerms, files_alone, name_of}
 use Rattle.fb_top.specs.Unnamed.{KeepsUnnamed}
 use Rattle.fb_top.proofs.Later.{has_name}

@@ -1,9 +1,8 @@
 -- What a replay writes beside its reports where the words name puts, and why it has its answer.
-use Rattle.std.proofs.Common.{◌≡◌, ◌∙◌, ◌⊎◌, ℕ, List, Option, Some, None, Bool, true, refl, sym, subst, inl, inr}
+use Rattle.std.proofs.Common.{◌≡◌, ◌∙◌, ◌⊎◌, ℕ, List, Option, Some, None, true, refl, sym, subst, inl, inr}
 use Rattle.std.specs.Prelude.{IfSome, codes, is_some}
 use Rattle.std.specs.Option.{option_map}
 use Rattle.fb_rows.specs.declared.run.Run.{Run}
-use Rattle.fb_service.specs.declared.disk.Disk.{Disk}
 use Rattle.fb_bgwrite.specs.Reading.{Accepted as PutsRead}
 use Rattle.fb_bgwrite.specs.declared.items.SpillRun.{SpillRun}
 use Rattle.fb_desk.specs.Calls.{ChangesOutput, Rose}
@@ -19,9 +18,9 @@ use Rattle.fb_top.specs.Done.{AreReadBack, HoldsReports, HoldsWanted, IsDone, Is
 use Rattle.fb_top.specs.Read.{Accepts, AcceptsPuts, Files}
 use Rattle.fb_top.specs.Sources.{replay_inputs, replay_sources}
 use Rattle.fb_top.specs.Unnamed.{KeepsUnnamed}
-use Rattle.fb_top.specs.Spilled.{CutsSpill, HoldsBoth, HoldsReplay, HoldsSpill, IsSpillOf, IsSpilled, StopsReplay, StopsSpill, WritesGiven, WritesPuts, spill_told}
+use Rattle.fb_top.specs.Spilled.{CutsSpill, HoldsBoth, HoldsSpill, IsSpillOf, IsSpilled, StopsReplay, StopsSpill, WritesGiven, WritesPuts, spill_told}
 use Rattle.fb_top.specs.Written.{HoldsFront, HoldsWhole, KeepsReports, StopsText}
-use Rattle.fb_top.proofs.Moved.{back_is_no_note, faults_rose, fore_is_no_note, front, holds_reports, spill_is_no_note, stops_reports, wanted, whole}
+use Rattle.fb_top.proofs.Moved.{faults_rose, fore_is_no_note, front, holds_reports, spill_is_no_note, stops_reports, wanted, whole}
 
 -- what is made of a thing in two steps
 pub through : {X Y Z : Type 0} (r : Option X) (g : X → Y) (f : Y → Z) → option_map (λ x. f (g x)) r ≡ option_map f (option_map g r)

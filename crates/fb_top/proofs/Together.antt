@@ -1,6 +1,6 @@
 -- A replay has puts exactly if it has an output for what is written.
-use Rattle.std.proofs.Common.{◌≡◌, ◌∙◌, ap, ℕ, List, [], ◌∷◌, length, Bool, true, false, refl, sym, subst, Option, Some, None, Result, Ok, Err}
-use Rattle.std.specs.Prelude.{is_some, not}
+use Rattle.std.proofs.Common.{◌≡◌, ◌∙◌, ap, ℕ, List, [], ◌∷◌, length, Bool, true, false, refl, subst, Result, Ok}
+use Rattle.std.specs.Prelude.{not}
 use Rattle.fb_units.specs.Judging.{or_refuse, refuse, refused_as}
 use Rattle.fb_units.proofs.Judged.{both_ok, step_ok, test_ok}
 use Rattle.fb_words.specs.Command.{ReplayTerms, Terms, command_of, go_together, replay_of, replays, makes, checks, arrays, terms_of, make_of, check_of, array_of, with_verb}
@@ -11,8 +11,6 @@ use Rattle.fb_words.specs.Verdict.{replay_terms, terms}
 use Rattle.fb_words.specs.declared.command.Command.{Command}
 use Rattle.fb_words.specs.declared.command.Command.TheVariants as commands
 use Rattle.fb_words.specs.declared.command.ReplayWords.{ReplayWords}
-use Rattle.fb_words.specs.declared.fault.UsageFault.{UsageFault}
-use Rattle.fb_words.specs.declared.fault.UsageReason.{UsageReason}
 use Rattle.fb_words.specs.declared.fault.UsageReason.TheVariants.{CallsAndBack, MissingOption, PutsAndSpill, UnknownCommand}
 use Rattle.fb_words.specs.declared.names.Verb.{Verb}
 use Rattle.fb_words.specs.declared.names.Verb.TheVariants.{Replay, Make, Check, Array}

@@ -1,14 +1,13 @@
-use Rattle.std.proofs.Common.{◌≡◌, ◌∙◌, ℕ, List, Option, Some, None, refl, sym, ap, subst}
+use Rattle.std.proofs.Common.{◌∙◌, ℕ, List, Option, subst}
 use Rattle.std.specs.Option.{option_map}
 use Rattle.fb_bgwrite.specs.Verdict.{accepted}
-use Rattle.fb_desk.specs.View.{InputView}
 use Rattle.fb_desk.specs.declared.desk.Input.TheVariants.{Puts}
 use Rattle.std.specs.Prelude.{IfSome}
 use Rattle.fb_words.specs.Verdict.{replay_terms}
 use Rattle.fb_top.specs.Causes.{AcceptsFiles, StopsInputs, StopsGivenPuts}
 use Rattle.fb_top.specs.Opened.{IsOpenedAs, OpensAsNamed}
 use Rattle.fb_top.specs.Read.{Accepts, AcceptsPuts, files_of, key_of}
-use Rattle.fb_top.specs.Sources.{SourceTerms, files_alone, replay_inputs, replay_sources}
+use Rattle.fb_top.specs.Sources.{SourceTerms, files_alone, replay_inputs}
 use Rattle.fb_top.specs.Unnamed.{KeepsUnnamed}
 use Rattle.fb_top.proofs.MoreInputs.{files_opened, files_stopped, files_unnamed, puts_before, puts_calm, puts_opened, puts_stopped, puts_unnamed}
 use Rattle.fb_top.proofs.puts.read_replay.Goals as goal

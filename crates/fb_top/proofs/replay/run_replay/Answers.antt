@@ -1,4 +1,4 @@
-use Rattle.std.proofs.Common.{◌≡◌, ◌∙◌, Option, Some, None, ap, length, refl, inl, sym, subst}
+use Rattle.std.proofs.Common.{◌≡◌, ◌∙◌, Option, ap, length, inl, sym, subst}
 use Rattle.std.specs.Option.{option_map}
 use Rattle.fb_bgwrite.specs.Reading.{Accepted as PutsRead}
 use Rattle.fb_bgwrite.specs.Verdict.{accepted}
@@ -14,7 +14,7 @@ use Rattle.fb_top.specs.Done.{CanBeTold, IsRunOf}
 use Rattle.fb_top.specs.Spilled.{HoldsReplay, StopsReplay, WritesGiven}
 use Rattle.fb_top.proofs.Later.{replay_stopped}
 use Rattle.fb_top.proofs.Readable.{run_can_be_read}
-use Rattle.fb_top.proofs.Spills.{all_done, all_spilled, at_replay, named_alike, replay_ran_out, through}
+use Rattle.fb_top.proofs.Spills.{all_done, all_spilled, at_replay, replay_ran_out, through}
 use Rattle.fb_top.proofs.replay.run_replay.Goals as goal
 
 pub returns-in-Err-clause-cause : goal.returns-in-Err-clause-cause
