@@ -8,7 +8,6 @@ use Rattle.fb_tasks.proofs.Calls.{may-take, called-more, called-tested, called-c
 use Rattle.std.specs.Prelude.{slice_get}
 use Rattle.fb_tasks.specs.declared.session.Session.{Session}
 use Rattle.fb_tasked.specs.Following.{Follows}
-use Rattle.fb_rows.specs.Ranges.{AreRanges}
 use Rattle.fb_tasks.specs.Telling.{IsBlockOf, entry_of}
 
 module _ {settled : Bool} {disk : Shape} {calls : List Call} {next : ℕ} {sessions : List Session} {held : List Entry} (h : Follows settled disk calls next sessions held) where
@@ -76,10 +75,10 @@ wanted-at {past} tells place entry at is =
 
 -- and may be delivered then
 pub follows-may-deliver : {disk : Shape} {calls : List Call} {next : ℕ} {sessions : List Session} {held : List Entry} (h : Follows true disk calls next sessions held) (got : DeliveryRow) (place : ℕ) (content_at : ℕ → Content)
-    → slice_get held place ≡ Some (record { block = got.block; state = Wanted }) → Gives got.content content_at got.block.lbn got.block.count → AreRanges got.content → MayDeliver disk h.past sessions held got
-follows-may-deliver h got place content_at at gives ranges =
+    → slice_get held place ≡ Some (record { block = got.block; state = Wanted }) → Gives got.content content_at got.block.lbn got.block.count → MayDeliver disk h.past sessions held got
+follows-may-deliver h got place content_at at gives =
     let there = wanted-at h.tells place (record { block = got.block; state = Wanted }) at refl in
-    record { tells = h.tells; settled = h.tested refl; place = there.0; wanted = there.1; content_at = content_at; content = gives; ranges = ranges }
+    record { tells = h.tells; settled = h.tested refl; place = there.0; wanted = there.1; content_at = content_at; content = gives }
 
 -- each task has its row
 pub rows-there : {disk : Shape} {past : Past} {sessions : List Session} {held : List Entry} (tells : Tells disk past sessions held) → (rows : List BackRow) → rows ≡ task_rows past → length rows ≡ length sessions

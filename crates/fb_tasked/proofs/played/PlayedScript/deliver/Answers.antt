@@ -12,7 +12,7 @@ delivered-requires c =
     let now = content_in c.args.self.now.store in
     let gives = ap sectors_of c.in_ok-content.ensures.fewest ∙ (c.runs_are_fewest.ensures (map (λ lbn. (lbn, now lbn)) (range_with_len block.lbn block.count))).contents in
     let got : DeliveryRow = record { block = block; begin = c.args.begin; end = c.args.end; how = c.args.how; bad = c.bad.result; content = c.in_ok-content.content } in
-    (c.args.self.now.map, c.requires.follows.past, follows-may-deliver c.requires.follows got c.requires.wanted.0 now c.requires.wanted.1 gives c.in_ok-content.ensures.ranges)
+    (c.args.self.now.map, c.requires.follows.past, follows-may-deliver c.requires.follows got c.requires.wanted.0 now c.requires.wanted.1 gives)
 
 pub returns : goal.returns
 returns c =
@@ -20,7 +20,7 @@ returns c =
     let now = content_in c.args.self.now.store in
     let gives = ap sectors_of c.in_ok-content.ensures.fewest ∙ (c.runs_are_fewest.ensures (map (λ lbn. (lbn, now lbn)) (range_with_len block.lbn block.count))).contents in
     let got : DeliveryRow = record { block = block; begin = c.args.begin; end = c.args.end; how = c.args.how; bad = c.bad.result; content = c.in_ok-content.content } in
-    let may = follows-may-deliver c.requires.follows got c.requires.wanted.0 now c.requires.wanted.1 gives c.in_ok-content.ensures.ranges in
+    let may = follows-may-deliver c.requires.follows got c.requires.wanted.0 now c.requires.wanted.1 gives in
     on_ok_weaker c.delivered.result (λ all. follows-delivered c.requires.follows got c.delivered.new.self c.delivered.new.wanted
     (all.0 c.args.self.now.map c.requires.follows.past may) (all.1 c.args.self.now.map c.requires.follows.past may) c.args.self.now.settled)
     (on_ok_both _ _ c.delivered.result c.delivered.ensures.tells c.delivered.ensures.settled)
