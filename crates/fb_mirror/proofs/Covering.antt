@@ -119,6 +119,10 @@ few_runs (sector ∷ sectors) = omega (arith, with_long sector.0 sector.1 (runs_
 pub whole_few : (f : ℕ → ℕ × Content) (runs : List ContentRun) (count : ℕ) → runs ≡ runs_of (map f (range_with_len 0 count)) → length runs ≤ count
 whole_few f runs count are = omega (arith, ap length are, few_runs (map f (range_with_len 0 count)), map_long f (range_with_len 0 count), range_long 0 count)
 
-pub within_more : (end most : ℕ) (events : List Event) → end ≤ most → AllByRecursion (IsWithin end) events → AllByRecursion (IsWithin most) events
-within_more end most events less all = all_weaker (IsWithin end) (IsWithin most)
-    (λ event within. all_weaker (λ run. run.first + run.count ≤ end) (λ run. run.first + run.count ≤ most) (λ run here. omega (arith, less, here)) event.contents within) events all
+-- events that end by a sector end by each later one
+pub within_more : (end most : ℕ) (events : List Event) → end ≤ most → AllByRecursion (IsWithin end) events
+    → AllByRecursion (IsWithin most) events
+within_more end most events less all = all_weaker (IsWithin end) (IsWithin most) one events all where
+  one : (event : Event) → IsWithin end event → IsWithin most event
+  one event within = all_weaker (λ run. run.first + run.count ≤ end) (λ run. run.first + run.count ≤ most)
+      (λ run here. omega (arith, less, here)) event.contents within

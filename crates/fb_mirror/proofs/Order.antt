@@ -165,9 +165,11 @@ ends_runs end [] all = tt
 ends_runs end (change ∷ changes) all = (all.0, ends_runs end changes all.1)
 
 -- the runs of sorted changes end where those of the events do
-pub sorted_ends : (end : ℕ) (events : List Event) (ys : List Change) → IsPermutation (changes_of events) ys → AllByRecursion (IsWithin end) events → AllByRecursion (Ends end) ys
+pub sorted_ends : (end : ℕ) (events : List Event) (ys : List Change) → IsPermutation (changes_of events) ys
+    → AllByRecursion (IsWithin end) events → AllByRecursion (Ends end) ys
 sorted_ends end events ys moved all =
-    recursion_from_All (Ends end) ys (All-permutation (Ends end) (changes_of events) ys moved (All-from_recursion (Ends end) (changes_of events) (ends_changes end events all)))
+    let each = All-from_recursion (Ends end) (changes_of events) (ends_changes end events all) in
+    recursion_from_All (Ends end) ys (All-permutation (Ends end) (changes_of events) ys moved each)
 
 pub sorted_within : (end : ℕ) (events : List Event) (ys : List Change) → IsPermutation (changes_of events) ys → AllByRecursion (IsWithin end) events
     → AllByRecursion (λ run. run.first + run.count ≤ end) (map (λ change. change.run) ys)

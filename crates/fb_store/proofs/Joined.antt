@@ -92,9 +92,11 @@ joins-first : (a b : ContentRun) → joins a b ≡ true → b.first ≡ a.first 
 joins-first a b joined = eqb→eq b.first (a.first + a.count) (so (b.first == a.first + a.count) (left (b.first == a.first + a.count) (same_content a.content b.content) joined))
 
 -- a run that continues the last one begins where that ends
-pub joined-first : (runs : List ContentRun) (n : ℕ) (last run : ContentRun) → length runs ≡ n + 1 → slice_get runs n ≡ Some last → last_joins runs run ≡ true → run.first ≡ last.first + last.count
+pub joined-first : (runs : List ContentRun) (n : ℕ) (last run : ContentRun) → length runs ≡ n + 1 → slice_get runs n ≡ Some last
+    → last_joins runs run ≡ true → run.first ≡ last.first + last.count
 joined-first runs n last run size at joined =
-    joins-first last run (sym (last_joins-at runs n last run size ∙ ap (λ r. joins r run) (get_or_from_slice_get runs n last last at)) ∙ joined)
+    let is = ap (λ r. joins r run) (get_or_from_slice_get runs n last last at) in
+    joins-first last run (sym (last_joins-at runs n last run size ∙ is) ∙ joined)
 
 -- the fewest runs of some sectors are the fewest runs of the sectors that they have
 pub fewest-again : (sectors : List (ℕ × Content)) (runs : List ContentRun) → runs ≡ runs_of sectors → (sectors_of runs ≡ sectors) × (runs ≡ runs_of (sectors_of runs))

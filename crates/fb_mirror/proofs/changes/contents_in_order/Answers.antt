@@ -16,7 +16,8 @@ pub contents_of-requires : goal.contents_of-requires
 contents_of-requires c =
     let sorted = c.sort_by_key.new.self.items in
     let moved = subst (λ changes. IsPermutation changes sorted) c.in_ok-changes.ensures c.sort_by_key.ensures.permutation in
-    subst (AllByRecursion (Ends (10 ^ 12))) (sym c.deref.ensures.value) (sorted_ends (10 ^ 12) (events c.args.run.now) sorted moved c.requires)
+    let each = sorted_ends (10 ^ 12) (events c.args.run.now) sorted moved c.requires in
+    subst (AllByRecursion (Ends (10 ^ 12))) (sym c.deref.ensures.value) each
 
 pub returns-clause-held : goal.returns-clause-held
 returns-clause-held c =

@@ -8,7 +8,8 @@ pub overflow_add-longer : goal.overflow_add-longer
 overflow_add-longer c =
     let goes_on = sym c.goes_on.ensures ∙ c.if-not-goes_on.false in
     let size = some_run c.args.self.now c.args.run goes_on in
-    let first = joined-first c.args.self.now (c.len-last.result - 1) c.get-longer.result c.args.run (omega arith) c.get-longer.ensures.value goes_on in
+    let at = c.get-longer.ensures.value in
+    let first = joined-first c.args.self.now (c.len-last.result - 1) c.get-longer.result c.args.run (omega arith) at goes_on in
     let range = c.requires.range in
     omega arith
 
@@ -16,7 +17,8 @@ pub set-requires-clause-range : goal.set-requires-clause-range
 set-requires-clause-range c =
     let goes_on = sym c.goes_on.ensures ∙ c.if-not-goes_on.false in
     let size = some_run c.args.self.now c.args.run goes_on in
-    let first = joined-first c.args.self.now (c.len-last.result - 1) c.get-longer.result c.args.run (omega arith) c.get-longer.ensures.value goes_on in
+    let at = c.get-longer.ensures.value in
+    let first = joined-first c.args.self.now (c.len-last.result - 1) c.get-longer.result c.args.run (omega arith) at goes_on in
     let range = c.requires.range in
     omega arith
 
