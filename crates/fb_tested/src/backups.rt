@@ -1,7 +1,6 @@
 // A backup of four sectors in two blocks: the first block is delivered, overwritten by the first
 // request, and delivered again.
-ghost use Rattle.std.specs.Prelude.{◌≡◌, ◌≤◌, ◌+◌, ◌^◌, ℕ, IfOk, cond, ◌==◌};
-ghost use Rattle.std.specs.List.{AllByRecursion};
+ghost use Rattle.std.specs.Prelude.{◌≡◌, ℕ, IfOk, cond, ◌==◌};
 ghost use Rattle.fb_store.specs.declared.content.Content.{Content};
 ghost use Rattle.fb_store.specs.Sparse.{Gives};
 
@@ -16,7 +15,6 @@ use std::test::Fail;
 // The contents of two neighbouring sectors.
 fn pair(alloc: Global, lbn: u32, content: Content, next: Content) -> Result<Contents, NoMemory>
     ensures gives { IfOk result (λ contents. Gives contents (λ l. cond (l == lbn) content next) lbn 2) }
-    ensures ranges { IfOk result (λ contents. AllByRecursion (λ run. run.first + run.count ≤ 10 ^ 12) contents) }
 {
     let first = lbn as u64;
     let mut contents = Contents::new(alloc);

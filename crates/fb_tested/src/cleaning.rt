@@ -1,7 +1,6 @@
 // A choice worked out by hand: the first segment has four blocks, two of them live, and age 10; the
 // second has four blocks, one of them live, and age 9.
-ghost use Rattle.std.specs.Prelude.{◌≡◌, ◌≢◌, ◌≤◌, ◌+◌, ◌^◌, ℕ, None, length, IfOk, []};
-ghost use Rattle.std.specs.List.{AllByRecursion};
+ghost use Rattle.std.specs.Prelude.{◌≡◌, ◌≢◌, ℕ, None, length, IfOk, []};
 ghost use Rattle.fb_store.specs.declared.content.Content.TheVariants.{Filled};
 ghost use Rattle.fb_store.specs.Sparse.{Gives};
 
@@ -32,7 +31,6 @@ fn live(alloc: Global, blocks: [bool; 4]) -> Result<Live, NoMemory>
 // The content of one sector that nobody wrote.
 fn sector(alloc: Global, lbn: u32) -> Result<Contents, NoMemory>
     ensures gives { IfOk result (λ contents. Gives contents (λ l. Filled 0) lbn 1) }
-    ensures ranges { IfOk result (λ contents. AllByRecursion (λ run. run.first + run.count ≤ 10 ^ 12) contents) }
 {
     let mut contents = Contents::new(alloc);
     contents.push(ContentRun {
