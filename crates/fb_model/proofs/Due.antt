@@ -4,7 +4,6 @@ use Rattle.std.specs.List.{AllByRecursion, fold}
 use Rattle.fb_store.specs.Runs.{runs_of, bad_of}
 use Rattle.fb_calls.proofs.Lists.{all_weaker}
 use Rattle.fb_wanted.specs.declared.block.Block.{Block}
-use Rattle.fb_rows.specs.declared.gap.Plan.{Plan}
 use Rattle.fb_rows.specs.declared.gap.Dwell.{Dwell}
 use Rattle.fb_rows.specs.declared.gap.How.{How}
 use Rattle.fb_rows.specs.declared.gap.How.TheVariants.{Gap as ByGap, Idle as ByIdle, Ride as ByRide}
@@ -14,9 +13,9 @@ use Rattle.fb_model.specs.PlainReplay.{Served}
 use Rattle.fb_model.specs.Content.{ContentsAt, Medium, contents_at}
 use Rattle.fb_model.specs.Plans.{block_begin, block_end, catches, early_dwell, late_dwell}
 use Rattle.fb_model.specs.Inputs.{Inputs}
-use Rattle.fb_model.specs.Decisions.{Decision, serves, idles, ends}
+use Rattle.fb_model.specs.Decisions.{Act, serving, idling, ending}
 use Rattle.fb_model.specs.History.{Past, wanted}
-use Rattle.fb_model.specs.Steps.{Part, settled_past}
+use Rattle.fb_model.specs.Steps.{Step, decision_in, settled_past}
 use Rattle.fb_model.specs.Rides.{gap_of, due, delivery, is_before, placed, in_order, caught, missed, lies_in, rides, begin_at, end_at}
 use Rattle.fb_model.specs.SoundRun.{IsSublist, none, left_out, taken, IsDelivered}
 use Rattle.fb_model.proofs.Lists.{all_append, all_filter}
@@ -96,36 +95,36 @@ pub rides_true : (contents : ContentsAt) (served : Served) (Q : Block → Type 0
 rides_true contents served Q blocks qs = rides_by served.request.write contents served Q blocks refl qs
 
 -- what a delivery at a decision is: caught by the early dwell, by the late dwell, by the idle dwell, or carried by the read
-abbrev pub IsDueRow : Disk → ContentsAt → Decision → Plan → (Block → Type 0) → DeliveryRow → Type 0
-IsDueRow disk contents (serves served) plan Q row = IsCaughtIn disk contents ByGap (early_dwell disk (gap_of disk served) plan) Q row
+abbrev pub IsDueRow : Disk → ContentsAt → Act → (Block → Type 0) → DeliveryRow → Type 0
+IsDueRow disk contents (serving served plan) Q row = IsCaughtIn disk contents ByGap (early_dwell disk (gap_of disk served) plan) Q row
     ⊎ (IsCaughtIn disk contents ByGap (late_dwell disk (gap_of disk served) plan) Q row ⊎ IsCarriedBy contents served Q row)
-IsDueRow disk contents (idles dwell) plan Q row = IsCaughtIn disk contents ByIdle dwell Q row
-IsDueRow disk contents (ends now) plan Q row = ⊥
+IsDueRow disk contents (idling dwell) Q row = IsCaughtIn disk contents ByIdle dwell Q row
+IsDueRow disk contents (ending now) Q row = ⊥
 
-pub due_bytes : (disk : Disk) (contents : ContentsAt) (decision : Decision) (plan : Plan) (Q : Block → Type 0) (row : DeliveryRow)
-    → IsDueRow disk contents decision plan Q row → HasBytes contents row
-due_bytes disk contents (serves served) plan Q row due_row = elim due_row [
+pub due_bytes : (disk : Disk) (contents : ContentsAt) (act : Act) (Q : Block → Type 0) (row : DeliveryRow)
+    → IsDueRow disk contents act Q row → HasBytes contents row
+due_bytes disk contents (serving served plan) Q row due_row = elim due_row [
   | inl early ↦ early.bytes
   | inr others ↦ elim others [
     | inl late ↦ late.bytes
     | inr ride ↦ ride.bytes
   ]
 ]
-due_bytes disk contents (idles dwell) plan Q row due_row = due_row.bytes
-due_bytes disk contents (ends now) plan Q row due_row = absurd due_row
+due_bytes disk contents (idling dwell) Q row due_row = due_row.bytes
+due_bytes disk contents (ending now) Q row due_row = absurd due_row
 
 -- of a block of which the wanted blocks' property holds
-pub due_block : (disk : Disk) (contents : ContentsAt) (decision : Decision) (plan : Plan) (Q : Block → Type 0) (row : DeliveryRow)
-    → IsDueRow disk contents decision plan Q row → Q row.block
-due_block disk contents (serves served) plan Q row due_row = elim due_row [
+pub due_block : (disk : Disk) (contents : ContentsAt) (act : Act) (Q : Block → Type 0) (row : DeliveryRow)
+    → IsDueRow disk contents act Q row → Q row.block
+due_block disk contents (serving served plan) Q row due_row = elim due_row [
   | inl early ↦ early.one_of
   | inr others ↦ elim others [
     | inl late ↦ late.one_of
     | inr ride ↦ ride.one_of
   ]
 ]
-due_block disk contents (idles dwell) plan Q row due_row = due_row.one_of
-due_block disk contents (ends now) plan Q row due_row = absurd due_row
+due_block disk contents (idling dwell) Q row due_row = due_row.one_of
+due_block disk contents (ending now) Q row due_row = absurd due_row
 
 all_some : (P : DeliveryRow → Type 0) {xs ys : List DeliveryRow} → IsSublist xs ys → AllByRecursion P ys → AllByRecursion P xs
 all_some P none ps = ps
@@ -133,10 +132,10 @@ all_some P (left_out p) ps = all_some P p ps.1
 all_some P (taken p) ps = (ps.0, all_some P p ps.1)
 
 -- all that is due is so, if all wanted blocks have a property
-pub due_true : (disk : Disk) (contents : ContentsAt) (decision : Decision) (plan : Plan) (Q : Block → Type 0) (wanted : List Block) → AllByRecursion Q wanted
-    → AllByRecursion (IsDueRow disk contents decision plan Q) (due disk contents decision plan wanted)
+pub due_true : (disk : Disk) (contents : ContentsAt) (act : Act) (Q : Block → Type 0) (wanted : List Block) → AllByRecursion Q wanted
+    → AllByRecursion (IsDueRow disk contents act Q) (due disk contents act wanted)
 unfolding due
-due_true disk contents (serves served) plan Q wanted qs =
+due_true disk contents (serving served plan) Q wanted qs =
     let gap = gap_of disk served in
     let early = early_dwell disk gap plan in
     let late = late_dwell disk gap plan in
@@ -144,16 +143,16 @@ due_true disk contents (serves served) plan Q wanted qs =
     let last = missed disk late left in
     let left_all = all_filter Q (λ block. not (catches disk early block)) wanted qs in
     let last_all = all_filter Q (λ block. not (catches disk late block)) left left_all in
-    all_append (IsDueRow disk contents (serves served) plan Q) (caught disk contents ByGap early wanted ++ caught disk contents ByGap late left) (rides contents served last)
-    (all_append (IsDueRow disk contents (serves served) plan Q) (caught disk contents ByGap early wanted) (caught disk contents ByGap late left)
-    (all_weaker (IsCaughtIn disk contents ByGap early Q) (IsDueRow disk contents (serves served) plan Q) (λ row p. inl p) (caught disk contents ByGap early wanted) (caught_true disk contents ByGap early Q wanted qs))
-    (all_weaker (IsCaughtIn disk contents ByGap late Q) (IsDueRow disk contents (serves served) plan Q) (λ row p. inr (inl p)) (caught disk contents ByGap late left) (caught_true disk contents ByGap late Q left left_all)))
-    (all_weaker (IsCarriedBy contents served Q) (IsDueRow disk contents (serves served) plan Q) (λ row p. inr (inr p)) (rides contents served last) (rides_true contents served Q last last_all))
-due_true disk contents (idles dwell) plan Q wanted qs = caught_true disk contents ByIdle dwell Q wanted qs
-due_true disk contents (ends now) plan Q wanted qs = tt
+    all_append (IsDueRow disk contents (serving served plan) Q) (caught disk contents ByGap early wanted ++ caught disk contents ByGap late left) (rides contents served last)
+    (all_append (IsDueRow disk contents (serving served plan) Q) (caught disk contents ByGap early wanted) (caught disk contents ByGap late left)
+    (all_weaker (IsCaughtIn disk contents ByGap early Q) (IsDueRow disk contents (serving served plan) Q) (λ row p. inl p) (caught disk contents ByGap early wanted) (caught_true disk contents ByGap early Q wanted qs))
+    (all_weaker (IsCaughtIn disk contents ByGap late Q) (IsDueRow disk contents (serving served plan) Q) (λ row p. inr (inl p)) (caught disk contents ByGap late left) (caught_true disk contents ByGap late Q left left_all)))
+    (all_weaker (IsCarriedBy contents served Q) (IsDueRow disk contents (serving served plan) Q) (λ row p. inr (inr p)) (rides contents served last) (rides_true contents served Q last last_all))
+due_true disk contents (idling dwell) Q wanted qs = caught_true disk contents ByIdle dwell Q wanted qs
+due_true disk contents (ending now) Q wanted qs = tt
 
 -- and so is each delivery of a sound run, of a block wanted at its decision
-pub delivery_true : (inputs : Inputs) (medium : Medium) (past : Past) (step : Decision × Part) (Q : Block → Type 0) → IsDelivered inputs medium past step
-    → AllByRecursion Q (wanted (settled_past inputs past step.0)) → AllByRecursion (IsDueRow medium.disk (contents_at medium) step.0 step.1.plan Q) (map (λ delivery. delivery.got) step.1.deliveries)
-delivery_true inputs medium past step Q some qs = all_some (IsDueRow medium.disk (contents_at medium) step.0 step.1.plan Q) some
-    (due_true medium.disk (contents_at medium) step.0 step.1.plan Q (wanted (settled_past inputs past step.0)) qs)
+pub delivery_true : (inputs : Inputs) (medium : Medium) (past : Past) (step : Step) (Q : Block → Type 0) → IsDelivered inputs medium past step
+    → AllByRecursion Q (wanted (settled_past inputs past (decision_in step))) → AllByRecursion (IsDueRow medium.disk (contents_at medium) step.act Q) (map (λ delivery. delivery.got) step.deliveries)
+delivery_true inputs medium past step Q some qs = all_some (IsDueRow medium.disk (contents_at medium) step.act Q) some
+    (due_true medium.disk (contents_at medium) step.act Q (wanted (settled_past inputs past (decision_in step))) qs)

@@ -20,7 +20,7 @@ use Rattle.fb_rows.specs.declared.back.DeliveryRow.{DeliveryRow}
 use Rattle.fb_model.specs.PlainReplay.{Served, media, finish}
 use Rattle.fb_model.specs.Content.{ContentsAt}
 use Rattle.fb_model.specs.Plans.{IsPlan, block_begin, block_end, catches, early_dwell, late_dwell}
-use Rattle.fb_model.specs.Decisions.{Decision, serves, idles, ends, instant_of, end_of}
+use Rattle.fb_model.specs.Decisions.{Decision, serves, idles, ends, instant_of, end_of, Act, serving, idling, ending, decision_of}
 use Rattle.fb_model.specs.Rides.{gap_of, due, delivery, is_before, placed, in_order, caught, missed, lies_in, begin_at, end_at}
 use Rattle.fb_model.specs.SoundRun.{HasPlan}
 use Rattle.fb_model.proofs.Lists.{all_filter, same_kept, by_is}
@@ -78,10 +78,10 @@ delivers_by disk (serves served) to made over = (omega (arith, media_by disk ser
 delivers_by disk (idles dwell) to made over = over
 delivers_by disk (ends now) to made over = tt
 
-pub due_between : (disk : Disk) (contents : ContentsAt) (decision : Decision) (plan : Plan) (Q : Block → Type 0) (to : ℕ)
-    → IsMade disk decision → HasPlan disk decision plan → DeliversBy to decision → (row : DeliveryRow)
-    → HasSector row.block → IsDueRow disk contents decision plan Q row → LiesBetween (instant_of decision) to row
-due_between disk contents (serves served) plan Q to made is over row some due_row =
+pub due_between : (disk : Disk) (contents : ContentsAt) (act : Act) (Q : Block → Type 0) (to : ℕ)
+    → IsMade disk (decision_of act) → HasPlan disk act → DeliversBy to (decision_of act) → (row : DeliveryRow)
+    → HasSector row.block → IsDueRow disk contents act Q row → LiesBetween (instant_of (decision_of act)) to row
+due_between disk contents (serving served plan) Q to made is over row some due_row =
     let first = early_dwell disk (gap_of disk served) plan in
     let last = late_dwell disk (gap_of disk served) plan in
     let dwell = dwell_plan disk served plan is in
@@ -101,9 +101,9 @@ due_between disk contents (serves served) plan Q to made is over row some due_ro
             }
       ]
     ]
-due_between disk contents (idles dwell) plan Q to made is over row some due_row =
+due_between disk contents (idling dwell) Q to made is over row some due_row =
     caught_between disk contents ByIdle dwell Q dwell.begin to row (omega arith) over due_row
-due_between disk contents (ends now) plan Q to made is over row some due_row = absurd due_row
+due_between disk contents (ending now) Q to made is over row some due_row = absurd due_row
 
 -- ---- the same where sectors hold the same
 
@@ -141,12 +141,12 @@ module _ (disk : Disk) (x y : ContentsAt) (from to : ℕ) (same : AgreeBetween f
     | inr other ↦ rw other (same_ride served blocks made after before some.1)
   ]
 
-  pub same_due : (decision : Decision) (plan : Plan) (wanted : List Block) → IsMade disk decision
-      → HasPlan disk decision plan → from ≤ instant_of decision → DeliversBy to decision
+  pub same_due : (act : Act) (wanted : List Block) → IsMade disk (decision_of act)
+      → HasPlan disk act → from ≤ instant_of (decision_of act) → DeliversBy to (decision_of act)
       → AllByRecursion HasSector wanted
-      → due disk x decision plan wanted ≡ due disk y decision plan wanted
+      → due disk x act wanted ≡ due disk y act wanted
   unfolding due
-  same_due (serves served) plan wanted made is after over some =
+  same_due (serving served plan) wanted made is after over some =
       let early = early_dwell disk (gap_of disk served) plan in
       let late = late_dwell disk (gap_of disk served) plan in
       let left = missed disk early wanted in
@@ -163,8 +163,8 @@ module _ (disk : Disk) (x y : ContentsAt) (from to : ℕ) (same : AgreeBetween f
       if_reads : (write : Bool) {rows others : List DeliveryRow} → (write ≡ false → rows ≡ others) → (if write then [] else rows) ≡ (if write then [] else others)
       if_reads true h = refl
       if_reads false h = h refl
-  same_due (idles dwell) plan wanted made is after over some = same_caught ByIdle dwell wanted after over
-  same_due (ends now) plan wanted made is after over some = refl
+  same_due (idling dwell) wanted made is after over some = same_caught ByIdle dwell wanted after over
+  same_due (ending now) wanted made is after over some = refl
 
 -- ---- in the order of their ends
 

@@ -1,24 +1,23 @@
 -- A gap has one best plan at most, and inputs one full run.
-use Rattle.std.proofs.Common.{◌≡◌, ◌⊎◌, ℕ, ◌≤◌, List, [], ◌∷◌, ◌++◌, length, map, refl, ap, sym, subst, ◌∙◌, arith, inl, inr}
-use Rattle.std.specs.List.{fold, flat_map, zip}
+use Rattle.std.proofs.Common.{◌≡◌, ◌⊎◌, ℕ, ◌≤◌, List, [], ◌∷◌, ◌++◌, map, refl, ap, ap₂, sym, subst, ◌∙◌, arith, inl, inr}
+use Rattle.std.specs.List.{flat_map}
 use Rattle.fb_units.specs.declared.types.Track.{Track}
 use Rattle.fb_service.specs.declared.disk.Disk.{Disk}
 use Rattle.fb_wanted.specs.declared.block.Block.{Block}
 use Rattle.fb_rows.specs.declared.gap.Gap.{Gap}
 use Rattle.fb_rows.specs.declared.gap.Plan.{Plan}
 use Rattle.fb_rows.specs.declared.gap.Plan.TheVariants.{Direct, Detour}
-use Rattle.fb_rows.specs.declared.back.BackRow.TheVariants.{Got as GotLine}
 use Rattle.fb_rows.specs.declared.back.DeliveryRow.{DeliveryRow}
 use Rattle.fb_rows.specs.declared.run.Run.{Run}
 use Rattle.fb_model.specs.Inputs.{Inputs}
 use Rattle.fb_model.specs.Accepted.{IsAccepted}
 use Rattle.fb_model.specs.Content.{Medium, contents_at, medium_of}
 use Rattle.fb_model.specs.Plans.{value, IsTrackBefore, IsNoLater, IsBest}
-use Rattle.fb_model.specs.Decisions.{Decision, serves, idles, ends, decisions}
+use Rattle.fb_model.specs.Decisions.{Decision, instant_of, Act, serving, idling, ending, decision_of}
 use Rattle.fb_model.specs.History.{Past, tested, delivered, wanted}
 use Rattle.fb_model.specs.Rides.{gap_of, due}
 use Rattle.fb_model.specs.Images.{findings, test_rows}
-use Rattle.fb_model.specs.Steps.{Delivery, Part, settled_past, with_delivery, with_finish, past_after, steps, AtEach, opening, part_rows, task_rows}
+use Rattle.fb_model.specs.Steps.{Delivery, Step, decision_in, decisions_in, settled_past, tested_past, with_delivery, past_after, AtEach, history, step_rows, task_rows}
 use Rattle.fb_model.specs.SoundRun.{AreFollowed, IsTested}
 use Rattle.fb_model.specs.FullRun.{HasBestPlan, IsBestPlanned, IsAllDelivered, IsFull}
 use Rattle.fb_model.proofs.Lists.{same_first, same_rest, not_none}
@@ -68,94 +67,57 @@ one_following medium past (x ∷ xs) (y ∷ ys) h k e =
     ap (λ d. d ∷ xs) same
     ∙ ap (λ ds. y ∷ ds) (one_following medium (with_delivery past y) xs ys (subst (λ d. AreFollowed medium (with_delivery past d) xs) same h.1) k.1 (same_rest x.got y.got (gots xs) (gots ys) e))
 
--- only a request that is served has a plan
-abbrev pub SamePlan : Decision → Plan → Plan → Type 0
-SamePlan (serves served) a b = a ≡ b
-SamePlan (idles dwell) a b = Unit {0}
-SamePlan (ends now) a b = Unit {0}
+one_act : (disk : Disk) (wanted : List Block) (a b : Act) → decision_of a ≡ decision_of b → HasBestPlan disk wanted a → HasBestPlan disk wanted b → a ≡ b
+one_act disk wanted (serving served p) (serving other q) same h k =
+    let one : served ≡ other = cc in
+    ap (λ served. serving served p) one ∙ ap (serving other) (one_best disk (gap_of disk other) wanted p q (subst (λ served. IsBest disk (gap_of disk served) wanted p) one h) k)
+one_act disk wanted (idling dwell) (idling other) same h k = let one : dwell ≡ other = cc in ap idling one
+one_act disk wanted (ending now) (ending other) same h k = let one : now ≡ other = cc in ap ending one
+one_act disk wanted (serving served p) (idling other) same h k = cc
+one_act disk wanted (serving served p) (ending other) same h k = cc
+one_act disk wanted (idling dwell) (serving other q) same h k = cc
+one_act disk wanted (idling dwell) (ending other) same h k = cc
+one_act disk wanted (ending now) (serving other q) same h k = cc
+one_act disk wanted (ending now) (idling other) same h k = cc
 
-one_plan : (disk : Disk) (decision : Decision) (wanted : List Block) (a b : Plan) → HasBestPlan disk decision wanted a → HasBestPlan disk decision wanted b → SamePlan decision a b
-one_plan disk (serves served) wanted a b h k = one_best disk (gap_of disk served) wanted a b h k
-one_plan disk (idles dwell) wanted a b h k = tt
-one_plan disk (ends now) wanted a b h k = tt
-
-same_due : (medium : Medium) (decision : Decision) (wanted : List Block) (a b : Plan) → SamePlan decision a b
-    → due medium.disk (contents_at medium) decision a wanted ≡ due medium.disk (contents_at medium) decision b wanted
-unfolding due
-same_due medium (serves served) wanted a b e = ap (λ plan. due medium.disk (contents_at medium) (serves served) plan wanted) e
-same_due medium (idles dwell) wanted a b e = refl
-same_due medium (ends now) wanted a b e = refl
-
-same_opening : (disk : Disk) (decision : Decision) (a b : Plan) → SamePlan decision a b → opening disk decision a ≡ opening disk decision b
-same_opening disk (serves served) a b e = ap (opening disk (serves served)) e
-same_opening disk (idles dwell) a b e = refl
-same_opening disk (ends now) a b e = refl
-
--- two parts of a decision say the same
-pub record IsSamePart (decision : Decision) (a b : Part) : Type 0 where
-  pub settled : a.settled ≡ b.settled
-  pub plan : SamePlan decision a.plan b.plan
-  pub deliveries : a.deliveries ≡ b.deliveries
-
--- what a full run's part at a decision has to be
-pub record IsFullPart (inputs : Inputs) (medium : Medium) (past : Past) (step : Decision × Part) : Type 0 where
+-- what a full run's step has to be
+pub record IsFullStep (inputs : Inputs) (medium : Medium) (past : Past) (step : Step) : Type 0 where
   pub tests : IsTested inputs medium past step
   pub best : IsBestPlanned inputs medium past step
   pub all : IsAllDelivered inputs medium past step
 
-pub one_part : (inputs : Inputs) (medium : Medium) (past : Past) (decision : Decision) (a b : Part) → IsFullPart inputs medium past (decision, a) → IsFullPart inputs medium past (decision, b) → IsSamePart decision a b
-one_part inputs medium past decision a b h k =
-    let settled : a.settled ≡ b.settled = h.tests.settled ∙ sym k.tests.settled in
-    let plan = one_plan inputs.disk decision (wanted (settled_past inputs past decision)) a.plan b.plan h.best k.best in
-    record {
-      settled = settled;
-      plan = plan;
-      deliveries = one_following medium (tested b.settled ∷ settled_past inputs past decision) a.deliveries b.deliveries
-          (subst (λ rows. AreFollowed medium (tested rows ∷ settled_past inputs past decision) a.deliveries) settled h.tests.followed) k.tests.followed
-          (h.all ∙ same_due medium decision (wanted (settled_past inputs past decision)) a.plan b.plan plan ∙ sym k.all);
-    }
+pub one_step : (inputs : Inputs) (medium : Medium) (past : Past) (a b : Step) → decision_in a ≡ decision_in b → IsFullStep inputs medium past a → IsFullStep inputs medium past b → a ≡ b
+one_step inputs medium past a b same h k =
+    let settles = λ (decision : Decision). settled_past inputs past decision in
+    let act : a.act ≡ b.act = one_act inputs.disk (wanted (settles (decision_in b))) a.act b.act same (subst (λ d. HasBestPlan inputs.disk (wanted (settles d)) a.act) same h.best) k.best in
+    let settled : a.settled ≡ b.settled = h.tests.settled ∙ ap (λ d. test_rows medium (settles d) (instant_of d)) same ∙ sym k.tests.settled in
+    let all : gots a.deliveries ≡ gots b.deliveries = h.all ∙ ap (λ act. due medium.disk (contents_at medium) act (wanted (settles (decision_of act)))) act ∙ sym k.all in
+    let deliveries : a.deliveries ≡ b.deliveries = one_following medium (tested_past inputs past b) a.deliveries b.deliveries
+    (subst (λ past. AreFollowed medium past a.deliveries) (ap₂ (λ rows d. tested rows ∷ settles d) settled same) h.tests.followed) k.tests.followed all in
+    ap (λ act. record { settled = a.settled; act = act; deliveries = a.deliveries }) act
+    ∙ ap (λ rows. record { settled = rows; act = b.act; deliveries = a.deliveries }) settled
+    ∙ ap (λ deliveries. record { settled = b.settled; act = b.act; deliveries = deliveries }) deliveries
 
-pub same_rows : (disk : Disk) (decision : Decision) (a b : Part) → IsSamePart decision a b → part_rows disk (decision, a) ≡ part_rows disk (decision, b)
-same_rows disk decision a b h =
-    ap (λ rows. rows ++ opening disk decision a.plan ++ flat_map (λ delivery. GotLine delivery.got ∷ delivery.after) a.deliveries) h.settled
-    ∙ ap (λ rows. b.settled ++ rows ++ flat_map (λ delivery. GotLine delivery.got ∷ delivery.after) a.deliveries) (same_opening disk decision a.plan b.plan h.plan)
-    ∙ ap (λ deliveries. b.settled ++ opening disk decision b.plan ++ flat_map (λ delivery. GotLine delivery.got ∷ delivery.after) deliveries) h.deliveries
+-- ---- all steps
 
-pub same_after : (inputs : Inputs) (past : Past) (decision : Decision) (a b : Part) → IsSamePart decision a b → past_after inputs past (decision, a) ≡ past_after inputs past (decision, b)
-unfolding past_after
-same_after inputs past decision a b h =
-    ap (λ rows. with_finish (fold with_delivery (tested rows ∷ settled_past inputs past decision) a.deliveries) decision) h.settled
-    ∙ ap (λ deliveries. with_finish (fold with_delivery (tested b.settled ∷ settled_past inputs past decision) deliveries) decision) h.deliveries
+one_course : (inputs : Inputs) (medium : Medium) (past : Past) (xs ys : List Step) → decisions_in xs ≡ decisions_in ys
+    → AtEach (IsFullStep inputs medium) inputs past xs → AtEach (IsFullStep inputs medium) inputs past ys → xs ≡ ys
+one_course inputs medium past [] [] e h k = refl
+one_course inputs medium past [] (y ∷ ys) e h k = absurd (not_none (decision_in y) (decisions_in ys) (sym e))
+one_course inputs medium past (x ∷ xs) [] e h k = absurd (not_none (decision_in x) (decisions_in xs) e)
+one_course inputs medium past (x ∷ xs) (y ∷ ys) e h k =
+    let same = one_step inputs medium past x y (same_first (decision_in x) (decision_in y) (decisions_in xs) (decisions_in ys) e) h.0 k.0 in
+    ap (λ x. x ∷ xs) same
+    ∙ ap (λ xs. y ∷ xs) (one_course inputs medium (past_after inputs past y) xs ys (same_rest (decision_in x) (decision_in y) (decisions_in xs) (decisions_in ys) e)
+    (subst (λ x. AtEach (IsFullStep inputs medium) inputs (past_after inputs past x) xs) same h.1) k.1)
 
--- ---- all decisions
-
--- the rows of two runs' parts are equal, and so is what has happened
-record IsSameCourse (inputs : Inputs) (past : Past) (xs ys : List (Decision × Part)) : Type 0 where
-  pub rows : flat_map (part_rows inputs.disk) xs ≡ flat_map (part_rows inputs.disk) ys
-  pub past_is : fold (past_after inputs) past xs ≡ fold (past_after inputs) past ys
-
-one_course : (inputs : Inputs) (medium : Medium) (past : Past) (decisions : List Decision) (xs ys : List Part) → length xs ≡ length decisions → length ys ≡ length decisions
-    → AtEach (IsFullPart inputs medium) inputs past (zip decisions xs) → AtEach (IsFullPart inputs medium) inputs past (zip decisions ys) → IsSameCourse inputs past (zip decisions xs) (zip decisions ys)
-one_course inputs medium past [] xs ys e f h k = record { rows = refl; past_is = refl }
-one_course inputs medium past (decision ∷ decisions) [] ys e f h k = absurd (omega arith)
-one_course inputs medium past (decision ∷ decisions) (x ∷ xs) [] e f h k = absurd (omega arith)
-one_course inputs medium past (decision ∷ decisions) (x ∷ xs) (y ∷ ys) e f h k =
-    let same = one_part inputs medium past decision x y h.0 k.0 in
-    let after = same_after inputs past decision x y same in
-    let rest = one_course inputs medium (past_after inputs past (decision, y)) decisions xs ys (omega arith) (omega arith)
-    (subst (λ past. AtEach (IsFullPart inputs medium) inputs past (zip decisions xs)) after h.1) k.1 in
-    record {
-      rows = ap (λ rows. rows ++ flat_map (part_rows inputs.disk) (zip decisions xs)) (same_rows inputs.disk decision x y same) ∙ ap (λ rows. part_rows inputs.disk (decision, y) ++ rows) rest.rows;
-      past_is = ap (λ past. fold (past_after inputs) past (zip decisions xs)) after ∙ rest.past_is;
-    }
-
-at_each : (inputs : Inputs) (medium : Medium) (past : Past) (steps : List (Decision × Part)) → AtEach (IsTested inputs medium) inputs past steps → AtEach (IsBestPlanned inputs medium) inputs past steps
-    → AtEach (IsAllDelivered inputs medium) inputs past steps → AtEach (IsFullPart inputs medium) inputs past steps
+at_each : (inputs : Inputs) (medium : Medium) (past : Past) (steps : List Step) → AtEach (IsTested inputs medium) inputs past steps → AtEach (IsBestPlanned inputs medium) inputs past steps
+    → AtEach (IsAllDelivered inputs medium) inputs past steps → AtEach (IsFullStep inputs medium) inputs past steps
 at_each inputs medium past [] a b c = tt
 at_each inputs medium past (step ∷ steps) a b c = (record { tests = a.0; best = b.0; all = c.0 }, at_each inputs medium (past_after inputs past step) steps a.1 b.1 c.1)
 
-pub full_parts : (inputs : Inputs) (run : Run) (full : IsFull inputs run) → AtEach (IsFullPart inputs (medium_of inputs)) inputs [] (steps inputs full.parts)
-full_parts inputs run full = at_each inputs (medium_of inputs) [] (steps inputs full.parts) full.sound.tested full.best full.all
+pub full_steps : (inputs : Inputs) (run : Run) (full : IsFull inputs run) → AtEach (IsFullStep inputs (medium_of inputs)) inputs [] full.steps
+full_steps inputs run full = at_each inputs (medium_of inputs) [] full.steps full.sound.tested full.best full.all
 
 same_run : (a b : Run) → a.fore ≡ b.fore → a.back ≡ b.back → a.passed_over ≡ b.passed_over → a.end ≡ b.end → a ≡ b
 same_run a b fore back passed end =
@@ -166,8 +128,8 @@ same_run a b fore back passed end =
 
 pub one_full : (inputs : Inputs) (a b : Run) → IsAccepted inputs → IsFull inputs a → IsFull inputs b → a ≡ b
 one_full inputs a b accepted h k =
-    let same = one_course inputs (medium_of inputs) [] (decisions inputs) h.parts k.parts h.sound.part_each k.sound.part_each (full_parts inputs a h) (full_parts inputs b k) in
-    let tasks : h.sound.tasks ≡ k.sound.tasks = h.sound.counted ∙ ap task_rows same.past_is ∙ sym k.sound.counted in
-    same_run a b (h.sound.fore ∙ sym k.sound.fore)
-    (h.sound.back ∙ ap (λ rows. rows ++ h.sound.tasks) same.rows ∙ ap (λ rows. flat_map (part_rows inputs.disk) (steps inputs k.parts) ++ rows) tasks ∙ sym k.sound.back)
-    (h.sound.passed_over ∙ sym k.sound.passed_over) (h.sound.end ∙ sym k.sound.end)
+    let same = one_course inputs (medium_of inputs) [] h.steps k.steps (h.sound.decided ∙ sym k.sound.decided) (full_steps inputs a h) (full_steps inputs b k) in
+    let back = λ (steps : List Step). flat_map (step_rows inputs.disk) steps ++ task_rows (history inputs steps) in
+    let is : a.back ≡ back h.steps = h.sound.back ∙ ap (λ rows. flat_map (step_rows inputs.disk) h.steps ++ rows) h.sound.counted in
+    let other : b.back ≡ back k.steps = k.sound.back ∙ ap (λ rows. flat_map (step_rows inputs.disk) k.steps ++ rows) k.sound.counted in
+    same_run a b (h.sound.fore ∙ sym k.sound.fore) (is ∙ ap back same ∙ sym other) (h.sound.passed_over ∙ sym k.sound.passed_over) (h.sound.end ∙ sym k.sound.end)

@@ -21,7 +21,7 @@ use Rattle.fb_model.specs.Decisions.{Decision, serves, idles, ends, instant_of}
 use Rattle.fb_model.specs.History.{Event, called, chose, tested, delivered, finished, Past, LogSegment, task_numbers, terms_of, blocks_of, registered, wanted, state, calls_of}
 use Rattle.fb_model.specs.Completion.{work, segments, is_closed}
 use Rattle.fb_model.specs.Segments.{numbered, is_better, is_busy, unchosen, choose_best, choose_once, choose_up_to, choose_in, with_choices}
-use Rattle.fb_model.specs.Steps.{Delivery, Part, blocks_by, take_call, calls_left, calls_due, settled_past, with_delivery, with_finish, tested_past, past_after}
+use Rattle.fb_model.specs.Steps.{Delivery, Step, decision_in, blocks_by, take_call, calls_left, calls_due, settled_past, with_delivery, with_finish, tested_past, past_after}
 use Rattle.fb_model.specs.Accepted.{IsRising}
 use Rattle.fb_model.proofs.Lists.{all_append, all_filter, kept_twice, by_later, is_after, after_is}
 
@@ -137,10 +137,10 @@ module _ (P : DeliveryRow → Type 0) where
   finish_fine past (idles dwell) all = all
   finish_fine past (ends now) all = all
 
-  pub after_fine : (inputs : Inputs) (past : Past) (step : Decision × Part) → AllByRecursion (λ (d : Delivery). P d.got) step.1.deliveries → AreFine P past → AreFine P (past_after inputs past step)
+  pub after_fine : (inputs : Inputs) (past : Past) (step : Step) → AllByRecursion (λ (d : Delivery). P d.got) step.deliveries → AreFine P past → AreFine P (past_after inputs past step)
   unfolding past_after
-  after_fine inputs past step each all = finish_fine (fold with_delivery (tested_past inputs past step) step.1.deliveries) step.0
-      (deliveries_fine step.1.deliveries (tested_past inputs past step) each (tt, settled_fine inputs past step.0 all))
+  after_fine inputs past step each all = finish_fine (fold with_delivery (tested_past inputs past step) step.deliveries) (decision_in step)
+      (deliveries_fine step.deliveries (tested_past inputs past step) each (tt, settled_fine inputs past (decision_in step) all))
 
 -- ---- no test looks back further than to the last delivery's beginning
 

@@ -1,15 +1,14 @@
 -- No decision looks ahead: what is known of a run by an instant depends only on what has come by then.
 use Rattle.std.proofs.Common.{◌≡◌, ℕ, ◌<◌, ◌≤◌, List, [], ◌∷◌, ◌++◌, length, map, refl, ap, ap₂, sym, subst, ◌∙◌, arith, append_assoc, false}
 use Rattle.std.specs.Prelude.{filter}
-use Rattle.std.specs.List.{AllByRecursion, fold, flat_map, zip}
+use Rattle.std.specs.List.{AllByRecursion, fold, flat_map}
 use Rattle.fb_units.specs.declared.types.Track.{Track}
 use Rattle.fb_units.specs.declared.types.Request.{Request}
 use Rattle.fb_geometry.specs.Sound.{IsSound}
 use Rattle.fb_calls.specs.declared.call.Call.{Call}
 use Rattle.fb_service.specs.declared.disk.Disk.{Disk}
 use Rattle.fb_calls.proofs.Lists.{all_weaker}
-use Rattle.fb_wanted.specs.declared.block.Block.{Block}
-use Rattle.fb_rows.specs.declared.gap.Plan.{Plan}
+use Rattle.fb_rows.specs.declared.gap.Dwell.{Dwell}
 use Rattle.fb_rows.specs.declared.gap.How.TheVariants.{Idle as ByIdle}
 use Rattle.fb_rows.specs.declared.back.BackRow.{BackRow}
 use Rattle.fb_rows.specs.declared.back.BackRow.TheVariants.{Idle as IdleLine}
@@ -18,20 +17,21 @@ use Rattle.fb_rows.specs.declared.run.Run.{Run}
 use Rattle.fb_model.specs.PlainReplay.{Key, has_arrived, first_track, plain_replay}
 use Rattle.fb_model.specs.Inputs.{Inputs, requests, served}
 use Rattle.fb_model.specs.Content.{Medium, Written, contents_at, medium_of, fore_row, fore_rows}
-use Rattle.fb_model.specs.Decisions.{Decision, serves, idles, ends, instant_of, end_of, decisions_from, decisions, among}
+use Rattle.fb_model.specs.Decisions.{Decision, idles, instant_of, end_of, Act, serving, idling, ending, decision_of, decisions_from, decisions, among}
 use Rattle.fb_model.specs.History.{Past, tested, wanted}
 use Rattle.fb_model.specs.Images.{test_rows}
 use Rattle.fb_model.specs.Rides.{due}
-use Rattle.fb_model.specs.Steps.{Delivery, Part, settled_past, with_delivery, with_finish, tested_past, past_after, AtEach, opening, part_rows}
+use Rattle.fb_model.specs.Steps.{Delivery, Step, decision_in, decisions_in, settled_past, with_delivery, with_finish, tested_past, past_after, AtEach, opening, step_rows}
 use Rattle.fb_model.specs.Accepted.{IsAccepted, IsRising}
-use Rattle.fb_model.specs.SoundRun.{HasPlan, AreFollowed}
+use Rattle.fb_model.specs.SoundRun.{AreFollowed}
 use Rattle.fb_model.specs.FullRun.{HasBestPlan, IsFull}
 use Rattle.fb_model.specs.Known.{only_if, known_from, fore_known, AgreeUpTo, SameKnown, without_line}
-use Rattle.fb_model.proofs.Lists.{after_is, kept_map}
+use Rattle.fb_model.proofs.Lists.{after_is, kept_map, same_first, same_rest, not_none}
 use Rattle.fb_model.proofs.Joined.{in_order}
 use Rattle.fb_model.proofs.Due.{IsDueRow, due_block, due_true}
 use Rattle.fb_model.proofs.Replays.{Rises, plain_turns}
-use Rattle.fb_model.proofs.FullRuns.{gots, IsFullPart, one_part, same_rows, same_after, full_parts}
+use Rattle.fb_model.proofs.Steps.{best_is_plan, dwelt, is_dwelt}
+use Rattle.fb_model.proofs.FullRuns.{gots, IsFullStep, one_step, full_steps}
 use Rattle.fb_model.proofs.ReplaysUpTo.{alike_turns}
 use Rattle.fb_model.proofs.Passages.{LiesOnDisk, are_services, requests_lie, write_late}
 use Rattle.fb_model.proofs.ContentsUpTo.{medium_with, HoldSame, same_contents, hold_same, same_fore}
@@ -39,15 +39,10 @@ use Rattle.fb_model.proofs.Instants.{instants_from, rising_all_among, all_come, 
 use Rattle.fb_model.proofs.DecisionsUpTo.{IsMade, IsLater, AlikeDecisions, same, dwelling, later, end_from, alike_decisions}
 use Rattle.fb_model.proofs.HistoriesUpTo.{HasSector, AreFine, HasBegun, wanted_fine, settled_fine, after_fine, all_fine_weaker, calls_by, RiseInTime, same_settled}
 use Rattle.fb_model.proofs.RowsUpTo.{AreUnknown, AreKnownAlike, IsUnknown, unknown_before, alike_behind, tests_unknown, tasks_unknown, delivered_rows, deliveries_unknown, same_tests, same_followed, ends_by_then, RisingEnds, alike_deliveries}
-use Rattle.fb_model.proofs.Unlined.{unlined_inputs, parts_same, instants_same}
+use Rattle.fb_model.proofs.Unlined.{unlined_inputs, steps_same, instants_same}
 use Rattle.fb_model.proofs.DueUpTo.{LiesBetween, AgreeBetween, delivers_by, due_between, same_due, rising_caught, same_by_then}
 
 -- ---- one decision
-
-plan_of : (disk : Disk) (decision : Decision) (wanted : List Block) (plan : Plan) → HasBestPlan disk decision wanted plan → HasPlan disk decision plan
-plan_of disk (serves served) wanted plan best = best.is_plan
-plan_of disk (idles dwell) wanted plan best = tt
-plan_of disk (ends now) wanted plan best = tt
 
 gots_all : (P : DeliveryRow → Type 0) (deliveries : List Delivery) → AllByRecursion P (gots deliveries) → AllByRecursion (λ (d : Delivery). P d.got) deliveries
 gots_all P [] all = tt
@@ -56,10 +51,10 @@ gots_all P (d ∷ ds) all = (all.0, gots_all P ds all.1)
 regroup : (settled opened got rest more : List BackRow) → (((settled ++ opened) ++ got) ++ rest) ++ more ≡ settled ++ (opened ++ (got ++ (rest ++ more)))
 regroup settled opened got rest more = simp append_assoc
 
-opening_unknown : (t : ℕ) (disk : Disk) (decision : Decision) (plan : Plan) → IsLater t disk decision → AllByRecursion (IsUnknown t) (opening disk decision plan)
-opening_unknown t disk (serves served) plan late = (λ follows. after_is served.start t late.from, tt)
-opening_unknown t disk (idles dwell) plan late = (λ follows. after_is dwell.end t late.upto, tt)
-opening_unknown t disk (ends now) plan late = tt
+opening_unknown : (t : ℕ) (disk : Disk) (act : Act) → IsLater t disk (decision_of act) → AllByRecursion (IsUnknown t) (opening disk act)
+opening_unknown t disk (serving served plan) late = (λ follows. after_is served.start t late.from, tt)
+opening_unknown t disk (idling dwell) late = (λ follows. after_is dwell.end t late.upto, tt)
+opening_unknown t disk (ending now) late = tt
 
 module _ (disk : Disk) (latent : List ℕ) (key : Key) (trace : List Request) (passed_over : ℕ) (calls : List Call) (until : ℕ) (writes : List Written) where
   abbrev inputs : Inputs
@@ -69,37 +64,37 @@ module _ (disk : Disk) (latent : List ℕ) (key : Key) (trace : List Request) (p
   medium = record { disk = disk; latent = latent; writes = writes }
 
   -- deliveries lie within their decision
-  part_between : (P : DeliveryRow → Type 0) (past : Past) (step : Decision × Part) → IsFullPart inputs medium past step → IsMade disk step.0 → AreFine P past
-      → AllByRecursion (LiesBetween (instant_of step.0) (end_of step.0)) (gots step.1.deliveries)
-  part_between P past step full made fine =
-      let blocks = wanted (settled_past inputs past step.0) in
-      subst (AllByRecursion (LiesBetween (instant_of step.0) (end_of step.0))) (sym full.all)
-      (all_weaker (IsDueRow disk (contents_at medium) step.0 step.1.plan HasSector) (LiesBetween (instant_of step.0) (end_of step.0))
+  step_between : (P : DeliveryRow → Type 0) (past : Past) (step : Step) → IsFullStep inputs medium past step → IsMade disk (decision_in step) → AreFine P past
+      → AllByRecursion (LiesBetween (instant_of (decision_in step)) (end_of (decision_in step))) (gots step.deliveries)
+  step_between P past step full made fine =
+      let blocks = wanted (settled_past inputs past (decision_in step)) in
+      subst (AllByRecursion (LiesBetween (instant_of (decision_in step)) (end_of (decision_in step)))) (sym full.all)
+      (all_weaker (IsDueRow disk (contents_at medium) step.act HasSector) (LiesBetween (instant_of (decision_in step)) (end_of (decision_in step)))
       (λ row due_row.
-      let over = delivers_by disk step.0 (end_of step.0) made (omega arith) in
-      let block = due_block disk (contents_at medium) step.0 step.1.plan HasSector row due_row in
-      due_between disk (contents_at medium) step.0 step.1.plan HasSector (end_of step.0) made
-      (plan_of disk step.0 blocks step.1.plan full.best) over row block due_row)
-      (due disk (contents_at medium) step.0 step.1.plan blocks)
-      (due_true disk (contents_at medium) step.0 step.1.plan HasSector blocks (wanted_fine P (settled_past inputs past step.0) (settled_fine P inputs past step.0 fine))))
+      let over = delivers_by disk (decision_in step) (end_of (decision_in step)) made (omega arith) in
+      let block = due_block disk (contents_at medium) step.act HasSector row due_row in
+      due_between disk (contents_at medium) step.act HasSector (end_of (decision_in step)) made
+      (best_is_plan disk blocks step.act full.best) over row block due_row)
+      (due disk (contents_at medium) step.act blocks)
+      (due_true disk (contents_at medium) step.act HasSector blocks (wanted_fine P (settled_past inputs past (decision_in step)) (settled_fine P inputs past (decision_in step) fine))))
 
   -- nothing of decisions after t is known
-  steps_unknown : (t : ℕ) (P : DeliveryRow → Type 0) → ((row : DeliveryRow) → P row) → (past : Past) (ds : List Decision) (parts : List Part) (more : List BackRow) → AllByRecursion (IsLater t disk) ds
-      → AtEach (IsFullPart inputs medium) inputs past (zip ds parts) → AreFine P past → AreUnknown t more → AreUnknown t (flat_map (part_rows disk) (zip ds parts) ++ more)
-  steps_unknown t P any past [] parts more late full fine unknown = unknown
-  steps_unknown t P any past (d ∷ ds) [] more late full fine unknown = unknown
-  steps_unknown t P any past (d ∷ ds) (part ∷ parts) more late full fine unknown =
-      let rest = flat_map (part_rows disk) (zip ds parts) in
+  steps_unknown : (t : ℕ) (P : DeliveryRow → Type 0) → ((row : DeliveryRow) → P row) → (past : Past) (steps : List Step) (more : List BackRow) → AllByRecursion (IsLater t disk) (decisions_in steps)
+      → AtEach (IsFullStep inputs medium) inputs past steps → AreFine P past → AreUnknown t more → AreUnknown t (flat_map (step_rows disk) steps ++ more)
+  steps_unknown t P any past [] more late full fine unknown = unknown
+  steps_unknown t P any past (step ∷ steps) more late full fine unknown =
+      let rest = flat_map (step_rows disk) steps in
+      let d = decision_in step in
       let instant = late.0.from in
-      let between = part_between P past (d, part) full.0 late.0.made fine in
-      let others = steps_unknown t P any (past_after inputs past (d, part)) ds parts more late.1 full.1
-      (after_fine P inputs past (d, part) (gots_all P part.deliveries (all_weaker (LiesBetween (instant_of d) (end_of d)) P (λ row h. any row) (gots part.deliveries) between)) fine) unknown in
-      subst (AreUnknown t) (sym (regroup part.settled (opening disk d part.plan) (delivered_rows part.deliveries) rest more))
-      (unknown_before t part.settled (opening disk d part.plan ++ (delivered_rows part.deliveries ++ (rest ++ more)))
+      let between = step_between P past step full.0 late.0.made fine in
+      let others = steps_unknown t P any (past_after inputs past step) steps more late.1 full.1
+      (after_fine P inputs past step (gots_all P step.deliveries (all_weaker (LiesBetween (instant_of d) (end_of d)) P (λ row h. any row) (gots step.deliveries) between)) fine) unknown in
+      subst (AreUnknown t) (sym (regroup step.settled (opening disk step.act) (delivered_rows step.deliveries) rest more))
+      (unknown_before t step.settled (opening disk step.act ++ (delivered_rows step.deliveries ++ (rest ++ more)))
       (subst (AllByRecursion (IsUnknown t)) (sym full.0.tests.settled) (tests_unknown t medium (settled_past inputs past d) (instant_of d) instant))
-      (unknown_before t (opening disk d part.plan) (delivered_rows part.deliveries ++ (rest ++ more)) (opening_unknown t disk d part.plan late.0)
-      (deliveries_unknown t medium (tested_past inputs past (d, part)) part.deliveries (rest ++ more) full.0.tests.followed
-      (all_weaker (LiesBetween (instant_of d) (end_of d)) (λ (row : DeliveryRow). t < row.end) (λ row h. let begins = h.begins in let in_turn = h.in_turn in omega (arith, begins, in_turn, instant)) (gots part.deliveries) between)
+      (unknown_before t (opening disk step.act) (delivered_rows step.deliveries ++ (rest ++ more)) (opening_unknown t disk step.act late.0)
+      (deliveries_unknown t medium (tested_past inputs past step) step.deliveries (rest ++ more) full.0.tests.followed
+      (all_weaker (LiesBetween (instant_of d) (end_of d)) (λ (row : DeliveryRow). t < row.end) (λ row h. let begins = h.begins in let in_turn = h.in_turn in omega (arith, begins, in_turn, instant)) (gots step.deliveries) between)
       others)))
 
 -- ---- two runs
@@ -129,40 +124,43 @@ module _ (disk : Disk) (latent : List ℕ) (key : Key) (trace_a trace_b : List R
   settles : (past : Past) (d e : Decision) → instant_of d ≤ t → instant_of d ≡ instant_of e → settled_past inputs_a past d ≡ settled_past inputs_b past e
   settles past d e h at = same_settled inputs_a inputs_b t past d e refl rising_a rising_b come h at
 
-  -- a part of the one run's would do in the other
-  as_well : (past : Past) (d : Decision) (part : Part) → instant_of d ≤ t → end_of d ≤ done → IsMade disk d → AreFine (HasBegun done) past
-      → IsFullPart inputs_b medium_b past (d, part) → IsFullPart inputs_a medium_a past (d, part)
-  as_well past d part h ended made fine full =
+  -- a step of the one run's would do in the other
+  as_well : (past : Past) (step : Step) → instant_of (decision_in step) ≤ t → end_of (decision_in step) ≤ done → IsMade disk (decision_in step) → AreFine (HasBegun done) past
+      → IsFullStep inputs_b medium_b past step → IsFullStep inputs_a medium_a past step
+  as_well past step h ended made fine full =
+      let d = decision_in step in
       let settled = settles past d d h refl in
       let settled_a = settled_past inputs_a past d in
       let blocks = wanted (settled_past inputs_b past d) in
       let fine_a = settled_fine (HasBegun done) inputs_a past d fine in
-      let between = part_between disk latent key trace_b over_b calls_b until_b writes_b (HasBegun done) past (d, part) full made fine in
+      let between = step_between disk latent key trace_b over_b calls_b until_b writes_b (HasBegun done) past step full made fine in
       record {
         tests = record {
           settled = full.tests.settled ∙ (ap (λ past. test_rows medium_b past (instant_of d)) (sym settled) ∙ sym (same_tests done medium_a medium_b hold settled_a (instant_of d) fine_a (omega arith)));
-          followed = same_followed done medium_a medium_b hold (tested part.settled ∷ settled_a) part.deliveries (tt, fine_a)
-              (all_weaker (LiesBetween (instant_of d) (end_of d)) (λ (row : DeliveryRow). (row.begin ≤ done) × (row.end ≤ done)) (λ row lies. let in_turn = lies.in_turn in let over = lies.ends in (omega (arith, in_turn, over, ended), omega (arith, over, ended))) (gots part.deliveries) between)
-              (subst (λ past. AreFollowed medium_b (tested part.settled ∷ past) part.deliveries) (sym settled) full.tests.followed);
+          followed = same_followed done medium_a medium_b hold (tested step.settled ∷ settled_a) step.deliveries (tt, fine_a)
+              (all_weaker (LiesBetween (instant_of d) (end_of d)) (λ (row : DeliveryRow). (row.begin ≤ done) × (row.end ≤ done)) (λ row lies. let in_turn = lies.in_turn in let over = lies.ends in (omega (arith, in_turn, over, ended), omega (arith, over, ended))) (gots step.deliveries) between)
+              (subst (λ past. AreFollowed medium_b (tested step.settled ∷ past) step.deliveries) (sym settled) full.tests.followed);
         };
-        best = subst (λ past. HasBestPlan disk d (wanted past) part.plan) (sym settled) full.best;
-        all = full.all ∙ (ap (λ past. due disk (contents_at medium_b) d part.plan (wanted past)) (sym settled)
-            ∙ sym (same_due disk (contents_at medium_a) (contents_at medium_b) 0 done agree d part.plan (wanted settled_a) made (plan_of disk d blocks part.plan full.best) (omega arith) (delivers_by disk d done made ended) (wanted_fine (HasBegun done) settled_a fine_a)));
+        best = subst (λ past. HasBestPlan disk (wanted past) step.act) (sym settled) full.best;
+        all = full.all ∙ (ap (λ past. due disk (contents_at medium_b) step.act (wanted past)) (sym settled)
+            ∙ sym (same_due disk (contents_at medium_a) (contents_at medium_b) 0 done agree step.act (wanted settled_a) made (best_is_plan disk blocks step.act full.best) (omega arith) (delivers_by disk d done made ended) (wanted_fine (HasBegun done) settled_a fine_a)));
       }
 
-  goes_on : (past : Past) (d : Decision) (part : Part) → instant_of d ≤ t → past_after inputs_a past (d, part) ≡ past_after inputs_b past (d, part)
+  goes_on : (past : Past) (step : Step) → instant_of (decision_in step) ≤ t → past_after inputs_a past step ≡ past_after inputs_b past step
   unfolding past_after
-  goes_on past d part h = ap (λ past. with_finish (fold with_delivery (tested part.settled ∷ past) part.deliveries) d) (settles past d d h refl)
+  goes_on past step h = ap (λ past. with_finish (fold with_delivery (tested step.settled ∷ past) step.deliveries) (decision_in step)) (settles past (decision_in step) (decision_in step) h refl)
 
   -- a dwell that is under way
-  dwell_alike : (past : Past) (head : Track) (now end_a end_b : ℕ) (x y : Part) (rest_a rest_b more_a more_b : List BackRow) → now ≤ t → t < end_a → t < end_b → AreFine (HasBegun done) past
-      → IsFullPart inputs_a medium_a past (idles (record { track = head; begin = now; end = end_a }), x) → IsFullPart inputs_b medium_b past (idles (record { track = head; begin = now; end = end_b }), y)
+  dwell_alike : (past : Past) (head : Track) (now end_a end_b : ℕ) (x y : Step) (rest_a rest_b more_a more_b : List BackRow) → now ≤ t → t < end_a → t < end_b → AreFine (HasBegun done) past
+      → IsFullStep inputs_a medium_a past (dwelt x (record { track = head; begin = now; end = end_a })) → IsFullStep inputs_b medium_b past (dwelt y (record { track = head; begin = now; end = end_b }))
       → AreUnknown t (rest_a ++ more_a) → AreUnknown t (rest_b ++ more_b)
-      → AreKnownAlike t ((part_rows disk (idles (record { track = head; begin = now; end = end_a }), x) ++ rest_a) ++ more_a) ((part_rows disk (idles (record { track = head; begin = now; end = end_b }), y) ++ rest_b) ++ more_b)
+      → AreKnownAlike t ((step_rows disk (dwelt x (record { track = head; begin = now; end = end_a })) ++ rest_a) ++ more_a) ((step_rows disk (dwelt y (record { track = head; begin = now; end = end_b })) ++ rest_b) ++ more_b)
   unfolding due
   dwell_alike past head now end_a end_b x y rest_a rest_b more_a more_b h late_a late_b fine full_a full_b unknown_a unknown_b =
-      let d_a = idles (record { track = head; begin = now; end = end_a }) in
-      let d_b = idles (record { track = head; begin = now; end = end_b }) in
+      let dwell_a : Dwell = record { track = head; begin = now; end = end_a } in
+      let dwell_b : Dwell = record { track = head; begin = now; end = end_b } in
+      let d_a = idles dwell_a in
+      let d_b = idles dwell_b in
       let settled_a = settled_past inputs_a past d_a in
       let settled_b = settled_past inputs_b past d_b in
       let settled : settled_a ≡ settled_b = settles past d_a d_b h refl in
@@ -170,10 +168,10 @@ module _ (disk : Disk) (latent : List ℕ) (key : Key) (trace_a trace_b : List R
       let rows : x.settled ≡ y.settled = full_a.tests.settled ∙ (same_tests done medium_a medium_b hold settled_a now fine_a (omega arith)
       ∙ (ap (λ past. test_rows medium_b past now) settled ∙ sym full_b.tests.settled)) in
       let pasts : tested x.settled ∷ settled_a ≡ tested y.settled ∷ settled_b = ap₂ (λ rows past. tested rows ∷ past) rows settled in
-      let between = part_between disk latent key trace_a over_a calls_a until_a writes_a (HasBegun done) past (d_a, x) full_a tt fine in
+      let between = step_between disk latent key trace_a over_a calls_a until_a writes_a (HasBegun done) past (dwelt x dwell_a) full_a tt fine in
       let kept : filter (ends_by_then t) (gots x.deliveries) ≡ filter (ends_by_then t) (gots y.deliveries) =
       ap (filter (ends_by_then t)) full_a.all ∙ (same_by_then disk (contents_at medium_a) (contents_at medium_b) t done since agree ByIdle head now end_a end_b late_a late_b (wanted settled_a)
-      ∙ (ap (λ past. filter (ends_by_then t) (due disk (contents_at medium_b) d_b y.plan (wanted past))) settled ∙ sym (ap (filter (ends_by_then t)) full_b.all))) in
+      ∙ (ap (λ past. filter (ends_by_then t) (due disk (contents_at medium_b) (idling dwell_b) (wanted past))) settled ∙ sym (ap (filter (ends_by_then t)) full_b.all))) in
       let alike = alike_deliveries t done since medium_a medium_b hold (tested x.settled ∷ settled_a) x.deliveries y.deliveries (rest_a ++ more_a) (rest_b ++ more_b) (tt, fine_a) full_a.tests.followed
       (subst (λ past. AreFollowed medium_b past y.deliveries) (sym pasts) full_b.tests.followed)
       (subst RisingEnds (sym full_a.all) (rising_caught disk (contents_at medium_a) ByIdle (record { track = head; begin = now; end = end_a }) (wanted settled_a)))
@@ -186,10 +184,10 @@ module _ (disk : Disk) (latent : List ℕ) (key : Key) (trace_a trace_b : List R
       ap (λ b. only_if b (IdleLine (record { track = head; begin = now; end = end_a })) (known_from t false got_a)) (after_is end_a t late_a)
       ∙ (alike false ∙ sym (ap (λ b. only_if b (IdleLine (record { track = head; begin = now; end = end_b })) (known_from t false got_b)) (after_is end_b t late_b))) in
       λ follows.
-      ap (known_from t follows) (regroup x.settled (opening disk d_a x.plan) (delivered_rows x.deliveries) rest_a more_a)
+      ap (known_from t follows) (regroup x.settled (opening disk (idling dwell_a)) (delivered_rows x.deliveries) rest_a more_a)
       ∙ (alike_behind t x.settled (IdleLine (record { track = head; begin = now; end = end_a }) ∷ got_a) (IdleLine (record { track = head; begin = now; end = end_b }) ∷ got_b) opened follows
       ∙ (ap (λ rows. known_from t follows (rows ++ (IdleLine (record { track = head; begin = now; end = end_b }) ∷ got_b))) rows
-      ∙ sym (ap (known_from t follows) (regroup y.settled (opening disk d_b y.plan) (delivered_rows y.deliveries) rest_b more_b))))
+      ∙ sym (ap (known_from t follows) (regroup y.settled (opening disk (idling dwell_b)) (delivered_rows y.deliveries) rest_b more_b))))
 
   no_property : (past : Past) → AreFine (HasBegun done) past → AreFine any_delivery past
   unfolding any_delivery
@@ -199,75 +197,88 @@ module _ (disk : Disk) (latent : List ℕ) (key : Key) (trace_a trace_b : List R
   unfolding any_delivery
   any_is row = tt
 
-  rest_unknown_a : (past : Past) (ds : List Decision) (parts : List Part) (more : List BackRow) → AllByRecursion (IsLater t disk) ds → AtEach (IsFullPart inputs_a medium_a) inputs_a past (zip ds parts)
-      → AreFine any_delivery past → AreUnknown t more → AreUnknown t (flat_map (part_rows disk) (zip ds parts) ++ more)
-  rest_unknown_a past ds parts more late full fine unknown = steps_unknown disk latent key trace_a over_a calls_a until_a writes_a t any_delivery any_is past ds parts more late full fine unknown
+  rest_unknown_a : (past : Past) (steps : List Step) (more : List BackRow) → AllByRecursion (IsLater t disk) (decisions_in steps) → AtEach (IsFullStep inputs_a medium_a) inputs_a past steps
+      → AreFine any_delivery past → AreUnknown t more → AreUnknown t (flat_map (step_rows disk) steps ++ more)
+  rest_unknown_a past steps more late full fine unknown = steps_unknown disk latent key trace_a over_a calls_a until_a writes_a t any_delivery any_is past steps more late full fine unknown
 
-  rest_unknown_b : (past : Past) (ds : List Decision) (parts : List Part) (more : List BackRow) → AllByRecursion (IsLater t disk) ds → AtEach (IsFullPart inputs_b medium_b) inputs_b past (zip ds parts)
-      → AreFine any_delivery past → AreUnknown t more → AreUnknown t (flat_map (part_rows disk) (zip ds parts) ++ more)
-  rest_unknown_b past ds parts more late full fine unknown = steps_unknown disk latent key trace_b over_b calls_b until_b writes_b t any_delivery any_is past ds parts more late full fine unknown
+  rest_unknown_b : (past : Past) (steps : List Step) (more : List BackRow) → AllByRecursion (IsLater t disk) (decisions_in steps) → AtEach (IsFullStep inputs_b medium_b) inputs_b past steps
+      → AreFine any_delivery past → AreUnknown t more → AreUnknown t (flat_map (step_rows disk) steps ++ more)
+  rest_unknown_b past steps more late full fine unknown = steps_unknown disk latent key trace_b over_b calls_b until_b writes_b t any_delivery any_is past steps more late full fine unknown
 
-  steps_alike : (past : Past) {ds es : List Decision} → AlikeDecisions t done disk ds es → (xs ys : List Part) (more_a more_b : List BackRow) → length xs ≡ length ds → length ys ≡ length es
-      → AtEach (IsFullPart inputs_a medium_a) inputs_a past (zip ds xs) → AtEach (IsFullPart inputs_b medium_b) inputs_b past (zip es ys) → AreFine (HasBegun done) past
-      → AreUnknown t more_a → AreUnknown t more_b → AreKnownAlike t (flat_map (part_rows disk) (zip ds xs) ++ more_a) (flat_map (part_rows disk) (zip es ys) ++ more_b)
-  steps_alike past (same {decision = d} {xs = ds} {ys = es} h ended made alike) [] ys more_a more_b len_x len_y full_a full_b fine unknown_a unknown_b = absurd (omega arith)
-  steps_alike past (same {decision = d} {xs = ds} {ys = es} h ended made alike) (x ∷ xs) [] more_a more_b len_x len_y full_a full_b fine unknown_a unknown_b = absurd (omega arith)
-  steps_alike past (same {decision = d} {xs = ds} {ys = es} h ended made alike) (x ∷ xs) (y ∷ ys) more_a more_b len_x len_y full_a full_b fine unknown_a unknown_b =
-      let one = one_part inputs_a medium_a past d x y full_a.0 (as_well past d y h ended made fine full_b.0) in
-      let rows = same_rows disk d x y one in
-      let after = same_after inputs_a past d x y one ∙ goes_on past d y h in
-      let rest_a = flat_map (part_rows disk) (zip ds xs) in
-      let rest_b = flat_map (part_rows disk) (zip es ys) in
-      let between = part_between disk latent key trace_a over_a calls_a until_a writes_a (HasBegun done) past (d, x) full_a.0 made fine in
-      let fine_after = after_fine (HasBegun done) inputs_a past (d, x)
-      (gots_all (HasBegun done) x.deliveries (all_weaker (LiesBetween (instant_of d) (end_of d)) (HasBegun done) (λ row lies. let in_turn = lies.in_turn in let over = lies.ends in omega (arith, in_turn, over, ended)) (gots x.deliveries) between)) fine in
-      let others = steps_alike (past_after inputs_a past (d, x)) alike xs ys more_a more_b (omega arith) (omega arith) full_a.1
-      (subst (λ past. AtEach (IsFullPart inputs_b medium_b) inputs_b past (zip es ys)) (sym after) full_b.1) fine_after unknown_a unknown_b in
+  steps_alike : (past : Past) {ds es : List Decision} → AlikeDecisions t done disk ds es → (xs ys : List Step) (more_a more_b : List BackRow) → decisions_in xs ≡ ds → decisions_in ys ≡ es
+      → AtEach (IsFullStep inputs_a medium_a) inputs_a past xs → AtEach (IsFullStep inputs_b medium_b) inputs_b past ys → AreFine (HasBegun done) past
+      → AreUnknown t more_a → AreUnknown t more_b → AreKnownAlike t (flat_map (step_rows disk) xs ++ more_a) (flat_map (step_rows disk) ys ++ more_b)
+  steps_alike past (same {decision = d} {xs = ds} {ys = es} h ended made alike) [] ys more_a more_b is_x is_y full_a full_b fine unknown_a unknown_b = absurd (not_none d ds (sym is_x))
+  steps_alike past (same {decision = d} {xs = ds} {ys = es} h ended made alike) (x ∷ xs) [] more_a more_b is_x is_y full_a full_b fine unknown_a unknown_b = absurd (not_none d es (sym is_y))
+  steps_alike past (same {decision = d} {xs = ds} {ys = es} h ended made alike) (x ∷ xs) (y ∷ ys) more_a more_b is_x is_y full_a full_b fine unknown_a unknown_b =
+      let there = same_first (decision_in y) d (decisions_in ys) es is_y in
+      let here = subst (λ d. (instant_of d ≤ t) × (end_of d ≤ done) × IsMade disk d) (sym there) (h, ended, made) in
+      let well = as_well past y here.0 here.1 here.2 fine full_b.0 in
+      let one = one_step inputs_a medium_a past x y (same_first (decision_in x) d (decisions_in xs) ds is_x ∙ sym there) full_a.0 well in
+      let rest_a = flat_map (step_rows disk) xs in
+      let rest_b = flat_map (step_rows disk) ys in
+      let between = step_between disk latent key trace_a over_a calls_a until_a writes_a (HasBegun done) past y well here.2 fine in
+      let fine_after = after_fine (HasBegun done) inputs_a past y
+      (gots_all (HasBegun done) y.deliveries (all_weaker (LiesBetween (instant_of (decision_in y)) (end_of (decision_in y))) (HasBegun done)
+      (λ row lies. let in_turn = lies.in_turn in let over = lies.ends in let ended = here.1 in omega (arith, in_turn, over, ended)) (gots y.deliveries) between)) fine in
+      let others = steps_alike (past_after inputs_a past y) alike xs ys more_a more_b (same_rest (decision_in x) d (decisions_in xs) ds is_x) (same_rest (decision_in y) d (decisions_in ys) es is_y)
+      (subst (λ x. AtEach (IsFullStep inputs_a medium_a) inputs_a (past_after inputs_a past x) xs) one full_a.1)
+      (subst (λ past. AtEach (IsFullStep inputs_b medium_b) inputs_b past ys) (sym (goes_on past y here.0)) full_b.1) fine_after unknown_a unknown_b in
       λ follows.
-      ap (known_from t follows) (append_assoc (part_rows disk (d, x)) rest_a more_a)
-      ∙ (alike_behind t (part_rows disk (d, x)) (rest_a ++ more_a) (rest_b ++ more_b) others follows
-      ∙ (ap (λ rows. known_from t follows (rows ++ (rest_b ++ more_b))) rows ∙ sym (ap (known_from t follows) (append_assoc (part_rows disk (d, y)) rest_b more_b))))
-  steps_alike past (dwelling {head = head} {now = now} {until_a = end_a} {until_b = end_b} {xs = ds} {ys = es} h late_a late_b after_a after_b) [] ys more_a more_b len_x len_y full_a full_b fine unknown_a unknown_b = absurd (omega arith)
-  steps_alike past (dwelling {head = head} {now = now} {until_a = end_a} {until_b = end_b} {xs = ds} {ys = es} h late_a late_b after_a after_b) (x ∷ xs) [] more_a more_b len_x len_y full_a full_b fine unknown_a unknown_b = absurd (omega arith)
-  steps_alike past (dwelling {head = head} {now = now} {until_a = end_a} {until_b = end_b} {xs = ds} {ys = es} h late_a late_b after_a after_b) (x ∷ xs) (y ∷ ys) more_a more_b len_x len_y full_a full_b fine unknown_a unknown_b =
-      let d_a = idles (record { track = head; begin = now; end = end_a }) in
-      let d_b = idles (record { track = head; begin = now; end = end_b }) in
+      ap (λ x. known_from t follows ((step_rows disk x ++ rest_a) ++ more_a)) one
+      ∙ (ap (known_from t follows) (append_assoc (step_rows disk y) rest_a more_a)
+      ∙ (alike_behind t (step_rows disk y) (rest_a ++ more_a) (rest_b ++ more_b) others follows
+      ∙ sym (ap (known_from t follows) (append_assoc (step_rows disk y) rest_b more_b))))
+  steps_alike past (dwelling {xs = ds} h late_a late_b after_a after_b) [] ys more_a more_b is_x is_y full_a full_b fine unknown_a unknown_b = absurd (not_none _ ds (sym is_x))
+  steps_alike past (dwelling {ys = es} h late_a late_b after_a after_b) (x ∷ xs) [] more_a more_b is_x is_y full_a full_b fine unknown_a unknown_b = absurd (not_none _ es (sym is_y))
+  steps_alike past (dwelling {head = head} {now = now} {until_a = end_a} {until_b = end_b} {xs = ds} {ys = es} h late_a late_b after_a after_b) (x ∷ xs) (y ∷ ys) more_a more_b is_x is_y full_a full_b fine unknown_a unknown_b =
+      let dwell_a : Dwell = record { track = head; begin = now; end = end_a } in
+      let dwell_b : Dwell = record { track = head; begin = now; end = end_b } in
+      let x_is = is_dwelt x dwell_a (same_first (decision_in x) (idles dwell_a) (decisions_in xs) ds is_x) in
+      let y_is = is_dwelt y dwell_b (same_first (decision_in y) (idles dwell_b) (decisions_in ys) es is_y) in
+      let later_a = subst (AllByRecursion (IsLater t disk)) (sym (same_rest (decision_in x) (idles dwell_a) (decisions_in xs) ds is_x)) after_a in
+      let later_b = subst (AllByRecursion (IsLater t disk)) (sym (same_rest (decision_in y) (idles dwell_b) (decisions_in ys) es is_y)) after_b in
+      let rest_a = flat_map (step_rows disk) xs in
+      let rest_b = flat_map (step_rows disk) ys in
       let any = no_property past fine in
       let each = λ (deliveries : List Delivery). gots_all any_delivery deliveries (all_any (gots deliveries)) in
-      dwell_alike past head now end_a end_b x y (flat_map (part_rows disk) (zip ds xs)) (flat_map (part_rows disk) (zip es ys)) more_a more_b h late_a late_b fine full_a.0 full_b.0
-      (rest_unknown_a (past_after inputs_a past (d_a, x)) ds xs more_a after_a full_a.1 (after_fine any_delivery inputs_a past (d_a, x) (each x.deliveries) any) unknown_a)
-      (rest_unknown_b (past_after inputs_b past (d_b, y)) es ys more_b after_b full_b.1 (after_fine any_delivery inputs_b past (d_b, y) (each y.deliveries) any) unknown_b)
+      let alike = dwell_alike past head now end_a end_b x y rest_a rest_b more_a more_b h late_a late_b fine
+      (subst (IsFullStep inputs_a medium_a past) x_is full_a.0) (subst (IsFullStep inputs_b medium_b past) y_is full_b.0)
+      (rest_unknown_a (past_after inputs_a past x) xs more_a later_a full_a.1 (after_fine any_delivery inputs_a past x (each x.deliveries) any) unknown_a)
+      (rest_unknown_b (past_after inputs_b past y) ys more_b later_b full_b.1 (after_fine any_delivery inputs_b past y (each y.deliveries) any) unknown_b) in
+      λ follows.
+      ap (λ x. known_from t follows ((step_rows disk x ++ rest_a) ++ more_a)) x_is ∙ (alike follows ∙ sym (ap (λ y. known_from t follows ((step_rows disk y ++ rest_b) ++ more_b)) y_is))
     where
       all_any : (rows : List DeliveryRow) → AllByRecursion any_delivery rows
       all_any [] = tt
       all_any (row ∷ rows) = (any_is row, all_any rows)
-  steps_alike past (later {xs = ds} {ys = es} late_a late_b) xs ys more_a more_b len_x len_y full_a full_b fine unknown_a unknown_b = λ follows.
-      rest_unknown_a past ds xs more_a late_a full_a (no_property past fine) unknown_a follows ∙ sym (rest_unknown_b past es ys more_b late_b full_b (no_property past fine) unknown_b follows)
+  steps_alike past (later late_a late_b) xs ys more_a more_b is_x is_y full_a full_b fine unknown_a unknown_b = λ follows.
+      rest_unknown_a past xs more_a (subst (AllByRecursion (IsLater t disk)) (sym is_x) late_a) full_a (no_property past fine) unknown_a follows
+      ∙ sym (rest_unknown_b past ys more_b (subst (AllByRecursion (IsLater t disk)) (sym is_y) late_b) full_b (no_property past fine) unknown_b follows)
 
 -- ---- whole runs
 
 -- what the law needs of a full run: its rows, by its list of requests and the instants of arrivals and calls
 record IsRunOf (t : ℕ) (inputs : Inputs) (list : List Request) (instants : List ℕ) (run : Run) : Type 0 where
-  pub parts : List Part
+  pub steps : List Step
   pub tasks : List BackRow
   pub fore : run.fore ≡ map (fore_row (medium_with inputs.disk inputs.latent (plain_replay inputs.disk inputs.key list))) (plain_replay inputs.disk inputs.key list)
-  pub back : run.back ≡ flat_map (part_rows inputs.disk) (zip (decisions_from inputs.disk instants inputs.until first_track 0 (plain_replay inputs.disk inputs.key list)) parts) ++ tasks
+  pub back : run.back ≡ flat_map (step_rows inputs.disk) steps ++ tasks
   pub end : run.end ≡ end_from 0 (decisions_from inputs.disk instants inputs.until first_track 0 (plain_replay inputs.disk inputs.key list))
-  pub long : length parts ≡ length (decisions_from inputs.disk instants inputs.until first_track 0 (plain_replay inputs.disk inputs.key list))
-  pub each : AtEach (IsFullPart inputs (medium_with inputs.disk inputs.latent (plain_replay inputs.disk inputs.key list))) inputs []
-      (zip (decisions_from inputs.disk instants inputs.until first_track 0 (plain_replay inputs.disk inputs.key list)) parts)
+  pub decided : decisions_in steps ≡ decisions_from inputs.disk instants inputs.until first_track 0 (plain_replay inputs.disk inputs.key list)
+  pub each : AtEach (IsFullStep inputs (medium_with inputs.disk inputs.latent (plain_replay inputs.disk inputs.key list))) inputs [] steps
   pub unknown : AreUnknown t tasks
 
 run_of : (t : ℕ) (inputs : Inputs) (run : Run) → IsFull inputs run → IsRunOf t inputs (requests inputs) (instants_from (requests inputs) inputs.calls) run
 unfolding decisions served medium_of fore_rows
 run_of t inputs run full = record {
-  parts = full.parts;
+  steps = full.steps;
   tasks = full.sound.tasks;
   fore = full.sound.fore;
   back = full.sound.back;
   end = full.sound.end;
-  long = full.sound.part_each;
-  each = full_parts inputs run full;
+  decided = full.sound.decided;
+  each = full_steps inputs run full;
   unknown = subst (AreUnknown t) (sym full.sound.counted) (tasks_unknown t _);
 }
 
@@ -275,17 +286,16 @@ run_of t inputs run full = record {
 unlined_run : (t : ℕ) (inputs : Inputs) (list : List Request) (run : Run) → IsRunOf t inputs list (instants_from list inputs.calls) run
     → IsRunOf t (unlined_inputs inputs) list (instants_from list (map without_line inputs.calls)) run
 unlined_run t inputs list run is =
-    let instants = instants_from list inputs.calls in
     let medium = medium_with inputs.disk inputs.latent (plain_replay inputs.disk inputs.key list) in
     subst (λ instants. IsRunOf t (unlined_inputs inputs) list instants run) (sym (ap (fold among (map (λ (r : Request). r.arrival) list)) (instants_same inputs.calls)))
     (record {
-      parts = is.parts;
+      steps = is.steps;
       tasks = is.tasks;
       fore = is.fore;
       back = is.back;
       end = is.end;
-      long = is.long;
-      each = parts_same medium inputs [] (zip (decisions_from inputs.disk instants inputs.until first_track 0 (plain_replay inputs.disk inputs.key list)) is.parts) is.each;
+      decided = is.decided;
+      each = steps_same medium inputs [] is.steps is.each;
       unknown = is.unknown;
     })
 
@@ -325,7 +335,7 @@ runs_alike t disk latent key trace_a trace_b over_a over_b calls_a calls_b until
       fore = ap (fore_known t) full_a.fore ∙ (same_fore t alike.done medium_a medium_b hold disk alike.alike (are_services disk key first_track 0 list_a replay_a turns_a) ∙ sym (ap (fore_known t) full_b.fore));
       back = ap (known_from t false) full_a.back
           ∙ (steps_alike disk latent key trace_a trace_b over_a over_b calls_a calls_b until_a until_b medium_a.writes medium_b.writes rising_a rising_b t alike.done alike.from come hold
-          [] decided full_a.parts full_b.parts full_a.tasks full_b.tasks full_a.long full_b.long full_a.each full_b.each tt full_a.unknown full_b.unknown false
+          [] decided full_a.steps full_b.steps full_a.tasks full_b.tasks full_a.decided full_b.decided full_a.each full_b.each tt full_a.unknown full_b.unknown false
           ∙ sym (ap (known_from t false) full_b.back));
     }
 

@@ -29,12 +29,12 @@ use Rattle.fb_model.specs.Completion.{segment_by, segments, Choice, choices, is_
 use Rattle.fb_model.specs.Segments.{numbered, next_blocks, live_count, is_better, unchosen, is_busy, choose_best, choose_once, choose_up_to, choose_in, with_choices}
 use Rattle.fb_model.specs.Images.{bad_sectors, is_scrub, findings, held_at_delivery, packed, is_newly_cleaned, segment_rows, image, seal_rows, complete_rows, test_rows}
 use Rattle.fb_model.specs.Rides.{due}
-use Rattle.fb_model.specs.Steps.{Delivery, Part, blocks_by, take_call, calls_due, settled_past, with_delivery, with_finish, tested_past, past_after, AtEach}
+use Rattle.fb_model.specs.Steps.{Delivery, Step, decision_in, blocks_by, take_call, calls_due, settled_past, with_delivery, with_finish, tested_past, past_after, AtEach}
 use Rattle.fb_model.specs.SoundRun.{AreFollowed}
 use Rattle.fb_model.specs.FullRun.{HasBestPlan}
 use Rattle.fb_model.specs.Known.{without_line}
 use Rattle.fb_model.proofs.Lists.{same_map, same_flat_map, kept_map}
-use Rattle.fb_model.proofs.FullRuns.{IsFullPart}
+use Rattle.fb_model.proofs.FullRuns.{IsFullStep}
 
 abbrev unlined : Event → Event
 unlined (called call blocks) = called (without_line call) blocks
@@ -260,11 +260,11 @@ finish_same past (serves served) = refl
 finish_same past (idles dwell) = refl
 finish_same past (ends now) = refl
 
-after_same : (inputs : Inputs) (past : Past) (step : Decision × Part) → past_after (unlined_inputs inputs) (unlined_past past) step ≡ unlined_past (past_after inputs past step)
+after_same : (inputs : Inputs) (past : Past) (step : Step) → past_after (unlined_inputs inputs) (unlined_past past) step ≡ unlined_past (past_after inputs past step)
 unfolding past_after
 after_same inputs past step =
-    ap (λ past. with_finish (fold with_delivery (tested step.1.settled ∷ past) step.1.deliveries) step.0) (settled_same inputs past step.0)
-    ∙ (ap (λ past. with_finish past step.0) (deliver_all step.1.deliveries (tested_past inputs past step)) ∙ finish_same (fold with_delivery (tested_past inputs past step) step.1.deliveries) step.0)
+    ap (λ past. with_finish (fold with_delivery (tested step.settled ∷ past) step.deliveries) (decision_in step)) (settled_same inputs past (decision_in step))
+    ∙ (ap (λ past. with_finish past (decision_in step)) (deliver_all step.deliveries (tested_past inputs past step)) ∙ finish_same (fold with_delivery (tested_past inputs past step) step.deliveries) (decision_in step))
 
 -- ---- rows
 
@@ -308,27 +308,27 @@ module _ (medium : Medium) where
     followed_same (with_delivery past d) ds followed.1,
   )
 
-  -- ---- parts
+  -- ---- steps
 
-  part_same : (inputs : Inputs) (past : Past) (step : Decision × Part) → IsFullPart inputs medium past step → IsFullPart (unlined_inputs inputs) medium (unlined_past past) step
-  part_same inputs past step full =
-      let settled = settled_past inputs past step.0 in
-      let is = settled_same inputs past step.0 in
-      let blocks : wanted settled ≡ wanted (settled_past (unlined_inputs inputs) (unlined_past past) step.0) = sym (ap wanted is ∙ same_wanted settled) in
+  step_same : (inputs : Inputs) (past : Past) (step : Step) → IsFullStep inputs medium past step → IsFullStep (unlined_inputs inputs) medium (unlined_past past) step
+  step_same inputs past step full =
+      let settled = settled_past inputs past (decision_in step) in
+      let is = settled_same inputs past (decision_in step) in
+      let blocks : wanted settled ≡ wanted (settled_past (unlined_inputs inputs) (unlined_past past) (decision_in step)) = sym (ap wanted is ∙ same_wanted settled) in
       record {
         tests = record {
-          settled = full.tests.settled ∙ sym (ap (λ past. test_rows medium past (instant_of step.0)) is ∙ tests_same settled (instant_of step.0));
-          followed = subst (λ past. AreFollowed medium (tested step.1.settled ∷ past) step.1.deliveries) (sym is) (followed_same (tested step.1.settled ∷ settled) step.1.deliveries full.tests.followed);
+          settled = full.tests.settled ∙ sym (ap (λ past. test_rows medium past (instant_of (decision_in step))) is ∙ tests_same settled (instant_of (decision_in step)));
+          followed = subst (λ past. AreFollowed medium (tested step.settled ∷ past) step.deliveries) (sym is) (followed_same (tested step.settled ∷ settled) step.deliveries full.tests.followed);
         };
-        best = subst (λ blocks. HasBestPlan inputs.disk step.0 blocks step.1.plan) blocks full.best;
-        all = full.all ∙ ap (due medium.disk (contents_at medium) step.0 step.1.plan) blocks;
+        best = subst (λ blocks. HasBestPlan inputs.disk blocks step.act) blocks full.best;
+        all = full.all ∙ ap (due medium.disk (contents_at medium) step.act) blocks;
       }
 
-  pub parts_same : (inputs : Inputs) (past : Past) (steps : List (Decision × Part)) → AtEach (IsFullPart inputs medium) inputs past steps → AtEach (IsFullPart (unlined_inputs inputs) medium) (unlined_inputs inputs) (unlined_past past) steps
-  parts_same inputs past [] full = tt
-  parts_same inputs past (step ∷ steps) full = (
-    part_same inputs past step full.0,
-    subst (λ past. AtEach (IsFullPart (unlined_inputs inputs) medium) (unlined_inputs inputs) past steps) (sym (after_same inputs past step)) (parts_same inputs (past_after inputs past step) steps full.1),
+  pub steps_same : (inputs : Inputs) (past : Past) (steps : List Step) → AtEach (IsFullStep inputs medium) inputs past steps → AtEach (IsFullStep (unlined_inputs inputs) medium) (unlined_inputs inputs) (unlined_past past) steps
+  steps_same inputs past [] full = tt
+  steps_same inputs past (step ∷ steps) full = (
+    step_same inputs past step full.0,
+    subst (λ past. AtEach (IsFullStep (unlined_inputs inputs) medium) (unlined_inputs inputs) past steps) (sym (after_same inputs past step)) (steps_same inputs (past_after inputs past step) steps full.1),
   )
 
 -- ---- instants

@@ -4,6 +4,7 @@ use Rattle.std.specs.List.{fold}
 use Rattle.fb_units.specs.declared.types.Track.{Track}
 use Rattle.fb_service.specs.declared.disk.Disk.{Disk}
 use Rattle.fb_rows.specs.declared.gap.Dwell.{Dwell}
+use Rattle.fb_rows.specs.declared.gap.Plan.{Plan}
 use Rattle.fb_model.specs.PlainReplay.{Served, finish, last_track, first_track}
 use Rattle.fb_model.specs.Inputs.{Inputs, requests, served}
 
@@ -12,6 +13,18 @@ pub data Decision : Type 0 where
   serves : Served → Decision
   idles : Dwell → Decision
   ends : ℕ → Decision
+
+-- what is done at a decision: the request is served after a plan for its gap, the head stays on its track, or the run ends
+pub data Act : Type 0 where
+  serving : Served → Plan → Act
+  idling : Dwell → Act
+  ending : ℕ → Act
+
+-- the decision at which that is done
+abbrev pub decision_of : Act → Decision
+decision_of (serving served plan) = serves served
+decision_of (idling dwell) = idles dwell
+decision_of (ending now) = ends now
 
 -- when a decision is made
 abbrev pub instant_of : Decision → ℕ

@@ -16,7 +16,7 @@ use Rattle.fb_rows.specs.declared.back.DeliveryRow.{DeliveryRow}
 use Rattle.fb_model.specs.PlainReplay.{Served, media, target}
 use Rattle.fb_model.specs.Content.{ContentsAt}
 use Rattle.fb_model.specs.Plans.{block_begin, block_end, catches, early_dwell, late_dwell}
-use Rattle.fb_model.specs.Decisions.{Decision, serves, idles, ends}
+use Rattle.fb_model.specs.Decisions.{Act, serving, idling, ending}
 
 -- the gap of a request
 abbrev pub gap_of : Disk → Served → Gap
@@ -81,9 +81,9 @@ missed_in_gap disk gap plan wanted = missed disk (late_dwell disk gap plan) (mis
 
 -- the deliveries that are due at a decision, given the blocks that are wanted there: what the gap's dwells catch, and then what the ride
 -- carries of the blocks that are left; or what the idle dwell catches
-unfoldable pub due : Disk → ContentsAt → Decision → Plan → List Block → List DeliveryRow
-due disk contents (serves served) plan wanted =
+unfoldable pub due : Disk → ContentsAt → Act → List Block → List DeliveryRow
+due disk contents (serving served plan) wanted =
     let gap = gap_of disk served in
     caught_in_gap disk contents gap plan wanted ++ rides contents served (missed_in_gap disk gap plan wanted)
-due disk contents (idles dwell) plan wanted = caught disk contents ByIdle dwell wanted
-due disk contents (ends now) plan wanted = []
+due disk contents (idling dwell) wanted = caught disk contents ByIdle dwell wanted
+due disk contents (ending now) wanted = []

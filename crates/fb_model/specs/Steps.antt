@@ -1,6 +1,6 @@
 -- The history of a run, decision by decision, and the rows that it gives.
 use Rattle.std.specs.Prelude.{ℕ, List, [], ◌∷◌, ◌++◌, length, drop, nat_le, map, filter}
-use Rattle.std.specs.List.{flat_map, fold, count_by, zip}
+use Rattle.std.specs.List.{flat_map, fold, count_by}
 use Rattle.fb_calls.specs.declared.call.Action.{Action}
 use Rattle.fb_calls.specs.declared.call.Action.TheVariants.{Want}
 use Rattle.fb_calls.specs.declared.call.Call.{Call}
@@ -9,12 +9,11 @@ use Rattle.fb_sectormap.specs.Cutting.{cutting}
 use Rattle.fb_service.specs.declared.disk.Disk.{Disk}
 use Rattle.fb_wanted.specs.declared.block.Block.{Block}
 use Rattle.fb_wanted.specs.States.{is_delivered}
-use Rattle.fb_rows.specs.declared.gap.Plan.{Plan}
 use Rattle.fb_rows.specs.declared.back.DeliveryRow.{DeliveryRow}
 use Rattle.fb_rows.specs.declared.back.BackRow.{BackRow}
 use Rattle.fb_rows.specs.declared.back.BackRow.TheVariants.{Gap as GapLine, Idle as IdleLine, Got as GotLine, Task as TaskLine}
 use Rattle.fb_model.specs.Inputs.{Inputs}
-use Rattle.fb_model.specs.Decisions.{Decision, serves, idles, ends, instant_of, decisions}
+use Rattle.fb_model.specs.Decisions.{Decision, serves, instant_of, Act, serving, idling, ending, decision_of}
 use Rattle.fb_model.specs.History.{called, tested, delivered, finished, Past, calls_of, task_numbers, terms_of, is_aborted}
 use Rattle.fb_model.specs.Completion.{work, is_complete}
 use Rattle.fb_model.specs.Segments.{next_blocks, with_choices}
@@ -25,11 +24,19 @@ pub record Delivery : Type 0 where
   pub got : DeliveryRow
   pub after : List BackRow
 
--- the background at one decision: the rows of its test, its plan (which only a served request has), and its deliveries
-pub record Part : Type 0 where
+-- one step of a run: the rows of the test at its decision, what is done there, and what that delivers
+pub record Step : Type 0 where
   pub settled : List BackRow
-  pub plan : Plan
+  pub act : Act
   pub deliveries : List Delivery
+
+-- the decision at which a step is made
+abbrev pub decision_in : Step → Decision
+decision_in step = decision_of step.act
+
+-- the decisions of a run's steps
+abbrev pub decisions_in : List Step → List Decision
+decisions_in steps = map decision_in steps
 
 -- the blocks that a call registers
 abbrev pub blocks_by : Shape → Past → ℕ → Action → List Block
@@ -63,36 +70,31 @@ with_finish past (serves served) = finished served.request ∷ past
 with_finish past _ = past
 
 -- after its test
-abbrev pub tested_past : Inputs → Past → Decision × Part → Past
-tested_past inputs past step = tested step.1.settled ∷ settled_past inputs past step.0
+abbrev pub tested_past : Inputs → Past → Step → Past
+tested_past inputs past step = tested step.settled ∷ settled_past inputs past (decision_in step)
 
--- after the whole decision
-unfoldable pub past_after : Inputs → Past → Decision × Part → Past
-past_after inputs past step = with_finish (fold with_delivery (tested_past inputs past step) step.1.deliveries) step.0
+-- after the whole step
+unfoldable pub past_after : Inputs → Past → Step → Past
+past_after inputs past step = with_finish (fold with_delivery (tested_past inputs past step) step.deliveries) (decision_in step)
 
--- each decision with its part
-abbrev pub steps : Inputs → List Part → List (Decision × Part)
-steps inputs parts = zip (decisions inputs) parts
-
--- after all decisions
-abbrev pub history : Inputs → List (Decision × Part) → Past
+-- after all steps
+abbrev pub history : Inputs → List Step → Past
 history inputs steps = fold (past_after inputs) [] steps
 
--- each decision, with what has happened before it, meets the condition
-abbrev pub AtEach : (Past → Decision × Part → Type 0) → Inputs → Past → List (Decision × Part) → Type 0
+-- each step, with what has happened before it, meets the condition
+abbrev pub AtEach : (Past → Step → Type 0) → Inputs → Past → List Step → Type 0
 AtEach P inputs past [] = Unit {0}
 AtEach P inputs past (step ∷ steps) = P past step × AtEach P inputs (past_after inputs past step) steps
 
 -- the gap row of the request that is served, or the idle row
-abbrev pub opening : Disk → Decision → Plan → List BackRow
-opening disk (serves served) plan = GapLine (record { name = served.request.name; gap = gap_of disk served; plan = plan }) ∷ []
-opening disk (idles dwell) plan = IdleLine dwell ∷ []
-opening disk (ends now) plan = []
+abbrev pub opening : Disk → Act → List BackRow
+opening disk (serving served plan) = GapLine (record { name = served.request.name; gap = gap_of disk served; plan = plan }) ∷ []
+opening disk (idling dwell) = IdleLine dwell ∷ []
+opening disk (ending now) = []
 
--- a decision's rows: those of its test, the gap or idle row, the deliveries with what follows each
-abbrev pub part_rows : Disk → Decision × Part → List BackRow
-part_rows disk step = step.1.settled ++ opening disk step.0 step.1.plan
-    ++ flat_map (λ delivery. GotLine delivery.got ∷ delivery.after) step.1.deliveries
+-- a step's rows: those of its test, the gap or idle row, the deliveries with what follows each
+abbrev pub step_rows : Disk → Step → List BackRow
+step_rows disk step = step.settled ++ opening disk step.act ++ flat_map (λ delivery. GotLine delivery.got ∷ delivery.after) step.deliveries
 
 -- how a task stands
 abbrev pub task_row : Past → ℕ → BackRow
