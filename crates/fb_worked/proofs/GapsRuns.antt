@@ -6,36 +6,37 @@ use Rattle.fb_rows.specs.declared.gap.How.TheVariants.{Gap as ByGap}
 use Rattle.fb_worked.specs.SmallDisk.{small_disk, quick_disk, turned_disk}
 use Rattle.fb_worked.specs.Rows.{at, gap, untouched, block, got, done_line, task_line}
 use Rattle.fb_rows.specs.declared.back.BackRow.{BackRow}
-use Rattle.fb_model.specs.Steps.{Part}
+use Rattle.fb_model.specs.Decisions.{decisions}
+use Rattle.fb_model.specs.Steps.{Step}
 use Rattle.fb_model.specs.SoundRun.{none, taken, IsSoundBy, Throughout}
 use Rattle.fb_model.specs.FullRun.{IsAllDelivered, IsBestPlanned, IsFull}
 use Rattle.fb_worked.specs.Gaps.{both_dwells, detour, no_time_to_settle, detour_on_the_way, detour_over_nothing, weight_decides, block_over_the_turn}
-use Rattle.fb_worked.proofs.OnSmallDisks.{on_small_disks, part, with_rows}
+use Rattle.fb_worked.proofs.OnSmallDisks.{on_small_disks, serve, rest, steps_at, with_rows}
 use Rattle.fb_worked.proofs.BestPlans.{here, there, none_in_time, none_on_the_way, all_at_once, all_then_leave, all_by_detour}
 use Rattle.fb_worked.proofs.CloseGaps.{by_weight, sooner_over}
 
-abbrev parts_of_both_dwells : List Part
-parts_of_both_dwells =
-    part [] (Direct 0) []
-    ∷ part [] (Direct 800) (
+abbrev steps_of_both_dwells : List Step
+steps_of_both_dwells = steps_at (decisions both_dwells.inputs) (
+    serve [] (Direct 0) []
+    ∷ serve [] (Direct 800) (
     with_rows (got (block 0 0 6 1 (at 0 0) 1) 600 700 ByGap 0 (untouched 6 1 ∷ [])) []
     ∷ with_rows (got (block 0 1 7 1 (at 0 0) 1) 700 800 ByGap 0 (untouched 7 1 ∷ [])) []
     ∷ with_rows (got (block 0 2 35 1 (at 1 0) 1) 1100 1200 ByGap 0 (untouched 35 1 ∷ [])) (done_line 0 1200 ∷ [])
     ∷ [])
-    ∷ part [] (Direct 0) []
-    ∷ []
+    ∷ rest [] []
+    ∷ [])
 
 abbrev tasks_of_both_dwells : List BackRow
 tasks_of_both_dwells = task_line 0 Plain 3 3 0 true ∷ []
 
-sound_both_dwells : IsSoundBy both_dwells.inputs parts_of_both_dwells both_dwells.run
+sound_both_dwells : IsSoundBy both_dwells.inputs steps_of_both_dwells both_dwells.run
 unfolding on_small_disks
 sound_both_dwells = record {
   fore = refl;
   passed_over = refl;
   possible = refl;
   end = refl;
-  part_each = refl;
+  decided = refl;
   tasks = tasks_of_both_dwells;
   back = refl;
   planned = ((lit≤ tt, lit≤ tt), ((lit≤ tt, lit≤ tt), (tt, tt)));
@@ -50,37 +51,37 @@ sound_both_dwells = record {
   counted = refl;
 }
 
-all_both_dwells : Throughout IsAllDelivered both_dwells.inputs parts_of_both_dwells
+all_both_dwells : Throughout IsAllDelivered both_dwells.inputs steps_of_both_dwells
 unfolding on_small_disks
 all_both_dwells = (refl, (refl, (refl, tt)))
 
-best_both_dwells : Throughout IsBestPlanned both_dwells.inputs parts_of_both_dwells
+best_both_dwells : Throughout IsBestPlanned both_dwells.inputs steps_of_both_dwells
 unfolding on_small_disks
 best_both_dwells = (none_in_time small_disk (gap (at 0 0) (at 0 0) 0 500 false) (block 0 0 6 1 (at 0 0) 1 ∷ block 0 1 7 1 (at 0 0) 1 ∷ block 0 2 35 1 (at 1 0) 1 ∷ []) (lit< tt, (lit< tt, (lit< tt, tt))) (lit≤ tt, lit≤ tt), (all_then_leave small_disk (gap (at 0 0) (at 1 0) 600 1200 false) (block 0 0 6 1 (at 0 0) 1 ∷ block 0 1 7 1 (at 0 0) 1 ∷ block 0 2 35 1 (at 1 0) 1 ∷ []) 800 (block 0 1 7 1 (at 0 0) 1) (there here) (lit< tt) refl (lit≤ tt) refl (lit≤ tt, lit≤ tt), (tt, tt)))
 
 pub both_dwells_is_full : IsFull both_dwells.inputs both_dwells.run
-both_dwells_is_full = record { parts = parts_of_both_dwells; sound = sound_both_dwells; best = best_both_dwells; all = all_both_dwells }
+both_dwells_is_full = record { steps = steps_of_both_dwells; sound = sound_both_dwells; best = best_both_dwells; all = all_both_dwells }
 
-abbrev parts_of_detour : List Part
-parts_of_detour =
-    part [] (Direct 0) []
-    ∷ part [] (Detour (at 0 1) 900) (
+abbrev steps_of_detour : List Step
+steps_of_detour = steps_at (decisions detour.inputs) (
+    serve [] (Direct 0) []
+    ∷ serve [] (Detour (at 0 1) 900) (
     with_rows (got (block 0 0 20 1 (at 0 1) 1) 800 900 ByGap 0 (untouched 20 1 ∷ [])) (done_line 0 900 ∷ [])
     ∷ [])
-    ∷ part [] (Direct 0) []
-    ∷ []
+    ∷ rest [] []
+    ∷ [])
 
 abbrev tasks_of_detour : List BackRow
 tasks_of_detour = task_line 0 Plain 1 1 0 true ∷ []
 
-sound_detour : IsSoundBy detour.inputs parts_of_detour detour.run
+sound_detour : IsSoundBy detour.inputs steps_of_detour detour.run
 unfolding on_small_disks
 sound_detour = record {
   fore = refl;
   passed_over = refl;
   possible = refl;
   end = refl;
-  part_each = refl;
+  decided = refl;
   tasks = tasks_of_detour;
   back = refl;
   planned = ((lit≤ tt, lit≤ tt), (record { on_disk = record { cylinder = lit< tt; head = lit< tt }; not_source = refl; not_target = refl; after_arrival = lit≤ tt; in_time = lit≤ tt }, (tt, tt)));
@@ -95,35 +96,35 @@ sound_detour = record {
   counted = refl;
 }
 
-all_detour : Throughout IsAllDelivered detour.inputs parts_of_detour
+all_detour : Throughout IsAllDelivered detour.inputs steps_of_detour
 unfolding on_small_disks
 all_detour = (refl, (refl, (refl, tt)))
 
-best_detour : Throughout IsBestPlanned detour.inputs parts_of_detour
+best_detour : Throughout IsBestPlanned detour.inputs steps_of_detour
 unfolding on_small_disks
 best_detour = (none_in_time small_disk (gap (at 0 0) (at 0 0) 0 500 false) (block 0 0 20 1 (at 0 1) 1 ∷ []) (lit< tt, tt) (lit≤ tt, lit≤ tt), (all_by_detour small_disk (gap (at 0 0) (at 1 0) 600 1200 false) (block 0 0 20 1 (at 0 1) 1 ∷ []) (at 0 1) 900 (block 0 0 20 1 (at 0 1) 1) here (lit< tt) refl refl refl (lit≤ tt) refl (record { on_disk = record { cylinder = lit< tt; head = lit< tt }; not_source = refl; not_target = refl; after_arrival = lit≤ tt; in_time = lit≤ tt }), (tt, tt)))
 
 pub detour_is_full : IsFull detour.inputs detour.run
-detour_is_full = record { parts = parts_of_detour; sound = sound_detour; best = best_detour; all = all_detour }
+detour_is_full = record { steps = steps_of_detour; sound = sound_detour; best = best_detour; all = all_detour }
 
-abbrev parts_of_no_time_to_settle : List Part
-parts_of_no_time_to_settle =
-    part [] (Direct 0) []
-    ∷ part [] (Direct 600) []
-    ∷ part [] (Direct 0) []
-    ∷ []
+abbrev steps_of_no_time_to_settle : List Step
+steps_of_no_time_to_settle = steps_at (decisions no_time_to_settle.inputs) (
+    serve [] (Direct 0) []
+    ∷ serve [] (Direct 600) []
+    ∷ rest [] []
+    ∷ [])
 
 abbrev tasks_of_no_time_to_settle : List BackRow
 tasks_of_no_time_to_settle = task_line 0 Plain 1 0 0 false ∷ []
 
-sound_no_time_to_settle : IsSoundBy no_time_to_settle.inputs parts_of_no_time_to_settle no_time_to_settle.run
+sound_no_time_to_settle : IsSoundBy no_time_to_settle.inputs steps_of_no_time_to_settle no_time_to_settle.run
 unfolding on_small_disks
 sound_no_time_to_settle = record {
   fore = refl;
   passed_over = refl;
   possible = refl;
   end = refl;
-  part_each = refl;
+  decided = refl;
   tasks = tasks_of_no_time_to_settle;
   back = refl;
   planned = ((lit≤ tt, lit≤ tt), ((lit≤ tt, lit≤ tt), (tt, tt)));
@@ -138,36 +139,36 @@ sound_no_time_to_settle = record {
   counted = refl;
 }
 
-all_no_time_to_settle : Throughout IsAllDelivered no_time_to_settle.inputs parts_of_no_time_to_settle
+all_no_time_to_settle : Throughout IsAllDelivered no_time_to_settle.inputs steps_of_no_time_to_settle
 unfolding on_small_disks
 all_no_time_to_settle = (refl, (refl, (refl, tt)))
 
-best_no_time_to_settle : Throughout IsBestPlanned no_time_to_settle.inputs parts_of_no_time_to_settle
+best_no_time_to_settle : Throughout IsBestPlanned no_time_to_settle.inputs steps_of_no_time_to_settle
 unfolding on_small_disks
 best_no_time_to_settle = (none_in_time small_disk (gap (at 0 0) (at 0 0) 0 500 false) (block 0 0 20 1 (at 0 1) 1 ∷ []) (lit< tt, tt) (lit≤ tt, lit≤ tt), (none_on_the_way small_disk (gap (at 0 0) (at 1 0) 600 1200 true) (block 0 0 20 1 (at 0 1) 1 ∷ []) ((refl, (refl, lit< tt)), tt) (lit≤ tt, lit≤ tt), (tt, tt)))
 
 pub no_time_to_settle_is_full : IsFull no_time_to_settle.inputs no_time_to_settle.run
-no_time_to_settle_is_full = record { parts = parts_of_no_time_to_settle; sound = sound_no_time_to_settle; best = best_no_time_to_settle; all = all_no_time_to_settle }
+no_time_to_settle_is_full = record { steps = steps_of_no_time_to_settle; sound = sound_no_time_to_settle; best = best_no_time_to_settle; all = all_no_time_to_settle }
 
-abbrev parts_of_detour_on_the_way : List Part
-parts_of_detour_on_the_way =
-    part [] (Detour (at 1 0) 200) (
+abbrev steps_of_detour_on_the_way : List Step
+steps_of_detour_on_the_way = steps_at (decisions detour_on_the_way.inputs) (
+    serve [] (Detour (at 1 0) 200) (
     with_rows (got (block 0 0 25 1 (at 1 0) 1) 100 200 ByGap 0 (untouched 25 1 ∷ [])) (done_line 0 200 ∷ [])
     ∷ [])
-    ∷ part [] (Direct 0) []
-    ∷ []
+    ∷ rest [] []
+    ∷ [])
 
 abbrev tasks_of_detour_on_the_way : List BackRow
 tasks_of_detour_on_the_way = task_line 0 Plain 1 1 0 true ∷ []
 
-sound_detour_on_the_way : IsSoundBy detour_on_the_way.inputs parts_of_detour_on_the_way detour_on_the_way.run
+sound_detour_on_the_way : IsSoundBy detour_on_the_way.inputs steps_of_detour_on_the_way detour_on_the_way.run
 unfolding on_small_disks
 sound_detour_on_the_way = record {
   fore = refl;
   passed_over = refl;
   possible = refl;
   end = refl;
-  part_each = refl;
+  decided = refl;
   tasks = tasks_of_detour_on_the_way;
   back = refl;
   planned = (record { on_disk = record { cylinder = lit< tt; head = lit< tt }; not_source = refl; not_target = refl; after_arrival = lit≤ tt; in_time = lit≤ tt }, (tt, tt));
@@ -179,36 +180,36 @@ sound_detour_on_the_way = record {
   counted = refl;
 }
 
-all_detour_on_the_way : Throughout IsAllDelivered detour_on_the_way.inputs parts_of_detour_on_the_way
+all_detour_on_the_way : Throughout IsAllDelivered detour_on_the_way.inputs steps_of_detour_on_the_way
 unfolding on_small_disks
 all_detour_on_the_way = (refl, (refl, tt))
 
-best_detour_on_the_way : Throughout IsBestPlanned detour_on_the_way.inputs parts_of_detour_on_the_way
+best_detour_on_the_way : Throughout IsBestPlanned detour_on_the_way.inputs steps_of_detour_on_the_way
 unfolding on_small_disks
 best_detour_on_the_way = (all_by_detour quick_disk (gap (at 0 0) (at 2 0) 0 1500 false) (block 0 0 25 1 (at 1 0) 1 ∷ []) (at 1 0) 200 (block 0 0 25 1 (at 1 0) 1) here (lit< tt) refl refl refl (lit≤ tt) refl (record { on_disk = record { cylinder = lit< tt; head = lit< tt }; not_source = refl; not_target = refl; after_arrival = lit≤ tt; in_time = lit≤ tt }), (tt, tt))
 
 pub detour_on_the_way_is_full : IsFull detour_on_the_way.inputs detour_on_the_way.run
-detour_on_the_way_is_full = record { parts = parts_of_detour_on_the_way; sound = sound_detour_on_the_way; best = best_detour_on_the_way; all = all_detour_on_the_way }
+detour_on_the_way_is_full = record { steps = steps_of_detour_on_the_way; sound = sound_detour_on_the_way; best = best_detour_on_the_way; all = all_detour_on_the_way }
 
-abbrev parts_of_detour_over_nothing : List Part
-parts_of_detour_over_nothing =
-    part [] (Detour (at 1 0) 100) (
+abbrev steps_of_detour_over_nothing : List Step
+steps_of_detour_over_nothing = steps_at (decisions detour_over_nothing.inputs) (
+    serve [] (Detour (at 1 0) 100) (
     with_rows (got (block 0 0 51 1 (at 2 0) 1) 300 400 ByGap 0 (untouched 51 1 ∷ [])) (done_line 0 400 ∷ [])
     ∷ [])
-    ∷ part [] (Direct 0) []
-    ∷ []
+    ∷ rest [] []
+    ∷ [])
 
 abbrev tasks_of_detour_over_nothing : List BackRow
 tasks_of_detour_over_nothing = task_line 0 Plain 1 1 0 true ∷ []
 
-sound_detour_over_nothing : IsSoundBy detour_over_nothing.inputs parts_of_detour_over_nothing detour_over_nothing.run
+sound_detour_over_nothing : IsSoundBy detour_over_nothing.inputs steps_of_detour_over_nothing detour_over_nothing.run
 unfolding on_small_disks
 sound_detour_over_nothing = record {
   fore = refl;
   passed_over = refl;
   possible = refl;
   end = refl;
-  part_each = refl;
+  decided = refl;
   tasks = tasks_of_detour_over_nothing;
   back = refl;
   planned = (record { on_disk = record { cylinder = lit< tt; head = lit< tt }; not_source = refl; not_target = refl; after_arrival = lit≤ tt; in_time = lit≤ tt }, (tt, tt));
@@ -220,37 +221,37 @@ sound_detour_over_nothing = record {
   counted = refl;
 }
 
-all_detour_over_nothing : Throughout IsAllDelivered detour_over_nothing.inputs parts_of_detour_over_nothing
+all_detour_over_nothing : Throughout IsAllDelivered detour_over_nothing.inputs steps_of_detour_over_nothing
 unfolding on_small_disks
 all_detour_over_nothing = (refl, (refl, tt))
 
-best_detour_over_nothing : Throughout IsBestPlanned detour_over_nothing.inputs parts_of_detour_over_nothing
+best_detour_over_nothing : Throughout IsBestPlanned detour_over_nothing.inputs steps_of_detour_over_nothing
 unfolding on_small_disks
 best_detour_over_nothing = (sooner_over, (tt, tt))
 
 pub detour_over_nothing_is_full : IsFull detour_over_nothing.inputs detour_over_nothing.run
-detour_over_nothing_is_full = record { parts = parts_of_detour_over_nothing; sound = sound_detour_over_nothing; best = best_detour_over_nothing; all = all_detour_over_nothing }
+detour_over_nothing_is_full = record { steps = steps_of_detour_over_nothing; sound = sound_detour_over_nothing; best = best_detour_over_nothing; all = all_detour_over_nothing }
 
-abbrev parts_of_weight_decides : List Part
-parts_of_weight_decides =
-    part [] (Direct 0) []
-    ∷ part [] (Direct 600) (
+abbrev steps_of_weight_decides : List Step
+steps_of_weight_decides = steps_at (decisions weight_decides.inputs) (
+    serve [] (Direct 0) []
+    ∷ serve [] (Direct 600) (
     with_rows (got (block 1 0 33 1 (at 1 0) 5) 900 1000 ByGap 0 (untouched 33 1 ∷ [])) (done_line 1 1000 ∷ [])
     ∷ [])
-    ∷ part [] (Direct 0) []
-    ∷ []
+    ∷ rest [] []
+    ∷ [])
 
 abbrev tasks_of_weight_decides : List BackRow
 tasks_of_weight_decides = task_line 0 Plain 2 0 0 false ∷ task_line 1 Plain 1 1 0 true ∷ []
 
-sound_weight_decides : IsSoundBy weight_decides.inputs parts_of_weight_decides weight_decides.run
+sound_weight_decides : IsSoundBy weight_decides.inputs steps_of_weight_decides weight_decides.run
 unfolding on_small_disks
 sound_weight_decides = record {
   fore = refl;
   passed_over = refl;
   possible = refl;
   end = refl;
-  part_each = refl;
+  decided = refl;
   tasks = tasks_of_weight_decides;
   back = refl;
   planned = ((lit≤ tt, lit≤ tt), ((lit≤ tt, lit≤ tt), (tt, tt)));
@@ -265,36 +266,36 @@ sound_weight_decides = record {
   counted = refl;
 }
 
-all_weight_decides : Throughout IsAllDelivered weight_decides.inputs parts_of_weight_decides
+all_weight_decides : Throughout IsAllDelivered weight_decides.inputs steps_of_weight_decides
 unfolding on_small_disks
 all_weight_decides = (refl, (refl, (refl, tt)))
 
-best_weight_decides : Throughout IsBestPlanned weight_decides.inputs parts_of_weight_decides
+best_weight_decides : Throughout IsBestPlanned weight_decides.inputs steps_of_weight_decides
 unfolding on_small_disks
 best_weight_decides = (none_in_time small_disk (gap (at 0 0) (at 0 0) 0 500 false) (block 0 0 6 1 (at 0 0) 1 ∷ block 0 1 7 1 (at 0 0) 1 ∷ block 1 0 33 1 (at 1 0) 5 ∷ []) (lit< tt, (lit< tt, (lit< tt, tt))) (lit≤ tt, lit≤ tt), (by_weight, (tt, tt)))
 
 pub weight_decides_is_full : IsFull weight_decides.inputs weight_decides.run
-weight_decides_is_full = record { parts = parts_of_weight_decides; sound = sound_weight_decides; best = best_weight_decides; all = all_weight_decides }
+weight_decides_is_full = record { steps = steps_of_weight_decides; sound = sound_weight_decides; best = best_weight_decides; all = all_weight_decides }
 
-abbrev parts_of_block_over_the_turn : List Part
-parts_of_block_over_the_turn =
-    part [] (Direct 0) (
+abbrev steps_of_block_over_the_turn : List Step
+steps_of_block_over_the_turn = steps_at (decisions block_over_the_turn.inputs) (
+    serve [] (Direct 0) (
     with_rows (got (block 0 0 12 2 (at 0 1) 1) 1100 1300 ByGap 0 (untouched 12 2 ∷ [])) (done_line 0 1300 ∷ [])
     ∷ [])
-    ∷ part [] (Direct 0) []
-    ∷ []
+    ∷ rest [] []
+    ∷ [])
 
 abbrev tasks_of_block_over_the_turn : List BackRow
 tasks_of_block_over_the_turn = task_line 0 Plain 1 1 0 true ∷ []
 
-sound_block_over_the_turn : IsSoundBy block_over_the_turn.inputs parts_of_block_over_the_turn block_over_the_turn.run
+sound_block_over_the_turn : IsSoundBy block_over_the_turn.inputs steps_of_block_over_the_turn block_over_the_turn.run
 unfolding on_small_disks
 sound_block_over_the_turn = record {
   fore = refl;
   passed_over = refl;
   possible = refl;
   end = refl;
-  part_each = refl;
+  decided = refl;
   tasks = tasks_of_block_over_the_turn;
   back = refl;
   planned = ((lit≤ tt, lit≤ tt), (tt, tt));
@@ -306,13 +307,13 @@ sound_block_over_the_turn = record {
   counted = refl;
 }
 
-all_block_over_the_turn : Throughout IsAllDelivered block_over_the_turn.inputs parts_of_block_over_the_turn
+all_block_over_the_turn : Throughout IsAllDelivered block_over_the_turn.inputs steps_of_block_over_the_turn
 unfolding on_small_disks
 all_block_over_the_turn = (refl, (refl, tt))
 
-best_block_over_the_turn : Throughout IsBestPlanned block_over_the_turn.inputs parts_of_block_over_the_turn
+best_block_over_the_turn : Throughout IsBestPlanned block_over_the_turn.inputs steps_of_block_over_the_turn
 unfolding on_small_disks
 best_block_over_the_turn = (all_at_once turned_disk (gap (at 0 0) (at 0 1) 0 1300 false) (block 0 0 12 2 (at 0 1) 1 ∷ []) refl (lit≤ tt, lit≤ tt), (tt, tt))
 
 pub block_over_the_turn_is_full : IsFull block_over_the_turn.inputs block_over_the_turn.run
-block_over_the_turn_is_full = record { parts = parts_of_block_over_the_turn; sound = sound_block_over_the_turn; best = best_block_over_the_turn; all = all_block_over_the_turn }
+block_over_the_turn_is_full = record { steps = steps_of_block_over_the_turn; sound = sound_block_over_the_turn; best = best_block_over_the_turn; all = all_block_over_the_turn }

@@ -6,33 +6,34 @@ use Rattle.fb_rows.specs.declared.gap.How.TheVariants.{Gap as ByGap, Idle as ByI
 use Rattle.fb_worked.specs.SmallDisk.{small_disk}
 use Rattle.fb_worked.specs.Rows.{at, gap, untouched, block, got, done_line, task_line}
 use Rattle.fb_rows.specs.declared.back.BackRow.{BackRow}
-use Rattle.fb_model.specs.Steps.{Part}
+use Rattle.fb_model.specs.Decisions.{decisions}
+use Rattle.fb_model.specs.Steps.{Step}
 use Rattle.fb_model.specs.SoundRun.{none, taken, IsSoundBy, Throughout}
 use Rattle.fb_model.specs.FullRun.{IsAllDelivered, IsBestPlanned, IsFull}
 use Rattle.fb_worked.specs.Idle.{idle_to_the_end, idle_too_short, grown_defect_cuts, promoted_read_carries, caught_not_carried}
-use Rattle.fb_worked.proofs.OnSmallDisks.{on_small_disks, part, with_rows}
+use Rattle.fb_worked.proofs.OnSmallDisks.{on_small_disks, serve, rest, steps_at, with_rows}
 use Rattle.fb_worked.proofs.BestPlans.{none_in_time, all_at_once}
 
-abbrev parts_of_idle_to_the_end : List Part
-parts_of_idle_to_the_end =
-    part [] (Direct 0) (
+abbrev steps_of_idle_to_the_end : List Step
+steps_of_idle_to_the_end = steps_at (decisions idle_to_the_end.inputs) (
+    rest [] (
     with_rows (got (block 0 0 5 1 (at 0 0) 1) 500 600 ByIdle 0 (untouched 5 1 ∷ [])) (done_line 0 600 ∷ [])
     ∷ [])
-    ∷ part [] (Direct 600) []
-    ∷ part [] (Direct 0) []
-    ∷ []
+    ∷ serve [] (Direct 600) []
+    ∷ rest [] []
+    ∷ [])
 
 abbrev tasks_of_idle_to_the_end : List BackRow
 tasks_of_idle_to_the_end = task_line 0 Plain 1 1 0 true ∷ []
 
-sound_idle_to_the_end : IsSoundBy idle_to_the_end.inputs parts_of_idle_to_the_end idle_to_the_end.run
+sound_idle_to_the_end : IsSoundBy idle_to_the_end.inputs steps_of_idle_to_the_end idle_to_the_end.run
 unfolding on_small_disks
 sound_idle_to_the_end = record {
   fore = refl;
   passed_over = refl;
   possible = refl;
   end = refl;
-  part_each = refl;
+  decided = refl;
   tasks = tasks_of_idle_to_the_end;
   back = refl;
   planned = (tt, ((lit≤ tt, lit≤ tt), (tt, tt)));
@@ -47,35 +48,35 @@ sound_idle_to_the_end = record {
   counted = refl;
 }
 
-all_idle_to_the_end : Throughout IsAllDelivered idle_to_the_end.inputs parts_of_idle_to_the_end
+all_idle_to_the_end : Throughout IsAllDelivered idle_to_the_end.inputs steps_of_idle_to_the_end
 unfolding on_small_disks
 all_idle_to_the_end = (refl, (refl, (refl, tt)))
 
-best_idle_to_the_end : Throughout IsBestPlanned idle_to_the_end.inputs parts_of_idle_to_the_end
+best_idle_to_the_end : Throughout IsBestPlanned idle_to_the_end.inputs steps_of_idle_to_the_end
 unfolding on_small_disks
 best_idle_to_the_end = (tt, (none_in_time small_disk (gap (at 0 0) (at 1 0) 600 1200 false) [] tt (lit≤ tt, lit≤ tt), (tt, tt)))
 
 pub idle_to_the_end_is_full : IsFull idle_to_the_end.inputs idle_to_the_end.run
-idle_to_the_end_is_full = record { parts = parts_of_idle_to_the_end; sound = sound_idle_to_the_end; best = best_idle_to_the_end; all = all_idle_to_the_end }
+idle_to_the_end_is_full = record { steps = steps_of_idle_to_the_end; sound = sound_idle_to_the_end; best = best_idle_to_the_end; all = all_idle_to_the_end }
 
-abbrev parts_of_idle_too_short : List Part
-parts_of_idle_too_short =
-    part [] (Direct 0) []
-    ∷ part [] (Direct 599) []
-    ∷ part [] (Direct 0) []
-    ∷ []
+abbrev steps_of_idle_too_short : List Step
+steps_of_idle_too_short = steps_at (decisions idle_too_short.inputs) (
+    rest [] []
+    ∷ serve [] (Direct 599) []
+    ∷ rest [] []
+    ∷ [])
 
 abbrev tasks_of_idle_too_short : List BackRow
 tasks_of_idle_too_short = task_line 0 Plain 1 0 0 false ∷ []
 
-sound_idle_too_short : IsSoundBy idle_too_short.inputs parts_of_idle_too_short idle_too_short.run
+sound_idle_too_short : IsSoundBy idle_too_short.inputs steps_of_idle_too_short idle_too_short.run
 unfolding on_small_disks
 sound_idle_too_short = record {
   fore = refl;
   passed_over = refl;
   possible = refl;
   end = refl;
-  part_each = refl;
+  decided = refl;
   tasks = tasks_of_idle_too_short;
   back = refl;
   planned = (tt, ((lit≤ tt, lit≤ tt), (tt, tt)));
@@ -90,36 +91,36 @@ sound_idle_too_short = record {
   counted = refl;
 }
 
-all_idle_too_short : Throughout IsAllDelivered idle_too_short.inputs parts_of_idle_too_short
+all_idle_too_short : Throughout IsAllDelivered idle_too_short.inputs steps_of_idle_too_short
 unfolding on_small_disks
 all_idle_too_short = (refl, (refl, (refl, tt)))
 
-best_idle_too_short : Throughout IsBestPlanned idle_too_short.inputs parts_of_idle_too_short
+best_idle_too_short : Throughout IsBestPlanned idle_too_short.inputs steps_of_idle_too_short
 unfolding on_small_disks
 best_idle_too_short = (tt, (none_in_time small_disk (gap (at 0 0) (at 1 0) 599 1200 false) (block 0 0 5 1 (at 0 0) 1 ∷ []) (lit< tt, tt) (lit≤ tt, lit≤ tt), (tt, tt)))
 
 pub idle_too_short_is_full : IsFull idle_too_short.inputs idle_too_short.run
-idle_too_short_is_full = record { parts = parts_of_idle_too_short; sound = sound_idle_too_short; best = best_idle_too_short; all = all_idle_too_short }
+idle_too_short_is_full = record { steps = steps_of_idle_too_short; sound = sound_idle_too_short; best = best_idle_too_short; all = all_idle_too_short }
 
-abbrev parts_of_grown_defect_cuts : List Part
-parts_of_grown_defect_cuts =
-    part [] (Direct 0) (
+abbrev steps_of_grown_defect_cuts : List Step
+steps_of_grown_defect_cuts = steps_at (decisions grown_defect_cuts.inputs) (
+    rest [] (
     with_rows (got (block 0 0 2 1 (at 0 0) 1) 200 300 ByIdle 0 (untouched 2 1 ∷ [])) []
     ∷ with_rows (got (block 0 2 4 1 (at 0 0) 1) 400 500 ByIdle 0 (untouched 4 1 ∷ [])) []
     ∷ [])
-    ∷ []
+    ∷ [])
 
 abbrev tasks_of_grown_defect_cuts : List BackRow
 tasks_of_grown_defect_cuts = task_line 0 Plain 3 2 0 false ∷ []
 
-sound_grown_defect_cuts : IsSoundBy grown_defect_cuts.inputs parts_of_grown_defect_cuts grown_defect_cuts.run
+sound_grown_defect_cuts : IsSoundBy grown_defect_cuts.inputs steps_of_grown_defect_cuts grown_defect_cuts.run
 unfolding on_small_disks
 sound_grown_defect_cuts = record {
   fore = refl;
   passed_over = refl;
   possible = refl;
   end = refl;
-  part_each = refl;
+  decided = refl;
   tasks = tasks_of_grown_defect_cuts;
   back = refl;
   planned = (tt, tt);
@@ -129,41 +130,41 @@ sound_grown_defect_cuts = record {
   counted = refl;
 }
 
-all_grown_defect_cuts : Throughout IsAllDelivered grown_defect_cuts.inputs parts_of_grown_defect_cuts
+all_grown_defect_cuts : Throughout IsAllDelivered grown_defect_cuts.inputs steps_of_grown_defect_cuts
 unfolding on_small_disks
 all_grown_defect_cuts = (refl, tt)
 
-best_grown_defect_cuts : Throughout IsBestPlanned grown_defect_cuts.inputs parts_of_grown_defect_cuts
+best_grown_defect_cuts : Throughout IsBestPlanned grown_defect_cuts.inputs steps_of_grown_defect_cuts
 unfolding on_small_disks
 best_grown_defect_cuts = (tt, tt)
 
 pub grown_defect_cuts_is_full : IsFull grown_defect_cuts.inputs grown_defect_cuts.run
-grown_defect_cuts_is_full = record { parts = parts_of_grown_defect_cuts; sound = sound_grown_defect_cuts; best = best_grown_defect_cuts; all = all_grown_defect_cuts }
+grown_defect_cuts_is_full = record { steps = steps_of_grown_defect_cuts; sound = sound_grown_defect_cuts; best = best_grown_defect_cuts; all = all_grown_defect_cuts }
 
-abbrev parts_of_promoted_read_carries : List Part
-parts_of_promoted_read_carries =
-    part [] (Direct 0) (
+abbrev steps_of_promoted_read_carries : List Step
+steps_of_promoted_read_carries = steps_at (decisions promoted_read_carries.inputs) (
+    rest [] (
     with_rows (got (block 0 0 5 1 (at 0 0) 1) 500 600 ByIdle 0 (untouched 5 1 ∷ [])) []
     ∷ with_rows (got (block 0 1 6 1 (at 0 0) 1) 600 700 ByIdle 0 (untouched 6 1 ∷ [])) (done_line 0 700 ∷ [])
     ∷ [])
-    ∷ part [] (Direct 1700) (
+    ∷ serve [] (Direct 1700) (
     with_rows (got (block 0 2 7 1 (at 0 0) 1) 1900 2000 ByRide 0 (untouched 7 1 ∷ [])) []
     ∷ with_rows (got (block 0 3 8 1 (at 0 0) 1) 2000 2100 ByRide 0 (untouched 8 1 ∷ [])) (done_line 0 2100 ∷ [])
     ∷ [])
-    ∷ part [] (Direct 0) []
-    ∷ []
+    ∷ rest [] []
+    ∷ [])
 
 abbrev tasks_of_promoted_read_carries : List BackRow
 tasks_of_promoted_read_carries = task_line 0 Plain 4 4 0 true ∷ []
 
-sound_promoted_read_carries : IsSoundBy promoted_read_carries.inputs parts_of_promoted_read_carries promoted_read_carries.run
+sound_promoted_read_carries : IsSoundBy promoted_read_carries.inputs steps_of_promoted_read_carries promoted_read_carries.run
 unfolding on_small_disks
 sound_promoted_read_carries = record {
   fore = refl;
   passed_over = refl;
   possible = refl;
   end = refl;
-  part_each = refl;
+  decided = refl;
   tasks = tasks_of_promoted_read_carries;
   back = refl;
   planned = (tt, ((lit≤ tt, lit≤ tt), (tt, tt)));
@@ -178,37 +179,37 @@ sound_promoted_read_carries = record {
   counted = refl;
 }
 
-all_promoted_read_carries : Throughout IsAllDelivered promoted_read_carries.inputs parts_of_promoted_read_carries
+all_promoted_read_carries : Throughout IsAllDelivered promoted_read_carries.inputs steps_of_promoted_read_carries
 unfolding on_small_disks
 all_promoted_read_carries = (refl, (refl, (refl, tt)))
 
-best_promoted_read_carries : Throughout IsBestPlanned promoted_read_carries.inputs parts_of_promoted_read_carries
+best_promoted_read_carries : Throughout IsBestPlanned promoted_read_carries.inputs steps_of_promoted_read_carries
 unfolding on_small_disks
 best_promoted_read_carries = (tt, (none_in_time small_disk (gap (at 0 0) (at 0 0) 1700 1700 false) (block 0 2 7 1 (at 0 0) 1 ∷ block 0 3 8 1 (at 0 0) 1 ∷ []) (lit< tt, (lit< tt, tt)) (lit≤ tt, lit≤ tt), (tt, tt)))
 
 pub promoted_read_carries_is_full : IsFull promoted_read_carries.inputs promoted_read_carries.run
-promoted_read_carries_is_full = record { parts = parts_of_promoted_read_carries; sound = sound_promoted_read_carries; best = best_promoted_read_carries; all = all_promoted_read_carries }
+promoted_read_carries_is_full = record { steps = steps_of_promoted_read_carries; sound = sound_promoted_read_carries; best = best_promoted_read_carries; all = all_promoted_read_carries }
 
-abbrev parts_of_caught_not_carried : List Part
-parts_of_caught_not_carried =
-    part [] (Direct 0) []
-    ∷ part [] (Direct 100) (
+abbrev steps_of_caught_not_carried : List Step
+steps_of_caught_not_carried = steps_at (decisions caught_not_carried.inputs) (
+    rest [] []
+    ∷ serve [] (Direct 100) (
     with_rows (got (block 0 0 6 1 (at 0 0) 1) 600 700 ByGap 0 (untouched 6 1 ∷ [])) (done_line 0 700 ∷ [])
     ∷ [])
-    ∷ part [] (Direct 0) []
-    ∷ []
+    ∷ rest [] []
+    ∷ [])
 
 abbrev tasks_of_caught_not_carried : List BackRow
 tasks_of_caught_not_carried = task_line 0 Plain 1 1 0 true ∷ []
 
-sound_caught_not_carried : IsSoundBy caught_not_carried.inputs parts_of_caught_not_carried caught_not_carried.run
+sound_caught_not_carried : IsSoundBy caught_not_carried.inputs steps_of_caught_not_carried caught_not_carried.run
 unfolding on_small_disks
 sound_caught_not_carried = record {
   fore = refl;
   passed_over = refl;
   possible = refl;
   end = refl;
-  part_each = refl;
+  decided = refl;
   tasks = tasks_of_caught_not_carried;
   back = refl;
   planned = (tt, ((lit≤ tt, lit≤ tt), (tt, tt)));
@@ -223,13 +224,13 @@ sound_caught_not_carried = record {
   counted = refl;
 }
 
-all_caught_not_carried : Throughout IsAllDelivered caught_not_carried.inputs parts_of_caught_not_carried
+all_caught_not_carried : Throughout IsAllDelivered caught_not_carried.inputs steps_of_caught_not_carried
 unfolding on_small_disks
 all_caught_not_carried = (refl, (refl, (refl, tt)))
 
-best_caught_not_carried : Throughout IsBestPlanned caught_not_carried.inputs parts_of_caught_not_carried
+best_caught_not_carried : Throughout IsBestPlanned caught_not_carried.inputs steps_of_caught_not_carried
 unfolding on_small_disks
 best_caught_not_carried = (tt, (all_at_once small_disk (gap (at 0 0) (at 0 0) 100 1200 false) (block 0 0 6 1 (at 0 0) 1 ∷ []) refl (lit≤ tt, lit≤ tt), (tt, tt)))
 
 pub caught_not_carried_is_full : IsFull caught_not_carried.inputs caught_not_carried.run
-caught_not_carried_is_full = record { parts = parts_of_caught_not_carried; sound = sound_caught_not_carried; best = best_caught_not_carried; all = all_caught_not_carried }
+caught_not_carried_is_full = record { steps = steps_of_caught_not_carried; sound = sound_caught_not_carried; best = best_caught_not_carried; all = all_caught_not_carried }

@@ -6,36 +6,37 @@ use Rattle.fb_rows.specs.declared.gap.How.TheVariants.{Gap as ByGap}
 use Rattle.fb_worked.specs.SmallDisk.{small_disk}
 use Rattle.fb_worked.specs.Rows.{at, gap, untouched, block, got, done_line, task_line}
 use Rattle.fb_rows.specs.declared.back.BackRow.{BackRow}
-use Rattle.fb_model.specs.Steps.{Part}
+use Rattle.fb_model.specs.Decisions.{decisions}
+use Rattle.fb_model.specs.Steps.{Step}
 use Rattle.fb_model.specs.SoundRun.{none, taken, IsSoundBy, Throughout}
 use Rattle.fb_model.specs.Known.{AgreeUpTo, SameKnown}
 use Rattle.fb_model.specs.FullRun.{IsAllDelivered, IsBestPlanned, IsFull}
 use Rattle.fb_worked.specs.Known.{run_without_third, run_with_third}
-use Rattle.fb_worked.proofs.OnSmallDisks.{on_small_disks, part, with_rows}
+use Rattle.fb_worked.proofs.OnSmallDisks.{on_small_disks, serve, rest, steps_at, with_rows}
 use Rattle.fb_worked.proofs.BestPlans.{here, there, none_in_time, all_then_leave}
 
-abbrev parts_of_run_without_third : List Part
-parts_of_run_without_third =
-    part [] (Direct 0) []
-    ∷ part [] (Direct 800) (
+abbrev steps_of_run_without_third : List Step
+steps_of_run_without_third = steps_at (decisions run_without_third.inputs) (
+    serve [] (Direct 0) []
+    ∷ serve [] (Direct 800) (
     with_rows (got (block 0 0 6 1 (at 0 0) 1) 600 700 ByGap 0 (untouched 6 1 ∷ [])) []
     ∷ with_rows (got (block 0 1 7 1 (at 0 0) 1) 700 800 ByGap 0 (untouched 7 1 ∷ [])) []
     ∷ with_rows (got (block 0 2 35 1 (at 1 0) 1) 1100 1200 ByGap 0 (untouched 35 1 ∷ [])) (done_line 0 1200 ∷ [])
     ∷ [])
-    ∷ part [] (Direct 0) []
-    ∷ []
+    ∷ rest [] []
+    ∷ [])
 
 abbrev tasks_of_run_without_third : List BackRow
 tasks_of_run_without_third = task_line 0 Plain 3 3 0 true ∷ []
 
-sound_run_without_third : IsSoundBy run_without_third.inputs parts_of_run_without_third run_without_third.run
+sound_run_without_third : IsSoundBy run_without_third.inputs steps_of_run_without_third run_without_third.run
 unfolding on_small_disks
 sound_run_without_third = record {
   fore = refl;
   passed_over = refl;
   possible = refl;
   end = refl;
-  part_each = refl;
+  decided = refl;
   tasks = tasks_of_run_without_third;
   back = refl;
   planned = ((lit≤ tt, lit≤ tt), ((lit≤ tt, lit≤ tt), (tt, tt)));
@@ -50,40 +51,40 @@ sound_run_without_third = record {
   counted = refl;
 }
 
-all_run_without_third : Throughout IsAllDelivered run_without_third.inputs parts_of_run_without_third
+all_run_without_third : Throughout IsAllDelivered run_without_third.inputs steps_of_run_without_third
 unfolding on_small_disks
 all_run_without_third = (refl, (refl, (refl, tt)))
 
-best_run_without_third : Throughout IsBestPlanned run_without_third.inputs parts_of_run_without_third
+best_run_without_third : Throughout IsBestPlanned run_without_third.inputs steps_of_run_without_third
 unfolding on_small_disks
 best_run_without_third = (none_in_time small_disk (gap (at 0 0) (at 0 0) 0 500 false) (block 0 0 6 1 (at 0 0) 1 ∷ block 0 1 7 1 (at 0 0) 1 ∷ block 0 2 35 1 (at 1 0) 1 ∷ []) (lit< tt, (lit< tt, (lit< tt, tt))) (lit≤ tt, lit≤ tt), (all_then_leave small_disk (gap (at 0 0) (at 1 0) 600 1200 false) (block 0 0 6 1 (at 0 0) 1 ∷ block 0 1 7 1 (at 0 0) 1 ∷ block 0 2 35 1 (at 1 0) 1 ∷ []) 800 (block 0 1 7 1 (at 0 0) 1) (there here) (lit< tt) refl (lit≤ tt) refl (lit≤ tt, lit≤ tt), (tt, tt)))
 
 pub run_without_third_is_full : IsFull run_without_third.inputs run_without_third.run
-run_without_third_is_full = record { parts = parts_of_run_without_third; sound = sound_run_without_third; best = best_run_without_third; all = all_run_without_third }
+run_without_third_is_full = record { steps = steps_of_run_without_third; sound = sound_run_without_third; best = best_run_without_third; all = all_run_without_third }
 
-abbrev parts_of_run_with_third : List Part
-parts_of_run_with_third =
-    part [] (Direct 0) []
-    ∷ part [] (Direct 800) (
+abbrev steps_of_run_with_third : List Step
+steps_of_run_with_third = steps_at (decisions run_with_third.inputs) (
+    serve [] (Direct 0) []
+    ∷ serve [] (Direct 800) (
     with_rows (got (block 0 0 6 1 (at 0 0) 1) 600 700 ByGap 0 (untouched 6 1 ∷ [])) []
     ∷ with_rows (got (block 0 1 7 1 (at 0 0) 1) 700 800 ByGap 0 (untouched 7 1 ∷ [])) []
     ∷ with_rows (got (block 0 2 35 1 (at 1 0) 1) 1100 1200 ByGap 0 (untouched 35 1 ∷ [])) (done_line 0 1200 ∷ [])
     ∷ [])
-    ∷ part [] (Direct 1300) []
-    ∷ part [] (Direct 0) []
-    ∷ []
+    ∷ serve [] (Direct 1300) []
+    ∷ rest [] []
+    ∷ [])
 
 abbrev tasks_of_run_with_third : List BackRow
 tasks_of_run_with_third = task_line 0 Plain 3 3 0 true ∷ []
 
-sound_run_with_third : IsSoundBy run_with_third.inputs parts_of_run_with_third run_with_third.run
+sound_run_with_third : IsSoundBy run_with_third.inputs steps_of_run_with_third run_with_third.run
 unfolding on_small_disks
 sound_run_with_third = record {
   fore = refl;
   passed_over = refl;
   possible = refl;
   end = refl;
-  part_each = refl;
+  decided = refl;
   tasks = tasks_of_run_with_third;
   back = refl;
   planned = ((lit≤ tt, lit≤ tt), ((lit≤ tt, lit≤ tt), ((lit≤ tt, lit≤ tt), (tt, tt))));
@@ -101,16 +102,16 @@ sound_run_with_third = record {
   counted = refl;
 }
 
-all_run_with_third : Throughout IsAllDelivered run_with_third.inputs parts_of_run_with_third
+all_run_with_third : Throughout IsAllDelivered run_with_third.inputs steps_of_run_with_third
 unfolding on_small_disks
 all_run_with_third = (refl, (refl, (refl, (refl, tt))))
 
-best_run_with_third : Throughout IsBestPlanned run_with_third.inputs parts_of_run_with_third
+best_run_with_third : Throughout IsBestPlanned run_with_third.inputs steps_of_run_with_third
 unfolding on_small_disks
 best_run_with_third = (none_in_time small_disk (gap (at 0 0) (at 0 0) 0 500 false) (block 0 0 6 1 (at 0 0) 1 ∷ block 0 1 7 1 (at 0 0) 1 ∷ block 0 2 35 1 (at 1 0) 1 ∷ []) (lit< tt, (lit< tt, (lit< tt, tt))) (lit≤ tt, lit≤ tt), (all_then_leave small_disk (gap (at 0 0) (at 1 0) 600 1200 false) (block 0 0 6 1 (at 0 0) 1 ∷ block 0 1 7 1 (at 0 0) 1 ∷ block 0 2 35 1 (at 1 0) 1 ∷ []) 800 (block 0 1 7 1 (at 0 0) 1) (there here) (lit< tt) refl (lit≤ tt) refl (lit≤ tt, lit≤ tt), (none_in_time small_disk (gap (at 1 0) (at 3 0) 1300 2400 false) [] tt (lit≤ tt, lit≤ tt), (tt, tt))))
 
 pub run_with_third_is_full : IsFull run_with_third.inputs run_with_third.run
-run_with_third_is_full = record { parts = parts_of_run_with_third; sound = sound_run_with_third; best = best_run_with_third; all = all_run_with_third }
+run_with_third_is_full = record { steps = steps_of_run_with_third; sound = sound_run_with_third; best = best_run_with_third; all = all_run_with_third }
 
 pub inputs_agree : AgreeUpTo 1250 run_without_third.inputs run_with_third.inputs
 inputs_agree = record { disk = refl; latent = refl; key = refl; requests = refl; calls = refl }

@@ -6,34 +6,35 @@ use Rattle.fb_rows.specs.declared.gap.How.TheVariants.{Gap as ByGap}
 use Rattle.fb_worked.specs.SmallDisk.{small_disk}
 use Rattle.fb_worked.specs.Rows.{at, gap, untouched, block, got, done_line, task_line}
 use Rattle.fb_rows.specs.declared.back.BackRow.{BackRow}
-use Rattle.fb_model.specs.Steps.{Part}
+use Rattle.fb_model.specs.Decisions.{decisions}
+use Rattle.fb_model.specs.Steps.{Step}
 use Rattle.fb_model.specs.SoundRun.{none, taken, IsSoundBy, Throughout}
 use Rattle.fb_model.specs.FullRun.{IsAllDelivered, IsBestPlanned, IsFull}
 use Rattle.fb_worked.specs.Sessions.{abort_while_waiting, abort_too_late, suspended, closed}
-use Rattle.fb_worked.proofs.OnSmallDisks.{on_small_disks, part, with_rows}
+use Rattle.fb_worked.proofs.OnSmallDisks.{on_small_disks, serve, rest, steps_at, with_rows}
 use Rattle.fb_worked.proofs.BestPlans.{here, there, none_in_time, all_then_leave}
 
-abbrev parts_of_abort_while_waiting : List Part
-parts_of_abort_while_waiting =
-    part [] (Direct 0) []
-    ∷ part [] (Direct 700) (
+abbrev steps_of_abort_while_waiting : List Step
+steps_of_abort_while_waiting = steps_at (decisions abort_while_waiting.inputs) (
+    serve [] (Direct 0) []
+    ∷ serve [] (Direct 700) (
     with_rows (got (block 0 0 6 1 (at 0 0) 1) 600 700 ByGap 0 (untouched 6 1 ∷ [])) []
     ∷ with_rows (got (block 0 2 35 1 (at 1 0) 1) 1100 1200 ByGap 0 (untouched 35 1 ∷ [])) (done_line 0 1200 ∷ [])
     ∷ [])
-    ∷ part [] (Direct 0) []
-    ∷ []
+    ∷ rest [] []
+    ∷ [])
 
 abbrev tasks_of_abort_while_waiting : List BackRow
 tasks_of_abort_while_waiting = task_line 0 Plain 3 2 1 true ∷ []
 
-sound_abort_while_waiting : IsSoundBy abort_while_waiting.inputs parts_of_abort_while_waiting abort_while_waiting.run
+sound_abort_while_waiting : IsSoundBy abort_while_waiting.inputs steps_of_abort_while_waiting abort_while_waiting.run
 unfolding on_small_disks
 sound_abort_while_waiting = record {
   fore = refl;
   passed_over = refl;
   possible = refl;
   end = refl;
-  part_each = refl;
+  decided = refl;
   tasks = tasks_of_abort_while_waiting;
   back = refl;
   planned = ((lit≤ tt, lit≤ tt), ((lit≤ tt, lit≤ tt), (tt, tt)));
@@ -48,39 +49,39 @@ sound_abort_while_waiting = record {
   counted = refl;
 }
 
-all_abort_while_waiting : Throughout IsAllDelivered abort_while_waiting.inputs parts_of_abort_while_waiting
+all_abort_while_waiting : Throughout IsAllDelivered abort_while_waiting.inputs steps_of_abort_while_waiting
 unfolding on_small_disks
 all_abort_while_waiting = (refl, (refl, (refl, tt)))
 
-best_abort_while_waiting : Throughout IsBestPlanned abort_while_waiting.inputs parts_of_abort_while_waiting
+best_abort_while_waiting : Throughout IsBestPlanned abort_while_waiting.inputs steps_of_abort_while_waiting
 unfolding on_small_disks
 best_abort_while_waiting = (none_in_time small_disk (gap (at 0 0) (at 0 0) 0 500 false) (block 0 0 6 1 (at 0 0) 1 ∷ block 0 1 7 1 (at 0 0) 1 ∷ block 0 2 35 1 (at 1 0) 1 ∷ []) (lit< tt, (lit< tt, (lit< tt, tt))) (lit≤ tt, lit≤ tt), (all_then_leave small_disk (gap (at 0 0) (at 1 0) 600 1200 false) (block 0 0 6 1 (at 0 0) 1 ∷ block 0 2 35 1 (at 1 0) 1 ∷ []) 700 (block 0 0 6 1 (at 0 0) 1) here (lit< tt) refl (lit≤ tt) refl (lit≤ tt, lit≤ tt), (tt, tt)))
 
 pub abort_while_waiting_is_full : IsFull abort_while_waiting.inputs abort_while_waiting.run
-abort_while_waiting_is_full = record { parts = parts_of_abort_while_waiting; sound = sound_abort_while_waiting; best = best_abort_while_waiting; all = all_abort_while_waiting }
+abort_while_waiting_is_full = record { steps = steps_of_abort_while_waiting; sound = sound_abort_while_waiting; best = best_abort_while_waiting; all = all_abort_while_waiting }
 
-abbrev parts_of_abort_too_late : List Part
-parts_of_abort_too_late =
-    part [] (Direct 0) []
-    ∷ part [] (Direct 800) (
+abbrev steps_of_abort_too_late : List Step
+steps_of_abort_too_late = steps_at (decisions abort_too_late.inputs) (
+    serve [] (Direct 0) []
+    ∷ serve [] (Direct 800) (
     with_rows (got (block 0 0 6 1 (at 0 0) 1) 600 700 ByGap 0 (untouched 6 1 ∷ [])) []
     ∷ with_rows (got (block 0 1 7 1 (at 0 0) 1) 700 800 ByGap 0 (untouched 7 1 ∷ [])) []
     ∷ with_rows (got (block 0 2 35 1 (at 1 0) 1) 1100 1200 ByGap 0 (untouched 35 1 ∷ [])) (done_line 0 1200 ∷ [])
     ∷ [])
-    ∷ part [] (Direct 0) []
-    ∷ []
+    ∷ rest [] []
+    ∷ [])
 
 abbrev tasks_of_abort_too_late : List BackRow
 tasks_of_abort_too_late = task_line 0 Plain 3 3 0 true ∷ []
 
-sound_abort_too_late : IsSoundBy abort_too_late.inputs parts_of_abort_too_late abort_too_late.run
+sound_abort_too_late : IsSoundBy abort_too_late.inputs steps_of_abort_too_late abort_too_late.run
 unfolding on_small_disks
 sound_abort_too_late = record {
   fore = refl;
   passed_over = refl;
   possible = refl;
   end = refl;
-  part_each = refl;
+  decided = refl;
   tasks = tasks_of_abort_too_late;
   back = refl;
   planned = ((lit≤ tt, lit≤ tt), ((lit≤ tt, lit≤ tt), (tt, tt)));
@@ -95,35 +96,35 @@ sound_abort_too_late = record {
   counted = refl;
 }
 
-all_abort_too_late : Throughout IsAllDelivered abort_too_late.inputs parts_of_abort_too_late
+all_abort_too_late : Throughout IsAllDelivered abort_too_late.inputs steps_of_abort_too_late
 unfolding on_small_disks
 all_abort_too_late = (refl, (refl, (refl, tt)))
 
-best_abort_too_late : Throughout IsBestPlanned abort_too_late.inputs parts_of_abort_too_late
+best_abort_too_late : Throughout IsBestPlanned abort_too_late.inputs steps_of_abort_too_late
 unfolding on_small_disks
 best_abort_too_late = (none_in_time small_disk (gap (at 0 0) (at 0 0) 0 500 false) (block 0 0 6 1 (at 0 0) 1 ∷ block 0 1 7 1 (at 0 0) 1 ∷ block 0 2 35 1 (at 1 0) 1 ∷ []) (lit< tt, (lit< tt, (lit< tt, tt))) (lit≤ tt, lit≤ tt), (all_then_leave small_disk (gap (at 0 0) (at 1 0) 600 1200 false) (block 0 0 6 1 (at 0 0) 1 ∷ block 0 1 7 1 (at 0 0) 1 ∷ block 0 2 35 1 (at 1 0) 1 ∷ []) 800 (block 0 1 7 1 (at 0 0) 1) (there here) (lit< tt) refl (lit≤ tt) refl (lit≤ tt, lit≤ tt), (tt, tt)))
 
 pub abort_too_late_is_full : IsFull abort_too_late.inputs abort_too_late.run
-abort_too_late_is_full = record { parts = parts_of_abort_too_late; sound = sound_abort_too_late; best = best_abort_too_late; all = all_abort_too_late }
+abort_too_late_is_full = record { steps = steps_of_abort_too_late; sound = sound_abort_too_late; best = best_abort_too_late; all = all_abort_too_late }
 
-abbrev parts_of_suspended : List Part
-parts_of_suspended =
-    part [] (Direct 0) []
-    ∷ part [] (Direct 600) []
-    ∷ part [] (Direct 0) []
-    ∷ []
+abbrev steps_of_suspended : List Step
+steps_of_suspended = steps_at (decisions suspended.inputs) (
+    serve [] (Direct 0) []
+    ∷ serve [] (Direct 600) []
+    ∷ rest [] []
+    ∷ [])
 
 abbrev tasks_of_suspended : List BackRow
 tasks_of_suspended = task_line 0 Plain 3 0 0 false ∷ []
 
-sound_suspended : IsSoundBy suspended.inputs parts_of_suspended suspended.run
+sound_suspended : IsSoundBy suspended.inputs steps_of_suspended suspended.run
 unfolding on_small_disks
 sound_suspended = record {
   fore = refl;
   passed_over = refl;
   possible = refl;
   end = refl;
-  part_each = refl;
+  decided = refl;
   tasks = tasks_of_suspended;
   back = refl;
   planned = ((lit≤ tt, lit≤ tt), ((lit≤ tt, lit≤ tt), (tt, tt)));
@@ -138,35 +139,35 @@ sound_suspended = record {
   counted = refl;
 }
 
-all_suspended : Throughout IsAllDelivered suspended.inputs parts_of_suspended
+all_suspended : Throughout IsAllDelivered suspended.inputs steps_of_suspended
 unfolding on_small_disks
 all_suspended = (refl, (refl, (refl, tt)))
 
-best_suspended : Throughout IsBestPlanned suspended.inputs parts_of_suspended
+best_suspended : Throughout IsBestPlanned suspended.inputs steps_of_suspended
 unfolding on_small_disks
 best_suspended = (none_in_time small_disk (gap (at 0 0) (at 0 0) 0 500 false) (block 0 0 6 1 (at 0 0) 1 ∷ block 0 1 7 1 (at 0 0) 1 ∷ block 0 2 35 1 (at 1 0) 1 ∷ []) (lit< tt, (lit< tt, (lit< tt, tt))) (lit≤ tt, lit≤ tt), (none_in_time small_disk (gap (at 0 0) (at 1 0) 600 1200 false) [] tt (lit≤ tt, lit≤ tt), (tt, tt)))
 
 pub suspended_is_full : IsFull suspended.inputs suspended.run
-suspended_is_full = record { parts = parts_of_suspended; sound = sound_suspended; best = best_suspended; all = all_suspended }
+suspended_is_full = record { steps = steps_of_suspended; sound = sound_suspended; best = best_suspended; all = all_suspended }
 
-abbrev parts_of_closed : List Part
-parts_of_closed =
-    part [] (Direct 0) []
-    ∷ part (done_line 0 600 ∷ []) (Direct 600) []
-    ∷ part [] (Direct 0) []
-    ∷ []
+abbrev steps_of_closed : List Step
+steps_of_closed = steps_at (decisions closed.inputs) (
+    serve [] (Direct 0) []
+    ∷ serve (done_line 0 600 ∷ []) (Direct 600) []
+    ∷ rest [] []
+    ∷ [])
 
 abbrev tasks_of_closed : List BackRow
 tasks_of_closed = task_line 0 Plain 3 0 3 true ∷ []
 
-sound_closed : IsSoundBy closed.inputs parts_of_closed closed.run
+sound_closed : IsSoundBy closed.inputs steps_of_closed closed.run
 unfolding on_small_disks
 sound_closed = record {
   fore = refl;
   passed_over = refl;
   possible = refl;
   end = refl;
-  part_each = refl;
+  decided = refl;
   tasks = tasks_of_closed;
   back = refl;
   planned = ((lit≤ tt, lit≤ tt), ((lit≤ tt, lit≤ tt), (tt, tt)));
@@ -181,13 +182,13 @@ sound_closed = record {
   counted = refl;
 }
 
-all_closed : Throughout IsAllDelivered closed.inputs parts_of_closed
+all_closed : Throughout IsAllDelivered closed.inputs steps_of_closed
 unfolding on_small_disks
 all_closed = (refl, (refl, (refl, tt)))
 
-best_closed : Throughout IsBestPlanned closed.inputs parts_of_closed
+best_closed : Throughout IsBestPlanned closed.inputs steps_of_closed
 unfolding on_small_disks
 best_closed = (none_in_time small_disk (gap (at 0 0) (at 0 0) 0 500 false) (block 0 0 6 1 (at 0 0) 1 ∷ block 0 1 7 1 (at 0 0) 1 ∷ block 0 2 35 1 (at 1 0) 1 ∷ []) (lit< tt, (lit< tt, (lit< tt, tt))) (lit≤ tt, lit≤ tt), (none_in_time small_disk (gap (at 0 0) (at 1 0) 600 1200 false) [] tt (lit≤ tt, lit≤ tt), (tt, tt)))
 
 pub closed_is_full : IsFull closed.inputs closed.run
-closed_is_full = record { parts = parts_of_closed; sound = sound_closed; best = best_closed; all = all_closed }
+closed_is_full = record { steps = steps_of_closed; sound = sound_closed; best = best_closed; all = all_closed }

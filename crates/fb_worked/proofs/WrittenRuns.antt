@@ -6,36 +6,37 @@ use Rattle.fb_rows.specs.declared.gap.How.TheVariants.{Idle as ByIdle}
 use Rattle.fb_worked.specs.SmallDisk.{small_disk, one_sector_disk}
 use Rattle.fb_worked.specs.Rows.{at, gap, untouched, written, unreadable, block, got, done_line, bad_line, task_line}
 use Rattle.fb_rows.specs.declared.back.BackRow.{BackRow}
-use Rattle.fb_model.specs.Steps.{Part}
+use Rattle.fb_model.specs.Decisions.{decisions}
+use Rattle.fb_model.specs.Steps.{Step}
 use Rattle.fb_model.specs.SoundRun.{none, taken, IsSoundBy, Throughout}
 use Rattle.fb_model.specs.FullRun.{IsAllDelivered, IsBestPlanned, IsFull}
 use Rattle.fb_worked.specs.Written.{overwritten_between, latent_until_written, read_as_the_write_ends, scrub_finds_latent}
-use Rattle.fb_worked.proofs.OnSmallDisks.{on_small_disks, part, with_rows}
+use Rattle.fb_worked.proofs.OnSmallDisks.{on_small_disks, serve, rest, steps_at, with_rows}
 use Rattle.fb_worked.proofs.BestPlans.{none_in_time}
 
-abbrev parts_of_overwritten_between : List Part
-parts_of_overwritten_between =
-    part [] (Direct 0) (
+abbrev steps_of_overwritten_between : List Step
+steps_of_overwritten_between = steps_at (decisions overwritten_between.inputs) (
+    rest [] (
     with_rows (got (block 0 0 6 1 (at 0 0) 1) 600 700 ByIdle 0 (untouched 6 1 ∷ [])) (done_line 0 700 ∷ [])
     ∷ [])
-    ∷ part [] (Direct 700) []
-    ∷ part [] (Direct 0) []
-    ∷ part [] (Direct 0) (
+    ∷ serve [] (Direct 700) []
+    ∷ rest [] []
+    ∷ rest [] (
     with_rows (got (block 0 1 6 1 (at 0 0) 1) 3000 3100 ByIdle 0 (written 1 6 1 ∷ [])) (done_line 0 3100 ∷ [])
     ∷ [])
-    ∷ []
+    ∷ [])
 
 abbrev tasks_of_overwritten_between : List BackRow
 tasks_of_overwritten_between = task_line 0 Plain 2 2 0 true ∷ []
 
-sound_overwritten_between : IsSoundBy overwritten_between.inputs parts_of_overwritten_between overwritten_between.run
+sound_overwritten_between : IsSoundBy overwritten_between.inputs steps_of_overwritten_between overwritten_between.run
 unfolding on_small_disks
 sound_overwritten_between = record {
   fore = refl;
   passed_over = refl;
   possible = refl;
   end = refl;
-  part_each = refl;
+  decided = refl;
   tasks = tasks_of_overwritten_between;
   back = refl;
   planned = (tt, ((lit≤ tt, lit≤ tt), (tt, (tt, tt))));
@@ -53,40 +54,40 @@ sound_overwritten_between = record {
   counted = refl;
 }
 
-all_overwritten_between : Throughout IsAllDelivered overwritten_between.inputs parts_of_overwritten_between
+all_overwritten_between : Throughout IsAllDelivered overwritten_between.inputs steps_of_overwritten_between
 unfolding on_small_disks
 all_overwritten_between = (refl, (refl, (refl, (refl, tt))))
 
-best_overwritten_between : Throughout IsBestPlanned overwritten_between.inputs parts_of_overwritten_between
+best_overwritten_between : Throughout IsBestPlanned overwritten_between.inputs steps_of_overwritten_between
 unfolding on_small_disks
 best_overwritten_between = (tt, (none_in_time small_disk (gap (at 0 0) (at 0 0) 700 1800 true) [] tt (lit≤ tt, lit≤ tt), (tt, (tt, tt))))
 
 pub overwritten_between_is_full : IsFull overwritten_between.inputs overwritten_between.run
-overwritten_between_is_full = record { parts = parts_of_overwritten_between; sound = sound_overwritten_between; best = best_overwritten_between; all = all_overwritten_between }
+overwritten_between_is_full = record { steps = steps_of_overwritten_between; sound = sound_overwritten_between; best = best_overwritten_between; all = all_overwritten_between }
 
-abbrev parts_of_latent_until_written : List Part
-parts_of_latent_until_written =
-    part [] (Direct 0) (
+abbrev steps_of_latent_until_written : List Step
+steps_of_latent_until_written = steps_at (decisions latent_until_written.inputs) (
+    rest [] (
     with_rows (got (block 0 0 6 1 (at 0 0) 1) 600 700 ByIdle 1 (unreadable 6 1 ∷ [])) (done_line 0 700 ∷ [])
     ∷ [])
-    ∷ part [] (Direct 700) []
-    ∷ part [] (Direct 0) []
-    ∷ part [] (Direct 0) (
+    ∷ serve [] (Direct 700) []
+    ∷ rest [] []
+    ∷ rest [] (
     with_rows (got (block 0 1 6 1 (at 0 0) 1) 3000 3100 ByIdle 0 (written 1 6 1 ∷ [])) (done_line 0 3100 ∷ [])
     ∷ [])
-    ∷ []
+    ∷ [])
 
 abbrev tasks_of_latent_until_written : List BackRow
 tasks_of_latent_until_written = task_line 0 Plain 2 2 0 true ∷ []
 
-sound_latent_until_written : IsSoundBy latent_until_written.inputs parts_of_latent_until_written latent_until_written.run
+sound_latent_until_written : IsSoundBy latent_until_written.inputs steps_of_latent_until_written latent_until_written.run
 unfolding on_small_disks
 sound_latent_until_written = record {
   fore = refl;
   passed_over = refl;
   possible = refl;
   end = refl;
-  part_each = refl;
+  decided = refl;
   tasks = tasks_of_latent_until_written;
   back = refl;
   planned = (tt, ((lit≤ tt, lit≤ tt), (tt, (tt, tt))));
@@ -104,36 +105,36 @@ sound_latent_until_written = record {
   counted = refl;
 }
 
-all_latent_until_written : Throughout IsAllDelivered latent_until_written.inputs parts_of_latent_until_written
+all_latent_until_written : Throughout IsAllDelivered latent_until_written.inputs steps_of_latent_until_written
 unfolding on_small_disks
 all_latent_until_written = (refl, (refl, (refl, (refl, tt))))
 
-best_latent_until_written : Throughout IsBestPlanned latent_until_written.inputs parts_of_latent_until_written
+best_latent_until_written : Throughout IsBestPlanned latent_until_written.inputs steps_of_latent_until_written
 unfolding on_small_disks
 best_latent_until_written = (tt, (none_in_time small_disk (gap (at 0 0) (at 0 0) 700 1800 true) [] tt (lit≤ tt, lit≤ tt), (tt, (tt, tt))))
 
 pub latent_until_written_is_full : IsFull latent_until_written.inputs latent_until_written.run
-latent_until_written_is_full = record { parts = parts_of_latent_until_written; sound = sound_latent_until_written; best = best_latent_until_written; all = all_latent_until_written }
+latent_until_written_is_full = record { steps = steps_of_latent_until_written; sound = sound_latent_until_written; best = best_latent_until_written; all = all_latent_until_written }
 
-abbrev parts_of_read_as_the_write_ends : List Part
-parts_of_read_as_the_write_ends =
-    part [] (Direct 0) []
-    ∷ part [] (Direct 0) (
+abbrev steps_of_read_as_the_write_ends : List Step
+steps_of_read_as_the_write_ends = steps_at (decisions read_as_the_write_ends.inputs) (
+    serve [] (Direct 0) []
+    ∷ rest [] (
     with_rows (got (block 0 0 0 1 (at 0 0) 1) 1200 2400 ByIdle 0 (written 1 0 1 ∷ [])) (done_line 0 2400 ∷ [])
     ∷ [])
-    ∷ []
+    ∷ [])
 
 abbrev tasks_of_read_as_the_write_ends : List BackRow
 tasks_of_read_as_the_write_ends = task_line 0 Plain 1 1 0 true ∷ []
 
-sound_read_as_the_write_ends : IsSoundBy read_as_the_write_ends.inputs parts_of_read_as_the_write_ends read_as_the_write_ends.run
+sound_read_as_the_write_ends : IsSoundBy read_as_the_write_ends.inputs steps_of_read_as_the_write_ends read_as_the_write_ends.run
 unfolding on_small_disks
 sound_read_as_the_write_ends = record {
   fore = refl;
   passed_over = refl;
   possible = refl;
   end = refl;
-  part_each = refl;
+  decided = refl;
   tasks = tasks_of_read_as_the_write_ends;
   back = refl;
   planned = ((lit≤ tt, lit≤ tt), (tt, tt));
@@ -145,35 +146,35 @@ sound_read_as_the_write_ends = record {
   counted = refl;
 }
 
-all_read_as_the_write_ends : Throughout IsAllDelivered read_as_the_write_ends.inputs parts_of_read_as_the_write_ends
+all_read_as_the_write_ends : Throughout IsAllDelivered read_as_the_write_ends.inputs steps_of_read_as_the_write_ends
 unfolding on_small_disks
 all_read_as_the_write_ends = (refl, (refl, tt))
 
-best_read_as_the_write_ends : Throughout IsBestPlanned read_as_the_write_ends.inputs parts_of_read_as_the_write_ends
+best_read_as_the_write_ends : Throughout IsBestPlanned read_as_the_write_ends.inputs steps_of_read_as_the_write_ends
 unfolding on_small_disks
 best_read_as_the_write_ends = (none_in_time one_sector_disk (gap (at 0 0) (at 0 0) 0 0 true) [] tt (lit≤ tt, lit≤ tt), (tt, tt))
 
 pub read_as_the_write_ends_is_full : IsFull read_as_the_write_ends.inputs read_as_the_write_ends.run
-read_as_the_write_ends_is_full = record { parts = parts_of_read_as_the_write_ends; sound = sound_read_as_the_write_ends; best = best_read_as_the_write_ends; all = all_read_as_the_write_ends }
+read_as_the_write_ends_is_full = record { steps = steps_of_read_as_the_write_ends; sound = sound_read_as_the_write_ends; best = best_read_as_the_write_ends; all = all_read_as_the_write_ends }
 
-abbrev parts_of_scrub_finds_latent : List Part
-parts_of_scrub_finds_latent =
-    part [] (Direct 0) (
+abbrev steps_of_scrub_finds_latent : List Step
+steps_of_scrub_finds_latent = steps_at (decisions scrub_finds_latent.inputs) (
+    rest [] (
     with_rows (got (block 0 0 4 4 (at 0 0) 1) 400 800 ByIdle 1 (untouched 4 2 ∷ unreadable 6 1 ∷ untouched 7 1 ∷ [])) (bad_line 0 6 ∷ done_line 0 800 ∷ [])
     ∷ [])
-    ∷ []
+    ∷ [])
 
 abbrev tasks_of_scrub_finds_latent : List BackRow
 tasks_of_scrub_finds_latent = task_line 0 Scrub 1 1 0 true ∷ []
 
-sound_scrub_finds_latent : IsSoundBy scrub_finds_latent.inputs parts_of_scrub_finds_latent scrub_finds_latent.run
+sound_scrub_finds_latent : IsSoundBy scrub_finds_latent.inputs steps_of_scrub_finds_latent scrub_finds_latent.run
 unfolding on_small_disks
 sound_scrub_finds_latent = record {
   fore = refl;
   passed_over = refl;
   possible = refl;
   end = refl;
-  part_each = refl;
+  decided = refl;
   tasks = tasks_of_scrub_finds_latent;
   back = refl;
   planned = (tt, tt);
@@ -183,13 +184,13 @@ sound_scrub_finds_latent = record {
   counted = refl;
 }
 
-all_scrub_finds_latent : Throughout IsAllDelivered scrub_finds_latent.inputs parts_of_scrub_finds_latent
+all_scrub_finds_latent : Throughout IsAllDelivered scrub_finds_latent.inputs steps_of_scrub_finds_latent
 unfolding on_small_disks
 all_scrub_finds_latent = (refl, tt)
 
-best_scrub_finds_latent : Throughout IsBestPlanned scrub_finds_latent.inputs parts_of_scrub_finds_latent
+best_scrub_finds_latent : Throughout IsBestPlanned scrub_finds_latent.inputs steps_of_scrub_finds_latent
 unfolding on_small_disks
 best_scrub_finds_latent = (tt, tt)
 
 pub scrub_finds_latent_is_full : IsFull scrub_finds_latent.inputs scrub_finds_latent.run
-scrub_finds_latent_is_full = record { parts = parts_of_scrub_finds_latent; sound = sound_scrub_finds_latent; best = best_scrub_finds_latent; all = all_scrub_finds_latent }
+scrub_finds_latent_is_full = record { steps = steps_of_scrub_finds_latent; sound = sound_scrub_finds_latent; best = best_scrub_finds_latent; all = all_scrub_finds_latent }

@@ -1,25 +1,28 @@
 -- Wrong runs, refuted.
-use Rattle.std.proofs.Common.{◌++◌, length-append, ◌≡◌, ℕ, List, [], ◌∷◌, refl, lit≤, false, map, length, ◌≤◌, ap, true≢false, arith, suc, subst}
+use Rattle.std.proofs.Common.{◌++◌, length-append, ◌≡◌, ℕ, List, [], ◌∷◌, refl, lit≤, false, map, length, ◌≤◌, ap, true≢false, arith, suc, subst, sym}
 use Rattle.std.specs.Option.{is_none}
 use Rattle.fb_calls.specs.declared.call.Kind.TheVariants.{Plain}
 use Rattle.fb_store.specs.declared.content.Content.{Content}
 use Rattle.fb_store.specs.declared.content.Content.TheVariants.{Filled, Unreadable}
 use Rattle.fb_store.specs.declared.content.ContentRun.{ContentRun}
-use Rattle.fb_rows.specs.declared.gap.Plan.{Plan}
-use Rattle.fb_rows.specs.declared.gap.Plan.TheVariants.{Direct, Detour}
+use Rattle.fb_rows.specs.declared.gap.Dwell.{Dwell}
+use Rattle.fb_rows.specs.declared.gap.Plan.TheVariants.{Detour}
 use Rattle.fb_rows.specs.declared.gap.How.TheVariants.{Idle as ByIdle}
 use Rattle.fb_rows.specs.declared.fore.ForeRow.{ForeRow}
 use Rattle.fb_rows.specs.declared.back.DeliveryRow.{DeliveryRow}
 use Rattle.fb_rows.specs.declared.back.BackRow.{BackRow}
 use Rattle.fb_rows.specs.declared.back.BackRow.TheVariants.{Got as GotLine}
 use Rattle.fb_model.specs.Plans.{IsPlan}
-use Rattle.fb_model.specs.Steps.{Delivery, Part}
+use Rattle.fb_model.specs.Decisions.{Decision, serves, idles, Act, serving, idling, ending}
+use Rattle.fb_model.specs.Steps.{Delivery, Step, decisions_in}
 use Rattle.fb_model.specs.SoundRun.{IsSublist, none, left_out, taken, IsSoundBy, IsSound, Throughout}
 use Rattle.fb_model.specs.FullRun.{IsFull, IsAllDelivered}
 use Rattle.fb_worked.specs.Rows.{at, untouched, block, got, done_line, task_line}
 use Rattle.fb_worked.specs.SmallDisk.{small_disk}
 use Rattle.fb_worked.specs.Wrong.{delivered_too_late, delivered_twice, delivered_after_abort, completion_left_out, delivery_left_out, contents_of_later, settling_gap, detour_without_settle, served_sooner}
-use Rattle.fb_worked.proofs.OnSmallDisks.{on_small_disks, part, with_rows}
+use Rattle.fb_worked.proofs.OnSmallDisks.{on_small_disks, with_rows}
+use Rattle.fb_model.proofs.Lists.{same_first, same_rest, not_none}
+use Rattle.fb_model.proofs.Steps.{is_dwelt}
 
 -- a sublist is no longer than the list
 no_longer : {A : Type 0} {xs ys : List A} → IsSublist xs ys → length xs ≤ length ys
@@ -38,128 +41,137 @@ at_most (delivery ∷ []) (taken none) = just delivery.after
 at_most (delivery ∷ []) (left_out p) = let few : 1 ≤ 0 = no_longer p in absurd (omega arith)
 at_most (delivery ∷ other ∷ deliveries) p = let few : suc (suc (length (map (λ delivery. delivery.got) deliveries))) ≤ 1 = no_longer p in absurd (omega arith)
 
--- a decision's part, alone
-pub data OnePart : List Part → Type 0 where
-  one_part : (settled : List BackRow) (plan : Plan) (deliveries : List Delivery) → OnePart (part settled plan deliveries ∷ [])
+-- the first track, from the beginning until an instant
+abbrev first_dwell : ℕ → Dwell
+first_dwell until = record { track = at 0 0; begin = 0; end = until }
 
-find_one : (parts : List Part) → length parts ≡ 1 → OnePart parts
-find_one [] same = absurd (omega (arith, same))
-find_one (one ∷ []) same = one_part one.settled one.plan one.deliveries
-find_one (one ∷ other ∷ parts) same = absurd (omega (arith, same))
+-- the head idles there
+abbrev pub idle : ℕ → List BackRow → List Delivery → Step
+idle until settled deliveries = record { settled = settled; act = idling (first_dwell until); deliveries = deliveries }
+
+-- and does nothing else
+pub data OneIdle (until : ℕ) : List Step → Type 0 where
+  one_idle : (settled : List BackRow) (deliveries : List Delivery) → OneIdle until (idle until settled deliveries ∷ [])
+
+find_one : (until : ℕ) (steps : List Step) → decisions_in steps ≡ idles (first_dwell until) ∷ [] → OneIdle until steps
+find_one until [] same = absurd (not_none _ _ (sym same))
+find_one until (one ∷ []) same =
+    subst (λ step. OneIdle until (step ∷ [])) (sym (is_dwelt one (first_dwell until) (same_first _ _ _ _ same))) (one_idle one.settled one.deliveries)
+find_one until (one ∷ other ∷ steps) same = absurd (not_none _ _ (same_rest _ _ _ _ same))
 
 -- the dwell catches nothing
-late_alone : (settled : List BackRow) (plan : Plan) (deliveries : List Delivery) → IsSoundBy delivered_too_late.inputs (part settled plan deliveries ∷ []) delivered_too_late.run → ⊥
+late_alone : (settled : List BackRow) (deliveries : List Delivery) → IsSoundBy delivered_too_late.inputs (idle 599 settled deliveries ∷ []) delivered_too_late.run → ⊥
 unfolding on_small_disks
-late_alone [] plan [] s =
+late_alone [] [] s =
     let rows : ◌≡◌ {A = ℕ} 4 (suc (length s.tasks)) = ap length s.back in
     let one : ◌≡◌ {A = ℕ} (length s.tasks) 1 = ap length s.counted in
     omega arith
-late_alone [] plan (delivery ∷ deliveries) s =
+late_alone [] (delivery ∷ deliveries) s =
     let few : suc (length (map (λ delivery. delivery.got) deliveries)) ≤ 0 = no_longer s.deliveries.0 in
     omega arith
-late_alone (row ∷ rows) plan deliveries s =
+late_alone (row ∷ rows) deliveries s =
     let no : ◌≡◌ {A = ℕ} (suc (length rows)) 0 = ap length s.tested.0.settled in
     omega arith
 
-late : (parts : List Part) → OnePart parts → IsSoundBy delivered_too_late.inputs parts delivered_too_late.run → ⊥
-late parts (one_part settled plan deliveries) s = late_alone settled plan deliveries s
+late : (steps : List Step) → OneIdle 599 steps → IsSoundBy delivered_too_late.inputs steps delivered_too_late.run → ⊥
+late steps (one_idle settled deliveries) s = late_alone settled deliveries s
 
 pub delivered_too_late_refuted : IsSound delivered_too_late.inputs delivered_too_late.run → ⊥
 unfolding on_small_disks
-delivered_too_late_refuted p = late p.parts (find_one p.parts p.sound.part_each) p.sound
+delivered_too_late_refuted p = late p.steps (find_one 599 p.steps p.sound.decided) p.sound
 
 -- only one delivery is due
 abbrev row_of_twice : DeliveryRow
 row_of_twice = got (block 0 0 6 1 (at 0 0) 1) 600 700 ByIdle 0 (untouched 6 1 ∷ [])
 
-twice_known : (plan : Plan) → IsSoundBy delivered_twice.inputs (part [] plan (with_rows row_of_twice (done_line 0 700 ∷ []) ∷ []) ∷ []) delivered_twice.run → ⊥
+twice_known : IsSoundBy delivered_twice.inputs (idle 2400 [] (with_rows row_of_twice (done_line 0 700 ∷ []) ∷ []) ∷ []) delivered_twice.run → ⊥
 unfolding on_small_disks
-twice_known plan s =
+twice_known s =
     let rows : ◌≡◌ {A = ℕ} 5 (suc (suc (suc (length s.tasks)))) = ap length s.back in
     let one : ◌≡◌ {A = ℕ} (length s.tasks) 1 = ap length s.counted in
     omega arith
 
-twice_alone : (settled : List BackRow) (plan : Plan) (deliveries : List Delivery) → AtMost row_of_twice deliveries → IsSoundBy delivered_twice.inputs (part settled plan deliveries ∷ []) delivered_twice.run → ⊥
+twice_alone : (settled : List BackRow) (deliveries : List Delivery) → AtMost row_of_twice deliveries → IsSoundBy delivered_twice.inputs (idle 2400 settled deliveries ∷ []) delivered_twice.run → ⊥
 unfolding on_small_disks
-twice_alone [] plan deliveries nothing s =
+twice_alone [] deliveries nothing s =
     let rows : ◌≡◌ {A = ℕ} 5 (suc (length s.tasks)) = ap length s.back in
     let one : ◌≡◌ {A = ℕ} (length s.tasks) 1 = ap length s.counted in
     omega arith
-twice_alone [] plan deliveries (just after) s =
-    twice_known plan (subst (λ rows. IsSoundBy delivered_twice.inputs (part [] plan (with_rows row_of_twice rows ∷ []) ∷ []) delivered_twice.run) s.tested.0.followed.0 s)
-twice_alone (row ∷ rows) plan deliveries few s =
+twice_alone [] deliveries (just after) s =
+    twice_known (subst (λ rows. IsSoundBy delivered_twice.inputs (idle 2400 [] (with_rows row_of_twice rows ∷ []) ∷ []) delivered_twice.run) s.tested.0.followed.0 s)
+twice_alone (row ∷ rows) deliveries few s =
     let no : ◌≡◌ {A = ℕ} (suc (length rows)) 0 = ap length s.tested.0.settled in
     omega arith
 
-twice : (parts : List Part) → OnePart parts → IsSoundBy delivered_twice.inputs parts delivered_twice.run → ⊥
+twice : (steps : List Step) → OneIdle 2400 steps → IsSoundBy delivered_twice.inputs steps delivered_twice.run → ⊥
 unfolding on_small_disks
-twice parts (one_part settled plan deliveries) s = twice_alone settled plan deliveries (at_most deliveries s.deliveries.0) s
+twice steps (one_idle settled deliveries) s = twice_alone settled deliveries (at_most deliveries s.deliveries.0) s
 
 pub delivered_twice_refuted : IsSound delivered_twice.inputs delivered_twice.run → ⊥
 unfolding on_small_disks
-delivered_twice_refuted p = twice p.parts (find_one p.parts p.sound.part_each) p.sound
+delivered_twice_refuted p = twice p.steps (find_one 2400 p.steps p.sound.decided) p.sound
 
 -- only the block that is left is due
 abbrev row_of_aborted : DeliveryRow
 row_of_aborted = got (block 0 0 6 1 (at 0 0) 1) 600 700 ByIdle 0 (untouched 6 1 ∷ [])
 
-aborted_known : (plan : Plan) → IsSoundBy delivered_after_abort.inputs (part [] plan (with_rows row_of_aborted (done_line 0 700 ∷ []) ∷ []) ∷ []) delivered_after_abort.run → ⊥
+aborted_known : IsSoundBy delivered_after_abort.inputs (idle 1200 [] (with_rows row_of_aborted (done_line 0 700 ∷ []) ∷ []) ∷ []) delivered_after_abort.run → ⊥
 unfolding on_small_disks
-aborted_known plan s =
+aborted_known s =
     let rows : ◌≡◌ {A = ℕ} 5 (suc (suc (suc (length s.tasks)))) = ap length s.back in
     let one : ◌≡◌ {A = ℕ} (length s.tasks) 1 = ap length s.counted in
     omega arith
 
-aborted_alone : (settled : List BackRow) (plan : Plan) (deliveries : List Delivery) → AtMost row_of_aborted deliveries → IsSoundBy delivered_after_abort.inputs (part settled plan deliveries ∷ []) delivered_after_abort.run → ⊥
+aborted_alone : (settled : List BackRow) (deliveries : List Delivery) → AtMost row_of_aborted deliveries → IsSoundBy delivered_after_abort.inputs (idle 1200 settled deliveries ∷ []) delivered_after_abort.run → ⊥
 unfolding on_small_disks
-aborted_alone [] plan deliveries nothing s =
+aborted_alone [] deliveries nothing s =
     let rows : ◌≡◌ {A = ℕ} 5 (suc (length s.tasks)) = ap length s.back in
     let one : ◌≡◌ {A = ℕ} (length s.tasks) 1 = ap length s.counted in
     omega arith
-aborted_alone [] plan deliveries (just after) s =
-    aborted_known plan (subst (λ rows. IsSoundBy delivered_after_abort.inputs (part [] plan (with_rows row_of_aborted rows ∷ []) ∷ []) delivered_after_abort.run) s.tested.0.followed.0 s)
-aborted_alone (row ∷ rows) plan deliveries few s =
+aborted_alone [] deliveries (just after) s =
+    aborted_known (subst (λ rows. IsSoundBy delivered_after_abort.inputs (idle 1200 [] (with_rows row_of_aborted rows ∷ []) ∷ []) delivered_after_abort.run) s.tested.0.followed.0 s)
+aborted_alone (row ∷ rows) deliveries few s =
     let no : ◌≡◌ {A = ℕ} (suc (length rows)) 0 = ap length s.tested.0.settled in
     omega arith
 
-aborted : (parts : List Part) → OnePart parts → IsSoundBy delivered_after_abort.inputs parts delivered_after_abort.run → ⊥
+aborted : (steps : List Step) → OneIdle 1200 steps → IsSoundBy delivered_after_abort.inputs steps delivered_after_abort.run → ⊥
 unfolding on_small_disks
-aborted parts (one_part settled plan deliveries) s = aborted_alone settled plan deliveries (at_most deliveries s.deliveries.0) s
+aborted steps (one_idle settled deliveries) s = aborted_alone settled deliveries (at_most deliveries s.deliveries.0) s
 
 pub delivered_after_abort_refuted : IsSound delivered_after_abort.inputs delivered_after_abort.run → ⊥
 unfolding on_small_disks
-delivered_after_abort_refuted p = aborted p.parts (find_one p.parts p.sound.part_each) p.sound
+delivered_after_abort_refuted p = aborted p.steps (find_one 1200 p.steps p.sound.decided) p.sound
 
 -- a completion row follows the delivery
 abbrev row_of_silent : DeliveryRow
 row_of_silent = got (block 0 0 6 1 (at 0 0) 1) 600 700 ByIdle 0 (untouched 6 1 ∷ [])
 
-silent_known : (plan : Plan) → IsSoundBy completion_left_out.inputs (part [] plan (with_rows row_of_silent (done_line 0 700 ∷ []) ∷ []) ∷ []) completion_left_out.run → ⊥
+silent_known : IsSoundBy completion_left_out.inputs (idle 1200 [] (with_rows row_of_silent (done_line 0 700 ∷ []) ∷ []) ∷ []) completion_left_out.run → ⊥
 unfolding on_small_disks
-silent_known plan s =
+silent_known s =
     let rows : ◌≡◌ {A = ℕ} 3 (suc (suc (suc (length s.tasks)))) = ap length s.back in
     let one : ◌≡◌ {A = ℕ} (length s.tasks) 1 = ap length s.counted in
     omega arith
 
-silent_alone : (settled : List BackRow) (plan : Plan) (deliveries : List Delivery) → AtMost row_of_silent deliveries → IsSoundBy completion_left_out.inputs (part settled plan deliveries ∷ []) completion_left_out.run → ⊥
+silent_alone : (settled : List BackRow) (deliveries : List Delivery) → AtMost row_of_silent deliveries → IsSoundBy completion_left_out.inputs (idle 1200 settled deliveries ∷ []) completion_left_out.run → ⊥
 unfolding on_small_disks
-silent_alone [] plan deliveries nothing s =
+silent_alone [] deliveries nothing s =
     let rows : ◌≡◌ {A = ℕ} 3 (suc (length s.tasks)) = ap length s.back in
     let one : ◌≡◌ {A = ℕ} (length s.tasks) 1 = ap length s.counted in
     omega arith
-silent_alone [] plan deliveries (just after) s =
-    silent_known plan (subst (λ rows. IsSoundBy completion_left_out.inputs (part [] plan (with_rows row_of_silent rows ∷ []) ∷ []) completion_left_out.run) s.tested.0.followed.0 s)
-silent_alone (row ∷ rows) plan deliveries few s =
+silent_alone [] deliveries (just after) s =
+    silent_known (subst (λ rows. IsSoundBy completion_left_out.inputs (idle 1200 [] (with_rows row_of_silent rows ∷ []) ∷ []) completion_left_out.run) s.tested.0.followed.0 s)
+silent_alone (row ∷ rows) deliveries few s =
     let no : ◌≡◌ {A = ℕ} (suc (length rows)) 0 = ap length s.tested.0.settled in
     omega arith
 
-silent : (parts : List Part) → OnePart parts → IsSoundBy completion_left_out.inputs parts completion_left_out.run → ⊥
+silent : (steps : List Step) → OneIdle 1200 steps → IsSoundBy completion_left_out.inputs steps completion_left_out.run → ⊥
 unfolding on_small_disks
-silent parts (one_part settled plan deliveries) s = silent_alone settled plan deliveries (at_most deliveries s.deliveries.0) s
+silent steps (one_idle settled deliveries) s = silent_alone settled deliveries (at_most deliveries s.deliveries.0) s
 
 pub completion_left_out_refuted : IsSound completion_left_out.inputs completion_left_out.run → ⊥
 unfolding on_small_disks
-completion_left_out_refuted p = silent p.parts (find_one p.parts p.sound.part_each) p.sound
+completion_left_out_refuted p = silent p.steps (find_one 1200 p.steps p.sound.decided) p.sound
 
 -- who wrote what the second row gives, plus 1, or 0 where it isn't a delivery
 abbrev writer : Content → ℕ
@@ -182,27 +194,40 @@ second_writer _ = 0
 abbrev row_of_stale : DeliveryRow
 row_of_stale = got (block 0 0 6 1 (at 0 0) 1) 600 700 ByIdle 0 (untouched 6 1 ∷ [])
 
-stale_next : (plan : Plan) (settled : List BackRow) (next : Plan) (deliveries : List Delivery) (parts : List Part)
-    → IsSoundBy contents_of_later.inputs (part [] plan [] ∷ part settled next deliveries ∷ parts) contents_of_later.run → ⊥
-unfolding on_small_disks
-stale_next plan [] next deliveries parts s = let no : ◌≡◌ {A = ℕ} 2 0 = ap second_writer s.back in omega arith
-stale_next plan (row ∷ rows) next deliveries parts s = let no : ◌≡◌ {A = ℕ} (suc (length rows)) 0 = ap length s.tested.1.0.settled in omega arith
+-- the second decision is to serve
+abbrev second_serves : List Decision → ℕ
+second_serves (first ∷ serves served ∷ decisions) = 1
+second_serves _ = 0
 
-stale_first : (settled : List BackRow) (plan : Plan) (deliveries : List Delivery) (next : Part) (parts : List Part) → AtMost row_of_stale deliveries
-    → IsSoundBy contents_of_later.inputs (part settled plan deliveries ∷ next ∷ parts) contents_of_later.run → ⊥
+stale_next : (settled : List BackRow) (act : Act) (deliveries : List Delivery) (steps : List Step)
+    → IsSoundBy contents_of_later.inputs (idle 700 [] [] ∷ record { settled = settled; act = act; deliveries = deliveries } ∷ steps) contents_of_later.run → ⊥
 unfolding on_small_disks
-stale_first [] plan deliveries next parts nothing s = stale_next plan next.settled next.plan next.deliveries parts s
-stale_first [] plan deliveries next parts (just after) s = let no : ◌≡◌ {A = ℕ} 2 1 = ap second_writer s.back in omega arith
-stale_first (row ∷ rows) plan deliveries next parts few s = let no : ◌≡◌ {A = ℕ} (suc (length rows)) 0 = ap length s.tested.0.settled in omega arith
+stale_next [] (serving served plan) deliveries steps s = let no : ◌≡◌ {A = ℕ} 2 0 = ap second_writer s.back in omega arith
+stale_next [] (idling dwell) deliveries steps s = let no : ◌≡◌ {A = ℕ} 0 1 = ap second_serves s.decided in omega arith
+stale_next [] (ending now) deliveries steps s = let no : ◌≡◌ {A = ℕ} 0 1 = ap second_serves s.decided in omega arith
+stale_next (row ∷ rows) act deliveries steps s = let no : ◌≡◌ {A = ℕ} (suc (length rows)) 0 = ap length s.tested.1.0.settled in omega arith
 
-stale : (parts : List Part) → IsSoundBy contents_of_later.inputs parts contents_of_later.run → ⊥
+stale_first : (settled : List BackRow) (deliveries : List Delivery) (next : Step) (steps : List Step) → AtMost row_of_stale deliveries
+    → IsSoundBy contents_of_later.inputs (idle 700 settled deliveries ∷ next ∷ steps) contents_of_later.run → ⊥
 unfolding on_small_disks
-stale [] s = let no : ◌≡◌ {A = ℕ} 0 3 = s.part_each in omega arith
-stale (first ∷ []) s = let no : ◌≡◌ {A = ℕ} 1 3 = s.part_each in omega arith
-stale (first ∷ next ∷ parts) s = stale_first first.settled first.plan first.deliveries next parts (at_most first.deliveries s.deliveries.0) s
+stale_first [] deliveries next steps nothing s = stale_next next.settled next.act next.deliveries steps s
+stale_first [] deliveries next steps (just after) s = let no : ◌≡◌ {A = ℕ} 2 1 = ap second_writer s.back in omega arith
+stale_first (row ∷ rows) deliveries next steps few s = let no : ◌≡◌ {A = ℕ} (suc (length rows)) 0 = ap length s.tested.0.settled in omega arith
+
+stale_idle : (settled : List BackRow) (deliveries : List Delivery) (next : Step) (steps : List Step)
+    → IsSoundBy contents_of_later.inputs (idle 700 settled deliveries ∷ next ∷ steps) contents_of_later.run → ⊥
+unfolding on_small_disks
+stale_idle settled deliveries next steps s = stale_first settled deliveries next steps (at_most deliveries s.deliveries.0) s
+
+stale : (steps : List Step) → IsSoundBy contents_of_later.inputs steps contents_of_later.run → ⊥
+unfolding on_small_disks
+stale [] s = let no : ◌≡◌ {A = ℕ} 0 3 = ap length s.decided in omega arith
+stale (first ∷ []) s = let no : ◌≡◌ {A = ℕ} 1 3 = ap length s.decided in omega arith
+stale (first ∷ next ∷ steps) s = stale_idle first.settled first.deliveries next steps
+    (subst (λ first. IsSoundBy contents_of_later.inputs (first ∷ next ∷ steps) contents_of_later.run) (is_dwelt first (first_dwell 700) (same_first _ _ _ _ s.decided)) s)
 
 pub contents_of_later_refuted : IsSound contents_of_later.inputs contents_of_later.run → ⊥
-contents_of_later_refuted p = stale p.parts p.sound
+contents_of_later_refuted p = stale p.steps p.sound
 
 -- the way back with its settle ends after the deadline
 pub no_plan_refuted : IsPlan small_disk settling_gap (Detour (at 0 1) 900) → ⊥
@@ -226,13 +251,13 @@ served_sooner_refuted p = let no : ◌≡◌ {A = ℕ} 300 1500 = ap media_of p.
 pub delivery_left_out_is_sound : IsSound delivery_left_out.inputs delivery_left_out.run
 unfolding on_small_disks
 delivery_left_out_is_sound = record {
-  parts = part [] (Direct 0) [] ∷ [];
+  steps = idle 1200 [] [] ∷ [];
   sound = record {
     fore = refl;
     passed_over = refl;
     possible = refl;
     end = refl;
-    part_each = refl;
+    decided = refl;
     tasks = task_line 0 Plain 1 0 0 false ∷ [];
     back = refl;
     planned = (tt, tt);
@@ -243,22 +268,22 @@ delivery_left_out_is_sound = record {
 }
 
 -- and a full run may not
-left_alone : (settled : List BackRow) (plan : Plan) (deliveries : List Delivery) → length (map (λ delivery. delivery.got) deliveries) ≡ 1
-    → IsSoundBy delivery_left_out.inputs (part settled plan deliveries ∷ []) delivery_left_out.run → ⊥
+left_alone : (settled : List BackRow) (deliveries : List Delivery) → length (map (λ delivery. delivery.got) deliveries) ≡ 1
+    → IsSoundBy delivery_left_out.inputs (idle 1200 settled deliveries ∷ []) delivery_left_out.run → ⊥
 unfolding on_small_disks
-left_alone [] plan [] some s = let no : ◌≡◌ {A = ℕ} 0 1 = some in omega arith
-left_alone [] plan (delivery ∷ []) some s =
+left_alone [] [] some s = let no : ◌≡◌ {A = ℕ} 0 1 = some in omega arith
+left_alone [] (delivery ∷ []) some s =
     let one : ◌≡◌ {A = ℕ} (length s.tasks) 1 = ap length s.counted in
     let rows : ◌≡◌ {A = ℕ} 2 (suc (suc (length (((delivery.after ++ []) ++ []) ++ s.tasks)))) = ap length s.back in
     let more = length-append ((delivery.after ++ []) ++ []) s.tasks in
     omega arith
-left_alone [] plan (delivery ∷ other ∷ deliveries) some s = let no : ◌≡◌ {A = ℕ} (suc (suc (length (map (λ delivery. delivery.got) deliveries)))) 1 = some in omega arith
-left_alone (row ∷ rows) plan deliveries some s = let no : ◌≡◌ {A = ℕ} (suc (length rows)) 0 = ap length s.tested.0.settled in omega arith
+left_alone [] (delivery ∷ other ∷ deliveries) some s = let no : ◌≡◌ {A = ℕ} (suc (suc (length (map (λ delivery. delivery.got) deliveries)))) 1 = some in omega arith
+left_alone (row ∷ rows) deliveries some s = let no : ◌≡◌ {A = ℕ} (suc (length rows)) 0 = ap length s.tested.0.settled in omega arith
 
-left : (parts : List Part) → OnePart parts → IsSoundBy delivery_left_out.inputs parts delivery_left_out.run → Throughout IsAllDelivered delivery_left_out.inputs parts → ⊥
+left : (steps : List Step) → OneIdle 1200 steps → IsSoundBy delivery_left_out.inputs steps delivery_left_out.run → Throughout IsAllDelivered delivery_left_out.inputs steps → ⊥
 unfolding on_small_disks
-left parts (one_part settled plan deliveries) s all = left_alone settled plan deliveries (ap length all.0) s
+left steps (one_idle settled deliveries) s all = left_alone settled deliveries (ap length all.0) s
 
 pub delivery_left_out_is_not_full : IsFull delivery_left_out.inputs delivery_left_out.run → ⊥
 unfolding on_small_disks
-delivery_left_out_is_not_full p = left p.parts (find_one p.parts p.sound.part_each) p.sound p.all
+delivery_left_out_is_not_full p = left p.steps (find_one 1200 p.steps p.sound.decided) p.sound p.all
