@@ -4,9 +4,8 @@ use Rattle.std.specs.List.{AllByRecursion}
 use Rattle.fb_service.specs.declared.disk.Disk.{Disk}
 use Rattle.fb_store.specs.Index.{Holding}
 use Rattle.fb_wanted.specs.declared.block.Block.{Block}
-use Rattle.fb_rows.specs.declared.gap.Plan.{Plan}
 use Rattle.fb_model.specs.Content.{Medium, contents_at}
-use Rattle.fb_model.specs.Decisions.{Decision, instant_of}
+use Rattle.fb_model.specs.Decisions.{instant_of, Act, decision_of}
 use Rattle.fb_model.specs.Rides.{due}
 use Rattle.fb_model.specs.SoundRun.{HasPlan}
 use Rattle.fb_model.proofs.Due.{IsDueRow, due_block, due_bytes, due_true}
@@ -20,30 +19,30 @@ use Rattle.fb_decide.proofs.Delivering.{row-is}
 use Rattle.fb_tasks.proofs.Lists.{all_weaker}
 
 -- the deliveries that are due are those that the disk gives as it is
-pub due_same : (medium : Medium) (holding : Holding) (decision : Decision) (plan : Plan) (to : ℕ) (blocks : List Block)
-    → IsMade medium.disk decision → HasPlan medium.disk decision plan → DeliversBy to decision
-    → AllByRecursion HasSector blocks → Mirrors medium holding (instant_of decision) to
-    → due medium.disk (held_now holding) decision plan blocks ≡ due medium.disk (contents_at medium) decision plan blocks
-due_same medium holding decision plan to blocks made is over some mirrors =
-    let agree = mirrored medium holding (instant_of decision) to mirrors in
-    same_due medium.disk (held_now holding) (contents_at medium) (instant_of decision) to agree decision plan blocks made is (omega arith) over some
+pub due_same : (medium : Medium) (holding : Holding) (act : Act) (to : ℕ) (blocks : List Block)
+    → IsMade medium.disk (decision_of act) → HasPlan medium.disk act → DeliversBy to (decision_of act)
+    → AllByRecursion HasSector blocks → Mirrors medium holding (instant_of (decision_of act)) to
+    → due medium.disk (held_now holding) act blocks ≡ due medium.disk (contents_at medium) act blocks
+due_same medium holding act to blocks made is over some mirrors =
+    let agree = mirrored medium holding (instant_of (decision_of act)) to mirrors in
+    same_due medium.disk (held_now holding) (contents_at medium) (instant_of (decision_of act)) to agree act blocks made is (omega arith) over some
 
 -- and each lies within the decision
-pub due_found : (disk : Disk) (holding : Holding) (decision : Decision) (plan : Plan) (to : ℕ) (blocks : List Block)
-    → IsMade disk decision → HasPlan disk decision plan → DeliversBy to decision
+pub due_found : (disk : Disk) (holding : Holding) (act : Act) (to : ℕ) (blocks : List Block)
+    → IsMade disk (decision_of act) → HasPlan disk act → DeliversBy to (decision_of act)
     → AllByRecursion HasSector blocks
-    → AllByRecursion (IsFoundIn holding (instant_of decision) to) (due disk (held_now holding) decision plan blocks)
-due_found disk holding decision plan to blocks made is over some =
+    → AllByRecursion (IsFoundIn holding (instant_of (decision_of act)) to) (due disk (held_now holding) act blocks)
+due_found disk holding act to blocks made is over some =
     let held = held_now holding in
-    all_weaker (IsDueRow disk held decision plan HasSector) (IsFoundIn holding (instant_of decision) to)
+    all_weaker (IsDueRow disk held act HasSector) (IsFoundIn holding (instant_of (decision_of act)) to)
     (λ row due_row.
-    let block = due_block disk held decision plan HasSector row due_row in
-    let lies = due_between disk held decision plan HasSector to made is over row block due_row in
-    let bytes = due_bytes disk held decision plan HasSector row due_row in
+    let block = due_block disk held act HasSector row due_row in
+    let lies = due_between disk held act HasSector to made is over row block due_row in
+    let bytes = due_bytes disk held act HasSector row due_row in
     record {
       row = row-is holding row.how row.block row.begin row.end row.bad row.content bytes.content bytes.bad;
       begin = lies.begins;
       order = lies.in_turn;
       end = lies.ends;
     })
-    (due disk held decision plan blocks) (due_true disk held decision plan HasSector blocks some)
+    (due disk held act blocks) (due_true disk held act HasSector blocks some)

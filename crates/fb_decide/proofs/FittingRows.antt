@@ -13,7 +13,6 @@ use Rattle.fb_calls.proofs.Lists.{all_weaker}
 use Rattle.fb_wanted.specs.declared.block.Block.{Block}
 use Rattle.fb_wanted.specs.declared.block.Entry.{Entry}
 use Rattle.fb_wanted.specs.States.{is_wanted}
-use Rattle.fb_rows.specs.declared.gap.Plan.{Plan}
 use Rattle.fb_rows.specs.declared.gap.How.{How}
 use Rattle.fb_rows.specs.declared.back.DeliveryRow.{DeliveryRow}
 use Rattle.fb_rows.specs.declared.back.BackRow.TheVariants.{Got as GotLine}
@@ -22,11 +21,11 @@ use Rattle.fb_model.specs.PlainReplay.{Served}
 use Rattle.fb_model.specs.Content.{Medium, medium_of, contents_at}
 use Rattle.fb_model.specs.Plans.{catches, early_dwell, late_dwell}
 use Rattle.fb_model.specs.Rides.{delivery, caught, rides, missed, lies_in, gap_of, due}
-use Rattle.fb_model.specs.Decisions.{Decision, serves, idles, ends, instant_of}
-use Rattle.fb_model.specs.History.{Event, delivered, tested, Past, tasks, task_numbers, terms_of, registered, registered_by, wanted, state, is_open_backup}
-use Rattle.fb_model.specs.Completion.{choices, work, is_complete, was_complete}
-use Rattle.fb_model.specs.Images.{findings, is_scrub, bad_sectors, segment_rows, seal_rows, complete_rows, is_newly_cleaned, image, packed, test_rows}
-use Rattle.fb_model.specs.Steps.{Delivery, Part, take_call, calls_due, with_delivery, with_finish, settled_past, past_after, opening, part_rows, task_row, task_rows}
+use Rattle.fb_model.specs.Decisions.{Decision, serves, idles, ends, instant_of, Act, serving, idling, ending}
+use Rattle.fb_model.specs.History.{Event, delivered, tested, same_block, Past, tasks, task_numbers, terms_of, registered, registered_by, blocks_of, wanted, state, is_open_backup}
+use Rattle.fb_model.specs.Completion.{Choice, choices, work, is_complete, was_complete}
+use Rattle.fb_model.specs.Images.{findings, is_scrub, bad_sectors, segment_rows, seal_rows, complete_rows, is_newly_cleaned, image, packed, test_rows, held_at_delivery}
+use Rattle.fb_model.specs.Steps.{Delivery, Step, decision_in, take_call, calls_due, with_delivery, with_finish, settled_past, past_after, opening, step_rows, task_row, task_rows}
 use Rattle.fb_model.specs.SoundRun.{AreFollowed}
 use Rattle.fb_model.proofs.Lists.{all_append, all_left, all_map}
 use Rattle.fb_tasks.specs.declared.session.Session.{Session}
@@ -77,9 +76,9 @@ module _ (n : ℕ) where
       fits_calls inputs.disk past (calls_due inputs.calls past (instant_of decision))
       (by_all (λ p. PastFits n p → PastFits n called) inputs.disk.map (λ p task segment blocks h now. h (fits_before p _ now)) called (λ h. h) fits)
 
-  fits_tested : (inputs : Inputs) (past : Past) (step : Decision × Part) → PastFits n (past_after inputs past step) → PastFits n (tested step.1.settled ∷ settled_past inputs past step.0)
+  fits_tested : (inputs : Inputs) (past : Past) (step : Step) → PastFits n (past_after inputs past step) → PastFits n (tested step.settled ∷ settled_past inputs past (decision_in step))
   unfolding past_after
-  fits_tested inputs past step fits = fits_deliveries (tested step.1.settled ∷ settled_past inputs past step.0) step.1.deliveries (fits_finish _ step.0 fits)
+  fits_tested inputs past step fits = fits_deliveries (tested step.settled ∷ settled_past inputs past (decision_in step)) step.deliveries (fits_finish _ (decision_in step) fits)
 
   -- ---- the rows of tests
 
@@ -130,9 +129,9 @@ module _ (n : ℕ) where
   missed_fit : (disk : Disk) (dwell : _) (blocks : List Block) → AllByRecursion (BlockFits n) blocks → AllByRecursion (BlockFits n) (missed disk dwell blocks)
   missed_fit disk dwell blocks all = all_filter (BlockFits n) (λ block. not (catches disk dwell block)) blocks all
 
-  due_fits : (medium : Medium) (decision : Decision) (plan : Plan) (blocks : List Block) → AllByRecursion (BlockFits n) blocks → AllByRecursion GotFits (due medium.disk (contents_at medium) decision plan blocks)
+  due_fits : (medium : Medium) (act : Act) (blocks : List Block) → AllByRecursion (BlockFits n) blocks → AllByRecursion GotFits (due medium.disk (contents_at medium) act blocks)
   unfolding due
-  due_fits medium (serves served) plan blocks all =
+  due_fits medium (serving served plan) blocks all =
       let early = early_dwell medium.disk (gap_of medium.disk served) plan in
       let late = late_dwell medium.disk (gap_of medium.disk served) plan in
       let left = missed medium.disk early blocks in
@@ -140,8 +139,8 @@ module _ (n : ℕ) where
       all_append GotFits _ (rides (contents_at medium) served (missed medium.disk late left))
       (all_append GotFits (caught medium.disk (contents_at medium) _ early blocks) (caught medium.disk (contents_at medium) _ late left) (caught_fits medium _ early blocks all) (caught_fits medium _ late left left_fit))
       (rides_fit medium served (missed medium.disk late left) (missed_fit medium.disk late left left_fit))
-  due_fits medium (idles dwell) plan blocks all = caught_fits medium _ dwell blocks all
-  due_fits medium (ends now) plan blocks all = tt
+  due_fits medium (idling dwell) blocks all = caught_fits medium _ dwell blocks all
+  due_fits medium (ending now) blocks all = tt
 
   findings_fit : (past : Past) (got : DeliveryRow) → GotFits got → AllByRecursion (RowFits n) (findings past got)
   findings_fit past got fits = elim (cases_Bool (is_scrub (terms_of past got.block.task).kind)) [
@@ -162,27 +161,27 @@ module _ (n : ℕ) where
             (followed_fit medium (with_delivery past delivery) deliveries (record { blocks = fits.blocks; few = fits.few }) gots.1 follows.1),
       )
 
-  -- ---- the rows of decisions
+  -- ---- the rows of steps
 
-  opening_fits : (disk : Disk) (decision : Decision) (plan : Plan) → AllByRecursion (RowFits n) (opening disk decision plan)
-  opening_fits disk (serves served) plan = (λ names e. tt, tt)
-  opening_fits disk (idles dwell) plan = (λ names e. tt, tt)
-  opening_fits disk (ends now) plan = tt
+  opening_fits : (disk : Disk) (act : Act) → AllByRecursion (RowFits n) (opening disk act)
+  opening_fits disk (serving served plan) = (λ names e. tt, tt)
+  opening_fits disk (idling dwell) = (λ names e. tt, tt)
+  opening_fits disk (ending now) = tt
 
   wanted_fit : (past : Past) → PastFits n past → AllByRecursion (BlockFits n) (wanted past)
   unfolding wanted
   wanted_fit past fits = all_filter (BlockFits n) (λ block. is_wanted (state past block)) (registered past) fits.blocks
 
-  pub step_fits : (inputs : Inputs) (past : Past) (step : Decision × Part) → IsMade inputs past step → PastFits n (past_after inputs past step) → AllByRecursion (RowFits n) (part_rows inputs.disk step)
+  pub step_fits : (inputs : Inputs) (past : Past) (step : Step) → IsMade inputs past step → PastFits n (past_after inputs past step) → AllByRecursion (RowFits n) (step_rows inputs.disk step)
   step_fits inputs past step made fits =
       let medium = medium_of inputs in
       let tests = fits_tested inputs past step fits in
-      let settled = fits_before (settled_past inputs past step.0) (tested step.1.settled) tests in
-      all_append (RowFits n) (step.1.settled ++ opening inputs.disk step.0 step.1.plan) (flat_map (λ (delivery : Delivery). GotLine delivery.got ∷ delivery.after) step.1.deliveries)
-      (all_append (RowFits n) step.1.settled (opening inputs.disk step.0 step.1.plan)
-      (subst (AllByRecursion (RowFits n)) (sym made.tested.settled) (tests_fit medium (settled_past inputs past step.0) (instant_of step.0) settled)) (opening_fits inputs.disk step.0 step.1.plan))
-      (followed_fit medium (tested step.1.settled ∷ settled_past inputs past step.0) step.1.deliveries tests
-      (subst (AllByRecursion GotFits) (sym made.all) (due_fits medium step.0 step.1.plan (wanted (settled_past inputs past step.0)) (wanted_fit (settled_past inputs past step.0) settled))) made.tested.followed)
+      let settled = fits_before (settled_past inputs past (decision_in step)) (tested step.settled) tests in
+      all_append (RowFits n) (step.settled ++ opening inputs.disk step.act) (flat_map (λ (delivery : Delivery). GotLine delivery.got ∷ delivery.after) step.deliveries)
+      (all_append (RowFits n) step.settled (opening inputs.disk step.act)
+      (subst (AllByRecursion (RowFits n)) (sym made.tested.settled) (tests_fit medium (settled_past inputs past (decision_in step)) (instant_of (decision_in step)) settled)) (opening_fits inputs.disk step.act))
+      (followed_fit medium (tested step.settled ∷ settled_past inputs past (decision_in step)) step.deliveries tests
+      (subst (AllByRecursion GotFits) (sym made.all) (due_fits medium step.act (wanted (settled_past inputs past (decision_in step))) (wanted_fit (settled_past inputs past (decision_in step)) settled))) made.tested.followed)
 
   pub tasks_fit : (past : Past) → PastFits n past → AllByRecursion (RowFits n) (task_rows past)
   unfolding task_rows

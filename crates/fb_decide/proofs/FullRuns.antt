@@ -1,6 +1,6 @@
 -- The rows of decisions, and that a run whose decisions have all been made is full.
-use Rattle.std.proofs.Common.{◌≡◌, ℕ, List, [], ◌∷◌, ◌++◌, length, map, ap, sym, subst, ◌∙◌, arith, Some, append_assoc, true, false, refl, append-nil}
-use Rattle.std.specs.List.{AllByRecursion, flat_map, fold, zip}
+use Rattle.std.proofs.Common.{◌≡◌, ℕ, List, [], ◌∷◌, ◌++◌, map, ap, sym, subst, ◌∙◌, Some, append_assoc, true, false, refl, append-nil}
+use Rattle.std.specs.List.{AllByRecursion, flat_map, fold}
 use Rattle.fb_units.specs.declared.types.Request.{Request}
 use Rattle.fb_units.specs.declared.types.Track.{Track}
 use Rattle.fb_geometry.specs.Sound.{IsSound}
@@ -15,33 +15,33 @@ use Rattle.fb_model.specs.Accepted.{IsAccepted}
 use Rattle.fb_model.specs.Timeline.{stay, gap_legs, service_legs, timeline, led_to, IsPossible}
 use Rattle.fb_model.specs.Plans.{IsPlan}
 use Rattle.fb_model.specs.Rides.{gap_of}
-use Rattle.fb_model.specs.Decisions.{Decision, serves, idles, ends, end_of, decisions, run_end}
+use Rattle.fb_model.specs.Decisions.{Decision, serves, idles, ends, end_of, Act, serving, idling, ending, decision_of, decisions, run_end}
 use Rattle.fb_model.specs.History.{Past}
-use Rattle.fb_model.specs.Steps.{Part, past_after, steps, AtEach, opening, part_rows, task_rows, history, steps as steps_by}
+use Rattle.fb_model.specs.Steps.{Step, decision_in, decisions_in, past_after, AtEach, opening, step_rows, task_rows, history}
 use Rattle.fb_model.specs.SoundRun.{IsPlanned, HasPlan, IsTested, Throughout, IsSublist, IsDelivered, none, taken}
 use Rattle.fb_model.proofs.Leads.{Leads, lead_on, lead_gap, lead_stay}
 use Rattle.fb_model.proofs.RowsUpTo.{delivered_rows}
 use Rattle.fb_model.proofs.Passages.{LiesOnDisk, requests_lie}
 use Rattle.fb_decide.proofs.Ways.{lead_service, have_angles}
 use Rattle.fb_decide.proofs.Chain.{Follow, services, decisions_follow}
-use Rattle.fb_decide.proofs.QuietRows.{IsQuiet, quiet_before, all_quiet, tasks_quiet, IsQuietPart, quiet_part}
+use Rattle.fb_decide.proofs.QuietRows.{IsQuiet, quiet_before, all_quiet, tasks_quiet, IsQuietStep, quiet_step}
 use Rattle.std.proofs.lemmas.List.{map-append}
 use Rattle.std.proofs.lemmas.List.Concat.{flat_map-append}
 use Rattle.fb_model.specs.FullRun.{IsBestPlanned, IsAllDelivered}
 use Rattle.fb_model.proofs.Steps.{AtEach-append}
-use Rattle.fb_decide.specs.Making.{Step, IsMade, fore_row_of, decided_in, rest_of, decisions_by}
+use Rattle.fb_decide.specs.Making.{IsMade, fore_row_of, rest_of, decisions_by}
 use Rattle.fb_decide.specs.FullRuns.{RowsGoOn, ForeRowsBegin, ForeRowsEnd, RowsAreFull}
 use Rattle.fb_tasks.proofs.Lists.{all_any}
 
 -- ---- the head can go the way that a run's rows tell
 
--- the rows of a part that tell nothing of the head fall away
-part_timeline : (disk : Disk) (step : Decision × Part) (back : List BackRow) (fore : List ForeRow) → IsQuietPart step.1
-    → timeline disk (part_rows disk step ++ back) fore ≡ timeline disk (opening disk step.0 step.1.plan ++ (delivered_rows step.1.deliveries ++ back)) fore
-part_timeline disk step back fore quiet =
-    ap (λ rows. timeline disk rows fore) (append_assoc (step.1.settled ++ opening disk step.0 step.1.plan) (delivered_rows step.1.deliveries) back
-    ∙ append_assoc step.1.settled (opening disk step.0 step.1.plan) (delivered_rows step.1.deliveries ++ back))
-    ∙ quiet_before disk step.1.settled (opening disk step.0 step.1.plan ++ (delivered_rows step.1.deliveries ++ back)) fore quiet.settled
+-- the rows of a step that tell nothing of the head fall away
+step_timeline : (disk : Disk) (step : Step) (back : List BackRow) (fore : List ForeRow) → IsQuietStep step
+    → timeline disk (step_rows disk step ++ back) fore ≡ timeline disk (opening disk step.act ++ (delivered_rows step.deliveries ++ back)) fore
+step_timeline disk step back fore quiet =
+    ap (λ rows. timeline disk rows fore) (append_assoc (step.settled ++ opening disk step.act) (delivered_rows step.deliveries) back
+    ∙ append_assoc step.settled (opening disk step.act) (delivered_rows step.deliveries ++ back))
+    ∙ quiet_before disk step.settled (opening disk step.act ++ (delivered_rows step.deliveries ++ back)) fore quiet.settled
 
 -- a gap by one of its plans, and the service behind it
 lead_serve : (disk : Disk) (medium : Medium) (head : Track) (now : ℕ) (request : Request) (plan : Plan) → IsSound disk.map → LiesOnDisk disk.map request
@@ -60,63 +60,63 @@ lead_served disk medium head now served plan sound same lies is_plan =
     (lead_serve disk medium head now served.request plan sound lies (subst (λ (s : Served). IsPlan disk (gap_of disk s) plan) same is_plan))
 
 module _ (inputs : Inputs) (medium : Medium) (tasks : List BackRow) (quiet : AllByRecursion IsQuiet tasks) (sound : IsSound inputs.disk.map) where
-  abbrev back_rows : List Decision → List Part → List BackRow
-  back_rows decisions parts = flat_map (part_rows inputs.disk) (zip decisions parts) ++ tasks
+  abbrev back_rows : List Step → List BackRow
+  back_rows steps = flat_map (step_rows inputs.disk) steps ++ tasks
 
-  abbrev Arrives : Track → ℕ → List Decision → List Part → Type 0
-  Arrives head now decisions parts =
-      led_to inputs.disk head now (timeline inputs.disk (back_rows decisions parts) (map (fore_row medium) (services decisions))) ≡ Some (fold (λ end decision. end_of decision) now decisions)
+  abbrev Arrives : Track → ℕ → List Step → Type 0
+  Arrives head now steps = led_to inputs.disk head now (timeline inputs.disk (back_rows steps) (map (fore_row medium) (services (decisions_in steps))))
+      ≡ Some (fold (λ end decision. end_of decision) now (decisions_in steps))
 
-  one_timeline : (decision : Decision) (part : Part) (decisions : List Decision) (parts : List Part) (fore : List ForeRow) → IsQuietPart part
-      → timeline inputs.disk (back_rows (decision ∷ decisions) (part ∷ parts)) fore
-      ≡ timeline inputs.disk (opening inputs.disk decision part.plan ++ (delivered_rows part.deliveries ++ back_rows decisions parts)) fore
-  one_timeline decision part decisions parts fore silent =
-      ap (λ rows. timeline inputs.disk rows fore) (append_assoc (part_rows inputs.disk (decision, part)) (flat_map (part_rows inputs.disk) (zip decisions parts)) tasks)
-      ∙ part_timeline inputs.disk (decision, part) (back_rows decisions parts) fore silent
+  one_timeline : (step : Step) (steps : List Step) (fore : List ForeRow) → IsQuietStep step
+      → timeline inputs.disk (back_rows (step ∷ steps)) fore ≡ timeline inputs.disk (opening inputs.disk step.act ++ (delivered_rows step.deliveries ++ back_rows steps)) fore
+  one_timeline step steps fore silent =
+      ap (λ rows. timeline inputs.disk rows fore) (append_assoc (step_rows inputs.disk step) (flat_map (step_rows inputs.disk) steps) tasks)
+      ∙ step_timeline inputs.disk step (back_rows steps) fore silent
 
-  -- one decision, where the later ones arrive
-  arrives_by : (head : Track) (now : ℕ) (decision : Decision) (part : Part) (decisions : List Decision) (parts : List Part) → Follow (LiesOnDisk inputs.disk.map) inputs.disk head now (decision ∷ decisions)
-      → IsQuietPart part → HasPlan inputs.disk decision part.plan
-      → ((head : Track) (now : ℕ) → Follow (LiesOnDisk inputs.disk.map) inputs.disk head now decisions → Arrives head now decisions parts) → Arrives head now (decision ∷ decisions) (part ∷ parts)
+  -- one step, by what is done at it, where the later ones arrive
+  arrives_by : (head : Track) (now : ℕ) (step : Step) (act : Act) (steps : List Step) → Follow (LiesOnDisk inputs.disk.map) inputs.disk head now (decision_of act ∷ decisions_in steps)
+      → IsQuietStep (record step { act = act }) → HasPlan inputs.disk act
+      → ((head : Track) (now : ℕ) → Follow (LiesOnDisk inputs.disk.map) inputs.disk head now (decisions_in steps) → Arrives head now steps) → Arrives head now (record step { act = act } ∷ steps)
   unfolding timeline
-  arrives_by head now (serves served) part decisions parts follow silent plan rest =
-      let fore = map (fore_row medium) (services decisions) in
+  arrives_by head now step (serving served plan) steps follow silent is_plan rest =
+      let fore = map (fore_row medium) (services (decisions_in steps)) in
       let to = last_track inputs.disk served in
-      ap (led_to inputs.disk head now) (one_timeline (serves served) part decisions parts (fore_row medium served ∷ fore) silent)
-      ∙ (lead_served inputs.disk medium head now served part.plan sound follow.0 follow.1 plan (timeline inputs.disk (delivered_rows part.deliveries ++ back_rows decisions parts) fore)
-      ∙ (ap (led_to inputs.disk to (finish served)) (quiet_before inputs.disk (delivered_rows part.deliveries) (back_rows decisions parts) fore silent.delivered)
+      ap (led_to inputs.disk head now) (one_timeline (record step { act = serving served plan }) steps (fore_row medium served ∷ fore) silent)
+      ∙ (lead_served inputs.disk medium head now served plan sound follow.0 follow.1 is_plan (timeline inputs.disk (delivered_rows step.deliveries ++ back_rows steps) fore)
+      ∙ (ap (led_to inputs.disk to (finish served)) (quiet_before inputs.disk (delivered_rows step.deliveries) (back_rows steps) fore silent.delivered)
       ∙ rest to (finish served) follow.2))
-  arrives_by head now (idles dwell) part decisions parts follow silent plan rest =
-      let fore = map (fore_row medium) (services decisions) in
+  arrives_by head now step (idling dwell) steps follow silent is_plan rest =
+      let fore = map (fore_row medium) (services (decisions_in steps)) in
       let here : Leads inputs.disk head now (stay dwell.track dwell.begin dwell.end ∷ []) head dwell.end = rw (follow.0, follow.1) (lead_stay inputs.disk head now dwell.end follow.2) in
-      ap (led_to inputs.disk head now) (one_timeline (idles dwell) part decisions parts fore silent)
-      ∙ (here (timeline inputs.disk (delivered_rows part.deliveries ++ back_rows decisions parts) fore)
-      ∙ (ap (led_to inputs.disk head dwell.end) (quiet_before inputs.disk (delivered_rows part.deliveries) (back_rows decisions parts) fore silent.delivered)
+      ap (led_to inputs.disk head now) (one_timeline (record step { act = idling dwell }) steps fore silent)
+      ∙ (here (timeline inputs.disk (delivered_rows step.deliveries ++ back_rows steps) fore)
+      ∙ (ap (led_to inputs.disk head dwell.end) (quiet_before inputs.disk (delivered_rows step.deliveries) (back_rows steps) fore silent.delivered)
       ∙ rest head dwell.end follow.3))
-  arrives_by head now (ends end) part decisions parts follow silent plan rest =
-      let fore = map (fore_row medium) (services decisions) in
-      ap (led_to inputs.disk head now) (one_timeline (ends end) part decisions parts fore silent
-      ∙ quiet_before inputs.disk (delivered_rows part.deliveries) (back_rows decisions parts) fore silent.delivered)
-      ∙ (rest head now follow.1 ∙ ap (λ t. Some (fold (λ end decision. end_of decision) t decisions)) (sym follow.0))
+  arrives_by head now step (ending end) steps follow silent is_plan rest =
+      let fore = map (fore_row medium) (services (decisions_in steps)) in
+      ap (led_to inputs.disk head now) (one_timeline (record step { act = ending end }) steps fore silent
+      ∙ quiet_before inputs.disk (delivered_rows step.deliveries) (back_rows steps) fore silent.delivered)
+      ∙ (rest head now follow.1 ∙ ap (λ t. Some (fold (λ end decision. end_of decision) t (decisions_in steps))) (sym follow.0))
 
-  arrives : (past : Past) (head : Track) (now : ℕ) (decisions : List Decision) (parts : List Part) → Follow (LiesOnDisk inputs.disk.map) inputs.disk head now decisions → length parts ≡ length decisions
-      → AtEach (IsPlanned inputs medium) inputs past (zip decisions parts) → AtEach (IsTested inputs medium) inputs past (zip decisions parts) → Arrives head now decisions parts
+  arrives : (past : Past) (head : Track) (now : ℕ) (steps : List Step) → Follow (LiesOnDisk inputs.disk.map) inputs.disk head now (decisions_in steps)
+      → AtEach (IsPlanned inputs medium) inputs past steps → AtEach (IsTested inputs medium) inputs past steps → Arrives head now steps
   unfolding led_to
-  arrives past head now [] parts follow each planned tested = ap (led_to inputs.disk head now) (all_quiet inputs.disk tasks [] quiet)
-  arrives past head now (decision ∷ decisions) [] follow each planned tested = absurd (omega (arith, each))
-  arrives past head now (decision ∷ decisions) (part ∷ parts) follow each planned tested =
-      arrives_by head now decision part decisions parts follow (quiet_part inputs medium past (decision, part) tested.0) planned.0
-      (λ head now later. arrives (past_after inputs past (decision, part)) head now decisions parts later (omega (arith, each)) planned.1 tested.1)
+  arrives past head now [] follow planned tested = ap (led_to inputs.disk head now) (all_quiet inputs.disk tasks [] quiet)
+  arrives past head now (step ∷ steps) follow planned tested = arrives_by head now step step.act steps follow (quiet_step inputs medium past step tested.0) planned.0
+      (λ head now later. arrives (past_after inputs past step) head now steps later planned.1 tested.1)
 
 -- the timeline of decisions with plans of their gaps is possible
-pub possible : (inputs : Inputs) (parts : List Part) (past : Past) → IsSound inputs.disk.map → IsAccepted inputs → length parts ≡ length (decisions inputs)
-    → Throughout IsPlanned inputs parts → Throughout IsTested inputs parts
-    → IsPossible inputs.disk (timeline inputs.disk (flat_map (part_rows inputs.disk) (steps inputs parts) ++ task_rows past) (fore_rows inputs)) (run_end (decisions inputs))
+pub possible : (inputs : Inputs) (steps : List Step) (past : Past) → IsSound inputs.disk.map → IsAccepted inputs → decisions_in steps ≡ decisions inputs
+    → Throughout IsPlanned inputs steps → Throughout IsTested inputs steps
+    → IsPossible inputs.disk (timeline inputs.disk (flat_map (step_rows inputs.disk) steps ++ task_rows past) (fore_rows inputs)) (run_end (decisions inputs))
 unfolding fore_rows
-possible inputs parts past sound accepted each planned tested =
+possible inputs steps past sound accepted decided planned tested =
     let chain = decisions_follow (LiesOnDisk inputs.disk.map) inputs (requests_lie inputs accepted) in
-    subst (λ (replay : List Served). IsPossible inputs.disk (timeline inputs.disk (flat_map (part_rows inputs.disk) (steps inputs parts) ++ task_rows past) (map (fore_row (medium_of inputs)) replay)) (run_end (decisions inputs)))
-    chain.1 (arrives inputs (medium_of inputs) (task_rows past) (tasks_quiet past) sound [] first_track 0 (decisions inputs) parts chain.0 each planned tested)
+    let back = flat_map (step_rows inputs.disk) steps ++ task_rows past in
+    subst (λ (replay : List Served). IsPossible inputs.disk (timeline inputs.disk back (map (fore_row (medium_of inputs)) replay)) (run_end (decisions inputs))) chain.1
+    (subst (λ ds. led_to inputs.disk first_track 0 (timeline inputs.disk back (map (fore_row (medium_of inputs)) (services ds))) ≡ Some (run_end ds)) decided
+    (arrives inputs (medium_of inputs) (task_rows past) (tasks_quiet past) sound [] first_track 0 steps
+    (subst (Follow (LiesOnDisk inputs.disk.map) inputs.disk first_track 0) (sym decided) chain.0) planned tested))
 
 -- ---- the rows of decisions, and that a run whose decisions have all been made is full
 
@@ -126,9 +126,9 @@ one_more f xs x ys before = ap (λ rows. rows ++ f x) before ∙ (ap (λ rows. f
 pub rows_go_on : RowsGoOn
 rows_go_on inputs steps step fore back rows made = record {
   each = AtEach-append (IsMade inputs) inputs [] steps (step ∷ []) rows.each (made, tt);
-  fore_so_far = one_more (fore_row_of (medium_of inputs)) (decided_in steps) step.0 fore rows.fore_so_far
-      ∙ ap (flat_map (fore_row_of (medium_of inputs))) (sym (map-append (λ (step : Step). step.0) steps (step ∷ [])));
-  back_so_far = one_more (part_rows inputs.disk) steps step back rows.back_so_far;
+  fore_so_far = one_more (fore_row_of (medium_of inputs)) (decisions_in steps) (decision_in step) fore rows.fore_so_far
+      ∙ ap (flat_map (fore_row_of (medium_of inputs))) (sym (map-append decision_in steps (step ∷ [])));
+  back_so_far = one_more (step_rows inputs.disk) steps step back rows.back_so_far;
 }
 
 -- ---- the foreground rows
@@ -154,7 +154,7 @@ fore_rows_begin inputs true steps list course pending count fore back made rows 
     let later = decisions_by inputs course (rest_of inputs course pending) in (
       flat_map (fore_row_of (medium_of inputs)) later,
       ap (λ fore. fore ++ flat_map (fore_row_of (medium_of inputs)) later) rows.fore_so_far
-          ∙ (sym (flat_map-append (fore_row_of (medium_of inputs)) (decided_in steps) later)
+          ∙ (sym (flat_map-append (fore_row_of (medium_of inputs)) (decisions_in steps) later)
           ∙ (ap (flat_map (fore_row_of (medium_of inputs))) made.come_to.decided ∙ rows_of_all inputs)),
     )
 fore_rows_begin inputs false steps list course pending count fore back made rows =
@@ -162,14 +162,7 @@ fore_rows_begin inputs false steps list course pending count fore back made rows
 
 -- ---- a run that has ended
 
-abbrev parts_in : List Step → List Part
-parts_in steps = map (λ step. step.1) steps
-
-zipped : (steps : List Step) → zip (decided_in steps) (parts_in steps) ≡ steps
-zipped [] = refl
-zipped (step ∷ steps) = ap (λ rest. step ∷ rest) (zipped steps)
-
--- what holds at each decision gives what follows from it
+-- what holds at each step gives what follows from it
 each_then : (P Q : Past → Step → Type 0) → ((past : Past) (step : Step) → P past step → Q past step) → (inputs : Inputs) (past : Past) (steps : List Step) → AtEach P inputs past steps → AtEach Q inputs past steps
 each_then P Q f inputs past [] each = tt
 each_then P Q f inputs past (step ∷ steps) each = (f past step each.0, each_then P Q f inputs (past_after inputs past step) steps each.1)
@@ -178,49 +171,36 @@ all_of_itself : {X : Type 0} (xs : List X) → IsSublist xs xs
 all_of_itself [] = none
 all_of_itself (x ∷ xs) = taken (all_of_itself xs)
 
-as_many : (steps : List Step) → length (parts_in steps) ≡ length (decided_in steps)
-as_many [] = refl
-as_many (step ∷ steps) = omega (arith, as_many steps)
-
--- of decisions that are all of a run's
-module _ (inputs : Inputs) (steps : List Step) (each : AtEach (IsMade inputs) inputs [] steps) (decided : decided_in steps ≡ decisions inputs) where
-  same_steps : steps_by inputs (parts_in steps) ≡ steps
-  same_steps = ap (λ decided. zip decided (parts_in steps)) (sym decided) ∙ zipped steps
-
-  throughout : (Q : Inputs → Medium → Past → Step → Type 0) → ((past : Past) (step : Step) → IsMade inputs past step → Q inputs (medium_of inputs) past step) → Throughout Q inputs (parts_in steps)
-  throughout Q f = subst (AtEach (Q inputs (medium_of inputs)) inputs []) (sym same_steps) (each_then (IsMade inputs) (Q inputs (medium_of inputs)) f inputs [] steps each)
-
-  part_each : length (parts_in steps) ≡ length (decisions inputs)
-  part_each = as_many steps ∙ ap length decided
+throughout : (inputs : Inputs) (steps : List Step) → AtEach (IsMade inputs) inputs [] steps → (Q : Inputs → Medium → Past → Step → Type 0)
+    → ((past : Past) (step : Step) → IsMade inputs past step → Q inputs (medium_of inputs) past step) → Throughout Q inputs steps
+throughout inputs steps every Q f = each_then (IsMade inputs) (Q inputs (medium_of inputs)) f inputs [] steps every
 
 pub rows_are_full : RowsAreFull
 rows_are_full inputs steps list course pending count fore back made rows =
     let decided = made.come_to.decided in
     let fore_is = fore_rows_end inputs steps list course pending count fore back made rows in
-    let same = same_steps inputs steps rows.each decided in
-    let parts = parts_in steps in
     let tasks = task_rows (history inputs steps) in
-    let back_is : back ++ tasks ≡ flat_map (part_rows inputs.disk) (steps_by inputs parts) ++ tasks = ap (λ rows. rows ++ tasks) (rows.back_so_far ∙ ap (flat_map (part_rows inputs.disk)) (sym same)) in
-    let planned = throughout inputs steps rows.each decided IsPlanned (λ past step made. made.planned) in
-    let tested = throughout inputs steps rows.each decided IsTested (λ past step made. made.tested) in
+    let back_is : back ++ tasks ≡ flat_map (step_rows inputs.disk) steps ++ tasks = ap (λ rows. rows ++ tasks) rows.back_so_far in
+    let planned = throughout inputs steps rows.each IsPlanned (λ past step made. made.planned) in
+    let tested = throughout inputs steps rows.each IsTested (λ past step made. made.tested) in
     record {
-      parts = parts;
+      steps = steps;
       sound = record {
         fore = fore_is;
         passed_over = refl;
         possible = subst (λ rows. IsPossible inputs.disk (timeline inputs.disk rows fore) (run_end (decisions inputs))) (sym back_is)
-            (subst (λ rows. IsPossible inputs.disk (timeline inputs.disk (flat_map (part_rows inputs.disk) (steps_by inputs parts) ++ tasks) rows) (run_end (decisions inputs))) (sym fore_is)
-            (possible inputs parts (history inputs steps) made.known.sound made.known.accepted (part_each inputs steps rows.each decided) planned tested));
+            (subst (λ rows. IsPossible inputs.disk (timeline inputs.disk (flat_map (step_rows inputs.disk) steps ++ tasks) rows) (run_end (decisions inputs))) (sym fore_is)
+            (possible inputs steps (history inputs steps) made.known.sound made.known.accepted decided planned tested));
         end = refl;
-        part_each = part_each inputs steps rows.each decided;
+        decided = decided;
         tasks = tasks;
         back = back_is;
         planned = planned;
-        deliveries = throughout inputs steps rows.each decided IsDelivered
-            (λ past step made. subst (IsSublist (map (λ delivery. delivery.got) step.1.deliveries)) made.all (all_of_itself (map (λ delivery. delivery.got) step.1.deliveries)));
+        deliveries = throughout inputs steps rows.each IsDelivered
+            (λ past step made. subst (IsSublist (map (λ delivery. delivery.got) step.deliveries)) made.all (all_of_itself (map (λ delivery. delivery.got) step.deliveries)));
         tested = tested;
-        counted = ap (λ steps. task_rows (history inputs steps)) (sym same);
+        counted = refl;
       };
-      best = throughout inputs steps rows.each decided IsBestPlanned (λ past step made. made.best);
-      all = throughout inputs steps rows.each decided IsAllDelivered (λ past step made. made.all);
+      best = throughout inputs steps rows.each IsBestPlanned (λ past step made. made.best);
+      all = throughout inputs steps rows.each IsAllDelivered (λ past step made. made.all);
     }

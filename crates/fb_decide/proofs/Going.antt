@@ -5,15 +5,17 @@ use Rattle.std.proofs.lemmas.List.{map-append, length-append}
 use Rattle.fb_model.specs.PlainReplay.{Served, service, finish, last_track, plain, first_least, start_of}
 use Rattle.fb_model.specs.Inputs.{Inputs, served, requests}
 use Rattle.fb_model.specs.Content.{medium_of, Written, fore_row}
-use Rattle.fb_model.specs.Decisions.{Decision, end_of, run_end, serves, idles, ends, instants_of, decisions_from, decisions, last_decision}
-use Rattle.fb_model.specs.Steps.{past_after, history, take_call, calls_left, calls_due}
+use Rattle.fb_model.specs.Decisions.{Decision, end_of, run_end, serves, idles, ends, instants_of, decisions_from, decisions, last_decision, Act, idling, ending}
+use Rattle.fb_model.specs.Steps.{Step, decision_in, decisions_in, past_after, history, take_call, calls_left, calls_due}
 use Rattle.fb_model.proofs.Steps.{history-append}
 use Rattle.fb_tasks.specs.Telling.{Tells, calls_of}
 use Rattle.fb_decide.specs.declared.deciding.Course.{Course}
 use Rattle.fb_decide.specs.Calls.{IsCalled, past_settled}
 use Rattle.fb_decide.specs.Standing.{IsTrue, Mirrors}
-use Rattle.fb_decide.specs.Making.{Step, Replayed, HasRun, decided_in, all_writes, fore_row_of, GoesOn, HasEnded, HasComeTo, AreKnown, decisions_by, decisions_left, rest_by, rest_of}
-use Rattle.fb_decide.proofs.Stepping.{HasStepped, StepsBy, serves_step, stays_step, ends_step}
+use Rattle.fb_decide.specs.Making.{Replayed, HasRun, all_writes, fore_row_of, GoesOn, HasEnded, HasComeTo, AreKnown, decisions_by, decisions_left, rest_by, rest_of}
+use Rattle.fb_rows.specs.declared.back.DeliveryRow.{DeliveryRow}
+use Rattle.fb_decide.proofs.Truth.{step_by}
+use Rattle.fb_decide.proofs.Stepping.{HasStepped, StepsBy, served_act, serves_step, stays_step, ends_step}
 use Rattle.std.specs.Prelude.{nat_lt, nat_le, slice_get, filter, if◌then◌else◌}
 use Rattle.std.proofs.lemmas.Bool.Decides.{nat_tests}
 use Rattle.fb_units.specs.declared.types.Request.{Request}
@@ -39,11 +41,11 @@ use Rattle.fb_tasks.proofs.Lists.{all_pass}
 -- ---- one more step
 
 pub one_decided : (steps : List Step) (step : Step) (rest later whole : List Decision)
-    → decided_in steps ++ rest ≡ whole → rest ≡ step.0 ∷ later → decided_in (steps ++ step ∷ []) ++ later ≡ whole
+    → decisions_in steps ++ rest ≡ whole → rest ≡ decision_in step ∷ later → decisions_in (steps ++ step ∷ []) ++ later ≡ whole
 one_decided steps step rest later whole so_far next =
-    ap (λ ds. ds ++ later) (map-append (λ (step : Step). step.0) steps (step ∷ []))
-    ∙ append_assoc (decided_in steps) (step.0 ∷ []) later
-    ∙ ap (λ ds. decided_in steps ++ ds) (sym next) ∙ so_far
+    ap (λ ds. ds ++ later) (map-append decision_in steps (step ∷ []))
+    ∙ append_assoc (decisions_in steps) (decision_in step ∷ []) later
+    ∙ ap (λ ds. decisions_in steps ++ ds) (sym next) ∙ so_far
 
 pub fold_last : (now : ℕ) (ds : List Decision) (d : Decision) → fold (λ end decision. end_of decision) now (ds ++ d ∷ []) ≡ end_of d
 fold_last now [] d = refl
@@ -63,7 +65,7 @@ module _ (inputs : Inputs) (rest later : List Served) (before : Course) (steps :
     replayed = replayed;
     tells = subst (λ past. Tells inputs.disk.map past after.background.sessions after.background.wanted) (sym same_history) this.tells;
     finds = subst (IsTrue (medium_of inputs) after.store) (sym same_history) this.finds;
-    ends_at = ap run_end (map-append (λ (step : Step). step.0) steps (step ∷ [])) ∙ fold_last 0 (decided_in steps) step.0 ∙ this.ends_at;
+    ends_at = ap run_end (map-append decision_in steps (step ∷ [])) ∙ fold_last 0 (decisions_in steps) (decision_in step) ∙ this.ends_at;
   }
 
 -- ---- the calls that have taken effect
@@ -108,7 +110,7 @@ stays_replayed latent whole done rest now holding later now' holding' so_far sam
 pub record LeadsOn (inputs : Inputs) (before : Course) (pending : List Request) (steps : List Step) (more : Bool) (after : Course) (pending_after : List Request) (count_after : ℕ) : Type 0 where
   pub step : Step
   pub stepped : HasStepped inputs (history inputs steps) before step after
-  pub fore : after.fore ≡ before.fore ++ fore_row_of (medium_of inputs) step.0
+  pub fore : after.fore ≡ before.fore ++ fore_row_of (medium_of inputs) (decision_in step)
   pub come_to : HasComeTo inputs more after pending_after count_after (steps ++ step ∷ [])
   pub fewer : decisions_left inputs more after pending_after < decisions_left inputs true before pending
 
@@ -117,6 +119,9 @@ pub record LeadsOn (inputs : Inputs) (before : Course) (pending : List Request) 
 module _ (inputs : Inputs) (known : AreKnown inputs) (before : Course) (pending : List Request) (count : ℕ) (steps : List Step) (so_far : GoesOn inputs before pending count steps)
     (background : Background) (joined called : ℕ) (waiting : List Request)
     (ready : HasPrepared inputs.disk (requests inputs) inputs.calls (history inputs steps) before pending background joined called waiting) where
+  abbrev step_of : Act → List DeliveryRow → Step
+  step_of act gots = step_by inputs.disk.map inputs.calls (history inputs steps) act gots
+
   -- those that have not arrived, and all that are left
   abbrev ahead : List Request
   ahead = drop joined (requests inputs)
@@ -142,8 +147,8 @@ module _ (inputs : Inputs) (known : AreKnown inputs) (before : Course) (pending 
   same_left : length (decisions_by inputs before rest) ≡ decisions_left inputs true before pending
   same_left = ap (λ services. length (decisions_by inputs before services)) same_rest
 
-  decided : decided_in steps ++ decisions_by inputs before rest ≡ decisions inputs
-  decided = ap (λ rest. decided_in steps ++ decisions_by inputs before rest) same_rest ∙ so_far.decided
+  decided : decisions_in steps ++ decisions_by inputs before rest ≡ decisions inputs
+  decided = ap (λ rest. decisions_in steps ++ decisions_by inputs before rest) same_rest ∙ so_far.decided
 
   on_disk : AllByRecursion (IsRequestOf inputs.disk.map) left_over
   on_disk = subst (AllByRecursion (IsRequestOf inputs.disk.map)) (sym ready.same_left) so_far.waits.on_disk
@@ -195,11 +200,14 @@ module _ (inputs : Inputs) (known : AreKnown inputs) (before : Course) (pending 
         (subst (λ services. AllByRecursion (λ (w : Written). held_until this < w.passage.end) (all_writes services)) (sym first_served)
         (served_late (length (others ++ ahead)) inputs.disk known.takes_time inputs.key before.head before.now request (last_track inputs.disk this) (others ++ ahead) among.0 others_on_disk))
 
-    made : StepsBy inputs (history inputs steps) before (serves this) after
+    abbrev act : Act
+    act = served_act inputs (history inputs steps) before background joined called ready.settled run.tells run.finds request among.0 after now_served mirrors
+
+    made : StepsBy inputs (history inputs steps) before act after
     made = serves_step inputs (history inputs steps) before background joined called ready.settled run.tells run.finds request among.0 after now_served mirrors
 
     abbrev step : Step
-    step = (serves this, made.part)
+    step = step_of act made.gots
 
     row_is : now_served.row ≡ fore_row (medium_of inputs) this
     unfolding medium_of
@@ -248,15 +256,15 @@ module _ (inputs : Inputs) (known : AreKnown inputs) (before : Course) (pending 
   -- the head stays, and nothing that is left to be written ends by then
   module _ (instant : ℕ) (upto : before.now ≤ instant) (after : Course) (stayed : HasStayed inputs.disk instant (prepared before background joined called) after)
       (late : AllByRecursion (λ (w : Written). instant < w.passage.end) (all_writes rest)) where
-    stays : StepsBy inputs (history inputs steps) before (idles (stay_of before instant)) after
+    stays : StepsBy inputs (history inputs steps) before (idling (stay_of before instant)) after
     stays = stays_step inputs (history inputs steps) before background joined called ready.settled run.tells run.finds instant upto after stayed
         (mirrors_run inputs run.done rest before.now instant before.store run.replayed late)
 
   leads_by : (instant : ℕ) (after : Course) (count_after : ℕ) (more : Bool) → HasStayed inputs.disk instant (prepared before background joined called) after
-      → (made : StepsBy inputs (history inputs steps) before (idles (stay_of before instant)) after) → HasComeTo inputs more after waiting count_after (steps ++ (idles (stay_of before instant), made.part) ∷ [])
+      → (made : StepsBy inputs (history inputs steps) before (idling (stay_of before instant)) after) → HasComeTo inputs more after waiting count_after (steps ++ step_of (idling (stay_of before instant)) made.gots ∷ [])
       → decisions_left inputs more after waiting < length (decisions_by inputs before rest) → LeadsOn inputs before pending steps more after waiting count_after
   leads_by instant after count_after more stayed made come_to fewer = record {
-    step = (idles (stay_of before instant), made.part);
+    step = step_of (idling (stay_of before instant)) made.gots;
     stepped = made.stepped;
     fore = stayed.same_fore ∙ sym (append-nil before.fore);
     come_to = come_to;
@@ -288,18 +296,18 @@ module _ (inputs : Inputs) (known : AreKnown inputs) (before : Course) (pending 
     late_writes = subst (λ services. AllByRecursion (λ (w : Written). instant < w.passage.end) (all_writes services)) (sym same_then)
         (all_late (length left_over) inputs.disk known.takes_time inputs.key before.head instant left_over on_disk)
 
-    stays_now : StepsBy inputs (history inputs steps) before (idles (stay_of before instant)) after
+    stays_now : StepsBy inputs (history inputs steps) before (idling (stay_of before instant)) after
     stays_now = stays instant (omega (arith, less)) after stayed late_writes
 
     abbrev step_stay : Step
-    step_stay = (idles (stay_of before instant), stays_now.part)
+    step_stay = step_of (idling (stay_of before instant)) stays_now.gots
 
-    next_stay : decisions_by inputs before rest ≡ step_stay.0 ∷ decisions_by inputs after (rest_of inputs after waiting)
+    next_stay : decisions_by inputs before rest ≡ idles (stay_of before instant) ∷ decisions_by inputs after (rest_of inputs after waiting)
     next_stay = rw (stayed.same_joined, stayed.same_head, stayed.until)
         (stays_next inputs.disk (instants_of inputs) inputs.until before.head before.now instant rest less (rising_instants inputs before.now joined called come)
         (among_instants inputs before.now joined called come instant next) (apart_instants inputs before.now joined called come instant next)
         (subst (StartsFrom instant) (sym same_then) (starts_from (length left_over) inputs.disk inputs.key before.head instant left_over))
-        ∙ ap (λ services. step_stay.0 ∷ decisions_from inputs.disk (instants_of inputs) inputs.until before.head instant services) same_then)
+        ∙ ap (λ services. idles (stay_of before instant) ∷ decisions_from inputs.disk (instants_of inputs) inputs.until before.head instant services) same_then)
 
     replayed_stay : Replayed inputs.latent (served inputs) (rest_of inputs after waiting) after.now after.store run.done
     replayed_stay = stays_replayed inputs.latent (served inputs) run.done rest before.now before.store (rest_of inputs after waiting) after.now after.store
@@ -342,11 +350,11 @@ module _ (inputs : Inputs) (known : AreKnown inputs) (before : Course) (pending 
     few_served = omega (arith, ap length run.replayed.all, length-append run.done rest, ap length no_rest, so_far.counted, known.list.few)
 
     module _ (later : before.now < inputs.until) (after : Course) (stayed : HasStayed inputs.disk inputs.until (prepared before background joined called) after) where
-      stays_last_time : StepsBy inputs (history inputs steps) before (idles (stay_of before inputs.until)) after
+      stays_last_time : StepsBy inputs (history inputs steps) before (idling (stay_of before inputs.until)) after
       stays_last_time = stays inputs.until (omega (arith, later)) after stayed (none_late inputs.until)
 
       abbrev step_last : Step
-      step_last = (idles (stay_of before inputs.until), stays_last_time.part)
+      step_last = step_of (idling (stay_of before inputs.until)) stays_last_time.gots
 
       ends_staying : HasEnded inputs after (steps ++ step_last ∷ [])
       ends_staying =
@@ -355,8 +363,8 @@ module _ (inputs : Inputs) (known : AreKnown inputs) (before : Course) (pending 
           record {
             run = run_more inputs rest [] before steps run step_last after stays_last_time.stepped run.done
                 (stays_replayed inputs.latent (served inputs) run.done rest before.now before.store [] after.now after.store run.replayed no_rest (omega (arith, until, later)) stayed.same_store);
-            decided = sym (append-nil (decided_in (steps ++ step_last ∷ []))) ∙ one_decided steps step_last (decisions_by inputs before rest) [] (decisions inputs) decided
-                (last_is ∙ ap (λ b. (if b then step_last.0 else ends before.now) ∷ []) idle);
+            decided = sym (append-nil (decisions_in (steps ++ step_last ∷ []))) ∙ one_decided steps step_last (decisions_by inputs before rest) [] (decisions inputs) decided
+                (last_is ∙ ap (λ b. (if b then idles (stay_of before inputs.until) else ends before.now) ∷ []) idle);
             calls_made = (called_more inputs rest [] before steps run step_last after stays_last_time.stepped).taken;
             few = few_served;
             early = omega (arith, until, known.accepted.until);
@@ -366,12 +374,12 @@ module _ (inputs : Inputs) (known : AreKnown inputs) (before : Course) (pending 
       leads_last count_after = leads_by inputs.until after count_after false stayed stays_last_time ends_staying (omega (arith, ap length last_is))
 
     module _ (over : inputs.until ≤ before.now) where
-      ends_now_by : StepsBy inputs (history inputs steps) before (ends before.now) (prepared before background joined called)
+      ends_now_by : StepsBy inputs (history inputs steps) before (ending before.now) (prepared before background joined called)
       ends_now_by = ends_step inputs (history inputs steps) before background joined called ready.settled run.tells run.finds
           (mirrors_run inputs run.done rest before.now before.now before.store run.replayed (none_late before.now))
 
       abbrev step_end : Step
-      step_end = (ends before.now, ends_now_by.part)
+      step_end = step_of (ending before.now) ends_now_by.gots
 
       ends_there : HasEnded inputs (prepared before background joined called) (steps ++ step_end ∷ [])
       ends_there =
@@ -379,8 +387,8 @@ module _ (inputs : Inputs) (known : AreKnown inputs) (before : Course) (pending 
           record {
             run = run_more inputs rest [] before steps run step_end (prepared before background joined called) ends_now_by.stepped run.done
                 (subst (λ services. Replayed inputs.latent (served inputs) services before.now before.store run.done) no_rest run.replayed);
-            decided = sym (append-nil (decided_in (steps ++ step_end ∷ []))) ∙ one_decided steps step_end (decisions_by inputs before rest) [] (decisions inputs) decided
-                (last_is ∙ ap (λ b. (if b then idles (stay_of before inputs.until) else step_end.0) ∷ []) ends_now);
+            decided = sym (append-nil (decisions_in (steps ++ step_end ∷ []))) ∙ one_decided steps step_end (decisions_by inputs before rest) [] (decisions inputs) decided
+                (last_is ∙ ap (λ b. (if b then idles (stay_of before inputs.until) else ends before.now) ∷ []) ends_now);
             calls_made = (called_more inputs rest [] before steps run step_end (prepared before background joined called) ends_now_by.stepped).taken;
             few = few_served;
             early = omega (arith, so_far.soon, so_far.counted, known.list.few);

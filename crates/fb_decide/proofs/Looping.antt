@@ -24,12 +24,12 @@ use Rattle.fb_model.specs.Decisions.{decisions}
 use Rattle.fb_tasks.specs.Telling.{Tells}
 use Rattle.fb_decide.specs.declared.deciding.Course.{Course}
 use Rattle.fb_decide.specs.Deciding.{IsAtStart, PassagesTakeTime, HasDecided, IsReady}
-use Rattle.fb_decide.specs.Making.{GoesOn, AreKnown, Step, RowFits, HasComeTo, HasMade, HasMadeOne}
+use Rattle.fb_decide.specs.Making.{GoesOn, AreKnown, RowFits, HasComeTo, HasMade, HasMadeOne}
 use Rattle.fb_decide.proofs.Calling.{called_first}
 use Rattle.fb_decide.proofs.Truth.{true_first}
 use Rattle.fb_geometry.specs.Sound.{IsSound}
 use Rattle.fb_model.specs.History.{Past}
-use Rattle.fb_model.specs.Steps.{history, past_after, task_rows}
+use Rattle.fb_model.specs.Steps.{Step, history, past_after, task_rows}
 use Rattle.fb_decide.specs.Calls.{IsCalled}
 use Rattle.fb_decide.proofs.FittingRows.{step_fits, tasks_fit, fits-told}
 use Rattle.fb_decide.proofs.Going.{LeadsOn, decided_more}

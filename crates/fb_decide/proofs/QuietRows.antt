@@ -10,11 +10,11 @@ use Rattle.fb_rows.specs.declared.back.DeliveryRow.{DeliveryRow}
 use Rattle.fb_model.specs.Inputs.{Inputs}
 use Rattle.fb_model.specs.Content.{Medium}
 use Rattle.fb_model.specs.Timeline.{timeline}
-use Rattle.fb_model.specs.Decisions.{Decision, instant_of}
+use Rattle.fb_model.specs.Decisions.{instant_of}
 use Rattle.fb_model.specs.History.{Past, delivered, task_numbers, terms_of, is_open_backup}
 use Rattle.fb_model.specs.Completion.{choices, work, is_complete, was_complete}
 use Rattle.fb_model.specs.Images.{bad_sectors, is_scrub, findings, is_newly_cleaned, image, packed, segment_rows, seal_rows, complete_rows, test_rows}
-use Rattle.fb_model.specs.Steps.{Delivery, Part, with_delivery, tested_past, settled_past, task_row, task_rows}
+use Rattle.fb_model.specs.Steps.{Delivery, Step, decision_in, with_delivery, tested_past, settled_past, task_row, task_rows}
 use Rattle.fb_model.specs.SoundRun.{AreFollowed, IsTested}
 use Rattle.fb_model.proofs.RowsUpTo.{delivered_rows}
 use Rattle.fb_model.proofs.Lists.{all_append, all_flat_map, all_map}
@@ -68,11 +68,11 @@ pub tasks_quiet : (past : Past) → AllByRecursion IsQuiet (task_rows past)
 unfolding task_rows
 tasks_quiet past = all_map IsQuiet (task_row past) (task_numbers past) (all_any _ (λ task. tt) (task_numbers past))
 
--- ---- a decision's rows beside the one that opens it
+-- ---- a step's rows beside the one that opens it
 
-pub record IsQuietPart (part : Part) : Type 0 where
-  pub settled : AllByRecursion IsQuiet part.settled
-  pub delivered : AllByRecursion IsQuiet (delivered_rows part.deliveries)
+pub record IsQuietStep (step : Step) : Type 0 where
+  pub settled : AllByRecursion IsQuiet step.settled
+  pub delivered : AllByRecursion IsQuiet (delivered_rows step.deliveries)
 
 followed_quiet : (medium : Medium) (past : Past) (deliveries : List Delivery) → AreFollowed medium past deliveries → AllByRecursion IsQuiet (delivered_rows deliveries)
 followed_quiet medium past [] followed = tt
@@ -84,8 +84,8 @@ followed_quiet medium past (delivery ∷ deliveries) followed = (
       (followed_quiet medium (with_delivery past delivery) deliveries followed.1),
 )
 
-pub quiet_part : (inputs : Inputs) (medium : Medium) (past : Past) (step : Decision × Part) → IsTested inputs medium past step → IsQuietPart step.1
-quiet_part inputs medium past step tested = record {
-  settled = subst (AllByRecursion IsQuiet) (sym tested.settled) (test_quiet medium (settled_past inputs past step.0) (instant_of step.0));
-  delivered = followed_quiet medium (tested_past inputs past step) step.1.deliveries tested.followed;
+pub quiet_step : (inputs : Inputs) (medium : Medium) (past : Past) (step : Step) → IsTested inputs medium past step → IsQuietStep step
+quiet_step inputs medium past step tested = record {
+  settled = subst (AllByRecursion IsQuiet) (sym tested.settled) (test_quiet medium (settled_past inputs past (decision_in step)) (instant_of (decision_in step)));
+  delivered = followed_quiet medium (tested_past inputs past step) step.deliveries tested.followed;
 }

@@ -19,7 +19,7 @@ use Rattle.fb_rows.specs.declared.gap.Plan.{Plan}
 use Rattle.fb_rows.specs.declared.back.BackRow.{BackRow}
 use Rattle.fb_rows.specs.declared.back.BackRow.TheVariants.{Gap as GapLine}
 use Rattle.fb_rows.specs.declared.back.DeliveryRow.{DeliveryRow}
-use Rattle.fb_model.specs.Decisions.{serves}
+use Rattle.fb_model.specs.Decisions.{serving}
 use Rattle.fb_model.specs.History.{Past, finished, wanted}
 use Rattle.fb_model.specs.PlainReplay.{Served, service, target}
 use Rattle.fb_model.specs.Plans.{IsBest}
@@ -91,7 +91,7 @@ module _ (disk : Disk) (holding : Holding) (served : Served) (plan : Plan) (past
 
   all-delivered : (rows : List BackRow) (middle after : Background) → HasDelivered disk.map past (in_gap (gap_of disk served)) rows middle → wanted (past_with past (in_gap (gap_of disk served))) ≡ left (gap_of disk served)
       → ((later : Past) → IsCurrent disk.map later middle → HasDelivered disk.map later (rides (held_now holding) served (wanted later)) middle.rows after)
-      → HasDelivered disk.map past (due disk (held_now holding) (serves served) plan (wanted past)) rows after
+      → HasDelivered disk.map past (due disk (held_now holding) (serving served plan) (wanted past)) rows after
   unfolding due
   all-delivered rows middle after first are_left next =
       delivered-join first (subst (λ bs. HasDelivered disk.map (past_with past (in_gap (gap_of disk served))) (rides (held_now holding) served bs) middle.rows after) are_left (next (past_with past (in_gap (gap_of disk served))) first.current))
@@ -109,7 +109,7 @@ module _ (disk : Disk) (holding : Holding) (served : Served) (plan : Plan) (past
       record {
         plan = plan;
         best = subst (λ g. IsBest disk g (wanted past) plan) its_own best;
-        tells = ends (past_with past (due disk (held_now holding) (serves served) plan (wanted past))) all.current.tells;
-        rows_after = same ∙ (all.rows_after ∙ append_assoc rows (opening (gap_of disk served) ∷ []) (rows_of (followed past (due disk (held_now holding) (serves served) plan (wanted past)))));
+        tells = ends (past_with past (due disk (held_now holding) (serving served plan) (wanted past))) all.current.tells;
+        rows_after = same ∙ (all.rows_after ∙ append_assoc rows (opening (gap_of disk served) ∷ []) (rows_of (followed past (due disk (held_now holding) (serving served plan) (wanted past)))));
         registered = all.registered;
       }

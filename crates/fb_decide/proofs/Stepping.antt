@@ -5,8 +5,6 @@ use Rattle.fb_units.specs.declared.types.Request.{Request}
 use Rattle.fb_calls.proofs.Lists.{all_weaker}
 use Rattle.fb_wanted.specs.declared.block.Block.{Block}
 use Rattle.fb_wanted.specs.States.{is_wanted}
-use Rattle.fb_rows.specs.declared.gap.Plan.{Plan}
-use Rattle.fb_rows.specs.declared.gap.Plan.TheVariants.{Direct}
 use Rattle.fb_rows.specs.declared.gap.How.TheVariants.{Idle as ByIdle}
 use Rattle.fb_rows.specs.declared.back.DeliveryRow.{DeliveryRow}
 use Rattle.fb_rows.specs.declared.back.BackRow.{BackRow}
@@ -14,18 +12,17 @@ use Rattle.fb_model.specs.Inputs.{Inputs}
 use Rattle.fb_model.specs.Accepted.{IsRequestOf}
 use Rattle.fb_model.specs.Content.{contents_at, medium_of}
 use Rattle.fb_model.specs.PlainReplay.{Served, service}
-use Rattle.fb_model.specs.Decisions.{Decision, serves, idles, ends, instant_of, end_of}
+use Rattle.fb_model.specs.Decisions.{Decision, serves, idles, ends, instant_of, end_of, Act, serving, idling, ending, decision_of}
 use Rattle.fb_model.specs.Rides.{due, caught}
 use Rattle.fb_model.specs.History.{Past, tested, tasks, registered, wanted, state, bare_state}
-use Rattle.fb_model.specs.Steps.{Delivery, Part, settled_past, past_after, with_delivery, with_finish, opening, part_rows}
-use Rattle.fb_model.specs.SoundRun.{HasPlan, IsTested}
+use Rattle.fb_model.specs.Steps.{Delivery, Step, decision_in, settled_past, past_after, with_delivery, with_finish, opening, step_rows}
+use Rattle.fb_model.specs.SoundRun.{IsTested}
 use Rattle.fb_model.specs.FullRun.{HasBestPlan}
-use Rattle.fb_service.specs.declared.disk.Disk.{Disk}
 use Rattle.fb_tasks.specs.Taken.{delivery_of}
 use Rattle.fb_tasks.specs.Telling.{Tells, IsBlockOf}
 use Rattle.fb_decide.specs.declared.background.Background.{Background}
 use Rattle.fb_decide.specs.declared.deciding.Course.{Course}
-use Rattle.fb_decide.specs.Calls.{IsCalled, HasSettled, past_settled, settled_by, settling_rows, part_by}
+use Rattle.fb_decide.specs.Calls.{IsCalled, HasSettled, past_settled, settled_by, settling_rows}
 use Rattle.fb_decide.specs.Deliveries.{HasDelivered, HasServed, IsRegistered, followed, past_with, rows_of, held_now}
 use Rattle.fb_decide.specs.Standing.{Mirrors, IsFoundIn, IsTrue}
 use Rattle.fb_decide.specs.Deciding.{HasServedNext, HasStayed, stay_of, prepared}
@@ -33,30 +30,25 @@ use Rattle.fb_decide.specs.Making.{IsMade}
 use Rattle.fb_tasks.proofs.Lists.{all_filter}
 use Rattle.fb_tasks.proofs.Calls.{called-finished}
 use Rattle.fb_decide.proofs.Calling.{called_delivered}
-use Rattle.fb_decide.proofs.Truth.{LeftBy, decision_true, after_true}
+use Rattle.fb_decide.proofs.Truth.{LeftBy, step_by, decision_true, after_true}
 use Rattle.fb_decide.proofs.Mirroring.{held_until, held_between, media_held, media_before, finish_held}
+use Rattle.fb_model.proofs.Steps.{best_is_plan}
 use Rattle.fb_model.proofs.DueUpTo.{DeliversBy}
 use Rattle.fb_decide.proofs.Due.{due_found, due_same}
 
--- the best plan is one of the plans
-plan_of_best : (disk : Disk) (decision : Decision) (blocks : List Block) (plan : Plan) → HasBestPlan disk decision blocks plan → HasPlan disk decision plan
-plan_of_best disk (serves served) blocks plan best = best.is_plan
-plan_of_best disk (idles dwell) blocks plan best = tt
-plan_of_best disk (ends now) blocks plan best = tt
-
--- a decision with its part was made, and the disk and the background are as it leaves them
-pub record HasStepped (inputs : Inputs) (past : Past) (before : Course) (step : Decision × Part) (after : Course) : Type 0 where
-  pub rows_after : after.background.rows ≡ before.background.rows ++ part_rows inputs.disk step
+-- a step was made, and the disk and the background are as it leaves them
+pub record HasStepped (inputs : Inputs) (past : Past) (before : Course) (step : Step) (after : Course) : Type 0 where
+  pub rows_after : after.background.rows ≡ before.background.rows ++ step_rows inputs.disk step
   pub tells : Tells inputs.disk.map (past_after inputs past step) after.background.sessions after.background.wanted
   pub is_made : IsMade inputs past step
   pub finds : IsTrue (medium_of inputs) after.store (past_after inputs past step)
   pub called : IsCalled inputs.disk.map inputs.calls (past_after inputs past step) after.called
-  pub ends_at : end_of step.0 ≡ after.now
+  pub ends_at : end_of (decision_in step) ≡ after.now
 
--- with some part
-pub record StepsBy (inputs : Inputs) (past : Past) (before : Course) (decision : Decision) (after : Course) : Type 0 where
-  pub part : Part
-  pub stepped : HasStepped inputs past before (decision, part) after
+-- with some deliveries
+pub record StepsBy (inputs : Inputs) (past : Past) (before : Course) (act : Act) (after : Course) : Type 0 where
+  pub gots : List DeliveryRow
+  pub stepped : HasStepped inputs past before (step_by inputs.disk.map inputs.calls past act gots) after
 
 -- ---- what deliveries and tests leave of wanted blocks and rows
 
@@ -72,19 +64,22 @@ wanted_all : (P : Block → Type 0) (past : Past) → AllByRecursion P (register
 unfolding wanted
 wanted_all P past all = all_filter P (λ block. is_wanted (state past block)) (registered past) all
 
--- the rows of a part behind those before it
+-- the rows of a step behind those before it
 rows_join : (before settled opens delivered : List BackRow) (rows middle : List BackRow) → middle ≡ before ++ settled → rows ≡ (middle ++ opens) ++ delivered → rows ≡ before ++ ((settled ++ opens) ++ delivered)
 rows_join before settled opens delivered rows middle e f =
     f ∙ ap (λ m. (m ++ opens) ++ delivered) e ∙ ap (λ m. m ++ delivered) (append_assoc before settled opens) ∙ append_assoc before (settled ++ opens) delivered
 
 -- ---- one decision
 
-module _ (inputs : Inputs) (past : Past) (before : Course) (background : Background) (called : ℕ) (decision : Decision) (plan : Plan) (gots : List DeliveryRow) (after : Course) where
+module _ (inputs : Inputs) (past : Past) (before : Course) (background : Background) (called : ℕ) (act : Act) (gots : List DeliveryRow) (after : Course) where
+  abbrev decision : Decision
+  decision = decision_of act
+
   abbrev then : Past
   then = past_settled inputs.disk.map inputs.calls past (instant_of decision)
 
-  abbrev part : Part
-  part = part_by inputs.disk.map inputs.calls past (instant_of decision) plan gots
+  abbrev step : Step
+  step = step_by inputs.disk.map inputs.calls past act gots
 
   -- what a decision does after its test
   pub record HasDone (end : ℕ) : Type 0 where
@@ -92,9 +87,9 @@ module _ (inputs : Inputs) (past : Past) (before : Course) (background : Backgro
     pub mirrors : Mirrors (medium_of inputs) before.store (instant_of decision) end
     pub found : AllByRecursion (IsFoundIn before.store (instant_of decision) end) gots
     pub there : AllByRecursion (λ got. IsRegistered then got.block) gots
-    pub best : HasBestPlan inputs.disk decision (wanted then) plan
-    pub all : gots ≡ due (medium_of inputs).disk (contents_at (medium_of inputs)) decision plan (wanted then)
-    pub rows_behind : after.background.rows ≡ (background.rows ++ opening inputs.disk decision plan) ++ rows_of (followed then gots)
+    pub best : HasBestPlan inputs.disk (wanted then) act
+    pub all : gots ≡ due (medium_of inputs).disk (contents_at (medium_of inputs)) act (wanted then)
+    pub rows_behind : after.background.rows ≡ (background.rows ++ opening inputs.disk act) ++ rows_of (followed then gots)
     pub tells_after : Tells inputs.disk.map (with_finish (past_with then gots) decision) after.background.sessions after.background.wanted
     pub leaves : LeftBy decision before.store after.store
     pub same_called : after.called ≡ called
@@ -106,10 +101,10 @@ module _ (inputs : Inputs) (past : Past) (before : Course) (background : Backgro
     unfolding settled_past
     same_wanted = wanted_tested (settled_by inputs.disk.map inputs.calls past (instant_of decision)) (settling_rows inputs.disk.map inputs.calls past (instant_of decision))
 
-    truths : IsTested inputs (medium_of inputs) past (decision, part) × IsTrue (medium_of inputs) before.store (past_with then gots)
-    truths = decision_true inputs (medium_of inputs) before.store past decision end gots finds h.mirrors h.order tells settled.current.tells h.found h.there plan
+    truths : IsTested inputs (medium_of inputs) past step × IsTrue (medium_of inputs) before.store (past_with then gots)
+    truths = decision_true inputs (medium_of inputs) before.store past act end gots finds h.mirrors h.order tells settled.current.tells h.found h.there
 
-    after_is : past_after inputs past (decision, part) ≡ with_finish (past_with then gots) decision
+    after_is : past_after inputs past step ≡ with_finish (past_with then gots) decision
     unfolding settled_past past_after
     after_is = refl
 
@@ -118,33 +113,33 @@ module _ (inputs : Inputs) (past : Past) (before : Course) (background : Backgro
     finished_called (idles dwell) = called_delivered inputs.disk.map inputs.calls then called gots settled.called
     finished_called (ends now) = called_delivered inputs.disk.map inputs.calls then called gots settled.called
 
-    pub stepped : HasStepped inputs past before (decision, part) after
+    pub stepped : HasStepped inputs past before step after
     stepped = record {
-      rows_after = rows_join before.background.rows (settling_rows inputs.disk.map inputs.calls past (instant_of decision)) (opening inputs.disk decision plan) (rows_of (followed then gots))
+      rows_after = rows_join before.background.rows (settling_rows inputs.disk.map inputs.calls past (instant_of decision)) (opening inputs.disk act) (rows_of (followed then gots))
           after.background.rows background.rows settled.rows_after h.rows_behind;
       tells = subst (λ p. Tells inputs.disk.map p after.background.sessions after.background.wanted) (sym after_is) h.tells_after;
       is_made = record {
-        planned = plan_of_best inputs.disk decision (wanted then) plan h.best;
-        best = subst (λ blocks. HasBestPlan inputs.disk decision blocks plan) same_wanted h.best;
-        all = gots_followed then gots ∙ (h.all ∙ ap (due (medium_of inputs).disk (contents_at (medium_of inputs)) decision plan) same_wanted);
+        planned = best_is_plan inputs.disk (wanted then) act h.best;
+        best = subst (λ blocks. HasBestPlan inputs.disk blocks act) same_wanted h.best;
+        all = gots_followed then gots ∙ (h.all ∙ ap (due (medium_of inputs).disk (contents_at (medium_of inputs)) act) same_wanted);
         tested = truths.0;
       };
-      finds = after_true inputs (medium_of inputs) before.store after.store past decision plan gots h.leaves truths.1;
+      finds = after_true inputs (medium_of inputs) before.store after.store past act gots h.leaves truths.1;
       called = subst (λ p. IsCalled inputs.disk.map inputs.calls p after.called) (sym after_is) (subst (IsCalled inputs.disk.map inputs.calls (with_finish (past_with then gots) decision)) (sym h.same_called) (finished_called decision));
       ends_at = h.ends_at;
     }
 
--- ---- each kind of decision
+-- ---- each kind of step
 
 module _ (inputs : Inputs) (past : Past) (before : Course) (background : Background) (joined called : ℕ)
     (settled : HasSettled inputs.disk.map inputs.calls past before.now called before.background.rows background)
     (tells : Tells inputs.disk.map past before.background.sessions before.background.wanted) (finds : IsTrue (medium_of inputs) before.store past) where
   -- by its deliveries and what they leave
-  abbrev stepped_by : (decision : Decision) → instant_of decision ≡ before.now → (plan : Plan) (gots : List DeliveryRow) (after : Course) (end : ℕ)
-      → HasDone inputs past before background called decision plan gots after end → StepsBy inputs past before decision after
-  stepped_by decision now plan gots after end h = record {
-    part = part_by inputs.disk.map inputs.calls past (instant_of decision) plan gots;
-    stepped = stepped inputs past before background called decision plan gots after end h tells finds
+  abbrev stepped_by : (act : Act) → instant_of (decision_of act) ≡ before.now → (gots : List DeliveryRow) (after : Course) (end : ℕ)
+      → HasDone inputs past before background called act gots after end → StepsBy inputs past before act after
+  stepped_by act now gots after end h = record {
+    gots = gots;
+    stepped = stepped inputs past before background called act gots after end h tells finds
         (subst (λ t. HasSettled inputs.disk.map inputs.calls past t called before.background.rows background) (sym now) settled);
   }
 
@@ -167,22 +162,26 @@ module _ (inputs : Inputs) (past : Past) (before : Course) (background : Backgro
     abbrev has_served : HasServed inputs.disk before.store settled_now served background.rows after.background
     has_served = now_served.served settled_now settled.current
 
+    -- after the plan that was found
+    abbrev pub served_act : Act
+    served_act = serving served has_served.plan
+
     abbrev served_gots : List DeliveryRow
-    served_gots = due inputs.disk (held_now before.store) (serves served) has_served.plan (wanted settled_now)
+    served_gots = due inputs.disk (held_now before.store) served_act (wanted settled_now)
 
     over : DeliversBy (held_until served) (serves served)
     over = (media_held served (media_before inputs.disk before.head before.now request inside.range.some), finish_held served)
 
-    pub serves_step : StepsBy inputs past before (serves served) after
+    pub serves_step : StepsBy inputs past before served_act after
     unfolding due medium_of
-    serves_step = stepped_by (serves served) refl has_served.plan served_gots after (held_until served) (record {
+    serves_step = stepped_by served_act refl served_gots after (held_until served) (record {
       order = (held_between inputs.disk before.head before.now request inside.range.some).0;
       mirrors = mirrors;
-      found = due_found inputs.disk before.store (serves served) has_served.plan (held_until served) (wanted settled_now) refl has_served.best.is_plan over all_some;
+      found = due_found inputs.disk before.store served_act (held_until served) (wanted settled_now) refl has_served.best.is_plan over all_some;
       there = has_served.registered;
       best = has_served.best;
-      all = due_same (medium_of inputs) before.store (serves served) has_served.plan (held_until served) (wanted settled_now) refl has_served.best.is_plan over all_some mirrors;
-      rows_behind = has_served.rows_after ∙ sym (append_assoc background.rows (opening inputs.disk (serves served) has_served.plan) (rows_of (followed settled_now served_gots)));
+      all = due_same (medium_of inputs) before.store served_act (held_until served) (wanted settled_now) refl has_served.best.is_plan over all_some mirrors;
+      rows_behind = has_served.rows_after ∙ sym (append_assoc background.rows (opening inputs.disk served_act) (rows_of (followed settled_now served_gots)));
       tells_after = has_served.tells;
       leaves = now_served.leaves;
       same_called = now_served.same_called;
@@ -192,21 +191,21 @@ module _ (inputs : Inputs) (past : Past) (before : Course) (background : Backgro
   -- the head stays
   module _ (instant : ℕ) (later : before.now ≤ instant) (after : Course) (stayed : HasStayed inputs.disk instant ready after)
       (mirrors : Mirrors (medium_of inputs) before.store before.now instant) where
-    has_delivered : HasDelivered inputs.disk.map settled_now (caught inputs.disk (held_now before.store) ByIdle (stay_of ready instant) (wanted settled_now)) (background.rows ++ opening inputs.disk (idles (stay_of ready instant)) (Direct 0)) after.background
+    has_delivered : HasDelivered inputs.disk.map settled_now (caught inputs.disk (held_now before.store) ByIdle (stay_of ready instant) (wanted settled_now)) (background.rows ++ opening inputs.disk (idling (stay_of ready instant))) after.background
     has_delivered = stayed.delivered settled_now settled.current
 
     abbrev stayed_gots : List DeliveryRow
     stayed_gots = caught inputs.disk (held_now before.store) ByIdle (stay_of ready instant) (wanted settled_now)
 
-    pub stays_step : StepsBy inputs past before (idles (stay_of ready instant)) after
+    pub stays_step : StepsBy inputs past before (idling (stay_of ready instant)) after
     unfolding due medium_of
-    stays_step = stepped_by (idles (stay_of ready instant)) refl (Direct 0) stayed_gots after instant (record {
+    stays_step = stepped_by (idling (stay_of ready instant)) refl stayed_gots after instant (record {
       order = later;
       mirrors = mirrors;
-      found = due_found inputs.disk before.store (idles (stay_of ready instant)) (Direct 0) instant (wanted settled_now) tt tt (omega arith) all_some;
+      found = due_found inputs.disk before.store (idling (stay_of ready instant)) instant (wanted settled_now) tt tt (omega arith) all_some;
       there = has_delivered.registered;
       best = tt;
-      all = due_same (medium_of inputs) before.store (idles (stay_of ready instant)) (Direct 0) instant (wanted settled_now) tt tt (omega arith) all_some mirrors;
+      all = due_same (medium_of inputs) before.store (idling (stay_of ready instant)) instant (wanted settled_now) tt tt (omega arith) all_some mirrors;
       rows_behind = has_delivered.rows_after;
       tells_after = has_delivered.current.tells;
       leaves = stayed.same_store;
@@ -215,9 +214,9 @@ module _ (inputs : Inputs) (past : Past) (before : Course) (background : Backgro
     })
 
   -- the run ends
-  pub ends_step : Mirrors (medium_of inputs) before.store before.now before.now → StepsBy inputs past before (ends before.now) ready
+  pub ends_step : Mirrors (medium_of inputs) before.store before.now before.now → StepsBy inputs past before (ending before.now) ready
   unfolding due
-  ends_step mirrors = stepped_by (ends before.now) refl (Direct 0) [] ready before.now (record {
+  ends_step mirrors = stepped_by (ending before.now) refl [] ready before.now (record {
     order = omega arith;
     mirrors = mirrors;
     found = tt;

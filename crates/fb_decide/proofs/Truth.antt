@@ -18,9 +18,9 @@ use Rattle.fb_rows.specs.declared.back.BackRow.{BackRow}
 use Rattle.fb_model.specs.Content.{Medium, contents_at, number_of}
 use Rattle.fb_model.specs.History.{Event, called, chose, tested, Past, LogSegment, Terms, tasks, terms_of, registered, bare_state, content_of, is_sealed, is_seal_of, is_open_backup, ends_block, same_block, opened_by, delivered, finished}
 use Rattle.fb_model.specs.Segments.{with_choices}
-use Rattle.fb_model.specs.Steps.{take_call, calls_due, with_delivery, settled_past, past_after}
+use Rattle.fb_model.specs.Steps.{Step, take_call, calls_due, with_delivery, settled_past, past_after}
 use Rattle.fb_model.specs.Images.{held_at_delivery, test_rows, findings}
-use Rattle.fb_decide.specs.Calls.{settled_by, settling_rows, past_settled, part_by}
+use Rattle.fb_decide.specs.Calls.{settled_by, settling_rows, past_settled}
 use Rattle.fb_decide.specs.Deliveries.{IsRegistered, followed, past_with}
 use Rattle.fb_decide.specs.Standing.{IsTrue, Mirrors, IsFoundIn}
 use Rattle.fb_tasks.proofs.AllChoices.{by_all}
@@ -37,9 +37,8 @@ use Rattle.fb_decide.specs.Contents.{left_by}
 use Rattle.fb_tasks.proofs.Lists.{all_weaker, map_same, all_range}
 use Rattle.fb_decide.proofs.DiskRows.{mirrored, rows-true}
 use Rattle.fb_wanted.specs.declared.block.Entry.{Entry}
-use Rattle.fb_rows.specs.declared.gap.Plan.{Plan}
 use Rattle.fb_model.specs.Inputs.{Inputs}
-use Rattle.fb_model.specs.Decisions.{Decision, serves, idles, ends, instant_of}
+use Rattle.fb_model.specs.Decisions.{Decision, serves, idles, ends, instant_of, Act, serving, idling, ending, decision_of}
 use Rattle.fb_tasks.specs.declared.session.Session.{Session}
 use Rattle.fb_tasks.specs.Telling.{Tells}
 
@@ -270,17 +269,23 @@ LeftBy (serves served) holding left = (lbn : ℕ) → content_in left lbn ≡ le
 LeftBy (idles dwell) holding left = left ≡ holding
 LeftBy (ends now) holding left = left ≡ holding
 
-module _ (inputs : Inputs) (medium : Medium) (holding : Holding) (past : Past) (decision : Decision) (end : ℕ) (gots : List DeliveryRow)
-    (before : IsTrue medium holding past) (mirrors : Mirrors medium holding (instant_of decision) end) (order : instant_of decision ≤ end)
+-- the step that does this and delivers these
+abbrev pub step_by : Shape → List Call → Past → Act → List DeliveryRow → Step
+step_by disk calls past act gots =
+    let now = instant_of (decision_of act) in
+    record { settled = settling_rows disk calls past now; act = act; deliveries = followed (past_settled disk calls past now) gots }
+
+module _ (inputs : Inputs) (medium : Medium) (holding : Holding) (past : Past) (act : Act) (end : ℕ) (gots : List DeliveryRow)
+    (before : IsTrue medium holding past) (mirrors : Mirrors medium holding (instant_of (decision_of act)) end) (order : instant_of (decision_of act) ≤ end)
     {sessions settled_sessions : List Session} {held settled_held : List Entry} (tells : Tells inputs.disk.map past sessions held)
-    (tells_settled : Tells inputs.disk.map (past_settled inputs.disk.map inputs.calls past (instant_of decision)) settled_sessions settled_held)
-    (found : AllByRecursion (IsFoundIn holding (instant_of decision) end) gots)
-    (there : AllByRecursion (λ got. IsRegistered (past_settled inputs.disk.map inputs.calls past (instant_of decision)) got.block) gots) where
-  pub decision_true : (plan : Plan) → IsTested inputs medium past (decision, part_by inputs.disk.map inputs.calls past (instant_of decision) plan gots)
-      × IsTrue medium holding (past_with (past_settled inputs.disk.map inputs.calls past (instant_of decision)) gots)
+    (tells_settled : Tells inputs.disk.map (past_settled inputs.disk.map inputs.calls past (instant_of (decision_of act))) settled_sessions settled_held)
+    (found : AllByRecursion (IsFoundIn holding (instant_of (decision_of act)) end) gots)
+    (there : AllByRecursion (λ got. IsRegistered (past_settled inputs.disk.map inputs.calls past (instant_of (decision_of act))) got.block) gots) where
+  pub decision_true : IsTested inputs medium past (step_by inputs.disk.map inputs.calls past act gots)
+      × IsTrue medium holding (past_with (past_settled inputs.disk.map inputs.calls past (instant_of (decision_of act))) gots)
   unfolding settled_past
-  decision_true plan =
-      let now = instant_of decision in
+  decision_true =
+      let now = instant_of (decision_of act) in
       let settled = past_settled inputs.disk.map inputs.calls past now in
       let own = own-told inputs.disk.map settled settled_sessions settled_held tells_settled in
       let first = settled_true medium holding inputs.disk.map inputs.calls past now end before mirrors order (opened-told inputs.disk.map past sessions held tells) own in
@@ -289,10 +294,10 @@ module _ (inputs : Inputs) (medium : Medium) (holding : Holding) (past : Past) (
       (record { settled = first.0; followed = second.0 }, second.1)
 
 -- and after the decision
-pub after_true : (inputs : Inputs) (medium : Medium) (holding left : Holding) (past : Past) (decision : Decision) (plan : Plan) (gots : List DeliveryRow) → LeftBy decision holding left
-    → IsTrue medium holding (past_with (past_settled inputs.disk.map inputs.calls past (instant_of decision)) gots)
-    → IsTrue medium left (past_after inputs past (decision, part_by inputs.disk.map inputs.calls past (instant_of decision) plan gots))
+pub after_true : (inputs : Inputs) (medium : Medium) (holding left : Holding) (past : Past) (act : Act) (gots : List DeliveryRow) → LeftBy (decision_of act) holding left
+    → IsTrue medium holding (past_with (past_settled inputs.disk.map inputs.calls past (instant_of (decision_of act))) gots)
+    → IsTrue medium left (past_after inputs past (step_by inputs.disk.map inputs.calls past act gots))
 unfolding settled_past past_after
-after_true inputs medium holding left past (serves served) plan gots leaves h = finished_true medium holding left (past_with (past_settled inputs.disk.map inputs.calls past served.start) gots) served.request leaves h
-after_true inputs medium holding left past (idles dwell) plan gots leaves h = subst (λ disk_then. IsTrue medium disk_then (past_with (past_settled inputs.disk.map inputs.calls past dwell.begin) gots)) (sym leaves) h
-after_true inputs medium holding left past (ends now) plan gots leaves h = subst (λ disk_then. IsTrue medium disk_then (past_with (past_settled inputs.disk.map inputs.calls past now) gots)) (sym leaves) h
+after_true inputs medium holding left past (serving served plan) gots leaves h = finished_true medium holding left (past_with (past_settled inputs.disk.map inputs.calls past served.start) gots) served.request leaves h
+after_true inputs medium holding left past (idling dwell) gots leaves h = subst (λ disk_then. IsTrue medium disk_then (past_with (past_settled inputs.disk.map inputs.calls past dwell.begin) gots)) (sym leaves) h
+after_true inputs medium holding left past (ending now) gots leaves h = subst (λ disk_then. IsTrue medium disk_then (past_with (past_settled inputs.disk.map inputs.calls past now) gots)) (sym leaves) h

@@ -5,16 +5,14 @@ use Rattle.fb_units.specs.Rising.{IsRising}
 use Rattle.fb_geometry.specs.Shape.{Shape}
 use Rattle.fb_calls.specs.declared.call.Call.{Call}
 use Rattle.fb_calls.specs.Allowed.{AreAllowed}
-use Rattle.fb_rows.specs.declared.gap.Plan.{Plan}
-use Rattle.fb_rows.specs.declared.back.DeliveryRow.{DeliveryRow}
 use Rattle.fb_rows.specs.declared.back.BackRow.{BackRow}
 use Rattle.fb_model.specs.History.{Past, tested}
-use Rattle.fb_model.specs.Steps.{Part, take_call, calls_due}
+use Rattle.fb_model.specs.Steps.{take_call, calls_due}
 use Rattle.fb_model.specs.Segments.{with_choices}
 use Rattle.fb_tasks.specs.Taken.{test_rows_found}
 pub use Rattle.fb_tasks.specs.Script.{IsCalled}
 use Rattle.fb_decide.specs.declared.background.Background.{Background}
-use Rattle.fb_decide.specs.Deliveries.{IsCurrent, followed}
+use Rattle.fb_decide.specs.Deliveries.{IsCurrent}
 
 -- calls in order of instant, each of which keeps the rules behind those before it
 pub record IsScriptOf (disk : Shape) (calls : List Call) : Type 0 where
@@ -33,14 +31,6 @@ settling_rows disk calls past now = test_rows_found (settled_by disk calls past 
 -- after its test
 abbrev pub past_settled : Shape → List Call → Past → ℕ → Past
 past_settled disk calls past now = tested (settling_rows disk calls past now) ∷ settled_by disk calls past now
-
--- the part of a decision that has this plan and these deliveries
-abbrev pub part_by : Shape → List Call → Past → ℕ → Plan → List DeliveryRow → Part
-part_by disk calls past now plan gots = record {
-  settled = settling_rows disk calls past now;
-  plan = plan;
-  deliveries = followed (past_settled disk calls past now) gots;
-}
 
 -- all calls up to now have taken effect, the tasks have chosen segments, and all tasks were tested
 pub record HasSettled (disk : Shape) (calls : List Call) (past : Past) (now later : ℕ) (rows : List BackRow) (after : Background) : Type 0 where

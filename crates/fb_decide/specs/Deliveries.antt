@@ -13,7 +13,7 @@ use Rattle.fb_rows.specs.declared.back.BackRow.TheVariants.{Got as GotLine, Gap 
 use Rattle.fb_model.specs.Content.{ContentsAt}
 use Rattle.fb_model.specs.Plans.{IsBest}
 use Rattle.fb_model.specs.PlainReplay.{Served}
-use Rattle.fb_model.specs.Decisions.{serves}
+use Rattle.fb_model.specs.Decisions.{serving}
 use Rattle.fb_model.specs.Rides.{delivery, due, gap_of}
 use Rattle.fb_model.specs.History.{Past, finished, registered, same_block, wanted}
 use Rattle.fb_model.specs.Steps.{Delivery, with_delivery}
@@ -80,6 +80,6 @@ pub record HasDelivered (disk : Shape) (past : Past) (gots : List DeliveryRow) (
 pub record HasServed (disk : Disk) (holding : Holding) (past : Past) (served : Served) (rows : List BackRow) (after : Background) : Type 0 where
   pub plan : Plan
   pub best : IsBest disk (gap_of disk served) (wanted past) plan
-  pub tells : Tells disk.map (finished served.request ∷ past_with past (due disk (held_now holding) (serves served) plan (wanted past))) after.sessions after.wanted
-  pub rows_after : after.rows ≡ rows ++ GapLine (record { name = served.request.name; gap = gap_of disk served; plan = plan }) ∷ rows_of (followed past (due disk (held_now holding) (serves served) plan (wanted past)))
-  pub registered : AllByRecursion (λ got. IsRegistered past got.block) (due disk (held_now holding) (serves served) plan (wanted past))
+  pub tells : Tells disk.map (finished served.request ∷ past_with past (due disk (held_now holding) (serving served plan) (wanted past))) after.sessions after.wanted
+  pub rows_after : after.rows ≡ rows ++ GapLine (record { name = served.request.name; gap = gap_of disk served; plan = plan }) ∷ rows_of (followed past (due disk (held_now holding) (serving served plan) (wanted past)))
+  pub registered : AllByRecursion (λ got. IsRegistered past got.block) (due disk (held_now holding) (serving served plan) (wanted past))

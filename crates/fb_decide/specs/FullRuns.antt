@@ -7,21 +7,21 @@ use Rattle.fb_rows.specs.declared.back.BackRow.{BackRow}
 use Rattle.fb_model.specs.Inputs.{Inputs}
 use Rattle.fb_model.specs.Content.{medium_of, fore_rows}
 use Rattle.fb_model.specs.Decisions.{decisions, run_end}
-use Rattle.fb_model.specs.Steps.{history, AtEach, part_rows, task_rows}
+use Rattle.fb_model.specs.Steps.{Step, decision_in, decisions_in, history, AtEach, step_rows, task_rows}
 use Rattle.fb_model.specs.FullRun.{IsFull}
 use Rattle.fb_decide.specs.declared.deciding.Course.{Course}
-use Rattle.fb_decide.specs.Making.{Step, IsMade, fore_row_of, decided_in, HasMade}
+use Rattle.fb_decide.specs.Making.{IsMade, fore_row_of, HasMade}
 
--- each of these decisions is as a full run has it, and the rows are theirs
+-- each of these steps is as a full run has it, and the rows are theirs
 pub record AreRowsOf (inputs : Inputs) (steps : List Step) (fore : List ForeRow) (back : List BackRow) : Type 0 where
   pub each : AtEach (IsMade inputs) inputs [] steps
-  pub fore_so_far : fore ≡ flat_map (fore_row_of (medium_of inputs)) (decided_in steps)
-  pub back_so_far : back ≡ flat_map (part_rows inputs.disk) steps
+  pub fore_so_far : fore ≡ flat_map (fore_row_of (medium_of inputs)) (decisions_in steps)
+  pub back_so_far : back ≡ flat_map (step_rows inputs.disk) steps
 
--- one more decision adds its rows
+-- one more step adds its rows
 abbrev pub RowsGoOn : Type 0
 RowsGoOn = (inputs : Inputs) (steps : List Step) (step : Step) (fore : List ForeRow) (back : List BackRow) → AreRowsOf inputs steps fore back → IsMade inputs (history inputs steps) step
-    → AreRowsOf inputs (steps ++ step ∷ []) (fore ++ fore_row_of (medium_of inputs) step.0) (back ++ part_rows inputs.disk step)
+    → AreRowsOf inputs (steps ++ step ∷ []) (fore ++ fore_row_of (medium_of inputs) (decision_in step)) (back ++ step_rows inputs.disk step)
 
 -- the foreground rows of the decisions so far are the first of the plain replay's
 abbrev pub ForeRowsBegin : Type 0

@@ -18,7 +18,7 @@ use Rattle.fb_model.specs.Accepted.{IsAccepted}
 use Rattle.fb_model.specs.Content.{Written, Medium, medium_of, writes_of, content_by, fore_row}
 use Rattle.fb_model.specs.Decisions.{Decision, serves, instants_of, decisions_from, decisions, run_end}
 use Rattle.fb_model.specs.History.{Past}
-use Rattle.fb_model.specs.Steps.{Part, history, part_rows}
+use Rattle.fb_model.specs.Steps.{Step, decision_in, decisions_in, history, step_rows}
 use Rattle.fb_model.specs.SoundRun.{IsPlanned, IsTested}
 use Rattle.fb_model.specs.FullRun.{IsBestPlanned, IsAllDelivered}
 use Rattle.fb_tasks.specs.Telling.{Tells, calls_of}
@@ -28,13 +28,9 @@ use Rattle.fb_decide.specs.Calls.{IsCalled}
 use Rattle.fb_decide.specs.Standing.{IsTrue}
 use Rattle.fb_decide.specs.Deciding.{PassagesTakeTime}
 
--- a decision with what the background does at it
-abbrev pub Step : Type 0
-Step = Decision × Part
-
 -- ---- what one decision adds
 
--- a decision's plan, deliveries and tests are those of a full run
+-- a step's plan, deliveries and tests are those of a full run
 pub record IsMade (inputs : Inputs) (past : Past) (step : Step) : Type 0 where
   pub planned : IsPlanned inputs (medium_of inputs) past step
   pub best : IsBestPlanned inputs (medium_of inputs) past step
@@ -66,17 +62,13 @@ pub record Replayed (latent : List ℕ) (whole : List Served) (rest : List Serve
   pub ended : AllByRecursion (λ (write : Written). write.passage.end ≤ now) (all_writes done)
   pub holds : (lbn : ℕ) → content_in holding lbn ≡ held_after latent done lbn
 
--- the decisions, without what the background does at them
-abbrev pub decided_in : List Step → List Decision
-decided_in steps = map (λ step. step.0) steps
-
--- these decisions have been made, and these services are left
+-- these steps have been made, and these services are left
 pub record HasRun (inputs : Inputs) (rest : List Served) (course : Course) (steps : List Step) : Type 0 where
   pub done : List Served
   pub replayed : Replayed inputs.latent (served inputs) rest course.now course.store done
   pub tells : Tells inputs.disk.map (history inputs steps) course.background.sessions course.background.wanted
   pub finds : IsTrue (medium_of inputs) course.store (history inputs steps)
-  pub ends_at : run_end (decided_in steps) ≡ course.now
+  pub ends_at : run_end (decisions_in steps) ≡ course.now
 
 -- the plain replay of these requests, from where and when the head stands now
 abbrev pub rest_by : Inputs → Course → List Request → List Served
@@ -92,10 +84,10 @@ decisions_by inputs course rest = decisions_from inputs.disk (instants_of inputs
 
 -- another decision follows
 pub record GoesOn (inputs : Inputs) (course : Course) (pending : List Request) (count : ℕ) (steps : List Step) : Type 0 where
-  -- these decisions have brought the disk and the background to where they are
+  -- these steps have brought the disk and the background to where they are
   pub run : HasRun inputs (rest_of inputs course pending) course steps
-  -- they and those that are left are the run's decisions
-  pub decided : decided_in steps ++ decisions_by inputs course (rest_of inputs course pending) ≡ decisions inputs
+  -- their decisions and those that are left are the run's
+  pub decided : decisions_in steps ++ decisions_by inputs course (rest_of inputs course pending) ≡ decisions inputs
   -- the first calls of the script have taken effect, and what all of them can register fits
   pub called : IsCalled inputs.disk.map inputs.calls (history inputs steps) course.called
   -- no request has joined before it arrived, and no call has taken effect before its instant
@@ -114,7 +106,7 @@ pub record GoesOn (inputs : Inputs) (course : Course) (pending : List Request) (
 -- the last decision was made
 pub record HasEnded (inputs : Inputs) (course : Course) (steps : List Step) : Type 0 where
   pub run : HasRun inputs [] course steps
-  pub decided : decided_in steps ≡ decisions inputs
+  pub decided : decisions_in steps ≡ decisions inputs
   pub calls_made : calls_of (history inputs steps) ≡ take course.called inputs.calls
   pub few : length (served inputs) ≤ 10 ^ 6
   -- a million services of the greatest length, and the latest arrival before them, end by then
@@ -148,8 +140,8 @@ decisions_left inputs false course pending = 0
 pub record HasMadeOne (inputs : Inputs) (steps : List Step) (more : Bool) (list : List Request) (before : Course) (pending : List Request) (after : Course) (pending_after : List Request) (count_after : ℕ) : Type 0 where
   pub step : Step
   pub is_made : IsMade inputs (history inputs steps) step
-  pub fore : after.fore ≡ before.fore ++ fore_row_of (medium_of inputs) step.0
-  pub back : after.background.rows ≡ before.background.rows ++ part_rows inputs.disk step
-  pub back_fits : AllByRecursion (RowFits (length (allowed.tasks inputs.calls))) (part_rows inputs.disk step)
+  pub fore : after.fore ≡ before.fore ++ fore_row_of (medium_of inputs) (decision_in step)
+  pub back : after.background.rows ≡ before.background.rows ++ step_rows inputs.disk step
+  pub back_fits : AllByRecursion (RowFits (length (allowed.tasks inputs.calls))) (step_rows inputs.disk step)
   pub made : HasMade inputs more (steps ++ step ∷ []) list after pending_after count_after
   pub fewer : decisions_left inputs more after pending_after < decisions_left inputs true before pending

@@ -7,7 +7,7 @@ ghost use Rattle.fb_model.specs.Inputs.{Inputs};
 ghost use Rattle.fb_model.specs.Accepted.{IsAccepted, IsRequestOf};
 ghost use Rattle.fb_model.specs.Decisions.{decisions, run_end};
 ghost use Rattle.fb_model.specs.History.{Past};
-ghost use Rattle.fb_model.specs.Steps.{history, task_rows};
+ghost use Rattle.fb_model.specs.Steps.{Step, history, task_rows};
 ghost use Rattle.fb_model.specs.PlainReplay.{first_least};
 ghost use Rattle.fb_tasks.specs.Telling.{Tells};
 ghost use Rattle.fb_decide.specs.Asked.{inputs_of};
@@ -15,7 +15,7 @@ ghost use Rattle.fb_decide.specs.Waiting.{IsWaiting};
 ghost use Rattle.fb_decide.specs.Calls.{IsCalled};
 ghost use Rattle.fb_decide.specs.Deliveries.{IsCurrent};
 ghost use Rattle.fb_decide.specs.Deciding.{IsAtStart, IsReady, next_of, HasServedNext, HasStayed, HasDecided};
-ghost use Rattle.fb_decide.specs.Making.{Step, HasMade, HasMadeOne, RowFits};
+ghost use Rattle.fb_decide.specs.Making.{HasMade, HasMadeOne, RowFits};
 
 use crate::asked::Asked;
 use crate::background::Background;
