@@ -12,11 +12,11 @@ use Rattle.fb_rows.specs.declared.run.Run.{Run}
 use Rattle.fb_model.specs.Inputs.{Inputs}
 use Rattle.fb_model.specs.Content.{medium_of}
 use Rattle.fb_model.specs.Decisions.{decisions, run_end}
-use Rattle.fb_model.specs.Steps.{history, part_rows, task_rows}
+use Rattle.fb_model.specs.Steps.{Step, decision_in, decisions_in, history, step_rows, task_rows}
 use Rattle.fb_model.specs.FullRun.{IsFull}
 use Rattle.fb_tasks.proofs.Lists.{all_weaker}
 use Rattle.fb_decide.specs.declared.deciding.Course.{Course}
-use Rattle.fb_decide.specs.Making.{Step, RowFits, fore_row_of, decided_in, decisions_by, rest_of, HasMade, HasMadeOne, decisions_left}
+use Rattle.fb_decide.specs.Making.{RowFits, fore_row_of, decisions_by, rest_of, HasMade, HasMadeOne, decisions_left}
 use Rattle.fb_report.specs.declared.bytes.Bytes.{Bytes}
 use Rattle.fb_report.specs.declared.reading.Report.{Report}
 use Rattle.fb_report.specs.declared.reading.Report.TheVariants.{Fore, Back}
@@ -126,18 +126,18 @@ same_left inputs true steps list now_list course now pending now_pending count n
       arith,
       ap length made.come_to.decided,
       ap length after.come_to.decided,
-      length-append (decided_in steps) (decisions_by inputs course (rest_of inputs course pending)),
-      length-append (decided_in steps) (decisions_by inputs now (rest_of inputs now now_pending)),
+      length-append (decisions_in steps) (decisions_by inputs course (rest_of inputs course pending)),
+      length-append (decisions_in steps) (decisions_by inputs now (rest_of inputs now now_pending)),
     )
 same_left inputs false steps list now_list course now pending now_pending count now_count made after = refl
 
 module _ (inputs : Inputs) (printed : Reports) (more : Bool) (list : List Request) (before after : Course) (pending pending_after : List Request) (count count_after : ℕ) (fore back : Comparison)
     (judged : HasJudged inputs printed true list before pending count fore back) (one : HasMadeOne inputs judged.steps more list before pending after pending_after count_after) where
-  pub fore_taken : (taken : List ForeRow) → taken ≡ after.fore → taken ≡ fore_row_of (medium_of inputs) one.step.0
-  fore_taken taken e = e ∙ (one.fore ∙ ap (λ rows. rows ++ fore_row_of (medium_of inputs) one.step.0) judged.no_fore)
+  pub fore_taken : (taken : List ForeRow) → taken ≡ after.fore → taken ≡ fore_row_of (medium_of inputs) (decision_in one.step)
+  fore_taken taken e = e ∙ (one.fore ∙ ap (λ rows. rows ++ fore_row_of (medium_of inputs) (decision_in one.step)) judged.no_fore)
 
-  pub back_taken : (taken : List BackRow) → taken ≡ after.background.rows → taken ≡ part_rows inputs.disk one.step
-  back_taken taken e = e ∙ (one.back ∙ ap (λ rows. rows ++ part_rows inputs.disk one.step) judged.no_back)
+  pub back_taken : (taken : List BackRow) → taken ≡ after.background.rows → taken ≡ step_rows inputs.disk one.step
+  back_taken taken e = e ∙ (one.back ∙ ap (λ rows. rows ++ step_rows inputs.disk one.step) judged.no_back)
 
   pub back_named : (names : List (List ℕ)) (taken : List BackRow) → length names ≡ length (allowed.tasks inputs.calls) → taken ≡ after.background.rows → AllByRecursion (HasNamedTask names) taken
   back_named names taken n e = all_weaker (RowFits (length (allowed.tasks inputs.calls))) (HasNamedTask names) (λ row fits. fits names n) taken
@@ -151,11 +151,11 @@ module _ (inputs : Inputs) (printed : Reports) (more : Bool) (list : List Reques
       subst (λ n. n < decisions_left inputs was before pending) (sym same) (subst (λ b. decisions_left inputs more after pending_after < decisions_left inputs b before pending) (sym e) fewer)
 
   module _ (law : DecisionsMakeARun) where
-    more_rows : AreRowsOf inputs (judged.steps ++ one.step ∷ []) (judged.fore_rows ++ fore_row_of (medium_of inputs) one.step.0) (judged.back_rows ++ part_rows inputs.disk one.step)
+    more_rows : AreRowsOf inputs (judged.steps ++ one.step ∷ []) (judged.fore_rows ++ fore_row_of (medium_of inputs) (decision_in one.step)) (judged.back_rows ++ step_rows inputs.disk one.step)
     more_rows = law.go_on inputs judged.steps one.step judged.fore_rows judged.back_rows judged.rows one.is_made
 
     compared : (taken : List ForeRow) (fore_after : Comparison) → taken ≡ after.fore → HasComparedFore inputs.disk.sector_bytes printed.bytes printed.fore fore_after (judged.fore_rows ++ taken)
-        → HasComparedFore inputs.disk.sector_bytes printed.bytes printed.fore fore_after (judged.fore_rows ++ fore_row_of (medium_of inputs) one.step.0)
+        → HasComparedFore inputs.disk.sector_bytes printed.bytes printed.fore fore_after (judged.fore_rows ++ fore_row_of (medium_of inputs) (decision_in one.step))
     compared taken fore_after e h = subst (λ rows. HasComparedFore inputs.disk.sector_bytes printed.bytes printed.fore fore_after (judged.fore_rows ++ rows)) (fore_taken taken e) h
 
     -- a wrong foreground line among the rows of one more decision
@@ -174,8 +174,8 @@ module _ (inputs : Inputs) (printed : Reports) (more : Bool) (list : List Reques
       made = made;
       no_fore = no_fore;
       no_back = no_back;
-      fore_rows = judged.fore_rows ++ fore_row_of (medium_of inputs) one.step.0;
-      back_rows = judged.back_rows ++ part_rows inputs.disk one.step;
+      fore_rows = judged.fore_rows ++ fore_row_of (medium_of inputs) (decision_in one.step);
+      back_rows = judged.back_rows ++ step_rows inputs.disk one.step;
       rows = more_rows;
       fore_compared = compared fore_new fore_after f fore_h;
       back_compared = subst (λ rows. HasComparedBack printed.names inputs.disk.sector_bytes printed.bytes printed.back back_after (judged.back_rows ++ rows)) (back_taken back_new b) back_h;

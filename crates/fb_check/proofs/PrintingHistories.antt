@@ -25,7 +25,7 @@ use Rattle.fb_model.specs.Decisions.{Decision, serves, idles, ends, instant_of}
 use Rattle.fb_model.specs.History.{Past, LogSegment, chose, calls_of, opened_by, tasks, task_numbers, terms_of, registered, blocks_of}
 use Rattle.fb_model.specs.Completion.{view, work, segments, is_closed}
 use Rattle.fb_model.specs.Segments.{numbered, next_blocks, is_better, is_busy, unchosen, choose_best, choose_once, choose_up_to, choose_in, with_choices}
-use Rattle.fb_model.specs.Steps.{Delivery, Part, blocks_by, take_call, calls_due, settled_past, with_delivery, with_finish, tested_past, past_after}
+use Rattle.fb_model.specs.Steps.{Delivery, Step, decision_in, blocks_by, take_call, calls_due, settled_past, with_delivery, with_finish, tested_past, past_after}
 use Rattle.fb_model.proofs.Views.{number_same}
 use Rattle.fb_model.proofs.HistoriesUpTo.{due_first}
 use Rattle.fb_tasks.proofs.Asked.{open_there, terms_there}
@@ -252,7 +252,7 @@ settled_holds inputs accepted past decision h =
     let called = fold (take_call inputs.disk.map) past due in
     choices_hold inputs.disk.map inputs.calls (task_numbers called) called (calls_hold inputs.disk.map inputs.calls due rest.0 past rest.1 h)
 
-pub after_holds : (inputs : Inputs) (past : Past) (step : Decision × Part) → HoldsOf inputs (tested_past inputs past step) → HoldsOf inputs (past_after inputs past step)
+pub after_holds : (inputs : Inputs) (past : Past) (step : Step) → HoldsOf inputs (tested_past inputs past step) → HoldsOf inputs (past_after inputs past step)
 unfolding past_after
 after_holds inputs past step h =
-    finish_holds inputs.disk.map inputs.calls step.0 (fold with_delivery (tested_past inputs past step) step.1.deliveries) (deliveries_hold inputs.disk.map inputs.calls step.1.deliveries (tested_past inputs past step) h)
+    finish_holds inputs.disk.map inputs.calls (decision_in step) (fold with_delivery (tested_past inputs past step) step.deliveries) (deliveries_hold inputs.disk.map inputs.calls step.deliveries (tested_past inputs past step) h)

@@ -6,21 +6,20 @@ use Rattle.std.proofs.lemmas.Bool.{cases_Bool, and_parts}
 use Rattle.fb_calls.specs.Sessions.{is_backup}
 use Rattle.fb_wanted.specs.declared.block.Block.{Block}
 use Rattle.fb_wanted.specs.States.{is_delivered, is_wanted}
-use Rattle.fb_rows.specs.declared.gap.Plan.{Plan}
 use Rattle.fb_rows.specs.declared.back.DeliveryRow.{DeliveryRow}
 use Rattle.fb_rows.specs.declared.back.BackRow.TheVariants.{Got as GotLine}
 use Rattle.fb_model.specs.Inputs.{Inputs}
 use Rattle.fb_model.specs.Accepted.{IsAccepted}
 use Rattle.fb_model.specs.Content.{Medium, medium_of, contents_at}
 use Rattle.fb_model.specs.Rides.{due}
-use Rattle.fb_model.specs.Decisions.{Decision, serves, idles, ends, instant_of}
+use Rattle.fb_model.specs.Decisions.{instant_of, Act, serving, idling, ending}
 use Rattle.fb_model.specs.History.{delivered, Past, task_numbers, terms_of, blocks_of, registered, wanted, state, is_sealed, is_open_backup}
 use Rattle.fb_model.specs.Completion.{work, choices, is_complete, was_complete}
 use Rattle.fb_model.specs.Images.{findings, is_scrub, bad_sectors, is_newly_cleaned, segment_rows, seal_rows, complete_rows, test_rows, packed, image}
-use Rattle.fb_model.specs.Steps.{Delivery, Part, settled_past, with_delivery, tested_past, past_after, AtEach, opening, part_rows, task_row, task_rows, history, steps}
+use Rattle.fb_model.specs.Steps.{Delivery, Step, decision_in, settled_past, with_delivery, tested_past, past_after, AtEach, opening, step_rows, task_row, task_rows, history}
 use Rattle.fb_model.specs.SoundRun.{AreFollowed, IsTested}
 use Rattle.fb_model.specs.FullRun.{IsAllDelivered}
-use Rattle.fb_model.proofs.Due.{HasBytes, IsDueRow, due_true}
+use Rattle.fb_model.proofs.Due.{HasBytes, IsDueRow, due_block, due_bytes, due_true}
 use Rattle.fb_tasks.proofs.Lists.{all_weaker, all_any, all_append, all_filter, all_map, flat_all}
 use Rattle.fb_report.specs.Printed.{HasSectors, CountsSectors}
 use Rattle.fb_check.specs.Printing.{RunsCanBePrinted}
@@ -34,17 +33,6 @@ bytes_some : (medium : Medium) (got : DeliveryRow) → HasBytes (contents_at med
 bytes_some medium got bytes some =
     subst HasSectors (sym bytes.content) (omega (arith, some, runs_have (contents_at medium got.block.lbn got.block.count got.begin), contents_have medium got.block.lbn got.block.count got.begin))
 
-due_some : (medium : Medium) (decision : Decision) (plan : Plan) (got : DeliveryRow) → IsDueRow medium.disk (contents_at medium) decision plan IsSome got → HasSectors got.content
-due_some medium (serves served) plan got is_due = elim is_due [
-  | inl early ↦ bytes_some medium got early.bytes early.one_of
-  | inr later ↦ elim later [
-    | inl late ↦ bytes_some medium got late.bytes late.one_of
-    | inr ridden ↦ bytes_some medium got ridden.bytes ridden.one_of
-  ]
-]
-due_some medium (idles dwell) plan got is_due = bytes_some medium got is_due.bytes is_due.one_of
-due_some medium (ends now) plan got is_due = absurd is_due
-
 -- ---- the rows of tests
 
 module _ (inputs : Inputs) where
@@ -55,13 +43,15 @@ module _ (inputs : Inputs) where
   unfolding wanted
   wanted_some past h = all_filter IsSome (λ block. is_wanted (state past block)) (registered past) h.some
 
-  gots_some : (past : Past) (step : Decision × Part) → HoldsOf inputs (settled_past inputs past step.0) → IsAllDelivered inputs medium past step
-      → AllByRecursion (λ (got : DeliveryRow). HasSectors got.content) (map (λ delivery. delivery.got) step.1.deliveries)
+  gots_some : (past : Past) (step : Step) → HoldsOf inputs (settled_past inputs past (decision_in step)) → IsAllDelivered inputs medium past step
+      → AllByRecursion (λ (got : DeliveryRow). HasSectors got.content) (map (λ delivery. delivery.got) step.deliveries)
   gots_some past step h all =
-      let settled = settled_past inputs past step.0 in
+      let settled = settled_past inputs past (decision_in step) in
       subst (AllByRecursion (λ (got : DeliveryRow). HasSectors got.content)) (sym all)
-      (all_weaker (IsDueRow medium.disk (contents_at medium) step.0 step.1.plan IsSome) (λ got. HasSectors got.content) (due_some medium step.0 step.1.plan) (due medium.disk (contents_at medium) step.0 step.1.plan (wanted settled))
-      (due_true medium.disk (contents_at medium) step.0 step.1.plan IsSome (wanted settled) (wanted_some settled h)))
+      (all_weaker (IsDueRow medium.disk (contents_at medium) step.act IsSome) (λ got. HasSectors got.content)
+      (λ got is_due. bytes_some medium got (due_bytes medium.disk (contents_at medium) step.act IsSome got is_due) (due_block medium.disk (contents_at medium) step.act IsSome got is_due))
+      (due medium.disk (contents_at medium) step.act (wanted settled))
+      (due_true medium.disk (contents_at medium) step.act IsSome (wanted settled) (wanted_some settled h)))
 
   module _ (past : Past) (now : ℕ) (h : HoldsOf inputs past) where
     seals_count : (task : ℕ) → AllByRecursion CountsSectors (seal_rows (image medium past task now) past now task)
@@ -118,25 +108,25 @@ module _ (inputs : Inputs) where
         (followed_count (with_delivery past delivery) deliveries h gots.1 follows.1),
   )
 
-  opening_counts : (decision : Decision) (plan : Plan) → AllByRecursion CountsSectors (opening inputs.disk decision plan)
-  opening_counts (serves served) plan = (tt, tt)
-  opening_counts (idles dwell) plan = (tt, tt)
-  opening_counts (ends now) plan = tt
+  opening_counts : (act : Act) → AllByRecursion CountsSectors (opening inputs.disk act)
+  opening_counts (serving served plan) = (tt, tt)
+  opening_counts (idling dwell) = (tt, tt)
+  opening_counts (ending now) = tt
 
-  step_counts : (past : Past) (step : Decision × Part) → HoldsOf inputs (settled_past inputs past step.0) → IsTested inputs medium past step → IsAllDelivered inputs medium past step → AllByRecursion CountsSectors (part_rows inputs.disk step)
+  step_counts : (past : Past) (step : Step) → HoldsOf inputs (settled_past inputs past (decision_in step)) → IsTested inputs medium past step → IsAllDelivered inputs medium past step → AllByRecursion CountsSectors (step_rows inputs.disk step)
   step_counts past step h tests all =
-      all_append CountsSectors (step.1.settled ++ opening inputs.disk step.0 step.1.plan) (flat_map (λ (delivery : Delivery). GotLine delivery.got ∷ delivery.after) step.1.deliveries)
-      (all_append CountsSectors step.1.settled (opening inputs.disk step.0 step.1.plan)
-      (subst (AllByRecursion CountsSectors) (sym tests.settled) (tests_count (settled_past inputs past step.0) (instant_of step.0) h)) (opening_counts step.0 step.1.plan))
-      (followed_count (tested_past inputs past step) step.1.deliveries h (gots_some past step h all) tests.followed)
+      all_append CountsSectors (step.settled ++ opening inputs.disk step.act) (flat_map (λ (delivery : Delivery). GotLine delivery.got ∷ delivery.after) step.deliveries)
+      (all_append CountsSectors step.settled (opening inputs.disk step.act)
+      (subst (AllByRecursion CountsSectors) (sym tests.settled) (tests_count (settled_past inputs past (decision_in step)) (instant_of (decision_in step)) h)) (opening_counts step.act))
+      (followed_count (tested_past inputs past step) step.deliveries h (gots_some past step h all) tests.followed)
 
   module _ (accepted : IsAccepted inputs) where
-    steps_count : (past : Past) (list : List (Decision × Part)) → HoldsOf inputs past → AtEach (IsTested inputs medium) inputs past list → AtEach (IsAllDelivered inputs medium) inputs past list
-        → AllByRecursion CountsSectors (flat_map (part_rows inputs.disk) list)
+    steps_count : (past : Past) (list : List Step) → HoldsOf inputs past → AtEach (IsTested inputs medium) inputs past list → AtEach (IsAllDelivered inputs medium) inputs past list
+        → AllByRecursion CountsSectors (flat_map (step_rows inputs.disk) list)
     steps_count past [] h tests all = tt
     steps_count past (step ∷ list) h tests all =
-        let settled = settled_holds inputs accepted past step.0 h in
-        all_append CountsSectors (part_rows inputs.disk step) (flat_map (part_rows inputs.disk) list) (step_counts past step settled tests.0 all.0)
+        let settled = settled_holds inputs accepted past (decision_in step) h in
+        all_append CountsSectors (step_rows inputs.disk step) (flat_map (step_rows inputs.disk) list) (step_counts past step settled tests.0 all.0)
         (steps_count (past_after inputs past step) list (after_holds inputs past step settled) tests.1 all.1)
 
 tasks_count : (past : Past) → AllByRecursion CountsSectors (task_rows past)
@@ -145,8 +135,8 @@ tasks_count past = all_map CountsSectors (task_row past) (task_numbers past) (al
 
 pub can_be_printed : RunsCanBePrinted
 can_be_printed inputs run accepted full =
-    let list = steps inputs full.parts in
-    let rows = flat_map (part_rows inputs.disk) list in
+    let list = full.steps in
+    let rows = flat_map (step_rows inputs.disk) list in
     let sound = full.sound in (
       subst (AllByRecursion _) (sym sound.fore) (reads_have inputs accepted),
       subst (AllByRecursion CountsSectors) (sym sound.back) (all_append CountsSectors rows sound.tasks (steps_count inputs accepted [] list (at_first inputs accepted) sound.tested full.all)

@@ -5,7 +5,8 @@ use Rattle.fb_rows.specs.declared.fore.ForeRow.{ForeRow}
 use Rattle.fb_rows.specs.declared.back.BackRow.{BackRow}
 use Rattle.fb_model.specs.Inputs.{Inputs}
 use Rattle.fb_decide.specs.declared.deciding.Course.{Course}
-use Rattle.fb_decide.specs.Making.{Step, HasMade}
+use Rattle.fb_model.specs.Steps.{Step}
+use Rattle.fb_decide.specs.Making.{HasMade}
 use Rattle.fb_check.specs.declared.comparing.Comparison.{Comparison}
 use Rattle.fb_decide.specs.FullRuns.{AreRowsOf}
 use Rattle.fb_check.specs.Verdict.{Reports}

@@ -9,11 +9,11 @@ use Rattle.fb_rows.specs.declared.back.BackRow.{BackRow}
 use Rattle.fb_model.specs.Inputs.{Inputs, served}
 use Rattle.fb_model.specs.Content.{medium_of, fore_row, fore_rows}
 use Rattle.fb_model.specs.Decisions.{decisions, run_end}
-use Rattle.fb_model.specs.Steps.{history, task_rows}
+use Rattle.fb_model.specs.Steps.{Step, history, task_rows}
 use Rattle.fb_model.specs.FullRun.{IsFull}
 use Rattle.fb_model.proofs.Lists.{all_append}
 use Rattle.fb_decide.specs.declared.deciding.Course.{Course}
-use Rattle.fb_decide.specs.Making.{Step, RowFits, HasMade, HasMadeOne, decisions_left}
+use Rattle.fb_decide.specs.Making.{RowFits, HasMade, HasMadeOne, decisions_left}
 use Rattle.fb_decide.specs.FullRuns.{AreRowsOf, DecisionsMakeARun}
 
 -- these decisions have been made, none of their rows has been taken, and perhaps more follow
