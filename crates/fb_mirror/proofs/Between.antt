@@ -9,11 +9,10 @@ use Rattle.fb_geometry.specs.Sound.{IsSound}
 use Rattle.fb_service.specs.declared.disk.Disk.{Disk}
 use Rattle.fb_calls.proofs.Lists.{all_weaker}
 use Rattle.fb_wanted.specs.declared.block.Block.{Block}
-use Rattle.fb_rows.specs.declared.gap.Plan.{Plan}
 use Rattle.fb_rows.specs.declared.back.DeliveryRow.{DeliveryRow}
 use Rattle.fb_model.specs.PlainReplay.{Served, finish, last_track, media}
 use Rattle.fb_model.specs.Content.{contents_at, Medium, Written, writes_of}
-use Rattle.fb_model.specs.Decisions.{Decision, serves, idles, ends, instant_of, idle_until, last_decision, decisions_from}
+use Rattle.fb_model.specs.Decisions.{Decision, serves, idles, ends, instant_of, Act, decision_of, idle_until, last_decision, decisions_from}
 use Rattle.fb_model.specs.SoundRun.{HasPlan}
 use Rattle.fb_model.proofs.Lists.{all_append, is_by}
 use Rattle.fb_model.proofs.Due.{IsDueRow}
@@ -169,10 +168,10 @@ made_of disk (idles dwell) of_disk = tt
 made_of disk (ends now) of_disk = tt
 
 -- what is due at a decision is delivered before the decision writes
-pub due_quiet : (medium : Medium) (decision : Decision) (plan : Plan) (Q : Block → Type 0)
-    → IsOfDisk medium.disk decision → HasPlan medium.disk decision plan → (row : DeliveryRow) → 0 < row.block.count
-    → IsDueRow medium.disk (contents_at medium) decision plan Q row
-    → LiesBetween (instant_of decision) (quiet_until decision) row
-due_quiet medium decision plan Q of_disk is row some due_row =
-    due_between medium.disk (contents_at medium) decision plan Q (quiet_until decision)
-    (made_of medium.disk decision of_disk) is (quiet_delivers medium.disk decision of_disk) row some due_row
+pub due_quiet : (medium : Medium) (act : Act) (Q : Block → Type 0)
+    → IsOfDisk medium.disk (decision_of act) → HasPlan medium.disk act → (row : DeliveryRow) → 0 < row.block.count
+    → IsDueRow medium.disk (contents_at medium) act Q row
+    → LiesBetween (instant_of (decision_of act)) (quiet_until (decision_of act)) row
+due_quiet medium act Q of_disk is row some due_row =
+    due_between medium.disk (contents_at medium) act Q (quiet_until (decision_of act))
+    (made_of medium.disk (decision_of act) of_disk) is (quiet_delivers medium.disk (decision_of act) of_disk) row some due_row

@@ -30,7 +30,7 @@ use Rattle.fb_model.specs.Decisions.{Decision, serves, idles, ends, instant_of}
 use Rattle.fb_model.specs.History.{called, chose, tested, delivered, finished, LogSegment, Past, blocks_of, calls_of, opened_by, registered, state, task_numbers, tasks, terms_of, wanted}
 use Rattle.fb_model.specs.Completion.{is_closed, segment_by, segments, work}
 use Rattle.fb_model.specs.Segments.{choose_best, choose_in, choose_once, choose_up_to, is_better, is_busy, is_chosen, next_blocks, numbered, unchosen, with_choices}
-use Rattle.fb_model.specs.Steps.{Delivery, Part, blocks_by, calls_due, past_after, settled_past, take_call, tested_past, with_delivery, with_finish}
+use Rattle.fb_model.specs.Steps.{Delivery, Step, decision_in, blocks_by, calls_due, past_after, settled_past, take_call, tested_past, with_delivery, with_finish}
 use Rattle.std.proofs.Math.Seq.{drop-append_seam}
 use Rattle.fb_model.proofs.Lists.{all_append, all_filter}
 use Rattle.fb_model.proofs.HistoriesUpTo.{due_first}
@@ -298,11 +298,11 @@ module _ (inputs : Inputs) (rising : IsRising (map (λ (call : Call). call.insta
   laid_finish past (idles dwell) laid = laid
   laid_finish past (ends now) laid = laid
 
-  pub laid_after : (past : Past) (step : Decision × Part) → AreLaid inputs past → AreLaid inputs (past_after inputs past step)
+  pub laid_after : (past : Past) (step : Step) → AreLaid inputs past → AreLaid inputs (past_after inputs past step)
   unfolding past_after
-  laid_after past step laid = laid_finish (fold with_delivery (tested_past inputs past step) step.1.deliveries) step.0
-      (laid_deliveries (tested_past inputs past step) step.1.deliveries
-      (laid_tested inputs.disk.map inputs.calls (settled_past inputs past step.0) (laid_settled past step.0 laid) step.1.settled))
+  laid_after past step laid = laid_finish (fold with_delivery (tested_past inputs past step) step.deliveries) (decision_in step)
+      (laid_deliveries (tested_past inputs past step) step.deliveries
+      (laid_tested inputs.disk.map inputs.calls (settled_past inputs past (decision_in step)) (laid_settled past (decision_in step) laid) step.settled))
 
   -- the wanted blocks lie on the disk
   pub wanted_lies : (past : Past) → AreLaid inputs past → AllByRecursion (LiesOn inputs.disk.map) (wanted past)

@@ -16,20 +16,19 @@ use Rattle.fb_rows.specs.declared.run.Run.{Run}
 use Rattle.fb_calls.specs.declared.call.Call.{Call}
 use Rattle.fb_model.specs.Accepted.{IsAccepted}
 use Rattle.fb_model.specs.Content.{contents_at, Medium, content, fore_row, fore_rows, medium_of, number_of}
-use Rattle.fb_model.specs.Decisions.{Decision}
 use Rattle.fb_model.specs.FullRun.{IsFull}
 use Rattle.fb_model.specs.History.{Past}
 use Rattle.fb_model.specs.Inputs.{Inputs, served}
 use Rattle.fb_model.specs.Laws.{ForegroundListsAscend, OnePlainReplay}
 use Rattle.fb_model.specs.PlainReplay.{Served, finish}
 use Rattle.fb_model.specs.SoundRun.{IsDelivered, IsTested}
-use Rattle.fb_model.specs.Steps.{AtEach, Delivery, Part, part_rows, past_after, settled_past, steps}
+use Rattle.fb_model.specs.Steps.{AtEach, Delivery, Step, decision_in, step_rows, past_after, settled_past}
 use Rattle.fb_model.proofs.Due.{HasBytes, IsDueRow, due_block, due_bytes, delivery_true}
 use Rattle.fb_model.proofs.Lists.{all_append}
 use Rattle.fb_mirror.specs.Replacement.{IsWithin, deliveries_in, events, writes_in}
 use Rattle.fb_mirror.specs.Survivor.{sectors}
 use Rattle.fb_mirror.proofs.LaidBlocks.{AreLaid, LiesOn, laid_after, laid_first, laid_settled, wanted_lies}
-use Rattle.fb_mirror.proofs.RunRows.{NoFact, RowsFit, back_fits, gots_fit_part}
+use Rattle.fb_mirror.proofs.RunRows.{NoFact, RowsFit, back_fits, gots_fit_step}
 use Rattle.fb_mirror.proofs.Writing.{AreServed, are_served}
 
 -- ---- writes
@@ -68,16 +67,16 @@ deliveries_within end (Segment row ∷ rows) fit = deliveries_within end rows fi
 deliveries_within end (Complete row ∷ rows) fit = deliveries_within end rows fit.1
 deliveries_within end (Task row ∷ rows) fit = deliveries_within end rows fit.1
 
-steps_within : (inputs : Inputs) (medium : Medium) → IsRising (map (λ (call : Call). call.instant) inputs.calls) → (past : Past) (steps : List (Decision × Part)) → AreLaid inputs past
+steps_within : (inputs : Inputs) (medium : Medium) → IsRising (map (λ (call : Call). call.instant) inputs.calls) → (past : Past) (steps : List Step) → AreLaid inputs past
     → AtEach (IsDelivered inputs medium) inputs past steps → AtEach (IsTested inputs medium) inputs past steps
-    → AtEach (λ past step. RowsFit (EndsOn (sectors inputs)) NoFact (part_rows inputs.disk step)) inputs past steps
+    → AtEach (λ past step. RowsFit (EndsOn (sectors inputs)) NoFact (step_rows inputs.disk step)) inputs past steps
 steps_within inputs medium rising past [] laid some tests = tt
 steps_within inputs medium rising past (step ∷ steps) laid some tests = (
-  gots_fit_part (EndsOn (sectors inputs)) inputs medium past step tests.0
-      (all_weaker (IsDueRow medium.disk (contents_at medium) step.0 step.1.plan (LiesOn inputs.disk.map)) (EndsOn (sectors inputs))
-      (λ row due_row. ends_on medium (sectors inputs) row (due_bytes medium.disk (contents_at medium) step.0 step.1.plan (LiesOn inputs.disk.map) row due_row) (due_block medium.disk (contents_at medium) step.0 step.1.plan (LiesOn inputs.disk.map) row due_row))
-      (map (λ (delivery : Delivery). delivery.got) step.1.deliveries)
-      (delivery_true inputs medium past step (LiesOn inputs.disk.map) some.0 (wanted_lies inputs rising (settled_past inputs past step.0) (laid_settled inputs rising past step.0 laid)))),
+  gots_fit_step (EndsOn (sectors inputs)) inputs medium past step tests.0
+      (all_weaker (IsDueRow medium.disk (contents_at medium) step.act (LiesOn inputs.disk.map)) (EndsOn (sectors inputs))
+      (λ row due_row. ends_on medium (sectors inputs) row (due_bytes medium.disk (contents_at medium) step.act (LiesOn inputs.disk.map) row due_row) (due_block medium.disk (contents_at medium) step.act (LiesOn inputs.disk.map) row due_row))
+      (map (λ (delivery : Delivery). delivery.got) step.deliveries)
+      (delivery_true inputs medium past step (LiesOn inputs.disk.map) some.0 (wanted_lies inputs rising (settled_past inputs past (decision_in step)) (laid_settled inputs rising past (decision_in step) laid)))),
   steps_within inputs medium rising (past_after inputs past step) steps (laid_after inputs rising past step laid) some.1 tests.1,
 )
 
@@ -88,8 +87,8 @@ unfolding fore_rows
 all_within ascend one inputs run accepted full =
     let end = sectors inputs in
     let medium = medium_of inputs in
-    let rows = back_fits (EndsOn end) NoFact inputs run full.parts full.sound
-    (steps_within inputs medium accepted.instants [] (steps inputs full.parts) (laid_first inputs accepted) full.sound.deliveries full.sound.tested) in
+    let rows = back_fits (EndsOn end) NoFact inputs run full.steps full.sound
+    (steps_within inputs medium accepted.instants [] full.steps (laid_first inputs accepted) full.sound.deliveries full.sound.tested) in
     all_append (IsWithin end) (flat_map writes_in run.fore) (flat_map deliveries_in run.back)
     (subst (λ rows. AllByRecursion (IsWithin end) (flat_map writes_in rows)) (sym full.sound.fore) (writes_within inputs.disk medium 0 (served inputs) (are_served inputs accepted ascend one)))
     (deliveries_within end run.back rows)

@@ -21,7 +21,7 @@ use Rattle.fb_rows.specs.declared.back.DeliveryRow.{DeliveryRow}
 use Rattle.fb_model.specs.PlainReplay.{Served, finish, last_track, media}
 use Rattle.fb_model.specs.Content.{contents_at, Medium}
 use Rattle.fb_model.specs.Plans.{IsPlan, block_begin, block_end, catches, early_dwell, late_dwell}
-use Rattle.fb_model.specs.Decisions.{Decision, serves, idles, ends, decisions_from, end_of, idle_until, instant_of, last_decision}
+use Rattle.fb_model.specs.Decisions.{Decision, serves, Act, serving, idling, ending, decision_of, decisions_from, end_of, idle_until, instant_of, last_decision}
 use Rattle.fb_model.specs.Rides.{begin_at, caught, delivery, due, end_at, gap_of, in_order, is_before, lies_in, missed, placed, rides}
 use Rattle.fb_model.specs.SoundRun.{HasPlan}
 use Rattle.fb_model.proofs.Lists.{all_append, all_both, all_filter}
@@ -161,9 +161,10 @@ dwells_in_turn disk served (Direct leave) is = let now = is.0 in let in_time = i
 dwells_in_turn disk served (Detour track leave) is = let after = is.after_arrival in let in_time = is.in_time in (omega arith, omega arith, omega arith, omega arith, omega arith)
 
 -- what is due at a decision is delivered one after another
-pub due_ascends : (medium : Medium) (decision : Decision) (plan : Plan) (wanted : List Block) → IsOfDisk medium.disk decision → HasPlan medium.disk decision plan → AllByRecursion HasSector wanted → Ascend (instant_of decision) (due medium.disk (contents_at medium) decision plan wanted)
+pub due_ascends : (medium : Medium) (act : Act) (wanted : List Block) → IsOfDisk medium.disk (decision_of act) → HasPlan medium.disk act → AllByRecursion HasSector wanted
+    → Ascend (instant_of (decision_of act)) (due medium.disk (contents_at medium) act wanted)
 unfolding due
-due_ascends medium (serves served) plan wanted of_disk is all =
+due_ascends medium (serving served plan) wanted of_disk is all =
     let early = early_dwell medium.disk (gap_of medium.disk served) plan in
     let late = late_dwell medium.disk (gap_of medium.disk served) plan in
     let left = missed medium.disk early wanted in
@@ -182,5 +183,5 @@ due_ascends medium (serves served) plan wanted of_disk is all =
     (all_weaker _ _ (λ (row : DeliveryRow) h. omega (arith, h, turns.4)) (caught medium.disk (contents_at medium) ByGap late left) second_by))
     (omega (arith, turns.0, turns.1, turns.2, turns.3))
     (rides_ascend medium served last of_disk.0 last_all)
-due_ascends medium (idles dwell) plan wanted of_disk is all = caught_ascend medium _ dwell wanted all
-due_ascends medium (ends now) plan wanted of_disk is all = tt
+due_ascends medium (idling dwell) wanted of_disk is all = caught_ascend medium _ dwell wanted all
+due_ascends medium (ending now) wanted of_disk is all = tt

@@ -23,7 +23,7 @@ use Rattle.fb_model.specs.Decisions.{Decision, serves, idles, ends, instant_of}
 use Rattle.fb_model.specs.History.{Event, called, chose, tested, delivered, finished, Past, aborts, bare_state, blocks_of, calls_of, is_open_backup, is_sealed, overwrites, registered, registers, same_block, state, state_after_event, tasks, terms_of, wanted}
 use Rattle.fb_model.specs.Completion.{is_complete, is_complete_as, is_closed, is_over, own_of, segments, work}
 use Rattle.fb_model.specs.Segments.{choose_in, choose_up_to, numbered, with_choices}
-use Rattle.fb_model.specs.Steps.{Delivery, Part, calls_due, past_after, settled_past, take_call, tested_past, with_delivery, with_finish}
+use Rattle.fb_model.specs.Steps.{Delivery, Step, decision_in, calls_due, past_after, settled_past, take_call, tested_past, with_delivery, with_finish}
 use Rattle.fb_model.proofs.Lists.{all_filter, by_is}
 use Rattle.fb_mirror.specs.Script.{rebuild_calls}
 use Rattle.fb_mirror.proofs.CutCover.{HasSectors, cuts_some}
@@ -162,11 +162,11 @@ module _ (P : DeliveryRow → Type 0) (inputs : Inputs) (calls : inputs.calls �
   finish_rebuilds past (idles dwell) is = is
   finish_rebuilds past (ends now) is = is
 
-  pub after_rebuilds : (past : Past) (step : Decision × Part) → IsUnderWay past → AllByRecursion P (map (λ (delivery : Delivery). delivery.got) step.1.deliveries) → IsRebuilding P inputs.disk.map (past_after inputs past step)
+  pub after_rebuilds : (past : Past) (step : Step) → IsUnderWay past → AllByRecursion P (map (λ (delivery : Delivery). delivery.got) step.deliveries) → IsRebuilding P inputs.disk.map (past_after inputs past step)
   unfolding past_after
-  after_rebuilds past step is each = finish_rebuilds (fold with_delivery (tested_past inputs past step) step.1.deliveries) step.0
-      (deliveries_rebuild (tested_past inputs past step) step.1.deliveries
-      (rebuilding_more P inputs.disk.map (settled_past inputs past step.0) (tested step.1.settled) (settled_rebuilds past step.0 is) tt) each)
+  after_rebuilds past step is each = finish_rebuilds (fold with_delivery (tested_past inputs past step) step.deliveries) (decision_in step)
+      (deliveries_rebuild (tested_past inputs past step) step.deliveries
+      (rebuilding_more P inputs.disk.map (settled_past inputs past (decision_in step)) (tested step.settled) (settled_rebuilds past (decision_in step) is) tt) each)
 
 -- ---- blocks by their numbers
 

@@ -1,7 +1,7 @@
 -- A rebuild that was sealed has covered every sector of the disk.
 use Rattle.std.proofs.Common.{◌≡◌, ℕ, zero, suc, ◌+◌, ◌<◌, ◌≤◌, List, [], ◌∷◌, length, Option, Some, None, Bool, true, false, cond, refl, ap, sym, subst, ◌∙◌, arith, inl, inr}
 use Rattle.std.specs.Prelude.{filter, is_some, nat_lt}
-use Rattle.std.specs.List.{AllByRecursion, flat_map, range_with_len, zip}
+use Rattle.std.specs.List.{AllByRecursion, flat_map, range_with_len}
 use Rattle.std.specs.Option.{option_map, unwrap_or}
 use Rattle.std.proofs.lemmas.Bool.{true≢false}
 use Rattle.std.proofs.lemmas.List.Elements.{filter-append}
@@ -24,7 +24,7 @@ use Rattle.fb_rows.specs.declared.run.Run.{Run}
 use Rattle.fb_model.specs.Inputs.{Inputs, served}
 use Rattle.fb_model.specs.Accepted.{IsAccepted}
 use Rattle.fb_model.specs.Content.{Medium, content, contents_at, medium_of}
-use Rattle.fb_model.specs.Decisions.{Decision, decisions, decisions_from, end_of, instant_of, instants_of}
+use Rattle.fb_model.specs.Decisions.{decisions, end_of, instant_of, instants_of}
 use Rattle.fb_model.specs.FullRun.{IsAllDelivered, IsFull}
 use Rattle.fb_model.specs.History.{Past, delivered, is_open_backup, tested, wanted}
 use Rattle.fb_model.specs.Completion.{is_complete}
@@ -32,7 +32,7 @@ use Rattle.fb_model.specs.Laws.{ForegroundListsAscend, OnePlainReplay}
 use Rattle.fb_model.specs.PlainReplay.{Served, first_track}
 use Rattle.fb_model.specs.Segments.{numbered}
 use Rattle.fb_model.specs.SoundRun.{IsDelivered, IsPlanned, IsTested}
-use Rattle.fb_model.specs.Steps.{AtEach, Part, part_rows, past_after, settled_past}
+use Rattle.fb_model.specs.Steps.{AtEach, Step, decision_in, decisions_in, step_rows, past_after, settled_past}
 use Rattle.fb_model.proofs.Due.{HasBytes, IsDueRow, due_block, delivery_true}
 use Rattle.fb_model.proofs.Lists.{all_both, by_is, same_map_where}
 use Rattle.fb_model.proofs.HistoriesUpTo.{HasSector}
@@ -46,7 +46,7 @@ use Rattle.fb_mirror.proofs.CutCover.{HoldsIn, cuts_hold}
 use Rattle.fb_mirror.proofs.EventLaws.{none_some, same_one}
 use Rattle.fb_mirror.proofs.Ordered.{AreInTurn, NoEarlier, decisions_in_turn, due_ascends}
 use Rattle.fb_mirror.proofs.RebuildPast.{IsOneOf, IsRebuilding, IsUnderWay, after_rebuilds, complete_delivered, disk_blocks, disk_ones, disk_some, rebuilding_more, rebuilding_weaker, settled_rebuilds, wanted_have}
-use Rattle.fb_mirror.proofs.RunRows.{AreLinked, IsKept, NoFact, RowsFit, back_fits, gots, gots_of_back, part_fits, rows_weaker}
+use Rattle.fb_mirror.proofs.RunRows.{AreLinked, IsKept, NoFact, RowsFit, back_fits, gots, gots_of_back, step_fits, rows_weaker}
 use Rattle.fb_mirror.proofs.Survival.{IsFoundIn, back_found, decided-append, event_of}
 use Rattle.fb_mirror.proofs.Writing.{are_served, medium_with}
 
@@ -178,47 +178,46 @@ module _ (inputs : Inputs) (replay : List Served) (rows : List BackRow) (calls :
   come_later now next past order (inl none) = inl none
   come_later now next past order (inr is) = inr (rebuilding_weaker (IsCopiedBy now) (IsCopiedBy next) inputs.disk.map past (copied_later now next order) is)
 
-  module _ (past : Past) (step : Decision × Part) (come : HasComeTo (instant_of step.0) past) (placed : IsPlaced inputs.disk 0 replay step.0) (planned : IsPlanned inputs survivor past step)
+  module _ (past : Past) (step : Step) (come : HasComeTo (instant_of (decision_in step)) past) (placed : IsPlaced inputs.disk 0 replay (decision_in step)) (planned : IsPlanned inputs survivor past step)
       (some : IsDelivered inputs survivor past step) where
-    settled_then : IsRebuiltBy (instant_of step.0) (settled_past inputs past step.0)
-    settled_then = settled_rebuilds (IsCopiedBy (instant_of step.0)) inputs calls past step.0 come
+    settled_then : IsRebuiltBy (instant_of (decision_in step)) (settled_past inputs past (decision_in step))
+    settled_then = settled_rebuilds (IsCopiedBy (instant_of (decision_in step))) inputs calls past (decision_in step) come
 
-    wanted_some : AllByRecursion HasSector (wanted (settled_past inputs past step.0))
-    wanted_some = wanted_have (IsCopiedBy (instant_of step.0)) inputs.disk.map (settled_past inputs past step.0) HasSector settled_then (disk_some inputs.disk.map)
+    wanted_some : AllByRecursion HasSector (wanted (settled_past inputs past (decision_in step)))
+    wanted_some = wanted_have (IsCopiedBy (instant_of (decision_in step))) inputs.disk.map (settled_past inputs past (decision_in step)) HasSector settled_then (disk_some inputs.disk.map)
 
-    got_copied : AllByRecursion (CoversIn keep rows) (gots step.1) → AllByRecursion IsCopied (gots step.1)
+    got_copied : AllByRecursion (CoversIn keep rows) (gots step) → AllByRecursion IsCopied (gots step)
     got_copied cover =
         let One = IsOneOf (disk_blocks inputs.disk.map) in
-        let due = delivery_true inputs survivor past step One some (wanted_have (IsCopiedBy (instant_of step.0)) inputs.disk.map (settled_past inputs past step.0) One settled_then (disk_ones inputs.disk.map)) in
-        all_both (λ row. One row.block) (CoversIn keep rows) (gots step.1)
-        (all_weaker (IsDueRow survivor.disk (contents_at survivor) step.0 step.1.plan One) (λ row. One row.block) (λ row due_row. due_block survivor.disk (contents_at survivor) step.0 step.1.plan One row due_row) (gots step.1) due) cover
+        let due = delivery_true inputs survivor past step One some (wanted_have (IsCopiedBy (instant_of (decision_in step))) inputs.disk.map (settled_past inputs past (decision_in step)) One settled_then (disk_ones inputs.disk.map)) in
+        all_both (λ row. One row.block) (CoversIn keep rows) (gots step)
+        (all_weaker (IsDueRow survivor.disk (contents_at survivor) step.act One) (λ row. One row.block) (λ row due_row. due_block survivor.disk (contents_at survivor) step.act One row due_row) (gots step) due) cover
 
-    got_by : (bound : ℕ) → quiet_until step.0 ≤ bound → AllByRecursion (λ (row : DeliveryRow). row.end ≤ bound) (gots step.1)
-    got_by bound order = all_weaker (IsDueRow survivor.disk (contents_at survivor) step.0 step.1.plan HasSector) (λ (row : DeliveryRow). row.end ≤ bound)
-        (λ row due_row. let over = (due_quiet survivor step.0 step.1.plan HasSector placed.of_disk planned row (due_block survivor.disk (contents_at survivor) step.0 step.1.plan HasSector row due_row) due_row).ends in omega arith)
-        (gots step.1) (delivery_true inputs survivor past step HasSector some wanted_some)
+    got_by : (bound : ℕ) → quiet_until (decision_in step) ≤ bound → AllByRecursion (λ (row : DeliveryRow). row.end ≤ bound) (gots step)
+    got_by bound order = all_weaker (IsDueRow survivor.disk (contents_at survivor) step.act HasSector) (λ (row : DeliveryRow). row.end ≤ bound)
+        (λ row due_row. let over = (due_quiet survivor step.act HasSector placed.of_disk planned row (due_block survivor.disk (contents_at survivor) step.act HasSector row due_row) due_row).ends in omega arith)
+        (gots step) (delivery_true inputs survivor past step HasSector some wanted_some)
 
-    got_linked : IsAllDelivered inputs survivor past step → AreLinked NoEarlier (instant_of step.0) (gots step.1)
-    got_linked all = subst (AreLinked NoEarlier (instant_of step.0)) (sym all) (due_ascends survivor step.0 step.1.plan (wanted (settled_past inputs past step.0)) placed.of_disk planned wanted_some)
+    got_linked : IsAllDelivered inputs survivor past step → AreLinked NoEarlier (instant_of (decision_in step)) (gots step)
+    got_linked all = subst (AreLinked NoEarlier (instant_of (decision_in step))) (sym all) (due_ascends survivor step.act (wanted (settled_past inputs past (decision_in step))) placed.of_disk planned wanted_some)
 
-  abbrev Copies : Past → List (Decision × Part) → Type 0
-  Copies past steps = AtEach (λ past step. RowsFit IsCopied AreAllCovered (part_rows inputs.disk step)) inputs past steps
+  abbrev Copies : Past → List Step → Type 0
+  Copies past steps = AtEach (λ past step. RowsFit IsCopied AreAllCovered (step_rows inputs.disk step)) inputs past steps
 
-  steps_copied : (now : ℕ) (past : Past) (ds : List Decision) (parts : List Part) → HasComeTo now past → AreInTurn now ds → AllByRecursion (IsPlaced inputs.disk 0 replay) ds → AtEach (IsPlanned inputs survivor) inputs past (zip ds parts)
-      → AtEach (IsDelivered inputs survivor) inputs past (zip ds parts) → AtEach (IsAllDelivered inputs survivor) inputs past (zip ds parts) → AtEach (IsTested inputs survivor) inputs past (zip ds parts)
-      → AtEach (λ past step. AllByRecursion (CoversIn keep rows) (gots step.1)) inputs past (zip ds parts) → Copies past (zip ds parts)
-  steps_copied now past [] parts come turns placed planned some all tests cover = tt
-  steps_copied now past (d ∷ ds) [] come turns placed planned some all tests cover = tt
-  steps_copied now past (d ∷ ds) (part ∷ parts) come turns placed planned some all tests cover =
-      let step : Decision × Part = (d, part) in
+  steps_copied : (now : ℕ) (past : Past) (steps : List Step) → HasComeTo now past → AreInTurn now (decisions_in steps) → AllByRecursion (IsPlaced inputs.disk 0 replay) (decisions_in steps) → AtEach (IsPlanned inputs survivor) inputs past steps
+      → AtEach (IsDelivered inputs survivor) inputs past steps → AtEach (IsAllDelivered inputs survivor) inputs past steps → AtEach (IsTested inputs survivor) inputs past steps
+      → AtEach (λ past step. AllByRecursion (CoversIn keep rows) (gots step)) inputs past steps → Copies past steps
+  steps_copied now past [] come turns placed planned some all tests cover = tt
+  steps_copied now past (step ∷ steps) come turns placed planned some all tests cover =
+      let d = decision_in step in
       let here = come_later now (instant_of d) past turns.0 come in
       let copied = got_copied past step here placed.0 planned.0 some.0 cover.0 in
       let over = got_by past step here placed.0 planned.0 some.0 (end_of d) turns.2 in
       let after = come_later (instant_of d) (end_of d) past (omega (arith, turns.1, turns.2)) here in
-      let copied_by = all_weaker (λ row. IsCopied row × (row.end ≤ end_of d)) (IsCopiedBy (end_of d)) (λ row both. (both.0.0, both.0.1, both.1)) (gots part)
-      (all_both IsCopied (λ (row : DeliveryRow). row.end ≤ end_of d) (gots part) copied over) in (
-        part_fits IsCopied AreAllCovered IsRebuiltBy NoEarlier rebuild_kept inputs survivor past step (settled_then past step here placed.0 planned.0 some.0) tests.0 copied (got_linked past step here placed.0 planned.0 some.0 all.0),
-        steps_copied (end_of d) (past_after inputs past step) ds parts (inr (after_rebuilds (IsCopiedBy (end_of d)) inputs calls past step after copied_by)) turns.3 placed.1 planned.1 some.1 all.1 tests.1 cover.1,
+      let copied_by = all_weaker (λ row. IsCopied row × (row.end ≤ end_of d)) (IsCopiedBy (end_of d)) (λ row both. (both.0.0, both.0.1, both.1)) (gots step)
+      (all_both IsCopied (λ (row : DeliveryRow). row.end ≤ end_of d) (gots step) copied over) in (
+        step_fits IsCopied AreAllCovered IsRebuiltBy NoEarlier rebuild_kept inputs survivor past step (settled_then past step here placed.0 planned.0 some.0) tests.0 copied (got_linked past step here placed.0 planned.0 some.0 all.0),
+        steps_copied (end_of d) (past_after inputs past step) steps (inr (after_rebuilds (IsCopiedBy (end_of d)) inputs calls past step after copied_by)) turns.3 placed.1 planned.1 some.1 all.1 tests.1 cover.1,
       )
 
 -- ---- the law
@@ -232,12 +231,11 @@ module _ (ascend : ForegroundListsAscend) (one : OnePlainReplay) (inputs : Input
   all_covered keep limit keeps early =
       let are = are_served inputs accepted ascend one in
       let replay = served inputs in
-      let ds = decisions_from inputs.disk (instants_of inputs) inputs.until first_track 0 replay in
       let bytes = rows_weaker (IsFoundIn inputs) HasItsBytes NoFact (λ row found. (medium_with inputs.disk inputs.latent replay, found.bytes)) run.back (back_found inputs run sound are full) in
-      let covers = gots_of_back (CoversIn keep run.back) NoFact inputs run full.parts full.sound (all_cover keep run.back bytes) in
-      let fits = back_fits (IsCopied inputs replay run.back calls keep limit keeps) (AreAllCovered inputs replay run.back calls keep limit keeps) inputs run full.parts full.sound
-      (steps_copied inputs replay run.back calls keep limit keeps 0 [] ds full.parts (inl refl) (decisions_in_turn inputs.disk (instants_of inputs) inputs.until first_track 0 replay are)
-      (decisions_placed inputs.disk sound (instants_of inputs) inputs.until first_track 0 replay are) full.sound.planned full.sound.deliveries full.all full.sound.tested covers) in
+      let covers = gots_of_back (CoversIn keep run.back) NoFact inputs run full.steps full.sound (all_cover keep run.back bytes) in
+      let fits = back_fits (IsCopied inputs replay run.back calls keep limit keeps) (AreAllCovered inputs replay run.back calls keep limit keeps) inputs run full.steps full.sound
+      (steps_copied inputs replay run.back calls keep limit keeps 0 [] full.steps (inl refl) (subst (AreInTurn 0) (sym full.sound.decided) (decisions_in_turn inputs.disk (instants_of inputs) inputs.until first_track 0 replay are))
+      (subst (AllByRecursion (IsPlaced inputs.disk 0 replay)) (sym full.sound.decided) (decisions_placed inputs.disk sound (instants_of inputs) inputs.until first_track 0 replay are)) full.sound.planned full.sound.deliveries full.all full.sound.tested covers) in
       sealed_fact (IsCopied inputs replay run.back calls keep limit keeps) (AreAllCovered inputs replay run.back calls keep limit keeps) run.back sealed fits is early
 
 some_held : (o : Option (ℕ × Content)) → is_some o ≡ true → (held : Content) × (option_map (λ last. last.1) o ≡ Some held)

@@ -5,19 +5,18 @@ use Rattle.std.specs.List.{AllByRecursion, flat_map}
 use Rattle.std.proofs.lemmas.Bool.{and_parts}
 use Rattle.fb_service.specs.declared.disk.Disk.{Disk}
 use Rattle.fb_calls.proofs.Lists.{all_weaker}
-use Rattle.fb_rows.specs.declared.gap.Plan.{Plan}
 use Rattle.fb_rows.specs.declared.back.BackRow.{BackRow}
 use Rattle.fb_rows.specs.declared.back.BackRow.TheVariants.{Gap as GapLine, Idle as IdleLine, Got as GotLine, Bad as BadLine, Seal as SealLine, Segment as SegmentLine, Complete as CompleteLine, Task as TaskLine}
 use Rattle.fb_rows.specs.declared.back.DeliveryRow.{DeliveryRow}
 use Rattle.fb_rows.specs.declared.run.Run.{Run}
 use Rattle.fb_model.specs.Content.{Medium}
 use Rattle.fb_model.specs.Inputs.{Inputs}
-use Rattle.fb_model.specs.Decisions.{Decision, serves, idles, ends, instant_of}
+use Rattle.fb_model.specs.Decisions.{instant_of, Act, serving, idling, ending}
 use Rattle.fb_model.specs.History.{Past, delivered, is_open_backup, task_numbers, terms_of, tested}
 use Rattle.fb_model.specs.Completion.{Choice, choices, is_complete, was_complete, work}
 use Rattle.fb_model.specs.Segments.{live_count}
 use Rattle.fb_model.specs.Images.{bad_sectors, complete_rows, findings, image, is_newly_cleaned, is_scrub, packed, seal_rows, segment_rows, test_rows}
-use Rattle.fb_model.specs.Steps.{AtEach, Delivery, Part, history, opening, part_rows, past_after, settled_past, steps, task_row, task_rows, tested_past, with_delivery}
+use Rattle.fb_model.specs.Steps.{AtEach, Delivery, Step, decision_in, history, opening, step_rows, past_after, settled_past, task_row, task_rows, tested_past, with_delivery}
 use Rattle.fb_model.specs.SoundRun.{AreFollowed, IsSoundBy, IsTested}
 use Rattle.fb_model.proofs.Lists.{all_append, all_flat_map, all_left, all_right}
 
@@ -53,8 +52,8 @@ all_any Q f each (x ∷ xs) = (each x, all_any Q f each xs)
 
 -- ---- one delivery after another
 
-abbrev pub gots : Part → List DeliveryRow
-gots part = map (λ (delivery : Delivery). delivery.got) part.deliveries
+abbrev pub gots : Step → List DeliveryRow
+gots step = map (λ (delivery : Delivery). delivery.got) step.deliveries
 
 -- each end is in a relation to the one before it
 abbrev pub AreLinked : (ℕ → ℕ → Type 0) → ℕ → List DeliveryRow → Type 0
@@ -89,10 +88,10 @@ module _ (P : DeliveryRow → Type 0) (C : ℕ → Type 0) where
       by true = all_any (RowFits P C) (λ lbn. BadLine (record { task = row.block.task; lbn = lbn })) (λ lbn. tt) (bad_sectors row.content)
       by false = tt
 
-  opening_fits : (disk : Disk) (decision : Decision) (plan : Plan) → RowsFit P C (opening disk decision plan)
-  opening_fits disk (serves served) plan = (tt, tt)
-  opening_fits disk (idles dwell) plan = (tt, tt)
-  opening_fits disk (ends now) plan = tt
+  opening_fits : (disk : Disk) (act : Act) → RowsFit P C (opening disk act)
+  opening_fits disk (serving served plan) = (tt, tt)
+  opening_fits disk (idling dwell) = (tt, tt)
+  opening_fits disk (ending now) = tt
 
   tasks_fit : (past : Past) → RowsFit P C (task_rows past)
   unfolding task_rows
@@ -130,37 +129,37 @@ module _ (P : DeliveryRow → Type 0) (C : ℕ → Type 0) where
         )
         (followed_fit medium delivery.got.end (with_delivery past delivery) deliveries (kept.tests delivery.got.end (delivered delivery.got ∷ past) delivery.after next) followed.1 each.1 linked.1)
 
-    -- a decision's rows have what its deliveries have
-    pub part_fits : (inputs : Inputs) (medium : Medium) (past : Past) (step : Decision × Part) → I (instant_of step.0) (settled_past inputs past step.0) → IsTested inputs medium past step
-        → AllByRecursion P (gots step.1) → AreLinked R (instant_of step.0) (gots step.1) → RowsFit P C (part_rows inputs.disk step)
-    part_fits inputs medium past step holds is each linked =
-        all_append (RowFits P C) (step.1.settled ++ opening inputs.disk step.0 step.1.plan) (flat_map (λ (delivery : Delivery). GotLine delivery.got ∷ delivery.after) step.1.deliveries)
-        (all_append (RowFits P C) step.1.settled (opening inputs.disk step.0 step.1.plan)
-        (subst (RowsFit P C) (sym is.settled) (test_fits medium (settled_past inputs past step.0) (instant_of step.0) holds))
-        (opening_fits inputs.disk step.0 step.1.plan))
-        (followed_fit medium (instant_of step.0) (tested_past inputs past step) step.1.deliveries (kept.tests (instant_of step.0) (settled_past inputs past step.0) step.1.settled holds) is.followed each linked)
+    -- a step's rows have what its deliveries have
+    pub step_fits : (inputs : Inputs) (medium : Medium) (past : Past) (step : Step) → I (instant_of (decision_in step)) (settled_past inputs past (decision_in step)) → IsTested inputs medium past step
+        → AllByRecursion P (gots step) → AreLinked R (instant_of (decision_in step)) (gots step) → RowsFit P C (step_rows inputs.disk step)
+    step_fits inputs medium past step holds is each linked =
+        all_append (RowFits P C) (step.settled ++ opening inputs.disk step.act) (flat_map (λ (delivery : Delivery). GotLine delivery.got ∷ delivery.after) step.deliveries)
+        (all_append (RowFits P C) step.settled (opening inputs.disk step.act)
+        (subst (RowsFit P C) (sym is.settled) (test_fits medium (settled_past inputs past (decision_in step)) (instant_of (decision_in step)) holds))
+        (opening_fits inputs.disk step.act))
+        (followed_fit medium (instant_of (decision_in step)) (tested_past inputs past step) step.deliveries (kept.tests (instant_of (decision_in step)) (settled_past inputs past (decision_in step)) step.settled holds) is.followed each linked)
 
 -- where no fact comes with seals
 any_kept : (P : DeliveryRow → Type 0) → IsKept P NoFact (λ now past. Unit {0}) AnyEnds
 any_kept P = record { seals = λ now past task holds is_open done. tt; delivers = λ now past row holds is linked. tt; tests = λ now past rows holds. tt }
 
-pub gots_fit_part : (P : DeliveryRow → Type 0) (inputs : Inputs) (medium : Medium) (past : Past) (step : Decision × Part) → IsTested inputs medium past step → AllByRecursion P (gots step.1) → RowsFit P NoFact (part_rows inputs.disk step)
-gots_fit_part P inputs medium past step is each = part_fits P NoFact (λ now past. Unit {0}) AnyEnds (any_kept P) inputs medium past step tt is each (any_linked (instant_of step.0) (gots step.1))
+pub gots_fit_step : (P : DeliveryRow → Type 0) (inputs : Inputs) (medium : Medium) (past : Past) (step : Step) → IsTested inputs medium past step → AllByRecursion P (gots step) → RowsFit P NoFact (step_rows inputs.disk step)
+gots_fit_step P inputs medium past step is each = step_fits P NoFact (λ now past. Unit {0}) AnyEnds (any_kept P) inputs medium past step tt is each (any_linked (instant_of (decision_in step)) (gots step))
 
--- ---- the rows of all decisions, and of all tasks behind them
+-- ---- the rows of all steps, and of all tasks behind them
 
-all_fit : (P : DeliveryRow → Type 0) (C : ℕ → Type 0) (inputs : Inputs) (past : Past) (steps : List (Decision × Part)) → AtEach (λ past step. RowsFit P C (part_rows inputs.disk step)) inputs past steps
-    → RowsFit P C (flat_map (part_rows inputs.disk) steps)
+all_fit : (P : DeliveryRow → Type 0) (C : ℕ → Type 0) (inputs : Inputs) (past : Past) (steps : List Step) → AtEach (λ past step. RowsFit P C (step_rows inputs.disk step)) inputs past steps
+    → RowsFit P C (flat_map (step_rows inputs.disk) steps)
 all_fit P C inputs past [] each = tt
-all_fit P C inputs past (step ∷ steps) each = all_append (RowFits P C) (part_rows inputs.disk step) (flat_map (part_rows inputs.disk) steps) each.0 (all_fit P C inputs (past_after inputs past step) steps each.1)
+all_fit P C inputs past (step ∷ steps) each = all_append (RowFits P C) (step_rows inputs.disk step) (flat_map (step_rows inputs.disk) steps) each.0 (all_fit P C inputs (past_after inputs past step) steps each.1)
 
--- the background of a run has what the rows of each decision have
-pub back_fits : (P : DeliveryRow → Type 0) (C : ℕ → Type 0) (inputs : Inputs) (run : Run) (parts : List Part) → IsSoundBy inputs parts run
-    → AtEach (λ past step. RowsFit P C (part_rows inputs.disk step)) inputs [] (steps inputs parts) → RowsFit P C run.back
-back_fits P C inputs run parts is each = subst (RowsFit P C) (sym is.back)
-    (all_append (RowFits P C) (flat_map (part_rows inputs.disk) (steps inputs parts)) is.tasks
-    (all_fit P C inputs [] (steps inputs parts) each)
-    (subst (RowsFit P C) (sym is.counted) (tasks_fit P C (history inputs (steps inputs parts)))))
+-- the background of a run has what the rows of each step have
+pub back_fits : (P : DeliveryRow → Type 0) (C : ℕ → Type 0) (inputs : Inputs) (run : Run) (steps : List Step) → IsSoundBy inputs steps run
+    → AtEach (λ past step. RowsFit P C (step_rows inputs.disk step)) inputs [] steps → RowsFit P C run.back
+back_fits P C inputs run steps is each = subst (RowsFit P C) (sym is.back)
+    (all_append (RowFits P C) (flat_map (step_rows inputs.disk) steps) is.tasks
+    (all_fit P C inputs [] steps each)
+    (subst (RowsFit P C) (sym is.counted) (tasks_fit P C (history inputs steps))))
 
 -- ---- and the deliveries have what the rows have
 
@@ -172,18 +171,18 @@ gots_of P C (delivery ∷ deliveries) fit = (
   gots_of P C deliveries (all_right (RowFits P C) (GotLine delivery.got ∷ delivery.after) (flat_map (λ (delivery : Delivery). GotLine delivery.got ∷ delivery.after) deliveries) fit),
 )
 
--- the deliveries of each decision
-gots_fit : (P : DeliveryRow → Type 0) (C : ℕ → Type 0) (inputs : Inputs) (past : Past) (steps : List (Decision × Part)) → RowsFit P C (flat_map (part_rows inputs.disk) steps)
-    → AtEach (λ past step. AllByRecursion P (gots step.1)) inputs past steps
+-- the deliveries of each step
+gots_fit : (P : DeliveryRow → Type 0) (C : ℕ → Type 0) (inputs : Inputs) (past : Past) (steps : List Step) → RowsFit P C (flat_map (step_rows inputs.disk) steps)
+    → AtEach (λ past step. AllByRecursion P (gots step)) inputs past steps
 gots_fit P C inputs past [] fit = tt
 gots_fit P C inputs past (step ∷ steps) fit = (
-  gots_of P C step.1.deliveries
-      (all_right (RowFits P C) (step.1.settled ++ opening inputs.disk step.0 step.1.plan) (flat_map (λ (delivery : Delivery). GotLine delivery.got ∷ delivery.after) step.1.deliveries)
-      (all_left (RowFits P C) (part_rows inputs.disk step) (flat_map (part_rows inputs.disk) steps) fit)),
-  gots_fit P C inputs (past_after inputs past step) steps (all_right (RowFits P C) (part_rows inputs.disk step) (flat_map (part_rows inputs.disk) steps) fit),
+  gots_of P C step.deliveries
+      (all_right (RowFits P C) (step.settled ++ opening inputs.disk step.act) (flat_map (λ (delivery : Delivery). GotLine delivery.got ∷ delivery.after) step.deliveries)
+      (all_left (RowFits P C) (step_rows inputs.disk step) (flat_map (step_rows inputs.disk) steps) fit)),
+  gots_fit P C inputs (past_after inputs past step) steps (all_right (RowFits P C) (step_rows inputs.disk step) (flat_map (step_rows inputs.disk) steps) fit),
 )
 
-pub gots_of_back : (P : DeliveryRow → Type 0) (C : ℕ → Type 0) (inputs : Inputs) (run : Run) (parts : List Part) → IsSoundBy inputs parts run → RowsFit P C run.back
-    → AtEach (λ past step. AllByRecursion P (gots step.1)) inputs [] (steps inputs parts)
-gots_of_back P C inputs run parts is fit = gots_fit P C inputs [] (steps inputs parts)
-    (all_left (RowFits P C) (flat_map (part_rows inputs.disk) (steps inputs parts)) is.tasks (subst (RowsFit P C) is.back fit))
+pub gots_of_back : (P : DeliveryRow → Type 0) (C : ℕ → Type 0) (inputs : Inputs) (run : Run) (steps : List Step) → IsSoundBy inputs steps run → RowsFit P C run.back
+    → AtEach (λ past step. AllByRecursion P (gots step)) inputs [] steps
+gots_of_back P C inputs run steps is fit = gots_fit P C inputs [] steps
+    (all_left (RowFits P C) (flat_map (step_rows inputs.disk) steps) is.tasks (subst (RowsFit P C) is.back fit))

@@ -1,7 +1,7 @@
 -- A sector that an event concerned holds in the replacement what it holds on the survivor at the run's end.
 use Rattle.std.proofs.Common.{◌≡◌, ◌⊎◌, ℕ, ◌<◌, ◌≤◌, max, List, [], ◌∷◌, ◌++◌, map, Option, Some, None, Bool, true, false, cond, refl, ap, sym, subst, ◌∙◌, arith, inl, inr, append-nil}
 use Rattle.std.specs.Prelude.{nat_lt, nat_le, filter, ◌&&◌}
-use Rattle.std.specs.List.{AllByRecursion, flat_map, fold, zip}
+use Rattle.std.specs.List.{AllByRecursion, flat_map, fold}
 use Rattle.std.specs.Option.{option_map, unwrap_or}
 use Rattle.std.proofs.lemmas.Bool.{cases_Bool}
 use Rattle.std.proofs.lemmas.Bool.Decides.{nat_tests}
@@ -28,7 +28,7 @@ use Rattle.fb_model.specs.Accepted.{IsAccepted}
 use Rattle.fb_model.specs.Content.{Medium, Written, content, content_by, contents_at, fore_row, fore_rows, medium_of, number_of, writes_of}
 use Rattle.fb_model.specs.Decisions.{Decision, serves, decisions, decisions_from, end_of, idle_until, instant_of, instants_of, last_decision, run_end}
 use Rattle.fb_model.specs.History.{Past, wanted}
-use Rattle.fb_model.specs.Steps.{AtEach, Delivery, Part, part_rows, past_after, settled_past}
+use Rattle.fb_model.specs.Steps.{AtEach, Delivery, Step, decision_in, decisions_in, step_rows, past_after, settled_past}
 use Rattle.fb_model.specs.SoundRun.{HasPlan, IsDelivered, IsPlanned, IsTested}
 use Rattle.fb_model.specs.Laws.{ForegroundListsAscend, OnePlainReplay}
 use Rattle.fb_model.specs.FullRun.{IsFull}
@@ -41,7 +41,7 @@ use Rattle.fb_mirror.specs.Survivor.{survives}
 use Rattle.fb_mirror.proofs.Deciding.{later-assoc}
 use Rattle.fb_mirror.proofs.EventLaws.{none_some, same_one, write_gives}
 use Rattle.fb_mirror.proofs.Between.{IsBetween, IsPlaced, between_within, decisions_placed, due_quiet, quiet_until}
-use Rattle.fb_mirror.proofs.RunRows.{NoFact, RowsFit, back_fits, gots_fit_part}
+use Rattle.fb_mirror.proofs.RunRows.{NoFact, RowsFit, back_fits, gots_fit_step}
 use Rattle.fb_mirror.proofs.Writing.{AreServed, all_writes, are_served, content_then, ended, finishes_late, last_of, last_of-append, last_of-more, left_after, left_by, medium_with}
 
 -- ---- events one after another
@@ -295,26 +295,25 @@ any_blocks [] = tt
 any_blocks (block ∷ blocks) = (tt, any_blocks blocks)
 
 module _ (inputs : Inputs) (medium : Medium) (replay : List Served) (same_disk : medium.disk ≡ inputs.disk) where
-  got_found : (past : Past) (step : Decision × Part) → IsPlaced medium.disk 0 replay step.0 → IsPlanned inputs medium past step → IsDelivered inputs medium past step
-      → AllByRecursion (IsFound medium replay) (map (λ (delivery : Delivery). delivery.got) step.1.deliveries)
+  got_found : (past : Past) (step : Step) → IsPlaced medium.disk 0 replay (decision_in step) → IsPlanned inputs medium past step → IsDelivered inputs medium past step
+      → AllByRecursion (IsFound medium replay) (map (λ (delivery : Delivery). delivery.got) step.deliveries)
   got_found past step placed planned some =
-      all_weaker (IsDueRow medium.disk (contents_at medium) step.0 step.1.plan AnyBlock) (IsFound medium replay) (λ row due_row.
-      let lies = λ (some : 0 < row.block.count). due_quiet medium step.0 step.1.plan AnyBlock placed.of_disk (subst (λ disk. HasPlan disk step.0 step.1.plan) (sym same_disk) planned) row some due_row in
+      all_weaker (IsDueRow medium.disk (contents_at medium) step.act AnyBlock) (IsFound medium replay) (λ row due_row.
+      let lies = λ (some : 0 < row.block.count). due_quiet medium step.act AnyBlock placed.of_disk (subst (λ disk. HasPlan disk step.act) (sym same_disk) planned) row some due_row in
       record {
-        bytes = due_bytes medium.disk (contents_at medium) step.0 step.1.plan AnyBlock row due_row;
+        bytes = due_bytes medium.disk (contents_at medium) step.act AnyBlock row due_row;
         order = λ some. (lies some).in_turn;
-        between = λ some. between_within replay (instant_of step.0) (quiet_until step.0) row.begin row.end (lies some).begins (lies some).ends placed.between;
+        between = λ some. between_within replay (instant_of (decision_in step)) (quiet_until (decision_in step)) row.begin row.end (lies some).begins (lies some).ends placed.between;
       })
-      (map (λ (delivery : Delivery). delivery.got) step.1.deliveries)
-      (delivery_true inputs medium past step AnyBlock some (any_blocks (wanted (settled_past inputs past step.0))))
+      (map (λ (delivery : Delivery). delivery.got) step.deliveries)
+      (delivery_true inputs medium past step AnyBlock some (any_blocks (wanted (settled_past inputs past (decision_in step)))))
 
-  steps_found : (past : Past) (ds : List Decision) (parts : List Part) → AllByRecursion (IsPlaced medium.disk 0 replay) ds → AtEach (IsPlanned inputs medium) inputs past (zip ds parts) → AtEach (IsDelivered inputs medium) inputs past (zip ds parts)
-      → AtEach (IsTested inputs medium) inputs past (zip ds parts) → AtEach (λ past step. RowsFit (IsFound medium replay) NoFact (part_rows inputs.disk step)) inputs past (zip ds parts)
-  steps_found past [] parts placed planned some is = tt
-  steps_found past (d ∷ ds) [] placed planned some is = tt
-  steps_found past (d ∷ ds) (part ∷ parts) placed planned some is = (
-    gots_fit_part (IsFound medium replay) inputs medium past (d, part) is.0 (got_found past (d, part) placed.0 planned.0 some.0),
-    steps_found (past_after inputs past (d, part)) ds parts placed.1 planned.1 some.1 is.1,
+  steps_found : (past : Past) (steps : List Step) → AllByRecursion (IsPlaced medium.disk 0 replay) (decisions_in steps) → AtEach (IsPlanned inputs medium) inputs past steps → AtEach (IsDelivered inputs medium) inputs past steps
+      → AtEach (IsTested inputs medium) inputs past steps → AtEach (λ past step. RowsFit (IsFound medium replay) NoFact (step_rows inputs.disk step)) inputs past steps
+  steps_found past [] placed planned some is = tt
+  steps_found past (step ∷ steps) placed planned some is = (
+    gots_fit_step (IsFound medium replay) inputs medium past step is.0 (got_found past step placed.0 planned.0 some.0),
+    steps_found (past_after inputs past step) steps placed.1 planned.1 some.1 is.1,
   )
 
 -- ---- the end of the run
@@ -360,9 +359,8 @@ pub back_found : (inputs : Inputs) (run : Run) → IsSound inputs.disk.map → A
 unfolding decisions medium_of
 back_found inputs run sound are full =
     let medium = medium_with inputs.disk inputs.latent (served inputs) in
-    let ds = decisions_from inputs.disk (instants_of inputs) inputs.until first_track 0 (served inputs) in
-    back_fits (IsFoundIn inputs) NoFact inputs run full.parts full.sound
-    (steps_found inputs medium (served inputs) refl [] ds full.parts (decisions_placed inputs.disk sound (instants_of inputs) inputs.until first_track 0 (served inputs) are) full.sound.planned full.sound.deliveries full.sound.tested)
+    let placed = subst (AllByRecursion (IsPlaced inputs.disk 0 (served inputs))) (sym full.sound.decided) (decisions_placed inputs.disk sound (instants_of inputs) inputs.until first_track 0 (served inputs) are) in
+    back_fits (IsFoundIn inputs) NoFact inputs run full.steps full.sound (steps_found inputs medium (served inputs) refl [] full.steps placed full.sound.planned full.sound.deliveries full.sound.tested)
 
 end_holds : (inputs : Inputs) (run : Run) (lbn : ℕ) → AreServed inputs.disk 0 (served inputs) → IsFull inputs run → survives inputs run lbn ≡ left_after inputs.latent (served inputs) lbn
 unfolding decisions medium_of
