@@ -32,7 +32,7 @@ returns c = λ one other terms replay runs run run' are_runs is_run asks at.
       trace = ap (λ t. t.requests) trace;
       key = ap key_of (sym asks.policy);
       promoted = devices_promote_none terms.rebuild array device mine.trace are_runs.sound are_runs.accepts.script ∙ sym (ap (λ (s : Script). promoted s.calls) no_calls);
-    }) (record { parts = mine.full.parts; sound = mine.full.sound }) (record { parts = is_run.full.parts; sound = is_run.full.sound }) in
+    }) (record { steps = mine.full.steps; sound = mine.full.sound }) (record { steps = is_run.full.steps; sound = is_run.full.sound }) in
     let text = same_text _ _ terms.bytes run run' (ap (λ d. d.sector_bytes) disk) fore (mine.full.sound.passed_over ∙ ap (λ t. t.passed_over) trace ∙ sym is_run.full.sound.passed_over) in
     ap (λ written. device_line device ++ written) (text
     ∙ subst (λ (bytes : Bytes). fore_text files.disk.sector_bytes terms.bytes run' ≡ fore_text files.disk.sector_bytes bytes run') (sym asks.bytes) refl
