@@ -37,7 +37,8 @@ use Rattle.fb_tasks.proofs.Lists.{all_any}
 
 -- the rows of a step that tell nothing of the head fall away
 step_timeline : (disk : Disk) (step : Step) (back : List BackRow) (fore : List ForeRow) → IsQuietStep step
-    → timeline disk (step_rows disk step ++ back) fore ≡ timeline disk (opening disk step.act ++ (delivered_rows step.deliveries ++ back)) fore
+    → timeline disk (step_rows disk step ++ back) fore
+    ≡ timeline disk (opening disk step.act ++ (delivered_rows step.deliveries ++ back)) fore
 step_timeline disk step back fore quiet =
     ap (λ rows. timeline disk rows fore) (append_assoc (step.settled ++ opening disk step.act) (delivered_rows step.deliveries) back
     ∙ append_assoc step.settled (opening disk step.act) (delivered_rows step.deliveries ++ back))
@@ -64,33 +65,42 @@ module _ (inputs : Inputs) (medium : Medium) (tasks : List BackRow) (quiet : All
   back_rows steps = flat_map (step_rows inputs.disk) steps ++ tasks
 
   abbrev Arrives : Track → ℕ → List Step → Type 0
-  Arrives head now steps = led_to inputs.disk head now (timeline inputs.disk (back_rows steps) (map (fore_row medium) (services (decisions_in steps))))
+  Arrives head now steps =
+      led_to inputs.disk head now (timeline inputs.disk (back_rows steps) (map (fore_row medium) (services (decisions_in steps))))
       ≡ Some (fold (λ end decision. end_of decision) now (decisions_in steps))
 
   one_timeline : (step : Step) (steps : List Step) (fore : List ForeRow) → IsQuietStep step
-      → timeline inputs.disk (back_rows (step ∷ steps)) fore ≡ timeline inputs.disk (opening inputs.disk step.act ++ (delivered_rows step.deliveries ++ back_rows steps)) fore
+      → timeline inputs.disk (back_rows (step ∷ steps)) fore
+      ≡ timeline inputs.disk (opening inputs.disk step.act ++ (delivered_rows step.deliveries ++ back_rows steps)) fore
   one_timeline step steps fore silent =
       ap (λ rows. timeline inputs.disk rows fore) (append_assoc (step_rows inputs.disk step) (flat_map (step_rows inputs.disk) steps) tasks)
       ∙ step_timeline inputs.disk step (back_rows steps) fore silent
 
   -- one step, by what is done at it, where the later ones arrive
-  arrives_by : (head : Track) (now : ℕ) (step : Step) (act : Act) (steps : List Step) → Follow (LiesOnDisk inputs.disk.map) inputs.disk head now (decision_of act ∷ decisions_in steps)
+  arrives_by : (head : Track) (now : ℕ) (step : Step) (act : Act) (steps : List Step)
+      → Follow (LiesOnDisk inputs.disk.map) inputs.disk head now (decision_of act ∷ decisions_in steps)
       → IsQuietStep (record step { act = act }) → HasPlan inputs.disk act
-      → ((head : Track) (now : ℕ) → Follow (LiesOnDisk inputs.disk.map) inputs.disk head now (decisions_in steps) → Arrives head now steps) → Arrives head now (record step { act = act } ∷ steps)
+      → ((head : Track) (now : ℕ) → Follow (LiesOnDisk inputs.disk.map) inputs.disk head now (decisions_in steps) → Arrives head now steps)
+      → Arrives head now (record step { act = act } ∷ steps)
   unfolding timeline
   arrives_by head now step (serving served plan) steps follow silent is_plan rest =
       let fore = map (fore_row medium) (services (decisions_in steps)) in
       let to = last_track inputs.disk served in
-      ap (led_to inputs.disk head now) (one_timeline (record step { act = serving served plan }) steps (fore_row medium served ∷ fore) silent)
-      ∙ (lead_served inputs.disk medium head now served plan sound follow.0 follow.1 is_plan (timeline inputs.disk (delivered_rows step.deliveries ++ back_rows steps) fore)
-      ∙ (ap (led_to inputs.disk to (finish served)) (quiet_before inputs.disk (delivered_rows step.deliveries) (back_rows steps) fore silent.delivered)
+      let behind = timeline inputs.disk (delivered_rows step.deliveries ++ back_rows steps) fore in
+      let quiet_behind = quiet_before inputs.disk (delivered_rows step.deliveries) (back_rows steps) fore silent.delivered in
+      ap (led_to inputs.disk head now)
+      (one_timeline (record step { act = serving served plan }) steps (fore_row medium served ∷ fore) silent)
+      ∙ (lead_served inputs.disk medium head now served plan sound follow.0 follow.1 is_plan behind
+      ∙ (ap (led_to inputs.disk to (finish served)) quiet_behind
       ∙ rest to (finish served) follow.2))
   arrives_by head now step (idling dwell) steps follow silent is_plan rest =
       let fore = map (fore_row medium) (services (decisions_in steps)) in
-      let here : Leads inputs.disk head now (stay dwell.track dwell.begin dwell.end ∷ []) head dwell.end = rw (follow.0, follow.1) (lead_stay inputs.disk head now dwell.end follow.2) in
+      let here : Leads inputs.disk head now (stay dwell.track dwell.begin dwell.end ∷ []) head dwell.end =
+      rw (follow.0, follow.1) (lead_stay inputs.disk head now dwell.end follow.2) in
       ap (led_to inputs.disk head now) (one_timeline (record step { act = idling dwell }) steps fore silent)
       ∙ (here (timeline inputs.disk (delivered_rows step.deliveries ++ back_rows steps) fore)
-      ∙ (ap (led_to inputs.disk head dwell.end) (quiet_before inputs.disk (delivered_rows step.deliveries) (back_rows steps) fore silent.delivered)
+      ∙ (ap (led_to inputs.disk head dwell.end)
+      (quiet_before inputs.disk (delivered_rows step.deliveries) (back_rows steps) fore silent.delivered)
       ∙ rest head dwell.end follow.3))
   arrives_by head now step (ending end) steps follow silent is_plan rest =
       let fore = map (fore_row medium) (services (decisions_in steps)) in
@@ -98,23 +108,28 @@ module _ (inputs : Inputs) (medium : Medium) (tasks : List BackRow) (quiet : All
       ∙ quiet_before inputs.disk (delivered_rows step.deliveries) (back_rows steps) fore silent.delivered)
       ∙ (rest head now follow.1 ∙ ap (λ t. Some (fold (λ end decision. end_of decision) t (decisions_in steps))) (sym follow.0))
 
-  arrives : (past : Past) (head : Track) (now : ℕ) (steps : List Step) → Follow (LiesOnDisk inputs.disk.map) inputs.disk head now (decisions_in steps)
+  arrives : (past : Past) (head : Track) (now : ℕ) (steps : List Step)
+      → Follow (LiesOnDisk inputs.disk.map) inputs.disk head now (decisions_in steps)
       → AtEach (IsPlanned inputs medium) inputs past steps → AtEach (IsTested inputs medium) inputs past steps → Arrives head now steps
   unfolding led_to
   arrives past head now [] follow planned tested = ap (led_to inputs.disk head now) (all_quiet inputs.disk tasks [] quiet)
-  arrives past head now (step ∷ steps) follow planned tested = arrives_by head now step step.act steps follow (quiet_step inputs medium past step tested.0) planned.0
+  arrives past head now (step ∷ steps) follow planned tested =
+      arrives_by head now step step.act steps follow (quiet_step inputs medium past step tested.0) planned.0
       (λ head now later. arrives (past_after inputs past step) head now steps later planned.1 tested.1)
 
 -- the timeline of decisions with plans of their gaps is possible
-pub possible : (inputs : Inputs) (steps : List Step) (past : Past) → IsSound inputs.disk.map → IsAccepted inputs → decisions_in steps ≡ decisions inputs
+pub possible : (inputs : Inputs) (steps : List Step) (past : Past) → IsSound inputs.disk.map → IsAccepted inputs
+    → decisions_in steps ≡ decisions inputs
     → Throughout IsPlanned inputs steps → Throughout IsTested inputs steps
-    → IsPossible inputs.disk (timeline inputs.disk (flat_map (step_rows inputs.disk) steps ++ task_rows past) (fore_rows inputs)) (run_end (decisions inputs))
+    → IsPossible inputs.disk (timeline inputs.disk (flat_map (step_rows inputs.disk) steps ++ task_rows past) (fore_rows inputs))
+    (run_end (decisions inputs))
 unfolding fore_rows
 possible inputs steps past sound accepted decided planned tested =
     let chain = decisions_follow (LiesOnDisk inputs.disk.map) inputs (requests_lie inputs accepted) in
-    let back = flat_map (step_rows inputs.disk) steps ++ task_rows past in
-    subst (λ (replay : List Served). IsPossible inputs.disk (timeline inputs.disk back (map (fore_row (medium_of inputs)) replay)) (run_end (decisions inputs))) chain.1
-    (subst (λ ds. led_to inputs.disk first_track 0 (timeline inputs.disk back (map (fore_row (medium_of inputs)) (services ds))) ≡ Some (run_end ds)) decided
+    let rows = λ (replay : List Served). timeline inputs.disk (flat_map (step_rows inputs.disk) steps ++ task_rows past)
+    (map (fore_row (medium_of inputs)) replay) in
+    subst (λ replay. IsPossible inputs.disk (rows replay) (run_end (decisions inputs))) chain.1
+    (subst (λ ds. led_to inputs.disk first_track 0 (rows (services ds)) ≡ Some (run_end ds)) decided
     (arrives inputs (medium_of inputs) (task_rows past) (tasks_quiet past) sound [] first_track 0 steps
     (subst (Follow (LiesOnDisk inputs.disk.map) inputs.disk first_track 0) (sym decided) chain.0) planned tested))
 

@@ -7,6 +7,7 @@ use Rattle.fb_wanted.specs.declared.block.Block.{Block}
 use Rattle.fb_rows.specs.declared.gap.Gap.{Gap}
 use Rattle.fb_rows.specs.declared.gap.Plan.{Plan}
 use Rattle.fb_rows.specs.declared.gap.Plan.TheVariants.{Direct, Detour}
+use Rattle.fb_rows.specs.declared.back.BackRow.{BackRow}
 use Rattle.fb_rows.specs.declared.back.DeliveryRow.{DeliveryRow}
 use Rattle.fb_rows.specs.declared.run.Run.{Run}
 use Rattle.fb_model.specs.Inputs.{Inputs}
@@ -67,10 +68,12 @@ one_following medium past (x ∷ xs) (y ∷ ys) h k e =
     ap (λ d. d ∷ xs) same
     ∙ ap (λ ds. y ∷ ds) (one_following medium (with_delivery past y) xs ys (subst (λ d. AreFollowed medium (with_delivery past d) xs) same h.1) k.1 (same_rest x.got y.got (gots xs) (gots ys) e))
 
-one_act : (disk : Disk) (wanted : List Block) (a b : Act) → decision_of a ≡ decision_of b → HasBestPlan disk wanted a → HasBestPlan disk wanted b → a ≡ b
+one_act : (disk : Disk) (wanted : List Block) (a b : Act) → decision_of a ≡ decision_of b
+    → HasBestPlan disk wanted a → HasBestPlan disk wanted b → a ≡ b
 one_act disk wanted (serving served p) (serving other q) same h k =
     let one : served ≡ other = cc in
-    ap (λ served. serving served p) one ∙ ap (serving other) (one_best disk (gap_of disk other) wanted p q (subst (λ served. IsBest disk (gap_of disk served) wanted p) one h) k)
+    let best : IsBest disk (gap_of disk other) wanted p = subst (λ served. IsBest disk (gap_of disk served) wanted p) one h in
+    ap (λ served. serving served p) one ∙ ap (serving other) (one_best disk (gap_of disk other) wanted p q best k)
 one_act disk wanted (idling dwell) (idling other) same h k = let one : dwell ≡ other = cc in ap idling one
 one_act disk wanted (ending now) (ending other) same h k = let one : now ≡ other = cc in ap ending one
 one_act disk wanted (serving served p) (idling other) same h k = cc
@@ -86,37 +89,44 @@ pub record IsFullStep (inputs : Inputs) (medium : Medium) (past : Past) (step : 
   pub best : IsBestPlanned inputs medium past step
   pub all : IsAllDelivered inputs medium past step
 
-pub one_step : (inputs : Inputs) (medium : Medium) (past : Past) (a b : Step) → decision_in a ≡ decision_in b → IsFullStep inputs medium past a → IsFullStep inputs medium past b → a ≡ b
+pub one_step : (inputs : Inputs) (medium : Medium) (past : Past) (a b : Step) → decision_in a ≡ decision_in b
+    → IsFullStep inputs medium past a → IsFullStep inputs medium past b → a ≡ b
 one_step inputs medium past a b same h k =
     let settles = λ (decision : Decision). settled_past inputs past decision in
-    let act : a.act ≡ b.act = one_act inputs.disk (wanted (settles (decision_in b))) a.act b.act same (subst (λ d. HasBestPlan inputs.disk (wanted (settles d)) a.act) same h.best) k.best in
-    let settled : a.settled ≡ b.settled = h.tests.settled ∙ ap (λ d. test_rows medium (settles d) (instant_of d)) same ∙ sym k.tests.settled in
-    let all : gots a.deliveries ≡ gots b.deliveries = h.all ∙ ap (λ act. due medium.disk (contents_at medium) act (wanted (settles (decision_of act)))) act ∙ sym k.all in
-    let deliveries : a.deliveries ≡ b.deliveries = one_following medium (tested_past inputs past b) a.deliveries b.deliveries
-    (subst (λ past. AreFollowed medium past a.deliveries) (ap₂ (λ rows d. tested rows ∷ settles d) settled same) h.tests.followed) k.tests.followed all in
-    ap (λ act. record { settled = a.settled; act = act; deliveries = a.deliveries }) act
-    ∙ ap (λ rows. record { settled = rows; act = b.act; deliveries = a.deliveries }) settled
-    ∙ ap (λ deliveries. record { settled = b.settled; act = b.act; deliveries = deliveries }) deliveries
+    let best = subst (λ d. HasBestPlan inputs.disk (wanted (settles d)) a.act) same h.best in
+    let act : a.act ≡ b.act = one_act inputs.disk (wanted (settles (decision_in b))) a.act b.act same best k.best in
+    let rows : a.settled ≡ b.settled =
+    h.tests.settled ∙ ap (λ d. test_rows medium (settles d) (instant_of d)) same ∙ sym k.tests.settled in
+    let all : gots a.deliveries ≡ gots b.deliveries =
+    h.all ∙ ap (λ act. due medium.disk (contents_at medium) act (wanted (settles (decision_of act)))) act ∙ sym k.all in
+    let pasts : tested_past inputs past a ≡ tested_past inputs past b = ap₂ (λ rows d. tested rows ∷ settles d) rows same in
+    let followed = subst (λ past. AreFollowed medium past a.deliveries) pasts h.tests.followed in
+    let deliveries = one_following medium (tested_past inputs past b) a.deliveries b.deliveries followed k.tests.followed all in
+    ap (λ act. record a { act = act }) act
+    ∙ ap (λ rows. record a { act = b.act; settled = rows }) rows
+    ∙ ap (λ deliveries. record b { deliveries = deliveries }) deliveries
 
 -- ---- all steps
 
 one_course : (inputs : Inputs) (medium : Medium) (past : Past) (xs ys : List Step) → decisions_in xs ≡ decisions_in ys
     → AtEach (IsFullStep inputs medium) inputs past xs → AtEach (IsFullStep inputs medium) inputs past ys → xs ≡ ys
 one_course inputs medium past [] [] e h k = refl
-one_course inputs medium past [] (y ∷ ys) e h k = absurd (not_none (decision_in y) (decisions_in ys) (sym e))
-one_course inputs medium past (x ∷ xs) [] e h k = absurd (not_none (decision_in x) (decisions_in xs) e)
+one_course inputs medium past [] (y ∷ ys) e h k = absurd (not_none _ _ (sym e))
+one_course inputs medium past (x ∷ xs) [] e h k = absurd (not_none _ _ e)
 one_course inputs medium past (x ∷ xs) (y ∷ ys) e h k =
-    let same = one_step inputs medium past x y (same_first (decision_in x) (decision_in y) (decisions_in xs) (decisions_in ys) e) h.0 k.0 in
-    ap (λ x. x ∷ xs) same
-    ∙ ap (λ xs. y ∷ xs) (one_course inputs medium (past_after inputs past y) xs ys (same_rest (decision_in x) (decision_in y) (decisions_in xs) (decisions_in ys) e)
-    (subst (λ x. AtEach (IsFullStep inputs medium) inputs (past_after inputs past x) xs) same h.1) k.1)
+    let same = one_step inputs medium past x y (same_first _ _ _ _ e) h.0 k.0 in
+    let later = subst (λ x. AtEach (IsFullStep inputs medium) inputs (past_after inputs past x) xs) same h.1 in
+    ap (λ x. x ∷ xs) same ∙ ap (λ xs. y ∷ xs) (one_course inputs medium (past_after inputs past y) xs ys (same_rest _ _ _ _ e) later k.1)
 
-at_each : (inputs : Inputs) (medium : Medium) (past : Past) (steps : List Step) → AtEach (IsTested inputs medium) inputs past steps → AtEach (IsBestPlanned inputs medium) inputs past steps
-    → AtEach (IsAllDelivered inputs medium) inputs past steps → AtEach (IsFullStep inputs medium) inputs past steps
+at_each : (inputs : Inputs) (medium : Medium) (past : Past) (steps : List Step) → AtEach (IsTested inputs medium) inputs past steps
+    → AtEach (IsBestPlanned inputs medium) inputs past steps → AtEach (IsAllDelivered inputs medium) inputs past steps
+    → AtEach (IsFullStep inputs medium) inputs past steps
 at_each inputs medium past [] a b c = tt
-at_each inputs medium past (step ∷ steps) a b c = (record { tests = a.0; best = b.0; all = c.0 }, at_each inputs medium (past_after inputs past step) steps a.1 b.1 c.1)
+at_each inputs medium past (step ∷ steps) a b c =
+    (record { tests = a.0; best = b.0; all = c.0 }, at_each inputs medium (past_after inputs past step) steps a.1 b.1 c.1)
 
-pub full_steps : (inputs : Inputs) (run : Run) (full : IsFull inputs run) → AtEach (IsFullStep inputs (medium_of inputs)) inputs [] full.steps
+pub full_steps : (inputs : Inputs) (run : Run) (full : IsFull inputs run)
+    → AtEach (IsFullStep inputs (medium_of inputs)) inputs [] full.steps
 full_steps inputs run full = at_each inputs (medium_of inputs) [] full.steps full.sound.tested full.best full.all
 
 same_run : (a b : Run) → a.fore ≡ b.fore → a.back ≡ b.back → a.passed_over ≡ b.passed_over → a.end ≡ b.end → a ≡ b
@@ -128,8 +138,9 @@ same_run a b fore back passed end =
 
 pub one_full : (inputs : Inputs) (a b : Run) → IsAccepted inputs → IsFull inputs a → IsFull inputs b → a ≡ b
 one_full inputs a b accepted h k =
-    let same = one_course inputs (medium_of inputs) [] h.steps k.steps (h.sound.decided ∙ sym k.sound.decided) (full_steps inputs a h) (full_steps inputs b k) in
-    let back = λ (steps : List Step). flat_map (step_rows inputs.disk) steps ++ task_rows (history inputs steps) in
-    let is : a.back ≡ back h.steps = h.sound.back ∙ ap (λ rows. flat_map (step_rows inputs.disk) h.steps ++ rows) h.sound.counted in
-    let other : b.back ≡ back k.steps = k.sound.back ∙ ap (λ rows. flat_map (step_rows inputs.disk) k.steps ++ rows) k.sound.counted in
-    same_run a b (h.sound.fore ∙ sym k.sound.fore) (is ∙ ap back same ∙ sym other) (h.sound.passed_over ∙ sym k.sound.passed_over) (h.sound.end ∙ sym k.sound.end)
+    let same = one_course inputs (medium_of inputs) [] h.steps k.steps (h.sound.decided ∙ sym k.sound.decided)
+    (full_steps inputs a h) (full_steps inputs b k) in
+    let tasks = h.sound.counted ∙ ap (λ steps. task_rows (history inputs steps)) same ∙ sym k.sound.counted in
+    let rows = λ (steps : List Step) (tasks : List BackRow). flat_map (step_rows inputs.disk) steps ++ tasks in
+    same_run a b (h.sound.fore ∙ sym k.sound.fore) (h.sound.back ∙ ap₂ rows same tasks ∙ sym k.sound.back)
+    (h.sound.passed_over ∙ sym k.sound.passed_over) (h.sound.end ∙ sym k.sound.end)

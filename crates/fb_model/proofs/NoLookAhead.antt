@@ -197,64 +197,78 @@ module _ (disk : Disk) (latent : List ℕ) (key : Key) (trace_a trace_b : List R
   unfolding any_delivery
   any_is row = tt
 
-  rest_unknown_a : (past : Past) (steps : List Step) (more : List BackRow) → AllByRecursion (IsLater t disk) (decisions_in steps) → AtEach (IsFullStep inputs_a medium_a) inputs_a past steps
-      → AreFine any_delivery past → AreUnknown t more → AreUnknown t (flat_map (step_rows disk) steps ++ more)
-  rest_unknown_a past steps more late full fine unknown = steps_unknown disk latent key trace_a over_a calls_a until_a writes_a t any_delivery any_is past steps more late full fine unknown
+  rest_unknown_a : (past : Past) (steps : List Step) (more : List BackRow) → AllByRecursion (IsLater t disk) (decisions_in steps)
+      → AtEach (IsFullStep inputs_a medium_a) inputs_a past steps → AreFine any_delivery past → AreUnknown t more
+      → AreUnknown t (flat_map (step_rows disk) steps ++ more)
+  rest_unknown_a = steps_unknown disk latent key trace_a over_a calls_a until_a writes_a t any_delivery any_is
 
-  rest_unknown_b : (past : Past) (steps : List Step) (more : List BackRow) → AllByRecursion (IsLater t disk) (decisions_in steps) → AtEach (IsFullStep inputs_b medium_b) inputs_b past steps
-      → AreFine any_delivery past → AreUnknown t more → AreUnknown t (flat_map (step_rows disk) steps ++ more)
-  rest_unknown_b past steps more late full fine unknown = steps_unknown disk latent key trace_b over_b calls_b until_b writes_b t any_delivery any_is past steps more late full fine unknown
+  rest_unknown_b : (past : Past) (steps : List Step) (more : List BackRow) → AllByRecursion (IsLater t disk) (decisions_in steps)
+      → AtEach (IsFullStep inputs_b medium_b) inputs_b past steps → AreFine any_delivery past → AreUnknown t more
+      → AreUnknown t (flat_map (step_rows disk) steps ++ more)
+  rest_unknown_b = steps_unknown disk latent key trace_b over_b calls_b until_b writes_b t any_delivery any_is
 
-  steps_alike : (past : Past) {ds es : List Decision} → AlikeDecisions t done disk ds es → (xs ys : List Step) (more_a more_b : List BackRow) → decisions_in xs ≡ ds → decisions_in ys ≡ es
-      → AtEach (IsFullStep inputs_a medium_a) inputs_a past xs → AtEach (IsFullStep inputs_b medium_b) inputs_b past ys → AreFine (HasBegun done) past
-      → AreUnknown t more_a → AreUnknown t more_b → AreKnownAlike t (flat_map (step_rows disk) xs ++ more_a) (flat_map (step_rows disk) ys ++ more_b)
-  steps_alike past (same {decision = d} {xs = ds} {ys = es} h ended made alike) [] ys more_a more_b is_x is_y full_a full_b fine unknown_a unknown_b = absurd (not_none d ds (sym is_x))
-  steps_alike past (same {decision = d} {xs = ds} {ys = es} h ended made alike) (x ∷ xs) [] more_a more_b is_x is_y full_a full_b fine unknown_a unknown_b = absurd (not_none d es (sym is_y))
-  steps_alike past (same {decision = d} {xs = ds} {ys = es} h ended made alike) (x ∷ xs) (y ∷ ys) more_a more_b is_x is_y full_a full_b fine unknown_a unknown_b =
-      let there = same_first (decision_in y) d (decisions_in ys) es is_y in
+  steps_alike : (past : Past) {ds es : List Decision} → AlikeDecisions t done disk ds es
+      → (xs ys : List Step) (more_a more_b : List BackRow) → decisions_in xs ≡ ds → decisions_in ys ≡ es
+      → AtEach (IsFullStep inputs_a medium_a) inputs_a past xs → AtEach (IsFullStep inputs_b medium_b) inputs_b past ys
+      → AreFine (HasBegun done) past → AreUnknown t more_a → AreUnknown t more_b
+      → AreKnownAlike t (flat_map (step_rows disk) xs ++ more_a) (flat_map (step_rows disk) ys ++ more_b)
+  steps_alike past (same h ended made alike) [] ys more_a more_b is_x is_y full_a full_b fine unknown_a unknown_b =
+      absurd (not_none _ _ (sym is_x))
+  steps_alike past (same h ended made alike) (x ∷ xs) [] more_a more_b is_x is_y full_a full_b fine unknown_a unknown_b =
+      absurd (not_none _ _ (sym is_y))
+  steps_alike past (same h ended made alike) (x ∷ xs) (y ∷ ys) more_a more_b is_x is_y full_a full_b fine unknown_a unknown_b =
+      let there = same_first _ _ _ _ is_y in
       let here = subst (λ d. (instant_of d ≤ t) × (end_of d ≤ done) × IsMade disk d) (sym there) (h, ended, made) in
       let well = as_well past y here.0 here.1 here.2 fine full_b.0 in
-      let one = one_step inputs_a medium_a past x y (same_first (decision_in x) d (decisions_in xs) ds is_x ∙ sym there) full_a.0 well in
+      let one = one_step inputs_a medium_a past x y (same_first _ _ _ _ is_x ∙ sym there) full_a.0 well in
       let rest_a = flat_map (step_rows disk) xs in
       let rest_b = flat_map (step_rows disk) ys in
       let between = step_between disk latent key trace_a over_a calls_a until_a writes_a (HasBegun done) past y well here.2 fine in
-      let fine_after = after_fine (HasBegun done) inputs_a past y
-      (gots_all (HasBegun done) y.deliveries (all_weaker (LiesBetween (instant_of (decision_in y)) (end_of (decision_in y))) (HasBegun done)
-      (λ row lies. let in_turn = lies.in_turn in let over = lies.ends in let ended = here.1 in omega (arith, in_turn, over, ended)) (gots y.deliveries) between)) fine in
-      let others = steps_alike (past_after inputs_a past y) alike xs ys more_a more_b (same_rest (decision_in x) d (decisions_in xs) ds is_x) (same_rest (decision_in y) d (decisions_in ys) es is_y)
+      let begun : (row : DeliveryRow) → LiesBetween (instant_of (decision_in y)) (end_of (decision_in y)) row → HasBegun done row =
+      λ row lies. omega (arith, lies.in_turn, lies.ends, here.1) in
+      let each = gots_all (HasBegun done) y.deliveries (all_weaker _ _ begun (gots y.deliveries) between) in
+      let fine_after = after_fine (HasBegun done) inputs_a past y each fine in
+      let others = steps_alike (past_after inputs_a past y) alike xs ys more_a more_b (same_rest _ _ _ _ is_x) (same_rest _ _ _ _ is_y)
       (subst (λ x. AtEach (IsFullStep inputs_a medium_a) inputs_a (past_after inputs_a past x) xs) one full_a.1)
-      (subst (λ past. AtEach (IsFullStep inputs_b medium_b) inputs_b past ys) (sym (goes_on past y here.0)) full_b.1) fine_after unknown_a unknown_b in
+      (subst (λ past. AtEach (IsFullStep inputs_b medium_b) inputs_b past ys) (sym (goes_on past y here.0)) full_b.1)
+      fine_after unknown_a unknown_b in
       λ follows.
       ap (λ x. known_from t follows ((step_rows disk x ++ rest_a) ++ more_a)) one
       ∙ (ap (known_from t follows) (append_assoc (step_rows disk y) rest_a more_a)
       ∙ (alike_behind t (step_rows disk y) (rest_a ++ more_a) (rest_b ++ more_b) others follows
       ∙ sym (ap (known_from t follows) (append_assoc (step_rows disk y) rest_b more_b))))
-  steps_alike past (dwelling {xs = ds} h late_a late_b after_a after_b) [] ys more_a more_b is_x is_y full_a full_b fine unknown_a unknown_b = absurd (not_none _ ds (sym is_x))
-  steps_alike past (dwelling {ys = es} h late_a late_b after_a after_b) (x ∷ xs) [] more_a more_b is_x is_y full_a full_b fine unknown_a unknown_b = absurd (not_none _ es (sym is_y))
-  steps_alike past (dwelling {head = head} {now = now} {until_a = end_a} {until_b = end_b} {xs = ds} {ys = es} h late_a late_b after_a after_b) (x ∷ xs) (y ∷ ys) more_a more_b is_x is_y full_a full_b fine unknown_a unknown_b =
-      let dwell_a : Dwell = record { track = head; begin = now; end = end_a } in
-      let dwell_b : Dwell = record { track = head; begin = now; end = end_b } in
-      let x_is = is_dwelt x dwell_a (same_first (decision_in x) (idles dwell_a) (decisions_in xs) ds is_x) in
-      let y_is = is_dwelt y dwell_b (same_first (decision_in y) (idles dwell_b) (decisions_in ys) es is_y) in
-      let later_a = subst (AllByRecursion (IsLater t disk)) (sym (same_rest (decision_in x) (idles dwell_a) (decisions_in xs) ds is_x)) after_a in
-      let later_b = subst (AllByRecursion (IsLater t disk)) (sym (same_rest (decision_in y) (idles dwell_b) (decisions_in ys) es is_y)) after_b in
+  steps_alike past (dwelling h late_a late_b after_a after_b) [] ys more_a more_b is_x is_y full_a full_b fine unknown_a unknown_b =
+      absurd (not_none _ _ (sym is_x))
+  steps_alike past (dwelling h late_a late_b after_a after_b) (x ∷ xs) [] more_a more_b is_x is_y full_a full_b fine unknown_a unknown_b =
+      absurd (not_none _ _ (sym is_y))
+  steps_alike past (dwelling {head = head} {now = now} {until_a = end_a} {until_b = end_b} h late_a late_b after_a after_b)
+      (x ∷ xs) (y ∷ ys) more_a more_b is_x is_y full_a full_b fine unknown_a unknown_b =
+      let x_is = is_dwelt x (record { track = head; begin = now; end = end_a }) (same_first _ _ _ _ is_x) in
+      let y_is = is_dwelt y (record { track = head; begin = now; end = end_b }) (same_first _ _ _ _ is_y) in
+      let later_a = subst (AllByRecursion (IsLater t disk)) (sym (same_rest _ _ _ _ is_x)) after_a in
+      let later_b = subst (AllByRecursion (IsLater t disk)) (sym (same_rest _ _ _ _ is_y)) after_b in
       let rest_a = flat_map (step_rows disk) xs in
       let rest_b = flat_map (step_rows disk) ys in
       let any = no_property past fine in
       let each = λ (deliveries : List Delivery). gots_all any_delivery deliveries (all_any (gots deliveries)) in
+      let next_a = after_fine any_delivery inputs_a past x (each x.deliveries) any in
+      let next_b = after_fine any_delivery inputs_b past y (each y.deliveries) any in
       let alike = dwell_alike past head now end_a end_b x y rest_a rest_b more_a more_b h late_a late_b fine
       (subst (IsFullStep inputs_a medium_a past) x_is full_a.0) (subst (IsFullStep inputs_b medium_b past) y_is full_b.0)
-      (rest_unknown_a (past_after inputs_a past x) xs more_a later_a full_a.1 (after_fine any_delivery inputs_a past x (each x.deliveries) any) unknown_a)
-      (rest_unknown_b (past_after inputs_b past y) ys more_b later_b full_b.1 (after_fine any_delivery inputs_b past y (each y.deliveries) any) unknown_b) in
+      (rest_unknown_a (past_after inputs_a past x) xs more_a later_a full_a.1 next_a unknown_a)
+      (rest_unknown_b (past_after inputs_b past y) ys more_b later_b full_b.1 next_b unknown_b) in
       λ follows.
-      ap (λ x. known_from t follows ((step_rows disk x ++ rest_a) ++ more_a)) x_is ∙ (alike follows ∙ sym (ap (λ y. known_from t follows ((step_rows disk y ++ rest_b) ++ more_b)) y_is))
+      ap (λ x. known_from t follows ((step_rows disk x ++ rest_a) ++ more_a)) x_is
+      ∙ (alike follows ∙ sym (ap (λ y. known_from t follows ((step_rows disk y ++ rest_b) ++ more_b)) y_is))
     where
       all_any : (rows : List DeliveryRow) → AllByRecursion any_delivery rows
       all_any [] = tt
       all_any (row ∷ rows) = (any_is row, all_any rows)
   steps_alike past (later late_a late_b) xs ys more_a more_b is_x is_y full_a full_b fine unknown_a unknown_b = λ follows.
-      rest_unknown_a past xs more_a (subst (AllByRecursion (IsLater t disk)) (sym is_x) late_a) full_a (no_property past fine) unknown_a follows
-      ∙ sym (rest_unknown_b past ys more_b (subst (AllByRecursion (IsLater t disk)) (sym is_y) late_b) full_b (no_property past fine) unknown_b follows)
+      let later_a = subst (AllByRecursion (IsLater t disk)) (sym is_x) late_a in
+      let later_b = subst (AllByRecursion (IsLater t disk)) (sym is_y) late_b in
+      rest_unknown_a past xs more_a later_a full_a (no_property past fine) unknown_a follows
+      ∙ sym (rest_unknown_b past ys more_b later_b full_b (no_property past fine) unknown_b follows)
 
 -- ---- whole runs
 
@@ -265,7 +279,8 @@ record IsRunOf (t : ℕ) (inputs : Inputs) (list : List Request) (instants : Lis
   pub fore : run.fore ≡ map (fore_row (medium_with inputs.disk inputs.latent (plain_replay inputs.disk inputs.key list))) (plain_replay inputs.disk inputs.key list)
   pub back : run.back ≡ flat_map (step_rows inputs.disk) steps ++ tasks
   pub end : run.end ≡ end_from 0 (decisions_from inputs.disk instants inputs.until first_track 0 (plain_replay inputs.disk inputs.key list))
-  pub decided : decisions_in steps ≡ decisions_from inputs.disk instants inputs.until first_track 0 (plain_replay inputs.disk inputs.key list)
+  pub decided : decisions_in steps
+      ≡ decisions_from inputs.disk instants inputs.until first_track 0 (plain_replay inputs.disk inputs.key list)
   pub each : AtEach (IsFullStep inputs (medium_with inputs.disk inputs.latent (plain_replay inputs.disk inputs.key list))) inputs [] steps
   pub unknown : AreUnknown t tasks
 
