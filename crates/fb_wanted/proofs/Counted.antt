@@ -1,11 +1,13 @@
 -- The counts of a task, as a block is added or comes into another state.
-use Rattle.std.proofs.Common.{◌≡◌, ℕ, ◌+◌, ◌≤◌, ◌==◌, inl, inr, List, [], ◌∷◌, ◌++◌, false, Bool, length, length-append, filter, slice_get, Some, refl, ap, ◌∙◌, arith}
+use Rattle.std.proofs.Common.{◌≡◌, ℕ, ◌+◌, ◌≤◌, ◌==◌, inl, inr, List, [], ◌∷◌, ◌++◌, true, false, Bool, length, length-append, filter, slice_get, Some, refl, ap, ◌∙◌, arith}
 use Rattle.std.proofs.lemmas.Bool.{cases_Bool}
 use Rattle.std.proofs.lemmas.List.Elements.{filter-append}
 use Rattle.fb_wanted.specs.declared.block.Counts.{Counts}
 use Rattle.fb_wanted.specs.declared.block.Entry.{Entry}
 use Rattle.fb_wanted.specs.declared.block.State.{State}
-use Rattle.fb_wanted.specs.States.{is_delivered, is_aborted}
+use Rattle.fb_wanted.specs.declared.block.State.TheVariants.{Wanted, Suspended, Delivered, Aborted}
+use Rattle.fb_wanted.specs.declared.block.Change.TheVariants.{Abort}
+use Rattle.fb_wanted.specs.States.{after, shares, is_open, is_abortable, is_delivered, is_aborted}
 use Rattle.fb_wanted.specs.Counting.{of_task, counts_of, no_counts, sum_of, recounted, AreNoMore}
 use Rattle.fb_wanted.specs.Index.{with_state}
 use Rattle.fb_wanted.proofs.Sums.{sum-with_state, sum_at}
@@ -81,3 +83,25 @@ module _ (task : ℕ) (s : State) (n : ℕ) (e : Entry) (es : List Entry) (at : 
   -- a block of another task doesn't change the counts
   pub counts-with_other : (e.block.task == task) ≡ false → counts_of task es ≡ counts_of task (with_state s n es)
   counts-with_other other = recounted_none _ _ (counts_of task es) (counts_elsewhere task e other) (counts_elsewhere task (record { block = e.block; state = s }) other) ∙ counts-with_state
+
+open_not_aborted : (s : State) → is_open s ≡ true → is_aborted s ≡ false
+open_not_aborted Wanted h = refl
+open_not_aborted Suspended h = refl
+open_not_aborted Delivered h = refl
+open_not_aborted Aborted h = grind arith
+
+-- after an abort so many more blocks of the task are aborted as it changes
+pub aborted-after : (task first count : ℕ) (es : List Entry) → (counts_of task (after task (Abort first count) es)).aborted ≡ (counts_of task es).aborted + length (filter (is_abortable task first count) es)
+aborted-after task first count [] = refl
+aborted-after task first count (e ∷ es) =
+    let rest = aborted-after task first count es in
+    elim (cases_Bool (e.block.task == task)) [
+      | inl own ↦ elim (cases_Bool (shares first count e.block)) [
+        | inl inside ↦ elim (cases_Bool (is_open e.state)) [
+          | inl unread ↦ rw (own, inside, unread, open_not_aborted e.state unread) (omega (arith, rest))
+          | inr over ↦ elim (cases_Bool (is_aborted e.state)) [ inl was ↦ rw (own, inside, over, was) (omega (arith, rest)) | inr not_aborted ↦ rw (own, inside, over, not_aborted) rest ]
+        ]
+        | inr outside ↦ elim (cases_Bool (is_aborted e.state)) [ inl was ↦ rw (own, outside, was) (omega (arith, rest)) | inr not_aborted ↦ rw (own, outside, not_aborted) rest ]
+      ]
+      | inr other ↦ rw other rest
+    ]

@@ -1,9 +1,8 @@
 -- The indexes of blocks among the registered ones.
-use Rattle.std.proofs.Common.{◌≡◌, ℕ, zero, suc, ◌+◌, ◌<◌, ◌≤◌, inl, inr, List, [], ◌∷◌, ◌++◌, Bool, true, false, Some, if◌then◌else◌, set, take, length, length-append, filter, map, slice_get, get_or, refl, ap, sym, ◌∙◌, arith, subst}
+use Rattle.std.proofs.Common.{◌≡◌, ℕ, zero, suc, ◌<◌, ◌≤◌, inl, inr, List, [], ◌∷◌, ◌++◌, Bool, true, false, Some, if◌then◌else◌, set, length, filter, map, slice_get, get_or, refl, ap, sym, ◌∙◌, arith, subst}
 use Rattle.std.proofs.lemmas.Bool.{cases_Bool}
-use Rattle.std.proofs.lemmas.List.{length-map, map-append, take_all, append-nil}
-use Rattle.std.proofs.lemmas.List.Elements.{filter_more}
-use Rattle.std.proofs.lemmas.Option.{same_Some, none-some, slice_get_within, slice_get-get_or, get_or_from_slice_get}
+use Rattle.std.proofs.lemmas.List.{length-map, map-append}
+use Rattle.std.proofs.lemmas.Option.{same_Some, none-some, slice_get_within, slice_get-get_or}
 use Rattle.fb_wanted.specs.declared.block.Entry.{Entry}
 use Rattle.fb_wanted.specs.declared.block.Block.{Block}
 use Rattle.fb_wanted.specs.declared.block.State.{State}
@@ -193,24 +192,6 @@ both_tests p q within (e ∷ es) = elim (cases_Bool (p e)) [
   | inr no' ↦ rw (no', within e no') (both_tests p q within es)
 ]
 
--- the count over one more element: one more if it passes, else the same
-pub counted_one : (q : Entry → Bool) (xs : List Entry) (k n : ℕ) (e : Entry) → slice_get xs k ≡ Some e → q e ≡ true → n ≡ length (filter q (take k xs)) → n + 1 ≡ length (filter q (take (k + 1) xs))
-counted_one q xs k n e at pass is =
-    let here = get_or_from_slice_get xs k e e at in
-    let more = filter_more q xs k e (slice_get_within xs k e at) in
-    let list : filter q (take (k + 1) xs) ≡ filter q (take k xs) ++ e ∷ [] = more ∙ (ap (λ y. filter q (take k xs) ++ (if q y then y ∷ [] else [])) here ∙ ap (λ b. filter q (take k xs) ++ (if b then e ∷ [] else [])) pass) in
-    omega (arith, is, ap length list, length-append (filter q (take k xs)) (e ∷ []))
-
-pub counted_none : (q : Entry → Bool) (xs : List Entry) (k n : ℕ) (e : Entry) → slice_get xs k ≡ Some e → q e ≡ false → n ≡ length (filter q (take k xs)) → n ≡ length (filter q (take (k + 1) xs))
-counted_none q xs k n e at fail is =
-    let here = get_or_from_slice_get xs k e e at in
-    let more = filter_more q xs k e (slice_get_within xs k e at) in
-    let list : filter q (take (k + 1) xs) ≡ filter q (take k xs) ++ [] = more ∙ (ap (λ y. filter q (take k xs) ++ (if q y then y ∷ [] else [])) here ∙ ap (λ b. filter q (take k xs) ++ (if b then e ∷ [] else [])) fail) in
-    is ∙ ap length (sym (list ∙ append-nil (filter q (take k xs))))
-
-pub counted_all : (q : Entry → Bool) (xs : List Entry) (k n : ℕ) → length xs ≤ k → n ≡ length (filter q (take k xs)) → n ≡ length (filter q xs)
-counted_all q xs k n past is = is ∙ ap (λ l. length (filter q l)) (take_all k xs past)
-
 passes_step : (p : Entry → Bool) (x : Entry) (es : List Entry) (b : Bool) (k : ℕ) (e : Entry) → p x ≡ b → ((i : ℕ) (y : Entry) → slice_get (filter p es) i ≡ Some y → p y ≡ true)
     → slice_get (if b then x ∷ filter p es else filter p es) k ≡ Some e → p e ≡ true
 passes_step p x es true zero e is rest h = ap p (sym (same_Some x e h)) ∙ is
@@ -239,4 +220,28 @@ nth_alone p f zero (x ∷ es) others own = elim (cases_Bool (p x)) [
 nth_alone p f (suc k) (x ∷ es) others own = elim (cases_Bool (p x)) [
   | inl yes' ↦ rw yes' (ap (λ y. y ∷ change_nth p f k es) (sym (own 0 x (rw yes' refl) (λ same. omega arith))) ∙ ap (λ l. f x ∷ l) (nth_alone p f k es others (λ j e at ne. own (suc j) e (rw yes' at) (λ same. ne (omega arith)))))
   | inr no' ↦ rw no' (ap (λ y. y ∷ change_nth p f (suc k) es) (sym (others x no')) ∙ ap (λ l. f x ∷ l) (nth_alone p f (suc k) es others (λ j e at. own j e (rw no' at))))
+]
+
+-- a change of one entry leaves as many that pass
+pub passing-nth : (p : Entry → Bool) (f : Entry → Entry) → ((e : Entry) → p (f e) ≡ p e) → (k : ℕ) (es : List Entry) → length (filter p (change_nth p f k es)) ≡ length (filter p es)
+passing-nth p f stays k [] = refl
+passing-nth p f stays zero (e ∷ es) = elim (cases_Bool (p e)) [
+  | inl yes' ↦ rw (yes', stays e ∙ yes') refl
+  | inr no' ↦ rw (no', no') (passing-nth p f stays 0 es)
+]
+passing-nth p f stays (suc k) (e ∷ es) = elim (cases_Bool (p e)) [
+  | inl yes' ↦ rw yes' (ap (λ n. suc n) (passing-nth p f stays k es))
+  | inr no' ↦ rw no' (passing-nth p f stays (suc k) es)
+]
+
+-- a change that leaves the k-th entry as it is changes nothing
+pub nth_stays : (p : Entry → Bool) (f : Entry → Entry) (k : ℕ) (es : List Entry) → ((e : Entry) → slice_get (filter p es) k ≡ Some e → f e ≡ e) → change_nth p f k es ≡ es
+nth_stays p f k [] same = refl
+nth_stays p f zero (e ∷ es) same = elim (cases_Bool (p e)) [
+  | inl yes' ↦ rw yes' (ap (λ x. x ∷ es) (same e (rw yes' refl)))
+  | inr no' ↦ rw no' (ap (λ l. e ∷ l) (nth_stays p f zero es (λ x at. same x (rw no' at))))
+]
+nth_stays p f (suc k) (e ∷ es) same = elim (cases_Bool (p e)) [
+  | inl yes' ↦ rw yes' (ap (λ l. e ∷ l) (nth_stays p f k es (λ x at. same x (rw yes' at))))
+  | inr no' ↦ rw no' (ap (λ l. e ∷ l) (nth_stays p f (suc k) es (λ x at. same x (rw no' at))))
 ]

@@ -1,5 +1,5 @@
 -- The indexes that are kept beside the list of registered blocks.
-use Rattle.std.specs.Prelude.{◌≡◌, ℕ, zero, suc, ◌+◌, ◌-◌, ◌*◌, ◌/◌, ◌≤◌, ◌<◌, ◌==◌, Bool, true, false, List, [], ◌∷◌, ◌++◌, Some, length, map, filter, get_or, slice_get, if◌then◌else◌}
+use Rattle.std.specs.Prelude.{◌≡◌, ◌↔◌, ◌⊎◌, ℕ, zero, suc, ◌+◌, ◌-◌, ◌*◌, ◌/◌, ◌≤◌, ◌<◌, ◌==◌, Bool, true, false, List, [], ◌∷◌, ◌++◌, Some, length, map, filter, get_or, slice_get, if◌then◌else◌}
 use Rattle.std.specs.Ordering.{nat_cmp, ordering_then}
 use Rattle.std.specs.declared.cmp.Ordering.{Ordering}
 use Rattle.std.specs.BTreeSet.{BTreeSet, contains}
@@ -12,8 +12,9 @@ use Rattle.fb_wanted.specs.declared.block.Entry.{Entry}
 use Rattle.fb_wanted.specs.declared.block.State.{State}
 use Rattle.fb_wanted.specs.declared.tasks.OfTask.{OfTask}
 use Rattle.fb_wanted.specs.declared.heads.OnTrack.{OnTrack}
+use Rattle.fb_wanted.specs.declared.runs.Run.{Run}
 use Rattle.fb_wanted.specs.Counting.{counts_of, no_counts, recounted}
-use Rattle.fb_wanted.specs.States.{shares, state_after}
+use Rattle.fb_wanted.specs.States.{shares, state_after, entry_after}
 use Rattle.fb_wanted.specs.Numbering.{AreInOrder, AreSmall, blocks_of}
 use Rattle.fb_wanted.specs.Tracks.{wanted_weight}
 
@@ -81,13 +82,40 @@ pub record IsIndex (entries : List Entry) (tasks : List OfTask) (tracks : List (
 abbrev pub lbns : ℕ → List Entry → List ℕ
 lbns task entries = map (λ entry. entry.block.lbn) (filter (of_task task) entries)
 
--- falls are ordered by task, and then by number
-abbrev pub fall_cmp : ℕ × ℕ → ℕ × ℕ → Ordering
-fall_cmp a b = ordering_then (nat_cmp a.0 b.0) (nat_cmp a.1 b.1)
+-- the region of an LBN; a region has 128 neighbouring LBNs
+abbrev pub region_of : ℕ → ℕ
+region_of lbn = lbn / 128
 
--- a fall is noted at each block whose LBN is less than that of the block of its task before it
-abbrev pub AreNoted : List Entry → BTreeSet (ℕ × ℕ) → Type 0
-AreNoted entries falls = (task i a b : ℕ) → slice_get (lbns task entries) i ≡ Some a → slice_get (lbns task entries) (suc i) ≡ Some b → b < a → contains fall_cmp falls (task, suc i) ≡ true
+-- what is noted of a run of a task: the task, the region, and the number of the first block
+abbrev pub key_of : ℕ → Run → ℕ × ℕ × ℕ
+key_of task run = (task, run.region, run.index)
+
+-- runs are ordered by task, by region, and then by number
+abbrev pub run_cmp : ℕ × ℕ × ℕ → ℕ × ℕ × ℕ → Ordering
+run_cmp a b = ordering_then (ordering_then (nat_cmp a.0 b.0) (nat_cmp a.1 b.1)) (nat_cmp a.2 b.2)
+
+-- of two runs of a task the first one doesn't come behind the other
+abbrev pub IsUpTo : Run → Run → Type 0
+IsUpTo a b = (a.region < b.region) ⊎ ((a.region ≡ b.region) × (a.index ≤ b.index))
+
+-- from the run's first block up to number i, each block of these LBNs begins in the run's region
+abbrev pub IsInRun : List ℕ → Run → ℕ → Type 0
+IsInRun lbns run i = (run.index ≤ i) × ((j lbn : ℕ) → run.index ≤ j → j ≤ i → slice_get lbns j ≡ Some lbn → region_of lbn ≡ run.region)
+
+-- the run begins with its first block: that one begins in the run's region, and the block before it doesn't
+pub record BeginsRun (lbns : List ℕ) (run : Run) : Type 0 where
+  pub lbn : ℕ
+  pub at : slice_get lbns run.index ≡ Some lbn
+  pub region : region_of lbn ≡ run.region
+  pub anew : (i before : ℕ) → suc i ≡ run.index → slice_get lbns i ≡ Some before → region_of before ≡ run.region → ⊥
+
+-- what is noted are the runs of the tasks
+abbrev pub AreNoted : List Entry → BTreeSet (ℕ × ℕ × ℕ) → Type 0
+AreNoted entries runs = (task : ℕ) (run : Run) → (contains run_cmp runs (key_of task run) ≡ true) ↔ BeginsRun (lbns task entries) run
+
+-- no block has more sectors than the longest
+abbrev pub AreShort : ℕ → List Entry → Type 0
+AreShort longest entries = (i : ℕ) (entry : Entry) → slice_get entries i ≡ Some entry → entry.block.count ≤ longest
 
 -- the wanted weight that the index has for a track
 abbrev pub weight_kept : List (List OnTrack) → Track → ℕ
@@ -104,13 +132,13 @@ pub record AreBands (cylinders bands : List ℕ) : Type 0 where
   pub small : (band : ℕ) → get_or bands band 0 ≤ 16000000 * 2048000
   pub there : (c : ℕ) → c < length cylinders → c / 64 < length bands
 
--- the numbers from an index on don't fall before an end
-abbrev pub Rises : List ℕ → ℕ → ℕ → Type 0
-Rises xs from end = (i j a b : ℕ) → from ≤ i → i ≤ j → j < end → slice_get xs i ≡ Some a → slice_get xs j ≡ Some b → a ≤ b
-
 -- the change leaves each block as it is that shares no sector with the range
 abbrev pub IsWithin : Change → ℕ → ℕ → Type 0
 IsWithin change first count = (block : Block) (state : State) → shares first count block ≡ false → state_after change block state ≡ state
+
+-- a second change of this kind changes nothing
+abbrev pub IsStable : Change → Type 0
+IsStable change = (block : Block) (state : State) → state_after change block (state_after change block state) ≡ state_after change block state
 
 -- what holds of the registered blocks and their indexes
 pub record IsKept (entries : List Entry) (tasks : List OfTask) (tracks : List (List OnTrack)) : Type 0 where
@@ -136,3 +164,14 @@ abbrev pub change_first : (Entry → Bool) → (Entry → Entry) → ℕ → Lis
 change_first test change k [] = []
 change_first test change zero (e ∷ es) = e ∷ es
 change_first test change (suc k) (e ∷ es) = if test e then change e ∷ change_first test change k es else e ∷ change_first test change (suc k) es
+
+-- all registered blocks after a change of those of a task whose numbers are chosen
+abbrev pub changed_where : (ℕ → Bool) → ℕ → Change → List Entry → List Entry
+changed_where chosen task change entries = map (λ entry. if chosen entry.block.index then entry_after task change entry else entry) entries
+
+-- beside the chosen blocks of a task at least those of a run are changed
+pub record HasChanged (task : ℕ) (change : Change) (run : Run) (entries : List Entry) (chosen : ℕ → Bool) (new : List Entry) : Type 0 where
+  pub more : ℕ → Bool
+  pub is : new ≡ changed_where more task change entries
+  pub kept : (k : ℕ) → chosen k ≡ true → more k ≡ true
+  pub own : (k : ℕ) → k < length (lbns task entries) → IsInRun (lbns task entries) run k → more k ≡ true

@@ -1,12 +1,12 @@
 // Changes of the blocks of a task.
 ghost use Rattle.std.specs.Prelude.{◌≡◌, length, filter};
-ghost use Rattle.fb_wanted.specs.States.{shares, is_wanted, is_suspended, is_delivered, is_open, wanted_unless, state_after, after, is_abortable, entry_after, is_block};
+ghost use Rattle.fb_wanted.specs.States.{shares, is_wanted, is_suspended, is_delivered, is_open, wanted_unless, state_after, after, entry_after, is_block};
 ghost use Rattle.fb_units.specs.Tracks.{same_track};
 
-use crate::{Block, Change, Entry, State};
+use crate::{Block, Change, State};
 
-// Whether the block shares a sector with the range.
-fn shares(block: Block, first: u64, count: u64) -> bool
+/// Whether the block shares a sector with the range.
+pub fn shares(block: Block, first: u64, count: u64) -> bool
     ensures { result ≡ shares first count block }
 {
     if count == 0 {
@@ -96,17 +96,4 @@ pub fn state_after(change: Change, block: Block, state: State) -> State
             _ => state,
         },
     }
-}
-
-/// Whether an abort of the task's blocks in the range changes the block.
-pub fn is_abortable(entry: Entry, task: u32, first: u64, count: u64) -> bool
-    ensures { result ≡ is_abortable task first count entry }
-{
-    if entry.block.task != task {
-        return false;
-    }
-    if !shares(entry.block, first, count) {
-        return false;
-    }
-    is_open(entry.state)
 }

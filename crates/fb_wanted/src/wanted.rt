@@ -1,6 +1,6 @@
 // The registered blocks, in order of registration, with their indexes by task, by track, by
 // cylinder and by band of cylinders.
-ghost use Rattle.std.specs.Prelude.{◌≡◌, List, suc, true, false, take, ◌⊎◌, ◌+◌, ◌<◌, ◌≤◌, ℕ, [], ◌∷◌, ◌++◌, ◌*◌, ◌/◌, length, filter, map, IfOk, OnOk, OnErr, IfSome, IfNone, Some, slice_get, get_or, ◌==◌, if◌then◌else◌};
+ghost use Rattle.std.specs.Prelude.{◌≡◌, List, suc, Bool, true, false, ◌+◌, ◌-◌, ◌<◌, ◌≤◌, ℕ, [], ◌∷◌, ◌++◌, ◌*◌, ◌/◌, length, filter, map, IfOk, OnOk, OnErr, IfSome, IfNone, Some, slice_get, get_or, ◌==◌, if◌then◌else◌};
 ghost use Rattle.fb_wanted.specs.declared.block.Block.{Block};
 ghost use Rattle.fb_wanted.specs.declared.block.Entry.{Entry};
 ghost use Rattle.fb_wanted.specs.States.{after, shares, entry_after, is_abortable, is_wanted, wanted_unless, on_track, is_block};
@@ -8,16 +8,16 @@ ghost use Rattle.fb_wanted.specs.Numbering.{AreInOrder, blocks_of, registered};
 ghost use Rattle.fb_wanted.specs.Counting.{counts_of, sum_of, Fit};
 ghost use Rattle.fb_wanted.specs.Tracks.{wanted_weight};
 ghost use Rattle.fb_wanted.specs.Depth.{depth_at};
-ghost use Rattle.fb_wanted.specs.Index.{places, of_task, lbns, Rises, IsWithin, with_state, change_nth, change_first, track_at, grown, weight_kept, no_blocks, grown_task};
+ghost use Rattle.fb_wanted.specs.Index.{places, of_task, lbns, region_of, HasChanged, IsStable, IsWithin, changed_where, with_state, change_nth, track_at, grown, weight_kept, no_blocks, grown_task};
 ghost use Rattle.fb_units.specs.declared.types.Track.{Track};
 ghost use Rattle.fb_units.specs.Tracks.{same_track};
 
 use crate::bands::{add_bands, band_of};
-use crate::changes::{is_abortable, state_after, wanted_unless};
+use crate::changes::{shares, state_after, wanted_unless};
 use crate::counting::{counts_of, no_counts};
 use crate::depths::{Depth, NO_DEPTH, deepen, most_in};
-use crate::falls::{next_fall, note_fall};
 use crate::greatest::{Greatest, update_greatest};
+use crate::runs::{Run, forget_run, is_behind, next_run, note_run, region_of};
 use crate::tasks::{OfTask, add_place, recount, take_place_back};
 use crate::tracks::{Tracks, weight_of};
 use crate::{Block, Change, Counts, Entry, State, TrackBlocks};
@@ -29,10 +29,11 @@ use std::marker::Model;
 /// Registered blocks, each with its state, in order of registration.
 ///
 /// Costs: to register, to deliver or to look up a block, to look up the blocks of a track, the
-/// counts of a task and the bounds of a band take constant time, and a block whose LBN falls takes
-/// time logarithmic in the number of such falls. To suspend or to resume takes constant time for
-/// each block of the task. An abort or a want again takes constant time for each of the task's
-/// blocks near the range, and logarithmic time for each time that its LBNs fall. When the heaviest
+/// counts of a task and the bounds of a band take constant time, and a block that begins in another
+/// region of 128 LBNs than the one before it takes time logarithmic in the number of such blocks. To
+/// suspend or to resume takes constant time for each block of the task. An abort or a want again
+/// takes constant time for each of the task's blocks that begin no farther before the range than the
+/// longest block reaches, and for each of their runs the same logarithmic time. When the heaviest
 /// track of a cylinder loses weight, each track of that cylinder is looked at, and likewise each
 /// cylinder of a band when its heaviest one does. There is an entry for each task number up to the
 /// greatest one, for each cylinder up to the last one with a block, and for each head of a cylinder
@@ -43,29 +44,24 @@ pub struct Wanted {
     entries: Vec<Entry>,
     tasks: Vec<OfTask>,
     tracks: Tracks,
-    falls: BTreeSet<(u32, u32)>,
+    runs: BTreeSet<(u32, u64, u32)>,
+    // No block has more sectors.
+    longest: u32,
     greatest: Greatest,
     depths: Vec<Depth>,
-}
-
-// Blocks of a task, from the number `from` up to the number `end`, whose LBNs rise.
-#[derive(Clone, Copy)]
-struct Rise {
-    from: u32,
-    end: u32,
 }
 
 impl Model for Wanted {
     ghost use Rattle.std.specs.Prelude.{List};
     ghost use Rattle.fb_wanted.specs.declared.block.Entry.{Entry};
-    ghost use Rattle.fb_wanted.specs.Index.{IsKept, AreNoted, AreGreatest};
+    ghost use Rattle.fb_wanted.specs.Index.{IsKept, AreNoted, AreGreatest, AreShort};
     ghost use Rattle.fb_wanted.specs.Depth.{AreDeep};
 
     ghost Value = { List Entry };
 
     ghost view = { λ w. w.entries.items };
 
-    ghost invariant = { λ w. IsKept w.entries.items w.tasks.items w.tracks × AreNoted w.entries.items w.falls × AreGreatest w.tracks w.greatest × AreDeep w.entries.items w.depths.items };
+    ghost invariant = { λ w. IsKept w.entries.items w.tasks.items w.tracks × AreNoted w.entries.items w.runs × AreGreatest w.tracks w.greatest × AreDeep w.entries.items w.depths.items × AreShort w.longest w.entries.items };
 }
 
 // Adds a block that is to be registered to the indexes by task and by track, and returns the wanted
@@ -185,151 +181,61 @@ impl Wanted {
         }
     }
 
-    // Whether a block that is to be registered has a lesser LBN than the block of its task before
-    // it.
-    fn is_fall(&self, block: Block) -> bool
+    // Whether a block that is to be registered begins a run: the first of its task does, and one in another region
+    // than the block of its task before it.
+    fn begins_run(&self, block: Block) -> bool
         requires { block.index ≡ length (filter (of_task block.task) self.now) }
-        ensures { (i a : ℕ) → suc i ≡ block.index → slice_get (lbns block.task self.now) i ≡ Some a → block.lbn < a → result ≡ true }
+        ensures new { result ≡ true → (i last : ℕ) → suc i ≡ block.index → slice_get (lbns block.task self.now) i ≡ Some last → region_of last ≡ region_of block.lbn → ⊥ }
+        ensures same { result ≡ false → (last : ℕ) × (0 < block.index) × (slice_get (lbns block.task self.now) (block.index - 1) ≡ Some last) × (region_of last ≡ region_of block.lbn) }
     {
         if block.index == 0 {
-            return false;
+            return true;
         }
-        block.lbn < self.entry_of(block.task, block.index - 1).block.lbn
+        let before = self.entry_of(block.task, block.index - 1).block;
+        region_of(before.lbn) != region_of(block.lbn)
     }
 
-    // The rise from the k-th block of the task on.
-    fn rise_at(&self, task: u32, k: u32) -> Rise
-        requires { k < length (filter (of_task task) self.now) }
-        ensures from { result.from ≡ k }
-        ensures ahead { k < result.end }
-        ensures within { result.end ≤ length (filter (of_task task) self.now) }
-        ensures rises { Rises (lbns task self.now) k result.end }
-    {
-        let count = self.registered_by(task);
-        match next_fall(&self.falls, task, k + 1) {
-            Some(fall) => Rise {
-                from: k,
-                end: fall.min(count),
-            },
-            None => Rise {
-                from: k,
-                end: count,
-            },
-        }
-    }
-
-    // The number of the first block of a rise whose LBN isn't below this one; the end if there is
-    // none.
-    fn first_from(&self, task: u32, rise: Rise, lbn: u64) -> u32
-        requires order { rise.from ≤ rise.end }
-        requires within { rise.end ≤ length (filter (of_task task) self.now) }
-        requires rises { Rises (lbns task self.now) rise.from rise.end }
-        ensures order { (rise.from ≤ result) × (result ≤ rise.end) }
-        ensures less { (i a : ℕ) → rise.from ≤ i → i < result → slice_get (lbns task self.now) i ≡ Some a → a < lbn }
-        ensures rest { (i a : ℕ) → result ≤ i → i < rise.end → slice_get (lbns task self.now) i ≡ Some a → lbn ≤ a }
-    {
-        let mut low = rise.from;
-        let mut high = rise.end;
-        while low < high {
-            let middle = low + (high - low) / 2;
-            if self.entry_of(task, middle).block.lbn < lbn {
-                low = middle + 1;
-            } else {
-                high = middle;
-            }
-        }
-        low
-    }
-
-    // The number of the first block of a rise that begins behind the range; the end if there is
-    // none.
-    fn first_behind(&self, task: u32, rise: Rise, first: u64, count: u64) -> u32
-        requires order { rise.from ≤ rise.end }
-        requires within { rise.end ≤ length (filter (of_task task) self.now) }
-        requires rises { Rises (lbns task self.now) rise.from rise.end }
-        ensures order { (rise.from ≤ result) × (result ≤ rise.end) }
-        ensures rest { (i a : ℕ) → result ≤ i → i < rise.end → slice_get (lbns task self.now) i ≡ Some a → first + count ≤ a }
-    {
-        match first.checked_add(count) {
-            Some(behind) => self.first_from(task, rise, behind),
-            None => rise.end,
-        }
-    }
-
-    // The blocks of a rise that may share a sector with the range, since no block has more than
-    // 2,048 sectors.
-    fn sharing(&self, task: u32, rise: Rise, first: u64, count: u64) -> Rise
-        requires order { rise.from ≤ rise.end }
-        requires within { rise.end ≤ length (filter (of_task task) self.now) }
-        requires rises { Rises (lbns task self.now) rise.from rise.end }
-        ensures order { (rise.from ≤ result.from) × (result.from ≤ rise.end) × (result.end ≤ rise.end) }
-        ensures others { (i : ℕ) (block : Block) → rise.from ≤ i → i < rise.end → (i < result.from) ⊎ (result.end ≤ i) → slice_get (blocks_of (filter (of_task task) self.now)) i ≡ Some block → shares first count block ≡ false }
+    // Changes the blocks of a run of the task that share a sector with the range.
+    fn change_run(&mut self, task: u32, run: Run, first: u64, count: u64, change: Change)
+        requires within { IsWithin change first count }
+        requires stable { IsStable change }
+        ensures { (es : List Entry) (chosen : ℕ → Bool) → self.old ≡ changed_where chosen task change es → HasChanged task change run es chosen self.new }
     {
         let _ = &self.entries;
-        let from = self.first_from(task, rise, first.saturating_sub(2047));
-        let end = self.first_behind(task, rise, first, count);
-        Rise { from, end }
-    }
-
-    // Changes the blocks of a rise that share a sector with the range.
-    fn change_rise(&mut self, task: u32, rise: Rise, first: u64, count: u64, change: Change)
-        requires order { rise.from ≤ rise.end }
-        requires within { rise.end ≤ length (filter (of_task task) self.old) }
-        requires rises { Rises (lbns task self.old) rise.from rise.end }
-        requires change { IsWithin change first count }
-        ensures { (es : List Entry) → self.old ≡ change_first (of_task task) (entry_after task change) rise.from es → self.new ≡ change_first (of_task task) (entry_after task change) rise.end es }
-    {
-        let near = self.sharing(task, rise, first, count);
-        for k in near.from..near.end {
-            self.change_block(task, k, change);
-        }
-    }
-
-    // Changes the blocks of the task that share a sector with the range.
-    fn change_range(&mut self, task: u32, first: u64, count: u64, change: Change)
-        requires { IsWithin change first count }
-        ensures { self.new ≡ after task change self.old }
-    {
-        let end = self.registered_by(task);
-        let mut k = 0;
-        while k < end {
-            let rise = self.rise_at(task, k);
-            self.change_rise(task, rise, first, count, change);
-            k = rise.end;
-        }
-    }
-
-    // How many blocks of a rise an abort of the range changes.
-    fn count_in_rise(&self, task: u32, rise: Rise, first: u64, count: u64) -> u64
-        requires order { rise.from ≤ rise.end }
-        requires within { rise.end ≤ length (filter (of_task task) self.now) }
-        requires rises { Rises (lbns task self.now) rise.from rise.end }
-        ensures few { result + rise.from ≤ rise.end }
-        ensures more { (n : ℕ) → n ≡ length (filter (is_abortable task first count) (take rise.from (filter (of_task task) self.now))) → n + result ≡ length (filter (is_abortable task first count) (take rise.end (filter (of_task task) self.now))) }
-    {
-        let near = self.sharing(task, rise, first, count);
-        let mut n = 0;
-        for k in near.from..near.end {
-            if is_abortable(self.entry_of(task, k), task, first, count) {
-                n += 1;
+        for k in run.index..self.registered_by(task) {
+            let block = self.entry_of(task, k).block;
+            if region_of(block.lbn) != run.region {
+                return;
+            }
+            if shares(block, first, count) {
+                self.change_block(task, k, change);
             }
         }
-        n
     }
 
-    // How many blocks of the task an abort of the range changes.
-    fn count_abortable(&self, task: u32, first: u64, count: u64) -> u64
-        ensures { result ≡ length (filter (is_abortable task first count) self.now) }
+    // Changes the blocks of the task that share a sector with the range, in runs that begin near it: no block is longer
+    // than the longest.
+    fn change_range(&mut self, task: u32, first: u64, count: u64, change: Change)
+        requires within { IsWithin change first count }
+        requires stable { IsStable change }
+        ensures { self.new ≡ after task change self.old }
     {
-        let end = self.registered_by(task);
-        let mut n = 0;
-        let mut k = 0;
-        while k < end {
-            let rise = self.rise_at(task, k);
-            n += self.count_in_rise(task, rise, first, count);
-            k = rise.end;
+        let _ = &self.entries;
+        let start = region_of(first.saturating_sub(self.longest as u64));
+        let mut from = Run {
+            region: start,
+            index: 0,
+        };
+        while let Some(run) = next_run(&self.runs, task, from) {
+            if is_behind(run.region, first, count) {
+                return;
+            }
+            self.change_run(task, run, first, count, change);
+            from = Run {
+                region: run.region,
+                index: run.index + 1,
+            };
         }
-        n
     }
 
     /// No registered block.
@@ -341,7 +247,8 @@ impl Wanted {
             entries: Vec::new(alloc),
             tasks: Vec::new(alloc),
             tracks: Tracks::new(alloc),
-            falls: BTreeSet::new(alloc),
+            runs: BTreeSet::new(alloc),
+            longest: 0,
             greatest: Greatest::new(alloc),
             depths: Vec::new(alloc),
         }
@@ -359,18 +266,30 @@ impl Wanted {
     {
         let state = wanted_unless(suspended);
         let entry = Entry { block, state };
-        let is_fall = self.is_fall(block);
+        let begins_run = self.begins_run(block);
+        let run = Run {
+            region: region_of(block.lbn),
+            index: block.index,
+        };
         let place = self.entries.len() as u32;
         let band = band_of(block);
         self.entries.reserve(1)?;
-        note_fall(&mut self.falls, block.task, block.index, is_fall)?;
         self.greatest.add_room(block.track.cylinder)?;
         add_bands(&mut self.depths, band, NO_DEPTH)?;
-        let weight = add_to_index(&mut self.tasks, &mut self.tracks, self.alloc, place, entry)?;
-        update_greatest(&mut self.greatest, &self.tracks, block.track, weight, 0);
-        deepen(&mut self.depths, band, block);
-        self.entries.push(entry)?;
-        Ok(())
+        note_run(&mut self.runs, block.task, run, begins_run)?;
+        match add_to_index(&mut self.tasks, &mut self.tracks, self.alloc, place, entry) {
+            Ok(weight) => {
+                update_greatest(&mut self.greatest, &self.tracks, block.track, weight, 0);
+                deepen(&mut self.depths, band, block);
+                self.longest = self.longest.max(block.count);
+                self.entries.push(entry)?;
+                Ok(())
+            }
+            Err(error) => {
+                forget_run(&mut self.runs, block.task, run);
+                Err(error)
+            }
+        }
     }
 
     /// Aborts the task's blocks that share a sector with the range and are neither delivered nor
@@ -379,9 +298,9 @@ impl Wanted {
         ensures states { self.new ≡ after task (Change.Abort first count) self.old }
         ensures number { result ≡ length (filter (is_abortable task first count) self.old) }
     {
-        let number = self.count_abortable(task, first, count);
+        let before = self.counts(task).aborted;
         self.change_range(task, first, count, Change::Abort { first, count });
-        number
+        (self.counts(task).aborted - before) as u64
     }
 
     /// Marks a wanted block as delivered, by its task and its number there.

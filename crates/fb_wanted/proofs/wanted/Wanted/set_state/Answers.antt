@@ -1,11 +1,11 @@
 use Rattle.std.proofs.Common.{◌<◌, ◌∙◌, ap, sym, subst, refl, length, arith}
 use Rattle.std.proofs.lemmas.Option.{slice_get_read}
-use Rattle.fb_wanted.specs.Index.{with_state, reweighed, AreNoted}
+use Rattle.fb_wanted.specs.Index.{with_state, reweighed, AreNoted, AreShort}
 use Rattle.fb_wanted.proofs.Standing.{items-with_state}
 use Rattle.fb_wanted.proofs.Numbers.{small_at}
 use Rattle.fb_wanted.proofs.Reading.{its_task_there, its_track_there, weight_small, counts_part, counts_room, weight_part}
 use Rattle.fb_wanted.proofs.Kept.{kept_set}
-use Rattle.fb_wanted.proofs.Ranges.{noted-with_state}
+use Rattle.fb_wanted.proofs.Regions.{noted-with_state, short-with_state}
 use Rattle.fb_wanted.proofs.Cylinders.{others_within, greatest_settled}
 use Rattle.fb_wanted.proofs.Deep.{deep_set}
 use Rattle.fb_wanted.proofs.wanted.Wanted.set_state.Goals as goal
@@ -70,11 +70,12 @@ invariant_of-self c =
     let same = items-with_state c.args.state c.args.place c.index-entry.result.now items here in (
       kept_set c.args.state c.args.place c.index-entry.result.now items c.self.inside.tracks c.reweigh-weight.new.self here c.self.inside.tasks.items c.recount.new.tasks.items c.counts_of.result c.counts_of-2.result c.weight_of-lost.result c.weight_of-gained.result
           c.self.invariant.0 c.counts_of.ensures c.counts_of-2.ensures c.weight_of-lost.ensures.value c.weight_of-gained.ensures.value c.recount.ensures c.reweigh-weight.ensures.tracks,
-      subst (λ l. AreNoted l c.self.inside.falls) (sym same) (noted-with_state c.args.state c.args.place items c.self.inside.falls c.self.invariant.1),
+      subst (λ l. AreNoted l c.self.inside.runs) (sym same) (noted-with_state c.args.state c.args.place items c.self.inside.runs c.self.invariant.1),
       greatest_settled c.self.inside.tracks c.reweigh-weight.new.self c.index-entry.result.now.block.track (reweighed c.weight_of-lost.result c.weight_of-gained.result) c.self.inside.greatest c.self.invariant.2 c.reweigh-weight.ensures.tracks
           c.update_greatest.new.greatest (omega (arith, c.reweigh-weight.ensures.length, c.self.invariant.2.there))
           c.update_greatest.ensures.length c.update_greatest.ensures.weights,
       deep_set c.args.state c.args.place c.index-entry.result.now items c.self.inside.depths.items here c.self.invariant.3,
+      subst (AreShort c.self.inside.longest) (sym same) (short-with_state c.self.inside.longest c.args.state c.args.place items c.self.invariant.4),
     )
 
 pub returns : goal.returns
