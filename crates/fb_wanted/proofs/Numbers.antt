@@ -27,7 +27,7 @@ filter_at p (x ∷ xs) (suc k) d h pass = elim (cases_Bool (p x)) [
   | inr no' ↦ rw no' (filter_at p xs k d (omega arith) pass)
 ]
 
-blocks-more : (es : List Entry) (e : Entry) → blocks_of (es ++ e ∷ []) ≡ blocks_of es ++ e.block ∷ []
+pub blocks-more : (es : List Entry) (e : Entry) → blocks_of (es ++ e ∷ []) ≡ blocks_of es ++ e.block ∷ []
 blocks-more [] e = refl
 blocks-more (x ∷ es) e = ap (λ l. x.block ∷ l) (blocks-more es e)
 

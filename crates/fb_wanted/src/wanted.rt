@@ -1,5 +1,5 @@
 // The registered blocks, in order of registration, with their indexes by task, by track, by
-// cylinder and by band of cylinders.
+// cylinder, by band of cylinders, by stretch and by region of LBNs.
 ghost use Rattle.std.specs.Prelude.{◌≡◌, List, suc, Bool, true, false, ◌+◌, ◌-◌, ◌<◌, ◌≤◌, ℕ, [], ◌∷◌, ◌++◌, ◌*◌, ◌/◌, length, filter, map, IfOk, OnOk, OnErr, IfSome, IfNone, Some, slice_get, get_or, ◌==◌, if◌then◌else◌};
 ghost use Rattle.fb_wanted.specs.declared.block.Block.{Block};
 ghost use Rattle.fb_wanted.specs.declared.block.Entry.{Entry};
@@ -8,6 +8,7 @@ ghost use Rattle.fb_wanted.specs.Numbering.{AreInOrder, blocks_of, registered};
 ghost use Rattle.fb_wanted.specs.Counting.{counts_of, sum_of, Fit};
 ghost use Rattle.fb_wanted.specs.Tracks.{wanted_weight};
 ghost use Rattle.fb_wanted.specs.Depth.{depth_at};
+ghost use Rattle.fb_wanted.specs.Near.{near_of, SharesNone};
 ghost use Rattle.fb_wanted.specs.Index.{places, of_task, lbns, region_of, HasChanged, IsStable, IsWithin, changed_where, with_state, change_nth, track_at, grown, weight_kept, no_blocks, grown_task};
 ghost use Rattle.fb_units.specs.declared.types.Track.{Track};
 ghost use Rattle.fb_units.specs.Tracks.{same_track};
@@ -17,6 +18,8 @@ use crate::changes::{shares, state_after, wanted_unless};
 use crate::counting::{counts_of, no_counts};
 use crate::depths::{Depth, NO_DEPTH, deepen, most_in};
 use crate::greatest::{Greatest, update_greatest};
+use crate::near::{next_near, stretch_of};
+use crate::notes::note;
 use crate::runs::{Run, forget_run, is_behind, next_run, note_run, region_of};
 use crate::tasks::{OfTask, add_place, recount, take_place_back};
 use crate::tracks::{Tracks, weight_of};
@@ -29,15 +32,17 @@ use std::marker::Model;
 /// Registered blocks, each with its state, in order of registration.
 ///
 /// Costs: to register, to deliver or to look up a block, to look up the blocks of a track, the
-/// counts of a task and the bounds of a band take constant time, and a block that begins in another
-/// region of 128 LBNs than the one before it takes time logarithmic in the number of such blocks. To
-/// suspend or to resume takes constant time for each block of the task. An abort or a want again
-/// takes constant time for each of the task's blocks that begin no farther before the range than the
-/// longest block reaches, and for each of their runs the same logarithmic time. When the heaviest
-/// track of a cylinder loses weight, each track of that cylinder is looked at, and likewise each
-/// cylinder of a band when its heaviest one does. There is an entry for each task number up to the
-/// greatest one, for each cylinder up to the last one with a block, and for each head of a cylinder
-/// up to the last one with a block.
+/// counts of a task and the bounds of a band take constant time. Besides, a block takes logarithmic
+/// time if the block registered before it is another task's or begins in another stretch of 2,048
+/// LBNs, and if the one before it in its task begins in another region of 128 LBNs: a note is kept
+/// for each of these. To suspend or to resume takes constant time for each block of the task. An
+/// abort or a want again takes constant time for each of the task's blocks that begin no farther
+/// before the range than the longest block reaches, and logarithmic time for each of their regions.
+/// The next task near a range is found in logarithmic time for each stretch of the range. When the
+/// heaviest track of a cylinder loses weight, each track of that cylinder is looked at, and likewise
+/// each cylinder of a band when its heaviest one does. There is an entry for each task number up to
+/// the greatest one, for each cylinder up to the last one with a block, and for each head of a
+/// cylinder up to the last one with a block.
 #[derive(Drop)]
 pub struct Wanted {
     alloc: Global,
@@ -47,6 +52,7 @@ pub struct Wanted {
     runs: BTreeSet<(u32, u64, u32)>,
     // No block has more sectors.
     longest: u32,
+    near: BTreeSet<(u32, u32)>,
     greatest: Greatest,
     depths: Vec<Depth>,
 }
@@ -56,12 +62,13 @@ impl Model for Wanted {
     ghost use Rattle.fb_wanted.specs.declared.block.Entry.{Entry};
     ghost use Rattle.fb_wanted.specs.Index.{IsKept, AreNoted, AreGreatest, AreShort};
     ghost use Rattle.fb_wanted.specs.Depth.{AreDeep};
+    ghost use Rattle.fb_wanted.specs.Near.{AreNear};
 
     ghost Value = { List Entry };
 
     ghost view = { λ w. w.entries.items };
 
-    ghost invariant = { λ w. IsKept w.entries.items w.tasks.items w.tracks × AreNoted w.entries.items w.runs × AreGreatest w.tracks w.greatest × AreDeep w.entries.items w.depths.items × AreShort w.longest w.entries.items };
+    ghost invariant = { λ w. IsKept w.entries.items w.tasks.items w.tracks × AreNoted w.entries.items w.runs × AreGreatest w.tracks w.greatest × AreDeep w.entries.items w.depths.items × AreNear w.entries.items w.near × AreShort w.longest w.entries.items };
 }
 
 // Adds a block that is to be registered to the indexes by task and by track, and returns the wanted
@@ -195,6 +202,22 @@ impl Wanted {
         region_of(before.lbn) != region_of(block.lbn)
     }
 
+    // Whether a block that is to be registered begins in another stretch than the one registered last,
+    // or is another task's; else its stretch and its task are noted.
+    fn is_new_near(&self, block: Block) -> bool
+        ensures { result ≡ false → (i : ℕ) × (before : Block) × (slice_get (blocks_of self.now) i ≡ Some before) × (near_of before ≡ near_of block) }
+    {
+        let count = self.entries.len();
+        if count == 0 {
+            return true;
+        }
+        let last = self.entries[count - 1].block;
+        if last.task != block.task {
+            return true;
+        }
+        stretch_of(last.lbn) != stretch_of(block.lbn)
+    }
+
     // Changes the blocks of a run of the task that share a sector with the range.
     fn change_run(&mut self, task: u32, run: Run, first: u64, count: u64, change: Change)
         requires within { IsWithin change first count }
@@ -249,6 +272,7 @@ impl Wanted {
             tracks: Tracks::new(alloc),
             runs: BTreeSet::new(alloc),
             longest: 0,
+            near: BTreeSet::new(alloc),
             greatest: Greatest::new(alloc),
             depths: Vec::new(alloc),
         }
@@ -271,9 +295,12 @@ impl Wanted {
             region: region_of(block.lbn),
             index: block.index,
         };
+        let is_new = self.is_new_near(block);
+        let stretch = stretch_of(block.lbn);
         let place = self.entries.len() as u32;
         let band = band_of(block);
         self.entries.reserve(1)?;
+        note(&mut self.near, stretch, block.task, is_new)?;
         self.greatest.add_room(block.track.cylinder)?;
         add_bands(&mut self.depths, band, NO_DEPTH)?;
         note_run(&mut self.runs, block.task, run, begins_run)?;
@@ -359,6 +386,17 @@ impl Wanted {
     {
         let _ = &self.entries;
         self.entry_of(task, index)
+    }
+
+    /// The first task from `from` on that may have a block that shares a sector with the range; the
+    /// end if there is none before it. So none of the tasks that are passed over has one.
+    pub fn next_task_near(&self, first: u64, count: u64, from: u32, end: u32) -> u32
+        requires { from ≤ end }
+        ensures order { (from ≤ result) × (result ≤ end) }
+        ensures others { (task : ℕ) → from ≤ task → task < result → SharesNone first count task self.now }
+    {
+        let _ = &self.entries;
+        next_near(&self.near, first, count, from, end)
     }
 
     /// How many blocks of the task are registered, and how many of them are delivered and aborted.

@@ -49,7 +49,7 @@ returns-then-is_behind c =
     let same = lbns_stay old.chosen c.args.task c.args.task c.args.change c.args.self.now in
     let here = ap (lbns c.args.task) (c.self-in-loop-run.view_is ∙ old.changed) ∙ same in
     old.changed ∙ finished c.args.task c.args.first c.args.count c.self.inside.longest c.args.change c.args.self.now old.chosen c.loop-run.from c.requires.within
-    (subst (λ es. AreInOrder (blocks_of es)) c.self.view_is c.self.invariant.0.in_order) (subst (AreShort c.self.inside.longest) c.self.view_is c.self.invariant.4)
+    (subst (λ es. AreInOrder (blocks_of es)) c.self.view_is c.self.invariant.0.in_order) (subst (AreShort c.self.inside.longest) c.self.view_is c.self.invariant.5)
     (λ run k begins near. old.done run k begins (omega (arith, near, c.region_of-start.ensures, ap region_of c.saturating_sub.ensures)))
     (λ run lbn begins up region.
     let noted = (c.self-in-loop-run.invariant.1 c.args.task run).1 (subst (λ l. BeginsRun l run) (sym here) begins) in
@@ -62,7 +62,7 @@ returns c =
     let same = lbns_stay old.chosen c.args.task c.args.task c.args.change c.args.self.now in
     let here = ap (lbns c.args.task) (c.self-in-loop-run.view_is ∙ old.changed) ∙ same in
     old.changed ∙ finished c.args.task c.args.first c.args.count c.self.inside.longest c.args.change c.args.self.now old.chosen c.loop-run.from c.requires.within
-    (subst (λ es. AreInOrder (blocks_of es)) c.self.view_is c.self.invariant.0.in_order) (subst (AreShort c.self.inside.longest) c.self.view_is c.self.invariant.4)
+    (subst (λ es. AreInOrder (blocks_of es)) c.self.view_is c.self.invariant.0.in_order) (subst (AreShort c.self.inside.longest) c.self.view_is c.self.invariant.5)
     (λ run k begins near. old.done run k begins (omega (arith, near, c.region_of-start.ensures, ap region_of c.saturating_sub.ensures)))
     (λ run lbn begins up region.
     let noted = (c.self-in-loop-run.invariant.1 c.args.task run).1 (subst (λ l. BeginsRun l run) (sym here) begins) in

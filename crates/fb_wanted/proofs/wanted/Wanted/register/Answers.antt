@@ -1,7 +1,9 @@
-use Rattle.std.proofs.Common.{◌<◌, ◌≤◌, ◌-◌, get_or, arith, ◌∙◌, ◌++◌, ◌∷◌, [], ap, sym, refl, subst, length, filter, slice_get}
+use Rattle.std.proofs.Common.{◌≡◌, ℕ, List, Some, false, ◌<◌, ◌≤◌, ◌-◌, get_or, arith, ◌∙◌, ◌++◌, ◌∷◌, [], ap, sym, refl, subst, length, filter, slice_get}
 use Rattle.std.proofs.lemmas.List.{length-map}
+use Rattle.fb_wanted.specs.declared.block.Block.{Block}
 use Rattle.fb_wanted.specs.declared.block.Entry.{Entry}
 use Rattle.fb_wanted.specs.Tracks.{wanted_weight}
+use Rattle.fb_wanted.specs.Near.{near_of, AreNear}
 use Rattle.fb_wanted.specs.Numbering.{blocks_of, registered}
 use Rattle.fb_wanted.specs.Depth.{AreDeep}
 use Rattle.fb_wanted.specs.Index.{of_task, lbns, grown, AreNoted, AreShort, IsKept}
@@ -11,11 +13,14 @@ use Rattle.fb_wanted.proofs.Kept.{kept_pushed}
 use Rattle.fb_wanted.proofs.Noting.{noted_more, noted_back, short_more}
 use Rattle.fb_wanted.proofs.Cylinders.{greatest_still, others_within, greatest_settled}
 use Rattle.fb_wanted.proofs.Deep.{deep_room, deep_still, deep_pushed}
+use Rattle.fb_wanted.proofs.Nearby.{near_pushed, near_still}
 use Rattle.fb_wanted.proofs.wanted.Wanted.register.Goals as goal
 
+its_number : (block : Block) (es : List Entry) → block.index ≡ registered block.task (blocks_of es) → block.index ≡ length (filter (of_task block.task) es)
+its_number block es free = free ∙ (ap length (task-blocks block.task es) ∙ length-map (filter (of_task block.task) es) (λ e. e.block))
+
 pub begins_run-begins_run-requires : goal.begins_run-begins_run-requires
-begins_run-begins_run-requires c =
-    c.requires.numbered ∙ (ap length (task-blocks c.args.block.task c.args.self.now) ∙ length-map (filter (of_task c.args.block.task) c.args.self.now) (λ entry. entry.block))
+begins_run-begins_run-requires c = its_number c.args.block c.args.self.now c.requires.numbered
 
 pub add_to_index-requires-clause-room : goal.add_to_index-requires-clause-room
 add_to_index-requires-clause-room c = weight_small c.self.inside.entries.items c.self.inside.tasks.items c.self.inside.tracks c.self.invariant.0 c.args.block.track
@@ -57,7 +62,7 @@ invariant_of-self-in-Ok c =
     let room = subst (λ es. length es < 16000000) (sym c.self.view_is) c.requires.room in
     let list = c.in_ok-push-in-Ok.ensures.items ∙ ap (λ l. l ++ entry ∷ []) c.in_ok-reserve.ensures.items in
     let place = c.len-place.ensures ∙ c.self.inside.entries.ok.0 in
-    let next = free ∙ (ap length (task-blocks task items) ∙ length-map (filter (of_task task) items) (λ e. e.block)) in
+    let next = its_number c.args.block items free in
     let roomy = greatest_still c.self.inside.tracks c.self.inside.greatest c.add_room.new.self c.self.invariant.2 c.in_ok-add_room.ensures.stay c.in_ok-add_room.ensures.longer in (
       kept_pushed entry items c.self.inside.tasks.items c.add_to_index.new.tasks.items c.self.inside.tracks c.add_to_index.new.tracks c.push.new.self.items c.len-place.result list place c.self.invariant.0 free room c.requires.light c.requires.short
           c.in-Ok.ensures.tasks c.in-Ok.ensures.tracks,
@@ -70,7 +75,9 @@ invariant_of-self-in-Ok c =
           c.update_greatest.new.greatest (c.in-Ok.ensures.no_longer (length c.add_room.new.self) roomy.there c.in_ok-add_room.ensures.there) c.update_greatest.ensures.length c.update_greatest.ensures.weights,
       deep_pushed items c.push.new.self.items entry c.band_of-band.result c.add_bands.new.bands.items c.deepen.new.depths.items list c.band_of-band.ensures c.requires.light
           (deep_still items c.self.inside.depths.items c.add_bands.new.bands.items c.self.invariant.3 c.in_ok-add_bands.ensures.stay) c.deepen.ensures,
-      subst (AreShort c.max-self-inside.result) (sym list) (short_more items entry c.self.inside.longest c.max-self-inside.result c.self.invariant.4 (omega (arith, c.max-self-inside.ensures)) (omega (arith, c.max-self-inside.ensures))),
+      near_pushed items c.push.new.self.items entry c.self.inside.near c.note.new.notes c.stretch_of-stretch.result c.is_new_near-is_new.result list c.self.invariant.4 c.in_ok-note.ensures.stay c.stretch_of-stretch.ensures
+          c.in_ok-note.ensures.noted (subst (λ es. c.is_new_near-is_new.result ≡ false → (i : ℕ) × (before : Block) × (slice_get (blocks_of es) i ≡ Some before) × (near_of before ≡ near_of c.args.block)) (sym c.self.view_is) c.is_new_near-is_new.ensures),
+      subst (AreShort c.max-self-inside.result) (sym list) (short_more items entry c.self.inside.longest c.max-self-inside.result c.self.invariant.5 (omega (arith, c.max-self-inside.ensures)) (omega (arith, c.max-self-inside.ensures))),
     )
 
 -- out of memory for the index by task or by track: what was noted is taken back
@@ -81,7 +88,7 @@ invariant_of-self-in-Err c =
     let list = sym c.in_ok-reserve.ensures.items in
     let stay = c.in-Err.ensures in
     let free = c.requires.numbered ∙ ap (λ es. registered c.args.block.task (blocks_of es)) (sym c.self.view_is) in
-    let next = free ∙ (ap length (task-blocks c.args.block.task items) ∙ length-map (filter (of_task c.args.block.task) items) (λ e. e.block)) in
+    let next = its_number c.args.block items free in
     let roomy = greatest_still c.self.inside.tracks c.self.inside.greatest c.add_room.new.self c.self.invariant.2 c.in_ok-add_room.ensures.stay c.in_ok-add_room.ensures.longer in (
       subst (λ es. IsKept es c.add_to_index.new.tasks.items c.add_to_index.new.tracks) list (record {
         in_order = old.in_order;
@@ -97,5 +104,6 @@ invariant_of-self-in-Err c =
         there = stay.no_longer (length c.add_room.new.self) roomy.there c.in_ok-add_room.ensures.there;
       },
       subst (λ es. AreDeep es c.add_bands.new.bands.items) list (deep_still items c.self.inside.depths.items c.add_bands.new.bands.items c.self.invariant.3 c.in_ok-add_bands.ensures.stay),
-      subst (AreShort c.self.inside.longest) list c.self.invariant.4,
+      subst (λ es. AreNear es c.note.new.notes) list (near_still items c.self.inside.near c.note.new.notes c.self.invariant.4 c.in_ok-note.ensures.stay),
+      subst (AreShort c.self.inside.longest) list c.self.invariant.5,
     )

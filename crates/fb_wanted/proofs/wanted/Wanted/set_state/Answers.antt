@@ -1,6 +1,7 @@
 use Rattle.std.proofs.Common.{◌<◌, ◌∙◌, ap, sym, subst, refl, length, arith}
 use Rattle.std.proofs.lemmas.Option.{slice_get_read}
 use Rattle.fb_wanted.specs.Index.{with_state, reweighed, AreNoted, AreShort}
+use Rattle.fb_wanted.specs.Near.{AreNear}
 use Rattle.fb_wanted.proofs.Standing.{items-with_state}
 use Rattle.fb_wanted.proofs.Numbers.{small_at}
 use Rattle.fb_wanted.proofs.Reading.{its_task_there, its_track_there, weight_small, counts_part, counts_room, weight_part}
@@ -8,6 +9,7 @@ use Rattle.fb_wanted.proofs.Kept.{kept_set}
 use Rattle.fb_wanted.proofs.Regions.{noted-with_state, short-with_state}
 use Rattle.fb_wanted.proofs.Cylinders.{others_within, greatest_settled}
 use Rattle.fb_wanted.proofs.Deep.{deep_set}
+use Rattle.fb_wanted.proofs.Nearby.{near-with_state}
 use Rattle.fb_wanted.proofs.wanted.Wanted.set_state.Goals as goal
 
 pub weight_of-lost-requires : goal.weight_of-lost-requires
@@ -75,7 +77,8 @@ invariant_of-self c =
           c.update_greatest.new.greatest (omega (arith, c.reweigh-weight.ensures.length, c.self.invariant.2.there))
           c.update_greatest.ensures.length c.update_greatest.ensures.weights,
       deep_set c.args.state c.args.place c.index-entry.result.now items c.self.inside.depths.items here c.self.invariant.3,
-      subst (AreShort c.self.inside.longest) (sym same) (short-with_state c.self.inside.longest c.args.state c.args.place items c.self.invariant.4),
+      subst (λ l. AreNear l c.self.inside.near) (sym same) (near-with_state c.args.state c.args.place items c.self.inside.near c.self.invariant.4),
+      subst (AreShort c.self.inside.longest) (sym same) (short-with_state c.self.inside.longest c.args.state c.args.place items c.self.invariant.5),
     )
 
 pub returns : goal.returns
