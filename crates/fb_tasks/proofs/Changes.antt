@@ -1,19 +1,17 @@
 -- Calls and writes that change the states of blocks alone.
-use Rattle.fb_tasks.proofs.Words.{◌≡◌, ℕ, ◌<◌, List, [], ◌∷◌, Bool, true, false, length, set, get_or, ap, arith, subst, Some, slice_get}
-use Rattle.fb_tasks.proofs.Words.{append-nil, refl, sym, ◌∙◌, ◌+◌, ◌≤◌, nat_lt, map, ◌==◌, ◌&&◌, not, if◌then◌else◌, inl, inr}
-use Rattle.fb_tasks.proofs.Words.{Shape, Suspend, Resume, Abort, Promote, Close, Call, SuspendAll, ResumeAll, AbortRange, Rewant, Entry}
-use Rattle.fb_tasks.proofs.Words.{after, shares, is_delivered, Past, called, tasks, opened_by, calls_of, registered, LogSegment, finished}
-use Rattle.fb_tasks.proofs.Words.{TaskView, view, ended, aborted_view, closed_view, is_over, is_unsealed, is_cleaned, is_complete_as}
-use Rattle.fb_tasks.proofs.Words.{is_done, written_view, rewanted, state_in, suspended-view, resumed-view, aborted-view, promoted-silent}
-use Rattle.fb_tasks.proofs.Words.{closed-view, written-view, written-silent, Session, Told, IsQuiet, Cleans, HoldsChoice, choice_in}
-use Rattle.fb_tasks.proofs.Words.{kept_segment, HoldsImage, AreReported, IsAtWork, entry_by, entry_of, Stands, IsPlaced, IsUntouched}
-use Rattle.fb_tasks.proofs.Words.{IsBlockOf, Tells, IsCall, MayTake, true≢false, cases_Bool, and_parts, MayAsk, is_clean, is_backup}
-use Rattle.fb_tasks.proofs.Words.{some_at, all_any, all_weaker, map_same, list_all_each, each_all, one_or_other, step_to}
-use Rattle.fb_tasks.proofs.Words.{get_or_from_slice_get, and-false, nat_tests, places, held_at, Block, State, AllByRecursion, list_all}
-use Rattle.fb_tasks.proofs.Words.{Request, Kind, Backup}
-use Rattle.fb_tasks.proofs.{Frames.call-tells, Frames.silent-tells, Frames.changed-entries, Frames.kept-entries, States.show_suspended}
-use Rattle.fb_tasks.proofs.{States.show_resumed, States.never_held_back, States.show_aborted, States.states-told, States.ended-done}
-use Rattle.fb_tasks.proofs.{States.holds-fewer, States.show_rewanted, Asked.open_there, Asked.terms_there}
+use Rattle.fb_tasks.proofs.Words.{◌≡◌, subst, nat_lt, Shape, Resume, Abort, shares, called, Cleans, Stands, IsCall, MayAsk, places, Backup}
+use Rattle.fb_tasks.proofs.Words.{ℕ, ◌<◌, [], ◌∷◌, set, ap, sym, ◌∙◌, map, not, inl, inr, Told, Kind}
+use Rattle.fb_tasks.proofs.Words.{List, slice_get, ResumeAll, opened_by, choice_in, and_parts, is_backup, all_weaker, and-false, nat_tests}
+use Rattle.fb_tasks.proofs.Words.{Bool, true, Some, refl, ◌&&◌, Close, Call, Entry, after, Past, tasks, view, ended, Tells, Block, State}
+use Rattle.fb_tasks.proofs.Words.{false, is_delivered, aborted_view, written_view, resumed-view, aborted-view, written-view, list_all_each}
+use Rattle.fb_tasks.proofs.Words.{length, get_or, Promote, is_over, is_done, Session, IsQuiet, MayTake, some_at, all_any, held_at, Request}
+use Rattle.fb_tasks.proofs.Words.{arith, Suspend, finished, TaskView, rewanted, IsAtWork, entry_of, IsPlaced, is_clean, each_all, list_all}
+use Rattle.fb_tasks.proofs.Words.{append-nil, closed_view, is_unsealed, closed-view, HoldsChoice, kept_segment, AreReported, IsUntouched}
+use Rattle.fb_tasks.proofs.Words.{SuspendAll, AbortRange, calls_of, registered, LogSegment, is_cleaned, HoldsImage, true≢false, cases_Bool}
+use Rattle.fb_tasks.proofs.Words.{is_complete_as, suspended-view, promoted-silent, written-silent, get_or_from_slice_get, AllByRecursion}
+use Rattle.fb_tasks.proofs.{Frames.call-tells, Frames.silent-tells, States.show_suspended, States.show_resumed, States.never_held_back}
+use Rattle.fb_tasks.proofs.{States.show_aborted, States.states-told, States.ended-done, States.holds-fewer, Asked.open_there}
+use Rattle.fb_tasks.proofs.{Asked.terms_there}
 use Rattle.fb_clean.specs.Segments as clean
 
 suspension-told : (held_back : Bool) (v : TaskView) (session : Session) → Told v session → Told (record v { suspended = held_back }) (record session { suspended = held_back })
@@ -151,46 +149,3 @@ module _ (disk : Shape) (past : Past) (request : Request) (write : request.write
       unopened = λ task more. let u = h.unopened task more in either IsUntouched task (λ _. assumption u) u;
     };
   }
-
-  -- the tasks before the n-th are as the write leaves them
-  abbrev pub seen_until : ℕ → ℕ → TaskView
-  seen_until n task = if nat_lt task n then view (finished request ∷ past) task else view past task
-
-  abbrev pub entry_until : ℕ → Block → Entry
-  entry_until n block = entry_by (seen_until n) block
-
-  pub none_until : (bs : List Block) → map (entry_of past) bs ≡ map (entry_until 0) bs
-  none_until bs = kept-entries (view past) (seen_until 0) (λ t b. let none : nat_lt t 0 ≡ false = grind (arith, nat_tests) in rw none refl) bs
-
-  pub all_until : (n : ℕ) → AllByRecursion (IsBlockOf disk n) (registered past) → map (entry_until n) (registered past) ≡ map (entry_of (finished request ∷ past)) (registered past)
-  all_until n on = map_same (entry_until n) (entry_of (finished request ∷ past)) (registered past)
-      (all_weaker (IsBlockOf disk n) (λ block. entry_until n block ≡ entry_of (finished request ∷ past) block)
-      (λ block there. let less : nat_lt block.task n ≡ true = grind (arith, nat_tests, there.task) in rw less refl) (registered past) on)
-
-  -- one task more
-  others : (n t : ℕ) → (n == t) ≡ false → seen_until (n + 1) t ≡ seen_until n t
-  others n t other = let same : nat_lt t (n + 1) ≡ nat_lt t n = grind (arith, nat_tests) in rw same refl
-
-  before : (n : ℕ) → nat_lt n n ≡ false
-  before n = grind (arith, nat_tests)
-
-  behind : (n : ℕ) → nat_lt n (n + 1) ≡ true
-  behind n = grind (arith, nat_tests)
-
-  -- its session is an open backup, and the wanted set has wanted its blocks again
-  pub until_wanted : (n : ℕ) (session : Session) (held now : List Entry) → is_unsealed (view past n) ≡ true → session.suspended ≡ (view past n).suspended
-      → held ≡ map (entry_until n) (registered past) → now ≡ after n (Rewant request.lbn request.count session.suspended) held → now ≡ map (entry_until (n + 1)) (registered past)
-  until_wanted n session held now is_open says so_far is_after = is_after ∙ (ap (after n (Rewant request.lbn request.count session.suspended)) so_far
-      ∙ changed-entries n (Rewant request.lbn request.count session.suspended) (seen_until n) (seen_until (n + 1)) (registered past) (others n)
-      (rw (before n, behind n, says, written-view past request n write is_open) (all_any _ (λ block. show_rewanted ((view past n).bare block) (view past n).suspended (shares request.lbn request.count block)) (registered past))))
-
-  -- it is no open backup
-  pub until_left : (n : ℕ) (held : List Entry) → is_unsealed (view past n) ≡ false → held ≡ map (entry_until n) (registered past) → held ≡ map (entry_until (n + 1)) (registered past)
-  until_left n held other so_far = so_far ∙ kept-entries (seen_until n) (seen_until (n + 1)) (λ t b. ap (λ v. state_in v b) (one t)) (registered past) where
-    one : (t : ℕ) → seen_until n t ≡ seen_until (n + 1) t
-    one t = one_or_other (λ t. seen_until n t ≡ seen_until (n + 1) t) n t (rw (before n, behind n, written-silent past request n other) refl) (λ far. sym (others n t far))
-
-  -- nor is any of the next tasks
-  pub until-to : (n m : ℕ) (held : List Entry) → n ≤ m → ((k : ℕ) → n ≤ k → k < m → is_unsealed (view past k) ≡ false) → held ≡ map (entry_until n) (registered past) → held ≡ map (entry_until m) (registered past)
-  until-to n m held le none so_far =
-      step_to (λ k. held ≡ map (entry_until k) (registered past)) n m le (λ k from to. until_left k held (none k from to)) so_far

@@ -20,3 +20,4 @@ pub mod AfterDelivery
 pub mod ChoiceSteps
 pub mod AllChoices
 pub mod Calls
+pub mod Written

@@ -20,6 +20,10 @@ pub all_any : {X : Type 0} (P : X → Type 0) → ((x : X) → P x) → (xs : Li
 all_any P f [] = tt
 all_any P f (x ∷ xs) = (f x, all_any P f xs)
 
+pub all_placed : {X : Type 0} (P : X → Type 0) (xs : List X) → ((i : ℕ) (x : X) → slice_get xs i ≡ Some x → P x) → AllByRecursion P xs
+all_placed P [] f = tt
+all_placed P (x ∷ xs) f = (f 0 x refl, all_placed P xs (λ i y at. f (suc i) y at))
+
 pub all_pass : {X : Type 0} (p : X → Bool) (xs : List X) → AllByRecursion (λ x. p x ≡ true) (filter p xs)
 all_pass p [] = tt
 all_pass p (x ∷ xs) = grind (arith, all_pass p xs)

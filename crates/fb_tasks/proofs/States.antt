@@ -1,10 +1,9 @@
 -- The states of registered blocks, suspended or not.
-use Rattle.fb_tasks.proofs.Words.{◌≡◌, ℕ, ◌&&◌, not, if◌then◌else◌, List, [], ◌∷◌, Bool, true, false, Option, refl, sym, ◌∙◌, arith}
-use Rattle.fb_tasks.proofs.Words.{AllByRecursion, true≢false, Block, State, Wanted, Suspended, Aborted, is_wanted, is_delivered}
-use Rattle.fb_tasks.proofs.Words.{is_suspended, is_open, is_aborted, wanted_unless, Past, bare_state, Work, TaskView, view, own_of, ended}
-use Rattle.fb_tasks.proofs.Words.{with_states, is_unsealed, Content, HoldsBlock, Stands, Told, IsQuiet, HoldsImage, AreReported, Cleans}
-use Rattle.fb_tasks.proofs.Words.{IsAtWork, Session, is_clean, held_at, all_weaker, is_done, is_complete, was_complete, is_open_backup}
-use Rattle.fb_tasks.proofs.Words.{terms_of, segments}
+use Rattle.fb_tasks.proofs.Words.{◌≡◌, not, List, [], ◌∷◌, Bool, true, refl, sym, ◌∙◌, Block, State, Past, Work, view, ended, Told}
+use Rattle.fb_tasks.proofs.Words.{ℕ, if◌then◌else◌, AllByRecursion, is_delivered, is_suspended, wanted_unless, was_complete, is_open_backup}
+use Rattle.fb_tasks.proofs.Words.{◌&&◌, Option, arith, Wanted, is_open, own_of, Content, Stands, IsQuiet, Cleans, Session, held_at, is_done}
+use Rattle.fb_tasks.proofs.Words.{false, true≢false, is_aborted, bare_state, with_states, is_unsealed, HoldsBlock, AreReported, is_complete}
+use Rattle.fb_tasks.proofs.Words.{Suspended, Aborted, is_wanted, TaskView, HoldsImage, IsAtWork, is_clean, all_weaker, terms_of, segments}
 use Rattle.fb_model.specs.History.{blocks_of}
 
 -- a block of a task that is held back is suspended where it would be wanted

@@ -1,16 +1,14 @@
 -- A test has given its rows, and the sessions are tested one after the other.
-use Rattle.fb_tasks.proofs.Words.{◌≡◌, ℕ, ◌<◌, ◌==◌, ◌&&◌, ◌||◌, not, if◌then◌else◌, List, [], ◌∷◌, ◌++◌, Bool, true, false, Some, None}
-use Rattle.fb_tasks.proofs.Words.{Option, length, refl, ap, ap₂, sym, ◌∙◌, arith, ◌+◌, ◌≤◌, set, slice_get, append-nil, append_assoc}
-use Rattle.fb_tasks.proofs.Words.{and-false, or-true, AllByRecursion, list_any, flat_map, range_with_len, list_any-append, is_backup}
-use Rattle.fb_tasks.proofs.Words.{BackRow, SealLine, CompleteLine, Content, held_at, Past, tested, tasks, task_numbers, bare_state}
-use Rattle.fb_tasks.proofs.Words.{content_of, registered, Choice, TaskView, view, tested_view, is_unsealed, is_cleaned}
-use Rattle.fb_tasks.proofs.Words.{is_done, is_complete, is_segment_of, work, is_busy, test_rows_found, segment_rows_found, seal_rows_found}
-use Rattle.fb_tasks.proofs.Words.{complete_rows, is_newly_cleaned, number_same, tested-view, Session, is_none, IsSealed, AreRowsOf}
-use Rattle.fb_tasks.proofs.Words.{AreReported, IsAtWork, Stands, Cleans, HoldsBlock, HoldsImage, choice_in, CleansBy, IsUntouched}
-use Rattle.fb_tasks.proofs.Words.{HasNoChoice, HoldsBlocks, HasChosen, HaveChosen, IsSettled, Tells, all_weaker, flat_none}
-use Rattle.fb_tasks.proofs.Words.{all_range, some_at, each_set, step_to, get_or_past, length-set, Shape, Entry, Plain}
-use Rattle.fb_tasks.proofs.Words.{is_clean, subst, IsTested, ends_of, slice_get_within}
-use Rattle.fb_tasks.proofs.Words.{Terms, found_for, filter, is_delivered}
+use Rattle.fb_tasks.proofs.Words.{◌≡◌, ◌==◌, ◌&&◌, ◌||◌, List, ◌++◌, arith, tasks, Cleans, Tells, Shape, Entry, Plain, subst, Terms, filter}
+use Rattle.fb_tasks.proofs.Words.{ℕ, ◌<◌, not, ◌∷◌, Bool, true, Some, None, refl, ap, ap₂, sym, ◌∙◌, ◌+◌, ◌≤◌, set, Past, view, work}
+use Rattle.fb_tasks.proofs.Words.{if◌then◌else◌, append_assoc, AllByRecursion, range_with_len, CompleteLine, is_segment_of, complete_rows}
+use Rattle.fb_tasks.proofs.Words.{[], Option, length, tested, Choice, is_done, is_busy, Session, is_none, Stands, some_at, step_to, ends_of}
+use Rattle.fb_tasks.proofs.Words.{false, append-nil, bare_state, content_of, registered, IsUntouched, HasNoChoice, HoldsBlocks, get_or_past}
+use Rattle.fb_tasks.proofs.Words.{slice_get, and-false, is_backup, is_cleaned, HoldsBlock, HoldsImage, HaveChosen, all_weaker, length-set}
+use Rattle.fb_tasks.proofs.Words.{or-true, BackRow, Content, held_at, TaskView, IsSealed, IsAtWork, CleansBy, each_set, is_clean, IsTested}
+use Rattle.fb_tasks.proofs.Words.{list_any, flat_map, SealLine, AreRowsOf, choice_in, HasChosen, IsSettled, flat_none, all_range, found_for}
+use Rattle.fb_tasks.proofs.Words.{list_any-append, test_rows_found, segment_rows_found, seal_rows_found, is_newly_cleaned, slice_get_within}
+use Rattle.fb_tasks.proofs.Words.{task_numbers, tested_view, is_unsealed, is_complete, number_same, tested-view, AreReported, is_delivered}
 use Rattle.fb_tasks.proofs.States.{seen}
 use Rattle.fb_tasks.proofs.RowsOf.{reported_rows, rows-given, nothing-mute}
 use Rattle.fb_tasks.proofs.{Sealed.held_same, Complete.busy_by, Frames.kept-entries}

@@ -18,7 +18,7 @@ pub use Rattle.std.proofs.lemmas.List.Elements.{filter-append}
 pub use Rattle.std.proofs.lemmas.List.Folds.{list_any-append}
 pub use Rattle.std.proofs.lemmas.List.FromFn.{length-map-range_with_len, map-range_with_len_more, take-map-range_with_len}
 pub use Rattle.std.proofs.lemmas.List.Sums.{length-filter, sum_by-append, sum_by-cons}
-pub use Rattle.std.proofs.lemmas.Option.{get_or_from_slice_get, none-some, slice_get-get_or, slice_get_read, slice_get_within}
+pub use Rattle.std.proofs.lemmas.Option.{get_or_from_slice_get, none-some, slice_get-get_or, slice_get_past, slice_get_read, slice_get_within}
 pub use Rattle.std.proofs.lemmas.Result.{IfOk-weaker, on_err_weaker, on_ok_weaker}
 pub use Rattle.fb_units.specs.declared.types.Request.{Request}
 pub use Rattle.fb_geometry.specs.Places.{places}
@@ -42,8 +42,9 @@ pub use Rattle.fb_calls.specs.declared.call.Call.{Call}
 pub use Rattle.fb_calls.specs.declared.call.Kind.{Kind}
 pub use Rattle.fb_calls.specs.declared.call.Kind.TheVariants.{Backup, Clean, Plain}
 pub use Rattle.fb_wanted.specs.Counting.{counts_of, of_task}
+pub use Rattle.fb_wanted.specs.Near.{SharesNone}
 pub use Rattle.fb_wanted.specs.Numbering.{blocks_of}
-pub use Rattle.fb_wanted.specs.States.{after, is_aborted, is_block, is_delivered, is_open, is_suspended, is_wanted, shares, state_after}
+pub use Rattle.fb_wanted.specs.States.{after, entry_after, is_aborted, is_block, is_delivered, is_open, is_suspended, is_wanted, shares, state_after}
 pub use Rattle.fb_wanted.specs.States.{wanted_unless}
 pub use Rattle.fb_wanted.specs.declared.block.Block.{Block}
 pub use Rattle.fb_wanted.specs.declared.block.Change.TheVariants.{Abort as AbortRange, Deliver, Resume as ResumeAll, Rewant}
@@ -89,8 +90,9 @@ pub use Rattle.fb_tasks.specs.Standing.{choosable_by, ends_of, entry_by, entry_i
 pub use Rattle.fb_tasks.specs.Taken.{delivery_of, found_for, rows_after, seal_rows_found, segment_rows_found}
 unfoldable pub use Rattle.fb_tasks.specs.Taken.{test_rows_found}
 pub use Rattle.fb_tasks.specs.Telling.{Delivers, IsCall, IsSettled, MayDeliver, MaySettle, MayTake, Tells, choosable, settled_at}
+pub use Rattle.fb_tasks.specs.Writing.{left_by_write, left_in, state_left}
 pub use Rattle.fb_tasks.specs.declared.session.Session.{Session}
-pub use Rattle.fb_tasks.proofs.Lists.{all_any, all_append, all_at, all_filter, all_flat, all_left, all_map, all_pass, all_range}
+pub use Rattle.fb_tasks.proofs.Lists.{all_any, all_append, all_at, all_filter, all_flat, all_left, all_map, all_pass, all_placed, all_range}
 pub use Rattle.fb_tasks.proofs.Lists.{all_right, all_same, all_weaker, all_with, any_none, any_same, each_all, each_push, each_set}
 pub use Rattle.fb_tasks.proofs.Lists.{filter_from, filter_none, filter_same, filter_to, find_all, find_none, flat_all, flat_none}
 pub use Rattle.fb_tasks.proofs.Lists.{flat_same, list_all_each, map_at, map_same, none_pass, number_other, one_or_other, other_number}

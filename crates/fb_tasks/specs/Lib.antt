@@ -5,3 +5,4 @@ pub mod Standing
 pub mod Telling
 pub mod Leaving
 pub mod Script
+pub mod Writing

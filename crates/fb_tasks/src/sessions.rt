@@ -1,5 +1,5 @@
 // The sessions of a run, and what calls, deliveries and writes make of them.
-ghost use Rattle.std.specs.Prelude.{◌≡◌, ◌≤◌, ◌<◌, ◌^◌, ◌*◌, ◌-◌, ℕ, List, [], ◌∷◌, ◌++◌, Bool, true, false, length, set, slice_get, Some, OnOk, OnErr};
+ghost use Rattle.std.specs.Prelude.{◌≡◌, ◌≤◌, ◌<◌, ◌^◌, ◌*◌, ◌-◌, ℕ, List, [], ◌∷◌, ◌++◌, Bool, true, false, length, map, set, slice_get, Some, OnOk, OnErr};
 ghost use Rattle.std.specs.List.{flat_map};
 ghost use Rattle.fb_geometry.specs.Shape.{Shape};
 ghost use Rattle.fb_geometry.specs.Places.{places};
@@ -18,6 +18,7 @@ ghost use Rattle.fb_tasks.specs.declared.session.Session.{Session};
 ghost use Rattle.fb_tasks.specs.Taken.{segment_rows_found, test_rows_found, rows_after, delivery_of};
 ghost use Rattle.fb_tasks.specs.Standing.{HaveChosen, ends_of};
 ghost use Rattle.fb_tasks.specs.Leaving.{HasGrown, HasBegun, entries_by, OnlyRegisters, MayClean, OnlyTouched};
+ghost use Rattle.fb_tasks.specs.Writing.{left_by_write, left_in};
 ghost use Rattle.fb_tasks.specs.Telling.{Tells, MayTake, MaySettle, MayDeliver, IsSettled, IsCall, settled_at};
 
 use crate::session::{Session, Stamp};
@@ -35,10 +36,11 @@ use std::marker::Model;
 /// The sessions in order of opening: a session's place is its task's number.
 ///
 /// Settling costs time for each task that was touched since the last settling; a delivery or a call
-/// costs time for its own task. A write asks the open backups, and the tasks touched since the last
-/// settling. A task is touched by a delivery, a want, an abort, a new segment and its close; one
-/// whose call ran out of memory may also cost time until it is touched and settled again. A session
-/// to which nothing happens costs nothing.
+/// costs time for its own task. A write costs time for each task with a block near its sectors, or
+/// for each open backup and each task touched since the last settling, whichever are fewer. A task
+/// is touched by a delivery, a want, an abort, a new segment and its close; one whose call ran out
+/// of memory may also cost time until it is touched and settled again. A session to which nothing
+/// happens costs nothing.
 #[derive(Drop)]
 pub struct Sessions {
     alloc: Global,
@@ -181,14 +183,7 @@ impl Sessions {
         ensures { (disk : Shape) (past : Past) (request : Request) → request.write ≡ true → request.lbn ≡ first → request.count ≡ count
             → Tells disk past self.old wanted.old → Tells disk (finished request ∷ past) self.new wanted.new }
     {
-        let mut from = 0;
-        while let Some(task) = next_noted(&self.asked, from) {
-            let session = &self.sessions[task as usize];
-            if session.is_open_backup() {
-                wanted.rewant(task, first, count as u64, session.suspended);
-            }
-            from = task + 1;
-        }
+        self.rewant_near(wanted, first, count as u64);
     }
 
     /// Whether the task is complete.
@@ -332,6 +327,34 @@ impl Sessions {
         note_touch(&mut self.touched, &mut self.asked, task)?;
         self.sessions[task as usize].touched = true;
         Ok(())
+    }
+
+    // Wants the task's blocks again that share a sector with the range, if it is an open backup.
+    fn rewant(&self, wanted: &mut Wanted, task: u32, first: u64, count: u64)
+        requires { task < length self.now }
+        ensures { wanted.new ≡ map (left_in task self.now first count) wanted.old }
+    {
+        let session = &self.sessions[task as usize];
+        if session.is_open_backup() {
+            wanted.rewant(task, first, count, session.suspended);
+        }
+    }
+
+    // Wants blocks of open backups again that share a sector with the range. Each turn passes over a
+    // listed task and over one with a block near the range, so there are no more turns than of either.
+    fn rewant_near(&self, wanted: &mut Wanted, first: u64, count: u64)
+        ensures { wanted.new ≡ map (left_by_write self.now first count) wanted.old }
+    {
+        let opened = self.sessions.len() as u32;
+        let mut from = 0;
+        while let Some(listed) = next_noted(&self.asked, from) {
+            let task = wanted.next_task_near(first, count, listed, opened);
+            if task == opened {
+                return;
+            }
+            self.rewant(wanted, task, first, count);
+            from = task + 1;
+        }
     }
 
     // Lets each touched session choose, in order of opening: no other would choose anything.

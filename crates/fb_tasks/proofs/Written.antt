@@ -1,0 +1,120 @@
+-- A write, block by block: which blocks are wanted again, and that tasks may be asked in any order.
+use Rattle.fb_tasks.proofs.Words.{◌≡◌, ◌==◌, ◌&&◌, List, true, None, Some, subst, arith, Rewant, Block, Entry, shares, Shape, tasks, Tells}
+use Rattle.fb_tasks.proofs.Words.{ℕ, ◌+◌, ◌<◌, ◌≤◌, not, [], ◌∷◌, inl, inr, map, refl, ap, ap₂, sym, ◌∙◌, Past, view}
+use Rattle.fb_tasks.proofs.Words.{false, length, get_or, all_any, all_map, some_at, nat_cmp, Session, Request, finished, entry_of, left_in}
+use Rattle.fb_tasks.proofs.Words.{Option, cases_Bool, all_placed, all_weaker, same_number, registered, SharesNone, entry_after, state_left}
+use Rattle.fb_tasks.proofs.Words.{slice_get, slice_get-get_or, AllByRecursion, written-view, written-silent, slice_get_past, left_by_write}
+use Rattle.fb_tasks.proofs.Words.{nat_tests, cases_lt, and-false, all_with, map_same, BTreeSet, contains, is_backup, AreListed, IsBlockOf}
+use Rattle.fb_tasks.proofs.{Listed.no_backup_there, Changes.open_by, Changes.written-tells, States.show_rewanted}
+
+map_still : {X : Type 0} (f : X → X) (xs : List X) → AllByRecursion (λ x. f x ≡ x) xs → xs ≡ map f xs
+map_still f [] h = refl
+map_still f (x ∷ xs) h = ap (λ ys. x ∷ ys) (map_still f xs h.1) ∙ ap (λ y. y ∷ map f xs) (sym h.0)
+
+module _ (first count : ℕ) where
+  state_outside : (s : Option Session) (e : Entry) → shares first count e.block ≡ false → state_left first count s e ≡ e.state
+  state_outside None e outside = refl
+  state_outside (Some session) e outside = rw (outside, and-false) refl
+
+  state_twice : (s : Option Session) (e : Entry) → state_left first count s (record { block = e.block; state = state_left first count s e }) ≡ state_left first count s e
+  state_twice None e = refl
+  state_twice (Some session) e = grind arith
+
+  module _ (sessions : List Session) where
+    abbrev left : Entry → Entry
+    left e = left_by_write sessions first count e
+
+    -- a block stays as it is where its state does
+    still : (e : Entry) → state_left first count (slice_get sessions e.block.task) e ≡ e.state → left e ≡ e
+    still e same = ap (λ s. let x : Entry = record { block = e.block; state = s } in x) same
+
+    twice : (e : Entry) → left (left e) ≡ left e
+    twice e = still (left e) (state_twice (slice_get sessions e.block.task) e)
+
+    beyond : (e : Entry) → length sessions ≤ e.block.task → left e ≡ e
+    beyond e none = still e (ap (λ s. state_left first count s e) (slice_get_past sessions e.block.task none))
+
+    -- the task is asked, whose session is an open backup or another
+    module _ {items : List Session} (task : ℕ) (session : Session) (same : items ≡ sessions) (there : task < length sessions)
+        (is : session ≡ get_or items task session) where
+      at : slice_get sessions task ≡ Some session
+      at = subst (λ xs. slice_get xs task ≡ Some session) same (slice_get-get_or items task session (subst (λ xs. task < length xs) (sym same) there) ∙ ap Some (sym is))
+
+      pub open_left : (is_backup session.kind && not session.sealed) ≡ true → (es : List Entry)
+          → map (entry_after task (Rewant first count session.suspended)) es ≡ map (left_in task sessions first count) es
+      open_left is_open es = map_same _ _ es (all_any {X = Entry} _ (λ e. elim (cases_Bool (e.block.task == task)) [
+        | inl own ↦ rw (own, same_number e.block.task task own, at, is_open) refl
+        | inr other ↦ rw other refl
+      ]) es)
+
+      pub other_left : (is_backup session.kind && not session.sealed) ≡ false → (es : List Entry) → es ≡ map (left_in task sessions first count) es
+      other_left no_backup es = map_still _ es (all_any {X = Entry} _ (λ e. elim (cases_Bool (e.block.task == task)) [
+        | inl own ↦ rw (own, same_number e.block.task task own, at, no_backup) refl
+        | inr other ↦ rw other refl
+      ]) es)
+
+    -- the tasks before this one were asked: the write leaves their blocks as they now are, and the same of all as before
+    abbrev pub AreAsked : ℕ → List Entry → List Entry → Type 0
+    AreAsked task es now = (map left now ≡ map left es) × AllByRecursion (λ e. e.block.task < task → left e ≡ e) now
+
+    pub one_asked : (task : ℕ) (es now new : List Entry) → new ≡ map (left_in task sessions first count) now → AreAsked task es now → AreAsked (task + 1) es new
+    one_asked task es now new is h = subst (AreAsked (task + 1) es) (sym is) (same now ∙ h.0, all_map _ _ now (all_weaker _ _ more now h.1)) where
+      same : (xs : List Entry) → map left (map (left_in task sessions first count) xs) ≡ map left xs
+      same [] = refl
+      same (x ∷ xs) = elim (cases_Bool (x.block.task == task)) [
+        | inl own ↦ rw (own, same xs) (ap (λ y. y ∷ map left xs) (twice x))
+        | inr other ↦ rw (other, same xs) refl
+      ]
+
+      more : (e : Entry) → (e.block.task < task → left e ≡ e) → (left_in task sessions first count e).block.task < task + 1
+          → left (left_in task sessions first count e) ≡ left_in task sessions first count e
+      more e before = elim (cases_Bool (e.block.task == task)) [
+        | inl own ↦ rw own (λ less. twice e)
+        | inr other ↦ rw other (λ less. before (grind (arith, nat_tests)))
+      ]
+
+    module _ {items : List Session} {touched asked : BTreeSet ℕ} (same : items ≡ sessions) (listed : AreListed items touched asked) where
+      unlisted : (e : Entry) → contains nat_cmp asked e.block.task ≡ false → left e ≡ e
+      unlisted e none = elim (cases_lt e.block.task (length sessions)) [
+        | inl there ↦ let found = some_at sessions e.block.task there in rw (found.1, no_backup_there (subst (λ xs. AreListed xs touched asked) same listed) e.block.task found.0 none found.1) refl
+        | inr past ↦ beyond e past
+      ]
+
+      -- tasks are passed over that aren't listed, or else have no block near the range
+      pub passed : (from next task : ℕ) (es now : List Entry) → ((k : ℕ) → from ≤ k → k < next → contains nat_cmp asked k ≡ false)
+          → ((k : ℕ) → next ≤ k → k < task → SharesNone first count k now) → AreAsked from es now → AreAsked task es now
+      passed from next task es now unnoted far h =
+          let near = all_placed (λ e. next ≤ e.block.task → e.block.task < task → left e ≡ e) now
+          (λ i e at low high. still e (state_outside (slice_get sessions e.block.task) e (far e.block.task low high i e at refl))) in
+          let rest : AllByRecursion (λ e. e.block.task < task → left e ≡ e) now = all_with _ _ _ (λ e none before less. elim (cases_lt e.block.task from) [
+            | inl earlier ↦ before earlier
+            | inr later ↦ elim (cases_lt e.block.task next) [ inl low ↦ unlisted e (unnoted e.block.task later low) | inr high ↦ none high less ]
+          ]) now near h.1 in (h.0, rest)
+
+    pub all_asked : (from : ℕ) (es now : List Entry) → length sessions ≤ from → AreAsked from es now → now ≡ map left es
+    all_asked from es now all h = map_still left now (all_weaker _ _ (λ e before. elim (cases_lt e.block.task from) [
+      | inl less ↦ before less
+      | inr more ↦ beyond e (omega (arith, more, all))
+    ]) now h.1) ∙ h.0
+
+-- blocks of open backups are as the history has them after the write
+module _ (disk : Shape) (past : Past) (request : Request) (write : request.write ≡ true) (sessions : List Session) (held : List Entry) (h : Tells disk past sessions held) where
+  one_told : (b : Block) → IsBlockOf disk (length (tasks past)) b → left_by_write sessions request.lbn request.count (entry_of past b) ≡ entry_of (finished request ∷ past) b
+  one_told b there =
+      let found = some_at sessions b.task (omega (arith, there.task, h.as_many)) in
+      let stands = (h.each b.task found.0 found.1).stands in
+      elim (cases_Bool (is_backup found.0.kind && not found.0.sealed)) [
+        | inl is_open ↦ rw (found.1, is_open, stands.suspended, written-view past request b.task write (open_by (view past b.task) found.0 stands ∙ is_open))
+            (ap (λ s. let x : Entry = record { block = b; state = s } in x) (show_rewanted ((view past b.task).bare b) (view past b.task).suspended (shares request.lbn request.count b)))
+        | inr other ↦ rw (found.1, other, written-silent past request b.task (open_by (view past b.task) found.0 stands ∙ other)) refl
+      ]
+
+  all_told : (bs : List Block) → AllByRecursion (IsBlockOf disk (length (tasks past))) bs
+      → map (left_by_write sessions request.lbn request.count) (map (entry_of past) bs) ≡ map (entry_of (finished request ∷ past)) bs
+  all_told [] on = refl
+  all_told (b ∷ bs) on = rw (all_told bs on.1) (ap (λ x. x ∷ map (entry_of (finished request ∷ past)) bs) (one_told b on.0))
+
+  pub left-tells : (first count : ℕ) (now : List Entry) → request.lbn ≡ first → request.count ≡ count → now ≡ map (left_by_write sessions first count) held → Tells disk (finished request ∷ past) sessions now
+  left-tells first count now lbn sectors is = written-tells disk past request write sessions held now
+      (is ∙ (ap₂ (λ f n. map (left_by_write sessions f n) held) (sym lbn) (sym sectors)
+      ∙ (ap (map (left_by_write sessions request.lbn request.count)) h.entries ∙ all_told (registered past) h.on_disk))) h
