@@ -1,20 +1,9 @@
 -- The head's arrival at a cylinder.
-use Rattle.std.proofs.Common.{◌≡◌, ℕ, ◌+◌, ◌-◌, ◌%◌, ◌*◌, ◌^◌, ◌<◌, ◌≤◌, sym, ap, ◌∙◌, arith, Bool, true, false}
-use Rattle.std.specs.Prelude.{if◌then◌else◌}
-use Rattle.fb_units.specs.declared.types.Request.{Request}
-use Rattle.fb_sectormap.specs.Lookup.{place_at, track_at}
-use Rattle.fb_seek.specs.Positioning.{seek, pos, distance_of}
-use Rattle.fb_service.specs.declared.disk.Disk.{Disk}
-use Rattle.fb_service.specs.declared.approach.Departure.{Departure}
-use Rattle.fb_service.specs.Passing.{begin_angle}
-use Rattle.fb_model.specs.PlainReplay.{sptf}
+use Rattle.fb_fastq.proofs.Words.{◌≡◌, ℕ, ◌+◌, ◌-◌, ◌%◌, ◌*◌, ◌^◌, ◌<◌, ◌≤◌, sym, ap, ◌∙◌, arith, Bool, true, false, if◌then◌else◌, Request}
+use Rattle.fb_fastq.proofs.Words.{place_at, track_at, seek, pos, distance_of, Disk, Departure, begin_angle, sptf, IsAlong, turn, IsArrival}
+use Rattle.fb_fastq.proofs.Words.{IsOnCylinder}
 use Rattle.fb_fastq.specs.declared.arrival.Arrival.{Arrival}
-use Rattle.fb_fastq.specs.Lanes.{IsAlong}
-use Rattle.fb_fastq.specs.Turns.{turn}
-use Rattle.fb_fastq.specs.ByCylinder.{IsArrival, IsOnCylinder}
-use Rattle.fb_fastq.proofs.Far.{moves}
-use Rattle.fb_fastq.proofs.Turns.{ahead, round, no_sooner}
-use Rattle.fb_fastq.proofs.OnLanes.{on_cylinder, waits_turn}
+use Rattle.fb_fastq.proofs.{Far.moves, Turns.ahead, Turns.round, Turns.no_sooner, OnLanes.on_cylinder, OnLanes.waits_turn}
 
 -- a spot of a cylinder is one of a request on it
 same_cylinder : (disk : Disk) (r : Request) (spot cylinder : ℕ) → IsAlong disk r spot → IsOnCylinder cylinder spot → (track_at disk.map r.lbn).cylinder ≡ cylinder

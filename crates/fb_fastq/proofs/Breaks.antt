@@ -1,16 +1,6 @@
 -- Walks that break off at a lane, and go on behind it.
-use Rattle.std.proofs.Common.{ℕ, ◌+◌, ◌^◌, inl, inr, Option, Some, None, IfSome}
-use Rattle.std.specs.Prelude.{MatchOption}
-use Rattle.std.specs.BTreeMap.{BTreeMap}
-use Rattle.std.proofs.lemmas.Bool.{cases_lt}
-use Rattle.fb_units.specs.declared.types.Track.{Track}
-use Rattle.fb_units.specs.declared.types.Request.{Request}
-use Rattle.fb_service.specs.declared.disk.Disk.{Disk}
-use Rattle.fb_fastq.specs.declared.soonest.Candidate.{Candidate}
-use Rattle.fb_fastq.specs.declared.visit.Visit.{Visit}
-use Rattle.fb_fastq.specs.Joining.{AllHeld}
-use Rattle.fb_fastq.specs.Lanes.{IsAlong}
-use Rattle.fb_fastq.specs.Candidates.{IsBefore, BeatsFrom, BeatsBetween}
+use Rattle.fb_fastq.proofs.Words.{ℕ, ◌+◌, ◌^◌, inl, inr, Option, Some, None, IfSome, MatchOption, BTreeMap, cases_lt, Track, Request, Disk}
+use Rattle.fb_fastq.proofs.Words.{Candidate, Visit, AllHeld, IsAlong, IsBefore, BeatsFrom, BeatsBetween}
 use Rattle.fb_fastq.proofs.Sweeps.{beats_more, beats_both}
 
 -- what is so of any is so of the one, if there is one

@@ -1,21 +1,10 @@
 -- Requests that are divided among a map and rows.
-use Rattle.std.proofs.Common.{◌≡◌, ◌≢◌, ℕ, ◌+◌, ◌-◌, ◌^◌, ◌<◌, ◌≤◌, List, [], ◌∷◌, ◌++◌, sym, ap, subst, ◌∙◌, arith, inl, inr, length}
-use Rattle.std.specs.List.{AllByRecursion}
-use Rattle.std.specs.BTreeMap.{BTreeMap}
-use Rattle.std.proofs.lemmas.Bool.{cases_lt}
-use Rattle.fb_units.specs.declared.types.Track.{Track}
-use Rattle.fb_units.specs.declared.types.Request.{Request}
-use Rattle.fb_service.specs.declared.disk.Disk.{Disk}
-use Rattle.fb_model.specs.PlainReplay.{sptf}
-use Rattle.fb_fastq.specs.declared.soonest.Candidate.{Candidate}
-use Rattle.fb_fastq.specs.Joining.{Waiting, number_of, pending_of, AreNumbered, IsIndex, IsNoLater, IsFirst, IsFirstHeld}
-use Rattle.fb_fastq.specs.Candidates.{IsCandidate, IsBefore, Beats}
-use Rattle.fb_fastq.specs.More.{IsMore}
-use Rattle.fb_fastq.specs.ByCylinder.{Row, all_of_rows, AreRows, Settles, SettlesAll, IsDivided}
-use Rattle.fb_fastq.proofs.Least.{first_listed, length_pending}
-use Rattle.fb_fastq.proofs.Sweeps.{no_later_trans}
-use Rattle.fb_fastq.proofs.InRows.{all_both, all_left}
-use Rattle.fb_fastq.proofs.OneMore.{more_left, more_right, index_more, index_less, length_more}
+use Rattle.fb_fastq.proofs.Words.{◌≡◌, ◌≢◌, ℕ, ◌+◌, ◌-◌, ◌^◌, ◌<◌, ◌≤◌, List, [], ◌∷◌, ◌++◌, sym, ap, subst, ◌∙◌, arith, inl, inr, length}
+use Rattle.fb_fastq.proofs.Words.{AllByRecursion, BTreeMap, cases_lt, Track, Request, Disk, sptf, Candidate, Waiting, number_of, pending_of}
+use Rattle.fb_fastq.proofs.Words.{AreNumbered, IsIndex, IsNoLater, IsFirst, IsFirstHeld, IsCandidate, IsBefore, Beats, IsMore, Row}
+use Rattle.fb_fastq.proofs.Words.{all_of_rows, AreRows, Settles, SettlesAll, IsDivided}
+use Rattle.fb_fastq.proofs.{Least.first_listed, Least.length_pending, Sweeps.no_later_trans, InRows.all_both, InRows.all_left}
+use Rattle.fb_fastq.proofs.{OneMore.more_left, OneMore.more_right, OneMore.index_more, OneMore.index_less, OneMore.length_more}
 
 pub numbered_left : (xs ys : List Waiting) → AreNumbered (xs ++ ys) → AreNumbered xs
 numbered_left [] ys h = tt

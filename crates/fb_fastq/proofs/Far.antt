@@ -1,18 +1,8 @@
 -- The wait for a first passage is no shorter than the way of the arm.
-use Rattle.std.proofs.Common.{◌≡◌, ℕ, ◌≤◌, Bool, inl, inr, arith}
-use Rattle.std.specs.Prelude.{◌==◌, if◌then◌else◌}
-use Rattle.std.proofs.Math.Nat.{le-max_left}
-use Rattle.std.proofs.lemmas.Bool.{cases_Bool}
-use Rattle.std.proofs.lemmas.Bool.Decides.{nat_tests}
-use Rattle.fb_units.specs.declared.types.Track.{Track}
-use Rattle.fb_units.specs.declared.types.Request.{Request}
+use Rattle.fb_fastq.proofs.Words.{◌≡◌, ℕ, ◌≤◌, Bool, inl, inr, arith, ◌==◌, if◌then◌else◌, le-max_left, cases_Bool, nat_tests, Track}
+use Rattle.fb_fastq.proofs.Words.{Request, track_at, seek, pos, distance_of, Disk, begin_from, sptf}
 use Rattle.fb_units.specs.Tracks.{same_track}
-use Rattle.fb_sectormap.specs.Lookup.{track_at}
 use Rattle.fb_seek.specs.Mechanics.{Mechanics}
-use Rattle.fb_seek.specs.Positioning.{seek, pos, distance_of}
-use Rattle.fb_service.specs.declared.disk.Disk.{Disk}
-use Rattle.fb_service.specs.Passing.{begin_from}
-use Rattle.fb_model.specs.PlainReplay.{sptf}
 
 -- the arm moves as long as its seek at least
 pub moves : (arm : Mechanics) (a b : Track) (write : Bool) → seek arm (distance_of a.cylinder b.cylinder) ≤ pos arm a b write

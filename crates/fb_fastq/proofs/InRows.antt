@@ -1,25 +1,10 @@
 -- Requests in rows.
-use Rattle.std.proofs.Common.{◌≡◌, ℕ, zero, suc, ◌+◌, ◌*◌, ◌^◌, ◌<◌, ◌≤◌, List, [], ◌∷◌, ◌++◌, refl, sym, ap, subst, ◌∙◌, arith, inl, inr, ◌⊎◌, Some, None, slice_get, length}
-use Rattle.std.specs.Prelude.{MatchOption}
-use Rattle.std.specs.List.{AllByRecursion}
-use Rattle.fb_units.specs.declared.types.Track.{Track}
-use Rattle.fb_geometry.specs.Shape.{cylinders_of}
-use Rattle.fb_sectormap.specs.Lookup.{track_at}
-use Rattle.fb_seek.specs.Positioning.{seek, distance_of}
+use Rattle.fb_fastq.proofs.Words.{◌≡◌, ℕ, zero, suc, ◌+◌, ◌*◌, ◌^◌, ◌<◌, ◌≤◌, List, [], ◌∷◌, ◌++◌, refl, sym, ap, subst, ◌∙◌, arith, inl}
+use Rattle.fb_fastq.proofs.Words.{inr, ◌⊎◌, Some, None, slice_get, length, MatchOption, AllByRecursion, Track, cylinders_of, track_at, seek}
+use Rattle.fb_fastq.proofs.Words.{distance_of, Disk, sptf, Candidate, Place, Pick, Waiting, IsAlong, IsBefore, Row, all_of_rows, at_place}
+use Rattle.fb_fastq.proofs.Words.{IsOnCylinder, AreRows, IsAt, IsPick, Settles, SettlesAll}
 use Rattle.fb_seek.specs.Rising.{SeeksRise}
-use Rattle.fb_service.specs.declared.disk.Disk.{Disk}
-use Rattle.fb_model.specs.PlainReplay.{sptf}
-use Rattle.fb_fastq.specs.declared.soonest.Candidate.{Candidate}
-use Rattle.fb_fastq.specs.declared.rows.Place.{Place}
-use Rattle.fb_fastq.specs.declared.rows.Pick.{Pick}
-use Rattle.fb_fastq.specs.Joining.{Waiting}
-use Rattle.fb_fastq.specs.Lanes.{IsAlong}
-use Rattle.fb_fastq.specs.Candidates.{IsBefore}
-use Rattle.fb_fastq.specs.ByCylinder.{Row, all_of_rows, at_place, IsOnCylinder, AreRows, IsAt, IsPick, Settles, SettlesAll}
-use Rattle.fb_fastq.proofs.Least.{some_injective}
-use Rattle.fb_fastq.proofs.Sweeps.{no_later_trans}
-use Rattle.fb_fastq.proofs.Far.{waits_for_arm}
-use Rattle.fb_fastq.proofs.OnLanes.{on_cylinder}
+use Rattle.fb_fastq.proofs.{Least.some_injective, Sweeps.no_later_trans, Far.waits_for_arm, OnLanes.on_cylinder}
 
 -- what is so at each place is so of all
 pub all_at : (P : Waiting → Type 0) (ws : List Waiting) → ((k : ℕ) (w : Waiting) → slice_get ws k ≡ Some w → P w) → AllByRecursion P ws

@@ -1,15 +1,7 @@
 -- A request that joins, among those that wait.
-use Rattle.std.proofs.Common.{◌≡◌, ◌≢◌, ℕ, ◌+◌, ◌<◌, List, [], ◌∷◌, ◌++◌, map, refl, ap, ◌∙◌, arith, true, false, inl, inr}
-use Rattle.std.specs.Prelude.{nat_lt}
-use Rattle.std.specs.List.{AllByRecursion}
-use Rattle.std.specs.Ordering.{match_ordering}
-use Rattle.std.specs.declared.cmp.Ordering.{Ordering}
-use Rattle.std.specs.declared.cmp.Ordering.TheVariants.{Less, Equal, Greater}
-use Rattle.std.specs.BTreeMap.{insert_entry}
-use Rattle.std.proofs.lemmas.Bool.{cases_Bool}
-use Rattle.std.proofs.lemmas.Bool.Decides.{nat_tests}
-use Rattle.fb_units.specs.declared.types.Request.{Request}
-use Rattle.fb_fastq.specs.Joining.{order, Waiting, number_of, join_in, in_order, pending_of, AreNumbered, IsIndex}
+use Rattle.fb_fastq.proofs.Words.{◌≡◌, ◌≢◌, ℕ, ◌+◌, ◌<◌, List, [], ◌∷◌, ◌++◌, map, refl, ap, ◌∙◌, arith, true, false, inl, inr, nat_lt}
+use Rattle.fb_fastq.proofs.Words.{AllByRecursion, match_ordering, Ordering, Less, Equal, Greater, insert_entry, cases_Bool, nat_tests}
+use Rattle.fb_fastq.proofs.Words.{Request, order, Waiting, number_of, join_in, in_order, pending_of, AreNumbered, IsIndex}
 use Rattle.fb_fastq.proofs.Keys.{same_number}
 
 pub join_before_last : (w x : Waiting) (ws : List Waiting) → number_of w < number_of x → join_in w (ws ++ x ∷ []) ≡ join_in w ws ++ x ∷ []

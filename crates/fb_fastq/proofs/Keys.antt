@@ -1,9 +1,6 @@
 -- Keys of a spot and a number.
-use Rattle.std.proofs.Common.{◌≡◌, ◌≢◌, ℕ, ◌<◌, ◌≤◌, arith, true, false}
-use Rattle.std.specs.Prelude.{◌&&◌, not}
-use Rattle.std.specs.Ordering.{nat_cmp, ordering_then, is_gt, is_lt, is_le, is_eq}
-use Rattle.std.specs.declared.cmp.Ordering.TheVariants.{Less, Equal}
-use Rattle.std.proofs.lemmas.Bool.Decides.{nat_tests}
+use Rattle.fb_fastq.proofs.Words.{◌≡◌, ◌≢◌, ℕ, ◌<◌, ◌≤◌, arith, true, false, ◌&&◌, not, nat_cmp, ordering_then, is_gt, is_lt, is_le, is_eq}
+use Rattle.fb_fastq.proofs.Words.{Less, Equal, nat_tests}
 
 pub at_spot : (a c d : ℕ) → a ≤ c → is_gt (ordering_then (nat_cmp a c) (nat_cmp 0 d)) ≡ false
 at_spot a c d h = grind (arith, nat_tests)

@@ -1,16 +1,10 @@
 -- The first request of least rank, taken out.
-use Rattle.std.proofs.Common.{◌≡◌, ◌≢◌, ℕ, zero, suc, ◌+◌, ◌<◌, ◌≤◌, List, [], ◌∷◌, map, refl, sym, ap, subst, ◌∙◌, arith, Bool, true, false, inl, inr, ◌⊎◌, Option, Some, None, IsSome, length}
-use Rattle.std.specs.Prelude.{nat_lt, nat_le, ◌==◌, if◌then◌else◌, IfSome, cond}
-use Rattle.std.specs.List.{AllByRecursion}
-use Rattle.std.specs.Map.{lookup, remove_entry}
-use Rattle.std.specs.BTreeMap.{BTreeMap, get, is_at}
-use Rattle.std.proofs.lemmas.Bool.{cases_Bool, true≢false}
-use Rattle.std.proofs.lemmas.Bool.Decides.{nat_tests}
-use Rattle.fb_units.specs.declared.types.Request.{Request}
-use Rattle.fb_model.specs.PlainReplay.{first_least, better}
-use Rattle.fb_fastq.specs.Joining.{order, Waits, Holds, AllHeld, Waiting, number_of, join_in, in_order, pending_of, AreNumbered, IsIndex, IsNoLater, IsFirst, IsFirstHeld}
-use Rattle.fb_fastq.proofs.Keys.{same_key, here_equal, equal_keys}
-use Rattle.fb_fastq.proofs.Joins.{all_join, all_in_order}
+use Rattle.fb_fastq.proofs.Words.{◌≡◌, ◌≢◌, ℕ, zero, suc, ◌+◌, ◌<◌, ◌≤◌, List, [], ◌∷◌, map, refl, sym, ap, subst, ◌∙◌, arith, Bool, true}
+use Rattle.fb_fastq.proofs.Words.{false, inl, inr, ◌⊎◌, Option, Some, None, IsSome, length, nat_lt, nat_le, ◌==◌, if◌then◌else◌, IfSome}
+use Rattle.fb_fastq.proofs.Words.{cond, AllByRecursion, lookup, remove_entry, BTreeMap, get, is_at, cases_Bool, true≢false, nat_tests}
+use Rattle.fb_fastq.proofs.Words.{Request, first_least, better, order, Waits, Holds, AllHeld, Waiting, number_of, join_in, in_order}
+use Rattle.fb_fastq.proofs.Words.{pending_of, AreNumbered, IsIndex, IsNoLater, IsFirst, IsFirstHeld}
+use Rattle.fb_fastq.proofs.{Keys.same_key, Keys.here_equal, Keys.equal_keys, Joins.all_join, Joins.all_in_order}
 
 -- a request is among others
 abbrev pub IsIn : Waiting → List Waiting → Type 0

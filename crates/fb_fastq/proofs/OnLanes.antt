@@ -1,17 +1,7 @@
 -- Requests on lanes.
-use Rattle.std.proofs.Common.{◌≡◌, ℕ, ◌+◌, ◌-◌, ◌*◌, ◌%◌, ◌^◌, ◌<◌, ◌≤◌, refl, sym, ap, ◌∙◌, arith, Bool, true, false}
-use Rattle.std.specs.Prelude.{if◌then◌else◌}
-use Rattle.std.proofs.Math.Nat.{mod-lt}
-use Rattle.fb_units.specs.declared.types.Track.{Track}
-use Rattle.fb_units.specs.declared.types.Request.{Request}
-use Rattle.fb_sectormap.specs.Lookup.{place_at, track_at}
-use Rattle.fb_seek.specs.Positioning.{pos}
-use Rattle.fb_service.specs.declared.disk.Disk.{Disk}
-use Rattle.fb_service.specs.Passing.{begin_angle, begin_from}
-use Rattle.fb_model.specs.PlainReplay.{sptf}
-use Rattle.fb_fastq.specs.declared.lanes.Lane.{Lane}
-use Rattle.fb_fastq.specs.Turns.{turn}
-use Rattle.fb_fastq.specs.Lanes.{lane_start, IsLane, IsAlong}
+use Rattle.fb_fastq.proofs.Words.{◌≡◌, ℕ, ◌+◌, ◌-◌, ◌*◌, ◌%◌, ◌^◌, ◌<◌, ◌≤◌, refl, sym, ap, ◌∙◌, arith, Bool, true, false, if◌then◌else◌}
+use Rattle.fb_fastq.proofs.Words.{mod-lt, Track, Request, place_at, track_at, pos, Disk, begin_angle, begin_from, sptf, Lane, turn}
+use Rattle.fb_fastq.proofs.Words.{lane_start, IsLane, IsAlong}
 
 same_fields : (a b : Track) → a.cylinder ≡ b.cylinder → a.head ≡ b.head → a ≡ b
 same_fields a b c h =

@@ -1,26 +1,14 @@
 -- One request more, or less, among those that wait.
-use Rattle.std.proofs.Common.{◌≡◌, ◌≢◌, ℕ, zero, suc, ◌+◌, ◌<◌, ◌≤◌, List, [], ◌∷◌, ◌++◌, map, refl, sym, ap, subst, ◌∙◌, arith, inl, inr, ◌⊎◌, Some, append_assoc, append-nil, slice_get, length, take, drop, set, Option, None, IfSome, IsSome, Result, Ok, Err, OnErr, Bool, true, false}
-use Rattle.std.specs.Prelude.{remove, option_and_then, cond}
-use Rattle.std.specs.List.{AllByRecursion}
-use Rattle.std.specs.Ordering.{match_ordering, nat_cmp}
-use Rattle.std.specs.declared.cmp.Ordering.{Ordering}
-use Rattle.std.specs.declared.cmp.Ordering.TheVariants.{Less, Equal, Greater}
-use Rattle.std.specs.BTreeMap.{insert_entry, is_at}
-use Rattle.std.specs.BTreeSet.{BTreeSet, contains}
-use Rattle.std.specs.Map.{remove_entry}
-use Rattle.std.proofs.lemmas.Bool.{true≢false, cases_Bool}
-use Rattle.std.proofs.lemmas.Bool.Decides.{nat_tests}
-use Rattle.std.proofs.lemmas.Option.{slice_get_within}
-use Rattle.fb_units.specs.declared.types.Request.{Request}
-use Rattle.fb_model.specs.PlainReplay.{first_least}
-use Rattle.fb_fastq.specs.Joining.{order, Waiting, number_of, join_in, in_order, pending_of, AreNumbered, IsIndex, IsFirst}
-use Rattle.fb_fastq.specs.declared.rows.Place.{Place}
-use Rattle.fb_fastq.specs.More.{IsMore}
-use Rattle.fb_fastq.specs.ByCylinder.{Row, all_of_rows, at_place, IsOnCylinder, AreRows, AreOccupied}
-use Rattle.fb_fastq.proofs.Keys.{same_number, here_equal, same_key}
-use Rattle.fb_fastq.proofs.Joins.{all_in_order, joins_last, join_before_last, map_last}
-use Rattle.fb_fastq.proofs.Least.{IsIn, all_of, without, without_joined, without_other, in_order_rising, least_rising, in_in_order, some_injective}
-use Rattle.fb_fastq.proofs.InRows.{row_on}
+use Rattle.fb_fastq.proofs.Words.{◌≡◌, ◌≢◌, ℕ, zero, suc, ◌+◌, ◌<◌, ◌≤◌, List, [], ◌∷◌, ◌++◌, map, refl, sym, ap, subst, ◌∙◌, arith, inl}
+use Rattle.fb_fastq.proofs.Words.{inr, ◌⊎◌, Some, append_assoc, append-nil, slice_get, length, take, drop, set, Option, None, IfSome}
+use Rattle.fb_fastq.proofs.Words.{IsSome, Result, Ok, Err, OnErr, Bool, true, false, remove, option_and_then, cond, AllByRecursion}
+use Rattle.fb_fastq.proofs.Words.{match_ordering, nat_cmp, Ordering, Less, Equal, Greater, insert_entry, is_at, BTreeSet, contains}
+use Rattle.fb_fastq.proofs.Words.{remove_entry, true≢false, cases_Bool, nat_tests, slice_get_within, Request, first_least, order, Waiting}
+use Rattle.fb_fastq.proofs.Words.{number_of, join_in, in_order, pending_of, AreNumbered, IsIndex, IsFirst, Place, IsMore, Row, all_of_rows}
+use Rattle.fb_fastq.proofs.Words.{at_place, IsOnCylinder, AreRows, AreOccupied}
+use Rattle.fb_fastq.proofs.{Keys.same_number, Keys.here_equal, Keys.same_key, Joins.all_in_order, Joins.joins_last, Joins.join_before_last}
+use Rattle.fb_fastq.proofs.{Joins.map_last, Least.IsIn, Least.all_of, Least.without, Least.without_joined, Least.without_other}
+use Rattle.fb_fastq.proofs.{Least.in_order_rising, Least.least_rising, Least.in_in_order, Least.some_injective, InRows.row_on}
 
 pub all_put : (P : Waiting → Type 0) (w : Waiting) (before behind : List Waiting) → P w → AllByRecursion P (before ++ behind) → AllByRecursion P (before ++ w ∷ behind)
 all_put P w [] behind p h = (p, h)

@@ -1,23 +1,9 @@
 -- A walk over the rows that have requests, from the head's cylinder outwards.
-use Rattle.std.proofs.Common.{◌≡◌, ℕ, ◌<◌, ◌≤◌, List, [], ◌∷◌, ◌++◌, refl, sym, ap, subst, ◌∙◌, arith, Bool, true, false, inl, inr, ◌⊎◌, Some, slice_get, length}
-use Rattle.std.specs.Prelude.{cond, ◌||◌}
-use Rattle.std.specs.List.{AllByRecursion, filter, list_any}
-use Rattle.std.specs.List.Sorted.{IsStrictlySortedBy}
-use Rattle.std.specs.Ordering.{nat_cmp}
-use Rattle.std.specs.declared.cmp.Ordering.TheVariants.{Less}
-use Rattle.std.specs.BTreeMap.{is_at}
-use Rattle.std.specs.BTreeSet.{BTreeSet}
-use Rattle.std.proofs.lemmas.Bool.{cases_Bool, cases_lt}
-use Rattle.std.proofs.lemmas.Bool.Decides.{nat_tests}
-use Rattle.fb_units.specs.declared.types.Track.{Track}
-use Rattle.fb_service.specs.declared.disk.Disk.{Disk}
-use Rattle.fb_fastq.specs.declared.soonest.Candidate.{Candidate}
-use Rattle.fb_fastq.specs.declared.rows.Pick.{Pick}
-use Rattle.fb_fastq.specs.Candidates.{IsBefore}
-use Rattle.fb_fastq.specs.ByCylinder.{Row, AreOccupied, IsPick, SettlesAll}
-use Rattle.fb_fastq.proofs.Keys.{number_follows}
-use Rattle.fb_fastq.proofs.Sweeps.{no_later_trans}
-use Rattle.fb_fastq.proofs.InRows.{settles_all, none_settles}
+use Rattle.fb_fastq.proofs.Words.{◌≡◌, ℕ, ◌<◌, ◌≤◌, List, [], ◌∷◌, ◌++◌, refl, sym, ap, subst, ◌∙◌, arith, Bool, true, false, inl, inr, ◌⊎◌}
+use Rattle.fb_fastq.proofs.Words.{Some, slice_get, length, cond, ◌||◌, AllByRecursion, filter, list_any, IsStrictlySortedBy, nat_cmp, Less}
+use Rattle.fb_fastq.proofs.Words.{is_at, BTreeSet, cases_Bool, cases_lt, nat_tests, Track, Disk, Candidate, Pick, IsBefore, Row}
+use Rattle.fb_fastq.proofs.Words.{AreOccupied, IsPick, SettlesAll}
+use Rattle.fb_fastq.proofs.{Keys.number_follows, Sweeps.no_later_trans, InRows.settles_all, InRows.none_settles}
 
 -- a number is among others
 abbrev pub Has : ℕ → List ℕ → Type 0

@@ -1,22 +1,9 @@
 -- A sweep over the lanes, from the head's cylinder outwards.
-use Rattle.std.proofs.Common.{◌≡◌, ℕ, ◌+◌, ◌-◌, ◌*◌, ◌%◌, ◌^◌, ◌<◌, ◌≤◌, sym, ap, subst, ◌∙◌, arith, inl, inr, ◌⊎◌}
-use Rattle.std.specs.BTreeMap.{BTreeMap}
-use Rattle.std.proofs.lemmas.Bool.{cases_lt}
-use Rattle.fb_units.specs.declared.types.Track.{Track}
-use Rattle.fb_units.specs.declared.types.Request.{Request}
-use Rattle.fb_sectormap.specs.Lookup.{track_at}
-use Rattle.fb_seek.specs.Positioning.{pos, distance_of}
-use Rattle.fb_service.specs.declared.disk.Disk.{Disk}
-use Rattle.fb_model.specs.PlainReplay.{sptf}
-use Rattle.fb_fastq.specs.declared.lanes.Lane.{Lane}
-use Rattle.fb_fastq.specs.declared.soonest.Candidate.{Candidate}
-use Rattle.fb_fastq.specs.Joining.{Waits, Holds, AllHeld, IsNoLater, IsFirstHeld}
-use Rattle.fb_fastq.specs.Turns.{turn}
-use Rattle.fb_fastq.specs.Lanes.{IsLane, IsAlong}
-use Rattle.fb_fastq.specs.Candidates.{IsCandidate, IsBefore, Beats, BeatsFrom, BeatsBetween}
-use Rattle.fb_fastq.proofs.Least.{some_injective, waits_there}
-use Rattle.fb_fastq.proofs.Turns.{ComesFirst}
-use Rattle.fb_fastq.proofs.OnLanes.{on_cylinder, on_lane, begins, waits_on_lane}
+use Rattle.fb_fastq.proofs.Words.{◌≡◌, ℕ, ◌+◌, ◌-◌, ◌*◌, ◌%◌, ◌^◌, ◌<◌, ◌≤◌, sym, ap, subst, ◌∙◌, arith, inl, inr, ◌⊎◌, BTreeMap, cases_lt}
+use Rattle.fb_fastq.proofs.Words.{Track, Request, track_at, pos, distance_of, Disk, sptf, Lane, Candidate, Waits, Holds, AllHeld, IsNoLater}
+use Rattle.fb_fastq.proofs.Words.{IsFirstHeld, turn, IsLane, IsAlong, IsCandidate, IsBefore, Beats, BeatsFrom, BeatsBetween}
+use Rattle.fb_fastq.proofs.{Least.some_injective, Least.waits_there, Turns.ComesFirst, OnLanes.on_cylinder, OnLanes.on_lane, OnLanes.begins}
+use Rattle.fb_fastq.proofs.{OnLanes.waits_on_lane}
 
 pub no_later_trans : (a m b n c p : ℕ) → IsNoLater a m b n → IsNoLater b n c p → IsNoLater a m c p
 no_later_trans a m b n c p (inl less) (inl more) = inl (omega arith)

@@ -1,11 +1,6 @@
 -- The turns of the spots of a ring.
-use Rattle.std.proofs.Common.{◌≡◌, ℕ, ◌+◌, ◌-◌, ◌%◌, ◌<◌, ◌≤◌, arith, inl, inr, ap, sym, ◌∙◌, IfSome, Option, Some, None}
-use Rattle.std.proofs.lemmas.Bool.{cases_lt}
-use Rattle.std.proofs.Math.Nat.{add-mod_left, mod-eq_of_lt, mod-add-mod, mod-le, mod-lt}
-use Rattle.std.specs.BTreeMap.{BTreeMap}
-use Rattle.fb_units.specs.declared.types.Request.{Request}
-use Rattle.fb_fastq.specs.Joining.{Waits, IsNoLater}
-use Rattle.fb_fastq.specs.Turns.{turn}
+use Rattle.fb_fastq.proofs.Words.{◌≡◌, ℕ, ◌+◌, ◌-◌, ◌%◌, ◌<◌, ◌≤◌, arith, inl, inr, ap, sym, ◌∙◌, IfSome, Option, Some, None, cases_lt}
+use Rattle.fb_fastq.proofs.Words.{add-mod_left, mod-eq_of_lt, mod-add-mod, mod-le, mod-lt, BTreeMap, Request, Waits, IsNoLater, turn}
 
 -- the platter turns on from the angle of an instant as from the instant
 pub turns_on : (rotation instant angle time : ℕ) → angle ≡ instant % rotation → (angle + time) % rotation ≡ (instant + time) % rotation

@@ -1,17 +1,7 @@
 -- The wait for a request of a lane that the head visits.
-use Rattle.std.proofs.Common.{◌≡◌, ℕ, ◌+◌, ◌-◌, ◌%◌, ◌^◌, ◌<◌, ◌≤◌, sym, ap, ◌∙◌, arith, Option, Some, None}
-use Rattle.fb_units.specs.declared.types.Request.{Request}
-use Rattle.fb_sectormap.specs.Lookup.{track_at}
-use Rattle.fb_seek.specs.Positioning.{pos}
-use Rattle.fb_service.specs.declared.disk.Disk.{Disk}
-use Rattle.fb_service.specs.declared.approach.Departure.{Departure}
-use Rattle.fb_model.specs.PlainReplay.{sptf}
-use Rattle.fb_fastq.specs.declared.visit.Visit.{Visit}
-use Rattle.fb_fastq.specs.Turns.{turn}
-use Rattle.fb_fastq.specs.Lanes.{IsAlong}
-use Rattle.fb_fastq.specs.Visits.{IsVisit}
-use Rattle.fb_fastq.proofs.Turns.{ahead, round}
-use Rattle.fb_fastq.proofs.OnLanes.{on_lane, begins, waits_on_lane}
+use Rattle.fb_fastq.proofs.Words.{◌≡◌, ℕ, ◌+◌, ◌-◌, ◌%◌, ◌^◌, ◌<◌, ◌≤◌, sym, ap, ◌∙◌, arith, Option, Some, None, Request, track_at, pos}
+use Rattle.fb_fastq.proofs.Words.{Disk, Departure, sptf, Visit, turn, IsAlong, IsVisit}
+use Rattle.fb_fastq.proofs.{Turns.ahead, Turns.round, OnLanes.on_lane, OnLanes.begins, OnLanes.waits_on_lane}
 
 module _ (disk : Disk) (from : Departure) (visit : Visit) (is : IsVisit disk from visit) (r : Request) (spot : ℕ) (along : IsAlong disk r spot) (start : visit.lane.start ≤ spot) (end : spot < visit.lane.start + 2 ^ 30) where
   -- the request is one of the lane's

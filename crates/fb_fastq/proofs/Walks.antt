@@ -1,22 +1,9 @@
 -- A walk over the requests that wait, from the head's cylinder outwards.
-use Rattle.std.proofs.Common.{◌≡◌, ℕ, ◌<◌, ◌≤◌, List, [], ◌∷◌, ◌++◌, map, refl, sym, ap, subst, ◌∙◌, arith, Bool, true, false, inl, inr, ◌⊎◌, Some}
-use Rattle.std.specs.Prelude.{cond}
-use Rattle.std.specs.List.{AllByRecursion, filter}
-use Rattle.std.specs.Map.{lookup}
-use Rattle.std.specs.declared.cmp.Ordering.TheVariants.{Less}
-use Rattle.std.specs.BTreeMap.{BTreeMap, is_at, keys}
-use Rattle.std.specs.List.Sorted.{IsStrictlySortedBy}
-use Rattle.std.proofs.lemmas.Bool.{cases_Bool}
-use Rattle.fb_units.specs.declared.types.Track.{Track}
-use Rattle.fb_units.specs.declared.types.Request.{Request}
-use Rattle.fb_service.specs.declared.disk.Disk.{Disk}
-use Rattle.fb_model.specs.PlainReplay.{sptf}
-use Rattle.fb_fastq.specs.declared.soonest.Candidate.{Candidate}
-use Rattle.fb_fastq.specs.Joining.{order, Waiting, Holds}
-use Rattle.fb_fastq.specs.Candidates.{IsCandidate, IsBefore, Beats}
-use Rattle.fb_fastq.proofs.Keys.{here_equal, follows, not_at}
-use Rattle.fb_fastq.proofs.Least.{IsIn, all_of, held_is_in}
-use Rattle.fb_fastq.proofs.Sweeps.{no_later_trans, is_one}
+use Rattle.fb_fastq.proofs.Words.{◌≡◌, ℕ, ◌<◌, ◌≤◌, List, [], ◌∷◌, ◌++◌, map, refl, sym, ap, subst, ◌∙◌, arith, Bool, true, false, inl, inr}
+use Rattle.fb_fastq.proofs.Words.{◌⊎◌, Some, cond, AllByRecursion, filter, lookup, Less, BTreeMap, is_at, keys, IsStrictlySortedBy}
+use Rattle.fb_fastq.proofs.Words.{cases_Bool, Track, Request, Disk, sptf, Candidate, order, Waiting, Holds, IsCandidate, IsBefore, Beats}
+use Rattle.fb_fastq.proofs.{Keys.here_equal, Keys.follows, Keys.not_at, Least.IsIn, Least.all_of, Least.held_is_in, Sweeps.no_later_trans}
+use Rattle.fb_fastq.proofs.{Sweeps.is_one}
 
 -- no spot is less than one before it
 abbrev pub SpotsRise : List Waiting → Type 0

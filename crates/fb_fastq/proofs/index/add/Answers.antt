@@ -1,5 +1,4 @@
-use Rattle.std.proofs.Common.{◌+◌, ◌∙◌, ap, sym, subst}
-use Rattle.fb_fastq.specs.Joining.{pending_of, IsIndex}
+use Rattle.fb_fastq.proofs.Words.{◌+◌, ◌∙◌, ap, sym, subst, pending_of, IsIndex}
 use Rattle.fb_fastq.proofs.Joins.{pending_insert, index_insert}
 use Rattle.fb_fastq.proofs.index.add.Goals as goal
 

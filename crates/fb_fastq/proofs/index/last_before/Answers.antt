@@ -1,5 +1,5 @@
-use Rattle.std.proofs.Common.{sym, subst, inl, inr, IsSome, true≢false}
-use Rattle.std.proofs.lemmas.Bool.{cases_lt}
+use Rattle.fb_fastq.proofs.Words.{sym, subst, inl, inr, IsSome, cases_lt}
+use Rattle.std.proofs.Common.{true≢false}
 use Rattle.fb_fastq.proofs.Keys.{before_spot, spots_fall}
 use Rattle.fb_fastq.proofs.index.last_before.Goals as goal
 

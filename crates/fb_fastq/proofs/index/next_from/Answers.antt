@@ -1,8 +1,6 @@
-use Rattle.std.proofs.Common.{sym, subst, inl, inr, IsSome, IfSome, true≢false}
-use Rattle.std.specs.Prelude.{slice_get}
+use Rattle.fb_fastq.proofs.Words.{sym, subst, inl, inr, IsSome, IfSome, slice_get, cases_lt, order}
+use Rattle.std.proofs.Common.{true≢false}
 use Rattle.std.specs.BTreeMap.Range.{IsLeBy}
-use Rattle.std.proofs.lemmas.Bool.{cases_lt}
-use Rattle.fb_fastq.specs.Joining.{order}
 use Rattle.fb_fastq.proofs.Keys.{at_spot, spots_rise}
 use Rattle.fb_fastq.proofs.index.next_from.Goals as goal
 

@@ -1,4 +1,4 @@
-use Rattle.std.proofs.Common.{arith}
+use Rattle.fb_fastq.proofs.Words.{arith}
 use Rattle.fb_fastq.proofs.Least.{some_held, waits_there}
 use Rattle.fb_fastq.proofs.index.next_or_first.Goals as goal
 

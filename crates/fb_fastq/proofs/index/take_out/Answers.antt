@@ -1,5 +1,4 @@
-use Rattle.std.proofs.Common.{◌∙◌, ap, sym, subst, Some}
-use Rattle.fb_fastq.specs.Joining.{pending_of, IsIndex}
+use Rattle.fb_fastq.proofs.Words.{◌∙◌, ap, sym, subst, Some, pending_of, IsIndex}
 use Rattle.fb_fastq.proofs.Least.{least_taken, first_listed, index_removed, held_is_in}
 use Rattle.fb_fastq.proofs.index.take_out.Goals as goal
 

@@ -1,5 +1,4 @@
-use Rattle.std.proofs.Common.{ℕ, ◌<◌, ◌≤◌, arith, subst, IfNone}
-use Rattle.fb_fastq.specs.Joining.{Waits}
+use Rattle.fb_fastq.proofs.Words.{ℕ, ◌<◌, ◌≤◌, arith, subst, IfNone, Waits}
 use Rattle.fb_fastq.proofs.Least.{some_held, waits_there}
 use Rattle.fb_fastq.proofs.nearest.first_of_nearest.Goals as goal
 

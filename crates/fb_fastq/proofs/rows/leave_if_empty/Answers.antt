@@ -1,10 +1,6 @@
-use Rattle.std.proofs.Common.{◌≡◌, ◌∙◌, List, [], ◌∷◌, Some, slice_get, length, refl, sym, ap, arith}
-use Rattle.std.proofs.lemmas.Bool.Decides.{nat_tests}
-use Rattle.std.proofs.lemmas.Option.{slice_get_read}
-use Rattle.fb_fastq.specs.Joining.{Waiting}
-use Rattle.fb_fastq.specs.ByCylinder.{Row}
-use Rattle.fb_fastq.proofs.InRows.{same_row_of}
-use Rattle.fb_fastq.proofs.OneMore.{set_same, same_rows, occupied_less}
+use Rattle.fb_fastq.proofs.Words.{◌≡◌, ◌∙◌, List, [], ◌∷◌, Some, slice_get, length, refl, sym, ap, arith, nat_tests, slice_get_read}
+use Rattle.fb_fastq.proofs.Words.{Waiting, Row}
+use Rattle.fb_fastq.proofs.{InRows.same_row_of, OneMore.set_same, OneMore.same_rows, OneMore.occupied_less}
 use Rattle.fb_fastq.proofs.rows.leave_if_empty.Goals.{After-remove}
 use Rattle.fb_fastq.proofs.rows.leave_if_empty.Goals as goal
 

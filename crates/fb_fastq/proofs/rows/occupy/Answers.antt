@@ -1,6 +1,4 @@
-use Rattle.std.proofs.Common.{◌<◌, length, refl, arith}
-use Rattle.std.proofs.lemmas.Bool.Decides.{nat_tests}
-use Rattle.std.proofs.lemmas.Option.{slice_get_read}
+use Rattle.fb_fastq.proofs.Words.{◌<◌, length, refl, arith, nat_tests, slice_get_read}
 use Rattle.fb_fastq.proofs.rows.occupy.Goals as goal
 
 pub returns-else-is_empty-clause-has : goal.returns-else-is_empty-clause-has

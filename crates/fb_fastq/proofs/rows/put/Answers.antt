@@ -1,5 +1,4 @@
-use Rattle.std.proofs.Common.{length, refl}
-use Rattle.std.proofs.lemmas.Option.{slice_get_read}
+use Rattle.fb_fastq.proofs.Words.{length, refl, slice_get_read}
 use Rattle.fb_fastq.proofs.OneMore.{on_err, push_more, set_same, set_more, same_rows, more_rows, occupied_set}
 use Rattle.fb_fastq.proofs.rows.put.Goals as goal
 

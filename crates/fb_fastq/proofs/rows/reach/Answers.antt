@@ -1,5 +1,4 @@
-use Rattle.std.proofs.Common.{◌∙◌, ap, sym, subst}
-use Rattle.fb_fastq.specs.ByCylinder.{all_of_rows, AreRows, AreOccupied}
+use Rattle.fb_fastq.proofs.Words.{◌∙◌, ap, sym, subst, all_of_rows, AreRows, AreOccupied}
 use Rattle.fb_fastq.proofs.OneMore.{no_more, no_more_rows, occupied_end}
 use Rattle.fb_fastq.proofs.rows.reach.Goals as goal
 

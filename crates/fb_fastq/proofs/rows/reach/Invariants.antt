@@ -1,6 +1,4 @@
-use Rattle.std.proofs.Common.{◌≡◌, ℕ, ◌+◌, ◌-◌, length}
-use Rattle.std.specs.BTreeSet.{BTreeSet}
-use Rattle.fb_fastq.specs.ByCylinder.{all_of_rows, AreRows, AreOccupied}
+use Rattle.fb_fastq.proofs.Words.{◌≡◌, ℕ, ◌+◌, ◌-◌, length, BTreeSet, all_of_rows, AreRows, AreOccupied}
 use Rattle.fb_fastq.proofs.rows.reach.Given as goal
 
 abbrev pub invariant-loop-alloc : goal.invariant-loop-alloc

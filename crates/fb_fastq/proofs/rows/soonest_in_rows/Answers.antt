@@ -1,7 +1,4 @@
-use Rattle.std.proofs.Common.{inl, inr, refl, arith}
-use Rattle.std.proofs.lemmas.Bool.{cases_lt}
-use Rattle.fb_fastq.specs.ByCylinder.{Settles}
-use Rattle.fb_seek.specs.Positioning.{seek}
+use Rattle.fb_fastq.proofs.Words.{inl, inr, refl, arith, cases_lt, Settles, seek}
 use Rattle.fb_fastq.proofs.InRows.{all_rows, settles_all, far_row}
 use Rattle.fb_fastq.proofs.rows.soonest_in_rows.Goals as goal
 

@@ -1,15 +1,9 @@
-use Rattle.std.proofs.Common.{◌≡◌, Some, slice_get, get_or, length, false, refl, sym, subst, ap, ◌∙◌, arith, inl, inr}
-use Rattle.std.proofs.lemmas.Bool.{cases_lt}
-use Rattle.std.proofs.lemmas.Option.{slice_get_read, slice_get-get_or, slice_get_within}
+use Rattle.fb_fastq.proofs.Words.{◌≡◌, Some, slice_get, get_or, length, false, refl, sym, subst, ap, ◌∙◌, arith, inl, inr, cases_lt}
+use Rattle.fb_fastq.proofs.Words.{slice_get_read, slice_get-get_or, slice_get_within, Candidate, Place, Waiting, IsAlong, Row, Settles}
+use Rattle.fb_fastq.proofs.Words.{SettlesAll}
 use Rattle.fb_units.specs.declared.types.Name.TheVariants.{Traced}
-use Rattle.fb_fastq.specs.declared.soonest.Candidate.{Candidate}
-use Rattle.fb_fastq.specs.declared.rows.Place.{Place}
-use Rattle.fb_fastq.specs.Joining.{Waiting}
-use Rattle.fb_fastq.specs.Lanes.{IsAlong}
-use Rattle.fb_fastq.specs.ByCylinder.{Row, Settles, SettlesAll}
-use Rattle.fb_fastq.proofs.Least.{some_injective}
-use Rattle.fb_fastq.proofs.Sweeps.{no_later_trans}
-use Rattle.fb_fastq.proofs.InRows.{all_at, held_in_row, held_on, same_row_of, settles_more, settles_own, picks_one, in_row}
+use Rattle.fb_fastq.proofs.{Least.some_injective, Sweeps.no_later_trans, InRows.all_at, InRows.held_in_row, InRows.held_on}
+use Rattle.fb_fastq.proofs.{InRows.same_row_of, InRows.settles_more, InRows.settles_own, InRows.picks_one, InRows.in_row}
 use Rattle.fb_fastq.proofs.rows.soonest_of_row.Goals as goal
 
 abbrev blank : Waiting

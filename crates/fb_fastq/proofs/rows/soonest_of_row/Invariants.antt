@@ -1,8 +1,4 @@
-use Rattle.std.proofs.Common.{◌≡◌, ℕ, ◌<◌, Some, slice_get}
-use Rattle.fb_fastq.specs.declared.soonest.Candidate.{Candidate}
-use Rattle.fb_fastq.specs.Joining.{Waiting}
-use Rattle.fb_fastq.specs.Candidates.{IsBefore}
-use Rattle.fb_fastq.specs.ByCylinder.{IsPick, Settles}
+use Rattle.fb_fastq.proofs.Words.{◌≡◌, ℕ, ◌<◌, Some, slice_get, Candidate, Waiting, IsBefore, IsPick, Settles}
 use Rattle.fb_fastq.proofs.rows.soonest_of_row.Given as goal
 
 -- the best of the requests that are seen

@@ -1,6 +1,5 @@
-use Rattle.std.proofs.Common.{◌<◌, length, refl, sym, subst}
+use Rattle.fb_fastq.proofs.Words.{◌<◌, length, refl, sym, subst, slice_get_read}
 use Rattle.std.proofs.lemmas.List.{length-set}
-use Rattle.std.proofs.lemmas.Option.{slice_get_read}
 use Rattle.fb_fastq.proofs.OneMore.{taken_less, less_rows, place_within, occupied_set, some_removed}
 use Rattle.fb_fastq.proofs.rows.take_from.Goals as goal
 

@@ -1,9 +1,7 @@
-use Rattle.std.specs.Iterator.Adapters.{rev_source}
-use Rattle.std.proofs.Common.{◌∙◌, ◌<◌, slice_get, sym, subst, ap, arith}
-use Rattle.fb_seek.specs.Positioning.{distance_of, seek}
-use Rattle.fb_fastq.proofs.Keys.{is_under, under_is}
-use Rattle.fb_fastq.proofs.InRows.{far_row}
-use Rattle.fb_fastq.proofs.Outwards.{Has, Rise, has_front, has_last, end_or_front, front_rises, greatest_last, outwards_begins, outwards_goes_on, outwards_stops, outwards_ends}
+use Rattle.fb_fastq.proofs.Words.{rev_source, ◌∙◌, ◌<◌, slice_get, sym, subst, ap, arith, distance_of, seek}
+use Rattle.fb_fastq.proofs.{Keys.is_under, Keys.under_is, InRows.far_row, Outwards.Has, Outwards.Rise, Outwards.has_front}
+use Rattle.fb_fastq.proofs.{Outwards.has_last, Outwards.end_or_front, Outwards.front_rises, Outwards.greatest_last}
+use Rattle.fb_fastq.proofs.{Outwards.outwards_begins, Outwards.outwards_goes_on, Outwards.outwards_stops, Outwards.outwards_ends}
 use Rattle.fb_fastq.proofs.rows.walk_down.Goals as goal
 
 pub loop-cylinder-init : goal.loop-cylinder-init

@@ -1,5 +1,4 @@
-use Rattle.std.specs.Iterator.Adapters.{rev_source}
-use Rattle.std.proofs.Common.{◌<◌}
+use Rattle.fb_fastq.proofs.Words.{rev_source, ◌<◌}
 use Rattle.fb_fastq.proofs.Outwards.{IsOutwards}
 use Rattle.fb_fastq.proofs.rows.walk_down.Given as goal
 

@@ -1,8 +1,5 @@
-use Rattle.std.proofs.Common.{◌≡◌, ◌∙◌, ◌<◌, ◌≤◌, slice_get, sym, subst, ap, refl, inl, inr, arith}
-use Rattle.std.proofs.lemmas.Bool.{cases_lt}
-use Rattle.fb_geometry.specs.Shape.{cylinders_of}
-use Rattle.fb_seek.specs.Positioning.{distance_of, seek}
-use Rattle.fb_fastq.specs.ByCylinder.{Settles}
+use Rattle.fb_fastq.proofs.Words.{◌≡◌, ◌∙◌, ◌<◌, ◌≤◌, slice_get, sym, subst, ap, refl, inl, inr, arith, cases_lt, cylinders_of, distance_of}
+use Rattle.fb_fastq.proofs.Words.{seek, Settles}
 use Rattle.fb_fastq.proofs.Keys.{is_within, within_is}
 use Rattle.fb_fastq.proofs.InRows.{none_beyond, far_row}
 use Rattle.fb_fastq.proofs.Outwards.{Has, Rise, least_first, outwards_begins, outwards_goes_on, outwards_stops, outwards_ends}

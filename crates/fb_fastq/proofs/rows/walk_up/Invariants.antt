@@ -1,5 +1,4 @@
-use Rattle.std.proofs.Common.{◌<◌, ◌≤◌}
-use Rattle.fb_geometry.specs.Shape.{cylinders_of}
+use Rattle.fb_fastq.proofs.Words.{◌<◌, ◌≤◌, cylinders_of}
 use Rattle.fb_fastq.proofs.Outwards.{IsOutwards}
 use Rattle.fb_fastq.proofs.rows.walk_up.Given as goal
 

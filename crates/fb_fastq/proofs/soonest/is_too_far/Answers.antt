@@ -1,7 +1,4 @@
-use Rattle.std.proofs.Common.{◌≡◌, ◌<◌, arith}
-use Rattle.std.proofs.lemmas.Bool.Decides.{nat_tests}
-use Rattle.fb_sectormap.specs.Lookup.{track_at}
-use Rattle.fb_seek.specs.Positioning.{seek, distance_of}
+use Rattle.fb_fastq.proofs.Words.{◌≡◌, ◌<◌, arith, nat_tests, track_at, seek, distance_of}
 use Rattle.fb_fastq.proofs.Far.{waits_for_arm}
 use Rattle.fb_fastq.proofs.soonest.is_too_far.Goals as goal
 

@@ -1,9 +1,5 @@
-use Rattle.std.proofs.Common.{◌+◌, ◌^◌, ◌<◌, subst, arith, IfSome}
-use Rattle.std.specs.Prelude.{MatchOption}
-use Rattle.fb_fastq.specs.Visits.{IsVisit}
-use Rattle.fb_fastq.specs.Candidates.{BeatsFrom, BeatsBetween}
-use Rattle.fb_fastq.proofs.Sweeps.{no_later_trans, beats_both}
-use Rattle.fb_fastq.proofs.Breaks.{if_some, goes_up}
+use Rattle.fb_fastq.proofs.Words.{◌+◌, ◌^◌, ◌<◌, subst, arith, IfSome, MatchOption, IsVisit, BeatsFrom, BeatsBetween}
+use Rattle.fb_fastq.proofs.{Sweeps.no_later_trans, Sweeps.beats_both, Breaks.if_some, Breaks.goes_up}
 use Rattle.fb_fastq.proofs.soonest.soonest_above.Goals as goal
 
 pub loop-walked-preserved : goal.loop-walked-preserved

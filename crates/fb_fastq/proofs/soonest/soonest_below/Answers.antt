@@ -1,9 +1,5 @@
-use Rattle.std.proofs.Common.{◌+◌, ◌^◌, ◌<◌, subst, arith, IfSome}
-use Rattle.std.specs.Prelude.{MatchOption}
-use Rattle.fb_fastq.specs.Visits.{IsVisit}
-use Rattle.fb_fastq.specs.Candidates.{BeatsBetween}
-use Rattle.fb_fastq.proofs.Sweeps.{no_later_trans}
-use Rattle.fb_fastq.proofs.Breaks.{if_some, beats_down, goes_down}
+use Rattle.fb_fastq.proofs.Words.{◌+◌, ◌^◌, ◌<◌, subst, arith, IfSome, MatchOption, IsVisit, BeatsBetween}
+use Rattle.fb_fastq.proofs.{Sweeps.no_later_trans, Breaks.if_some, Breaks.beats_down, Breaks.goes_down}
 use Rattle.fb_fastq.proofs.soonest.soonest_below.Goals as goal
 
 pub loop-walked-preserved : goal.loop-walked-preserved

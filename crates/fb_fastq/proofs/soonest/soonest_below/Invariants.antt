@@ -1,7 +1,4 @@
-use Rattle.std.proofs.Common.{◌+◌, ◌^◌, ◌<◌}
-use Rattle.std.specs.Prelude.{IfSome, MatchOption}
-use Rattle.fb_fastq.specs.Visits.{IsVisit}
-use Rattle.fb_fastq.specs.Candidates.{IsCandidate, IsBefore, BeatsBetween}
+use Rattle.fb_fastq.proofs.Words.{◌+◌, ◌^◌, ◌<◌, IfSome, MatchOption, IsVisit, IsCandidate, IsBefore, BeatsBetween}
 use Rattle.fb_fastq.proofs.Visiting.{below_of}
 use Rattle.fb_fastq.proofs.soonest.soonest_below.Given as goal
 

@@ -1,8 +1,4 @@
-use Rattle.std.proofs.Common.{ℕ, subst}
-use Rattle.fb_units.specs.declared.types.Track.{Track}
-use Rattle.fb_model.specs.PlainReplay.{sptf}
-use Rattle.fb_fastq.specs.Joining.{IsFirstHeld}
-use Rattle.fb_fastq.specs.Candidates.{IsCandidate}
+use Rattle.fb_fastq.proofs.Words.{ℕ, subst, Track, sptf, IsFirstHeld, IsCandidate}
 use Rattle.fb_fastq.proofs.Sweeps.{soonest_is_first}
 use Rattle.fb_fastq.proofs.soonest.soonest_in_map.Goals as goal
 

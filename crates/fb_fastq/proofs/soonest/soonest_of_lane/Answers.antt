@@ -1,5 +1,4 @@
-use Rattle.std.proofs.Common.{ap, ◌∙◌, refl}
-use Rattle.fb_fastq.specs.declared.soonest.Candidate.{Candidate}
+use Rattle.fb_fastq.proofs.Words.{ap, ◌∙◌, refl, Candidate}
 use Rattle.fb_fastq.proofs.Sweeps.{beats_more, beats_lane}
 use Rattle.fb_fastq.proofs.soonest.soonest_of_lane.Goals as goal
 

@@ -1,15 +1,7 @@
-use Rattle.std.specs.Iterator.Adapters.{rev_source}
-use Rattle.std.proofs.Common.{◌∙◌, ◌<◌, ◌≤◌, ap, sym, subst, refl, arith}
-use Rattle.fb_units.specs.declared.types.Track.{Track}
-use Rattle.fb_sectormap.specs.Lookup.{track_at}
-use Rattle.fb_seek.specs.Positioning.{distance_of}
-use Rattle.fb_fastq.specs.declared.soonest.Candidate.{Candidate}
-use Rattle.fb_fastq.specs.Joining.{Waiting}
-use Rattle.fb_fastq.proofs.Keys.{is_before, before_is}
-use Rattle.fb_fastq.proofs.Least.{IsIn}
-use Rattle.fb_fastq.proofs.Sweeps.{farther_below}
-use Rattle.fb_fastq.proofs.Visiting.{is_there}
-use Rattle.fb_fastq.proofs.Walks.{SpotsRise, in_front, in_last, last_or_front, rise_front, nearest_last, walk_begins, walk_goes_on, walk_pauses, walk_stops, walk_ends}
+use Rattle.fb_fastq.proofs.Words.{rev_source, ◌∙◌, ◌<◌, ◌≤◌, ap, sym, subst, refl, arith, Track, track_at, distance_of, Candidate, Waiting}
+use Rattle.fb_fastq.proofs.{Keys.is_before, Keys.before_is, Least.IsIn, Sweeps.farther_below, Visiting.is_there, Walks.SpotsRise}
+use Rattle.fb_fastq.proofs.{Walks.in_front, Walks.in_last, Walks.last_or_front, Walks.rise_front, Walks.nearest_last, Walks.walk_begins}
+use Rattle.fb_fastq.proofs.{Walks.walk_goes_on, Walks.walk_pauses, Walks.walk_stops, Walks.walk_ends}
 use Rattle.fb_fastq.proofs.soonest.walk_down.Goals as goal
 
 pub loop-key-init : goal.loop-key-init

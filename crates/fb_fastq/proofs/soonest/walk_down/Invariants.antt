@@ -1,6 +1,4 @@
-use Rattle.std.proofs.Common.{◌<◌}
-use Rattle.std.specs.Iterator.Adapters.{rev_source}
-use Rattle.fb_fastq.specs.Visits.{IsVisit}
+use Rattle.fb_fastq.proofs.Words.{◌<◌, rev_source, IsVisit}
 use Rattle.fb_fastq.proofs.Walks.{IsWalk}
 use Rattle.fb_fastq.proofs.soonest.walk_down.Given as goal
 

@@ -1,14 +1,7 @@
-use Rattle.std.proofs.Common.{◌∙◌, ◌≤◌, sym, subst, refl, inl, inr, arith}
-use Rattle.fb_units.specs.declared.types.Track.{Track}
-use Rattle.fb_sectormap.specs.Lookup.{track_at}
-use Rattle.fb_seek.specs.Positioning.{distance_of}
-use Rattle.fb_fastq.specs.declared.soonest.Candidate.{Candidate}
-use Rattle.fb_fastq.specs.Joining.{Waiting}
-use Rattle.fb_fastq.proofs.Keys.{is_from, from_is}
-use Rattle.fb_fastq.proofs.Least.{IsIn}
-use Rattle.fb_fastq.proofs.Sweeps.{farther_above}
-use Rattle.fb_fastq.proofs.Visiting.{is_there}
-use Rattle.fb_fastq.proofs.Walks.{SpotsRise, nearest_first, walk_begins, walk_goes_on, walk_pauses, walk_stops, walk_ends}
+use Rattle.fb_fastq.proofs.Words.{◌∙◌, ◌≤◌, sym, subst, refl, inl, inr, arith, Track, track_at, distance_of, Candidate, Waiting}
+use Rattle.fb_fastq.proofs.{Keys.is_from, Keys.from_is, Least.IsIn, Sweeps.farther_above, Visiting.is_there, Walks.SpotsRise}
+use Rattle.fb_fastq.proofs.{Walks.nearest_first, Walks.walk_begins, Walks.walk_goes_on, Walks.walk_pauses, Walks.walk_stops}
+use Rattle.fb_fastq.proofs.{Walks.walk_ends}
 use Rattle.fb_fastq.proofs.soonest.walk_up.Goals as goal
 
 pub loop-key-init : goal.loop-key-init

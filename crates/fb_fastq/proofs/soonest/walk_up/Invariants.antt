@@ -1,5 +1,4 @@
-use Rattle.std.proofs.Common.{◌≤◌}
-use Rattle.fb_fastq.specs.Visits.{IsVisit}
+use Rattle.fb_fastq.proofs.Words.{◌≤◌, IsVisit}
 use Rattle.fb_fastq.proofs.Walks.{IsWalk}
 use Rattle.fb_fastq.proofs.soonest.walk_up.Given as goal
 

@@ -1,5 +1,4 @@
-use Rattle.std.proofs.Common.{◌≡◌, ◌+◌, ◌-◌, ◌%◌, ◌<◌, ◌≤◌, ap, sym, ◌∙◌, arith}
-use Rattle.std.proofs.Math.Nat.{mod-eq_of_lt, add-mod_left}
+use Rattle.fb_fastq.proofs.Words.{◌≡◌, ◌+◌, ◌-◌, ◌%◌, ◌<◌, ◌≤◌, ap, sym, ◌∙◌, arith, mod-eq_of_lt, add-mod_left}
 use Rattle.fb_fastq.proofs.Turns.{turns_on}
 use Rattle.fb_fastq.proofs.visit.angle_at.Goals as goal
 

@@ -1,4 +1,4 @@
-use Rattle.std.proofs.Common.{◌≤◌, ◌<◌, ◌%◌, ◌^◌, arith}
+use Rattle.fb_fastq.proofs.Words.{◌≤◌, ◌<◌, ◌%◌, ◌^◌, arith}
 use Rattle.fb_fastq.proofs.Arriving.{least_ahead, least_round, value_ahead, value_round}
 use Rattle.fb_fastq.proofs.arrival.Arrival.least_wait.Goals.{Then-ahead-self, Else-ahead-self}
 use Rattle.fb_fastq.proofs.arrival.Arrival.least_wait.Goals as goal

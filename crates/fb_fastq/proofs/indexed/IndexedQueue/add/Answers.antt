@@ -1,6 +1,4 @@
-use Rattle.std.proofs.Common.{ap, sym, subst}
-use Rattle.std.specs.List.{AllByRecursion}
-use Rattle.fb_fastq.specs.Joining.{Waiting}
+use Rattle.fb_fastq.proofs.Words.{ap, sym, subst, AllByRecursion, Waiting}
 use Rattle.fb_fastq.proofs.Joins.{all_insert}
 use Rattle.fb_fastq.proofs.indexed.IndexedQueue.add.Goals as goal
 

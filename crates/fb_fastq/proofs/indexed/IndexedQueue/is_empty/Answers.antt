@@ -1,6 +1,4 @@
-use Rattle.std.proofs.Common.{◌≡◌, ◌∙◌, ap, sym, subst, length}
-use Rattle.std.specs.Prelude.{◌==◌}
-use Rattle.fb_fastq.specs.Joining.{pending_of}
+use Rattle.fb_fastq.proofs.Words.{◌≡◌, ◌∙◌, ap, sym, subst, length, ◌==◌, pending_of}
 use Rattle.fb_fastq.proofs.Least.{length_pending, tells_none}
 use Rattle.fb_fastq.proofs.indexed.IndexedQueue.is_empty.Goals as goal
 

@@ -1,8 +1,5 @@
-use Rattle.std.proofs.Common.{◌≡◌, ap, sym, subst, Some}
-use Rattle.std.specs.List.{AllByRecursion}
+use Rattle.fb_fastq.proofs.Words.{◌≡◌, ap, sym, subst, Some, AllByRecursion, first_least, Waiting, pending_of}
 use Rattle.fb_model.specs.Accepted.{IsRequestOf}
-use Rattle.fb_model.specs.PlainReplay.{first_least}
-use Rattle.fb_fastq.specs.Joining.{Waiting, pending_of}
 use Rattle.fb_fastq.proofs.Least.{all_waiting, all_held, all_removed}
 use Rattle.fb_fastq.proofs.indexed.IndexedQueue.take.Goals as goal
 

@@ -1,5 +1,4 @@
-use Rattle.fb_sectormap.specs.Lookup.{track_at}
-use Rattle.fb_seek.specs.Positioning.{distance_of}
+use Rattle.fb_fastq.proofs.Words.{track_at, distance_of}
 use Rattle.fb_fastq.proofs.Least.{first_by_spot}
 use Rattle.fb_fastq.proofs.nearest.NearestChoice.choose.Goals as goal
 

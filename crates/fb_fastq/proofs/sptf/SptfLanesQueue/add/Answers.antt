@@ -1,9 +1,5 @@
-use Rattle.std.proofs.Common.{◌≡◌, ◌++◌, ◌∷◌, [], ap, sym, subst}
-use Rattle.std.specs.List.{AllByRecursion}
-use Rattle.fb_fastq.specs.Joining.{Waiting, pending_of}
-use Rattle.fb_fastq.specs.Lanes.{IsAlong}
-use Rattle.fb_fastq.specs.More.{IsMore}
-use Rattle.fb_fastq.specs.ByCylinder.{all_of_rows, AreOccupied}
+use Rattle.fb_fastq.proofs.Words.{◌≡◌, ◌++◌, ◌∷◌, [], ap, sym, subst, AllByRecursion, Waiting, pending_of, IsAlong, IsMore, all_of_rows}
+use Rattle.fb_fastq.proofs.Words.{AreOccupied}
 use Rattle.fb_fastq.proofs.OneMore.{insert_more, more_left, more_right, pending_more, all_more}
 use Rattle.fb_fastq.proofs.Divided.{index_left, map_joined, rows_joined, rows_same}
 use Rattle.fb_fastq.proofs.sptf.SptfLanesQueue.add.Goals.{After-self}

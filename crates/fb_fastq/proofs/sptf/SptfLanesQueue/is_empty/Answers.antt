@@ -1,9 +1,5 @@
-use Rattle.std.proofs.Common.{◌≡◌, ℕ, ◌+◌, length, Bool, false, ap, subst, arith}
-use Rattle.std.specs.Prelude.{◌==◌}
-use Rattle.std.proofs.lemmas.Bool.Decides.{nat_tests}
-use Rattle.fb_fastq.specs.Joining.{pending_of}
-use Rattle.fb_fastq.proofs.Least.{tells_none}
-use Rattle.fb_fastq.proofs.Divided.{none_of_both}
+use Rattle.fb_fastq.proofs.Words.{◌≡◌, ℕ, ◌+◌, length, Bool, false, ap, subst, arith, ◌==◌, nat_tests, pending_of}
+use Rattle.fb_fastq.proofs.{Least.tells_none, Divided.none_of_both}
 use Rattle.fb_fastq.proofs.sptf.SptfLanesQueue.is_empty.Goals as goal
 
 some_left : (b : Bool) (entries all others : ℕ) → b ≡ (entries == 0) → b ≡ false → all ≡ entries + others → b ≡ (all == 0)

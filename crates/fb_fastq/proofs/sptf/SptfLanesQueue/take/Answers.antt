@@ -1,14 +1,6 @@
-use Rattle.std.proofs.Common.{◌≡◌, List, ◌++◌, ◌<◌, ◌∙◌, ap, sym, subst, Some, None, IfSome, IsSome, refl, arith, length}
-use Rattle.std.specs.Prelude.{MatchOption}
-use Rattle.std.specs.List.{AllByRecursion}
-use Rattle.fb_model.specs.PlainReplay.{sptf, first_least}
-use Rattle.fb_fastq.specs.declared.soonest.Candidate.{Candidate}
-use Rattle.fb_fastq.specs.declared.rows.Place.{Place}
-use Rattle.fb_fastq.specs.Joining.{Waiting, pending_of, IsFirst}
-use Rattle.fb_fastq.specs.Lanes.{IsAlong}
-use Rattle.fb_fastq.specs.Candidates.{IsCandidate}
-use Rattle.fb_fastq.specs.More.{IsMore}
-use Rattle.fb_fastq.specs.ByCylinder.{Row, all_of_rows, at_place, IsAt, IsPick, SettlesAll}
+use Rattle.fb_fastq.proofs.Words.{◌≡◌, List, ◌++◌, ◌<◌, ◌∙◌, ap, sym, subst, Some, None, IfSome, IsSome, refl, arith, length, MatchOption}
+use Rattle.fb_fastq.proofs.Words.{AllByRecursion, sptf, first_least, Candidate, Place, Waiting, pending_of, IsFirst, IsAlong, IsCandidate}
+use Rattle.fb_fastq.proofs.Words.{IsMore, Row, all_of_rows, at_place, IsAt, IsPick, SettlesAll}
 use Rattle.fb_fastq.proofs.Least.{all_held, waits_there, held_is_in, some_injective}
 use Rattle.fb_fastq.proofs.InRows.{all_left, all_right}
 use Rattle.fb_fastq.proofs.OneMore.{remove_more, more_left, more_right, least_more, all_less, length_more}

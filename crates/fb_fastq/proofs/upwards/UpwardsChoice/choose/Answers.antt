@@ -1,8 +1,4 @@
-use Rattle.std.proofs.Common.{◌≡◌, ◌∙◌, ℕ, ◌-◌, arith, ap, subst}
-use Rattle.fb_geometry.specs.Shape.{cylinders_of}
-use Rattle.fb_sectormap.specs.Lookup.{track_at}
-use Rattle.fb_fastq.specs.Joining.{IsNoLater}
-use Rattle.fb_fastq.specs.Turns.{turn}
+use Rattle.fb_fastq.proofs.Words.{◌≡◌, ◌∙◌, ℕ, ◌-◌, arith, ap, subst, cylinders_of, track_at, IsNoLater, turn}
 use Rattle.fb_fastq.proofs.Least.{some_held, waits_there}
 use Rattle.fb_fastq.proofs.upwards.UpwardsChoice.choose.Goals as goal
 

@@ -1,4 +1,4 @@
-use Rattle.std.proofs.Common.{◌≡◌, ◌∙◌, ◌≤◌, ◌<◌, ◌-◌, ◌+◌, ap, arith}
+use Rattle.fb_fastq.proofs.Words.{◌≡◌, ◌∙◌, ◌≤◌, ◌<◌, ◌-◌, ◌+◌, ap, arith}
 use Rattle.fb_fastq.proofs.Visiting.{waits_ahead, waits_round}
 use Rattle.fb_fastq.proofs.visit.Visit.wait.Goals as goal
 

@@ -1,0 +1,43 @@
+-- The names that the proofs cite, of this crate's words and of the crates below: each proof takes them from here.
+pub use Rattle.std.proofs.Common.{Bool, Err, IfNone, IfSome, IsSome, List, None, Ok, OnErr, Option, Result, Some, [], ap, append-nil}
+pub use Rattle.std.proofs.Common.{append_assoc, arith, drop, false, get_or, inl, inr, length, map, refl, set, slice_get, subst, suc, sym}
+pub use Rattle.std.proofs.Common.{take, true, zero, ℕ, ◌%◌, ◌*◌, ◌++◌, ◌+◌, ◌-◌, ◌<◌, ◌^◌, ◌∙◌, ◌∷◌, ◌≡◌, ◌≢◌, ◌≤◌, ◌⊎◌}
+pub use Rattle.std.specs.BTreeMap.{BTreeMap, get, insert_entry, is_at, keys}
+pub use Rattle.std.specs.BTreeSet.{BTreeSet, contains}
+pub use Rattle.std.specs.Iterator.Adapters.{rev_source}
+pub use Rattle.std.specs.List.{AllByRecursion, filter, list_any}
+unfoldable pub use Rattle.std.specs.List.Sorted.{IsStrictlySortedBy}
+pub use Rattle.std.specs.Map.{lookup, remove_entry}
+pub use Rattle.std.specs.Ordering.{is_eq, is_gt, is_le, is_lt, match_ordering, nat_cmp, ordering_then}
+pub use Rattle.std.specs.Prelude.{MatchOption, cond, if◌then◌else◌, nat_le, nat_lt, not, option_and_then, remove, ◌&&◌, ◌==◌, ◌||◌}
+pub use Rattle.std.specs.declared.cmp.Ordering.{Ordering}
+pub use Rattle.std.specs.declared.cmp.Ordering.TheVariants.{Equal, Greater, Less}
+pub use Rattle.std.proofs.Math.Nat.{add-mod_left, le-max_left, mod-add-mod, mod-eq_of_lt, mod-le, mod-lt}
+pub use Rattle.std.proofs.lemmas.Bool.{cases_Bool, cases_lt, true≢false}
+pub use Rattle.std.proofs.lemmas.Bool.Decides.{nat_tests}
+pub use Rattle.std.proofs.lemmas.Option.{slice_get-get_or, slice_get_read, slice_get_within}
+pub use Rattle.fb_units.specs.declared.types.Request.{Request}
+pub use Rattle.fb_units.specs.declared.types.Track.{Track}
+pub use Rattle.fb_geometry.specs.Shape.{cylinders_of}
+pub use Rattle.fb_sectormap.specs.Lookup.{place_at, track_at}
+pub use Rattle.fb_seek.specs.Positioning.{distance_of, seek}
+unfoldable pub use Rattle.fb_seek.specs.Positioning.{pos}
+pub use Rattle.fb_service.specs.Passing.{begin_angle}
+unfoldable pub use Rattle.fb_service.specs.Passing.{begin_from}
+pub use Rattle.fb_service.specs.declared.approach.Departure.{Departure}
+pub use Rattle.fb_service.specs.declared.disk.Disk.{Disk}
+pub use Rattle.fb_model.specs.PlainReplay.{better, first_least, sptf}
+pub use Rattle.fb_fastq.specs.ByCylinder.{AreOccupied, AreRows, IsArrival, IsAt, IsDivided, IsOnCylinder, IsPick, Row, Settles, SettlesAll}
+pub use Rattle.fb_fastq.specs.ByCylinder.{all_of_rows, at_place}
+pub use Rattle.fb_fastq.specs.Candidates.{Beats, BeatsBetween, BeatsFrom, IsBefore, IsCandidate}
+pub use Rattle.fb_fastq.specs.Joining.{AllHeld, AreNumbered, Holds, IsFirst, IsFirstHeld, IsIndex, IsNoLater, Waiting, Waits, in_order}
+pub use Rattle.fb_fastq.specs.Joining.{join_in, number_of, order, pending_of}
+pub use Rattle.fb_fastq.specs.Lanes.{IsAlong, IsLane, lane_start}
+pub use Rattle.fb_fastq.specs.More.{IsMore}
+pub use Rattle.fb_fastq.specs.Turns.{turn}
+pub use Rattle.fb_fastq.specs.Visits.{IsVisit}
+pub use Rattle.fb_fastq.specs.declared.lanes.Lane.{Lane}
+pub use Rattle.fb_fastq.specs.declared.rows.Pick.{Pick}
+pub use Rattle.fb_fastq.specs.declared.rows.Place.{Place}
+pub use Rattle.fb_fastq.specs.declared.soonest.Candidate.{Candidate}
+pub use Rattle.fb_fastq.specs.declared.visit.Visit.{Visit}
