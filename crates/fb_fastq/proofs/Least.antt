@@ -4,17 +4,8 @@ use Rattle.fb_fastq.proofs.Words.{false, inl, inr, ◌⊎◌, Option, Some, None
 use Rattle.fb_fastq.proofs.Words.{cond, AllByRecursion, lookup, remove_entry, BTreeMap, get, is_at, cases_Bool, true≢false, nat_tests}
 use Rattle.fb_fastq.proofs.Words.{Request, first_least, better, order, Waits, Holds, AllHeld, Waiting, number_of, join_in, in_order}
 use Rattle.fb_fastq.proofs.Words.{pending_of, AreNumbered, IsIndex, IsNoLater, IsFirst, IsFirstHeld}
+use Rattle.fb_fastq.proofs.Swept.{IsIn, all_of, all_from, all_unmapped}
 use Rattle.fb_fastq.proofs.{Keys.same_key, Keys.here_equal, Keys.equal_keys, Joins.all_join, Joins.all_in_order}
-
--- a request is among others
-abbrev pub IsIn : Waiting → List Waiting → Type 0
-IsIn w [] = ⊥
-IsIn w (x ∷ xs) = (w ≡ x) ⊎ IsIn w xs
-
-pub all_of : (P : Waiting → Type 0) (w : Waiting) (ws : List Waiting) → AllByRecursion P ws → IsIn w ws → P w
-all_of P w [] all e = elim e [ ]
-all_of P w (x ∷ ws) all (inl e) = subst P (sym e) all.0
-all_of P w (x ∷ ws) all (inr e) = all_of P w ws all.1 e
 
 abbrev pub IsRising : List Waiting → Type 0
 IsRising [] = Unit {0}
@@ -164,16 +155,8 @@ is_held w [] e = elim e [ ]
 is_held w (x ∷ ws) (inl e) = subst (λ y. IsSome (lookup (is_at (order w.0)) (y ∷ ws))) e (let t = here_equal w.0.0 w.0.1 in rw t refl)
 is_held w (x ∷ ws) (inr e) = elim (cases_Bool (is_at (order w.0) x.0)) [ inl here ↦ rw here refl | inr there ↦ rw there (is_held w ws e) ]
 
-pub all_from : (P : Waiting → Type 0) (ws : List Waiting) → ((w : Waiting) → IsIn w ws → P w) → AllByRecursion P ws
-all_from P [] h = tt
-all_from P (w ∷ ws) h = (h w (inl refl), all_from P ws (λ x e. h x (inr e)))
-
 pub in_order_all : (P : Request → Type 0) (ws : List Waiting) → AllByRecursion P (pending_of ws) → (w : Waiting) → IsIn w ws → P w.1
-in_order_all P ws h w e = all_of (λ x. P x.1) w (in_order ws) (unmapped (in_order ws) h) (in_in_order w ws e)
-  where
-    unmapped : (xs : List Waiting) → AllByRecursion P (map (λ x. x.1) xs) → AllByRecursion (λ x. P x.1) xs
-    unmapped [] h = tt
-    unmapped (x ∷ xs) h = (h.0, unmapped xs h.1)
+in_order_all P ws h w e = all_of (λ x. P x.1) w (in_order ws) (all_unmapped P (λ x. x.1) (in_order ws) h) (in_in_order w ws e)
 
 length_joined : (w : Waiting) (ws : List Waiting) → length (map (λ x. x.1) (join_in w ws)) ≡ length (map (λ x. x.1) ws) + 1
 length_joined w [] = refl

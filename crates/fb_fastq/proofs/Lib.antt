@@ -1,6 +1,7 @@
 pub mod Words
 pub mod Keys
 pub mod Joins
+pub mod Swept
 pub mod Least
 pub mod Turns
 pub mod Far

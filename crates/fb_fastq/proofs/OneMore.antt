@@ -7,7 +7,7 @@ use Rattle.fb_fastq.proofs.Words.{remove_entry, true≢false, cases_Bool, nat_te
 use Rattle.fb_fastq.proofs.Words.{number_of, join_in, in_order, pending_of, AreNumbered, IsIndex, IsFirst, Place, IsMore, Row, all_of_rows}
 use Rattle.fb_fastq.proofs.Words.{at_place, IsOnCylinder, AreRows, AreOccupied}
 use Rattle.fb_fastq.proofs.{Keys.same_number, Keys.here_equal, Keys.same_key, Joins.all_in_order, Joins.joins_last, Joins.join_before_last}
-use Rattle.fb_fastq.proofs.{Joins.map_last, Least.IsIn, Least.all_of, Least.without, Least.without_joined, Least.without_other}
+use Rattle.fb_fastq.proofs.{Joins.map_last, Swept.IsIn, Swept.all_of, Least.without, Least.without_joined, Least.without_other}
 use Rattle.fb_fastq.proofs.{Least.in_order_rising, Least.least_rising, Least.in_in_order, Least.some_injective, InRows.row_on}
 
 pub all_put : (P : Waiting → Type 0) (w : Waiting) (before behind : List Waiting) → P w → AllByRecursion P (before ++ behind) → AllByRecursion P (before ++ w ∷ behind)

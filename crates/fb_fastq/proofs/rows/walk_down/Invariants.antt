@@ -7,4 +7,4 @@ abbrev pub invariant-loop-cylinder : goal.invariant-loop-cylinder
 invariant-loop-cylinder l =
     (goal.iterator-loop-cylinder).can_next l.cylinder-iterator ×
     (goal.iterator-loop-cylinder).is_finite l.cylinder-iterator ×
-    IsOutwards l.disk l.from.track l.from.instant l.rows l.fn.pick (λ k. k < l.from.track.cylinder) l.pick (rev_source l.cylinder-iterator)
+    IsOutwards l.disk l.from l.rows l.fn.pick (λ k. k < l.from.track.cylinder) l.pick (rev_source l.cylinder-iterator)

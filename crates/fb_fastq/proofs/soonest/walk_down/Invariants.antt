@@ -8,4 +8,4 @@ invariant-loop-key l =
     (goal.iterator-loop-key).can_next l.key-iterator ×
     (goal.iterator-loop-key).is_finite l.key-iterator ×
     IsVisit l.disk l.from l.visit ×
-    IsWalk l.disk l.from.track l.from.instant l.waiting l.fn.first (λ spot. spot < l.end) l.best (rev_source l.key-iterator)
+    IsWalk l.disk l.from l.waiting l.fn.first (λ spot. spot < l.end) l.best (rev_source l.key-iterator)
