@@ -1,8 +1,7 @@
 -- The head's arrival at a cylinder.
 use Rattle.fb_fastq.proofs.Words.{◌≡◌, ℕ, ◌+◌, ◌-◌, ◌%◌, ◌*◌, ◌^◌, ◌<◌, ◌≤◌, sym, ap, ◌∙◌, arith, Bool, true, false, if◌then◌else◌, Request}
 use Rattle.fb_fastq.proofs.Words.{place_at, track_at, seek, pos, distance_of, Disk, Departure, begin_angle, sptf, IsAlong, turn, IsArrival}
-use Rattle.fb_fastq.proofs.Words.{IsOnCylinder}
-use Rattle.fb_fastq.specs.declared.arrival.Arrival.{Arrival}
+use Rattle.fb_fastq.proofs.Words.{IsOnCylinder, Arrival}
 use Rattle.fb_fastq.proofs.{Far.moves, Turns.ahead, Turns.round, Turns.no_sooner, OnLanes.on_cylinder, OnLanes.waits_turn}
 
 -- a spot of a cylinder is one of a request on it

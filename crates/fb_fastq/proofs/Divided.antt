@@ -2,21 +2,14 @@
 use Rattle.fb_fastq.proofs.Words.{◌≡◌, ◌≢◌, ℕ, ◌+◌, ◌-◌, ◌^◌, ◌<◌, ◌≤◌, List, [], ◌∷◌, ◌++◌, sym, ap, subst, ◌∙◌, arith, inl, inr, length}
 use Rattle.fb_fastq.proofs.Words.{AllByRecursion, BTreeMap, cases_lt, Track, Request, Disk, sptf, Candidate, Waiting, number_of, pending_of}
 use Rattle.fb_fastq.proofs.Words.{AreNumbered, IsIndex, IsNoLater, IsFirst, IsFirstHeld, IsCandidate, IsBefore, Beats, IsMore, Row}
-use Rattle.fb_fastq.proofs.Words.{all_of_rows, AreRows, Settles, SettlesAll, IsDivided}
-use Rattle.fb_fastq.proofs.{Least.first_listed, Least.length_pending, Sweeps.no_later_trans, InRows.all_both, InRows.all_left}
-use Rattle.fb_fastq.proofs.{OneMore.more_left, OneMore.more_right, OneMore.index_more, OneMore.index_less, OneMore.length_more}
+use Rattle.fb_fastq.proofs.Words.{all_of_rows, AreRows, Settles, SettlesAll, IsDivided, length-append, nil_from_length, all_weaker}
+use Rattle.fb_fastq.proofs.Words.{all_append, all_left}
+use Rattle.fb_fastq.proofs.{Least.first_listed, Least.length_pending, Sweeps.no_later_trans, OneMore.more_left, OneMore.more_right}
+use Rattle.fb_fastq.proofs.{OneMore.index_more, OneMore.index_less, OneMore.length_more}
 
 pub numbered_left : (xs ys : List Waiting) → AreNumbered (xs ++ ys) → AreNumbered xs
 numbered_left [] ys h = tt
 numbered_left (x ∷ xs) ys h = (all_left (λ y. number_of y ≢ number_of x) xs ys h.0, numbered_left xs ys h.1)
-
-none_in : (P : Waiting → Type 0) (ws : List Waiting) → length ws ≤ 0 → AllByRecursion P ws
-none_in P [] none = tt
-none_in P (w ∷ ws) none = absurd (omega (arith, none))
-
-all_turned : (P Q : Waiting → Type 0) (ws : List Waiting) → ((w : Waiting) → P w → Q w) → AllByRecursion P ws → AllByRecursion Q ws
-all_turned P Q [] h all = tt
-all_turned P Q (w ∷ ws) h all = (h w all.0, all_turned P Q ws h all.1)
 
 module _ (disk : Disk) (head : Track) (now : ℕ) (map : BTreeMap (ℕ × ℕ) Request) (rows : List Row) where
   -- what is no later than the first of the map is no later than any of it
@@ -26,10 +19,10 @@ module _ (disk : Disk) (head : Track) (now : ℕ) (map : BTreeMap (ℕ × ℕ) R
     | inl some ↦
         let is = found some in
         let rank = sptf disk head now in
-        all_turned (λ w. IsNoLater (rank is.request) limit.key.1 (rank w.1) (number_of w)) (λ w. Beats disk head now best w.0 w.1) map.entries
-        (λ w own. no_later_trans best.wait best.key.1 limit.wait limit.key.1 (rank w.1) w.0.1 before (subst (λ n. IsNoLater n limit.key.1 (rank w.1) w.0.1) (sym is.wait) own))
+        all_weaker (λ w. IsNoLater (rank is.request) limit.key.1 (rank w.1) (number_of w)) (λ w. Beats disk head now best w.0 w.1)
+        (λ w own. no_later_trans best.wait best.key.1 limit.wait limit.key.1 (rank w.1) w.0.1 before (subst (λ n. IsNoLater n limit.key.1 (rank w.1) w.0.1) (sym is.wait) own)) map.entries
         (first_listed rank limit.key is.request map apart is.waits (first some))
-    | inr none ↦ none_in (λ w. Beats disk head now best w.0 w.1) map.entries none
+    | inr none ↦ subst (AllByRecursion (λ w. Beats disk head now best w.0 w.1)) (sym (nil_from_length map.entries (omega (arith, none)))) tt
   ]
 
   -- what is no later than all of both is the first
@@ -37,10 +30,10 @@ module _ (disk : Disk) (head : Track) (now : ℕ) (map : BTreeMap (ℕ × ℕ) R
       → SettlesAll disk head now best (all_of_rows rows) → IsFirst (sptf disk head now) w (map.entries ++ all_of_rows rows)
   first_of_both best w key wait over settles =
       let rank = sptf disk head now in
-      all_turned (λ x. Beats disk head now best x.0 x.1) (λ x. IsNoLater (rank w.1) (number_of w) (rank x.1) (number_of x)) (map.entries ++ all_of_rows rows)
-      (λ x own. subst (λ n. IsNoLater n w.0.1 (rank x.1) x.0.1) wait (subst (λ (q : ℕ × ℕ). IsNoLater best.wait q.1 (rank x.1) x.0.1) key own))
-      (all_both (λ x. Beats disk head now best x.0 x.1) map.entries (all_of_rows rows) over
-      (all_turned (Settles disk head now best) (λ x. Beats disk head now best x.0 x.1) (all_of_rows rows) (λ x own. own.0) settles))
+      all_weaker (λ x. Beats disk head now best x.0 x.1) (λ x. IsNoLater (rank w.1) (number_of w) (rank x.1) (number_of x))
+      (λ x own. subst (λ n. IsNoLater n w.0.1 (rank x.1) x.0.1) wait (subst (λ (q : ℕ × ℕ). IsNoLater best.wait q.1 (rank x.1) x.0.1) key own)) (map.entries ++ all_of_rows rows)
+      (all_append (λ x. Beats disk head now best x.0 x.1) map.entries (all_of_rows rows) over
+      (all_weaker (Settles disk head now best) (λ x. Beats disk head now best x.0 x.1) (λ x own. own.0) (all_of_rows rows) settles))
 
   -- where one that never passes is no later than the requests of the rows, there are none
   pub none_settled : (best : Candidate) → best.wait ≡ 2 ^ 64 - 1 → SettlesAll disk head now best (all_of_rows rows) → length (all_of_rows rows) ≤ 0
@@ -57,13 +50,8 @@ module _ (disk : Disk) (head : Track) (now : ℕ) (map : BTreeMap (ℕ × ℕ) R
     | inr empty ↦
         let left = none_settled limit (none (omega (arith, empty))) settles in
         let all = length_pending (map.entries ++ all_of_rows rows) in
-        let sum = both map.entries in
-        absurd (omega (arith, some, all, sum, left, empty))
+        absurd (omega (arith, some, all, length-append map.entries (all_of_rows rows), left, empty))
   ]
-    where
-      both : (xs : List Waiting) → length (xs ++ all_of_rows rows) ≡ length xs + length (all_of_rows rows)
-      both [] = omega arith
-      both (x ∷ xs) = let rest = both xs in omega (arith, rest)
 
 pub index_left : (xs ys : List Waiting) (joined : ℕ) → IsIndex (xs ++ ys) joined → IsIndex xs joined
 index_left xs ys joined h = record { given = all_left (λ w. number_of w < joined) xs ys h.given; numbered = numbered_left xs ys h.numbered }
@@ -114,10 +102,5 @@ rows_same entries rows new in_rows joined is same own = record {
 -- none wait where neither has any
 pub none_of_both : (entries : List Waiting) (rows : List Row) (in_rows joined : ℕ) → IsDivided entries rows in_rows joined → length (pending_of (entries ++ all_of_rows rows)) ≡ length entries + in_rows
 none_of_both entries rows in_rows joined is =
-    let sum = both entries in
     let count = is.counted in
-    let all = length_pending (entries ++ all_of_rows rows) in omega (arith, sum, count, all)
-  where
-    both : (xs : List Waiting) → length (xs ++ all_of_rows rows) ≡ length xs + length (all_of_rows rows)
-    both [] = omega arith
-    both (x ∷ xs) = let rest = both xs in omega (arith, rest)
+    let all = length_pending (entries ++ all_of_rows rows) in omega (arith, length-append entries (all_of_rows rows), count, all)

@@ -1,10 +1,10 @@
 -- Requests in rows.
-use Rattle.fb_fastq.proofs.Words.{◌≡◌, ℕ, zero, suc, ◌+◌, ◌*◌, ◌^◌, ◌<◌, ◌≤◌, List, [], ◌∷◌, ◌++◌, refl, sym, ap, subst, ◌∙◌, arith, inl}
-use Rattle.fb_fastq.proofs.Words.{inr, ◌⊎◌, Some, None, slice_get, length, MatchOption, AllByRecursion, Track, cylinders_of, track_at, seek}
+use Rattle.fb_fastq.proofs.Words.{◌≡◌, ℕ, zero, suc, ◌+◌, ◌*◌, ◌^◌, ◌<◌, ◌≤◌, List, [], ◌∷◌, refl, sym, ap, subst, ◌∙◌, arith, inl, inr}
+use Rattle.fb_fastq.proofs.Words.{◌⊎◌, Some, slice_get, length, MatchOption, AllByRecursion, Track, cylinders_of, track_at, seek}
 use Rattle.fb_fastq.proofs.Words.{distance_of, Disk, sptf, Candidate, Place, Pick, Waiting, IsAlong, IsBefore, Row, all_of_rows, at_place}
-use Rattle.fb_fastq.proofs.Words.{IsOnCylinder, AreRows, IsAt, IsPick, Settles, SettlesAll}
-use Rattle.fb_seek.specs.Rising.{SeeksRise}
-use Rattle.fb_fastq.proofs.{Least.some_injective, Sweeps.no_later_trans, Far.waits_for_arm, OnLanes.on_cylinder}
+use Rattle.fb_fastq.proofs.Words.{IsOnCylinder, AreRows, IsAt, IsPick, Settles, SettlesAll, SeeksRise, none-some, all_append, all_left}
+use Rattle.fb_fastq.proofs.Words.{all_right}
+use Rattle.fb_fastq.proofs.{Swept.some_injective, Sweeps.no_later_trans, Far.waits_for_arm, OnLanes.on_cylinder}
 
 -- what is so at each place is so of all
 pub all_at : (P : Waiting → Type 0) (ws : List Waiting) → ((k : ℕ) (w : Waiting) → slice_get ws k ≡ Some w → P w) → AllByRecursion P ws
@@ -13,48 +13,27 @@ all_at P (w ∷ ws) h = (h 0 w refl, all_at P ws (λ k x e. h (suc k) x e))
 
 -- and the other way round
 pub at_each : (P : Waiting → Type 0) (ws : List Waiting) (k : ℕ) (w : Waiting) → AllByRecursion P ws → slice_get ws k ≡ Some w → P w
-at_each P [] k w h e = absurd (none_some w e)
-  where
-    none_some : (x : Waiting) → None ≡ Some x → ⊥
-    none_some x e = cc
+at_each P [] k w h e = absurd (none-some w e)
 at_each P (x ∷ ws) zero w h e = subst P (some_injective x w e) h.0
 at_each P (x ∷ ws) (suc k) w h e = at_each P ws k w h.1 e
 
-pub all_both : (P : Waiting → Type 0) (xs ys : List Waiting) → AllByRecursion P xs → AllByRecursion P ys → AllByRecursion P (xs ++ ys)
-all_both P [] ys h k = k
-all_both P (x ∷ xs) ys h k = (h.0, all_both P xs ys h.1 k)
-
-pub all_left : (P : Waiting → Type 0) (xs ys : List Waiting) → AllByRecursion P (xs ++ ys) → AllByRecursion P xs
-all_left P [] ys h = tt
-all_left P (x ∷ xs) ys h = (h.0, all_left P xs ys h.1)
-
-pub all_right : (P : Waiting → Type 0) (xs ys : List Waiting) → AllByRecursion P (xs ++ ys) → AllByRecursion P ys
-all_right P [] ys h = h
-all_right P (x ∷ xs) ys h = all_right P xs ys h.1
-
-none_row : (row : Row) → None ≡ Some row → ⊥
-none_row row e = cc
-
-same_row : (a b : Row) → Some a ≡ Some b → a ≡ b
-same_row a b e = cc
-
 -- what is so of all rows is so of each
 pub row_of_all : (P : Waiting → Type 0) (rows : List Row) (i : ℕ) (row : Row) → AllByRecursion P (all_of_rows rows) → slice_get rows i ≡ Some row → AllByRecursion P row.items
-row_of_all P [] i row h e = absurd (none_row row e)
-row_of_all P (x ∷ rows) zero row h e = subst (λ (r : Row). AllByRecursion P r.items) (same_row x row e) (all_left P x.items (all_of_rows rows) h)
+row_of_all P [] i row h e = absurd (none-some row e)
+row_of_all P (x ∷ rows) zero row h e = subst (λ (r : Row). AllByRecursion P r.items) (some_injective x row e) (all_left P x.items (all_of_rows rows) h)
 row_of_all P (x ∷ rows) (suc i) row h e = row_of_all P rows i row (all_right P x.items (all_of_rows rows) h) e
 
 -- and the other way round
 pub all_rows : (P : Waiting → Type 0) (rows : List Row) → ((i : ℕ) (row : Row) → slice_get rows i ≡ Some row → AllByRecursion P row.items) → AllByRecursion P (all_of_rows rows)
 all_rows P [] h = tt
-all_rows P (x ∷ rows) h = all_both P x.items (all_of_rows rows) (h 0 x refl) (all_rows P rows (λ i row e. h (suc i) row e))
+all_rows P (x ∷ rows) h = all_append P x.items (all_of_rows rows) (h 0 x refl) (all_rows P rows (λ i row e. h (suc i) row e))
 
 -- each row has requests of its own cylinder alone
 pub row_on : (cylinder : ℕ) (rows : List Row) (i : ℕ) (row : Row) → AreRows cylinder rows → slice_get rows i ≡ Some row → AllByRecursion (λ w. IsOnCylinder (cylinder + i) w.0.0) row.items
-row_on cylinder [] i row h e = absurd (none_row row e)
+row_on cylinder [] i row h e = absurd (none-some row e)
 row_on cylinder (x ∷ rows) zero row h e =
     let own : cylinder ≡ cylinder + 0 = omega arith in
-    subst (λ (r : Row). AllByRecursion (λ w. IsOnCylinder (cylinder + 0) w.0.0) r.items) (same_row x row e) (subst (λ c. AllByRecursion (λ (w : Waiting). IsOnCylinder c w.0.0) x.items) own h.0)
+    subst (λ (r : Row). AllByRecursion (λ w. IsOnCylinder (cylinder + 0) w.0.0) r.items) (some_injective x row e) (subst (λ c. AllByRecursion (λ (w : Waiting). IsOnCylinder c w.0.0) x.items) own h.0)
 row_on cylinder (x ∷ rows) (suc i) row h e =
     let next : cylinder + 1 + i ≡ cylinder + suc i = omega arith in
     subst (λ c. AllByRecursion (λ (w : Waiting). IsOnCylinder c w.0.0) row.items) next (row_on (cylinder + 1) rows i row h.1 e)
@@ -109,7 +88,7 @@ held_on rows i row ws k w h there is at =
     (at_each (λ x. IsOnCylinder (0 + i) x.0.0) ws k w (subst (AllByRecursion (λ (x : Waiting). IsOnCylinder (0 + i) x.0.0)) (sym is) (row_on 0 rows i row h there)) at)
 
 pub same_row_of : (rows : List Row) (i : ℕ) (a b : Row) → slice_get rows i ≡ Some a → slice_get rows i ≡ Some b → a ≡ b
-same_row_of rows i a b e f = same_row a b (sym e ∙ f)
+same_row_of rows i a b e f = some_injective a b (sym e ∙ f)
 
 module _ (disk : Disk) (rows : List Row) (own : AreRows 0 rows) (spots : AllByRecursion (λ w. IsAlong disk w.1 w.0.0) (all_of_rows rows)) (i : ℕ) (row : Row) (there : slice_get rows i ≡ Some row) where
   -- a request of a row is one of its cylinder
@@ -124,14 +103,6 @@ module _ (disk : Disk) (rows : List Row) (own : AreRows 0 rows) (spots : AllByRe
   -- beyond the disk there are none
   pub none_beyond : (P : Waiting → Type 0) → cylinders_of disk.map.zones ≤ i → AllByRecursion P row.items
   none_beyond P beyond = all_at P row.items (λ k w at. let on = (on_row k w at).1 in absurd (omega (arith, on, beyond)))
-
-  -- a row that has any is one of the disk's
-  pub some_within : 0 < length row.items → i < cylinders_of disk.map.zones
-  some_within some = at_first row.items refl
-    where
-      at_first : (ws : List Waiting) → row.items ≡ ws → i < cylinders_of disk.map.zones
-      at_first [] e = absurd (let none = ap length e in omega (arith, none, some))
-      at_first (w ∷ ws) e = (on_row 0 w (ap (λ xs. slice_get xs 0) e)).1
 
   -- where the arm alone takes longer than the best
   pub far_row : (head : Track) (now distance time : ℕ) (best : Candidate) → SeeksRise disk.mechanism → time ≡ seek disk.mechanism distance → time ≤ 10 ^ 9 → best.wait < time

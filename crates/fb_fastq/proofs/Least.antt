@@ -1,11 +1,11 @@
 -- The first request of least rank, taken out.
 use Rattle.fb_fastq.proofs.Words.{◌≡◌, ◌≢◌, ℕ, zero, suc, ◌+◌, ◌<◌, ◌≤◌, List, [], ◌∷◌, map, refl, sym, ap, subst, ◌∙◌, arith, Bool, true}
 use Rattle.fb_fastq.proofs.Words.{false, inl, inr, ◌⊎◌, Option, Some, None, IsSome, length, nat_lt, nat_le, ◌==◌, if◌then◌else◌, IfSome}
-use Rattle.fb_fastq.proofs.Words.{cond, AllByRecursion, lookup, remove_entry, BTreeMap, get, is_at, cases_Bool, true≢false, nat_tests}
-use Rattle.fb_fastq.proofs.Words.{Request, first_least, better, order, Waits, Holds, AllHeld, Waiting, number_of, join_in, in_order}
-use Rattle.fb_fastq.proofs.Words.{pending_of, AreNumbered, IsIndex, IsNoLater, IsFirst, IsFirstHeld}
-use Rattle.fb_fastq.proofs.Swept.{IsIn, all_of, all_from, all_unmapped}
-use Rattle.fb_fastq.proofs.{Keys.same_key, Keys.here_equal, Keys.equal_keys, Joins.all_join, Joins.all_in_order}
+use Rattle.fb_fastq.proofs.Words.{cond, AllByRecursion, lookup, BTreeMap, get, is_at, cases_Bool, true≢false, nat_tests, Request}
+use Rattle.fb_fastq.proofs.Words.{first_least, better, order, Waits, Holds, AllHeld, Waiting, number_of, join_in, in_order, pending_of}
+use Rattle.fb_fastq.proofs.Words.{AreNumbered, IsNoLater, IsFirst, IsFirstHeld}
+use Rattle.fb_fastq.proofs.{Swept.some_injective, Swept.IsIn, Swept.all_of, Swept.all_from, Swept.all_unmapped, Keys.here_equal}
+use Rattle.fb_fastq.proofs.{Keys.equal_keys, Joins.all_join, Joins.all_in_order}
 
 abbrev pub IsRising : List Waiting → Type 0
 IsRising [] = Unit {0}
@@ -56,15 +56,6 @@ without_other n w (x ∷ ws) other h = let s : (number_of w == n) ≡ false = gr
       ]
     ]
 
-in_order_without : (w : Waiting) (ws : List Waiting) → AreNumbered ws → IsIn w ws → in_order (remove_entry (is_at (order w.0)) ws) ≡ without (number_of w) (in_order ws)
-in_order_without w [] h e = elim e [ ]
-in_order_without w (x ∷ ws) h (inl e) = subst (λ y. in_order (remove_entry (is_at (order w.0)) (y ∷ ws)) ≡ without (number_of w) (join_in y (in_order ws))) e
-    (let t = here_equal w.0.0 w.0.1 in rw t (sym (without_joined w (in_order ws) (all_in_order (λ y. number_of y ≢ number_of w) ws (subst (λ y. AllByRecursion (λ z. number_of z ≢ number_of y) ws) (sym e) h.0)))))
-in_order_without w (x ∷ ws) h (inr e) =
-    let other : number_of w ≢ number_of x = all_of (λ y. number_of y ≢ number_of x) w ws h.0 e in
-    let t = same_key w.0.0 w.0.1 x.0.0 x.0.1 other in
-    rw t (ap (join_in x) (in_order_without w ws h.1 e) ∙ sym (without_other (number_of w) x (in_order ws) (λ s. other (sym s)) (in_order_rising ws h.1)))
-
 front_better : (rank : Request → ℕ) (r : Request) (rs : List Request) (best : Option (Request × List Request)) → IfSome best (λ b. rank r ≤ rank b.0) → better rank r rs best ≡ Some (r, rs)
 front_better rank r rs None h = refl
 front_better rank r rs (Some b) h = let le : rank r ≤ rank b.0 = h in let t : nat_le (rank r) (rank b.0) ≡ true = grind (arith, nat_tests) in rw t refl
@@ -107,30 +98,6 @@ pub in_in_order : (w : Waiting) (ws : List Waiting) → IsIn w ws → IsIn w (in
 in_in_order w [] e = elim e [ ]
 in_in_order w (x ∷ ws) (inl e) = in_joined w x (in_order ws) (inl e)
 in_in_order w (x ∷ ws) (inr e) = in_joined w x (in_order ws) (inr (in_in_order w ws e))
-
--- the first of least rank is what the plain replay takes
-pub least_taken : (rank : Request → ℕ) (w : Waiting) (ws : List Waiting) → AreNumbered ws → IsIn w ws → IsFirst rank w ws
-    → first_least rank (pending_of ws) ≡ Some (w.1, pending_of (remove_entry (is_at (order w.0)) ws))
-least_taken rank w ws apart there first =
-    least_rising rank w (in_order ws) (in_order_rising ws apart) (in_in_order w ws there) (all_in_order (λ x. (rank w.1 < rank x.1) ⊎ ((rank w.1 ≡ rank x.1) × (number_of w ≤ number_of x))) ws first)
-    ∙ ap (λ l. Some (w.1, map (λ x. x.1) l)) (sym (in_order_without w ws apart there))
-
-pub all_removed : (P : Waiting → Type 0) (k : ℕ × ℕ) (ws : List Waiting) → AllByRecursion P ws → AllByRecursion P (remove_entry (is_at (order k)) ws)
-all_removed P k [] h = tt
-all_removed P k (w ∷ ws) h = elim (cases_Bool (is_at (order k) w.0)) [ inl here ↦ rw here h.1 | inr there ↦ rw there (h.0, all_removed P k ws h.1) ]
-
-numbered_removed : (k : ℕ × ℕ) (ws : List Waiting) → AreNumbered ws → AreNumbered (remove_entry (is_at (order k)) ws)
-numbered_removed k [] h = tt
-numbered_removed k (w ∷ ws) h = elim (cases_Bool (is_at (order k) w.0)) [ inl here ↦ rw here h.1 | inr there ↦ rw there (all_removed (λ x. number_of x ≢ number_of w) k ws h.0, numbered_removed k ws h.1) ]
-
-pub index_removed : (joined : ℕ) (k : ℕ × ℕ) (ws : List Waiting) → IsIndex ws joined → IsIndex (remove_entry (is_at (order k)) ws) joined
-index_removed joined k ws h = record {
-  given = all_removed (λ w. number_of w < joined) k ws h.given;
-  numbered = numbered_removed k ws h.numbered;
-}
-
-pub some_injective : {X : Type 0} (x y : X) → Some x ≡ Some y → x ≡ y
-some_injective x y e = cc
 
 found_there : (b : Bool) (x r : Request) (o : Option Request) → b ≡ false → cond b (Some x) o ≡ Some r → o ≡ Some r
 found_there b x r o t e = sym (ap (λ c. cond c (Some x) o) t) ∙ e

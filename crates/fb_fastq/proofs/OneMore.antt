@@ -1,14 +1,14 @@
 -- One request more, or less, among those that wait.
 use Rattle.fb_fastq.proofs.Words.{◌≡◌, ◌≢◌, ℕ, zero, suc, ◌+◌, ◌<◌, ◌≤◌, List, [], ◌∷◌, ◌++◌, map, refl, sym, ap, subst, ◌∙◌, arith, inl}
 use Rattle.fb_fastq.proofs.Words.{inr, ◌⊎◌, Some, append_assoc, append-nil, slice_get, length, take, drop, set, Option, None, IfSome}
-use Rattle.fb_fastq.proofs.Words.{IsSome, Result, Ok, Err, OnErr, Bool, true, false, remove, option_and_then, cond, AllByRecursion}
-use Rattle.fb_fastq.proofs.Words.{match_ordering, nat_cmp, Ordering, Less, Equal, Greater, insert_entry, is_at, BTreeSet, contains}
-use Rattle.fb_fastq.proofs.Words.{remove_entry, true≢false, cases_Bool, nat_tests, slice_get_within, Request, first_least, order, Waiting}
-use Rattle.fb_fastq.proofs.Words.{number_of, join_in, in_order, pending_of, AreNumbered, IsIndex, IsFirst, Place, IsMore, Row, all_of_rows}
-use Rattle.fb_fastq.proofs.Words.{at_place, IsOnCylinder, AreRows, AreOccupied}
-use Rattle.fb_fastq.proofs.{Keys.same_number, Keys.here_equal, Keys.same_key, Joins.all_in_order, Joins.joins_last, Joins.join_before_last}
-use Rattle.fb_fastq.proofs.{Joins.map_last, Swept.IsIn, Swept.all_of, Least.without, Least.without_joined, Least.without_other}
-use Rattle.fb_fastq.proofs.{Least.in_order_rising, Least.least_rising, Least.in_in_order, Least.some_injective, InRows.row_on}
+use Rattle.fb_fastq.proofs.Words.{IsSome, Result, Ok, Err, OnErr, true, false, remove, option_and_then, AllByRecursion, match_ordering}
+use Rattle.fb_fastq.proofs.Words.{nat_cmp, Ordering, Less, Equal, Greater, insert_entry, is_at, BTreeSet, contains, remove_entry}
+use Rattle.fb_fastq.proofs.Words.{true≢false, cases_Bool, nat_tests, slice_get_within, Request, first_least, order, Waiting, number_of}
+use Rattle.fb_fastq.proofs.Words.{join_in, in_order, pending_of, AreNumbered, IsIndex, IsFirst, Place, IsMore, Row, all_of_rows, at_place}
+use Rattle.fb_fastq.proofs.Words.{IsOnCylinder, AreRows, AreOccupied, lookup, none-some, length-append, map-append, all_weaker}
+use Rattle.fb_fastq.proofs.{Swept.some_injective, Swept.IsIn, Swept.all_of, Keys.same_number, Keys.here_equal, Keys.same_key}
+use Rattle.fb_fastq.proofs.{Joins.all_in_order, Joins.joins_last, Joins.join_before_last, Least.without, Least.without_joined}
+use Rattle.fb_fastq.proofs.{Least.without_other, Least.in_order_rising, Least.least_rising, Least.in_in_order, Least.at_key, InRows.row_on}
 
 pub all_put : (P : Waiting → Type 0) (w : Waiting) (before behind : List Waiting) → P w → AllByRecursion P (before ++ behind) → AllByRecursion P (before ++ w ∷ behind)
 all_put P w [] behind p h = (p, h)
@@ -29,11 +29,7 @@ in_order_drawn w (x ∷ before) behind h =
     ap (join_in x) (in_order_drawn w before behind h.1) ∙ sym (without_other (number_of w) x (in_order (before ++ w ∷ behind)) (λ s. other (sym s)) (in_order_rising (before ++ w ∷ behind) h.1))
 
 numbered_put : (w : Waiting) (before behind : List Waiting) → AllByRecursion (λ x. number_of x < number_of w) (before ++ behind) → AreNumbered (before ++ behind) → AreNumbered (before ++ w ∷ behind)
-numbered_put w [] behind h apart = (unlike behind h, apart)
-  where
-    unlike : (ws : List Waiting) → AllByRecursion (λ x. number_of x < number_of w) ws → AllByRecursion (λ x. number_of x ≢ number_of w) ws
-    unlike [] h = tt
-    unlike (x ∷ ws) h = ((λ e. let under : number_of x < number_of w = h.0 in omega (arith, under, e)), unlike ws h.1)
+numbered_put w [] behind h apart = (all_weaker (λ x. number_of x < number_of w) (λ x. number_of x ≢ number_of w) (λ x under e. omega (arith, under, e)) behind h, apart)
 numbered_put w (x ∷ before) behind h apart =
     (all_put (λ y. number_of y ≢ number_of x) w before behind (λ e. let under : number_of x < number_of w = h.0 in omega (arith, under, e)) apart.0, numbered_put w before behind h.1 apart.1)
 
@@ -44,10 +40,6 @@ numbered_drawn w (x ∷ before) behind h = ((all_drawn (λ y. number_of y ≢ nu
 in_middle : (w : Waiting) (before behind : List Waiting) → IsIn w (before ++ w ∷ behind)
 in_middle w [] behind = inl refl
 in_middle w (x ∷ before) behind = inr (in_middle w before behind)
-
-wider : (n : ℕ) (ws : List Waiting) → AllByRecursion (λ w. number_of w < n) ws → AllByRecursion (λ w. number_of w < n + 1) ws
-wider n [] h = tt
-wider n (w ∷ ws) h = (let under : number_of w < n = h.0 in omega (arith, under), wider n ws h.1)
 
 module _ (w : Waiting) (less more : List Waiting) (is : IsMore w less more) where
   pub all_more : (P : Waiting → Type 0) → P w → AllByRecursion P less → AllByRecursion P more
@@ -61,11 +53,11 @@ module _ (w : Waiting) (less more : List Waiting) (is : IsMore w less more) wher
   pending_more h =
       ap pending_of is.more_is
       ∙ (ap (map (λ x. x.1)) (in_order_put w is.before is.behind (subst (AllByRecursion (λ x. number_of x < number_of w)) is.less_is h))
-      ∙ (map_last (in_order (is.before ++ is.behind)) w ∙ ap (λ ws. pending_of ws ++ w.1 ∷ []) (sym is.less_is)))
+      ∙ (map-append (λ x. x.1) (in_order (is.before ++ is.behind)) (w ∷ []) ∙ ap (λ ws. pending_of ws ++ w.1 ∷ []) (sym is.less_is)))
 
   pub index_more : IsIndex less (number_of w) → IsIndex more (number_of w + 1)
   index_more h = record {
-    given = all_more (λ x. number_of x < number_of w + 1) (omega arith) (wider (number_of w) less h.given);
+    given = all_more (λ x. number_of x < number_of w + 1) (omega arith) (all_weaker (λ x. number_of x < number_of w) (λ x. number_of x < number_of w + 1) (λ x under. omega (arith, under)) less h.given);
     numbered = subst AreNumbered (sym is.more_is)
         (numbered_put w is.before is.behind (subst (AllByRecursion (λ x. number_of x < number_of w)) is.less_is h.given) (subst AreNumbered is.less_is h.numbered));
   }
@@ -125,15 +117,15 @@ remove_more w (x ∷ ws) h (inr e) =
     let rest = remove_more w ws h.1 e in
     rw t (record { before = x ∷ rest.before; behind = rest.behind; less_is = ap (λ xs. x ∷ xs) rest.less_is; more_is = ap (λ xs. x ∷ xs) rest.more_is })
 
+pub taken_more : (ws : List Waiting) (key : ℕ × ℕ) → AreNumbered ws → IsSome (lookup (is_at (order key)) ws) → (r : Request) × IsMore (key, r) (remove_entry (is_at (order key)) ws) ws
+taken_more ws key apart has = let there = at_key ws key has in (there.0, remove_more (key, there.0) ws apart there.1)
+
 -- a request joins a row at its end
 pub push_more : (w : Waiting) (ws more : List Waiting) → more ≡ ws ++ w ∷ [] → IsMore w ws more
 push_more w ws more is = record { before = ws; behind = []; less_is = sym (append-nil ws); more_is = is }
 
-none_some : (w : Waiting) → None ≡ Some w → ⊥
-none_some w e = cc
-
 split_at : (ws : List Waiting) (k : ℕ) (w : Waiting) → slice_get ws k ≡ Some w → ws ≡ take k ws ++ w ∷ drop (suc k) ws
-split_at [] k w e = absurd (none_some w e)
+split_at [] k w e = absurd (none-some w e)
 split_at (x ∷ ws) zero w e = ap (λ y. y ∷ ws) (some_injective x w e)
 split_at (x ∷ ws) (suc k) w e = ap (λ xs. x ∷ xs) (split_at ws k w e)
 
@@ -141,26 +133,20 @@ split_at (x ∷ ws) (suc k) w e = ap (λ xs. x ∷ xs) (split_at ws k w e)
 pub removed_more : (w : Waiting) (ws less : List Waiting) (k : ℕ) → less ≡ remove ws k → slice_get ws k ≡ Some w → IsMore w less ws
 removed_more w ws less k is there = record { before = take k ws; behind = drop (suc k) ws; less_is = is; more_is = split_at ws k w there }
 
-none_row : (row : Row) → None ≡ Some row → ⊥
-none_row row e = cc
-
-same_row : (a b : Row) → Some a ≡ Some b → a ≡ b
-same_row a b e = cc
-
 -- one row in the place of another
 pub set_same : (rows : List Row) (i : ℕ) (row new : Row) → slice_get rows i ≡ Some row → new.items ≡ row.items → all_of_rows (set rows i new) ≡ all_of_rows rows
 set_same [] i row new there is = refl
-set_same (x ∷ rows) zero row new there is = ap (λ ws. ws ++ all_of_rows rows) (is ∙ ap (λ (r : Row). r.items) (sym (same_row x row there)))
+set_same (x ∷ rows) zero row new there is = ap (λ ws. ws ++ all_of_rows rows) (is ∙ ap (λ (r : Row). r.items) (sym (some_injective x row there)))
 set_same (x ∷ rows) (suc i) row new there is = ap (λ ws. x.items ++ ws) (set_same rows i row new there is)
 
 pub set_more : (w : Waiting) (rows : List Row) (i : ℕ) (row new : Row) → slice_get rows i ≡ Some row → IsMore w row.items new.items → IsMore w (all_of_rows rows) (all_of_rows (set rows i new))
-set_more w [] i row new there is = absurd (none_row row there)
-set_more w (x ∷ rows) zero row new there is = more_right w x.items new.items (subst (λ (r : Row). IsMore w r.items new.items) (sym (same_row x row there)) is) (all_of_rows rows)
+set_more w [] i row new there is = absurd (none-some row there)
+set_more w (x ∷ rows) zero row new there is = more_right w x.items new.items (subst (λ (r : Row). IsMore w r.items new.items) (sym (some_injective x row there)) is) (all_of_rows rows)
 set_more w (x ∷ rows) (suc i) row new there is = more_left w (all_of_rows rows) (all_of_rows (set rows i new)) (set_more w rows i row new there is) x.items
 
 pub set_less : (w : Waiting) (rows : List Row) (i : ℕ) (row new : Row) → slice_get rows i ≡ Some row → IsMore w new.items row.items → IsMore w (all_of_rows (set rows i new)) (all_of_rows rows)
-set_less w [] i row new there is = absurd (none_row row there)
-set_less w (x ∷ rows) zero row new there is = more_right w new.items x.items (subst (λ (r : Row). IsMore w new.items r.items) (sym (same_row x row there)) is) (all_of_rows rows)
+set_less w [] i row new there is = absurd (none-some row there)
+set_less w (x ∷ rows) zero row new there is = more_right w new.items x.items (subst (λ (r : Row). IsMore w new.items r.items) (sym (some_injective x row there)) is) (all_of_rows rows)
 set_less w (x ∷ rows) (suc i) row new there is = more_left w (all_of_rows (set rows i new)) (all_of_rows rows) (set_less w rows i row new there is) x.items
 
 pub set_rows : (cylinder : ℕ) (rows : List Row) (i : ℕ) (new : Row) → AreRows cylinder rows → AllByRecursion (λ w. IsOnCylinder (cylinder + i) w.0.0) new.items → AreRows cylinder (set rows i new)
@@ -174,12 +160,8 @@ set_rows cylinder (x ∷ rows) (suc i) new h on =
 
 pub length_more : (w : Waiting) (less more : List Waiting) → IsMore w less more → length more ≡ length less + 1
 length_more w less more is =
-    let one = put is.before in
-    let a = ap length is.less_is in let b = ap length is.more_is in omega (arith, a, b, one)
-  where
-    put : (before : List Waiting) → length (before ++ w ∷ is.behind) ≡ length (before ++ is.behind) + 1
-    put [] = omega arith
-    put (x ∷ before) = let rest = put before in omega (arith, rest)
+    let a = ap length is.less_is in let b = ap length is.more_is in
+    omega (arith, a, b, length-append is.before is.behind, length-append is.before (w ∷ is.behind))
 
 -- the request at a place is taken out of its row
 pub taken_less : (rows : List Row) (place : Place) (row new : Row) → slice_get rows place.row ≡ Some row → new.items ≡ remove row.items place.index
@@ -237,14 +219,14 @@ no_more_rows cylinder (x ∷ rows) new none h = (h.0, no_more_rows (cylinder + 1
 -- a row of rows of which one is new
 set_get : (rows : List Row) (i k : ℕ) (new row : Row) → slice_get (set rows i new) k ≡ Some row → ((k ≡ i) × (row ≡ new)) ⊎ (slice_get rows k ≡ Some row)
 set_get [] i k new row e = inr e
-set_get (x ∷ rows) zero zero new row e = inl (refl, sym (same_row new row e))
+set_get (x ∷ rows) zero zero new row e = inl (refl, sym (some_injective new row e))
 set_get (x ∷ rows) zero (suc k) new row e = inr e
 set_get (x ∷ rows) (suc i) zero new row e = inr e
 set_get (x ∷ rows) (suc i) (suc k) new row e = elim (set_get rows i k new row e) [ inl one ↦ inl (ap suc one.0, one.1) | inr other ↦ inr other ]
 
 end_get : (rows : List Row) (k : ℕ) (new row : Row) → slice_get (rows ++ new ∷ []) k ≡ Some row → (row ≡ new) ⊎ (slice_get rows k ≡ Some row)
-end_get [] zero new row e = inl (sym (same_row new row e))
-end_get [] (suc k) new row e = absurd (none_row row e)
+end_get [] zero new row e = inl (sym (some_injective new row e))
+end_get [] (suc k) new row e = absurd (none-some row e)
 end_get (x ∷ rows) zero new row e = inr e
 end_get (x ∷ rows) (suc k) new row e = end_get rows k new row e
 
@@ -274,16 +256,9 @@ occupied_less occupied less rows i new none kept are = λ k row there some. elim
 ]
   where
     set_here : (xs : List Row) (n : ℕ) (a b : Row) → slice_get (set xs n a) n ≡ Some b → b ≡ a
-    set_here [] n a b e = absurd (none_row b e)
-    set_here (x ∷ xs) zero a b e = sym (same_row a b e)
+    set_here [] n a b e = absurd (none-some b e)
+    set_here (x ∷ xs) zero a b e = sym (some_injective a b e)
     set_here (x ∷ xs) (suc n) a b e = set_here xs n a b e
-
-pub occupied_more : (occupied more : BTreeSet ℕ) (rows : List Row) (i : ℕ) → ((k : ℕ) → contains nat_cmp more k ≡ cond (is_at (nat_cmp i) k) true (contains nat_cmp occupied k)) → AreOccupied occupied rows → AreOccupied more rows
-occupied_more occupied more rows i kept are = λ k row there some. kept k ∙ still (is_at (nat_cmp i) k) (contains nat_cmp occupied k) (are k row there some)
-  where
-    still : (here old : Bool) → old ≡ true → cond here true old ≡ true
-    still true old h = refl
-    still false old h = h
 
 -- what is left of a row that had any
 pub some_removed : (ws : List Waiting) (k : ℕ) → 0 < length (remove ws k) → 0 < length ws

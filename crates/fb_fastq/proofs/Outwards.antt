@@ -1,13 +1,10 @@
 -- A walk over the rows that have requests, from the head's cylinder outwards.
-use Rattle.fb_fastq.proofs.Words.{◌≡◌, ℕ, ◌<◌, ◌≤◌, List, [], ◌∷◌, refl, sym, ap, ◌∙◌, arith, Bool, true, inl, inr, Some, slice_get}
-use Rattle.fb_fastq.proofs.Words.{length, filter, list_any, IsStrictlySortedBy, nat_cmp, is_at, contains, BTreeSet, cases_Bool, cases_lt}
-use Rattle.fb_fastq.proofs.Words.{nat_tests, Departure, Disk, seek, distance_of, Candidate, Pick, IsBefore, Row, AreOccupied, IsPick, IsArrival, IsAlong}
-use Rattle.fb_fastq.proofs.Words.{AreRows, all_of_rows, AllByRecursion, SettlesAll, ◌||◌, subst}
-use Rattle.fb_fastq.proofs.{Keys.number_follows, Sweeps.no_later_trans, InRows.settles_all, InRows.none_settles, InRows.far_row}
-use Rattle.fb_fastq.proofs.Swept.{IsIn, rises_sorted, IsNext, IsSwept, swept_begins, swept_on, swept_stops}
-use Rattle.std.proofs.lemmas.List.{map-id}
-use Rattle.fb_seek.specs.Rising.{SeeksRise}
-use Rattle.fb_fastq.specs.declared.arrival.Arrival.{Arrival}
+use Rattle.fb_fastq.proofs.Words.{◌≡◌, ℕ, ◌<◌, ◌≤◌, List, [], ◌∷◌, refl, sym, ap, ◌∙◌, arith, Bool, true, inl, inr, Some, slice_get, length}
+use Rattle.fb_fastq.proofs.Words.{filter, list_any, IsStrictlySortedBy, nat_cmp, is_at, contains, BTreeSet, cases_Bool, cases_lt, nat_tests}
+use Rattle.fb_fastq.proofs.Words.{Departure, Disk, seek, distance_of, Candidate, Pick, IsBefore, Row, AreOccupied, IsPick, IsArrival}
+use Rattle.fb_fastq.proofs.Words.{IsAlong, AreRows, all_of_rows, AllByRecursion, SettlesAll, ◌||◌, subst, map-id, SeeksRise, Arrival}
+use Rattle.fb_fastq.proofs.{Keys.number_follows, Sweeps.no_later_trans, InRows.settles_all, InRows.none_settles, InRows.far_row, Swept.IsIn}
+use Rattle.fb_fastq.proofs.{Swept.rises_sorted, Swept.IsNext, Swept.IsSwept, Swept.swept_begins, Swept.swept_on, Swept.swept_stops}
 
 -- what a set contains is among its numbers
 is_among : (k : ℕ) (xs : List ℕ) → list_any (is_at (nat_cmp k)) xs ≡ true → IsIn k xs

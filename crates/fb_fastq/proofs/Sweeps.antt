@@ -1,8 +1,8 @@
 -- A sweep over the lanes, from the head's cylinder outwards.
 use Rattle.fb_fastq.proofs.Words.{◌≡◌, ℕ, ◌+◌, ◌-◌, ◌*◌, ◌%◌, ◌^◌, ◌<◌, ◌≤◌, sym, ap, subst, ◌∙◌, arith, inl, inr, ◌⊎◌, BTreeMap, cases_lt}
-use Rattle.fb_fastq.proofs.Words.{Track, Request, track_at, pos, distance_of, Disk, sptf, Lane, Candidate, Waits, Holds, AllHeld, IsNoLater}
+use Rattle.fb_fastq.proofs.Words.{Track, Request, track_at, pos, distance_of, Disk, sptf, Lane, Candidate, Holds, AllHeld, IsNoLater}
 use Rattle.fb_fastq.proofs.Words.{IsFirstHeld, turn, IsLane, IsAlong, IsCandidate, IsBefore, Beats, BeatsFrom, BeatsBetween}
-use Rattle.fb_fastq.proofs.{Least.some_injective, Least.waits_there, Turns.ComesFirst, OnLanes.on_cylinder, OnLanes.on_lane, OnLanes.begins}
+use Rattle.fb_fastq.proofs.{Swept.some_injective, Least.waits_there, Turns.ComesFirst, OnLanes.on_cylinder, OnLanes.on_lane, OnLanes.begins}
 use Rattle.fb_fastq.proofs.{OnLanes.waits_on_lane}
 
 pub no_later_trans : (a m b n c p : ℕ) → IsNoLater a m b n → IsNoLater b n c p → IsNoLater a m c p
@@ -31,13 +31,6 @@ module _ (disk : Disk) (head : Track) (now : ℕ) (waiting : BTreeMap (ℕ × �
   pub beats_more : (a b : Candidate) (key : ℕ × ℕ) (r : Request) → IsBefore a b → Beats disk head now b key r → Beats disk head now a key r
   beats_more a b key r before beats = no_later_trans a.wait a.key.1 b.wait b.key.1 (sptf disk head now r) key.1 before beats
 
-  -- a request's spot is in the room of its lane
-  pub in_room : (lane : Lane) → IsLane lane → (key : ℕ × ℕ) (r : Request) → Holds waiting key r → lane.track ≡ track_at disk.map r.lbn → lane.write ≡ r.write → (lane.start ≤ key.0) × (key.0 < lane.start + 2 ^ 30)
-  in_room lane is_lane key r held track write =
-      let begin = begins disk r key.0 (spots key r held) lane is_lane (sym track) (sym write) in
-      let short = disk.short_rotation in
-      (omega (arith, begin.0), omega (arith, begin.1, short))
-
   module _ (lane : Lane) (is_lane : IsLane lane) where
     module _ (length : ℕ) (whole : length ≡ disk.map.rotation) where
       -- what comes first round the lane from the angle of arrival on beats the whole lane
@@ -62,16 +55,6 @@ module _ (disk : Disk) (head : Track) (now : ℕ) (waiting : BTreeMap (ℕ × �
           (first k (waits_there waiting k s other) inside (omega (arith, within, whole))) in
           subst (λ (q : ℕ × ℕ). IsNoLater candidate.wait q.1 (sptf disk head now s) k.1) (sym key)
           (subst (λ n. IsNoLater n w.0.1 (sptf disk head now s) k.1) (sym value) (subst (λ n. IsNoLater (way + turn length angle (w.0.0 - lane.start)) w.0.1 n k.1) (sym other_value) order))
-
-      -- where the ring has none, the lane has none
-      pub beats_none : (candidate : Candidate) → ((k : ℕ × ℕ) → Waits waiting k → lane.start ≤ k.0 → lane.start + length ≤ k.0)
-          → BeatsBetween disk head now waiting candidate lane.start (lane.start + 2 ^ 30)
-      beats_none candidate none = λ k s other inside under.
-          let its = spots k s other in
-          let there = on_lane disk s k.0 its lane is_lane inside under in
-          let past = none k (waits_there waiting k s other) inside in
-          let within = (begins disk s k.0 its lane is_lane there.0 there.1).1 in
-          absurd (omega (arith, past, within, whole))
 
   -- outwards from the head's cylinder, spots that are farther lie on cylinders that are no nearer
   module _ (x w : ℕ × ℕ) (r s : Request) (held : Holds waiting x r) (other : Holds waiting w s) where

@@ -1,7 +1,10 @@
 -- Lists that rise by a number, and what a walk from one of their ends has seen.
-use Rattle.fb_fastq.proofs.Words.{◌≡◌, ℕ, ◌≤◌, List, [], ◌∷◌, ◌++◌, map, filter, refl, sym, ap, subst, ◌∙◌, arith, Bool, true, false}
-use Rattle.fb_fastq.proofs.Words.{inl, inr, ◌⊎◌, cond, AllByRecursion, IsStrictlySortedBy, Ordering, Less, cases_Bool}
-use Rattle.fb_model.proofs.Lists.{all_filter, all_left, all_right}
+use Rattle.fb_fastq.proofs.Words.{◌≡◌, ℕ, ◌≤◌, List, [], ◌∷◌, ◌++◌, map, filter, refl, sym, ap, subst, ◌∙◌, arith, Bool, true, false, inl}
+use Rattle.fb_fastq.proofs.Words.{inr, ◌⊎◌, Some, cond, AllByRecursion, IsStrictlySortedBy, Ordering, Less, cases_Bool, all_filter}
+use Rattle.fb_fastq.proofs.Words.{all_left, all_right}
+
+pub some_injective : {A : Type 0} (x y : A) → Some x ≡ Some y → x ≡ y
+some_injective x y e = cc
 
 -- an element is among others
 abbrev pub IsIn : {A : Type 0} → A → List A → Type 0

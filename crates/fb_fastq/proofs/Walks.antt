@@ -1,11 +1,11 @@
 -- A walk over the requests that wait, from the head's cylinder outwards.
-use Rattle.fb_fastq.proofs.Words.{◌≡◌, ℕ, ◌+◌, ◌<◌, ◌≤◌, ◌^◌, List, [], ◌∷◌, map, filter, refl, sym, subst, arith, Bool, true, inl, inr, ◌⊎◌}
-use Rattle.fb_fastq.proofs.Words.{Some, lookup, Less, BTreeMap, is_at, keys, IsStrictlySortedBy, Request, Track, Disk}
-use Rattle.fb_fastq.proofs.Words.{Departure, Visit, IsVisit, sptf, distance_of, track_at, Candidate, order, Waiting, Holds, AllHeld}
-use Rattle.fb_fastq.proofs.Words.{IsAlong, IsCandidate, IsBefore, Beats}
-use Rattle.fb_fastq.proofs.{Keys.here_equal, Keys.follows, Keys.not_at, Least.held_is_in, Sweeps.no_later_trans, Sweeps.is_one}
-use Rattle.fb_fastq.proofs.Swept.{IsIn, all_of, all_unmapped, rises_sorted, IsNext, IsSwept, swept_begins, swept_on, swept_stops}
-use Rattle.fb_fastq.proofs.Visiting.{is_there}
+use Rattle.fb_fastq.proofs.Words.{◌≡◌, ℕ, ◌+◌, ◌<◌, ◌≤◌, ◌^◌, List, [], ◌∷◌, map, filter, refl, sym, subst, arith, Bool, true, inl, inr}
+use Rattle.fb_fastq.proofs.Words.{◌⊎◌, Some, lookup, Less, BTreeMap, is_at, keys, IsStrictlySortedBy, Request, Track, Disk, Departure}
+use Rattle.fb_fastq.proofs.Words.{Visit, IsVisit, sptf, distance_of, track_at, Candidate, order, Waiting, Holds, AllHeld, IsAlong}
+use Rattle.fb_fastq.proofs.Words.{IsCandidate, IsBefore, Beats}
+use Rattle.fb_fastq.proofs.{Keys.here_equal, Keys.follows, Keys.not_at, Least.held_is_in, Sweeps.no_later_trans, Sweeps.is_one, Swept.IsIn}
+use Rattle.fb_fastq.proofs.{Swept.all_of, Swept.all_unmapped, Swept.rises_sorted, Swept.IsNext, Swept.IsSwept, Swept.swept_begins}
+use Rattle.fb_fastq.proofs.{Swept.swept_on, Swept.swept_stops, Visiting.is_there}
 
 -- where a request stands
 abbrev pub spot : Waiting → ℕ

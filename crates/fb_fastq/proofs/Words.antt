@@ -15,18 +15,22 @@ pub use Rattle.std.specs.declared.cmp.Ordering.TheVariants.{Equal, Greater, Less
 pub use Rattle.std.proofs.Math.Nat.{add-mod_left, le-max_left, mod-add-mod, mod-eq_of_lt, mod-le, mod-lt}
 pub use Rattle.std.proofs.lemmas.Bool.{cases_Bool, cases_lt, true≢false}
 pub use Rattle.std.proofs.lemmas.Bool.Decides.{nat_tests}
-pub use Rattle.std.proofs.lemmas.Option.{slice_get-get_or, slice_get_read, slice_get_within}
+pub use Rattle.std.proofs.lemmas.List.{length-append, length-set, map-append, map-id, nil_from_length}
+pub use Rattle.std.proofs.lemmas.Option.{none-some, slice_get-get_or, slice_get_read, slice_get_within}
 pub use Rattle.fb_units.specs.declared.types.Request.{Request}
 pub use Rattle.fb_units.specs.declared.types.Track.{Track}
 pub use Rattle.fb_geometry.specs.Shape.{cylinders_of}
+pub use Rattle.fb_geometry.proofs.Grid.{all_weaker}
 pub use Rattle.fb_sectormap.specs.Lookup.{place_at, track_at}
 pub use Rattle.fb_seek.specs.Positioning.{distance_of, seek}
 unfoldable pub use Rattle.fb_seek.specs.Positioning.{pos}
+pub use Rattle.fb_seek.specs.Rising.{SeeksRise}
 pub use Rattle.fb_service.specs.Passing.{begin_angle}
 unfoldable pub use Rattle.fb_service.specs.Passing.{begin_from}
 pub use Rattle.fb_service.specs.declared.approach.Departure.{Departure}
 pub use Rattle.fb_service.specs.declared.disk.Disk.{Disk}
 pub use Rattle.fb_model.specs.PlainReplay.{better, first_least, sptf}
+pub use Rattle.fb_model.proofs.Lists.{all_append, all_filter, all_left, all_right}
 pub use Rattle.fb_fastq.specs.ByCylinder.{AreOccupied, AreRows, IsArrival, IsAt, IsDivided, IsOnCylinder, IsPick, Row, Settles, SettlesAll}
 pub use Rattle.fb_fastq.specs.ByCylinder.{all_of_rows, at_place}
 pub use Rattle.fb_fastq.specs.Candidates.{Beats, BeatsBetween, BeatsFrom, IsBefore, IsCandidate}
@@ -36,6 +40,7 @@ pub use Rattle.fb_fastq.specs.Lanes.{IsAlong, IsLane, lane_start}
 pub use Rattle.fb_fastq.specs.More.{IsMore}
 pub use Rattle.fb_fastq.specs.Turns.{turn}
 pub use Rattle.fb_fastq.specs.Visits.{IsVisit}
+pub use Rattle.fb_fastq.specs.declared.arrival.Arrival.{Arrival}
 pub use Rattle.fb_fastq.specs.declared.lanes.Lane.{Lane}
 pub use Rattle.fb_fastq.specs.declared.rows.Pick.{Pick}
 pub use Rattle.fb_fastq.specs.declared.rows.Place.{Place}

@@ -2,7 +2,7 @@ use Rattle.fb_fastq.proofs.Words.{◌≡◌, Some, slice_get, get_or, length, fa
 use Rattle.fb_fastq.proofs.Words.{slice_get_read, slice_get-get_or, slice_get_within, Candidate, Place, Waiting, IsAlong, Row, Settles}
 use Rattle.fb_fastq.proofs.Words.{SettlesAll}
 use Rattle.fb_units.specs.declared.types.Name.TheVariants.{Traced}
-use Rattle.fb_fastq.proofs.{Least.some_injective, Sweeps.no_later_trans, InRows.all_at, InRows.held_in_row, InRows.held_on}
+use Rattle.fb_fastq.proofs.{Swept.some_injective, Sweeps.no_later_trans, InRows.all_at, InRows.held_in_row, InRows.held_on}
 use Rattle.fb_fastq.proofs.{InRows.same_row_of, InRows.settles_more, InRows.settles_own, InRows.picks_one, InRows.in_row}
 use Rattle.fb_fastq.proofs.rows.soonest_of_row.Goals as goal
 

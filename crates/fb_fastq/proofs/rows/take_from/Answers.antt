@@ -1,5 +1,4 @@
-use Rattle.fb_fastq.proofs.Words.{◌<◌, length, refl, sym, subst, slice_get_read}
-use Rattle.std.proofs.lemmas.List.{length-set}
+use Rattle.fb_fastq.proofs.Words.{◌<◌, length, refl, sym, subst, slice_get_read, length-set}
 use Rattle.fb_fastq.proofs.OneMore.{taken_less, less_rows, place_within, occupied_set, some_removed}
 use Rattle.fb_fastq.proofs.rows.take_from.Goals as goal
 

@@ -1,6 +1,6 @@
 use Rattle.fb_fastq.proofs.Words.{rev_source, ◌∙◌, ◌<◌, slice_get, ap, arith}
-use Rattle.fb_fastq.proofs.{Keys.is_under, Keys.under_is, Swept.next_last, Swept.greatest_last, Swept.swept_ends}
-use Rattle.fb_fastq.proofs.Outwards.{outwards_begins, outwards_goes_on, outwards_stops}
+use Rattle.fb_fastq.proofs.{Keys.is_under, Keys.under_is, Swept.next_last, Swept.greatest_last, Swept.swept_ends, Outwards.outwards_begins}
+use Rattle.fb_fastq.proofs.{Outwards.outwards_goes_on, Outwards.outwards_stops}
 use Rattle.fb_fastq.proofs.rows.walk_down.Goals as goal
 
 pub loop-cylinder-init : goal.loop-cylinder-init

@@ -1,6 +1,6 @@
 use Rattle.fb_fastq.proofs.Words.{◌≡◌, ◌∙◌, ◌<◌, ◌≤◌, slice_get, ap, inl, inr, arith, cases_lt, cylinders_of, Settles}
 use Rattle.fb_fastq.proofs.{Keys.is_within, Keys.within_is, InRows.none_beyond, Swept.next_first, Swept.least_first, Swept.swept_ends}
-use Rattle.fb_fastq.proofs.Outwards.{outwards_begins, outwards_goes_on, outwards_stops}
+use Rattle.fb_fastq.proofs.{Outwards.outwards_begins, Outwards.outwards_goes_on, Outwards.outwards_stops}
 use Rattle.fb_fastq.proofs.rows.walk_up.Goals as goal
 
 pub loop-cylinder-init : goal.loop-cylinder-init

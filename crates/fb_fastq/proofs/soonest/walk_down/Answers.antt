@@ -1,8 +1,7 @@
 use Rattle.fb_fastq.proofs.Words.{◌∙◌, ◌<◌, ap, arith, rev_source}
-use Rattle.fb_fastq.proofs.Keys.{is_before, before_is}
-use Rattle.fb_fastq.proofs.Sweeps.{farther_below}
-use Rattle.fb_fastq.proofs.Swept.{next_last, greatest_last, swept_ends}
-use Rattle.fb_fastq.proofs.Walks.{spot, walk_begins, next_along, next_side, walk_goes_on, walk_pauses, walk_stops}
+use Rattle.fb_fastq.proofs.{Keys.is_before, Keys.before_is, Sweeps.farther_below, Swept.next_last, Swept.greatest_last, Swept.swept_ends}
+use Rattle.fb_fastq.proofs.{Walks.spot, Walks.walk_begins, Walks.next_along, Walks.next_side, Walks.walk_goes_on, Walks.walk_pauses}
+use Rattle.fb_fastq.proofs.{Walks.walk_stops}
 use Rattle.fb_fastq.proofs.soonest.walk_down.Goals as goal
 
 pub loop-key-init : goal.loop-key-init

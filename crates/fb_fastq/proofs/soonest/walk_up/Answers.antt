@@ -1,8 +1,7 @@
 use Rattle.fb_fastq.proofs.Words.{◌∙◌, ◌≤◌, arith}
-use Rattle.fb_fastq.proofs.Keys.{is_from, from_is}
-use Rattle.fb_fastq.proofs.Sweeps.{farther_above}
-use Rattle.fb_fastq.proofs.Swept.{next_first, least_first, swept_ends}
-use Rattle.fb_fastq.proofs.Walks.{spot, walk_begins, next_along, next_side, walk_goes_on, walk_pauses, walk_stops}
+use Rattle.fb_fastq.proofs.{Keys.is_from, Keys.from_is, Sweeps.farther_above, Swept.next_first, Swept.least_first, Swept.swept_ends}
+use Rattle.fb_fastq.proofs.{Walks.spot, Walks.walk_begins, Walks.next_along, Walks.next_side, Walks.walk_goes_on, Walks.walk_pauses}
+use Rattle.fb_fastq.proofs.{Walks.walk_stops}
 use Rattle.fb_fastq.proofs.soonest.walk_up.Goals as goal
 
 pub loop-key-init : goal.loop-key-init

@@ -1,6 +1,6 @@
 use Rattle.fb_fastq.proofs.Words.{◌≡◌, ap, sym, subst, Some, AllByRecursion, first_least, Waiting, pending_of}
 use Rattle.fb_model.specs.Accepted.{IsRequestOf}
-use Rattle.fb_fastq.proofs.Least.{all_waiting, all_held, all_removed}
+use Rattle.fb_fastq.proofs.{Least.all_waiting, Least.all_held, OneMore.all_less, OneMore.taken_more}
 use Rattle.fb_fastq.proofs.indexed.IndexedQueue.take.Goals as goal
 
 pub choose-key-requires-clause-on_disk : goal.choose-key-requires-clause-on_disk
@@ -26,5 +26,5 @@ returns-clause-least g c =
 pub returns-clause-serves : goal.returns-clause-serves
 returns-clause-serves g c =
     let stands = λ (w : Waiting). g.C.Choice.stands c.args.disk.now w.1 w.0.0 in
-    subst (AllByRecursion stands) (sym c.take_out.ensures.entries)
-    (all_removed stands c.choose-key.result c.self.inside.waiting.entries (subst (AllByRecursion stands) (sym (ap (λ v. v.waiting) c.self.view_is)) c.requires.serves))
+    let less = taken_more c.self.inside.waiting.entries c.choose-key.result c.self.invariant.numbered c.choose-key.ensures.found in
+    subst (AllByRecursion stands) (sym c.take_out.ensures.entries) (all_less _ _ _ less.1 stands (subst (AllByRecursion stands) (sym (ap (λ v. v.waiting) c.self.view_is)) c.requires.serves))

@@ -1,8 +1,8 @@
 use Rattle.fb_fastq.proofs.Words.{◌≡◌, List, ◌++◌, ◌<◌, ◌∙◌, ap, sym, subst, Some, None, IfSome, IsSome, refl, arith, length, MatchOption}
 use Rattle.fb_fastq.proofs.Words.{AllByRecursion, sptf, first_least, Candidate, Place, Waiting, pending_of, IsFirst, IsAlong, IsCandidate}
-use Rattle.fb_fastq.proofs.Words.{IsMore, Row, all_of_rows, at_place, IsAt, IsPick, SettlesAll}
-use Rattle.fb_fastq.proofs.Least.{all_held, waits_there, held_is_in, some_injective}
-use Rattle.fb_fastq.proofs.InRows.{all_left, all_right}
+use Rattle.fb_fastq.proofs.Words.{IsMore, Row, all_of_rows, at_place, IsAt, IsPick, SettlesAll, all_left, all_right}
+use Rattle.fb_fastq.proofs.Least.{all_held, waits_there, held_is_in}
+use Rattle.fb_fastq.proofs.Swept.{some_injective}
 use Rattle.fb_fastq.proofs.OneMore.{remove_more, more_left, more_right, least_more, all_less, length_more}
 use Rattle.fb_fastq.proofs.Divided.{numbered_left, beats_map, first_of_both, some_of_map, rows_taken, map_taken}
 use Rattle.fb_fastq.proofs.sptf.SptfLanesQueue.take.Goals.{After-self, After-soonest_in_rows-pick, After-leave_if_empty}
