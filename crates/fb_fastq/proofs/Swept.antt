@@ -92,7 +92,7 @@ module _ {A : Type 0} (at : A → ℕ) where
     pub rises : Rises left → Rises rest
 
   pub next_first : (x : A) (left rest : List A) → left ≡ x ∷ rest → IsNext x left rest
-  next_first x left rest is = subst (λ (l : List A). IsNext x l rest) (sym is) (record { there = inl refl; within = λ y e. inr e; one = λ y e. e; rises = λ h. h.1; })
+  next_first x left rest is = subst (λ (l : List A). IsNext x l rest) (sym is) (record { there = inl refl; within = λ y e. inr e; one = λ y e. e; rises = λ h. h.1 })
 
   pub next_last : (x : A) (left rest : List A) → left ≡ rest ++ x ∷ [] → IsNext x left rest
   next_last x left rest is = subst (λ (l : List A). IsNext x l rest) (sym is) (record {

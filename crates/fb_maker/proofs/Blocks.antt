@@ -1,16 +1,10 @@
 -- Into how many blocks the first sectors of a disk are cut.
-use Rattle.std.proofs.Common.{◌≡◌, ℕ, zero, suc, ◌+◌, ◌-◌, ◌*◌, ◌%◌, ◌<◌, ◌≤◌, List, [], ◌∷◌, length, take, drop, true, false, refl, ap, ◌∙◌, arith, inl, inr}
-use Rattle.std.specs.Prelude.{◌==◌}
-use Rattle.std.proofs.lemmas.Bool.{cases_Bool}
-use Rattle.std.proofs.lemmas.Bool.Decides.{nat_tests}
-use Rattle.fb_units.specs.declared.types.Place.{Place}
-use Rattle.fb_geometry.specs.Shape.{Shape}
-use Rattle.fb_geometry.specs.Places.{places}
+use Rattle.fb_maker.proofs.Words.{◌≡◌, ℕ, zero, suc, ◌+◌, ◌-◌, ◌*◌, ◌%◌, ◌<◌, ◌≤◌, List, [], ◌∷◌, length, take, drop, true, false, refl, ap}
+use Rattle.fb_maker.proofs.Words.{◌∙◌, arith, inl, inr, ◌==◌, cases_Bool, nat_tests, Place, Shape, places, is_later, is_cut_before}
+use Rattle.fb_maker.proofs.Words.{with_sector, cutting}
 use Rattle.fb_sectormap.specs.declared.cut.Cut.{Cut}
 use Rattle.fb_sectormap.specs.Lookup.{place_at}
-use Rattle.fb_sectormap.specs.Cutting.{is_later, is_cut_before, with_sector, cutting}
-use Rattle.fb_maker.proofs.Left.{left_first, left_rest}
-use Rattle.fb_maker.proofs.Breaks.{breaks_from, IsSpread}
+use Rattle.fb_maker.proofs.{Left.left_first, Left.left_rest, Breaks.breaks_from, Breaks.IsSpread}
 
 module _ (disk : Shape) where
   -- the place at the front of what is left

@@ -1,8 +1,7 @@
 -- How often a list of places leaves the turn of its track.
-use Rattle.std.proofs.Common.{◌≡◌, ℕ, zero, suc, ◌+◌, ◌-◌, ◌*◌, ◌<◌, ◌≤◌, List, [], ◌∷◌, ◌++◌, length, take, Bool, true, false, refl, sym, ap, ◌∙◌, arith, append_assoc, subst, inl, inr}
-use Rattle.std.specs.Prelude.{if◌then◌else◌, filter}
-use Rattle.std.specs.List.{AllByRecursion, flat_map, range_with_len}
-use Rattle.std.proofs.lemmas.Bool.{cases_Bool, cases_lt}
+use Rattle.fb_maker.proofs.Words.{◌≡◌, ℕ, zero, suc, ◌+◌, ◌-◌, ◌*◌, ◌<◌, ◌≤◌, List, [], ◌∷◌, ◌++◌, length, take, Bool, true, false, refl}
+use Rattle.fb_maker.proofs.Words.{sym, ap, ◌∙◌, arith, append_assoc, subst, inl, inr, if◌then◌else◌, filter, AllByRecursion, flat_map}
+use Rattle.fb_maker.proofs.Words.{range_with_len, cases_Bool, cases_lt}
 
 module _ {A : Type 0} (later : A → A → Bool) where
   -- the number of breaks in a list that follows one more element

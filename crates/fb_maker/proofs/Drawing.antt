@@ -1,11 +1,7 @@
 -- Words that are drawn one after another.
-use Rattle.std.proofs.Common.{◌≡◌, ℕ, ◌+◌, ◌-◌, ◌*◌, ◌%◌, refl, sym, ap, ◌∙◌, add-one, min}
-use Rattle.std.specs.Prelude.{◌==◌}
+use Rattle.fb_maker.proofs.Words.{◌≡◌, ℕ, ◌+◌, ◌-◌, ◌*◌, ◌%◌, refl, sym, ap, ◌∙◌, add-one, min, ◌==◌, Request, Traced, generator_after}
+use Rattle.fb_maker.proofs.Words.{word, arrival_before, request_at}
 use Rattle.rand_xoshiro.specs.SplitMix64.{mix_u64}
-use Rattle.fb_units.specs.declared.types.Request.{Request}
-use Rattle.fb_units.specs.declared.types.Name.TheVariants.{Traced}
-use Rattle.fb_maker.specs.Words.{generator_after, word}
-use Rattle.fb_maker.specs.Trace.{arrival_before, request_at}
 
 state_next : (number k : ℕ) → generator_after number (k + 1) ≡ (mix_u64 (generator_after number k)).1
 unfolding generator_after

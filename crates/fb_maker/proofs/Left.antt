@@ -1,8 +1,6 @@
 -- What is left of a list begins with this element.
-use Rattle.std.proofs.Common.{◌≡◌, ℕ, ◌+◌, ◌<◌, List, ◌∷◌, length, drop, get_or, sym, ap, ◌∙◌, arith, Some}
-use Rattle.std.specs.Prelude.{slice_get}
-use Rattle.std.proofs.lemmas.List.{length-drop, drop_more, get_or-drop}
-use Rattle.std.proofs.lemmas.Option.{slice_get-get_or}
+use Rattle.fb_maker.proofs.Words.{◌≡◌, ℕ, ◌+◌, ◌<◌, List, ◌∷◌, length, drop, get_or, sym, ap, ◌∙◌, arith, Some, slice_get, length-drop}
+use Rattle.fb_maker.proofs.Words.{drop_more, get_or-drop, slice_get-get_or}
 
 module _ {A : Type 0} (all : List A) (i : ℕ) (a : A) (rest : List A) (left : drop i all ≡ a ∷ rest) where
   left_inside : i < length all

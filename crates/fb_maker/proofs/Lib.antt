@@ -1,3 +1,4 @@
+pub mod Words
 pub mod Drawing
 pub mod Zones
 pub mod Splitting

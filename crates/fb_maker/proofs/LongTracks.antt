@@ -1,27 +1,16 @@
 -- Sectors of a disk whose tracks are long.
-use Rattle.std.proofs.Common.{◌≡◌, ℕ, zero, suc, ◌+◌, ◌-◌, ◌*◌, ◌%◌, ◌<◌, ◌≤◌, List, [], ◌∷◌, length, map, take, drop, true, false, refl, sym, ap, ◌∙◌, arith, subst, append-nil, Some, None, inl, inr}
-use Rattle.std.specs.Prelude.{◌==◌, nat_le, nat_lt, not, slice_get}
-use Rattle.std.specs.List.{AllByRecursion, flat_map, range_with_len, list_all}
-use Rattle.std.proofs.Math.Nat.{mod-lt, mod-eq_of_lt, add-mod_left}
-use Rattle.std.proofs.lemmas.List.{length-append, length-take}
+use Rattle.fb_maker.proofs.Words.{◌≡◌, ℕ, zero, suc, ◌+◌, ◌-◌, ◌*◌, ◌%◌, ◌<◌, ◌≤◌, List, [], ◌∷◌, length, map, take, drop, true, false}
+use Rattle.fb_maker.proofs.Words.{refl, sym, ap, ◌∙◌, arith, subst, append-nil, Some, None, inl, inr, ◌==◌, nat_le, nat_lt, not, slice_get}
+use Rattle.fb_maker.proofs.Words.{AllByRecursion, flat_map, range_with_len, list_all, mod-lt, mod-eq_of_lt, add-mod_left, length-append}
+use Rattle.fb_maker.proofs.Words.{length-take, none-some, cases_Bool, nat_tests, Place, Zone, PerTrack, Shape, slots_at, offset_at}
+use Rattle.fb_maker.proofs.Words.{offset_in, turn_position, is_among, places, turn, good_track, data_list, data_list_by, zone_places}
+use Rattle.fb_maker.proofs.Words.{first_apart, IsSound, cylinder_size_by, is_later, is_long}
 use Rattle.std.proofs.lemmas.List.FromFn.{length-range_with_len}
-use Rattle.std.proofs.lemmas.Option.{none-some}
-use Rattle.std.proofs.lemmas.Bool.{cases_Bool}
-use Rattle.std.proofs.lemmas.Bool.Decides.{nat_tests}
-use Rattle.fb_units.specs.declared.types.Place.{Place}
 use Rattle.fb_units.specs.declared.types.Track.{Track}
 use Rattle.fb_units.specs.Tracks.{same_track}
-use Rattle.fb_geometry.specs.declared.zone.Zone.{Zone}
-use Rattle.fb_geometry.specs.declared.layout.Layout.TheVariants.{PerTrack}
-use Rattle.fb_geometry.specs.Shape.{Shape, slots_at, offset_at, offset_in, turn_position, is_among}
-use Rattle.fb_geometry.specs.Places.{places, turn, good_track, data_list, data_list_by, zone_places}
-use Rattle.fb_geometry.specs.Faults.{first_apart}
-use Rattle.fb_geometry.specs.Sound.{IsSound, cylinder_size_by}
-use Rattle.fb_sectormap.specs.Cutting.{is_later}
-use Rattle.fb_maker.specs.Script.{is_long}
-use Rattle.fb_maker.proofs.Left.{left_get, left_rest}
-use Rattle.fb_maker.proofs.Splitting.{and_parts}
-use Rattle.fb_maker.proofs.Breaks.{IsSpread, SpreadsOn, Ascends, ascends_filter, ascends_take, spreads_ascending, spreads_all, spread_nothing, Counts, counts_above, counts_both, counts_range}
+use Rattle.fb_maker.proofs.{Left.left_get, Left.left_rest, Splitting.and_parts, Breaks.IsSpread, Breaks.SpreadsOn, Breaks.Ascends}
+use Rattle.fb_maker.proofs.{Breaks.ascends_filter, Breaks.ascends_take, Breaks.spreads_ascending, Breaks.spreads_all, Breaks.spread_nothing}
+use Rattle.fb_maker.proofs.{Breaks.Counts, Breaks.counts_above, Breaks.counts_both, Breaks.counts_range}
 
 -- what holds of each number of a range holds of all elements of the list
 all_range : (P : ℕ → Type 0) (a n : ℕ) → ((k : ℕ) → a ≤ k → k < a + n → P k) → AllByRecursion P (range_with_len a n)

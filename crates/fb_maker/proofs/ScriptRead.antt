@@ -1,31 +1,19 @@
 -- A generated script reads back as its four calls.
-use Rattle.std.proofs.Common.{◌≡◌, ℕ, ◌+◌, ◌-◌, ◌*◌, ◌^◌, ◌<◌, ◌≤◌, List, [], ◌∷◌, ◌++◌, length, min, true, false, refl, sym, ap, ◌∙◌, arith, append_assoc, subst, suc, inl, inr, Some, Ok}
-use Rattle.std.specs.Prelude.{nat_lt, ◌==◌, decimal, codes, slice_get}
-use Rattle.std.specs.List.{list_all, flat_map, range_with_len}
-use Rattle.std.proofs.lemmas.List.Folds.{list_all-append}
-use Rattle.std.proofs.lemmas.List.{length-append}
-use Rattle.std.proofs.lemmas.Bool.{cases_Bool}
-use Rattle.std.proofs.lemmas.Bool.Decides.{nat_tests}
-use Rattle.fb_units.specs.Lines.{lines_of, fields_of}
-use Rattle.fb_units.proofs.Written.{whole_number}
-use Rattle.fb_geometry.specs.Shape.{Shape}
-use Rattle.fb_geometry.specs.Places.{places, zone_places, data_list}
-use Rattle.fb_geometry.specs.Sound.{IsSound}
-use Rattle.fb_geometry.specs.declared.zone.Zone.{Zone}
+use Rattle.fb_maker.proofs.Words.{◌≡◌, ℕ, ◌+◌, ◌-◌, ◌*◌, ◌^◌, ◌<◌, ◌≤◌, List, [], ◌∷◌, ◌++◌, length, min, true, false, refl, sym, ap, ◌∙◌}
+use Rattle.fb_maker.proofs.Words.{arith, append_assoc, subst, suc, inl, inr, Some, Ok, nat_lt, ◌==◌, decimal, codes, slice_get, list_all}
+use Rattle.fb_maker.proofs.Words.{flat_map, range_with_len, list_all-append, length-append, cases_Bool, nat_tests, lines_of, fields_of}
+use Rattle.fb_maker.proofs.Words.{whole_number, Shape, places, zone_places, data_list, IsSound, Zone, PerTrack, PerCylinder, cutting}
+use Rattle.fb_maker.proofs.Words.{first_zone, most, script_lines, script_text, script_calls, call_at, is_long, has_long_tracks}
 use Rattle.fb_geometry.specs.declared.layout.Layout.{Layout}
-use Rattle.fb_geometry.specs.declared.layout.Layout.TheVariants.{PerTrack, PerCylinder}
-use Rattle.fb_sectormap.specs.Cutting.{cutting}
 use Rattle.fb_calls.specs.declared.call.Action.TheVariants.{Open, Want}
 use Rattle.fb_calls.specs.declared.call.Kind.TheVariants.{Scrub, Backup}
 use Rattle.fb_calls.specs.Words.{verb_of, kind_of}
 use Rattle.fb_calls.specs.Line.{asked_by, entry_of}
 use Rattle.fb_calls.specs.Judgement.{Progress, opened, allowed, allowed_for, task_for, call_of, with_call}
 use Rattle.fb_calls.specs.Reading.{at_start, at_end, line_read, next_progress, lines_from, calls_of}
-use Rattle.fb_maker.specs.Script.{first_zone, most, script_lines, script_text, script_calls, call_at, is_long, has_long_tracks}
-use Rattle.fb_maker.proofs.LongTracks.{long_tracks_spread}
-use Rattle.fb_maker.proofs.Blocks.{few_blocks, no_more_blocks}
-use Rattle.fb_maker.proofs.Splitting.{printed, IsWord, field_then, field_last, word_printed, line_then, no_lines}
-use Rattle.fb_maker.proofs.Spelling.{decimal_word}
+use Rattle.fb_maker.proofs.{LongTracks.long_tracks_spread, Blocks.few_blocks, Blocks.no_more_blocks, Splitting.printed, Splitting.IsWord}
+use Rattle.fb_maker.proofs.{Splitting.field_then, Splitting.field_last, Splitting.word_printed, Splitting.line_then, Splitting.no_lines}
+use Rattle.fb_maker.proofs.{Spelling.decimal_word}
 
 -- the calls so far, line by line
 abbrev after_one : Shape → ℕ → Progress

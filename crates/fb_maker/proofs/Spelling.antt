@@ -1,13 +1,7 @@
 -- Words that spell numbers, times and flags.
-use Rattle.std.proofs.Common.{◌≡◌, ℕ, ◌+◌, ◌/◌, ◌%◌, ◌^◌, ◌<◌, [], ◌∷◌, Bool, true, false, refl, ◌∙◌, arith, Some}
-use Rattle.std.specs.Prelude.{decimal}
-use Rattle.std.specs.List.{list_all}
-use Rattle.std.proofs.lemmas.List.{length-append}
-use Rattle.std.proofs.lemmas.List.Folds.{list_all-append}
-use Rattle.std.proofs.lemmas.Bool.Decides.{nat_tests}
+use Rattle.fb_maker.proofs.Words.{◌≡◌, ℕ, ◌+◌, ◌/◌, ◌%◌, ◌^◌, ◌<◌, [], ◌∷◌, Bool, true, false, refl, ◌∙◌, arith, Some, decimal, list_all}
+use Rattle.fb_maker.proofs.Words.{length-append, list_all-append, nat_tests, millis_text, last_six, flags_of, flags_text}
 use Rattle.std.proofs.lemmas.Fmt.{decimal_by_steps, decimal_nonempty}
-use Rattle.fb_units.specs.Numbers.{millis_text, last_six, flags_of}
-use Rattle.fb_maker.specs.Trace.{flags_text}
 use Rattle.fb_maker.proofs.Splitting.{plain, IsWord}
 
 plain_digit : (n : ℕ) → plain (48 + n) ≡ true

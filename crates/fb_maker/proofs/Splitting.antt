@@ -1,13 +1,10 @@
 -- Lines and fields that were put together, taken apart.
-use Rattle.std.proofs.Common.{◌≡◌, ℕ, ◌-◌, ◌<◌, List, [], ◌∷◌, ◌++◌, length, get_or, Bool, true, false, refl, ap, ◌∙◌, arith}
-use Rattle.std.specs.Prelude.{◌==◌, nat_lt, ◌&&◌, map, filter}
-use Rattle.std.specs.List.{slice_split, list_all}
+use Rattle.fb_maker.proofs.Words.{◌≡◌, ℕ, ◌-◌, ◌<◌, List, [], ◌∷◌, ◌++◌, length, get_or, Bool, true, false, refl, ap, ◌∙◌, arith, ◌==◌}
+use Rattle.fb_maker.proofs.Words.{nat_lt, ◌&&◌, map, filter, slice_split, list_all, list_all-append, nat_tests, is_blank, but_empty_last}
+use Rattle.fb_maker.proofs.Words.{lines_of, fields_of}
 use Rattle.std.specs.Str.Lines.{strip_carriage_return}
 use Rattle.std.proofs.lemmas.List.Splits.{slice_split_at, slice_split_none, length-slice_split}
 use Rattle.std.proofs.lemmas.List.Sums.{AllPass-from_list_all}
-use Rattle.std.proofs.lemmas.List.Folds.{list_all-append}
-use Rattle.std.proofs.lemmas.Bool.Decides.{nat_tests}
-use Rattle.fb_units.specs.Lines.{is_blank, but_empty_last, lines_of, fields_of}
 
 -- bytes behind the space, and from it on
 abbrev pub plain : ℕ → Bool

@@ -1,20 +1,12 @@
 -- A generated trace reads back as its requests.
-use Rattle.std.proofs.Common.{◌≡◌, ℕ, zero, suc, ◌+◌, ◌-◌, ◌*◌, ◌%◌, ◌^◌, ◌<◌, ◌≤◌, List, [], ◌∷◌, ◌++◌, length, map, Bool, true, false, refl, sym, ap, ◌∙◌, arith, append_assoc, append-nil, add-one, Some, Ok}
-use Rattle.std.proofs.Math.Nat.{mod-lt}
-use Rattle.std.proofs.lemmas.List.{length_push}
-use Rattle.std.specs.Prelude.{nat_lt, ◌==◌, decimal}
-use Rattle.std.specs.List.{list_all, flat_map, range_with_len}
-use Rattle.std.proofs.lemmas.Bool.Decides.{nat_tests}
-use Rattle.fb_units.specs.Lines.{lines_of, fields_of}
-use Rattle.fb_units.specs.Numbers.{millis_text, millis_of, number_of, flags_of}
-use Rattle.fb_units.specs.declared.types.Request.{Request}
-use Rattle.fb_units.specs.declared.types.Name.TheVariants.{Traced}
-use Rattle.fb_units.proofs.Written.{read_back, whole_number}
+use Rattle.fb_maker.proofs.Words.{◌≡◌, ℕ, zero, suc, ◌+◌, ◌-◌, ◌*◌, ◌%◌, ◌^◌, ◌<◌, ◌≤◌, List, [], ◌∷◌, ◌++◌, length, map, Bool, true, false}
+use Rattle.fb_maker.proofs.Words.{refl, sym, ap, ◌∙◌, arith, append_assoc, append-nil, add-one, Some, Ok, mod-lt, length_push, nat_lt, ◌==◌}
+use Rattle.fb_maker.proofs.Words.{decimal, list_all, flat_map, range_with_len, nat_tests, lines_of, fields_of, millis_text, millis_of}
+use Rattle.fb_maker.proofs.Words.{number_of, flags_of, Request, Traced, read_back, whole_number, arrival_before, size_of, request_at}
+use Rattle.fb_maker.proofs.Words.{line_of, flags_text, made_requests, made_trace, word}
 use Rattle.fb_trace.specs.Entry.{spelled, entry_of}
 use Rattle.fb_trace.specs.Line.{request_of, of_device, added_by, line_of as line_read}
 use Rattle.fb_trace.specs.Reading.{Progress, at_start, next_progress, lines_from, trace_of}
-use Rattle.fb_maker.specs.Trace.{arrival_before, size_of, request_at, line_of, flags_text, made_requests, made_trace}
-use Rattle.fb_maker.specs.Words.{word}
 use Rattle.fb_maker.proofs.Splitting.{printed, IsWord, field_then, field_last, word_printed, printed_more, line_then, no_lines}
 use Rattle.fb_maker.proofs.Spelling.{decimal_word, millis_word, flags_word, marks, flags_read}
 

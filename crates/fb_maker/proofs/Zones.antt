@@ -1,16 +1,9 @@
 -- The first zone.
-use Rattle.std.proofs.Common.{◌≡◌, ℕ, suc, zero, ◌+◌, ◌-◌, ◌*◌, ◌<◌, ◌≤◌, List, [], ◌∷◌, length, Bool, true, ◌++◌, append_assoc, append-nil, min, refl, sym, ap, ◌∙◌, arith, Some, None, inl, inr}
-use Rattle.std.specs.Prelude.{◌==◌, slice_get, nat_le, ◌&&◌, decimal, codes}
-use Rattle.std.specs.List.{flat_map, range_with_len}
-use Rattle.std.proofs.lemmas.List.{length-append}
-use Rattle.std.proofs.lemmas.Bool.{cases_Bool}
-use Rattle.std.proofs.lemmas.Bool.Decides.{nat_tests}
-use Rattle.fb_geometry.specs.declared.zone.Zone.{Zone}
-use Rattle.std.proofs.lemmas.Option.{none-some, get_or_from_slice_get}
-use Rattle.fb_geometry.specs.Faults.{first_apart}
-use Rattle.fb_geometry.specs.Shape.{Shape, cylinders_of}
-use Rattle.fb_geometry.specs.Places.{data_list, list_among, places}
-use Rattle.fb_maker.specs.Script.{first_zone, most, script_lines, script_text}
+use Rattle.fb_maker.proofs.Words.{◌≡◌, ℕ, suc, zero, ◌+◌, ◌-◌, ◌*◌, ◌<◌, ◌≤◌, List, [], ◌∷◌, length, Bool, true, ◌++◌, append_assoc}
+use Rattle.fb_maker.proofs.Words.{append-nil, min, refl, sym, ap, ◌∙◌, arith, Some, None, inl, inr, ◌==◌, slice_get, nat_le, ◌&&◌, decimal}
+use Rattle.fb_maker.proofs.Words.{codes, flat_map, range_with_len, length-append, cases_Bool, nat_tests, Zone, none-some}
+use Rattle.fb_maker.proofs.Words.{get_or_from_slice_get, first_apart, Shape, cylinders_of, data_list, list_among, places, first_zone, most}
+use Rattle.fb_maker.proofs.Words.{script_lines, script_text}
 
 -- the first of the zones begins at the first cylinder
 pub begins_at_first : (zones : List Zone) (zone : Zone) → first_apart 0 0 zones ≡ None → slice_get zones 0 ≡ Some zone → zone.first ≡ 0

@@ -1,14 +1,8 @@
 -- The lines behind those that were read.
-use Rattle.std.proofs.Common.{◌≡◌, ℕ, ◌+◌, ◌<◌, List, [], ◌∷◌, ◌++◌, length, Bool, true, false, refl, sym, ap, ◌∙◌, arith, map, subst, Result, Err}
-use Rattle.std.specs.List.{slice_split}
-use Rattle.std.proofs.lemmas.List.Splits.{length-slice_split}
-use Rattle.std.specs.Borrow.{Bor}
-use Rattle.std.proofs.lemmas.List.{length-map, map-append}
-use Rattle.fb_report.specs.declared.reading.Report.{Report}
-use Rattle.fb_report.specs.declared.reading.ReportsError.{ReportsError}
+use Rattle.fb_report.proofs.Words.{◌≡◌, ℕ, ◌+◌, ◌<◌, List, [], ◌∷◌, ◌++◌, length, Bool, true, false, refl, sym, ap, ◌∙◌, arith, map, subst}
+use Rattle.fb_report.proofs.Words.{Result, Err, slice_split, length-slice_split, Bor, length-map, map-append, Report, ReportsError}
+use Rattle.fb_report.proofs.Words.{AnswersReport, Grammar, may_follow, may_end, ended_with, lines_behind}
 use Rattle.fb_report.specs.declared.reading.ReportsError.TheVariants.{Fault}
-use Rattle.fb_report.specs.Reading.{AnswersReport}
-use Rattle.fb_report.specs.Grammar.{Grammar, may_follow, may_end, ended_with, lines_behind}
 
 -- what the lines say
 abbrev pub texts : List (Bor (List ℕ)) → List (List ℕ)

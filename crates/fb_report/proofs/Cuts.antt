@@ -1,10 +1,7 @@
 -- A text is cut at the first byte that passes a test.
-use Rattle.std.proofs.Common.{◌≡◌, ℕ, ◌+◌, ◌-◌, ◌<◌, ◌≤◌, List, [], ◌∷◌, Bool, length, take, drop, arith, length-drop, sym, ap, ◌∙◌, Option, Some, None}
-use Rattle.std.specs.List.{slice_split, position_or_len}
-use Rattle.std.proofs.lemmas.List.{take_all}
-use Rattle.std.proofs.lemmas.List.Splits.{slice_split_first, slice_split_none}
-use Rattle.std.proofs.lemmas.List.Sums.{fails_before_first}
-use Rattle.fb_report.specs.Forms.{listed}
+use Rattle.fb_report.proofs.Words.{◌≡◌, ℕ, ◌+◌, ◌-◌, ◌<◌, ◌≤◌, List, [], ◌∷◌, Bool, length, take, drop, arith, length-drop, sym, ap, ◌∙◌}
+use Rattle.fb_report.proofs.Words.{Option, Some, None, slice_split, position_or_len, take_all, slice_split_first, slice_split_none}
+use Rattle.fb_report.proofs.Words.{fails_before_first, listed}
 use Rattle.fb_report.specs.declared.grammar.Fields.{Fields}
 
 module _ (p : ℕ → Bool) (text : List ℕ) (place : ℕ) (at : place ≡ position_or_len p text) where

@@ -1,7 +1,6 @@
 -- Hexadecimal digits of bytes one after another.
-use Rattle.std.proofs.Common.{◌≡◌, ℕ, ◌+◌, ◌<◌, List, [], ◌∷◌, ◌++◌, length, refl, sym, ap, ◌∙◌, append_assoc, drop, get_or}
-use Rattle.std.proofs.lemmas.List.{drop_more}
-use Rattle.hex.specs.Hex.{encode_lower, encode_with}
+use Rattle.fb_report.proofs.Words.{◌≡◌, ℕ, ◌+◌, ◌<◌, List, [], ◌∷◌, ◌++◌, length, refl, sym, ap, ◌∙◌, append_assoc, drop, get_or, drop_more}
+use Rattle.fb_report.proofs.Words.{encode_lower, encode_with}
 
 with-append : (t xs ys : List ℕ) → encode_with t (xs ++ ys) ≡ encode_with t xs ++ encode_with t ys
 unfolding encode_with

@@ -1,15 +1,10 @@
 -- The end line is the only line that begins like it.
-use Rattle.std.proofs.Common.{◌≡◌, ℕ, zero, suc, ◌+◌, ◌≤◌, List, [], ◌∷◌, ◌++◌, ◌⊎◌, inl, inr, length, Bool, true, false, refl, sym, ap, ◌∙◌, arith, lit≤, true≢false, subst, length-append, Some, Ok}
-use Rattle.std.specs.Prelude.{◌==◌, ◌&&◌, codes, slice_get}
-use Rattle.std.specs.List.{AllByRecursion, onto_first, list_any}
-use Rattle.std.specs.Str.{bytes_eq}
-use Rattle.std.proofs.lemmas.Bool.{cases_Bool}
-use Rattle.std.proofs.lemmas.Bool.Decides.{Decides-eqb}
-use Rattle.std.proofs.lemmas.List.Splits.{slice_split-cons_yes, slice_split-cons_no}
-use Rattle.fb_report.specs.Grammar.{Grammar, Form, fore_grammar, back_grammar, have_forms, is_line_of, is_word, report_fields, may_follow, may_end, lines_behind}
-use Rattle.fb_report.specs.Reading.{BeginsLikeEnd, EndsOnce, ReportsEndOnce}
-use Rattle.fb_report.proofs.Ranges.{get_left, get_right}
-use Rattle.fb_report.proofs.Whole.{row_or_end}
+use Rattle.fb_report.proofs.Words.{◌≡◌, ℕ, zero, suc, ◌+◌, ◌≤◌, List, [], ◌∷◌, ◌++◌, ◌⊎◌, inl, inr, length, Bool, true, false, refl, sym}
+use Rattle.fb_report.proofs.Words.{ap, ◌∙◌, arith, lit≤, true≢false, subst, length-append, Some, Ok, ◌==◌, ◌&&◌, codes, slice_get}
+use Rattle.fb_report.proofs.Words.{AllByRecursion, onto_first, list_any, bytes_eq, cases_Bool, Decides-eqb, slice_split-cons_yes}
+use Rattle.fb_report.proofs.Words.{slice_split-cons_no, Grammar, Form, fore_grammar, back_grammar, have_forms, is_line_of, is_word}
+use Rattle.fb_report.proofs.Words.{report_fields, may_follow, may_end, lines_behind, BeginsLikeEnd, EndsOnce, ReportsEndOnce}
+use Rattle.fb_report.proofs.{Ranges.get_left, Ranges.get_right, Whole.row_or_end}
 
 both : (a b : Bool) → (a && b) ≡ true → (a ≡ true) × (b ≡ true)
 both true b h = (refl, h)

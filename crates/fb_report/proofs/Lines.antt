@@ -1,14 +1,10 @@
 -- The lines of a report: a first one, one for each row in order, and a last one.
-use Rattle.std.proofs.Common.{◌≡◌, ℕ, suc, ◌+◌, ◌-◌, ◌<◌, ◌≤◌, List, [], ◌∷◌, ◌++◌, length, map, refl, sym, ap, ◌∙◌, arith, append-nil, drop, Some}
-use Rattle.std.specs.Prelude.{slice_get, option_map}
-use Rattle.std.specs.List.{flat_map}
-use Rattle.std.proofs.lemmas.List.{length-append, length-map, drop_all}
-use Rattle.std.proofs.lemmas.Option.{slice_get-map, slice_get_within}
-use Rattle.fb_report.proofs.Ranges.{get_left, get_right, drop_got, part_more}
+use Rattle.fb_report.proofs.Words.{◌≡◌, ℕ, suc, ◌+◌, ◌-◌, ◌<◌, ◌≤◌, List, [], ◌∷◌, ◌++◌, length, map, refl, sym, ap, ◌∙◌, arith, append-nil}
+use Rattle.fb_report.proofs.Words.{drop, Some, slice_get, option_map, flat_map, length-map, drop_all, slice_get-map, slice_get_within}
+use Rattle.fb_report.proofs.Words.{Bytes, fore_line, fore_first, fore_last, fore_lines, back_line, back_first, back_last, back_lines}
+use Rattle.std.proofs.lemmas.List.{length-append}
 use Rattle.fb_rows.specs.declared.run.Run.{Run}
-use Rattle.fb_report.specs.declared.bytes.Bytes.{Bytes}
-use Rattle.fb_report.specs.Fore.{fore_line, fore_first, fore_last, fore_lines}
-use Rattle.fb_report.specs.Back.{back_line, back_first, back_last, back_lines}
+use Rattle.fb_report.proofs.Ranges.{get_left, get_right, drop_got, part_more}
 
 -- these lines are a first one, a line for each row, and a last one
 pub record AreLines {X : Type 0} (first : List ℕ) (line : X → List ℕ) (rows : List X) (last : List ℕ) (lines : List (List ℕ)) : Type 0 where

@@ -1,13 +1,7 @@
 -- A number is tested digit by digit.
-use Rattle.std.proofs.Common.{◌≡◌, ℕ, ◌+◌, ◌-◌, ◌*◌, ◌^◌, ◌<◌, ◌≤◌, List, [], ◌∷◌, Bool, true, false, refl, ap, ◌∙◌, inl, inr, length, drop, arith}
-use Rattle.std.specs.Prelude.{◌&&◌, nat_lt}
-use Rattle.std.specs.List.{list_all}
-use Rattle.std.specs.Char.{is_ascii_digit}
-use Rattle.std.proofs.lemmas.Bool.{cases_Bool}
-use Rattle.std.proofs.lemmas.Bool.Decides.{nat_tests}
-use Rattle.std.proofs.lemmas.List.{drop_all}
-use Rattle.std.proofs.Math.Bool.{and-false}
-use Rattle.fb_units.specs.Numbers.{digits_after}
+use Rattle.fb_report.proofs.Words.{◌≡◌, ℕ, ◌+◌, ◌-◌, ◌*◌, ◌^◌, ◌<◌, ◌≤◌, List, [], ◌∷◌, Bool, true, false, refl, ap, ◌∙◌, inl, inr, length}
+use Rattle.fb_report.proofs.Words.{drop, arith, ◌&&◌, nat_lt, list_all, is_ascii_digit, cases_Bool, nat_tests, drop_all, and-false}
+use Rattle.fb_report.proofs.Words.{digits_after}
 
 -- with these digits behind it the number is below 2^64
 abbrev pub stays_below : ℕ → List ℕ → Bool

@@ -1,11 +1,7 @@
 -- Lines in their places.
-use Rattle.std.proofs.Common.{◌≡◌, ℕ, ◌+◌, ◌<◌, ◌≤◌, List, length, true, false, sym, subst, inl, inr, Some, arith}
-use Rattle.std.specs.Prelude.{◌==◌, slice_get}
-use Rattle.std.proofs.lemmas.Bool.{cases_lt}
-use Rattle.std.proofs.lemmas.Option.{slice_get_within}
-use Rattle.std.proofs.lemmas.Bool.Decides.{nat_tests}
-use Rattle.fb_report.specs.Grammar.{Grammar}
-use Rattle.fb_report.specs.Printed.{IsLine, IsReadBack, is_first, is_row, is_last, is_in_place}
+use Rattle.fb_report.proofs.Words.{◌≡◌, ℕ, ◌+◌, ◌<◌, ◌≤◌, List, length, true, false, sym, subst, inl, inr, Some, arith, ◌==◌, slice_get}
+use Rattle.fb_report.proofs.Words.{cases_lt, slice_get_within, nat_tests, Grammar, IsLine, IsReadBack, is_first, is_row, is_last}
+use Rattle.fb_report.proofs.Words.{is_in_place}
 use Rattle.fb_report.proofs.ReadBack.{printed_are_read_back}
 
 module _ (grammar : Grammar) (many place : ℕ) (line : List ℕ) where

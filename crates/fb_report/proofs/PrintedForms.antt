@@ -1,22 +1,12 @@
 -- The fields of lines have their forms.
-use Rattle.std.proofs.Common.{◌≡◌, ℕ, ◌+◌, ◌-◌, ◌*◌, ◌%◌, ◌<◌, ◌^◌, List, [], ◌∷◌, ◌++◌, length, drop, get_or, Bool, true, false, refl, sym, ap, ◌∙◌, arith, subst, inl, inr}
-use Rattle.std.specs.Prelude.{◌==◌, nat_lt, decimal}
-use Rattle.std.specs.List.{list_all, position_or_len, before_first, after_first}
-use Rattle.std.specs.Char.{is_ascii_digit}
-use Rattle.std.specs.Str.{bytes_eq}
+use Rattle.fb_report.proofs.Words.{◌≡◌, ℕ, ◌+◌, ◌-◌, ◌*◌, ◌%◌, ◌<◌, ◌^◌, List, [], ◌∷◌, ◌++◌, length, drop, get_or, Bool, true, false, refl}
+use Rattle.fb_report.proofs.Words.{sym, ap, ◌∙◌, arith, subst, inl, inr, ◌==◌, nat_lt, decimal, list_all, position_or_len, before_first}
+use Rattle.fb_report.proofs.Words.{after_first, is_ascii_digit, bytes_eq, cases_Bool, nat_tests, take_at, list_all-append, decimal_by_steps}
+use Rattle.fb_report.proofs.Words.{decimal_nonempty, decimal_digit, first_decimal, are_digits, digits_after, is_name, is_name_byte}
+use Rattle.fb_report.proofs.Words.{has_no_leading_zero, is_number, is_point, is_track, is_request, is_word, IsField}
 use Rattle.std.proofs.Math.Seq.{drop-append-add}
-use Rattle.std.proofs.lemmas.Bool.{cases_Bool}
-use Rattle.std.proofs.lemmas.Bool.Decides.{nat_tests}
-use Rattle.std.proofs.lemmas.List.{take_at}
-use Rattle.std.proofs.lemmas.List.Folds.{list_all-append}
 use Rattle.std.proofs.lemmas.Slice.Eq.{bytes_eq-Decides}
-use Rattle.std.proofs.lemmas.Fmt.{decimal_by_steps, decimal_nonempty, decimal_digit, first_decimal}
-use Rattle.fb_units.specs.Numbers.{are_digits, digits_after}
-use Rattle.fb_calls.specs.Words.{is_name, is_name_byte}
-use Rattle.fb_report.specs.Grammar.{has_no_leading_zero, is_number, is_point, is_track, is_request, is_word}
-use Rattle.fb_report.specs.Printed.{IsField}
-use Rattle.fb_report.proofs.ReadBack.{and_parts}
-use Rattle.fb_report.proofs.Fields.{plain}
+use Rattle.fb_report.proofs.{ReadBack.and_parts, Fields.plain}
 
 pub all_too : (p q : ℕ → Bool) → ((x : ℕ) → p x ≡ true → q x ≡ true) → (xs : List ℕ) → list_all p xs ≡ true → list_all q xs ≡ true
 all_too p q then [] all = refl

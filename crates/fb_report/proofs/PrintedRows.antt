@@ -1,27 +1,18 @@
 -- The fields of printed rows are those of the grammar.
-use Rattle.std.proofs.Common.{◌≡◌, ℕ, ◌<◌, List, [], ◌∷◌, ◌++◌, length, Global, Bool, true, false, refl, sym, ap, ◌∙◌, arith, subst, inl, inr}
-use Rattle.std.specs.Prelude.{codes, decimal, if◌then◌else◌, Result, IfOk}
+use Rattle.fb_report.proofs.Words.{◌≡◌, ℕ, ◌<◌, List, [], ◌∷◌, ◌++◌, length, Global, Bool, true, false, refl, sym, ap, ◌∙◌, arith, subst}
+use Rattle.fb_report.proofs.Words.{inl, inr, codes, decimal, if◌then◌else◌, Result, IfOk, IfOk-weaker, decimal_digit, is_name, ContentRun}
+use Rattle.fb_report.proofs.Words.{Bytes, shown, line_of, with_fields, kind_text, fore_first, fore_last, task_text, task_kind_text}
+use Rattle.fb_report.proofs.Words.{how_text, is_complete_text, back_first, back_last, is_number, is_request, is_word, is_one_of, are_bytes}
+use Rattle.fb_report.proofs.Words.{numbers, fore_grammar, back_grammar, IsField, AreFields, AreOneOf, HasSectors, AreNames, IsLine}
+use Rattle.fb_report.proofs.Words.{is_first, is_last}
 use Rattle.fb_units.specs.declared.types.NoMemory.{NoMemory}
 use Rattle.std.specs.declared.vec.Vec.{Vec}
-use Rattle.std.proofs.lemmas.Result.{IfOk-weaker}
-use Rattle.std.proofs.lemmas.Fmt.{decimal_digit}
-use Rattle.fb_calls.specs.Words.{is_name}
 use Rattle.fb_calls.specs.declared.call.Kind.{Kind}
 use Rattle.fb_calls.specs.declared.call.Kind.TheVariants.{Plain, Backup, Scrub, Clean}
 use Rattle.fb_rows.specs.declared.gap.How.{How}
 use Rattle.fb_rows.specs.declared.gap.How.TheVariants.{Gap as ByGap, Idle as ByIdle, Ride as ByRide}
-use Rattle.fb_store.specs.declared.content.ContentRun.{ContentRun}
-use Rattle.fb_report.specs.declared.bytes.Bytes.{Bytes}
-use Rattle.fb_report.specs.Shown.{shown}
-use Rattle.fb_report.specs.Lines.{line_of, with_fields}
-use Rattle.fb_report.specs.Fore.{kind_text, fore_first, fore_last}
-use Rattle.fb_report.specs.Back.{task_text, task_kind_text, how_text, is_complete_text, back_first, back_last}
-use Rattle.fb_report.specs.Grammar.{is_number, is_request, is_word, is_one_of, are_bytes, numbers, fore_grammar, back_grammar}
-use Rattle.fb_report.specs.Printed.{IsField, AreFields, AreOneOf, HasSectors, AreNames, IsLine, is_first, is_last}
-use Rattle.fb_report.proofs.Fields.{in_first, in_last}
-use Rattle.fb_report.proofs.PrintedForms.{word_is, task_is}
-use Rattle.fb_report.proofs.Ranges.{all_at}
-use Rattle.fb_report.proofs.ShownForms.{dash_is, shown_is}
+use Rattle.fb_report.proofs.{Fields.in_first, Fields.in_last, PrintedForms.word_is, PrintedForms.task_is, Ranges.all_at, ShownForms.dash_is}
+use Rattle.fb_report.proofs.{ShownForms.shown_is}
 
 infixr 5 ◌&◌
 -- one field, and then others

@@ -1,12 +1,8 @@
 -- Going over a list or a range part by part.
-use Rattle.std.proofs.Common.{◌≡◌, ℕ, zero, suc, ◌+◌, ◌<◌, List, [], ◌∷◌, ◌++◌, length, refl, sym, ap, ◌∙◌, arith, append_assoc, append-nil, drop, take, subst, get_or, Some}
-use Rattle.std.specs.Prelude.{slice_get}
-use Rattle.std.proofs.lemmas.List.{drop_more}
-use Rattle.std.proofs.lemmas.Option.{slice_get_within, get_or_from_slice_get}
-use Rattle.std.specs.List.{AllByRecursion, flat_map, range_with_len, sum_by}
-use Rattle.std.proofs.lemmas.List.{take_more}
+use Rattle.fb_report.proofs.Words.{◌≡◌, ℕ, zero, suc, ◌+◌, ◌<◌, List, [], ◌∷◌, ◌++◌, length, refl, sym, ap, ◌∙◌, arith, append_assoc}
+use Rattle.fb_report.proofs.Words.{append-nil, drop, take, subst, get_or, Some, slice_get, drop_more, slice_get_within}
+use Rattle.fb_report.proofs.Words.{get_or_from_slice_get, AllByRecursion, flat_map, range_with_len, sum_by, take_more, sum_by-append}
 use Rattle.std.proofs.lemmas.List.Concat.{flat_map-append}
-use Rattle.std.proofs.lemmas.List.Sums.{sum_by-append}
 
 -- a part more was added
 pub part_more : {X : Type 0} (f : X → List ℕ) (now new part : List ℕ) (x : X) (rest rest' : List X) (whole : List ℕ) → now ++ flat_map f rest ≡ whole → rest ≡ x ∷ rest' → part ≡ f x → new ≡ now ++ part → new ++ flat_map f rest' ≡ whole

@@ -1,12 +1,9 @@
 -- Printed lines are read back.
-use Rattle.std.proofs.Common.{◌≡◌, ℕ, suc, ◌+◌, ◌≤◌, ◌<◌, List, [], ◌∷◌, ◌++◌, length, map, Bool, true, false, refl, sym, ap, ◌∙◌, arith, append_assoc, Some, Ok}
-use Rattle.std.specs.Prelude.{◌&&◌, ◌||◌, ◌==◌, not, slice_get}
-use Rattle.std.specs.List.{flat_map, list_any, slice_split}
-use Rattle.std.proofs.lemmas.Bool.Decides.{nat_tests}
+use Rattle.fb_report.proofs.Words.{◌≡◌, ℕ, suc, ◌+◌, ◌≤◌, ◌<◌, List, [], ◌∷◌, ◌++◌, length, map, Bool, true, false, refl, sym, ap, ◌∙◌}
+use Rattle.fb_report.proofs.Words.{arith, append_assoc, Some, Ok, ◌&&◌, ◌||◌, ◌==◌, not, slice_get, flat_map, list_any, slice_split}
+use Rattle.fb_report.proofs.Words.{nat_tests, length-slice_split, Grammar, is_line_of, may_follow, may_end, lines_behind, ended, IsLine}
+use Rattle.fb_report.proofs.Words.{is_row, is_last, is_in_place, PrintedAreReadBack}
 use Rattle.std.proofs.lemmas.List.{length-append}
-use Rattle.std.proofs.lemmas.List.Splits.{length-slice_split}
-use Rattle.fb_report.specs.Grammar.{Grammar, is_line_of, may_follow, may_end, lines_behind, ended}
-use Rattle.fb_report.specs.Printed.{IsLine, is_row, is_last, is_in_place, PrintedAreReadBack}
 
 or_parts : (a b : Bool) → (a || b) ≡ false → (a ≡ false) × (b ≡ false)
 or_parts true b h = cc

@@ -1,12 +1,8 @@
 -- The fields of a line against the forms of a table.
-use Rattle.std.proofs.Common.{◌≡◌, ℕ, ◌<◌, List, [], ◌∷◌, Bool, false, length, drop, map, refl, sym, ap, ◌∙◌, arith, length-drop}
-use Rattle.std.specs.List.{list_any}
+use Rattle.fb_report.proofs.Words.{◌≡◌, ℕ, ◌<◌, List, [], ◌∷◌, Bool, false, length, drop, map, refl, sym, ap, ◌∙◌, arith, length-drop}
+use Rattle.fb_report.proofs.Words.{list_any, fits, written, Bor, length-map, Grammar, have_forms, is_line_of, may_follow, report_fields}
 use Rattle.fb_report.specs.declared.forms.Form.{Form}
-use Rattle.fb_report.specs.Forms.{fits, written}
 use Rattle.fb_report.specs.declared.grammar.Table.{Table}
-use Rattle.std.specs.Borrow.{Bor}
-use Rattle.std.proofs.lemmas.List.{length-map}
-use Rattle.fb_report.specs.Grammar.{Grammar, have_forms, is_line_of, may_follow, report_fields}
 
 pub list_any-map : {X Y : Type 0} (p : Y → Bool) (f : X → Y) (xs : List X) → list_any p (map f xs) ≡ list_any (λ x. p (f x)) xs
 list_any-map p f [] = refl

@@ -1,32 +1,17 @@
 -- Bytes and digests are shown as hexadecimal digits.
-use Rattle.std.proofs.Common.{◌≡◌, ℕ, zero, suc, ◌+◌, ◌/◌, ◌%◌, ◌<◌, ◌^◌, List, [], ◌∷◌, length, map, Bool, true, refl, ◌∙◌, arith, inl, inr}
-use Rattle.std.specs.Prelude.{nat_lt, replicate, codes, slice_index}
-use Rattle.std.specs.List.{flat_map, list_all, range_with_len}
+use Rattle.fb_report.proofs.Words.{◌≡◌, ℕ, zero, suc, ◌+◌, ◌/◌, ◌%◌, ◌<◌, ◌^◌, List, [], ◌∷◌, length, map, Bool, true, refl, ◌∙◌, arith}
+use Rattle.fb_report.proofs.Words.{inl, inr, nat_lt, replicate, codes, slice_index, flat_map, list_all, range_with_len, bytes_eq, or-true}
+use Rattle.fb_report.proofs.Words.{cases_lt, nat_tests, length-map, length-replicate, sum_by-append, list_all-append, AllPass-from_list_all}
+use Rattle.fb_report.proofs.Words.{encode_with, encode_lower, lower_digits, ContentRun, mark, fill, sector_bytes, Bytes, run_bytes}
+use Rattle.fb_report.proofs.Words.{contents_bytes, shown, digest_text, is_lower_hex, are_bytes, IsField, HasSectors}
 use Rattle.std.specs.Int.{byte_at, bytes_high_first}
-use Rattle.std.specs.Str.{bytes_eq}
-use Rattle.std.proofs.Math.Bool.{or-true}
-use Rattle.std.proofs.lemmas.Bool.{cases_lt}
-use Rattle.std.proofs.lemmas.Bool.Decides.{nat_tests}
-use Rattle.std.proofs.lemmas.List.{length-append, length-map, length-replicate}
+use Rattle.std.proofs.lemmas.List.{length-append}
 use Rattle.std.proofs.lemmas.List.FromFn.{length-range_with_len}
-use Rattle.std.proofs.lemmas.List.Sums.{sum_by-append}
-use Rattle.std.proofs.lemmas.List.Folds.{list_all-append}
-use Rattle.std.proofs.lemmas.List.Sums.{AllPass-from_list_all}
-use Rattle.hex.specs.Hex.{encode_with, encode_lower, lower_digits}
 use Rattle.sha2.specs.Sha256.{digest_bytes, sha256}
 use Rattle.fb_store.specs.declared.content.Content.{Content}
 use Rattle.fb_store.specs.declared.content.Content.TheVariants.{Filled, Unreadable}
-use Rattle.fb_store.specs.declared.content.ContentRun.{ContentRun}
-use Rattle.fb_store.specs.Fill.{mark, fill, sector_bytes}
-use Rattle.fb_report.specs.declared.bytes.Bytes.{Bytes}
 use Rattle.fb_report.specs.declared.bytes.Bytes.TheVariants.{Nothing, Digest, Dump}
-use Rattle.fb_report.specs.Shown.{run_bytes, contents_bytes, shown}
-use Rattle.fb_report.specs.Back.{digest_text}
-use Rattle.fb_report.specs.Grammar.{is_lower_hex, are_bytes}
-use Rattle.fb_report.specs.Printed.{IsField, HasSectors}
-use Rattle.fb_report.proofs.ReadBack.{and_parts}
-use Rattle.fb_report.proofs.Fields.{plain}
-use Rattle.fb_report.proofs.PrintedForms.{all_too}
+use Rattle.fb_report.proofs.{ReadBack.and_parts, Fields.plain, PrintedForms.all_too}
 
 -- ---- bytes
 

@@ -1,17 +1,14 @@
 -- Sums over the rows of a run, so far and from there on.
-use Rattle.std.proofs.Common.{◌≡◌, ℕ, ◌+◌, ◌≤◌, max, List, [], ◌∷◌, ◌++◌, length, refl, sym, ap, ◌∙◌, arith, append_assoc, append-nil, drop, Option, Some, None}
-use Rattle.std.specs.Prelude.{slice_get}
-use Rattle.std.specs.List.{cons_option, filter_map, flat_map, fold}
+use Rattle.fb_report.proofs.Words.{◌≡◌, ℕ, ◌+◌, ◌≤◌, max, List, [], ◌∷◌, ◌++◌, length, refl, sym, ap, ◌∙◌, arith, append_assoc, append-nil}
+use Rattle.fb_report.proofs.Words.{drop, Option, Some, None, slice_get, cons_option, filter_map, flat_map, fold, nat_tests, drop_all}
+use Rattle.fb_report.proofs.Words.{gap_in, delivery_in, task_in}
 use Rattle.std.specs.Ordering.{nat_cmp, ord_max}
-use Rattle.std.proofs.lemmas.Bool.Decides.{nat_tests}
-use Rattle.std.proofs.lemmas.List.{drop_all}
-use Rattle.fb_report.proofs.Ranges.{drop_got}
 use Rattle.fb_rows.specs.declared.back.GapRow.{GapRow}
 use Rattle.fb_rows.specs.declared.back.DeliveryRow.{DeliveryRow}
 use Rattle.fb_rows.specs.declared.back.TaskRow.{TaskRow}
 use Rattle.fb_rows.specs.declared.back.BackRow.{BackRow}
 use Rattle.fb_rows.specs.declared.back.BackRow.TheVariants.{Gap, Idle, Got, Bad, Seal, Segment, Complete, Task}
-use Rattle.fb_report.specs.Summary.{gap_in, delivery_in, task_in}
+use Rattle.fb_report.proofs.Ranges.{drop_got}
 
 module _ {X Y : Type 0} (h : X → Option Y) (xs : List X) (i : ℕ) where
   -- what is found at an element, of those from there on

@@ -1,14 +1,9 @@
 -- What a report that was read says of its text and of its lines.
-use Rattle.std.proofs.Common.{◌≡◌, ℕ, ◌+◌, ◌<◌, List, [], ◌∷◌, ◌++◌, ◌⊎◌, inl, inr, length, true, refl, sym, ap, ◌∙◌, arith, append_assoc, append-nil, Result, Ok, Err, IfOk}
-use Rattle.std.specs.Prelude.{◌==◌}
-use Rattle.std.specs.List.{slice_split, flat_map, join_with_byte}
-use Rattle.std.proofs.lemmas.Bool.{cases_Bool}
+use Rattle.fb_report.proofs.Words.{◌≡◌, ℕ, ◌+◌, ◌<◌, List, [], ◌∷◌, ◌++◌, ◌⊎◌, inl, inr, length, true, refl, sym, ap, ◌∙◌, arith}
+use Rattle.fb_report.proofs.Words.{append_assoc, append-nil, Result, Ok, Err, IfOk, ◌==◌, slice_split, flat_map, join_with_byte, cases_Bool}
+use Rattle.fb_report.proofs.Words.{join_with_byte-slice_split, Report, ReportsError, AnswersReport, Grammar, may_follow, may_end, ended}
+use Rattle.fb_report.proofs.Words.{ended_with, lines_behind, report_of}
 use Rattle.std.proofs.lemmas.Grind.{flat_map-append}
-use Rattle.std.proofs.lemmas.List.Splits.{join_with_byte-slice_split}
-use Rattle.fb_report.specs.declared.reading.Report.{Report}
-use Rattle.fb_report.specs.declared.reading.ReportsError.{ReportsError}
-use Rattle.fb_report.specs.Reading.{AnswersReport}
-use Rattle.fb_report.specs.Grammar.{Grammar, may_follow, may_end, ended, ended_with, lines_behind, report_of}
 use Rattle.fb_report.proofs.Behind.{row_read, end_read, fault_read}
 
 -- only an empty rest ends a report

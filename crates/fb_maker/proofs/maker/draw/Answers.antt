@@ -1,4 +1,4 @@
-use Rattle.std.proofs.Common.{◌+◌, ◌*◌, arith, refl}
+use Rattle.fb_maker.proofs.Words.{◌+◌, ◌*◌, arith, refl}
 use Rattle.fb_maker.proofs.Drawing.{is_word, is_state, is_request}
 use Rattle.fb_maker.proofs.maker.draw.Goals as goal
 

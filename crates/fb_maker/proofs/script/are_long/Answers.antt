@@ -1,7 +1,4 @@
-use Rattle.std.proofs.Common.{◌∙◌, sym, ap}
-use Rattle.std.proofs.lemmas.List.Folds.{list_all_at, list_all_more}
-use Rattle.std.proofs.lemmas.Option.{slice_get_within, get_or_from_slice_get}
-use Rattle.fb_maker.specs.Script.{is_long}
+use Rattle.fb_maker.proofs.Words.{◌∙◌, sym, ap, list_all_at, list_all_more, slice_get_within, get_or_from_slice_get, is_long}
 use Rattle.fb_maker.proofs.Zones.{both_true}
 use Rattle.fb_maker.proofs.script.are_long.Goals as goal
 

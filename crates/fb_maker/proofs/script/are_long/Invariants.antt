@@ -1,6 +1,4 @@
-use Rattle.std.proofs.Common.{◌≡◌, take, true}
-use Rattle.std.specs.List.{list_all}
-use Rattle.fb_maker.specs.Script.{is_long}
+use Rattle.fb_maker.proofs.Words.{◌≡◌, take, true, list_all, is_long}
 use Rattle.fb_maker.proofs.script.are_long.Given as goal
 
 abbrev pub invariant-loop-i : goal.invariant-loop-i

@@ -1,4 +1,4 @@
-use Rattle.std.proofs.Common.{◌≤◌, ◌+◌, ◌-◌, ◌*◌, ap, sym, ◌∙◌, arith, ℕ}
+use Rattle.fb_maker.proofs.Words.{◌≤◌, ◌+◌, ◌-◌, ◌*◌, ap, sym, ◌∙◌, arith, ℕ}
 use Rattle.fb_maker.proofs.Zones.{begins_at_first, some_cylinders, first_zone_is}
 use Rattle.fb_maker.proofs.script.first_zone.Goals as goal
 

@@ -1,6 +1,4 @@
-use Rattle.std.proofs.Common.{◌≡◌, ap, ◌∙◌, min, length, ℕ}
-use Rattle.fb_geometry.specs.Places.{places}
-use Rattle.fb_maker.specs.Script.{most, first_zone}
+use Rattle.fb_maker.proofs.Words.{◌≡◌, ap, ◌∙◌, min, length, ℕ, places, most, first_zone}
 use Rattle.fb_maker.proofs.Zones.{is_script}
 use Rattle.fb_maker.proofs.script.made_calls.Goals as goal
 

@@ -1,5 +1,4 @@
-use Rattle.std.proofs.Common.{arith, subst}
-use Rattle.fb_geometry.specs.Sound.{IsSound}
+use Rattle.fb_maker.proofs.Words.{arith, subst, IsSound}
 use Rattle.fb_maker.proofs.ScriptRead.{script_read}
 use Rattle.fb_maker.proofs.script.made_scripts_are_read.Goals as goal
 

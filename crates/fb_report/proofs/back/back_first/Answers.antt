@@ -1,7 +1,4 @@
-use Rattle.std.proofs.Common.{[], ◌∷◌, refl}
-use Rattle.std.specs.Prelude.{codes}
-use Rattle.fb_report.specs.Grammar.{back_grammar}
-use Rattle.fb_report.specs.Printed.{IsLine, is_first}
+use Rattle.fb_report.proofs.Words.{[], ◌∷◌, refl, codes, back_grammar, IsLine, is_first}
 use Rattle.fb_report.proofs.PrintedRows.{back_first_is, ended_as}
 use Rattle.fb_report.proofs.back.back_first.Goals as goal
 

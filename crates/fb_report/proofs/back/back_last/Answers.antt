@@ -1,7 +1,4 @@
-use Rattle.std.proofs.Common.{[], ◌∷◌, refl}
-use Rattle.std.specs.Prelude.{codes, decimal}
-use Rattle.fb_report.specs.Grammar.{back_grammar}
-use Rattle.fb_report.specs.Printed.{IsLine, is_last}
+use Rattle.fb_report.proofs.Words.{[], ◌∷◌, refl, codes, decimal, back_grammar, IsLine, is_last}
 use Rattle.fb_report.proofs.PrintedRows.{back_last_is, ended_as}
 use Rattle.fb_report.proofs.back.back_last.Goals as goal
 

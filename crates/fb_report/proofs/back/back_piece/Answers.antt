@@ -1,9 +1,6 @@
-use Rattle.std.proofs.Common.{ap, sym, ◌∙◌, arith, Some, length, ◌+◌, ◌-◌}
-use Rattle.fb_report.specs.Grammar.{back_grammar}
-use Rattle.fb_report.specs.Printed.{CountsSectors}
-use Rattle.fb_report.proofs.Places.{at_first, at_row, at_last}
-use Rattle.fb_report.proofs.Ranges.{all_get}
-use Rattle.fb_report.proofs.Lines.{line_first, line_row, line_last, back_are}
+use Rattle.fb_report.proofs.Words.{ap, sym, ◌∙◌, arith, Some, length, ◌+◌, ◌-◌, back_grammar, CountsSectors}
+use Rattle.fb_report.proofs.{Places.at_first, Places.at_row, Places.at_last, Ranges.all_get, Lines.line_first, Lines.line_row}
+use Rattle.fb_report.proofs.{Lines.line_last, Lines.back_are}
 use Rattle.fb_report.proofs.back.back_piece.Goals as goal
 
 pub returns-in_ok-back_first-clause-value : goal.returns-in_ok-back_first-clause-value

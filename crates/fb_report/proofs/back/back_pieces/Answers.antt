@@ -1,4 +1,4 @@
-use Rattle.std.proofs.Common.{arith}
+use Rattle.fb_report.proofs.Words.{arith}
 use Rattle.fb_report.proofs.Lines.{length_lines, back_are}
 use Rattle.fb_report.proofs.back.back_pieces.Goals as goal
 

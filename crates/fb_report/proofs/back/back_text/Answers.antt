@@ -1,8 +1,5 @@
-use Rattle.std.proofs.Common.{arith, ap, length, ◌∙◌, ◌++◌, ◌+◌}
-use Rattle.fb_report.specs.Grammar.{back_grammar}
-use Rattle.fb_report.specs.Printed.{IsLine, is_in_place}
+use Rattle.fb_report.proofs.Words.{arith, ap, length, ◌∙◌, ◌++◌, ◌+◌, back_grammar, IsLine, is_in_place, back_lines}
 use Rattle.fb_report.proofs.Places.{one_place_more, all_in_place}
-use Rattle.fb_report.specs.Back.{back_lines}
 use Rattle.fb_report.proofs.Lines.{length_lines, text_more, text_whole, back_are}
 use Rattle.fb_report.proofs.back.back_text.Goals as goal
 

@@ -1,9 +1,5 @@
-use Rattle.std.proofs.Common.{◌≡◌, ◌++◌, ◌+◌, ◌<◌, ℕ, List, length, drop, Some}
-use Rattle.std.specs.Prelude.{slice_get}
-use Rattle.std.specs.List.{AllByRecursion, flat_map}
-use Rattle.fb_report.specs.Back.{back_lines, back_text}
-use Rattle.fb_report.specs.Grammar.{back_grammar}
-use Rattle.fb_report.specs.Printed.{AreNames, CountsSectors, IsLine, is_in_place}
+use Rattle.fb_report.proofs.Words.{◌≡◌, ◌++◌, ◌+◌, ◌<◌, ℕ, List, length, drop, Some, slice_get, AllByRecursion, flat_map, back_lines}
+use Rattle.fb_report.proofs.Words.{back_text, back_grammar, AreNames, CountsSectors, IsLine, is_in_place}
 use Rattle.fb_report.proofs.back.back_text.Given as goal
 
 abbrev pub invariant-loop-k : goal.invariant-loop-k

@@ -1,6 +1,4 @@
-use Rattle.std.proofs.Common.{subst}
-use Rattle.std.proofs.lemmas.Result.{IfOk-weaker}
-use Rattle.fb_report.specs.Printed.{CountsSectors}
+use Rattle.fb_report.proofs.Words.{subst, IfOk-weaker, CountsSectors}
 use Rattle.fb_report.proofs.back_rows.back_line.Goals as goal
 
 pub returns-in-Got-clause-form : goal.returns-in-Got-clause-form

@@ -1,8 +1,4 @@
-use Rattle.std.proofs.Common.{[], ◌∷◌, refl, inl, inr}
-use Rattle.std.specs.Prelude.{codes, decimal}
-use Rattle.fb_report.specs.Back.{task_text}
-use Rattle.fb_report.specs.Grammar.{back_grammar}
-use Rattle.fb_report.specs.Printed.{AreNames, IsLine, is_row}
+use Rattle.fb_report.proofs.Words.{[], ◌∷◌, refl, inl, inr, codes, decimal, task_text, back_grammar, AreNames, IsLine, is_row}
 use Rattle.fb_report.proofs.Fields.{in_row}
 use Rattle.fb_report.proofs.PrintedForms.{word_is}
 use Rattle.fb_report.proofs.PrintedRows.{◌&◌, ended_as, named_is}

@@ -1,12 +1,6 @@
-use Rattle.std.proofs.Common.{◌∷◌, ◌≡◌, ◌<◌, ◌∙◌, refl, subst}
-use Rattle.std.specs.Prelude.{codes}
-use Rattle.fb_report.specs.Back.{got_fields}
-use Rattle.fb_report.specs.Shown.{shown}
-use Rattle.fb_report.specs.Grammar.{are_bytes, back_grammar}
-use Rattle.fb_report.specs.Printed.{AreNames, AreOneOf, HasSectors, IsField, IsLine, is_row}
-use Rattle.fb_report.proofs.Fields.{in_row}
-use Rattle.fb_report.proofs.ShownForms.{shown_is}
-use Rattle.fb_report.proofs.PrintedRows.{ended_as}
+use Rattle.fb_report.proofs.Words.{◌∷◌, ◌≡◌, ◌<◌, ◌∙◌, refl, subst, codes, got_fields, shown, are_bytes, back_grammar, AreNames, AreOneOf}
+use Rattle.fb_report.proofs.Words.{HasSectors, IsField, IsLine, is_row}
+use Rattle.fb_report.proofs.{Fields.in_row, ShownForms.shown_is, PrintedRows.ended_as}
 use Rattle.fb_report.proofs.back_rows.got_line.Goals as goal
 
 pub returns-clause-form : goal.returns-clause-form

@@ -1,6 +1,4 @@
-use Rattle.std.proofs.Common.{refl, inl, inr}
-use Rattle.std.specs.Prelude.{codes}
-use Rattle.std.proofs.lemmas.Result.{on_ok_weaker}
+use Rattle.fb_report.proofs.Words.{refl, inl, inr, codes, on_ok_weaker}
 use Rattle.fb_report.proofs.PrintedForms.{word_is}
 use Rattle.fb_report.proofs.PrintedRows.{◌&◌, how_is, named_is}
 use Rattle.fb_report.proofs.back_rows.push_delivery.Goals as goal

@@ -1,8 +1,4 @@
-use Rattle.std.proofs.Common.{◌-◌, ◌∙◌, refl, ap, subst, inl, inr}
-use Rattle.std.specs.Prelude.{codes, decimal}
-use Rattle.std.proofs.lemmas.Result.{on_ok_weaker}
-use Rattle.fb_report.specs.Grammar.{is_number}
-use Rattle.fb_report.specs.Printed.{IsField}
+use Rattle.fb_report.proofs.Words.{◌-◌, ◌∙◌, refl, ap, subst, inl, inr, codes, decimal, on_ok_weaker, is_number, IsField}
 use Rattle.fb_report.proofs.PrintedForms.{word_is}
 use Rattle.fb_report.proofs.PrintedRows.{◌&◌, complete_is, named_is, task_kind_is}
 use Rattle.fb_report.proofs.back_rows.push_task.Goals as goal

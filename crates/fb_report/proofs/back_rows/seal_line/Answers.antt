@@ -1,9 +1,5 @@
-use Rattle.std.proofs.Common.{[], ◌∷◌, ◌≡◌, ◌<◌, ◌^◌, ◌∙◌, refl, inl, inr}
-use Rattle.std.specs.Prelude.{codes, decimal}
-use Rattle.std.specs.List.{sum_by}
-use Rattle.fb_report.specs.Back.{digest_text, task_text}
-use Rattle.fb_report.specs.Grammar.{back_grammar}
-use Rattle.fb_report.specs.Printed.{AreNames, IsLine, is_row}
+use Rattle.fb_report.proofs.Words.{[], ◌∷◌, ◌≡◌, ◌<◌, ◌^◌, ◌∙◌, refl, inl, inr, codes, decimal, sum_by, digest_text, task_text}
+use Rattle.fb_report.proofs.Words.{back_grammar, AreNames, IsLine, is_row}
 use Rattle.fb_report.proofs.Fields.{in_row}
 use Rattle.fb_report.proofs.PrintedForms.{number_is, word_is}
 use Rattle.fb_report.proofs.ShownForms.{digest_is}

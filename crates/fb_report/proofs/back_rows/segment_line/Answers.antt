@@ -1,11 +1,6 @@
-use Rattle.std.proofs.Common.{◌∷◌, ◌≡◌, ◌∙◌, refl, subst}
-use Rattle.std.specs.Prelude.{codes}
-use Rattle.fb_report.specs.Back.{digest_text, segment_fields}
-use Rattle.fb_report.specs.Grammar.{are_bytes, back_grammar}
-use Rattle.fb_report.specs.Printed.{AreNames, AreOneOf, IsField, IsLine, is_row}
-use Rattle.fb_report.proofs.Fields.{in_row}
-use Rattle.fb_report.proofs.ShownForms.{digest_is}
-use Rattle.fb_report.proofs.PrintedRows.{ended_as}
+use Rattle.fb_report.proofs.Words.{◌∷◌, ◌≡◌, ◌∙◌, refl, subst, codes, digest_text, segment_fields, are_bytes, back_grammar, AreNames}
+use Rattle.fb_report.proofs.Words.{AreOneOf, IsField, IsLine, is_row}
+use Rattle.fb_report.proofs.{Fields.in_row, ShownForms.digest_is, PrintedRows.ended_as}
 use Rattle.fb_report.proofs.back_rows.segment_line.Goals as goal
 
 pub returns-clause-form : goal.returns-clause-form

@@ -1,10 +1,5 @@
-use Rattle.std.proofs.Common.{refl}
-use Rattle.std.specs.Prelude.{codes}
-use Rattle.fb_report.specs.Back.{task_fields}
-use Rattle.fb_report.specs.Grammar.{back_grammar}
-use Rattle.fb_report.specs.Printed.{AreNames, IsLine, is_row}
-use Rattle.fb_report.proofs.Fields.{in_row}
-use Rattle.fb_report.proofs.PrintedRows.{ended_as}
+use Rattle.fb_report.proofs.Words.{refl, codes, task_fields, back_grammar, AreNames, IsLine, is_row}
+use Rattle.fb_report.proofs.{Fields.in_row, PrintedRows.ended_as}
 use Rattle.fb_report.proofs.back_rows.task_line.Goals as goal
 
 pub returns-clause-form : goal.returns-clause-form

@@ -1,4 +1,4 @@
-use Rattle.std.proofs.Common.{◌∙◌, []}
+use Rattle.fb_report.proofs.Words.{◌∙◌, []}
 use Rattle.fb_report.proofs.Digits.{no_digits}
 use Rattle.fb_report.proofs.contents.dump.Goals as goal
 

@@ -1,4 +1,4 @@
-use Rattle.std.proofs.Common.{arith}
+use Rattle.fb_report.proofs.Words.{arith}
 use Rattle.fb_report.proofs.Ranges.{sum_more}
 use Rattle.fb_report.proofs.contents.sectors.Goals as goal
 

@@ -1,5 +1,4 @@
-use Rattle.std.proofs.Common.{◌≡◌, ◌≤◌, ◌*◌, ◌^◌, take}
-use Rattle.std.specs.List.{sum_by}
+use Rattle.fb_report.proofs.Words.{◌≡◌, ◌≤◌, ◌*◌, ◌^◌, take, sum_by}
 use Rattle.fb_report.proofs.contents.sectors.Given as goal
 
 abbrev pub invariant-loop-place : goal.invariant-loop-place

@@ -1,7 +1,4 @@
-use Rattle.std.proofs.Common.{[], ◌∷◌, refl}
-use Rattle.std.specs.Prelude.{codes}
-use Rattle.fb_report.specs.Grammar.{fore_grammar}
-use Rattle.fb_report.specs.Printed.{IsLine, is_first}
+use Rattle.fb_report.proofs.Words.{[], ◌∷◌, refl, codes, fore_grammar, IsLine, is_first}
 use Rattle.fb_report.proofs.PrintedRows.{ended_as, fore_first_is}
 use Rattle.fb_report.proofs.fore.fore_first.Goals as goal
 

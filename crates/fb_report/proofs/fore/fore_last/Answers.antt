@@ -1,7 +1,4 @@
-use Rattle.std.proofs.Common.{[], ◌∷◌, refl}
-use Rattle.std.specs.Prelude.{codes, decimal}
-use Rattle.fb_report.specs.Grammar.{fore_grammar}
-use Rattle.fb_report.specs.Printed.{IsLine, is_last}
+use Rattle.fb_report.proofs.Words.{[], ◌∷◌, refl, codes, decimal, fore_grammar, IsLine, is_last}
 use Rattle.fb_report.proofs.PrintedRows.{ended_as, fore_last_is}
 use Rattle.fb_report.proofs.fore.fore_last.Goals as goal
 

@@ -1,11 +1,6 @@
-use Rattle.std.proofs.Common.{◌≡◌, ◌<◌, [], ◌∷◌, ◌++◌, refl, subst, ◌∙◌}
-use Rattle.std.specs.Prelude.{codes}
-use Rattle.fb_report.specs.Lines.{name_text}
-use Rattle.fb_report.specs.Fore.{row_bytes, row_fields}
-use Rattle.fb_report.specs.Grammar.{are_bytes, fore_grammar, is_one_of, numbers}
-use Rattle.fb_report.specs.Printed.{AreFields, IsField, IsLine, ReadsSectors, is_row}
-use Rattle.fb_report.proofs.Fields.{in_row}
-use Rattle.fb_report.proofs.PrintedRows.{ended_as, fore_row_is, found_is}
+use Rattle.fb_report.proofs.Words.{◌≡◌, ◌<◌, [], ◌∷◌, ◌++◌, refl, subst, ◌∙◌, codes, name_text, row_bytes, row_fields, are_bytes}
+use Rattle.fb_report.proofs.Words.{fore_grammar, is_one_of, numbers, AreFields, IsField, IsLine, ReadsSectors, is_row}
+use Rattle.fb_report.proofs.{Fields.in_row, PrintedRows.ended_as, PrintedRows.fore_row_is, PrintedRows.found_is}
 use Rattle.fb_report.proofs.fore.fore_line.Goals as goal
 
 pub returns-clause-form : goal.returns-clause-form

@@ -1,10 +1,6 @@
-use Rattle.std.proofs.Common.{ap, sym, ◌∙◌, arith, Some, length, ◌+◌, ◌-◌}
-use Rattle.fb_report.specs.Fore.{fore_last}
-use Rattle.fb_report.specs.Grammar.{fore_grammar}
-use Rattle.fb_report.specs.Printed.{ReadsSectors}
-use Rattle.fb_report.proofs.Places.{at_first, at_row, at_last}
-use Rattle.fb_report.proofs.Ranges.{all_get}
-use Rattle.fb_report.proofs.Lines.{line_first, line_row, line_last, fore_are}
+use Rattle.fb_report.proofs.Words.{ap, sym, ◌∙◌, arith, Some, length, ◌+◌, ◌-◌, fore_last, fore_grammar, ReadsSectors}
+use Rattle.fb_report.proofs.{Places.at_first, Places.at_row, Places.at_last, Ranges.all_get, Lines.line_first, Lines.line_row}
+use Rattle.fb_report.proofs.{Lines.line_last, Lines.fore_are}
 use Rattle.fb_report.proofs.fore.fore_piece.Goals as goal
 
 pub returns-in_ok-fore_first-clause-value : goal.returns-in_ok-fore_first-clause-value

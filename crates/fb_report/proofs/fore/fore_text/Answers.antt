@@ -1,8 +1,5 @@
-use Rattle.std.proofs.Common.{arith, ap, length, ◌∙◌, ◌++◌, ◌+◌}
-use Rattle.fb_report.specs.Grammar.{fore_grammar}
-use Rattle.fb_report.specs.Printed.{IsLine, is_in_place}
+use Rattle.fb_report.proofs.Words.{arith, ap, length, ◌∙◌, ◌++◌, ◌+◌, fore_grammar, IsLine, is_in_place, fore_lines}
 use Rattle.fb_report.proofs.Places.{one_place_more, all_in_place}
-use Rattle.fb_report.specs.Fore.{fore_lines}
 use Rattle.fb_report.proofs.Lines.{length_lines, text_more, text_whole, fore_are}
 use Rattle.fb_report.proofs.fore.fore_text.Goals as goal
 

@@ -1,5 +1,4 @@
-use Rattle.std.proofs.Common.{◌∙◌, ◌+◌, sym, arith, get_or, drop}
-use Rattle.std.proofs.lemmas.List.{at_drop_more}
+use Rattle.fb_report.proofs.Words.{◌∙◌, ◌+◌, sym, arith, get_or, drop, at_drop_more}
 use Rattle.fb_report.proofs.Numbers.{stays_below, stays_below-not, stays_below-end}
 use Rattle.fb_report.proofs.forms.is_number.Goals as goal
 

@@ -1,5 +1,4 @@
-use Rattle.std.proofs.Common.{◌≡◌, ◌<◌, ◌^◌, drop}
-use Rattle.fb_report.specs.Grammar.{is_number}
+use Rattle.fb_report.proofs.Words.{◌≡◌, ◌<◌, ◌^◌, drop, is_number}
 use Rattle.fb_report.proofs.Numbers.{stays_below}
 use Rattle.fb_report.proofs.forms.is_number.Given as goal
 

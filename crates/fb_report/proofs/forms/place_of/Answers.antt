@@ -1,7 +1,4 @@
-use Rattle.std.proofs.Common.{sym, arith, length}
-use Rattle.std.specs.Prelude.{◌==◌}
-use Rattle.std.proofs.lemmas.List.Sums.{position_or_len_is}
-use Rattle.std.proofs.lemmas.Bool.Decides.{nat_tests}
+use Rattle.fb_report.proofs.Words.{sym, arith, length, ◌==◌, position_or_len_is, nat_tests}
 use Rattle.fb_report.proofs.forms.place_of.Goals as goal
 
 pub returns-then-byte-stop-clause-place : goal.returns-then-byte-stop-clause-place

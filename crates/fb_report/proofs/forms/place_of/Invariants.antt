@@ -1,5 +1,4 @@
-use Rattle.std.proofs.Common.{◌≡◌, ◌<◌, ℕ, get_or, false}
-use Rattle.std.specs.Prelude.{◌==◌}
+use Rattle.fb_report.proofs.Words.{◌≡◌, ◌<◌, ℕ, get_or, false, ◌==◌}
 use Rattle.fb_report.proofs.forms.place_of.Given as goal
 
 abbrev pub invariant-loop-place : goal.invariant-loop-place

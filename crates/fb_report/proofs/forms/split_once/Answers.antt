@@ -1,4 +1,4 @@
-use Rattle.std.specs.Prelude.{◌==◌}
+use Rattle.fb_report.proofs.Words.{◌==◌}
 use Rattle.fb_report.proofs.Cuts.{cut_at, cut_nowhere}
 use Rattle.fb_report.proofs.forms.split_once.Goals as goal
 

@@ -1,4 +1,4 @@
-use Rattle.std.proofs.Common.{ap, sym, ◌∙◌, ◌++◌, [], ◌∷◌, take, append_assoc}
+use Rattle.fb_report.proofs.Words.{ap, sym, ◌∙◌, ◌++◌, [], ◌∷◌, take, append_assoc}
 use Rattle.fb_report.proofs.Ranges.{one_more}
 use Rattle.fb_report.proofs.line.push_text.Goals as goal
 

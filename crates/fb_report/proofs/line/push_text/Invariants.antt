@@ -1,4 +1,4 @@
-use Rattle.std.proofs.Common.{◌≡◌, ◌++◌, take}
+use Rattle.fb_report.proofs.Words.{◌≡◌, ◌++◌, take}
 use Rattle.fb_report.proofs.line.push_text.Given as goal
 
 abbrev pub invariant-loop-i : goal.invariant-loop-i

@@ -1,7 +1,4 @@
-use Rattle.std.proofs.Common.{◌∙◌, ap}
-use Rattle.std.specs.Prelude.{◌==◌}
-use Rattle.std.specs.List.{slice_split}
-use Rattle.fb_report.specs.Grammar.{ended_with}
+use Rattle.fb_report.proofs.Words.{◌∙◌, ap, ◌==◌, slice_split, ended_with}
 use Rattle.fb_report.proofs.Behind.{texts, some_part, ended_early, names_fault}
 use Rattle.fb_report.proofs.reading.end.Goals as goal
 

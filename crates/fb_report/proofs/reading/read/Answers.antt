@@ -1,9 +1,5 @@
-use Rattle.std.proofs.Common.{◌≡◌, ◌∙◌, sym, ap, subst, true, false, Result, List, ℕ}
-use Rattle.std.specs.Prelude.{◌==◌}
-use Rattle.std.specs.List.{slice_split}
-use Rattle.fb_report.specs.Forms.{grammar_of}
-use Rattle.fb_report.specs.Grammar.{lines_behind, may_follow, may_end}
-use Rattle.fb_report.specs.Reading.{AnswersReport}
+use Rattle.fb_report.proofs.Words.{◌≡◌, ◌∙◌, sym, ap, subst, true, false, Result, List, ℕ, ◌==◌, slice_split, grammar_of, lines_behind}
+use Rattle.fb_report.proofs.Words.{may_follow, may_end, AnswersReport}
 use Rattle.fb_report.proofs.Behind.{texts, some_part, row_read, end_read, fault_read, rest_read, names_fault, tested, texts_more}
 use Rattle.fb_report.proofs.reading.read.Goals as goal
 

@@ -1,8 +1,4 @@
-use Rattle.std.proofs.Common.{◌≡◌, length, map}
-use Rattle.std.specs.Prelude.{◌==◌}
-use Rattle.std.specs.List.{slice_split}
-use Rattle.fb_report.specs.Forms.{grammar_of}
-use Rattle.fb_report.specs.Grammar.{lines_behind, report_of}
+use Rattle.fb_report.proofs.Words.{◌≡◌, length, map, ◌==◌, slice_split, grammar_of, lines_behind, report_of}
 use Rattle.fb_report.proofs.reading.read.Given as goal
 
 abbrev pub invariant-loop-line : goal.invariant-loop-line

@@ -1,4 +1,4 @@
-use Rattle.fb_report.specs.Grammar.{back_grammar}
+use Rattle.fb_report.proofs.Words.{back_grammar}
 use Rattle.fb_report.proofs.Whole.{whole_text}
 use Rattle.fb_report.proofs.reading.read_back.Goals as goal
 

@@ -1,4 +1,4 @@
-use Rattle.fb_report.specs.Grammar.{fore_grammar}
+use Rattle.fb_report.proofs.Words.{fore_grammar}
 use Rattle.fb_report.proofs.Whole.{whole_text}
 use Rattle.fb_report.proofs.reading.read_fore.Goals as goal
 

@@ -1,5 +1,4 @@
-use Rattle.std.proofs.Common.{ap, subst, arith}
-use Rattle.fb_report.specs.Shown.{run_bytes}
+use Rattle.fb_report.proofs.Words.{ap, subst, arith, run_bytes}
 use Rattle.fb_report.proofs.Ranges.{taken}
 use Rattle.fb_report.proofs.sectors.pour.Goals as goal
 

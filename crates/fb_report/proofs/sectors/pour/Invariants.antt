@@ -1,5 +1,4 @@
-use Rattle.std.proofs.Common.{◌≡◌, ◌++◌, ℕ, List, length, take}
-use Rattle.fb_report.specs.Shown.{contents_bytes}
+use Rattle.fb_report.proofs.Words.{◌≡◌, ◌++◌, ℕ, List, length, take, contents_bytes}
 use Rattle.fb_report.proofs.sectors.pour.Given as goal
 
 abbrev pub invariant-loop-place : goal.invariant-loop-place

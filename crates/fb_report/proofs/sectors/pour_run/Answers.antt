@@ -1,5 +1,4 @@
-use Rattle.std.proofs.Common.{ℕ, ◌+◌, ◌∙◌, ap, subst, arith, length}
-use Rattle.fb_store.specs.Fill.{sector_bytes}
+use Rattle.fb_report.proofs.Words.{ℕ, ◌+◌, ◌∙◌, ap, subst, arith, length, sector_bytes}
 use Rattle.fb_report.proofs.Ranges.{counted}
 use Rattle.fb_report.proofs.sectors.pour_run.Goals as goal
 

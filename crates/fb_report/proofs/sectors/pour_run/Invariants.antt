@@ -1,6 +1,4 @@
-use Rattle.std.proofs.Common.{◌≡◌, ◌+◌, ◌++◌, ℕ, List, length}
-use Rattle.std.specs.List.{flat_map, range_with_len}
-use Rattle.fb_store.specs.Fill.{sector_bytes}
+use Rattle.fb_report.proofs.Words.{◌≡◌, ◌+◌, ◌++◌, ℕ, List, length, flat_map, range_with_len, sector_bytes}
 use Rattle.fb_report.proofs.sectors.pour_run.Given as goal
 
 abbrev pub invariant-loop-i : goal.invariant-loop-i

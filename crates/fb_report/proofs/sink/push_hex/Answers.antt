@@ -1,6 +1,4 @@
-use Rattle.std.proofs.Common.{refl, sym, ap, ◌∙◌, ◌++◌, arith, append-nil}
-use Rattle.std.proofs.lemmas.List.{drop_all}
-use Rattle.hex.specs.Hex.{encode_lower}
+use Rattle.fb_report.proofs.Words.{refl, sym, ap, ◌∙◌, ◌++◌, arith, append-nil, drop_all, encode_lower}
 use Rattle.fb_report.proofs.Digits.{digits_more, no_digits}
 use Rattle.fb_report.proofs.sink.push_hex.Goals as goal
 

@@ -1,5 +1,4 @@
-use Rattle.std.proofs.Common.{◌≡◌, ◌++◌, drop}
-use Rattle.hex.specs.Hex.{encode_lower}
+use Rattle.fb_report.proofs.Words.{◌≡◌, ◌++◌, drop, encode_lower}
 use Rattle.fb_report.proofs.sink.push_hex.Given as goal
 
 abbrev pub invariant-loop-byte : goal.invariant-loop-byte

@@ -1,5 +1,4 @@
-use Rattle.std.proofs.Common.{ap, arith, length}
-use Rattle.fb_report.specs.Summary.{gap_in}
+use Rattle.fb_report.proofs.Words.{ap, arith, length, gap_in}
 use Rattle.fb_report.proofs.Sums.{found_at, nothing_at, none_left, no_gap}
 use Rattle.fb_report.proofs.summary.gaps.Goals.{in-Gap, in_default}
 use Rattle.fb_report.proofs.summary.gaps.Goals as goal

@@ -1,6 +1,4 @@
-use Rattle.std.proofs.Common.{◌≡◌, ◌≤◌, ◌+◌, drop, length}
-use Rattle.std.specs.List.{filter_map}
-use Rattle.fb_report.specs.Summary.{gap_in}
+use Rattle.fb_report.proofs.Words.{◌≡◌, ◌≤◌, ◌+◌, drop, length, filter_map, gap_in}
 use Rattle.fb_report.proofs.summary.gaps.Given as goal
 
 abbrev pub invariant-loop-i : goal.invariant-loop-i

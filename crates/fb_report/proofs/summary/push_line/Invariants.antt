@@ -1,5 +1,4 @@
-use Rattle.std.proofs.Common.{◌≡◌, map, drop, decimal}
-use Rattle.fb_report.specs.Lines.{with_fields}
+use Rattle.fb_report.proofs.Words.{◌≡◌, map, drop, decimal, with_fields}
 use Rattle.fb_report.proofs.summary.push_line.Given as goal
 
 abbrev pub invariant-loop-figure : goal.invariant-loop-figure

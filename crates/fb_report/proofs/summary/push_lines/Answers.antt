@@ -1,7 +1,5 @@
-use Rattle.std.proofs.Common.{ap, ◌∙◌, ◌++◌, ◌-◌, [], ◌∷◌, length, codes, decimal}
-use Rattle.std.specs.List.{count_by, filter_map, sum_by}
-use Rattle.fb_report.specs.Lines.{line_of}
-use Rattle.fb_report.specs.Summary.{delivery_in, gap_in, last_finish, summary_lines, task_in}
+use Rattle.fb_report.proofs.Words.{ap, ◌∙◌, ◌++◌, ◌-◌, [], ◌∷◌, length, codes, decimal, count_by, filter_map, sum_by, line_of, delivery_in}
+use Rattle.fb_report.proofs.Words.{gap_in, last_finish, summary_lines, task_in}
 use Rattle.fb_report.proofs.Sums.{ten_lines}
 use Rattle.fb_report.proofs.summary.push_lines.Goals as goal
 

@@ -1,4 +1,4 @@
-use Rattle.std.proofs.Common.{arith, refl, ◌∙◌}
+use Rattle.fb_maker.proofs.Words.{arith, refl, ◌∙◌}
 use Rattle.fb_maker.proofs.Drawing.{none_drawn}
 use Rattle.fb_maker.proofs.maker.Maker.new.Goals as goal
 

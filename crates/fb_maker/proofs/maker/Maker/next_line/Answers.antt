@@ -1,4 +1,4 @@
-use Rattle.std.proofs.Common.{arith, ap}
+use Rattle.fb_maker.proofs.Words.{arith, ap}
 use Rattle.fb_maker.specs.Making.{Making}
 use Rattle.fb_maker.proofs.Drawing.{arrival_of}
 use Rattle.fb_maker.proofs.maker.Maker.next_line.Goals as goal

@@ -1,6 +1,4 @@
-use Rattle.std.proofs.Common.{◌∙◌, sym, ap}
-use Rattle.std.specs.Str.{bytes_eq}
-use Rattle.fb_report.specs.Forms.{fits}
+use Rattle.fb_report.proofs.Words.{◌∙◌, sym, ap, bytes_eq, fits}
 use Rattle.fb_report.proofs.Rows.{list_any-map}
 use Rattle.fb_report.proofs.forms.Form.fits.Goals as goal
 

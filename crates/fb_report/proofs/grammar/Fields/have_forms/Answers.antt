@@ -1,8 +1,5 @@
-use Rattle.std.proofs.Common.{◌∙◌, sym, ap, map, drop}
-use Rattle.fb_report.specs.Forms.{fits}
-use Rattle.fb_report.specs.Grammar.{have_forms}
-use Rattle.fb_report.proofs.Cuts.{listed_left}
-use Rattle.fb_report.proofs.Rows.{too_few}
+use Rattle.fb_report.proofs.Words.{◌∙◌, sym, ap, map, drop, fits, have_forms}
+use Rattle.fb_report.proofs.{Cuts.listed_left, Rows.too_few}
 use Rattle.fb_report.proofs.grammar.Fields.have_forms.Goals as goal
 
 pub returns-in_default : goal.returns-in_default

@@ -1,6 +1,4 @@
-use Rattle.std.proofs.Common.{◌≡◌, drop, map}
-use Rattle.fb_report.specs.Forms.{fits, listed}
-use Rattle.fb_report.specs.Grammar.{have_forms}
+use Rattle.fb_report.proofs.Words.{◌≡◌, drop, map, fits, listed, have_forms}
 use Rattle.fb_report.proofs.Cuts.{listed_left}
 use Rattle.fb_report.proofs.grammar.Fields.have_forms.Given as goal
 

@@ -1,5 +1,4 @@
-use Rattle.std.proofs.Common.{◌∙◌, ◌<◌, arith, length}
-use Rattle.std.proofs.lemmas.Bool.Decides.{nat_tests}
+use Rattle.fb_report.proofs.Words.{◌∙◌, ◌<◌, arith, length, nat_tests}
 use Rattle.fb_report.proofs.Rows.{row_of_table}
 use Rattle.fb_report.proofs.grammar.Table.may_follow.Goals as goal
 

@@ -1,5 +1,4 @@
-use Rattle.std.specs.Prelude.{decimal}
-use Rattle.std.proofs.lemmas.Result.{on_ok_weaker}
+use Rattle.fb_report.proofs.Words.{decimal, on_ok_weaker}
 use Rattle.fb_report.proofs.PrintedForms.{track_is}
 use Rattle.fb_report.proofs.line.Line.track.Goals as goal
 

@@ -1,5 +1,4 @@
-use Rattle.std.proofs.Common.{sym, ap, ◌∙◌, ◌++◌}
-use Rattle.hex.specs.Hex.{encode_lower}
+use Rattle.fb_report.proofs.Words.{sym, ap, ◌∙◌, ◌++◌, encode_lower}
 use Rattle.fb_report.proofs.Digits.{lower-append}
 use Rattle.fb_report.proofs.sink.HexDumpSink.take.Goals as goal
 

@@ -1,5 +1,4 @@
-use Rattle.std.proofs.Common.{ap, arith, length}
-use Rattle.fb_report.specs.Summary.{delivery_in}
+use Rattle.fb_report.proofs.Words.{ap, arith, length, delivery_in}
 use Rattle.fb_report.proofs.Sums.{found_at, nothing_at, none_left, goes_on, stays, ends, no_delivery}
 use Rattle.fb_report.proofs.summary.Delivered.of.Goals.{in-Got, in_default}
 use Rattle.fb_report.proofs.summary.Delivered.of.Goals as goal

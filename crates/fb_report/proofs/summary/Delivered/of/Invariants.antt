@@ -1,6 +1,4 @@
-use Rattle.std.proofs.Common.{◌≡◌, ◌≤◌, ◌+◌, ◌*◌, ◌^◌, drop, length}
-use Rattle.std.specs.List.{filter_map, fold, sum_by}
-use Rattle.fb_report.specs.Summary.{delivery_in}
+use Rattle.fb_report.proofs.Words.{◌≡◌, ◌≤◌, ◌+◌, ◌*◌, ◌^◌, drop, length, filter_map, fold, sum_by, delivery_in}
 use Rattle.fb_report.proofs.summary.Delivered.of.Given as goal
 
 abbrev pub invariant-loop-i : goal.invariant-loop-i

@@ -1,7 +1,5 @@
-use Rattle.std.proofs.Common.{arith, refl, ap, ◌+◌, map, ◌∙◌}
-use Rattle.std.proofs.lemmas.List.{drop_all}
-use Rattle.fb_report.proofs.Ranges.{drop_got}
-use Rattle.fb_report.proofs.Sums.{goes_on, ends, greater}
+use Rattle.fb_report.proofs.Words.{arith, refl, ap, ◌+◌, map, ◌∙◌, drop_all}
+use Rattle.fb_report.proofs.{Ranges.drop_got, Sums.goes_on, Sums.ends, Sums.greater}
 use Rattle.fb_report.proofs.summary.Served.of.Goals as goal
 
 pub loop-i-preserved : goal.loop-i-preserved

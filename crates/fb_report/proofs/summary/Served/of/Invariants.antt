@@ -1,5 +1,4 @@
-use Rattle.std.proofs.Common.{◌≡◌, ◌≤◌, ◌+◌, ◌-◌, ◌*◌, ◌^◌, max, map, drop}
-use Rattle.std.specs.List.{fold, sum_by}
+use Rattle.fb_report.proofs.Words.{◌≡◌, ◌≤◌, ◌+◌, ◌-◌, ◌*◌, ◌^◌, max, map, drop, fold, sum_by}
 use Rattle.fb_report.proofs.summary.Served.of.Given as goal
 
 abbrev pub invariant-loop-i : goal.invariant-loop-i

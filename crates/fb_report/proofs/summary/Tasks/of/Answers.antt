@@ -1,5 +1,4 @@
-use Rattle.std.proofs.Common.{ap, arith, length, ◌+◌, ◌∙◌}
-use Rattle.fb_report.specs.Summary.{task_in}
+use Rattle.fb_report.proofs.Words.{ap, arith, length, ◌+◌, ◌∙◌, task_in}
 use Rattle.fb_report.proofs.Sums.{found_at, nothing_at, none_left, goes_on, stays, ends, no_task}
 use Rattle.fb_report.proofs.summary.Tasks.of.Goals.{in-Task, in_default}
 use Rattle.fb_report.proofs.summary.Tasks.of.Goals as goal

@@ -1,6 +1,4 @@
-use Rattle.std.proofs.Common.{◌≡◌, ◌≤◌, ◌+◌, cond, drop, length}
-use Rattle.std.specs.List.{count_by, filter_map, fold}
-use Rattle.fb_report.specs.Summary.{task_in}
+use Rattle.fb_report.proofs.Words.{◌≡◌, ◌≤◌, ◌+◌, cond, drop, length, count_by, filter_map, fold, task_in}
 use Rattle.fb_report.proofs.summary.Tasks.of.Given as goal
 
 abbrev pub invariant-loop-i : goal.invariant-loop-i
