@@ -1,27 +1,10 @@
 -- One more row keeps all that holds of the rows.
-use Rattle.std.proofs.Common.{◌≡◌, ℕ, zero, suc, ◌+◌, ◌*◌, ◌^◌, ◌≤◌, List, [], ◌∷◌, ◌++◌, Bool, true, false, not, Some, slice_get, take, drop, map, length, refl, sym, ap, ◌∙◌, subst, arith, if◌then◌else◌}
-use Rattle.std.specs.Prelude.{◌==◌, ◌&&◌, filter}
-use Rattle.std.specs.List.{AllByRecursion, sum_by}
-use Rattle.std.proofs.lemmas.Bool.Decides.{nat_tests}
-use Rattle.std.proofs.lemmas.List.Sums.{sum_by_push}
-use Rattle.fb_geometry.specs.Places.{places}
-use Rattle.fb_service.specs.declared.disk.Disk.{Disk}
-use Rattle.fb_wanted.specs.declared.block.Block.{Block}
-use Rattle.fb_wanted.specs.declared.block.Entry.{Entry}
-use Rattle.fb_wanted.specs.declared.block.State.TheVariants.{Wanted, Delivered}
-use Rattle.fb_wanted.specs.declared.block.Change.TheVariants.{Deliver}
-use Rattle.fb_wanted.specs.States.{after, is_block}
-use Rattle.fb_plan.specs.declared.catching.Catch.{Catch}
-use Rattle.fb_bgwrite.specs.declared.items.SpillItem.{SpillItem}
-use Rattle.fb_bgwrite.specs.declared.items.SpillItem.TheVariants.{Spill as SpillLine, Wrote as WroteLine}
-use Rattle.fb_bgwrite.specs.declared.items.SpillRow.{SpillRow}
-use Rattle.fb_bgwrite.specs.declared.puts.Put.{Put}
-use Rattle.fb_bgwrite.specs.declared.spilling.Spilling.{Spilling}
-use Rattle.fb_bgwrite.specs.Blocks.{PutBlock, blocks_from, is_written, put_blocks, sectors, writes}
-use Rattle.fb_bgwrite.specs.Spilled.{left_over, sectors_in, AreOnce, IsInTime}
-use Rattle.fb_bgwrite.specs.Standing.{entry_of, first_blocks, ArePutsOn, IsSpilling, IsToWrite, IsUpTo}
-use Rattle.fb_bgwrite.specs.Steps.{wrote_row}
-use Rattle.fb_bgwrite.specs.Text.{HasRange}
+use Rattle.fb_bgwrite.proofs.Words.{◌≡◌, ℕ, zero, suc, ◌+◌, ◌*◌, ◌^◌, ◌≤◌, List, [], ◌∷◌, ◌++◌, Bool, true, false, not, Some, slice_get}
+use Rattle.fb_bgwrite.proofs.Words.{take, drop, map, length, refl, sym, ap, ◌∙◌, subst, arith, if◌then◌else◌, ◌==◌, ◌&&◌, filter}
+use Rattle.fb_bgwrite.proofs.Words.{AllByRecursion, sum_by, nat_tests, sum_by_push, places, Disk, Block, Entry, Wanted, Delivered, Deliver}
+use Rattle.fb_bgwrite.proofs.Words.{after, is_block, Catch, SpillItem, SpillLine, WroteLine, SpillRow, Put, Spilling, PutBlock, blocks_from}
+use Rattle.fb_bgwrite.proofs.Words.{is_written, put_blocks, sectors, writes, left_over, sectors_in, AreOnce, IsInTime, entry_of}
+use Rattle.fb_bgwrite.proofs.Words.{first_blocks, ArePutsOn, IsSpilling, IsToWrite, IsUpTo, wrote_row, HasRange}
 use Rattle.fb_bgwrite.proofs.Admitting.{first_in_order, numbered_first}
 use Rattle.fb_bgwrite.proofs.Appending.{at_append}
 use Rattle.fb_bgwrite.proofs.Lists.{all_none, all_push, at_all, some_one}

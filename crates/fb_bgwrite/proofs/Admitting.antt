@@ -1,41 +1,17 @@
 -- The blocks of one more put are registered.
-use Rattle.std.proofs.Common.{Bor, None, ◌≡◌, ℕ, zero, suc, ◌+◌, ◌<◌, ◌≤◌, List, [], ◌∷◌, ◌++◌, true, false, Some, slice_get, take, drop, map, length, refl, sym, ap, ap₂, ◌∙◌, subst, arith, inl, inr, append_assoc, append-nil, if◌then◌else◌}
-use Rattle.std.specs.Prelude.{◌==◌}
-use Rattle.std.specs.List.{AllByRecursion, sum_by}
-use Rattle.std.proofs.lemmas.Bool.{cases_Bool}
-use Rattle.std.proofs.lemmas.Bool.Decides.{nat_tests}
-use Rattle.std.proofs.lemmas.List.{map-append, length-map}
-use Rattle.std.proofs.lemmas.List.Sums.{sum_by-cons}
-use Rattle.fb_units.specs.Rising.{IsRising}
-use Rattle.fb_geometry.specs.Shape.{Shape}
-use Rattle.fb_geometry.specs.Places.{places}
-use Rattle.fb_sectormap.specs.declared.cut.Cut.{Cut}
-use Rattle.fb_sectormap.specs.Cutting.{cutting}
-use Rattle.fb_service.specs.declared.disk.Disk.{Disk}
-use Rattle.fb_calls.proofs.Lists.{all_weaker}
-use Rattle.fb_wanted.specs.declared.block.Block.{Block}
-use Rattle.fb_wanted.specs.declared.block.Entry.{Entry}
-use Rattle.fb_wanted.specs.declared.block.State.TheVariants.{Wanted, Delivered}
-use Rattle.fb_wanted.specs.Numbering.{blocks_of, registered}
-use Rattle.fb_wanted.specs.States.{wanted_of}
-use Rattle.fb_model.specs.Segments.{numbered}
-use Rattle.fb_plan.specs.Ways.{AreOnDisk, FitsDisk}
-use Rattle.fb_bgwrite.specs.declared.items.SpillItem.{SpillItem}
-use Rattle.fb_bgwrite.specs.declared.items.SpillItem.TheVariants.{Spill as SpillLine, Wrote as WroteLine}
-use Rattle.fb_bgwrite.specs.declared.puts.Put.{Put}
-use Rattle.fb_bgwrite.specs.declared.spilling.Spilling.{Spilling}
-use Rattle.fb_bgwrite.specs.Ranges.{share, AreApart}
-use Rattle.fb_bgwrite.specs.Blocks as puts
-use Rattle.fb_bgwrite.specs.Blocks.{PutBlock, blocks_from, is_written, pending, put_blocks, writes}
-use Rattle.fb_bgwrite.specs.Choosing.{block_range, ArePending}
-use Rattle.fb_bgwrite.specs.Standing.{entry_of, first_blocks, wanted_entry, ArePutsOn, HasChosen, HasKept, IsSpilling, IsUpTo}
-use Rattle.fb_bgwrite.specs.Spilling.{IsBest, WritesNothing}
-use Rattle.fb_bgwrite.specs.Steps.{spill_rows}
-use Rattle.fb_bgwrite.specs.declared.choice.Spill.{Spill}
-use Rattle.fb_rows.specs.declared.back.GapRow.{GapRow}
+use Rattle.fb_bgwrite.proofs.Words.{Bor, None, ◌≡◌, ℕ, zero, suc, ◌+◌, ◌<◌, ◌≤◌, List, [], ◌∷◌, ◌++◌, true, false, Some, slice_get, take}
+use Rattle.fb_bgwrite.proofs.Words.{drop, map, length, refl, sym, ap, ap₂, ◌∙◌, subst, arith, inl, inr, append_assoc, append-nil}
+use Rattle.fb_bgwrite.proofs.Words.{if◌then◌else◌, ◌==◌, AllByRecursion, sum_by, cases_Bool, nat_tests, map-append, length-map, sum_by-cons}
+use Rattle.fb_bgwrite.proofs.Words.{IsRising, Shape, places, Cut, cutting, Disk, all_weaker, Block, Entry, Wanted, Delivered, blocks_of}
+use Rattle.fb_bgwrite.proofs.Words.{registered, wanted_of, numbered, AreOnDisk, FitsDisk, SpillItem, SpillLine, WroteLine, Put, Spilling}
+use Rattle.fb_bgwrite.proofs.Words.{share, AreApart, PutBlock, blocks_from, is_written, pending, put_blocks, writes, block_range}
+use Rattle.fb_bgwrite.proofs.Words.{ArePending, entry_of, first_blocks, wanted_entry, ArePutsOn, HasChosen, HasKept, IsSpilling, IsUpTo}
+use Rattle.fb_bgwrite.proofs.Words.{IsBest, WritesNothing, spill_rows, Spill, GapRow}
 use Rattle.fb_bgwrite.proofs.Lists.{at_all, none_any, some_one}
-use Rattle.fb_bgwrite.proofs.PutBlocks.{all_of_puts, blocks_more, blocks_split, few_blocks, its_blocks, none_registered, order_left, puts_in_order, AreInOrder, IsBefore, IsOfPuts}
+use Rattle.fb_bgwrite.proofs.PutBlocks.{all_of_puts, blocks_more, blocks_split, few_blocks, its_blocks, none_registered, order_left}
+use Rattle.fb_bgwrite.proofs.PutBlocks.{puts_in_order, AreInOrder, IsBefore, IsOfPuts}
 use Rattle.fb_bgwrite.proofs.Writing.{pending_is}
+use Rattle.fb_bgwrite.specs.Blocks as puts
 
 -- ---- registering
 

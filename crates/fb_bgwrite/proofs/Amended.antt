@@ -1,42 +1,16 @@
 -- The head can go the amended way, which has all legs outside free gaps.
-use Rattle.std.proofs.Common.{◌≡◌, ℕ, zero, suc, ◌+◌, ◌^◌, ◌*◌, ◌≤◌, List, [], ◌∷◌, ◌++◌, Bool, true, false, Option, Some, None, map, length, refl, sym, ap, ◌∙◌, subst, arith, inl, inr, append_assoc}
-use Rattle.std.specs.Prelude.{not}
-use Rattle.std.specs.List.{AllByRecursion, slice_index_or}
-use Rattle.std.proofs.lemmas.Bool.{cases_Bool, cases_lt}
-use Rattle.fb_units.specs.declared.types.Track.{Track}
+use Rattle.fb_bgwrite.proofs.Words.{◌≡◌, ℕ, zero, suc, ◌+◌, ◌^◌, ◌*◌, ◌≤◌, List, [], ◌∷◌, ◌++◌, Bool, true, false, Option, Some, None, map}
+use Rattle.fb_bgwrite.proofs.Words.{length, refl, sym, ap, ◌∙◌, subst, arith, inl, inr, append_assoc, not, AllByRecursion, slice_index_or}
+use Rattle.fb_bgwrite.proofs.Words.{cases_Bool, cases_lt, Track, same_track, Shape, IsTrackOf, places, IsSound, place_at, track_at, pos}
+use Rattle.fb_bgwrite.proofs.Words.{Disk, Block, ForeRow, Gap, Plan, Direct, Detour, GapRow, BackRow, GapLine, IdleLine, IsPlan, Leg, stay}
+use Rattle.fb_bgwrite.proofs.Words.{pass, way, gap_legs, passing, service_legs, timeline, led_to, all_append, Spill, SpillItem, amended}
+use Rattle.fb_bgwrite.proofs.Words.{amended_legs, kept, kept_legs, planned_legs, spill_legs, timeline_with, PutBlock, IsGap, RunGap}
+use Rattle.fb_bgwrite.proofs.Words.{delivers, gaps, AreGaps, IsGapOf, IsSpill, IsChosenIf, IsRight, rows_in, step_of, steps, lead_gap}
 use Rattle.fb_units.specs.declared.types.Place.{Place}
-use Rattle.fb_units.specs.Tracks.{same_track}
-use Rattle.fb_geometry.specs.Shape.{Shape, IsTrackOf}
-use Rattle.fb_geometry.specs.Places.{places}
-use Rattle.fb_geometry.specs.Sound.{IsSound}
-use Rattle.fb_sectormap.specs.Lookup.{place_at, track_at}
-use Rattle.fb_seek.specs.Positioning.{pos}
-use Rattle.fb_service.specs.declared.disk.Disk.{Disk}
 use Rattle.fb_service.specs.declared.passage.Passage.{Passage}
 use Rattle.fb_service.specs.Service.{passages}
-use Rattle.fb_wanted.specs.declared.block.Block.{Block}
-use Rattle.fb_rows.specs.declared.fore.ForeRow.{ForeRow}
-use Rattle.fb_rows.specs.declared.gap.Gap.{Gap}
-use Rattle.fb_rows.specs.declared.gap.Plan.{Plan}
-use Rattle.fb_rows.specs.declared.gap.Plan.TheVariants.{Direct, Detour}
-use Rattle.fb_rows.specs.declared.back.GapRow.{GapRow}
-use Rattle.fb_rows.specs.declared.back.BackRow.{BackRow}
-use Rattle.fb_rows.specs.declared.back.BackRow.TheVariants.{Gap as GapLine, Idle as IdleLine}
-use Rattle.fb_model.specs.Plans.{IsPlan}
 use Rattle.fb_model.specs.SoundRun.{IsSublist, none, left_out, taken}
-use Rattle.fb_model.specs.Timeline.{Leg, stay, pass, way, gap_legs, passing, service_legs, timeline, led_to}
-use Rattle.fb_model.proofs.Lists.{all_append}
-use Rattle.fb_bgwrite.specs.declared.choice.Spill.{Spill}
-use Rattle.fb_bgwrite.specs.declared.items.SpillItem.{SpillItem}
-use Rattle.fb_bgwrite.specs.AmendedWay.{amended, amended_legs, kept, kept_legs, planned_legs, spill_legs, timeline_with}
-use Rattle.fb_bgwrite.specs.Blocks.{PutBlock}
-use Rattle.fb_bgwrite.specs.Choosing.{IsGap}
-use Rattle.fb_bgwrite.specs.Gaps.{RunGap, delivers, gaps}
-use Rattle.fb_bgwrite.specs.Spilled.{AreGaps, IsGapOf}
-use Rattle.fb_bgwrite.specs.Spilling.{IsSpill}
-use Rattle.fb_bgwrite.specs.Steps.{IsChosenIf, IsRight, rows_in, step_of, steps}
 use Rattle.fb_detour.proofs.Within.{place_of}
-use Rattle.fb_model.proofs.Leads.{lead_gap}
 use Rattle.fb_bgwrite.proofs.Legs.{behind_gap, first_follows, gap_begins, lead_spill, led_forward, stay_follows, through, StaysOn}
 
 -- ---- one definition of a run's way

@@ -1,17 +1,8 @@
 -- One more put.
-use Rattle.std.proofs.Common.{◌≡◌, ℕ, zero, suc, ◌+◌, ◌-◌, ◌<◌, ◌≤◌, List, [], ◌∷◌, ◌++◌, true, false, Some, slice_get, length, inl, inr, refl, sym, ap, ◌∙◌, arith, if◌then◌else◌}
-use Rattle.std.specs.List.{AllByRecursion, list_any}
-use Rattle.std.specs.Ordering.{nat_cmp}
-use Rattle.std.specs.BTreeMap.{BTreeMap, get, is_at}
-use Rattle.std.proofs.lemmas.Bool.{cases_Bool}
-use Rattle.std.proofs.lemmas.Bool.Decides.{nat_tests}
-use Rattle.fb_units.specs.Rising.{IsRising}
-use Rattle.fb_model.proofs.Lists.{all_left, all_right}
-use Rattle.fb_bgwrite.specs.declared.range.SectorRange.{SectorRange}
-use Rattle.fb_bgwrite.specs.Ranges.{share, AreApart}
-use Rattle.fb_bgwrite.specs.Taken.{AreTaken}
-use Rattle.fb_bgwrite.proofs.Lists.{all_push, all_none, some_one}
-use Rattle.fb_bgwrite.proofs.TakenRanges.{share_either, is_shares}
+use Rattle.fb_bgwrite.proofs.Words.{◌≡◌, ℕ, zero, suc, ◌+◌, ◌-◌, ◌<◌, ◌≤◌, List, [], ◌∷◌, ◌++◌, true, false, Some, slice_get, length, inl}
+use Rattle.fb_bgwrite.proofs.Words.{inr, refl, sym, ap, ◌∙◌, arith, if◌then◌else◌, AllByRecursion, list_any, nat_cmp, BTreeMap, get, is_at}
+use Rattle.fb_bgwrite.proofs.Words.{cases_Bool, nat_tests, IsRising, all_left, all_right, SectorRange, share, AreApart, AreTaken}
+use Rattle.fb_bgwrite.proofs.{Lists.all_push, Lists.all_none, Lists.some_one, TakenRanges.share_either, TakenRanges.is_shares}
 
 pub rising_push : (xs : List ℕ) (x : ℕ) → IsRising xs → AllByRecursion (λ y. y ≤ x) xs → IsRising (xs ++ x ∷ [])
 rising_push [] x rising all = (tt, tt)

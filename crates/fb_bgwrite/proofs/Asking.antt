@@ -1,10 +1,6 @@
 -- The ranges that calls ask for.
-use Rattle.std.proofs.Common.{List}
-use Rattle.std.specs.List.{flat_map}
+use Rattle.fb_bgwrite.proofs.Words.{List, flat_map, terms_of, SectorRange, ranges_in}
 use Rattle.fb_calls.specs.declared.call.Call.{Call}
-use Rattle.fb_calls.specs.Allowed.{terms_of}
-use Rattle.fb_bgwrite.specs.declared.range.SectorRange.{SectorRange}
-use Rattle.fb_bgwrite.specs.Asked.{ranges_in}
 
 -- the ranges of some calls, whose tasks all calls open
 abbrev pub called : List Call → List Call → List SectorRange

@@ -1,8 +1,6 @@
 -- Bounds that are lowered for a cylinder, and for the 32 to which it belongs.
-use Rattle.std.proofs.Common.{◌≡◌, ℕ, ◌/◌, ◌==◌, ◌≤◌, List, true, Result, Ok, Err, OnOk, OnErr, get_or, min, inl, inr, subst, arith, if◌then◌else◌}
-use Rattle.std.proofs.lemmas.Bool.{cases_Bool}
-use Rattle.std.proofs.lemmas.Bool.Decides.{nat_tests}
-use Rattle.fb_bgwrite.specs.Shortest.{IsUnder}
+use Rattle.fb_bgwrite.proofs.Words.{◌≡◌, ℕ, ◌/◌, ◌==◌, ◌≤◌, List, true, Result, Ok, Err, OnOk, OnErr, get_or, min, inl, inr, subst, arith}
+use Rattle.fb_bgwrite.proofs.Words.{if◌then◌else◌, cases_Bool, nat_tests, IsUnder}
 
 abbrev pub IsLowered : List ℕ → List ℕ → ℕ → ℕ → Type 0
 IsLowered old new index sectors = (k : ℕ) → get_or new k 2049 ≡ (if index == k then min (get_or old k 2049) sectors else get_or old k 2049)

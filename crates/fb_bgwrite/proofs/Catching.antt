@@ -1,32 +1,13 @@
 -- What a stay catches are pending blocks, each once.
-use Rattle.std.proofs.Common.{Bor, ◌≡◌, ℕ, zero, suc, ◌≤◌, List, [], ◌∷◌, ◌++◌, Bool, false, ◌||◌, Some, slice_get, take, map, length, refl, sym, ap, ◌∙◌, subst, arith, inl, inr}
-use Rattle.std.specs.Prelude.{◌==◌, ◌&&◌, filter}
-use Rattle.std.specs.List.{AllByRecursion, fold, list_any}
-use Rattle.std.proofs.lemmas.Bool.{cases_Bool}
-use Rattle.std.proofs.lemmas.Bool.Decides.{nat_tests}
-use Rattle.std.proofs.lemmas.List.Folds.{list_any-append}
-use Rattle.fb_geometry.specs.Places.{places}
-use Rattle.fb_service.specs.declared.disk.Disk.{Disk}
-use Rattle.fb_calls.proofs.Lists.{all_weaker}
-use Rattle.fb_wanted.specs.States.{wanted_of}
-use Rattle.fb_rows.specs.declared.gap.Dwell.{Dwell}
-use Rattle.fb_model.specs.Plans.{catches}
-use Rattle.fb_plan.specs.declared.catching.Catch.{Catch}
-use Rattle.fb_plan.specs.Order.{is_before, place_in, catch_of, caught_of}
-use Rattle.fb_plan.proofs.Ends.{begin-from-le}
+use Rattle.fb_bgwrite.proofs.Words.{Bor, ◌≡◌, ℕ, zero, suc, ◌≤◌, List, [], ◌∷◌, ◌++◌, Bool, false, ◌||◌, Some, slice_get, take, map, length}
+use Rattle.fb_bgwrite.proofs.Words.{refl, sym, ap, ◌∙◌, subst, arith, inl, inr, ◌==◌, ◌&&◌, filter, AllByRecursion, fold, list_any}
+use Rattle.fb_bgwrite.proofs.Words.{cases_Bool, nat_tests, list_any-append, places, Disk, all_weaker, wanted_of, Dwell, catches, Catch}
+use Rattle.fb_bgwrite.proofs.Words.{is_before, place_in, catch_of, caught_of, begin-from-le, SpillItem, SpillLine, WroteLine, SpillRow, Put}
+use Rattle.fb_bgwrite.proofs.Words.{Spilling, PutBlock, is_written, writes, entry_of, first_blocks, ArePutsOn, HasKept, IsSpilling}
+use Rattle.fb_bgwrite.proofs.Words.{IsToWrite, wrote_row}
 use Rattle.fb_plan.proofs.Sorted.{put_front, put_behind, all_place}
-use Rattle.fb_bgwrite.specs.declared.items.SpillItem.{SpillItem}
-use Rattle.fb_bgwrite.specs.declared.items.SpillItem.TheVariants.{Spill as SpillLine, Wrote as WroteLine}
-use Rattle.fb_bgwrite.specs.declared.items.SpillRow.{SpillRow}
-use Rattle.fb_bgwrite.specs.declared.puts.Put.{Put}
-use Rattle.fb_bgwrite.specs.declared.spilling.Spilling.{Spilling}
-use Rattle.fb_bgwrite.specs.Blocks.{PutBlock, is_written, writes}
-use Rattle.fb_bgwrite.specs.Standing.{entry_of, first_blocks, ArePutsOn, HasKept, IsSpilling, IsToWrite}
-use Rattle.fb_bgwrite.specs.Steps.{wrote_row}
-use Rattle.fb_bgwrite.proofs.Admitting.{first_come, first_in_order}
-use Rattle.fb_bgwrite.proofs.Lists.{all_of, at_all, none_any}
-use Rattle.fb_bgwrite.proofs.PutBlocks.{AreInOrder, IsBefore}
-use Rattle.fb_bgwrite.proofs.Writing.{before_other}
+use Rattle.fb_bgwrite.proofs.{Admitting.first_come, Admitting.first_in_order, Lists.all_of, Lists.at_all, Lists.none_any}
+use Rattle.fb_bgwrite.proofs.{PutBlocks.AreInOrder, PutBlocks.IsBefore, Writing.before_other}
 
 -- ---- in the order of delivery
 

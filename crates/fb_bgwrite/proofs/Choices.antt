@@ -1,26 +1,12 @@
 -- The best so far beats what it beat before.
-use Rattle.std.proofs.Common.{◌≡◌, ℕ, ◌+◌, ◌<◌, ◌≤◌, List, [], ◌∷◌, Option, Some, None, inl, inr, refl, sym, ◌∙◌, subst, arith}
-use Rattle.std.specs.List.{sum_by}
-use Rattle.std.proofs.lemmas.Bool.{cases_Bool, cases_lt}
-use Rattle.fb_units.specs.declared.types.Track.{Track}
-use Rattle.fb_units.specs.Tracks.{same_track}
-use Rattle.fb_geometry.specs.Shape.{cylinders_of}
-use Rattle.fb_service.specs.declared.disk.Disk.{Disk}
-use Rattle.fb_wanted.specs.declared.block.Block.{Block}
-use Rattle.fb_wanted.specs.declared.block.Entry.{Entry}
-use Rattle.fb_wanted.specs.States.{on_track, wanted_of}
+use Rattle.fb_bgwrite.proofs.Words.{◌≡◌, ℕ, ◌+◌, ◌<◌, ◌≤◌, List, [], ◌∷◌, Option, Some, None, inl, inr, refl, sym, ◌∙◌, subst, arith}
+use Rattle.fb_bgwrite.proofs.Words.{sum_by, cases_Bool, cases_lt, Track, same_track, cylinders_of, Disk, Block, Entry, on_track, wanted_of}
+use Rattle.fb_bgwrite.proofs.Words.{Dwell, Gap, IsTrackBefore, AreOnDisk, stay_gain, longer_stay, stay-of, weight_of_stay, Spill, Valued}
+use Rattle.fb_bgwrite.proofs.Words.{ready, stay_of, value, IsNoLater, IsSpill, ArePending, Beats, BeatsOn, BeatsRange, IsBestIf, IsEnough}
+use Rattle.fb_bgwrite.proofs.Words.{IsLast, IsOnly, IsOver, IsShare, IsValuedIf, Keeps}
 use Rattle.fb_wanted.specs.Tracks.{wanted_weight}
-use Rattle.fb_rows.specs.declared.gap.Dwell.{Dwell}
-use Rattle.fb_rows.specs.declared.gap.Gap.{Gap}
-use Rattle.fb_model.specs.Plans.{IsTrackBefore}
-use Rattle.fb_plan.specs.Ways.{AreOnDisk}
-use Rattle.fb_detour.specs.Bounds.{stay, stay_gain}
-use Rattle.fb_detour.proofs.Ceilings.{longer_stay, stay-of, weight_of_stay}
-use Rattle.fb_bgwrite.specs.declared.choice.Spill.{Spill}
-use Rattle.fb_bgwrite.specs.declared.choice.Valued.{Valued}
-use Rattle.fb_bgwrite.specs.Spilling.{ready, stay_of, value, IsNoLater, IsSpill}
+use Rattle.fb_detour.specs.Bounds.{stay}
 use Rattle.fb_bgwrite.specs.declared.search.Part.{Part}
-use Rattle.fb_bgwrite.specs.Choosing.{ArePending, Beats, BeatsOn, BeatsRange, IsBestIf, IsEnough, IsLast, IsOnly, IsOver, IsShare, IsValuedIf, Keeps}
 use Rattle.fb_bgwrite.proofs.Values.{as_much_by_last, less_before_last, value_stay, AreLight}
 
 before_on : (s t u : Track) → IsTrackBefore s t → IsTrackBefore t u → IsTrackBefore s u

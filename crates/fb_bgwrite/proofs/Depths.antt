@@ -1,33 +1,17 @@
 -- Blocks that share no sector pass one slot each.
-use Rattle.std.proofs.Common.{◌≡◌, ℕ, zero, suc, ◌+◌, ◌-◌, ◌/◌, ◌<◌, ◌≤◌, List, [], ◌∷◌, Bool, true, false, map, inl, inr, refl, sym, arith}
-use Rattle.std.specs.Prelude.{◌==◌, nat_le, nat_lt}
-use Rattle.std.specs.List.{AllByRecursion, sum_by}
-use Rattle.std.proofs.lemmas.Bool.{cases_Bool, and_parts, leb-true, ltb-true}
-use Rattle.std.proofs.lemmas.Bool.Decides.{nat_tests}
-use Rattle.std.proofs.lemmas.List.Sums.{sum_by-cons}
+use Rattle.fb_bgwrite.proofs.Words.{◌≡◌, ℕ, zero, suc, ◌+◌, ◌-◌, ◌/◌, ◌<◌, ◌≤◌, List, [], ◌∷◌, Bool, true, false, map, inl, inr, refl, sym}
+use Rattle.fb_bgwrite.proofs.Words.{arith, ◌==◌, nat_le, nat_lt, AllByRecursion, sum_by, cases_Bool, and_parts, leb-true, ltb-true}
+use Rattle.fb_bgwrite.proofs.Words.{nat_tests, sum_by-cons, Track, same_track, slots_at, IsSound, HasOwnPlaces, pos, distance_of, Disk}
+use Rattle.fb_bgwrite.proofs.Words.{Entry, on_track, wanted_of, Gap, slots_within, Spill, share, AreApart, block_range, AreLeast}
+use Rattle.fb_bgwrite.proofs.Words.{ArePending, ready, value, IsSpill}
 use Rattle.std.proofs.lemmas.Nat.{le-div, mul-le}
 use Rattle.std.proofs.Math.Nat.{div-mul-le_self}
-use Rattle.fb_units.specs.declared.types.Track.{Track}
-use Rattle.fb_units.specs.Tracks.{same_track}
-use Rattle.fb_geometry.specs.Shape.{slots_at}
-use Rattle.fb_geometry.specs.Sound.{IsSound, HasOwnPlaces}
 use Rattle.fb_seek.specs.Mechanics.{Mechanics}
-use Rattle.fb_seek.specs.Positioning.{pos, distance_of}
 use Rattle.fb_seek.specs.Rising.{SeeksRise}
-use Rattle.fb_service.specs.declared.disk.Disk.{Disk}
-use Rattle.fb_wanted.specs.declared.block.Entry.{Entry}
 use Rattle.fb_wanted.specs.Depth.{depth_at, is_in, weight_on}
-use Rattle.fb_wanted.specs.States.{on_track, wanted_of}
-use Rattle.fb_rows.specs.declared.gap.Gap.{Gap}
-use Rattle.fb_detour.specs.Bounds.{slots_within}
 use Rattle.fb_detour.proofs.Packing.{div-rises, packing}
-use Rattle.fb_bgwrite.specs.declared.choice.Spill.{Spill}
 use Rattle.fb_bgwrite.specs.declared.search.Moves.{Moves}
-use Rattle.fb_bgwrite.specs.Ranges.{share, AreApart}
-use Rattle.fb_bgwrite.specs.Choosing.{block_range, AreLeast, ArePending}
-use Rattle.fb_bgwrite.specs.Spilling.{ready, value, IsSpill}
-use Rattle.fb_bgwrite.proofs.TakenRanges.{is_shares}
-use Rattle.fb_bgwrite.proofs.Values.{value_stay, AreLight}
+use Rattle.fb_bgwrite.proofs.{TakenRanges.is_shares, Values.value_stay, Values.AreLight}
 
 both_in : (a b : Entry) (lbn : ℕ) → is_in lbn a.block ≡ true → is_in lbn b.block ≡ true → share (block_range a.block) (block_range b.block) ≡ false → ⊥
 both_in a b lbn in_a in_b apart =

@@ -1,31 +1,13 @@
 -- Gap by gap.
-use Rattle.std.proofs.Common.{Bor, ◌≡◌, ℕ, zero, suc, ◌+◌, ◌*◌, ◌^◌, ◌≤◌, List, [], ◌∷◌, ◌++◌, true, false, Option, Some, None, drop, length, slice_get, not, refl, sym, ap, ap₂, ◌∙◌, subst, arith, inl, inr, append_assoc, append-nil}
-use Rattle.std.specs.List.{AllByRecursion, flat_map, sum_by}
-use Rattle.fb_geometry.specs.Sound.{IsSound}
-use Rattle.fb_geometry.specs.Places.{places}
-use Rattle.fb_service.specs.declared.disk.Disk.{Disk}
-use Rattle.fb_rows.specs.declared.back.GapRow.{GapRow}
-use Rattle.fb_rows.specs.declared.back.BackRow.{BackRow}
-use Rattle.fb_rows.specs.declared.back.BackRow.TheVariants.{Gap as GapLine}
-use Rattle.fb_bgwrite.specs.declared.choice.Spill.{Spill}
-use Rattle.fb_bgwrite.specs.declared.items.SpillItem.{SpillItem}
-use Rattle.fb_bgwrite.specs.declared.puts.Put.{Put}
-use Rattle.fb_bgwrite.specs.declared.puts.Puts.{Puts}
-use Rattle.fb_bgwrite.specs.declared.spilling.Spilling.{Spilling}
-use Rattle.fb_rows.specs.declared.run.Run.{Run}
+use Rattle.fb_bgwrite.proofs.Words.{Bor, ◌≡◌, ℕ, zero, suc, ◌+◌, ◌*◌, ◌^◌, ◌≤◌, List, [], ◌∷◌, ◌++◌, true, false, Option, Some, None, drop}
+use Rattle.fb_bgwrite.proofs.Words.{length, slice_get, not, refl, sym, ap, ap₂, ◌∙◌, subst, arith, inl, inr, append_assoc, append-nil}
+use Rattle.fb_bgwrite.proofs.Words.{AllByRecursion, flat_map, sum_by, IsSound, places, Disk, GapRow, BackRow, GapLine, Spill, SpillItem}
+use Rattle.fb_bgwrite.proofs.Words.{Put, Puts, Spilling, Run, timeline, IsPossible, left_over, AreGaps, IsInTime, IsSpillRun, ArePuts}
+use Rattle.fb_bgwrite.proofs.Words.{accepted, PutBlock, put_blocks, RunGap, delivers, gaps, HasNoFree, HasChosen, HasKept, ArePutsOn}
+use Rattle.fb_bgwrite.proofs.Words.{IsSpilling, Step, IsRight, rows_in, step_of, steps}
 use Rattle.fb_model.specs.PlainReplay.{first_track}
-use Rattle.fb_model.specs.Timeline.{timeline, IsPossible}
-use Rattle.fb_bgwrite.specs.Spilled.{left_over, AreGaps, IsInTime, IsSpillRun}
-use Rattle.fb_bgwrite.specs.Rules.{ArePuts}
-use Rattle.fb_bgwrite.specs.Verdict.{accepted}
-use Rattle.fb_bgwrite.specs.Blocks.{PutBlock, put_blocks}
-use Rattle.fb_bgwrite.specs.Gaps.{RunGap, delivers, gaps, HasNoFree}
-use Rattle.fb_bgwrite.specs.Standing.{HasChosen, HasKept, ArePutsOn, IsSpilling}
-use Rattle.fb_bgwrite.specs.Steps.{Step, IsRight, rows_in, step_of, steps}
-use Rattle.fb_bgwrite.proofs.Lists.{all_push, some_one}
-use Rattle.fb_bgwrite.proofs.Amended.{AreFit, all_fit, amended_leads, fit_earlier, kept_is, right_fits}
-use Rattle.fb_bgwrite.proofs.PutBlocks.{all_sectors}
-use Rattle.fb_bgwrite.proofs.Totals.{puts_on}
+use Rattle.fb_bgwrite.proofs.{Lists.all_push, Lists.some_one, Amended.AreFit, Amended.all_fit, Amended.amended_leads, Amended.fit_earlier}
+use Rattle.fb_bgwrite.proofs.{Amended.kept_is, Amended.right_fits, PutBlocks.all_sectors, Totals.puts_on}
 
 -- what was done in all gaps but the rest
 pub record HasGone (disk : Disk) (blocks : List PutBlock) (all rest : List RunGap) (items : List SpillItem) : Type 0 where

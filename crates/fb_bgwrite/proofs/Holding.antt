@@ -1,35 +1,14 @@
 -- What the reserve holds: no foreground write concerns it, and the rows that concern a sector are of one put.
-use Rattle.std.proofs.Common.{◌≡◌, ℕ, zero, suc, ◌+◌, ◌^◌, ◌<◌, List, [], ◌∷◌, ◌++◌, Bool, true, false, Option, Some, None, map, length, slice_get, refl, sym, ap, ◌∙◌, subst, arith, inl, inr}
-use Rattle.std.specs.Prelude.{◌==◌, filter, nat_lt}
-use Rattle.std.specs.List.{AllByRecursion, flat_map}
-use Rattle.std.proofs.lemmas.Bool.{cases_Bool, cases_lt, and_parts}
-use Rattle.std.proofs.lemmas.Bool.Decides.{nat_tests}
-use Rattle.fb_geometry.specs.Places.{places}
-use Rattle.fb_service.specs.declared.disk.Disk.{Disk}
+use Rattle.fb_bgwrite.proofs.Words.{◌≡◌, ℕ, zero, suc, ◌+◌, ◌^◌, ◌<◌, List, [], ◌∷◌, ◌++◌, Bool, true, false, Option, Some, None, map}
+use Rattle.fb_bgwrite.proofs.Words.{length, slice_get, refl, sym, ap, ◌∙◌, subst, arith, inl, inr, ◌==◌, filter, nat_lt, AllByRecursion}
+use Rattle.fb_bgwrite.proofs.Words.{flat_map, cases_Bool, cases_lt, and_parts, nat_tests, places, Disk, all_weaker, Block, ForeRow, Run}
+use Rattle.fb_bgwrite.proofs.Words.{all_append, SpillItem, SpillLine, WroteLine, WroteRow, Put, Puts, SectorRange, request_range, PutBlock}
+use Rattle.fb_bgwrite.proofs.Words.{put_blocks, writes, block_range, share, ArePuts, fore_ranges, IsInTime, IsOfPut, accepted}
 use Rattle.fb_store.specs.declared.content.Content.TheVariants.{Filled}
 use Rattle.fb_store.specs.Writes.{unwritten}
-use Rattle.fb_calls.proofs.Lists.{all_weaker}
-use Rattle.fb_wanted.specs.declared.block.Block.{Block}
-use Rattle.fb_rows.specs.declared.fore.ForeRow.{ForeRow}
-use Rattle.fb_rows.specs.declared.run.Run.{Run}
-use Rattle.fb_model.proofs.Lists.{all_append}
-use Rattle.fb_bgwrite.specs.declared.items.SpillItem.{SpillItem}
-use Rattle.fb_bgwrite.specs.declared.items.SpillItem.TheVariants.{Spill as SpillLine, Wrote as WroteLine}
-use Rattle.fb_bgwrite.specs.declared.items.WroteRow.{WroteRow}
-use Rattle.fb_bgwrite.specs.declared.puts.Put.{Put}
-use Rattle.fb_bgwrite.specs.declared.puts.Puts.{Puts}
-use Rattle.fb_bgwrite.specs.declared.range.SectorRange.{SectorRange}
-use Rattle.fb_bgwrite.specs.Asked.{request_range}
-use Rattle.fb_bgwrite.specs.Blocks.{PutBlock, put_blocks, writes}
-use Rattle.fb_bgwrite.specs.Choosing.{block_range}
 use Rattle.fb_bgwrite.specs.Held.{Fill, fills, fore_fills, held, held_by, is_in, is_told, later, latest, put_fills, wrote_range, HoldsPuts}
-use Rattle.fb_bgwrite.specs.Ranges.{share}
-use Rattle.fb_bgwrite.specs.Rules.{ArePuts}
-use Rattle.fb_bgwrite.specs.Spilled.{fore_ranges, IsInTime, IsOfPut}
-use Rattle.fb_bgwrite.specs.Verdict.{accepted}
-use Rattle.fb_bgwrite.proofs.Lists.{at_all, some_one}
-use Rattle.fb_bgwrite.proofs.PutBlocks.{puts_in_order, AreInOrder, IsBefore}
-use Rattle.fb_bgwrite.proofs.Totals.{in_no_other, puts_on}
+use Rattle.fb_bgwrite.proofs.{Lists.at_all, Lists.some_one, PutBlocks.puts_in_order, PutBlocks.AreInOrder, PutBlocks.IsBefore}
+use Rattle.fb_bgwrite.proofs.{Totals.in_no_other, Totals.puts_on}
 
 -- ---- the latest of fills
 

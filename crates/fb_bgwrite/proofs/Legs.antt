@@ -1,23 +1,9 @@
 -- Where legs lead the head.
-use Rattle.std.proofs.Common.{◌≡◌, ℕ, ◌+◌, ◌≤◌, List, [], ◌∷◌, ◌++◌, Bool, true, false, Some, None, refl, sym, ap, ◌∙◌, arith, inl, inr}
-use Rattle.std.specs.List.{AllByRecursion}
-use Rattle.std.proofs.lemmas.Bool.{cases_Bool}
-use Rattle.std.proofs.lemmas.Bool.Decides.{nat_tests}
-use Rattle.fb_units.specs.declared.types.Track.{Track}
-use Rattle.fb_units.specs.Tracks.{same_track}
-use Rattle.fb_geometry.specs.Shape.{IsTrackOf}
-use Rattle.fb_seek.specs.Positioning.{pos}
-use Rattle.fb_service.specs.declared.disk.Disk.{Disk}
+use Rattle.fb_bgwrite.proofs.Words.{◌≡◌, ℕ, ◌+◌, ◌≤◌, List, [], ◌∷◌, ◌++◌, Bool, true, false, Some, None, refl, sym, ap, ◌∙◌, arith, inl}
+use Rattle.fb_bgwrite.proofs.Words.{inr, AllByRecursion, cases_Bool, nat_tests, Track, same_track, IsTrackOf, pos, Disk, Gap, Plan, Direct}
+use Rattle.fb_bgwrite.proofs.Words.{Detour, IsPlan, Leg, stay, move, pass, way, arrival, gap_legs, can_follow, leaves_on, leaves_at, led_to}
+use Rattle.fb_bgwrite.proofs.Words.{Leads, lead_gap, lead_on, lead_stay, lead_to_target, lead_way, Spill, spill_legs, ready, IsSpill}
 use Rattle.fb_wanted.proofs.Kept.{same_one}
-use Rattle.fb_rows.specs.declared.gap.Gap.{Gap}
-use Rattle.fb_rows.specs.declared.gap.Plan.{Plan}
-use Rattle.fb_rows.specs.declared.gap.Plan.TheVariants.{Direct, Detour}
-use Rattle.fb_model.specs.Plans.{IsPlan}
-use Rattle.fb_model.specs.Timeline.{Leg, stay, move, pass, way, arrival, gap_legs, can_follow, leaves_on, leaves_at, led_to}
-use Rattle.fb_model.proofs.Leads.{Leads, lead_gap, lead_on, lead_stay, lead_to_target, lead_way}
-use Rattle.fb_bgwrite.specs.declared.choice.Spill.{Spill}
-use Rattle.fb_bgwrite.specs.AmendedWay.{spill_legs}
-use Rattle.fb_bgwrite.specs.Spilling.{ready, IsSpill}
 
 -- a spill leads from the source to the target, where the head is at the deadline
 pub lead_spill : (disk : Disk) (gap : Gap) (spill : Spill) → IsSpill disk gap spill → Leads disk gap.source gap.now (spill_legs disk gap spill) gap.target gap.deadline

@@ -1,31 +1,11 @@
 -- A block that is caught has no more sectors than all that are caught; so where each is longer than that, nothing is.
-use Rattle.std.proofs.Common.{◌≡◌, ℕ, zero, suc, ◌+◌, ◌*◌, ◌<◌, ◌≤◌, ◌⊎◌, List, [], ◌∷◌, true, ◌==◌, Option, Some, slice_get, get_or, min, inl, inr, refl, sym, ap, ◌∙◌, subst, arith}
-use Rattle.std.specs.List.{AllByRecursion, sum_by}
-use Rattle.std.proofs.lemmas.Bool.{cases_Bool, true≢false}
-use Rattle.std.proofs.lemmas.Bool.Decides.{nat_tests}
-use Rattle.std.proofs.lemmas.List.Sums.{sum_by-cons}
-use Rattle.fb_units.specs.declared.types.Track.{Track}
-use Rattle.fb_units.specs.Tracks.{same_track}
-use Rattle.fb_geometry.specs.Shape.{IsTrackOf}
-use Rattle.fb_geometry.specs.Sound.{IsSound}
-use Rattle.fb_service.specs.declared.disk.Disk.{Disk}
-use Rattle.fb_wanted.specs.declared.block.Change.TheVariants.{Deliver}
-use Rattle.fb_wanted.specs.declared.block.Entry.{Entry}
-use Rattle.fb_wanted.specs.States.{after, entry_after, is_wanted, on_track, wanted_of}
-use Rattle.fb_rows.specs.declared.gap.Dwell.{Dwell}
-use Rattle.fb_rows.specs.declared.gap.Gap.{Gap}
-use Rattle.fb_plan.specs.Ways.{AreOnDisk}
-use Rattle.fb_detour.specs.Bounds.{stay_gain}
-use Rattle.fb_detour.proofs.Ceilings.{stay-of}
-use Rattle.fb_bgwrite.specs.declared.choice.Spill.{Spill}
-use Rattle.fb_bgwrite.specs.declared.choice.Valued.{Valued}
-use Rattle.fb_bgwrite.specs.Choosing.{passes, ArePending, Beats, IsValuedIf}
-use Rattle.fb_bgwrite.specs.Shortest.{AreAtLeast, IsAtLeast, IsNoShorter}
-use Rattle.fb_bgwrite.specs.Spilling.{stay_of, value}
-use Rattle.fb_bgwrite.proofs.Lists.{all_of, at_all, some_one}
-use Rattle.fb_bgwrite.proofs.Values.{value_caught, value_stay, AreLight}
-use Rattle.fb_bgwrite.proofs.Amended.{track_on_disk}
-use Rattle.fb_bgwrite.proofs.Choices.{light_on, nothing_beaten}
+use Rattle.fb_bgwrite.proofs.Words.{◌≡◌, ℕ, zero, suc, ◌+◌, ◌*◌, ◌<◌, ◌≤◌, ◌⊎◌, List, [], ◌∷◌, true, ◌==◌, Option, Some, slice_get, get_or}
+use Rattle.fb_bgwrite.proofs.Words.{min, inl, inr, refl, sym, ap, ◌∙◌, subst, arith, AllByRecursion, sum_by, cases_Bool, true≢false}
+use Rattle.fb_bgwrite.proofs.Words.{nat_tests, sum_by-cons, Track, same_track, IsTrackOf, IsSound, Disk, Deliver, Entry, after, entry_after}
+use Rattle.fb_bgwrite.proofs.Words.{is_wanted, on_track, wanted_of, Dwell, Gap, AreOnDisk, stay_gain, stay-of, Spill, Valued, passes}
+use Rattle.fb_bgwrite.proofs.Words.{ArePending, Beats, IsValuedIf, AreAtLeast, IsAtLeast, IsNoShorter, stay_of, value}
+use Rattle.fb_bgwrite.proofs.{Lists.all_of, Lists.at_all, Lists.some_one, Values.value_caught, Values.value_stay, Values.AreLight}
+use Rattle.fb_bgwrite.proofs.{Amended.track_on_disk, Choices.light_on, Choices.nothing_beaten}
 
 -- one of the blocks is caught
 pub record HasCaught (disk : Disk) (dwell : Dwell) (entries : List Entry) : Type 0 where

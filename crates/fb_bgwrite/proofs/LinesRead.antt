@@ -1,32 +1,19 @@
 -- Reading a text goes on after its first line, and what was read obeys the rules.
-use Rattle.std.proofs.Common.{◌≡◌, ℕ, ◌+◌, ◌≤◌, List, [], ◌∷◌, ◌++◌, map, length, Option, None, sym, ap, ◌∙◌, subst, arith, Result, Ok, Err}
-use Rattle.std.specs.List.{AllByRecursion}
-use Rattle.std.proofs.lemmas.List.{map_push, length_push}
-use Rattle.std.proofs.lemmas.Bool.{and_parts, leb-true}
-use Rattle.std.specs.Prelude.{nat_le}
+use Rattle.fb_bgwrite.proofs.Words.{◌≡◌, ℕ, ◌+◌, ◌≤◌, List, [], ◌∷◌, ◌++◌, map, length, Option, None, sym, ap, ◌∙◌, subst, arith, Result}
+use Rattle.fb_bgwrite.proofs.Words.{Ok, Err, AllByRecursion, map_push, length_push, and_parts, leb-true, nat_le, fields_of, IsRising}
+use Rattle.fb_bgwrite.proofs.Words.{all_weaker, Put, Puts, SectorRange, AreApart, Accepted, Progress, Terms, at_end, fault_at, lines_from}
+use Rattle.fb_bgwrite.proofs.Words.{next_progress, next_read, range_of, reserve_or_none, progress, with_step, IsApart, IsNextPut}
+use Rattle.fb_bgwrite.proofs.Words.{IsNextReserve, IsReader, IsPutOf, ArePuts, HasTaken, IsKnown, accepted, Answers}
 use Rattle.fb_units.specs.Judging.{◌>>=◌, refused_as}
-use Rattle.fb_units.specs.Lines.{fields_of}
-use Rattle.fb_units.specs.Rising.{IsRising}
-use Rattle.fb_calls.proofs.Lists.{all_weaker}
 use Rattle.fb_bgwrite.specs.declared.fault.PutsFault.{PutsFault}
 use Rattle.fb_bgwrite.specs.declared.fault.PutsError.{PutsError}
 use Rattle.fb_bgwrite.specs.declared.fault.PutsError.TheVariants.{Fault, NoMemory}
-use Rattle.fb_bgwrite.specs.declared.puts.Put.{Put}
-use Rattle.fb_bgwrite.specs.declared.puts.Puts.{Puts}
-use Rattle.fb_bgwrite.specs.declared.range.SectorRange.{SectorRange}
 use Rattle.fb_bgwrite.specs.declared.reader.Reader.{Reader}
 use Rattle.fb_bgwrite.specs.declared.reader.Step.{Step}
 use Rattle.fb_bgwrite.specs.declared.reader.Step.TheVariants.{Blank, Reserve, Put as PutStep}
 use Rattle.fb_bgwrite.specs.declared.taken.Taken.{Taken}
 use Rattle.fb_bgwrite.specs.declared.taken.Taken.TheVariants.{Known, Unknown}
-use Rattle.fb_bgwrite.specs.Ranges.{AreApart}
-use Rattle.fb_bgwrite.specs.Reading.{Accepted, Progress, Terms, at_end, fault_at, lines_from, next_progress, next_read, range_of, reserve_or_none}
-use Rattle.fb_bgwrite.specs.Reader.{progress, with_step, IsApart, IsNextPut, IsNextReserve, IsReader}
-use Rattle.fb_bgwrite.specs.Rules.{IsPutOf, ArePuts}
-use Rattle.fb_bgwrite.specs.Taken.{HasTaken, IsKnown}
-use Rattle.fb_bgwrite.specs.Verdict.{accepted, Answers}
-use Rattle.fb_bgwrite.proofs.Lists.{all_push}
-use Rattle.fb_bgwrite.proofs.Appending.{apart_pop, rising_push}
+use Rattle.fb_bgwrite.proofs.{Lists.all_push, Appending.apart_pop, Appending.rising_push}
 
 module _ (terms : Terms) (number : ℕ) (so_far : Progress) (lines : List (List ℕ)) (whole : Result Accepted PutsFault) where
   -- after one more line, the rest of the text gives the same result

@@ -1,8 +1,7 @@
 -- Elements of lists, by their index.
-use Rattle.std.proofs.Common.{◌≡◌, ◌⊎◌, ℕ, zero, suc, List, [], ◌∷◌, ◌++◌, length, Bool, true, false, Option, Some, None, slice_get, inl, inr, refl, sym, subst, ap, ◌∙◌, arith, rules}
-use Rattle.std.specs.List.{AllByRecursion, list_any}
+use Rattle.fb_bgwrite.proofs.Words.{◌≡◌, ◌⊎◌, ℕ, zero, suc, List, [], ◌∷◌, ◌++◌, length, Bool, true, false, Option, Some, None, slice_get}
+use Rattle.fb_bgwrite.proofs.Words.{inl, inr, refl, sym, subst, ap, ◌∙◌, arith, rules, AllByRecursion, list_any, cases_Bool, true≢false}
 use Rattle.std.specs.Option.{IsSome}
-use Rattle.std.proofs.lemmas.Bool.{cases_Bool, true≢false}
 
 pub some_one : {X : Type 0} (x y : X) → Some x ≡ Some y → x ≡ y
 some_one x y e = grind arith

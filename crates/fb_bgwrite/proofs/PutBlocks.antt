@@ -1,30 +1,12 @@
 -- The blocks of puts: each passes whole in one turn of its track, they are told apart, and no two share a sector.
-use Rattle.std.proofs.Common.{◌≡◌, ◌⊎◌, ℕ, zero, suc, ◌+◌, ◌<◌, ◌≤◌, List, [], ◌∷◌, ◌++◌, false, Some, slice_get, take, drop, map, length, refl, sym, ap, ◌∙◌, subst, arith, inl, inr, append_assoc}
-use Rattle.std.specs.Prelude.{◌==◌}
-use Rattle.std.specs.List.{AllByRecursion, sum_by}
-use Rattle.std.proofs.lemmas.Bool.Decides.{nat_tests}
-use Rattle.std.proofs.lemmas.List.{map-append}
-use Rattle.std.proofs.lemmas.List.Sums.{sum_by-cons, sum_by-append}
-use Rattle.fb_geometry.specs.Shape.{Shape}
-use Rattle.fb_geometry.specs.Places.{places}
-use Rattle.fb_sectormap.specs.declared.cut.Cut.{Cut}
-use Rattle.fb_sectormap.specs.Cutting.{IsOneTurn, cutting}
-use Rattle.fb_sectormap.specs.Lookup.{track_at}
-use Rattle.fb_service.specs.declared.disk.Disk.{Disk}
-use Rattle.fb_calls.proofs.Lists.{all_weaker}
-use Rattle.fb_wanted.specs.declared.block.Block.{Block}
-use Rattle.fb_wanted.specs.Numbering.{registered}
-use Rattle.fb_model.specs.Segments.{numbered}
-use Rattle.fb_model.proofs.Lists.{all_append, all_left}
-use Rattle.fb_plan.specs.Ways.{FitsDisk}
-use Rattle.fb_bgwrite.specs.declared.puts.Put.{Put}
-use Rattle.fb_bgwrite.specs.Ranges.{share, AreApart}
-use Rattle.fb_bgwrite.specs.Reading.{range_of}
-use Rattle.fb_bgwrite.specs.Blocks.{PutBlock, blocks_from, blocks_of, sectors}
-use Rattle.fb_bgwrite.specs.Choosing.{block_range}
+use Rattle.fb_bgwrite.proofs.Words.{◌≡◌, ◌⊎◌, ℕ, zero, suc, ◌+◌, ◌<◌, ◌≤◌, List, [], ◌∷◌, ◌++◌, false, Some, slice_get, take, drop, map}
+use Rattle.fb_bgwrite.proofs.Words.{length, refl, sym, ap, ◌∙◌, subst, arith, inl, inr, append_assoc, ◌==◌, AllByRecursion, sum_by}
+use Rattle.fb_bgwrite.proofs.Words.{nat_tests, map-append, sum_by-cons, sum_by-append, Shape, places, Cut, IsOneTurn, cutting, track_at}
+use Rattle.fb_bgwrite.proofs.Words.{Disk, all_weaker, Block, registered, numbered, all_append, all_left, FitsDisk, Put, share, AreApart}
+use Rattle.fb_bgwrite.proofs.Words.{range_of, PutBlock, blocks_from, sectors, block_range}
+use Rattle.fb_bgwrite.specs.Blocks.{blocks_of}
 use Rattle.fb_model.proofs.Cuts.{AreCuts, cuts_are, cuts_rise}
-use Rattle.fb_bgwrite.proofs.Lists.{at_all, some_one}
-use Rattle.fb_bgwrite.proofs.TakenRanges.{is_shares, not_share}
+use Rattle.fb_bgwrite.proofs.{Lists.at_all, Lists.some_one, TakenRanges.is_shares, TakenRanges.not_share}
 
 -- the first block has the lesser put, or is an earlier one of the same put; and they share no sector
 pub record IsBefore (a b : Block) : Type 0 where

@@ -1,15 +1,9 @@
 -- Ranges that share no sector, in another order.
-use Rattle.std.proofs.Common.{◌≡◌, ℕ, ◌+◌, ◌<◌, ◌≤◌, List, [], ◌∷◌, true, false, max, if◌then◌else◌, inl, inr, refl, sym, ap, ◌∙◌, arith}
-use Rattle.std.specs.Prelude.{IsPermutation}
-use Rattle.std.specs.List.{AllByRecursion, sum_by}
-use Rattle.std.proofs.lemmas.Bool.{cases_Bool, true≢false}
+use Rattle.fb_bgwrite.proofs.Words.{◌≡◌, ℕ, ◌+◌, ◌<◌, ◌≤◌, List, [], ◌∷◌, true, false, max, if◌then◌else◌, inl, inr, refl, sym, ap, ◌∙◌}
+use Rattle.fb_bgwrite.proofs.Words.{arith, IsPermutation, AllByRecursion, sum_by, cases_Bool, true≢false, sum_by-cons, all_weaker}
+use Rattle.fb_bgwrite.proofs.Words.{SectorRange, share, AreApart}
 use Rattle.std.proofs.lemmas.List.Sorted.{sum_by-IsPermutation}
-use Rattle.std.proofs.lemmas.List.Sums.{sum_by-cons}
-use Rattle.fb_calls.proofs.Lists.{all_weaker}
-use Rattle.fb_bgwrite.specs.declared.range.SectorRange.{SectorRange}
-use Rattle.fb_bgwrite.specs.Ranges.{share, AreApart}
-use Rattle.fb_bgwrite.proofs.Lists.{all_of, at_all}
-use Rattle.fb_bgwrite.proofs.TakenRanges.{is_shares, not_share, shares_is}
+use Rattle.fb_bgwrite.proofs.{Lists.all_of, Lists.at_all, TakenRanges.is_shares, TakenRanges.not_share, TakenRanges.shares_is}
 
 abbrev sector : ℕ → SectorRange
 sector lbn = record { first = lbn; count = 1 }

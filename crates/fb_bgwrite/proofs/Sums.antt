@@ -1,7 +1,6 @@
 -- Sums over lists.
-use Rattle.std.proofs.Common.{◌≡◌, ℕ, zero, suc, ◌<◌, ◌≤◌, List, [], ◌∷◌, Some, slice_get, subst, sym, arith}
-use Rattle.std.specs.List.{AllByRecursion, sum_by}
-use Rattle.std.proofs.lemmas.List.Sums.{sum_by-cons}
+use Rattle.fb_bgwrite.proofs.Words.{◌≡◌, ℕ, zero, suc, ◌<◌, ◌≤◌, List, [], ◌∷◌, Some, slice_get, subst, sym, arith, AllByRecursion, sum_by}
+use Rattle.fb_bgwrite.proofs.Words.{sum_by-cons}
 use Rattle.fb_bgwrite.proofs.Lists.{some_one}
 
 -- no element adds more

@@ -1,14 +1,7 @@
 -- A range shares a sector with one of those that are kept by their ends just if the first of them to end behind its begin does.
-use Rattle.std.proofs.Common.{◌≡◌, ℕ, zero, suc, ◌+◌, ◌-◌, ◌<◌, ◌≤◌, List, [], ◌∷◌, true, false, Some, slice_get, max, min, inl, inr, sym, ap, ◌∙◌, arith}
-use Rattle.std.specs.Prelude.{nat_lt}
-use Rattle.std.specs.List.{list_any}
-use Rattle.std.specs.Ordering.{nat_cmp}
-use Rattle.std.specs.BTreeMap.{BTreeMap, get, ContainsKey}
-use Rattle.std.proofs.lemmas.Bool.{cases_Bool, cases_lt, ltb-true}
-use Rattle.std.proofs.lemmas.Bool.Decides.{nat_tests}
-use Rattle.fb_bgwrite.specs.declared.range.SectorRange.{SectorRange}
-use Rattle.fb_bgwrite.specs.Ranges.{share, AreApart}
-use Rattle.fb_bgwrite.specs.Taken.{AreTaken}
+use Rattle.fb_bgwrite.proofs.Words.{◌≡◌, ℕ, zero, suc, ◌+◌, ◌-◌, ◌<◌, ◌≤◌, List, [], ◌∷◌, true, false, Some, slice_get, max, min, inl, inr}
+use Rattle.fb_bgwrite.proofs.Words.{sym, ap, ◌∙◌, arith, nat_lt, list_any, nat_cmp, BTreeMap, get, ContainsKey, cases_Bool, cases_lt}
+use Rattle.fb_bgwrite.proofs.Words.{ltb-true, nat_tests, SectorRange, share, AreApart, AreTaken}
 use Rattle.fb_bgwrite.proofs.Lists.{all_of, at_all, any_at, none_any, some_one, some_there}
 
 pub lt-true : (a b : ℕ) → a < b → nat_lt a b ≡ true

@@ -1,19 +1,10 @@
 -- Ranges within one that share no sector have no more sectors than it.
-use Rattle.std.proofs.Common.{◌≡◌, ◌⊎◌, ℕ, zero, suc, ◌+◌, ◌-◌, ◌<◌, ◌≤◌, List, [], ◌∷◌, Bool, true, false, ◌&&◌, max, min, map, length, refl, ap, arith, inl, inr, if◌then◌else◌}
-use Rattle.std.specs.Prelude.{nat_le, nat_lt}
-use Rattle.std.specs.List.{AllByRecursion, count_by, list_any, range_with_len, sum_by}
-use Rattle.std.proofs.lemmas.Bool.{cases_Bool, cases_lt, and_parts, leb-true, ltb-true}
-use Rattle.std.proofs.lemmas.Bool.Decides.{nat_tests}
-use Rattle.std.proofs.lemmas.List.Sums.{count_by-le-length, sum_by-cons}
-use Rattle.fb_calls.proofs.Lists.{all_weaker}
-use Rattle.fb_bgwrite.specs.declared.puts.Put.{Put}
-use Rattle.fb_bgwrite.specs.declared.range.SectorRange.{SectorRange}
-use Rattle.fb_bgwrite.specs.Ranges.{lies_in, share, AreApart}
-use Rattle.fb_bgwrite.specs.Reading.{Accepted, range_of}
-use Rattle.fb_bgwrite.specs.Rules.{ArePuts, IsPutOf}
-use Rattle.fb_bgwrite.specs.Standing.{ArePutsOn}
-use Rattle.fb_bgwrite.proofs.Lists.{none_any}
-use Rattle.fb_bgwrite.proofs.TakenRanges.{is_shares}
+use Rattle.fb_bgwrite.proofs.Words.{◌≡◌, ◌⊎◌, ℕ, zero, suc, ◌+◌, ◌-◌, ◌<◌, ◌≤◌, List, [], ◌∷◌, Bool, true, false, ◌&&◌, max, min, map}
+use Rattle.fb_bgwrite.proofs.Words.{length, refl, ap, arith, inl, inr, if◌then◌else◌, nat_le, nat_lt, AllByRecursion, count_by, list_any}
+use Rattle.fb_bgwrite.proofs.Words.{range_with_len, sum_by, cases_Bool, cases_lt, and_parts, leb-true, ltb-true, nat_tests}
+use Rattle.fb_bgwrite.proofs.Words.{count_by-le-length, sum_by-cons, all_weaker, Put, SectorRange, lies_in, share, AreApart, Accepted}
+use Rattle.fb_bgwrite.proofs.Words.{range_of, ArePuts, IsPutOf, ArePutsOn}
+use Rattle.fb_bgwrite.proofs.{Lists.none_any, TakenRanges.is_shares}
 
 -- the sector is in the range
 abbrev pub has : SectorRange → ℕ → Bool

@@ -1,28 +1,12 @@
 -- The value of a spill is what its stay catches of the registered blocks.
-use Rattle.std.proofs.Common.{◌≡◌, ℕ, ◌+◌, ◌*◌, ◌<◌, ◌≤◌, ◌⊎◌, List, [], ◌∷◌, Bool, true, false, Some, slice_get, max, length, inl, inr, refl, sym, ap, ◌∙◌, subst, arith, if◌then◌else◌, filter}
-use Rattle.std.specs.List.{AllByRecursion, sum_by}
-use Rattle.std.proofs.lemmas.Bool.{cases_Bool, cases_lt}
-use Rattle.std.proofs.lemmas.Bool.Decides.{nat_tests}
-use Rattle.std.proofs.lemmas.List.Sums.{sum_by-cons}
-use Rattle.fb_units.specs.Tracks.{same_track}
-use Rattle.fb_service.specs.declared.disk.Disk.{Disk}
-use Rattle.fb_wanted.specs.declared.block.Block.{Block}
-use Rattle.fb_wanted.specs.declared.block.Entry.{Entry}
-use Rattle.fb_wanted.specs.States.{is_wanted, wanted_of}
-use Rattle.fb_rows.specs.declared.gap.Dwell.{Dwell}
-use Rattle.fb_rows.specs.declared.gap.Gap.{Gap}
-use Rattle.fb_model.specs.Plans.{block_end, catches}
-use Rattle.fb_plan.specs.Ways.{AreOnDisk, FitsDisk}
-use Rattle.fb_plan.proofs.Ends.{end-from-le}
+use Rattle.fb_bgwrite.proofs.Words.{◌≡◌, ℕ, ◌+◌, ◌*◌, ◌<◌, ◌≤◌, ◌⊎◌, List, [], ◌∷◌, Bool, true, false, Some, slice_get, max, length, inl}
+use Rattle.fb_bgwrite.proofs.Words.{inr, refl, sym, ap, ◌∙◌, subst, arith, if◌then◌else◌, filter, AllByRecursion, sum_by, cases_Bool}
+use Rattle.fb_bgwrite.proofs.Words.{cases_lt, nat_tests, sum_by-cons, same_track, Disk, Block, Entry, is_wanted, wanted_of, Dwell, Gap}
+use Rattle.fb_bgwrite.proofs.Words.{block_end, catches, AreOnDisk, FitsDisk, end-from-le, stay_gain, and_false, Spill, stay_of, value}
+use Rattle.fb_bgwrite.proofs.Words.{EndsAt, IsLast, passes}
 use Rattle.fb_plan.proofs.Gains.{one_part}
-use Rattle.fb_detour.specs.Bounds.{stay, stay_gain}
-use Rattle.fb_detour.proofs.Ceilings.{and_false}
-use Rattle.fb_bgwrite.specs.declared.choice.Spill.{Spill}
-use Rattle.fb_bgwrite.specs.Spilling.{stay_of, value}
-use Rattle.fb_bgwrite.specs.Choosing.{EndsAt, IsLast, passes}
-use Rattle.fb_bgwrite.proofs.Lists.{all_of, at_all, some_one}
-use Rattle.fb_bgwrite.proofs.Sums.{sum_le_on, sum_less}
-use Rattle.fb_bgwrite.proofs.Admitting.{first_within}
+use Rattle.fb_detour.specs.Bounds.{stay}
+use Rattle.fb_bgwrite.proofs.{Lists.all_of, Lists.at_all, Lists.some_one, Sums.sum_le_on, Sums.sum_less, Admitting.first_within}
 
 abbrev pub AreLight : List Entry → Type 0
 AreLight entries = AllByRecursion (λ entry. entry.block.weight ≡ 1) entries

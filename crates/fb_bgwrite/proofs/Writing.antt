@@ -1,24 +1,10 @@
 -- One more row: which blocks are pending after it, and how many sectors are left.
-use Rattle.std.proofs.Common.{◌≡◌, ℕ, zero, suc, ◌+◌, ◌<◌, ◌≤◌, List, [], ◌∷◌, ◌++◌, Bool, true, false, ◌&&◌, ◌||◌, not, Some, slice_get, map, refl, sym, ap, ap₂, ◌∙◌, subst, arith, inl, inr, if◌then◌else◌}
-use Rattle.std.specs.Prelude.{◌==◌, filter, nat_le}
-use Rattle.std.specs.List.{AllByRecursion, list_any}
-use Rattle.std.proofs.lemmas.Bool.{cases_Bool, true≢false}
-use Rattle.std.proofs.lemmas.Bool.Decides.{nat_tests}
-use Rattle.std.proofs.lemmas.List.Folds.{list_any-append}
-use Rattle.std.proofs.lemmas.List.Sums.{sum_by-cons}
-use Rattle.fb_wanted.specs.declared.block.Block.{Block}
-use Rattle.fb_wanted.specs.declared.block.Entry.{Entry}
+use Rattle.fb_bgwrite.proofs.Words.{◌≡◌, ℕ, zero, suc, ◌+◌, ◌<◌, ◌≤◌, List, [], ◌∷◌, ◌++◌, Bool, true, false, ◌&&◌, ◌||◌, not, Some}
+use Rattle.fb_bgwrite.proofs.Words.{slice_get, map, refl, sym, ap, ap₂, ◌∙◌, subst, arith, inl, inr, if◌then◌else◌, ◌==◌, filter, nat_le}
+use Rattle.fb_bgwrite.proofs.Words.{AllByRecursion, list_any, cases_Bool, true≢false, nat_tests, list_any-append, sum_by-cons, Block, Entry}
+use Rattle.fb_bgwrite.proofs.Words.{Wanted, Delivered, Deliver, after, entry_after, wanted_of, SpillItem, SpillLine, WroteLine, SpillRow}
+use Rattle.fb_bgwrite.proofs.Words.{WroteRow, PutBlock, is_pending, is_written, pending, sectors, writes, AreOnce, entry_of}
 use Rattle.fb_wanted.specs.declared.block.State.{State}
-use Rattle.fb_wanted.specs.declared.block.State.TheVariants.{Wanted, Delivered}
-use Rattle.fb_wanted.specs.declared.block.Change.TheVariants.{Deliver}
-use Rattle.fb_wanted.specs.States.{after, entry_after, wanted_of}
-use Rattle.fb_bgwrite.specs.declared.items.SpillItem.{SpillItem}
-use Rattle.fb_bgwrite.specs.declared.items.SpillItem.TheVariants.{Spill as SpillLine, Wrote as WroteLine}
-use Rattle.fb_bgwrite.specs.declared.items.SpillRow.{SpillRow}
-use Rattle.fb_bgwrite.specs.declared.items.WroteRow.{WroteRow}
-use Rattle.fb_bgwrite.specs.Blocks.{PutBlock, is_pending, is_written, pending, sectors, writes}
-use Rattle.fb_bgwrite.specs.Spilled.{AreOnce}
-use Rattle.fb_bgwrite.specs.Standing.{entry_of}
 use Rattle.fb_bgwrite.proofs.Lists.{at_all, before_or_last, some_one}
 use Rattle.fb_bgwrite.proofs.PutBlocks.{its_blocks, AreInOrder, IsBefore}
 

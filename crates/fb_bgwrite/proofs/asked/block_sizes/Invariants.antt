@@ -1,5 +1,4 @@
-use Rattle.std.proofs.Common.{◌≡◌, map, take}
-use Rattle.fb_calls.specs.Allowed.{tasks}
+use Rattle.fb_bgwrite.proofs.Words.{◌≡◌, map, take, tasks}
 use Rattle.fb_bgwrite.proofs.asked.block_sizes.Given as goal
 
 abbrev pub invariant-loop-call : goal.invariant-loop-call

@@ -1,7 +1,5 @@
-use Rattle.std.proofs.Common.{◌≡◌, drop}
-use Rattle.std.specs.List.{list_any}
+use Rattle.fb_bgwrite.proofs.Words.{◌≡◌, drop, list_any, share}
 use Rattle.fb_bgwrite.proofs.Asking.{called}
-use Rattle.fb_bgwrite.specs.Ranges.{share}
 use Rattle.fb_bgwrite.proofs.asked.is_called.Given as goal
 
 abbrev pub invariant-loop-call : goal.invariant-loop-call

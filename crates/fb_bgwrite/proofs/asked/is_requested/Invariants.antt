@@ -1,7 +1,4 @@
-use Rattle.std.proofs.Common.{◌≡◌, map, drop}
-use Rattle.std.specs.List.{list_any}
-use Rattle.fb_bgwrite.specs.Asked.{request_range}
-use Rattle.fb_bgwrite.specs.Ranges.{share}
+use Rattle.fb_bgwrite.proofs.Words.{◌≡◌, map, drop, list_any, request_range, share}
 use Rattle.fb_bgwrite.proofs.asked.is_requested.Given as goal
 
 abbrev pub invariant-loop-request : goal.invariant-loop-request

@@ -1,6 +1,4 @@
-use Rattle.std.proofs.Common.{◌≡◌, ◌<◌, ◌≤◌, ℕ, Some, slice_get, true}
-use Rattle.fb_wanted.specs.declared.block.Entry.{Entry}
-use Rattle.fb_wanted.specs.States.{is_wanted}
+use Rattle.fb_bgwrite.proofs.Words.{◌≡◌, ◌<◌, ◌≤◌, ℕ, Some, slice_get, true, Entry, is_wanted}
 use Rattle.fb_bgwrite.proofs.pending.least_on.Given as goal
 
 abbrev pub invariant-loop-i : goal.invariant-loop-i

@@ -1,5 +1,4 @@
-use Rattle.std.proofs.Common.{sym, ◌∙◌, arith}
-use Rattle.fb_bgwrite.specs.Ranges.{share}
+use Rattle.fb_bgwrite.proofs.Words.{sym, ◌∙◌, arith, share}
 use Rattle.fb_bgwrite.specs.Reader.{terms_of}
 use Rattle.fb_bgwrite.proofs.Lists.{all_none}
 use Rattle.fb_bgwrite.proofs.reader.judged_reserve.Goals as goal

@@ -1,5 +1,4 @@
-use Rattle.std.proofs.Common.{◌≡◌, map, take}
-use Rattle.fb_bgwrite.specs.Reading.{range_of}
+use Rattle.fb_bgwrite.proofs.Words.{◌≡◌, map, take, range_of}
 use Rattle.fb_bgwrite.proofs.reader.ranges_of.Given as goal
 
 abbrev pub invariant-loop-put : goal.invariant-loop-put

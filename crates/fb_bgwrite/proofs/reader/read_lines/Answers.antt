@@ -1,8 +1,5 @@
-use Rattle.std.proofs.Common.{◌+◌, map, ap, arith}
-use Rattle.std.proofs.lemmas.Result.{err_from_is_err_and}
-use Rattle.fb_units.specs.Lines.{lines_of}
-use Rattle.fb_bgwrite.specs.Reading.{lines_from, puts_of, range_of}
-use Rattle.fb_bgwrite.specs.Reader.{progress, terms_of}
+use Rattle.fb_bgwrite.proofs.Words.{◌+◌, map, ap, arith, err_from_is_err_and, lines_of, lines_from, puts_of, range_of, progress}
+use Rattle.fb_bgwrite.specs.Reader.{terms_of}
 use Rattle.fb_bgwrite.proofs.LinesRead.{known_apart, read_more, read_error, read_end}
 use Rattle.fb_bgwrite.proofs.reader.read_lines.Goals as goal
 

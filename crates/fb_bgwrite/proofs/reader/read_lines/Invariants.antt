@@ -1,9 +1,6 @@
-use Rattle.std.proofs.Common.{◌≡◌, ◌+◌, ◌≤◌, length, map}
-use Rattle.fb_units.specs.Lines.{lines_of}
-use Rattle.fb_bgwrite.specs.Ranges.{AreApart}
-use Rattle.fb_bgwrite.specs.Reading.{lines_from, puts_of, range_of}
-use Rattle.fb_bgwrite.specs.Reader.{progress, terms_of, IsReader}
-use Rattle.fb_bgwrite.specs.Taken.{IsKnown}
+use Rattle.fb_bgwrite.proofs.Words.{◌≡◌, ◌+◌, ◌≤◌, length, map, lines_of, AreApart, lines_from, puts_of, range_of, progress, IsReader}
+use Rattle.fb_bgwrite.proofs.Words.{IsKnown}
+use Rattle.fb_bgwrite.specs.Reader.{terms_of}
 use Rattle.fb_bgwrite.proofs.reader.read_lines.Given as goal
 
 abbrev pub invariant-loop-line : goal.invariant-loop-line

@@ -1,4 +1,4 @@
-use Rattle.std.proofs.Common.{◌-◌}
+use Rattle.fb_bgwrite.proofs.Words.{◌-◌}
 use Rattle.fb_bgwrite.proofs.search.+visit.Given as goal
 
 abbrev pub decreases-visit : goal.decreases-visit

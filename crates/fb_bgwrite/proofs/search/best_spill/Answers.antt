@@ -1,10 +1,5 @@
-use Rattle.std.proofs.Common.{◌<◌, ◌∙◌, ap, inl, inr, arith}
-use Rattle.std.proofs.lemmas.Bool.{cases_lt}
-use Rattle.fb_geometry.specs.Shape.{Shape, cylinders_of}
-use Rattle.fb_wanted.specs.States.{wanted_of}
-use Rattle.fb_bgwrite.specs.declared.choice.Spill.{Spill}
-use Rattle.fb_bgwrite.proofs.Choices.{beats_all, best_is}
-use Rattle.fb_bgwrite.proofs.Lengths.{none_there}
+use Rattle.fb_bgwrite.proofs.Words.{◌<◌, ◌∙◌, ap, inl, inr, arith, cases_lt, Shape, cylinders_of, wanted_of, Spill}
+use Rattle.fb_bgwrite.proofs.{Choices.beats_all, Choices.best_is, Lengths.none_there}
 use Rattle.fb_bgwrite.proofs.search.best_spill.Goals as goal
 
 pub returns-then-from-end-clause-best : goal.returns-then-from-end-clause-best

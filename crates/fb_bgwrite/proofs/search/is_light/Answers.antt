@@ -1,7 +1,4 @@
-use Rattle.std.proofs.Common.{◌≤◌, arith}
-use Rattle.fb_wanted.specs.States.{wanted_of}
-use Rattle.fb_bgwrite.specs.declared.choice.Spill.{Spill}
-use Rattle.fb_bgwrite.specs.Spilling.{value}
+use Rattle.fb_bgwrite.proofs.Words.{◌≤◌, arith, wanted_of, Spill, value}
 use Rattle.fb_bgwrite.proofs.Choices.{by_weight, enough_beats}
 use Rattle.fb_bgwrite.proofs.search.is_light.Goals as goal
 

@@ -1,5 +1,4 @@
-use Rattle.std.proofs.Common.{arith, refl, true}
-use Rattle.fb_units.specs.declared.types.Track.{Track}
+use Rattle.fb_bgwrite.proofs.Words.{arith, refl, true, Track}
 use Rattle.fb_bgwrite.proofs.Depths.{nearer_there, nearer_on}
 use Rattle.fb_bgwrite.proofs.search.least_moves.Goals as goal
 

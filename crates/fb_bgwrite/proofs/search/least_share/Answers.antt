@@ -1,7 +1,5 @@
-use Rattle.std.proofs.Common.{◌≡◌, ◌/◌, arith, ap, sym, subst, ◌∙◌}
-use Rattle.fb_geometry.specs.Shape.{Shape, slots_at}
+use Rattle.fb_bgwrite.proofs.Words.{◌≡◌, ◌/◌, arith, ap, sym, subst, ◌∙◌, Shape, slots_at, IsShare}
 use Rattle.fb_detour.proofs.InTime.{some_share}
-use Rattle.fb_bgwrite.specs.Choosing.{IsShare}
 use Rattle.fb_bgwrite.proofs.Depths.{more_pass}
 use Rattle.fb_bgwrite.proofs.search.least_share.Goals as goal
 

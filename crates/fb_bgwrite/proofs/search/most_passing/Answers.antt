@@ -1,5 +1,4 @@
-use Rattle.std.proofs.Common.{◌+◌, ◌-◌, ◌/◌, arith, subst}
-use Rattle.fb_geometry.specs.Sound.{IsSound, HasOwnPlaces}
+use Rattle.fb_bgwrite.proofs.Words.{◌+◌, ◌-◌, ◌/◌, arith, subst, IsSound, HasOwnPlaces}
 use Rattle.fb_bgwrite.proofs.Depths.{there_is_time, value_in_time}
 use Rattle.fb_bgwrite.proofs.search.most_passing.Goals as goal
 

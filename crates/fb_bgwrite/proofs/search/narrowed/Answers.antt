@@ -1,5 +1,4 @@
-use Rattle.std.proofs.Common.{◌+◌, ◌<◌, min, inl, inr, arith}
-use Rattle.fb_bgwrite.specs.declared.choice.Spill.{Spill}
+use Rattle.fb_bgwrite.proofs.Words.{◌+◌, ◌<◌, min, inl, inr, arith, Spill}
 use Rattle.fb_bgwrite.proofs.Lengths.{none_short}
 use Rattle.fb_bgwrite.proofs.search.narrowed.Goals as goal
 

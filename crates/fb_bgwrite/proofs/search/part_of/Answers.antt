@@ -1,5 +1,4 @@
-use Rattle.std.proofs.Common.{inl, inr, arith}
-use Rattle.fb_bgwrite.specs.declared.choice.Spill.{Spill}
+use Rattle.fb_bgwrite.proofs.Words.{inl, inr, arith, Spill}
 use Rattle.fb_bgwrite.proofs.Choices.{by_weight}
 use Rattle.fb_bgwrite.proofs.search.part_of.Goals as goal
 

@@ -1,11 +1,5 @@
-use Rattle.std.proofs.Common.{◌≡◌, ◌+◌, ◌-◌, arith, ap, sym, subst}
-use Rattle.std.specs.List.{sum_by}
-use Rattle.fb_rows.specs.declared.gap.Dwell.{Dwell}
-use Rattle.fb_detour.specs.Bounds.{stay_gain}
-use Rattle.fb_bgwrite.specs.Choosing.{IsLast}
-use Rattle.fb_bgwrite.specs.Spilling.{ready}
-use Rattle.fb_bgwrite.proofs.Choices.{last_beats, last_value, light_on, nothing_there}
-use Rattle.fb_bgwrite.proofs.Values.{AreLight}
+use Rattle.fb_bgwrite.proofs.Words.{◌≡◌, ◌+◌, ◌-◌, arith, ap, sym, subst, sum_by, Dwell, stay_gain, IsLast, ready}
+use Rattle.fb_bgwrite.proofs.{Choices.last_beats, Choices.last_value, Choices.light_on, Choices.nothing_there, Values.AreLight}
 use Rattle.fb_bgwrite.proofs.search.spill_on.Goals as goal
 
 pub returns-then-written-eq0-clause-tried : goal.returns-then-written-eq0-clause-tried

@@ -1,6 +1,4 @@
-use Rattle.std.proofs.Common.{◌≤◌, ◌-◌}
-use Rattle.fb_wanted.specs.States.{wanted_of}
-use Rattle.fb_bgwrite.specs.Choosing.{BeatsRange, IsMost, IsShare, IsValuedIf, Keeps}
+use Rattle.fb_bgwrite.proofs.Words.{◌≤◌, ◌-◌, wanted_of, BeatsRange, IsMost, IsShare, IsValuedIf, Keeps}
 use Rattle.fb_bgwrite.proofs.search.sweep.Given as goal
 
 -- the cylinders before and behind the rest are tried

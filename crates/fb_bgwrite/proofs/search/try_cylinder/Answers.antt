@@ -1,7 +1,4 @@
-use Rattle.std.proofs.Common.{arith, ap, sym, subst}
-use Rattle.fb_bgwrite.specs.Choosing.{BeatsRange}
-use Rattle.fb_geometry.specs.Shape.{Shape}
-use Rattle.fb_wanted.specs.States.{wanted_of}
+use Rattle.fb_bgwrite.proofs.Words.{arith, ap, sym, subst, BeatsRange, Shape, wanted_of}
 use Rattle.fb_bgwrite.proofs.Choices.{cylinder_done, heads_more, kept_on}
 use Rattle.fb_bgwrite.proofs.search.try_cylinder.Goals as goal
 

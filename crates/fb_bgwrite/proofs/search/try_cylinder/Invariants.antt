@@ -1,6 +1,4 @@
-use Rattle.std.proofs.Common.{◌<◌, ℕ}
-use Rattle.fb_wanted.specs.States.{wanted_of}
-use Rattle.fb_bgwrite.specs.Choosing.{BeatsOn, IsValuedIf, Keeps}
+use Rattle.fb_bgwrite.proofs.Words.{◌<◌, ℕ, wanted_of, BeatsOn, IsValuedIf, Keeps}
 use Rattle.fb_bgwrite.proofs.search.try_cylinder.Given as goal
 
 abbrev pub invariant-loop-head : goal.invariant-loop-head

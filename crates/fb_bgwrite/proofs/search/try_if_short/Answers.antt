@@ -1,8 +1,5 @@
-use Rattle.std.proofs.Common.{◌+◌, arith}
-use Rattle.fb_wanted.specs.States.{wanted_of}
-use Rattle.fb_bgwrite.specs.declared.choice.Spill.{Spill}
-use Rattle.fb_bgwrite.proofs.Choices.{nothing_beaten}
-use Rattle.fb_bgwrite.proofs.Lengths.{too_long_in}
+use Rattle.fb_bgwrite.proofs.Words.{◌+◌, arith, wanted_of, Spill}
+use Rattle.fb_bgwrite.proofs.{Choices.nothing_beaten, Lengths.too_long_in}
 use Rattle.fb_bgwrite.proofs.search.try_if_short.Goals as goal
 
 pub returns-then-part-shortest_at-clause-tried : goal.returns-then-part-shortest_at-clause-tried

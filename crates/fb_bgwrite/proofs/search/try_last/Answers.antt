@@ -1,6 +1,4 @@
-use Rattle.std.proofs.Common.{◌≤◌, inl, inr, arith}
-use Rattle.std.proofs.lemmas.Bool.{cases_lt}
-use Rattle.fb_bgwrite.specs.declared.choice.Spill.{Spill}
+use Rattle.fb_bgwrite.proofs.Words.{◌≤◌, inl, inr, arith, cases_lt, Spill}
 use Rattle.fb_bgwrite.proofs.Lengths.{short_beaten}
 use Rattle.fb_bgwrite.proofs.search.try_last.Goals as goal
 

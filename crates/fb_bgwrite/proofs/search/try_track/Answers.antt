@@ -1,10 +1,5 @@
-use Rattle.std.proofs.Common.{◌*◌, ◌≤◌, arith, ap}
-use Rattle.std.specs.List.{sum_by}
-use Rattle.fb_wanted.specs.States.{wanted_of}
-use Rattle.fb_bgwrite.specs.declared.choice.Spill.{Spill}
-use Rattle.fb_bgwrite.specs.Spilling.{value}
-use Rattle.fb_bgwrite.proofs.Choices.{by_weight, enough_beats, nothing_beaten}
-use Rattle.fb_bgwrite.proofs.Lengths.{too_long_on}
+use Rattle.fb_bgwrite.proofs.Words.{◌*◌, ◌≤◌, arith, ap, sum_by, wanted_of, Spill, value}
+use Rattle.fb_bgwrite.proofs.{Choices.by_weight, Choices.enough_beats, Choices.nothing_beaten, Lengths.too_long_on}
 use Rattle.fb_bgwrite.proofs.search.try_track.Goals as goal
 
 pub returns-then-is_enough-clause-tried : goal.returns-then-is_enough-clause-tried

@@ -1,5 +1,4 @@
-use Rattle.std.proofs.Common.{arith, refl}
-use Rattle.fb_detour.proofs.Ceilings.{stay-next}
+use Rattle.fb_bgwrite.proofs.Words.{arith, refl, stay-next}
 use Rattle.fb_bgwrite.proofs.Values.{more_last, none_last}
 use Rattle.fb_bgwrite.proofs.search.written_in.Goals as goal
 

@@ -1,6 +1,4 @@
-use Rattle.std.proofs.Common.{◌≡◌, ◌*◌, ◌≤◌, take}
-use Rattle.std.specs.List.{sum_by}
-use Rattle.fb_detour.specs.Bounds.{stay_gain}
+use Rattle.fb_bgwrite.proofs.Words.{◌≡◌, ◌*◌, ◌≤◌, take, sum_by, stay_gain}
 use Rattle.fb_bgwrite.proofs.Values.{IsLastOf}
 use Rattle.fb_bgwrite.proofs.search.written_in.Given as goal
 

@@ -1,4 +1,4 @@
-use Rattle.std.proofs.Common.{◌+◌, ◌<◌, ◌≤◌, ℕ, get_or}
+use Rattle.fb_bgwrite.proofs.Words.{◌+◌, ◌<◌, ◌≤◌, ℕ, get_or}
 use Rattle.fb_bgwrite.proofs.shortest.least_of.Given as goal
 
 -- the least of those seen

@@ -1,4 +1,4 @@
-use Rattle.std.proofs.Common.{◌≡◌, ℕ, length, get_or}
+use Rattle.fb_bgwrite.proofs.Words.{◌≡◌, ℕ, length, get_or}
 use Rattle.fb_bgwrite.proofs.shortest.lower.Given as goal
 
 -- bounds of 2,049 are added

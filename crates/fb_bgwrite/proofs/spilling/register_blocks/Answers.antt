@@ -1,9 +1,5 @@
-use Rattle.std.proofs.Common.{◌+◌, ◌-◌, length, refl, sym, ap, ◌∙◌, arith}
-use Rattle.std.proofs.lemmas.List.{length_push}
-use Rattle.fb_sectormap.specs.Cutting.{cutting}
-use Rattle.fb_wanted.specs.declared.block.Block.{Block}
-use Rattle.fb_wanted.specs.Numbering.{blocks_of, registered}
-use Rattle.fb_bgwrite.specs.Standing.{wanted_entry}
+use Rattle.fb_bgwrite.proofs.Words.{◌+◌, ◌-◌, length, refl, sym, ap, ◌∙◌, arith, length_push, cutting, Block, blocks_of, registered}
+use Rattle.fb_bgwrite.proofs.Words.{wanted_entry}
 use Rattle.fb_bgwrite.proofs.Admitting.{cut_more, none_left, one_counted, registered_few}
 use Rattle.fb_bgwrite.proofs.spilling.register_blocks.Goals as goal
 

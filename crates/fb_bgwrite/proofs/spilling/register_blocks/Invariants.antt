@@ -1,9 +1,5 @@
-use Rattle.std.proofs.Common.{◌≡◌, ◌+◌, ◌≤◌, ◌++◌, length, map}
-use Rattle.fb_sectormap.specs.Cutting.{cutting}
+use Rattle.fb_bgwrite.proofs.Words.{◌≡◌, ◌+◌, ◌≤◌, ◌++◌, length, map, cutting, blocks_of, registered, numbered, wanted_entry}
 use Rattle.fb_sectormap.specs.Runs.{IsSpan}
-use Rattle.fb_wanted.specs.Numbering.{blocks_of, registered}
-use Rattle.fb_model.specs.Segments.{numbered}
-use Rattle.fb_bgwrite.specs.Standing.{wanted_entry}
 use Rattle.fb_bgwrite.proofs.spilling.register_blocks.Given as goal
 
 -- the registered blocks and those that are left are all of the put's

@@ -1,5 +1,4 @@
-use Rattle.std.proofs.Common.{◌+◌, sym, ap, ◌∙◌, drop}
-use Rattle.fb_bgwrite.specs.Gaps.{delivers}
+use Rattle.fb_bgwrite.proofs.Words.{◌+◌, sym, ap, ◌∙◌, drop, delivers}
 use Rattle.fb_bgwrite.proofs.Going.{drop_got}
 use Rattle.fb_bgwrite.proofs.spills.delivers.Goals as goal
 

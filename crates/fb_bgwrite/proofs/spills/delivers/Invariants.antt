@@ -1,5 +1,4 @@
-use Rattle.std.proofs.Common.{◌≡◌, drop}
-use Rattle.fb_bgwrite.specs.Gaps.{delivers}
+use Rattle.fb_bgwrite.proofs.Words.{◌≡◌, drop, delivers}
 use Rattle.fb_bgwrite.proofs.spills.delivers.Given as goal
 
 abbrev pub invariant-loop-i : goal.invariant-loop-i

@@ -1,4 +1,4 @@
-use Rattle.std.proofs.Common.{Some, sym, ap, ◌∙◌}
+use Rattle.fb_bgwrite.proofs.Words.{Some, sym, ap, ◌∙◌}
 use Rattle.fb_bgwrite.proofs.Going.{busy_from, free_from, other_from}
 use Rattle.fb_bgwrite.proofs.spills.free_gap.Goals as goal
 

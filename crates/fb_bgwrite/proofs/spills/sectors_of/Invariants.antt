@@ -1,6 +1,4 @@
-use Rattle.std.proofs.Common.{◌≡◌, take}
-use Rattle.std.specs.List.{sum_by}
-use Rattle.fb_bgwrite.specs.declared.puts.Put.{Put}
+use Rattle.fb_bgwrite.proofs.Words.{◌≡◌, take, sum_by, Put}
 use Rattle.fb_bgwrite.proofs.spills.sectors_of.Given as goal
 
 abbrev pub invariant-loop-put : goal.invariant-loop-put

@@ -1,15 +1,8 @@
-use Rattle.std.proofs.Common.{◌+◌, ◌∙◌, sym, ap, subst, arith, length}
-use Rattle.fb_geometry.specs.Sound.{IsSound}
-use Rattle.fb_geometry.specs.Places.{places}
-use Rattle.fb_bgwrite.specs.Verdict.{accepted}
-use Rattle.fb_bgwrite.specs.declared.puts.Put.{Put}
-use Rattle.std.specs.List.{sum_by}
-use Rattle.fb_bgwrite.specs.declared.spilling.Spilling.{Spilling}
-use Rattle.fb_bgwrite.proofs.Going.{all_gone, all_in_time, all_written, going_busy, going_first, going_free, going_puts, IsGoing}
-use Rattle.fb_bgwrite.proofs.Holding.{holds}
-use Rattle.fb_bgwrite.proofs.Totals.{puts_on}
-use Rattle.fb_bgwrite.proofs.spills.spill.Goals as goal
+use Rattle.fb_bgwrite.proofs.Words.{◌+◌, ◌∙◌, sym, ap, subst, arith, length, IsSound, places, accepted, Put, sum_by, Spilling}
+use Rattle.fb_bgwrite.proofs.{Going.all_gone, Going.all_in_time, Going.all_written, Going.going_busy, Going.going_first, Going.going_free}
+use Rattle.fb_bgwrite.proofs.{Going.going_puts, Going.IsGoing, Holding.holds, Totals.puts_on}
 use Rattle.fb_bgwrite.proofs.spills.spill.Goals.{in-Some+in_ok-spill_in, in_default}
+use Rattle.fb_bgwrite.proofs.spills.spill.Goals as goal
 
 pub loop-i-init : goal.loop-i-init
 loop-i-init c =

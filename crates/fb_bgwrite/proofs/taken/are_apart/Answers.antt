@@ -1,5 +1,4 @@
-use Rattle.std.proofs.Common.{subst}
-use Rattle.fb_bgwrite.specs.Ranges.{AreApart}
+use Rattle.fb_bgwrite.proofs.Words.{subst, AreApart}
 use Rattle.fb_bgwrite.proofs.Shuffled.{apart_shuffled}
 use Rattle.fb_bgwrite.proofs.taken.are_apart.Goals as goal
 

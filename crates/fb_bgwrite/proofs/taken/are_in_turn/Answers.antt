@@ -1,6 +1,4 @@
-use Rattle.std.proofs.Common.{subst, sym}
-use Rattle.std.proofs.lemmas.List.{drop_all}
-use Rattle.fb_bgwrite.specs.declared.range.SectorRange.{SectorRange}
+use Rattle.fb_bgwrite.proofs.Words.{subst, sym, drop_all, SectorRange}
 use Rattle.fb_bgwrite.proofs.Shuffled.{AreBehind, behind_apart}
 use Rattle.fb_bgwrite.proofs.taken.are_in_turn.Goals as goal
 

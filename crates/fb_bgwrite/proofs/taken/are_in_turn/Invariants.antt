@@ -1,5 +1,4 @@
-use Rattle.std.proofs.Common.{drop}
-use Rattle.fb_bgwrite.specs.declared.range.SectorRange.{SectorRange}
+use Rattle.fb_bgwrite.proofs.Words.{drop, SectorRange}
 use Rattle.fb_bgwrite.proofs.Shuffled.{AreBehind}
 use Rattle.fb_bgwrite.proofs.taken.are_in_turn.Given as goal
 

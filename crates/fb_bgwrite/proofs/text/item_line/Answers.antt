@@ -1,6 +1,4 @@
-use Rattle.std.proofs.Common.{◌≡◌, IfOk, sym, subst}
-use Rattle.fb_bgwrite.specs.declared.items.SpillItem.{SpillItem}
-use Rattle.fb_bgwrite.specs.Text.{item_line}
+use Rattle.fb_bgwrite.proofs.Words.{◌≡◌, IfOk, sym, subst, SpillItem, item_line}
 use Rattle.fb_bgwrite.proofs.text.item_line.Goals as goal
 
 pub returns-in-Spill : goal.returns-in-Spill

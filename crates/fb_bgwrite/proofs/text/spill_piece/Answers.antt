@@ -1,7 +1,5 @@
-use Rattle.std.proofs.Common.{◌≡◌, Some, slice_get, ap, sym, ◌∙◌, arith}
-use Rattle.std.proofs.lemmas.Result.{IfOk-weaker}
-use Rattle.fb_report.proofs.Lines.{line_first, line_last, line_row}
-use Rattle.fb_bgwrite.specs.Text.{item_line, spill_first, spill_last, spill_lines}
+use Rattle.fb_bgwrite.proofs.Words.{◌≡◌, Some, slice_get, ap, sym, ◌∙◌, arith, IfOk-weaker, line_first, line_last, line_row, item_line}
+use Rattle.fb_bgwrite.proofs.Words.{spill_first, spill_last, spill_lines}
 use Rattle.fb_bgwrite.proofs.TextLines.{lines_are}
 use Rattle.fb_bgwrite.proofs.text.spill_piece.Goals as goal
 

@@ -1,5 +1,4 @@
-use Rattle.std.proofs.Common.{arith}
-use Rattle.fb_report.proofs.Lines.{length_lines}
+use Rattle.fb_bgwrite.proofs.Words.{arith, length_lines}
 use Rattle.fb_bgwrite.proofs.TextLines.{lines_are}
 use Rattle.fb_bgwrite.proofs.text.spill_pieces.Goals as goal
 

@@ -1,5 +1,4 @@
-use Rattle.std.proofs.Common.{sym, subst}
-use Rattle.fb_plan.specs.Ways.{AreOnDisk}
+use Rattle.fb_bgwrite.proofs.Words.{sym, subst, AreOnDisk}
 use Rattle.fb_bgwrite.proofs.pending.Pending.caught.Goals as goal
 
 pub caught-requires-clause-blocks : goal.caught-requires-clause-blocks

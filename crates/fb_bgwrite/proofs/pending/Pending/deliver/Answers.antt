@@ -1,6 +1,4 @@
-use Rattle.std.proofs.Common.{sym, subst}
-use Rattle.std.specs.List.{AllByRecursion}
-use Rattle.fb_bgwrite.specs.Shortest.{IsNoShorter}
+use Rattle.fb_bgwrite.proofs.Words.{sym, subst, AllByRecursion, IsNoShorter}
 use Rattle.fb_bgwrite.proofs.Lengths.{delivered_too}
 use Rattle.fb_bgwrite.proofs.pending.Pending.deliver.Goals as goal
 

@@ -1,5 +1,4 @@
-use Rattle.std.proofs.Common.{sym, subst}
-use Rattle.fb_plan.specs.Ways.{AreOnDisk}
+use Rattle.fb_bgwrite.proofs.Words.{sym, subst, AreOnDisk}
 use Rattle.fb_bgwrite.proofs.pending.Pending.on.Goals as goal
 
 pub blocks_on-requires : goal.blocks_on-requires

@@ -1,10 +1,5 @@
-use Rattle.std.proofs.Common.{◌≡◌, ◌∙◌, Some, slice_get, inl, inr, ap, sym, subst, arith}
-use Rattle.std.proofs.lemmas.Bool.{cases_lt}
-use Rattle.fb_units.specs.declared.types.Track.{Track}
-use Rattle.fb_geometry.specs.Shape.{Shape}
-use Rattle.fb_geometry.specs.Sound.{IsSound}
-use Rattle.fb_wanted.specs.States.{on_track}
-use Rattle.fb_plan.specs.Ways.{AreOnDisk}
+use Rattle.fb_bgwrite.proofs.Words.{◌≡◌, ◌∙◌, Some, slice_get, inl, inr, ap, sym, subst, arith, cases_lt, Track, Shape, IsSound, on_track}
+use Rattle.fb_bgwrite.proofs.Words.{AreOnDisk}
 use Rattle.fb_bgwrite.proofs.Lengths.{all_of_cylinder, renewed}
 use Rattle.fb_bgwrite.proofs.pending.Pending.refresh.Goals as goal
 

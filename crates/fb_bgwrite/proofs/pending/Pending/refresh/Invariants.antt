@@ -1,6 +1,4 @@
-use Rattle.std.proofs.Common.{◌≡◌, ◌<◌, ◌≤◌, ℕ, Some, slice_get, true}
-use Rattle.fb_wanted.specs.declared.block.Entry.{Entry}
-use Rattle.fb_wanted.specs.States.{is_wanted, on_track}
+use Rattle.fb_bgwrite.proofs.Words.{◌≡◌, ◌<◌, ◌≤◌, ℕ, Some, slice_get, true, Entry, is_wanted, on_track}
 use Rattle.fb_bgwrite.proofs.pending.Pending.refresh.Given as goal
 
 -- no pending block on a track so far has fewer sectors

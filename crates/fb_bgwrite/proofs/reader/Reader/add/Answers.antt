@@ -1,9 +1,6 @@
-use Rattle.std.proofs.Common.{◌≡◌, [], ◌∷◌, ◌++◌, false, map, refl, subst, sym}
-use Rattle.std.specs.List.{list_any}
-use Rattle.fb_bgwrite.specs.Ranges.{share}
-use Rattle.fb_bgwrite.specs.Reading.{range_of}
-use Rattle.fb_bgwrite.specs.Reader.{terms_of, IsNextPut, MayFollow}
-use Rattle.fb_bgwrite.specs.Taken.{HasTaken}
+use Rattle.fb_bgwrite.proofs.Words.{◌≡◌, [], ◌∷◌, ◌++◌, false, map, refl, subst, sym, list_any, share, range_of, IsNextPut, MayFollow}
+use Rattle.fb_bgwrite.proofs.Words.{HasTaken}
+use Rattle.fb_bgwrite.specs.Reader.{terms_of}
 use Rattle.fb_bgwrite.proofs.LinesRead.{put_kept}
 use Rattle.fb_bgwrite.proofs.reader.Reader.add.Goals as goal
 

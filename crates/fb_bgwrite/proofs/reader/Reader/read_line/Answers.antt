@@ -1,4 +1,5 @@
-use Rattle.fb_bgwrite.specs.Reader.{progress, terms_of}
+use Rattle.fb_bgwrite.proofs.Words.{progress}
+use Rattle.fb_bgwrite.specs.Reader.{terms_of}
 use Rattle.fb_bgwrite.proofs.LinesRead.{line_apart}
 use Rattle.fb_bgwrite.proofs.reader.Reader.read_line.Goals as goal
 

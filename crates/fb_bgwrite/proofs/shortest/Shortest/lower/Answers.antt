@@ -1,4 +1,4 @@
-use Rattle.std.proofs.Common.{◌/◌}
+use Rattle.fb_bgwrite.proofs.Words.{◌/◌}
 use Rattle.fb_bgwrite.proofs.Bounds.{both_lowered, either_lowered}
 use Rattle.fb_bgwrite.proofs.shortest.Shortest.lower.Goals as goal
 

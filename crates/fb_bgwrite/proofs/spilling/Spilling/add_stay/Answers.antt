@@ -1,4 +1,4 @@
-use Rattle.std.proofs.lemmas.Result.{on_ok_weaker}
+use Rattle.fb_bgwrite.proofs.Words.{on_ok_weaker}
 use Rattle.fb_bgwrite.proofs.Adding.{stay_added}
 use Rattle.fb_bgwrite.proofs.spilling.Spilling.add_stay.Goals as goal
 

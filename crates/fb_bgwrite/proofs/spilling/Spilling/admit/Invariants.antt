@@ -1,5 +1,4 @@
-use Rattle.std.proofs.Common.{◌≡◌, ◌-◌, length}
-use Rattle.fb_bgwrite.specs.Standing.{HasKept, IsSpilling}
+use Rattle.fb_bgwrite.proofs.Words.{◌≡◌, ◌-◌, length, HasKept, IsSpilling}
 use Rattle.fb_bgwrite.proofs.spilling.Spilling.admit.Given as goal
 
 abbrev pub invariant-loop-put : goal.invariant-loop-put

@@ -1,5 +1,4 @@
-use Rattle.std.proofs.Common.{◌+◌, ap, ◌∙◌}
-use Rattle.fb_wanted.specs.Numbering.{blocks_of, registered}
+use Rattle.fb_bgwrite.proofs.Words.{◌+◌, ap, ◌∙◌, blocks_of, registered}
 use Rattle.fb_bgwrite.proofs.Admitting.{none_yet_registered, put_admitted, room_for_next}
 use Rattle.fb_bgwrite.proofs.spilling.Spilling.admit_put.Goals as goal
 

@@ -1,4 +1,4 @@
-use Rattle.std.proofs.Common.{refl}
+use Rattle.fb_bgwrite.proofs.Words.{refl}
 use Rattle.fb_bgwrite.proofs.Adding.{new_spilling}
 use Rattle.fb_bgwrite.proofs.spilling.Spilling.new.Goals as goal
 

@@ -1,5 +1,4 @@
-use Rattle.std.proofs.Common.{◌<◌, sym, subst}
-use Rattle.std.proofs.lemmas.Result.{on_ok_weaker}
+use Rattle.fb_bgwrite.proofs.Words.{◌<◌, sym, subst, on_ok_weaker}
 use Rattle.fb_bgwrite.proofs.Admitting.{are_pending, chosen_none, chosen_some, puts_kept}
 use Rattle.fb_bgwrite.proofs.spilling.Spilling.spill_in.Goals as goal
 

@@ -1,14 +1,7 @@
-use Rattle.std.proofs.Common.{◌≡◌, ◌∷◌, ◌++◌, ◌≤◌, slice_get, take, ap, sym, ◌∙◌, arith}
-use Rattle.std.specs.List.{slice_index_or}
+use Rattle.fb_bgwrite.proofs.Words.{◌≡◌, ◌∷◌, ◌++◌, ◌≤◌, slice_get, take, ap, sym, ◌∙◌, arith, slice_index_or, Dwell, wanted_of, Catch}
+use Rattle.fb_bgwrite.proofs.Words.{caught_of, SpillLine, spill_row}
 use Rattle.std.proofs.lemmas.Option.{slice_get-get_or}
-use Rattle.fb_rows.specs.declared.gap.Dwell.{Dwell}
-use Rattle.fb_wanted.specs.States.{wanted_of}
-use Rattle.fb_plan.specs.declared.catching.Catch.{Catch}
-use Rattle.fb_plan.specs.Order.{caught_of}
-use Rattle.fb_bgwrite.specs.declared.items.SpillItem.TheVariants.{Spill as SpillLine}
-use Rattle.fb_bgwrite.specs.Steps.{spill_row}
-use Rattle.fb_bgwrite.proofs.Admitting.{are_pending, puts_kept}
-use Rattle.fb_bgwrite.proofs.Catching.{to_write, wrote_rows}
+use Rattle.fb_bgwrite.proofs.{Admitting.are_pending, Admitting.puts_kept, Catching.to_write, Catching.wrote_rows}
 use Rattle.fb_bgwrite.proofs.spilling.Spilling.write.Goals as goal
 
 pub caught-requires-clause-blocks : goal.caught-requires-clause-blocks

@@ -1,7 +1,4 @@
-use Rattle.std.proofs.Common.{◌≡◌, ◌∷◌, ◌++◌, take}
-use Rattle.fb_bgwrite.specs.declared.items.SpillItem.TheVariants.{Spill as SpillLine}
-use Rattle.fb_bgwrite.specs.Standing.{HasKept, IsSpilling}
-use Rattle.fb_bgwrite.specs.Steps.{spill_row}
+use Rattle.fb_bgwrite.proofs.Words.{◌≡◌, ◌∷◌, ◌++◌, take, SpillLine, HasKept, IsSpilling, spill_row}
 use Rattle.fb_bgwrite.proofs.Catching.{wrote_rows}
 use Rattle.fb_bgwrite.proofs.spilling.Spilling.write.Given as goal
 

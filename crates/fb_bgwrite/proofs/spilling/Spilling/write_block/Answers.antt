@@ -1,6 +1,4 @@
-use Rattle.std.proofs.Common.{◌+◌, ◌++◌, ◌∷◌, [], refl, ap, ◌∙◌, arith}
-use Rattle.fb_bgwrite.specs.declared.items.SpillItem.TheVariants.{Wrote as WroteLine}
-use Rattle.fb_bgwrite.specs.declared.items.WroteRow.{WroteRow}
+use Rattle.fb_bgwrite.proofs.Words.{◌+◌, ◌++◌, ◌∷◌, [], refl, ap, ◌∙◌, arith, WroteLine, WroteRow}
 use Rattle.fb_bgwrite.proofs.Adding.{block_added, wanted_there, written_few}
 use Rattle.fb_bgwrite.proofs.spilling.Spilling.write_block.Goals as goal
 

@@ -1,5 +1,4 @@
-use Rattle.std.proofs.Common.{subst, sym}
-use Rattle.fb_bgwrite.specs.Taken.{HasTaken, IsKnown}
+use Rattle.fb_bgwrite.proofs.Words.{subst, sym, HasTaken, IsKnown}
 use Rattle.fb_bgwrite.proofs.Appending.{taken_push}
 use Rattle.fb_bgwrite.proofs.taken.Taken.add.Goals as goal
 
