@@ -1,15 +1,15 @@
 -- One more row keeps all that holds of the rows.
-use Rattle.fb_bgwrite.proofs.Words.{◌≡◌, ℕ, zero, suc, ◌+◌, ◌*◌, ◌^◌, ◌≤◌, List, [], ◌∷◌, ◌++◌, Bool, true, false, not, Some, slice_get}
-use Rattle.fb_bgwrite.proofs.Words.{take, drop, map, length, refl, sym, ap, ◌∙◌, subst, arith, if◌then◌else◌, ◌==◌, ◌&&◌, filter}
-use Rattle.fb_bgwrite.proofs.Words.{AllByRecursion, sum_by, nat_tests, sum_by_push, places, Disk, Block, Entry, Wanted, Delivered, Deliver}
-use Rattle.fb_bgwrite.proofs.Words.{after, is_block, Catch, SpillItem, SpillLine, WroteLine, SpillRow, Put, Spilling, PutBlock, blocks_from}
-use Rattle.fb_bgwrite.proofs.Words.{is_written, put_blocks, sectors, writes, left_over, sectors_in, AreOnce, IsInTime, entry_of}
-use Rattle.fb_bgwrite.proofs.Words.{first_blocks, ArePutsOn, IsSpilling, IsToWrite, IsUpTo, wrote_row, HasRange}
-use Rattle.fb_bgwrite.proofs.Admitting.{first_in_order, numbered_first}
-use Rattle.fb_bgwrite.proofs.Appending.{at_append}
-use Rattle.fb_bgwrite.proofs.Lists.{all_none, all_push, at_all, some_one}
-use Rattle.fb_bgwrite.proofs.PutBlocks.{all_of_puts, all_sectors, blocks_split, its_blocks, puts_in_order, IsOfPuts}
-use Rattle.fb_bgwrite.proofs.Writing.{delivered, left_less, none_once, once_more, once_stay, stay_left, stay_registered, told}
+use Rattle.fb_bgwrite.proofs.Words.{option_map, slice_get-map, all_get, all_push, ◌≡◌, ℕ, ◌+◌, ◌*◌, ◌^◌, ◌≤◌, List, [], ◌∷◌}
+use Rattle.fb_bgwrite.proofs.Words.{◌++◌, Bool, true, false, not, Some, slice_get, take, drop, map, length, refl, sym, ap, ◌∙◌, subst}
+use Rattle.fb_bgwrite.proofs.Words.{arith, if◌then◌else◌, ◌==◌, ◌&&◌, filter, AllByRecursion, sum_by, nat_tests, sum_by_push, places, Disk}
+use Rattle.fb_bgwrite.proofs.Words.{Block, Entry, Wanted, Delivered, Deliver, after, is_block, Catch, SpillItem, SpillLine, WroteLine}
+use Rattle.fb_bgwrite.proofs.Words.{SpillRow, Put, Spilling, PutBlock, blocks_from, is_written, put_blocks, sectors, writes, left_over}
+use Rattle.fb_bgwrite.proofs.Words.{sectors_in, AreOnce, IsInTime, entry_of, first_blocks, ArePutsOn, IsSpilling, IsToWrite, IsUpTo}
+use Rattle.fb_bgwrite.proofs.Words.{wrote_row, HasRange}
+use Rattle.fb_bgwrite.proofs.{Admitting.first_in_order, Admitting.numbered_first, Appending.at_append, Lists.all_none}
+use Rattle.fb_bgwrite.proofs.{PutBlocks.all_of_puts, PutBlocks.all_sectors, PutBlocks.blocks_split, PutBlocks.its_blocks}
+use Rattle.fb_bgwrite.proofs.{PutBlocks.puts_in_order, PutBlocks.IsOfPuts, Writing.delivered, Writing.left_less, Writing.none_once}
+use Rattle.fb_bgwrite.proofs.{Writing.once_more, Writing.once_stay, Writing.stay_left, Writing.stay_registered, Writing.told}
 
 -- ---- before the first row
 
@@ -62,9 +62,7 @@ among_all : (disk : Disk) (puts : List Put) (n i : ℕ) (put : PutBlock) → n �
 among_all disk puts n i put le at = ap (λ bs. slice_get bs i) (blocks_split disk.map 1 n puts le) ∙ at_append (first_blocks disk puts n) (blocks_from disk.map (1 + n) (drop n puts)) i put at
 
 mapped : {X Y : Type 0} (f : X → Y) (xs : List X) (i : ℕ) (x : X) → slice_get xs i ≡ Some x → slice_get (map f xs) i ≡ Some (f x)
-mapped f [] i x at = absurd (grind arith)
-mapped f (y ∷ ys) zero x at = ap (λ z. Some (f z)) (some_one y x at)
-mapped f (y ∷ ys) (suc i) x at = mapped f ys i x at
+mapped f xs i x at = slice_get-map f xs i ∙ ap (option_map f) at
 
 itself : (n : ℕ) → (n == n) ≡ true
 itself n = grind (arith, nat_tests)
@@ -94,9 +92,9 @@ block_added old catch pending items written is are to added delivers more_writte
     let first_order = first_in_order disk puts n are is.first in
     let all_order = puts_in_order disk 1 puts are.on_disk are.apart in
     let at_all' = among_all disk puts n to.index to.put is.first to.stands in
-    let of_puts = at_all (IsOfPuts disk 1 puts) (put_blocks disk.map puts) to.index to.put (all_of_puts disk 1 puts are.on_disk) at_all' in
+    let of_puts = all_get (IsOfPuts disk 1 puts) (put_blocks disk.map puts) to.index to.put (all_of_puts disk 1 puts are.on_disk) at_all' in
     let unwritten : is_written old.items block ≡ false = ap (is_written old.items) to.block ∙ to.unwritten in
-    let upto = at_all (λ (p : PutBlock). p.block.task ≤ n) (first_blocks disk puts n) to.index to.put (numbered_first disk puts n are) to.stands in
+    let upto = all_get (λ (p : PutBlock). p.block.task ≤ n) (first_blocks disk puts n) to.index to.put (numbered_first disk puts n are) to.stands in
     let task = ap (λ (b : Block). b.task) to.block in
     let count = ap (λ (b : Block). b.count) to.block in
     let lbn = ap (λ (b : Block). b.lbn) to.block in
@@ -128,5 +126,5 @@ written_few old catch is are to =
     let disk = old.disk.now in
     let puts = old.puts.now in
     let at_all' = among_all disk puts old.admitted to.index to.put is.first to.stands in
-    let of_puts = at_all (IsOfPuts disk 1 puts) (put_blocks disk.map puts) to.index to.put (all_of_puts disk 1 puts are.on_disk) at_all' in
+    let of_puts = all_get (IsOfPuts disk 1 puts) (put_blocks disk.map puts) to.index to.put (all_of_puts disk 1 puts are.on_disk) at_all' in
     omega (arith, is.parts, sum_of_all disk puts, are.few_sectors, ap (λ (b : Block). b.count) to.block, of_puts.is.fits.few)

@@ -1,16 +1,16 @@
 -- The blocks of one more put are registered.
-use Rattle.fb_bgwrite.proofs.Words.{Bor, None, ◌≡◌, ℕ, zero, suc, ◌+◌, ◌<◌, ◌≤◌, List, [], ◌∷◌, ◌++◌, true, false, Some, slice_get, take}
-use Rattle.fb_bgwrite.proofs.Words.{drop, map, length, refl, sym, ap, ap₂, ◌∙◌, subst, arith, inl, inr, append_assoc, append-nil}
+use Rattle.fb_bgwrite.proofs.Words.{slice_get_within, length-take, take-append-drop, all_push, all_left, all_right, all_map, one_more}
+use Rattle.fb_bgwrite.proofs.Words.{all_get, Bor, None, ◌≡◌, ℕ, zero, suc, ◌+◌, ◌<◌, ◌≤◌, List, [], ◌∷◌, ◌++◌, true, false, Some, slice_get}
+use Rattle.fb_bgwrite.proofs.Words.{take, drop, map, length, refl, sym, ap, ap₂, ◌∙◌, subst, arith, inl, inr, append_assoc, append-nil}
 use Rattle.fb_bgwrite.proofs.Words.{if◌then◌else◌, ◌==◌, AllByRecursion, sum_by, cases_Bool, nat_tests, map-append, length-map, sum_by-cons}
 use Rattle.fb_bgwrite.proofs.Words.{IsRising, Shape, places, Cut, cutting, Disk, all_weaker, Block, Entry, Wanted, Delivered, blocks_of}
 use Rattle.fb_bgwrite.proofs.Words.{registered, wanted_of, numbered, AreOnDisk, FitsDisk, SpillItem, SpillLine, WroteLine, Put, Spilling}
 use Rattle.fb_bgwrite.proofs.Words.{share, AreApart, PutBlock, blocks_from, is_written, pending, put_blocks, writes, block_range}
 use Rattle.fb_bgwrite.proofs.Words.{ArePending, entry_of, first_blocks, wanted_entry, ArePutsOn, HasChosen, HasKept, IsSpilling, IsUpTo}
 use Rattle.fb_bgwrite.proofs.Words.{IsBest, WritesNothing, spill_rows, Spill, GapRow}
-use Rattle.fb_bgwrite.proofs.Lists.{at_all, none_any, some_one}
-use Rattle.fb_bgwrite.proofs.PutBlocks.{all_of_puts, blocks_more, blocks_split, few_blocks, its_blocks, none_registered, order_left}
-use Rattle.fb_bgwrite.proofs.PutBlocks.{puts_in_order, AreInOrder, IsBefore, IsOfPuts}
-use Rattle.fb_bgwrite.proofs.Writing.{pending_is}
+use Rattle.fb_bgwrite.proofs.{Lists.none_any, Lists.some_one, PutBlocks.all_of_puts, PutBlocks.blocks_more, PutBlocks.blocks_split}
+use Rattle.fb_bgwrite.proofs.{PutBlocks.few_blocks, PutBlocks.its_blocks, PutBlocks.none_registered, PutBlocks.order_left}
+use Rattle.fb_bgwrite.proofs.{PutBlocks.puts_in_order, PutBlocks.AreInOrder, PutBlocks.IsBefore, PutBlocks.IsOfPuts, Writing.pending_is}
 use Rattle.fb_bgwrite.specs.Blocks as puts
 
 -- ---- registering
@@ -50,24 +50,12 @@ its_map : (items : List SpillItem) (blocks : List PutBlock) → blocks_of (map (
 its_map items [] = refl
 its_map items (b ∷ bs) = ap (λ xs. b.block ∷ xs) (its_map items bs)
 
-pub first_within : {X : Type 0} (xs : List X) (i : ℕ) (x : X) → slice_get xs i ≡ Some x → i < length xs
-first_within [] i x at = absurd (grind arith)
-first_within (y ∷ ys) zero x at = omega arith
-first_within (y ∷ ys) (suc i) x at = omega (arith, first_within ys i x at)
-
 lie_take : (P : Put → Type 0) (n : ℕ) (puts : List Put) → AllByRecursion P puts → AllByRecursion P (take n puts)
-lie_take P zero puts all = tt
-lie_take P (suc n) [] all = tt
-lie_take P (suc n) (put ∷ puts) all = (all.0, lie_take P n puts all.1)
-
-take_few : (n : ℕ) (puts : List Put) → length (take n puts) ≤ n
-take_few zero puts = omega arith
-take_few (suc n) [] = omega arith
-take_few (suc n) (put ∷ puts) = omega (arith, take_few n puts)
+lie_take P n puts all = all_left P (take n puts) (drop n puts) (subst (AllByRecursion P) (sym (take-append-drop n puts)) all)
 
 -- their puts are among the first
 pub numbered_first : (disk : Disk) (puts : List Put) (n : ℕ) → ArePutsOn (length (places disk.map)) puts → AllByRecursion (λ (p : PutBlock). p.block.task ≤ n) (first_blocks disk puts n)
-numbered_first disk puts n are = all_weaker (IsOfPuts disk 1 (take n puts)) (λ (p : PutBlock). p.block.task ≤ n) (λ p is. omega (arith, is.is.task, first_within (take n puts) is.i is.own is.stands, take_few n puts))
+numbered_first disk puts n are = all_weaker (IsOfPuts disk 1 (take n puts)) (λ (p : PutBlock). p.block.task ≤ n) (λ p is. omega (arith, is.is.task, slice_get_within (take n puts) is.i is.own is.stands, length-take n puts))
     (first_blocks disk puts n) (all_of_puts disk 1 (take n puts) (lie_take (λ (put : Put). put.first + put.count ≤ length (places disk.map)) n puts are.on_disk))
 
 pub first_in_order : (disk : Disk) (puts : List Put) (n : ℕ) → ArePutsOn (length (places disk.map)) puts → n ≤ length puts → AreInOrder (first_blocks disk puts n)
@@ -77,15 +65,11 @@ first_in_order disk puts n are le = order_left (first_blocks disk puts n) (block
 pub first_few : (disk : Disk) (puts : List Put) (n : ℕ) → ArePutsOn (length (places disk.map)) puts → length (first_blocks disk puts n) ≤ sum_by (λ (put : Put). put.count) (take n puts)
 first_few disk puts n are = few_blocks disk 1 (take n puts) (lie_take (λ (put : Put). put.first + put.count ≤ length (places disk.map)) n puts are.on_disk)
 
-all_mapped : (P : Block → Type 0) (blocks : List PutBlock) → AllByRecursion (λ (p : PutBlock). P p.block) blocks → AllByRecursion P (its_blocks blocks)
-all_mapped P [] all = tt
-all_mapped P (b ∷ bs) all = (all.0, all_mapped P bs all.1)
-
 -- no block of the next put is registered
 pub none_yet_registered : (disk : Disk) (puts : List Put) (items : List SpillItem) (n : ℕ) → ArePutsOn (length (places disk.map)) puts → registered (n + 1) (blocks_of (map (entry_of items) (first_blocks disk puts n))) ≡ 0
 none_yet_registered disk puts items n are =
     ap (registered (n + 1)) (its_map items (first_blocks disk puts n))
-    ∙ none_registered (n + 1) (its_blocks (first_blocks disk puts n)) (all_mapped (λ b. b.task < n + 1) (first_blocks disk puts n)
+    ∙ none_registered (n + 1) (its_blocks (first_blocks disk puts n)) (all_map (λ (b : Block). b.task < n + 1) (λ (p : PutBlock). p.block) (first_blocks disk puts n)
     (all_weaker (λ (p : PutBlock). p.block.task ≤ n) (λ (p : PutBlock). p.block.task < n + 1) (λ p le. omega (arith, le)) (first_blocks disk puts n) (numbered_first disk puts n are)))
 
 -- ---- what the search needs to know
@@ -122,15 +106,11 @@ are_pending spilling is are =
 
 -- ---- which blocks are pending
 
-come_all : (disk : Disk) (now : ℕ) (puts : List Put) → AllByRecursion (λ (put : Put). put.instant ≤ now) puts → (blocks : List PutBlock) (number : ℕ) → AllByRecursion (IsOfPuts disk number puts) blocks
-    → AllByRecursion (λ (p : PutBlock). p.instant ≤ now) blocks
-come_all disk now puts come [] number all = tt
-come_all disk now puts come (b ∷ bs) number all = (omega (arith, all.0.instant, at_all (λ (put : Put). put.instant ≤ now) puts all.0.i all.0.own come all.0.stands), come_all disk now puts come bs number all.1)
-
-later_all : (disk : Disk) (now : ℕ) (puts : List Put) → AllByRecursion (λ (put : Put). now < put.instant) puts → (blocks : List PutBlock) (number : ℕ) → AllByRecursion (IsOfPuts disk number puts) blocks
-    → AllByRecursion (λ (p : PutBlock). now < p.instant) blocks
-later_all disk now puts later [] number all = tt
-later_all disk now puts later (b ∷ bs) number all = (omega (arith, all.0.instant, at_all (λ (put : Put). now < put.instant) puts all.0.i all.0.own later all.0.stands), later_all disk now puts later bs number all.1)
+-- what holds of the instants of puts holds of those of their blocks
+by_instant : (P : ℕ → Type 0) (disk : Disk) (puts : List Put) → AllByRecursion (λ (put : Put). P put.instant) puts → (blocks : List PutBlock) (number : ℕ) → AllByRecursion (IsOfPuts disk number puts) blocks
+    → AllByRecursion (λ (p : PutBlock). P p.instant) blocks
+by_instant P disk puts each blocks number = all_weaker (IsOfPuts disk number puts) (λ (p : PutBlock). P p.instant)
+    (λ p is. subst P (sym is.instant) (all_get (λ (put : Put). P put.instant) puts is.i is.own each is.stands)) blocks
 
 rising_behind : (now instant : ℕ) (puts : List Put) → now < instant → AllByRecursion (λ later. instant ≤ later) (map (λ (put : Put). put.instant) puts) → AllByRecursion (λ (put : Put). now < put.instant) puts
 rising_behind now instant [] less all = tt
@@ -144,9 +124,7 @@ others_later now (suc n) [] rising next = tt
 others_later now (suc n) (put ∷ puts) rising next = others_later now n puts rising.1 next
 
 lie_drop : (P : Put → Type 0) (n : ℕ) (puts : List Put) → AllByRecursion P puts → AllByRecursion P (drop n puts)
-lie_drop P zero puts all = all
-lie_drop P (suc n) [] all = tt
-lie_drop P (suc n) (put ∷ puts) all = lie_drop P n puts all.1
+lie_drop P n puts all = all_right P (take n puts) (drop n puts) (subst (AllByRecursion P) (sym (take-append-drop n puts)) all)
 
 pub wanted_pending : (spilling : Spilling) → IsSpilling spilling → ArePutsOn (length (places spilling.disk.now.map)) spilling.puts.now
     → ((put : Put) → slice_get spilling.puts.now spilling.admitted ≡ Some put → spilling.instant < put.instant)
@@ -158,8 +136,8 @@ wanted_pending spilling is are next =
     let lies = λ (put : Put). put.first + put.count ≤ length (places disk.map) in
     ap wanted_of is.registered
     ∙ pending_is spilling.items spilling.instant (put_blocks disk.map puts) (first_blocks disk puts n) (blocks_from disk.map (1 + n) (drop n puts)) (blocks_split disk.map 1 n puts is.first)
-    (come_all disk spilling.instant (take n puts) is.come (first_blocks disk puts n) 1 (all_of_puts disk 1 (take n puts) (lie_take lies n puts are.on_disk)))
-    (later_all disk spilling.instant (drop n puts) (others_later spilling.instant n puts are.rising next) (blocks_from disk.map (1 + n) (drop n puts)) (1 + n) (all_of_puts disk (1 + n) (drop n puts) (lie_drop lies n puts are.on_disk)))
+    (by_instant (λ n. n ≤ spilling.instant) disk (take n puts) is.come (first_blocks disk puts n) 1 (all_of_puts disk 1 (take n puts) (lie_take lies n puts are.on_disk)))
+    (by_instant (λ n. spilling.instant < n) disk (drop n puts) (others_later spilling.instant n puts are.rising next) (blocks_from disk.map (1 + n) (drop n puts)) (1 + n) (all_of_puts disk (1 + n) (drop n puts) (lie_drop lies n puts are.on_disk)))
 
 pub first_come : (spilling : Spilling) → IsSpilling spilling → ArePutsOn (length (places spilling.disk.now.map)) spilling.puts.now
     → AllByRecursion (λ (p : PutBlock). p.instant ≤ spilling.instant) (first_blocks spilling.disk.now spilling.puts.now spilling.admitted)
@@ -167,7 +145,7 @@ first_come spilling is are =
     let disk = spilling.disk.now in
     let puts = spilling.puts.now in
     let n = spilling.admitted in
-    come_all disk spilling.instant (take n puts) is.come (first_blocks disk puts n) 1 (all_of_puts disk 1 (take n puts) (lie_take (λ (put : Put). put.first + put.count ≤ length (places disk.map)) n puts are.on_disk))
+    by_instant (λ n. n ≤ spilling.instant) disk (take n puts) is.come (first_blocks disk puts n) 1 (all_of_puts disk 1 (take n puts) (lie_take (λ (put : Put). put.first + put.count ≤ length (places disk.map)) n puts are.on_disk))
 
 -- ---- one more put
 
@@ -188,11 +166,6 @@ own_numbered : (number n : ℕ) (cuts : List Cut) → AllByRecursion (λ (b : Bl
 own_numbered number n [] = tt
 own_numbered number n (cut ∷ cuts) = (omega arith, own_numbered number (n + 1) cuts)
 
-take_more : (n : ℕ) (puts : List Put) (put : Put) (P : Put → Type 0) → slice_get puts n ≡ Some put → AllByRecursion P (take n puts) → P put → AllByRecursion P (take (suc n) puts)
-take_more n [] put P at all here = absurd (grind arith)
-take_more zero (p ∷ ps) put P at all here = (subst P (sym (some_one p put at)) here, tt)
-take_more (suc n) (p ∷ ps) put P at all here = (all.0, take_more n ps put P at all.1 here)
-
 further : (n : ℕ) (item : SpillItem) → IsUpTo n item → IsUpTo (n + 1) item
 further n (SpillLine row) upto = tt
 further n (WroteLine row) upto = omega (arith, upto)
@@ -208,8 +181,8 @@ put_admitted old put pending is are at come added =
     let blocks : first_blocks disk old.puts.now (suc n) ≡ first_blocks disk old.puts.now n ++ puts.blocks_of disk.map (1 + n) put = blocks_more disk.map 1 n old.puts.now put at in
     let same : puts.blocks_of disk.map (n + 1) put ≡ puts.blocks_of disk.map (1 + n) put = ap (λ m. puts.blocks_of disk.map m put) (let e : n + 1 ≡ 1 + n = omega arith in e) in
     record {
-      first = omega (arith, first_within old.puts.now n put at);
-      come = subst (λ m. AllByRecursion (λ (p : Put). p.instant ≤ old.instant) (take m old.puts.now)) (sym next) (take_more n old.puts.now put (λ p. p.instant ≤ old.instant) at is.come come);
+      first = omega (arith, slice_get_within old.puts.now n put at);
+      come = subst (AllByRecursion (λ (p : Put). p.instant ≤ old.instant)) (sym (one_more old.puts.now n put at)) (all_push (λ (p : Put). p.instant ≤ old.instant) (take n old.puts.now) put is.come come);
       registered = added
           ∙ ap₂ (λ xs ys. xs ++ ys) is.registered (wanted_new n old.items put.instant (numbered (n + 1) 1 0 cuts) is.upto (own_numbered n 0 cuts) ∙ ap (map (entry_of old.items)) same)
           ∙ sym (map-append (entry_of old.items) (first_blocks disk old.puts.now n) (puts.blocks_of disk.map (1 + n) put))

@@ -1,5 +1,5 @@
 -- The head can go the amended way, which has all legs outside free gaps.
-use Rattle.fb_bgwrite.proofs.Words.{◌≡◌, ℕ, zero, suc, ◌+◌, ◌^◌, ◌*◌, ◌≤◌, List, [], ◌∷◌, ◌++◌, Bool, true, false, Option, Some, None, map}
+use Rattle.fb_bgwrite.proofs.Words.{◌≡◌, ℕ, zero, suc, ◌+◌, ◌^◌, ◌*◌, ◌≤◌, List, [], ◌∷◌, ◌++◌, Bool, true, false, Option, Some, None}
 use Rattle.fb_bgwrite.proofs.Words.{length, refl, sym, ap, ◌∙◌, subst, arith, inl, inr, append_assoc, not, AllByRecursion, slice_index_or}
 use Rattle.fb_bgwrite.proofs.Words.{cases_Bool, cases_lt, Track, same_track, Shape, IsTrackOf, places, IsSound, place_at, track_at, pos}
 use Rattle.fb_bgwrite.proofs.Words.{Disk, Block, ForeRow, Gap, Plan, Direct, Detour, GapRow, BackRow, GapLine, IdleLine, IsPlan, Leg, stay}
@@ -14,14 +14,6 @@ use Rattle.fb_detour.proofs.Within.{place_of}
 use Rattle.fb_bgwrite.proofs.Legs.{behind_gap, first_follows, gap_begins, lead_spill, led_forward, stay_follows, through, StaysOn}
 
 -- ---- one definition of a run's way
-
-pub planned_is : (disk : Disk) (back : List BackRow) (fore : List ForeRow) → timeline_with disk (map (planned_legs disk) (gaps back)) back fore ≡ timeline disk back fore
-unfolding timeline timeline_with
-planned_is disk [] fore = refl
-planned_is disk (IdleLine dwell ∷ back) fore = ap (λ legs. stay dwell.track dwell.begin dwell.end ∷ legs) (planned_is disk back fore)
-planned_is disk (GapLine row ∷ back) [] = ap (λ legs. gap_legs disk row.gap row.plan ++ legs) (planned_is disk back [])
-planned_is disk (GapLine row ∷ back) (served ∷ fore) = ap (λ legs. gap_legs disk row.gap row.plan ++ service_legs disk row.gap served ++ legs) (planned_is disk back fore)
-planned_is disk (_ ∷ back) fore = planned_is disk back fore
 
 -- ---- gaps
 
@@ -170,10 +162,6 @@ module _ (disk : Disk) (sound : IsSound disk.map) where
   amended_leads on now end (_ ∷ back) fore spills here are fit led = amended_leads on now end back fore spills here are fit led
 
   -- ---- what is kept
-
-  nothing_in : {X : Type 0} (xs : List X) → IsSublist [] xs
-  nothing_in [] = none
-  nothing_in (x ∷ xs) = left_out (nothing_in xs)
 
   behind_same : {X : Type 0} (front xs ys : List X) → IsSublist xs ys → IsSublist (front ++ xs) (front ++ ys)
   behind_same [] xs ys is = is

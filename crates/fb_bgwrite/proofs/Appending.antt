@@ -1,12 +1,9 @@
 -- One more put.
-use Rattle.fb_bgwrite.proofs.Words.{◌≡◌, ℕ, zero, suc, ◌+◌, ◌-◌, ◌<◌, ◌≤◌, List, [], ◌∷◌, ◌++◌, true, false, Some, slice_get, length, inl}
-use Rattle.fb_bgwrite.proofs.Words.{inr, refl, sym, ap, ◌∙◌, arith, if◌then◌else◌, AllByRecursion, list_any, nat_cmp, BTreeMap, get, is_at}
-use Rattle.fb_bgwrite.proofs.Words.{cases_Bool, nat_tests, IsRising, all_left, all_right, SectorRange, share, AreApart, AreTaken}
-use Rattle.fb_bgwrite.proofs.{Lists.all_push, Lists.all_none, Lists.some_one, TakenRanges.share_either, TakenRanges.is_shares}
-
-pub rising_push : (xs : List ℕ) (x : ℕ) → IsRising xs → AllByRecursion (λ y. y ≤ x) xs → IsRising (xs ++ x ∷ [])
-rising_push [] x rising all = (tt, tt)
-rising_push (y ∷ ys) x rising all = (all_push (λ later. y ≤ later) ys x rising.0 all.0, rising_push ys x rising.1 all.1)
+use Rattle.fb_bgwrite.proofs.Words.{slice_get_within, get_left, get_right, all_push, ◌≡◌, ℕ, ◌+◌, ◌-◌, ◌<◌, List, [], ◌∷◌}
+use Rattle.fb_bgwrite.proofs.Words.{◌++◌, true, false, Some, slice_get, length, inl, inr, refl, sym, ap, ◌∙◌, arith, if◌then◌else◌}
+use Rattle.fb_bgwrite.proofs.Words.{AllByRecursion, list_any, nat_cmp, BTreeMap, get, is_at, cases_Bool, nat_tests, all_left}
+use Rattle.fb_bgwrite.proofs.Words.{all_right, SectorRange, share, AreApart, AreTaken}
+use Rattle.fb_bgwrite.proofs.{Lists.all_none, Lists.some_one, TakenRanges.share_either, TakenRanges.is_shares}
 
 pub apart_push : (ranges : List SectorRange) (range : SectorRange) → AreApart ranges → AllByRecursion (λ other. share range other ≡ false) ranges → AreApart (ranges ++ range ∷ [])
 apart_push [] range apart off = (tt, tt)
@@ -21,13 +18,10 @@ apart_pop (r ∷ rs) range apart =
     ((all_left (λ other. share r other ≡ false) rs (range ∷ []) apart.0, rest.0), rw off rest.1)
 
 pub at_append : {X : Type 0} (xs ys : List X) (i : ℕ) (x : X) → slice_get xs i ≡ Some x → slice_get (xs ++ ys) i ≡ Some x
-at_append [] ys i x at = absurd (grind arith)
-at_append (z ∷ zs) ys zero x at = at
-at_append (z ∷ zs) ys (suc i) x at = at_append zs ys i x at
+at_append xs ys i x at = get_left xs ys i (slice_get_within xs i x at) ∙ at
 
 pub at_last : {X : Type 0} (xs : List X) (x : X) → slice_get (xs ++ x ∷ []) (length xs) ≡ Some x
-at_last [] x = refl
-at_last (y ∷ ys) x = at_last ys x
+at_last xs x = get_right xs (x ∷ []) 0 (length xs) (omega arith)
 
 same_key : (key : ℕ) → is_at (nat_cmp key) key ≡ true
 same_key key = grind (arith, nat_tests)

@@ -1,13 +1,13 @@
 -- What a stay catches are pending blocks, each once.
-use Rattle.fb_bgwrite.proofs.Words.{Bor, ◌≡◌, ℕ, zero, suc, ◌≤◌, List, [], ◌∷◌, ◌++◌, Bool, false, ◌||◌, Some, slice_get, take, map, length}
-use Rattle.fb_bgwrite.proofs.Words.{refl, sym, ap, ◌∙◌, subst, arith, inl, inr, ◌==◌, ◌&&◌, filter, AllByRecursion, fold, list_any}
-use Rattle.fb_bgwrite.proofs.Words.{cases_Bool, nat_tests, list_any-append, places, Disk, all_weaker, wanted_of, Dwell, catches, Catch}
-use Rattle.fb_bgwrite.proofs.Words.{is_before, place_in, catch_of, caught_of, begin-from-le, SpillItem, SpillLine, WroteLine, SpillRow, Put}
-use Rattle.fb_bgwrite.proofs.Words.{Spilling, PutBlock, is_written, writes, entry_of, first_blocks, ArePutsOn, HasKept, IsSpilling}
-use Rattle.fb_bgwrite.proofs.Words.{IsToWrite, wrote_row}
+use Rattle.fb_bgwrite.proofs.Words.{all_get, Bor, ◌≡◌, ℕ, zero, suc, ◌≤◌, List, [], ◌∷◌, ◌++◌, Bool, false, ◌||◌, Some, slice_get, take}
+use Rattle.fb_bgwrite.proofs.Words.{map, length, refl, sym, ap, ◌∙◌, subst, arith, inl, inr, ◌==◌, ◌&&◌, filter, AllByRecursion, fold}
+use Rattle.fb_bgwrite.proofs.Words.{list_any, cases_Bool, nat_tests, list_any-append, places, Disk, all_weaker, wanted_of, Dwell, catches}
+use Rattle.fb_bgwrite.proofs.Words.{Catch, is_before, place_in, catch_of, caught_of, begin-from-le, SpillItem, SpillLine, WroteLine}
+use Rattle.fb_bgwrite.proofs.Words.{SpillRow, Put, Spilling, PutBlock, is_written, writes, entry_of, first_blocks, ArePutsOn, HasKept}
+use Rattle.fb_bgwrite.proofs.Words.{IsSpilling, IsToWrite, wrote_row}
 use Rattle.fb_plan.proofs.Sorted.{put_front, put_behind, all_place}
-use Rattle.fb_bgwrite.proofs.{Admitting.first_come, Admitting.first_in_order, Lists.all_of, Lists.at_all, Lists.none_any}
-use Rattle.fb_bgwrite.proofs.{PutBlocks.AreInOrder, PutBlocks.IsBefore, Writing.before_other}
+use Rattle.fb_bgwrite.proofs.{Admitting.first_come, Admitting.first_in_order, Lists.all_of, Lists.none_any, PutBlocks.AreInOrder}
+use Rattle.fb_bgwrite.proofs.{PutBlocks.IsBefore, Writing.before_other}
 
 -- ---- in the order of delivery
 
@@ -119,7 +119,7 @@ wrote_rows cs = map (λ catch. WroteLine (wrote_row catch)) cs
 earlier_told : (cs : List Catch) (i : ℕ) (catch : Catch) → AreDifferent cs → slice_get cs i ≡ Some catch → AllByRecursion (λ item. writes catch.block item ≡ false) (wrote_rows (take i cs))
 earlier_told [] i catch apart at = absurd (grind arith)
 earlier_told (c ∷ cs) zero catch apart at = tt
-earlier_told (c ∷ cs) (suc i) catch apart at = (at_all (Differ c) cs i catch apart.0 at, earlier_told cs i catch apart.1 at)
+earlier_told (c ∷ cs) (suc i) catch apart at = (all_get (Differ c) cs i catch apart.0 at, earlier_told cs i catch apart.1 at)
 
 neither : (a b : Bool) → a ≡ false → b ≡ false → (a || b) ≡ false
 neither a b off_a off_b = rw (off_a, off_b) refl
@@ -141,7 +141,7 @@ to_write old new dwell row i catch is are begin kept admitted at items =
     let cs = caught_of disk dwell (wanted_of (map (entry_of old.items) (first_blocks disk puts n))) in
     let here : slice_get cs i ≡ Some catch = ap (λ es. slice_get (caught_of disk dwell (wanted_of es)) i) (sym is.registered) ∙ at in
     let come = all_weaker (λ (p : PutBlock). p.instant ≤ old.instant) (λ (p : PutBlock). p.instant ≤ dwell.begin) (λ p le. omega (arith, le, begin)) (first_blocks disk puts n) (first_come old is are) in
-    let its = at_all (IsCaught disk puts n old.items) cs i catch (caught_are disk puts n old.items dwell come) here in
+    let its = all_get (IsCaught disk puts n old.items) cs i catch (caught_are disk puts n old.items dwell come) here in
     let apart = caught_differ disk puts n old.items dwell (first_in_order disk puts n are is.first) in
     let rows : new.items ≡ old.items ++ SpillLine row ∷ wrote_rows (take i cs) = items ∙ ap (λ es. old.items ++ SpillLine row ∷ wrote_rows (take i (caught_of disk dwell (wanted_of es)))) is.registered in
     let unwritten = not_told old.items row cs i catch apart here (ap (is_written old.items) its.block ∙ its.unwritten) in

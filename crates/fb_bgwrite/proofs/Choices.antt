@@ -1,68 +1,28 @@
 -- The best so far beats what it beat before.
 use Rattle.fb_bgwrite.proofs.Words.{◌≡◌, ℕ, ◌+◌, ◌<◌, ◌≤◌, List, [], ◌∷◌, Option, Some, None, inl, inr, refl, sym, ◌∙◌, subst, arith}
 use Rattle.fb_bgwrite.proofs.Words.{sum_by, cases_Bool, cases_lt, Track, same_track, cylinders_of, Disk, Block, Entry, on_track, wanted_of}
-use Rattle.fb_bgwrite.proofs.Words.{Dwell, Gap, IsTrackBefore, AreOnDisk, stay_gain, longer_stay, stay-of, weight_of_stay, Spill, Valued}
-use Rattle.fb_bgwrite.proofs.Words.{ready, stay_of, value, IsNoLater, IsSpill, ArePending, Beats, BeatsOn, BeatsRange, IsBestIf, IsEnough}
-use Rattle.fb_bgwrite.proofs.Words.{IsLast, IsOnly, IsOver, IsShare, IsValuedIf, Keeps}
+use Rattle.fb_bgwrite.proofs.Words.{Dwell, Gap, AreOnDisk, stay_gain, longer_stay, stay-of, weight_of_stay, Spill, Valued}
+use Rattle.fb_bgwrite.proofs.Words.{ready, stay_of, value, IsSpill, ArePending, Beats, BeatsOn, BeatsRange, IsBestIf, IsEnough}
+use Rattle.fb_bgwrite.proofs.Words.{IsLast, IsOnly, IsShare, IsValuedIf, Keeps}
 use Rattle.fb_wanted.specs.Tracks.{wanted_weight}
 use Rattle.fb_detour.specs.Bounds.{stay}
 use Rattle.fb_bgwrite.specs.declared.search.Part.{Part}
 use Rattle.fb_bgwrite.proofs.Values.{as_much_by_last, less_before_last, value_stay, AreLight}
 
-before_on : (s t u : Track) → IsTrackBefore s t → IsTrackBefore t u → IsTrackBefore s u
-before_on s t u st tu = elim st [
-  | inl x ↦ elim tu [ inl y ↦ inl (omega (arith, x, y)) | inr y ↦ inl (omega (arith, x, y.0)) ]
-  | inr x ↦ elim tu [ inl y ↦ inl (omega (arith, x.0, y)) | inr y ↦ inr (omega (arith, x.0, y.0), omega (arith, x.1, y.1)) ]
-]
-
-no_later_on : (a b c : Spill) → IsNoLater a b → IsNoLater b c → IsNoLater a c
-no_later_on a b c ab bc = elim ab [
-  | inl x ↦ elim bc [
-    | inl y ↦ inl (before_on a.track b.track c.track x y)
-    | inr y ↦ inl (subst (λ t. IsTrackBefore a.track t) y.0 x)
-  ]
-  | inr x ↦ elim bc [
-    | inl y ↦ inl (subst (λ t. IsTrackBefore t c.track) (sym x.0) y)
-    | inr y ↦ inr (x.0 ∙ y.0, omega (arith, x.1, y.1))
-  ]
-]
-
 pub same_share : (disk : Disk) (from end low high share : ℕ) → IsShare disk from end share → from ≤ low → high ≤ end → IsShare disk low high share
 same_share disk from end low high share is after inside = (is.0, λ cylinder time above below. is.1 cylinder time (omega (arith, after, above)) (omega (arith, inside, below)))
 
 module _ (disk : Disk) (gap : Gap) (pending : List Block) where
-  -- a better one beats the same
-  pub over_beats : (new old : Valued) (other : Spill) → IsOver new old → Beats disk gap pending (Some old) other → Beats disk gap pending (Some new) other
-  over_beats new old other over beats = elim over [
-    | inl x ↦ elim beats [ inl y ↦ inl (omega (arith, x, y)) | inr y ↦ inl (omega (arith, x, y.0)) ]
-    | inr x ↦ elim beats [ inl y ↦ inl (omega (arith, x.0, y)) | inr y ↦ inr (omega (arith, x.0, y.0), no_later_on new.spill old.spill other x.1 y.1) ]
-  ]
-
   -- what writes nothing is beaten by anything
   pub nothing_beaten : (new : Option Valued) (other : Spill) → IsValuedIf disk gap pending new → value disk gap pending other ≡ 0 → Beats disk gap pending new other
   nothing_beaten None other valued none = none
   nothing_beaten (Some best) other valued none = inl (omega (arith, none, valued.some))
-
-  pub kept_none : (new : Option Valued) → IsValuedIf disk gap pending new → Keeps disk gap pending None new
-  kept_none new valued other none = nothing_beaten new other valued none
 
   pub kept_on : (a b c : Option Valued) → Keeps disk gap pending a b → Keeps disk gap pending b c → Keeps disk gap pending a c
   kept_on a b c ab bc other beats = bc other (ab other beats)
 
   pub on_kept : (old new : Option Valued) (track : Track) → Keeps disk gap pending old new → BeatsOn disk gap pending old track → BeatsOn disk gap pending new track
   on_kept old new track keeps beats leave is = keeps (record { track = track; leave = leave }) (beats leave is)
-
-  pub range_kept : (old new : Option Valued) (from end : ℕ) → Keeps disk gap pending old new → BeatsRange disk gap pending old from end → BeatsRange disk gap pending new from end
-  range_kept old new from end keeps beats track low high = on_kept old new track keeps (beats track low high)
-
-  pub none_yet : (best : Option Valued) (from : ℕ) → BeatsRange disk gap pending best from from
-  none_yet best from track low high = absurd (omega (arith, low, high))
-
-  pub range_more : (best : Option Valued) (from mid end : ℕ) → BeatsRange disk gap pending best from mid → BeatsRange disk gap pending best mid end → BeatsRange disk gap pending best from end
-  range_more best from mid end before after track low high = elim (cases_lt track.cylinder mid) [
-    | inl less ↦ before track low less
-    | inr more ↦ after track more high
-  ]
 
   pub cylinder_done : (best : Option Valued) (cylinder n : ℕ) → disk.map.heads ≤ n → ((head : ℕ) → head < n → BeatsOn disk gap pending best (record { cylinder = cylinder; head = head }))
       → BeatsRange disk gap pending best cylinder (cylinder + 1)

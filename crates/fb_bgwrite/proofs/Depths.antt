@@ -1,8 +1,9 @@
 -- Blocks that share no sector pass one slot each.
-use Rattle.fb_bgwrite.proofs.Words.{◌≡◌, ℕ, zero, suc, ◌+◌, ◌-◌, ◌/◌, ◌<◌, ◌≤◌, List, [], ◌∷◌, Bool, true, false, map, inl, inr, refl, sym}
-use Rattle.fb_bgwrite.proofs.Words.{arith, ◌==◌, nat_le, nat_lt, AllByRecursion, sum_by, cases_Bool, and_parts, leb-true, ltb-true}
-use Rattle.fb_bgwrite.proofs.Words.{nat_tests, sum_by-cons, Track, same_track, slots_at, IsSound, HasOwnPlaces, pos, distance_of, Disk}
-use Rattle.fb_bgwrite.proofs.Words.{Entry, on_track, wanted_of, Gap, slots_within, Spill, share, AreApart, block_range, AreLeast}
+use Rattle.fb_bgwrite.proofs.Words.{◌∙◌, sym}
+use Rattle.fb_bgwrite.proofs.Words.{true≢false, ◌≡◌, ℕ, zero, suc, ◌+◌, ◌-◌, ◌/◌, ◌<◌, ◌≤◌, List, [], ◌∷◌, Bool, true, false, map, inl, inr}
+use Rattle.fb_bgwrite.proofs.Words.{refl, sym, arith, ◌==◌, AllByRecursion, sum_by, cases_Bool}
+use Rattle.fb_bgwrite.proofs.Words.{nat_tests, sum_by-cons, Track, same_track, slots_at, IsSound, HasOwnPlaces, pos, distance_of}
+use Rattle.fb_bgwrite.proofs.Words.{Disk, Entry, on_track, wanted_of, Gap, slots_within, Spill, share, AreApart, block_range, AreLeast}
 use Rattle.fb_bgwrite.proofs.Words.{ArePending, ready, value, IsSpill}
 use Rattle.std.proofs.lemmas.Nat.{le-div, mul-le}
 use Rattle.std.proofs.Math.Nat.{div-mul-le_self}
@@ -11,18 +12,10 @@ use Rattle.fb_seek.specs.Rising.{SeeksRise}
 use Rattle.fb_wanted.specs.Depth.{depth_at, is_in, weight_on}
 use Rattle.fb_detour.proofs.Packing.{div-rises, packing}
 use Rattle.fb_bgwrite.specs.declared.search.Moves.{Moves}
-use Rattle.fb_bgwrite.proofs.{TakenRanges.is_shares, Values.value_stay, Values.AreLight}
+use Rattle.fb_bgwrite.proofs.{Totals.in_no_other, Values.value_stay, Values.AreLight}
 
 both_in : (a b : Entry) (lbn : ℕ) → is_in lbn a.block ≡ true → is_in lbn b.block ≡ true → share (block_range a.block) (block_range b.block) ≡ false → ⊥
-both_in a b lbn in_a in_b apart =
-    let at_a = and_parts (nat_le a.block.lbn lbn) (nat_lt lbn (a.block.lbn + a.block.count)) in_a in
-    let at_b = and_parts (nat_le b.block.lbn lbn) (nat_lt lbn (b.block.lbn + b.block.count)) in_b in
-    let from_a : a.block.lbn ≤ lbn = leb-true a.block.lbn lbn at_a.0 in
-    let to_a : lbn < a.block.lbn + a.block.count = ltb-true lbn (a.block.lbn + a.block.count) at_a.1 in
-    let from_b : b.block.lbn ≤ lbn = leb-true b.block.lbn lbn at_b.0 in
-    let to_b : lbn < b.block.lbn + b.block.count = ltb-true lbn (b.block.lbn + b.block.count) at_b.1 in
-    let on = is_shares (block_range a.block) (block_range b.block) (omega arith) (omega arith) (omega arith) (omega arith) in
-    absurd (grind arith)
+both_in a b lbn in_a in_b apart = true≢false (sym in_b ∙ in_no_other (block_range a.block) (block_range b.block) lbn in_a apart)
 
 -- none of the others has the sector
 none_others : (e : Entry) (lbn : ℕ) → is_in lbn e.block ≡ true → (es : List Entry) → AllByRecursion (λ other. share (block_range e.block) other ≡ false) (map (λ entry. block_range entry.block) es)
@@ -110,15 +103,15 @@ nearer_on arm a b near write rises head le = elim (cases_Bool (same_track near b
   ]
 ]
 
-pub nearer_there : (arm : Mechanics) (a b near : Track) (write : Bool) → SeeksRise arm → near.head ≡ b.head → distance_of b.cylinder near.cylinder ≤ distance_of b.cylinder a.cylinder → pos arm b near write ≤ pos arm b a write
+turned : (arm : Mechanics) (a b : Track) (write : Bool) → pos arm a b write ≡ pos arm b a write
 unfolding pos
-nearer_there arm a b near write rises head le = elim (cases_Bool (same_track b near)) [
-  | inl here ↦ rw here (omega arith)
-  | inr away ↦ elim (cases_Bool (same_track b a)) [
-    | inl there ↦ let none = no_distance b a there in let same = same_head b near (sym head) (omega (arith, none, le)) in absurd (grind arith)
-    | inr apart ↦
-        let seeks = rises (distance_of b.cylinder near.cylinder) (distance_of b.cylinder a.cylinder) le in
-        let heads : (b.head == near.head) ≡ true = grind (arith, nat_tests) in
-        rw (away, apart, heads) (omega (arith, seeks))
-  ]
-]
+turned arm a b write =
+    let same : same_track a b ≡ same_track b a = grind (arith, nat_tests) in
+    let heads : (a.head == b.head) ≡ (b.head == a.head) = grind (arith, nat_tests) in
+    let far : distance_of a.cylinder b.cylinder ≡ distance_of b.cylinder a.cylinder = omega arith in
+    rw (same, heads, far) refl
+
+pub nearer_there : (arm : Mechanics) (a b near : Track) (write : Bool) → SeeksRise arm → near.head ≡ b.head → distance_of b.cylinder near.cylinder ≤ distance_of b.cylinder a.cylinder → pos arm b near write ≤ pos arm b a write
+nearer_there arm a b near write rises head le =
+    let far : distance_of near.cylinder b.cylinder ≤ distance_of a.cylinder b.cylinder = omega (arith, le) in
+    omega (arith, nearer_on arm a b near write rises head far, turned arm b near write, turned arm b a write)

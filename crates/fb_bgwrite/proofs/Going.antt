@@ -1,13 +1,14 @@
 -- Gap by gap.
-use Rattle.fb_bgwrite.proofs.Words.{Bor, ◌≡◌, ℕ, zero, suc, ◌+◌, ◌*◌, ◌^◌, ◌≤◌, List, [], ◌∷◌, ◌++◌, true, false, Option, Some, None, drop}
-use Rattle.fb_bgwrite.proofs.Words.{length, slice_get, not, refl, sym, ap, ap₂, ◌∙◌, subst, arith, inl, inr, append_assoc, append-nil}
-use Rattle.fb_bgwrite.proofs.Words.{AllByRecursion, flat_map, sum_by, IsSound, places, Disk, GapRow, BackRow, GapLine, Spill, SpillItem}
-use Rattle.fb_bgwrite.proofs.Words.{Put, Puts, Spilling, Run, timeline, IsPossible, left_over, AreGaps, IsInTime, IsSpillRun, ArePuts}
-use Rattle.fb_bgwrite.proofs.Words.{accepted, PutBlock, put_blocks, RunGap, delivers, gaps, HasNoFree, HasChosen, HasKept, ArePutsOn}
-use Rattle.fb_bgwrite.proofs.Words.{IsSpilling, Step, IsRight, rows_in, step_of, steps}
+use Rattle.fb_bgwrite.proofs.Words.{drop_all, length-append, drop_got, all_push, Bor, ◌≡◌, ℕ, ◌+◌, ◌*◌, ◌^◌, ◌≤◌, List, [], ◌∷◌}
+use Rattle.fb_bgwrite.proofs.Words.{◌++◌, true, false, Option, Some, None, drop, length, slice_get, not, refl, sym, ap, ap₂, ◌∙◌, subst}
+use Rattle.fb_bgwrite.proofs.Words.{arith, inl, inr, append_assoc, append-nil, AllByRecursion, flat_map, sum_by, IsSound, places, Disk}
+use Rattle.fb_bgwrite.proofs.Words.{GapRow, BackRow, GapLine, Spill, SpillItem, Put, Puts, Spilling, Run, timeline, IsPossible, left_over}
+use Rattle.fb_bgwrite.proofs.Words.{AreGaps, IsInTime, IsSpillRun, ArePuts, accepted, PutBlock, put_blocks, RunGap, delivers, gaps}
+use Rattle.fb_bgwrite.proofs.Words.{HasNoFree, HasChosen, HasKept, ArePutsOn, IsSpilling, Step, IsRight, rows_in, step_of, steps}
+use Rattle.std.proofs.lemmas.List.Concat.{flat_map-append}
 use Rattle.fb_model.specs.PlainReplay.{first_track}
-use Rattle.fb_bgwrite.proofs.{Lists.all_push, Lists.some_one, Amended.AreFit, Amended.all_fit, Amended.amended_leads, Amended.fit_earlier}
-use Rattle.fb_bgwrite.proofs.{Amended.kept_is, Amended.right_fits, PutBlocks.all_sectors, Totals.puts_on}
+use Rattle.fb_bgwrite.proofs.{Amended.AreFit, Amended.all_fit, Amended.amended_leads, Amended.fit_earlier, Amended.kept_is}
+use Rattle.fb_bgwrite.proofs.{Amended.right_fits, PutBlocks.all_sectors, Totals.puts_on}
 
 -- what was done in all gaps but the rest
 pub record HasGone (disk : Disk) (blocks : List PutBlock) (all rest : List RunGap) (items : List SpillItem) : Type 0 where
@@ -22,12 +23,7 @@ pub none_gone : (disk : Disk) (blocks : List PutBlock) (all : List RunGap) (item
 none_gone disk blocks all items none = subst (HasGone disk blocks all all) (sym none) (record { spills = []; done = []; split = λ more. refl; count = omega arith; right = tt; rows = refl })
 
 flat_push : (disk : Disk) (done : List Step) (step : Step) → flat_map (rows_in disk) (done ++ step ∷ []) ≡ flat_map (rows_in disk) done ++ rows_in disk step
-flat_push disk [] step = append-nil (rows_in disk step)
-flat_push disk (x ∷ xs) step = ap (λ ys. rows_in disk x ++ ys) (flat_push disk xs step) ∙ sym (append_assoc (rows_in disk x) (flat_map (rows_in disk) xs) (rows_in disk step))
-
-length_one_more : {X : Type 0} (xs : List X) (x : X) → length (xs ++ x ∷ []) ≡ length xs + 1
-length_one_more [] x = omega arith
-length_one_more (y ∷ ys) x = omega (arith, length_one_more ys x)
+flat_push disk done step = flat_map-append (rows_in disk) done (step ∷ []) ∙ ap (λ rows. flat_map (rows_in disk) done ++ rows) (append-nil (rows_in disk step))
 
 pub one_gone : (disk : Disk) (blocks : List PutBlock) (all rest : List RunGap) (items new : List SpillItem) (gap : RunGap) (spill : Option Spill) → IsRight disk (step_of blocks items gap spill) → new ≡ items ++ rows_in disk (step_of blocks items gap spill)
     → HasGone disk blocks all (gap ∷ rest) items → HasGone disk blocks all rest new
@@ -41,7 +37,7 @@ one_gone disk blocks all rest items new gap spill right rows gone =
           ∙ gone.split (spill ∷ more)
           ∙ ap (λ xs. gone.done ++ step ∷ steps disk blocks xs rest more) (sym rows)
           ∙ sym (append_assoc gone.done (step ∷ []) (steps disk blocks new rest more));
-      count = omega (arith, gone.count, length_one_more gone.spills spill);
+      count = omega (arith, gone.count, length-append gone.spills (spill ∷ []));
       right = all_push (IsRight disk) gone.done step gone.right right;
       rows = rows ∙ ap (λ xs. xs ++ rows_in disk step) gone.rows ∙ sym (flat_push disk gone.done step);
     }
@@ -63,17 +59,6 @@ busy_gone disk blocks all here rest items busy gone = elim busy [
 ]
 
 -- ---- rows
-
-pub drop_got : {X : Type 0} (xs : List X) (i : ℕ) (x : X) → slice_get xs i ≡ Some x → drop i xs ≡ x ∷ drop (i + 1) xs
-drop_got [] i x at = absurd (grind arith)
-drop_got (y ∷ ys) zero x at = ap (λ z. z ∷ ys) (some_one y x at)
-drop_got (y ∷ ys) (suc i) x at = drop_got ys i x at ∙ ap (λ n. x ∷ drop n (y ∷ ys)) (let next : suc (i + 1) ≡ suc i + 1 = omega arith in next)
-
-pub past_all : {X : Type 0} (xs : List X) (i : ℕ) → length xs ≤ i → drop i xs ≡ []
-past_all [] zero past = refl
-past_all [] (suc i) past = refl
-past_all (x ∷ xs) zero past = absurd (omega (arith, past))
-past_all (x ∷ xs) (suc i) past = past_all xs i (omega (arith, past))
 
 pub free_from : (rows : List BackRow) (i : ℕ) (row : GapRow) → slice_get rows i ≡ Some (GapLine row) → false ≡ delivers (drop (i + 1) rows) → gaps (drop i rows) ≡ (let gap : RunGap = record { row = row; free = true } in gap) ∷ gaps (drop (i + 1) rows)
 free_from rows i row at none =
@@ -153,7 +138,7 @@ pub all_gone : (disk : Disk) (puts : List Put) (run : Run) (i : ℕ) (spilling :
 all_gone disk puts run i spilling sound possible areGaps past going =
     let blocks = put_blocks disk.map puts in
     let gone = going.gone in
-    let none : gaps (drop i run.back) ≡ [] = ap gaps (past_all run.back i past) in
+    let none : gaps (drop i run.back) ≡ [] = ap gaps (drop_all i run.back past) in
     let done : steps disk blocks [] (gaps run.back) gone.spills ≡ gone.done =
     ap (steps disk blocks [] (gaps run.back)) (sym (append-nil gone.spills))
     ∙ gone.split []

@@ -1,14 +1,15 @@
 -- What the reserve holds: no foreground write concerns it, and the rows that concern a sector are of one put.
-use Rattle.fb_bgwrite.proofs.Words.{◌≡◌, ℕ, zero, suc, ◌+◌, ◌^◌, ◌<◌, List, [], ◌∷◌, ◌++◌, Bool, true, false, Option, Some, None, map}
-use Rattle.fb_bgwrite.proofs.Words.{length, slice_get, refl, sym, ap, ◌∙◌, subst, arith, inl, inr, ◌==◌, filter, nat_lt, AllByRecursion}
-use Rattle.fb_bgwrite.proofs.Words.{flat_map, cases_Bool, cases_lt, and_parts, nat_tests, places, Disk, all_weaker, Block, ForeRow, Run}
-use Rattle.fb_bgwrite.proofs.Words.{all_append, SpillItem, SpillLine, WroteLine, WroteRow, Put, Puts, SectorRange, request_range, PutBlock}
-use Rattle.fb_bgwrite.proofs.Words.{put_blocks, writes, block_range, share, ArePuts, fore_ranges, IsInTime, IsOfPut, accepted}
+use Rattle.fb_bgwrite.proofs.Words.{none_kept, all_get, ◌≡◌, ℕ, zero, suc, ◌+◌, ◌^◌, ◌<◌, List, [], ◌∷◌, ◌++◌, Bool, true, false, Option}
+use Rattle.fb_bgwrite.proofs.Words.{Some, None, map, length, slice_get, refl, sym, ap, ◌∙◌, subst, arith, inl, inr, ◌==◌, filter, nat_lt}
+use Rattle.fb_bgwrite.proofs.Words.{AllByRecursion, flat_map, cases_Bool, cases_lt, and_parts, nat_tests, places, Disk, all_weaker, Block}
+use Rattle.fb_bgwrite.proofs.Words.{ForeRow, Run, all_append, SpillItem, SpillLine, WroteLine, WroteRow, Put, Puts, SectorRange}
+use Rattle.fb_bgwrite.proofs.Words.{request_range, PutBlock, put_blocks, writes, block_range, share, ArePuts, fore_ranges, IsInTime}
+use Rattle.fb_bgwrite.proofs.Words.{IsOfPut, accepted}
 use Rattle.fb_store.specs.declared.content.Content.TheVariants.{Filled}
 use Rattle.fb_store.specs.Writes.{unwritten}
 use Rattle.fb_bgwrite.specs.Held.{Fill, fills, fore_fills, held, held_by, is_in, is_told, later, latest, put_fills, wrote_range, HoldsPuts}
-use Rattle.fb_bgwrite.proofs.{Lists.at_all, Lists.some_one, PutBlocks.puts_in_order, PutBlocks.AreInOrder, PutBlocks.IsBefore}
-use Rattle.fb_bgwrite.proofs.{Totals.in_no_other, Totals.puts_on}
+use Rattle.fb_bgwrite.proofs.{Lists.some_one, PutBlocks.puts_in_order, PutBlocks.AreInOrder, PutBlocks.IsBefore, Totals.in_no_other}
+use Rattle.fb_bgwrite.proofs.{Totals.puts_on}
 
 -- ---- the latest of fills
 
@@ -29,10 +30,6 @@ all_filtered P p (f ∷ fs) all = elim (cases_Bool (p f)) [
   | inl here ↦ rw here (all.0 here, all_filtered P p fs all.1)
   | inr off ↦ rw off (all_filtered P p fs all.1)
 ]
-
-none_filtered : (p : Fill → Bool) (fs : List Fill) → AllByRecursion (λ f. p f ≡ false) fs → filter p fs ≡ []
-none_filtered p [] all = refl
-none_filtered p (f ∷ fs) all = rw all.0 (none_filtered p fs all.1)
 
 some_filtered : (p : Fill → Bool) (fs : List Fill) (i : ℕ) (f : Fill) → slice_get fs i ≡ Some f → p f ≡ true → (g : Fill) × (gs : List Fill) × (filter p fs ≡ g ∷ gs)
 some_filtered p [] i f at is = absurd (grind arith)
@@ -55,7 +52,7 @@ held_is latent fs lbn writer i f at is all =
     ap (λ o. held_by o (unwritten latent lbn)) here ∙ ap Filled own
 
 held_before : (latent : List ℕ) (fs : List Fill) (lbn : ℕ) → AllByRecursion (λ g. is_in g.range lbn ≡ false) fs → held latent fs lbn ≡ unwritten latent lbn
-held_before latent fs lbn all = ap (λ gs. held_by (latest gs) (unwritten latent lbn)) (none_filtered (λ g. is_in g.range lbn) fs all)
+held_before latent fs lbn all = ap (λ gs. held_by (latest gs) (unwritten latent lbn)) (none_kept (λ g. is_in g.range lbn) fs all)
 
 -- ---- the foreground
 
@@ -75,7 +72,7 @@ none_of_fore reserve lbn inside (row ∷ rows) apart =
 pair : (blocks : List PutBlock) → AreInOrder blocks → (i j : ℕ) (a b : PutBlock) → slice_get blocks i ≡ Some a → slice_get blocks j ≡ Some b → i < j → IsBefore a.block b.block
 pair [] order i j a b at_i at_j less = absurd (grind arith)
 pair (x ∷ xs) order zero zero a b at_i at_j less = absurd (omega (arith, less))
-pair (x ∷ xs) order zero (suc j) a b at_i at_j less = subst (λ (y : PutBlock). IsBefore y.block b.block) (some_one x a at_i) (at_all (λ (other : PutBlock). IsBefore x.block other.block) xs j b order.0 at_j)
+pair (x ∷ xs) order zero (suc j) a b at_i at_j less = subst (λ (y : PutBlock). IsBefore y.block b.block) (some_one x a at_i) (all_get (λ (other : PutBlock). IsBefore x.block other.block) xs j b order.0 at_j)
 pair (x ∷ xs) order (suc i) zero a b at_i at_j less = absurd (omega (arith, less))
 pair (x ∷ xs) order (suc i) (suc j) a b at_i at_j less = pair xs order.1 i j a b at_i at_j (omega (arith, less))
 
@@ -158,7 +155,7 @@ holds disk run puts items are apart in_time =
           let none = none_of_fore reserve lbn inside run.fore apart in
           let Own : Fill → Type 0 = λ g. is_in g.range lbn ≡ true → g.writer ≡ 2 ^ 32 + row.put in
           let others = all_weaker (λ (g : Fill). is_in g.range lbn ≡ false) Own (λ g off there. absurd (grind arith)) (flat_map fore_fills run.fore) none in
-          let is = at_all (IsInTime disk puts.puts.items) items i (WroteLine row) in_time at in
+          let is = all_get (IsInTime disk puts.puts.items) items i (WroteLine row) in_time at in
           let all = all_append Own (flat_map fore_fills run.fore) (flat_map put_fills items) others (of_puts disk puts.puts.items order row is lbn told items in_time) in
           let stands = told_fill items i row at in
           let fill : Fill = record { instant = row.end; range = wrote_range row; writer = 2 ^ 32 + row.put } in

@@ -1,11 +1,11 @@
 -- A block that is caught has no more sectors than all that are caught; so where each is longer than that, nothing is.
-use Rattle.fb_bgwrite.proofs.Words.{◌≡◌, ℕ, zero, suc, ◌+◌, ◌*◌, ◌<◌, ◌≤◌, ◌⊎◌, List, [], ◌∷◌, true, ◌==◌, Option, Some, slice_get, get_or}
-use Rattle.fb_bgwrite.proofs.Words.{min, inl, inr, refl, sym, ap, ◌∙◌, subst, arith, AllByRecursion, sum_by, cases_Bool, true≢false}
+use Rattle.fb_bgwrite.proofs.Words.{all_get, ◌≡◌, ℕ, zero, suc, ◌+◌, ◌*◌, ◌<◌, ◌≤◌, ◌⊎◌, List, [], ◌∷◌, true, ◌==◌, Option, Some, slice_get}
+use Rattle.fb_bgwrite.proofs.Words.{get_or, min, inl, inr, refl, sym, ap, ◌∙◌, subst, arith, AllByRecursion, sum_by, cases_Bool, true≢false}
 use Rattle.fb_bgwrite.proofs.Words.{nat_tests, sum_by-cons, Track, same_track, IsTrackOf, IsSound, Disk, Deliver, Entry, after, entry_after}
 use Rattle.fb_bgwrite.proofs.Words.{is_wanted, on_track, wanted_of, Dwell, Gap, AreOnDisk, stay_gain, stay-of, Spill, Valued, passes}
 use Rattle.fb_bgwrite.proofs.Words.{ArePending, Beats, IsValuedIf, AreAtLeast, IsAtLeast, IsNoShorter, stay_of, value}
-use Rattle.fb_bgwrite.proofs.{Lists.all_of, Lists.at_all, Lists.some_one, Values.value_caught, Values.value_stay, Values.AreLight}
-use Rattle.fb_bgwrite.proofs.{Amended.track_on_disk, Choices.light_on, Choices.nothing_beaten}
+use Rattle.fb_bgwrite.proofs.{Lists.all_of, Lists.some_one, Values.value_caught, Values.value_stay, Values.AreLight, Amended.track_on_disk}
+use Rattle.fb_bgwrite.proofs.{Choices.light_on, Choices.nothing_beaten}
 
 -- one of the blocks is caught
 pub record HasCaught (disk : Disk) (dwell : Dwell) (entries : List Entry) : Type 0 where
@@ -68,7 +68,7 @@ module _ (disk : Disk) (gap : Gap) (entries : List Entry) (spill : Spill) (light
           | inl none ↦ inl (omega (arith, is_value, none))
           | inr is ↦
               let here = passing_here disk dwell is.entry is.passing in
-              let longer = at_all (IsAtLeast from end least) entries is.index is.entry long is.stands (passing_wanted disk dwell is.entry is.passing) (omega (arith, low, here)) (omega (arith, high, here)) in
+              let longer = all_get (IsAtLeast from end least) entries is.index is.entry long is.stands (passing_wanted disk dwell is.entry is.passing) (omega (arith, low, here)) (omega (arith, high, here)) in
               inr (omega (arith, longer, is.few, is_value), omega (arith, longer, (on_disk is.index is.entry is.stands).few))
         ]
 
@@ -96,11 +96,6 @@ short_beaten disk gap entries blocks best valued spill short from end most long 
 
 -- ---- the bounds of cylinders
 
--- bounds that are no greater hold too
-pub no_greater : (old new : List ℕ) → ((c : ℕ) → get_or new c 2049 ≤ get_or old c 2049) → (es : List Entry) → AllByRecursion (IsNoShorter old) es → AllByRecursion (IsNoShorter new) es
-no_greater old new le [] all = tt
-no_greater old new le (e ∷ es) all = (λ wanted. omega (arith, all.0 wanted, le e.block.track.cylinder), no_greater old new le es all.1)
-
 -- what was delivered needs no bound
 pub delivered_too : (bounds : List ℕ) (put index : ℕ) (es : List Entry) → AllByRecursion (IsNoShorter bounds) es → AllByRecursion (IsNoShorter bounds) (after put (Deliver index) es)
 delivered_too bounds put index [] all = tt
@@ -117,11 +112,6 @@ renewed old new cylinder least is (e ∷ es) all own = (
   ],
   renewed old new cylinder least is es all.1 own.1,
 )
-
--- the least bound of a range is one for each block there
-pub least_of_range : (bounds : List ℕ) (from end least : ℕ) → ((c : ℕ) → from ≤ c → c < end → least ≤ get_or bounds c 2049) → (es : List Entry) → AllByRecursion (IsNoShorter bounds) es → AreAtLeast from end least es
-least_of_range bounds from end least each [] all = tt
-least_of_range bounds from end least each (e ∷ es) all = (λ wanted low high. omega (arith, all.0 wanted, each e.block.track.cylinder low high), least_of_range bounds from end least each es all.1)
 
 -- a block is one of its track
 stands_on : (es : List Entry) (k : ℕ) (e : Entry) → slice_get es k ≡ Some e → (i : ℕ) × (slice_get (on_track e.block.track es) i ≡ Some e)

@@ -1,9 +1,9 @@
 -- Reading a text goes on after its first line, and what was read obeys the rules.
-use Rattle.fb_bgwrite.proofs.Words.{◌≡◌, ℕ, ◌+◌, ◌≤◌, List, [], ◌∷◌, ◌++◌, map, length, Option, None, sym, ap, ◌∙◌, subst, arith, Result}
-use Rattle.fb_bgwrite.proofs.Words.{Ok, Err, AllByRecursion, map_push, length_push, and_parts, leb-true, nat_le, fields_of, IsRising}
-use Rattle.fb_bgwrite.proofs.Words.{all_weaker, Put, Puts, SectorRange, AreApart, Accepted, Progress, Terms, at_end, fault_at, lines_from}
-use Rattle.fb_bgwrite.proofs.Words.{next_progress, next_read, range_of, reserve_or_none, progress, with_step, IsApart, IsNextPut}
-use Rattle.fb_bgwrite.proofs.Words.{IsNextReserve, IsReader, IsPutOf, ArePuts, HasTaken, IsKnown, accepted, Answers}
+use Rattle.fb_bgwrite.proofs.Words.{rising_push, all_push, ◌≡◌, ℕ, ◌+◌, ◌≤◌, List, [], ◌∷◌, ◌++◌, map, length, Option, None, sym, ap, ◌∙◌}
+use Rattle.fb_bgwrite.proofs.Words.{subst, arith, Result, Ok, Err, AllByRecursion, map_push, length_push, and_parts, leb-true, nat_le}
+use Rattle.fb_bgwrite.proofs.Words.{fields_of, IsRising, all_weaker, Put, SectorRange, AreApart, Accepted, Progress, Terms, at_end}
+use Rattle.fb_bgwrite.proofs.Words.{fault_at, lines_from, next_progress, next_read, range_of, reserve_or_none, with_step, IsApart}
+use Rattle.fb_bgwrite.proofs.Words.{IsNextPut, IsNextReserve, IsReader, IsPutOf, HasTaken, IsKnown, accepted, Answers}
 use Rattle.fb_units.specs.Judging.{◌>>=◌, refused_as}
 use Rattle.fb_bgwrite.specs.declared.fault.PutsFault.{PutsFault}
 use Rattle.fb_bgwrite.specs.declared.fault.PutsError.{PutsError}
@@ -13,7 +13,7 @@ use Rattle.fb_bgwrite.specs.declared.reader.Step.{Step}
 use Rattle.fb_bgwrite.specs.declared.reader.Step.TheVariants.{Blank, Reserve, Put as PutStep}
 use Rattle.fb_bgwrite.specs.declared.taken.Taken.{Taken}
 use Rattle.fb_bgwrite.specs.declared.taken.Taken.TheVariants.{Known, Unknown}
-use Rattle.fb_bgwrite.proofs.{Lists.all_push, Appending.apart_pop, Appending.rising_push}
+use Rattle.fb_bgwrite.proofs.Appending.{apart_pop}
 
 module _ (terms : Terms) (number : ℕ) (so_far : Progress) (lines : List (List ℕ)) (whole : Result Accepted PutsFault) where
   -- after one more line, the rest of the text gives the same result
@@ -72,17 +72,6 @@ put_kept terms old new put is next same_reserve instant puts taken =
       few = omega (arith, next.few, ap length puts, length_push old_puts put);
       taken = subst (HasTaken new.taken) (sym (ap (map range_of) puts ∙ map_push range_of old_puts put)) taken;
     }
-
--- what was read obeys the rules
-pub rules_kept : (terms : Terms) (reader : Reader) (puts : Puts) → IsReader terms reader → AreApart (map range_of reader.puts.items) → accepted puts ≡ at_end (progress reader) → ArePuts terms.sectors (accepted puts)
-rules_kept terms reader puts is apart end = subst (ArePuts terms.sectors) (sym end) (record {
-  on_disk = is.reserve.on_disk;
-  few_sectors = is.reserve.few;
-  each = is.each;
-  rising = is.rising;
-  apart = apart;
-  few = is.few;
-})
 
 -- known ranges are apart
 pub known_apart : (taken : Taken) (ranges : List SectorRange) → IsKnown taken → HasTaken taken ranges → AreApart ranges

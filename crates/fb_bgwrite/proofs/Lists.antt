@@ -1,7 +1,7 @@
 -- Elements of lists, by their index.
 use Rattle.fb_bgwrite.proofs.Words.{◌≡◌, ◌⊎◌, ℕ, zero, suc, List, [], ◌∷◌, ◌++◌, length, Bool, true, false, Option, Some, None, slice_get}
-use Rattle.fb_bgwrite.proofs.Words.{inl, inr, refl, sym, subst, ap, ◌∙◌, arith, rules, AllByRecursion, list_any, cases_Bool, true≢false}
-use Rattle.std.specs.Option.{IsSome}
+use Rattle.fb_bgwrite.proofs.Words.{inl, inr, refl, sym, ap, ◌∙◌, arith, rules, AllByRecursion, list_any, cases_Bool, true≢false}
+use Rattle.fb_bgwrite.proofs.Words.{IsSome}
 
 pub some_one : {X : Type 0} (x y : X) → Some x ≡ Some y → x ≡ y
 some_one x y e = grind arith
@@ -9,11 +9,6 @@ some_one x y e = grind arith
 pub all_of : {X : Type 0} (P : X → Type 0) (xs : List X) → ((k : ℕ) (x : X) → slice_get xs k ≡ Some x → P x) → AllByRecursion P xs
 all_of P [] each = tt
 all_of P (x ∷ xs) each = (each 0 x refl, all_of P xs (λ k. each (suc k)))
-
-pub at_all : {X : Type 0} (P : X → Type 0) (xs : List X) (k : ℕ) (x : X) → AllByRecursion P xs → slice_get xs k ≡ Some x → P x
-at_all P [] k x all is = absurd (grind arith)
-at_all P (y ∷ ys) zero x all is = subst P (some_one y x is) all.0
-at_all P (y ∷ ys) (suc k) x all is = at_all P ys k x all.1 is
 
 pub any_at : {X : Type 0} (p : X → Bool) (xs : List X) (k : ℕ) (x : X) → slice_get xs k ≡ Some x → p x ≡ true → list_any p xs ≡ true
 any_at p [] k x is h = absurd (grind arith)
@@ -33,10 +28,6 @@ all_none p (x ∷ xs) none = elim (cases_Bool (p x)) [
   | inl here ↦ absurd (true≢false (sym (let any : list_any p (x ∷ xs) ≡ true = rw here refl in any) ∙ none))
   | inr other ↦ (other, all_none p xs (let rest : list_any p xs ≡ false = rw other at none in rest))
 ]
-
-pub all_push : {X : Type 0} (P : X → Type 0) (xs : List X) (x : X) → AllByRecursion P xs → P x → AllByRecursion P (xs ++ x ∷ [])
-all_push P [] x all h = (h, tt)
-all_push P (y ∷ ys) x all h = (all.0, all_push P ys x all.1 h)
 
 -- an element of a list with one more is one of the list, or the last one
 pub before_or_last : {X : Type 0} (xs : List X) (x y : X) (i : ℕ) → slice_get (xs ++ x ∷ []) i ≡ Some y → (slice_get xs i ≡ Some y) ⊎ ((i ≡ length xs) × (x ≡ y))

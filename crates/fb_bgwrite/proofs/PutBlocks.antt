@@ -1,12 +1,13 @@
 -- The blocks of puts: each passes whole in one turn of its track, they are told apart, and no two share a sector.
-use Rattle.fb_bgwrite.proofs.Words.{◌≡◌, ◌⊎◌, ℕ, zero, suc, ◌+◌, ◌<◌, ◌≤◌, List, [], ◌∷◌, ◌++◌, false, Some, slice_get, take, drop, map}
-use Rattle.fb_bgwrite.proofs.Words.{length, refl, sym, ap, ◌∙◌, subst, arith, inl, inr, append_assoc, ◌==◌, AllByRecursion, sum_by}
-use Rattle.fb_bgwrite.proofs.Words.{nat_tests, map-append, sum_by-cons, sum_by-append, Shape, places, Cut, IsOneTurn, cutting, track_at}
-use Rattle.fb_bgwrite.proofs.Words.{Disk, all_weaker, Block, registered, numbered, all_append, all_left, FitsDisk, Put, share, AreApart}
-use Rattle.fb_bgwrite.proofs.Words.{range_of, PutBlock, blocks_from, sectors, block_range}
+use Rattle.fb_bgwrite.proofs.Words.{option_map, append-nil, slice_get-map, all_map, all_get, ◌≡◌, ◌⊎◌, ℕ, zero, suc, ◌+◌, ◌<◌, ◌≤◌, List}
+use Rattle.fb_bgwrite.proofs.Words.{[], ◌∷◌, ◌++◌, false, Some, slice_get, take, drop, map, length, refl, sym, ap, ◌∙◌, subst, arith, inl}
+use Rattle.fb_bgwrite.proofs.Words.{inr, append_assoc, ◌==◌, AllByRecursion, sum_by, nat_tests, map-append, sum_by-cons, sum_by-append}
+use Rattle.fb_bgwrite.proofs.Words.{Shape, places, Cut, IsOneTurn, cutting, track_at, Disk, all_weaker, Block, registered, numbered}
+use Rattle.fb_bgwrite.proofs.Words.{all_append, all_left, FitsDisk, Put, share, AreApart, range_of, PutBlock, blocks_from, sectors}
+use Rattle.fb_bgwrite.proofs.Words.{block_range}
 use Rattle.fb_bgwrite.specs.Blocks.{blocks_of}
 use Rattle.fb_model.proofs.Cuts.{AreCuts, cuts_are, cuts_rise}
-use Rattle.fb_bgwrite.proofs.{Lists.at_all, Lists.some_one, TakenRanges.is_shares, TakenRanges.not_share}
+use Rattle.fb_bgwrite.proofs.{Lists.some_one, TakenRanges.is_shares, TakenRanges.not_share}
 
 -- the first block has the lesser put, or is an earlier one of the same put; and they share no sector
 pub record IsBefore (a b : Block) : Type 0 where
@@ -70,8 +71,7 @@ module _ (instant : ℕ) where
   put_block block = record { instant = instant; block = block }
 
   all_behind : (first : Block) (blocks : List Block) → AllByRecursion (IsBefore first) blocks → AllByRecursion (λ (p : PutBlock). IsBefore first p.block) (map put_block blocks)
-  all_behind first [] all = tt
-  all_behind first (b ∷ bs) all = (all.0, all_behind first bs all.1)
+  all_behind first = all_map (λ (p : PutBlock). IsBefore first p.block) put_block
 
   numbered_in_order : (disk : Disk) (number n from end : ℕ) (cuts : List Cut) → end ≤ length (places disk.map) → AreCuts disk.map 2048 from end cuts → AreInOrder (map put_block (numbered number 1 n cuts))
   numbered_in_order disk number n from end [] on_disk are = tt
@@ -118,18 +118,13 @@ all_of_puts disk number (put ∷ puts) on_disk =
     (all_numbered disk number 0 put.first (put.first + put.count) (cutting disk.map 2048 put.first put.count) on_disk.0 (cuts_are disk.map 2048 put.first put.count (omega arith))))
     (all_weaker (IsOfPuts disk (number + 1) puts) (IsOfPuts disk number (put ∷ puts)) (of_later disk number put puts) (blocks_from disk.map (number + 1) puts) (all_of_puts disk (number + 1) puts on_disk.1))
 
-mapped : (puts : List Put) (i : ℕ) (own : Put) → slice_get puts i ≡ Some own → slice_get (map range_of puts) i ≡ Some (range_of own)
-mapped [] i own at = absurd (grind arith)
-mapped (p ∷ ps) zero own at = ap (λ q. Some (range_of q)) (some_one p own at)
-mapped (p ∷ ps) (suc i) own at = mapped ps i own at
-
 -- a block of a put is before those of later puts
 put_before : (disk : Disk) (number : ℕ) (put : Put) (puts : List Put) (block : PutBlock) → IsOf disk number 0 put.first (put.first + put.count) block.block → AllByRecursion (λ other. share (range_of put) other ≡ false) (map range_of puts)
     → (other : PutBlock) → IsOfPuts disk (number + 1) puts other → IsBefore block.block other.block
 put_before disk number put puts block is apart other its = record {
   order = inl (omega (arith, is.task, its.is.task));
   apart = not_share (block_range block.block) (block_range other.block) (λ shares.
-      let off : share (range_of put) (range_of its.own) ≡ false = at_all (λ r. share (range_of put) r ≡ false) (map range_of puts) its.i (range_of its.own) apart (mapped puts its.i its.own its.stands) in
+      let off : share (range_of put) (range_of its.own) ≡ false = all_get (λ r. share (range_of put) r ≡ false) (map range_of puts) its.i (range_of its.own) apart (slice_get-map range_of puts its.i ∙ ap (option_map range_of) its.stands) in
       let on = is_shares (range_of put) (range_of its.own) (omega (arith, shares.before, is.low, is.high, its.is.high, its.is.low)) (omega (arith, shares.behind, is.high, its.is.low))
       (omega (arith, is.low, is.high, is.fits.some)) (omega (arith, its.is.low, its.is.high, its.is.fits.some)) in
       absurd (grind arith));
@@ -169,16 +164,12 @@ blocks_split disk number (suc k) (put ∷ puts) le =
     ∙ ap (λ n. blocks_from disk (number + 1) (take k puts) ++ blocks_from disk n (drop k puts)) (let same : number + 1 + k ≡ number + suc k = omega arith in same))
     ∙ sym (append_assoc (blocks_of disk number put) (blocks_from disk (number + 1) (take k puts)) (blocks_from disk (number + suc k) (drop k puts)))
 
-append_nil : {X : Type 0} (xs : List X) → xs ++ [] ≡ xs
-append_nil [] = refl
-append_nil (x ∷ xs) = ap (λ ys. x ∷ ys) (append_nil xs)
-
 pub blocks_more : (disk : Shape) (number k : ℕ) (puts : List Put) (put : Put) → slice_get puts k ≡ Some put → blocks_from disk number (take (suc k) puts) ≡ blocks_from disk number (take k puts) ++ blocks_of disk (number + k) put
 unfolding blocks_from
 blocks_more disk number k [] put at = absurd (grind arith)
 blocks_more disk number zero (p ∷ puts) put at =
     let same : p ≡ put = some_one p put at in
-    ap (λ (q : Put). blocks_of disk number q ++ []) same ∙ append_nil (blocks_of disk number put) ∙ ap (λ n. blocks_of disk n put) (let e : number ≡ number + 0 = omega arith in e)
+    ap (λ (q : Put). blocks_of disk number q ++ []) same ∙ append-nil (blocks_of disk number put) ∙ ap (λ n. blocks_of disk n put) (let e : number ≡ number + 0 = omega arith in e)
 blocks_more disk number (suc k) (p ∷ puts) put at =
     ap (λ bs. blocks_of disk number p ++ bs) (blocks_more disk (number + 1) k puts put at
     ∙ ap (λ n. blocks_from disk (number + 1) (take k puts) ++ blocks_of disk n put) (let same : number + 1 + k ≡ number + suc k = omega arith in same))

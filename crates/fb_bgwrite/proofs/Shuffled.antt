@@ -1,9 +1,9 @@
 -- Ranges that share no sector, in another order.
-use Rattle.fb_bgwrite.proofs.Words.{◌≡◌, ℕ, ◌+◌, ◌<◌, ◌≤◌, List, [], ◌∷◌, true, false, max, if◌then◌else◌, inl, inr, refl, sym, ap, ◌∙◌}
-use Rattle.fb_bgwrite.proofs.Words.{arith, IsPermutation, AllByRecursion, sum_by, cases_Bool, true≢false, sum_by-cons, all_weaker}
+use Rattle.fb_bgwrite.proofs.Words.{all_get, ◌≡◌, ℕ, ◌+◌, ◌<◌, ◌≤◌, List, [], ◌∷◌, true, false, max, if◌then◌else◌, inl, inr, refl, sym, ap}
+use Rattle.fb_bgwrite.proofs.Words.{◌∙◌, arith, IsPermutation, AllByRecursion, sum_by, cases_Bool, true≢false, sum_by-cons, all_weaker}
 use Rattle.fb_bgwrite.proofs.Words.{SectorRange, share, AreApart}
 use Rattle.std.proofs.lemmas.List.Sorted.{sum_by-IsPermutation}
-use Rattle.fb_bgwrite.proofs.{Lists.all_of, Lists.at_all, TakenRanges.is_shares, TakenRanges.not_share, TakenRanges.shares_is}
+use Rattle.fb_bgwrite.proofs.{Lists.all_of, TakenRanges.is_shares, TakenRanges.not_share, TakenRanges.shares_is}
 
 abbrev sector : ℕ → SectorRange
 sector lbn = record { first = lbn; count = 1 }
@@ -55,7 +55,7 @@ off_others range ranges few = all_of (λ other. share range other ≡ false) ran
     let lbn = max range.first other.first in
     let more = one_more lbn range ranges (has_it lbn range (omega arith) (omega (arith, shares.behind, shares.some))) in
     let one = few lbn in
-    let off = at_all (λ other. share (sector lbn) other ≡ false) ranges k other (all_off lbn ranges (omega (arith, more, one))) at in
+    let off = all_get (λ other. share (sector lbn) other ≡ false) ranges k other (all_off lbn ranges (omega (arith, more, one))) at in
     true≢false (sym (has_it lbn other (omega arith) (omega (arith, shares.before, shares.some_other))) ∙ off)))
 
 apart_if_once : (ranges : List SectorRange) → ((lbn : ℕ) → sum_by (has lbn) ranges ≤ 1) → AreApart ranges

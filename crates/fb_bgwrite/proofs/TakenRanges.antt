@@ -1,8 +1,8 @@
 -- A range shares a sector with one of those that are kept by their ends just if the first of them to end behind its begin does.
-use Rattle.fb_bgwrite.proofs.Words.{◌≡◌, ℕ, zero, suc, ◌+◌, ◌-◌, ◌<◌, ◌≤◌, List, [], ◌∷◌, true, false, Some, slice_get, max, min, inl, inr}
-use Rattle.fb_bgwrite.proofs.Words.{sym, ap, ◌∙◌, arith, nat_lt, list_any, nat_cmp, BTreeMap, get, ContainsKey, cases_Bool, cases_lt}
-use Rattle.fb_bgwrite.proofs.Words.{ltb-true, nat_tests, SectorRange, share, AreApart, AreTaken}
-use Rattle.fb_bgwrite.proofs.Lists.{all_of, at_all, any_at, none_any, some_one, some_there}
+use Rattle.fb_bgwrite.proofs.Words.{all_get, ◌≡◌, ℕ, zero, suc, ◌+◌, ◌-◌, ◌<◌, ◌≤◌, List, [], ◌∷◌, true, false, Some, slice_get, max, min}
+use Rattle.fb_bgwrite.proofs.Words.{inl, inr, sym, ap, ◌∙◌, arith, nat_lt, list_any, nat_cmp, BTreeMap, get, ContainsKey, cases_Bool}
+use Rattle.fb_bgwrite.proofs.Words.{cases_lt, ltb-true, nat_tests, SectorRange, share, AreApart, AreTaken}
+use Rattle.fb_bgwrite.proofs.Lists.{all_of, any_at, none_any, some_one, some_there}
 
 pub lt-true : (a b : ℕ) → a < b → nat_lt a b ≡ true
 lt-true a b less = grind (arith, nat_tests)
@@ -42,18 +42,18 @@ pub one_of_apart : (ranges : List SectorRange) (i j : ℕ) (a b : SectorRange) �
 one_of_apart [] i j a b apart at_i at_j shares = absurd (grind arith)
 one_of_apart (r ∷ rs) zero zero a b apart at_i at_j shares = sym (some_one r a at_i) ∙ some_one r b at_j
 one_of_apart (r ∷ rs) zero (suc j) a b apart at_i at_j shares =
-    let off : share r b ≡ false = at_all (λ other. share r other ≡ false) rs j b apart.0 at_j in
+    let off : share r b ≡ false = all_get (λ other. share r other ≡ false) rs j b apart.0 at_j in
     let on : share r b ≡ true = ap (λ x. share x b) (some_one r a at_i) ∙ is_shares a b shares.before shares.behind shares.some shares.some_other in
     absurd (grind arith)
 one_of_apart (r ∷ rs) (suc i) zero a b apart at_i at_j shares =
-    let off : share r a ≡ false = at_all (λ other. share r other ≡ false) rs i a apart.0 at_i in
+    let off : share r a ≡ false = all_get (λ other. share r other ≡ false) rs i a apart.0 at_i in
     let on : share r a ≡ true = ap (λ x. share x a) (some_one r b at_j) ∙ is_shares b a shares.behind shares.before shares.some_other shares.some in
     absurd (grind arith)
 one_of_apart (r ∷ rs) (suc i) (suc j) a b apart at_i at_j shares = one_of_apart rs i j a b apart.1 at_i at_j shares
 
 module _ (ends : BTreeMap ℕ ℕ) (ranges : List SectorRange) (range : SectorRange) (taken : AreTaken ends ranges) (some : 0 < range.count) where
   has_end : (k : ℕ) (other : SectorRange) → slice_get ranges k ≡ Some other → ContainsKey nat_cmp ends (other.first + other.count)
-  has_end k other at = some_there (get nat_cmp ends (other.first + other.count)) other.first (at_all (λ r. get nat_cmp ends (r.first + r.count) ≡ Some r.first) ranges k other taken.each at)
+  has_end k other at = some_there (get nat_cmp ends (other.first + other.count)) other.first (all_get (λ r. get nat_cmp ends (r.first + r.count) ≡ Some r.first) ranges k other taken.each at)
 
   -- none of them ends behind the begin of the range
   pub none_taken : ((other : ℕ) → ContainsKey nat_cmp ends other → other ≤ range.first) → false ≡ list_any (share range) ranges

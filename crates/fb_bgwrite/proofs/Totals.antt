@@ -1,9 +1,10 @@
 -- Ranges within one that share no sector have no more sectors than it.
 use Rattle.fb_bgwrite.proofs.Words.{◌≡◌, ◌⊎◌, ℕ, zero, suc, ◌+◌, ◌-◌, ◌<◌, ◌≤◌, List, [], ◌∷◌, Bool, true, false, ◌&&◌, max, min, map}
-use Rattle.fb_bgwrite.proofs.Words.{length, refl, ap, arith, inl, inr, if◌then◌else◌, nat_le, nat_lt, AllByRecursion, count_by, list_any}
+use Rattle.fb_bgwrite.proofs.Words.{refl, ap, arith, inl, inr, if◌then◌else◌, nat_le, nat_lt, AllByRecursion, count_by, list_any}
 use Rattle.fb_bgwrite.proofs.Words.{range_with_len, sum_by, cases_Bool, cases_lt, and_parts, leb-true, ltb-true, nat_tests}
 use Rattle.fb_bgwrite.proofs.Words.{count_by-le-length, sum_by-cons, all_weaker, Put, SectorRange, lies_in, share, AreApart, Accepted}
 use Rattle.fb_bgwrite.proofs.Words.{range_of, ArePuts, IsPutOf, ArePutsOn}
+use Rattle.std.proofs.lemmas.List.FromFn.{length-range_with_len}
 use Rattle.fb_bgwrite.proofs.{Lists.none_any, TakenRanges.is_shares}
 
 -- the sector is in the range
@@ -105,12 +106,8 @@ all_counted first n (range ∷ ranges) inside apart =
       all_counted first n ranges inside.1 apart.1,
     )
 
-long : (first n : ℕ) → length (range_with_len first n) ≡ n
-long first zero = refl
-long first (suc n) = omega (arith, long (first + 1) n)
-
 pub no_more : (first n : ℕ) (ranges : List SectorRange) → LieIn first (first + n) ranges → AreApart ranges → sum_by (λ (range : SectorRange). range.count) ranges ≤ n
-no_more first n ranges inside apart = omega (arith, all_counted first n ranges inside apart, count_by-le-length (covered ranges) (range_with_len first n), long first n)
+no_more first n ranges inside apart = omega (arith, all_counted first n ranges inside apart, count_by-le-length (covered ranges) (range_with_len first n), length-range_with_len first n)
 
 -- ---- puts
 

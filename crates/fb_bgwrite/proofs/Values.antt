@@ -1,12 +1,12 @@
 -- The value of a spill is what its stay catches of the registered blocks.
-use Rattle.fb_bgwrite.proofs.Words.{◌≡◌, ℕ, ◌+◌, ◌*◌, ◌<◌, ◌≤◌, ◌⊎◌, List, [], ◌∷◌, Bool, true, false, Some, slice_get, max, length, inl}
-use Rattle.fb_bgwrite.proofs.Words.{inr, refl, sym, ap, ◌∙◌, subst, arith, if◌then◌else◌, filter, AllByRecursion, sum_by, cases_Bool}
-use Rattle.fb_bgwrite.proofs.Words.{cases_lt, nat_tests, sum_by-cons, same_track, Disk, Block, Entry, is_wanted, wanted_of, Dwell, Gap}
-use Rattle.fb_bgwrite.proofs.Words.{block_end, catches, AreOnDisk, FitsDisk, end-from-le, stay_gain, and_false, Spill, stay_of, value}
-use Rattle.fb_bgwrite.proofs.Words.{EndsAt, IsLast, passes}
+use Rattle.fb_bgwrite.proofs.Words.{all_get, ◌≡◌, ℕ, ◌+◌, ◌*◌, ◌<◌, ◌≤◌, ◌⊎◌, List, [], ◌∷◌, Bool, true, false, Some, slice_get, max}
+use Rattle.fb_bgwrite.proofs.Words.{inl, inr, refl, sym, ap, ◌∙◌, subst, arith, if◌then◌else◌, filter, AllByRecursion, sum_by}
+use Rattle.fb_bgwrite.proofs.Words.{cases_Bool, cases_lt, nat_tests, sum_by-cons, same_track, Disk, Block, Entry, is_wanted, wanted_of}
+use Rattle.fb_bgwrite.proofs.Words.{Dwell, Gap, block_end, catches, AreOnDisk, FitsDisk, end-from-le, stay_gain, and_false, Spill, stay_of}
+use Rattle.fb_bgwrite.proofs.Words.{value, EndsAt, IsLast, passes}
 use Rattle.fb_plan.proofs.Gains.{one_part}
 use Rattle.fb_detour.specs.Bounds.{stay}
-use Rattle.fb_bgwrite.proofs.{Lists.all_of, Lists.at_all, Lists.some_one, Sums.sum_le_on, Sums.sum_less, Admitting.first_within}
+use Rattle.fb_bgwrite.proofs.{Lists.all_of, Lists.some_one, Sums.sum_le_on, Sums.sum_less}
 
 abbrev pub AreLight : List Entry → Type 0
 AreLight entries = AllByRecursion (λ entry. entry.block.weight ≡ 1) entries
@@ -92,7 +92,7 @@ pub less_before_last : (disk : Disk) (dwell : Dwell) (entries : List Entry) (las
     → sum_by (stay_gain disk (upto dwell leave)) entries < sum_by (stay_gain disk dwell) entries
 less_before_last disk dwell entries last leave on_disk light is in_time less =
     let fits = on_disk is.index is.entry is.stands in
-    let weighs = weighs_some disk dwell is.entry fits (at_all (λ (e : Entry). e.block.weight ≡ 1) entries is.index is.entry light is.stands) is.passing in
+    let weighs = weighs_some disk dwell is.entry fits (all_get (λ (e : Entry). e.block.weight ≡ 1) entries is.index is.entry light is.stands) is.passing in
     let missed = missed_before disk dwell is.entry leave (omega (arith, is.ends, less)) in
     sum_less (stay_gain disk (upto dwell leave)) (stay_gain disk dwell) (no_less disk dwell leave dwell.end in_time) entries is.index is.entry is.stands (omega (arith, weighs, missed))
 
@@ -107,14 +107,6 @@ pub record IsLastOf (disk : Disk) (dwell : Dwell) (entries : List Entry) (n wort
 
 pub none_last : (disk : Disk) (dwell : Dwell) (entries : List Entry) → dwell.begin ≤ dwell.end → IsLastOf disk dwell entries 0 0 dwell.begin
 none_last disk dwell entries order = record { from = omega arith; upto = order; each = λ i entry less. absurd (omega (arith, less)); reached = inl (refl, refl) }
-
-pub all_last : (disk : Disk) (dwell : Dwell) (entries : List Entry) (n worth last : ℕ) → length entries ≤ n → IsLastOf disk dwell entries n worth last → IsLast disk dwell entries worth last
-all_last disk dwell entries n worth last all is = record {
-  from = is.from;
-  upto = is.upto;
-  each = λ i entry at. is.each i entry (omega (arith, first_within entries i entry at, all)) at;
-  reached = is.reached;
-}
 
 one_entry : (entries : List Entry) (n : ℕ) (a b : Entry) → slice_get entries n ≡ Some a → slice_get entries n ≡ Some b → a ≡ b
 one_entry entries n a b at_a at_b = some_one a b (sym at_a ∙ at_b)

@@ -5,13 +5,16 @@ pub use Rattle.std.proofs.Common.{slice_get, subst, suc, sym, take, true, zero, 
 pub use Rattle.std.proofs.Common.{◌∙◌, ◌∷◌, ◌≡◌, ◌≤◌, ◌⊎◌}
 pub use Rattle.std.specs.BTreeMap.{BTreeMap, ContainsKey, get, is_at}
 pub use Rattle.std.specs.List.{AllByRecursion, count_by, flat_map, fold, list_any, range_with_len, slice_index_or, sum_by}
+pub use Rattle.std.specs.Option.{IsSome, option_map}
 pub use Rattle.std.specs.Ordering.{nat_cmp}
 pub use Rattle.std.specs.Prelude.{IsPermutation, nat_le, nat_lt}
 pub use Rattle.std.proofs.lemmas.Bool.{and_parts, cases_Bool, cases_lt, leb-true, ltb-true, true≢false}
 pub use Rattle.std.proofs.lemmas.Bool.Decides.{nat_tests}
-pub use Rattle.std.proofs.lemmas.List.{drop_all, length-map, length_push, map-append, map_push}
+pub use Rattle.std.proofs.lemmas.List.{drop_all, length-append, length-map, length-take, length_push, map-append, map_push}
+pub use Rattle.std.proofs.lemmas.List.{take-append-drop}
 pub use Rattle.std.proofs.lemmas.List.Folds.{list_any-append}
-pub use Rattle.std.proofs.lemmas.List.Sums.{count_by-le-length, sum_by-append, sum_by-cons, sum_by_push}
+pub use Rattle.std.proofs.lemmas.List.Sums.{count_by-le-length, sum_by-append, sum_by-cons, sum_by-le-sum_by, sum_by_push}
+pub use Rattle.std.proofs.lemmas.Option.{slice_get-get_or, slice_get-map, slice_get_within}
 pub use Rattle.std.proofs.lemmas.Result.{IfOk-weaker, err_from_is_err_and, on_ok_weaker}
 pub use Rattle.fb_units.specs.Lines.{fields_of, lines_of}
 pub use Rattle.fb_units.specs.Rising.{IsRising}
@@ -29,7 +32,7 @@ pub use Rattle.fb_seek.specs.Positioning.{distance_of}
 unfoldable pub use Rattle.fb_seek.specs.Positioning.{pos}
 pub use Rattle.fb_service.specs.declared.disk.Disk.{Disk}
 pub use Rattle.fb_calls.specs.Allowed.{tasks, terms_of}
-pub use Rattle.fb_calls.proofs.Lists.{all_weaker}
+pub use Rattle.fb_calls.proofs.Lists.{all_push, all_weaker, rising_push}
 pub use Rattle.fb_wanted.specs.Numbering.{blocks_of, registered}
 pub use Rattle.fb_wanted.specs.States.{after, entry_after, is_block, is_wanted, on_track, wanted_of}
 pub use Rattle.fb_wanted.specs.declared.block.Block.{Block}
@@ -51,7 +54,7 @@ pub use Rattle.fb_model.specs.Timeline.{IsPossible, Leg, arrival, can_follow, ga
 pub use Rattle.fb_model.specs.Timeline.{service_legs, stay, way}
 unfoldable pub use Rattle.fb_model.specs.Timeline.{led_to, timeline}
 pub use Rattle.fb_model.proofs.Leads.{Leads, lead_gap, lead_on, lead_stay, lead_to_target, lead_way}
-pub use Rattle.fb_model.proofs.Lists.{all_append, all_left, all_right}
+pub use Rattle.fb_model.proofs.Lists.{all_append, all_left, all_map, all_right, none_kept}
 pub use Rattle.fb_plan.specs.Order.{catch_of, is_before, place_in}
 unfoldable pub use Rattle.fb_plan.specs.Order.{caught_of}
 pub use Rattle.fb_plan.specs.Ways.{AreOnDisk, FitsDisk}
@@ -60,6 +63,7 @@ pub use Rattle.fb_plan.proofs.Ends.{begin-from-le, end-from-le}
 pub use Rattle.fb_detour.specs.Bounds.{slots_within, stay_gain}
 pub use Rattle.fb_detour.proofs.Ceilings.{and_false, longer_stay, stay-next, stay-of, weight_of_stay}
 pub use Rattle.fb_report.proofs.Lines.{AreLines, length_lines, line_first, line_last, line_row}
+pub use Rattle.fb_report.proofs.Ranges.{all_get, drop_got, get_left, get_right, one_more}
 pub use Rattle.fb_bgwrite.specs.AmendedWay.{amended, amended_legs, kept, kept_legs, planned_legs, spill_legs}
 unfoldable pub use Rattle.fb_bgwrite.specs.AmendedWay.{timeline_with}
 pub use Rattle.fb_bgwrite.specs.Asked.{ranges_in, request_range}

@@ -1,12 +1,13 @@
 -- One more row: which blocks are pending after it, and how many sectors are left.
-use Rattle.fb_bgwrite.proofs.Words.{◌≡◌, ℕ, zero, suc, ◌+◌, ◌<◌, ◌≤◌, List, [], ◌∷◌, ◌++◌, Bool, true, false, ◌&&◌, ◌||◌, not, Some}
-use Rattle.fb_bgwrite.proofs.Words.{slice_get, map, refl, sym, ap, ap₂, ◌∙◌, subst, arith, inl, inr, if◌then◌else◌, ◌==◌, filter, nat_le}
-use Rattle.fb_bgwrite.proofs.Words.{AllByRecursion, list_any, cases_Bool, true≢false, nat_tests, list_any-append, sum_by-cons, Block, Entry}
-use Rattle.fb_bgwrite.proofs.Words.{Wanted, Delivered, Deliver, after, entry_after, wanted_of, SpillItem, SpillLine, WroteLine, SpillRow}
-use Rattle.fb_bgwrite.proofs.Words.{WroteRow, PutBlock, is_pending, is_written, pending, sectors, writes, AreOnce, entry_of}
+use Rattle.fb_bgwrite.proofs.Words.{append-nil, all_weaker, none_kept, all_get, ◌≡◌, ℕ, zero, suc, ◌+◌, ◌<◌, ◌≤◌, List, [], ◌∷◌, ◌++◌, Bool}
+use Rattle.fb_bgwrite.proofs.Words.{true, false, ◌&&◌, ◌||◌, not, Some, slice_get, map, refl, sym, ap, ap₂, ◌∙◌, subst, arith, inl, inr}
+use Rattle.fb_bgwrite.proofs.Words.{if◌then◌else◌, ◌==◌, filter, nat_le, AllByRecursion, list_any, cases_Bool, true≢false, nat_tests}
+use Rattle.fb_bgwrite.proofs.Words.{list_any-append, sum_by-cons, Block, Entry, Wanted, Delivered, Deliver, after, entry_after, wanted_of}
+use Rattle.fb_bgwrite.proofs.Words.{SpillItem, SpillLine, WroteLine, SpillRow, WroteRow, PutBlock, is_pending, is_written, pending, sectors}
+use Rattle.fb_bgwrite.proofs.Words.{writes, AreOnce, entry_of}
+use Rattle.std.proofs.lemmas.List.Elements.{filter-append}
 use Rattle.fb_wanted.specs.declared.block.State.{State}
-use Rattle.fb_bgwrite.proofs.Lists.{at_all, before_or_last, some_one}
-use Rattle.fb_bgwrite.proofs.PutBlocks.{its_blocks, AreInOrder, IsBefore}
+use Rattle.fb_bgwrite.proofs.{Lists.before_or_last, Lists.some_one, PutBlocks.its_blocks, PutBlocks.AreInOrder, PutBlocks.IsBefore}
 
 wrote_one : (a b : WroteRow) → WroteLine a ≡ WroteLine b → a ≡ b
 wrote_one a b e = grind arith
@@ -156,12 +157,12 @@ module _ (items : List SpillItem) (row : WroteRow) (block : Block) (put_is : row
       | inl other_before ↦ once i j one other one_before other_before puts lbns
       | inr other_last ↦
           let same = sym (wrote_one row other other_last.1) in
-          absurd (clash one (at_all _ rows i (WroteLine one) off one_before) (puts ∙ ap (λ (r : WroteRow). r.put) same) (lbns ∙ ap (λ (r : WroteRow). r.lbn) same))
+          absurd (clash one (all_get _ rows i (WroteLine one) off one_before) (puts ∙ ap (λ (r : WroteRow). r.put) same) (lbns ∙ ap (λ (r : WroteRow). r.lbn) same))
     ]
     | inr one_last ↦ elim (before_or_last rows (WroteLine row) (WroteLine other) j at_j) [
       | inl other_before ↦
           let same = sym (wrote_one row one one_last.1) in
-          absurd (clash other (at_all _ rows j (WroteLine other) off other_before) (sym puts ∙ ap (λ (r : WroteRow). r.put) same) (sym lbns ∙ ap (λ (r : WroteRow). r.lbn) same))
+          absurd (clash other (all_get _ rows j (WroteLine other) off other_before) (sym puts ∙ ap (λ (r : WroteRow). r.put) same) (sym lbns ∙ ap (λ (r : WroteRow). r.lbn) same))
       | inr other_last ↦ one_last.0 ∙ sym other_last.0
     ]
   ]
@@ -217,25 +218,11 @@ module _ (items : List SpillItem) (now : ℕ) where
       ]
 
   none_pending : (puts : List PutBlock) → AllByRecursion (λ (put : PutBlock). now < put.instant) puts → filter (is_pending items now) puts ≡ []
-  none_pending [] later = refl
-  none_pending (put ∷ puts) later =
-      let early : nat_le put.instant now ≡ false = let less = later.0 in grind (arith, nat_tests) in
-      rw early (none_pending puts later.1)
-
-  filter_append : (xs ys : List PutBlock) → filter (is_pending items now) (xs ++ ys) ≡ filter (is_pending items now) xs ++ filter (is_pending items now) ys
-  filter_append [] ys = refl
-  filter_append (x ∷ xs) ys = elim (cases_Bool (is_pending items now x)) [
-    | inl yes' ↦ rw yes' (ap (λ zs. x ∷ zs) (filter_append xs ys))
-    | inr no' ↦ rw no' (filter_append xs ys)
-  ]
-
-  append_nil : {X : Type 0} (xs : List X) → xs ++ [] ≡ xs
-  append_nil [] = refl
-  append_nil (x ∷ xs) = ap (λ ys. x ∷ ys) (append_nil xs)
+  none_pending puts later = none_kept (is_pending items now) puts (all_weaker (λ (put : PutBlock). now < put.instant) (λ put. is_pending items now put ≡ false) (λ put less. grind (arith, nat_tests)) puts later)
 
   pub pending_is : (all first rest : List PutBlock) → all ≡ first ++ rest → AllByRecursion (λ (put : PutBlock). put.instant ≤ now) first → AllByRecursion (λ (put : PutBlock). now < put.instant) rest
       → wanted_of (map (entry_of items) first) ≡ pending all items now
   unfolding pending
   pending_is all first rest split come later =
       come_pending first come
-      ∙ ap its_blocks (sym (append_nil (filter (is_pending items now) first)) ∙ ap (λ xs. filter (is_pending items now) first ++ xs) (sym (none_pending rest later)) ∙ sym (filter_append first rest) ∙ ap (filter (is_pending items now)) (sym split))
+      ∙ ap its_blocks (sym (append-nil (filter (is_pending items now) first)) ∙ ap (λ xs. filter (is_pending items now) first ++ xs) (sym (none_pending rest later)) ∙ sym (filter-append (is_pending items now) first rest) ∙ ap (filter (is_pending items now)) (sym split))

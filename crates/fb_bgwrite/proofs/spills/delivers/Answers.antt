@@ -1,5 +1,4 @@
-use Rattle.fb_bgwrite.proofs.Words.{◌+◌, sym, ap, ◌∙◌, drop, delivers}
-use Rattle.fb_bgwrite.proofs.Going.{drop_got}
+use Rattle.fb_bgwrite.proofs.Words.{◌+◌, sym, ap, ◌∙◌, drop, delivers, drop_got}
 use Rattle.fb_bgwrite.proofs.spills.delivers.Goals as goal
 
 pub returns-in-Some : goal.returns-in-Some

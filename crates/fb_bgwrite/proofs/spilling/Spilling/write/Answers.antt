@@ -1,6 +1,5 @@
 use Rattle.fb_bgwrite.proofs.Words.{◌≡◌, ◌∷◌, ◌++◌, ◌≤◌, slice_get, take, ap, sym, ◌∙◌, arith, slice_index_or, Dwell, wanted_of, Catch}
-use Rattle.fb_bgwrite.proofs.Words.{caught_of, SpillLine, spill_row}
-use Rattle.std.proofs.lemmas.Option.{slice_get-get_or}
+use Rattle.fb_bgwrite.proofs.Words.{caught_of, SpillLine, spill_row, slice_get-get_or}
 use Rattle.fb_bgwrite.proofs.{Admitting.are_pending, Admitting.puts_kept, Catching.to_write, Catching.wrote_rows}
 use Rattle.fb_bgwrite.proofs.spilling.Spilling.write.Goals as goal
 
