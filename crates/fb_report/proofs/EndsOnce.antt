@@ -1,14 +1,13 @@
 -- The end line is the only line that begins like it.
-use Rattle.fb_report.proofs.Words.{◌≡◌, ℕ, zero, suc, ◌+◌, ◌≤◌, List, [], ◌∷◌, ◌++◌, ◌⊎◌, inl, inr, length, Bool, true, false, refl, sym}
+use Rattle.std.proofs.lemmas.Bool.{and_parts}
+use Rattle.fb_calls.proofs.Lists.{all_push, all_weaker}
+use Rattle.fb_report.proofs.Ranges.{all_get}
+use Rattle.fb_report.proofs.Words.{◌≡◌, ℕ, suc, ◌+◌, ◌≤◌, List, [], ◌∷◌, ◌++◌, ◌⊎◌, inl, inr, length, true, false, refl, sym}
 use Rattle.fb_report.proofs.Words.{ap, ◌∙◌, arith, lit≤, true≢false, subst, length-append, Some, Ok, ◌==◌, ◌&&◌, codes, slice_get}
 use Rattle.fb_report.proofs.Words.{AllByRecursion, onto_first, list_any, bytes_eq, cases_Bool, Decides-eqb, slice_split-cons_yes}
 use Rattle.fb_report.proofs.Words.{slice_split-cons_no, Grammar, Form, fore_grammar, back_grammar, have_forms, is_line_of, is_word}
 use Rattle.fb_report.proofs.Words.{report_fields, may_follow, may_end, lines_behind, BeginsLikeEnd, EndsOnce, ReportsEndOnce}
 use Rattle.fb_report.proofs.{Ranges.get_left, Ranges.get_right, Whole.row_or_end}
-
-both : (a b : Bool) → (a && b) ≡ true → (a ≡ true) × (b ≡ true)
-both true b h = (refl, h)
-both false b h = absurd (cc)
 
 -- ---- forms of a line
 
@@ -17,7 +16,7 @@ as_many : (forms : List Form) (fields : List (List ℕ)) → have_forms forms fi
 as_many [] [] h = refl
 as_many [] (field ∷ fields) h = absurd (cc)
 as_many (form ∷ forms) [] h = absurd (cc)
-as_many (form ∷ forms) (field ∷ fields) h = ap suc (as_many forms fields (both (form field) (have_forms forms fields) h).1)
+as_many (form ∷ forms) (field ∷ fields) h = ap suc (as_many forms fields (and_parts (form field) (have_forms forms fields) h).1)
 
 -- the first byte of a line is that of its first field
 onto_begins : (byte : ℕ) (parts : List (List ℕ)) → (bytes : List ℕ) × (others : List (List ℕ)) × (onto_first byte parts ≡ (byte ∷ bytes) ∷ others)
@@ -43,7 +42,7 @@ refused forms plain rest h =
     let fields : report_fields (101 ∷ rest) ≡ (101 ∷ begins.0) ∷ begins.1 = slice_split-cons_no (λ byte. byte == 32) 101 rest refl ∙ begins.2 in
     let first : (plain.first (101 ∷ begins.0) && have_forms plain.others begins.1) ≡ true =
     sym (ap (λ forms. have_forms forms ((101 ∷ begins.0) ∷ begins.1)) plain.is) ∙ (sym (ap (have_forms forms) fields) ∙ h) in
-    true≢false (sym (both (plain.first (101 ∷ begins.0)) (have_forms plain.others begins.1) first).0 ∙ plain.refuses begins.0)
+    true≢false (sym (and_parts (plain.first (101 ∷ begins.0)) (have_forms plain.others begins.1) first).0 ∙ plain.refuses begins.0)
 
 plain_line : (forms : List Form) → IsPlain forms → (line : List ℕ) → is_line_of forms line ≡ true → IsPlainLine line
 plain_line forms plain line h = record {
@@ -73,7 +72,7 @@ pub record IsEndLine (line : List ℕ) : Type 0 where
 
 word_begins : (field : List ℕ) → is_word (codes "end") field ≡ true → (bytes : List ℕ) × (field ≡ 101 ∷ bytes)
 word_begins [] h = absurd (cc)
-word_begins (byte ∷ bytes) h = (bytes, ap (λ first. first ∷ bytes) ((Decides-eqb byte 101).0 (both (byte == 101) (bytes_eq bytes (codes "nd")) h).0))
+word_begins (byte ∷ bytes) h = (bytes, ap (λ first. first ∷ bytes) ((Decides-eqb byte 101).0 (and_parts (byte == 101) (bytes_eq bytes (codes "nd")) h).0))
 
 -- a line begins as its first field does
 onto_same : (first byte : ℕ) (bytes : List ℕ) (parts others : List (List ℕ)) → onto_first first parts ≡ (byte ∷ bytes) ∷ others → first ≡ byte
@@ -90,7 +89,7 @@ line_begins (first ∷ rest) byte bytes others h = elim (cases_Bool (first == 32
 has_word : (others : List Form) (fields : List (List ℕ)) → have_forms (is_word (codes "end") ∷ others) fields ≡ true → (bytes : List ℕ) × (more : List (List ℕ)) × (fields ≡ (101 ∷ bytes) ∷ more)
 has_word others [] h = absurd (cc)
 has_word others (field ∷ more) h =
-    let word = word_begins field (both (is_word (codes "end") field) (have_forms others more) h).0 in
+    let word = word_begins field (and_parts (is_word (codes "end") field) (have_forms others more) h).0 in
     (word.0, more, ap (λ field. field ∷ more) word.1)
 
 end_line : (forms : List Form) → IsEndForms forms → (line : List ℕ) → is_line_of forms line ≡ true → IsEndLine line
@@ -116,19 +115,6 @@ pub record AreEnded (lines : List (List ℕ)) : Type 0 where
   pub is : lines ≡ front ++ last ∷ []
   pub plain : AllByRecursion IsPlainLine front
   pub end : IsEndLine last
-
-all_push : {X : Type 0} (P : X → Type 0) (xs : List X) (x : X) → AllByRecursion P xs → P x → AllByRecursion P (xs ++ x ∷ [])
-all_push P [] x all more = (more, tt)
-all_push P (y ∷ xs) x all more = (all.0, all_push P xs x all.1 more)
-
-all_weaker : {X : Type 0} (P Q : X → Type 0) → ((x : X) → P x → Q x) → (xs : List X) → AllByRecursion P xs → AllByRecursion Q xs
-all_weaker P Q weaker [] all = tt
-all_weaker P Q weaker (x ∷ xs) all = (weaker x all.0, all_weaker P Q weaker xs all.1)
-
-all_get : {X : Type 0} (P : X → Type 0) (xs : List X) (i : ℕ) (x : X) → AllByRecursion P xs → slice_get xs i ≡ Some x → P x
-all_get P [] i x all at = absurd (cc)
-all_get P (y ∷ xs) zero x all at = subst P (let same : y ≡ x = cc in same) all.0
-all_get P (y ∷ xs) (suc i) x all at = all_get P xs i x all.1 at
 
 module _ (grammar : Grammar) (by_word : EndsByWord grammar) where
   follower : (lines : List (List ℕ)) (line : List ℕ) → may_follow grammar lines line ≡ true → IsPlainLine line

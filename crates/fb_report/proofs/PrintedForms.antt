@@ -1,12 +1,13 @@
 -- The fields of lines have their forms.
+use Rattle.std.proofs.lemmas.Bool.{and_parts}
 use Rattle.fb_report.proofs.Words.{◌≡◌, ℕ, ◌+◌, ◌-◌, ◌*◌, ◌%◌, ◌<◌, ◌^◌, List, [], ◌∷◌, ◌++◌, length, drop, get_or, Bool, true, false, refl}
 use Rattle.fb_report.proofs.Words.{sym, ap, ◌∙◌, arith, subst, inl, inr, ◌==◌, nat_lt, decimal, list_all, position_or_len, before_first}
 use Rattle.fb_report.proofs.Words.{after_first, is_ascii_digit, bytes_eq, cases_Bool, nat_tests, take_at, list_all-append, decimal_by_steps}
 use Rattle.fb_report.proofs.Words.{decimal_nonempty, decimal_digit, first_decimal, are_digits, digits_after, is_name, is_name_byte}
-use Rattle.fb_report.proofs.Words.{has_no_leading_zero, is_number, is_point, is_track, is_request, is_word, IsField}
+use Rattle.fb_report.proofs.Words.{has_no_leading_zero, is_number, is_point, is_track, is_word, IsField}
 use Rattle.std.proofs.Math.Seq.{drop-append-add}
 use Rattle.std.proofs.lemmas.Slice.Eq.{bytes_eq-Decides}
-use Rattle.fb_report.proofs.{ReadBack.and_parts, Fields.plain}
+use Rattle.fb_report.proofs.Fields.{plain}
 
 pub all_too : (p q : ℕ → Bool) → ((x : ℕ) → p x ≡ true → q x ≡ true) → (xs : List ℕ) → list_all p xs ≡ true → list_all q xs ≡ true
 all_too p q then [] all = refl
@@ -97,20 +98,6 @@ track_is cylinder head is too = record {
   fits = rw (before_point cylinder head (only_digits cylinder is), after_point cylinder head (only_digits cylinder is), is.fits, too.fits) refl;
   whole = list_all-append plain cylinder (46 ∷ head) ∙ rw (is.whole, too.whole) refl;
 }
-
-no_mark : (byte : ℕ) → is_ascii_digit byte ≡ true → (byte == 80) ≡ false
-no_mark byte is = grind (arith, nat_tests)
-
--- digits alone are no promoted read's name
-traced_is : (digits : List ℕ) → list_all is_ascii_digit digits ≡ true → is_number digits ≡ true → is_request digits ≡ true
-traced_is [] all number = number
-traced_is (c ∷ digits) all number = rw (no_mark c (and_parts (is_ascii_digit c) (list_all is_ascii_digit digits) all).0) number
-
-pub traced_name : (number : List ℕ) → IsField is_number number → IsField is_request number
-traced_name number is = record { fits = traced_is number (only_digits number is) is.fits; whole = is.whole }
-
-pub promoted_name : (number : List ℕ) → IsField is_number number → IsField is_request (80 ∷ number)
-promoted_name number is = record { fits = is.fits; whole = is.whole }
 
 name_byte : (byte : ℕ) → is_name_byte byte ≡ true → plain byte ≡ true
 name_byte byte is = grind (arith, nat_tests)

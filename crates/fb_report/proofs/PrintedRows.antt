@@ -33,10 +33,6 @@ fore_first_is = in_first fore_grammar (codes "freeblock") (codes "fore" ∷ code
 pub fore_last_is : (rows passed : ℕ) → IsField is_number (decimal rows) → IsField is_number (decimal passed) → IsLine (is_last fore_grammar) (fore_last rows passed)
 fore_last_is rows passed is too = in_last fore_grammar (codes "end") (decimal rows ∷ decimal passed ∷ []) (word_is (codes "end") refl & is & too & tt) refl
 
-pub kind_is : (write : Bool) → IsField (is_one_of (codes "R" ∷ codes "W" ∷ [])) (kind_text write)
-kind_is true = record { fits = refl; whole = refl }
-kind_is false = record { fits = refl; whole = refl }
-
 pub found_is : (write : Bool) (bytes : Bytes) (size : ℕ) (runs : List ContentRun) → 0 < size → (write ≡ false → HasSectors runs) → IsField are_bytes (if write then codes "-" else shown bytes size runs)
 found_is true bytes size runs big reads = dash_is
 found_is false bytes size runs big reads = shown_is bytes size runs big (reads refl)

@@ -1,22 +1,11 @@
 -- Printed lines are read back.
+use Rattle.std.proofs.lemmas.Bool.{and_parts, or_parts, not-true}
+use Rattle.fb_report.proofs.Behind.{row_read}
 use Rattle.fb_report.proofs.Words.{◌≡◌, ℕ, suc, ◌+◌, ◌≤◌, ◌<◌, List, [], ◌∷◌, ◌++◌, length, map, Bool, true, false, refl, sym, ap, ◌∙◌}
-use Rattle.fb_report.proofs.Words.{arith, append_assoc, Some, Ok, ◌&&◌, ◌||◌, ◌==◌, not, slice_get, flat_map, list_any, slice_split}
+use Rattle.fb_report.proofs.Words.{arith, append_assoc, Some, Ok, ◌==◌, not, slice_get, flat_map, list_any, slice_split}
 use Rattle.fb_report.proofs.Words.{nat_tests, length-slice_split, Grammar, is_line_of, may_follow, may_end, lines_behind, ended, IsLine}
 use Rattle.fb_report.proofs.Words.{is_row, is_last, is_in_place, PrintedAreReadBack}
 use Rattle.std.proofs.lemmas.List.{length-append}
-
-or_parts : (a b : Bool) → (a || b) ≡ false → (a ≡ false) × (b ≡ false)
-or_parts true b h = cc
-or_parts false b h = (refl, h)
-
-pub and_parts : (a b : Bool) → (a && b) ≡ true → (a ≡ true) × (b ≡ true)
-and_parts true true h = (refl, refl)
-and_parts true false h = cc
-and_parts false b h = cc
-
-not_true : (b : Bool) → not b ≡ true → b ≡ false
-not_true true h = sym h
-not_true false h = refl
 
 -- the first part of a text ends at the first byte that passes
 pub split_at : (p : ℕ → Bool) (xs : List ℕ) (y : ℕ) (ys : List ℕ) → list_any p xs ≡ false → p y ≡ true → slice_split p (xs ++ y ∷ ys) ≡ xs ∷ slice_split p ys
@@ -39,12 +28,6 @@ feed_at : (part rest : List ℕ) → list_any feed part ≡ false → slice_spli
 feed_at part rest whole = ap (slice_split feed) (append_assoc part (10 ∷ []) rest) ∙ split_at feed part 10 rest whole refl
 
 module _ (grammar : Grammar) where
-  -- a line that may follow those before it
-  goes_on : (before : List (List ℕ)) (line : List ℕ) (parts : List (List ℕ)) → 0 < length parts → may_follow grammar before line ≡ true
-      → lines_behind grammar before (line ∷ parts) ≡ lines_behind grammar (before ++ line ∷ []) parts
-  unfolding lines_behind
-  goes_on before line [] some follows = absurd (omega arith)
-  goes_on before line (next ∷ parts) some follows = rw follows refl
 
   -- a line that ends the report
   stops : (before : List (List ℕ)) (line : List ℕ) → may_follow grammar before line ≡ false → may_end grammar before line ≡ true
@@ -72,7 +55,7 @@ module _ (grammar : Grammar) where
       let here : (place + 1 == many) ≡ true = grind (arith, nat_tests) in
       let last : is_last grammar line ≡ true = rw (later, here) at is in
       let both = and_parts (is_line_of grammar.last line) (not (is_row grammar line)) last in
-      (both.0, not_true (is_row grammar line) both.1)
+      (both.0, not-true (is_row grammar line) both.1)
 
   row_is : (line : List ℕ) (many place : ℕ) (before : List (List ℕ)) → place + 2 ≤ many → length before ≡ place → is_in_place grammar many place line ≡ true → may_follow grammar before line ≡ true
   row_is line many place [] inside e is = let here : (place == 0) ≡ true = grind (arith, nat_tests) in rw here at is
@@ -94,7 +77,7 @@ module _ (grammar : Grammar) where
         parts = this.part ∷ later.parts;
         are = rw later.are (ap (λ x. x ∷ lines) (sym this.is_ended));
         read = joined before lines line this.part this.is_ended this.whole
-            ∙ goes_on before this.part rest (omega (arith, length-slice_split feed (flat_map (λ x. x) lines))) follows
+            ∙ row_read grammar before this.part rest (omega (arith, length-slice_split feed (flat_map (λ x. x) lines))) follows
             ∙ later.read ∙ ap Ok (append_assoc before (this.part ∷ []) later.parts);
       }
 

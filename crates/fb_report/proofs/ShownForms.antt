@@ -1,4 +1,5 @@
 -- Bytes and digests are shown as hexadecimal digits.
+use Rattle.std.proofs.lemmas.Bool.{and_parts}
 use Rattle.fb_report.proofs.Words.{◌≡◌, ℕ, zero, suc, ◌+◌, ◌/◌, ◌%◌, ◌<◌, ◌^◌, List, [], ◌∷◌, length, map, Bool, true, refl, ◌∙◌, arith}
 use Rattle.fb_report.proofs.Words.{inl, inr, nat_lt, replicate, codes, slice_index, flat_map, list_all, range_with_len, bytes_eq, or-true}
 use Rattle.fb_report.proofs.Words.{cases_lt, nat_tests, length-map, length-replicate, sum_by-append, list_all-append, AllPass-from_list_all}
@@ -11,7 +12,7 @@ use Rattle.sha2.specs.Sha256.{digest_bytes, sha256}
 use Rattle.fb_store.specs.declared.content.Content.{Content}
 use Rattle.fb_store.specs.declared.content.Content.TheVariants.{Filled, Unreadable}
 use Rattle.fb_report.specs.declared.bytes.Bytes.TheVariants.{Nothing, Digest, Dump}
-use Rattle.fb_report.proofs.{ReadBack.and_parts, Fields.plain, PrintedForms.all_too}
+use Rattle.fb_report.proofs.{Fields.plain, PrintedForms.all_too}
 
 -- ---- bytes
 
@@ -97,9 +98,6 @@ contents_some size (run ∷ runs) big some = elim (cases_lt 0 run.count) [
 ]
 
 -- ---- digits
-
-abbrev hex_digits : List ℕ → Bool
-hex_digits text = list_all is_lower_hex text
 
 digit_of : (n : ℕ) → n < 16 → is_lower_hex (slice_index lower_digits n) ≡ true
 digit_of n low = AllPass-from_list_all is_lower_hex lower_digits refl n 0 (omega arith)

@@ -7,7 +7,7 @@ use Rattle.fb_rows.specs.declared.back.GapRow.{GapRow}
 use Rattle.fb_rows.specs.declared.back.DeliveryRow.{DeliveryRow}
 use Rattle.fb_rows.specs.declared.back.TaskRow.{TaskRow}
 use Rattle.fb_rows.specs.declared.back.BackRow.{BackRow}
-use Rattle.fb_rows.specs.declared.back.BackRow.TheVariants.{Gap, Idle, Got, Bad, Seal, Segment, Complete, Task}
+use Rattle.fb_rows.specs.declared.back.BackRow.TheVariants.{Gap, Got, Task}
 use Rattle.fb_report.proofs.Ranges.{drop_got}
 
 module _ {X Y : Type 0} (h : X → Option Y) (xs : List X) (i : ℕ) where
@@ -34,33 +34,15 @@ ends g now whole ys so_far e = sym (ap (fold g now) e) ∙ so_far
 
 pub no_gap : (row : BackRow) → ((gap : GapRow) → row ≡ Gap gap → ⊥) → gap_in row ≡ None
 no_gap (Gap gap) never = absurd (never gap refl)
-no_gap (Idle dwell) never = refl
-no_gap (Got row) never = refl
-no_gap (Bad row) never = refl
-no_gap (Seal row) never = refl
-no_gap (Segment row) never = refl
-no_gap (Complete row) never = refl
-no_gap (Task row) never = refl
+no_gap (_) never = refl
 
 pub no_delivery : (row : BackRow) → ((delivery : DeliveryRow) → row ≡ Got delivery → ⊥) → delivery_in row ≡ None
-no_delivery (Gap row) never = refl
-no_delivery (Idle dwell) never = refl
 no_delivery (Got delivery) never = absurd (never delivery refl)
-no_delivery (Bad row) never = refl
-no_delivery (Seal row) never = refl
-no_delivery (Segment row) never = refl
-no_delivery (Complete row) never = refl
-no_delivery (Task row) never = refl
+no_delivery (_) never = refl
 
 pub no_task : (row : BackRow) → ((task : TaskRow) → row ≡ Task task → ⊥) → task_in row ≡ None
-no_task (Gap row) never = refl
-no_task (Idle dwell) never = refl
-no_task (Got row) never = refl
-no_task (Bad row) never = refl
-no_task (Seal row) never = refl
-no_task (Segment row) never = refl
-no_task (Complete row) never = refl
 no_task (Task task) never = absurd (never task refl)
+no_task (_) never = refl
 
 -- a line more of a text of lines
 pub line_more : (now new line : List ℕ) (rest : List (List ℕ)) (whole : List ℕ) → now ++ flat_map (λ x. x) (line ∷ rest) ≡ whole → new ≡ now ++ line → new ++ flat_map (λ x. x) rest ≡ whole
@@ -73,15 +55,4 @@ greater a b = grind (arith, nat_tests)
 pub ten_lines : (a b c d e f g h i j t1 t2 t3 t4 t5 t6 t7 t8 t9 t10 : List ℕ) → t1 ≡ a → t2 ≡ t1 ++ b → t3 ≡ t2 ++ c → t4 ≡ t3 ++ d → t5 ≡ t4 ++ e → t6 ≡ t5 ++ f → t7 ≡ t6 ++ g → t8 ≡ t7 ++ h → t9 ≡ t8 ++ i → t10 ≡ t9 ++ j
     → t10 ≡ flat_map (λ x. x) (a ∷ b ∷ c ∷ d ∷ e ∷ f ∷ g ∷ h ∷ i ∷ j ∷ [])
 ten_lines a b c d e f g h i j t1 t2 t3 t4 t5 t6 t7 t8 t9 t10 e1 e2 e3 e4 e5 e6 e7 e8 e9 e10 =
-    let whole = flat_map (λ x. x) (a ∷ b ∷ c ∷ d ∷ e ∷ f ∷ g ∷ h ∷ i ∷ j ∷ []) in
-    let s1 = ap (λ x. x ++ flat_map (λ y. y) (b ∷ c ∷ d ∷ e ∷ f ∷ g ∷ h ∷ i ∷ j ∷ [])) e1 in
-    let s2 = line_more t1 t2 b (c ∷ d ∷ e ∷ f ∷ g ∷ h ∷ i ∷ j ∷ []) whole s1 e2 in
-    let s3 = line_more t2 t3 c (d ∷ e ∷ f ∷ g ∷ h ∷ i ∷ j ∷ []) whole s2 e3 in
-    let s4 = line_more t3 t4 d (e ∷ f ∷ g ∷ h ∷ i ∷ j ∷ []) whole s3 e4 in
-    let s5 = line_more t4 t5 e (f ∷ g ∷ h ∷ i ∷ j ∷ []) whole s4 e5 in
-    let s6 = line_more t5 t6 f (g ∷ h ∷ i ∷ j ∷ []) whole s5 e6 in
-    let s7 = line_more t6 t7 g (h ∷ i ∷ j ∷ []) whole s6 e7 in
-    let s8 = line_more t7 t8 h (i ∷ j ∷ []) whole s7 e8 in
-    let s9 = line_more t8 t9 i (j ∷ []) whole s8 e9 in
-    let s10 = line_more t9 t10 j ([]) whole s9 e10 in
-    sym (append-nil t10) ∙ s10
+    rw (e10, e9, e8, e7, e6, e5, e4, e3, e2, e1) (simp (append_assoc, append-nil))
