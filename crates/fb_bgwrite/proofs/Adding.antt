@@ -1,11 +1,11 @@
 -- One more row keeps all that holds of the rows.
-use Rattle.fb_bgwrite.proofs.Words.{option_map, slice_get-map, all_get, all_push, ◌≡◌, ℕ, ◌+◌, ◌*◌, ◌^◌, ◌≤◌, List, [], ◌∷◌}
-use Rattle.fb_bgwrite.proofs.Words.{◌++◌, Bool, true, false, not, Some, slice_get, take, drop, map, length, refl, sym, ap, ◌∙◌, subst}
-use Rattle.fb_bgwrite.proofs.Words.{arith, if◌then◌else◌, ◌==◌, ◌&&◌, filter, AllByRecursion, sum_by, nat_tests, sum_by_push, places, Disk}
-use Rattle.fb_bgwrite.proofs.Words.{Block, Entry, Wanted, Delivered, Deliver, after, is_block, Catch, SpillItem, SpillLine, WroteLine}
-use Rattle.fb_bgwrite.proofs.Words.{SpillRow, Put, Spilling, PutBlock, blocks_from, is_written, put_blocks, sectors, writes, left_over}
-use Rattle.fb_bgwrite.proofs.Words.{sectors_in, AreOnce, IsInTime, entry_of, first_blocks, ArePutsOn, IsSpilling, IsToWrite, IsUpTo}
-use Rattle.fb_bgwrite.proofs.Words.{wrote_row, HasRange}
+use Rattle.fb_bgwrite.proofs.Words.{option_map, slice_get-map, all_get, all_push, ◌≡◌, ℕ, ◌+◌, ◌*◌, ◌^◌, ◌≤◌, List, [], ◌∷◌, ◌++◌, Bool}
+use Rattle.fb_bgwrite.proofs.Words.{true, false, not, Some, slice_get, take, drop, map, length, refl, sym, ap, ◌∙◌, subst, arith}
+use Rattle.fb_bgwrite.proofs.Words.{if◌then◌else◌, ◌==◌, ◌&&◌, filter, AllByRecursion, sum_by, nat_tests, sum_by_push, places, Disk, Block}
+use Rattle.fb_bgwrite.proofs.Words.{Entry, Wanted, Delivered, Deliver, after, is_block, Catch, SpillItem, SpillLine, WroteLine, SpillRow}
+use Rattle.fb_bgwrite.proofs.Words.{Put, Spilling, PutBlock, blocks_from, is_written, put_blocks, sectors, writes, left_over, sectors_in}
+use Rattle.fb_bgwrite.proofs.Words.{AreOnce, IsInTime, entry_of, first_blocks, ArePutsOn, IsSpilling, IsToWrite, IsUpTo, wrote_row}
+use Rattle.fb_bgwrite.proofs.Words.{HasRange}
 use Rattle.fb_bgwrite.proofs.{Admitting.first_in_order, Admitting.numbered_first, Appending.at_append, Lists.all_none}
 use Rattle.fb_bgwrite.proofs.{PutBlocks.all_of_puts, PutBlocks.all_sectors, PutBlocks.blocks_split, PutBlocks.its_blocks}
 use Rattle.fb_bgwrite.proofs.{PutBlocks.puts_in_order, PutBlocks.IsOfPuts, Writing.delivered, Writing.left_less, Writing.none_once}

@@ -1,8 +1,8 @@
 -- One more put.
-use Rattle.fb_bgwrite.proofs.Words.{slice_get_within, get_left, get_right, all_push, ◌≡◌, ℕ, ◌+◌, ◌-◌, ◌<◌, List, [], ◌∷◌}
-use Rattle.fb_bgwrite.proofs.Words.{◌++◌, true, false, Some, slice_get, length, inl, inr, refl, sym, ap, ◌∙◌, arith, if◌then◌else◌}
-use Rattle.fb_bgwrite.proofs.Words.{AllByRecursion, list_any, nat_cmp, BTreeMap, get, is_at, cases_Bool, nat_tests, all_left}
-use Rattle.fb_bgwrite.proofs.Words.{all_right, SectorRange, share, AreApart, AreTaken}
+use Rattle.fb_bgwrite.proofs.Words.{slice_get_within, get_left, get_right, all_push, ◌≡◌, ℕ, ◌+◌, ◌-◌, ◌<◌, List, [], ◌∷◌, ◌++◌, true}
+use Rattle.fb_bgwrite.proofs.Words.{false, Some, slice_get, length, inl, inr, refl, sym, ap, ◌∙◌, arith, if◌then◌else◌, AllByRecursion}
+use Rattle.fb_bgwrite.proofs.Words.{list_any, nat_cmp, BTreeMap, get, is_at, cases_Bool, nat_tests, all_left, all_right, SectorRange, share}
+use Rattle.fb_bgwrite.proofs.Words.{AreApart, AreTaken}
 use Rattle.fb_bgwrite.proofs.{Lists.all_none, Lists.some_one, TakenRanges.share_either, TakenRanges.is_shares}
 
 pub apart_push : (ranges : List SectorRange) (range : SectorRange) → AreApart ranges → AllByRecursion (λ other. share range other ≡ false) ranges → AreApart (ranges ++ range ∷ [])

@@ -1,12 +1,11 @@
 -- The best so far beats what it beat before.
 use Rattle.fb_bgwrite.proofs.Words.{◌≡◌, ℕ, ◌+◌, ◌<◌, ◌≤◌, List, [], ◌∷◌, Option, Some, None, inl, inr, refl, sym, ◌∙◌, subst, arith}
 use Rattle.fb_bgwrite.proofs.Words.{sum_by, cases_Bool, cases_lt, Track, same_track, cylinders_of, Disk, Block, Entry, on_track, wanted_of}
-use Rattle.fb_bgwrite.proofs.Words.{Dwell, Gap, AreOnDisk, stay_gain, longer_stay, stay-of, weight_of_stay, Spill, Valued}
-use Rattle.fb_bgwrite.proofs.Words.{ready, stay_of, value, IsSpill, ArePending, Beats, BeatsOn, BeatsRange, IsBestIf, IsEnough}
-use Rattle.fb_bgwrite.proofs.Words.{IsLast, IsOnly, IsShare, IsValuedIf, Keeps}
+use Rattle.fb_bgwrite.proofs.Words.{Dwell, Gap, AreOnDisk, stay_gain, longer_stay, stay-of, weight_of_stay, Spill, Valued, ready, stay_of}
+use Rattle.fb_bgwrite.proofs.Words.{value, IsSpill, ArePending, Beats, BeatsOn, BeatsRange, IsBestIf, IsEnough, IsLast, IsOnly, IsShare}
+use Rattle.fb_bgwrite.proofs.Words.{IsValuedIf, Keeps, Part}
 use Rattle.fb_wanted.specs.Tracks.{wanted_weight}
 use Rattle.fb_detour.specs.Bounds.{stay}
-use Rattle.fb_bgwrite.specs.declared.search.Part.{Part}
 use Rattle.fb_bgwrite.proofs.Values.{as_much_by_last, less_before_last, value_stay, AreLight}
 
 pub same_share : (disk : Disk) (from end low high share : ℕ) → IsShare disk from end share → from ≤ low → high ≤ end → IsShare disk low high share
@@ -23,6 +22,12 @@ module _ (disk : Disk) (gap : Gap) (pending : List Block) where
 
   pub on_kept : (old new : Option Valued) (track : Track) → Keeps disk gap pending old new → BeatsOn disk gap pending old track → BeatsOn disk gap pending new track
   on_kept old new track keeps beats leave is = keeps (record { track = track; leave = leave }) (beats leave is)
+
+  pub range_more : (best : Option Valued) (from mid end : ℕ) → BeatsRange disk gap pending best from mid → BeatsRange disk gap pending best mid end → BeatsRange disk gap pending best from end
+  range_more best from mid end before after track low high = elim (cases_lt track.cylinder mid) [
+    | inl less ↦ before track low less
+    | inr more ↦ after track more high
+  ]
 
   pub cylinder_done : (best : Option Valued) (cylinder n : ℕ) → disk.map.heads ≤ n → ((head : ℕ) → head < n → BeatsOn disk gap pending best (record { cylinder = cylinder; head = head }))
       → BeatsRange disk gap pending best cylinder (cylinder + 1)
@@ -104,8 +109,20 @@ module _ (disk : Disk) (gap : Gap) (entries : List Entry) (pending : ArePending 
       let spill : Spill = record { track = track; leave = leave } in
       omega (arith, value_stay disk gap entries spill pending.light, longer_stay disk (stay_of disk gap spill) (longest end) entries disk.some_rotation refl (omega arith) le)
 
-  module _ (blocks : List Entry) (its : blocks ≡ on_track track entries) (on_disk : AreOnDisk disk blocks) (light : AreLight blocks) (end sectors last : ℕ) (sum : sectors ≡ sum_by (stay_gain disk (longest end)) blocks)
-      (is_last : IsLast disk (longest end) blocks sectors last) where
+  abbrev from : ℕ → ℕ → Dwell
+  from begin end = record { track = track; begin = begin; end = end }
+
+  module _ (blocks : List Entry) (its : blocks ≡ on_track track entries) (on_disk : AreOnDisk disk blocks) (begin end sectors last : ℕ) (at_once : begin ≡ ready disk gap track)
+      (counted : sectors ≡ sum_by (stay_gain disk (from begin end)) blocks) (by_last : IsLast disk (from begin end) blocks sectors last) where
+    light : AreLight blocks
+    light = subst AreLight (sym its) (light_on track entries pending.light)
+
+    sum : sectors ≡ sum_by (stay_gain disk (longest end)) blocks
+    sum = subst (λ b. sectors ≡ sum_by (stay_gain disk (from b end)) blocks) at_once counted
+
+    pub is_last : IsLast disk (longest end) blocks sectors last
+    is_last = subst (λ b. IsLast disk (from b end) blocks sectors last) at_once by_last
+
     whole : sectors ≡ stay disk (longest end) entries
     whole = stay-of disk (longest end) entries blocks sectors its sum
 

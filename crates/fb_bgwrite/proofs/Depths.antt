@@ -1,10 +1,8 @@
 -- Blocks that share no sector pass one slot each.
-use Rattle.fb_bgwrite.proofs.Words.{◌∙◌, sym}
-use Rattle.fb_bgwrite.proofs.Words.{true≢false, ◌≡◌, ℕ, zero, suc, ◌+◌, ◌-◌, ◌/◌, ◌<◌, ◌≤◌, List, [], ◌∷◌, Bool, true, false, map, inl, inr}
-use Rattle.fb_bgwrite.proofs.Words.{refl, sym, arith, ◌==◌, AllByRecursion, sum_by, cases_Bool}
-use Rattle.fb_bgwrite.proofs.Words.{nat_tests, sum_by-cons, Track, same_track, slots_at, IsSound, HasOwnPlaces, pos, distance_of}
-use Rattle.fb_bgwrite.proofs.Words.{Disk, Entry, on_track, wanted_of, Gap, slots_within, Spill, share, AreApart, block_range, AreLeast}
-use Rattle.fb_bgwrite.proofs.Words.{ArePending, ready, value, IsSpill}
+use Rattle.fb_bgwrite.proofs.Words.{◌∙◌, sym, true≢false, ◌≡◌, ℕ, zero, suc, ◌+◌, ◌-◌, ◌/◌, ◌<◌, ◌≤◌, List, [], ◌∷◌, Bool, true, false, map}
+use Rattle.fb_bgwrite.proofs.Words.{inl, inr, refl, arith, ◌==◌, AllByRecursion, sum_by, cases_Bool, nat_tests, sum_by-cons, Track}
+use Rattle.fb_bgwrite.proofs.Words.{same_track, slots_at, IsSound, HasOwnPlaces, pos, distance_of, Disk, Entry, on_track, wanted_of, Gap}
+use Rattle.fb_bgwrite.proofs.Words.{slots_within, Spill, share, AreApart, block_range, AreLeast, ArePending, ready, value, IsSpill}
 use Rattle.std.proofs.lemmas.Nat.{le-div, mul-le}
 use Rattle.std.proofs.Math.Nat.{div-mul-le_self}
 use Rattle.fb_seek.specs.Mechanics.{Mechanics}

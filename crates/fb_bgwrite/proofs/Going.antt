@@ -1,10 +1,10 @@
 -- Gap by gap.
-use Rattle.fb_bgwrite.proofs.Words.{drop_all, length-append, drop_got, all_push, Bor, ◌≡◌, ℕ, ◌+◌, ◌*◌, ◌^◌, ◌≤◌, List, [], ◌∷◌}
-use Rattle.fb_bgwrite.proofs.Words.{◌++◌, true, false, Option, Some, None, drop, length, slice_get, not, refl, sym, ap, ap₂, ◌∙◌, subst}
-use Rattle.fb_bgwrite.proofs.Words.{arith, inl, inr, append_assoc, append-nil, AllByRecursion, flat_map, sum_by, IsSound, places, Disk}
-use Rattle.fb_bgwrite.proofs.Words.{GapRow, BackRow, GapLine, Spill, SpillItem, Put, Puts, Spilling, Run, timeline, IsPossible, left_over}
-use Rattle.fb_bgwrite.proofs.Words.{AreGaps, IsInTime, IsSpillRun, ArePuts, accepted, PutBlock, put_blocks, RunGap, delivers, gaps}
-use Rattle.fb_bgwrite.proofs.Words.{HasNoFree, HasChosen, HasKept, ArePutsOn, IsSpilling, Step, IsRight, rows_in, step_of, steps}
+use Rattle.fb_bgwrite.proofs.Words.{drop_all, length-append, drop_got, all_push, Bor, ◌≡◌, ℕ, ◌+◌, ◌*◌, ◌^◌, ◌≤◌, List, [], ◌∷◌, ◌++◌, true}
+use Rattle.fb_bgwrite.proofs.Words.{false, Option, Some, None, drop, length, slice_get, not, refl, sym, ap, ap₂, ◌∙◌, subst, arith, inl}
+use Rattle.fb_bgwrite.proofs.Words.{inr, append_assoc, append-nil, AllByRecursion, flat_map, sum_by, IsSound, places, Disk, GapRow, BackRow}
+use Rattle.fb_bgwrite.proofs.Words.{GapLine, Spill, SpillItem, Put, Puts, Spilling, Run, timeline, IsPossible, left_over, AreGaps, IsInTime}
+use Rattle.fb_bgwrite.proofs.Words.{IsSpillRun, ArePuts, accepted, PutBlock, put_blocks, RunGap, delivers, gaps, HasNoFree, HasChosen}
+use Rattle.fb_bgwrite.proofs.Words.{HasKept, ArePutsOn, IsSpilling, Step, IsRight, rows_in, step_of, steps}
 use Rattle.std.proofs.lemmas.List.Concat.{flat_map-append}
 use Rattle.fb_model.specs.PlainReplay.{first_track}
 use Rattle.fb_bgwrite.proofs.{Amended.AreFit, Amended.all_fit, Amended.amended_leads, Amended.fit_earlier, Amended.kept_is}

@@ -1,9 +1,10 @@
 -- A block that is caught has no more sectors than all that are caught; so where each is longer than that, nothing is.
-use Rattle.fb_bgwrite.proofs.Words.{all_get, ◌≡◌, ℕ, zero, suc, ◌+◌, ◌*◌, ◌<◌, ◌≤◌, ◌⊎◌, List, [], ◌∷◌, true, ◌==◌, Option, Some, slice_get}
-use Rattle.fb_bgwrite.proofs.Words.{get_or, min, inl, inr, refl, sym, ap, ◌∙◌, subst, arith, AllByRecursion, sum_by, cases_Bool, true≢false}
-use Rattle.fb_bgwrite.proofs.Words.{nat_tests, sum_by-cons, Track, same_track, IsTrackOf, IsSound, Disk, Deliver, Entry, after, entry_after}
-use Rattle.fb_bgwrite.proofs.Words.{is_wanted, on_track, wanted_of, Dwell, Gap, AreOnDisk, stay_gain, stay-of, Spill, Valued, passes}
-use Rattle.fb_bgwrite.proofs.Words.{ArePending, Beats, IsValuedIf, AreAtLeast, IsAtLeast, IsNoShorter, stay_of, value}
+use Rattle.fb_bgwrite.proofs.Words.{BeatsRange, IsMost, Part, all_get, ◌≡◌, ℕ, zero, suc, ◌+◌, ◌*◌, ◌<◌, ◌≤◌, ◌⊎◌, List, [], ◌∷◌, true}
+use Rattle.fb_bgwrite.proofs.Words.{◌==◌, Option, Some, slice_get, get_or, min, inl, inr, refl, sym, ap, ◌∙◌, subst, arith, AllByRecursion}
+use Rattle.fb_bgwrite.proofs.Words.{sum_by, cases_Bool, true≢false, nat_tests, sum_by-cons, Track, same_track, IsTrackOf, IsSound, Disk}
+use Rattle.fb_bgwrite.proofs.Words.{Deliver, Entry, after, entry_after, is_wanted, on_track, wanted_of, Dwell, Gap, AreOnDisk, stay_gain}
+use Rattle.fb_bgwrite.proofs.Words.{stay-of, Spill, Valued, passes, ArePending, Beats, IsValuedIf, AreAtLeast, IsAtLeast, IsNoShorter}
+use Rattle.fb_bgwrite.proofs.Words.{stay_of, value}
 use Rattle.fb_bgwrite.proofs.{Lists.all_of, Lists.some_one, Values.value_caught, Values.value_stay, Values.AreLight, Amended.track_on_disk}
 use Rattle.fb_bgwrite.proofs.{Choices.light_on, Choices.nothing_beaten}
 
@@ -93,6 +94,13 @@ pub short_beaten : (disk : Disk) (gap : Gap) (entries : List Entry) → ArePendi
 short_beaten disk gap entries blocks best valued spill short from end most long low high few less =
     let none = none_short disk gap entries spill blocks.light (short + 1) from end long low high most blocks.on_disk few (omega (arith, less)) in
     nothing_beaten disk gap (wanted_of entries) best spill valued none
+
+-- and so is each of a range
+pub range_beaten : (disk : Disk) (gap : Gap) (entries : List Entry) → ArePending disk entries → (best : Option Valued) → IsValuedIf disk gap (wanted_of entries) best → (part : Part) → IsMost disk gap (wanted_of entries) part
+    → (short from end : ℕ) → part.from ≤ from → end ≤ part.end → min part.most 2048 ≤ short → AreAtLeast from end (short + 1) entries → BeatsRange disk gap (wanted_of entries) best from end
+range_beaten disk gap entries blocks best valued part most short from end after inside few long track low high leave is =
+    short_beaten disk gap entries blocks best valued (record { track = track; leave = leave }) short from end part.most long low high
+    (most track (omega (arith, low, after)) (omega (arith, high, inside)) leave is) few
 
 -- ---- the bounds of cylinders
 

@@ -1,7 +1,6 @@
 -- Elements of lists, by their index.
 use Rattle.fb_bgwrite.proofs.Words.{◌≡◌, ◌⊎◌, ℕ, zero, suc, List, [], ◌∷◌, ◌++◌, length, Bool, true, false, Option, Some, None, slice_get}
-use Rattle.fb_bgwrite.proofs.Words.{inl, inr, refl, sym, ap, ◌∙◌, arith, rules, AllByRecursion, list_any, cases_Bool, true≢false}
-use Rattle.fb_bgwrite.proofs.Words.{IsSome}
+use Rattle.fb_bgwrite.proofs.Words.{inl, inr, refl, sym, ap, ◌∙◌, arith, rules, AllByRecursion, list_any, cases_Bool, true≢false, IsSome}
 
 pub some_one : {X : Type 0} (x y : X) → Some x ≡ Some y → x ≡ y
 some_one x y e = grind arith

@@ -1,9 +1,9 @@
 -- The value of a spill is what its stay catches of the registered blocks.
-use Rattle.fb_bgwrite.proofs.Words.{all_get, ◌≡◌, ℕ, ◌+◌, ◌*◌, ◌<◌, ◌≤◌, ◌⊎◌, List, [], ◌∷◌, Bool, true, false, Some, slice_get, max}
-use Rattle.fb_bgwrite.proofs.Words.{inl, inr, refl, sym, ap, ◌∙◌, subst, arith, if◌then◌else◌, filter, AllByRecursion, sum_by}
-use Rattle.fb_bgwrite.proofs.Words.{cases_Bool, cases_lt, nat_tests, sum_by-cons, same_track, Disk, Block, Entry, is_wanted, wanted_of}
-use Rattle.fb_bgwrite.proofs.Words.{Dwell, Gap, block_end, catches, AreOnDisk, FitsDisk, end-from-le, stay_gain, and_false, Spill, stay_of}
-use Rattle.fb_bgwrite.proofs.Words.{value, EndsAt, IsLast, passes}
+use Rattle.fb_bgwrite.proofs.Words.{all_get, ◌≡◌, ℕ, ◌+◌, ◌*◌, ◌<◌, ◌≤◌, ◌⊎◌, List, [], ◌∷◌, Bool, true, false, Some, slice_get, max, inl}
+use Rattle.fb_bgwrite.proofs.Words.{inr, refl, sym, ap, ◌∙◌, subst, arith, if◌then◌else◌, filter, AllByRecursion, sum_by, cases_Bool}
+use Rattle.fb_bgwrite.proofs.Words.{cases_lt, nat_tests, sum_by-cons, same_track, Disk, Block, Entry, is_wanted, wanted_of, Dwell, Gap}
+use Rattle.fb_bgwrite.proofs.Words.{block_end, catches, AreOnDisk, FitsDisk, end-from-le, stay_gain, and_false, Spill, stay_of, value}
+use Rattle.fb_bgwrite.proofs.Words.{EndsAt, IsLast, passes}
 use Rattle.fb_plan.proofs.Gains.{one_part}
 use Rattle.fb_detour.specs.Bounds.{stay}
 use Rattle.fb_bgwrite.proofs.{Lists.all_of, Lists.some_one, Sums.sum_le_on, Sums.sum_less}

@@ -48,7 +48,7 @@ pub use Rattle.fb_rows.specs.declared.gap.Gap.{Gap}
 pub use Rattle.fb_rows.specs.declared.gap.Plan.{Plan}
 pub use Rattle.fb_rows.specs.declared.gap.Plan.TheVariants.{Detour, Direct}
 pub use Rattle.fb_rows.specs.declared.run.Run.{Run}
-pub use Rattle.fb_model.specs.Plans.{IsPlan, IsTrackBefore, block_end, catches}
+pub use Rattle.fb_model.specs.Plans.{IsPlan, block_end, catches}
 pub use Rattle.fb_model.specs.Segments.{numbered}
 pub use Rattle.fb_model.specs.Timeline.{IsPossible, Leg, arrival, can_follow, gap_legs, leaves_at, leaves_on, move, pass, passing}
 pub use Rattle.fb_model.specs.Timeline.{service_legs, stay, way}
@@ -70,7 +70,7 @@ pub use Rattle.fb_bgwrite.specs.Asked.{ranges_in, request_range}
 pub use Rattle.fb_bgwrite.specs.Blocks.{PutBlock, is_pending, is_written, put_blocks, sectors, writes}
 unfoldable pub use Rattle.fb_bgwrite.specs.Blocks.{blocks_from, pending}
 pub use Rattle.fb_bgwrite.specs.Choosing.{AreLeast, ArePending, Beats, BeatsOn, BeatsRange, EndsAt, IsBestIf, IsEnough, IsGap, IsLast}
-pub use Rattle.fb_bgwrite.specs.Choosing.{IsMost, IsOnly, IsOver, IsShare, IsValuedIf, Keeps, block_range, passes}
+pub use Rattle.fb_bgwrite.specs.Choosing.{IsMost, IsOnly, IsShare, IsValuedIf, Keeps, block_range, passes}
 pub use Rattle.fb_bgwrite.specs.Gaps.{HasNoFree, RunGap, delivers, gaps}
 pub use Rattle.fb_bgwrite.specs.Ranges.{AreApart, lies_in, share}
 pub use Rattle.fb_bgwrite.specs.Reader.{IsApart, IsNextPut, IsNextReserve, IsReader, MayFollow, progress, with_step}
@@ -80,7 +80,7 @@ unfoldable pub use Rattle.fb_bgwrite.specs.Reading.{lines_from}
 pub use Rattle.fb_bgwrite.specs.Rules.{ArePuts, IsPutOf}
 pub use Rattle.fb_bgwrite.specs.Shortest.{AreAtLeast, IsAtLeast, IsNoShorter, IsUnder}
 pub use Rattle.fb_bgwrite.specs.Spilled.{AreGaps, AreOnce, IsGapOf, IsInTime, IsOfPut, IsSpillRun, fore_ranges, left_over, sectors_in}
-pub use Rattle.fb_bgwrite.specs.Spilling.{IsBest, IsNoLater, IsSpill, WritesNothing, ready, stay_of}
+pub use Rattle.fb_bgwrite.specs.Spilling.{IsBest, IsSpill, WritesNothing, ready, stay_of}
 unfoldable pub use Rattle.fb_bgwrite.specs.Spilling.{value}
 pub use Rattle.fb_bgwrite.specs.Standing.{ArePutsOn, HasChosen, HasKept, IsSpilling, IsToWrite, IsUpTo, entry_of, first_blocks}
 pub use Rattle.fb_bgwrite.specs.Standing.{wanted_entry}
@@ -98,4 +98,5 @@ pub use Rattle.fb_bgwrite.specs.declared.items.WroteRow.{WroteRow}
 pub use Rattle.fb_bgwrite.specs.declared.puts.Put.{Put}
 pub use Rattle.fb_bgwrite.specs.declared.puts.Puts.{Puts}
 pub use Rattle.fb_bgwrite.specs.declared.range.SectorRange.{SectorRange}
+pub use Rattle.fb_bgwrite.specs.declared.search.Part.{Part}
 pub use Rattle.fb_bgwrite.specs.declared.spilling.Spilling.{Spilling}

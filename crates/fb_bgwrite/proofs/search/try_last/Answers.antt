@@ -1,29 +1,20 @@
-use Rattle.fb_bgwrite.proofs.Words.{◌≤◌, inl, inr, arith, cases_lt, Spill}
-use Rattle.fb_bgwrite.proofs.Lengths.{short_beaten}
+use Rattle.fb_bgwrite.proofs.Words.{◌-◌, ◌≤◌, arith, Spill}
+use Rattle.fb_bgwrite.proofs.{Choices.range_more, Lengths.range_beaten}
 use Rattle.fb_bgwrite.proofs.search.try_last.Goals as goal
 
 pub returns-then-end-part-clause-tried : goal.returns-then-end-part-clause-tried
-returns-then-end-part-clause-tried c = λ track low high leave is.
+returns-then-end-part-clause-tried c =
     let short = c.end_short-end in
-    let spill : Spill = record { track = track; leave = leave } in
-    let few = c.requires.most track (omega (arith, low, short.ensures.after)) high leave is in
-    short_beaten c.args.disk.now c.args.gap.now c.args.pending.now c.requires.blocks c.args.start c.requires.best spill
-    c.min-short.result short.result c.args.part.end c.args.part.most
-    short.ensures.each low high few (omega (arith, c.min-short.ensures))
+    range_beaten c.args.disk.now c.args.gap.now c.args.pending.now c.requires.blocks c.args.start c.requires.best c.args.part c.requires.most
+    c.min-short.result short.result c.args.part.end short.ensures.after (omega arith) (omega (arith, c.min-short.ensures)) short.ensures.each
 
 pub returns-then-is_light-clause-tried : goal.returns-then-is_light-clause-tried
-returns-then-is_light-clause-tried c = λ track low high leave is.
+returns-then-is_light-clause-tried c =
     let short = c.end_short-end in
-    let spill : Spill = record { track = track; leave = leave } in
-    elim (cases_lt track.cylinder short.result) [
-      | inl last ↦
-          c.is_light.ensures c.if-is_light.true c.args.disk.now c.args.gap.now c.requires.blocks track low (omega (arith, last)) leave is
-      | inr behind ↦
-          let few = c.requires.most track (omega (arith, behind, short.ensures.after)) high leave is in
-          short_beaten c.args.disk.now c.args.gap.now c.args.pending.now c.requires.blocks c.args.start c.requires.best spill
-          c.min-short.result short.result c.args.part.end c.args.part.most
-          short.ensures.each behind high few (omega (arith, c.min-short.ensures))
-    ]
+    let behind = range_beaten c.args.disk.now c.args.gap.now c.args.pending.now c.requires.blocks c.args.start c.requires.best c.args.part c.requires.most
+    c.min-short.result short.result c.args.part.end short.ensures.after (omega arith) (omega (arith, c.min-short.ensures)) short.ensures.each in
+    range_more c.args.disk.now c.args.gap.now _ c.args.start (short.result - 1) short.result c.args.part.end
+    (λ track low high. c.is_light.ensures c.if-is_light.true c.args.disk.now c.args.gap.now c.requires.blocks track low (omega (arith, high))) behind
 
 pub try_if_short-requires-clause-most : goal.try_if_short-requires-clause-most
 try_if_short-requires-clause-most c = λ track low high leave is.
@@ -41,15 +32,9 @@ returns-clause-most c = λ track low high leave is.
     omega (arith, passing, few, c.min-most.ensures)
 
 pub returns-clause-tried : goal.returns-clause-tried
-returns-clause-tried c = λ track low high leave is.
+returns-clause-tried c =
     let short = c.end_short-end in
     let best = c.try_if_short in
-    let spill : Spill = record { track = track; leave = leave } in
-    elim (cases_lt track.cylinder short.result) [
-      | inl last ↦ best.ensures.tried track low last leave is
-      | inr behind ↦
-          let few = c.requires.most track (omega (arith, behind, short.ensures.after)) high leave is in
-          short_beaten c.args.disk.now c.args.gap.now c.args.pending.now c.requires.blocks best.result best.ensures.valued spill
-          c.min-short.result short.result c.args.part.end c.args.part.most
-          short.ensures.each behind high few (omega (arith, c.min-short.ensures))
-    ]
+    let behind = range_beaten c.args.disk.now c.args.gap.now c.args.pending.now c.requires.blocks best.result best.ensures.valued c.args.part c.requires.most
+    c.min-short.result short.result c.args.part.end short.ensures.after (omega arith) (omega (arith, c.min-short.ensures)) short.ensures.each in
+    range_more c.args.disk.now c.args.gap.now _ best.result (short.result - 1) short.result c.args.part.end best.ensures.tried behind
