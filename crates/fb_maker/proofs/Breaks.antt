@@ -1,4 +1,5 @@
 -- How often a list of places leaves the turn of its track.
+use Rattle.fb_geometry.proofs.Laws.{all-filter}
 use Rattle.fb_maker.proofs.Words.{◌≡◌, ℕ, zero, suc, ◌+◌, ◌-◌, ◌*◌, ◌<◌, ◌≤◌, List, [], ◌∷◌, ◌++◌, length, take, Bool, true, false, refl}
 use Rattle.fb_maker.proofs.Words.{sym, ap, ◌∙◌, arith, append_assoc, subst, inl, inr, if◌then◌else◌, filter, AllByRecursion, flat_map}
 use Rattle.fb_maker.proofs.Words.{range_with_len, cases_Bool, cases_lt}
@@ -68,17 +69,10 @@ module _ {A : Type 0} (later : A → A → Bool) where
   chain_of a [] up = tt
   chain_of a (b ∷ xs) up = (up.0.0, chain_of b xs up.1)
 
-  all_filter : (P : A → Type 0) (p : A → Bool) (xs : List A) → AllByRecursion P xs → AllByRecursion P (filter p xs)
-  all_filter P p [] all = tt
-  all_filter P p (x ∷ xs) all = elim (cases_Bool (p x)) [
-    | inl kept ↦ rw kept (all.0, all_filter P p xs all.1)
-    | inr dropped ↦ rw dropped (all_filter P p xs all.1)
-  ]
-
   pub ascends_filter : (p : A → Bool) (xs : List A) → Ascends xs → Ascends (filter p xs)
   ascends_filter p [] up = tt
   ascends_filter p (x ∷ xs) up = elim (cases_Bool (p x)) [
-    | inl kept ↦ rw kept (all_filter (λ b. later x b ≡ true) p xs up.0, ascends_filter p xs up.1)
+    | inl kept ↦ rw kept (all-filter (λ b. later x b ≡ true) p xs up.0, ascends_filter p xs up.1)
     | inr dropped ↦ rw dropped (ascends_filter p xs up.1)
   ]
 

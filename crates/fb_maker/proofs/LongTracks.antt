@@ -1,4 +1,6 @@
 -- Sectors of a disk whose tracks are long.
+use Rattle.fb_geometry.proofs.Grid.{all_weaker}
+use Rattle.fb_sectormap.proofs.Parts.{length-most}
 use Rattle.fb_maker.proofs.Words.{◌≡◌, ℕ, zero, suc, ◌+◌, ◌-◌, ◌*◌, ◌%◌, ◌<◌, ◌≤◌, List, [], ◌∷◌, length, map, take, drop, true, false}
 use Rattle.fb_maker.proofs.Words.{refl, sym, ap, ◌∙◌, arith, subst, append-nil, Some, None, inl, inr, ◌==◌, nat_le, nat_lt, not, slice_get}
 use Rattle.fb_maker.proofs.Words.{AllByRecursion, flat_map, range_with_len, list_all, mod-lt, mod-eq_of_lt, add-mod_left, length-append}
@@ -61,21 +63,14 @@ module _ (disk : Shape) (track : Track) where
 
 -- if lists are together as long as they can be, each of them is
 module _ {A : Type 0} (f : ℕ → List A) (m : ℕ) (bound : (k : ℕ) → length (f k) ≤ m) where
-  at_most : (a h : ℕ) → length (flat_map f (range_with_len a h)) ≤ h * m
-  at_most a zero = omega arith
-  at_most a (suc h) = omega (arith, length-append (f a) (flat_map f (range_with_len (a + 1) h)), bound a, at_most (a + 1) h)
 
   each_full : (a h : ℕ) → length (flat_map f (range_with_len a h)) ≡ h * m → AllByRecursion (λ k. length (f k) ≡ m) (range_with_len a h)
   each_full a zero whole = tt
   each_full a (suc h) whole =
       let parts = length-append (f a) (flat_map f (range_with_len (a + 1) h)) in
-      let rest = at_most (a + 1) h in
+      let rest = length-most f (a + 1) h m (λ x low high. bound x) in
       let one = bound a in
       (omega arith, each_full (a + 1) h (omega arith))
-
-all_with : {A : Type 0} (P Q : A → Type 0) → ((x : A) → P x → Q x) → (xs : List A) → AllByRecursion P xs → AllByRecursion Q xs
-all_with P Q f [] all = tt
-all_with P Q f (x ∷ xs) all = (f x all.0, all_with P Q f xs all.1)
 
 module _ (disk : Shape) (sound : IsSound disk) (per_track : disk.layout ≡ PerTrack) where
   cylinder_spreads : (i : ℕ) (zone : Zone) (cylinder : ℕ) → slice_get disk.zones i ≡ Some zone → zone.first ≤ cylinder → cylinder ≤ zone.last → is_long zone ≡ true
@@ -90,7 +85,7 @@ module _ (disk : Shape) (sound : IsSound disk) (per_track : disk.layout ≡ PerT
       let size : length (flat_map track (range_with_len 0 disk.heads)) ≡ disk.heads * m = sym (ap length listed) ∙ whole ∙ ap (λ layout. cylinder_size_by layout disk zone) per_track in
       subst (SpreadsOn (is_later disk)) (sym listed)
       (spreads_all (is_later disk) track (range_with_len 0 disk.heads)
-      (all_with (λ head. length (track head) ≡ m) (λ head. SpreadsOn (is_later disk) (track head))
+      (all_weaker (λ head. length (track head) ≡ m) (λ head. SpreadsOn (is_later disk) (track head))
       (λ head full. spreads_ascending (is_later disk) (track head)
       (ascends_take (is_later disk) m (good_track disk zone (record { cylinder = cylinder; head = head }))
       (ascends_track disk (record { cylinder = cylinder; head = head }) zone (omega arith) slots (offsets head)))

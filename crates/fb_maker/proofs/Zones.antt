@@ -1,7 +1,8 @@
 -- The first zone.
-use Rattle.fb_maker.proofs.Words.{◌≡◌, ℕ, suc, zero, ◌+◌, ◌-◌, ◌*◌, ◌<◌, ◌≤◌, List, [], ◌∷◌, length, Bool, true, ◌++◌, append_assoc}
+use Rattle.fb_sectormap.proofs.Parts.{length-same}
+use Rattle.fb_maker.proofs.Words.{◌≡◌, ℕ, ◌+◌, ◌-◌, ◌*◌, ◌<◌, ◌≤◌, List, [], ◌∷◌, length, Bool, true, ◌++◌, append_assoc}
 use Rattle.fb_maker.proofs.Words.{append-nil, min, refl, sym, ap, ◌∙◌, arith, Some, None, inl, inr, ◌==◌, slice_get, nat_le, ◌&&◌, decimal}
-use Rattle.fb_maker.proofs.Words.{codes, flat_map, range_with_len, length-append, cases_Bool, nat_tests, Zone, none-some}
+use Rattle.fb_maker.proofs.Words.{codes, flat_map, cases_Bool, nat_tests, Zone, none-some}
 use Rattle.fb_maker.proofs.Words.{get_or_from_slice_get, first_apart, Shape, cylinders_of, data_list, list_among, places, first_zone, most}
 use Rattle.fb_maker.proofs.Words.{script_lines, script_text}
 
@@ -12,13 +13,6 @@ begins_at_first (first ∷ zones) zone contiguous is = elim (cases_Bool (first.f
   | inl begins ↦ let same : first ≡ zone = get_or_from_slice_get (first ∷ zones) 0 zone zone is in ap (λ (z : Zone). z.first) (sym same) ∙ grind (arith, nat_tests)
   | inr apart ↦ absurd (none-some 0 (sym contiguous ∙ rw apart refl))
 ]
-
--- the length of n lists of one length, one after another
-pub same_lengths : {A : Type 0} (f : ℕ → List A) (size a n : ℕ) → ((k : ℕ) → a ≤ k → k < a + n → length (f k) ≡ size) → length (flat_map f (range_with_len a n)) ≡ n * size
-same_lengths f size a zero same = omega arith
-same_lengths f size a (suc n) same =
-    length-append (f a) (flat_map f (range_with_len (a + 1) n))
-    ∙ omega (arith, same a (omega arith) (omega arith), same_lengths f size (a + 1) n (λ k low high. same k (omega arith) (omega arith)))
 
 pub both_true : (a b : Bool) → a ≡ true → b ≡ true → (a && b) ≡ true
 both_true a b e f = rw (e, f) refl
@@ -37,11 +31,11 @@ first_zone_is disk (first ∷ zones) zone n is some count same =
     let chosen : nat_le zone.first first.last ≡ true = grind (arith, nat_tests, ap (λ (z : Zone). z.last) here) in
     let held : n ≡ length (data_list disk zone zone.first) = count ∙ rw chosen (ap (λ z. length (data_list disk z zone.first)) here) in
     ap (λ m. (zone.last + 1 - zone.first) * m) held
-    ∙ sym (same_lengths (data_list disk zone) (length (data_list disk zone zone.first)) zone.first (zone.last + 1 - zone.first) (λ k low high. same k low (omega arith)))
+    ∙ sym (length-same (data_list disk zone) zone.first (zone.last + 1 - zone.first) (length (data_list disk zone zone.first)) (λ k low high. same k low (omega arith)))
     ∙ ap (λ z. first_zone disk (z ∷ zones)) (sym here)
 
 four_lines : (a b c d : List ℕ) → ((a ++ b) ++ c) ++ d ≡ flat_map (λ line. line) (a ∷ b ∷ c ∷ d ∷ [])
-four_lines a b c d = append_assoc (a ++ b) c d ∙ append_assoc a b (c ++ d) ∙ ap (λ x. a ++ (b ++ (c ++ x))) (sym (append-nil d))
+four_lines a b c d = simp (append_assoc, append-nil)
 
 -- the text of four lines, one behind the other
 pub is_script : (disk : Shape) (none one two three four : List ℕ) (scrubbed saved : ℕ) → none ≡ [] → one ≡ none ++ codes "0.000000 open scrub scrub 1 16\n"
@@ -50,10 +44,6 @@ pub is_script : (disk : Shape) (none one two three four : List ℕ) (scrubbed sa
     → scrubbed ≡ min (length (places disk)) (most disk) → saved ≡ min (first_zone disk disk.zones) (most disk) → four ≡ script_text disk
 unfolding script_lines
 is_script disk none one two three four scrubbed saved e0 e1 e2 e3 e4 es ez =
-    let a = codes "0.000000 open scrub scrub 1 16\n" in
-    let b = λ (n : ℕ). codes "0.000000 want scrub 0 " ++ decimal n ++ 10 ∷ [] in
-    let c = codes "0.000000 open backup backup 2 16\n" in
-    let d = λ (n : ℕ). codes "0.000000 want backup 0 " ++ decimal n ++ 10 ∷ [] in
-    e4 ∙ ap (λ x. x ++ d saved) (e3 ∙ ap (λ x. x ++ c) (e2 ∙ ap (λ x. x ++ b scrubbed) (e1 ∙ ap (λ x. x ++ a) e0)))
-    ∙ ap (λ n. ((a ++ b n) ++ c) ++ d saved) es ∙ ap (λ n. ((a ++ b (min (length (places disk)) (most disk))) ++ c) ++ d n) ez
-    ∙ four_lines a (b (min (length (places disk)) (most disk))) c (d (min (first_zone disk disk.zones) (most disk)))
+    let scrub = codes "0.000000 want scrub 0 " ++ decimal (min (length (places disk)) (most disk)) ++ 10 ∷ [] in
+    let backup = codes "0.000000 want backup 0 " ++ decimal (min (first_zone disk disk.zones) (most disk)) ++ 10 ∷ [] in
+    rw (e4, e3, e2, e1, e0, es, ez) (four_lines (codes "0.000000 open scrub scrub 1 16\n") scrub (codes "0.000000 open backup backup 2 16\n") backup)
