@@ -1,6 +1,6 @@
 -- Requests in rows.
-use Rattle.fb_fastq.proofs.Words.{◌≡◌, ℕ, zero, suc, ◌+◌, ◌*◌, ◌^◌, ◌<◌, ◌≤◌, List, [], ◌∷◌, refl, sym, ap, subst, ◌∙◌, arith, inl, inr}
-use Rattle.fb_fastq.proofs.Words.{◌⊎◌, Some, slice_get, length, MatchOption, AllByRecursion, Track, cylinders_of, track_at, seek}
+use Rattle.fb_fastq.proofs.Words.{all_get, ◌≡◌, ℕ, zero, suc, ◌+◌, ◌*◌, ◌^◌, ◌<◌, ◌≤◌, List, [], ◌∷◌, refl, sym, ap, subst, ◌∙◌, arith, inl}
+use Rattle.fb_fastq.proofs.Words.{inr, ◌⊎◌, Some, slice_get, length, MatchOption, AllByRecursion, Track, cylinders_of, track_at, seek}
 use Rattle.fb_fastq.proofs.Words.{distance_of, Disk, sptf, Candidate, Place, Pick, Waiting, IsAlong, IsBefore, Row, all_of_rows, at_place}
 use Rattle.fb_fastq.proofs.Words.{IsOnCylinder, AreRows, IsAt, IsPick, Settles, SettlesAll, SeeksRise, none-some, all_append, all_left}
 use Rattle.fb_fastq.proofs.Words.{all_right}
@@ -10,12 +10,6 @@ use Rattle.fb_fastq.proofs.{Swept.some_injective, Sweeps.no_later_trans, Far.wai
 pub all_at : (P : Waiting → Type 0) (ws : List Waiting) → ((k : ℕ) (w : Waiting) → slice_get ws k ≡ Some w → P w) → AllByRecursion P ws
 all_at P [] h = tt
 all_at P (w ∷ ws) h = (h 0 w refl, all_at P ws (λ k x e. h (suc k) x e))
-
--- and the other way round
-pub at_each : (P : Waiting → Type 0) (ws : List Waiting) (k : ℕ) (w : Waiting) → AllByRecursion P ws → slice_get ws k ≡ Some w → P w
-at_each P [] k w h e = absurd (none-some w e)
-at_each P (x ∷ ws) zero w h e = subst P (some_injective x w e) h.0
-at_each P (x ∷ ws) (suc k) w h e = at_each P ws k w h.1 e
 
 -- what is so of all rows is so of each
 pub row_of_all : (P : Waiting → Type 0) (rows : List Row) (i : ℕ) (row : Row) → AllByRecursion P (all_of_rows rows) → slice_get rows i ≡ Some row → AllByRecursion P row.items
@@ -78,14 +72,14 @@ module _ (disk : Disk) (head : Track) (now : ℕ) where
 
 -- what is so of all is so of one of a row
 pub held_in_row : (P : Waiting → Type 0) (rows : List Row) (i : ℕ) (row : Row) (ws : List Waiting) (k : ℕ) (w : Waiting) → AllByRecursion P (all_of_rows rows) → slice_get rows i ≡ Some row → ws ≡ row.items → slice_get ws k ≡ Some w → P w
-held_in_row P rows i row ws k w h there is at = at_each P ws k w (subst (AllByRecursion P) (sym is) (row_of_all P rows i row h there)) at
+held_in_row P rows i row ws k w h there is at = all_get P ws k w (subst (AllByRecursion P) (sym is) (row_of_all P rows i row h there)) at
 
 -- its spot is one of the row's cylinder
 pub held_on : (rows : List Row) (i : ℕ) (row : Row) (ws : List Waiting) (k : ℕ) (w : Waiting) → AreRows 0 rows → slice_get rows i ≡ Some row → ws ≡ row.items → slice_get ws k ≡ Some w → IsOnCylinder i w.0.0
 held_on rows i row ws k w h there is at =
     let own : 0 + i ≡ i = omega arith in
     subst (λ n. IsOnCylinder n w.0.0) own
-    (at_each (λ x. IsOnCylinder (0 + i) x.0.0) ws k w (subst (AllByRecursion (λ (x : Waiting). IsOnCylinder (0 + i) x.0.0)) (sym is) (row_on 0 rows i row h there)) at)
+    (all_get (λ x. IsOnCylinder (0 + i) x.0.0) ws k w (subst (AllByRecursion (λ (x : Waiting). IsOnCylinder (0 + i) x.0.0)) (sym is) (row_on 0 rows i row h there)) at)
 
 pub same_row_of : (rows : List Row) (i : ℕ) (a b : Row) → slice_get rows i ≡ Some a → slice_get rows i ≡ Some b → a ≡ b
 same_row_of rows i a b e f = some_injective a b (sym e ∙ f)

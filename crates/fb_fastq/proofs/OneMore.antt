@@ -1,11 +1,11 @@
 -- One request more, or less, among those that wait.
-use Rattle.fb_fastq.proofs.Words.{◌≡◌, ◌≢◌, ℕ, zero, suc, ◌+◌, ◌<◌, ◌≤◌, List, [], ◌∷◌, ◌++◌, map, refl, sym, ap, subst, ◌∙◌, arith, inl}
-use Rattle.fb_fastq.proofs.Words.{inr, ◌⊎◌, Some, append_assoc, append-nil, slice_get, length, take, drop, set, Option, None, IfSome}
-use Rattle.fb_fastq.proofs.Words.{IsSome, Result, Ok, Err, OnErr, true, false, remove, option_and_then, AllByRecursion, match_ordering}
-use Rattle.fb_fastq.proofs.Words.{nat_cmp, Ordering, Less, Equal, Greater, insert_entry, is_at, BTreeSet, contains, remove_entry}
-use Rattle.fb_fastq.proofs.Words.{true≢false, cases_Bool, nat_tests, slice_get_within, Request, first_least, order, Waiting, number_of}
-use Rattle.fb_fastq.proofs.Words.{join_in, in_order, pending_of, AreNumbered, IsIndex, IsFirst, Place, IsMore, Row, all_of_rows, at_place}
-use Rattle.fb_fastq.proofs.Words.{IsOnCylinder, AreRows, AreOccupied, lookup, none-some, length-append, map-append, all_weaker}
+use Rattle.fb_fastq.proofs.Words.{get_or, slice_get_read, ◌≡◌, ◌≢◌, ℕ, zero, suc, ◌+◌, ◌<◌, ◌≤◌, List, [], ◌∷◌, ◌++◌, map, refl, sym, ap}
+use Rattle.fb_fastq.proofs.Words.{subst, ◌∙◌, arith, inl, inr, ◌⊎◌, Some, append_assoc, append-nil, slice_get, length, take, drop, set}
+use Rattle.fb_fastq.proofs.Words.{Option, None, IsSome, Result, Ok, Err, OnErr, true, false, remove, option_and_then, AllByRecursion}
+use Rattle.fb_fastq.proofs.Words.{match_ordering, nat_cmp, Ordering, Less, Equal, Greater, insert_entry, is_at, BTreeSet, contains}
+use Rattle.fb_fastq.proofs.Words.{remove_entry, true≢false, cases_Bool, nat_tests, slice_get_within, Request, first_least, order, Waiting}
+use Rattle.fb_fastq.proofs.Words.{number_of, join_in, in_order, pending_of, AreNumbered, IsIndex, IsFirst, Place, IsMore, Row, all_of_rows}
+use Rattle.fb_fastq.proofs.Words.{at_place, IsOnCylinder, AreRows, AreOccupied, lookup, none-some, length-append, map-append, all_weaker}
 use Rattle.fb_fastq.proofs.{Swept.some_injective, Swept.IsIn, Swept.all_of, Keys.same_number, Keys.here_equal, Keys.same_key}
 use Rattle.fb_fastq.proofs.{Joins.all_in_order, Joins.joins_last, Joins.join_before_last, Least.without, Least.without_joined}
 use Rattle.fb_fastq.proofs.{Least.without_other, Least.in_order_rising, Least.least_rising, Least.in_in_order, Least.at_key, InRows.row_on}
@@ -163,27 +163,39 @@ length_more w less more is =
     let a = ap length is.less_is in let b = ap length is.more_is in
     omega (arith, a, b, length-append is.before is.behind, length-append is.before (w ∷ is.behind))
 
--- the request at a place is taken out of its row
-pub taken_less : (rows : List Row) (place : Place) (row new : Row) → slice_get rows place.row ≡ Some row → new.items ≡ remove row.items place.index
-    → IfSome (at_place rows place) (λ w. IsMore w (all_of_rows (set rows place.row new)) (all_of_rows rows))
-taken_less rows place row new there is = go (at_place rows place) refl
+-- a place that has a request is in one of the rows
+pub place_within : (rows : List Row) (place : Place) → IsSome (at_place rows place) → place.row < length rows
+place_within rows place has = go (slice_get rows place.row) refl has
   where
-    go : (o : Option Waiting) → at_place rows place ≡ o → IfSome o (λ w. IsMore w (all_of_rows (set rows place.row new)) (all_of_rows rows))
-    go None e = tt
-    go (Some w) e =
-        let at = sym (ap (option_and_then (λ (r : Row). slice_get r.items place.index)) there) ∙ e in
-        set_less w rows place.row row new there (removed_more w row.items new.items place.index is at)
+    go : (o : Option Row) → slice_get rows place.row ≡ o → IsSome (option_and_then (λ (r : Row). slice_get r.items place.index) o) → place.row < length rows
+    go None e h = absurd (true≢false (sym h))
+    go (Some row) e h = slice_get_within rows place.row row e
 
-pub all_kept : (P : Waiting → Type 0) (ws : List Waiting) (k : ℕ) → AllByRecursion P ws → AllByRecursion P (remove ws k)
-all_kept P [] zero h = tt
-all_kept P [] (suc k) h = tt
-all_kept P (x ∷ ws) zero h = h.1
-all_kept P (x ∷ ws) (suc k) h = (h.0, all_kept P ws k h.1)
+-- the request at a place is taken out of its row
+pub record IsTakenFrom (rows : List Row) (place : Place) (row new : Row) : Type 0 where
+  pub w : Waiting
+  pub there : slice_get rows place.row ≡ Some row
+  pub at : at_place rows place ≡ Some w
+  pub less : IsMore w new.items row.items
+
+pub taken_from : (rows : List Row) (place : Place) (row new : Row) → IsSome (at_place rows place) → row ≡ get_or rows place.row row → new.items ≡ remove row.items place.index → IsTakenFrom rows place row new
+taken_from rows place row new has is items = go (at_place rows place) refl has
+  where
+    there : slice_get rows place.row ≡ Some row
+    there = slice_get_read rows (length rows) place.row row refl (place_within rows place has) is
+
+    go : (o : Option Waiting) → at_place rows place ≡ o → IsSome o → IsTakenFrom rows place row new
+    go None e h = absurd (true≢false (sym h))
+    go (Some w) e h = record {
+      w = w;
+      there = there;
+      at = e;
+      less = removed_more w row.items new.items place.index items (sym (ap (option_and_then (λ (r : Row). slice_get r.items place.index)) there) ∙ e);
+    }
 
 -- a row that has one request less, or one more of its cylinder
-pub less_rows : (rows : List Row) (i k : ℕ) (row new : Row) → slice_get rows i ≡ Some row → new.items ≡ remove row.items k → AreRows 0 rows → AreRows 0 (set rows i new)
-less_rows rows i k row new there is h =
-    set_rows 0 rows i new h (subst (AllByRecursion (λ (w : Waiting). IsOnCylinder (0 + i) w.0.0)) (sym is) (all_kept (λ w. IsOnCylinder (0 + i) w.0.0) row.items k (row_on 0 rows i row h there)))
+pub less_rows : (rows : List Row) (i : ℕ) (row new : Row) → slice_get rows i ≡ Some row → (w : Waiting) → IsMore w new.items row.items → AreRows 0 rows → AreRows 0 (set rows i new)
+less_rows rows i row new there w less h = set_rows 0 rows i new h (all_less w new.items row.items less (λ x. IsOnCylinder (0 + i) x.0.0) (row_on 0 rows i row h there))
 
 pub more_rows : (w : Waiting) (rows : List Row) (i : ℕ) (row new : Row) → slice_get rows i ≡ Some row → IsMore w row.items new.items → IsOnCylinder i w.0.0 → AreRows 0 rows → AreRows 0 (set rows i new)
 more_rows w rows i row new there is on h =
@@ -193,14 +205,6 @@ more_rows w rows i row new there is on h =
 pub same_rows : (rows : List Row) (i : ℕ) (row new : Row) → slice_get rows i ≡ Some row → new.items ≡ row.items → AreRows 0 rows → AreRows 0 (set rows i new)
 same_rows rows i row new there is h =
     set_rows 0 rows i new h (subst (AllByRecursion (λ (w : Waiting). IsOnCylinder (0 + i) w.0.0)) (sym is) (row_on 0 rows i row h there))
-
--- a place that has a request is in one of the rows
-pub place_within : (rows : List Row) (place : Place) → IsSome (at_place rows place) → place.row < length rows
-place_within rows place has = go (slice_get rows place.row) refl has
-  where
-    go : (o : Option Row) → slice_get rows place.row ≡ o → IsSome (option_and_then (λ (r : Row). slice_get r.items place.index) o) → place.row < length rows
-    go None e h = absurd (true≢false (sym h))
-    go (Some row) e h = slice_get_within rows place.row row e
 
 -- what is so either way is so after an error
 pub on_err : {A B : Type 0} (result : Result A B) (P : Type 0) → P → OnErr result P
@@ -217,12 +221,17 @@ no_more_rows cylinder [] new none h = (subst (AllByRecursion (λ (w : Waiting). 
 no_more_rows cylinder (x ∷ rows) new none h = (h.0, no_more_rows (cylinder + 1) rows new none h.1)
 
 -- a row of rows of which one is new
-set_get : (rows : List Row) (i k : ℕ) (new row : Row) → slice_get (set rows i new) k ≡ Some row → ((k ≡ i) × (row ≡ new)) ⊎ (slice_get rows k ≡ Some row)
-set_get [] i k new row e = inr e
+set_get : (rows : List Row) (i k : ℕ) (new row : Row) → slice_get (set rows i new) k ≡ Some row → ((k ≡ i) × (row ≡ new)) ⊎ ((k ≢ i) × (slice_get rows k ≡ Some row))
+set_get [] i k new row e = absurd (none-some row e)
 set_get (x ∷ rows) zero zero new row e = inl (refl, sym (some_injective new row e))
-set_get (x ∷ rows) zero (suc k) new row e = inr e
-set_get (x ∷ rows) (suc i) zero new row e = inr e
-set_get (x ∷ rows) (suc i) (suc k) new row e = elim (set_get rows i k new row e) [ inl one ↦ inl (ap suc one.0, one.1) | inr other ↦ inr other ]
+set_get (x ∷ rows) zero (suc k) new row e = inr ((λ s. omega (arith, s)), e)
+set_get (x ∷ rows) (suc i) zero new row e = inr ((λ s. omega (arith, s)), e)
+set_get (x ∷ rows) (suc i) (suc k) new row e = elim (set_get rows i k new row e) [ inl one ↦ inl (ap suc one.0, one.1) | inr other ↦ inr ((λ s. other.0 (omega (arith, s))), other.1) ]
+
+-- a row without requests has none
+none_there : (row new : Row) → row ≡ new → new.items ≡ [] → 0 < length row.items → ⊥
+none_there row new same none some =
+    let left : length row.items ≡ 0 = ap (λ (r : Row). length r.items) same ∙ ap length none in omega (arith, some, left)
 
 end_get : (rows : List Row) (k : ℕ) (new row : Row) → slice_get (rows ++ new ∷ []) k ≡ Some row → (row ≡ new) ⊎ (slice_get rows k ≡ Some row)
 end_get [] zero new row e = inl (sym (some_injective new row e))
@@ -234,34 +243,21 @@ end_get (x ∷ rows) (suc k) new row e = end_get rows k new row e
 pub occupied_set : (occupied : BTreeSet ℕ) (rows : List Row) (i : ℕ) (new : Row) → (0 < length new.items → contains nat_cmp occupied i ≡ true) → AreOccupied occupied rows → AreOccupied occupied (set rows i new)
 occupied_set occupied rows i new own are = λ k row there some. elim (set_get rows i k new row there) [
   | inl one ↦ subst (λ n. contains nat_cmp occupied n ≡ true) (sym one.0) (own (subst (λ (r : Row). 0 < length r.items) one.1 some))
-  | inr other ↦ are k row other some
+  | inr other ↦ are k row other.1 some
 ]
 
 pub occupied_end : (occupied : BTreeSet ℕ) (rows : List Row) (new : Row) → new.items ≡ [] → AreOccupied occupied rows → AreOccupied occupied (rows ++ new ∷ [])
 occupied_end occupied rows new none are = λ k row there some. elim (end_get rows k new row there) [
-  | inl one ↦ absurd (let any : 0 < length new.items = subst (λ (r : Row). 0 < length r.items) one some in let empty = ap length none in omega (arith, any, empty))
+  | inl one ↦ absurd (none_there row new one none some)
   | inr other ↦ are k row other some
 ]
 
 pub occupied_less : (occupied less : BTreeSet ℕ) (rows : List Row) (i : ℕ) (new : Row) → new.items ≡ [] → ((k : ℕ) → is_at (nat_cmp i) k ≡ false → contains nat_cmp less k ≡ contains nat_cmp occupied k)
     → AreOccupied occupied rows → AreOccupied less (set rows i new)
 occupied_less occupied less rows i new none kept are = λ k row there some. elim (set_get rows i k new row there) [
-  | inl one ↦ absurd (let any : 0 < length new.items = subst (λ (r : Row). 0 < length r.items) one.1 some in let empty = ap length none in omega (arith, any, empty))
+  | inl one ↦ absurd (none_there row new one.1 none some)
   | inr other ↦ elim (cases_Bool (is_at (nat_cmp i) k)) [
-    | inl here ↦ absurd (let same : i ≡ k = grind (arith, nat_tests) in
-        let at : slice_get (set rows i new) i ≡ Some row = subst (λ n. slice_get (set rows i new) n ≡ Some row) (sym same) there in
-        let any : 0 < length new.items = subst (λ (r : Row). 0 < length r.items) (set_here rows i new row at) some in let empty = ap length none in omega (arith, any, empty))
-    | inr apart ↦ kept k apart ∙ are k row other some
+    | inl here ↦ absurd (other.0 (grind (arith, nat_tests)))
+    | inr apart ↦ kept k apart ∙ are k row other.1 some
   ]
 ]
-  where
-    set_here : (xs : List Row) (n : ℕ) (a b : Row) → slice_get (set xs n a) n ≡ Some b → b ≡ a
-    set_here [] n a b e = absurd (none-some b e)
-    set_here (x ∷ xs) zero a b e = sym (some_injective a b e)
-    set_here (x ∷ xs) (suc n) a b e = set_here xs n a b e
-
--- what is left of a row that had any
-pub some_removed : (ws : List Waiting) (k : ℕ) → 0 < length (remove ws k) → 0 < length ws
-some_removed [] zero h = h
-some_removed [] (suc k) h = h
-some_removed (w ∷ ws) k h = omega arith

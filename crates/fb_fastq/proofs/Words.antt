@@ -20,7 +20,7 @@ pub use Rattle.std.proofs.lemmas.Option.{none-some, slice_get-get_or, slice_get_
 pub use Rattle.fb_units.specs.declared.types.Request.{Request}
 pub use Rattle.fb_units.specs.declared.types.Track.{Track}
 pub use Rattle.fb_geometry.specs.Shape.{cylinders_of}
-pub use Rattle.fb_geometry.proofs.Grid.{all_weaker}
+pub use Rattle.fb_geometry.proofs.Grid.{all_get, all_weaker}
 pub use Rattle.fb_sectormap.specs.Lookup.{place_at, track_at}
 pub use Rattle.fb_seek.specs.Positioning.{distance_of, seek}
 unfoldable pub use Rattle.fb_seek.specs.Positioning.{pos}

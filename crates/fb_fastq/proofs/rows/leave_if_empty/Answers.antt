@@ -1,5 +1,4 @@
-use Rattle.fb_fastq.proofs.Words.{◌≡◌, ◌∙◌, List, [], ◌∷◌, Some, slice_get, length, refl, sym, ap, arith, nat_tests, slice_get_read}
-use Rattle.fb_fastq.proofs.Words.{Waiting, Row}
+use Rattle.fb_fastq.proofs.Words.{nil_from_length, ◌≡◌, ◌∙◌, Some, slice_get, length, refl, sym, ap, arith, nat_tests, slice_get_read, Row}
 use Rattle.fb_fastq.proofs.{InRows.same_row_of, OneMore.set_same, OneMore.same_rows, OneMore.occupied_less}
 use Rattle.fb_fastq.proofs.rows.leave_if_empty.Goals.{After-remove}
 use Rattle.fb_fastq.proofs.rows.leave_if_empty.Goals as goal
@@ -11,11 +10,7 @@ none_left c =
     let there = slice_get_read rows (length rows) c.args.number c.index_mut.result.now refl c.requires.there c.index_mut.ensures.value in
     let seen = slice_get_read rows (length rows) c.args.number c.index.result.now refl c.requires.there c.index.ensures in
     let none : length c.index.result.now.items ≡ 0 = grind (arith, nat_tests) in
-    (there, c.new.ensures.items ∙ sym (empty_items c.index_mut.result.now.items (ap (λ (r : Row). length r.items) (same_row_of rows c.args.number c.index_mut.result.now c.index.result.now there seen) ∙ none)))
-  where
-    empty_items : (ws : List Waiting) → length ws ≡ 0 → ws ≡ []
-    empty_items [] e = refl
-    empty_items (w ∷ ws) e = absurd (omega (arith, e))
+    (there, c.new.ensures.items ∙ sym (nil_from_length c.index_mut.result.now.items (ap (λ (r : Row). length r.items) (same_row_of rows c.args.number c.index_mut.result.now c.index.result.now there seen) ∙ none)))
 
 pub returns-then-is_empty-clause-same : goal.returns-then-is_empty-clause-same
 returns-then-is_empty-clause-same c =
